@@ -1,0 +1,11 @@
+-- Indentation, unit by unit.
+use Rattle.std.proofs.Common.{◌≡◌, ℕ, zero, suc, ◌+◌, ◌-◌, ◌≤◌, List, [], ◌∷◌, ◌++◌, refl, ap, sym, ◌∙◌, arith, append-nil, zero-add, suc-add}
+use Rattle.ufmt_core.specs.Layout.{indentation}
+
+pub indentation-add : (m n : ℕ) → indentation (m + n) ≡ indentation m ++ indentation n
+indentation-add zero n = ap indentation (zero-add n)
+indentation-add (suc m) n = ap indentation (suc-add m n) ∙ ap (λ t. 32 ∷ 32 ∷ 32 ∷ 32 ∷ t) (indentation-add m n)
+
+-- what is left of an indentation after some of its units
+pub indentation-front : (m n : ℕ) → m ≤ n → indentation n ≡ indentation m ++ indentation (n - m)
+indentation-front m n h = ap indentation (omega arith) ∙ indentation-add m (n - m)

@@ -1,0 +1,70 @@
+-- What calls in a row write: the pieces joined, or a beginning of them where one failed.
+use Rattle.std.proofs.Common.{◌≡◌, ℕ, ◌+◌, ◌≤◌, List, [], ◌++◌, length, Bool, true, false, IsTrue, is_ok, Result, Ok, Err, refl, ap, sym, ◌∙◌, subst, append_assoc, append-nil, length-append, add-zero, arith}
+use Rattle.std.specs.Prelude.{IsErr}
+use Rattle.ufmt_core.specs.declared.formatter.Formatter.{Formatter}
+use Rattle.ufmt_core.specs.Document.{Document}
+use Rattle.ufmt_core.specs.Writes.{Seen, BeginsWith, Appended, Writes}
+use Rattle.ufmt_core.specs.Formatter.{Prints, LaysOut, setting_of, text_at}
+
+-- an answer that is no `Ok`
+is_ok-err : {X E : Type 0} (r : Result X E) → IsErr r → is_ok r ≡ false
+is_ok-err (Ok x) h = cc
+is_ok-err (Err e) h = refl
+
+-- what was appended after `p` was
+Appended-then : (ok : Bool) (old p q mid new : List ℕ) → mid ≡ old ++ p → Appended ok mid q new → Appended ok old (p ++ q) new
+Appended-then true old p q mid new e h = h ∙ ap (λ t. t ++ q) e ∙ append_assoc old p q
+Appended-then false old p q mid new e h =
+    (p ++ h.0, record { rest = h.1.rest; joined = ap (λ t. p ++ t) h.1.joined ∙ sym (append_assoc p h.0 h.1.rest) }, h.2 ∙ ap (λ t. t ++ h.0) e ∙ append_assoc old p h.0)
+
+-- a beginning of `p` is one of `p ++ q`
+Appended-fails : (old p q new : List ℕ) → Appended false old p new → Appended false old (p ++ q) new
+Appended-fails old p q new h =
+    (h.0, record { rest = h.1.rest ++ q; joined = ap (λ t. t ++ q) h.1.joined ∙ append_assoc h.0 h.1.rest q }, h.2)
+
+module _ {W : Type 0} {seen : Seen W} where
+  -- two pieces in a row are their texts joined
+  pub Writes-then : {old mid new : W} {p q : List ℕ} {ok : Bool} → Writes seen old p true mid → Writes seen mid q ok new → Writes seen old (p ++ q) ok new
+  Writes-then {p = p} {q = q} {ok = ok} a b = record {
+    stays_told = λ t. b.stays_told (a.stays_told t);
+    appended = λ t. Appended-then ok _ p q _ _ (a.appended t) (b.appended (a.stays_told t));
+    fits = λ h. b.fits (omega (arith, length-append p q, a.room_left (omega (arith, length-append p q))));
+    room_left = λ h. omega (arith, length-append p q, a.room_left (omega (arith, length-append p q)), b.room_left (omega (arith, length-append p q, a.room_left (omega (arith, length-append p q)))));
+    same_writer = b.same_writer ∙ a.same_writer;
+  }
+
+  -- a beginning of `p` is a beginning of what begins with it
+  pub Writes-fails : {old new : W} {p : List ℕ} (q : List ℕ) → Writes seen old p false new → Writes seen old (p ++ q) false new
+  Writes-fails {p = p} q a = record {
+    stays_told = a.stays_told;
+    appended = λ t. Appended-fails _ p q _ (a.appended t);
+    fits = λ h. a.fits (omega (arith, length-append p q));
+    room_left = λ h. omega (arith, length-append p q, a.room_left (omega (arith, length-append p q)));
+    same_writer = a.same_writer;
+  }
+
+  -- no call writes nothing
+  pub Writes-nothing : (w : W) → Writes seen w [] true w
+  Writes-nothing w = record {
+    stays_told = λ t. t;
+    appended = λ t. sym (append-nil (seen.text w));
+    fits = λ h. refl;
+    room_left = λ h. omega arith;
+    same_writer = refl;
+  }
+
+  pub Prints-then : {old mid new : Formatter W} {p q : List ℕ} {ok : Bool} → Prints seen old p true mid → Prints seen mid q ok new → Prints seen old (p ++ q) ok new
+  Prints-then a b = record { wrote = Writes-then a.wrote b.wrote; same_setting = b.same_setting ∙ a.same_setting }
+
+  pub Prints-fails : {old new : Formatter W} {p : List ℕ} (q : List ℕ) → Prints seen old p false new → Prints seen old (p ++ q) false new
+  Prints-fails q a = record { wrote = Writes-fails q a.wrote; same_setting = a.same_setting }
+
+  pub Prints-nothing : (f : Formatter W) → Prints seen f [] true f
+  Prints-nothing f = record { wrote = Writes-nothing _; same_setting = refl }
+
+  -- at the exit of a `?`
+  pub Prints-err : {X E : Type 0} {old new : Formatter W} {p : List ℕ} (r : Result X E) → IsErr r → Prints seen old p false new → Prints seen old p (is_ok r) new
+  Prints-err {old = old} {new = new} {p = p} r h a = subst (λ (ok : Bool). Prints seen old p ok new) (sym (is_ok-err r h)) a
+
+  pub LaysOut-err : {X E : Type 0} {old new : Formatter W} {d : Document} (r : Result X E) → IsErr r → LaysOut seen old d false new → LaysOut seen old d (is_ok r) new
+  LaysOut-err r h a = record { prints = Prints-err r h a.prints }

@@ -1,0 +1,77 @@
+-- What the calls of a builder do to the block that it writes.
+use Rattle.std.specs.Prelude.{◌≡◌, ℕ, List, Bool, true, false}
+use Rattle.ufmt_core.specs.declared.formatter.Setting.{Setting}
+use Rattle.ufmt_core.specs.declared.formatter.Formatter.{Formatter}
+use Rattle.ufmt_core.specs.declared.formatter.block.Stage.{Stage}
+use Rattle.ufmt_core.specs.declared.formatter.block.Stage.TheVariants.{First, Later, Lent, LentValue, Closed}
+use Rattle.ufmt_core.specs.declared.formatter.block.Progress.{Progress}
+use Rattle.ufmt_core.specs.Layout.{Place, first, later}
+use Rattle.ufmt_core.specs.Writes.{Seen, Writes}
+use Rattle.ufmt_core.specs.Formatter.{writer_of, setting_of, entry_setting}
+
+-- whether the next entry is the first
+abbrev pub place : Stage → Place
+place First = first
+place Later = later
+place Lent = later
+place LentValue = later
+place Closed = later
+
+-- a builder whose calls may be made
+abbrev pub is_open : Stage → Bool
+is_open First = true
+is_open Later = true
+is_open Lent = false
+is_open LentValue = false
+is_open Closed = false
+
+-- a builder as contracts see it: the formatter that it writes to, and how far it is
+pub record Block (W : Type 0) : Type 0 where
+  pub formatter : Formatter W
+  pub progress : Progress
+
+-- the mode and depth from before the builder
+abbrev pub outer : {W : Type 0} → Block W → Setting
+outer b = b.progress.outer
+
+abbrev pub stage : {W : Type 0} → Block W → Stage
+stage b = b.progress.stage
+
+-- the mode and depth of the entries
+abbrev pub inner : {W : Type 0} → Block W → Setting
+inner b = setting_of b.formatter
+
+abbrev pub IsOpen : {W : Type 0} → Block W → Type 0
+IsOpen b = is_open (stage b) ≡ true
+
+module _ {W : Type 0} where
+  -- what a call leaves: on `Ok` this stage and the entries' mode and depth, on `Err` a closed builder and the mode and depth from before it
+  abbrev pub Leaves : Bool → Stage → Block W → Block W → Type 0
+  Leaves true next old new = (stage new ≡ next) × (inner new ≡ inner old)
+  Leaves false next old new = (stage new ≡ Closed) × (inner new ≡ outer old)
+
+  -- a new builder has written the opening
+  pub record Opens (seen : Seen W) (start : Formatter W) (opening : List ℕ) (new : Block W) : Type 0 where
+    pub wrote : Writes seen (writer_of start) opening true (writer_of new.formatter)
+    pub kept : outer new ≡ setting_of start
+    pub entered : inner new ≡ entry_setting (setting_of start)
+    pub begins : stage new ≡ First
+
+  -- a call has written this part, or a beginning of it
+  pub record Adds (seen : Seen W) (old : Block W) (part : List ℕ) (ok : Bool) (next : Stage) (new : Block W) : Type 0 where
+    pub wrote : Writes seen (writer_of old.formatter) part ok (writer_of new.formatter)
+    pub kept : outer new ≡ outer old
+    pub leaves : Leaves ok next old new
+
+  -- a call was handed an error: nothing is written, and the builder is closed
+  pub record GivesUp (old new : Block W) : Type 0 where
+    pub same_writer : writer_of new.formatter ≡ writer_of old.formatter
+    pub kept : outer new ≡ outer old
+    pub leaves : Leaves false Closed old new
+
+  -- `finish` has written the closing, or a beginning of it
+  pub record Finishes (seen : Seen W) (old : Block W) (part : List ℕ) (ok : Bool) (new : Block W) : Type 0 where
+    pub wrote : Writes seen (writer_of old.formatter) part ok (writer_of new.formatter)
+    pub kept : outer new ≡ outer old
+    pub closed : stage new ≡ Closed
+    pub restored : inner new ≡ outer old

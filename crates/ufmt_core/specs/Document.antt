@@ -1,0 +1,54 @@
+-- A document: what a value's `fmt` lays out, seen by contracts alone.
+use Rattle.std.specs.Prelude.{ℕ, suc, max, List}
+
+mutual
+  pub data Document : Type 0 where
+    leaf : List ℕ → Document
+    joined : Documents → Document
+    list_of : Documents → Document
+    set_of : Documents → Document
+    map_of : Pairs → Document
+    struct_of : List ℕ → Fields → Document
+    tuple_of : List ℕ → Documents → Document
+    pretty_part : Document → Document
+
+  pub data Documents : Type 0 where
+    no_documents : Documents
+    document : Document → Documents → Documents
+
+  pub data Pairs : Type 0 where
+    no_pairs : Pairs
+    pair : Document → Document → Pairs → Pairs
+
+  pub data Fields : Type 0 where
+    no_fields : Fields
+    field : List ℕ → Document → Fields → Fields
+
+-- how many blocks with entries lie one in another
+abbrev mutual
+  pub nest : Document → ℕ
+  nest (leaf text) = 0
+  nest (joined ds) = nest_all ds
+  nest (list_of no_documents) = 0
+  nest (list_of (document d ds)) = suc (max (nest d) (nest_all ds))
+  nest (set_of no_documents) = 0
+  nest (set_of (document d ds)) = suc (max (nest d) (nest_all ds))
+  nest (map_of no_pairs) = 0
+  nest (map_of (pair key value ps)) = suc (max (nest key) (max (nest value) (nest_pairs ps)))
+  nest (struct_of name no_fields) = 0
+  nest (struct_of name (field label value fs)) = suc (max (nest value) (nest_fields fs))
+  nest (tuple_of name no_documents) = 0
+  nest (tuple_of name (document d ds)) = suc (max (nest d) (nest_all ds))
+  nest (pretty_part d) = nest d
+
+  pub nest_all : Documents → ℕ
+  nest_all no_documents = 0
+  nest_all (document d ds) = max (nest d) (nest_all ds)
+
+  pub nest_pairs : Pairs → ℕ
+  nest_pairs no_pairs = 0
+  nest_pairs (pair key value ps) = max (nest key) (max (nest value) (nest_pairs ps))
+
+  pub nest_fields : Fields → ℕ
+  nest_fields no_fields = 0
+  nest_fields (field label value fs) = max (nest value) (nest_fields fs)

@@ -1,0 +1,39 @@
+-- What contracts say of a formatter: its writer, its mode and depth, and what a call prints.
+use Rattle.std.specs.Prelude.{◌≡◌, ℕ, List, Bool}
+use Rattle.ufmt_core.specs.declared.formatter.Mode.{Mode}
+use Rattle.ufmt_core.specs.declared.formatter.Setting.{Setting}
+use Rattle.ufmt_core.specs.declared.formatter.Formatter.{Formatter}
+use Rattle.ufmt_core.specs.Document.{Document}
+use Rattle.ufmt_core.specs.Layout.{layout, entry_depth}
+use Rattle.ufmt_core.specs.Writes.{Seen, Writes}
+
+-- the mode and depth of the entries of a block that stands at this mode and depth
+abbrev pub entry_setting : Setting → Setting
+entry_setting s = record { mode = s.mode; depth = entry_depth s.mode s.depth }
+
+-- the text of a document at this mode and depth
+abbrev pub text_at : Setting → Document → List ℕ
+text_at s d = layout s.mode s.depth d
+
+module _ {W : Type 0} where
+  abbrev pub writer_of : Formatter W → W
+  writer_of f = f.writer
+
+  -- the mode and depth
+  abbrev pub setting_of : Formatter W → Setting
+  setting_of f = f.setting
+
+  abbrev pub mode_of : Formatter W → Mode
+  mode_of f = f.setting.mode
+
+  abbrev pub depth_of : Formatter W → ℕ
+  depth_of f = f.setting.depth
+
+  -- the text was written, or a beginning of it, and mode and depth are as before
+  pub record Prints (seen : Seen W) (old : Formatter W) (text : List ℕ) (ok : Bool) (new : Formatter W) : Type 0 where
+    pub wrote : Writes seen (writer_of old) text ok (writer_of new)
+    pub same_setting : setting_of new ≡ setting_of old
+
+  -- the document was laid out, or a beginning of it, and mode and depth are as before
+  pub record LaysOut (seen : Seen W) (old : Formatter W) (d : Document) (ok : Bool) (new : Formatter W) : Type 0 where
+    pub prints : Prints seen old (text_at (setting_of old) d) ok new

@@ -1,0 +1,7 @@
+pub mod Block
+pub mod Document
+pub mod Formatter
+pub mod Layout
+pub mod List
+pub mod Parts
+pub mod Writes

@@ -1,0 +1,31 @@
+-- A lawful writer: what a call does to the text that it tells and to the room that it has.
+use Rattle.std.specs.Prelude.{◌≡◌, ℕ, ◌+◌, ◌≤◌, List, ◌++◌, length, Bool, true, false, IsTrue}
+
+-- what contracts see of a writer
+pub record Seen (W : Type 0) : Type 1 where
+  -- whether the text is known
+  pub told : W → Type 0
+  -- the bytes so far
+  pub text : W → List ℕ
+  -- a number of bytes that it surely takes
+  pub room : W → ℕ
+  -- which writer it is, of a `&mut` its ghost name
+  pub identity : W → ℕ
+
+-- a text that begins with `part`, which may be empty or the whole
+pub record BeginsWith (whole part : List ℕ) : Type 0 where
+  pub rest : List ℕ
+  pub joined : whole ≡ part ++ rest
+
+-- all of the piece was appended, or a beginning of it
+abbrev pub Appended : Bool → List ℕ → List ℕ → List ℕ → Type 0
+Appended true old piece new = new ≡ old ++ piece
+Appended false old piece new = (part : List ℕ) × BeginsWith piece part × (new ≡ old ++ part)
+
+-- what a lawful writer does with a piece, where `ok` says whether the answer is `Ok`
+pub record Writes {W : Type 0} (seen : Seen W) (old : W) (piece : List ℕ) (ok : Bool) (new : W) : Type 0 where
+  pub stays_told : seen.told old → seen.told new
+  pub appended : seen.told old → Appended ok (seen.text old) piece (seen.text new)
+  pub fits : length piece ≤ seen.room old → IsTrue ok
+  pub room_left : length piece ≤ seen.room old → seen.room old ≤ seen.room new + length piece
+  pub same_writer : seen.identity new ≡ seen.identity old

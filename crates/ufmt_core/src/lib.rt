@@ -1,0 +1,27 @@
+#![tactic(auto)]
+
+//! Formatting without `core::fmt`: writers, the formatter, its builders and the trait `uDebug`.
+ghost use Rattle.std.specs.Prelude.{is_ok};
+ghost use Rattle.ufmt_core.specs.Document.{Document};
+ghost use Rattle.ufmt_core.specs.Formatter.{LaysOut};
+
+mod formatter;
+mod list;
+mod write;
+
+pub use formatter::Formatter;
+pub use list::DebugList;
+pub use write::uWrite;
+
+/// A value that prints itself as Rust's `{:?}` and `{:#?}` would.
+pub trait uDebug {
+    /// What the value's text is the layout of.
+    ghost document: { Self → Document };
+
+    /// Appends the layout of the value's document in the formatter's mode and from its depth, or,
+    /// where the writer fails, a beginning of it. Writer, mode and depth are then as before.
+    fn fmt<W>(&self, f: &mut Formatter<W>) -> Result<(), W::Error>
+    where
+        W: uWrite,
+        ensures { LaysOut W.seen f.old (document self.now) (is_ok result) f.new };
+}

@@ -1,0 +1,108 @@
+ghost use Rattle.std.specs.Prelude.{◌≡◌, ◌↔◌, true, false, [], codes, is_ok, IfOk, IfErr, OnOk, OnErr, IsTrue};
+ghost use Rattle.std.specs.Borrow.{sem, RestsIfErr, LendsSoOk, follows};
+ghost use mir.Syntax.{named};
+ghost use Rattle.ufmt_core.specs.contracts.formatter.Formatter as formatter;
+ghost use Rattle.ufmt_core.specs.contracts.list.DebugList as list;
+ghost use Rattle.ufmt_core.specs.declared.formatter.block.Stage.TheVariants.{Later, Lent};
+ghost use Rattle.ufmt_core.specs.Formatter.{Prints, text_at};
+ghost use Rattle.ufmt_core.specs.Block.{Adds, Finishes, GivesUp, IsOpen, Opens, inner, outer, place, stage};
+ghost use Rattle.ufmt_core.specs.Parts.{closing, entry_part, lead, trail};
+ghost use Rattle.ufmt_core.specs.List.{block, with_formatter};
+
+use crate::formatter::Formatter;
+use crate::formatter::block::{Progress, Stage};
+use crate::uDebug;
+use crate::write::uWrite;
+
+/// Writes a list, entry by entry.
+#[derive(Drop)]
+pub struct DebugList<'f, W> {
+    formatter: &'f mut Formatter<W>,
+    progress: Progress,
+}
+
+impl<W: uWrite> Formatter<W> {
+    /// Writes `[` and begins a list. On `Err` there is no builder, and mode and depth are as before.
+    pub fn debug_list<'f>(&'f mut self) -> Result<DebugList<'f, W>, W::Error>
+        ensures* refused { sem 𝓛 (RestsIfErr (formatter.the_row W.row) self.entry (λ b. b.formatter.ghost_name) result
+            (λ last. Prints W.seen self.old (codes "[") false last)) }
+        ensures same_reference { IfOk result (λ b. b.formatter.ghost_name ≡ self.entry.ghost_name) }
+        ensures opens { IfOk result (λ b. Opens W.seen self.old (codes "[") (block b)) }
+        ensures open { IfOk result (λ b. IsOpen (block b)) }
+    {
+        self.write_str("[")?;
+        let progress = self.enter();
+        Ok(DebugList {
+            formatter: self,
+            progress,
+        })
+    }
+}
+
+impl<W: uWrite> DebugList<'_, W> {
+    /// Writes one entry. On `Err` a beginning of it is written and the builder is closed.
+    pub fn entry<D: uDebug>(&mut self, entry: &D) -> Result<(), W::Error>
+        requires { IsOpen (block self.old) }
+        ensures same_reference { self.new.formatter.ghost_name ≡ self.old.formatter.ghost_name }
+        ensures adds { Adds W.seen (block self.old)
+            (entry_part (inner (block self.old)) (place (stage (block self.old))) (text_at (inner (block self.old)) (D.document entry.now)))
+            (is_ok result) Later (block self.new) }
+        ensures open { OnOk result (IsOpen (block self.new)) }
+    {
+        let answer = entry.fmt(self.begin_entry()?);
+        self.end_entry(answer)
+    }
+
+    /// Writes what stands before an entry, and lends the formatter for it.
+    fn begin_entry(&mut self) -> Result<&mut Formatter<W>, W::Error>
+        requires { IsOpen (block self.old) }
+        ensures* lends { sem 𝓛 (LendsSoOk (list.the_row (record { mir = named 0; lft = [] }) W.row) (formatter.the_row W.row) self.entry result
+            (λ last lent. (last ≡ with_formatter (record self.old { progress = record self.old.progress { stage = Lent } }) lent))
+            (λ last. (last.formatter.ghost_name ≡ self.old.formatter.ghost_name) × Adds W.seen (block self.old) (lead (inner (block self.old)) (place (stage (block self.old)))) false Lent (block last))) }
+        ensures lead { IfOk result (λ lent. Prints W.seen self.old.formatter.now (lead (inner (block self.old)) (place (stage (block self.old)))) true lent.now) }
+    {
+        let written = self.formatter.write_lead(self.progress.stage);
+        self.formatter.settle(&mut self.progress, written, Stage::Lent)?;
+        Ok(self.lend())
+    }
+
+    fn lend(&mut self) -> &mut Formatter<W>
+        ensures* lends { sem 𝓛 (follows (list.the_row (record { mir = named 0; lft = [] }) W.row) (formatter.the_row W.row) self.entry.ghost_name result.ghost_name (with_formatter self.old)) }
+        ensures same { result.now ≡ self.old.formatter.now }
+    {
+        &mut *self.formatter
+    }
+
+    /// Writes what stands after an entry whose `fmt` gave this answer.
+    fn end_entry(&mut self, answer: Result<(), W::Error>) -> Result<(), W::Error>
+        ensures same_reference { self.new.formatter.ghost_name ≡ self.old.formatter.ghost_name }
+        ensures ended { OnOk answer (Adds W.seen (block self.old) (trail (inner (block self.old))) (is_ok result) Later (block self.new)) }
+        ensures gives_up { IfErr answer (λ e. (result ≡ Err e) × GivesUp (block self.old) (block self.new)) }
+        ensures open { OnOk result (IsOpen (block self.new)) }
+    {
+        let ended = match answer {
+            Ok(()) => self.formatter.write_trail(),
+            Err(error) => Err(error),
+        };
+        self.formatter.settle(&mut self.progress, ended, Stage::Later)
+    }
+
+    /// Writes `]`. The builder is then closed, and mode and depth are those from before it.
+    pub fn finish(&mut self) -> Result<(), W::Error>
+        requires { IsOpen (block self.old) }
+        ensures same_reference { self.new.formatter.ghost_name ≡ self.old.formatter.ghost_name }
+        ensures finishes { Finishes W.seen (block self.old)
+            (closing (outer (block self.old)) (place (stage (block self.old))) (codes "]")) (is_ok result) (block self.new) }
+    {
+        let finished = self.formatter.write_closing(self.progress, "]");
+        self.formatter.leave(&mut self.progress);
+        finished
+    }
+
+    /// Whether entries may follow: until `finish`, or a call that fails.
+    pub fn is_open(&self) -> bool
+        ensures { IsTrue result ↔ IsOpen (block self.now) }
+    {
+        matches!(self.progress.stage, Stage::First | Stage::Later)
+    }
+}

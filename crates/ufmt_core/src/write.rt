@@ -1,0 +1,60 @@
+ghost use Rattle.std.specs.Prelude.{ℕ, List, is_ok, encode_utf8, ⊤, string_bytes};
+ghost use Rattle.ufmt_core.specs.Writes.{Writes, Seen};
+
+use std::alloc::AllocError;
+
+/// A destination for text, with an error type of its own.
+///
+/// A lawful writer takes a piece of at most `room` bytes, and where its text is told, `Ok` appends
+/// the whole piece and `Err` a beginning of it.
+pub trait uWrite {
+    type Error;
+
+    /// Whether the text is told, the text so far, and the bytes that the writer surely takes.
+    ghost seen: { Seen Self };
+
+    /// Writes `s` as one piece.
+    fn write_str(&mut self, s: &str) -> Result<(), Self::Error>
+        ensures { Writes seen self.old s.now (is_ok result) self.new };
+
+    /// Writes the UTF-8 bytes of `c` as one piece.
+    fn write_char(&mut self, c: char) -> Result<(), Self::Error>
+        ensures { Writes seen self.old (encode_utf8 c) (is_ok result) self.new }
+    {
+        let mut bytes = [0u8; 4];
+        self.write_str(c.encode_utf8(&mut bytes))
+    }
+}
+
+/// On `Err` the text is unchanged. An empty piece is `Ok` before any growth.
+impl uWrite for String {
+    type Error = AllocError;
+
+    ghost seen = { record { told = λ _. ⊤; text = string_bytes; room = λ _. 0; identity = λ _. 0 } };
+
+    fn write_str(&mut self, s: &str) -> Result<(), AllocError> {
+        if s.is_empty() {
+            return Ok(());
+        }
+        self.push_str(s)
+    }
+}
+
+/// Hands on each call, and answers what the writer behind the reference does.
+impl<W: uWrite> uWrite for &mut W {
+    type Error = W::Error;
+
+    ghost seen = { record {
+        told = λ r. W.seen.told r.now;
+        text = λ r. W.seen.text r.now;
+        room = λ r. W.seen.room r.now;
+        identity = λ r. r.ghost_name } };
+
+    fn write_str(&mut self, s: &str) -> Result<(), W::Error> {
+        (**self).write_str(s)
+    }
+
+    fn write_char(&mut self, c: char) -> Result<(), W::Error> {
+        (**self).write_char(c)
+    }
+}
