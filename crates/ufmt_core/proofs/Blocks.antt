@@ -1,6 +1,7 @@
 -- How the calls of a builder make up the parts of its block.
-use Rattle.std.proofs.Common.{◌≡◌, ℕ, List, ◌++◌, Bool, true, false, is_ok, Result, Ok, Err, OnOk, IfErr, refl, ap, sym, ◌∙◌, subst}
+use Rattle.std.proofs.Common.{◌≡◌, ℕ, List, [], ◌∷◌, ◌++◌, Bool, true, false, is_ok, Result, Ok, Err, OnOk, IfErr, refl, ap, sym, ◌∙◌, subst, map, append_assoc, append-nil}
 use Rattle.std.specs.Prelude.{◌≢◌}
+use Rattle.std.proofs.lemmas.List.{map-append}
 use Rattle.ufmt_core.specs.declared.formatter.Setting.{Setting}
 use Rattle.ufmt_core.specs.declared.formatter.Formatter.{Formatter}
 use Rattle.ufmt_core.specs.declared.formatter.block.Progress.{Progress}
@@ -10,8 +11,8 @@ use Rattle.ufmt_core.specs.Document.{Document}
 use Rattle.ufmt_core.specs.Layout.{Place, first, later}
 use Rattle.ufmt_core.specs.Writes.{Seen, Writes}
 use Rattle.ufmt_core.specs.Formatter.{Prints, LaysOut, setting_of, writer_of, text_at}
-use Rattle.ufmt_core.specs.Parts.{closing, entry_part, lead, trail}
-use Rattle.ufmt_core.specs.Block.{Block, Adds, GivesUp, Leaves, inner, outer, place, stage}
+use Rattle.ufmt_core.specs.Parts.{closing, entries_part, entry_part, lead, trail}
+use Rattle.ufmt_core.specs.Block.{Block, Adds, GivesUp, Leaves, inner, outer, place, stage, stage_after}
 use Rattle.ufmt_core.proofs.Writing.{Writes-then, Writes-fails}
 
 -- an entry that isn't the first is a later one
@@ -31,6 +32,15 @@ module _ {W : Type 0} where
   -- the builder whose entry is being written, where its formatter has come to this value
   abbrev pub lent : Block W → Formatter W → Block W
   lent b f = record { formatter = f; progress = record b.progress { stage = Lent } }
+
+module _ {W : Type 0} {seen : Seen W} where
+  -- two calls in a row write their parts joined
+  pub Adds-then : (old mid new : Block W) {p q : List ℕ} {ok : Bool} (between next : Stage) → Adds seen old p true between mid → Adds seen mid q ok next new → Adds seen old (p ++ q) ok next new
+  Adds-then old mid new {ok = ok} between next a b = record {
+    wrote = Writes-then a.wrote b.wrote;
+    kept = b.kept ∙ a.kept;
+    leaves = Leaves-from ok next old mid new a.leaves.1 a.kept b.leaves;
+  }
 
 module _ {W E : Type 0} {seen : Seen W} where
   Adds-entry-lent : (old new : Block W) {begun : Formatter W} (ended : Formatter W) (before : List ℕ) (d : Document) (answer result : Result (Unit {0}) E) →
@@ -64,3 +74,47 @@ module _ {W E : Type 0} {seen : Seen W} where
       Adds-entry-lent old new ended before d answer result p l
       (subst (λ (b : Block W). OnOk answer (Adds seen b (trail (inner b)) (is_ok result) Later new)) m a)
       (subst (λ (b : Block W). IfErr answer (λ e. (result ≡ Err e) × GivesUp b new)) m g)
+
+-- whether the entry after these is the first
+after_entries : {X : Type 0} → Place → List X → Place
+after_entries p [] = p
+after_entries p (x ∷ xs) = later
+
+after_entries-place : {X : Type 0} (s : Stage) (xs : List X) → place (stage_after s xs) ≡ after_entries (place s) xs
+unfolding after_entries
+after_entries-place s [] = refl
+after_entries-place s (x ∷ xs) = refl
+
+entries_part-append : (s : Setting) (p : Place) (ds : List Document) (d : Document) → entries_part s p (ds ++ d ∷ []) ≡ entries_part s p ds ++ entry_part s (after_entries p ds) (text_at s d)
+unfolding after_entries
+entries_part-append s p [] d = append-nil _
+entries_part-append s p (c ∷ []) d = ap (λ t. entry_part s p (text_at s c) ++ t) (append-nil (entry_part s later (text_at s d))) ∙ ap (λ t. t ++ entry_part s later (text_at s d)) (sym (append-nil (entry_part s p (text_at s c))))
+entries_part-append s p (c ∷ b ∷ ds) d =
+    ap (λ t. entry_part s p (text_at s c) ++ t) (entries_part-append s later (b ∷ ds) d) ∙ sym (append_assoc (entry_part s p (text_at s c)) (entries_part s later (b ∷ ds)) (entry_part s later (text_at s d)))
+
+after_entries-map : {X Y : Type 0} (f : X → Y) (p : Place) (xs : List X) → after_entries p (map f xs) ≡ after_entries p xs
+unfolding after_entries
+after_entries-map f p [] = refl
+after_entries-map f p (x ∷ xs) = refl
+
+stage_after-append : {X : Type 0} (s : Stage) (xs : List X) (x : X) → stage_after s (xs ++ x ∷ []) ≡ Later
+stage_after-append s [] x = refl
+stage_after-append s (y ∷ xs) x = refl
+
+module _ {W D : Type 0} {seen : Seen W} where
+  -- after some entries, one more
+  pub Adds-more : (old mid new : Block W) (document_of : D → Document) (xs : List D) (y : D) (ok : Bool) →
+      Adds seen old (entries_part (inner old) (place (stage old)) (map document_of xs)) true (stage_after (stage old) xs) mid →
+      Adds seen mid (entry_part (inner mid) (place (stage mid)) (text_at (inner mid) (document_of y))) ok Later new →
+      Adds seen old (entries_part (inner old) (place (stage old)) (map document_of (xs ++ y ∷ []))) ok (stage_after (stage old) (xs ++ y ∷ [])) new
+  Adds-more old mid new document_of xs y ok a b =
+      let at_place : place (stage mid) ≡ after_entries (place (stage old)) (map document_of xs) =
+          ap place a.leaves.0 ∙ after_entries-place (stage old) xs ∙ sym (after_entries-map document_of (place (stage old)) xs) in
+      let part : entries_part (inner old) (place (stage old)) (map document_of (xs ++ y ∷ [])) ≡
+          entries_part (inner old) (place (stage old)) (map document_of xs) ++ entry_part (inner mid) (place (stage mid)) (text_at (inner mid) (document_of y)) =
+          ap (λ ds. entries_part (inner old) (place (stage old)) ds) (map-append document_of xs (y ∷ []))
+          ∙ entries_part-append (inner old) (place (stage old)) (map document_of xs) (document_of y)
+          ∙ ap (λ t. entries_part (inner old) (place (stage old)) (map document_of xs) ++ t)
+              (ap (λ (p : Place). entry_part (inner old) p (text_at (inner old) (document_of y))) (sym at_place)
+              ∙ ap (λ (s : Setting). entry_part s (place (stage mid)) (text_at s (document_of y))) (sym a.leaves.1)) in
+      rw (part, stage_after-append (stage old) xs y) (Adds-then old mid new (stage_after (stage old) xs) Later a b)

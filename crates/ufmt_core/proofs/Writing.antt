@@ -7,7 +7,7 @@ use Rattle.ufmt_core.specs.Writes.{Seen, BeginsWith, Appended, Writes}
 use Rattle.ufmt_core.specs.Formatter.{Prints, LaysOut, setting_of, text_at}
 
 -- an answer that is no `Ok`
-is_ok-err : {X E : Type 0} (r : Result X E) → IsErr r → is_ok r ≡ false
+pub is_ok-err : {X E : Type 0} (r : Result X E) → IsErr r → is_ok r ≡ false
 is_ok-err (Ok x) h = cc
 is_ok-err (Err e) h = refl
 

@@ -1,10 +1,13 @@
 -- What the calls of a builder do to the block that it writes.
-use Rattle.std.specs.Prelude.{◌≡◌, ℕ, List, Bool, true, false}
+use Rattle.std.specs.Prelude.{◌≡◌, ℕ, List, [], ◌∷◌, map, Bool, true, false, Option}
+use Rattle.std.specs.Iterator.{DrainsIf}
 use Rattle.ufmt_core.specs.declared.formatter.Setting.{Setting}
 use Rattle.ufmt_core.specs.declared.formatter.Formatter.{Formatter}
 use Rattle.ufmt_core.specs.declared.formatter.block.Stage.{Stage}
 use Rattle.ufmt_core.specs.declared.formatter.block.Stage.TheVariants.{First, Later, Lent, LentValue, Closed}
 use Rattle.ufmt_core.specs.declared.formatter.block.Progress.{Progress}
+use Rattle.ufmt_core.specs.Document.{Document}
+use Rattle.ufmt_core.specs.Parts.{entries_part}
 use Rattle.ufmt_core.specs.Layout.{Place, first, later}
 use Rattle.ufmt_core.specs.Writes.{Seen, Writes}
 use Rattle.ufmt_core.specs.Formatter.{writer_of, setting_of, entry_setting}
@@ -24,6 +27,11 @@ is_open Later = true
 is_open Lent = false
 is_open LentValue = false
 is_open Closed = false
+
+-- the stage after these entries
+abbrev pub stage_after : {X : Type 0} → Stage → List X → Stage
+stage_after s [] = s
+stage_after s (x ∷ xs) = Later
 
 -- a builder as contracts see it: the formatter that it writes to, and how far it is
 pub record Block (W : Type 0) : Type 0 where
@@ -75,3 +83,12 @@ module _ {W : Type 0} where
     pub kept : outer new ≡ outer old
     pub closed : stage new ≡ Closed
     pub restored : inner new ≡ outer old
+
+module _ {W U T D : Type 0} where
+  -- an entry was added for each item that the iterator gave, and on `Ok` it had no more
+  pub record AddsEntries (seen : Seen W) (becomes : U → T → Type 0) (steps : T → Option D → T → Type 0) (document_of : D → Document) (entries : U) (old : Block W) (ok : Bool) (new : Block W) : Type 0 where
+    pub iterator : T
+    pub begins : becomes entries iterator
+    pub items : List D
+    pub drains : DrainsIf steps (ok ≡ true) iterator items
+    pub adds : Adds seen old (entries_part (inner old) (place (stage old)) (map document_of items)) ok (stage_after (stage old) items) new

@@ -1,5 +1,5 @@
 -- A document: what a value's `fmt` lays out, seen by contracts alone.
-use Rattle.std.specs.Prelude.{ℕ, suc, max, List}
+use Rattle.std.specs.Prelude.{ℕ, suc, max, List, [], ◌∷◌}
 
 mutual
   pub data Document : Type 0 where
@@ -23,6 +23,11 @@ mutual
   pub data Fields : Type 0 where
     no_fields : Fields
     field : List ℕ → Document → Fields → Fields
+
+-- documents in a row
+abbrev pub documents : List Document → Documents
+documents [] = no_documents
+documents (d ∷ ds) = document d (documents ds)
 
 -- how many blocks with entries lie one in another
 abbrev mutual

@@ -1,11 +1,12 @@
 ghost use Rattle.std.specs.Prelude.{◌≡◌, ◌↔◌, true, false, [], codes, is_ok, IfOk, IfErr, OnOk, OnErr, IsTrue};
 ghost use Rattle.std.specs.Borrow.{sem, RestsIfErr, LendsSoOk, follows};
+ghost use Rattle.std.specs.Iterator.{IsFiniteIterable};
 ghost use mir.Syntax.{named};
 ghost use Rattle.ufmt_core.specs.contracts.formatter.Formatter as formatter;
 ghost use Rattle.ufmt_core.specs.contracts.list.DebugList as list;
 ghost use Rattle.ufmt_core.specs.declared.formatter.block.Stage.TheVariants.{Later, Lent};
 ghost use Rattle.ufmt_core.specs.Formatter.{Prints, text_at};
-ghost use Rattle.ufmt_core.specs.Block.{Adds, Finishes, GivesUp, IsOpen, Opens, inner, outer, place, stage};
+ghost use Rattle.ufmt_core.specs.Block.{Adds, AddsEntries, Finishes, GivesUp, IsOpen, Opens, inner, outer, place, stage};
 ghost use Rattle.ufmt_core.specs.Parts.{closing, entry_part, lead, trail};
 ghost use Rattle.ufmt_core.specs.List.{block, with_formatter};
 
@@ -28,7 +29,7 @@ impl<W: uWrite> Formatter<W> {
             (λ last. Prints W.seen self.old (codes "[") false last)) }
         ensures same_reference { IfOk result (λ b. b.formatter.ghost_name ≡ self.entry.ghost_name) }
         ensures opens { IfOk result (λ b. Opens W.seen self.old (codes "[") (block b)) }
-        ensures open { IfOk result (λ b. IsOpen (block b)) }
+        ensures is_open { IfOk result (λ b. IsOpen (block b)) }
     {
         self.write_str("[")?;
         let progress = self.enter();
@@ -47,10 +48,26 @@ impl<W: uWrite> DebugList<'_, W> {
         ensures adds { Adds W.seen (block self.old)
             (entry_part (inner (block self.old)) (place (stage (block self.old))) (text_at (inner (block self.old)) (D.document entry.now)))
             (is_ok result) Later (block self.new) }
-        ensures open { OnOk result (IsOpen (block self.new)) }
+        ensures is_open { OnOk result (IsOpen (block self.new)) }
     {
         let answer = entry.fmt(self.begin_entry()?);
         self.end_entry(answer)
+    }
+
+    /// Writes an entry for each item, in order, and takes no item after a failure.
+    pub fn entries<D: uDebug + Drop, I: IntoIterator<Item = D>>(&mut self, entries: I) -> Result<(), W::Error>
+    where
+        I::IntoIter: Drop,
+        requires is_open { IsOpen (block self.old) }
+        requires ends { IsFiniteIterable I.into_iter_gives I.IntoIter.can_next I.IntoIter.remaining entries }
+        ensures same_reference { self.new.formatter.ghost_name ≡ self.old.formatter.ghost_name }
+        ensures adds { AddsEntries W.seen I.into_iter_gives I.IntoIter.next_gives D.document entries (block self.old) (is_ok result) (block self.new) }
+        ensures is_open { OnOk result (IsOpen (block self.new)) }
+    {
+        for entry in entries {
+            self.entry(&entry)?;
+        }
+        Ok(())
     }
 
     /// Writes what stands before an entry, and lends the formatter for it.
@@ -78,7 +95,7 @@ impl<W: uWrite> DebugList<'_, W> {
         ensures same_reference { self.new.formatter.ghost_name ≡ self.old.formatter.ghost_name }
         ensures ended { OnOk answer (Adds W.seen (block self.old) (trail (inner (block self.old))) (is_ok result) Later (block self.new)) }
         ensures gives_up { IfErr answer (λ e. (result ≡ Err e) × GivesUp (block self.old) (block self.new)) }
-        ensures open { OnOk result (IsOpen (block self.new)) }
+        ensures is_open { OnOk result (IsOpen (block self.new)) }
     {
         let ended = match answer {
             Ok(()) => self.formatter.write_trail(),
