@@ -1,7 +1,9 @@
 -- How the calls of a builder make up the parts of its block.
 use Rattle.std.proofs.Common.{◌≡◌, ℕ, List, [], ◌∷◌, ◌++◌, Bool, true, false, is_ok, Result, Ok, Err, OnOk, IfErr, refl, ap, sym, ◌∙◌, subst, map, append_assoc, append-nil}
-use Rattle.std.specs.Prelude.{◌≢◌}
+use Rattle.std.specs.Prelude.{◌≢◌, Option, None}
+use Rattle.std.specs.Iterator.{AlwaysYields, Yields}
 use Rattle.std.proofs.lemmas.List.{map-append}
+use Rattle.std.proofs.lemmas.Simd.{map-map}
 use Rattle.ufmt_core.specs.declared.formatter.Setting.{Setting}
 use Rattle.ufmt_core.specs.declared.formatter.Formatter.{Formatter}
 use Rattle.ufmt_core.specs.declared.formatter.block.Progress.{Progress}
@@ -12,7 +14,7 @@ use Rattle.ufmt_core.specs.Layout.{Place, first, later}
 use Rattle.ufmt_core.specs.Writes.{Seen, Writes}
 use Rattle.ufmt_core.specs.Formatter.{Prints, LaysOut, setting_of, writer_of, text_at}
 use Rattle.ufmt_core.specs.Parts.{closing, entries_part, entry_part, lead, trail}
-use Rattle.ufmt_core.specs.Block.{Block, Adds, GivesUp, Leaves, inner, outer, place, stage, stage_after}
+use Rattle.ufmt_core.specs.Block.{Block, Adds, AddsEntries, GivesUp, Leaves, inner, outer, place, stage, stage_after}
 use Rattle.ufmt_core.proofs.Writing.{Writes-then, Writes-fails}
 
 -- an entry that isn't the first is a later one
@@ -41,6 +43,10 @@ module _ {W : Type 0} {seen : Seen W} where
     kept = b.kept ∙ a.kept;
     leaves = Leaves-from ok next old mid new a.leaves.1 a.kept b.leaves;
   }
+
+  -- a beginning of a part is one of what begins with it
+  Adds-fails : (old new : Block W) {p : List ℕ} (q : List ℕ) (stopped next : Stage) → Adds seen old p false stopped new → Adds seen old (p ++ q) false next new
+  Adds-fails old new q stopped next a = record { wrote = Writes-fails q a.wrote; kept = a.kept; leaves = a.leaves }
 
 module _ {W E : Type 0} {seen : Seen W} where
   Adds-entry-lent : (old new : Block W) {begun : Formatter W} (ended : Formatter W) (before : List ℕ) (d : Document) (answer result : Result (Unit {0}) E) →
@@ -76,45 +82,83 @@ module _ {W E : Type 0} {seen : Seen W} where
       (subst (λ (b : Block W). IfErr answer (λ e. (result ≡ Err e) × GivesUp b new)) m g)
 
 -- whether the entry after these is the first
-after_entries : {X : Type 0} → Place → List X → Place
+abbrev pub after_entries : {X : Type 0} → Place → List X → Place
 after_entries p [] = p
 after_entries p (x ∷ xs) = later
 
-after_entries-place : {X : Type 0} (s : Stage) (xs : List X) → place (stage_after s xs) ≡ after_entries (place s) xs
-unfolding after_entries
+pub after_entries-place : {X : Type 0} (s : Stage) (xs : List X) → place (stage_after s xs) ≡ after_entries (place s) xs
 after_entries-place s [] = refl
 after_entries-place s (x ∷ xs) = refl
 
-entries_part-append : (s : Setting) (p : Place) (ds : List Document) (d : Document) → entries_part s p (ds ++ d ∷ []) ≡ entries_part s p ds ++ entry_part s (after_entries p ds) (text_at s d)
-unfolding after_entries
-entries_part-append s p [] d = append-nil _
-entries_part-append s p (c ∷ []) d = ap (λ t. entry_part s p (text_at s c) ++ t) (append-nil (entry_part s later (text_at s d))) ∙ ap (λ t. t ++ entry_part s later (text_at s d)) (sym (append-nil (entry_part s p (text_at s c))))
-entries_part-append s p (c ∷ b ∷ ds) d =
-    ap (λ t. entry_part s p (text_at s c) ++ t) (entries_part-append s later (b ∷ ds) d) ∙ sym (append_assoc (entry_part s p (text_at s c)) (entries_part s later (b ∷ ds)) (entry_part s later (text_at s d)))
-
 after_entries-map : {X Y : Type 0} (f : X → Y) (p : Place) (xs : List X) → after_entries p (map f xs) ≡ after_entries p xs
-unfolding after_entries
 after_entries-map f p [] = refl
 after_entries-map f p (x ∷ xs) = refl
+
+pub stage_after-map : {X Y : Type 0} (f : X → Y) (s : Stage) (xs : List X) → stage_after s (map f xs) ≡ stage_after s xs
+stage_after-map f s [] = refl
+stage_after-map f s (x ∷ xs) = refl
 
 stage_after-append : {X : Type 0} (s : Stage) (xs : List X) (x : X) → stage_after s (xs ++ x ∷ []) ≡ Later
 stage_after-append s [] x = refl
 stage_after-append s (y ∷ xs) x = refl
 
+entries_part-append : (s : Setting) (p : Place) (ts us : List (List ℕ)) → entries_part s p (ts ++ us) ≡ entries_part s p ts ++ entries_part s (after_entries p ts) us
+entries_part-append s p [] us = refl
+entries_part-append s p (t ∷ []) us = ap (λ z. z ++ entries_part s later us) (sym (append-nil (entry_part s p t)))
+entries_part-append s p (t ∷ u ∷ ts) us =
+    ap (λ z. entry_part s p t ++ z) (entries_part-append s later (u ∷ ts) us) ∙ sym (append_assoc (entry_part s p t) (entries_part s later (u ∷ ts)) (entries_part s later us))
+
 module _ {W D : Type 0} {seen : Seen W} where
   -- after some entries, one more
-  pub Adds-more : (old mid new : Block W) (document_of : D → Document) (xs : List D) (y : D) (ok : Bool) →
-      Adds seen old (entries_part (inner old) (place (stage old)) (map document_of xs)) true (stage_after (stage old) xs) mid →
-      Adds seen mid (entry_part (inner mid) (place (stage mid)) (text_at (inner mid) (document_of y))) ok Later new →
-      Adds seen old (entries_part (inner old) (place (stage old)) (map document_of (xs ++ y ∷ []))) ok (stage_after (stage old) (xs ++ y ∷ [])) new
-  Adds-more old mid new document_of xs y ok a b =
-      let at_place : place (stage mid) ≡ after_entries (place (stage old)) (map document_of xs) =
-          ap place a.leaves.0 ∙ after_entries-place (stage old) xs ∙ sym (after_entries-map document_of (place (stage old)) xs) in
-      let part : entries_part (inner old) (place (stage old)) (map document_of (xs ++ y ∷ [])) ≡
-          entries_part (inner old) (place (stage old)) (map document_of xs) ++ entry_part (inner mid) (place (stage mid)) (text_at (inner mid) (document_of y)) =
-          ap (λ ds. entries_part (inner old) (place (stage old)) ds) (map-append document_of xs (y ∷ []))
-          ∙ entries_part-append (inner old) (place (stage old)) (map document_of xs) (document_of y)
-          ∙ ap (λ t. entries_part (inner old) (place (stage old)) (map document_of xs) ++ t)
-              (ap (λ (p : Place). entry_part (inner old) p (text_at (inner old) (document_of y))) (sym at_place)
-              ∙ ap (λ (s : Setting). entry_part s (place (stage mid)) (text_at s (document_of y))) (sym a.leaves.1)) in
+  pub Adds-more : (old mid new : Block W) (text_of : Setting → D → List ℕ) (xs : List D) (y : D) (ok : Bool) →
+      Adds seen old (entries_part (inner old) (place (stage old)) (map (text_of (inner old)) xs)) true (stage_after (stage old) xs) mid →
+      Adds seen mid (entry_part (inner mid) (place (stage mid)) (text_of (inner mid) y)) ok Later new →
+      Adds seen old (entries_part (inner old) (place (stage old)) (map (text_of (inner old)) (xs ++ y ∷ []))) ok (stage_after (stage old) (xs ++ y ∷ [])) new
+  Adds-more old mid new text_of xs y ok a b =
+      let texts = map (text_of (inner old)) xs in
+      let at_place : place (stage mid) ≡ after_entries (place (stage old)) texts =
+          ap place a.leaves.0 ∙ after_entries-place (stage old) xs ∙ sym (after_entries-map (text_of (inner old)) (place (stage old)) xs) in
+      let part : entries_part (inner old) (place (stage old)) (map (text_of (inner old)) (xs ++ y ∷ [])) ≡
+          entries_part (inner old) (place (stage old)) texts ++ entry_part (inner mid) (place (stage mid)) (text_of (inner mid) y) =
+          ap (λ ts. entries_part (inner old) (place (stage old)) ts) (map-append (text_of (inner old)) xs (y ∷ []))
+          ∙ entries_part-append (inner old) (place (stage old)) texts (text_of (inner old) y ∷ [])
+          ∙ ap (λ t. entries_part (inner old) (place (stage old)) texts ++ t)
+              (append-nil _
+              ∙ ap (λ (p : Place). entry_part (inner old) p (text_of (inner old) y)) (sym at_place)
+              ∙ ap (λ (s : Setting). entry_part s (place (stage mid)) (text_of s y)) (sym a.leaves.1)) in
       rw (part, stage_after-append (stage old) xs y) (Adds-then old mid new (stage_after (stage old) xs) Later a b)
+
+module _ {S A B : Type 0} (steps : S → Option A → S → Type 0) (v : A → B) where
+  -- what some calls gave stands at the front of what every run gives
+  AlwaysYields-front : (s t : S) (xs : List A) (ys : List B) → Yields steps s xs t → AlwaysYields steps v s ys → (zs : List B) × (ys ≡ map v xs ++ zs) × AlwaysYields steps v t zs
+  AlwaysYields-front s t [] ys y a = (ys, refl, subst (λ (u : S). AlwaysYields steps v u ys) y a)
+  AlwaysYields-front s t (x ∷ xs) [] y a = absurd (a x y.0 y.1)
+  AlwaysYields-front s t (x ∷ xs) (z ∷ zs) y a =
+      let one = a.1 x y.0 y.1 in
+      let more = AlwaysYields-front y.0 t xs zs y.2 one.1 in
+      (more.0, ap (λ b. b ∷ zs) (sym one.0) ∙ ap (λ bs. v x ∷ bs) more.1, more.2)
+
+  -- nothing more comes where the next call gave `None`
+  AlwaysYields-end : (t u : S) (zs : List B) → steps t None u → AlwaysYields steps v t zs → zs ≡ []
+  AlwaysYields-end t u [] n a = refl
+  AlwaysYields-end t u (z ∷ zs) n a = absurd (a.0 u n)
+
+module _ {W U T D Y : Type 0} {seen : Seen W} {becomes : U → T → Type 0} {steps : T → Option D → T → Type 0} (view : D → Y) (text_of : Setting → Y → List ℕ) where
+  -- where every run of the iterator gives items that `view` takes to `ys`, their entries were added, or a beginning of them
+  pub Adds-from_entries : (entries : U) (ys : List Y) (old new : Block W) (ok : Bool) →
+      ((it : T) → becomes entries it → AlwaysYields steps view it ys) → AddsEntries seen becomes steps (λ s x. text_of s (view x)) entries old ok new →
+      Adds seen old (entries_part (inner old) (place (stage old)) (map (text_of (inner old)) ys)) ok (stage_after (stage old) ys) new
+  Adds-from_entries entries ys old new true yields a =
+      let run = AlwaysYields-front steps view a.iterator a.drains.0 a.items ys a.drains.1 (yields a.iterator a.begins) in
+      let end = a.drains.2 refl in
+      let all : ys ≡ map view a.items = run.1 ∙ ap (λ zs. map view a.items ++ zs) (AlwaysYields-end steps view a.drains.0 end.0 run.0 end.1 run.2) ∙ append-nil _ in
+      rw (all, map-map (text_of (inner old)) view a.items, stage_after-map view (stage old) a.items) a.adds
+  Adds-from_entries entries ys old new false yields a =
+      let run = AlwaysYields-front steps view a.iterator a.drains.0 a.items ys a.drains.1 (yields a.iterator a.begins) in
+      let texts = map (λ x. text_of (inner old) (view x)) a.items in
+      let front : entries_part (inner old) (place (stage old)) (map (text_of (inner old)) ys) ≡
+          entries_part (inner old) (place (stage old)) texts ++ entries_part (inner old) (after_entries (place (stage old)) texts) (map (text_of (inner old)) run.0) =
+          ap (λ zs. entries_part (inner old) (place (stage old)) (map (text_of (inner old)) zs)) run.1
+          ∙ ap (λ ts. entries_part (inner old) (place (stage old)) ts) (map-append (text_of (inner old)) (map view a.items) run.0 ∙ ap (λ ts. ts ++ map (text_of (inner old)) run.0) (map-map (text_of (inner old)) view a.items))
+          ∙ entries_part-append (inner old) (place (stage old)) texts (map (text_of (inner old)) run.0) in
+      rw front (Adds-fails old new _ (stage_after (stage old) a.items) (stage_after (stage old) ys) a.adds)

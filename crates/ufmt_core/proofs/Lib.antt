@@ -1,3 +1,4 @@
 pub mod Blocks
 pub mod Indentation
+pub mod Layouts
 pub mod Writing

@@ -6,7 +6,6 @@ use Rattle.ufmt_core.specs.declared.formatter.Formatter.{Formatter}
 use Rattle.ufmt_core.specs.declared.formatter.block.Stage.{Stage}
 use Rattle.ufmt_core.specs.declared.formatter.block.Stage.TheVariants.{First, Later, Lent, LentValue, Closed}
 use Rattle.ufmt_core.specs.declared.formatter.block.Progress.{Progress}
-use Rattle.ufmt_core.specs.Document.{Document}
 use Rattle.ufmt_core.specs.Parts.{entries_part}
 use Rattle.ufmt_core.specs.Layout.{Place, first, later}
 use Rattle.ufmt_core.specs.Writes.{Seen, Writes}
@@ -86,9 +85,9 @@ module _ {W : Type 0} where
 
 module _ {W U T D : Type 0} where
   -- an entry was added for each item that the iterator gave, and on `Ok` it had no more
-  pub record AddsEntries (seen : Seen W) (becomes : U → T → Type 0) (steps : T → Option D → T → Type 0) (document_of : D → Document) (entries : U) (old : Block W) (ok : Bool) (new : Block W) : Type 0 where
+  pub record AddsEntries (seen : Seen W) (becomes : U → T → Type 0) (steps : T → Option D → T → Type 0) (text_of : Setting → D → List ℕ) (entries : U) (old : Block W) (ok : Bool) (new : Block W) : Type 0 where
     pub iterator : T
     pub begins : becomes entries iterator
     pub items : List D
     pub drains : DrainsIf steps (ok ≡ true) iterator items
-    pub adds : Adds seen old (entries_part (inner old) (place (stage old)) (map document_of items)) ok (stage_after (stage old) items) new
+    pub adds : Adds seen old (entries_part (inner old) (place (stage old)) (map (text_of (inner old)) items)) ok (stage_after (stage old) items) new

@@ -1,8 +1,6 @@
 -- The parts of a block, of which a builder's calls write one each.
 use Rattle.std.specs.Prelude.{ℕ, List, [], ◌∷◌, ◌++◌}
 use Rattle.ufmt_core.specs.declared.formatter.Setting.{Setting}
-use Rattle.ufmt_core.specs.Document.{Document}
-use Rattle.ufmt_core.specs.Formatter.{text_at}
 use Rattle.ufmt_core.specs.Layout.{Place, first, later, before, after, opened, closed}
 
 -- what stands before an entry, where the entries have this mode and depth
@@ -14,14 +12,14 @@ lead s later = before s.mode s.depth later
 abbrev pub trail : Setting → List ℕ
 trail s = after s.mode
 
--- an entry of a list, a set or a map
+-- an entry with this text in a list, a set or a map
 abbrev pub entry_part : Setting → Place → List ℕ → List ℕ
 entry_part s place text = lead s place ++ (text ++ trail s)
 
--- the entries of a list or a set in a row
-abbrev pub entries_part : Setting → Place → List Document → List ℕ
+-- entries with these texts in a row
+abbrev pub entries_part : Setting → Place → List (List ℕ) → List ℕ
 entries_part s place [] = []
-entries_part s place (d ∷ ds) = entry_part s place (text_at s d) ++ entries_part s later ds
+entries_part s place (text ∷ texts) = entry_part s place text ++ entries_part s later texts
 
 -- the closing of a list, a set or a map that stands at this mode and depth: `first` where it has no entries
 abbrev pub closing : Setting → Place → List ℕ → List ℕ

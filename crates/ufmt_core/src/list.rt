@@ -1,11 +1,12 @@
-ghost use Rattle.std.specs.Prelude.{◌≡◌, ◌↔◌, true, false, [], codes, is_ok, IfOk, IfErr, OnOk, OnErr, IsTrue};
+ghost use Rattle.std.specs.Prelude.{◌≡◌, ◌↔◌, true, false, List, [], codes, is_ok, IfOk, IfErr, OnOk, OnErr, IsTrue};
 ghost use Rattle.std.specs.Borrow.{sem, RestsIfErr, LendsSoOk, follows};
-ghost use Rattle.std.specs.Iterator.{IsFiniteIterable};
+ghost use Rattle.std.specs.Iterator.{AlwaysYields, IsFiniteIterable};
 ghost use mir.Syntax.{named};
 ghost use Rattle.ufmt_core.specs.contracts.formatter.Formatter as formatter;
 ghost use Rattle.ufmt_core.specs.contracts.list.DebugList as list;
 ghost use Rattle.ufmt_core.specs.declared.formatter.block.Stage.TheVariants.{Later, Lent};
-ghost use Rattle.ufmt_core.specs.Formatter.{Prints, text_at};
+ghost use Rattle.ufmt_core.specs.Document.{Document, documents, list_of};
+ghost use Rattle.ufmt_core.specs.Formatter.{LaysOut, Prints, text_at};
 ghost use Rattle.ufmt_core.specs.Block.{Adds, AddsEntries, Finishes, GivesUp, IsOpen, Opens, inner, outer, place, stage};
 ghost use Rattle.ufmt_core.specs.Parts.{closing, entry_part, lead, trail};
 ghost use Rattle.ufmt_core.specs.List.{block, with_formatter};
@@ -61,7 +62,7 @@ impl<W: uWrite> DebugList<'_, W> {
         requires is_open { IsOpen (block self.old) }
         requires ends { IsFiniteIterable I.into_iter_gives I.IntoIter.can_next I.IntoIter.remaining entries }
         ensures same_reference { self.new.formatter.ghost_name ≡ self.old.formatter.ghost_name }
-        ensures adds { AddsEntries W.seen I.into_iter_gives I.IntoIter.next_gives D.document entries (block self.old) (is_ok result) (block self.new) }
+        ensures adds { AddsEntries W.seen I.into_iter_gives I.IntoIter.next_gives (λ s x. text_at s (D.document x)) entries (block self.old) (is_ok result) (block self.new) }
         ensures is_open { OnOk result (IsOpen (block self.new)) }
     {
         for entry in entries {
@@ -122,4 +123,21 @@ impl<W: uWrite> DebugList<'_, W> {
     {
         matches!(self.progress.stage, Stage::First | Stage::Later)
     }
+}
+
+/// Writes the items as a list: what `fmt` of the library's lists does.
+pub(crate) fn fmt_list<D: uDebug + Drop, I: IntoIterator<Item = D> + Drop, W: uWrite>(
+    items: I,
+    f: &mut Formatter<W>,
+) -> Result<(), W::Error>
+where
+    I::IntoIter: Drop,
+    requires { IsFiniteIterable I.into_iter_gives I.IntoIter.can_next I.IntoIter.remaining items }
+    ensures { (ds : List Document)
+        → ((it : I.IntoIter) → I.into_iter_gives items it → AlwaysYields I.IntoIter.next_gives D.document it ds)
+        → LaysOut W.seen f.old (list_of (documents ds)) (is_ok result) f.new }
+{
+    let mut list = f.debug_list()?;
+    list.entries(items)?;
+    list.finish()
 }
