@@ -1,5 +1,5 @@
 -- How the calls of a builder make up the parts of its block.
-use Rattle.std.proofs.Common.{◌≡◌, ℕ, List, [], ◌∷◌, ◌++◌, Bool, true, false, is_ok, Result, Ok, Err, OnOk, IfErr, refl, ap, sym, ◌∙◌, subst, map, append_assoc, append-nil}
+use Rattle.std.proofs.Common.{◌≡◌, ℕ, List, [], ◌∷◌, ◌++◌, Bool, true, false, is_ok, Result, Ok, Err, OnOk, refl, ap, sym, ◌∙◌, subst, map, append_assoc, append-nil}
 use Rattle.std.specs.Prelude.{◌≢◌, Option, None}
 use Rattle.std.specs.Iterator.{AlwaysYields, Yields}
 use Rattle.std.proofs.lemmas.List.{map-append}
@@ -9,12 +9,11 @@ use Rattle.ufmt_core.specs.declared.formatter.Formatter.{Formatter}
 use Rattle.ufmt_core.specs.declared.formatter.block.Progress.{Progress}
 use Rattle.ufmt_core.specs.declared.formatter.block.Stage.{Stage}
 use Rattle.ufmt_core.specs.declared.formatter.block.Stage.TheVariants.{First, Later, Lent, LentValue, Closed}
-use Rattle.ufmt_core.specs.Document.{Document}
 use Rattle.ufmt_core.specs.Layout.{Place, first, later}
 use Rattle.ufmt_core.specs.Writes.{Seen, Writes}
-use Rattle.ufmt_core.specs.Formatter.{Prints, LaysOut, setting_of, writer_of, text_at}
-use Rattle.ufmt_core.specs.Parts.{closing, entries_part, entry_part, lead, trail}
-use Rattle.ufmt_core.specs.Block.{Block, Adds, AddsEntries, GivesUp, Leaves, inner, outer, place, stage, stage_after}
+use Rattle.ufmt_core.specs.Formatter.{Prints, setting_of, writer_of}
+use Rattle.ufmt_core.specs.Parts.{entries_part, entry_part, trail}
+use Rattle.ufmt_core.specs.Block.{Block, Adds, AddsEntries, AddsEntry, BeginsEntry, PassesOn, Leaves, inner, outer, place, stage, stage_after}
 use Rattle.ufmt_core.proofs.Writing.{Writes-then, Writes-fails}
 
 -- an entry that isn't the first is a later one
@@ -49,37 +48,35 @@ module _ {W : Type 0} {seen : Seen W} where
   Adds-fails old new q stopped next a = record { wrote = Writes-fails q a.wrote; kept = a.kept; leaves = a.leaves }
 
 module _ {W E : Type 0} {seen : Seen W} where
-  Adds-entry-lent : (old new : Block W) {begun : Formatter W} (ended : Formatter W) (before : List ℕ) (d : Document) (answer result : Result (Unit {0}) E) →
-      Prints seen old.formatter before true begun → LaysOut seen begun d (is_ok answer) ended →
-      OnOk answer (Adds seen (lent old ended) (trail (setting_of ended)) (is_ok result) Later new) →
-      IfErr answer (λ e. (result ≡ Err e) × GivesUp (lent old ended) new) →
-      Adds seen old (before ++ (text_at (inner old) d ++ trail (inner old))) (is_ok result) Later new
-  Adds-entry-lent old new {begun} ended before d (Ok x) result p l a g =
-      let same : setting_of ended ≡ inner old = l.prints.same_setting ∙ p.same_setting in
-      let laid = subst (λ (s : Setting). Writes seen (writer_of begun) (text_at s d) true (writer_of ended)) p.same_setting l.prints.wrote in
+  Adds-entry-lent : (old new : Block W) {begun : Formatter W} (ended : Formatter W) (before : List ℕ) (text : Setting → List ℕ) (answer result : Result (Unit {0}) E) →
+      Prints seen old.formatter before true begun → Prints seen begun (text (setting_of begun)) (is_ok answer) ended →
+      OnOk answer (Adds seen (lent old ended) (trail (setting_of ended)) (is_ok result) Later new) → PassesOn answer result (lent old ended) new →
+      Adds seen old (before ++ (text (inner old) ++ trail (inner old))) (is_ok result) Later new
+  Adds-entry-lent old new {begun} ended before text (Ok x) result p l a g =
+      let same : setting_of ended ≡ inner old = l.same_setting ∙ p.same_setting in
+      let laid = subst (λ (s : Setting). Writes seen (writer_of begun) (text s) true (writer_of ended)) p.same_setting l.wrote in
       let trailed = subst (λ (s : Setting). Writes seen (writer_of ended) (trail s) (is_ok result) (writer_of new.formatter)) same a.wrote in
       record {
         wrote = Writes-then p.wrote (Writes-then laid trailed);
         kept = a.kept;
         leaves = Leaves-from (is_ok result) Later old (lent old ended) new same refl a.leaves;
       }
-  Adds-entry-lent old new {begun} ended before d (Err x) result p l a g =
-      let laid = subst (λ (s : Setting). Writes seen (writer_of begun) (text_at s d) false (writer_of ended)) p.same_setting l.prints.wrote in
-      let stopped = subst (λ (w : W). Writes seen (writer_of old.formatter) (before ++ (text_at (inner old) d ++ trail (inner old))) false w) (sym g.1.same_writer) (Writes-then p.wrote (Writes-fails _ laid)) in
-      let failed : Adds seen old (before ++ (text_at (inner old) d ++ trail (inner old))) false Later new =
+  Adds-entry-lent old new {begun} ended before text (Err x) result p l a g =
+      let laid = subst (λ (s : Setting). Writes seen (writer_of begun) (text s) false (writer_of ended)) p.same_setting l.wrote in
+      let stopped = subst (λ (w : W). Writes seen (writer_of old.formatter) (before ++ (text (inner old) ++ trail (inner old))) false w) (sym g.1.same_writer) (Writes-then p.wrote (Writes-fails _ laid)) in
+      let failed : Adds seen old (before ++ (text (inner old) ++ trail (inner old))) false Later new =
           record { wrote = stopped; kept = g.1.kept; leaves = g.1.leaves } in
-      subst (λ (ok : Bool). Adds seen old (before ++ (text_at (inner old) d ++ trail (inner old))) ok Later new) (sym (ap is_ok g.0)) failed
+      subst (λ (ok : Bool). Adds seen old (before ++ (text (inner old) ++ trail (inner old))) ok Later new) (sym (ap is_ok g.0)) failed
 
-  -- begin, a value's `fmt` and end: what stands before the value, its layout and what follows
-  pub Adds-entry : (old mid new : Block W) {begun : Formatter W} (ended : Formatter W) (before : List ℕ) (d : Document) (answer result : Result (Unit {0}) E) →
-      Prints seen old.formatter before true begun → LaysOut seen begun d (is_ok answer) ended → mid ≡ lent old ended →
-      OnOk answer (Adds seen mid (trail (inner mid)) (is_ok result) Later new) →
-      IfErr answer (λ e. (result ≡ Err e) × GivesUp mid new) →
-      Adds seen old (before ++ (text_at (inner old) d ++ trail (inner old))) (is_ok result) Later new
-  Adds-entry old mid new ended before d answer result p l m a g =
-      Adds-entry-lent old new ended before d answer result p l
+  -- begin, what the lent formatter prints and end: an entry with that text
+  pub Adds-entry : (old mid new : Block W) {begun : Formatter W} (ended : Formatter W) (text : Setting → List ℕ) (answer result : Result (Unit {0}) E) →
+      BeginsEntry seen old begun → Prints seen begun (text (setting_of begun)) (is_ok answer) ended → mid ≡ lent old ended →
+      OnOk answer (Adds seen mid (trail (inner mid)) (is_ok result) Later new) → PassesOn answer result mid new →
+      AddsEntry seen old text (is_ok result) new
+  Adds-entry old mid new ended text answer result p l m a g =
+      Adds-entry-lent old new ended _ text answer result p l
       (subst (λ (b : Block W). OnOk answer (Adds seen b (trail (inner b)) (is_ok result) Later new)) m a)
-      (subst (λ (b : Block W). IfErr answer (λ e. (result ≡ Err e) × GivesUp b new)) m g)
+      (subst (λ (b : Block W). PassesOn answer result b new) m g)
 
 -- whether the entry after these is the first
 abbrev pub after_entries : {X : Type 0} → Place → List X → Place

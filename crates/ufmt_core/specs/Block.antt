@@ -1,15 +1,15 @@
 -- What the calls of a builder do to the block that it writes.
-use Rattle.std.specs.Prelude.{◌≡◌, ℕ, List, [], ◌∷◌, map, Bool, true, false, Option}
+use Rattle.std.specs.Prelude.{◌≡◌, ℕ, List, [], ◌∷◌, map, Bool, true, false, Option, Result, Err, IfErr}
 use Rattle.std.specs.Iterator.{DrainsIf}
 use Rattle.ufmt_core.specs.declared.formatter.Setting.{Setting}
 use Rattle.ufmt_core.specs.declared.formatter.Formatter.{Formatter}
 use Rattle.ufmt_core.specs.declared.formatter.block.Stage.{Stage}
 use Rattle.ufmt_core.specs.declared.formatter.block.Stage.TheVariants.{First, Later, Lent, LentValue, Closed}
 use Rattle.ufmt_core.specs.declared.formatter.block.Progress.{Progress}
-use Rattle.ufmt_core.specs.Parts.{entries_part}
+use Rattle.ufmt_core.specs.Parts.{closing, entries_part, entry_part, lead}
 use Rattle.ufmt_core.specs.Layout.{Place, first, later}
 use Rattle.ufmt_core.specs.Writes.{Seen, Writes}
-use Rattle.ufmt_core.specs.Formatter.{writer_of, setting_of, entry_setting}
+use Rattle.ufmt_core.specs.Formatter.{Prints, writer_of, setting_of, entry_setting}
 
 -- whether the next entry is the first
 abbrev pub place : Stage → Place
@@ -82,6 +82,23 @@ module _ {W : Type 0} where
     pub kept : outer new ≡ outer old
     pub closed : stage new ≡ Closed
     pub restored : inner new ≡ outer old
+
+module _ {W : Type 0} where
+  -- one entry of this text was added to a list, a set or a map
+  abbrev pub AddsEntry : Seen W → Block W → (Setting → List ℕ) → Bool → Block W → Type 0
+  AddsEntry seen old text ok new = Adds seen old (entry_part (inner old) (place (stage old)) (text (inner old))) ok Later new
+
+  -- what stands before an entry was written, and the formatter lent for the entry
+  abbrev pub BeginsEntry : Seen W → Block W → Formatter W → Type 0
+  BeginsEntry seen old lent = Prints seen old.formatter (lead (inner old) (place (stage old))) true lent
+
+  -- the value of an entry answered `Err` to the call that ends it or goes on with it
+  abbrev pub PassesOn : {X Y E : Type 0} → Result X E → Result Y E → Block W → Block W → Type 0
+  PassesOn answer result old new = IfErr answer (λ e. (result ≡ Err e) × GivesUp old new)
+
+  -- a list, a set or a map was closed with this bracket
+  abbrev pub FinishesWith : Seen W → Block W → List ℕ → Bool → Block W → Type 0
+  FinishesWith seen old bracket ok new = Finishes seen old (closing (outer old) (place (stage old)) bracket) ok new
 
 module _ {W U T D : Type 0} where
   -- an entry was added for each item that the iterator gave, and on `Ok` it had no more

@@ -1,4 +1,4 @@
-ghost use Rattle.std.specs.Prelude.{◌≡◌, ◌↔◌, true, false, List, [], codes, is_ok, IfOk, IfErr, OnOk, OnErr, IsTrue};
+ghost use Rattle.std.specs.Prelude.{◌≡◌, ◌↔◌, false, List, [], codes, is_ok, IfOk, OnOk, IsTrue};
 ghost use Rattle.std.specs.Borrow.{sem, RestsIfErr, LendsSoOk, follows};
 ghost use Rattle.std.specs.Iterator.{AlwaysYields, IsFiniteIterable};
 ghost use mir.Syntax.{named};
@@ -7,8 +7,8 @@ ghost use Rattle.ufmt_core.specs.contracts.list.DebugList as list;
 ghost use Rattle.ufmt_core.specs.declared.formatter.block.Stage.TheVariants.{Later, Lent};
 ghost use Rattle.ufmt_core.specs.Document.{Document, documents, list_of};
 ghost use Rattle.ufmt_core.specs.Formatter.{LaysOut, Prints, text_at};
-ghost use Rattle.ufmt_core.specs.Block.{Adds, AddsEntries, Finishes, GivesUp, IsOpen, Opens, inner, outer, place, stage};
-ghost use Rattle.ufmt_core.specs.Parts.{closing, entry_part, lead, trail};
+ghost use Rattle.ufmt_core.specs.Parts.{lead, trail};
+ghost use Rattle.ufmt_core.specs.Block.{Adds, AddsEntries, AddsEntry, BeginsEntry, FinishesWith, IsOpen, Opens, PassesOn, inner, place, stage};
 ghost use Rattle.ufmt_core.specs.List.{block, with_formatter};
 
 use crate::formatter::Formatter;
@@ -46,9 +46,7 @@ impl<W: uWrite> DebugList<'_, W> {
     pub fn entry<D: uDebug>(&mut self, entry: &D) -> Result<(), W::Error>
         requires { IsOpen (block self.old) }
         ensures same_reference { self.new.formatter.ghost_name ≡ self.old.formatter.ghost_name }
-        ensures adds { Adds W.seen (block self.old)
-            (entry_part (inner (block self.old)) (place (stage (block self.old))) (text_at (inner (block self.old)) (D.document entry.now)))
-            (is_ok result) Later (block self.new) }
+        ensures adds { AddsEntry W.seen (block self.old) (λ s. text_at s (D.document entry.now)) (is_ok result) (block self.new) }
         ensures is_open { OnOk result (IsOpen (block self.new)) }
     {
         let answer = entry.fmt(self.begin_entry()?);
@@ -75,9 +73,10 @@ impl<W: uWrite> DebugList<'_, W> {
     fn begin_entry(&mut self) -> Result<&mut Formatter<W>, W::Error>
         requires { IsOpen (block self.old) }
         ensures* lends { sem 𝓛 (LendsSoOk (list.the_row (record { mir = named 0; lft = [] }) W.row) (formatter.the_row W.row) self.entry result
-            (λ last lent. (last ≡ with_formatter (record self.old { progress = record self.old.progress { stage = Lent } }) lent))
-            (λ last. (last.formatter.ghost_name ≡ self.old.formatter.ghost_name) × Adds W.seen (block self.old) (lead (inner (block self.old)) (place (stage (block self.old)))) false Lent (block last))) }
-        ensures lead { IfOk result (λ lent. Prints W.seen self.old.formatter.now (lead (inner (block self.old)) (place (stage (block self.old)))) true lent.now) }
+            (λ last lent. last ≡ with_formatter (record self.old { progress = record self.old.progress { stage = Lent } }) lent)
+            (λ last. (last.formatter.ghost_name ≡ self.old.formatter.ghost_name)
+                × Adds W.seen (block self.old) (lead (inner (block self.old)) (place (stage (block self.old)))) false Lent (block last))) }
+        ensures begins { IfOk result (λ lent. BeginsEntry W.seen (block self.old) lent.now) }
     {
         let written = self.formatter.write_lead(self.progress.stage);
         self.formatter.settle(&mut self.progress, written, Stage::Lent)?;
@@ -91,11 +90,11 @@ impl<W: uWrite> DebugList<'_, W> {
         &mut *self.formatter
     }
 
-    /// Writes what stands after an entry whose `fmt` gave this answer.
+    /// Writes what stands after an entry whose `fmt` gave this answer, or passes an `Err` on.
     fn end_entry(&mut self, answer: Result<(), W::Error>) -> Result<(), W::Error>
         ensures same_reference { self.new.formatter.ghost_name ≡ self.old.formatter.ghost_name }
-        ensures ended { OnOk answer (Adds W.seen (block self.old) (trail (inner (block self.old))) (is_ok result) Later (block self.new)) }
-        ensures gives_up { IfErr answer (λ e. (result ≡ Err e) × GivesUp (block self.old) (block self.new)) }
+        ensures ends { OnOk answer (Adds W.seen (block self.old) (trail (inner (block self.old))) (is_ok result) Later (block self.new)) }
+        ensures passes_on { PassesOn answer result (block self.old) (block self.new) }
         ensures is_open { OnOk result (IsOpen (block self.new)) }
     {
         let ended = match answer {
@@ -109,8 +108,7 @@ impl<W: uWrite> DebugList<'_, W> {
     pub fn finish(&mut self) -> Result<(), W::Error>
         requires { IsOpen (block self.old) }
         ensures same_reference { self.new.formatter.ghost_name ≡ self.old.formatter.ghost_name }
-        ensures finishes { Finishes W.seen (block self.old)
-            (closing (outer (block self.old)) (place (stage (block self.old))) (codes "]")) (is_ok result) (block self.new) }
+        ensures finishes { FinishesWith W.seen (block self.old) (codes "]") (is_ok result) (block self.new) }
     {
         let finished = self.formatter.write_closing(self.progress, "]");
         self.formatter.leave(&mut self.progress);
