@@ -3,7 +3,7 @@ use Rattle.std.proofs.Common.{◌≡◌, ℕ, List, [], ◌∷◌, ◌++◌, Boo
 use Rattle.ufmt_core.specs.declared.formatter.Setting.{Setting}
 use Rattle.ufmt_core.specs.declared.formatter.Formatter.{Formatter}
 use Rattle.ufmt_core.specs.declared.formatter.block.Stage.{Stage}
-use Rattle.ufmt_core.specs.Document.{Document, Documents, documents, list_of}
+use Rattle.ufmt_core.specs.Document.{Document, Documents, documents, list_of, set_of}
 use Rattle.ufmt_core.specs.Layout.{block, first, later, entries, entry, layout, opened, closed, before, after}
 use Rattle.ufmt_core.specs.Writes.{Seen, Writes}
 use Rattle.ufmt_core.specs.Formatter.{Prints, LaysOut, setting_of, writer_of, text_at, entry_setting}
@@ -20,13 +20,19 @@ entries-part s (d ∷ ds) = ap (λ t. entry s.mode s.depth later (layout s.mode 
 pub record HasParts (whole : Document) (opening : List ℕ) (texts : Setting → List (List ℕ)) (bracket : List ℕ) : Type 0 where
   pub joined : (s : Setting) → text_at s whole ≡ opening ++ (entries_part (entry_setting s) first (texts (entry_setting s)) ++ closing s (after_entries first (texts (entry_setting s))) bracket)
 
--- a list with entries, by its parts
 list-parts_of : (s : Setting) (ds : List Document) → text_at s (list_of (documents ds)) ≡ codes "[" ++ (entries_part (entry_setting s) first (map (text_at (entry_setting s)) ds) ++ closing s (after_entries first (map (text_at (entry_setting s)) ds)) (codes "]"))
 list-parts_of s [] = refl
 list-parts_of s (d ∷ ds) = rw (entries-part (entry_setting s) ds) (simp append_assoc)
 
 pub list-parts : (ds : List Document) → HasParts (list_of (documents ds)) (codes "[") (λ s. map (text_at s) ds) (codes "]")
 list-parts ds = record { joined = λ s. list-parts_of s ds }
+
+set-parts_of : (s : Setting) (ds : List Document) → text_at s (set_of (documents ds)) ≡ codes "{" ++ (entries_part (entry_setting s) first (map (text_at (entry_setting s)) ds) ++ closing s (after_entries first (map (text_at (entry_setting s)) ds)) (codes "}"))
+set-parts_of s [] = refl
+set-parts_of s (d ∷ ds) = rw (entries-part (entry_setting s) ds) (simp append_assoc)
+
+pub set-parts : (ds : List Document) → HasParts (set_of (documents ds)) (codes "{") (λ s. map (text_at s) ds) (codes "}")
+set-parts ds = record { joined = λ s. set-parts_of s ds }
 
 module _ {W : Type 0} {seen : Seen W} {start last : Formatter W} {whole : Document} {opening : List ℕ} {texts : Setting → List (List ℕ)} {bracket : List ℕ} (parts : HasParts whole opening texts bracket) where
   -- a builder that could not begin

@@ -4,4 +4,5 @@ pub mod Formatter
 pub mod Layout
 pub mod List
 pub mod Parts
+pub mod Set
 pub mod Writes

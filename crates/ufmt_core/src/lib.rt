@@ -7,10 +7,12 @@ ghost use Rattle.ufmt_core.specs.Formatter.{LaysOut};
 
 mod formatter;
 mod list;
+mod set;
 mod write;
 
 pub use formatter::Formatter;
 pub use list::DebugList;
+pub use set::DebugSet;
 pub use write::uWrite;
 
 /// A value that prints itself as Rust's `{:?}` and `{:#?}` would.
