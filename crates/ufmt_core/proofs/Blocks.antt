@@ -1,5 +1,5 @@
 -- How the calls of a builder make up the parts of its block.
-use Rattle.std.proofs.Common.{◌≡◌, ℕ, List, [], ◌∷◌, ◌++◌, Bool, true, false, is_ok, Result, Ok, Err, OnOk, refl, ap, sym, ◌∙◌, subst, map, append_assoc, append-nil}
+use Rattle.std.proofs.Common.{◌≡◌, ℕ, List, [], ◌∷◌, ◌++◌, Bool, true, false, is_ok, Result, Ok, Err, OnOk, OnErr, IsOk, IfErr, codes, refl, ap, sym, ◌∙◌, subst, map, append_assoc, append-nil}
 use Rattle.std.specs.Prelude.{◌≢◌, Option, None}
 use Rattle.std.specs.Iterator.{AlwaysYields, Yields}
 use Rattle.std.proofs.lemmas.List.{map-append}
@@ -9,12 +9,13 @@ use Rattle.ufmt_core.specs.declared.formatter.Formatter.{Formatter}
 use Rattle.ufmt_core.specs.declared.formatter.block.Progress.{Progress}
 use Rattle.ufmt_core.specs.declared.formatter.block.Stage.{Stage}
 use Rattle.ufmt_core.specs.declared.formatter.block.Stage.TheVariants.{First, Later, Lent, LentValue, Closed}
+use Rattle.ufmt_core.specs.Document.{Document}
 use Rattle.ufmt_core.specs.Layout.{Place, first, later}
 use Rattle.ufmt_core.specs.Writes.{Seen, Writes}
-use Rattle.ufmt_core.specs.Formatter.{Prints, setting_of, writer_of}
-use Rattle.ufmt_core.specs.Parts.{entries_part, entry_part, trail}
-use Rattle.ufmt_core.specs.Block.{Block, Adds, AddsEntries, AddsEntry, BeginsEntry, PassesOn, Leaves, inner, outer, place, stage, stage_after}
-use Rattle.ufmt_core.proofs.Writing.{Writes-then, Writes-fails}
+use Rattle.ufmt_core.specs.Formatter.{LaysOut, Prints, setting_of, text_at, writer_of}
+use Rattle.ufmt_core.specs.Parts.{entries_part, entry_part, pair_text, trail}
+use Rattle.ufmt_core.specs.Block.{Block, Adds, AddsEntries, AddsEntry, BeginsEntry, GivesUp, PassesOn, Leaves, inner, outer, place, stage, stage_after}
+use Rattle.ufmt_core.proofs.Writing.{Writes-then, Writes-fails, Prints-then}
 
 -- an entry that isn't the first is a later one
 pub place-later : (s : Stage) → s ≢ First → place s ≡ later
@@ -30,9 +31,9 @@ module _ {W : Type 0} where
   Leaves-from true next old mid new i o h = (h.0, h.1 ∙ i)
   Leaves-from false next old mid new i o h = (h.0, h.1 ∙ o)
 
-  -- the builder whose entry is being written, where its formatter has come to this value
-  abbrev pub lent : Block W → Formatter W → Block W
-  lent b f = record { formatter = f; progress = record b.progress { stage = Lent } }
+  -- the builder that has lent its formatter, where that has come to this value
+  abbrev pub lent : Stage → Block W → Formatter W → Block W
+  lent pending b f = record { formatter = f; progress = record b.progress { stage = pending } }
 
 module _ {W : Type 0} {seen : Seen W} where
   -- two calls in a row write their parts joined
@@ -47,21 +48,26 @@ module _ {W : Type 0} {seen : Seen W} where
   Adds-fails : (old new : Block W) {p : List ℕ} (q : List ℕ) (stopped next : Stage) → Adds seen old p false stopped new → Adds seen old (p ++ q) false next new
   Adds-fails old new q stopped next a = record { wrote = Writes-fails q a.wrote; kept = a.kept; leaves = a.leaves }
 
+-- a call that went on was handed an `Ok`
+handed_ok : {X Y E : Type 0} (answer : Result X E) (result : Result Y E) → IfErr answer (λ e. result ≡ Err e) → IsOk result → is_ok answer ≡ true
+handed_ok (Ok x) result h k = refl
+handed_ok (Err x) result h k = cc (ap is_ok h)
+
 module _ {W E : Type 0} {seen : Seen W} where
-  Adds-entry-lent : (old new : Block W) {begun : Formatter W} (ended : Formatter W) (before : List ℕ) (text : Setting → List ℕ) (answer result : Result (Unit {0}) E) →
+  Adds-entry-lent : (pending : Stage) (old new : Block W) {begun : Formatter W} (ended : Formatter W) (before : List ℕ) (text : Setting → List ℕ) (answer result : Result (Unit {0}) E) →
       Prints seen old.formatter before true begun → Prints seen begun (text (setting_of begun)) (is_ok answer) ended →
-      OnOk answer (Adds seen (lent old ended) (trail (setting_of ended)) (is_ok result) Later new) → PassesOn answer result (lent old ended) new →
+      OnOk answer (Adds seen (lent pending old ended) (trail (setting_of ended)) (is_ok result) Later new) → PassesOn answer result (lent pending old ended) new →
       Adds seen old (before ++ (text (inner old) ++ trail (inner old))) (is_ok result) Later new
-  Adds-entry-lent old new {begun} ended before text (Ok x) result p l a g =
+  Adds-entry-lent pending old new {begun} ended before text (Ok x) result p l a g =
       let same : setting_of ended ≡ inner old = l.same_setting ∙ p.same_setting in
       let laid = subst (λ (s : Setting). Writes seen (writer_of begun) (text s) true (writer_of ended)) p.same_setting l.wrote in
       let trailed = subst (λ (s : Setting). Writes seen (writer_of ended) (trail s) (is_ok result) (writer_of new.formatter)) same a.wrote in
       record {
         wrote = Writes-then p.wrote (Writes-then laid trailed);
         kept = a.kept;
-        leaves = Leaves-from (is_ok result) Later old (lent old ended) new same refl a.leaves;
+        leaves = Leaves-from (is_ok result) Later old (lent pending old ended) new same refl a.leaves;
       }
-  Adds-entry-lent old new {begun} ended before text (Err x) result p l a g =
+  Adds-entry-lent pending old new {begun} ended before text (Err x) result p l a g =
       let laid = subst (λ (s : Setting). Writes seen (writer_of begun) (text s) false (writer_of ended)) p.same_setting l.wrote in
       let stopped = subst (λ (w : W). Writes seen (writer_of old.formatter) (before ++ (text (inner old) ++ trail (inner old))) false w) (sym g.1.same_writer) (Writes-then p.wrote (Writes-fails _ laid)) in
       let failed : Adds seen old (before ++ (text (inner old) ++ trail (inner old))) false Later new =
@@ -69,14 +75,51 @@ module _ {W E : Type 0} {seen : Seen W} where
       subst (λ (ok : Bool). Adds seen old (before ++ (text (inner old) ++ trail (inner old))) ok Later new) (sym (ap is_ok g.0)) failed
 
   -- begin, what the lent formatter prints and end: an entry with that text
-  pub Adds-entry : (old mid new : Block W) {begun : Formatter W} (ended : Formatter W) (text : Setting → List ℕ) (answer result : Result (Unit {0}) E) →
-      BeginsEntry seen old begun → Prints seen begun (text (setting_of begun)) (is_ok answer) ended → mid ≡ lent old ended →
+  pub Adds-entry : (pending : Stage) (old mid new : Block W) {begun : Formatter W} (ended : Formatter W) (text : Setting → List ℕ) (answer result : Result (Unit {0}) E) →
+      BeginsEntry seen old begun → Prints seen begun (text (setting_of begun)) (is_ok answer) ended → mid ≡ lent pending old ended →
       OnOk answer (Adds seen mid (trail (inner mid)) (is_ok result) Later new) → PassesOn answer result mid new →
       AddsEntry seen old text (is_ok result) new
-  Adds-entry old mid new ended text answer result p l m a g =
-      Adds-entry-lent old new ended _ text answer result p l
+  Adds-entry pending old mid new ended text answer result p l m a g =
+      Adds-entry-lent pending old new ended _ text answer result p l
       (subst (λ (b : Block W). OnOk answer (Adds seen b (trail (inner b)) (is_ok result) Later new)) m a)
       (subst (λ (b : Block W). PassesOn answer result b new) m g)
+
+  Adds-stopped-lent : (pending : Stage) (old new : Block W) {begun : Formatter W} (ended : Formatter W) (text : Setting → List ℕ) (piece rest : List ℕ) (stopped : Stage) (answer : Result (Unit {0}) E) →
+      BeginsEntry seen old begun → Prints seen begun (text (setting_of begun)) (is_ok answer) ended →
+      OnOk answer (Adds seen (lent pending old ended) piece false stopped new) → OnErr answer (GivesUp (lent pending old ended) new) →
+      AddsEntry seen old (λ s. text s ++ (piece ++ rest)) false new
+  Adds-stopped-lent pending old new {begun} ended text piece rest stopped (Ok x) p l a g =
+      let laid = subst (λ (s : Setting). Writes seen (writer_of begun) (text s) true (writer_of ended)) p.same_setting l.wrote in
+      let whole : (text (inner old) ++ (piece ++ rest)) ++ trail (inner old) ≡ (text (inner old) ++ piece) ++ (rest ++ trail (inner old)) = simp append_assoc in
+      record { wrote = rw whole (Writes-then p.wrote (Writes-fails _ (Writes-then laid a.wrote))); kept = a.kept; leaves = a.leaves }
+  Adds-stopped-lent pending old new {begun} ended text piece rest stopped (Err x) p l a g =
+      let laid = subst (λ (s : Setting). Writes seen (writer_of begun) (text s) false (writer_of ended)) p.same_setting l.wrote in
+      let whole : (text (inner old) ++ (piece ++ rest)) ++ trail (inner old) ≡ text (inner old) ++ ((piece ++ rest) ++ trail (inner old)) = append_assoc (text (inner old)) (piece ++ rest) (trail (inner old)) in
+      record { wrote = rw (whole, g.same_writer) (Writes-then p.wrote (Writes-fails _ laid)); kept = g.kept; leaves = g.leaves }
+
+  -- begin, what the lent formatter prints and a call that stopped: a beginning of what begins so
+  pub Adds-stopped : (pending : Stage) (old mid new : Block W) {begun : Formatter W} (ended : Formatter W) (text : Setting → List ℕ) (piece rest : List ℕ) (stopped : Stage) (answer : Result (Unit {0}) E) →
+      BeginsEntry seen old begun → Prints seen begun (text (setting_of begun)) (is_ok answer) ended → mid ≡ lent pending old ended →
+      OnOk answer (Adds seen mid piece false stopped new) → OnErr answer (GivesUp mid new) →
+      AddsEntry seen old (λ s. text s ++ (piece ++ rest)) false new
+  Adds-stopped pending old mid new ended text piece rest stopped answer p l m a g =
+      Adds-stopped-lent pending old new ended text piece rest stopped answer p l
+      (subst (λ (b : Block W). OnOk answer (Adds seen b piece false stopped new)) m a)
+      (subst (λ (b : Block W). OnErr answer (GivesUp b new)) m g)
+
+  -- a key, `: ` and a value between begin and end: an entry with the pair's text
+  pub Adds-pair : {Y : Type 0} (old m1 m2 new : Block W) {f1 f3 : Formatter W} (f2 f4 : Formatter W) (key value : Document) (key_answer answer result : Result (Unit {0}) E) (begun : Result Y E) →
+      BeginsEntry seen old f1 → LaysOut seen f1 key (is_ok key_answer) f2 → m1 ≡ lent Lent old f2 →
+      IfErr key_answer (λ e. begun ≡ Err e) → IsOk begun → Prints seen m1.formatter (codes ": ") true f3 → LaysOut seen f3 value (is_ok answer) f4 → m2 ≡ lent LentValue m1 f4 →
+      OnOk answer (Adds seen m2 (trail (inner m2)) (is_ok result) Later new) → PassesOn answer result m2 new →
+      AddsEntry seen old (λ s. pair_text s (key, value)) (is_ok result) new
+  Adds-pair old m1 m2 new {f1} {f3} f2 f4 key value key_answer answer result begun b k e1 p ok c v e2 ends passes =
+      let keyed : Prints seen f1 (text_at (setting_of f1) key) true f2 = subst (λ (o : Bool). Prints seen f1 (text_at (setting_of f1) key) o f2) (handed_ok key_answer begun p ok) k.prints in
+      let colon : Prints seen f2 (codes ": ") true f3 = subst (λ (m : Block W). Prints seen m.formatter (codes ": ") true f3) e1 c in
+      let valued : Prints seen f3 (text_at (setting_of f1) value) (is_ok answer) f4 = subst (λ (s : Setting). Prints seen f3 (text_at s value) (is_ok answer) f4) (colon.same_setting ∙ keyed.same_setting) v.prints in
+      Adds-entry LentValue old m2 new f4 (λ s. pair_text s (key, value)) answer result b
+      (Prints-then keyed (Prints-then colon valued))
+      (e2 ∙ ap (λ (m : Block W). lent LentValue m f4) e1) ends passes
 
 -- whether the entry after these is the first
 abbrev pub after_entries : {X : Type 0} → Place → List X → Place

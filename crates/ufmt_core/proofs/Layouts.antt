@@ -3,11 +3,11 @@ use Rattle.std.proofs.Common.{◌≡◌, ℕ, List, [], ◌∷◌, ◌++◌, Boo
 use Rattle.ufmt_core.specs.declared.formatter.Setting.{Setting}
 use Rattle.ufmt_core.specs.declared.formatter.Formatter.{Formatter}
 use Rattle.ufmt_core.specs.declared.formatter.block.Stage.{Stage}
-use Rattle.ufmt_core.specs.Document.{Document, Documents, documents, list_of, set_of}
-use Rattle.ufmt_core.specs.Layout.{block, first, later, entries, entry, layout, opened, closed, before, after}
+use Rattle.ufmt_core.specs.Document.{Document, Documents, documents, list_of, map_of, pairs_of, set_of}
+use Rattle.ufmt_core.specs.Layout.{block, first, pairs, later, entries, entry, layout, opened, closed, before, after}
 use Rattle.ufmt_core.specs.Writes.{Seen, Writes}
 use Rattle.ufmt_core.specs.Formatter.{Prints, LaysOut, setting_of, writer_of, text_at, entry_setting}
-use Rattle.ufmt_core.specs.Parts.{closing, entries_part, entry_part, lead, trail}
+use Rattle.ufmt_core.specs.Parts.{closing, entries_part, entry_part, lead, pair_text, trail}
 use Rattle.ufmt_core.specs.Block.{Block, Opens, Adds, Finishes, inner, outer, place, stage, stage_after}
 use Rattle.ufmt_core.proofs.Writing.{Writes-then, Writes-fails}
 use Rattle.ufmt_core.proofs.Blocks.{after_entries, after_entries-place}
@@ -33,6 +33,17 @@ set-parts_of s (d ∷ ds) = rw (entries-part (entry_setting s) ds) (simp append_
 
 pub set-parts : (ds : List Document) → HasParts (set_of (documents ds)) (codes "{") (λ s. map (text_at s) ds) (codes "}")
 set-parts ds = record { joined = λ s. set-parts_of s ds }
+
+pairs-part : (s : Setting) (ps : List (Document × Document)) → pairs s.mode s.depth (pairs_of ps) ≡ entries_part s later (map (pair_text s) ps)
+pairs-part s [] = refl
+pairs-part s (p ∷ ps) = ap (λ t. entry s.mode s.depth later (pair_text s p) ++ t) (pairs-part s ps)
+
+map-parts_of : (s : Setting) (ps : List (Document × Document)) → text_at s (map_of (pairs_of ps)) ≡ codes "{" ++ (entries_part (entry_setting s) first (map (pair_text (entry_setting s)) ps) ++ closing s (after_entries first (map (pair_text (entry_setting s)) ps)) (codes "}"))
+map-parts_of s [] = refl
+map-parts_of s (p ∷ ps) = rw (pairs-part (entry_setting s) ps) (simp append_assoc)
+
+pub map-parts : (ps : List (Document × Document)) → HasParts (map_of (pairs_of ps)) (codes "{") (λ s. map (pair_text s) ps) (codes "}")
+map-parts ps = record { joined = λ s. map-parts_of s ps }
 
 module _ {W : Type 0} {seen : Seen W} {start last : Formatter W} {whole : Document} {opening : List ℕ} {texts : Setting → List (List ℕ)} {bracket : List ℕ} (parts : HasParts whole opening texts bracket) where
   -- a builder that could not begin

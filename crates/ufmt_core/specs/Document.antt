@@ -29,6 +29,11 @@ abbrev pub documents : List Document → Documents
 documents [] = no_documents
 documents (d ∷ ds) = document d (documents ds)
 
+-- pairs of a key's and a value's document in a row
+abbrev pub pairs_of : List (Document × Document) → Pairs
+pairs_of [] = no_pairs
+pairs_of (p ∷ ps) = pair p.0 p.1 (pairs_of ps)
+
 -- how many blocks with entries lie one in another
 abbrev mutual
   pub nest : Document → ℕ

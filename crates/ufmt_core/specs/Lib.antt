@@ -3,6 +3,7 @@ pub mod Document
 pub mod Formatter
 pub mod Layout
 pub mod List
+pub mod Map
 pub mod Parts
 pub mod Set
 pub mod Writes

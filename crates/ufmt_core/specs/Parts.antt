@@ -1,6 +1,8 @@
 -- The parts of a block, of which a builder's calls write one each.
-use Rattle.std.specs.Prelude.{ℕ, List, [], ◌∷◌, ◌++◌}
+use Rattle.std.specs.Prelude.{ℕ, List, [], ◌∷◌, ◌++◌, codes}
 use Rattle.ufmt_core.specs.declared.formatter.Setting.{Setting}
+use Rattle.ufmt_core.specs.Document.{Document}
+use Rattle.ufmt_core.specs.Formatter.{text_at}
 use Rattle.ufmt_core.specs.Layout.{Place, first, later, before, after, opened, closed}
 
 -- what stands before an entry, where the entries have this mode and depth
@@ -20,6 +22,10 @@ entry_part s place text = lead s place ++ (text ++ trail s)
 abbrev pub entries_part : Setting → Place → List (List ℕ) → List ℕ
 entries_part s place [] = []
 entries_part s place (text ∷ texts) = entry_part s place text ++ entries_part s later texts
+
+-- the text of a map's entry
+abbrev pub pair_text : Setting → Document × Document → List ℕ
+pair_text s p = text_at s p.0 ++ (codes ": " ++ text_at s p.1)
 
 -- the closing of a list, a set or a map that stands at this mode and depth: `first` where it has no entries
 abbrev pub closing : Setting → Place → List ℕ → List ℕ

@@ -7,11 +7,13 @@ ghost use Rattle.ufmt_core.specs.Formatter.{LaysOut};
 
 mod formatter;
 mod list;
+mod map;
 mod set;
 mod write;
 
 pub use formatter::Formatter;
 pub use list::DebugList;
+pub use map::DebugMap;
 pub use set::DebugSet;
 pub use write::uWrite;
 

@@ -1,0 +1,27 @@
+use Rattle.std.proofs.Common.{rules, ◌∷◌, [], ◌++◌, Bool, false}
+use Rattle.std.proofs.iter.Next.{Yields-more}
+use Rattle.ufmt_core.specs.Parts.{pair_text}
+use Rattle.ufmt_core.specs.Map.{block}
+use Rattle.ufmt_core.proofs.Blocks.{Adds-more}
+use Rattle.ufmt_core.proofs.Writing.{is_ok-err}
+use Rattle.ufmt_core.proofs.map.DebugMap.entries.Goals as goal
+
+pub returns-in_err-entry-clause-adds : goal.returns-in_err-entry-clause-adds
+returns-in_err-entry-clause-adds g c =
+    let failed = is_ok-err _ c.from_residual.ensures.0 in
+    rw failed record {
+      iterator = c.into_iter-key-iterator.result;
+      begins = c.into_iter-key-iterator.ensures.into_iter_gives;
+      items = c.loop-key.yielded ++ (c.in-Some.key, c.in-Some.value) ∷ [];
+      drains = (c.next.new.self, Yields-more g.I.IntoIter.Iterator.next_gives c.into_iter-key-iterator.result _ c.loop-key.key-iterator _ c.next.new.self c.loop-key.yielded_by c.in-Some.ensures.steps, λ e. absurd (cc));
+      adds = Adds-more _ _ _ (λ s x. pair_text s (g.K.uDebug.document x.0, g.V.uDebug.document x.1)) _ _ _ c.loop-key.invariant.adds c.in_err-entry.ensures.adds;
+    }
+
+pub loop-key-preserved : goal.loop-key-preserved
+loop-key-preserved g c = record {
+  can = search rules;
+  ends = search rules;
+  is_open = search rules;
+  same_reference = search rules;
+  adds = Adds-more _ _ _ (λ s x. pair_text s (g.K.uDebug.document x.0, g.V.uDebug.document x.1)) _ _ _ c.loop-key.invariant.adds c.in_ok-entry.ensures.adds;
+}

@@ -1,0 +1,12 @@
+-- What contracts see of a map builder.
+use Rattle.ufmt_core.specs.declared.formatter.Formatter.{Formatter}
+use Rattle.ufmt_core.specs.declared.map.DebugMap.{DebugMap}
+use Rattle.ufmt_core.specs.Block.{Block}
+
+module _ {W : Type 0} where
+  abbrev pub block : DebugMap W → Block W
+  block b = record { formatter = b.formatter.now; progress = b.progress }
+
+  -- the builder whose formatter has come to this value
+  abbrev pub with_formatter : DebugMap W → Formatter W → DebugMap W
+  with_formatter b f = record b { formatter = record b.formatter { now = f } }
