@@ -1,7 +1,7 @@
 -- How the calls of a builder make up the parts of its block.
 use Rattle.std.proofs.Common.{◌≡◌, ℕ, List, [], ◌∷◌, ◌++◌, Bool, true, false, is_ok, Result, Ok, Err, OnOk, OnErr, IsOk, IfErr, codes, refl, ap, sym, ◌∙◌, subst, map, append_assoc, append-nil}
-use Rattle.std.specs.Prelude.{◌≢◌, Option, None}
-use Rattle.std.specs.Iterator.{AlwaysYields, Yields}
+use Rattle.std.specs.Prelude.{◌≢◌, Option}
+use Rattle.std.specs.Iterator.{AlwaysYields}
 use Rattle.std.proofs.lemmas.List.{map-append}
 use Rattle.std.proofs.lemmas.Simd.{map-map}
 use Rattle.ufmt_core.specs.declared.formatter.Setting.{Setting}
@@ -15,6 +15,7 @@ use Rattle.ufmt_core.specs.Writes.{Seen, Writes}
 use Rattle.ufmt_core.specs.Formatter.{LaysOut, Prints, setting_of, text_at, writer_of}
 use Rattle.ufmt_core.specs.Parts.{entries_part, entry_part, pair_text, trail}
 use Rattle.ufmt_core.specs.Block.{Block, Adds, AddsEntries, AddsEntry, BeginsEntry, GivesUp, PassesOn, Leaves, inner, outer, place, stage, stage_after}
+use Rattle.ufmt_core.proofs.Items.{AlwaysYields-front, AlwaysYields-end}
 use Rattle.ufmt_core.proofs.Writing.{Writes-then, Writes-fails, Prints-then}
 
 -- an entry that isn't the first is a later one
@@ -167,21 +168,6 @@ module _ {W D : Type 0} {seen : Seen W} where
               ∙ ap (λ (p : Place). entry_part (inner old) p (text_of (inner old) y)) (sym at_place)
               ∙ ap (λ (s : Setting). entry_part s (place (stage mid)) (text_of s y)) (sym a.leaves.1)) in
       rw (part, stage_after-append (stage old) xs y) (Adds-then old mid new (stage_after (stage old) xs) Later a b)
-
-module _ {S A B : Type 0} (steps : S → Option A → S → Type 0) (v : A → B) where
-  -- what some calls gave stands at the front of what every run gives
-  AlwaysYields-front : (s t : S) (xs : List A) (ys : List B) → Yields steps s xs t → AlwaysYields steps v s ys → (zs : List B) × (ys ≡ map v xs ++ zs) × AlwaysYields steps v t zs
-  AlwaysYields-front s t [] ys y a = (ys, refl, subst (λ (u : S). AlwaysYields steps v u ys) y a)
-  AlwaysYields-front s t (x ∷ xs) [] y a = absurd (a x y.0 y.1)
-  AlwaysYields-front s t (x ∷ xs) (z ∷ zs) y a =
-      let one = a.1 x y.0 y.1 in
-      let more = AlwaysYields-front y.0 t xs zs y.2 one.1 in
-      (more.0, ap (λ b. b ∷ zs) (sym one.0) ∙ ap (λ bs. v x ∷ bs) more.1, more.2)
-
-  -- nothing more comes where the next call gave `None`
-  AlwaysYields-end : (t u : S) (zs : List B) → steps t None u → AlwaysYields steps v t zs → zs ≡ []
-  AlwaysYields-end t u [] n a = refl
-  AlwaysYields-end t u (z ∷ zs) n a = absurd (a.0 u n)
 
 module _ {W U T D Y : Type 0} {seen : Seen W} {becomes : U → T → Type 0} {steps : T → Option D → T → Type 0} (view : D → Y) (text_of : Setting → Y → List ℕ) where
   -- where every run of the iterator gives items that `view` takes to `ys`, their entries were added, or a beginning of them

@@ -1,6 +1,7 @@
 -- What contracts say of a formatter: its writer, its mode and depth, and what a call prints.
 use Rattle.std.specs.Prelude.{◌≡◌, ℕ, List, Bool}
 use Rattle.ufmt_core.specs.declared.formatter.Mode.{Mode}
+use Rattle.ufmt_core.specs.declared.formatter.Mode.TheVariants.{Pretty}
 use Rattle.ufmt_core.specs.declared.formatter.Setting.{Setting}
 use Rattle.ufmt_core.specs.declared.formatter.Formatter.{Formatter}
 use Rattle.ufmt_core.specs.Document.{Document}
@@ -28,6 +29,14 @@ module _ {W : Type 0} where
 
   abbrev pub depth_of : Formatter W → ℕ
   depth_of f = f.setting.depth
+
+  -- the same formatter at this mode and depth
+  abbrev pub at_setting : Formatter W → Setting → Formatter W
+  at_setting f s = record f { setting = s }
+
+  -- the same formatter in pretty mode, at its depth
+  abbrev pub in_pretty_mode : Formatter W → Formatter W
+  in_pretty_mode f = at_setting f (record { mode = Pretty; depth = depth_of f })
 
   -- the text was written, or a beginning of it, and mode and depth are as before
   pub record Prints (seen : Seen W) (old : Formatter W) (text : List ℕ) (ok : Bool) (new : Formatter W) : Type 0 where

@@ -1,6 +1,9 @@
-ghost use Rattle.std.specs.Prelude.{◌≡◌, ℕ, is_ok, encode_utf8};
-ghost use Rattle.ufmt_core.specs.declared.formatter.Mode.TheVariants.{Plain};
-ghost use Rattle.ufmt_core.specs.Formatter.{Prints, writer_of, mode_of, depth_of};
+ghost use Rattle.std.specs.Prelude.{◌≡◌, ◌↔◌, ℕ, is_ok, encode_utf8, IsTrue};
+ghost use Rattle.ufmt_core.specs.declared.formatter.Mode.TheVariants.{Plain, Pretty};
+ghost use Rattle.std.specs.Borrow.{MutBor};
+ghost use Rattle.std.specs.Fn.{FnOnceReturnsAtMut};
+ghost use Rattle.ufmt_core.specs.declared.formatter.Formatter.{Formatter};
+ghost use Rattle.ufmt_core.specs.Formatter.{Prints, at_setting, depth_of, in_pretty_mode, mode_of, setting_of, writer_of};
 
 pub(crate) mod block;
 
@@ -62,5 +65,33 @@ impl<W: uWrite> Formatter<W> {
         ensures { Prints W.seen self.old (encode_utf8 c) (is_ok result) self.new }
     {
         self.writer.write_char(c)
+    }
+
+    /// Runs `f` once in pretty mode, and answers what it answered. Mode and depth are then those from
+    /// before, whatever `f` left.
+    pub fn pretty<F: FnOnce(&mut Formatter<W>) -> Result<(), W::Error>>(&mut self, f: F) -> Result<(), W::Error>
+        requires { (p : MutBor (Formatter W)) → p.now ≡ in_pretty_mode self.old → F.pre f p }
+        ensures { (last : Formatter W) × FnOnceReturnsAtMut F.FnOnce f (in_pretty_mode self.old) result last
+            × (self.new ≡ at_setting last (setting_of self.old)) }
+    {
+        let outer = self.setting;
+        self.setting.mode = Mode::Pretty;
+        let answer = f(self);
+        self.setting = outer;
+        answer
+    }
+
+    /// Whether blocks are laid out an entry a line.
+    pub fn is_pretty(&self) -> bool
+        ensures { IsTrue result ↔ (mode_of self.now ≡ Pretty) }
+    {
+        matches!(self.setting.mode, Mode::Pretty)
+    }
+
+    /// How many blocks in pretty mode what is printed lies in, at most 255.
+    pub fn depth(&self) -> u8
+        ensures { result ≡ depth_of self.now }
+    {
+        self.setting.depth
     }
 }

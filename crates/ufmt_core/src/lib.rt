@@ -5,10 +5,14 @@ ghost use Rattle.std.specs.Prelude.{is_ok};
 ghost use Rattle.ufmt_core.specs.Document.{Document};
 ghost use Rattle.ufmt_core.specs.Formatter.{LaysOut};
 
+mod core_impls;
 mod formatter;
 mod list;
 mod map;
 mod set;
+mod signed;
+mod std_impls;
+pub mod unsigned;
 mod write;
 
 pub use formatter::Formatter;

@@ -1,0 +1,58 @@
+-- Decimal texts of whole numbers: which text tells which number.
+use Rattle.std.specs.Prelude.{◌≡◌, ℕ, zero, suc, ◌+◌, ◌*◌, ◌^◌, ◌<◌, List, [], ◌∷◌, ◌++◌, map, length, slice_index, codes, ℤ, pos, negsuc, nat_abs}
+use Rattle.std.specs.List.{All}
+use Rattle.std.specs.Int.Digits.{digits_of}
+
+-- the value of digits in a base, the highest first: each counts the base to the power of how many follow it
+abbrev pub value_in_base : ℕ → List ℕ → ℕ
+value_in_base base [] = 0
+value_in_base base (digit ∷ digits) = digit * base ^ length digits + value_in_base base digits
+
+-- these digits tell n in the base: at least one, each below the base, the first not 0 unless it stands alone
+pub record TellsInBase (base : ℕ) (digits : List ℕ) (n : ℕ) : Type 0 where
+  pub some_digit : 0 < length digits
+  pub below_base : All (λ digit. digit < base) digits
+  pub no_leading_zero : slice_index digits 0 ≡ 0 → digits ≡ 0 ∷ []
+  pub value : value_in_base base digits ≡ n
+
+-- the byte of a decimal digit: 48 is `0`
+abbrev pub decimal_byte : ℕ → ℕ
+decimal_byte digit = 48 + digit
+
+-- the text is the bytes of decimal digits that tell n
+pub record TellsMagnitude (text : List ℕ) (n : ℕ) : Type 0 where
+  pub digits : List ℕ
+  pub bytes : text ≡ map decimal_byte digits
+  pub told : TellsInBase 10 digits n
+
+-- `-` for a negative number, and nothing for another
+abbrev pub sign_of : ℤ → List ℕ
+sign_of (pos n) = []
+sign_of (negsuc n) = codes "-"
+
+-- the text is the number's sign, and then a text that tells its magnitude
+pub record TellsDecimal (text : List ℕ) (z : ℤ) : Type 0 where
+  pub magnitude : List ℕ
+  pub signed : text ≡ sign_of z ++ magnitude
+  pub told : TellsMagnitude magnitude (nat_abs z)
+
+-- a device of the proof that digits tell each number: `digits_of` gives none for 0
+unfoldable pub numeral : ℕ → ℕ → List ℕ
+numeral base zero = 0 ∷ []
+numeral base (suc n) = digits_of base (suc n)
+
+-- the text that tells this number: which one follows from `EachNumberIsTold` and `OneTextTells` alone
+unfoldable pub decimal : ℤ → List ℕ
+decimal z = sign_of z ++ map decimal_byte (numeral 10 (nat_abs z))
+
+-- each number has a decimal text, which `decimal` gives
+abbrev pub EachNumberIsTold : Type 0
+EachNumberIsTold = (z : ℤ) → TellsDecimal (decimal z) z
+
+-- no other text tells the number
+abbrev pub OneTextTells : Type 0
+OneTextTells = (z : ℤ) (text : List ℕ) → TellsDecimal text z → text ≡ decimal z
+
+-- no text tells two numbers
+abbrev pub OneNumberIsTold : Type 0
+OneNumberIsTold = (text : List ℕ) (y z : ℤ) → TellsDecimal text y → TellsDecimal text z → y ≡ z

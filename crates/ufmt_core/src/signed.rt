@@ -1,0 +1,111 @@
+//! Decimal texts of signed numbers.
+ghost use Rattle.std.specs.Prelude.{◌≡◌, ◌+◌, ◌-◌, ◌^◌, ◌<◌, ◌≤◌, ℤ, nat_abs, length, drop};
+ghost use Rattle.std.specs.Int.{is_negative};
+ghost use Rattle.ufmt_core.specs.Decimal.{decimal};
+
+use crate::unsigned::{Magnitude, text_from, write_digits};
+
+/// A signed number of some width, as its decimal text sees it.
+pub(crate) trait Signed: Copy {
+    /// The width's unsigned numbers: the magnitude of the least number is one of them too.
+    type Unsigned: Magnitude;
+
+    ghost value: { Self → ℤ };
+
+    fn is_negative(self) -> bool
+        ensures { result ≡ is_negative (value self) };
+
+    fn magnitude(self) -> Self::Unsigned
+        ensures { Self.Unsigned.value result ≡ nat_abs (value self) };
+}
+
+impl Signed for i64 {
+    type Unsigned = u64;
+
+    ghost value = { λ z. z };
+
+    fn is_negative(self) -> bool {
+        self < 0
+    }
+
+    fn magnitude(self) -> u64 {
+        self.unsigned_abs()
+    }
+}
+
+impl Signed for i128 {
+    type Unsigned = u128;
+
+    ghost value = { λ z. z };
+
+    fn is_negative(self) -> bool {
+        self < 0
+    }
+
+    fn magnitude(self) -> u128 {
+        self.unsigned_abs()
+    }
+}
+
+/// The decimal text of `z`, made at the end of `buffer`.
+pub(crate) fn decimal_text<S: Signed, const N: usize>(z: S, buffer: &mut [u8; N]) -> &str
+    requires sign_and_digit { 1 < N }
+    requires room { nat_abs (S.value z) < 10 ^ (N - 1) }
+    ensures { result.now ≡ decimal (S.value z) }
+{
+    let start = write_decimal(z, buffer);
+    text_from(buffer, start)
+}
+
+/// Writes the decimal text of `z` at the end of `buffer`, and gives the index of its first byte.
+fn write_decimal<S: Signed>(z: S, buffer: &mut [u8]) -> usize
+    requires { length (decimal (S.value z)) ≤ length buffer.old }
+    ensures start { result + length (decimal (S.value z)) ≡ length buffer.old }
+    ensures written { drop result buffer.new ≡ decimal (S.value z) }
+{
+    let start = write_digits(z.magnitude(), buffer);
+    if !z.is_negative() {
+        return start;
+    }
+    let sign = start - 1;
+    buffer[sign] = b'-';
+    sign
+}
+
+#[cfg(test)]
+mod tests {
+    use super::*;
+
+    #[test]
+    fn least_and_greatest_numbers(rt: HostRuntime) {
+        assert_eq!(rt; decimal_text(i64::from(i8::MIN), &mut [0; 4]), "-128");
+        assert_eq!(rt; decimal_text(i64::from(i8::MAX), &mut [0; 4]), "127");
+        assert_eq!(rt; decimal_text(i64::from(i16::MIN), &mut [0; 6]), "-32768");
+        assert_eq!(rt; decimal_text(i64::from(i16::MAX), &mut [0; 6]), "32767");
+        assert_eq!(rt;
+            decimal_text(i64::from(i32::MIN), &mut [0; 11]),
+            "-2147483648"
+        );
+        assert_eq!(rt;
+            decimal_text(i64::from(i32::MAX), &mut [0; 11]),
+            "2147483647"
+        );
+        assert_eq!(rt;
+            decimal_text(i64::MIN, &mut [0; 20]),
+            "-9223372036854775808"
+        );
+        assert_eq!(rt; decimal_text(i64::MAX, &mut [0; 20]), "9223372036854775807");
+        assert_eq!(rt;
+            decimal_text(isize::MIN as i64, &mut [0; 20]),
+            "-9223372036854775808"
+        );
+        assert_eq!(rt;
+            decimal_text(i128::MIN, &mut [0; 40]),
+            "-170141183460469231731687303715884105728"
+        );
+        assert_eq!(rt;
+            decimal_text(i128::MAX, &mut [0; 40]),
+            "170141183460469231731687303715884105727"
+        );
+    }
+}

@@ -1,0 +1,47 @@
+ghost use Rattle.std.specs.Prelude.{map};
+ghost use Rattle.ufmt_core.specs.Document.{documents, list_of, map_of, pairs_of, set_of};
+
+use std::collections::{BTreeMap, BTreeSet};
+
+use crate::formatter::Formatter;
+use crate::list::fmt_list;
+use crate::map::fmt_map;
+use crate::set::fmt_set;
+use crate::uDebug;
+use crate::write::uWrite;
+
+/// Prints the items as a list.
+impl<T: uDebug> uDebug for Vec<T> {
+    ghost document = { λ v. list_of (documents (map T.document v.items)) };
+
+    fn fmt<W>(&self, f: &mut Formatter<W>) -> Result<(), W::Error>
+    where
+        W: uWrite,
+    {
+        fmt_list(self.iter(), f)
+    }
+}
+
+/// Prints the items in order as a set.
+impl<T: uDebug + Ord> uDebug for BTreeSet<T> {
+    ghost document = { λ s. set_of (documents (map T.document s.keys)) };
+
+    fn fmt<W>(&self, f: &mut Formatter<W>) -> Result<(), W::Error>
+    where
+        W: uWrite,
+    {
+        fmt_set(self.iter(), f)
+    }
+}
+
+/// Prints the entries in key order as a map.
+impl<K: uDebug + Ord, V: uDebug> uDebug for BTreeMap<K, V> {
+    ghost document = { λ m. map_of (pairs_of (map (λ e. (K.document e.0, V.document e.1)) m.entries)) };
+
+    fn fmt<W>(&self, f: &mut Formatter<W>) -> Result<(), W::Error>
+    where
+        W: uWrite,
+    {
+        fmt_map(self.iter(), f)
+    }
+}

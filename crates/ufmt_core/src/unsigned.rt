@@ -1,0 +1,139 @@
+//! Decimal texts of unsigned numbers.
+ghost use Rattle.std.specs.Prelude.{◌≡◌, ◌↔◌, ◌+◌, ◌/◌, ◌%◌, ◌^◌, ◌<◌, ◌≤◌, ℕ, pos, length, drop, IsTrue, IsAscii};
+ghost use Rattle.ufmt_core.specs.Document.{leaf};
+ghost use Rattle.ufmt_core.specs.Decimal.{decimal, EachNumberIsTold, OneTextTells, OneNumberIsTold};
+
+use std::str;
+
+use crate::formatter::Formatter;
+use crate::uDebug;
+use crate::write::uWrite;
+
+/// Each whole number has exactly one decimal text, and each decimal text tells exactly one number.
+pub fn decimal_is_one_text()
+    ensures told { EachNumberIsTold }
+    ensures one_text { OneTextTells }
+    ensures one_number { OneNumberIsTold }
+{}
+
+/// An unsigned number of some width, as its decimal digits see it.
+pub(crate) trait Magnitude: Copy {
+    ghost value: { Self → ℕ };
+
+    fn is_zero(self) -> bool
+        ensures { IsTrue result ↔ (value self ≡ 0) };
+
+    /// The number without its last digit, and that digit.
+    fn split_last_digit(self) -> (Self, u8)
+        ensures rest { value result.0 ≡ value self / 10 }
+        ensures digit { result.1 ≡ value self % 10 };
+}
+
+impl Magnitude for u64 {
+    ghost value = { λ n. n };
+
+    fn is_zero(self) -> bool {
+        self == 0
+    }
+
+    fn split_last_digit(self) -> (u64, u8) {
+        let rest = self / 10;
+        (rest, (self - 10 * rest) as u8)
+    }
+}
+
+impl Magnitude for u128 {
+    ghost value = { λ n. n };
+
+    fn is_zero(self) -> bool {
+        self == 0
+    }
+
+    fn split_last_digit(self) -> (u128, u8) {
+        let rest = self / 10;
+        (rest, (self - 10 * rest) as u8)
+    }
+}
+
+/// The decimal text of `n`, made at the end of `buffer`.
+pub(crate) fn decimal_text<M: Magnitude, const N: usize>(n: M, buffer: &mut [u8; N]) -> &str
+    requires not_empty { 0 < N }
+    requires room { M.value n < 10 ^ N }
+    ensures { result.now ≡ decimal (pos (M.value n)) }
+{
+    let start = write_digits(n, buffer);
+    text_from(buffer, start)
+}
+
+/// Writes the decimal text of `n` at the end of `buffer`, and gives the index of its first digit.
+pub(crate) fn write_digits<M: Magnitude>(n: M, buffer: &mut [u8]) -> usize
+    requires { length (decimal (pos (M.value n))) ≤ length buffer.old }
+    ensures start { result + length (decimal (pos (M.value n))) ≡ length buffer.old }
+    ensures written { drop result buffer.new ≡ decimal (pos (M.value n)) }
+{
+    let mut start = buffer.len();
+    let mut left = n;
+    loop {
+        let (rest, digit) = left.split_last_digit();
+        start -= 1;
+        buffer[start] = b'0' + digit;
+        if rest.is_zero() {
+            return start;
+        }
+        left = rest;
+    }
+}
+
+/// The text that ends `buffer`, from `start` on.
+pub(crate) fn text_from(buffer: &[u8], start: usize) -> &str
+    requires within { start ≤ length buffer.now }
+    requires ascii { IsAscii (drop start buffer.now) }
+    ensures { result.now ≡ drop start buffer.now }
+{
+    str::from_utf8(&buffer[start..]).unwrap()
+}
+
+impl uDebug for u64 {
+    ghost document = { λ n. leaf (decimal (pos n)) };
+
+    fn fmt<W>(&self, f: &mut Formatter<W>) -> Result<(), W::Error>
+    where
+        W: uWrite,
+    {
+        f.write_str(decimal_text(*self, &mut [0; 20]))
+    }
+}
+
+#[cfg(test)]
+mod tests {
+    use super::*;
+
+    #[test]
+    fn greatest_numbers(rt: HostRuntime) {
+        assert_eq!(rt; decimal_text(u64::from(u8::MAX), &mut [0; 3]), "255");
+        assert_eq!(rt; decimal_text(u64::from(u16::MAX), &mut [0; 5]), "65535");
+        assert_eq!(rt;
+            decimal_text(u64::from(u32::MAX), &mut [0; 10]),
+            "4294967295"
+        );
+        assert_eq!(rt;
+            decimal_text(u64::MAX, &mut [0; 20]),
+            "18446744073709551615"
+        );
+        assert_eq!(rt;
+            decimal_text(usize::MAX as u64, &mut [0; 20]),
+            "18446744073709551615"
+        );
+        assert_eq!(rt;
+            decimal_text(u128::MAX, &mut [0; 39]),
+            "340282366920938463463374607431768211455"
+        );
+    }
+
+    #[test]
+    fn zeros(rt: HostRuntime) {
+        assert_eq!(rt; decimal_text(u64::from(0u8), &mut [0; 3]), "0");
+        assert_eq!(rt; decimal_text(u64::from(10u8), &mut [0; 3]), "10");
+        assert_eq!(rt; decimal_text(u64::from(100u8), &mut [0; 3]), "100");
+    }
+}
