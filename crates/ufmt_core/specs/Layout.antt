@@ -95,3 +95,9 @@ abbrev mutual
   pub fields : Mode → ℕ → Fields → List ℕ
   fields mode k no_fields = []
   fields mode k (field label value fs) = entry mode k later (label ++ (codes ": " ++ layout mode k value)) ++ fields mode k fs
+
+abbrev pub plain_text : Document → List ℕ
+plain_text d = layout Plain 0 d
+
+abbrev pub pretty_text : Document → List ℕ
+pretty_text d = layout Pretty 0 d

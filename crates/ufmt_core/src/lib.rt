@@ -12,6 +12,8 @@ mod map;
 mod set;
 mod signed;
 mod std_impls;
+#[cfg(test)]
+mod tests;
 pub mod unsigned;
 mod write;
 

@@ -1,0 +1,70 @@
+-- The layouts of some documents, computed.
+use Rattle.std.proofs.Common.{◌≡◌, codes, refl}
+use Rattle.ufmt_core.specs.Document.{Document, leaf, joined, list_of, set_of, map_of, struct_of, tuple_of, pretty_part, Documents, no_documents, document, no_pairs, pair, no_fields, field, nest}
+use Rattle.ufmt_core.specs.Layout.{plain_text, pretty_text}
+
+abbrev one : Document
+one = leaf (codes "1")
+
+abbrev two : Document
+two = leaf (codes "2")
+
+abbrev lone : Document → Documents
+lone d = document d no_documents
+
+-- a list of an empty list and a list of one number
+abbrev lists : Document
+lists = list_of (document (list_of no_documents) (lone (list_of (lone one))))
+
+lists-plain : plain_text lists ≡ codes "[[], [1]]"
+lists-plain = refl
+
+lists-pretty : pretty_text lists ≡ codes "[\n    [],\n    [\n        1,\n    ],\n]"
+lists-pretty = refl
+
+lists-nest : nest lists ≡ 2
+lists-nest = refl
+
+-- a struct of a map and a number
+abbrev settings : Document
+settings = struct_of (codes "S") (field (codes "m") (map_of (pair one two no_pairs)) (field (codes "n") (leaf (codes "3")) no_fields))
+
+settings-plain : plain_text settings ≡ codes "S { m: {1: 2}, n: 3 }"
+settings-plain = refl
+
+settings-pretty : pretty_text settings ≡ codes "S {\n    m: {\n        1: 2,\n    },\n    n: 3,\n}"
+settings-pretty = refl
+
+-- tuples with and without a name, of one field and of two
+single-plain : plain_text (tuple_of (codes "") (lone one)) ≡ codes "(1,)"
+single-plain = refl
+
+single-pretty : pretty_text (tuple_of (codes "") (lone one)) ≡ codes "(\n    1,\n)"
+single-pretty = refl
+
+some-plain : plain_text (tuple_of (codes "Some") (lone one)) ≡ codes "Some(1)"
+some-plain = refl
+
+some-pretty : pretty_text (tuple_of (codes "Some") (lone one)) ≡ codes "Some(\n    1,\n)"
+some-pretty = refl
+
+couple-plain : plain_text (tuple_of (codes "") (document one (lone two))) ≡ codes "(1, 2)"
+couple-plain = refl
+
+couple-pretty : pretty_text (tuple_of (codes "") (document one (lone two))) ≡ codes "(\n    1,\n    2,\n)"
+couple-pretty = refl
+
+-- a set, and a map of maps
+sets-pretty : pretty_text (list_of (document (set_of no_documents) (lone (set_of (lone one))))) ≡ codes "[\n    {},\n    {\n        1,\n    },\n]"
+sets-pretty = refl
+
+maps-pretty : pretty_text (map_of (pair one (map_of (pair two (leaf (codes "3")) no_pairs)) no_pairs)) ≡ codes "{\n    1: {\n        2: 3,\n    },\n}"
+maps-pretty = refl
+
+-- blocks without entries
+empty-pretty : pretty_text (joined (document (list_of no_documents) (document (map_of no_pairs) (document (struct_of (codes "A") no_fields) (lone (tuple_of (codes "B") no_documents)))))) ≡ codes "[]{}AB"
+empty-pretty = refl
+
+-- a pretty part inside a plain list
+part-plain : plain_text (list_of (lone (pretty_part (tuple_of (codes "Some") (lone one))))) ≡ codes "[Some(\n    1,\n)]"
+part-plain = refl
