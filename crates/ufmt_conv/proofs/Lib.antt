@@ -1,0 +1,2 @@
+pub mod KnownParts
+pub mod Lines

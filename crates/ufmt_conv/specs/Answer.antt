@@ -1,0 +1,33 @@
+-- What the program answers to an input.
+use Rattle.std.specs.Prelude.{ℕ, List, [], ◌∷◌, ◌++◌, ◌==◌, if◌then◌else◌, length, map, pos}
+use Rattle.ufmt_conv.specs.declared.run.command.Command.{Command}
+use Rattle.ufmt_conv.specs.declared.run.command.Command.TheVariants.{Lengths}
+use Rattle.ufmt_core.specs.Decimal.{decimal}
+use Rattle.ufmt_core.specs.Document.{documents, leaf, list_of}
+use Rattle.ufmt_core.specs.Layout.{plain_text}
+
+-- a byte before the first line, which it begins where there is none
+abbrev pub onto_first_line : ℕ → List (List ℕ) → List (List ℕ)
+onto_first_line byte [] = (byte ∷ []) ∷ []
+onto_first_line byte (line ∷ lines) = (byte ∷ line) ∷ lines
+
+-- the lines of a text, each without its line feed; a rest after the last line feed is a line if it isn't empty
+abbrev pub lines_of : List ℕ → List (List ℕ)
+lines_of [] = []
+lines_of (byte ∷ rest) = if byte == 10 then [] ∷ lines_of rest else onto_first_line byte (lines_of rest)
+
+-- how many bytes each line has
+abbrev pub line_lengths : List ℕ → List ℕ
+line_lengths input = map length (lines_of input)
+
+-- the plain text of a list of numbers
+abbrev pub plain_list : List ℕ → List ℕ
+plain_list numbers = plain_text (list_of (documents (map (λ number. leaf (decimal (pos number))) numbers)))
+
+-- the text that answers a command on an input
+abbrev pub answer : Command → List ℕ → List ℕ
+answer Lengths input = plain_list (line_lengths input)
+
+-- what is written for a command on an input: its answer and a line feed
+abbrev pub answer_line : Command → List ℕ → List ℕ
+answer_line command input = answer command input ++ 10 ∷ []

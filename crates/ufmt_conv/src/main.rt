@@ -1,0 +1,45 @@
+//! Answers a command on standard input: `ufmt_conv lengths` prints the lengths of its lines.
+#![tactic(auto)]
+
+ghost use Rattle.std.specs.Prelude.{◌≡◌};
+ghost use Rattle.std.specs.Process.{exit_status};
+ghost use Rattle.ufmt_conv.specs.Fault.{status_of};
+
+pub mod run;
+
+use run::{Command, Fault, Watched};
+use std::process::ExitCode;
+use std::{env, io};
+
+// The status where the words are no command.
+const USAGE_STATUS: u8 = 2;
+
+fn main(rt: HostRuntime) -> ExitCode {
+    let Ok(words) = words(&rt) else {
+        return report(&rt, Fault::OutOfMemory);
+    };
+    let Some(command) = Command::parse(&words) else {
+        let _ = rt.eprintln(run::usage());
+        return ExitCode::from(USAGE_STATUS);
+    };
+    let mut input = Watched::new(rt.reader());
+    let mut output = Watched::new(io::writer(&rt));
+    match run::run(rt.alloc(), command, &mut input, &mut output) {
+        Ok(()) => ExitCode::SUCCESS,
+        Err(fault) => report(&rt, fault),
+    }
+}
+
+// The words after the program's name.
+fn words(rt: &HostRuntime) -> io::Result<Vec<String>> {
+    let words: Vec<String> = env::args(rt)?.skip(1).collect(rt.alloc())?;
+    Ok(words)
+}
+
+// Says what went wrong, if standard error takes it, and gives the status.
+fn report(rt: &HostRuntime, fault: Fault) -> ExitCode
+    ensures { exit_status result ≡ status_of fault }
+{
+    let _ = rt.eprintln(fault.line());
+    ExitCode::from(fault.status())
+}

@@ -1,0 +1,61 @@
+//! A run of the program: it reads all its input, and writes the answer to it.
+ghost use Rattle.std.specs.Prelude.{◌≡◌, ◌↔◌, false, IsTrue, IfSome, IsErrOf, OnOk};
+ghost use Rattle.std.specs.Io.KnownBytes.{Appends, IsAtEnd};
+ghost use Rattle.ufmt_conv.specs.Answer.{answer_line};
+ghost use Rattle.ufmt_conv.specs.Watched.{device_of, has_failed};
+ghost use Rattle.ufmt_conv.specs.Written.{AppendsBeginning};
+
+mod answer;
+mod command;
+mod fault;
+mod input;
+mod lengths;
+mod output;
+mod plain_list;
+#[cfg(test)]
+mod tests;
+mod watched;
+
+use answer::answer_line;
+pub use command::{Command, usage};
+pub use fault::Fault;
+use input::read_to_end;
+pub use lengths::line_lengths;
+use output::write_whole;
+use std::alloc::Global;
+use std::io::{Read, Write};
+pub use watched::{Failed, Watched};
+
+/// Reads the input to its end and writes the command's answer to it, a line feed, and nothing else.
+///
+/// On `CannotWrite` the output took a beginning of these bytes, perhaps nothing, perhaps all. On
+/// `CannotRead` and `OutOfMemory` nothing was written; how much was read is left open. A reader that
+/// never ends is `OutOfMemory` once what it gave has no room.
+pub fn run<R: Read, W: Write>(
+    alloc: Global,
+    command: Command,
+    input: &mut Watched<R>,
+    output: &mut Watched<W>,
+) -> Result<(), Fault>
+    requires input_works { has_failed input.old ≡ false }
+    requires output_works { has_failed output.old ≡ false }
+
+    // Where reader and writer tell their bytes.
+    ensures ok { OnOk result (IfSome (R.remaining (device_of input.old)) (λ bytes.
+        Appends (W.contents (device_of output.old)) (W.contents (device_of output.new))
+        (answer_line command bytes))) }
+    ensures read_whole { OnOk result (IsAtEnd (R.remaining (device_of input.new))) }
+    ensures partly_written { IsErrOf result Fault.CannotWrite → IfSome (R.remaining (device_of input.old)) (λ bytes.
+        AppendsBeginning (W.contents (device_of output.old)) (W.contents (device_of output.new))
+        (answer_line command bytes)) }
+
+    // What each fault means.
+    ensures unread { IsErrOf result Fault.CannotRead → output.new ≡ output.old }
+    ensures no_memory { IsErrOf result Fault.OutOfMemory → output.new ≡ output.old }
+    ensures input_failed { IsErrOf result Fault.CannotRead ↔ IsTrue (has_failed input.new) }
+    ensures output_failed { IsErrOf result Fault.CannotWrite ↔ IsTrue (has_failed output.new) }
+{
+    let text = read_to_end(alloc, input)?;
+    let line = answer_line(alloc, command, &text)?;
+    write_whole(output, line.as_bytes()).map_err(|_| Fault::CannotWrite)
+}

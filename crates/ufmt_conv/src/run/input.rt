@@ -1,0 +1,73 @@
+//! Reading an input to its end.
+ghost use Rattle.std.specs.Prelude.{◌≡◌, ◌≢◌, ◌+◌, ◌<◌, ◌≤◌, ◌↔◌, false, drop, take, vec_len, length, IfOk, IfSome, IsErrOf, MatchResult, IsTrue, OnErr, OnOk};
+ghost use Rattle.std.specs.Io.KnownBytes.{Consumes, IsAtEnd};
+ghost use Rattle.ufmt_conv.specs.Watched.{device_of, has_failed};
+
+use super::fault::Fault;
+use super::watched::Watched;
+use std::alloc::Global;
+use std::io::Read;
+
+// How much room a full vector gets for the next reads.
+const ROOM: usize = 64 * 1024;
+
+// All bytes that the input has left, in one vector.
+#[tactic(auto, using(crate::proofs::KnownParts::consumes_longer_front))]
+pub(super) fn read_to_end<R: Read>(alloc: Global, input: &mut Watched<R>) -> Result<Vec<u8>, Fault>
+    requires { has_failed input.old ≡ false }
+    ensures ok { IfOk result (λ text. IfSome (R.remaining (device_of input.old)) (λ bytes.
+        text.items ≡ bytes)) }
+    ensures end { OnOk result (IsAtEnd (R.remaining (device_of input.new))) }
+    ensures failed { IsErrOf result Fault.CannotRead ↔ IsTrue (has_failed input.new) }
+    ensures wrote_nothing { result ≢ Err Fault.CannotWrite }
+{
+    let mut text = Vec::new(alloc);
+    let mut filled = 0;
+    loop {
+        let count = read_after(input, &mut text, filled)?;
+        if count == 0 {
+            text.truncate(filled);
+            return Ok(text);
+        }
+        filled += count;
+    }
+}
+
+// One read into `text` after its first `filled` bytes. Zero is the end of the input.
+fn read_after<R: Read>(
+    input: &mut Watched<R>,
+    text: &mut Vec<u8>,
+    filled: usize,
+) -> Result<usize, Fault>
+    requires works { has_failed input.old ≡ false }
+    requires within { filled ≤ vec_len text.old }
+    ensures front { take filled text.new.items ≡ take filled text.old.items }
+    ensures fits { IfOk result (λ count. filled + count ≤ vec_len text.new) }
+    ensures ok { IfOk result (λ count. Consumes (R.remaining (device_of input.old))
+        (R.remaining (device_of input.new)) (take count (drop filled text.new.items))) }
+    ensures end { IfOk result (λ count. count ≡ 0 → IsAtEnd (R.remaining (device_of input.new))) }
+    ensures failed { IsErrOf result Fault.CannotRead ↔ IsTrue (has_failed input.new) }
+    ensures wrote_nothing { result ≢ Err Fault.CannotWrite }
+{
+    if filled == text.len() {
+        text.resize(filled + ROOM, 0)?;
+    }
+    read_at(input, text.as_mut_slice(), filled)
+}
+
+// One read into a buffer from a place on.
+fn read_at<R: Read>(input: &mut Watched<R>, buffer: &mut [u8], place: usize) -> Result<usize, Fault>
+    requires works { has_failed input.old ≡ false }
+    requires within { place < length buffer.old }
+    ensures front { take place buffer.new ≡ take place buffer.old }
+    ensures fits { IfOk result (λ count. place + count ≤ length buffer.new) }
+    ensures ok { IfOk result (λ count. Consumes (R.remaining (device_of input.old))
+        (R.remaining (device_of input.new)) (take count (drop place buffer.new))) }
+    ensures end { IfOk result (λ count. count ≡ 0 → IsAtEnd (R.remaining (device_of input.new))) }
+    ensures failed { MatchResult result (λ _. has_failed input.new ≡ false)
+        (λ fault. IsTrue (has_failed input.new) × (fault ≡ Fault.CannotRead)) }
+{
+    input
+        .read_some(&mut buffer[place..])
+        .map_err(|_| Fault::CannotRead)
+}
