@@ -2,6 +2,8 @@ use std::alloc::{AllocError, Global};
 use std::collections::{BTreeMap, BTreeSet};
 use std::test::Fail;
 
+use crate::{Formatter, uDebug};
+
 use super::{check, check_unlike_ufmt};
 
 fn set(alloc: Global, keys: &[u64]) -> Result<BTreeSet<u64>, AllocError> {
@@ -87,5 +89,22 @@ fn maps(rt: HostRuntime) -> Result<(), Fail> {
         "[\n    {\n        1: 2,\n    },\n    {},\n]",
         "[\n    {\n        1: 2,\n},\n        {},\n        ]",
     )?;
+    Ok(())
+}
+
+// The README's example.
+fn dump(alloc: Global, ports: &BTreeMap<u64, Vec<u64>>) -> Result<String, AllocError> {
+    let mut text = String::new(alloc);
+    Formatter::new(&mut text).pretty(|f| ports.fmt(f))?;
+    Ok(text)
+}
+
+#[test]
+fn ports_and_their_users(rt: HostRuntime) -> Result<(), Fail> {
+    let alloc = rt.alloc();
+    let mut ports = BTreeMap::new(alloc);
+    ports.insert(80u64, vec![in alloc; 7u64, 9]?)?;
+    let text = dump(alloc, &ports)?;
+    assert_eq!(rt; text.as_str(), "{\n    80: [\n        7,\n        9,\n    ],\n}");
     Ok(())
 }
