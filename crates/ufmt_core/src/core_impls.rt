@@ -1,5 +1,5 @@
-ghost use Rattle.std.specs.Prelude.{map};
-ghost use Rattle.ufmt_core.specs.Document.{documents, list_of};
+ghost use Rattle.std.specs.Prelude.{codes, map, if◌then◌else◌};
+ghost use Rattle.ufmt_core.specs.Document.{documents, leaf, list_of};
 
 use crate::formatter::Formatter;
 use crate::list::fmt_list;
@@ -39,5 +39,16 @@ impl<T: uDebug> uDebug for &[T] {
         W: uWrite,
     {
         fmt_list(self.iter(), f)
+    }
+}
+
+impl uDebug for bool {
+    ghost document = { λ b. leaf (if b then codes "true" else codes "false") };
+
+    fn fmt<W>(&self, f: &mut Formatter<W>) -> Result<(), W::Error>
+    where
+        W: uWrite,
+    {
+        f.write_str(if *self { "true" } else { "false" })
     }
 }

@@ -9,6 +9,7 @@ mod core_impls;
 mod formatter;
 mod list;
 mod map;
+mod nonzero;
 mod set;
 mod signed;
 mod std_impls;

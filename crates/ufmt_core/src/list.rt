@@ -54,7 +54,10 @@ impl<W: uWrite> DebugList<'_, W> {
     }
 
     /// Writes an entry for each item, in order, and takes no item after a failure.
-    pub fn entries<D: uDebug + Drop, I: IntoIterator<Item = D>>(&mut self, entries: I) -> Result<(), W::Error>
+    pub fn entries<D: uDebug + Drop, I: IntoIterator<Item = D>>(
+        &mut self,
+        entries: I,
+    ) -> Result<(), W::Error>
     where
         I::IntoIter: Drop,
         requires is_open { IsOpen (block self.old) }
@@ -75,11 +78,12 @@ impl<W: uWrite> DebugList<'_, W> {
         ensures* lends { sem 𝓛 (LendsSoOk (list.the_row (record { mir = named 0; lft = [] }) W.row) (formatter.the_row W.row) self.entry result
             (λ last lent. last ≡ with_formatter (record self.old { progress = record self.old.progress { stage = Lent } }) lent)
             (λ last. (last.formatter.ghost_name ≡ self.old.formatter.ghost_name)
-                × Adds W.seen (block self.old) (lead (inner (block self.old)) (place (stage (block self.old)))) false Lent (block last))) }
+            × Adds W.seen (block self.old) (lead (inner (block self.old)) (place (stage (block self.old)))) false Lent (block last))) }
         ensures begins { IfOk result (λ lent. BeginsEntry W.seen (block self.old) lent.now) }
     {
         let written = self.formatter.write_lead(self.progress.stage);
-        self.formatter.settle(&mut self.progress, written, Stage::Lent)?;
+        self.formatter
+            .settle(&mut self.progress, written, Stage::Lent)?;
         Ok(self.lend())
     }
 
@@ -101,7 +105,8 @@ impl<W: uWrite> DebugList<'_, W> {
             Ok(()) => self.formatter.write_trail(),
             Err(error) => Err(error),
         };
-        self.formatter.settle(&mut self.progress, ended, Stage::Later)
+        self.formatter
+            .settle(&mut self.progress, ended, Stage::Later)
     }
 
     /// Writes `]`. The builder is then closed, and mode and depth are those from before it.

@@ -79,8 +79,8 @@ impl<W: uWrite> DebugMap<'_, W> {
         ensures* lends { sem 𝓛 (LendsSoOk (map_builder.the_row (record { mir = named 0; lft = [] }) W.row) (formatter.the_row W.row) self.entry result
             (λ last lent. last ≡ with_formatter (record self.old { progress = record self.old.progress { stage = LentValue } }) lent)
             (λ last. (last.formatter.ghost_name ≡ self.old.formatter.ghost_name)
-                × OnOk answer (Adds W.seen (block self.old) (codes ": ") false LentValue (block last))
-                × OnErr answer (GivesUp (block self.old) (block last)))) }
+            × OnOk answer (Adds W.seen (block self.old) (codes ": ") false LentValue (block last))
+            × OnErr answer (GivesUp (block self.old) (block last)))) }
         ensures begins { IfOk result (λ lent. Prints W.seen self.old.formatter.now (codes ": ") true lent.now) }
         ensures passes_on { IfErr answer (λ e. result ≡ Err e) }
     {
@@ -88,7 +88,8 @@ impl<W: uWrite> DebugMap<'_, W> {
             Ok(()) => self.formatter.write_str(": "),
             Err(error) => Err(error),
         };
-        self.formatter.settle(&mut self.progress, written, Stage::LentValue)?;
+        self.formatter
+            .settle(&mut self.progress, written, Stage::LentValue)?;
         Ok(self.lend())
     }
 
@@ -98,11 +99,12 @@ impl<W: uWrite> DebugMap<'_, W> {
         ensures* lends { sem 𝓛 (LendsSoOk (map_builder.the_row (record { mir = named 0; lft = [] }) W.row) (formatter.the_row W.row) self.entry result
             (λ last lent. last ≡ with_formatter (record self.old { progress = record self.old.progress { stage = Lent } }) lent)
             (λ last. (last.formatter.ghost_name ≡ self.old.formatter.ghost_name)
-                × Adds W.seen (block self.old) (lead (inner (block self.old)) (place (stage (block self.old)))) false Lent (block last))) }
+            × Adds W.seen (block self.old) (lead (inner (block self.old)) (place (stage (block self.old)))) false Lent (block last))) }
         ensures begins { IfOk result (λ lent. BeginsEntry W.seen (block self.old) lent.now) }
     {
         let written = self.formatter.write_lead(self.progress.stage);
-        self.formatter.settle(&mut self.progress, written, Stage::Lent)?;
+        self.formatter
+            .settle(&mut self.progress, written, Stage::Lent)?;
         Ok(self.lend())
     }
 
@@ -124,7 +126,8 @@ impl<W: uWrite> DebugMap<'_, W> {
             Ok(()) => self.formatter.write_trail(),
             Err(error) => Err(error),
         };
-        self.formatter.settle(&mut self.progress, ended, Stage::Later)
+        self.formatter
+            .settle(&mut self.progress, ended, Stage::Later)
     }
 
     /// Writes `}`, in pretty mode on a line of its own where there are entries, unlike ufmt. The builder is then closed, and mode and depth are those from before it.
@@ -152,10 +155,7 @@ pub(crate) fn fmt_map<
     V: uDebug + Drop,
     I: IntoIterator<Item = (K, V)> + Drop,
     W: uWrite,
->(
-    pairs: I,
-    f: &mut Formatter<W>,
-) -> Result<(), W::Error>
+>(pairs: I, f: &mut Formatter<W>) -> Result<(), W::Error>
 where
     I::IntoIter: Drop,
     requires { IsFiniteIterable I.into_iter_gives I.IntoIter.can_next I.IntoIter.remaining pairs }

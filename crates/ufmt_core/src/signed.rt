@@ -1,9 +1,13 @@
 //! Decimal texts of signed numbers.
 ghost use Rattle.std.specs.Prelude.{◌≡◌, ◌+◌, ◌-◌, ◌^◌, ◌<◌, ◌≤◌, ℤ, nat_abs, length, drop};
 ghost use Rattle.std.specs.Int.{is_negative};
+ghost use Rattle.ufmt_core.specs.Document.{leaf};
 ghost use Rattle.ufmt_core.specs.Decimal.{decimal};
 
+use crate::formatter::Formatter;
+use crate::uDebug;
 use crate::unsigned::{Magnitude, text_from, write_digits};
+use crate::write::uWrite;
 
 /// A signed number of some width, as its decimal text sees it.
 pub(crate) trait Signed: Copy {
@@ -70,6 +74,72 @@ fn write_decimal<S: Signed>(z: S, buffer: &mut [u8]) -> usize
     let sign = start - 1;
     buffer[sign] = b'-';
     sign
+}
+
+impl uDebug for i8 {
+    ghost document = { λ z. leaf (decimal z) };
+
+    fn fmt<W>(&self, f: &mut Formatter<W>) -> Result<(), W::Error>
+    where
+        W: uWrite,
+    {
+        f.write_str(decimal_text(i64::from(*self), &mut [0; 4]))
+    }
+}
+
+impl uDebug for i16 {
+    ghost document = { λ z. leaf (decimal z) };
+
+    fn fmt<W>(&self, f: &mut Formatter<W>) -> Result<(), W::Error>
+    where
+        W: uWrite,
+    {
+        f.write_str(decimal_text(i64::from(*self), &mut [0; 6]))
+    }
+}
+
+impl uDebug for i32 {
+    ghost document = { λ z. leaf (decimal z) };
+
+    fn fmt<W>(&self, f: &mut Formatter<W>) -> Result<(), W::Error>
+    where
+        W: uWrite,
+    {
+        f.write_str(decimal_text(i64::from(*self), &mut [0; 11]))
+    }
+}
+
+impl uDebug for i64 {
+    ghost document = { λ z. leaf (decimal z) };
+
+    fn fmt<W>(&self, f: &mut Formatter<W>) -> Result<(), W::Error>
+    where
+        W: uWrite,
+    {
+        f.write_str(decimal_text(*self, &mut [0; 20]))
+    }
+}
+
+impl uDebug for i128 {
+    ghost document = { λ z. leaf (decimal z) };
+
+    fn fmt<W>(&self, f: &mut Formatter<W>) -> Result<(), W::Error>
+    where
+        W: uWrite,
+    {
+        f.write_str(decimal_text(*self, &mut [0; 40]))
+    }
+}
+
+impl uDebug for isize {
+    ghost document = { λ z. leaf (decimal z) };
+
+    fn fmt<W>(&self, f: &mut Formatter<W>) -> Result<(), W::Error>
+    where
+        W: uWrite,
+    {
+        f.write_str(decimal_text(*self as i64, &mut [0; 20]))
+    }
 }
 
 #[cfg(test)]

@@ -1,8 +1,7 @@
 //! What no clause says: the texts that core::fmt prints of the same values, and that each call can succeed.
+use crate::{Formatter, uDebug};
 use std::alloc::{AllocError, Global};
 use std::process::Abort;
-
-use crate::{Formatter, uDebug};
 
 mod collections;
 mod formatters;

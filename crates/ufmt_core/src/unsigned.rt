@@ -3,11 +3,10 @@ ghost use Rattle.std.specs.Prelude.{◌≡◌, ◌↔◌, ◌+◌, ◌/◌, ◌%
 ghost use Rattle.ufmt_core.specs.Document.{leaf};
 ghost use Rattle.ufmt_core.specs.Decimal.{decimal, EachNumberIsTold, OneTextTells, OneNumberIsTold};
 
-use std::str;
-
 use crate::formatter::Formatter;
 use crate::uDebug;
 use crate::write::uWrite;
+use std::str;
 
 /// Each whole number has exactly one decimal text, and each decimal text tells exactly one number.
 pub fn decimal_is_one_text()
@@ -93,6 +92,39 @@ pub(crate) fn text_from(buffer: &[u8], start: usize) -> &str
     str::from_utf8(&buffer[start..]).unwrap()
 }
 
+impl uDebug for u8 {
+    ghost document = { λ n. leaf (decimal (pos n)) };
+
+    fn fmt<W>(&self, f: &mut Formatter<W>) -> Result<(), W::Error>
+    where
+        W: uWrite,
+    {
+        f.write_str(decimal_text(u64::from(*self), &mut [0; 3]))
+    }
+}
+
+impl uDebug for u16 {
+    ghost document = { λ n. leaf (decimal (pos n)) };
+
+    fn fmt<W>(&self, f: &mut Formatter<W>) -> Result<(), W::Error>
+    where
+        W: uWrite,
+    {
+        f.write_str(decimal_text(u64::from(*self), &mut [0; 5]))
+    }
+}
+
+impl uDebug for u32 {
+    ghost document = { λ n. leaf (decimal (pos n)) };
+
+    fn fmt<W>(&self, f: &mut Formatter<W>) -> Result<(), W::Error>
+    where
+        W: uWrite,
+    {
+        f.write_str(decimal_text(u64::from(*self), &mut [0; 10]))
+    }
+}
+
 impl uDebug for u64 {
     ghost document = { λ n. leaf (decimal (pos n)) };
 
@@ -101,6 +133,28 @@ impl uDebug for u64 {
         W: uWrite,
     {
         f.write_str(decimal_text(*self, &mut [0; 20]))
+    }
+}
+
+impl uDebug for u128 {
+    ghost document = { λ n. leaf (decimal (pos n)) };
+
+    fn fmt<W>(&self, f: &mut Formatter<W>) -> Result<(), W::Error>
+    where
+        W: uWrite,
+    {
+        f.write_str(decimal_text(*self, &mut [0; 39]))
+    }
+}
+
+impl uDebug for usize {
+    ghost document = { λ n. leaf (decimal (pos n)) };
+
+    fn fmt<W>(&self, f: &mut Formatter<W>) -> Result<(), W::Error>
+    where
+        W: uWrite,
+    {
+        f.write_str(decimal_text(*self as u64, &mut [0; 20]))
     }
 }
 

@@ -92,7 +92,11 @@ impl<W: uWrite> Formatter<W> {
     }
 
     /// The closing bracket, on a line of its own where there are entries in pretty mode.
-    pub(crate) fn write_closing(&mut self, progress: Progress, bracket: &str) -> Result<(), W::Error>
+    pub(crate) fn write_closing(
+        &mut self,
+        progress: Progress,
+        bracket: &str,
+    ) -> Result<(), W::Error>
         ensures { Prints W.seen self.old (closing progress.outer (place progress.stage) bracket.now) (is_ok result) self.new }
     {
         match progress.stage {

@@ -1,10 +1,8 @@
+use super::{check, check_unlike_ufmt};
+use crate::{Formatter, uDebug};
 use std::alloc::{AllocError, Global};
 use std::collections::{BTreeMap, BTreeSet};
 use std::test::Fail;
-
-use crate::{Formatter, uDebug};
-
-use super::{check, check_unlike_ufmt};
 
 fn set(alloc: Global, keys: &[u64]) -> Result<BTreeSet<u64>, AllocError> {
     let mut set = BTreeSet::new(alloc);
@@ -29,7 +27,13 @@ fn lists(rt: HostRuntime) -> Result<(), Fail> {
     check(&rt, alloc, &none, "[]", "[]")?;
     let numbers: Vec<u64> = vec![in alloc; 1, 2]?;
     check(&rt, alloc, &numbers, "[1, 2]", "[\n    1,\n    2,\n]")?;
-    check(&rt, alloc, &numbers.as_slice(), "[1, 2]", "[\n    1,\n    2,\n]")?;
+    check(
+        &rt,
+        alloc,
+        &numbers.as_slice(),
+        "[1, 2]",
+        "[\n    1,\n    2,\n]",
+    )?;
     let lists = vec![in alloc; none, vec![in alloc; 1u64]?]?;
     check_unlike_ufmt(
         &rt,
@@ -46,7 +50,13 @@ fn lists(rt: HostRuntime) -> Result<(), Fail> {
 fn sets(rt: HostRuntime) -> Result<(), Fail> {
     let alloc = rt.alloc();
     check(&rt, alloc, &set(alloc, &[])?, "{}", "{}")?;
-    check(&rt, alloc, &set(alloc, &[3, 1])?, "{1, 3}", "{\n    1,\n    3,\n}")?;
+    check(
+        &rt,
+        alloc,
+        &set(alloc, &[3, 1])?,
+        "{1, 3}",
+        "{\n    1,\n    3,\n}",
+    )?;
     let sets = vec![in alloc; set(alloc, &[])?, set(alloc, &[1])?]?;
     check_unlike_ufmt(
         &rt,
@@ -105,6 +115,9 @@ fn ports_and_their_users(rt: HostRuntime) -> Result<(), Fail> {
     let mut ports = BTreeMap::new(alloc);
     ports.insert(80u64, vec![in alloc; 7u64, 9]?)?;
     let text = dump(alloc, &ports)?;
-    assert_eq!(rt; text.as_str(), "{\n    80: [\n        7,\n        9,\n    ],\n}");
+    assert_eq!(rt;
+        text.as_str(),
+        "{\n    80: [\n        7,\n        9,\n    ],\n}"
+    );
     Ok(())
 }

@@ -1,7 +1,6 @@
+use crate::{Formatter, uDebug, uWrite};
 use std::alloc::AllocError;
 use std::test::Fail;
-
-use crate::{Formatter, uDebug, uWrite};
 
 #[test]
 fn pieces_go_to_the_writer(rt: HostRuntime) -> Result<(), Fail> {
@@ -79,7 +78,8 @@ fn builders_close_when_they_finish(rt: HostRuntime) -> Result<(), Fail> {
         Ok(())
     })?;
     assert_eq!(rt; f.depth(), 0);
-    let both = "[1, 2, 3]{1, 2, 3}{1: 2, 3: 4}[\n    1,\n    2,\n    3,\n]{\n    1,\n    2,\n    3,\n}{\n    1: 2,\n    3: 4,\n}";
+    let both =
+        "[1, 2, 3]{1, 2, 3}{1: 2, 3: 4}[\n    1,\n    2,\n    3,\n]{\n    1,\n    2,\n    3,\n}{\n    1: 2,\n    3: 4,\n}";
     assert_eq!(rt; text.as_str(), both);
     Ok(())
 }
