@@ -11,7 +11,7 @@ pub record IsWrittenFrom (n left start : ℕ) (buffer : List ℕ) : Type 0 where
   pub text : decimal (pos left) ++ drop start buffer ≡ decimal (pos n)
 
 -- a byte that is put before the written ones
-put_before : (front buffer : List ℕ) (start byte : ℕ) → 0 < start → start ≤ length buffer → front ++ drop (start - 1) (set buffer (start - 1) byte) ≡ (front ++ byte ∷ []) ++ drop start buffer
+pub put_before : (front buffer : List ℕ) (start byte : ℕ) → 0 < start → start ≤ length buffer → front ++ drop (start - 1) (set buffer (start - 1) byte) ≡ (front ++ byte ∷ []) ++ drop start buffer
 put_before front buffer start byte room within =
     let next : start - 1 + 1 ≡ start = omega arith in
     rw (drop-set buffer (start - 1) byte (omega arith), next, append_assoc)

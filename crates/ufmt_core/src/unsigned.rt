@@ -84,7 +84,7 @@ pub(crate) fn write_digits<M: Magnitude>(n: M, buffer: &mut [u8]) -> usize
 }
 
 /// The text that ends `buffer`, from `start` on.
-pub(crate) fn text_from(buffer: &[u8], start: usize) -> &str
+pub fn text_from(buffer: &[u8], start: usize) -> &str
     requires within { start ≤ length buffer.now }
     requires ascii { IsAscii (drop start buffer.now) }
     ensures { result.now ≡ drop start buffer.now }

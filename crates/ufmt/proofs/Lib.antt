@@ -1,0 +1,3 @@
+pub mod HexadecimalTexts
+pub mod Padding
+pub mod WrittenHexadecimal

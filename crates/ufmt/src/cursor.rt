@@ -1,0 +1,76 @@
+//! A writer over a buffer of a fixed size.
+ghost use Rattle.std.specs.Prelude.{◌≡◌, ◌+◌, ◌≤◌, [], length, is_ok, encode_utf8};
+ghost use Rattle.ufmt_core.specs.Writes.{Writes};
+
+use ufmt_core::uWrite;
+
+/// A piece has more bytes than remain in a `Cursor`.
+#[derive(Clone, Copy, PartialEq, Eq, Debug)]
+pub struct Full;
+
+/// A writer that fills a buffer from its beginning, and takes no memory.
+#[derive(Drop)]
+pub struct Cursor<'a> {
+    buffer: &'a mut [u8],
+    count: usize,
+    ghost within: { count ≤ length buffer.now },
+}
+
+impl<'a> Cursor<'a> {
+    ghost use Rattle.ufmt.specs.Cursor.{written_bytes, unwritten_bytes, remaining_count, buffer_length, buffer_name};
+
+    /// A cursor that has written nothing to the buffer yet.
+    pub fn new(buffer: &'a mut [u8]) -> Self
+        ensures written { written_bytes result ≡ [] }
+        ensures unwritten { unwritten_bytes result ≡ buffer.old }
+        ensures same_length { buffer_length result ≡ length buffer.old }
+        ensures same_reference { buffer_name result ≡ buffer.entry.ghost_name }
+    {
+        Cursor { buffer, count: 0 }
+    }
+
+    /// The bytes that are written.
+    pub fn written(&self) -> &[u8]
+        ensures { result.now ≡ written_bytes self.now }
+    {
+        &self.buffer[..self.count]
+    }
+
+    /// How many more bytes there is room for.
+    pub fn remaining(&self) -> usize
+        ensures count { result ≡ remaining_count self.now }
+        ensures whole { length (written_bytes self.now) + result ≡ buffer_length self.now }
+    {
+        self.buffer.len() - self.count
+    }
+}
+
+/// Answers `Full` exactly where a piece has more bytes than remain, and then changes nothing.
+impl uWrite for Cursor<'_> {
+    ghost use Rattle.ufmt.specs.Cursor.{cursor_seen, Fills};
+
+    type Error = Full;
+
+    ghost seen = { cursor_seen };
+
+    fn write_str(&mut self, s: &str) -> Result<(), Full>
+        ensures writes { Writes cursor_seen self.old s.now (is_ok result) self.new }
+        ensures fills { Fills self.old s.now (is_ok result) self.new }
+    {
+        if s.len() > self.remaining() {
+            return Err(Full);
+        }
+        let end = self.count + s.len();
+        self.buffer[self.count..end].copy_from_slice(s.as_bytes());
+        self.count = end;
+        Ok(())
+    }
+
+    fn write_char(&mut self, c: char) -> Result<(), Full>
+        ensures writes { Writes cursor_seen self.old (encode_utf8 c) (is_ok result) self.new }
+        ensures fills { Fills self.old (encode_utf8 c) (is_ok result) self.new }
+    {
+        let mut bytes = [0u8; 4];
+        self.write_str(c.encode_utf8(&mut bytes))
+    }
+}

@@ -1,0 +1,95 @@
+//! Laws, each as the contract of a function.
+ghost use Rattle.std.specs.Prelude.{◌≡◌, ◌≤◌, ◌↔◌, ◌++◌, ℕ, List, length, drop, IsOk, OnOk, OnErr};
+ghost use Rattle.std.specs.Borrow.{Bor, MutBor};
+ghost use Rattle.std.specs.Global.{Box};
+ghost use Rattle.std.specs.Int.{w8, w16, w32, w64, w128};
+ghost use Rattle.ufmt.specs.declared.hex.HexOptions.{HexOptions};
+ghost use Rattle.ufmt.specs.Hex.{EachNumberIsTold, OneTextTells, OneNumberIsTold, IsPadded, PrintsHexadecimal, PrintsBits, padded};
+
+use crate::cursor::{Cursor, Full};
+use crate::display::uDisplay;
+use crate::hex::uDisplayHex;
+use std::num::{
+    NonZeroI8, NonZeroI16, NonZeroI32, NonZeroI64, NonZeroIsize, NonZeroU8, NonZeroU16, NonZeroU32,
+    NonZeroU64, NonZeroUsize,
+};
+use ufmt_core::{uDebug, uWrite};
+
+/// When a cursor's loan ends, its buffer begins with what was written and is as before past that.
+pub fn write_to_buffer(buffer: &mut [u8], text: &str) -> Result<(), Full>
+    ensures fits { IsOk result ↔ (length text.now ≤ length buffer.old) }
+    ensures ok { OnOk result (buffer.new ≡ text.now ++ drop (length text.now) buffer.old) }
+    ensures full { OnErr result (buffer.new ≡ buffer.old) }
+{
+    let mut cursor = Cursor::new(buffer);
+    cursor.write_str(text)
+}
+
+/// Each whole number has exactly one hexadecimal text in each case of letters, and no two have one text.
+pub fn hexadecimal_is_one_text()
+    ensures told { EachNumberIsTold }
+    ensures one_text { OneTextTells }
+    ensures one_number { OneNumberIsTold }
+{}
+
+/// A padded text has as many bytes as the greater of the length to pad to and prefix with payload,
+/// and what exceeds the latter is pad bytes.
+pub fn padding_reaches_length()
+    ensures { (options : HexOptions) (payload : List ℕ) → IsPadded options payload (padded options payload) }
+{}
+
+/// An unsigned number prints its hexadecimal text, padded.
+pub fn unsigned_prints_hexadecimal()
+    ensures of_u8 { PrintsHexadecimal ⟦<u8 as uDisplayHex>⟧.hex_text }
+    ensures of_u16 { PrintsHexadecimal ⟦<u16 as uDisplayHex>⟧.hex_text }
+    ensures of_u32 { PrintsHexadecimal ⟦<u32 as uDisplayHex>⟧.hex_text }
+    ensures of_u64 { PrintsHexadecimal ⟦<u64 as uDisplayHex>⟧.hex_text }
+    ensures of_u128 { PrintsHexadecimal ⟦<u128 as uDisplayHex>⟧.hex_text }
+    ensures of_usize { PrintsHexadecimal ⟦<usize as uDisplayHex>⟧.hex_text }
+{}
+
+/// A signed number prints the hexadecimal text of the unsigned number of its width and bits.
+pub fn signed_prints_as_unsigned()
+    ensures of_i8 { PrintsBits w8 ⟦<i8 as uDisplayHex>⟧.hex_text ⟦<u8 as uDisplayHex>⟧.hex_text }
+    ensures of_i16 { PrintsBits w16 ⟦<i16 as uDisplayHex>⟧.hex_text ⟦<u16 as uDisplayHex>⟧.hex_text }
+    ensures of_i32 { PrintsBits w32 ⟦<i32 as uDisplayHex>⟧.hex_text ⟦<u32 as uDisplayHex>⟧.hex_text }
+    ensures of_i64 { PrintsBits w64 ⟦<i64 as uDisplayHex>⟧.hex_text ⟦<u64 as uDisplayHex>⟧.hex_text }
+    ensures of_i128 { PrintsBits w128 ⟦<i128 as uDisplayHex>⟧.hex_text ⟦<u128 as uDisplayHex>⟧.hex_text }
+    ensures of_isize { PrintsBits w64 ⟦<isize as uDisplayHex>⟧.hex_text ⟦<usize as uDisplayHex>⟧.hex_text }
+{}
+
+/// A whole number, a nonzero number and a truth value print one text by `uDebug` and by `uDisplay`.
+pub fn both_traits_print_one_text()
+    ensures of_u8 { ⟦<u8 as uDisplay>⟧.display ≡ ⟦<u8 as uDebug>⟧.document }
+    ensures of_u16 { ⟦<u16 as uDisplay>⟧.display ≡ ⟦<u16 as uDebug>⟧.document }
+    ensures of_u32 { ⟦<u32 as uDisplay>⟧.display ≡ ⟦<u32 as uDebug>⟧.document }
+    ensures of_u64 { ⟦<u64 as uDisplay>⟧.display ≡ ⟦<u64 as uDebug>⟧.document }
+    ensures of_u128 { ⟦<u128 as uDisplay>⟧.display ≡ ⟦<u128 as uDebug>⟧.document }
+    ensures of_usize { ⟦<usize as uDisplay>⟧.display ≡ ⟦<usize as uDebug>⟧.document }
+    ensures of_i8 { ⟦<i8 as uDisplay>⟧.display ≡ ⟦<i8 as uDebug>⟧.document }
+    ensures of_i16 { ⟦<i16 as uDisplay>⟧.display ≡ ⟦<i16 as uDebug>⟧.document }
+    ensures of_i32 { ⟦<i32 as uDisplay>⟧.display ≡ ⟦<i32 as uDebug>⟧.document }
+    ensures of_i64 { ⟦<i64 as uDisplay>⟧.display ≡ ⟦<i64 as uDebug>⟧.document }
+    ensures of_i128 { ⟦<i128 as uDisplay>⟧.display ≡ ⟦<i128 as uDebug>⟧.document }
+    ensures of_isize { ⟦<isize as uDisplay>⟧.display ≡ ⟦<isize as uDebug>⟧.document }
+    ensures of_nonzero_u8 { ⟦<NonZeroU8 as uDisplay>⟧.display ≡ ⟦<NonZeroU8 as uDebug>⟧.document }
+    ensures of_nonzero_u16 { ⟦<NonZeroU16 as uDisplay>⟧.display ≡ ⟦<NonZeroU16 as uDebug>⟧.document }
+    ensures of_nonzero_u32 { ⟦<NonZeroU32 as uDisplay>⟧.display ≡ ⟦<NonZeroU32 as uDebug>⟧.document }
+    ensures of_nonzero_u64 { ⟦<NonZeroU64 as uDisplay>⟧.display ≡ ⟦<NonZeroU64 as uDebug>⟧.document }
+    ensures of_nonzero_usize { ⟦<NonZeroUsize as uDisplay>⟧.display ≡ ⟦<NonZeroUsize as uDebug>⟧.document }
+    ensures of_nonzero_i8 { ⟦<NonZeroI8 as uDisplay>⟧.display ≡ ⟦<NonZeroI8 as uDebug>⟧.document }
+    ensures of_nonzero_i16 { ⟦<NonZeroI16 as uDisplay>⟧.display ≡ ⟦<NonZeroI16 as uDebug>⟧.document }
+    ensures of_nonzero_i32 { ⟦<NonZeroI32 as uDisplay>⟧.display ≡ ⟦<NonZeroI32 as uDebug>⟧.document }
+    ensures of_nonzero_i64 { ⟦<NonZeroI64 as uDisplay>⟧.display ≡ ⟦<NonZeroI64 as uDebug>⟧.document }
+    ensures of_nonzero_isize { ⟦<NonZeroIsize as uDisplay>⟧.display ≡ ⟦<NonZeroIsize as uDebug>⟧.document }
+    ensures of_bool { ⟦<bool as uDisplay>⟧.display ≡ ⟦<bool as uDebug>⟧.document }
+{}
+
+/// A reference prints as what it refers to, in either trait.
+pub fn references_print_what_they_refer_to<T: uDebug + uDisplay>()
+    ensures debug { (x : Bor T) → ⟦<&'static T as uDebug>⟧.document x ≡ T.document x.now }
+    ensures debug_mut { (x : MutBor T) → ⟦<&'static mut T as uDebug>⟧.document x ≡ T.document x.now }
+    ensures display { (x : Bor T) → ⟦<&'static T as uDisplay>⟧.display x ≡ T.display x.now }
+    ensures display_mut { (x : MutBor T) → ⟦<&'static mut T as uDisplay>⟧.display x ≡ T.display x.now }
+    ensures display_box { (x : Box T) → ⟦<Box<T> as uDisplay>⟧.display x ≡ T.display x.value }
+{}

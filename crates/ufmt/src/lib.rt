@@ -1,0 +1,13 @@
+#![tactic(auto)]
+
+//! Formatting without `core::fmt`.
+
+mod cursor;
+mod display;
+mod hex;
+pub mod laws;
+
+pub use cursor::{Cursor, Full};
+pub use display::uDisplay;
+pub use hex::{HexOptions, uDisplayHex};
+pub use ufmt_core::{DebugList, DebugMap, DebugSet, Formatter, uDebug, uWrite, unsigned};
