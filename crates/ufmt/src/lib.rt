@@ -6,6 +6,8 @@ mod cursor;
 mod display;
 mod hex;
 pub mod laws;
+#[cfg(test)]
+mod tests;
 
 pub use cursor::{Cursor, Full};
 pub use display::uDisplay;

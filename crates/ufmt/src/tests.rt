@@ -1,0 +1,157 @@
+use crate::{Cursor, Formatter, Full, HexOptions, uDisplayHex, uWrite};
+use std::alloc::Global;
+use std::process::Abort;
+use std::test::Fail;
+
+fn lower_case(ox_prefix: bool, pad_char: u8, pad_length: usize) -> HexOptions {
+    HexOptions {
+        upper_case: false,
+        pad_char,
+        pad_length,
+        ox_prefix,
+    }
+}
+
+fn upper_case(ox_prefix: bool, pad_char: u8, pad_length: usize) -> HexOptions {
+    HexOptions {
+        upper_case: true,
+        pad_char,
+        pad_length,
+        ox_prefix,
+    }
+}
+
+// The number prints this text into a `String` and into a `Cursor`.
+fn prints<N: uDisplayHex>(
+    rt: &impl Abort,
+    alloc: Global,
+    n: &N,
+    options: HexOptions,
+    expected: &str,
+) -> Result<(), Fail> {
+    assert!(rt; options.has_ascii_pad());
+    let mut text = String::new(alloc);
+    n.fmt_hex(&mut Formatter::new(&mut text), options)?;
+    assert_eq!(rt; text.as_str(), expected);
+
+    let mut buffer = [0; 40];
+    let mut f = Formatter::new(Cursor::new(&mut buffer));
+    n.fmt_hex(&mut f, options)?;
+    assert_eq!(rt; f.into_inner().written(), expected.as_bytes());
+    Ok(())
+}
+
+#[test]
+fn pads_numbers(rt: HostRuntime) -> Result<(), Fail> {
+    for (n, options, expected) in [
+        (771i32, lower_case(false, b' ', 0), "303"),
+        (0, lower_case(false, b' ', 0), "0"),
+        (-10000, lower_case(false, b' ', 0), "ffffd8f0"),
+        (33, lower_case(false, b' ', 4), "  21"),
+        (89001, lower_case(false, b' ', 4), "15ba9"),
+        (33, lower_case(false, b'0', 4), "0021"),
+        (33, lower_case(true, b'0', 3), "0x21"),
+        (33, lower_case(true, b'0', 9), "0x0000021"),
+        (33, lower_case(true, b' ', 6), "  0x21"),
+        (71, lower_case(true, b' ', 0), "0x47"),
+        (66, lower_case(true, b'0', 6), "0x0042"),
+        (33, upper_case(true, b'0', 0), "0X21"),
+    ] {
+        prints(&rt, rt.alloc(), &n, options, expected)?;
+    }
+    prints(&rt, rt.alloc(), &171u8, upper_case(false, b'0', 4), "00AB")
+}
+
+#[test]
+fn prints_each_width(rt: HostRuntime) -> Result<(), Fail> {
+    let options = lower_case(false, b' ', 0);
+    prints(&rt, rt.alloc(), &i8::MIN, options, "80")?;
+    prints(&rt, rt.alloc(), &i8::MAX, options, "7f")?;
+    prints(&rt, rt.alloc(), &i16::MIN, options, "8000")?;
+    prints(&rt, rt.alloc(), &i16::MAX, options, "7fff")?;
+    prints(&rt, rt.alloc(), &i32::MIN, options, "80000000")?;
+    prints(&rt, rt.alloc(), &i32::MAX, options, "7fffffff")?;
+    prints(&rt, rt.alloc(), &i64::MIN, options, "8000000000000000")?;
+    prints(&rt, rt.alloc(), &i64::MAX, options, "7fffffffffffffff")?;
+    prints(&rt, rt.alloc(), &isize::MIN, options, "8000000000000000")?;
+    prints(&rt, rt.alloc(), &isize::MAX, options, "7fffffffffffffff")?;
+    prints(
+        &rt,
+        rt.alloc(),
+        &i128::MIN,
+        options,
+        "80000000000000000000000000000000",
+    )?;
+    prints(
+        &rt,
+        rt.alloc(),
+        &i128::MAX,
+        options,
+        "7fffffffffffffffffffffffffffffff",
+    )?;
+    prints(&rt, rt.alloc(), &u8::MAX, options, "ff")?;
+    prints(&rt, rt.alloc(), &u16::MAX, options, "ffff")?;
+    prints(&rt, rt.alloc(), &u32::MAX, options, "ffffffff")?;
+    prints(&rt, rt.alloc(), &u64::MAX, options, "ffffffffffffffff")?;
+    prints(&rt, rt.alloc(), &usize::MAX, options, "ffffffffffffffff")?;
+    prints(
+        &rt,
+        rt.alloc(),
+        &u128::MAX,
+        options,
+        "ffffffffffffffffffffffffffffffff",
+    )
+}
+
+#[test]
+fn pads_any_payload(rt: HostRuntime) -> Result<(), Fail> {
+    for (payload, options, expected) in [
+        ("é", lower_case(false, b'0', 4), "00\u{e9}"),
+        ("", lower_case(true, b'0', 4), "0x00"),
+    ] {
+        assert!(rt; options.has_ascii_pad());
+        let mut text = String::new(rt.alloc());
+        options.with_stuff(&mut Formatter::new(&mut text), payload)?;
+        assert_eq!(rt; text.as_str(), expected);
+    }
+    Ok(())
+}
+
+#[test]
+fn tells_ascii_pads(rt: HostRuntime) {
+    assert!(rt; lower_case(false, 127, 0).has_ascii_pad());
+    assert!(rt; !lower_case(false, 128, 0).has_ascii_pad());
+}
+
+#[test]
+fn pads_until_the_writer_refuses(rt: HostRuntime) {
+    let mut buffer = [0; 8];
+    let mut f = Formatter::new(Cursor::new(&mut buffer));
+    let options = lower_case(false, b'0', usize::MAX);
+    assert!(rt; options.has_ascii_pad());
+    assert_eq!(rt; 33i32.fmt_hex(&mut f, options), Err(Full));
+    assert_eq!(rt; f.into_inner().written(), b"00000000".as_slice());
+}
+
+#[test]
+fn fills_a_buffer(rt: HostRuntime) {
+    let mut buffer = *b"......";
+    let mut cursor = Cursor::new(&mut buffer);
+    assert_eq!(rt; cursor.remaining(), 6);
+    assert_eq!(rt; cursor.write_str("ab"), Ok(()));
+    assert_eq!(rt; cursor.write_str("cdefg"), Err(Full));
+    assert_eq!(rt; cursor.write_char('é'), Ok(()));
+    assert_eq!(rt; cursor.written(), "abé".as_bytes());
+    assert_eq!(rt; cursor.remaining(), 2);
+    assert_eq!(rt; cursor.write_char('€'), Err(Full));
+    assert_eq!(rt; cursor.write_str(""), Ok(()));
+    assert_eq!(rt; buffer.as_slice(), "abé..".as_bytes());
+}
+
+#[test]
+fn refuses_pieces_in_an_empty_buffer(rt: HostRuntime) {
+    let mut cursor = Cursor::new(&mut []);
+    assert_eq!(rt; cursor.write_str(""), Ok(()));
+    assert_eq!(rt; cursor.write_str("a"), Err(Full));
+    assert_eq!(rt; cursor.written(), b"".as_slice());
+}
