@@ -1,2 +1,12 @@
 pub mod Cursor
 pub mod Hex
+pub use Rattle.ufmt_core.specs.Block
+pub use Rattle.ufmt_core.specs.Decimal
+pub use Rattle.ufmt_core.specs.Document
+pub use Rattle.ufmt_core.specs.Formatter
+pub use Rattle.ufmt_core.specs.Layout
+pub use Rattle.ufmt_core.specs.List
+pub use Rattle.ufmt_core.specs.Map
+pub use Rattle.ufmt_core.specs.Parts
+pub use Rattle.ufmt_core.specs.Set
+pub use Rattle.ufmt_core.specs.Writes

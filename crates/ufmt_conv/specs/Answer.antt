@@ -2,9 +2,9 @@
 use Rattle.std.specs.Prelude.{ℕ, List, [], ◌∷◌, ◌++◌, ◌==◌, if◌then◌else◌, length, map, pos}
 use Rattle.ufmt_conv.specs.declared.run.command.Command.{Command}
 use Rattle.ufmt_conv.specs.declared.run.command.Command.TheVariants.{Lengths}
-use Rattle.ufmt_core.specs.Decimal.{decimal}
-use Rattle.ufmt_core.specs.Document.{documents, leaf, list_of}
-use Rattle.ufmt_core.specs.Layout.{plain_text}
+use Rattle.ufmt.specs.Decimal.{decimal}
+use Rattle.ufmt.specs.Document.{documents, leaf, list_of}
+use Rattle.ufmt.specs.Layout.{plain_text}
 
 -- a byte before the first line, which it begins where there is none
 abbrev pub onto_first_line : ℕ → List (List ℕ) → List (List ℕ)

@@ -3,7 +3,7 @@ ghost use Rattle.std.specs.Prelude.{◌≡◌, string_bytes, IfOk};
 ghost use Rattle.ufmt_conv.specs.Answer.{plain_list};
 
 use std::alloc::{AllocError, Global};
-use ufmt_core::{Formatter, uDebug};
+use ufmt::{Formatter, uDebug};
 
 // The numbers in brackets.
 pub(super) fn plain_list(alloc: Global, numbers: &Vec<u64>) -> Result<String, AllocError>
