@@ -1,3 +1,4 @@
 pub mod HexadecimalTexts
 pub mod Padding
 pub mod WrittenHexadecimal
+pub mod PiecesInARow

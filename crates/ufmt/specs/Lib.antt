@@ -1,5 +1,6 @@
 pub mod Cursor
 pub mod Hex
+pub mod Pieces
 pub use Rattle.ufmt_core.specs.Block
 pub use Rattle.ufmt_core.specs.Decimal
 pub use Rattle.ufmt_core.specs.Document

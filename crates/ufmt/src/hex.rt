@@ -107,3 +107,15 @@ impl HexOptions {
         Ok(())
     }
 }
+
+/// Prints what the reference refers to.
+impl<T: uDisplayHex> uDisplayHex for &T {
+    ghost hex_text = { λ x. T.hex_text x.now };
+
+    fn fmt_hex<W>(&self, f: &mut Formatter<W>, options: HexOptions) -> Result<(), W::Error>
+    where
+        W: uWrite,
+    {
+        (**self).fmt_hex(f, options)
+    }
+}

@@ -1,19 +1,22 @@
 //! Laws, each as the contract of a function.
-ghost use Rattle.std.specs.Prelude.{◌≡◌, ◌≤◌, ◌↔◌, ◌++◌, ℕ, List, length, drop, IsOk, OnOk, OnErr};
+ghost use Rattle.std.specs.Prelude.{[], ◌∷◌, is_ok, ◌≡◌, ◌<◌, ◌≤◌, ◌↔◌, ◌++◌, ℕ, List, length, drop, IsOk, OnOk, OnErr};
 ghost use Rattle.std.specs.Borrow.{Bor, MutBor};
 ghost use Rattle.std.specs.Global.{Box};
 ghost use Rattle.std.specs.Int.{w8, w16, w32, w64, w128};
+ghost use Rattle.ufmt_core.specs.Formatter.{Prints, setting_of};
+ghost use Rattle.ufmt.specs.Pieces.{hex, pieces_text, pretty, shown, text};
 ghost use Rattle.ufmt.specs.declared.hex.HexOptions.{HexOptions};
 ghost use Rattle.ufmt.specs.Hex.{EachNumberIsTold, OneTextTells, OneNumberIsTold, IsPadded, PrintsHexadecimal, PrintsBits, padded};
 
 use crate::cursor::{Cursor, Full};
 use crate::display::uDisplay;
-use crate::hex::uDisplayHex;
+use crate::hex::{HexOptions, uDisplayHex};
+use crate::uwrite;
 use std::num::{
     NonZeroI8, NonZeroI16, NonZeroI32, NonZeroI64, NonZeroIsize, NonZeroU8, NonZeroU16, NonZeroU32,
     NonZeroU64, NonZeroUsize,
 };
-use ufmt_core::{uDebug, uWrite};
+use ufmt_core::{Formatter, uDebug, uWrite};
 
 /// When a cursor's loan ends, its buffer begins with what was written and is as before past that.
 pub fn write_to_buffer(buffer: &mut [u8], text: &str) -> Result<(), Full>
@@ -93,3 +96,21 @@ pub fn references_print_what_they_refer_to<T: uDebug + uDisplay>()
     ensures display_mut { (x : MutBor T) → ⟦<&'static mut T as uDisplay>⟧.display x ≡ T.display x.now }
     ensures display_box { (x : Box T) → ⟦<Box<T> as uDisplay>⟧.display x ≡ T.display x.value }
 {}
+
+/// `uwrite!(f, text t, display a, debug b, pretty c, hex n with options)`: the pattern of that macro.
+pub fn all_pieces<W: uWrite, A: uDisplay, B: uDebug, C: uDebug, N: uDisplayHex>(
+    f: &mut Formatter<W>,
+    t: &str,
+    a: &A,
+    b: &B,
+    c: &C,
+    n: &N,
+    options: HexOptions,
+) -> Result<(), W::Error>
+    requires { options.pad_char < 128 }
+    ensures { Prints W.seen f.old
+        (pieces_text (setting_of f.old) (text t.now ∷ shown (A.display a.now) ∷ shown (B.document b.now) ∷ pretty (C.document c.now) ∷ hex (N.hex_text n.now options) ∷ []))
+        (is_ok result) f.new }
+{
+    uwrite!(f, text t, display a, debug b, pretty c, hex n with options)
+}

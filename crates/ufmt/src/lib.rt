@@ -6,10 +6,12 @@ mod cursor;
 mod display;
 mod hex;
 pub mod laws;
+mod pieces;
 #[cfg(test)]
 mod tests;
 
 pub use cursor::{Cursor, Full};
 pub use display::uDisplay;
 pub use hex::{HexOptions, uDisplayHex};
+pub use pieces::fmt_pretty;
 pub use ufmt_core::{DebugList, DebugMap, DebugSet, Formatter, uDebug, uWrite, unsigned};
