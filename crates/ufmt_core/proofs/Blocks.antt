@@ -46,7 +46,7 @@ module _ {W : Type 0} {seen : Seen W} where
   }
 
   -- a beginning of a part is one of what begins with it
-  Adds-fails : (old new : Block W) {p : List ℕ} (q : List ℕ) (stopped next : Stage) → Adds seen old p false stopped new → Adds seen old (p ++ q) false next new
+  pub Adds-fails : (old new : Block W) {p : List ℕ} (q : List ℕ) (stopped next : Stage) → Adds seen old p false stopped new → Adds seen old (p ++ q) false next new
   Adds-fails old new q stopped next a = record { wrote = Writes-fails q a.wrote; kept = a.kept; leaves = a.leaves }
 
 -- a call that went on was handed an `Ok`
@@ -72,14 +72,14 @@ module _ {W E : Type 0} {seen : Seen W} where
       let laid = subst (λ (s : Setting). Writes seen (writer_of begun) (text s) false (writer_of ended)) p.same_setting l.wrote in
       let stopped = subst (λ (w : W). Writes seen (writer_of old.formatter) (before ++ (text (inner old) ++ trail (inner old))) false w) (sym g.1.same_writer) (Writes-then p.wrote (Writes-fails _ laid)) in
       let failed : Adds seen old (before ++ (text (inner old) ++ trail (inner old))) false Later new =
-          record { wrote = stopped; kept = g.1.kept; leaves = g.1.leaves } in
+      record { wrote = stopped; kept = g.1.kept; leaves = g.1.leaves } in
       subst (λ (ok : Bool). Adds seen old (before ++ (text (inner old) ++ trail (inner old))) ok Later new) (sym (ap is_ok g.0)) failed
 
   -- begin, what the lent formatter prints and end: an entry with that text
-  pub Adds-entry : (pending : Stage) (old mid new : Block W) {begun : Formatter W} (ended : Formatter W) (text : Setting → List ℕ) (answer result : Result (Unit {0}) E) →
-      BeginsEntry seen old begun → Prints seen begun (text (setting_of begun)) (is_ok answer) ended → mid ≡ lent pending old ended →
+  pub Adds-entry : (pending : Stage) (old mid new : Block W) {begun : Formatter W} (ended : Formatter W) {before : List ℕ} (text : Setting → List ℕ) (answer result : Result (Unit {0}) E) →
+      Prints seen old.formatter before true begun → Prints seen begun (text (setting_of begun)) (is_ok answer) ended → mid ≡ lent pending old ended →
       OnOk answer (Adds seen mid (trail (inner mid)) (is_ok result) Later new) → PassesOn answer result mid new →
-      AddsEntry seen old text (is_ok result) new
+      Adds seen old (before ++ (text (inner old) ++ trail (inner old))) (is_ok result) Later new
   Adds-entry pending old mid new ended text answer result p l m a g =
       Adds-entry-lent pending old new ended _ text answer result p l
       (subst (λ (b : Block W). OnOk answer (Adds seen b (trail (inner b)) (is_ok result) Later new)) m a)
@@ -158,15 +158,15 @@ module _ {W D : Type 0} {seen : Seen W} where
   Adds-more old mid new text_of xs y ok a b =
       let texts = map (text_of (inner old)) xs in
       let at_place : place (stage mid) ≡ after_entries (place (stage old)) texts =
-          ap place a.leaves.0 ∙ after_entries-place (stage old) xs ∙ sym (after_entries-map (text_of (inner old)) (place (stage old)) xs) in
+      ap place a.leaves.0 ∙ after_entries-place (stage old) xs ∙ sym (after_entries-map (text_of (inner old)) (place (stage old)) xs) in
       let part : entries_part (inner old) (place (stage old)) (map (text_of (inner old)) (xs ++ y ∷ [])) ≡
-          entries_part (inner old) (place (stage old)) texts ++ entry_part (inner mid) (place (stage mid)) (text_of (inner mid) y) =
-          ap (λ ts. entries_part (inner old) (place (stage old)) ts) (map-append (text_of (inner old)) xs (y ∷ []))
-          ∙ entries_part-append (inner old) (place (stage old)) texts (text_of (inner old) y ∷ [])
-          ∙ ap (λ t. entries_part (inner old) (place (stage old)) texts ++ t)
-              (append-nil _
-              ∙ ap (λ (p : Place). entry_part (inner old) p (text_of (inner old) y)) (sym at_place)
-              ∙ ap (λ (s : Setting). entry_part s (place (stage mid)) (text_of s y)) (sym a.leaves.1)) in
+      entries_part (inner old) (place (stage old)) texts ++ entry_part (inner mid) (place (stage mid)) (text_of (inner mid) y) =
+      ap (λ ts. entries_part (inner old) (place (stage old)) ts) (map-append (text_of (inner old)) xs (y ∷ []))
+      ∙ entries_part-append (inner old) (place (stage old)) texts (text_of (inner old) y ∷ [])
+      ∙ ap (λ t. entries_part (inner old) (place (stage old)) texts ++ t)
+      (append-nil _
+      ∙ ap (λ (p : Place). entry_part (inner old) p (text_of (inner old) y)) (sym at_place)
+      ∙ ap (λ (s : Setting). entry_part s (place (stage mid)) (text_of s y)) (sym a.leaves.1)) in
       rw (part, stage_after-append (stage old) xs y) (Adds-then old mid new (stage_after (stage old) xs) Later a b)
 
 module _ {W U T D Y : Type 0} {seen : Seen W} {becomes : U → T → Type 0} {steps : T → Option D → T → Type 0} (view : D → Y) (text_of : Setting → Y → List ℕ) where
@@ -183,8 +183,8 @@ module _ {W U T D Y : Type 0} {seen : Seen W} {becomes : U → T → Type 0} {st
       let run = AlwaysYields-front steps view a.iterator a.drains.0 a.items ys a.drains.1 (yields a.iterator a.begins) in
       let texts = map (λ x. text_of (inner old) (view x)) a.items in
       let front : entries_part (inner old) (place (stage old)) (map (text_of (inner old)) ys) ≡
-          entries_part (inner old) (place (stage old)) texts ++ entries_part (inner old) (after_entries (place (stage old)) texts) (map (text_of (inner old)) run.0) =
-          ap (λ zs. entries_part (inner old) (place (stage old)) (map (text_of (inner old)) zs)) run.1
-          ∙ ap (λ ts. entries_part (inner old) (place (stage old)) ts) (map-append (text_of (inner old)) (map view a.items) run.0 ∙ ap (λ ts. ts ++ map (text_of (inner old)) run.0) (map-map (text_of (inner old)) view a.items))
-          ∙ entries_part-append (inner old) (place (stage old)) texts (map (text_of (inner old)) run.0) in
+      entries_part (inner old) (place (stage old)) texts ++ entries_part (inner old) (after_entries (place (stage old)) texts) (map (text_of (inner old)) run.0) =
+      ap (λ zs. entries_part (inner old) (place (stage old)) (map (text_of (inner old)) zs)) run.1
+      ∙ ap (λ ts. entries_part (inner old) (place (stage old)) ts) (map-append (text_of (inner old)) (map view a.items) run.0 ∙ ap (λ ts. ts ++ map (text_of (inner old)) run.0) (map-map (text_of (inner old)) view a.items))
+      ∙ entries_part-append (inner old) (place (stage old)) texts (map (text_of (inner old)) run.0) in
       rw front (Adds-fails old new _ (stage_after (stage old) a.items) (stage_after (stage old) ys) a.adds)

@@ -27,10 +27,11 @@ module _ {S A X B : Type 0} (steps : S → Option A → S → Type 0) (rest : S 
     (takes_first : (s : S) (r : Option A) (t : S) → steps s r t → MatchOption r (rest s ≡ []) (λ x. rest s ≡ view x ∷ rest t)) where
   AlwaysYields-rest : (xs : List X) (s : S) → rest s ≡ xs → AlwaysYields steps (λ x. h (view x)) s (map h xs)
   AlwaysYields-rest [] s e = λ x t step. let first : rest s ≡ view x ∷ rest t = takes_first s (Some x) t step in cc
-  AlwaysYields-rest (y ∷ ys) s e =
-      (λ t step. let none : rest s ≡ [] = takes_first s None t step in cc,
-      λ x t step. let first : rest s ≡ view x ∷ rest t = takes_first s (Some x) t step in
-        (ap h (cc), AlwaysYields-rest ys t (cc)))
+  AlwaysYields-rest (y ∷ ys) s e = (
+    λ t step. let none : rest s ≡ [] = takes_first s None t step in cc,
+    λ x t step. let first : rest s ≡ view x ∷ rest t = takes_first s (Some x) t step in
+        (ap h (cc), AlwaysYields-rest ys t (cc)),
+  )
 
   pub AlwaysYields-first : (s : S) → AlwaysYields steps (λ x. h (view x)) s (map h (rest s))
   AlwaysYields-first s = AlwaysYields-rest (rest s) s refl

@@ -55,11 +55,13 @@ module _ {W : Type 0} {seen : Seen W} {start last : Formatter W} {whole : Docume
       Adds seen b (entries_part (inner b) (place (stage b)) (texts (inner b))) false next b' → last ≡ b'.formatter → LaysOut seen start whole false last
   LaysOut-stopped b b' next o a e =
       let text : text_at (setting_of start) whole ≡ opening ++ (entries_part (inner b) (place (stage b)) (texts (inner b)) ++ closing (setting_of start) (after_entries first (texts (entry_setting (setting_of start)))) bracket) =
-          rw (o.entered, o.begins) (parts.joined (setting_of start)) in
-      record { prints = record {
-        wrote = rw (text, e) (Writes-then o.wrote (Writes-fails _ a.wrote));
-        same_setting = ap setting_of e ∙ a.leaves.1 ∙ o.kept;
-      } }
+      rw (o.entered, o.begins) (parts.joined (setting_of start)) in
+      record {
+        prints = record {
+          wrote = rw (text, e) (Writes-then o.wrote (Writes-fails _ a.wrote));
+          same_setting = ap setting_of e ∙ a.leaves.1 ∙ o.kept;
+        };
+      }
 
   -- a builder that came to its end
   pub LaysOut-finished : (b b' b'' : Block W) (ok : Bool) → Opens seen start opening b →
@@ -67,10 +69,12 @@ module _ {W : Type 0} {seen : Seen W} {start last : Formatter W} {whole : Docume
       Finishes seen b' (closing (outer b') (place (stage b')) bracket) ok b'' → last ≡ b''.formatter → LaysOut seen start whole ok last
   LaysOut-finished b b' b'' ok o a f e =
       let at_place : place (stage b') ≡ after_entries first (texts (inner b)) =
-          ap place a.leaves.0 ∙ after_entries-place (stage b) (texts (inner b)) ∙ ap (λ (s : Stage). after_entries (place s) (texts (inner b))) o.begins in
+      ap place a.leaves.0 ∙ after_entries-place (stage b) (texts (inner b)) ∙ ap (λ (s : Stage). after_entries (place s) (texts (inner b))) o.begins in
       let text : text_at (setting_of start) whole ≡ opening ++ (entries_part (inner b) (place (stage b)) (texts (inner b)) ++ closing (outer b') (place (stage b')) bracket) =
-          rw (at_place, a.kept, o.kept, o.entered, o.begins) (parts.joined (setting_of start)) in
-      record { prints = record {
-        wrote = rw (text, e) (Writes-then o.wrote (Writes-then a.wrote f.wrote));
-        same_setting = ap setting_of e ∙ f.restored ∙ a.kept ∙ o.kept;
-      } }
+      rw (at_place, a.kept, o.kept, o.entered, o.begins) (parts.joined (setting_of start)) in
+      record {
+        prints = record {
+          wrote = rw (text, e) (Writes-then o.wrote (Writes-then a.wrote f.wrote));
+          same_setting = ap setting_of e ∙ f.restored ∙ a.kept ∙ o.kept;
+        };
+      }

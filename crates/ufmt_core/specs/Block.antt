@@ -6,10 +6,11 @@ use Rattle.ufmt_core.specs.declared.formatter.Formatter.{Formatter}
 use Rattle.ufmt_core.specs.declared.formatter.block.Stage.{Stage}
 use Rattle.ufmt_core.specs.declared.formatter.block.Stage.TheVariants.{First, Later, Lent, LentValue, Closed}
 use Rattle.ufmt_core.specs.declared.formatter.block.Progress.{Progress}
-use Rattle.ufmt_core.specs.Parts.{closing, entries_part, entry_part, lead}
+use Rattle.ufmt_core.specs.Document.{Document}
+use Rattle.ufmt_core.specs.Parts.{closing, entries_part, entry_part, field_lead, field_part, lead, struct_closing}
 use Rattle.ufmt_core.specs.Layout.{Place, first, later}
 use Rattle.ufmt_core.specs.Writes.{Seen, Writes}
-use Rattle.ufmt_core.specs.Formatter.{Prints, writer_of, setting_of, entry_setting}
+use Rattle.ufmt_core.specs.Formatter.{Prints, writer_of, setting_of, entry_setting, text_at}
 
 -- whether the next entry is the first
 abbrev pub place : Stage → Place
@@ -50,6 +51,14 @@ inner b = setting_of b.formatter
 
 abbrev pub IsOpen : {W : Type 0} → Block W → Type 0
 IsOpen b = is_open (stage b) ≡ true
+
+-- the formatter is lent for an entry, of a map for the key
+abbrev pub IsLent : {W : Type 0} → Block W → Type 0
+IsLent b = stage b ≡ Lent
+
+-- the formatter is lent for the value of a map's entry
+abbrev pub IsLentForValue : {W : Type 0} → Block W → Type 0
+IsLentForValue b = stage b ≡ LentValue
 
 module _ {W : Type 0} where
   -- what a call leaves: on `Ok` this stage and the entries' mode and depth, on `Err` a closed builder and the mode and depth from before it
@@ -99,6 +108,18 @@ module _ {W : Type 0} where
   -- a list, a set or a map was closed with this bracket
   abbrev pub FinishesWith : Seen W → Block W → List ℕ → Bool → Block W → Type 0
   FinishesWith seen old bracket ok new = Finishes seen old (closing (outer old) (place (stage old)) bracket) ok new
+
+  -- one field was added to a struct
+  pub record AddsField (seen : Seen W) (old : Block W) (label : List ℕ) (value : Document) (ok : Bool) (new : Block W) : Type 0 where
+    pub adds : Adds seen old (field_part (inner old) (place (stage old)) label (text_at (inner old) value)) ok Later new
+
+  -- what stands before a field's value was written, and the formatter lent for the value
+  abbrev pub BeginsField : Seen W → Block W → List ℕ → Formatter W → Type 0
+  BeginsField seen old label lent = Prints seen old.formatter (field_lead (inner old) (place (stage old)) label) true lent
+
+  -- a struct was closed
+  pub record FinishesStruct (seen : Seen W) (old : Block W) (ok : Bool) (new : Block W) : Type 0 where
+    pub finishes : Finishes seen old (struct_closing (outer old) (place (stage old))) ok new
 
 module _ {W U T D : Type 0} where
   -- an entry was added for each item that the iterator gave, and on `Ok` it had no more

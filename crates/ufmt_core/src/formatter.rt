@@ -69,7 +69,10 @@ impl<W: uWrite> Formatter<W> {
 
     /// Runs `f` once in pretty mode, and answers what it answered. Mode and depth are then those from
     /// before, whatever `f` left.
-    pub fn pretty<F: FnOnce(&mut Formatter<W>) -> Result<(), W::Error>>(&mut self, f: F) -> Result<(), W::Error>
+    pub fn pretty<F: FnOnce(&mut Formatter<W>) -> Result<(), W::Error>>(
+        &mut self,
+        f: F,
+    ) -> Result<(), W::Error>
         requires { (p : MutBor (Formatter W)) → p.now ≡ in_pretty_mode self.old → F.pre f p }
         ensures { (last : Formatter W) × FnOnceReturnsAtMut F.FnOnce f (in_pretty_mode self.old) result last
             × (self.new ≡ at_setting last (setting_of self.old)) }

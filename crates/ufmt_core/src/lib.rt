@@ -12,6 +12,7 @@ mod map;
 mod set;
 mod signed;
 mod std_impls;
+mod structs;
 pub mod unsigned;
 mod write;
 
@@ -19,6 +20,7 @@ pub use formatter::Formatter;
 pub use list::DebugList;
 pub use map::DebugMap;
 pub use set::DebugSet;
+pub use structs::DebugStruct;
 pub use write::uWrite;
 
 /// A value that prints itself as Rust's `{:?}` and `{:#?}` would.

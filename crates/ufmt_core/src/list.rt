@@ -8,7 +8,7 @@ ghost use Rattle.ufmt_core.specs.declared.formatter.block.Stage.TheVariants.{Lat
 ghost use Rattle.ufmt_core.specs.Document.{Document, documents, list_of};
 ghost use Rattle.ufmt_core.specs.Formatter.{LaysOut, Prints, text_at};
 ghost use Rattle.ufmt_core.specs.Parts.{lead, trail};
-ghost use Rattle.ufmt_core.specs.Block.{Adds, AddsEntries, AddsEntry, BeginsEntry, FinishesWith, IsOpen, Opens, PassesOn, inner, place, stage};
+ghost use Rattle.ufmt_core.specs.Block.{Adds, AddsEntries, AddsEntry, BeginsEntry, FinishesWith, IsLent, IsOpen, Opens, PassesOn, inner, place, stage};
 ghost use Rattle.ufmt_core.specs.List.{block, with_formatter};
 
 use crate::formatter::Formatter;
@@ -54,7 +54,10 @@ impl<W: uWrite> DebugList<'_, W> {
     }
 
     /// Writes an entry for each item, in order, and takes no item after a failure.
-    pub fn entries<D: uDebug + Drop, I: IntoIterator<Item = D>>(&mut self, entries: I) -> Result<(), W::Error>
+    pub fn entries<D: uDebug + Drop, I: IntoIterator<Item = D>>(
+        &mut self,
+        entries: I,
+    ) -> Result<(), W::Error>
     where
         I::IntoIter: Drop,
         requires is_open { IsOpen (block self.old) }
@@ -70,16 +73,17 @@ impl<W: uWrite> DebugList<'_, W> {
     }
 
     /// Writes what stands before an entry, and lends the formatter for it.
-    fn begin_entry(&mut self) -> Result<&mut Formatter<W>, W::Error>
+    pub fn begin_entry(&mut self) -> Result<&mut Formatter<W>, W::Error>
         requires { IsOpen (block self.old) }
         ensures* lends { sem 𝓛 (LendsSoOk (list.the_row (record { mir = named 0; lft = [] }) W.row) (formatter.the_row W.row) self.entry result
             (λ last lent. last ≡ with_formatter (record self.old { progress = record self.old.progress { stage = Lent } }) lent)
             (λ last. (last.formatter.ghost_name ≡ self.old.formatter.ghost_name)
-                × Adds W.seen (block self.old) (lead (inner (block self.old)) (place (stage (block self.old)))) false Lent (block last))) }
+            × Adds W.seen (block self.old) (lead (inner (block self.old)) (place (stage (block self.old)))) false Lent (block last))) }
         ensures begins { IfOk result (λ lent. BeginsEntry W.seen (block self.old) lent.now) }
     {
         let written = self.formatter.write_lead(self.progress.stage);
-        self.formatter.settle(&mut self.progress, written, Stage::Lent)?;
+        self.formatter
+            .settle(&mut self.progress, written, Stage::Lent)?;
         Ok(self.lend())
     }
 
@@ -91,7 +95,8 @@ impl<W: uWrite> DebugList<'_, W> {
     }
 
     /// Writes what stands after an entry whose `fmt` gave this answer, or passes an `Err` on.
-    fn end_entry(&mut self, answer: Result<(), W::Error>) -> Result<(), W::Error>
+    pub fn end_entry(&mut self, answer: Result<(), W::Error>) -> Result<(), W::Error>
+        requires { IsLent (block self.old) }
         ensures same_reference { self.new.formatter.ghost_name ≡ self.old.formatter.ghost_name }
         ensures ends { OnOk answer (Adds W.seen (block self.old) (trail (inner (block self.old))) (is_ok result) Later (block self.new)) }
         ensures passes_on { PassesOn answer result (block self.old) (block self.new) }
@@ -101,7 +106,8 @@ impl<W: uWrite> DebugList<'_, W> {
             Ok(()) => self.formatter.write_trail(),
             Err(error) => Err(error),
         };
-        self.formatter.settle(&mut self.progress, ended, Stage::Later)
+        self.formatter
+            .settle(&mut self.progress, ended, Stage::Later)
     }
 
     /// Writes `]`. The builder is then closed, and mode and depth are those from before it.

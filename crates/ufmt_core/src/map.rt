@@ -8,7 +8,7 @@ ghost use Rattle.ufmt_core.specs.declared.formatter.block.Stage.TheVariants.{Lat
 ghost use Rattle.ufmt_core.specs.Document.{Document, map_of, pairs_of};
 ghost use Rattle.ufmt_core.specs.Formatter.{LaysOut, Prints};
 ghost use Rattle.ufmt_core.specs.Parts.{lead, pair_text, trail};
-ghost use Rattle.ufmt_core.specs.Block.{Adds, AddsEntries, AddsEntry, BeginsEntry, FinishesWith, GivesUp, IsOpen, Opens, PassesOn, inner, place, stage};
+ghost use Rattle.ufmt_core.specs.Block.{Adds, AddsEntries, AddsEntry, BeginsEntry, FinishesWith, GivesUp, IsLent, IsLentForValue, IsOpen, Opens, PassesOn, inner, place, stage};
 ghost use Rattle.ufmt_core.specs.Map.{block, with_formatter};
 
 use crate::formatter::Formatter;
@@ -75,12 +75,16 @@ impl<W: uWrite> DebugMap<'_, W> {
 
     /// Writes what stands between a key whose `fmt` gave this answer and its value, and lends the
     /// formatter for the value, or passes an `Err` on.
-    fn begin_value(&mut self, answer: Result<(), W::Error>) -> Result<&mut Formatter<W>, W::Error>
+    pub fn begin_value(
+        &mut self,
+        answer: Result<(), W::Error>,
+    ) -> Result<&mut Formatter<W>, W::Error>
+        requires { IsLent (block self.old) }
         ensures* lends { sem 𝓛 (LendsSoOk (map_builder.the_row (record { mir = named 0; lft = [] }) W.row) (formatter.the_row W.row) self.entry result
             (λ last lent. last ≡ with_formatter (record self.old { progress = record self.old.progress { stage = LentValue } }) lent)
             (λ last. (last.formatter.ghost_name ≡ self.old.formatter.ghost_name)
-                × OnOk answer (Adds W.seen (block self.old) (codes ": ") false LentValue (block last))
-                × OnErr answer (GivesUp (block self.old) (block last)))) }
+            × OnOk answer (Adds W.seen (block self.old) (codes ": ") false LentValue (block last))
+            × OnErr answer (GivesUp (block self.old) (block last)))) }
         ensures begins { IfOk result (λ lent. Prints W.seen self.old.formatter.now (codes ": ") true lent.now) }
         ensures passes_on { IfErr answer (λ e. result ≡ Err e) }
     {
@@ -88,21 +92,23 @@ impl<W: uWrite> DebugMap<'_, W> {
             Ok(()) => self.formatter.write_str(": "),
             Err(error) => Err(error),
         };
-        self.formatter.settle(&mut self.progress, written, Stage::LentValue)?;
+        self.formatter
+            .settle(&mut self.progress, written, Stage::LentValue)?;
         Ok(self.lend())
     }
 
     /// Writes what stands before an entry, and lends the formatter for it.
-    fn begin_entry(&mut self) -> Result<&mut Formatter<W>, W::Error>
+    pub fn begin_entry(&mut self) -> Result<&mut Formatter<W>, W::Error>
         requires { IsOpen (block self.old) }
         ensures* lends { sem 𝓛 (LendsSoOk (map_builder.the_row (record { mir = named 0; lft = [] }) W.row) (formatter.the_row W.row) self.entry result
             (λ last lent. last ≡ with_formatter (record self.old { progress = record self.old.progress { stage = Lent } }) lent)
             (λ last. (last.formatter.ghost_name ≡ self.old.formatter.ghost_name)
-                × Adds W.seen (block self.old) (lead (inner (block self.old)) (place (stage (block self.old)))) false Lent (block last))) }
+            × Adds W.seen (block self.old) (lead (inner (block self.old)) (place (stage (block self.old)))) false Lent (block last))) }
         ensures begins { IfOk result (λ lent. BeginsEntry W.seen (block self.old) lent.now) }
     {
         let written = self.formatter.write_lead(self.progress.stage);
-        self.formatter.settle(&mut self.progress, written, Stage::Lent)?;
+        self.formatter
+            .settle(&mut self.progress, written, Stage::Lent)?;
         Ok(self.lend())
     }
 
@@ -114,7 +120,8 @@ impl<W: uWrite> DebugMap<'_, W> {
     }
 
     /// Writes what stands after an entry whose `fmt` gave this answer, or passes an `Err` on.
-    fn end_entry(&mut self, answer: Result<(), W::Error>) -> Result<(), W::Error>
+    pub fn end_entry(&mut self, answer: Result<(), W::Error>) -> Result<(), W::Error>
+        requires { IsLentForValue (block self.old) }
         ensures same_reference { self.new.formatter.ghost_name ≡ self.old.formatter.ghost_name }
         ensures ends { OnOk answer (Adds W.seen (block self.old) (trail (inner (block self.old))) (is_ok result) Later (block self.new)) }
         ensures passes_on { PassesOn answer result (block self.old) (block self.new) }
@@ -124,7 +131,8 @@ impl<W: uWrite> DebugMap<'_, W> {
             Ok(()) => self.formatter.write_trail(),
             Err(error) => Err(error),
         };
-        self.formatter.settle(&mut self.progress, ended, Stage::Later)
+        self.formatter
+            .settle(&mut self.progress, ended, Stage::Later)
     }
 
     /// Writes `}`, in pretty mode on a line of its own where there are entries, unlike ufmt. The builder is then closed, and mode and depth are those from before it.
@@ -152,10 +160,7 @@ pub(crate) fn fmt_map<
     V: uDebug + Drop,
     I: IntoIterator<Item = (K, V)> + Drop,
     W: uWrite,
->(
-    pairs: I,
-    f: &mut Formatter<W>,
-) -> Result<(), W::Error>
+>(pairs: I, f: &mut Formatter<W>) -> Result<(), W::Error>
 where
     I::IntoIter: Drop,
     requires { IsFiniteIterable I.into_iter_gives I.IntoIter.can_next I.IntoIter.remaining pairs }

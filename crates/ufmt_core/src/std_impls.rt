@@ -1,14 +1,13 @@
 ghost use Rattle.std.specs.Prelude.{map};
 ghost use Rattle.ufmt_core.specs.Document.{documents, list_of, map_of, pairs_of, set_of};
 
-use std::collections::{BTreeMap, BTreeSet};
-
 use crate::formatter::Formatter;
 use crate::list::fmt_list;
 use crate::map::fmt_map;
 use crate::set::fmt_set;
 use crate::uDebug;
 use crate::write::uWrite;
+use std::collections::{BTreeMap, BTreeSet};
 
 /// Prints the items as a list.
 impl<T: uDebug> uDebug for Vec<T> {

@@ -3,11 +3,10 @@ ghost use Rattle.std.specs.Prelude.{◌≡◌, ◌↔◌, ◌+◌, ◌/◌, ◌%
 ghost use Rattle.ufmt_core.specs.Document.{leaf};
 ghost use Rattle.ufmt_core.specs.Decimal.{decimal, EachNumberIsTold, OneTextTells, OneNumberIsTold};
 
-use std::str;
-
 use crate::formatter::Formatter;
 use crate::uDebug;
 use crate::write::uWrite;
+use std::str;
 
 /// Each whole number has exactly one decimal text, and each decimal text tells exactly one number.
 pub fn decimal_is_one_text()

@@ -45,10 +45,11 @@ impl<W: uWrite> uWrite for &mut W {
     type Error = W::Error;
 
     ghost seen = { record {
-        told = λ r. W.seen.told r.now;
-        text = λ r. W.seen.text r.now;
-        room = λ r. W.seen.room r.now;
-        identity = λ r. r.ghost_name } };
+      told = λ r. W.seen.told r.now;
+      text = λ r. W.seen.text r.now;
+      room = λ r. W.seen.room r.now;
+      identity = λ r. r.ghost_name;
+    } };
 
     fn write_str(&mut self, s: &str) -> Result<(), W::Error> {
         (**self).write_str(s)

@@ -16,11 +16,11 @@ pub returns-in_err-entries : goal.returns-in_err-entries
 returns-in_err-entries g c ds yields =
     LaysOut-err _ c.from_residual-in_err-entries.ensures.0
     (LaysOut-stopped (list-parts ds) (block c.in_ok-list.list) (block c.entries.new.self) _ c.in_ok-list.ensures.opens
-      (Adds-from_entries g.D.uDebug.document text_at c.args.items ds _ _ _ yields c.in_err-entries.ensures.adds) (search rules))
+    (Adds-from_entries g.D.uDebug.document text_at c.args.items ds _ _ _ yields c.in_err-entries.ensures.adds) (search rules))
 
 pub returns : goal.returns
 returns g c ds yields =
     let b = block c.in_ok-list.list in
     LaysOut-finished (list-parts ds) b (block c.entries.new.self) (block c.finish.new.self) _ c.in_ok-list.ensures.opens
-      (rw (stage_after-map (text_at (inner b))) (Adds-from_entries g.D.uDebug.document text_at c.args.items ds _ _ _ yields c.in_ok-entries.ensures.adds))
-      c.finish.ensures.finishes (search rules)
+    (rw (stage_after-map (text_at (inner b))) (Adds-from_entries g.D.uDebug.document text_at c.args.items ds _ _ _ yields c.in_ok-entries.ensures.adds))
+    c.finish.ensures.finishes (search rules)

@@ -8,7 +8,7 @@ pub returns-in_err-write_str : goal.returns-in_err-write_str
 returns-in_err-write_str g c =
     let done = c.loop-unit._unit + 1 in
     let front : indentation c.args.depth ≡ (indentation c.loop-unit._unit ++ codes "    ") ++ indentation (c.args.depth - done) =
-        indentation-front done c.args.depth (omega arith) ∙ ap (λ t. t ++ indentation (c.args.depth - done)) (indentation-add c.loop-unit._unit 1) in
+    indentation-front done c.args.depth (omega arith) ∙ ap (λ t. t ++ indentation (c.args.depth - done)) (indentation-add c.loop-unit._unit 1) in
     rw front (Prints-err _ c.from_residual.ensures.0 (Prints-fails _ (Prints-then c.loop-unit.invariant c.in_err-write_str.ensures)))
 
 pub loop-unit-preserved : goal.loop-unit-preserved
