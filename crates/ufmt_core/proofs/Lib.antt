@@ -4,5 +4,6 @@ pub mod Indentation
 pub mod Items
 pub mod Layouts
 pub mod Numerals
+pub mod Printing
 pub mod Writing
 pub mod WrittenDigits

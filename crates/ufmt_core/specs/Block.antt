@@ -33,9 +33,10 @@ abbrev pub stage_after : {X : Type 0} → Stage → List X → Stage
 stage_after s [] = s
 stage_after s (x ∷ xs) = Later
 
--- a builder as contracts see it: the formatter that it writes to, and how far it is
+-- a builder as contracts see it: the formatter that it writes to, the name of its reference to it, and how far it is
 pub record Block (W : Type 0) : Type 0 where
   pub formatter : Formatter W
+  pub name : ℕ
   pub progress : Progress
 
 -- the mode and depth from before the builder
@@ -66,8 +67,9 @@ module _ {W : Type 0} where
   Leaves true next old new = (stage new ≡ next) × (inner new ≡ inner old)
   Leaves false next old new = (stage new ≡ Closed) × (inner new ≡ outer old)
 
-  -- a new builder has written the opening
-  pub record Opens (seen : Seen W) (start : Formatter W) (opening : List ℕ) (new : Block W) : Type 0 where
+  -- a new builder over the reference of this name has written the opening
+  pub record Opens (seen : Seen W) (start : Formatter W) (name : ℕ) (opening : List ℕ) (new : Block W) : Type 0 where
+    pub same_reference : new.name ≡ name
     pub wrote : Writes seen (writer_of start) opening true (writer_of new.formatter)
     pub kept : outer new ≡ setting_of start
     pub entered : inner new ≡ entry_setting (setting_of start)
@@ -75,18 +77,21 @@ module _ {W : Type 0} where
 
   -- a call has written this part, or a beginning of it
   pub record Adds (seen : Seen W) (old : Block W) (part : List ℕ) (ok : Bool) (next : Stage) (new : Block W) : Type 0 where
+    pub same_reference : new.name ≡ old.name
     pub wrote : Writes seen (writer_of old.formatter) part ok (writer_of new.formatter)
     pub kept : outer new ≡ outer old
     pub leaves : Leaves ok next old new
 
   -- a call was handed an error: nothing is written, and the builder is closed
   pub record GivesUp (old new : Block W) : Type 0 where
+    pub same_reference : new.name ≡ old.name
     pub same_writer : writer_of new.formatter ≡ writer_of old.formatter
     pub kept : outer new ≡ outer old
     pub leaves : Leaves false Closed old new
 
   -- `finish` has written the closing, or a beginning of it
   pub record Finishes (seen : Seen W) (old : Block W) (part : List ℕ) (ok : Bool) (new : Block W) : Type 0 where
+    pub same_reference : new.name ≡ old.name
     pub wrote : Writes seen (writer_of old.formatter) part ok (writer_of new.formatter)
     pub kept : outer new ≡ outer old
     pub closed : stage new ≡ Closed

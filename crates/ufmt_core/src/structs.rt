@@ -26,8 +26,7 @@ impl<W: uWrite> Formatter<W> {
     pub fn debug_struct<'f>(&'f mut self, name: &str) -> Result<DebugStruct<'f, W>, W::Error>
         ensures* refused { sem 𝓛 (RestsIfErr (formatter.the_row W.row) self.entry (λ b. b.formatter.ghost_name) result
             (λ last. Prints W.seen self.old name.now false last)) }
-        ensures same_reference { IfOk result (λ b. b.formatter.ghost_name ≡ self.entry.ghost_name) }
-        ensures opens { IfOk result (λ b. Opens W.seen self.old name.now (block b)) }
+        ensures opens { IfOk result (λ b. Opens W.seen self.old self.entry.ghost_name name.now (block b)) }
         ensures is_open { IfOk result (λ b. IsOpen (block b)) }
     {
         self.write_str(name)?;
@@ -43,7 +42,6 @@ impl<W: uWrite> DebugStruct<'_, W> {
     /// Writes one field, `name: value`. On `Err` a beginning of it is written and the builder is closed.
     pub fn field<D: uDebug>(&mut self, name: &str, value: &D) -> Result<(), W::Error>
         requires { IsOpen (block self.old) }
-        ensures same_reference { self.new.formatter.ghost_name ≡ self.old.formatter.ghost_name }
         ensures adds { AddsField W.seen (block self.old) name.now (D.document value.now) (is_ok result) (block self.new) }
         ensures is_open { OnOk result (IsOpen (block self.new)) }
     {
@@ -56,8 +54,7 @@ impl<W: uWrite> DebugStruct<'_, W> {
         requires { IsOpen (block self.old) }
         ensures* lends { sem 𝓛 (LendsSoOk (struct_builder.the_row (record { mir = named 0; lft = [] }) W.row) (formatter.the_row W.row) self.entry result
             (λ last lent. last ≡ with_formatter (record self.old { progress = record self.old.progress { stage = Lent } }) lent)
-            (λ last. (last.formatter.ghost_name ≡ self.old.formatter.ghost_name)
-            × Adds W.seen (block self.old) (field_lead (inner (block self.old)) (place (stage (block self.old))) name.now) false Lent (block last))) }
+            (λ last. Adds W.seen (block self.old) (field_lead (inner (block self.old)) (place (stage (block self.old))) name.now) false Lent (block last))) }
         ensures begins { IfOk result (λ lent. BeginsField W.seen (block self.old) name.now lent.now) }
     {
         let written = self.formatter.write_field_lead(self.progress.stage, name);
@@ -76,7 +73,6 @@ impl<W: uWrite> DebugStruct<'_, W> {
     /// Writes what stands after a field whose `fmt` gave this answer, or passes an `Err` on.
     pub fn end_field(&mut self, answer: Result<(), W::Error>) -> Result<(), W::Error>
         requires { IsLent (block self.old) }
-        ensures same_reference { self.new.formatter.ghost_name ≡ self.old.formatter.ghost_name }
         ensures ends { OnOk answer (Adds W.seen (block self.old) (trail (inner (block self.old))) (is_ok result) Later (block self.new)) }
         ensures passes_on { PassesOn answer result (block self.old) (block self.new) }
         ensures is_open { OnOk result (IsOpen (block self.new)) }
@@ -92,7 +88,6 @@ impl<W: uWrite> DebugStruct<'_, W> {
     /// Writes `}` where there are fields, in pretty mode on a line of its own, and nothing else. The builder is then closed, and mode and depth are those from before it.
     pub fn finish(&mut self) -> Result<(), W::Error>
         requires { IsOpen (block self.old) }
-        ensures same_reference { self.new.formatter.ghost_name ≡ self.old.formatter.ghost_name }
         ensures finishes { FinishesStruct W.seen (block self.old) (is_ok result) (block self.new) }
     {
         let finished = self.formatter.write_struct_closing(self.progress);

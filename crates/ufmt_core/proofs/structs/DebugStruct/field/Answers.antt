@@ -10,7 +10,7 @@ use Rattle.ufmt_core.proofs.structs.DebugStruct.field.Goals as goal
 pub returns-in_err-begin_field-clause-adds : goal.returns-in_err-begin_field-clause-adds
 returns-in_err-begin_field-clause-adds g c =
     let left = IfErr-at_err _ c.in_err-begin_field.was c.begin_field.follows.holds-at-none in
-    rw (is_ok-err _ c.from_residual.ensures.0) record { adds = Adds-fails _ _ _ Lent Later left.1 }
+    rw (is_ok-err _ c.from_residual.ensures.0) record { adds = Adds-fails _ _ _ Lent Later left }
 
 pub returns-clause-adds : goal.returns-clause-adds
 returns-clause-adds g c =
