@@ -10,4 +10,5 @@ pub use Rattle.ufmt_core.specs.List
 pub use Rattle.ufmt_core.specs.Map
 pub use Rattle.ufmt_core.specs.Parts
 pub use Rattle.ufmt_core.specs.Set
+pub use Rattle.ufmt_core.specs.Struct
 pub use Rattle.ufmt_core.specs.Writes

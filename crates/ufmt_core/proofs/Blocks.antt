@@ -34,20 +34,21 @@ module _ {W : Type 0} where
 
   -- the builder that has lent its formatter, where that has come to this value
   abbrev pub lent : Stage → Block W → Formatter W → Block W
-  lent pending b f = record { formatter = f; progress = record b.progress { stage = pending } }
+  lent pending b f = record b { formatter = f; progress = record b.progress { stage = pending } }
 
 module _ {W : Type 0} {seen : Seen W} where
   -- two calls in a row write their parts joined
   pub Adds-then : (old mid new : Block W) {p q : List ℕ} {ok : Bool} (between next : Stage) → Adds seen old p true between mid → Adds seen mid q ok next new → Adds seen old (p ++ q) ok next new
   Adds-then old mid new {ok = ok} between next a b = record {
+    same_reference = b.same_reference ∙ a.same_reference;
     wrote = Writes-then a.wrote b.wrote;
     kept = b.kept ∙ a.kept;
     leaves = Leaves-from ok next old mid new a.leaves.1 a.kept b.leaves;
   }
 
   -- a beginning of a part is one of what begins with it
-  Adds-fails : (old new : Block W) {p : List ℕ} (q : List ℕ) (stopped next : Stage) → Adds seen old p false stopped new → Adds seen old (p ++ q) false next new
-  Adds-fails old new q stopped next a = record { wrote = Writes-fails q a.wrote; kept = a.kept; leaves = a.leaves }
+  pub Adds-fails : (old new : Block W) {p : List ℕ} (q : List ℕ) (stopped next : Stage) → Adds seen old p false stopped new → Adds seen old (p ++ q) false next new
+  Adds-fails old new q stopped next a = record { same_reference = a.same_reference; wrote = Writes-fails q a.wrote; kept = a.kept; leaves = a.leaves }
 
 -- a call that went on was handed an `Ok`
 handed_ok : {X Y E : Type 0} (answer : Result X E) (result : Result Y E) → IfErr answer (λ e. result ≡ Err e) → IsOk result → is_ok answer ≡ true
@@ -64,6 +65,7 @@ module _ {W E : Type 0} {seen : Seen W} where
       let laid = subst (λ (s : Setting). Writes seen (writer_of begun) (text s) true (writer_of ended)) p.same_setting l.wrote in
       let trailed = subst (λ (s : Setting). Writes seen (writer_of ended) (trail s) (is_ok result) (writer_of new.formatter)) same a.wrote in
       record {
+        same_reference = a.same_reference;
         wrote = Writes-then p.wrote (Writes-then laid trailed);
         kept = a.kept;
         leaves = Leaves-from (is_ok result) Later old (lent pending old ended) new same refl a.leaves;
@@ -72,14 +74,14 @@ module _ {W E : Type 0} {seen : Seen W} where
       let laid = subst (λ (s : Setting). Writes seen (writer_of begun) (text s) false (writer_of ended)) p.same_setting l.wrote in
       let stopped = subst (λ (w : W). Writes seen (writer_of old.formatter) (before ++ (text (inner old) ++ trail (inner old))) false w) (sym g.1.same_writer) (Writes-then p.wrote (Writes-fails _ laid)) in
       let failed : Adds seen old (before ++ (text (inner old) ++ trail (inner old))) false Later new =
-      record { wrote = stopped; kept = g.1.kept; leaves = g.1.leaves } in
+      record { same_reference = g.1.same_reference; wrote = stopped; kept = g.1.kept; leaves = g.1.leaves } in
       subst (λ (ok : Bool). Adds seen old (before ++ (text (inner old) ++ trail (inner old))) ok Later new) (sym (ap is_ok g.0)) failed
 
   -- begin, what the lent formatter prints and end: an entry with that text
-  pub Adds-entry : (pending : Stage) (old mid new : Block W) {begun : Formatter W} (ended : Formatter W) (text : Setting → List ℕ) (answer result : Result (Unit {0}) E) →
-      BeginsEntry seen old begun → Prints seen begun (text (setting_of begun)) (is_ok answer) ended → mid ≡ lent pending old ended →
+  pub Adds-entry : (pending : Stage) (old mid new : Block W) {begun : Formatter W} (ended : Formatter W) {before : List ℕ} (text : Setting → List ℕ) (answer result : Result (Unit {0}) E) →
+      Prints seen old.formatter before true begun → Prints seen begun (text (setting_of begun)) (is_ok answer) ended → mid ≡ lent pending old ended →
       OnOk answer (Adds seen mid (trail (inner mid)) (is_ok result) Later new) → PassesOn answer result mid new →
-      AddsEntry seen old text (is_ok result) new
+      Adds seen old (before ++ (text (inner old) ++ trail (inner old))) (is_ok result) Later new
   Adds-entry pending old mid new ended text answer result p l m a g =
       Adds-entry-lent pending old new ended _ text answer result p l
       (subst (λ (b : Block W). OnOk answer (Adds seen b (trail (inner b)) (is_ok result) Later new)) m a)
@@ -92,11 +94,11 @@ module _ {W E : Type 0} {seen : Seen W} where
   Adds-stopped-lent pending old new {begun} ended text piece rest stopped (Ok x) p l a g =
       let laid = subst (λ (s : Setting). Writes seen (writer_of begun) (text s) true (writer_of ended)) p.same_setting l.wrote in
       let whole : (text (inner old) ++ (piece ++ rest)) ++ trail (inner old) ≡ (text (inner old) ++ piece) ++ (rest ++ trail (inner old)) = simp append_assoc in
-      record { wrote = rw whole (Writes-then p.wrote (Writes-fails _ (Writes-then laid a.wrote))); kept = a.kept; leaves = a.leaves }
+      record { same_reference = a.same_reference; wrote = rw whole (Writes-then p.wrote (Writes-fails _ (Writes-then laid a.wrote))); kept = a.kept; leaves = a.leaves }
   Adds-stopped-lent pending old new {begun} ended text piece rest stopped (Err x) p l a g =
       let laid = subst (λ (s : Setting). Writes seen (writer_of begun) (text s) false (writer_of ended)) p.same_setting l.wrote in
       let whole : (text (inner old) ++ (piece ++ rest)) ++ trail (inner old) ≡ text (inner old) ++ ((piece ++ rest) ++ trail (inner old)) = append_assoc (text (inner old)) (piece ++ rest) (trail (inner old)) in
-      record { wrote = rw (whole, g.same_writer) (Writes-then p.wrote (Writes-fails _ laid)); kept = g.kept; leaves = g.leaves }
+      record { same_reference = g.same_reference; wrote = rw (whole, g.same_writer) (Writes-then p.wrote (Writes-fails _ laid)); kept = g.kept; leaves = g.leaves }
 
   -- begin, what the lent formatter prints and a call that stopped: a beginning of what begins so
   pub Adds-stopped : (pending : Stage) (old mid new : Block W) {begun : Formatter W} (ended : Formatter W) (text : Setting → List ℕ) (piece rest : List ℕ) (stopped : Stage) (answer : Result (Unit {0}) E) →

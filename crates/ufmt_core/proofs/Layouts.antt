@@ -1,80 +1,131 @@
--- The parts of a block joined are its layout, and what a builder's calls in a row lay out.
-use Rattle.std.proofs.Common.{◌≡◌, ℕ, List, [], ◌∷◌, ◌++◌, Bool, true, false, codes, refl, ap, sym, ◌∙◌, subst, map, append_assoc, append-nil}
+-- The text that is left of a block after its opening, part by part: the parts joined are its layout.
+use Rattle.std.proofs.Common.{◌≡◌, ℕ, List, [], ◌∷◌, ◌++◌, codes, refl, ap, sym, ◌∙◌, map, append_assoc, append-nil}
 use Rattle.ufmt_core.specs.declared.formatter.Setting.{Setting}
-use Rattle.ufmt_core.specs.declared.formatter.Formatter.{Formatter}
-use Rattle.ufmt_core.specs.declared.formatter.block.Stage.{Stage}
-use Rattle.ufmt_core.specs.Document.{Document, Documents, documents, list_of, map_of, pairs_of, set_of}
-use Rattle.ufmt_core.specs.Layout.{block, first, pairs, later, entries, entry, layout, opened, closed, before, after}
-use Rattle.ufmt_core.specs.Writes.{Seen, Writes}
-use Rattle.ufmt_core.specs.Formatter.{Prints, LaysOut, setting_of, writer_of, text_at, entry_setting}
-use Rattle.ufmt_core.specs.Parts.{closing, entries_part, entry_part, lead, pair_text, trail}
-use Rattle.ufmt_core.specs.Block.{Block, Opens, Adds, Finishes, inner, outer, place, stage, stage_after}
-use Rattle.ufmt_core.proofs.Writing.{Writes-then, Writes-fails}
-use Rattle.ufmt_core.proofs.Blocks.{after_entries, after_entries-place}
+use Rattle.ufmt_core.specs.Document.{Document, list_of, set_of, map_of, struct_of, Documents, no_documents, document, Pairs, no_pairs, pair, Fields, no_fields, field, documents, pairs_of}
+use Rattle.ufmt_core.specs.Layout.{Place, first, later, after, before, closed, entries, fields, gap, opened, pairs}
+use Rattle.ufmt_core.specs.Formatter.{entry_setting, text_at}
+use Rattle.ufmt_core.specs.Parts.{closing, entries_part, entry_part, field_part, pair_text, struct_closing, struct_start}
+use Rattle.ufmt_core.proofs.Blocks.{after_entries}
 
-entries-part : (s : Setting) (ds : List Document) → entries s.mode s.depth (documents ds) ≡ entries_part s later (map (text_at s) ds)
-entries-part s [] = refl
-entries-part s (d ∷ ds) = ap (λ t. entry s.mode s.depth later (layout s.mode s.depth d) ++ t) (entries-part s ds)
+-- the entries that are left to a block, and its closing: a list or a set with this bracket, a map, a struct
+pub data Left : Type 0 where
+  entries_left : List ℕ → Documents → Left
+  pairs_left : Pairs → Left
+  fields_left : Fields → Left
 
--- the text of a list, a set or a map is its opening, its entries with these texts, and its closing
-pub record HasParts (whole : Document) (opening : List ℕ) (texts : Setting → List (List ℕ)) (bracket : List ℕ) : Type 0 where
-  pub joined : (s : Setting) → text_at s whole ≡ opening ++ (entries_part (entry_setting s) first (texts (entry_setting s)) ++ closing s (after_entries first (texts (entry_setting s))) bracket)
+abbrev pub entries_text : List ℕ → Setting → Setting → Place → Documents → List ℕ
+entries_text bracket o i p no_documents = closing o p bracket
+entries_text bracket o i p (document d ds) = entry_part i p (text_at i d) ++ entries_text bracket o i later ds
 
-list-parts_of : (s : Setting) (ds : List Document) → text_at s (list_of (documents ds)) ≡ codes "[" ++ (entries_part (entry_setting s) first (map (text_at (entry_setting s)) ds) ++ closing s (after_entries first (map (text_at (entry_setting s)) ds)) (codes "]"))
-list-parts_of s [] = refl
-list-parts_of s (d ∷ ds) = rw (entries-part (entry_setting s) ds) (simp append_assoc)
+abbrev pub pairs_text : Setting → Setting → Place → Pairs → List ℕ
+pairs_text o i p no_pairs = closing o p (codes "}")
+pairs_text o i p (pair key value ps) = entry_part i p (pair_text i (key, value)) ++ pairs_text o i later ps
 
-pub list-parts : (ds : List Document) → HasParts (list_of (documents ds)) (codes "[") (λ s. map (text_at s) ds) (codes "]")
-list-parts ds = record { joined = λ s. list-parts_of s ds }
+abbrev pub fields_text : Setting → Setting → Place → Fields → List ℕ
+fields_text o i p no_fields = struct_closing o p
+fields_text o i p (field label d fs) = field_part i p label (text_at i d) ++ fields_text o i later fs
 
-set-parts_of : (s : Setting) (ds : List Document) → text_at s (set_of (documents ds)) ≡ codes "{" ++ (entries_part (entry_setting s) first (map (text_at (entry_setting s)) ds) ++ closing s (after_entries first (map (text_at (entry_setting s)) ds)) (codes "}"))
-set-parts_of s [] = refl
-set-parts_of s (d ∷ ds) = rw (entries-part (entry_setting s) ds) (simp append_assoc)
+-- the text of what is left, where the block stands at the first mode and depth and its entries at the second
+abbrev pub left_text : Left → Setting → Setting → Place → List ℕ
+left_text (entries_left bracket ds) o i p = entries_text bracket o i p ds
+left_text (pairs_left ps) o i p = pairs_text o i p ps
+left_text (fields_left fs) o i p = fields_text o i p fs
 
-pub set-parts : (ds : List Document) → HasParts (set_of (documents ds)) (codes "{") (λ s. map (text_at s) ds) (codes "}")
-set-parts ds = record { joined = λ s. set-parts_of s ds }
+-- the document's text is the opening and what is left then
+pub record IsBlock (whole : Document) (opening : List ℕ) (left : Left) : Type 0 where
+  pub joined : (s : Setting) → text_at s whole ≡ opening ++ left_text left s (entry_setting s) first
 
-pairs-part : (s : Setting) (ps : List (Document × Document)) → pairs s.mode s.depth (pairs_of ps) ≡ entries_part s later (map (pair_text s) ps)
-pairs-part s [] = refl
-pairs-part s (p ∷ ps) = ap (λ t. entry s.mode s.depth later (pair_text s p) ++ t) (pairs-part s ps)
+-- what is left begins with this part, and then more is left
+pub record Splits (left more : Left) (part : Setting → Place → List ℕ) (next : Place → Place) : Type 0 where
+  pub joined : (o i : Setting) (p : Place) → left_text left o i p ≡ part i p ++ left_text more o i (next p)
 
-map-parts_of : (s : Setting) (ps : List (Document × Document)) → text_at s (map_of (pairs_of ps)) ≡ codes "{" ++ (entries_part (entry_setting s) first (map (pair_text (entry_setting s)) ps) ++ closing s (after_entries first (map (pair_text (entry_setting s)) ps)) (codes "}"))
-map-parts_of s [] = refl
-map-parts_of s (p ∷ ps) = rw (pairs-part (entry_setting s) ps) (simp append_assoc)
+-- the parts of a first entry, joined in another order
+regroup-entry : (opening start line lead text trail more end : List ℕ) →
+    (opening ++ start) ++ (line ++ ((lead ++ (text ++ trail)) ++ more ++ end)) ≡ opening ++ ((start ++ (line ++ lead)) ++ (text ++ trail) ++ (more ++ end))
+regroup-entry opening start line lead text trail more end = simp append_assoc
 
-pub map-parts : (ps : List (Document × Document)) → HasParts (map_of (pairs_of ps)) (codes "{") (λ s. map (pair_text s) ps) (codes "}")
-map-parts ps = record { joined = λ s. map-parts_of s ps }
+-- the same of a first field
+regroup-field : (opening start line lead label colon text trail more end : List ℕ) →
+    (opening ++ start) ++ (line ++ ((lead ++ ((label ++ (colon ++ text)) ++ trail)) ++ more ++ end)) ≡ opening ++ (((start ++ (line ++ lead)) ++ (label ++ colon)) ++ (text ++ trail) ++ (more ++ end))
+regroup-field opening start line lead label colon text trail more end = simp append_assoc
 
-module _ {W : Type 0} {seen : Seen W} {start last : Formatter W} {whole : Document} {opening : List ℕ} {texts : Setting → List (List ℕ)} {bracket : List ℕ} (parts : HasParts whole opening texts bracket) where
-  -- a builder that could not begin
-  pub LaysOut-refused : Prints seen start opening false last → LaysOut seen start whole false last
-  LaysOut-refused p = record { prints = record { wrote = rw (parts.joined (setting_of start)) (Writes-fails _ p.wrote); same_setting = p.same_setting } }
+-- lists and sets
 
-  -- a builder that stopped in its entries
-  pub LaysOut-stopped : (b b' : Block W) (next : Stage) → Opens seen start opening b →
-      Adds seen b (entries_part (inner b) (place (stage b)) (texts (inner b))) false next b' → last ≡ b'.formatter → LaysOut seen start whole false last
-  LaysOut-stopped b b' next o a e =
-      let text : text_at (setting_of start) whole ≡ opening ++ (entries_part (inner b) (place (stage b)) (texts (inner b)) ++ closing (setting_of start) (after_entries first (texts (entry_setting (setting_of start)))) bracket) =
-      rw (o.entered, o.begins) (parts.joined (setting_of start)) in
-      record {
-        prints = record {
-          wrote = rw (text, e) (Writes-then o.wrote (Writes-fails _ a.wrote));
-          same_setting = ap setting_of e ∙ a.leaves.1 ∙ o.kept;
-        };
-      }
+later-entries : (bracket : List ℕ) (s : Setting) (ds : Documents) → entries_text bracket s (entry_setting s) later ds ≡ entries s.mode (entry_setting s).depth ds ++ (closed s.mode s.depth ++ bracket)
+later-entries bracket s no_documents = refl
+later-entries bracket s (document d ds) = rw (later-entries bracket s ds) (simp append_assoc)
 
-  -- a builder that came to its end
-  pub LaysOut-finished : (b b' b'' : Block W) (ok : Bool) → Opens seen start opening b →
-      Adds seen b (entries_part (inner b) (place (stage b)) (texts (inner b))) true (stage_after (stage b) (texts (inner b))) b' →
-      Finishes seen b' (closing (outer b') (place (stage b')) bracket) ok b'' → last ≡ b''.formatter → LaysOut seen start whole ok last
-  LaysOut-finished b b' b'' ok o a f e =
-      let at_place : place (stage b') ≡ after_entries first (texts (inner b)) =
-      ap place a.leaves.0 ∙ after_entries-place (stage b) (texts (inner b)) ∙ ap (λ (s : Stage). after_entries (place s) (texts (inner b))) o.begins in
-      let text : text_at (setting_of start) whole ≡ opening ++ (entries_part (inner b) (place (stage b)) (texts (inner b)) ++ closing (outer b') (place (stage b')) bracket) =
-      rw (at_place, a.kept, o.kept, o.entered, o.begins) (parts.joined (setting_of start)) in
-      record {
-        prints = record {
-          wrote = rw (text, e) (Writes-then o.wrote (Writes-then a.wrote f.wrote));
-          same_setting = ap setting_of e ∙ f.restored ∙ a.kept ∙ o.kept;
-        };
-      }
+list-is_block_at : (ds : Documents) (s : Setting) → text_at s (list_of ds) ≡ codes "[" ++ entries_text (codes "]") s (entry_setting s) first ds
+list-is_block_at no_documents s = refl
+list-is_block_at (document d ds) s =
+    rw (later-entries (codes "]") s ds) (regroup-entry (codes "[") [] (opened s.mode) (before s.mode (entry_setting s).depth first) (text_at (entry_setting s) d) (after s.mode)
+    (entries s.mode (entry_setting s).depth ds) (closed s.mode s.depth ++ codes "]"))
+
+pub list-is_block : (ds : Documents) → IsBlock (list_of ds) (codes "[") (entries_left (codes "]") ds)
+list-is_block ds = record { joined = list-is_block_at ds }
+
+set-is_block_at : (ds : Documents) (s : Setting) → text_at s (set_of ds) ≡ codes "{" ++ entries_text (codes "}") s (entry_setting s) first ds
+set-is_block_at no_documents s = refl
+set-is_block_at (document d ds) s =
+    rw (later-entries (codes "}") s ds) (regroup-entry (codes "{") [] (opened s.mode) (before s.mode (entry_setting s).depth first) (text_at (entry_setting s) d) (after s.mode)
+    (entries s.mode (entry_setting s).depth ds) (closed s.mode s.depth ++ codes "}"))
+
+pub set-is_block : (ds : Documents) → IsBlock (set_of ds) (codes "{") (entries_left (codes "}") ds)
+set-is_block ds = record { joined = set-is_block_at ds }
+
+pub entry-splits : (bracket : List ℕ) (d : Document) (ds : Documents) → Splits (entries_left bracket (document d ds)) (entries_left bracket ds) (λ i p. entry_part i p (text_at i d)) (λ p. later)
+entry-splits bracket d ds = record { joined = λ o i p. refl }
+
+entries-split_at : (bracket : List ℕ) (ds : List Document) (o i : Setting) (p : Place) →
+    entries_text bracket o i p (documents ds) ≡ entries_part i p (map (text_at i) ds) ++ entries_text bracket o i (after_entries p ds) no_documents
+entries-split_at bracket [] o i p = refl
+entries-split_at bracket (d ∷ []) o i p = ap (λ t. t ++ closing o later bracket) (sym (append-nil (entry_part i p (text_at i d))))
+entries-split_at bracket (d ∷ e ∷ ds) o i p = rw (entries-split_at bracket (e ∷ ds) o i later) (sym (append_assoc (entry_part i p (text_at i d)) (entries_part i later (map (text_at i) (e ∷ ds))) (closing o later bracket)))
+
+pub entries-split : (bracket : List ℕ) (ds : List Document) → Splits (entries_left bracket (documents ds)) (entries_left bracket no_documents) (λ i p. entries_part i p (map (text_at i) ds)) (λ p. after_entries p ds)
+entries-split bracket ds = record { joined = entries-split_at bracket ds }
+
+-- maps
+
+later-pairs : (s : Setting) (ps : Pairs) → pairs_text s (entry_setting s) later ps ≡ pairs s.mode (entry_setting s).depth ps ++ (closed s.mode s.depth ++ codes "}")
+later-pairs s no_pairs = refl
+later-pairs s (pair key value ps) = rw (later-pairs s ps) (simp append_assoc)
+
+map-is_block_at : (ps : Pairs) (s : Setting) → text_at s (map_of ps) ≡ codes "{" ++ pairs_text s (entry_setting s) first ps
+map-is_block_at no_pairs s = refl
+map-is_block_at (pair key value ps) s =
+    rw (later-pairs s ps) (regroup-entry (codes "{") [] (opened s.mode) (before s.mode (entry_setting s).depth first) (pair_text (entry_setting s) (key, value)) (after s.mode)
+    (pairs s.mode (entry_setting s).depth ps) (closed s.mode s.depth ++ codes "}"))
+
+pub map-is_block : (ps : Pairs) → IsBlock (map_of ps) (codes "{") (pairs_left ps)
+map-is_block ps = record { joined = map-is_block_at ps }
+
+pub pair-splits : (key value : Document) (ps : Pairs) → Splits (pairs_left (pair key value ps)) (pairs_left ps) (λ i p. entry_part i p (pair_text i (key, value))) (λ p. later)
+pair-splits key value ps = record { joined = λ o i p. refl }
+
+pairs-split_at : (ps : List (Document × Document)) (o i : Setting) (p : Place) →
+    pairs_text o i p (pairs_of ps) ≡ entries_part i p (map (pair_text i) ps) ++ pairs_text o i (after_entries p ps) no_pairs
+pairs-split_at [] o i p = refl
+pairs-split_at (d ∷ []) o i p = ap (λ t. t ++ closing o later (codes "}")) (sym (append-nil (entry_part i p (pair_text i d))))
+pairs-split_at (d ∷ e ∷ ps) o i p = rw (pairs-split_at (e ∷ ps) o i later) (sym (append_assoc (entry_part i p (pair_text i d)) (entries_part i later (map (pair_text i) (e ∷ ps))) (closing o later (codes "}"))))
+
+pub pairs-split : (ps : List (Document × Document)) → Splits (pairs_left (pairs_of ps)) (pairs_left no_pairs) (λ i p. entries_part i p (map (pair_text i) ps)) (λ p. after_entries p ps)
+pairs-split ps = record { joined = pairs-split_at ps }
+
+-- structs
+
+later-fields : (s : Setting) (fs : Fields) → fields_text s (entry_setting s) later fs ≡ fields s.mode (entry_setting s).depth fs ++ (closed s.mode s.depth ++ (gap s.mode ++ codes "}"))
+later-fields s no_fields = refl
+later-fields s (field label d fs) = rw (later-fields s fs) (simp append_assoc)
+
+struct-is_block_at : (name : List ℕ) (fs : Fields) (s : Setting) → text_at s (struct_of name fs) ≡ name ++ fields_text s (entry_setting s) first fs
+struct-is_block_at name no_fields s = sym (append-nil name)
+struct-is_block_at name (field label d fs) s =
+    rw (later-fields s fs) (regroup-field name (struct_start s.mode) (opened s.mode) (before s.mode (entry_setting s).depth first) label (codes ": ") (text_at (entry_setting s) d) (after s.mode)
+    (fields s.mode (entry_setting s).depth fs) (closed s.mode s.depth ++ (gap s.mode ++ codes "}")))
+
+pub struct-is_block : (name : List ℕ) (fs : Fields) → IsBlock (struct_of name fs) name (fields_left fs)
+struct-is_block name fs = record { joined = struct-is_block_at name fs }
+
+pub field-splits : (label : List ℕ) (d : Document) (fs : Fields) → Splits (fields_left (field label d fs)) (fields_left fs) (λ i p. field_part i p label (text_at i d)) (λ p. later)
+field-splits label d fs = record { joined = λ o i p. refl }

@@ -4,6 +4,7 @@ pub mod Indentation
 pub mod Items
 pub mod Layouts
 pub mod Numerals
+pub mod Printing
 pub mod WorkedLayouts
 pub mod Writing
 pub mod WrittenDigits

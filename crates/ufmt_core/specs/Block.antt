@@ -6,10 +6,11 @@ use Rattle.ufmt_core.specs.declared.formatter.Formatter.{Formatter}
 use Rattle.ufmt_core.specs.declared.formatter.block.Stage.{Stage}
 use Rattle.ufmt_core.specs.declared.formatter.block.Stage.TheVariants.{First, Later, Lent, LentValue, Closed}
 use Rattle.ufmt_core.specs.declared.formatter.block.Progress.{Progress}
-use Rattle.ufmt_core.specs.Parts.{closing, entries_part, entry_part, lead}
+use Rattle.ufmt_core.specs.Document.{Document}
+use Rattle.ufmt_core.specs.Parts.{closing, entries_part, entry_part, field_lead, field_part, lead, struct_closing}
 use Rattle.ufmt_core.specs.Layout.{Place, first, later}
 use Rattle.ufmt_core.specs.Writes.{Seen, Writes}
-use Rattle.ufmt_core.specs.Formatter.{Prints, writer_of, setting_of, entry_setting}
+use Rattle.ufmt_core.specs.Formatter.{Prints, writer_of, setting_of, entry_setting, text_at}
 
 -- whether the next entry is the first
 abbrev pub place : Stage → Place
@@ -32,9 +33,10 @@ abbrev pub stage_after : {X : Type 0} → Stage → List X → Stage
 stage_after s [] = s
 stage_after s (x ∷ xs) = Later
 
--- a builder as contracts see it: the formatter that it writes to, and how far it is
+-- a builder as contracts see it: the formatter that it writes to, the name of its reference to it, and how far it is
 pub record Block (W : Type 0) : Type 0 where
   pub formatter : Formatter W
+  pub name : ℕ
   pub progress : Progress
 
 -- the mode and depth from before the builder
@@ -51,14 +53,23 @@ inner b = setting_of b.formatter
 abbrev pub IsOpen : {W : Type 0} → Block W → Type 0
 IsOpen b = is_open (stage b) ≡ true
 
+-- the formatter is lent for an entry, of a map for the key
+abbrev pub IsLent : {W : Type 0} → Block W → Type 0
+IsLent b = stage b ≡ Lent
+
+-- the formatter is lent for the value of a map's entry
+abbrev pub IsLentForValue : {W : Type 0} → Block W → Type 0
+IsLentForValue b = stage b ≡ LentValue
+
 module _ {W : Type 0} where
   -- what a call leaves: on `Ok` this stage and the entries' mode and depth, on `Err` a closed builder and the mode and depth from before it
   abbrev pub Leaves : Bool → Stage → Block W → Block W → Type 0
   Leaves true next old new = (stage new ≡ next) × (inner new ≡ inner old)
   Leaves false next old new = (stage new ≡ Closed) × (inner new ≡ outer old)
 
-  -- a new builder has written the opening
-  pub record Opens (seen : Seen W) (start : Formatter W) (opening : List ℕ) (new : Block W) : Type 0 where
+  -- a new builder over the reference of this name has written the opening
+  pub record Opens (seen : Seen W) (start : Formatter W) (name : ℕ) (opening : List ℕ) (new : Block W) : Type 0 where
+    pub same_reference : new.name ≡ name
     pub wrote : Writes seen (writer_of start) opening true (writer_of new.formatter)
     pub kept : outer new ≡ setting_of start
     pub entered : inner new ≡ entry_setting (setting_of start)
@@ -66,18 +77,21 @@ module _ {W : Type 0} where
 
   -- a call has written this part, or a beginning of it
   pub record Adds (seen : Seen W) (old : Block W) (part : List ℕ) (ok : Bool) (next : Stage) (new : Block W) : Type 0 where
+    pub same_reference : new.name ≡ old.name
     pub wrote : Writes seen (writer_of old.formatter) part ok (writer_of new.formatter)
     pub kept : outer new ≡ outer old
     pub leaves : Leaves ok next old new
 
   -- a call was handed an error: nothing is written, and the builder is closed
   pub record GivesUp (old new : Block W) : Type 0 where
+    pub same_reference : new.name ≡ old.name
     pub same_writer : writer_of new.formatter ≡ writer_of old.formatter
     pub kept : outer new ≡ outer old
     pub leaves : Leaves false Closed old new
 
   -- `finish` has written the closing, or a beginning of it
   pub record Finishes (seen : Seen W) (old : Block W) (part : List ℕ) (ok : Bool) (new : Block W) : Type 0 where
+    pub same_reference : new.name ≡ old.name
     pub wrote : Writes seen (writer_of old.formatter) part ok (writer_of new.formatter)
     pub kept : outer new ≡ outer old
     pub closed : stage new ≡ Closed
@@ -99,6 +113,18 @@ module _ {W : Type 0} where
   -- a list, a set or a map was closed with this bracket
   abbrev pub FinishesWith : Seen W → Block W → List ℕ → Bool → Block W → Type 0
   FinishesWith seen old bracket ok new = Finishes seen old (closing (outer old) (place (stage old)) bracket) ok new
+
+  -- one field was added to a struct
+  pub record AddsField (seen : Seen W) (old : Block W) (label : List ℕ) (value : Document) (ok : Bool) (new : Block W) : Type 0 where
+    pub adds : Adds seen old (field_part (inner old) (place (stage old)) label (text_at (inner old) value)) ok Later new
+
+  -- what stands before a field's value was written, and the formatter lent for the value
+  abbrev pub BeginsField : Seen W → Block W → List ℕ → Formatter W → Type 0
+  BeginsField seen old label lent = Prints seen old.formatter (field_lead (inner old) (place (stage old)) label) true lent
+
+  -- a struct was closed
+  pub record FinishesStruct (seen : Seen W) (old : Block W) (ok : Bool) (new : Block W) : Type 0 where
+    pub finishes : Finishes seen old (struct_closing (outer old) (place (stage old))) ok new
 
 module _ {W U T D : Type 0} where
   -- an entry was added for each item that the iterator gave, and on `Ok` it had no more

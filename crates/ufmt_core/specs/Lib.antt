@@ -7,4 +7,5 @@ pub mod List
 pub mod Map
 pub mod Parts
 pub mod Set
+pub mod Struct
 pub mod Writes

@@ -5,7 +5,7 @@ use Rattle.ufmt_core.specs.Block.{Block}
 
 module _ {W : Type 0} where
   abbrev pub block : DebugList W → Block W
-  block b = record { formatter = b.formatter.now; progress = b.progress }
+  block b = record { formatter = b.formatter.now; name = b.formatter.ghost_name; progress = b.progress }
 
   -- the builder whose formatter has come to this value
   abbrev pub with_formatter : DebugList W → Formatter W → DebugList W

@@ -1,14 +1,19 @@
 -- The parts of a block, of which a builder's calls write one each.
 use Rattle.std.specs.Prelude.{ℕ, List, [], ◌∷◌, ◌++◌, codes}
+use Rattle.ufmt_core.specs.declared.formatter.Mode.{Mode}
 use Rattle.ufmt_core.specs.declared.formatter.Setting.{Setting}
 use Rattle.ufmt_core.specs.Document.{Document}
 use Rattle.ufmt_core.specs.Formatter.{text_at}
-use Rattle.ufmt_core.specs.Layout.{Place, first, later, before, after, opened, closed}
+use Rattle.ufmt_core.specs.Layout.{Place, first, later, before, after, opened, closed, gap}
 
--- what stands before an entry, where the entries have this mode and depth
+-- what stands before an entry, where the entries have this mode and depth, and `start` stands before the first
+abbrev pub lead_after : List ℕ → Setting → Place → List ℕ
+lead_after start s first = start ++ (opened s.mode ++ before s.mode s.depth first)
+lead_after start s later = before s.mode s.depth later
+
+-- what stands before an entry of a list, a set or a map
 abbrev pub lead : Setting → Place → List ℕ
-lead s first = opened s.mode ++ before s.mode s.depth first
-lead s later = before s.mode s.depth later
+lead s place = lead_after [] s place
 
 -- what stands after an entry
 abbrev pub trail : Setting → List ℕ
@@ -31,3 +36,20 @@ pair_text s p = text_at s p.0 ++ (codes ": " ++ text_at s p.1)
 abbrev pub closing : Setting → Place → List ℕ → List ℕ
 closing s first bracket = bracket
 closing s later bracket = closed s.mode s.depth ++ bracket
+
+-- what stands before the first field of a struct
+abbrev pub struct_start : Mode → List ℕ
+struct_start mode = codes " {" ++ gap mode
+
+-- what stands before the value of a struct's field
+abbrev pub field_lead : Setting → Place → List ℕ → List ℕ
+field_lead s place label = lead_after (struct_start s.mode) s place ++ (label ++ codes ": ")
+
+-- a field of a struct, with this text
+abbrev pub field_part : Setting → Place → List ℕ → List ℕ → List ℕ
+field_part s place label text = field_lead s place label ++ (text ++ trail s)
+
+-- the closing of a struct that stands at this mode and depth: nothing where it has no fields
+abbrev pub struct_closing : Setting → Place → List ℕ
+struct_closing s first = []
+struct_closing s later = closing s later (gap s.mode ++ codes "}")

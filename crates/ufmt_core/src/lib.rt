@@ -13,6 +13,7 @@ mod nonzero;
 mod set;
 mod signed;
 mod std_impls;
+mod structs;
 #[cfg(test)]
 mod tests;
 pub mod unsigned;
@@ -22,6 +23,7 @@ pub use formatter::Formatter;
 pub use list::DebugList;
 pub use map::DebugMap;
 pub use set::DebugSet;
+pub use structs::DebugStruct;
 pub use write::uWrite;
 
 /// A value that prints itself as Rust's `{:?}` and `{:#?}` would.

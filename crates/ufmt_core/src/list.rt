@@ -8,7 +8,7 @@ ghost use Rattle.ufmt_core.specs.declared.formatter.block.Stage.TheVariants.{Lat
 ghost use Rattle.ufmt_core.specs.Document.{Document, documents, list_of};
 ghost use Rattle.ufmt_core.specs.Formatter.{LaysOut, Prints, text_at};
 ghost use Rattle.ufmt_core.specs.Parts.{lead, trail};
-ghost use Rattle.ufmt_core.specs.Block.{Adds, AddsEntries, AddsEntry, BeginsEntry, FinishesWith, IsOpen, Opens, PassesOn, inner, place, stage};
+ghost use Rattle.ufmt_core.specs.Block.{Adds, AddsEntries, AddsEntry, BeginsEntry, FinishesWith, IsLent, IsOpen, Opens, PassesOn, inner, place, stage};
 ghost use Rattle.ufmt_core.specs.List.{block, with_formatter};
 
 use crate::formatter::Formatter;
@@ -28,8 +28,7 @@ impl<W: uWrite> Formatter<W> {
     pub fn debug_list<'f>(&'f mut self) -> Result<DebugList<'f, W>, W::Error>
         ensures* refused { sem 𝓛 (RestsIfErr (formatter.the_row W.row) self.entry (λ b. b.formatter.ghost_name) result
             (λ last. Prints W.seen self.old (codes "[") false last)) }
-        ensures same_reference { IfOk result (λ b. b.formatter.ghost_name ≡ self.entry.ghost_name) }
-        ensures opens { IfOk result (λ b. Opens W.seen self.old (codes "[") (block b)) }
+        ensures opens { IfOk result (λ b. Opens W.seen self.old self.entry.ghost_name (codes "[") (block b)) }
         ensures is_open { IfOk result (λ b. IsOpen (block b)) }
     {
         self.write_str("[")?;
@@ -45,7 +44,6 @@ impl<W: uWrite> DebugList<'_, W> {
     /// Writes one entry. On `Err` a beginning of it is written and the builder is closed.
     pub fn entry<D: uDebug>(&mut self, entry: &D) -> Result<(), W::Error>
         requires { IsOpen (block self.old) }
-        ensures same_reference { self.new.formatter.ghost_name ≡ self.old.formatter.ghost_name }
         ensures adds { AddsEntry W.seen (block self.old) (λ s. text_at s (D.document entry.now)) (is_ok result) (block self.new) }
         ensures is_open { OnOk result (IsOpen (block self.new)) }
     {
@@ -62,7 +60,6 @@ impl<W: uWrite> DebugList<'_, W> {
         I::IntoIter: Drop,
         requires is_open { IsOpen (block self.old) }
         requires ends { IsFiniteIterable I.into_iter_gives I.IntoIter.can_next I.IntoIter.remaining entries }
-        ensures same_reference { self.new.formatter.ghost_name ≡ self.old.formatter.ghost_name }
         ensures adds { AddsEntries W.seen I.into_iter_gives I.IntoIter.next_gives (λ s x. text_at s (D.document x)) entries (block self.old) (is_ok result) (block self.new) }
         ensures is_open { OnOk result (IsOpen (block self.new)) }
     {
@@ -73,12 +70,11 @@ impl<W: uWrite> DebugList<'_, W> {
     }
 
     /// Writes what stands before an entry, and lends the formatter for it.
-    fn begin_entry(&mut self) -> Result<&mut Formatter<W>, W::Error>
+    pub fn begin_entry(&mut self) -> Result<&mut Formatter<W>, W::Error>
         requires { IsOpen (block self.old) }
         ensures* lends { sem 𝓛 (LendsSoOk (list.the_row (record { mir = named 0; lft = [] }) W.row) (formatter.the_row W.row) self.entry result
             (λ last lent. last ≡ with_formatter (record self.old { progress = record self.old.progress { stage = Lent } }) lent)
-            (λ last. (last.formatter.ghost_name ≡ self.old.formatter.ghost_name)
-            × Adds W.seen (block self.old) (lead (inner (block self.old)) (place (stage (block self.old)))) false Lent (block last))) }
+            (λ last. Adds W.seen (block self.old) (lead (inner (block self.old)) (place (stage (block self.old)))) false Lent (block last))) }
         ensures begins { IfOk result (λ lent. BeginsEntry W.seen (block self.old) lent.now) }
     {
         let written = self.formatter.write_lead(self.progress.stage);
@@ -95,8 +91,8 @@ impl<W: uWrite> DebugList<'_, W> {
     }
 
     /// Writes what stands after an entry whose `fmt` gave this answer, or passes an `Err` on.
-    fn end_entry(&mut self, answer: Result<(), W::Error>) -> Result<(), W::Error>
-        ensures same_reference { self.new.formatter.ghost_name ≡ self.old.formatter.ghost_name }
+    pub fn end_entry(&mut self, answer: Result<(), W::Error>) -> Result<(), W::Error>
+        requires { IsLent (block self.old) }
         ensures ends { OnOk answer (Adds W.seen (block self.old) (trail (inner (block self.old))) (is_ok result) Later (block self.new)) }
         ensures passes_on { PassesOn answer result (block self.old) (block self.new) }
         ensures is_open { OnOk result (IsOpen (block self.new)) }
@@ -112,7 +108,6 @@ impl<W: uWrite> DebugList<'_, W> {
     /// Writes `]`. The builder is then closed, and mode and depth are those from before it.
     pub fn finish(&mut self) -> Result<(), W::Error>
         requires { IsOpen (block self.old) }
-        ensures same_reference { self.new.formatter.ghost_name ≡ self.old.formatter.ghost_name }
         ensures finishes { FinishesWith W.seen (block self.old) (codes "]") (is_ok result) (block self.new) }
     {
         let finished = self.formatter.write_closing(self.progress, "]");

@@ -5,6 +5,7 @@ use std::process::Abort;
 
 mod collections;
 mod formatters;
+mod structs;
 
 fn plain<T: uDebug>(alloc: Global, value: &T) -> Result<String, AllocError> {
     let mut text = String::new(alloc);

@@ -1,8 +1,8 @@
 //! What the five builders share.
 ghost use Rattle.std.specs.Prelude.{◌≡◌, ℕ, is_ok, MatchBool};
-ghost use Rattle.ufmt_core.specs.Layout.{closed, indentation};
-ghost use Rattle.ufmt_core.specs.Parts.{lead, trail, closing};
-ghost use Rattle.ufmt_core.specs.Formatter.{Prints, writer_of, setting_of, entry_setting};
+ghost use Rattle.ufmt_core.specs.Layout.{closed, gap, indentation};
+ghost use Rattle.ufmt_core.specs.Parts.{closing, field_lead, lead, lead_after, struct_closing, struct_start, trail};
+ghost use Rattle.ufmt_core.specs.Formatter.{Prints, mode_of, writer_of, setting_of, entry_setting};
 ghost use Rattle.ufmt_core.specs.Block.{place};
 ghost use Rattle.ufmt_core.specs.declared.formatter.block.Stage.TheVariants.{First, Closed};
 
@@ -115,6 +115,60 @@ impl<W: uWrite> Formatter<W> {
         match outer.mode {
             Mode::Plain => Ok(()),
             Mode::Pretty => self.indent(outer.depth),
+        }
+    }
+
+    /// What stands before the value of a struct's field: the first of its block, or a later one.
+    pub(crate) fn write_field_lead(&mut self, stage: Stage, name: &str) -> Result<(), W::Error>
+        ensures { Prints W.seen self.old (field_lead (setting_of self.old) (place stage) name.now) (is_ok result) self.new }
+    {
+        self.write_struct_lead(stage)?;
+        self.write_str(name)?;
+        self.write_str(": ")
+    }
+
+    // What stands before a field of a struct.
+    fn write_struct_lead(&mut self, stage: Stage) -> Result<(), W::Error>
+        ensures { Prints W.seen self.old (lead_after (struct_start (mode_of self.old)) (setting_of self.old) (place stage)) (is_ok result) self.new }
+    {
+        match stage {
+            Stage::First => {
+                self.write_struct_start()?;
+                self.write_lead(stage)
+            }
+            _ => self.write_lead(stage),
+        }
+    }
+
+    // What stands before the first field of a struct.
+    fn write_struct_start(&mut self) -> Result<(), W::Error>
+        ensures { Prints W.seen self.old (struct_start (mode_of self.old)) (is_ok result) self.new }
+    {
+        self.write_str(" {")?;
+        self.write_gap(self.setting.mode)
+    }
+
+    // What stands inside the braces of a struct.
+    fn write_gap(&mut self, mode: Mode) -> Result<(), W::Error>
+        ensures { Prints W.seen self.old (gap mode) (is_ok result) self.new }
+    {
+        match mode {
+            Mode::Plain => self.write_str(" "),
+            Mode::Pretty => Ok(()),
+        }
+    }
+
+    /// The closing brace of a struct, where it has fields.
+    pub(crate) fn write_struct_closing(&mut self, progress: Progress) -> Result<(), W::Error>
+        ensures { Prints W.seen self.old (struct_closing progress.outer (place progress.stage)) (is_ok result) self.new }
+    {
+        match progress.stage {
+            Stage::First => Ok(()),
+            _ => {
+                self.write_closing_lead(progress.outer)?;
+                self.write_gap(progress.outer.mode)?;
+                self.write_str("}")
+            }
         }
     }
 

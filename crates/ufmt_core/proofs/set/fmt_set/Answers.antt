@@ -1,26 +1,18 @@
-use Rattle.std.proofs.Common.{rules}
-use Rattle.std.proofs.lemmas.Result.{IfErr-at_err}
-use Rattle.ufmt_core.specs.Block.{inner}
 use Rattle.ufmt_core.specs.Formatter.{text_at}
-use Rattle.ufmt_core.specs.Set.{block}
-use Rattle.ufmt_core.proofs.Blocks.{Adds-from_entries, stage_after-map}
+use Rattle.ufmt_core.proofs.Blocks.{Adds-from_entries}
+use Rattle.ufmt_core.proofs.Printing.{set_refused, set_opened, entries_added, entries_stopped, entries_finished}
 use Rattle.ufmt_core.proofs.Writing.{LaysOut-err}
-use Rattle.ufmt_core.proofs.Layouts.{LaysOut-refused, LaysOut-stopped, LaysOut-finished, set-parts}
 use Rattle.ufmt_core.proofs.set.fmt_set.Goals as goal
 
 pub returns-in_err-set : goal.returns-in_err-set
-returns-in_err-set g c ds yields =
-    LaysOut-err _ c.from_residual.ensures.0 (LaysOut-refused (set-parts ds) (IfErr-at_err _ c.in_err-set.was c.debug_set.follows.holds-at-none))
+returns-in_err-set g c ds yields = set_refused _ c.from_residual.ensures.0 c.in_err-set.was c.debug_set.follows.holds-at-none
 
 pub returns-in_err-entries : goal.returns-in_err-entries
 returns-in_err-entries g c ds yields =
     LaysOut-err _ c.from_residual-in_err-entries.ensures.0
-    (LaysOut-stopped (set-parts ds) (block c.in_ok-set.set) (block c.entries.new.self) _ c.in_ok-set.ensures.opens
-    (Adds-from_entries g.D.uDebug.document text_at c.args.items ds _ _ _ yields c.in_err-entries.ensures.adds) (search rules))
+    (set_opened c.in_ok-set.ensures.opens (entries_stopped ds (Adds-from_entries g.D.uDebug.document text_at c.args.items ds _ _ _ yields c.in_err-entries.ensures.adds) (search)))
 
 pub returns : goal.returns
 returns g c ds yields =
-    let b = block c.in_ok-set.set in
-    LaysOut-finished (set-parts ds) b (block c.entries.new.self) (block c.finish.new.self) _ c.in_ok-set.ensures.opens
-    (rw (stage_after-map (text_at (inner b))) (Adds-from_entries g.D.uDebug.document text_at c.args.items ds _ _ _ yields c.in_ok-entries.ensures.adds))
-    c.finish.ensures.finishes (search rules)
+    set_opened c.in_ok-set.ensures.opens
+    (entries_added ds (Adds-from_entries g.D.uDebug.document text_at c.args.items ds _ _ _ yields c.in_ok-entries.ensures.adds) (entries_finished c.finish.ensures.finishes (search)))

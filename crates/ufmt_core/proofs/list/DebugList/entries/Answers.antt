@@ -22,6 +22,5 @@ loop-entry-preserved g c = record {
   can = search rules;
   ends = search rules;
   is_open = search rules;
-  same_reference = search rules;
   adds = Adds-more _ _ _ (λ s x. text_at s (g.D.uDebug.document x)) _ _ _ c.loop-entry.invariant.adds c.in_ok-entry.ensures.adds;
 }

@@ -22,6 +22,5 @@ loop-key-preserved g c = record {
   can = search rules;
   ends = search rules;
   is_open = search rules;
-  same_reference = search rules;
   adds = Adds-more _ _ _ (λ s x. pair_text s (g.K.uDebug.document x.0, g.V.uDebug.document x.1)) _ _ _ c.loop-key.invariant.adds c.in_ok-entry.ensures.adds;
 }

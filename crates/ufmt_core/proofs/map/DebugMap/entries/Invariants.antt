@@ -9,7 +9,6 @@ invariant-loop-key g l = record {
   can : (goal.iterator-loop-key g).can_next l.key-iterator;
   ends : (goal.iterator-loop-key g).is_finite l.key-iterator;
   is_open : IsOpen (block l.self);
-  same_reference : l.self.formatter.ghost_name ≡ l.initial.self.formatter.ghost_name;
   adds : Adds g.W.uWrite.seen (block l.initial.self)
       (entries_part (inner (block l.initial.self)) (place (stage (block l.initial.self))) (map (λ x. pair_text (inner (block l.initial.self)) (g.K.uDebug.document x.0, g.V.uDebug.document x.1)) l.yielded))
       true (stage_after (stage (block l.initial.self)) l.yielded) (block l.self);

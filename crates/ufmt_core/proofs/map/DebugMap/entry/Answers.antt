@@ -14,7 +14,7 @@ returns-in_err-begin_value-clause-adds g c =
     let left = IfErr-at_err _ c.in_err-begin_value.was c.begin_value.follows.holds-at-none in
     rw (is_ok-err _ c.from_residual-in_err-begin_value.ensures.0)
     (Adds-stopped Lent _ _ _ c.fmt-key_answer.new.f (λ s. text_at s (g.K.uDebug.document c.args.key.now)) (codes ": ") (text_at (inner (block c.args.self.now)) (g.V.uDebug.document c.args.value.now)) LentValue _
-    c.in_ok-begin_entry.ensures.begins c.fmt-key_answer.ensures.prints lent left.1 left.2)
+    c.in_ok-begin_entry.ensures.begins c.fmt-key_answer.ensures.prints lent left.0 left.1)
 
 pub returns-clause-adds : goal.returns-clause-adds
 returns-clause-adds g c =

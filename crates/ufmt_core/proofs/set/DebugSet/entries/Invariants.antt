@@ -10,7 +10,6 @@ invariant-loop-entry g l = record {
   can : (goal.iterator-loop-entry g).can_next l.entry-iterator;
   ends : (goal.iterator-loop-entry g).is_finite l.entry-iterator;
   is_open : IsOpen (block l.self);
-  same_reference : l.self.formatter.ghost_name ≡ l.initial.self.formatter.ghost_name;
   adds : Adds g.W.uWrite.seen (block l.initial.self)
       (entries_part (inner (block l.initial.self)) (place (stage (block l.initial.self))) (map (λ x. text_at (inner (block l.initial.self)) (g.D.uDebug.document x)) l.yielded))
       true (stage_after (stage (block l.initial.self)) l.yielded) (block l.self);
