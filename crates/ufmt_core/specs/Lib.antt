@@ -8,4 +8,5 @@ pub mod Map
 pub mod Parts
 pub mod Set
 pub mod Struct
+pub mod Tuple
 pub mod Writes

@@ -13,6 +13,7 @@ mod set;
 mod signed;
 mod std_impls;
 mod structs;
+mod tuple;
 pub mod unsigned;
 mod write;
 
@@ -21,6 +22,7 @@ pub use list::DebugList;
 pub use map::DebugMap;
 pub use set::DebugSet;
 pub use structs::DebugStruct;
+pub use tuple::DebugTuple;
 pub use write::uWrite;
 
 /// A value that prints itself as Rust's `{:?}` and `{:#?}` would.
