@@ -1,4 +1,5 @@
 pub mod Block
+pub mod Core
 pub mod Decimal
 pub mod Document
 pub mod Formatter
