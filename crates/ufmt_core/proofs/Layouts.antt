@@ -1,17 +1,22 @@
 -- The text that is left of a block after its opening, part by part: the parts joined are its layout.
 use Rattle.std.proofs.Common.{◌≡◌, ℕ, List, [], ◌∷◌, ◌++◌, codes, refl, ap, sym, ◌∙◌, map, append_assoc, append-nil}
+use Rattle.ufmt_core.specs.declared.formatter.Mode.{Mode}
+use Rattle.ufmt_core.specs.declared.formatter.Mode.TheVariants.{Plain, Pretty}
 use Rattle.ufmt_core.specs.declared.formatter.Setting.{Setting}
-use Rattle.ufmt_core.specs.Document.{Document, list_of, set_of, map_of, struct_of, Documents, no_documents, document, Pairs, no_pairs, pair, Fields, no_fields, field, documents, pairs_of}
-use Rattle.ufmt_core.specs.Layout.{Place, first, later, after, before, closed, entries, fields, gap, opened, pairs}
+use Rattle.ufmt_core.specs.declared.formatter.block.Comma.{Comma}
+use Rattle.ufmt_core.specs.declared.formatter.block.Comma.TheVariants.{Never}
+use Rattle.ufmt_core.specs.Document.{Document, list_of, set_of, map_of, struct_of, tuple_of, Documents, no_documents, document, Pairs, no_pairs, pair, Fields, no_fields, field, documents, pairs_of}
+use Rattle.ufmt_core.specs.Layout.{Place, first, later, after, before, closed, entries, fields, gap, lone_comma, opened, pairs}
 use Rattle.ufmt_core.specs.Formatter.{entry_setting, text_at}
-use Rattle.ufmt_core.specs.Parts.{closing, entries_part, entry_part, field_part, pair_text, struct_closing, struct_start}
+use Rattle.ufmt_core.specs.Parts.{closing, comma_text, entries_part, entry_part, field_part, first_comma, next_comma, pair_text, struct_closing, struct_start, tuple_closing, tuple_part, tuple_start}
 use Rattle.ufmt_core.proofs.Blocks.{after_entries}
 
--- the entries that are left to a block, and its closing: a list or a set with this bracket, a map, a struct
+-- the entries that are left to a block, and its closing: a list or a set with this bracket, a map, a struct, a tuple with this comma
 pub data Left : Type 0 where
   entries_left : List ℕ → Documents → Left
   pairs_left : Pairs → Left
   fields_left : Fields → Left
+  tuple_left : Comma → Documents → Left
 
 abbrev pub entries_text : List ℕ → Setting → Setting → Place → Documents → List ℕ
 entries_text bracket o i p no_documents = closing o p bracket
@@ -25,11 +30,16 @@ abbrev pub fields_text : Setting → Setting → Place → Fields → List ℕ
 fields_text o i p no_fields = struct_closing o p
 fields_text o i p (field label d fs) = field_part i p label (text_at i d) ++ fields_text o i later fs
 
+abbrev pub tuple_text : Comma → Setting → Setting → Place → Documents → List ℕ
+tuple_text comma o i p no_documents = tuple_closing o p comma
+tuple_text comma o i p (document d ds) = tuple_part i p (text_at i d) ++ tuple_text (next_comma comma) o i later ds
+
 -- the text of what is left, where the block stands at the first mode and depth and its entries at the second
 abbrev pub left_text : Left → Setting → Setting → Place → List ℕ
 left_text (entries_left bracket ds) o i p = entries_text bracket o i p ds
 left_text (pairs_left ps) o i p = pairs_text o i p ps
 left_text (fields_left fs) o i p = fields_text o i p fs
+left_text (tuple_left comma ds) o i p = tuple_text comma o i p ds
 
 -- the document's text is the opening and what is left then
 pub record IsBlock (whole : Document) (opening : List ℕ) (left : Left) : Type 0 where
@@ -129,3 +139,39 @@ struct-is_block name fs = record { joined = struct-is_block_at name fs }
 
 pub field-splits : (label : List ℕ) (d : Document) (fs : Fields) → Splits (fields_left (field label d fs)) (fields_left fs) (λ i p. field_part i p label (text_at i d)) (λ p. later)
 field-splits label d fs = record { joined = λ o i p. refl }
+
+-- tuples
+
+-- whether a comma follows these fields
+abbrev comma_after : Comma → Documents → Comma
+comma_after comma no_documents = comma
+comma_after comma (document d ds) = comma_after (next_comma comma) ds
+
+comma_after-never : (ds : Documents) → comma_after Never ds ≡ Never
+comma_after-never no_documents = refl
+comma_after-never (document d ds) = comma_after-never ds
+
+comma_text-lone : (mode : Mode) (name : List ℕ) (ds : Documents) → comma_text mode (comma_after (next_comma (first_comma name)) ds) ≡ lone_comma mode name ds
+comma_text-lone Plain [] no_documents = refl
+comma_text-lone Plain [] (document d ds) = ap (comma_text Plain) (comma_after-never ds)
+comma_text-lone Plain (c ∷ name) ds = ap (comma_text Plain) (comma_after-never ds)
+comma_text-lone Pretty name ds = refl
+
+later-tuple : (comma : Comma) (s : Setting) (ds : Documents) →
+    tuple_text comma s (entry_setting s) later ds ≡ entries s.mode (entry_setting s).depth ds ++ (closed s.mode s.depth ++ (comma_text s.mode (comma_after comma ds) ++ codes ")"))
+later-tuple comma s no_documents = refl
+later-tuple comma s (document d ds) = rw (later-tuple (next_comma comma) s ds) (simp append_assoc)
+
+tuple-is_block_at : (name : List ℕ) (ds : Documents) (s : Setting) → text_at s (tuple_of name ds) ≡ name ++ tuple_text (first_comma name) s (entry_setting s) first ds
+tuple-is_block_at name no_documents s = sym (append-nil name)
+tuple-is_block_at name (document d ds) s =
+    rw (later-tuple (next_comma (first_comma name)) s ds, comma_text-lone s.mode name ds)
+    (regroup-entry name tuple_start (opened s.mode) (before s.mode (entry_setting s).depth first) (text_at (entry_setting s) d) (after s.mode)
+    (entries s.mode (entry_setting s).depth ds) (closed s.mode s.depth ++ (lone_comma s.mode name ds ++ codes ")")))
+
+pub tuple-is_block : (name : List ℕ) (ds : Documents) → IsBlock (tuple_of name ds) name (tuple_left (first_comma name) ds)
+tuple-is_block name ds = record { joined = tuple-is_block_at name ds }
+
+pub tuple-splits : (comma : Comma) (d : Document) (ds : Documents) →
+    Splits (tuple_left comma (document d ds)) (tuple_left (next_comma comma) ds) (λ i p. tuple_part i p (text_at i d)) (λ p. later)
+tuple-splits comma d ds = record { joined = λ o i p. refl }

@@ -1,19 +1,20 @@
 -- The steps by which a `fmt` is proved, one for each call of a builder: what is left to write before the call, and what is left after it.
-use Rattle.std.proofs.Common.{◌≡◌, ℕ, List, [], ◌∷◌, ◌++◌, Bool, true, false, codes, is_ok, Result, Ok, Err, OnErr, refl, ap, sym, ◌∙◌, map}
+use Rattle.std.proofs.Common.{◌≡◌, ℕ, List, [], ◌∷◌, ◌++◌, Bool, true, false, codes, is_ok, Result, Ok, Err, OnErr, refl, ap, sym, ◌∙◌, subst, map}
 use Rattle.std.specs.Prelude.{IsErr}
 use Rattle.std.proofs.lemmas.Result.{IfErr-at_err}
 use Rattle.ufmt_core.specs.declared.formatter.Setting.{Setting}
 use Rattle.ufmt_core.specs.declared.formatter.Formatter.{Formatter}
+use Rattle.ufmt_core.specs.declared.formatter.block.Comma.{Comma}
 use Rattle.ufmt_core.specs.declared.formatter.block.Stage.{Stage}
 use Rattle.ufmt_core.specs.declared.formatter.block.Stage.TheVariants.{Later}
-use Rattle.ufmt_core.specs.Document.{Document, list_of, set_of, map_of, struct_of, Documents, no_documents, document, Pairs, no_pairs, pair, Fields, no_fields, field, documents, pairs_of}
+use Rattle.ufmt_core.specs.Document.{Document, list_of, set_of, map_of, struct_of, tuple_of, Documents, no_documents, document, Pairs, no_pairs, pair, Fields, no_fields, field, documents, pairs_of}
 use Rattle.ufmt_core.specs.Layout.{Place, later}
 use Rattle.ufmt_core.specs.Writes.{Seen, Writes}
 use Rattle.ufmt_core.specs.Formatter.{Prints, LaysOut, setting_of, text_at, writer_of}
 use Rattle.ufmt_core.specs.Parts.{entries_part, pair_text}
-use Rattle.ufmt_core.specs.Block.{Block, Adds, AddsEntry, AddsField, Finishes, FinishesStruct, FinishesWith, Opens, inner, outer, place, stage, stage_after}
+use Rattle.ufmt_core.specs.Block.{Block, Adds, AddsEntry, AddsField, AddsTupleField, Finishes, FinishesStruct, FinishesTuple, FinishesWith, Opens, OpensTuple, inner, outer, place, stage, stage_after}
 use Rattle.ufmt_core.proofs.Blocks.{after_entries-place}
-use Rattle.ufmt_core.proofs.Layouts.{Left, entries_left, pairs_left, fields_left, left_text, IsBlock, Splits, list-is_block, set-is_block, entry-splits, entries-split, map-is_block, pair-splits, pairs-split, struct-is_block, field-splits}
+use Rattle.ufmt_core.proofs.Layouts.{Left, entries_left, pairs_left, fields_left, tuple_left, left_text, IsBlock, Splits, list-is_block, set-is_block, entry-splits, entries-split, map-is_block, pair-splits, pairs-split, struct-is_block, field-splits, tuple-is_block, tuple-splits}
 use Rattle.ufmt_core.proofs.Writing.{Writes-then, Writes-fails, LaysOut-err}
 
 module _ {W : Type 0} where
@@ -89,6 +90,9 @@ module _ {W : Type 0} {seen : Seen W} {start last : Formatter W} where
     pub struct_refused : {name : List ℕ} {fs : Fields} → OnErr r (Prints seen start name false last) → LaysOut seen start (struct_of name fs) (is_ok answer) last
     struct_refused {name} {fs} = LaysOut-refused (struct-is_block name fs) answer failed was
 
+    pub tuple_refused : {name : List ℕ} {ds : Documents} → OnErr r (Prints seen start name false last) → LaysOut seen start (tuple_of name ds) (is_ok answer) last
+    tuple_refused {name} {ds} = LaysOut-refused (tuple-is_block name ds) answer failed was
+
   module _ {reference : ℕ} {b : Block W} {ok : Bool} where
     pub list_opened : {ds : Documents} → Opens seen start reference (codes "[") b → Completes seen reference b (entries_left (codes "]") ds) ok last → LaysOut seen start (list_of ds) ok last
     list_opened {ds} = LaysOut-opened (list-is_block ds)
@@ -101,6 +105,11 @@ module _ {W : Type 0} {seen : Seen W} {start last : Formatter W} where
 
     pub struct_opened : {name : List ℕ} {fs : Fields} → Opens seen start reference name b → Completes seen reference b (fields_left fs) ok last → LaysOut seen start (struct_of name fs) ok last
     struct_opened {name} {fs} = LaysOut-opened (struct-is_block name fs)
+
+    pub tuple_opened : {name : List ℕ} {comma : Comma} {ds : Documents} → OpensTuple seen start reference name b comma → Completes seen reference b (tuple_left comma ds) ok last →
+        LaysOut seen start (tuple_of name ds) ok last
+    tuple_opened {name} {ds = ds} o c =
+        LaysOut-opened (tuple-is_block name ds) o.opens (subst (λ (comma : Comma). Completes seen reference b (tuple_left comma ds) ok last) o.begins c)
 
 -- where a call of a builder went on, failed, or closed it
 module _ {W : Type 0} {seen : Seen W} {last : Formatter W} {name : ℕ} {b b' : Block W} where
@@ -150,3 +159,15 @@ module _ {W : Type 0} {seen : Seen W} {last : Formatter W} {name : ℕ} {b b' : 
 
   pub struct_finished : {ok : Bool} → FinishesStruct seen b ok b' → (name ≡ b'.name → last ≡ b'.formatter) → Completes seen name b (fields_left no_fields) ok last
   struct_finished f = Completes-finish (λ o i p. refl) f.finishes
+
+  pub tuple_field_added : {old new : Comma} {d : Document} {ds : Documents} {ok : Bool} → AddsTupleField seen b old d true b' new → Completes seen name b' (tuple_left new ds) ok last →
+      Completes seen name b (tuple_left old (document d ds)) ok last
+  tuple_field_added {old} {d = d} {ds} {ok} a c =
+      Completes-then Later (tuple-splits old d ds) refl a.adds (subst (λ (comma : Comma). Completes seen name b' (tuple_left comma ds) ok last) (a.counts refl) c)
+
+  pub tuple_field_stopped : {old new : Comma} {d : Document} {ds : Documents} → AddsTupleField seen b old d false b' new → (name ≡ b'.name → last ≡ b'.formatter) →
+      Completes seen name b (tuple_left old (document d ds)) false last
+  tuple_field_stopped {old} {d = d} {ds} a = Completes-stops Later (tuple-splits old d ds) a.adds
+
+  pub tuple_finished : {comma : Comma} {ok : Bool} → FinishesTuple seen b comma ok b' → (name ≡ b'.name → last ≡ b'.formatter) → Completes seen name b (tuple_left comma no_documents) ok last
+  tuple_finished f = Completes-finish (λ o i p. refl) f.finishes

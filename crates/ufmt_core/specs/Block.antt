@@ -1,13 +1,14 @@
 -- What the calls of a builder do to the block that it writes.
-use Rattle.std.specs.Prelude.{◌≡◌, ℕ, List, [], ◌∷◌, map, Bool, true, false, Option, Result, Err, IfErr}
+use Rattle.std.specs.Prelude.{◌≡◌, ℕ, List, [], ◌∷◌, map, Bool, true, false, Option, Result, Err, IfErr, IsTrue}
 use Rattle.std.specs.Iterator.{DrainsIf}
 use Rattle.ufmt_core.specs.declared.formatter.Setting.{Setting}
 use Rattle.ufmt_core.specs.declared.formatter.Formatter.{Formatter}
 use Rattle.ufmt_core.specs.declared.formatter.block.Stage.{Stage}
 use Rattle.ufmt_core.specs.declared.formatter.block.Stage.TheVariants.{First, Later, Lent, LentValue, Closed}
 use Rattle.ufmt_core.specs.declared.formatter.block.Progress.{Progress}
+use Rattle.ufmt_core.specs.declared.formatter.block.Comma.{Comma}
 use Rattle.ufmt_core.specs.Document.{Document}
-use Rattle.ufmt_core.specs.Parts.{closing, entries_part, entry_part, field_lead, field_part, lead, struct_closing}
+use Rattle.ufmt_core.specs.Parts.{closing, entries_part, entry_part, field_lead, field_part, first_comma, lead, lead_after, next_comma, struct_closing, tuple_closing, tuple_part, tuple_start}
 use Rattle.ufmt_core.specs.Layout.{Place, first, later}
 use Rattle.ufmt_core.specs.Writes.{Seen, Writes}
 use Rattle.ufmt_core.specs.Formatter.{Prints, writer_of, setting_of, entry_setting, text_at}
@@ -125,6 +126,24 @@ module _ {W : Type 0} where
   -- a struct was closed
   pub record FinishesStruct (seen : Seen W) (old : Block W) (ok : Bool) (new : Block W) : Type 0 where
     pub finishes : Finishes seen old (struct_closing (outer old) (place (stage old))) ok new
+
+  -- a new tuple has written its name
+  pub record OpensTuple (seen : Seen W) (start : Formatter W) (reference : ℕ) (name : List ℕ) (new : Block W) (comma : Comma) : Type 0 where
+    pub opens : Opens seen start reference name new
+    pub begins : comma ≡ first_comma name
+
+  -- one field was added to a tuple
+  pub record AddsTupleField (seen : Seen W) (old : Block W) (old_comma : Comma) (value : Document) (ok : Bool) (new : Block W) (new_comma : Comma) : Type 0 where
+    pub adds : Adds seen old (tuple_part (inner old) (place (stage old)) (text_at (inner old) value)) ok Later new
+    pub counts : IsTrue ok → new_comma ≡ next_comma old_comma
+
+  -- what stands before a tuple's field was written, and the formatter lent for the field
+  abbrev pub BeginsTupleField : Seen W → Block W → Formatter W → Type 0
+  BeginsTupleField seen old lent = Prints seen old.formatter (lead_after tuple_start (inner old) (place (stage old))) true lent
+
+  -- a tuple was closed
+  pub record FinishesTuple (seen : Seen W) (old : Block W) (comma : Comma) (ok : Bool) (new : Block W) : Type 0 where
+    pub finishes : Finishes seen old (tuple_closing (outer old) (place (stage old)) comma) ok new
 
 module _ {W U T D : Type 0} where
   -- an entry was added for each item that the iterator gave, and on `Ok` it had no more

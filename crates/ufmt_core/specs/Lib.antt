@@ -1,4 +1,5 @@
 pub mod Block
+pub mod Core
 pub mod Decimal
 pub mod Document
 pub mod Formatter
@@ -8,4 +9,5 @@ pub mod Map
 pub mod Parts
 pub mod Set
 pub mod Struct
+pub mod Tuple
 pub mod Writes

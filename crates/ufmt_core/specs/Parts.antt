@@ -1,7 +1,10 @@
 -- The parts of a block, of which a builder's calls write one each.
 use Rattle.std.specs.Prelude.{ℕ, List, [], ◌∷◌, ◌++◌, codes}
 use Rattle.ufmt_core.specs.declared.formatter.Mode.{Mode}
+use Rattle.ufmt_core.specs.declared.formatter.Mode.TheVariants.{Plain, Pretty}
 use Rattle.ufmt_core.specs.declared.formatter.Setting.{Setting}
+use Rattle.ufmt_core.specs.declared.formatter.block.Comma.{Comma}
+use Rattle.ufmt_core.specs.declared.formatter.block.Comma.TheVariants.{AfterOne, Now, Never}
 use Rattle.ufmt_core.specs.Document.{Document}
 use Rattle.ufmt_core.specs.Formatter.{text_at}
 use Rattle.ufmt_core.specs.Layout.{Place, first, later, before, after, opened, closed, gap}
@@ -53,3 +56,34 @@ field_part s place label text = field_lead s place label ++ (text ++ trail s)
 abbrev pub struct_closing : Setting → Place → List ℕ
 struct_closing s first = []
 struct_closing s later = closing s later (gap s.mode ++ codes "}")
+
+-- what stands before the first field of a tuple
+abbrev pub tuple_start : List ℕ
+tuple_start = codes "("
+
+-- a field of a tuple, with this text
+abbrev pub tuple_part : Setting → Place → List ℕ → List ℕ
+tuple_part s place text = lead_after tuple_start s place ++ (text ++ trail s)
+
+-- whether a comma follows the fields, where the tuple has this name and no fields yet
+abbrev pub first_comma : List ℕ → Comma
+first_comma [] = AfterOne
+first_comma (c ∷ name) = Never
+
+-- the same, one field on
+abbrev pub next_comma : Comma → Comma
+next_comma AfterOne = Now
+next_comma Now = Never
+next_comma Never = Never
+
+-- the comma after the fields
+abbrev pub comma_text : Mode → Comma → List ℕ
+comma_text Plain AfterOne = []
+comma_text Plain Now = 44 ∷ []
+comma_text Plain Never = []
+comma_text Pretty comma = []
+
+-- the closing of a tuple that stands at this mode and depth: nothing where it has no fields
+abbrev pub tuple_closing : Setting → Place → Comma → List ℕ
+tuple_closing s first comma = []
+tuple_closing s later comma = closing s later (comma_text s.mode comma ++ codes ")")

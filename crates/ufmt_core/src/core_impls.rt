@@ -1,5 +1,7 @@
-ghost use Rattle.std.specs.Prelude.{codes, map, if◌then◌else◌};
+ghost use Rattle.std.specs.Prelude.{codes, if◌then◌else◌, is_ok, map};
 ghost use Rattle.ufmt_core.specs.Document.{documents, leaf, list_of};
+ghost use Rattle.ufmt_core.specs.Formatter.{LaysOut};
+ghost use Rattle.ufmt_core.specs.Core.{option_document, result_document, variant_of};
 
 use crate::formatter::Formatter;
 use crate::list::fmt_list;
@@ -42,6 +44,19 @@ impl<T: uDebug> uDebug for &[T] {
     }
 }
 
+/// Prints the items as a list, of every length.
+impl<T: uDebug, const N: usize> uDebug for [T; N] {
+    ghost document = { λ items. list_of (documents (map T.document items)) };
+
+    fn fmt<W>(&self, f: &mut Formatter<W>) -> Result<(), W::Error>
+    where
+        W: uWrite,
+    {
+        let items: &[T] = self;
+        items.fmt(f)
+    }
+}
+
 impl uDebug for bool {
     ghost document = { λ b. leaf (if b then codes "true" else codes "false") };
 
@@ -51,4 +66,58 @@ impl uDebug for bool {
     {
         f.write_str(if *self { "true" } else { "false" })
     }
+}
+
+impl uDebug for () {
+    ghost document = { λ _. leaf (codes "()") };
+
+    fn fmt<W>(&self, f: &mut Formatter<W>) -> Result<(), W::Error>
+    where
+        W: uWrite,
+    {
+        f.write_str("()")
+    }
+}
+
+/// `None`, or a tuple `Some` with one field.
+impl<T: uDebug> uDebug for Option<T> {
+    ghost document = { option_document T.document };
+
+    fn fmt<W>(&self, f: &mut Formatter<W>) -> Result<(), W::Error>
+    where
+        W: uWrite,
+    {
+        match self {
+            None => f.write_str("None"),
+            Some(value) => fmt_variant("Some", value, f),
+        }
+    }
+}
+
+/// A tuple `Ok` or `Err` with one field.
+impl<T: uDebug, E: uDebug> uDebug for Result<T, E> {
+    ghost document = { result_document T.document E.document };
+
+    fn fmt<W>(&self, f: &mut Formatter<W>) -> Result<(), W::Error>
+    where
+        W: uWrite,
+    {
+        match self {
+            Ok(value) => fmt_variant("Ok", value, f),
+            Err(error) => fmt_variant("Err", error, f),
+        }
+    }
+}
+
+// A tuple with this name and one field.
+fn fmt_variant<D: uDebug, W: uWrite>(
+    name: &str,
+    value: &D,
+    f: &mut Formatter<W>,
+) -> Result<(), W::Error>
+    ensures { LaysOut W.seen f.old (variant_of name.now (D.document value.now)) (is_ok result) f.new }
+{
+    let mut variant = f.debug_tuple(name)?;
+    variant.field(value)?;
+    variant.finish()
 }

@@ -16,6 +16,7 @@ mod std_impls;
 mod structs;
 #[cfg(test)]
 mod tests;
+mod tuple;
 pub mod unsigned;
 mod write;
 
@@ -24,6 +25,7 @@ pub use list::DebugList;
 pub use map::DebugMap;
 pub use set::DebugSet;
 pub use structs::DebugStruct;
+pub use tuple::DebugTuple;
 pub use write::uWrite;
 
 /// A value that prints itself as Rust's `{:?}` and `{:#?}` would.

@@ -44,3 +44,15 @@ impl<K: uDebug + Ord, V: uDebug> uDebug for BTreeMap<K, V> {
         fmt_map(self.iter(), f)
     }
 }
+
+/// Prints what the box holds.
+impl<T: uDebug> uDebug for Box<T> {
+    ghost document = { λ b. T.document b.value };
+
+    fn fmt<W>(&self, f: &mut Formatter<W>) -> Result<(), W::Error>
+    where
+        W: uWrite,
+    {
+        (**self).fmt(f)
+    }
+}

@@ -1,7 +1,7 @@
 //! What the five builders share.
 ghost use Rattle.std.specs.Prelude.{◌≡◌, ℕ, is_ok, MatchBool};
 ghost use Rattle.ufmt_core.specs.Layout.{closed, gap, indentation};
-ghost use Rattle.ufmt_core.specs.Parts.{closing, field_lead, lead, lead_after, struct_closing, struct_start, trail};
+ghost use Rattle.ufmt_core.specs.Parts.{closing, comma_text, field_lead, first_comma, lead, lead_after, next_comma, struct_closing, struct_start, trail, tuple_closing, tuple_start};
 ghost use Rattle.ufmt_core.specs.Formatter.{Prints, mode_of, writer_of, setting_of, entry_setting};
 ghost use Rattle.ufmt_core.specs.Block.{place};
 ghost use Rattle.ufmt_core.specs.declared.formatter.block.Stage.TheVariants.{First, Closed};
@@ -24,6 +24,40 @@ pub(crate) enum Stage {
 pub(crate) struct Progress {
     pub(crate) outer: Setting,
     pub(crate) stage: Stage,
+}
+
+/// Whether a comma follows the fields of a tuple in plain mode: after the only field of one without a name.
+#[derive(Clone, Copy)]
+pub(crate) enum Comma {
+    /// No name and no field yet.
+    AfterOne,
+    /// No name and one field.
+    Now,
+    /// A name, or several fields.
+    Never,
+}
+
+impl Comma {
+    /// For a tuple of this name, without fields yet.
+    pub(crate) fn for_name(name: &str) -> Comma
+        ensures { result ≡ first_comma name.now }
+    {
+        if name.is_empty() {
+            Comma::AfterOne
+        } else {
+            Comma::Never
+        }
+    }
+
+    /// After one more field.
+    pub(crate) fn after_field(self) -> Comma
+        ensures { result ≡ next_comma self }
+    {
+        match self {
+            Comma::AfterOne => Comma::Now,
+            _ => Comma::Never,
+        }
+    }
 }
 
 impl Setting {
@@ -169,6 +203,47 @@ impl<W: uWrite> Formatter<W> {
                 self.write_gap(progress.outer.mode)?;
                 self.write_str("}")
             }
+        }
+    }
+
+    /// What stands before a tuple's field: the first of its block, or a later one.
+    pub(crate) fn write_tuple_lead(&mut self, stage: Stage) -> Result<(), W::Error>
+        ensures { Prints W.seen self.old (lead_after tuple_start (setting_of self.old) (place stage)) (is_ok result) self.new }
+    {
+        match stage {
+            Stage::First => {
+                self.write_str("(")?;
+                self.write_lead(stage)
+            }
+            _ => self.write_lead(stage),
+        }
+    }
+
+    /// The closing parenthesis of a tuple, where it has fields.
+    pub(crate) fn write_tuple_closing(
+        &mut self,
+        progress: Progress,
+        comma: Comma,
+    ) -> Result<(), W::Error>
+        ensures { Prints W.seen self.old (tuple_closing progress.outer (place progress.stage) comma) (is_ok result) self.new }
+    {
+        match progress.stage {
+            Stage::First => Ok(()),
+            _ => {
+                self.write_closing_lead(progress.outer)?;
+                self.write_comma(progress.outer.mode, comma)?;
+                self.write_str(")")
+            }
+        }
+    }
+
+    // The comma after the fields of a tuple, where there is one.
+    fn write_comma(&mut self, mode: Mode, comma: Comma) -> Result<(), W::Error>
+        ensures { Prints W.seen self.old (comma_text mode comma) (is_ok result) self.new }
+    {
+        match (mode, comma) {
+            (Mode::Plain, Comma::Now) => self.write_str(","),
+            _ => Ok(()),
         }
     }
 

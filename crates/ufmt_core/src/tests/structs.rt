@@ -1,3 +1,4 @@
+use super::check;
 use crate::{Formatter, uDebug, uWrite};
 use std::collections::BTreeMap;
 use std::test::Fail;
@@ -33,5 +34,62 @@ fn structs_with_and_without_fields(rt: HostRuntime) -> Result<(), Fail> {
     assert_eq!(rt; f.depth(), 0);
     let both = "S { m: {1: 2}, n: 3 }AS {\n    m: {\n        1: 2,\n    },\n    n: 3,\n}A";
     assert_eq!(rt; text.as_str(), both);
+    Ok(())
+}
+
+// Tuples of no field, one and two, with a name and without.
+fn write_tuples<W: uWrite>(f: &mut Formatter<W>) -> Result<bool, W::Error> {
+    let mut is_open = false;
+    for name in ["", "T"] {
+        let mut none = f.debug_tuple(name)?;
+        none.finish()?;
+        let mut one = f.debug_tuple(name)?;
+        one.field(&1u64)?;
+        one.finish()?;
+        let mut two = f.debug_tuple(name)?;
+        two.field(&1u64)?;
+        let answer = 2u64.fmt(two.begin_field()?);
+        two.end_field(answer)?;
+        two.finish()?;
+        is_open = is_open || two.is_open();
+    }
+    Ok(!is_open)
+}
+
+#[test]
+fn tuples_of_few_fields(rt: HostRuntime) -> Result<(), Fail> {
+    let mut text = String::new(rt.alloc());
+    let mut f = Formatter::new(&mut text);
+    assert!(rt; write_tuples(&mut f)?);
+    f.pretty(|f| {
+        write_tuples(f)?;
+        Ok(())
+    })?;
+    assert_eq!(rt; f.depth(), 0);
+    let plain = "(1,)(1, 2)TT(1)T(1, 2)";
+    let pretty = "(\n    1,\n)(\n    1,\n    2,\n)TT(\n    1,\n)T(\n    1,\n    2,\n)";
+    assert_eq!(rt; text.as_str().len(), plain.len() + pretty.len());
+    assert!(rt; text.as_str().starts_with(plain));
+    assert!(rt; text.as_str().ends_with(pretty));
+    Ok(())
+}
+
+#[test]
+fn options_results_and_boxes(rt: HostRuntime) -> Result<(), Fail> {
+    let alloc = rt.alloc();
+    check(&rt, alloc, &None::<u64>, "None", "None")?;
+    check(&rt, alloc, &Some(0i32), "Some(0)", "Some(\n    0,\n)")?;
+    check(&rt, alloc, &Ok::<u64, u64>(1), "Ok(1)", "Ok(\n    1,\n)")?;
+    check(&rt, alloc, &Err::<u64, u64>(2), "Err(2)", "Err(\n    2,\n)")?;
+    check(&rt, alloc, &(), "()", "()")?;
+    check(&rt, alloc, &true, "true", "true")?;
+    check(&rt, alloc, &Box::new(alloc, 3u64)?, "3", "3")?;
+    check(
+        &rt,
+        alloc,
+        &[[1u8; 2]; 1],
+        "[[1, 1]]",
+        "[\n    [\n        1,\n        1,\n    ],\n]",
+    )?;
     Ok(())
 }
