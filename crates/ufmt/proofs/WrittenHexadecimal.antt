@@ -1,5 +1,5 @@
 -- Hexadecimal digits that are written from the last to the first, before one another.
-use Rattle.std.proofs.Common.{◌≡◌, ◌≢◌, Bool, ℕ, ◌+◌, ◌-◌, ◌/◌, ◌%◌, ◌<◌, ◌≤◌, List, [], ◌∷◌, ◌++◌, length, drop, set, ap, ◌∙◌, arith, length-append, length-drop, length-set}
+use Rattle.std.proofs.Common.{◌≡◌, ◌≢◌, Bool, ℕ, ◌-◌, ◌/◌, ◌%◌, ◌<◌, ◌≤◌, List, [], ◌++◌, length, drop, set, ap, ◌∙◌, arith, length-append, length-drop, length-set}
 use Rattle.ufmt_core.proofs.WrittenDigits.{put_before}
 use Rattle.ufmt.specs.Hex.{hexadecimal_byte, hexadecimal}
 use Rattle.ufmt.proofs.HexadecimalTexts.{hexadecimal-digit, hexadecimal-step, hexadecimal-nonempty}

@@ -14,4 +14,6 @@ pub use cursor::{Cursor, Full};
 pub use display::uDisplay;
 pub use hex::{HexOptions, uDisplayHex};
 pub use pieces::fmt_pretty;
-pub use ufmt_core::{DebugList, DebugMap, DebugSet, DebugStruct, DebugTuple, Formatter, uDebug, uWrite, unsigned};
+pub use ufmt_core::{
+    DebugList, DebugMap, DebugSet, DebugStruct, DebugTuple, Formatter, uDebug, uWrite, unsigned,
+};

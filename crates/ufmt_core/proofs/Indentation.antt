@@ -1,5 +1,5 @@
 -- Indentation, unit by unit.
-use Rattle.std.proofs.Common.{◌≡◌, ℕ, zero, suc, ◌+◌, ◌-◌, ◌≤◌, List, [], ◌∷◌, ◌++◌, refl, ap, sym, ◌∙◌, arith, append-nil, zero-add, suc-add}
+use Rattle.std.proofs.Common.{◌≡◌, ℕ, zero, suc, ◌+◌, ◌-◌, ◌≤◌, ◌∷◌, ◌++◌, ap, ◌∙◌, arith, zero-add, suc-add}
 use Rattle.ufmt_core.specs.Layout.{indentation}
 
 pub indentation-add : (m n : ℕ) → indentation (m + n) ≡ indentation m ++ indentation n

@@ -1,5 +1,5 @@
 -- The text that is left of a block after its opening, part by part: the parts joined are its layout.
-use Rattle.std.proofs.Common.{◌≡◌, ℕ, List, [], ◌∷◌, ◌++◌, codes, refl, ap, sym, ◌∙◌, map, append_assoc, append-nil}
+use Rattle.std.proofs.Common.{◌≡◌, ℕ, List, [], ◌∷◌, ◌++◌, codes, refl, ap, sym, map, append_assoc, append-nil}
 use Rattle.ufmt_core.specs.declared.formatter.Mode.{Mode}
 use Rattle.ufmt_core.specs.declared.formatter.Mode.TheVariants.{Plain, Pretty}
 use Rattle.ufmt_core.specs.declared.formatter.Setting.{Setting}

@@ -1,5 +1,5 @@
 -- The steps by which a `fmt` is proved, one for each call of a builder: what is left to write before the call, and what is left after it.
-use Rattle.std.proofs.Common.{◌≡◌, ℕ, List, [], ◌∷◌, ◌++◌, Bool, true, false, codes, is_ok, Result, Ok, Err, OnErr, refl, ap, sym, ◌∙◌, subst, map}
+use Rattle.std.proofs.Common.{◌≡◌, ℕ, List, ◌++◌, Bool, true, false, codes, is_ok, Result, Err, OnErr, refl, ap, sym, ◌∙◌, subst, map}
 use Rattle.std.specs.Prelude.{IsErr}
 use Rattle.std.proofs.lemmas.Result.{IfErr-at_err}
 use Rattle.ufmt_core.specs.declared.formatter.Setting.{Setting}
@@ -8,7 +8,7 @@ use Rattle.ufmt_core.specs.declared.formatter.block.Comma.{Comma}
 use Rattle.ufmt_core.specs.declared.formatter.block.Stage.{Stage}
 use Rattle.ufmt_core.specs.declared.formatter.block.Stage.TheVariants.{Later}
 use Rattle.ufmt_core.specs.Document.{Document, list_of, set_of, map_of, struct_of, tuple_of, Documents, no_documents, document, Pairs, no_pairs, pair, Fields, no_fields, field, documents, pairs_of}
-use Rattle.ufmt_core.specs.Layout.{Place, later}
+use Rattle.ufmt_core.specs.Layout.{Place}
 use Rattle.ufmt_core.specs.Writes.{Seen, Writes}
 use Rattle.ufmt_core.specs.Formatter.{Prints, LaysOut, setting_of, text_at, writer_of}
 use Rattle.ufmt_core.specs.Parts.{entries_part, pair_text}

@@ -1,10 +1,10 @@
 -- What calls in a row write: the pieces joined, or a beginning of them where one failed.
-use Rattle.std.proofs.Common.{◌≡◌, ℕ, ◌+◌, ◌≤◌, List, [], ◌++◌, length, Bool, true, false, IsTrue, is_ok, Result, Ok, Err, refl, ap, sym, ◌∙◌, subst, append_assoc, append-nil, length-append, add-zero, arith}
+use Rattle.std.proofs.Common.{◌≡◌, ℕ, List, [], ◌++◌, Bool, true, false, is_ok, Result, Ok, Err, refl, ap, sym, ◌∙◌, subst, append_assoc, append-nil, length-append, arith}
 use Rattle.std.specs.Prelude.{IsErr}
 use Rattle.ufmt_core.specs.declared.formatter.Formatter.{Formatter}
 use Rattle.ufmt_core.specs.Document.{Document}
-use Rattle.ufmt_core.specs.Writes.{Seen, BeginsWith, Appended, Writes}
-use Rattle.ufmt_core.specs.Formatter.{Prints, LaysOut, setting_of, text_at}
+use Rattle.ufmt_core.specs.Writes.{Seen, Appended, Writes}
+use Rattle.ufmt_core.specs.Formatter.{Prints, LaysOut}
 
 -- an answer that is no `Ok`
 pub is_ok-err : {X E : Type 0} (r : Result X E) → IsErr r → is_ok r ≡ false

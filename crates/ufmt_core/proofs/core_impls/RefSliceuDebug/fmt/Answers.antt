@@ -1,4 +1,4 @@
-use Rattle.std.proofs.Common.{◌≡◌, ◌∙◌, ap, map, subst, List}
+use Rattle.std.proofs.Common.{◌∙◌, ap, map, subst, List}
 use Rattle.std.specs.Iterator.{AlwaysYields}
 use Rattle.std.specs.Slice.Iter.{iter_rest, iter_steps}
 use Rattle.ufmt_core.specs.Document.{Document}

@@ -1,4 +1,4 @@
-use Rattle.std.proofs.Common.{◌≡◌, ℕ, ◌+◌, ◌-◌, ◌++◌, codes, sym, ap, ◌∙◌, arith}
+use Rattle.std.proofs.Common.{◌≡◌, ◌+◌, ◌-◌, ◌++◌, codes, ap, ◌∙◌, arith}
 use Rattle.ufmt_core.specs.Layout.{indentation}
 use Rattle.ufmt_core.proofs.Writing.{Prints-then, Prints-fails, Prints-err}
 use Rattle.ufmt_core.proofs.Indentation.{indentation-add, indentation-front}

@@ -1,7 +1,6 @@
-use Rattle.std.proofs.Common.{rules, ◌∷◌, [], ◌++◌, Bool, false}
+use Rattle.std.proofs.Common.{rules, ◌∷◌, [], ◌++◌}
 use Rattle.std.proofs.iter.Next.{Yields-more}
 use Rattle.ufmt_core.specs.Parts.{pair_text}
-use Rattle.ufmt_core.specs.Map.{block}
 use Rattle.ufmt_core.proofs.Blocks.{Adds-more}
 use Rattle.ufmt_core.proofs.Writing.{is_ok-err}
 use Rattle.ufmt_core.proofs.map.DebugMap.entries.Goals as goal

@@ -1,4 +1,4 @@
-use Rattle.std.proofs.Common.{◌≡◌, true, map}
+use Rattle.std.proofs.Common.{true, map}
 use Rattle.ufmt_core.specs.Block.{Adds, IsOpen, inner, place, stage, stage_after}
 use Rattle.ufmt_core.specs.Parts.{entries_part, pair_text}
 use Rattle.ufmt_core.specs.Map.{block}
