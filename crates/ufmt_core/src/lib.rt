@@ -14,6 +14,7 @@ mod signed;
 mod std_impls;
 mod structs;
 mod tuple;
+mod tuple_impls;
 pub mod unsigned;
 mod write;
 
