@@ -13,7 +13,7 @@ use Rattle.ufmt_core.specs.Layout.{Place, later}
 use Rattle.ufmt_core.specs.Writes.{Seen, Writes}
 use Rattle.ufmt_core.specs.Formatter.{LaysOut, Prints, setting_of, text_at, writer_of}
 use Rattle.ufmt_core.specs.Parts.{entries_part, entry_part, pair_text, trail}
-use Rattle.ufmt_core.specs.Block.{Block, Adds, AddsEntries, AddsEntry, BeginsEntry, GivesUp, PassesOn, Leaves, inner, outer, place, stage, stage_after}
+use Rattle.ufmt_core.specs.Block.{Block, Adds, AddsEntries, AddsEntry, BeginsEntry, Finishes, GivesUp, PassesOn, Leaves, inner, outer, place, stage, stage_after}
 use Rattle.ufmt_core.proofs.Items.{AlwaysYields-front, AlwaysYields-end}
 use Rattle.ufmt_core.proofs.Writing.{Writes-then, Writes-fails, Prints-then}
 
@@ -48,6 +48,27 @@ module _ {W : Type 0} {seen : Seen W} where
   -- a beginning of a part is one of what begins with it
   pub Adds-fails : (old new : Block W) {p : List ℕ} (q : List ℕ) (stopped next : Stage) → Adds seen old p false stopped new → Adds seen old (p ++ q) false next new
   Adds-fails old new q stopped next a = record { same_reference = a.same_reference; wrote = Writes-fails q a.wrote; kept = a.kept; leaves = a.leaves }
+
+module _ {W : Type 0} {seen : Seen W} where
+  -- a call that went on, and then what closes the block
+  pub Finishes-then : (old mid new : Block W) {p q : List ℕ} {ok : Bool} (between : Stage) → Adds seen old p true between mid → Finishes seen mid q ok new → Finishes seen old (p ++ q) ok new
+  Finishes-then old mid new between a f = record {
+    same_reference = f.same_reference ∙ a.same_reference;
+    wrote = Writes-then a.wrote f.wrote;
+    kept = f.kept ∙ a.kept;
+    closed = f.closed;
+    restored = f.restored ∙ a.kept;
+  }
+
+  -- a call that failed closes the block
+  pub Finishes-fails : (old new : Block W) {p : List ℕ} (q : List ℕ) (stopped : Stage) → Adds seen old p false stopped new → Finishes seen old (p ++ q) false new
+  Finishes-fails old new q stopped a = record {
+    same_reference = a.same_reference;
+    wrote = Writes-fails q a.wrote;
+    kept = a.kept;
+    closed = a.leaves.0;
+    restored = a.leaves.1;
+  }
 
 -- a call that went on was handed an `Ok`
 handed_ok : {X Y E : Type 0} (answer : Result X E) (result : Result Y E) → IfErr answer (λ e. result ≡ Err e) → IsOk result → is_ok answer ≡ true

@@ -8,7 +8,7 @@ use Rattle.ufmt_core.specs.declared.formatter.block.Comma.TheVariants.{Never}
 use Rattle.ufmt_core.specs.Document.{Document, list_of, set_of, map_of, struct_of, tuple_of, Documents, no_documents, document, Pairs, no_pairs, pair, Fields, no_fields, field, documents, pairs_of}
 use Rattle.ufmt_core.specs.Layout.{Place, first, later, after, before, closed, entries, fields, gap, lone_comma, opened, pairs}
 use Rattle.ufmt_core.specs.Formatter.{entry_setting, text_at}
-use Rattle.ufmt_core.specs.Parts.{closing, comma_text, entries_part, entry_part, field_part, first_comma, next_comma, pair_text, struct_closing, struct_start, tuple_closing, tuple_part, tuple_start}
+use Rattle.ufmt_core.specs.Parts.{closing, comma_text, entries_part, entry_part, field_part, first_comma, next_comma, pair_text, struct_closing, struct_start, tuple_part, tuple_rest, tuple_start}
 use Rattle.ufmt_core.proofs.Blocks.{after_entries}
 
 -- the entries that are left to a block, and its closing: a list or a set with this bracket, a map, a struct, a tuple with this comma
@@ -30,16 +30,12 @@ abbrev pub fields_text : Setting → Setting → Place → Fields → List ℕ
 fields_text o i p no_fields = struct_closing o p
 fields_text o i p (field label d fs) = field_part i p label (text_at i d) ++ fields_text o i later fs
 
-abbrev pub tuple_text : Comma → Setting → Setting → Place → Documents → List ℕ
-tuple_text comma o i p no_documents = tuple_closing o p comma
-tuple_text comma o i p (document d ds) = tuple_part i p (text_at i d) ++ tuple_text (next_comma comma) o i later ds
-
 -- the text of what is left, where the block stands at the first mode and depth and its entries at the second
 abbrev pub left_text : Left → Setting → Setting → Place → List ℕ
 left_text (entries_left bracket ds) o i p = entries_text bracket o i p ds
 left_text (pairs_left ps) o i p = pairs_text o i p ps
 left_text (fields_left fs) o i p = fields_text o i p fs
-left_text (tuple_left comma ds) o i p = tuple_text comma o i p ds
+left_text (tuple_left comma ds) o i p = tuple_rest o i p comma ds
 
 -- the document's text is the opening and what is left then
 pub record IsBlock (whole : Document) (opening : List ℕ) (left : Left) : Type 0 where
@@ -158,11 +154,11 @@ comma_text-lone Plain (c ∷ name) ds = ap (comma_text Plain) (comma_after-never
 comma_text-lone Pretty name ds = refl
 
 later-tuple : (comma : Comma) (s : Setting) (ds : Documents) →
-    tuple_text comma s (entry_setting s) later ds ≡ entries s.mode (entry_setting s).depth ds ++ (closed s.mode s.depth ++ (comma_text s.mode (comma_after comma ds) ++ codes ")"))
+    tuple_rest s (entry_setting s) later comma ds ≡ entries s.mode (entry_setting s).depth ds ++ (closed s.mode s.depth ++ (comma_text s.mode (comma_after comma ds) ++ codes ")"))
 later-tuple comma s no_documents = refl
 later-tuple comma s (document d ds) = rw (later-tuple (next_comma comma) s ds) (simp append_assoc)
 
-tuple-is_block_at : (name : List ℕ) (ds : Documents) (s : Setting) → text_at s (tuple_of name ds) ≡ name ++ tuple_text (first_comma name) s (entry_setting s) first ds
+tuple-is_block_at : (name : List ℕ) (ds : Documents) (s : Setting) → text_at s (tuple_of name ds) ≡ name ++ tuple_rest s (entry_setting s) first (first_comma name) ds
 tuple-is_block_at name no_documents s = sym (append-nil name)
 tuple-is_block_at name (document d ds) s =
     rw (later-tuple (next_comma (first_comma name)) s ds, comma_text-lone s.mode name ds)

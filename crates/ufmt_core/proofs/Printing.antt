@@ -8,12 +8,12 @@ use Rattle.ufmt_core.specs.declared.formatter.block.Comma.{Comma}
 use Rattle.ufmt_core.specs.declared.formatter.block.Stage.{Stage}
 use Rattle.ufmt_core.specs.declared.formatter.block.Stage.TheVariants.{Later}
 use Rattle.ufmt_core.specs.Document.{Document, list_of, set_of, map_of, struct_of, tuple_of, Documents, no_documents, document, Pairs, no_pairs, pair, Fields, no_fields, field, documents, pairs_of}
-use Rattle.ufmt_core.specs.Layout.{Place}
+use Rattle.ufmt_core.specs.Layout.{later, Place}
 use Rattle.ufmt_core.specs.Writes.{Seen, Writes}
 use Rattle.ufmt_core.specs.Formatter.{Prints, LaysOut, setting_of, text_at, writer_of}
-use Rattle.ufmt_core.specs.Parts.{entries_part, pair_text}
+use Rattle.ufmt_core.specs.Parts.{entries_part, next_comma, pair_text, tuple_rest}
 use Rattle.ufmt_core.specs.Block.{Block, Adds, AddsEntry, AddsField, AddsTupleField, Finishes, FinishesStruct, FinishesTuple, FinishesWith, Opens, OpensTuple, inner, outer, place, stage, stage_after}
-use Rattle.ufmt_core.proofs.Blocks.{after_entries-place}
+use Rattle.ufmt_core.proofs.Blocks.{Finishes-then, after_entries-place}
 use Rattle.ufmt_core.proofs.Layouts.{Left, entries_left, pairs_left, fields_left, tuple_left, left_text, IsBlock, Splits, list-is_block, set-is_block, entry-splits, entries-split, map-is_block, pair-splits, pairs-split, struct-is_block, field-splits, tuple-is_block, tuple-splits}
 use Rattle.ufmt_core.proofs.Writing.{Writes-then, Writes-fails, LaysOut-err}
 
@@ -51,13 +51,12 @@ module _ {W : Type 0} {seen : Seen W} {name : ℕ} {b b' : Block W} {left : Left
         };
   }
 
-  -- `finish`
-  Completes-finish : {closing : Setting → Place → List ℕ} {ok : Bool} → ((o i : Setting) (p : Place) → left_text left o i p ≡ closing o p) →
-      Finishes seen b (closing (outer b) (place (stage b))) ok b' → (name ≡ b'.name → last ≡ b'.formatter) → Completes seen name b left ok last
-  Completes-finish closes f e = record {
+  -- what closes the block
+  Completes-finish : {ok : Bool} → Finishes seen b (left_text left (outer b) (inner b) (place (stage b))) ok b' → (name ≡ b'.name → last ≡ b'.formatter) → Completes seen name b left ok last
+  Completes-finish f e = record {
     continues = λ h.
         let at_end = e (h ∙ sym f.same_reference) in
-        record { wrote = rw (closes (outer b) (inner b) (place (stage b)), at_end) f.wrote; restored = ap setting_of at_end ∙ f.restored };
+        record { wrote = rw at_end f.wrote; restored = ap setting_of at_end ∙ f.restored };
   }
 
 module _ {W : Type 0} {seen : Seen W} {start last : Formatter W} {whole : Document} {opening : List ℕ} {left : Left} (is_block : IsBlock whole opening left) where
@@ -130,7 +129,7 @@ module _ {W : Type 0} {seen : Seen W} {last : Formatter W} {name : ℕ} {b b' : 
   entries_stopped {bracket} ds = Completes-stops (stage_after (stage b) ds) (entries-split bracket ds)
 
   pub entries_finished : {bracket : List ℕ} {ok : Bool} → FinishesWith seen b bracket ok b' → (name ≡ b'.name → last ≡ b'.formatter) → Completes seen name b (entries_left bracket no_documents) ok last
-  entries_finished = Completes-finish (λ o i p. refl)
+  entries_finished = Completes-finish
 
   pub pair_added : {key value : Document} {ps : Pairs} {ok : Bool} → AddsEntry seen b (λ s. pair_text s (key, value)) true b' → Completes seen name b' (pairs_left ps) ok last →
       Completes seen name b (pairs_left (pair key value ps)) ok last
@@ -149,7 +148,7 @@ module _ {W : Type 0} {seen : Seen W} {last : Formatter W} {name : ℕ} {b b' : 
   pairs_stopped ps = Completes-stops (stage_after (stage b) ps) (pairs-split ps)
 
   pub map_finished : {ok : Bool} → FinishesWith seen b (codes "}") ok b' → (name ≡ b'.name → last ≡ b'.formatter) → Completes seen name b (pairs_left no_pairs) ok last
-  map_finished = Completes-finish (λ o i p. refl)
+  map_finished = Completes-finish
 
   pub field_added : {label : List ℕ} {d : Document} {fs : Fields} {ok : Bool} → AddsField seen b label d true b' → Completes seen name b' (fields_left fs) ok last → Completes seen name b (fields_left (field label d fs)) ok last
   field_added {label} {d} {fs} a = Completes-then Later (field-splits label d fs) refl a.adds
@@ -158,7 +157,7 @@ module _ {W : Type 0} {seen : Seen W} {last : Formatter W} {name : ℕ} {b b' : 
   field_stopped {label} {d} {fs} a = Completes-stops Later (field-splits label d fs) a.adds
 
   pub struct_finished : {ok : Bool} → FinishesStruct seen b ok b' → (name ≡ b'.name → last ≡ b'.formatter) → Completes seen name b (fields_left no_fields) ok last
-  struct_finished f = Completes-finish (λ o i p. refl) f.finishes
+  struct_finished f = Completes-finish f.finishes
 
   pub tuple_field_added : {old new : Comma} {d : Document} {ds : Documents} {ok : Bool} → AddsTupleField seen b old d true b' new → Completes seen name b' (tuple_left new ds) ok last →
       Completes seen name b (tuple_left old (document d ds)) ok last
@@ -170,4 +169,18 @@ module _ {W : Type 0} {seen : Seen W} {last : Formatter W} {name : ℕ} {b b' : 
   tuple_field_stopped {old} {d = d} {ds} a = Completes-stops Later (tuple-splits old d ds) a.adds
 
   pub tuple_finished : {comma : Comma} {ok : Bool} → FinishesTuple seen b comma ok b' → (name ≡ b'.name → last ≡ b'.formatter) → Completes seen name b (tuple_left comma no_documents) ok last
-  tuple_finished f = Completes-finish (λ o i p. refl) f.finishes
+  tuple_finished f = Completes-finish f.finishes
+
+  -- a call that writes all the fields that are left, and the closing
+  pub tuple_completed : {comma : Comma} {ds : Documents} {ok : Bool} → Finishes seen b (tuple_rest (outer b) (inner b) (place (stage b)) comma ds) ok b' → (name ≡ b'.name → last ≡ b'.formatter) →
+      Completes seen name b (tuple_left comma ds) ok last
+  tuple_completed = Completes-finish
+
+module _ {W : Type 0} {seen : Seen W} {old mid new : Block W} {old_comma mid_comma : Comma} {d : Document} where
+  -- a field, and then a call that writes all that are left
+  pub tuple_rest-then : (ds : Documents) {ok : Bool} → AddsTupleField seen old old_comma d true mid mid_comma → Finishes seen mid (tuple_rest (outer mid) (inner mid) (place (stage mid)) mid_comma ds) ok new →
+      Finishes seen old (tuple_rest (outer old) (inner old) (place (stage old)) old_comma (document d ds)) ok new
+  tuple_rest-then ds {ok} a f =
+      let text : tuple_rest (outer mid) (inner mid) (place (stage mid)) mid_comma ds ≡ tuple_rest (outer old) (inner old) later (next_comma old_comma) ds =
+      rw (a.adds.kept, a.adds.leaves.1, a.adds.leaves.0, a.counts refl) refl in
+      Finishes-then old mid new Later a.adds (subst (λ (t : List ℕ). Finishes seen mid t ok new) text f)

@@ -5,7 +5,7 @@ use Rattle.ufmt_core.specs.declared.formatter.Mode.TheVariants.{Plain, Pretty}
 use Rattle.ufmt_core.specs.declared.formatter.Setting.{Setting}
 use Rattle.ufmt_core.specs.declared.formatter.block.Comma.{Comma}
 use Rattle.ufmt_core.specs.declared.formatter.block.Comma.TheVariants.{AfterOne, Now, Never}
-use Rattle.ufmt_core.specs.Document.{Document}
+use Rattle.ufmt_core.specs.Document.{Document, Documents, no_documents, document}
 use Rattle.ufmt_core.specs.Formatter.{text_at}
 use Rattle.ufmt_core.specs.Layout.{Place, first, later, before, after, opened, closed, gap}
 
@@ -87,3 +87,8 @@ comma_text Pretty comma = []
 abbrev pub tuple_closing : Setting → Place → Comma → List ℕ
 tuple_closing s first comma = []
 tuple_closing s later comma = closing s later (comma_text s.mode comma ++ codes ")")
+
+-- the fields that are left to a tuple, and its closing, where the tuple stands at the first mode and depth and its fields at the second
+abbrev pub tuple_rest : Setting → Setting → Place → Comma → Documents → List ℕ
+tuple_rest o i place comma no_documents = tuple_closing o place comma
+tuple_rest o i place comma (document d ds) = tuple_part i place (text_at i d) ++ tuple_rest o i later (next_comma comma) ds

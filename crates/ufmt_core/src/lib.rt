@@ -17,6 +17,7 @@ mod structs;
 #[cfg(test)]
 mod tests;
 mod tuple;
+mod tuple_impls;
 pub mod unsigned;
 mod write;
 

@@ -19,6 +19,17 @@ fn pretty<T: uDebug>(alloc: Global, value: &T) -> Result<String, AllocError> {
     Ok(text)
 }
 
+fn check_plain<T: uDebug>(
+    rt: &impl Abort,
+    alloc: Global,
+    value: &T,
+    plain_text: &str,
+) -> Result<(), AllocError> {
+    let text = plain(alloc, value)?;
+    assert_eq!(rt; text.as_str(), plain_text);
+    Ok(())
+}
+
 // Both texts are those of ufmt 0.2.0 and of core::fmt.
 fn check<T: uDebug>(
     rt: &impl Abort,
@@ -27,8 +38,7 @@ fn check<T: uDebug>(
     plain_text: &str,
     pretty_text: &str,
 ) -> Result<(), AllocError> {
-    let text = plain(alloc, value)?;
-    assert_eq!(rt; text.as_str(), plain_text);
+    check_plain(rt, alloc, value, plain_text)?;
     let text = pretty(alloc, value)?;
     assert_eq!(rt; text.as_str(), pretty_text);
     Ok(())

@@ -1,4 +1,4 @@
-use super::check;
+use super::{check, check_plain};
 use crate::{Formatter, uDebug, uWrite};
 use std::collections::BTreeMap;
 use std::test::Fail;
@@ -90,6 +90,49 @@ fn options_results_and_boxes(rt: HostRuntime) -> Result<(), Fail> {
         &[[1u8; 2]; 1],
         "[[1, 1]]",
         "[\n    [\n        1,\n        1,\n    ],\n]",
+    )?;
+    Ok(())
+}
+
+#[test]
+fn tuples_of_each_length(rt: HostRuntime) -> Result<(), Fail> {
+    let alloc = rt.alloc();
+    check(&rt, alloc, &(1u64,), "(1,)", "(\n    1,\n)")?;
+    check(&rt, alloc, &(1u8, 2i32), "(1, 2)", "(\n    1,\n    2,\n)")?;
+    check_plain(
+        &rt,
+        alloc,
+        &(1, 2, 3, 4, 5, 6, 7, 8, 9, 10, 11, 12),
+        "(1, 2, 3, 4, 5, 6, 7, 8, 9, 10, 11, 12)",
+    )?;
+    check_plain(&rt, alloc, &(1, 2, 3), "(1, 2, 3)")?;
+    check_plain(&rt, alloc, &(1, 2, 3, 4), "(1, 2, 3, 4)")?;
+    check_plain(&rt, alloc, &(1, 2, 3, 4, 5), "(1, 2, 3, 4, 5)")?;
+    check_plain(&rt, alloc, &(1, 2, 3, 4, 5, 6), "(1, 2, 3, 4, 5, 6)")?;
+    check_plain(&rt, alloc, &(1, 2, 3, 4, 5, 6, 7), "(1, 2, 3, 4, 5, 6, 7)")?;
+    check_plain(
+        &rt,
+        alloc,
+        &(1, 2, 3, 4, 5, 6, 7, 8),
+        "(1, 2, 3, 4, 5, 6, 7, 8)",
+    )?;
+    check_plain(
+        &rt,
+        alloc,
+        &(1, 2, 3, 4, 5, 6, 7, 8, 9),
+        "(1, 2, 3, 4, 5, 6, 7, 8, 9)",
+    )?;
+    check_plain(
+        &rt,
+        alloc,
+        &(1, 2, 3, 4, 5, 6, 7, 8, 9, 10),
+        "(1, 2, 3, 4, 5, 6, 7, 8, 9, 10)",
+    )?;
+    check_plain(
+        &rt,
+        alloc,
+        &(1, 2, 3, 4, 5, 6, 7, 8, 9, 10, 11),
+        "(1, 2, 3, 4, 5, 6, 7, 8, 9, 10, 11)",
     )?;
     Ok(())
 }
