@@ -442,6 +442,43 @@ mod tests {
     }
 
     #[test]
+    fn nonzero_numbers(rt: HostRuntime) -> Result<(), Fail> {
+        let alloc = rt.alloc();
+        check_some(&rt, alloc, NonZeroU8::new(1), "1")?;
+        check_some(&rt, alloc, NonZeroU16::new(2), "2")?;
+        check_some(&rt, alloc, NonZeroU32::new(3), "3")?;
+        check_some(&rt, alloc, NonZeroU64::new(4), "4")?;
+        check_some(&rt, alloc, NonZeroUsize::new(5), "5")?;
+        check_some(&rt, alloc, NonZeroI8::new(-128), "-128")?;
+        check_some(&rt, alloc, NonZeroI16::new(-2), "-2")?;
+        check_some(&rt, alloc, NonZeroI32::new(-3), "-3")?;
+        check_some(&rt, alloc, NonZeroI64::new(-4), "-4")?;
+        check_some(&rt, alloc, NonZeroIsize::new(-5), "-5")?;
+        Ok(())
+    }
+
+    fn check_some<T: uDisplay + Drop>(
+        rt: &impl Abort,
+        alloc: Global,
+        value: Option<T>,
+        expected: &str,
+    ) -> Result<(), Fail> {
+        assert!(rt; value.is_some());
+        if let Some(value) = value {
+            check(rt, alloc, &value, expected)?;
+        }
+        Ok(())
+    }
+
+    #[test]
+    fn a_character_is_one_piece(rt: HostRuntime) {
+        let mut buffer = [0u8; 1];
+        let mut cursor = Cursor::new(&mut buffer);
+        assert_eq!(rt; 'é'.fmt(&mut Formatter::new(&mut cursor)), Err(crate::Full));
+        assert_eq!(rt; cursor.remaining(), 1);
+    }
+
+    #[test]
     fn truth_values_and_texts(rt: HostRuntime) -> Result<(), Fail> {
         let alloc = rt.alloc();
         check(&rt, alloc, &true, "true")?;

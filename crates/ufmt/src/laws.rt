@@ -92,6 +92,7 @@ pub fn both_traits_print_one_text()
 pub fn references_print_what_they_refer_to<T: uDebug + uDisplay>()
     ensures debug { (x : Bor T) → ⟦<&'static T as uDebug>⟧.document x ≡ T.document x.now }
     ensures debug_mut { (x : MutBor T) → ⟦<&'static mut T as uDebug>⟧.document x ≡ T.document x.now }
+    ensures debug_box { (x : Box T) → ⟦<Box<T> as uDebug>⟧.document x ≡ T.document x.value }
     ensures display { (x : Bor T) → ⟦<&'static T as uDisplay>⟧.display x ≡ T.display x.now }
     ensures display_mut { (x : MutBor T) → ⟦<&'static mut T as uDisplay>⟧.display x ≡ T.display x.now }
     ensures display_box { (x : Box T) → ⟦<Box<T> as uDisplay>⟧.display x ≡ T.display x.value }

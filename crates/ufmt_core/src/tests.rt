@@ -13,12 +13,6 @@ fn plain<T: uDebug>(alloc: Global, value: &T) -> Result<String, AllocError> {
     Ok(text)
 }
 
-fn pretty<T: uDebug>(alloc: Global, value: &T) -> Result<String, AllocError> {
-    let mut text = String::new(alloc);
-    Formatter::new(&mut text).pretty(|f| value.fmt(f))?;
-    Ok(text)
-}
-
 fn check_plain<T: uDebug>(
     rt: &impl Abort,
     alloc: Global,
@@ -39,7 +33,11 @@ fn check<T: uDebug>(
     pretty_text: &str,
 ) -> Result<(), AllocError> {
     check_plain(rt, alloc, value, plain_text)?;
-    let text = pretty(alloc, value)?;
+    let mut text = String::new(alloc);
+    let mut f = Formatter::new(&mut text);
+    f.pretty(|f| value.fmt(f))?;
+    assert!(rt; !f.is_pretty());
+    assert_eq!(rt; f.depth(), 0);
     assert_eq!(rt; text.as_str(), pretty_text);
     Ok(())
 }
