@@ -2,6 +2,7 @@ pub mod Cursor
 pub mod Hex
 pub mod Pieces
 pub use Rattle.ufmt_core.specs.Block
+pub use Rattle.ufmt_core.specs.Core
 pub use Rattle.ufmt_core.specs.Decimal
 pub use Rattle.ufmt_core.specs.Document
 pub use Rattle.ufmt_core.specs.Formatter
@@ -11,4 +12,5 @@ pub use Rattle.ufmt_core.specs.Map
 pub use Rattle.ufmt_core.specs.Parts
 pub use Rattle.ufmt_core.specs.Set
 pub use Rattle.ufmt_core.specs.Struct
+pub use Rattle.ufmt_core.specs.Tuple
 pub use Rattle.ufmt_core.specs.Writes

@@ -45,8 +45,13 @@ shown_takes_first shows s None t p = p.0
 shown_takes_first shows s (Some x) t p = p
 
 -- the items of a slice, by reference
-pub AlwaysYields-slice : {X B : Type 0} (h : X → B) (s : Iter X) → AlwaysYields (iter_steps {A = X}) (λ x. h x.now) s (map h (iter_rest s))
+AlwaysYields-slice : {X B : Type 0} (h : X → B) (s : Iter X) → AlwaysYields (iter_steps {A = X}) (λ x. h x.now) s (map h (iter_rest s))
 AlwaysYields-slice h = AlwaysYields-first iter_steps iter_rest (λ x. x.now) h slice_takes_first
+
+-- those that such an iterator has left at its start
+pub AlwaysYields-items : {X B : Type 0} (h : X → B) {items it : Iter X} {xs : List X} → it ≡ items → iter_rest items ≡ xs → AlwaysYields (iter_steps {A = X}) (λ x. h x.now) it (map h xs)
+AlwaysYields-items {B = B} h {it = it} gives left =
+    subst (λ (ys : List B). AlwaysYields iter_steps (λ x. h x.now) it ys) (ap (map h) (ap iter_rest gives ∙ left)) (AlwaysYields-slice h it)
 
 -- the keys of a set or the entries of a map, as `shows` reads what the iterator gives
 pub AlwaysYields-shown : {A X B : Type 0} (shows : A → X) (h : X → B) (xs : List X) → AlwaysYields (TakesFirst shows) (λ x. h (shows x)) xs (map h xs)

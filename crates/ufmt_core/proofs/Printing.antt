@@ -1,21 +1,28 @@
 -- The steps by which a `fmt` is proved, one for each call of a builder: what is left to write before the call, and what is left after it.
-use Rattle.std.proofs.Common.{◌≡◌, ℕ, List, ◌++◌, Bool, true, false, codes, is_ok, Result, Err, OnErr, refl, ap, sym, ◌∙◌, subst, map}
-use Rattle.std.specs.Prelude.{IsErr}
+use Rattle.std.proofs.Common.{◌≡◌, ℕ, List, ◌++◌, Bool, true, false, codes, is_ok, Result, Err, OnErr, refl, ap, sym, ◌∙◌, subst, map, Iter}
+use Rattle.std.specs.Prelude.{IsErr, OnOk}
 use Rattle.std.proofs.lemmas.Result.{IfErr-at_err}
+use Rattle.std.specs.Slice.Iter.{iter_rest, iter_steps}
 use Rattle.ufmt_core.specs.declared.formatter.Setting.{Setting}
 use Rattle.ufmt_core.specs.declared.formatter.Formatter.{Formatter}
 use Rattle.ufmt_core.specs.declared.formatter.block.Comma.{Comma}
 use Rattle.ufmt_core.specs.declared.formatter.block.Stage.{Stage}
-use Rattle.ufmt_core.specs.declared.formatter.block.Stage.TheVariants.{Later}
+use Rattle.ufmt_core.specs.declared.formatter.block.Stage.TheVariants.{Later, Lent}
+use Rattle.ufmt_core.specs.declared.structs.DebugStruct.{DebugStruct}
+use Rattle.ufmt_core.specs.declared.tuple.DebugTuple.{DebugTuple}
 use Rattle.ufmt_core.specs.Document.{Document, list_of, set_of, map_of, struct_of, tuple_of, Documents, no_documents, document, Pairs, no_pairs, pair, Fields, no_fields, field, documents, pairs_of}
 use Rattle.ufmt_core.specs.Layout.{later, Place}
 use Rattle.ufmt_core.specs.Writes.{Seen, Writes}
 use Rattle.ufmt_core.specs.Formatter.{Prints, LaysOut, setting_of, text_at, writer_of}
-use Rattle.ufmt_core.specs.Parts.{entries_part, next_comma, pair_text, tuple_rest}
-use Rattle.ufmt_core.specs.Block.{Block, Adds, AddsEntry, AddsField, AddsTupleField, Finishes, FinishesStruct, FinishesTuple, FinishesWith, Opens, OpensTuple, inner, outer, place, stage, stage_after}
-use Rattle.ufmt_core.proofs.Blocks.{Finishes-then, after_entries-place}
+use Rattle.ufmt_core.specs.Parts.{entries_part, field_lead, lead_after, next_comma, pair_text, trail, tuple_rest, tuple_start}
+use Rattle.ufmt_core.specs.Block.{Block, Adds, AddsEntries, AddsEntry, AddsField, AddsTupleField, BeginsField, BeginsTupleField, Finishes, FinishesStruct, FinishesTuple, FinishesWith, Opens, OpensTuple, PassesOn, inner, outer, place, stage, stage_after}
+use Rattle.ufmt_core.specs.Struct as struct_builder
+use Rattle.ufmt_core.specs.Tuple as tuple_builder
+use Rattle.ufmt_core.proofs.Blocks.{Adds-entry, Adds-fails, Adds-from_entries, Finishes-then, after_entries-place}
+use Rattle.ufmt_core.proofs.Items.{AlwaysYields-items}
 use Rattle.ufmt_core.proofs.Layouts.{Left, entries_left, pairs_left, fields_left, tuple_left, left_text, IsBlock, Splits, list-is_block, set-is_block, entry-splits, entries-split, map-is_block, pair-splits, pairs-split, struct-is_block, field-splits, tuple-is_block, tuple-splits}
-use Rattle.ufmt_core.proofs.Writing.{Writes-then, Writes-fails, LaysOut-err}
+use Rattle.ufmt_core.proofs.Writing.{Writes-then, Writes-fails}
+pub use Rattle.ufmt_core.proofs.Writing.{LaysOut-err}
 
 module _ {W : Type 0} where
   -- from this builder on the text was written, and the formatter has come to `last`, with the mode and depth from before the builder
@@ -128,6 +135,16 @@ module _ {W : Type 0} {seen : Seen W} {last : Formatter W} {name : ℕ} {b b' : 
       (name ≡ b'.name → last ≡ b'.formatter) → Completes seen name b (entries_left bracket (documents ds)) false last
   entries_stopped {bracket} ds = Completes-stops (stage_after (stage b) ds) (entries-split bracket ds)
 
+  -- `entries` over an iterator of a slice, which has these items left
+  module _ {X : Type 0} {items : Iter X} {xs : List X} (h : X → Document) (left : iter_rest items ≡ xs) where
+    pub items_added : {bracket : List ℕ} {ok : Bool} → AddsEntries seen (λ items it. it ≡ items) iter_steps (λ s x. text_at s (h x.now)) items b true b' →
+        Completes seen name b' (entries_left bracket no_documents) ok last → Completes seen name b (entries_left bracket (documents (map h xs))) ok last
+    items_added a = entries_added (map h xs) (Adds-from_entries (λ x. h x.now) text_at items (map h xs) b b' true (λ it gives. AlwaysYields-items h gives left) a)
+
+    pub items_stopped : {bracket : List ℕ} → AddsEntries seen (λ items it. it ≡ items) iter_steps (λ s x. text_at s (h x.now)) items b false b' → (name ≡ b'.name → last ≡ b'.formatter) →
+        Completes seen name b (entries_left bracket (documents (map h xs))) false last
+    items_stopped a = entries_stopped (map h xs) (Adds-from_entries (λ x. h x.now) text_at items (map h xs) b b' false (λ it gives. AlwaysYields-items h gives left) a)
+
   pub entries_finished : {bracket : List ℕ} {ok : Bool} → FinishesWith seen b bracket ok b' → (name ≡ b'.name → last ≡ b'.formatter) → Completes seen name b (entries_left bracket no_documents) ok last
   entries_finished = Completes-finish
 
@@ -184,3 +201,39 @@ module _ {W : Type 0} {seen : Seen W} {old mid new : Block W} {old_comma mid_com
       let text : tuple_rest (outer mid) (inner mid) (place (stage mid)) mid_comma ds ≡ tuple_rest (outer old) (inner old) later (next_comma old_comma) ds =
       rw (a.adds.kept, a.adds.leaves.1, a.adds.leaves.0, a.counts refl) refl in
       Finishes-then old mid new Later a.adds (subst (λ (t : List ℕ). Finishes seen mid t ok new) text f)
+
+-- a field by `begin_field`, what the lent formatter prints, and `end_field`
+module _ {W E : Type 0} {seen : Seen W} {d : Document} {begun ended : Formatter W} (answer result : Result (Unit {0}) E) where
+  module _ (old : DebugStruct W) {mid : DebugStruct W} {new : Block W} {label : List ℕ} where
+    pub field_between : mid ≡ struct_builder.with_formatter (record old { progress = record old.progress { stage = Lent } }) ended → BeginsField seen (struct_builder.block old) label begun →
+        LaysOut seen begun d (is_ok answer) ended → OnOk answer (Adds seen (struct_builder.block mid) (trail (inner (struct_builder.block mid))) (is_ok result) Later new) →
+        PassesOn answer result (struct_builder.block mid) new → AddsField seen (struct_builder.block old) label d (is_ok result) new
+    field_between lent begins lays_out ends passes_on =
+        record { adds = Adds-entry Lent _ _ _ ended (λ s. text_at s d) answer result begins lays_out.prints (ap struct_builder.block lent) ends passes_on }
+
+  module _ (old : DebugTuple W) {mid : DebugTuple W} {new : Block W} {new_comma : Comma} where
+    pub tuple_field_between : mid ≡ tuple_builder.with_formatter (record old { progress = record old.progress { stage = Lent } }) ended → BeginsTupleField seen (tuple_builder.block old) begun →
+        LaysOut seen begun d (is_ok answer) ended → OnOk answer (Adds seen (tuple_builder.block mid) (trail (inner (tuple_builder.block mid))) (is_ok result) Later new) →
+        PassesOn answer result (tuple_builder.block mid) new → new_comma ≡ next_comma (tuple_builder.comma mid) →
+        AddsTupleField seen (tuple_builder.block old) (tuple_builder.comma old) d (is_ok result) new new_comma
+    tuple_field_between lent begins lays_out ends passes_on counts = record {
+      adds = Adds-entry Lent _ _ _ ended (λ s. text_at s d) answer result begins lays_out.prints (ap tuple_builder.block lent) ends passes_on;
+      counts = λ ok. counts ∙ ap (λ b. next_comma (tuple_builder.comma b)) lent;
+    }
+
+-- where `begin_field` failed
+module _ {W X E : Type 0} {seen : Seen W} {b : Block W} {d : Document} {r : Result X E} {e : E} where
+  pub AddsField-not_begun : (b' : Block W) {label : List ℕ} → r ≡ Err e → OnErr r (Adds seen b (field_lead (inner b) (place (stage b)) label) false Lent b') → AddsField seen b label d false b'
+  AddsField-not_begun b' was left = record { adds = Adds-fails _ _ _ Lent Later (IfErr-at_err _ was left) }
+
+  pub AddsTupleField-not_begun : (b' : Block W) {old new : Comma} → r ≡ Err e → OnErr r (Adds seen b (lead_after tuple_start (inner b) (place (stage b))) false Lent b') → AddsTupleField seen b old d false b' new
+  AddsTupleField-not_begun b' was left = record { adds = Adds-fails _ _ _ Lent Later (IfErr-at_err _ was left); counts = λ ok. absurd (cc) }
+
+  module _ (b' : Block W) {last : Formatter W} {name : ℕ} where
+    pub field_not_begun : {label : List ℕ} {fs : Fields} → r ≡ Err e → OnErr r (Adds seen b (field_lead (inner b) (place (stage b)) label) false Lent b') → (name ≡ b'.name → last ≡ b'.formatter) →
+        Completes seen name b (fields_left (field label d fs)) false last
+    field_not_begun was left = field_stopped (AddsField-not_begun b' was left)
+
+    pub tuple_field_not_begun : {comma : Comma} {ds : Documents} → r ≡ Err e → OnErr r (Adds seen b (lead_after tuple_start (inner b) (place (stage b))) false Lent b') → (name ≡ b'.name → last ≡ b'.formatter) →
+        Completes seen name b (tuple_left comma (document d ds)) false last
+    tuple_field_not_begun {comma} was left = tuple_field_stopped {new = comma} (AddsTupleField-not_begun b' was left)

@@ -1,22 +1,11 @@
 use Rattle.std.proofs.Common.{ap, is_ok}
-use Rattle.std.proofs.lemmas.Result.{IfErr-at_err}
-use Rattle.ufmt_core.specs.declared.formatter.block.Stage.TheVariants.{Later, Lent}
-use Rattle.ufmt_core.specs.Formatter.{text_at}
-use Rattle.ufmt_core.specs.Struct.{block}
-use Rattle.ufmt_core.proofs.Blocks.{Adds-entry, Adds-fails}
+use Rattle.ufmt_core.proofs.Printing.{AddsField-not_begun, field_between}
 use Rattle.ufmt_core.proofs.Writing.{is_ok-err}
 use Rattle.ufmt_core.proofs.structs.DebugStruct.field.Goals as goal
 
 pub returns-in_err-begin_field-clause-adds : goal.returns-in_err-begin_field-clause-adds
-returns-in_err-begin_field-clause-adds g c =
-    let left = IfErr-at_err _ c.in_err-begin_field.was c.begin_field.follows.holds-at-none in
-    rw (is_ok-err _ c.from_residual.ensures.0) record { adds = Adds-fails _ _ _ Lent Later left }
+returns-in_err-begin_field-clause-adds g c = rw (is_ok-err _ c.from_residual.ensures.0) (AddsField-not_begun _ c.in_err-begin_field.was c.begin_field.follows.holds-at-none)
 
 pub returns-clause-adds : goal.returns-clause-adds
 returns-clause-adds g c =
-    let lent = ap block (c.begin_field.follows.holds c.fmt-answer.new.f (ap is_ok c.in_ok-begin_field.was)) in
-    record {
-      adds =
-          Adds-entry Lent _ _ _ c.fmt-answer.new.f (λ s. text_at s (g.D.uDebug.document c.args.value.now)) _ _
-          c.in_ok-begin_field.ensures.begins c.fmt-answer.ensures.prints lent c.end_field.ensures.ends c.end_field.ensures.passes_on;
-    }
+    field_between _ _ _ (c.begin_field.follows.holds _ (ap is_ok c.in_ok-begin_field.was)) c.in_ok-begin_field.ensures.begins c.fmt-answer.ensures c.end_field.ensures.ends c.end_field.ensures.passes_on

@@ -1,0 +1,23 @@
+ghost use Rattle.std.specs.Prelude.{map};
+ghost use Rattle.ufmt.specs.Document.{documents, list_of};
+
+use ufmt::{Formatter, uDebug, uWrite};
+
+/// A list of its own name, which prints as a list.
+#[derive(Drop)]
+pub struct Scores<T> {
+    pub scores: Vec<T>,
+}
+
+impl<T: uDebug> uDebug for Scores<T> {
+    ghost document = { λ s. list_of (documents (map T.document s.scores.items)) };
+
+    fn fmt<W>(&self, f: &mut Formatter<W>) -> Result<(), W::Error>
+    where
+        W: uWrite,
+    {
+        let mut list = f.debug_list()?;
+        list.entries(self.scores.iter())?;
+        list.finish()
+    }
+}
