@@ -5,6 +5,7 @@ use std::process::Abort;
 
 mod collections;
 mod formatters;
+mod numbers;
 mod structs;
 
 fn plain<T: uDebug>(alloc: Global, value: &T) -> Result<String, AllocError> {

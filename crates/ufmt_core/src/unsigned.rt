@@ -157,37 +157,3 @@ impl uDebug for usize {
         f.write_str(decimal_text(*self as u64, &mut [0; 20]))
     }
 }
-
-#[cfg(test)]
-mod tests {
-    use super::*;
-
-    #[test]
-    fn greatest_numbers(rt: HostRuntime) {
-        assert_eq!(rt; decimal_text(u64::from(u8::MAX), &mut [0; 3]), "255");
-        assert_eq!(rt; decimal_text(u64::from(u16::MAX), &mut [0; 5]), "65535");
-        assert_eq!(rt;
-            decimal_text(u64::from(u32::MAX), &mut [0; 10]),
-            "4294967295"
-        );
-        assert_eq!(rt;
-            decimal_text(u64::MAX, &mut [0; 20]),
-            "18446744073709551615"
-        );
-        assert_eq!(rt;
-            decimal_text(usize::MAX as u64, &mut [0; 20]),
-            "18446744073709551615"
-        );
-        assert_eq!(rt;
-            decimal_text(u128::MAX, &mut [0; 39]),
-            "340282366920938463463374607431768211455"
-        );
-    }
-
-    #[test]
-    fn zeros(rt: HostRuntime) {
-        assert_eq!(rt; decimal_text(u64::from(0u8), &mut [0; 3]), "0");
-        assert_eq!(rt; decimal_text(u64::from(10u8), &mut [0; 3]), "10");
-        assert_eq!(rt; decimal_text(u64::from(100u8), &mut [0; 3]), "100");
-    }
-}

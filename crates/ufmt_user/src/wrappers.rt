@@ -1,7 +1,8 @@
 //! Structs without names for their fields, and without fields.
-ghost use Rattle.std.specs.Prelude.{codes};
+ghost use Rattle.std.specs.Prelude.{codes, is_ok};
 ghost use Rattle.ufmt.specs.Core.{variant_of};
-ghost use Rattle.ufmt.specs.Document.{document, no_documents, no_fields, struct_of, tuple_of};
+ghost use Rattle.ufmt.specs.Document.{document, no_documents, no_fields, pretty_part, struct_of, tuple_of};
+ghost use Rattle.ufmt.specs.Formatter.{LaysOut};
 ghost use Rattle.ufmt_user.specs.Wrappers.{y_document};
 
 use ufmt::{Formatter, uDebug, uWrite};
@@ -56,6 +57,19 @@ impl<T: uDebug, U: uDebug> uDebug for Tuple<T, U> {
     }
 }
 
+// Types of one shape may share the function that prints them.
+fn fmt_wrapper<T: uDebug, W: uWrite>(
+    name: &str,
+    value: &T,
+    f: &mut Formatter<W>,
+) -> Result<(), W::Error>
+    ensures { LaysOut W.seen f.old (variant_of name.now (T.document value.now)) (is_ok result) f.new }
+{
+    let mut wrapper = f.debug_tuple(name)?;
+    wrapper.field(value)?;
+    wrapper.finish()
+}
+
 /// A struct around one value.
 #[derive(Drop)]
 pub struct X<T>(pub T);
@@ -67,9 +81,22 @@ impl<T: uDebug> uDebug for X<T> {
     where
         W: uWrite,
     {
-        let mut x = f.debug_tuple("X")?;
-        x.field(&self.0)?;
-        x.finish()
+        fmt_wrapper("X", &self.0, f)
+    }
+}
+
+/// Another.
+#[derive(Drop)]
+pub struct I32<T>(pub T);
+
+impl<T: uDebug> uDebug for I32<T> {
+    ghost document = { λ x. variant_of (codes "I32") (T.document x.0) };
+
+    fn fmt<W>(&self, f: &mut Formatter<W>) -> Result<(), W::Error>
+    where
+        W: uWrite,
+    {
+        fmt_wrapper("I32", &self.0, f)
     }
 }
 
@@ -89,11 +116,22 @@ impl<T: uDebug> uDebug for Y<T> {
     {
         match self {
             Y::W => f.write_str("W"),
-            Y::Z(value) => {
-                let mut z = f.debug_tuple("Z")?;
-                z.field(value)?;
-                z.finish()
-            }
+            Y::Z(value) => fmt_wrapper("Z", value, f),
         }
+    }
+}
+
+/// A value that stands in pretty mode, whatever the mode around it.
+#[derive(Drop)]
+pub struct InPrettyMode<T>(pub T);
+
+impl<T: uDebug> uDebug for InPrettyMode<T> {
+    ghost document = { λ x. pretty_part (T.document x.0) };
+
+    fn fmt<W>(&self, f: &mut Formatter<W>) -> Result<(), W::Error>
+    where
+        W: uWrite,
+    {
+        f.pretty(|f| self.0.fmt(f))
     }
 }

@@ -1,6 +1,8 @@
-use super::{check, check_plain};
+use super::{check, check_plain, check_unlike_ufmt};
 use crate::{Formatter, uDebug, uWrite};
+use std::alloc::{AllocError, Global};
 use std::collections::BTreeMap;
+use std::process::Abort;
 use std::test::Fail;
 
 // A struct with a map and a number, its number by a begin and an end call, and a struct without fields.
@@ -74,31 +76,90 @@ fn tuples_of_few_fields(rt: HostRuntime) -> Result<(), Fail> {
     Ok(())
 }
 
+fn check_values<N: uDebug + Copy>(
+    rt: &impl Abort,
+    alloc: Global,
+    zero: N,
+    one: N,
+    two: N,
+) -> Result<(), AllocError> {
+    check(rt, alloc, &None::<N>, "None", "None")?;
+    check(rt, alloc, &Some(zero), "Some(0)", "Some(\n    0,\n)")?;
+    check(rt, alloc, &Some(one), "Some(1)", "Some(\n    1,\n)")?;
+    check(rt, alloc, &Ok::<N, N>(one), "Ok(1)", "Ok(\n    1,\n)")?;
+    check(rt, alloc, &Err::<N, N>(two), "Err(2)", "Err(\n    2,\n)")?;
+    check(rt, alloc, &(one,), "(1,)", "(\n    1,\n)")?;
+    check(rt, alloc, &(one, two), "(1, 2)", "(\n    1,\n    2,\n)")?;
+    check(rt, alloc, &&one, "1", "1")?;
+    check(rt, alloc, &Box::new(alloc, one)?, "1", "1")
+}
+
 #[test]
-fn options_results_and_boxes(rt: HostRuntime) -> Result<(), Fail> {
+fn options_results_pairs_and_boxes(rt: HostRuntime) -> Result<(), Fail> {
     let alloc = rt.alloc();
-    check(&rt, alloc, &None::<u64>, "None", "None")?;
-    check(&rt, alloc, &Some(0i32), "Some(0)", "Some(\n    0,\n)")?;
-    check(&rt, alloc, &Ok::<u64, u64>(1), "Ok(1)", "Ok(\n    1,\n)")?;
-    check(&rt, alloc, &Err::<u64, u64>(2), "Err(2)", "Err(\n    2,\n)")?;
+    check_values(&rt, alloc, 0u64, 1, 2)?;
+    check_values(&rt, alloc, 0i32, 1, 2)?;
+    check(&rt, alloc, &&mut 3u64, "3", "3")?;
     check(&rt, alloc, &(), "()", "()")?;
     check(&rt, alloc, &true, "true", "true")?;
-    check(&rt, alloc, &Box::new(alloc, 3u64)?, "3", "3")?;
-    check(
+    check(&rt, alloc, &false, "false", "false")?;
+    Ok(())
+}
+
+#[test]
+fn rows_unlike_ufmt(rt: HostRuntime) -> Result<(), Fail> {
+    let alloc = rt.alloc();
+    let mut map = BTreeMap::new(alloc);
+    map.insert(1u64, 2u64)?;
+    check_unlike_ufmt(
         &rt,
         alloc,
-        &[[1u8; 2]; 1],
-        "[[1, 1]]",
-        "[\n    [\n        1,\n        1,\n    ],\n]",
+        &Some(map),
+        "Some({1: 2})",
+        "Some(\n    {\n        1: 2,\n    },\n)",
+        "Some(\n    {\n        1: 2,\n},\n    )",
     )?;
+    let lists: Vec<Vec<u64>> = vec![in alloc; Vec::new(alloc)]?;
+    let none: BTreeMap<u64, u64> = BTreeMap::new(alloc);
+    check_unlike_ufmt(
+        &rt,
+        alloc,
+        &(none, lists),
+        "({}, [[]])",
+        "(\n    {},\n    [\n        [],\n    ],\n)",
+        "(\n    {},\n        [\n            [            ],\n        ],\n    )",
+    )?;
+    check_unlike_ufmt(
+        &rt,
+        alloc,
+        &Err::<(), [u64; 0]>([]),
+        "Err([])",
+        "Err(\n    [],\n)",
+        "Err(\n    [    ],\n)",
+    )?;
+    Ok(())
+}
+
+#[test]
+fn a_tuple_of_257_fields(rt: HostRuntime) -> Result<(), Fail> {
+    let mut text = String::new(rt.alloc());
+    let mut f = Formatter::new(&mut text);
+    let mut tuple = f.debug_tuple("")?;
+    for _ in 0..257 {
+        assert!(rt; tuple.is_open());
+        tuple.field(&0u64)?;
+    }
+    assert!(rt; tuple.is_open());
+    tuple.finish()?;
+    assert_eq!(rt; text.len(), 771);
+    assert!(rt; text.as_str().starts_with("(0, 0"));
+    assert!(rt; text.as_str().ends_with("0, 0)"));
     Ok(())
 }
 
 #[test]
 fn tuples_of_each_length(rt: HostRuntime) -> Result<(), Fail> {
     let alloc = rt.alloc();
-    check(&rt, alloc, &(1u64,), "(1,)", "(\n    1,\n)")?;
-    check(&rt, alloc, &(1u8, 2i32), "(1, 2)", "(\n    1,\n    2,\n)")?;
     check_plain(
         &rt,
         alloc,

@@ -1,0 +1,42 @@
+//! The README's example: a line of a log in a buffer of a fixed size.
+ghost use Rattle.std.specs.Prelude.{codes};
+ghost use Rattle.ufmt.specs.Document.{field, no_fields, struct_of};
+
+use ufmt::{Cursor, Formatter, Full, HexOptions, uDebug, uWrite, uwriteln};
+
+/// What a sensor has measured.
+#[derive(Drop)]
+pub struct Reading {
+    pub channel: u8,
+    pub celsius: i32,
+}
+
+impl uDebug for Reading {
+    ghost document = { λ r. struct_of (codes "Reading") (field (codes "channel") (⟦<u8 as uDebug>⟧.document r.channel) (field (codes "celsius") (⟦<i32 as uDebug>⟧.document r.celsius) no_fields)) };
+
+    fn fmt<W>(&self, f: &mut Formatter<W>) -> Result<(), W::Error>
+    where
+        W: uWrite,
+    {
+        let mut reading = f.debug_struct("Reading")?;
+        reading.field("channel", &self.channel)?;
+        reading.field("celsius", &self.celsius)?;
+        reading.finish()
+    }
+}
+
+const REGISTER: HexOptions = HexOptions {
+    upper_case: false,
+    pad_char: b'0',
+    pad_length: 10,
+    ox_prefix: true,
+};
+
+/// Writes one line of a log and answers how many bytes it has. Where it doesn't fit the answer is
+/// `Full`, and the buffer begins with the pieces of the line that did.
+pub fn log(buffer: &mut [u8], reading: &Reading, control: u32) -> Result<usize, Full> {
+    let mut cursor = Cursor::new(buffer);
+    let mut f = Formatter::new(&mut cursor);
+    uwriteln!(&mut f, debug reading, text " control ", hex control with REGISTER)?;
+    Ok(cursor.written().len())
+}
