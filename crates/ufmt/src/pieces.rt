@@ -77,7 +77,7 @@ macro_rules! write_piece {
 
 #[cfg(test)]
 mod tests {
-    use crate::{Cursor, Formatter, Full, HexOptions, laws, uwrite, uwriteln};
+    use crate::{Cursor, Formatter, Full, HexOptions, laws, uWrite, uwrite, uwriteln};
     use std::test::Fail;
 
     const PREFIXED: HexOptions = HexOptions {
@@ -150,20 +150,44 @@ mod tests {
         assert_eq!(rt; f.into_inner().written(), b"The answer is 42\n".as_slice());
     }
 
+    fn write_all_pieces<W: uWrite>(f: &mut Formatter<W>) -> Result<(), W::Error> {
+        laws::all_pieces(f, "n=", &7i32, &(1i32,), &Some(2i32), &255u8, PREFIXED)
+    }
+
     #[test]
     fn all_pieces_in_a_row(rt: HostRuntime) -> Result<(), Fail> {
+        let whole = "n=7(1,)Some(\n    2,\n)0x00ff";
         let mut text = String::new(rt.alloc());
-        let list = [1u8];
-        laws::all_pieces(
-            &mut Formatter::new(&mut text),
-            "n=",
-            &7u8,
-            &list.as_slice(),
-            &list.as_slice(),
-            &255u8,
-            PREFIXED,
-        )?;
-        assert_eq!(rt; text.as_str(), "n=7[1][\n    1,\n]0x00ff");
+        write_all_pieces(&mut Formatter::new(&mut text))?;
+        assert_eq!(rt; text.as_str(), whole);
+        for (length, answer, written) in [(27, Ok(()), whole), (10, Err(Full), "n=7(1,)")] {
+            let mut buffer = [0; 27];
+            let mut f = Formatter::new(Cursor::new(&mut buffer[..length]));
+            assert_eq!(rt; write_all_pieces(&mut f), answer);
+            assert!(rt; !f.is_pretty());
+            assert_eq!(rt; f.into_inner().written(), written.as_bytes());
+        }
+        Ok(())
+    }
+
+    // The same into a `String` and into a `Cursor` of 256 bytes.
+    fn write_lines<W: uWrite>(f: &mut Formatter<W>) -> Result<(), W::Error> {
+        uwrite!(f, text "Hello, world!")?;
+        uwrite!(f, text "The answer is ", display 42i32)?;
+        uwriteln!(f, text "Hello")?;
+        uwriteln!(f, text "World")
+    }
+
+    #[test]
+    fn lines_of_texts(rt: HostRuntime) -> Result<(), Fail> {
+        let lines = "Hello, world!The answer is 42Hello\nWorld\n";
+        let mut text = String::new(rt.alloc());
+        write_lines(&mut Formatter::new(&mut text))?;
+        assert_eq!(rt; text.as_str(), lines);
+        let mut buffer = [0; 256];
+        let mut f = Formatter::new(Cursor::new(&mut buffer));
+        assert_eq!(rt; write_lines(&mut f), Ok(()));
+        assert_eq!(rt; f.into_inner().written(), lines.as_bytes());
         Ok(())
     }
 }

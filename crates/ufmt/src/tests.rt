@@ -155,3 +155,39 @@ fn refuses_pieces_in_an_empty_buffer(rt: HostRuntime) {
     assert_eq!(rt; cursor.write_str("a"), Err(Full));
     assert_eq!(rt; cursor.written(), b"".as_slice());
 }
+
+#[test]
+fn a_failed_pretty_goes_back(rt: HostRuntime) {
+    let mut buffer = [0; 1];
+    let mut f = Formatter::new(Cursor::new(&mut buffer));
+    assert_eq!(rt; f.pretty(|f| f.write_str("ab")), Err(Full));
+    assert!(rt; !f.is_pretty());
+    assert_eq!(rt; f.depth(), 0);
+    assert_eq!(rt; f.into_inner().written(), b"".as_slice());
+}
+
+// What an entry of a list answers, whether the list is then open, and the depth that is left.
+fn write_list(f: &mut Formatter<Cursor<'_>>) -> Result<(Result<(), Full>, bool, u8), Full> {
+    let mut list = f.debug_list()?;
+    let answer = list.entry(&1u64);
+    let is_open = list.is_open();
+    Ok((answer, is_open, f.depth()))
+}
+
+#[test]
+fn a_failed_entry_closes_its_list(rt: HostRuntime) {
+    let mut buffer = [0; 1];
+    let mut f = Formatter::new(Cursor::new(&mut buffer));
+    assert_eq!(rt; write_list(&mut f), Ok((Err(Full), false, 0)));
+    assert_eq!(rt; f.into_inner().written(), b"[".as_slice());
+
+    let mut f = Formatter::new(Cursor::new(&mut buffer));
+    let mut left = None;
+    let answer = f.pretty(|f| {
+        left = Some(write_list(f)?);
+        Ok(())
+    });
+    assert_eq!(rt; answer, Ok(()));
+    assert_eq!(rt; left, Some((Err(Full), false, 0)));
+    assert_eq!(rt; f.into_inner().written(), b"[".as_slice());
+}
