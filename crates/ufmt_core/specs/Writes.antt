@@ -1,5 +1,5 @@
 -- A lawful writer: what a call does to the text that it tells and to the room that it has.
-use Rattle.std.specs.Prelude.{◌≡◌, ℕ, ◌+◌, ◌≤◌, List, ◌++◌, length, Bool, true, false, IsTrue}
+use Rattle.std.specs.Prelude.{◌≡◌, ℕ, ◌+◌, ◌≤◌, List, ◌++◌, length, Bool, true, false, IsTrue, String, ⊤, string_bytes}
 
 -- what contracts see of a writer
 pub record Seen (W : Type 0) : Type 1 where
@@ -29,3 +29,7 @@ pub record Writes {W : Type 0} (seen : Seen W) (old : W) (piece : List ℕ) (ok 
   pub fits : length piece ≤ seen.room old → IsTrue ok
   pub room_left : length piece ≤ seen.room old → seen.room old ≤ seen.room new + length piece
   pub same_writer : seen.identity new ≡ seen.identity old
+
+-- a `String` as a writer: its text is always told, and any growth may be refused
+abbrev pub string_seen : {A : Type 0} → Seen (String A)
+string_seen = record { told = λ s. ⊤; text = string_bytes; room = λ s. 0; identity = λ s. 0 }

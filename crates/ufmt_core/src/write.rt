@@ -1,5 +1,5 @@
-ghost use Rattle.std.specs.Prelude.{ℕ, List, is_ok, encode_utf8, ⊤, string_bytes};
-ghost use Rattle.ufmt_core.specs.Writes.{Writes, Seen};
+ghost use Rattle.std.specs.Prelude.{◌≡◌, ℕ, List, is_ok, encode_utf8, string_bytes, OnErr};
+ghost use Rattle.ufmt_core.specs.Writes.{Writes, Seen, string_seen};
 
 use std::alloc::AllocError;
 
@@ -30,13 +30,23 @@ pub trait uWrite {
 impl uWrite for String {
     type Error = AllocError;
 
-    ghost seen = { record { told = λ _. ⊤; text = string_bytes; room = λ _. 0; identity = λ _. 0 } };
+    ghost seen = { string_seen };
 
-    fn write_str(&mut self, s: &str) -> Result<(), AllocError> {
+    fn write_str(&mut self, s: &str) -> Result<(), AllocError>
+        ensures writes { Writes string_seen self.old s.now (is_ok result) self.new }
+        ensures unchanged { OnErr result (string_bytes self.new ≡ string_bytes self.old) }
+    {
         if s.is_empty() {
             return Ok(());
         }
         self.push_str(s)
+    }
+
+    fn write_char(&mut self, c: char) -> Result<(), AllocError>
+        ensures writes { Writes string_seen self.old (encode_utf8 c) (is_ok result) self.new }
+        ensures unchanged { OnErr result (string_bytes self.new ≡ string_bytes self.old) }
+    {
+        self.push(c)
     }
 }
 

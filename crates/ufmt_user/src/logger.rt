@@ -1,4 +1,4 @@
-//! The README's example: a line of a log in a buffer of a fixed size.
+//! A line of a log, in a buffer of a fixed size.
 ghost use Rattle.std.specs.Prelude.{codes};
 ghost use Rattle.ufmt.specs.Document.{field, no_fields, struct_of};
 

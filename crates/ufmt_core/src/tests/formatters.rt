@@ -3,6 +3,16 @@ use std::alloc::AllocError;
 use std::test::Fail;
 
 #[test]
+fn a_string_does_not_always_refuse(rt: HostRuntime) -> Result<(), Fail> {
+    let mut text = String::new(rt.alloc());
+    text.write_str("a")?;
+    text.write_char('é')?;
+    text.write_str("")?;
+    assert_eq!(rt; text.as_str(), "aé");
+    Ok(())
+}
+
+#[test]
 fn pieces_go_to_the_writer(rt: HostRuntime) -> Result<(), Fail> {
     let mut text = String::new(rt.alloc());
     text.write_char('a')?;
@@ -81,5 +91,36 @@ fn builders_close_when_they_finish(rt: HostRuntime) -> Result<(), Fail> {
     let both =
         "[1, 2, 3]{1, 2, 3}{1: 2, 3: 4}[\n    1,\n    2,\n    3,\n]{\n    1,\n    2,\n    3,\n}{\n    1: 2,\n    3: 4,\n}";
     assert_eq!(rt; text.as_str(), both);
+    Ok(())
+}
+
+// What the same builders write, by begin and end calls.
+fn write_halves<W: uWrite>(f: &mut Formatter<W>) -> Result<(), W::Error> {
+    let mut list = f.debug_list()?;
+    let answer = 1u64.fmt(list.begin_entry()?);
+    list.end_entry(answer)?;
+    list.finish()?;
+    let mut set = f.debug_set()?;
+    let answer = 1u64.fmt(set.begin_entry()?);
+    set.end_entry(answer)?;
+    set.finish()?;
+    let mut map = f.debug_map()?;
+    let answer = 1u64.fmt(map.begin_entry()?);
+    let answer = 2u64.fmt(map.begin_value(answer)?);
+    map.end_entry(answer)?;
+    map.finish()
+}
+
+#[test]
+fn entries_by_begin_and_end(rt: HostRuntime) -> Result<(), Fail> {
+    let mut text = String::new(rt.alloc());
+    let mut f = Formatter::new(&mut text);
+    write_halves(&mut f)?;
+    f.pretty(|f| write_halves(f))?;
+    assert_eq!(rt; f.depth(), 0);
+    assert_eq!(rt;
+        text.as_str(),
+        "[1]{1}{1: 2}[\n    1,\n]{\n    1,\n}{\n    1: 2,\n}"
+    );
     Ok(())
 }

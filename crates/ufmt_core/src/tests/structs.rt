@@ -6,13 +6,14 @@ use std::process::Abort;
 use std::test::Fail;
 
 // A struct with a map and a number, its number by a begin and an end call, and a struct without fields.
-fn write_structs<W: uWrite>(
+fn write_structs<W: uWrite, N: uDebug + Ord>(
     f: &mut Formatter<W>,
-    map: &BTreeMap<u64, u64>,
+    map: &BTreeMap<N, N>,
+    number: &N,
 ) -> Result<bool, W::Error> {
     let mut settings = f.debug_struct("S")?;
     settings.field("m", map)?;
-    let answer = 3u64.fmt(settings.begin_field("n")?);
+    let answer = number.fmt(settings.begin_field("n")?);
     settings.end_field(answer)?;
     let was_open = settings.is_open();
     settings.finish()?;
@@ -22,15 +23,18 @@ fn write_structs<W: uWrite>(
     Ok(was_open && !is_open && !unit.is_open())
 }
 
-#[test]
-fn structs_with_and_without_fields(rt: HostRuntime) -> Result<(), Fail> {
-    let mut map = BTreeMap::new(rt.alloc());
-    map.insert(1u64, 2u64)?;
-    let mut text = String::new(rt.alloc());
+// The map is 1 to 2, and the number 3.
+fn check_structs<N: uDebug + Ord>(
+    rt: &impl Abort,
+    alloc: Global,
+    map: &BTreeMap<N, N>,
+    number: &N,
+) -> Result<(), AllocError> {
+    let mut text = String::new(alloc);
     let mut f = Formatter::new(&mut text);
-    assert!(rt; write_structs(&mut f, &map)?);
+    assert!(rt; write_structs(&mut f, map, number)?);
     f.pretty(|f| {
-        write_structs(f, &map)?;
+        write_structs(f, map, number)?;
         Ok(())
     })?;
     assert_eq!(rt; f.depth(), 0);
@@ -39,32 +43,52 @@ fn structs_with_and_without_fields(rt: HostRuntime) -> Result<(), Fail> {
     Ok(())
 }
 
+#[test]
+fn structs_with_and_without_fields(rt: HostRuntime) -> Result<(), Fail> {
+    let alloc = rt.alloc();
+    let mut map = BTreeMap::new(alloc);
+    map.insert(1u64, 2u64)?;
+    check_structs(&rt, alloc, &map, &3)?;
+    let mut map = BTreeMap::new(alloc);
+    map.insert(1i32, 2i32)?;
+    check_structs(&rt, alloc, &map, &3)?;
+    Ok(())
+}
+
 // Tuples of no field, one and two, with a name and without.
-fn write_tuples<W: uWrite>(f: &mut Formatter<W>) -> Result<bool, W::Error> {
+fn write_tuples<W: uWrite, N: uDebug>(
+    f: &mut Formatter<W>,
+    one: &N,
+    two: &N,
+) -> Result<bool, W::Error> {
     let mut is_open = false;
     for name in ["", "T"] {
         let mut none = f.debug_tuple(name)?;
         none.finish()?;
-        let mut one = f.debug_tuple(name)?;
-        one.field(&1u64)?;
-        one.finish()?;
-        let mut two = f.debug_tuple(name)?;
-        two.field(&1u64)?;
-        let answer = 2u64.fmt(two.begin_field()?);
-        two.end_field(answer)?;
-        two.finish()?;
-        is_open = is_open || two.is_open();
+        let mut single = f.debug_tuple(name)?;
+        single.field(one)?;
+        single.finish()?;
+        let mut several = f.debug_tuple(name)?;
+        several.field(one)?;
+        let answer = two.fmt(several.begin_field()?);
+        several.end_field(answer)?;
+        several.finish()?;
+        is_open = is_open || several.is_open();
     }
     Ok(!is_open)
 }
 
-#[test]
-fn tuples_of_few_fields(rt: HostRuntime) -> Result<(), Fail> {
-    let mut text = String::new(rt.alloc());
+fn check_tuples<N: uDebug>(
+    rt: &impl Abort,
+    alloc: Global,
+    one: &N,
+    two: &N,
+) -> Result<(), AllocError> {
+    let mut text = String::new(alloc);
     let mut f = Formatter::new(&mut text);
-    assert!(rt; write_tuples(&mut f)?);
+    assert!(rt; write_tuples(&mut f, one, two)?);
     f.pretty(|f| {
-        write_tuples(f)?;
+        write_tuples(f, one, two)?;
         Ok(())
     })?;
     assert_eq!(rt; f.depth(), 0);
@@ -73,6 +97,13 @@ fn tuples_of_few_fields(rt: HostRuntime) -> Result<(), Fail> {
     assert_eq!(rt; text.as_str().len(), plain.len() + pretty.len());
     assert!(rt; text.as_str().starts_with(plain));
     assert!(rt; text.as_str().ends_with(pretty));
+    Ok(())
+}
+
+#[test]
+fn tuples_of_few_fields(rt: HostRuntime) -> Result<(), Fail> {
+    check_tuples(&rt, rt.alloc(), &1u64, &2)?;
+    check_tuples(&rt, rt.alloc(), &1i32, &2)?;
     Ok(())
 }
 
