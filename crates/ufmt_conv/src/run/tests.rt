@@ -3,6 +3,7 @@ use std::io;
 use std::io::ErrorKind;
 use std::process::Abort;
 use std::test::Fail;
+use ufmt::{Cursor, Formatter, uDebug};
 
 // Gives `left`, at most `most` bytes a call, and fails at call number `fails_at`, counted from one.
 #[derive(Drop)]
@@ -181,14 +182,19 @@ fn a_flush_that_fails_comes_after_the_answer(rt: HostRuntime) {
 
 #[test]
 fn line_lengths_is_not_always_refused(rt: HostRuntime) -> Result<(), Fail> {
-    let rows: [(&[u8], &[u64]); 4] = [
-        (b"", &[]),
-        (b"\n", &[0]),
-        (b"ab\n\nxyz", &[2, 0, 3]),
-        (b"ab\n\n", &[2, 0]),
+    let rows: [(&[u8], &[u64], &str); 4] = [
+        (b"", &[], "[]"),
+        (b"\n", &[0], "[0]"),
+        (b"ab\n\nxyz", &[2, 0, 3], "[2, 0, 3]"),
+        (b"ab\n\n", &[2, 0], "[2, 0]"),
     ];
-    for (input, lengths) in rows {
-        assert_eq!(rt; line_lengths(rt.alloc(), input)?.as_slice(), lengths);
+    for (input, lengths, text) in rows {
+        let found = line_lengths(rt.alloc(), input)?;
+        assert_eq!(rt; found.as_slice(), lengths);
+        let mut buffer = [0; 9];
+        let mut f = Formatter::new(Cursor::new(&mut buffer));
+        assert_eq!(rt; found.fmt(&mut f), Ok(()));
+        assert_eq!(rt; f.into_inner().written(), text.as_bytes());
     }
     Ok(())
 }
