@@ -53,7 +53,12 @@ fn signed_numbers(rt: HostRuntime) -> Result<(), Fail> {
     let least = "-170141183460469231731687303715884105728";
     assert_eq!(rt; least.len(), 40);
     check_number(&rt, alloc, i128::MIN, least)?;
-    check_number(&rt, alloc, i128::MAX, "170141183460469231731687303715884105727")?;
+    check_number(
+        &rt,
+        alloc,
+        i128::MAX,
+        "170141183460469231731687303715884105727",
+    )?;
     check_number(&rt, alloc, 0i128, "0")?;
     Ok(())
 }
