@@ -1,5 +1,4 @@
 pub use Rattle.ufmt_core.proofs.Printing
 pub mod HexadecimalTexts
 pub mod Padding
-pub mod WrittenHexadecimal
 pub mod PiecesInARow

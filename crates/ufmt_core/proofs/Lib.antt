@@ -3,6 +3,7 @@ pub mod DecimalTexts
 pub mod Indentation
 pub mod Items
 pub mod Layouts
+pub mod NumeralTexts
 pub mod Numerals
 pub mod Printing
 pub mod WorkedLayouts

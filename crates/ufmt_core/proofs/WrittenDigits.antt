@@ -1,14 +1,17 @@
 -- Digits that are written from the last to the first, before one another.
-use Rattle.std.proofs.Common.{true, ℤ, nat_abs, ◌≡◌, ◌≢◌, ℕ, ◌+◌, ◌-◌, ◌/◌, ◌%◌, ◌<◌, ◌≤◌, List, [], ◌∷◌, ◌++◌, length, drop, set, pos, ap, ◌∙◌, arith, length-append, length-drop, length-set, append_assoc}
+use Rattle.std.proofs.Common.{true, ℤ, nat_abs, ◌≡◌, ◌≢◌, ℕ, ◌+◌, ◌-◌, ◌/◌, ◌%◌, ◌<◌, ◌≤◌, List, [], ◌∷◌, ◌++◌, length, drop, set, pos, ap, ◌∙◌, arith, length-append, length-drop, length-set, append_assoc, sym, ⊎_elim}
+use Rattle.std.proofs.Math.Nat.{div-eq_of_lt, le-div_iff_mul-le, mod-eq_of_lt}
+use Rattle.std.proofs.lemmas.Bool.{cases_lt}
 use Rattle.std.proofs.lemmas.List.{drop-set}
 use Rattle.std.specs.Int.{is_negative}
 use Rattle.ufmt_core.specs.Decimal.{decimal}
-use Rattle.ufmt_core.proofs.DecimalTexts.{decimal-digit, decimal-step, decimal-negative, decimal-nonempty}
+use Rattle.ufmt_core.proofs.DecimalTexts.{decimal-negative}
+use Rattle.ufmt_core.proofs.NumeralTexts.{IsTextInBase, text-digit, text-step, text-nonempty}
 
 -- the text of left, before the bytes that are written from start on, is the text of n
-pub record IsWrittenFrom (n left start : ℕ) (buffer : List ℕ) : Type 0 where
+pub record IsWrittenFrom (text : ℕ → List ℕ) (n left start : ℕ) (buffer : List ℕ) : Type 0 where
   pub within : start ≤ length buffer
-  pub text : decimal (pos left) ++ drop start buffer ≡ decimal (pos n)
+  pub joined : text left ++ drop start buffer ≡ text n
 
 -- a byte that is put before the written ones
 pub put_before : (front buffer : List ℕ) (start byte : ℕ) → 0 < start → start ≤ length buffer → front ++ drop (start - 1) (set buffer (start - 1) byte) ≡ (front ++ byte ∷ []) ++ drop start buffer
@@ -16,26 +19,32 @@ put_before front buffer start byte room within =
     let next : start - 1 + 1 ≡ start = omega arith in
     rw (drop-set buffer (start - 1) byte (omega arith), next, append_assoc)
 
-module _ (n left start : ℕ) (buffer : List ℕ) (fits : length (decimal (pos n)) ≤ length buffer) (written : IsWrittenFrom n left start buffer) where
+-- no quotient is left where a number is below the base
+below_base : (base left : ℕ) → 2 ≤ base → left / base ≡ 0 → left < base
+below_base base left two none =
+    let high : base ≤ left → ⊥ = λ more. omega (arith, (le-div_iff_mul-le {k = base} {x = 1} {y = left} (omega arith)).1 (omega arith)) in
+    ⊎_elim (λ low. low) (λ more. absurd (high more)) (cases_lt left base)
+
+module _ {base : ℕ} {byte_of : ℕ → ℕ} {text : ℕ → List ℕ} (t : IsTextInBase base byte_of text) (n left start : ℕ) (buffer : List ℕ) (fits : length (text n) ≤ length buffer) (written : IsWrittenFrom text n left start buffer) where
   -- there is room for a digit
   pub digit_fits : 0 < start
-  digit_fits =
-      omega (arith, written.within, decimal-nonempty left, ap length written.text, length-append (decimal (pos left)) (drop start buffer), length-drop start buffer)
+  digit_fits = omega (arith, written.within, text-nonempty t left, ap length written.joined, length-append (text left) (drop start buffer), length-drop start buffer)
 
-  -- the step of the loop where digits are left
-  pub IsWrittenFrom-more : (rest digit : ℕ) → rest ≡ left / 10 → digit ≡ left % 10 → rest ≢ 0 → IsWrittenFrom n rest (start - 1) (set buffer (start - 1) (48 + digit))
-  IsWrittenFrom-more rest digit is_rest is_digit more = record {
-    within = omega (arith, written.within, length-set buffer (start - 1) (48 + digit));
-    text =
-        rw (put_before (decimal (pos rest)) buffer start (48 + digit) digit_fits written.within, is_rest, is_digit, ← decimal-step left (omega arith)) written.text;
-  }
+  module _ (rest digit byte : ℕ) (is_rest : rest ≡ left / base) (is_digit : digit ≡ left % base) (is_byte : byte ≡ byte_of digit) where
+    -- the step of the loop where digits are left
+    pub IsWrittenFrom-more : rest ≢ 0 → IsWrittenFrom text n rest (start - 1) (set buffer (start - 1) byte)
+    IsWrittenFrom-more more =
+        let high : base ≤ left = ⊎_elim (λ low. absurd (more (is_rest ∙ div-eq_of_lt low))) (λ high. high) (cases_lt left base) in record {
+          within = omega (arith, written.within, length-set buffer (start - 1) byte);
+          joined = rw (put_before (text rest) buffer start byte digit_fits written.within, is_byte, is_rest, is_digit, ← text-step t left high) written.joined;
+        }
 
-  -- the last step
-  pub IsWrittenFrom-all : (rest digit : ℕ) → rest ≡ left / 10 → digit ≡ left % 10 → rest ≡ 0 → drop (start - 1) (set buffer (start - 1) (48 + digit)) ≡ decimal (pos n)
-  IsWrittenFrom-all rest digit is_rest is_digit none =
-      let low : left < 10 = omega arith in
-      let same : digit ≡ left = omega arith in
-      put_before [] buffer start (48 + digit) digit_fits written.within ∙ rw same (rw (decimal-digit left low) at written.text)
+    -- the last step
+    pub IsWrittenFrom-all : rest ≡ 0 → drop (start - 1) (set buffer (start - 1) byte) ≡ text n
+    IsWrittenFrom-all none =
+        let low = below_base base left t.two (sym is_rest ∙ none) in
+        let same : digit ≡ left = is_digit ∙ mod-eq_of_lt low in
+        put_before [] buffer start byte digit_fits written.within ∙ rw (is_byte, same) (rw (text-digit t left low) at written.joined)
 
 -- where a text starts that ends a buffer
 pub start_of_end : (text buffer : List ℕ) (start : ℕ) → 0 < length text → drop start buffer ≡ text → start + length text ≡ length buffer

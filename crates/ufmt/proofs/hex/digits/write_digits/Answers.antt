@@ -1,25 +1,26 @@
 use Rattle.std.proofs.Common.{◌≡◌, true≢false, sym, ◌∙◌, arith}
-use Rattle.ufmt.proofs.WrittenHexadecimal.{digit_fits, IsWrittenFrom-more, IsWrittenFrom-all}
+use Rattle.ufmt_core.proofs.WrittenDigits.{digit_fits, IsWrittenFrom-more, IsWrittenFrom-all}
+use Rattle.ufmt.proofs.HexadecimalTexts.{hexadecimal-in_base}
 use Rattle.ufmt.proofs.hex.digits.write_digits.Goals as goal
 
 pub overflow_sub-start : goal.overflow_sub-start
 overflow_sub-start g c =
     let l = c.loop-rest in
     let value = g.N.Nibbles.value in
-    digit_fits c.args.upper_case (value c.args.n) (value l.left) l.start l.buffer (omega arith) l.invariant
+    digit_fits (hexadecimal-in_base c.args.upper_case) (value c.args.n) (value l.left) l.start l.buffer (omega arith) l.invariant
 
 pub bounds-buffer-start : goal.bounds-buffer-start
 bounds-buffer-start g c =
     let l = c.loop-rest in
     let value = g.N.Nibbles.value in
-    omega (arith, l.invariant.within, digit_fits c.args.upper_case (value c.args.n) (value l.left) l.start l.buffer (omega arith) l.invariant)
+    omega (arith, l.invariant.within, digit_fits (hexadecimal-in_base c.args.upper_case) (value c.args.n) (value l.left) l.start l.buffer (omega arith) l.invariant)
 
 pub returns-then-is_zero-clause-written : goal.returns-then-is_zero-clause-written
 returns-then-is_zero-clause-written g c =
     let l = c.loop-rest in
     let value = g.N.Nibbles.value in
     let split = c.split_last_digit-rest in
-    IsWrittenFrom-all c.args.upper_case (value c.args.n) (value l.left) l.start l.buffer (omega arith) l.invariant
+    IsWrittenFrom-all (hexadecimal-in_base c.args.upper_case) (value c.args.n) (value l.left) l.start l.buffer (omega arith) l.invariant
     (value split.result.0) split.result.1 c.digit_byte.result split.ensures.rest split.ensures.digit c.digit_byte.ensures (c.is_zero.ensures.0 c.if-is_zero.true)
 
 pub loop-rest-preserved : goal.loop-rest-preserved
@@ -28,5 +29,5 @@ loop-rest-preserved g c =
     let value = g.N.Nibbles.value in
     let split = c.split_last_digit-rest in
     let more = λ (none : value split.result.0 ≡ 0). true≢false (sym (c.is_zero.ensures.1 none) ∙ c.if-is_zero.false) in
-    IsWrittenFrom-more c.args.upper_case (value c.args.n) (value l.left) l.start l.buffer (omega arith) l.invariant
+    IsWrittenFrom-more (hexadecimal-in_base c.args.upper_case) (value c.args.n) (value l.left) l.start l.buffer (omega arith) l.invariant
     (value split.result.0) split.result.1 c.digit_byte.result split.ensures.rest split.ensures.digit c.digit_byte.ensures more
