@@ -350,7 +350,7 @@ impl uDisplay for bool {
 #[cfg(test)]
 mod tests {
     use super::*;
-    use crate::Cursor;
+    use crate::{Cursor, laws};
     use std::alloc::Global;
     use std::process::Abort;
     use std::test::Fail;
@@ -480,6 +480,8 @@ mod tests {
 
     #[test]
     fn truth_values_and_texts(rt: HostRuntime) -> Result<(), Fail> {
+        laws::both_traits_print_one_text();
+        laws::references_print_what_they_refer_to::<u8>();
         let alloc = rt.alloc();
         check(&rt, alloc, &true, "true")?;
         check(&rt, alloc, &false, "false")?;

@@ -1,4 +1,4 @@
-use crate::{Cursor, Formatter, Full, HexOptions, uDisplayHex, uWrite};
+use crate::{Cursor, Formatter, Full, HexOptions, laws, uDisplayHex, uWrite};
 use std::alloc::Global;
 use std::process::Abort;
 use std::test::Fail;
@@ -59,11 +59,16 @@ fn pads_numbers(rt: HostRuntime) -> Result<(), Fail> {
     ] {
         prints(&rt, rt.alloc(), &n, options, expected)?;
     }
-    prints(&rt, rt.alloc(), &171u8, upper_case(false, b'0', 4), "00AB")
+    let upper = upper_case(false, b'0', 4);
+    prints(&rt, rt.alloc(), &171u8, upper, "00AB")?;
+    prints(&rt, rt.alloc(), &&171u8, upper, "00AB")
 }
 
 #[test]
 fn prints_each_width(rt: HostRuntime) -> Result<(), Fail> {
+    laws::hexadecimal_is_one_text();
+    laws::unsigned_prints_hexadecimal();
+    laws::signed_prints_as_unsigned();
     let options = lower_case(false, b' ', 0);
     prints(&rt, rt.alloc(), &i8::MIN, options, "80")?;
     prints(&rt, rt.alloc(), &i8::MAX, options, "7f")?;
@@ -105,6 +110,7 @@ fn prints_each_width(rt: HostRuntime) -> Result<(), Fail> {
 
 #[test]
 fn pads_any_payload(rt: HostRuntime) -> Result<(), Fail> {
+    laws::padding_reaches_length();
     for (payload, options, expected) in [
         ("é", lower_case(false, b'0', 4), "00\u{e9}"),
         ("", lower_case(true, b'0', 4), "0x00"),
@@ -146,6 +152,15 @@ fn fills_a_buffer(rt: HostRuntime) {
     assert_eq!(rt; cursor.write_char('€'), Err(Full));
     assert_eq!(rt; cursor.write_str(""), Ok(()));
     assert_eq!(rt; buffer.as_slice(), "abé..".as_bytes());
+}
+
+#[test]
+fn a_buffer_keeps_what_it_is_not_given(rt: HostRuntime) {
+    let mut buffer = *b"....";
+    assert_eq!(rt; laws::write_to_buffer(&mut buffer, "abcde"), Err(Full));
+    assert_eq!(rt; buffer.as_slice(), b"....".as_slice());
+    assert_eq!(rt; laws::write_to_buffer(&mut buffer, "ab"), Ok(()));
+    assert_eq!(rt; buffer.as_slice(), b"ab..".as_slice());
 }
 
 #[test]

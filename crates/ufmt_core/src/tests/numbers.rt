@@ -1,5 +1,6 @@
 use super::check;
 use crate::uDebug;
+use crate::unsigned::decimal_is_one_text;
 use std::alloc::{AllocError, Global};
 use std::num::{
     NonZeroI8, NonZeroI16, NonZeroI32, NonZeroI64, NonZeroIsize, NonZeroU8, NonZeroU16, NonZeroU32,
@@ -20,6 +21,7 @@ fn check_number<N: uDebug + Drop>(
 
 #[test]
 fn unsigned_numbers(rt: HostRuntime) -> Result<(), Fail> {
+    decimal_is_one_text();
     let alloc = rt.alloc();
     for (n, text) in [(0u8, "0"), (10, "10"), (100, "100"), (u8::MAX, "255")] {
         check_number(&rt, alloc, n, text)?;
