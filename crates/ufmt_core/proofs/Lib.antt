@@ -2,7 +2,6 @@ pub mod Blocks
 pub mod DecimalTexts
 pub mod Indentation
 pub mod Items
-pub mod Layouts
 pub mod NumeralTexts
 pub mod Numerals
 pub mod Printing

@@ -1,10 +1,12 @@
 -- What calls in a row write: the pieces joined, or a beginning of them where one failed.
-use Rattle.std.proofs.Common.{◌≡◌, ℕ, List, [], ◌++◌, Bool, true, false, is_ok, Result, Ok, Err, refl, ap, sym, ◌∙◌, subst, append_assoc, append-nil, length-append, arith}
+use Rattle.std.proofs.Common.{◌≡◌, ℕ, ◌+◌, ◌-◌, ◌≤◌, List, [], ◌++◌, length, drop, Bool, true, false, is_ok, Result, Ok, Err, refl, ap, sym, ◌∙◌, subst, append_assoc, append-nil, length-append, arith}
+use Rattle.std.proofs.lemmas.List.{drop-drop}
 use Rattle.std.specs.Prelude.{IsErr}
+use Rattle.ufmt_core.specs.declared.formatter.Setting.{Setting}
 use Rattle.ufmt_core.specs.declared.formatter.Formatter.{Formatter}
 use Rattle.ufmt_core.specs.Document.{Document}
 use Rattle.ufmt_core.specs.Writes.{Seen, Appended, Writes}
-use Rattle.ufmt_core.specs.Formatter.{Prints, LaysOut}
+use Rattle.ufmt_core.specs.Formatter.{Prints, LaysOut, setting_of}
 
 -- an answer that is no `Ok`
 pub is_ok-err : {X E : Type 0} (r : Result X E) → IsErr r → is_ok r ≡ false
@@ -22,6 +24,17 @@ Appended-fails : (old p q new : List ℕ) → Appended false old p new → Appen
 Appended-fails old p q new h =
     (h.0, record { rest = h.1.rest ++ q; joined = ap (λ t. t ++ q) h.1.joined ∙ append_assoc h.0 h.1.rest q }, h.2)
 
+-- a text doesn't shrink
+Appended-grows : (ok : Bool) (old piece new : List ℕ) → Appended ok old piece new → length old ≤ length new
+Appended-grows true old piece new e = omega (arith, ap length e, length-append old piece)
+Appended-grows false old piece new h = omega (arith, ap length h.2, length-append old h.0)
+
+-- stores that are equal past some bytes are equal past more
+drop-further : (m n : ℕ) (s t : List ℕ) → m ≤ n → drop m s ≡ drop m t → drop n s ≡ drop n t
+drop-further m n s t h e =
+    let whole : m + (n - m) ≡ n = omega arith in
+    ap (λ k. drop k s) (sym whole) ∙ sym (drop-drop (n - m) m s) ∙ ap (drop (n - m)) e ∙ drop-drop (n - m) m t ∙ ap (λ k. drop k t) whole
+
 module _ {W : Type 0} {seen : Seen W} where
   -- two pieces in a row are their texts joined
   pub Writes-then : {old mid new : W} {p q : List ℕ} {ok : Bool} → Writes seen old p true mid → Writes seen mid q ok new → Writes seen old (p ++ q) ok new
@@ -30,7 +43,8 @@ module _ {W : Type 0} {seen : Seen W} where
     appended = λ t. Appended-then ok _ p q _ _ (a.appended t) (b.appended (a.stays_told t));
     fits = λ h. b.fits (omega (arith, length-append p q, a.room_left (omega (arith, length-append p q))));
     room_left = λ h. omega (arith, length-append p q, a.room_left (omega (arith, length-append p q)), b.room_left (omega (arith, length-append p q, a.room_left (omega (arith, length-append p q)))));
-    same_writer = b.same_writer ∙ a.same_writer;
+    same_identity = b.same_identity ∙ a.same_identity;
+    untouched = λ t. b.untouched (a.stays_told t) ∙ drop-further _ _ _ _ (Appended-grows ok _ q _ (b.appended (a.stays_told t))) (a.untouched t);
   }
 
   -- a beginning of `p` is a beginning of what begins with it
@@ -40,7 +54,8 @@ module _ {W : Type 0} {seen : Seen W} where
     appended = λ t. Appended-fails _ p q _ (a.appended t);
     fits = λ h. a.fits (omega (arith, length-append p q));
     room_left = λ h. omega (arith, length-append p q, a.room_left (omega (arith, length-append p q)));
-    same_writer = a.same_writer;
+    same_identity = a.same_identity;
+    untouched = a.untouched;
   }
 
   -- no call writes nothing
@@ -50,11 +65,20 @@ module _ {W : Type 0} {seen : Seen W} where
     appended = λ t. sym (append-nil (seen.text w));
     fits = λ h. refl;
     room_left = λ h. omega arith;
-    same_writer = refl;
+    same_identity = refl;
+    untouched = λ t. refl;
   }
 
   pub Prints-then : {old mid new : Formatter W} {p q : List ℕ} {ok : Bool} → Prints seen old p true mid → Prints seen mid q ok new → Prints seen old (p ++ q) ok new
   Prints-then a b = record { wrote = Writes-then a.wrote b.wrote; same_setting = b.same_setting ∙ a.same_setting }
+
+  -- the second text is said of the mode and depth that are found, which are those from before
+  pub Prints-then_at : {old mid new : Formatter W} {p : List ℕ} {ok : Bool} (text : Setting → List ℕ) → Prints seen old p true mid → Prints seen mid (text (setting_of mid)) ok new → Prints seen old (p ++ text (setting_of old)) ok new
+  Prints-then_at {mid = mid} {new} {p} {ok} text a b = Prints-then a (subst (λ (s : Setting). Prints seen mid (text s) ok new) a.same_setting b)
+
+  -- equal texts
+  pub Prints-same : {old new : Formatter W} {p q : List ℕ} {ok : Bool} → p ≡ q → Prints seen old p ok new → Prints seen old q ok new
+  Prints-same {old} {new} {ok = ok} e a = subst (λ (t : List ℕ). Prints seen old t ok new) e a
 
   pub Prints-fails : {old new : Formatter W} {p : List ℕ} (q : List ℕ) → Prints seen old p false new → Prints seen old (p ++ q) false new
   Prints-fails q a = record { wrote = Writes-fails q a.wrote; same_setting = a.same_setting }

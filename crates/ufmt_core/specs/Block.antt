@@ -1,155 +1,166 @@
 -- What the calls of a builder do to the block that it writes.
-use Rattle.std.specs.Prelude.{◌≡◌, ℕ, List, [], ◌∷◌, map, Bool, true, false, Option, Result, Err, IfErr, IsTrue}
+use Rattle.std.specs.Prelude.{◌≡◌, ℕ, List, [], ◌∷◌, ◌++◌, map, codes, Bool, true, false, Option, Result, Err, IfErr, OnOk}
 use Rattle.std.specs.Iterator.{DrainsIf}
 use Rattle.ufmt_core.specs.declared.formatter.Setting.{Setting}
 use Rattle.ufmt_core.specs.declared.formatter.Formatter.{Formatter}
-use Rattle.ufmt_core.specs.declared.formatter.block.Stage.{Stage}
-use Rattle.ufmt_core.specs.declared.formatter.block.Stage.TheVariants.{First, Later, Lent, LentValue, Closed}
-use Rattle.ufmt_core.specs.declared.formatter.block.Progress.{Progress}
-use Rattle.ufmt_core.specs.declared.formatter.block.Comma.{Comma}
-use Rattle.ufmt_core.specs.Document.{Document}
-use Rattle.ufmt_core.specs.Parts.{closing, entries_part, entry_part, field_lead, field_part, first_comma, lead, lead_after, next_comma, struct_closing, tuple_closing, tuple_part, tuple_start}
-use Rattle.ufmt_core.specs.Layout.{Place, first, later}
+use Rattle.ufmt_core.specs.declared.formatter.block.Kind.{Kind}
+use Rattle.ufmt_core.specs.declared.formatter.block.Place.{Place}
+use Rattle.ufmt_core.specs.declared.formatter.block.Place.TheVariants.{First}
+use Rattle.ufmt_core.specs.declared.formatter.builder.Status.{Status}
+use Rattle.ufmt_core.specs.declared.formatter.builder.Status.TheVariants.{Open, Lent, LentValue, Closed}
+use Rattle.ufmt_core.specs.Document.{Document, Documents, Fields, Pairs}
+use Rattle.ufmt_core.specs.Layout.{Frame, frame, inside, layout, lead, trail, ending, next, rest, texts, pair_texts, field_texts}
 use Rattle.ufmt_core.specs.Writes.{Seen, Writes}
-use Rattle.ufmt_core.specs.Formatter.{Prints, writer_of, setting_of, entry_setting, text_at}
+use Rattle.ufmt_core.specs.Formatter.{writer_of, setting_of}
 
--- whether the next entry is the first
-abbrev pub place : Stage → Place
-place First = first
-place Later = later
-place Lent = later
-place LentValue = later
-place Closed = later
-
--- a builder whose calls may be made
-abbrev pub is_open : Stage → Bool
-is_open First = true
-is_open Later = true
-is_open Lent = false
-is_open LentValue = false
-is_open Closed = false
-
--- the stage after these entries
-abbrev pub stage_after : {X : Type 0} → Stage → List X → Stage
-stage_after s [] = s
-stage_after s (x ∷ xs) = Later
-
--- a builder as contracts see it: the formatter that it writes to, the name of its reference to it, and how far it is
+-- a builder as contracts see it
 pub record Block (W : Type 0) : Type 0 where
+  -- the formatter that it writes to, as it is now
   pub formatter : Formatter W
-  pub name : ℕ
-  pub progress : Progress
+  -- the ghost name of its reference to that
+  pub reference : ℕ
+  -- which brackets frame the entries
+  pub kind : Kind
+  -- the mode and depth from before the builder
+  pub outer : Setting
+  -- where the next entry stands
+  pub place : Place
+  -- which calls may follow
+  pub status : Status
 
--- the mode and depth from before the builder
-abbrev pub outer : {W : Type 0} → Block W → Setting
-outer b = b.progress.outer
+-- the texts of an entry of a list or a set, of a map, and of a struct, at the entries' mode and depth
+abbrev pub entry_text : Document → Setting → List ℕ
+entry_text d i = layout i d
 
-abbrev pub stage : {W : Type 0} → Block W → Stage
-stage b = b.progress.stage
+abbrev pub pair_text : Document → Document → Setting → List ℕ
+pair_text key value i = layout i key ++ (codes ": " ++ layout i value)
 
--- the mode and depth of the entries
-abbrev pub inner : {W : Type 0} → Block W → Setting
-inner b = setting_of b.formatter
+abbrev pub field_text : List ℕ → Document → Setting → List ℕ
+field_text label value i = label ++ (codes ": " ++ layout i value)
 
-abbrev pub IsOpen : {W : Type 0} → Block W → Type 0
-IsOpen b = is_open (stage b) ≡ true
+-- the texts of the entries that are left to a list, a set or a tuple, to a map, and to a struct
+abbrev pub entries_left : Documents → Setting → List (List ℕ)
+entries_left ds i = texts i ds
 
--- the formatter is lent for an entry, of a map for the key
-abbrev pub IsLent : {W : Type 0} → Block W → Type 0
-IsLent b = stage b ≡ Lent
+abbrev pub pairs_left : Pairs → Setting → List (List ℕ)
+pairs_left ps i = pair_texts i ps
 
--- the formatter is lent for the value of a map's entry
-abbrev pub IsLentForValue : {W : Type 0} → Block W → Type 0
-IsLentForValue b = stage b ≡ LentValue
+abbrev pub fields_left : Fields → Setting → List (List ℕ)
+fields_left fs i = field_texts i fs
+
+-- an entry with this text: what stands before it, the text, and what follows
+abbrev pub framed : Frame → Setting → Place → List ℕ → List ℕ
+framed f i place text = lead f i place ++ (text ++ trail i.mode)
+
+-- entries with these texts in a row
+abbrev pub framed_all : Frame → Setting → Place → List (List ℕ) → List ℕ
+framed_all f i place [] = []
+framed_all f i place (text ∷ texts) = framed f i place text ++ framed_all f i (next place) texts
+
+-- the place after as many entries
+abbrev pub place_after : {X : Type 0} → Place → List X → Place
+place_after place [] = place
+place_after place (x ∷ xs) = place_after (next place) xs
 
 module _ {W : Type 0} where
-  -- what a call leaves: on `Ok` this stage and the entries' mode and depth, on `Err` a closed builder and the mode and depth from before it
-  abbrev pub Leaves : Bool → Stage → Block W → Block W → Type 0
-  Leaves true next old new = (stage new ≡ next) × (inner new ≡ inner old)
-  Leaves false next old new = (stage new ≡ Closed) × (inner new ≡ outer old)
+  -- the mode and depth of the entries
+  abbrev pub inner : Block W → Setting
+  inner b = setting_of b.formatter
 
-  -- a new builder over the reference of this name has written the opening
-  pub record Opens (seen : Seen W) (start : Formatter W) (name : ℕ) (opening : List ℕ) (new : Block W) : Type 0 where
-    pub same_reference : new.name ≡ name
-    pub wrote : Writes seen (writer_of start) opening true (writer_of new.formatter)
-    pub kept : outer new ≡ setting_of start
-    pub entered : inner new ≡ entry_setting (setting_of start)
-    pub begins : stage new ≡ First
+  -- the brackets of the entries
+  abbrev pub frame_of : Block W → Frame
+  frame_of b = frame (inner b).mode b.kind
 
-  -- a call has written this part, or a beginning of it
-  pub record Adds (seen : Seen W) (old : Block W) (part : List ℕ) (ok : Bool) (next : Stage) (new : Block W) : Type 0 where
-    pub same_reference : new.name ≡ old.name
-    pub wrote : Writes seen (writer_of old.formatter) part ok (writer_of new.formatter)
-    pub kept : outer new ≡ outer old
-    pub leaves : Leaves ok next old new
+  -- what stands before the next entry and before the value of a struct's field, what follows an entry, and what ends the block
+  abbrev pub lead_of : Block W → List ℕ
+  lead_of b = lead (frame_of b) (inner b) b.place
+
+  abbrev pub field_lead_of : List ℕ → Block W → List ℕ
+  field_lead_of label b = lead_of b ++ (label ++ codes ": ")
+
+  abbrev pub trail_of : Block W → List ℕ
+  trail_of b = trail (inner b).mode
+
+  abbrev pub ending_of : Block W → List ℕ
+  ending_of b = ending (frame b.outer.mode b.kind) b.outer b.place
+
+  -- what is left of the block: entries with these texts, and the end
+  abbrev pub rest_of : Block W → (Setting → List (List ℕ)) → List ℕ
+  rest_of b texts = rest (frame b.outer.mode b.kind) b.outer b.place (texts (inside b.outer))
+
+  -- the formatter is at the mode and depth of the entries
+  abbrev pub IsInside : Block W → Type 0
+  IsInside b = inner b ≡ inside b.outer
+
+  -- entries may follow
+  abbrev pub IsOpen : Block W → Type 0
+  IsOpen b = b.status ≡ Open
+
+  -- the formatter is lent for an entry, of a map for the key
+  abbrev pub IsLent : Block W → Type 0
+  IsLent b = b.status ≡ Lent
+
+  -- the formatter is lent for the value of a map's entry
+  abbrev pub IsLentForValue : Block W → Type 0
+  IsLentForValue b = b.status ≡ LentValue
+
+  -- what a call leaves: on `Ok` an open builder with this place next, on `Err` a closed one and the mode and depth from before it
+  abbrev pub After : Bool → Place → Block W → Block W → Type 0
+  After true place old new = (new.place ≡ place) × (new.status ≡ Open) × (inner new ≡ inner old)
+  After false place old new = (new.status ≡ Closed) × (inner new ≡ old.outer)
+
+  -- it is the same builder, over the same reference, of the same kind of block and with the same mode and depth from before it
+  pub record Same (old new : Block W) : Type 0 where
+    pub reference : new.reference ≡ old.reference
+    pub kind : new.kind ≡ old.kind
+    pub outer : new.outer ≡ old.outer
+
+  -- a new builder, over the reference with this name, has written the opening of a block of this kind
+  pub record Opening (seen : Seen W) (start : Formatter W) (reference : ℕ) (kind : Kind) (text : List ℕ) (new : Block W) : Type 0 where
+    pub wrote : Writes seen (writer_of start) text true (writer_of new.formatter)
+    pub same : Same (record { formatter = start; reference = reference; kind = kind; outer = setting_of start; place = First; status = Open }) new
+    pub inner : setting_of new.formatter ≡ inside (setting_of start)
+    pub place : new.place ≡ First
+    pub status : new.status ≡ Open
+
+  -- a call has written this part of the block, or a beginning of it
+  pub record Part (seen : Seen W) (old : Block W) (text : List ℕ) (ok : Bool) (place : Place) (new : Block W) : Type 0 where
+    pub wrote : Writes seen (writer_of old.formatter) text ok (writer_of new.formatter)
+    pub same : Same old new
+    pub after : After ok place old new
+
+  -- a call has failed: a beginning of this part is written, and the builder is closed
+  abbrev pub Stop : Seen W → Block W → List ℕ → Block W → Type 0
+  Stop seen old text new = Part seen old text false old.place new
+
+  -- one entry with this text was written, or a beginning of it
+  pub record Entry (seen : Seen W) (old : Block W) (text : Setting → List ℕ) (ok : Bool) (new : Block W) : Type 0 where
+    pub part : Part seen old (framed (frame_of old) (inner old) old.place (text (inner old))) ok (next old.place) new
 
   -- a call was handed an error: nothing is written, and the builder is closed
-  pub record GivesUp (old new : Block W) : Type 0 where
-    pub same_reference : new.name ≡ old.name
+  pub record Abandonment (old new : Block W) : Type 0 where
     pub same_writer : writer_of new.formatter ≡ writer_of old.formatter
-    pub kept : outer new ≡ outer old
-    pub leaves : Leaves false Closed old new
+    pub same : Same old new
+    pub after : After false old.place old new
 
-  -- `finish` has written the closing, or a beginning of it
-  pub record Finishes (seen : Seen W) (old : Block W) (part : List ℕ) (ok : Bool) (new : Block W) : Type 0 where
-    pub same_reference : new.name ≡ old.name
-    pub wrote : Writes seen (writer_of old.formatter) part ok (writer_of new.formatter)
-    pub kept : outer new ≡ outer old
-    pub closed : stage new ≡ Closed
-    pub restored : inner new ≡ outer old
+  -- what the second half of an entry answers and does, where the value's `fmt` answered `answer`
+  pub record EntryEnd {E : Type 0} (seen : Seen W) (answer : Result (Unit {0}) E) (old : Block W) (result : Result (Unit {0}) E) (ok : Bool) (new : Block W) : Type 0 where
+    -- what follows an entry was written, or a beginning of it
+    pub trail : OnOk answer (Part seen old (trail_of old) ok (next old.place) new)
+    pub error : IfErr answer (λ e. (result ≡ Err e) × Abandonment old new)
 
-module _ {W : Type 0} where
-  -- one entry of this text was added to a list, a set or a map
-  abbrev pub AddsEntry : Seen W → Block W → (Setting → List ℕ) → Bool → Block W → Type 0
-  AddsEntry seen old text ok new = Adds seen old (entry_part (inner old) (place (stage old)) (text (inner old))) ok Later new
-
-  -- what stands before an entry was written, and the formatter lent for the entry
-  abbrev pub BeginsEntry : Seen W → Block W → Formatter W → Type 0
-  BeginsEntry seen old lent = Prints seen old.formatter (lead (inner old) (place (stage old))) true lent
-
-  -- the value of an entry answered `Err` to the call that ends it or goes on with it
-  abbrev pub PassesOn : {X Y E : Type 0} → Result X E → Result Y E → Block W → Block W → Type 0
-  PassesOn answer result old new = IfErr answer (λ e. (result ≡ Err e) × GivesUp old new)
-
-  -- a list, a set or a map was closed with this bracket
-  abbrev pub FinishesWith : Seen W → Block W → List ℕ → Bool → Block W → Type 0
-  FinishesWith seen old bracket ok new = Finishes seen old (closing (outer old) (place (stage old)) bracket) ok new
-
-  -- one field was added to a struct
-  pub record AddsField (seen : Seen W) (old : Block W) (label : List ℕ) (value : Document) (ok : Bool) (new : Block W) : Type 0 where
-    pub adds : Adds seen old (field_part (inner old) (place (stage old)) label (text_at (inner old) value)) ok Later new
-
-  -- what stands before a field's value was written, and the formatter lent for the value
-  abbrev pub BeginsField : Seen W → Block W → List ℕ → Formatter W → Type 0
-  BeginsField seen old label lent = Prints seen old.formatter (field_lead (inner old) (place (stage old)) label) true lent
-
-  -- a struct was closed
-  pub record FinishesStruct (seen : Seen W) (old : Block W) (ok : Bool) (new : Block W) : Type 0 where
-    pub finishes : Finishes seen old (struct_closing (outer old) (place (stage old))) ok new
-
-  -- a new tuple has written its name
-  pub record OpensTuple (seen : Seen W) (start : Formatter W) (reference : ℕ) (name : List ℕ) (new : Block W) (comma : Comma) : Type 0 where
-    pub opens : Opens seen start reference name new
-    pub begins : comma ≡ first_comma name
-
-  -- one field was added to a tuple
-  pub record AddsTupleField (seen : Seen W) (old : Block W) (old_comma : Comma) (value : Document) (ok : Bool) (new : Block W) (new_comma : Comma) : Type 0 where
-    pub adds : Adds seen old (tuple_part (inner old) (place (stage old)) (text_at (inner old) value)) ok Later new
-    pub counts : IsTrue ok → new_comma ≡ next_comma old_comma
-
-  -- what stands before a tuple's field was written, and the formatter lent for the field
-  abbrev pub BeginsTupleField : Seen W → Block W → Formatter W → Type 0
-  BeginsTupleField seen old lent = Prints seen old.formatter (lead_after tuple_start (inner old) (place (stage old))) true lent
-
-  -- a tuple was closed
-  pub record FinishesTuple (seen : Seen W) (old : Block W) (comma : Comma) (ok : Bool) (new : Block W) : Type 0 where
-    pub finishes : Finishes seen old (tuple_closing (outer old) (place (stage old)) comma) ok new
+  -- the end of the block was written, or a beginning of it; the builder is closed, and mode and depth are those from before it
+  pub record Closing (seen : Seen W) (old : Block W) (text : List ℕ) (ok : Bool) (new : Block W) : Type 0 where
+    pub wrote : Writes seen (writer_of old.formatter) text ok (writer_of new.formatter)
+    pub same : Same old new
+    pub closed : new.status ≡ Closed
+    pub restored : inner new ≡ old.outer
 
 module _ {W U T D : Type 0} where
-  -- an entry was added for each item that the iterator gave, and on `Ok` it had no more
-  pub record AddsEntries (seen : Seen W) (becomes : U → T → Type 0) (steps : T → Option D → T → Type 0) (text_of : Setting → D → List ℕ) (entries : U) (old : Block W) (ok : Bool) (new : Block W) : Type 0 where
+  -- an entry was written for each item that the iterator gave, and on `Ok` it had no more
+  pub record Entries (seen : Seen W) (becomes : U → T → Type 0) (steps : T → Option D → T → Type 0) (text_of : D → Setting → List ℕ) (entries : U) (old : Block W) (ok : Bool) (new : Block W) : Type 0 where
     pub iterator : T
     pub begins : becomes entries iterator
     pub items : List D
     pub drains : DrainsIf steps (ok ≡ true) iterator items
-    pub adds : Adds seen old (entries_part (inner old) (place (stage old)) (map (text_of (inner old)) items)) ok (stage_after (stage old) items) new
+    pub part : Part seen old (framed_all (frame_of old) (inner old) old.place (map (λ x. text_of x (inner old)) items)) ok (place_after old.place items) new

@@ -34,6 +34,11 @@ abbrev pub pairs_of : List (Document × Document) → Pairs
 pairs_of [] = no_pairs
 pairs_of (p ∷ ps) = pair p.0 p.1 (pairs_of ps)
 
+-- fields in a row, each a label and a document
+abbrev pub fields_of : List (List ℕ × Document) → Fields
+fields_of [] = no_fields
+fields_of (f ∷ fs) = field f.0 f.1 (fields_of fs)
+
 -- how many blocks with entries lie one in another
 abbrev mutual
   pub nest : Document → ℕ

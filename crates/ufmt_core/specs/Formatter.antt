@@ -5,16 +5,8 @@ use Rattle.ufmt_core.specs.declared.formatter.Mode.TheVariants.{Pretty}
 use Rattle.ufmt_core.specs.declared.formatter.Setting.{Setting}
 use Rattle.ufmt_core.specs.declared.formatter.Formatter.{Formatter}
 use Rattle.ufmt_core.specs.Document.{Document}
-use Rattle.ufmt_core.specs.Layout.{layout, entry_depth}
+use Rattle.ufmt_core.specs.Layout.{layout, setting}
 use Rattle.ufmt_core.specs.Writes.{Seen, Writes}
-
--- the mode and depth of the entries of a block that stands at this mode and depth
-abbrev pub entry_setting : Setting → Setting
-entry_setting s = record { mode = s.mode; depth = entry_depth s.mode s.depth }
-
--- the text of a document at this mode and depth
-abbrev pub text_at : Setting → Document → List ℕ
-text_at s d = layout s.mode s.depth d
 
 module _ {W : Type 0} where
   abbrev pub writer_of : Formatter W → W
@@ -36,7 +28,7 @@ module _ {W : Type 0} where
 
   -- the same formatter in pretty mode, at its depth
   abbrev pub in_pretty_mode : Formatter W → Formatter W
-  in_pretty_mode f = at_setting f (record { mode = Pretty; depth = depth_of f })
+  in_pretty_mode f = at_setting f (setting Pretty (depth_of f))
 
   -- the text was written, or a beginning of it, and mode and depth are as before
   pub record Prints (seen : Seen W) (old : Formatter W) (text : List ℕ) (ok : Bool) (new : Formatter W) : Type 0 where
@@ -45,4 +37,4 @@ module _ {W : Type 0} where
 
   -- the document was laid out, or a beginning of it, and mode and depth are as before
   pub record LaysOut (seen : Seen W) (old : Formatter W) (d : Document) (ok : Bool) (new : Formatter W) : Type 0 where
-    pub prints : Prints seen old (text_at (setting_of old) d) ok new
+    pub prints : Prints seen old (layout (setting_of old) d) ok new

@@ -1,13 +1,8 @@
 pub mod Block
+pub mod Builder
 pub mod Core
 pub mod Decimal
 pub mod Document
 pub mod Formatter
 pub mod Layout
-pub mod List
-pub mod Map
-pub mod Parts
-pub mod Set
-pub mod Struct
-pub mod Tuple
 pub mod Writes

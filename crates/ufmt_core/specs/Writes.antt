@@ -1,5 +1,5 @@
--- A lawful writer: what a call does to the text that it tells and to the room that it has.
-use Rattle.std.specs.Prelude.{◌≡◌, ℕ, ◌+◌, ◌≤◌, List, ◌++◌, length, Bool, true, false, IsTrue, String, ⊤, string_bytes}
+-- A lawful writer: what a call does to the text that it tells, to the room that it has and to the bytes past its text.
+use Rattle.std.specs.Prelude.{◌≡◌, ℕ, ◌+◌, ◌≤◌, List, [], ◌++◌, length, drop, Bool, true, false, IsTrue, String, ⊤, string_bytes}
 
 -- what contracts see of a writer
 pub record Seen (W : Type 0) : Type 1 where
@@ -9,8 +9,10 @@ pub record Seen (W : Type 0) : Type 1 where
   pub text : W → List ℕ
   -- a number of bytes that it surely takes
   pub room : W → ℕ
-  -- which writer it is, of a `&mut` its ghost name
-  pub identity : W → ℕ
+  -- which writer it is: the ghost names of the `&mut` that lead to where it writes
+  pub identity : W → List ℕ
+  -- the bytes that it writes over, which begin with its text, where it has a buffer of a caller's
+  pub store : W → List ℕ
 
 -- a text that begins with `part`, which may be empty or the whole
 pub record BeginsWith (whole part : List ℕ) : Type 0 where
@@ -28,8 +30,10 @@ pub record Writes {W : Type 0} (seen : Seen W) (old : W) (piece : List ℕ) (ok 
   pub appended : seen.told old → Appended ok (seen.text old) piece (seen.text new)
   pub fits : length piece ≤ seen.room old → IsTrue ok
   pub room_left : length piece ≤ seen.room old → seen.room old ≤ seen.room new + length piece
-  pub same_writer : seen.identity new ≡ seen.identity old
+  pub same_identity : seen.identity new ≡ seen.identity old
+  -- the bytes past the text are those that stood there before
+  pub untouched : seen.told old → drop (length (seen.text new)) (seen.store new) ≡ drop (length (seen.text new)) (seen.store old)
 
--- a `String` as a writer: its text is always told, and any growth may be refused
+-- a `String` as a writer: its text is always told, any growth may be refused, and it writes over no buffer of a caller's
 abbrev pub string_seen : {A : Type 0} → Seen (String A)
-string_seen = record { told = λ s. ⊤; text = string_bytes; room = λ s. 0; identity = λ s. 0 }
+string_seen = record { told = λ s. ⊤; text = string_bytes; room = λ s. 0; identity = λ s. []; store = λ s. [] }

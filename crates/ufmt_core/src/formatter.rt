@@ -6,6 +6,7 @@ ghost use Rattle.ufmt_core.specs.declared.formatter.Formatter.{Formatter};
 ghost use Rattle.ufmt_core.specs.Formatter.{Prints, at_setting, depth_of, in_pretty_mode, mode_of, setting_of, writer_of};
 
 pub(crate) mod block;
+pub(crate) mod builder;
 
 use crate::write::uWrite;
 

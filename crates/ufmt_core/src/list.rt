@@ -1,51 +1,56 @@
-ghost use Rattle.std.specs.Prelude.{◌≡◌, ◌↔◌, false, List, [], codes, is_ok, IfOk, OnOk, IsTrue};
-ghost use Rattle.std.specs.Borrow.{sem, RestsIfErr, LendsSoOk, follows};
+ghost use Rattle.std.specs.Prelude.{List, codes, is_ok, true, IfOk, OnOk};
+ghost use Rattle.std.specs.Borrow.{sem};
 ghost use Rattle.std.specs.Iterator.{AlwaysYields, IsFiniteIterable};
-ghost use mir.Syntax.{named};
-ghost use Rattle.ufmt_core.specs.contracts.formatter.Formatter as formatter;
-ghost use Rattle.ufmt_core.specs.contracts.list.DebugList as list;
-ghost use Rattle.ufmt_core.specs.declared.formatter.block.Stage.TheVariants.{Later, Lent};
+ghost use Rattle.ufmt_core.specs.declared.formatter.block.Kind.TheVariants.{Brackets};
+ghost use Rattle.ufmt_core.specs.declared.formatter.builder.Status.TheVariants.{Lent};
 ghost use Rattle.ufmt_core.specs.Document.{Document, documents, list_of};
-ghost use Rattle.ufmt_core.specs.Formatter.{LaysOut, Prints, text_at};
-ghost use Rattle.ufmt_core.specs.Parts.{lead, trail};
-ghost use Rattle.ufmt_core.specs.Block.{Adds, AddsEntries, AddsEntry, BeginsEntry, FinishesWith, IsLent, IsOpen, Opens, PassesOn, inner, place, stage};
-ghost use Rattle.ufmt_core.specs.List.{block, with_formatter};
+ghost use Rattle.ufmt_core.specs.Formatter.{LaysOut, Prints};
+ghost use Rattle.ufmt_core.specs.Block.{Entries, Entry, EntryEnd, IsLent, IsOpen, Opening, Stop, entry_text, lead_of};
+ghost use Rattle.ufmt_core.specs.Builder.{EntryLoan, OpeningLoan, block, list_block};
 
 use crate::formatter::Formatter;
-use crate::formatter::block::{Progress, Stage};
+use crate::formatter::block::{Kind, OPENING_BRACKET};
+use crate::formatter::builder::{BlockKind, Builder};
 use crate::uDebug;
 use crate::write::uWrite;
 
 /// Writes a list, entry by entry.
-#[derive(Drop)]
-pub struct DebugList<'f, W> {
-    formatter: &'f mut Formatter<W>,
-    progress: Progress,
+pub type DebugList<'f, W> = Builder<'f, W, ListBlock>;
+
+/// Marks the builder of a list.
+#[derive(Clone, Copy)]
+pub struct ListBlock;
+
+impl BlockKind for ListBlock {
+    ghost kind = { λ _. Brackets };
+
+    fn kind(&self) -> Kind {
+        Kind::Brackets
+    }
 }
+
+/// A block of items: a list or a set.
+pub trait Items: BlockKind {}
+
+impl Items for ListBlock {}
 
 impl<W: uWrite> Formatter<W> {
     /// Writes `[` and begins a list. On `Err` there is no builder, and mode and depth are as before.
     pub fn debug_list<'f>(&'f mut self) -> Result<DebugList<'f, W>, W::Error>
-        ensures* refused { sem 𝓛 (RestsIfErr (formatter.the_row W.row) self.entry (λ b. b.formatter.ghost_name) result
-            (λ last. Prints W.seen self.old (codes "[") false last)) }
-        ensures opens { IfOk result (λ b. Opens W.seen self.old self.entry.ghost_name (codes "[") (block b)) }
-        ensures is_open { IfOk result (λ b. IsOpen (block b)) }
+        ensures* loan { sem 𝓛 (OpeningLoan W.row W.seen self.entry result (codes "[")) }
+        ensures opening { IfOk result (λ b. Opening W.seen self.old self.entry.ghost_name Brackets (codes "[") (list_block b)) }
+        ensures is_open { IfOk result (λ b. IsOpen (list_block b)) }
     {
-        self.write_str("[")?;
-        let progress = self.enter();
-        Ok(DebugList {
-            formatter: self,
-            progress,
-        })
+        self.open(OPENING_BRACKET, ListBlock)
     }
 }
 
-impl<W: uWrite> DebugList<'_, W> {
+impl<W: uWrite, K: Items> Builder<'_, W, K> {
     /// Writes one entry. On `Err` a beginning of it is written and the builder is closed.
     pub fn entry<D: uDebug>(&mut self, entry: &D) -> Result<(), W::Error>
-        requires { IsOpen (block self.old) }
-        ensures adds { AddsEntry W.seen (block self.old) (λ s. text_at s (D.document entry.now)) (is_ok result) (block self.new) }
-        ensures is_open { OnOk result (IsOpen (block self.new)) }
+        requires { IsOpen (block K.BlockKind.kind self.old) }
+        ensures entry { Entry W.seen (block K.BlockKind.kind self.old) (entry_text (D.document entry.now)) (is_ok result) (block K.BlockKind.kind self.new) }
+        ensures is_open { OnOk result (IsOpen (block K.BlockKind.kind self.new)) }
     {
         let answer = entry.fmt(self.begin_entry()?);
         self.end_entry(answer)
@@ -58,10 +63,10 @@ impl<W: uWrite> DebugList<'_, W> {
     ) -> Result<(), W::Error>
     where
         I::IntoIter: Drop,
-        requires is_open { IsOpen (block self.old) }
+        requires is_open { IsOpen (block K.BlockKind.kind self.old) }
         requires ends { IsFiniteIterable I.into_iter_gives I.IntoIter.can_next I.IntoIter.remaining entries }
-        ensures adds { AddsEntries W.seen I.into_iter_gives I.IntoIter.next_gives (λ s x. text_at s (D.document x)) entries (block self.old) (is_ok result) (block self.new) }
-        ensures is_open { OnOk result (IsOpen (block self.new)) }
+        ensures entries { Entries W.seen I.into_iter_gives I.IntoIter.next_gives (λ x. entry_text (D.document x)) entries (block K.BlockKind.kind self.old) (is_ok result) (block K.BlockKind.kind self.new) }
+        ensures is_open { OnOk result (IsOpen (block K.BlockKind.kind self.new)) }
     {
         for entry in entries {
             self.entry(&entry)?;
@@ -71,55 +76,21 @@ impl<W: uWrite> DebugList<'_, W> {
 
     /// Writes what stands before an entry, and lends the formatter for it.
     pub fn begin_entry(&mut self) -> Result<&mut Formatter<W>, W::Error>
-        requires { IsOpen (block self.old) }
-        ensures* lends { sem 𝓛 (LendsSoOk (list.the_row (record { mir = named 0; lft = [] }) W.row) (formatter.the_row W.row) self.entry result
-            (λ last lent. last ≡ with_formatter (record self.old { progress = record self.old.progress { stage = Lent } }) lent)
-            (λ last. Adds W.seen (block self.old) (lead (inner (block self.old)) (place (stage (block self.old)))) false Lent (block last))) }
-        ensures begins { IfOk result (λ lent. BeginsEntry W.seen (block self.old) lent.now) }
+        requires { IsOpen (block K.BlockKind.kind self.old) }
+        ensures* loan { sem 𝓛 (EntryLoan W.row K.row self.entry result Lent
+            (λ last. Stop W.seen (block K.BlockKind.kind self.old) (lead_of (block K.BlockKind.kind self.old)) (block K.BlockKind.kind last))) }
+        ensures lead { IfOk result (λ f. Prints W.seen self.old.formatter.now (lead_of (block K.BlockKind.kind self.old)) true f.now) }
     {
-        let written = self.formatter.write_lead(self.progress.stage);
-        self.formatter
-            .settle(&mut self.progress, written, Stage::Lent)?;
-        Ok(self.lend())
-    }
-
-    fn lend(&mut self) -> &mut Formatter<W>
-        ensures* lends { sem 𝓛 (follows (list.the_row (record { mir = named 0; lft = [] }) W.row) (formatter.the_row W.row) self.entry.ghost_name result.ghost_name (with_formatter self.old)) }
-        ensures same { result.now ≡ self.old.formatter.now }
-    {
-        &mut *self.formatter
+        self.begin()
     }
 
     /// Writes what stands after an entry whose `fmt` gave this answer, or passes an `Err` on.
     pub fn end_entry(&mut self, answer: Result<(), W::Error>) -> Result<(), W::Error>
-        requires { IsLent (block self.old) }
-        ensures ends { OnOk answer (Adds W.seen (block self.old) (trail (inner (block self.old))) (is_ok result) Later (block self.new)) }
-        ensures passes_on { PassesOn answer result (block self.old) (block self.new) }
-        ensures is_open { OnOk result (IsOpen (block self.new)) }
+        requires { IsLent (block K.BlockKind.kind self.old) }
+        ensures end { EntryEnd W.seen answer (block K.BlockKind.kind self.old) result (is_ok result) (block K.BlockKind.kind self.new) }
+        ensures is_open { OnOk result (IsOpen (block K.BlockKind.kind self.new)) }
     {
-        let ended = match answer {
-            Ok(()) => self.formatter.write_trail(),
-            Err(error) => Err(error),
-        };
-        self.formatter
-            .settle(&mut self.progress, ended, Stage::Later)
-    }
-
-    /// Writes `]`. The builder is then closed, and mode and depth are those from before it.
-    pub fn finish(&mut self) -> Result<(), W::Error>
-        requires { IsOpen (block self.old) }
-        ensures finishes { FinishesWith W.seen (block self.old) (codes "]") (is_ok result) (block self.new) }
-    {
-        let finished = self.formatter.write_closing(self.progress, "]");
-        self.formatter.leave(&mut self.progress);
-        finished
-    }
-
-    /// Whether entries may follow: until `finish`, or a call that fails.
-    pub fn is_open(&self) -> bool
-        ensures { IsTrue result ↔ IsOpen (block self.now) }
-    {
-        matches!(self.progress.stage, Stage::First | Stage::Later)
+        self.end(answer)
     }
 }
 

@@ -1,51 +1,51 @@
-ghost use Rattle.std.specs.Prelude.{◌≡◌, ◌↔◌, true, false, List, [], codes, is_ok, IfOk, IfErr, OnOk, OnErr, IsTrue};
-ghost use Rattle.std.specs.Borrow.{sem, RestsIfErr, LendsSoOk, follows};
+ghost use Rattle.std.specs.Prelude.{◌≡◌, List, codes, is_ok, true, Err, IfErr, IfOk, OnErr, OnOk};
+ghost use Rattle.std.specs.Borrow.{sem};
 ghost use Rattle.std.specs.Iterator.{AlwaysYields, IsFiniteIterable};
-ghost use mir.Syntax.{named};
-ghost use Rattle.ufmt_core.specs.contracts.formatter.Formatter as formatter;
-ghost use Rattle.ufmt_core.specs.contracts.map.DebugMap as map_builder;
-ghost use Rattle.ufmt_core.specs.declared.formatter.block.Stage.TheVariants.{Later, Lent, LentValue};
+ghost use Rattle.ufmt_core.specs.declared.formatter.block.Kind.TheVariants.{Braces};
+ghost use Rattle.ufmt_core.specs.declared.formatter.builder.Status.TheVariants.{Lent, LentValue};
 ghost use Rattle.ufmt_core.specs.Document.{Document, map_of, pairs_of};
 ghost use Rattle.ufmt_core.specs.Formatter.{LaysOut, Prints};
-ghost use Rattle.ufmt_core.specs.Parts.{lead, pair_text, trail};
-ghost use Rattle.ufmt_core.specs.Block.{Adds, AddsEntries, AddsEntry, BeginsEntry, FinishesWith, GivesUp, IsLent, IsLentForValue, IsOpen, Opens, PassesOn, inner, place, stage};
-ghost use Rattle.ufmt_core.specs.Map.{block, with_formatter};
+ghost use Rattle.ufmt_core.specs.Block.{Abandonment, Entries, Entry, EntryEnd, IsLent, IsLentForValue, IsOpen, Opening, Stop, lead_of, pair_text};
+ghost use Rattle.ufmt_core.specs.Builder.{MapLoan, OpeningLoan, map_block};
 
 use crate::formatter::Formatter;
-use crate::formatter::block::{Progress, Stage};
+use crate::formatter::block::{Kind, OPENING_BRACE};
+use crate::formatter::builder::{BlockKind, Builder, Status};
 use crate::uDebug;
 use crate::write::uWrite;
 
 /// Writes a map, entry by entry.
-#[derive(Drop)]
-pub struct DebugMap<'f, W> {
-    formatter: &'f mut Formatter<W>,
-    progress: Progress,
+pub type DebugMap<'f, W> = Builder<'f, W, MapBlock>;
+
+/// Marks the builder of a map.
+#[derive(Clone, Copy)]
+pub struct MapBlock;
+
+impl BlockKind for MapBlock {
+    ghost kind = { λ _. Braces };
+
+    fn kind(&self) -> Kind {
+        Kind::Braces
+    }
 }
 
 impl<W: uWrite> Formatter<W> {
     /// Writes `{` and begins a map. On `Err` there is no builder, and mode and depth are as before.
     pub fn debug_map<'f>(&'f mut self) -> Result<DebugMap<'f, W>, W::Error>
-        ensures* refused { sem 𝓛 (RestsIfErr (formatter.the_row W.row) self.entry (λ b. b.formatter.ghost_name) result
-            (λ last. Prints W.seen self.old (codes "{") false last)) }
-        ensures opens { IfOk result (λ b. Opens W.seen self.old self.entry.ghost_name (codes "{") (block b)) }
-        ensures is_open { IfOk result (λ b. IsOpen (block b)) }
+        ensures* loan { sem 𝓛 (OpeningLoan W.row W.seen self.entry result (codes "{")) }
+        ensures opening { IfOk result (λ b. Opening W.seen self.old self.entry.ghost_name Braces (codes "{") (map_block b)) }
+        ensures is_open { IfOk result (λ b. IsOpen (map_block b)) }
     {
-        self.write_str("{")?;
-        let progress = self.enter();
-        Ok(DebugMap {
-            formatter: self,
-            progress,
-        })
+        self.open(OPENING_BRACE, MapBlock)
     }
 }
 
 impl<W: uWrite> DebugMap<'_, W> {
     /// Writes one entry, `key: value`. On `Err` a beginning of it is written and the builder is closed.
     pub fn entry<K: uDebug, V: uDebug>(&mut self, key: &K, value: &V) -> Result<(), W::Error>
-        requires { IsOpen (block self.old) }
-        ensures adds { AddsEntry W.seen (block self.old) (λ s. pair_text s (K.document key.now, V.document value.now)) (is_ok result) (block self.new) }
-        ensures is_open { OnOk result (IsOpen (block self.new)) }
+        requires { IsOpen (map_block self.old) }
+        ensures entry { Entry W.seen (map_block self.old) (pair_text (K.document key.now) (V.document value.now)) (is_ok result) (map_block self.new) }
+        ensures is_open { OnOk result (IsOpen (map_block self.new)) }
     {
         let key_answer = key.fmt(self.begin_entry()?);
         let answer = value.fmt(self.begin_value(key_answer)?);
@@ -59,15 +59,25 @@ impl<W: uWrite> DebugMap<'_, W> {
     ) -> Result<(), W::Error>
     where
         I::IntoIter: Drop,
-        requires is_open { IsOpen (block self.old) }
+        requires is_open { IsOpen (map_block self.old) }
         requires ends { IsFiniteIterable I.into_iter_gives I.IntoIter.can_next I.IntoIter.remaining entries }
-        ensures adds { AddsEntries W.seen I.into_iter_gives I.IntoIter.next_gives (λ s x. pair_text s (K.document x.0, V.document x.1)) entries (block self.old) (is_ok result) (block self.new) }
-        ensures is_open { OnOk result (IsOpen (block self.new)) }
+        ensures entries { Entries W.seen I.into_iter_gives I.IntoIter.next_gives (λ x. pair_text (K.document x.0) (V.document x.1)) entries (map_block self.old) (is_ok result) (map_block self.new) }
+        ensures is_open { OnOk result (IsOpen (map_block self.new)) }
     {
         for (key, value) in entries {
             self.entry(&key, &value)?;
         }
         Ok(())
+    }
+
+    /// Writes what stands before an entry, and lends the formatter for its key.
+    pub fn begin_entry(&mut self) -> Result<&mut Formatter<W>, W::Error>
+        requires { IsOpen (map_block self.old) }
+        ensures* loan { sem 𝓛 (MapLoan W.row self.entry result Lent
+            (λ last. Stop W.seen (map_block self.old) (lead_of (map_block self.old)) (map_block last))) }
+        ensures lead { IfOk result (λ f. Prints W.seen self.old.formatter.now (lead_of (map_block self.old)) true f.now) }
+    {
+        self.begin()
     }
 
     /// Writes what stands between a key whose `fmt` gave this answer and its value, and lends the
@@ -76,74 +86,27 @@ impl<W: uWrite> DebugMap<'_, W> {
         &mut self,
         answer: Result<(), W::Error>,
     ) -> Result<&mut Formatter<W>, W::Error>
-        requires { IsLent (block self.old) }
-        ensures* lends { sem 𝓛 (LendsSoOk (map_builder.the_row (record { mir = named 0; lft = [] }) W.row) (formatter.the_row W.row) self.entry result
-            (λ last lent. last ≡ with_formatter (record self.old { progress = record self.old.progress { stage = LentValue } }) lent)
-            (λ last. OnOk answer (Adds W.seen (block self.old) (codes ": ") false LentValue (block last))
-            × OnErr answer (GivesUp (block self.old) (block last)))) }
-        ensures begins { IfOk result (λ lent. Prints W.seen self.old.formatter.now (codes ": ") true lent.now) }
-        ensures passes_on { IfErr answer (λ e. result ≡ Err e) }
+        requires { IsLent (map_block self.old) }
+        ensures* loan { sem 𝓛 (MapLoan W.row self.entry result LentValue
+            (λ last. OnOk answer (Stop W.seen (map_block self.old) (codes ": ") (map_block last))
+            × OnErr answer (Abandonment (map_block self.old) (map_block last)))) }
+        ensures colon { IfOk result (λ f. Prints W.seen self.old.formatter.now (codes ": ") true f.now) }
+        ensures error { IfErr answer (λ e. result ≡ Err e) }
     {
         let written = match answer {
             Ok(()) => self.formatter.write_str(": "),
             Err(error) => Err(error),
         };
-        self.formatter
-            .settle(&mut self.progress, written, Stage::LentValue)?;
-        Ok(self.lend())
+        self.lend_if(written, Status::LentValue)
     }
 
-    /// Writes what stands before an entry, and lends the formatter for it.
-    pub fn begin_entry(&mut self) -> Result<&mut Formatter<W>, W::Error>
-        requires { IsOpen (block self.old) }
-        ensures* lends { sem 𝓛 (LendsSoOk (map_builder.the_row (record { mir = named 0; lft = [] }) W.row) (formatter.the_row W.row) self.entry result
-            (λ last lent. last ≡ with_formatter (record self.old { progress = record self.old.progress { stage = Lent } }) lent)
-            (λ last. Adds W.seen (block self.old) (lead (inner (block self.old)) (place (stage (block self.old)))) false Lent (block last))) }
-        ensures begins { IfOk result (λ lent. BeginsEntry W.seen (block self.old) lent.now) }
-    {
-        let written = self.formatter.write_lead(self.progress.stage);
-        self.formatter
-            .settle(&mut self.progress, written, Stage::Lent)?;
-        Ok(self.lend())
-    }
-
-    fn lend(&mut self) -> &mut Formatter<W>
-        ensures* lends { sem 𝓛 (follows (map_builder.the_row (record { mir = named 0; lft = [] }) W.row) (formatter.the_row W.row) self.entry.ghost_name result.ghost_name (with_formatter self.old)) }
-        ensures same { result.now ≡ self.old.formatter.now }
-    {
-        &mut *self.formatter
-    }
-
-    /// Writes what stands after an entry whose `fmt` gave this answer, or passes an `Err` on.
+    /// Writes what stands after an entry whose value's `fmt` gave this answer, or passes an `Err` on.
     pub fn end_entry(&mut self, answer: Result<(), W::Error>) -> Result<(), W::Error>
-        requires { IsLentForValue (block self.old) }
-        ensures ends { OnOk answer (Adds W.seen (block self.old) (trail (inner (block self.old))) (is_ok result) Later (block self.new)) }
-        ensures passes_on { PassesOn answer result (block self.old) (block self.new) }
-        ensures is_open { OnOk result (IsOpen (block self.new)) }
+        requires { IsLentForValue (map_block self.old) }
+        ensures end { EntryEnd W.seen answer (map_block self.old) result (is_ok result) (map_block self.new) }
+        ensures is_open { OnOk result (IsOpen (map_block self.new)) }
     {
-        let ended = match answer {
-            Ok(()) => self.formatter.write_trail(),
-            Err(error) => Err(error),
-        };
-        self.formatter
-            .settle(&mut self.progress, ended, Stage::Later)
-    }
-
-    /// Writes `}`, in pretty mode on a line of its own where there are entries, unlike ufmt. The builder is then closed, and mode and depth are those from before it.
-    pub fn finish(&mut self) -> Result<(), W::Error>
-        requires { IsOpen (block self.old) }
-        ensures finishes { FinishesWith W.seen (block self.old) (codes "}") (is_ok result) (block self.new) }
-    {
-        let finished = self.formatter.write_closing(self.progress, "}");
-        self.formatter.leave(&mut self.progress);
-        finished
-    }
-
-    /// Whether entries may follow: until `finish`, or a call that fails.
-    pub fn is_open(&self) -> bool
-        ensures { IsTrue result ↔ IsOpen (block self.now) }
-    {
-        matches!(self.progress.stage, Stage::First | Stage::Later)
+        self.end(answer)
     }
 }
 

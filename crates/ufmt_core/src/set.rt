@@ -1,125 +1,44 @@
-ghost use Rattle.std.specs.Prelude.{◌≡◌, ◌↔◌, false, List, [], codes, is_ok, IfOk, OnOk, IsTrue};
-ghost use Rattle.std.specs.Borrow.{sem, RestsIfErr, LendsSoOk, follows};
+ghost use Rattle.std.specs.Prelude.{List, codes, is_ok, IfOk};
+ghost use Rattle.std.specs.Borrow.{sem};
 ghost use Rattle.std.specs.Iterator.{AlwaysYields, IsFiniteIterable};
-ghost use mir.Syntax.{named};
-ghost use Rattle.ufmt_core.specs.contracts.formatter.Formatter as formatter;
-ghost use Rattle.ufmt_core.specs.contracts.set.DebugSet as set;
-ghost use Rattle.ufmt_core.specs.declared.formatter.block.Stage.TheVariants.{Later, Lent};
+ghost use Rattle.ufmt_core.specs.declared.formatter.block.Kind.TheVariants.{Braces};
 ghost use Rattle.ufmt_core.specs.Document.{Document, documents, set_of};
-ghost use Rattle.ufmt_core.specs.Formatter.{LaysOut, Prints, text_at};
-ghost use Rattle.ufmt_core.specs.Parts.{lead, trail};
-ghost use Rattle.ufmt_core.specs.Block.{Adds, AddsEntries, AddsEntry, BeginsEntry, FinishesWith, IsLent, IsOpen, Opens, PassesOn, inner, place, stage};
-ghost use Rattle.ufmt_core.specs.Set.{block, with_formatter};
+ghost use Rattle.ufmt_core.specs.Formatter.{LaysOut};
+ghost use Rattle.ufmt_core.specs.Block.{IsOpen, Opening};
+ghost use Rattle.ufmt_core.specs.Builder.{OpeningLoan, set_block};
 
 use crate::formatter::Formatter;
-use crate::formatter::block::{Progress, Stage};
+use crate::formatter::block::{Kind, OPENING_BRACE};
+use crate::formatter::builder::{BlockKind, Builder};
+use crate::list::Items;
 use crate::uDebug;
 use crate::write::uWrite;
 
-/// Writes a set, entry by entry.
-#[derive(Drop)]
-pub struct DebugSet<'f, W> {
-    formatter: &'f mut Formatter<W>,
-    progress: Progress,
+/// Writes a set, entry by entry, with the calls of a list.
+pub type DebugSet<'f, W> = Builder<'f, W, SetBlock>;
+
+/// Marks the builder of a set.
+#[derive(Clone, Copy)]
+pub struct SetBlock;
+
+impl BlockKind for SetBlock {
+    ghost kind = { λ _. Braces };
+
+    fn kind(&self) -> Kind {
+        Kind::Braces
+    }
 }
+
+impl Items for SetBlock {}
 
 impl<W: uWrite> Formatter<W> {
     /// Writes `{` and begins a set. On `Err` there is no builder, and mode and depth are as before.
     pub fn debug_set<'f>(&'f mut self) -> Result<DebugSet<'f, W>, W::Error>
-        ensures* refused { sem 𝓛 (RestsIfErr (formatter.the_row W.row) self.entry (λ b. b.formatter.ghost_name) result
-            (λ last. Prints W.seen self.old (codes "{") false last)) }
-        ensures opens { IfOk result (λ b. Opens W.seen self.old self.entry.ghost_name (codes "{") (block b)) }
-        ensures is_open { IfOk result (λ b. IsOpen (block b)) }
+        ensures* loan { sem 𝓛 (OpeningLoan W.row W.seen self.entry result (codes "{")) }
+        ensures opening { IfOk result (λ b. Opening W.seen self.old self.entry.ghost_name Braces (codes "{") (set_block b)) }
+        ensures is_open { IfOk result (λ b. IsOpen (set_block b)) }
     {
-        self.write_str("{")?;
-        let progress = self.enter();
-        Ok(DebugSet {
-            formatter: self,
-            progress,
-        })
-    }
-}
-
-impl<W: uWrite> DebugSet<'_, W> {
-    /// Writes one entry. On `Err` a beginning of it is written and the builder is closed.
-    pub fn entry<D: uDebug>(&mut self, entry: &D) -> Result<(), W::Error>
-        requires { IsOpen (block self.old) }
-        ensures adds { AddsEntry W.seen (block self.old) (λ s. text_at s (D.document entry.now)) (is_ok result) (block self.new) }
-        ensures is_open { OnOk result (IsOpen (block self.new)) }
-    {
-        let answer = entry.fmt(self.begin_entry()?);
-        self.end_entry(answer)
-    }
-
-    /// Writes an entry for each item, in order, and takes no item after a failure.
-    pub fn entries<D: uDebug + Drop, I: IntoIterator<Item = D>>(
-        &mut self,
-        entries: I,
-    ) -> Result<(), W::Error>
-    where
-        I::IntoIter: Drop,
-        requires is_open { IsOpen (block self.old) }
-        requires ends { IsFiniteIterable I.into_iter_gives I.IntoIter.can_next I.IntoIter.remaining entries }
-        ensures adds { AddsEntries W.seen I.into_iter_gives I.IntoIter.next_gives (λ s x. text_at s (D.document x)) entries (block self.old) (is_ok result) (block self.new) }
-        ensures is_open { OnOk result (IsOpen (block self.new)) }
-    {
-        for entry in entries {
-            self.entry(&entry)?;
-        }
-        Ok(())
-    }
-
-    /// Writes what stands before an entry, and lends the formatter for it.
-    pub fn begin_entry(&mut self) -> Result<&mut Formatter<W>, W::Error>
-        requires { IsOpen (block self.old) }
-        ensures* lends { sem 𝓛 (LendsSoOk (set.the_row (record { mir = named 0; lft = [] }) W.row) (formatter.the_row W.row) self.entry result
-            (λ last lent. last ≡ with_formatter (record self.old { progress = record self.old.progress { stage = Lent } }) lent)
-            (λ last. Adds W.seen (block self.old) (lead (inner (block self.old)) (place (stage (block self.old)))) false Lent (block last))) }
-        ensures begins { IfOk result (λ lent. BeginsEntry W.seen (block self.old) lent.now) }
-    {
-        let written = self.formatter.write_lead(self.progress.stage);
-        self.formatter
-            .settle(&mut self.progress, written, Stage::Lent)?;
-        Ok(self.lend())
-    }
-
-    fn lend(&mut self) -> &mut Formatter<W>
-        ensures* lends { sem 𝓛 (follows (set.the_row (record { mir = named 0; lft = [] }) W.row) (formatter.the_row W.row) self.entry.ghost_name result.ghost_name (with_formatter self.old)) }
-        ensures same { result.now ≡ self.old.formatter.now }
-    {
-        &mut *self.formatter
-    }
-
-    /// Writes what stands after an entry whose `fmt` gave this answer, or passes an `Err` on.
-    pub fn end_entry(&mut self, answer: Result<(), W::Error>) -> Result<(), W::Error>
-        requires { IsLent (block self.old) }
-        ensures ends { OnOk answer (Adds W.seen (block self.old) (trail (inner (block self.old))) (is_ok result) Later (block self.new)) }
-        ensures passes_on { PassesOn answer result (block self.old) (block self.new) }
-        ensures is_open { OnOk result (IsOpen (block self.new)) }
-    {
-        let ended = match answer {
-            Ok(()) => self.formatter.write_trail(),
-            Err(error) => Err(error),
-        };
-        self.formatter
-            .settle(&mut self.progress, ended, Stage::Later)
-    }
-
-    /// Writes `}`, in pretty mode on a line of its own where there are entries, unlike ufmt. The builder is then closed, and mode and depth are those from before it.
-    pub fn finish(&mut self) -> Result<(), W::Error>
-        requires { IsOpen (block self.old) }
-        ensures finishes { FinishesWith W.seen (block self.old) (codes "}") (is_ok result) (block self.new) }
-    {
-        let finished = self.formatter.write_closing(self.progress, "}");
-        self.formatter.leave(&mut self.progress);
-        finished
-    }
-
-    /// Whether entries may follow: until `finish`, or a call that fails.
-    pub fn is_open(&self) -> bool
-        ensures { IsTrue result ↔ IsOpen (block self.now) }
-    {
-        matches!(self.progress.stage, Stage::First | Stage::Later)
+        self.open(OPENING_BRACE, SetBlock)
     }
 }
 

@@ -1,49 +1,50 @@
-ghost use Rattle.std.specs.Prelude.{◌≡◌, ◌↔◌, false, [], is_ok, IfOk, OnOk, IsTrue};
-ghost use Rattle.std.specs.Borrow.{sem, RestsIfErr, LendsSoOk, follows};
-ghost use mir.Syntax.{named};
-ghost use Rattle.ufmt_core.specs.contracts.formatter.Formatter as formatter;
-ghost use Rattle.ufmt_core.specs.contracts.structs.DebugStruct as struct_builder;
-ghost use Rattle.ufmt_core.specs.declared.formatter.block.Stage.TheVariants.{Later, Lent};
+ghost use Rattle.std.specs.Prelude.{is_ok, true, IfOk, OnOk};
+ghost use Rattle.std.specs.Borrow.{sem};
+ghost use Rattle.ufmt_core.specs.declared.formatter.block.Kind.TheVariants.{Struct};
+ghost use Rattle.ufmt_core.specs.declared.formatter.builder.Status.TheVariants.{Lent};
 ghost use Rattle.ufmt_core.specs.Formatter.{Prints};
-ghost use Rattle.ufmt_core.specs.Parts.{field_lead, trail};
-ghost use Rattle.ufmt_core.specs.Block.{Adds, AddsField, BeginsField, FinishesStruct, IsLent, IsOpen, Opens, PassesOn, inner, place, stage};
-ghost use Rattle.ufmt_core.specs.Struct.{block, with_formatter};
+ghost use Rattle.ufmt_core.specs.Block.{Entry, EntryEnd, IsLent, IsOpen, Opening, Stop, field_lead_of, field_text};
+ghost use Rattle.ufmt_core.specs.Builder.{StructLoan, OpeningLoan, struct_block};
 
 use crate::formatter::Formatter;
-use crate::formatter::block::{Progress, Stage};
+use crate::formatter::block::Kind;
+use crate::formatter::builder::{BlockKind, Builder};
 use crate::uDebug;
 use crate::write::uWrite;
 
 /// Writes a struct, field by field.
-#[derive(Drop)]
-pub struct DebugStruct<'f, W> {
-    formatter: &'f mut Formatter<W>,
-    progress: Progress,
+pub type DebugStruct<'f, W> = Builder<'f, W, StructBlock>;
+
+/// Marks the builder of a struct.
+#[derive(Clone, Copy)]
+pub struct StructBlock;
+
+impl BlockKind for StructBlock {
+    ghost kind = { λ _. Struct };
+
+    fn kind(&self) -> Kind {
+        Kind::Struct
+    }
 }
 
 impl<W: uWrite> Formatter<W> {
-    /// Writes the name, which may be empty, and begins a struct. On `Err` there is no builder, and mode and depth are as before.
+    /// Writes the name, which may be empty, and begins a struct. On `Err` there is no builder, and mode
+    /// and depth are as before.
     pub fn debug_struct<'f>(&'f mut self, name: &str) -> Result<DebugStruct<'f, W>, W::Error>
-        ensures* refused { sem 𝓛 (RestsIfErr (formatter.the_row W.row) self.entry (λ b. b.formatter.ghost_name) result
-            (λ last. Prints W.seen self.old name.now false last)) }
-        ensures opens { IfOk result (λ b. Opens W.seen self.old self.entry.ghost_name name.now (block b)) }
-        ensures is_open { IfOk result (λ b. IsOpen (block b)) }
+        ensures* loan { sem 𝓛 (OpeningLoan W.row W.seen self.entry result name.now) }
+        ensures opening { IfOk result (λ b. Opening W.seen self.old self.entry.ghost_name Struct name.now (struct_block b)) }
+        ensures is_open { IfOk result (λ b. IsOpen (struct_block b)) }
     {
-        self.write_str(name)?;
-        let progress = self.enter();
-        Ok(DebugStruct {
-            formatter: self,
-            progress,
-        })
+        self.open(name, StructBlock)
     }
 }
 
 impl<W: uWrite> DebugStruct<'_, W> {
     /// Writes one field, `name: value`. On `Err` a beginning of it is written and the builder is closed.
     pub fn field<D: uDebug>(&mut self, name: &str, value: &D) -> Result<(), W::Error>
-        requires { IsOpen (block self.old) }
-        ensures adds { AddsField W.seen (block self.old) name.now (D.document value.now) (is_ok result) (block self.new) }
-        ensures is_open { OnOk result (IsOpen (block self.new)) }
+        requires { IsOpen (struct_block self.old) }
+        ensures entry { Entry W.seen (struct_block self.old) (field_text name.now (D.document value.now)) (is_ok result) (struct_block self.new) }
+        ensures is_open { OnOk result (IsOpen (struct_block self.new)) }
     {
         let answer = value.fmt(self.begin_field(name)?);
         self.end_field(answer)
@@ -51,54 +52,20 @@ impl<W: uWrite> DebugStruct<'_, W> {
 
     /// Writes what stands before a field's value, and lends the formatter for the value.
     pub fn begin_field(&mut self, name: &str) -> Result<&mut Formatter<W>, W::Error>
-        requires { IsOpen (block self.old) }
-        ensures* lends { sem 𝓛 (LendsSoOk (struct_builder.the_row (record { mir = named 0; lft = [] }) W.row) (formatter.the_row W.row) self.entry result
-            (λ last lent. last ≡ with_formatter (record self.old { progress = record self.old.progress { stage = Lent } }) lent)
-            (λ last. Adds W.seen (block self.old) (field_lead (inner (block self.old)) (place (stage (block self.old))) name.now) false Lent (block last))) }
-        ensures begins { IfOk result (λ lent. BeginsField W.seen (block self.old) name.now lent.now) }
+        requires { IsOpen (struct_block self.old) }
+        ensures* loan { sem 𝓛 (StructLoan W.row self.entry result Lent
+            (λ last. Stop W.seen (struct_block self.old) (field_lead_of name.now (struct_block self.old)) (struct_block last))) }
+        ensures lead { IfOk result (λ f. Prints W.seen self.old.formatter.now (field_lead_of name.now (struct_block self.old)) true f.now) }
     {
-        let written = self.formatter.write_field_lead(self.progress.stage, name);
-        self.formatter
-            .settle(&mut self.progress, written, Stage::Lent)?;
-        Ok(self.lend())
+        self.begin_named(name)
     }
 
-    fn lend(&mut self) -> &mut Formatter<W>
-        ensures* lends { sem 𝓛 (follows (struct_builder.the_row (record { mir = named 0; lft = [] }) W.row) (formatter.the_row W.row) self.entry.ghost_name result.ghost_name (with_formatter self.old)) }
-        ensures same { result.now ≡ self.old.formatter.now }
-    {
-        &mut *self.formatter
-    }
-
-    /// Writes what stands after a field whose `fmt` gave this answer, or passes an `Err` on.
+    /// Writes what stands after a field whose value's `fmt` gave this answer, or passes an `Err` on.
     pub fn end_field(&mut self, answer: Result<(), W::Error>) -> Result<(), W::Error>
-        requires { IsLent (block self.old) }
-        ensures ends { OnOk answer (Adds W.seen (block self.old) (trail (inner (block self.old))) (is_ok result) Later (block self.new)) }
-        ensures passes_on { PassesOn answer result (block self.old) (block self.new) }
-        ensures is_open { OnOk result (IsOpen (block self.new)) }
+        requires { IsLent (struct_block self.old) }
+        ensures end { EntryEnd W.seen answer (struct_block self.old) result (is_ok result) (struct_block self.new) }
+        ensures is_open { OnOk result (IsOpen (struct_block self.new)) }
     {
-        let ended = match answer {
-            Ok(()) => self.formatter.write_trail(),
-            Err(error) => Err(error),
-        };
-        self.formatter
-            .settle(&mut self.progress, ended, Stage::Later)
-    }
-
-    /// Writes `}` where there are fields, in pretty mode on a line of its own, and nothing else. The builder is then closed, and mode and depth are those from before it.
-    pub fn finish(&mut self) -> Result<(), W::Error>
-        requires { IsOpen (block self.old) }
-        ensures finishes { FinishesStruct W.seen (block self.old) (is_ok result) (block self.new) }
-    {
-        let finished = self.formatter.write_struct_closing(self.progress);
-        self.formatter.leave(&mut self.progress);
-        finished
-    }
-
-    /// Whether fields may follow: until `finish`, or a call that fails.
-    pub fn is_open(&self) -> bool
-        ensures { IsTrue result ↔ IsOpen (block self.now) }
-    {
-        matches!(self.progress.stage, Stage::First | Stage::Later)
+        self.end(answer)
     }
 }

@@ -1,10 +1,9 @@
 //! Tuples of one to twelve. Each is a chain of its fields, which is printed once for all.
-ghost use Rattle.std.specs.Prelude.{is_ok, [], OnOk};
+ghost use Rattle.std.specs.Prelude.{is_ok, []};
 ghost use Rattle.ufmt_core.specs.Document.{Documents, document, no_documents, tuple_of};
 ghost use Rattle.ufmt_core.specs.Formatter.{LaysOut};
-ghost use Rattle.ufmt_core.specs.Parts.{tuple_rest};
-ghost use Rattle.ufmt_core.specs.Block.{Finishes, IsOpen, inner, outer, place, stage};
-ghost use Rattle.ufmt_core.specs.Tuple.{block, comma};
+ghost use Rattle.ufmt_core.specs.Block.{Closing, IsInside, IsOpen, entries_left, rest_of};
+ghost use Rattle.ufmt_core.specs.Builder.{tuple_block};
 
 use crate::formatter::Formatter;
 use crate::tuple::DebugTuple;
@@ -17,10 +16,9 @@ trait Fields<'a> {
 
     /// Writes the fields, and closes the tuple.
     fn finish<W: uWrite>(&self, tuple: &mut DebugTuple<W>) -> Result<(), W::Error>
-        requires { IsOpen (block tuple.old) }
-        ensures { Finishes W.seen (block tuple.old)
-            (tuple_rest (outer (block tuple.old)) (inner (block tuple.old)) (place (stage (block tuple.old))) (comma tuple.old) (documents self.now))
-            (is_ok result) (block tuple.new) };
+        requires is_open { IsOpen (tuple_block tuple.old) }
+        requires is_inside { IsInside (tuple_block tuple.old) }
+        ensures { Closing W.seen (tuple_block tuple.old) (rest_of (tuple_block tuple.old) (entries_left (documents self.now))) (is_ok result) (tuple_block tuple.new) };
 }
 
 impl<'a> Fields<'a> for () {

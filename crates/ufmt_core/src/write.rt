@@ -1,4 +1,4 @@
-ghost use Rattle.std.specs.Prelude.{◌≡◌, ℕ, List, is_ok, encode_utf8, string_bytes, OnErr};
+ghost use Rattle.std.specs.Prelude.{◌≡◌, ◌∷◌, is_ok, encode_utf8, string_bytes, OnErr};
 ghost use Rattle.ufmt_core.specs.Writes.{Writes, Seen, string_seen};
 
 use std::alloc::AllocError;
@@ -10,7 +10,8 @@ use std::alloc::AllocError;
 pub trait uWrite {
     type Error;
 
-    /// Whether the text is told, the text so far, and the bytes that the writer surely takes.
+    /// What contracts see of the writer: whether its text is told, the text so far, the bytes that it
+    /// surely takes, which writer it is, and the bytes that it writes over.
     ghost seen: { Seen Self };
 
     /// Writes `s` as one piece.
@@ -58,7 +59,8 @@ impl<W: uWrite> uWrite for &mut W {
       told = λ r. W.seen.told r.now;
       text = λ r. W.seen.text r.now;
       room = λ r. W.seen.room r.now;
-      identity = λ r. r.ghost_name;
+      identity = λ r. r.ghost_name ∷ W.seen.identity r.now;
+      store = λ r. W.seen.store r.now;
     } };
 
     fn write_str(&mut self, s: &str) -> Result<(), W::Error> {

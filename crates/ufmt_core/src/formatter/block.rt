@@ -1,69 +1,69 @@
-//! What the five builders share.
-ghost use Rattle.std.specs.Prelude.{◌≡◌, ℕ, is_ok, MatchBool};
-ghost use Rattle.ufmt_core.specs.Layout.{closed, gap, indentation};
-ghost use Rattle.ufmt_core.specs.Parts.{closing, comma_text, field_lead, first_comma, lead, lead_after, next_comma, struct_closing, struct_start, trail, tuple_closing, tuple_start};
-ghost use Rattle.ufmt_core.specs.Formatter.{Prints, mode_of, writer_of, setting_of, entry_setting};
-ghost use Rattle.ufmt_core.specs.Block.{place};
-ghost use Rattle.ufmt_core.specs.declared.formatter.block.Stage.TheVariants.{First, Closed};
+//! What stands before, between and after the entries of each kind of block, at the formatter's own
+//! mode and depth. The brackets stand here alone.
+ghost use Rattle.std.specs.Prelude.{◌≡◌, ◌++◌, codes, is_ok};
+ghost use Rattle.ufmt_core.specs.declared.formatter.Mode.TheVariants.{Pretty};
+ghost use Rattle.ufmt_core.specs.Layout.{ending, frame, gap, indentation, inside, lead, line_start, new_line, next, separator, trail};
+ghost use Rattle.ufmt_core.specs.Formatter.{Prints, depth_of, mode_of, setting_of};
 
 use crate::formatter::{Formatter, Mode, Setting};
 use crate::write::uWrite;
 
-/// How far a builder is, and which call is pending.
+/// What opens a list. The bracket of a struct or a tuple comes with its first field.
+pub(crate) const OPENING_BRACKET: &str = "[";
+
+/// What opens a set or a map.
+pub(crate) const OPENING_BRACE: &str = "{";
+
+/// The kinds of blocks, by the brackets that frame their entries.
 #[derive(Clone, Copy)]
-pub(crate) enum Stage {
+pub enum Kind {
+    /// A list.
+    Brackets,
+    /// A set or a map.
+    Braces,
+    Struct,
+    Tuple,
+    /// A tuple whose name is empty.
+    Unnamed,
+}
+
+/// Where a block's next entry stands: first, after one entry, or after more.
+#[derive(Clone, Copy)]
+pub(crate) enum Place {
     First,
+    Second,
     Later,
-    Lent,
-    LentValue,
-    Closed,
 }
 
-/// What a builder keeps: the mode and depth from before it, and how far it is.
-#[derive(Clone, Copy)]
-pub(crate) struct Progress {
-    pub(crate) outer: Setting,
-    pub(crate) stage: Stage,
-}
-
-/// Whether a comma follows the fields of a tuple in plain mode: after the only field of one without a name.
-#[derive(Clone, Copy)]
-pub(crate) enum Comma {
-    /// No name and no field yet.
-    AfterOne,
-    /// No name and one field.
-    Now,
-    /// A name, or several fields.
-    Never,
-}
-
-impl Comma {
-    /// For a tuple of this name, without fields yet.
-    pub(crate) fn for_name(name: &str) -> Comma
-        ensures { result ≡ first_comma name.now }
-    {
-        if name.is_empty() {
-            Comma::AfterOne
-        } else {
-            Comma::Never
-        }
-    }
-
-    /// After one more field.
-    pub(crate) fn after_field(self) -> Comma
-        ensures { result ≡ next_comma self }
+impl Kind {
+    // The bracket that ends a block with entries.
+    fn closing(self) -> &'static str
+        ensures { result.now ≡ (frame Pretty self).end }
     {
         match self {
-            Comma::AfterOne => Comma::Now,
-            _ => Comma::Never,
+            Kind::Brackets => "]",
+            Kind::Braces | Kind::Struct => "}",
+            Kind::Tuple | Kind::Unnamed => ")",
+        }
+    }
+}
+
+impl Place {
+    /// The place after an entry.
+    pub(crate) fn next(self) -> Place
+        ensures { result ≡ next self }
+    {
+        match self {
+            Place::First => Place::Second,
+            Place::Second | Place::Later => Place::Later,
         }
     }
 }
 
 impl Setting {
-    // The mode and depth of the entries of a block. The depth saturates.
-    fn of_entries(self) -> Setting
-        ensures { result ≡ entry_setting self }
+    /// The mode and depth of the entries of a block. The depth saturates.
+    pub(crate) fn inside(self) -> Setting
+        ensures { result ≡ inside self }
     {
         match self.mode {
             Mode::Plain => self,
@@ -76,48 +76,36 @@ impl Setting {
 }
 
 impl<W: uWrite> Formatter<W> {
-    /// Goes on to the mode and depth of a block's entries.
-    pub(crate) fn enter(&mut self) -> Progress
-        ensures kept { result ≡ record { outer = setting_of self.old; stage = First } }
-        ensures entered { setting_of self.new ≡ entry_setting (setting_of self.old) }
-        ensures same_writer { writer_of self.new ≡ writer_of self.old }
+    /// What stands before an entry at this place, where the formatter is at the entries' depth.
+    pub(crate) fn write_lead(&mut self, kind: Kind, place: Place) -> Result<(), W::Error>
+        ensures { Prints W.seen self.old (lead (frame (mode_of self.old) kind) (setting_of self.old) place) (is_ok result) self.new }
     {
-        let outer = self.setting;
-        self.setting = outer.of_entries();
-        Progress {
-            outer,
-            stage: Stage::First,
-        }
-    }
-
-    // Four spaces, as a piece, for each unit of the depth.
-    fn indent(&mut self, depth: u8) -> Result<(), W::Error>
-        ensures { Prints W.seen self.old (indentation depth) (is_ok result) self.new }
-    {
-        for _unit in 0..depth {
-            self.write_str("    ")?;
-        }
-        Ok(())
-    }
-
-    /// What stands before an entry: the first of its block, or a later one.
-    pub(crate) fn write_lead(&mut self, stage: Stage) -> Result<(), W::Error>
-        ensures { Prints W.seen self.old (lead (setting_of self.old) (place stage)) (is_ok result) self.new }
-    {
-        match (self.setting.mode, stage) {
-            (Mode::Plain, Stage::First) => Ok(()),
-            (Mode::Plain, _) => self.write_str(", "),
-            (Mode::Pretty, Stage::First) => {
-                self.write_str("\n")?;
-                self.indent(self.setting.depth)
+        match place {
+            Place::First => {
+                self.write_start(kind)?;
+                self.write_new_line()
             }
-            (Mode::Pretty, _) => self.indent(self.setting.depth),
+            Place::Second | Place::Later => self.write_separator(),
         }
+    }
+
+    /// What stands before the value of a struct's field with this name.
+    pub(crate) fn write_field_lead(
+        &mut self,
+        kind: Kind,
+        place: Place,
+        name: &str,
+    ) -> Result<(), W::Error>
+        ensures { Prints W.seen self.old (lead (frame (mode_of self.old) kind) (setting_of self.old) place ++ (name.now ++ codes ": ")) (is_ok result) self.new }
+    {
+        self.write_lead(kind, place)?;
+        self.write_str(name)?;
+        self.write_str(": ")
     }
 
     /// What stands after an entry.
     pub(crate) fn write_trail(&mut self) -> Result<(), W::Error>
-        ensures { Prints W.seen self.old (trail (setting_of self.old)) (is_ok result) self.new }
+        ensures { Prints W.seen self.old (trail (mode_of self.old)) (is_ok result) self.new }
     {
         match self.setting.mode {
             Mode::Plain => Ok(()),
@@ -125,156 +113,120 @@ impl<W: uWrite> Formatter<W> {
         }
     }
 
-    /// The closing bracket, on a line of its own where there are entries in pretty mode.
-    pub(crate) fn write_closing(
-        &mut self,
-        progress: Progress,
-        bracket: &str,
-    ) -> Result<(), W::Error>
-        ensures { Prints W.seen self.old (closing progress.outer (place progress.stage) bracket.now) (is_ok result) self.new }
+    /// What ends a block, where the formatter is at the block's own depth.
+    pub(crate) fn write_ending(&mut self, kind: Kind, place: Place) -> Result<(), W::Error>
+        ensures { Prints W.seen self.old (ending (frame (mode_of self.old) kind) (setting_of self.old) place) (is_ok result) self.new }
     {
-        match progress.stage {
-            Stage::First => self.write_str(bracket),
-            _ => {
-                self.write_closing_lead(progress.outer)?;
-                self.write_str(bracket)
+        match place {
+            Place::First => self.write_empty(kind),
+            Place::Second => {
+                self.write_line_start()?;
+                self.write_alone(kind)
+            }
+            Place::Later => {
+                self.write_line_start()?;
+                self.write_end(kind)
             }
         }
     }
 
-    // What stands before the closing bracket of a block with entries.
-    fn write_closing_lead(&mut self, outer: Setting) -> Result<(), W::Error>
-        ensures { Prints W.seen self.old (closed outer.mode outer.depth) (is_ok result) self.new }
+    // What stands between the brackets of a struct or a tuple and its first entry.
+    fn write_start(&mut self, kind: Kind) -> Result<(), W::Error>
+        ensures { Prints W.seen self.old (frame (mode_of self.old) kind).start (is_ok result) self.new }
     {
-        match outer.mode {
-            Mode::Plain => Ok(()),
-            Mode::Pretty => self.indent(outer.depth),
-        }
-    }
-
-    /// What stands before the value of a struct's field: the first of its block, or a later one.
-    pub(crate) fn write_field_lead(&mut self, stage: Stage, name: &str) -> Result<(), W::Error>
-        ensures { Prints W.seen self.old (field_lead (setting_of self.old) (place stage) name.now) (is_ok result) self.new }
-    {
-        self.write_struct_lead(stage)?;
-        self.write_str(name)?;
-        self.write_str(": ")
-    }
-
-    // What stands before a field of a struct.
-    fn write_struct_lead(&mut self, stage: Stage) -> Result<(), W::Error>
-        ensures { Prints W.seen self.old (lead_after (struct_start (mode_of self.old)) (setting_of self.old) (place stage)) (is_ok result) self.new }
-    {
-        match stage {
-            Stage::First => {
-                self.write_struct_start()?;
-                self.write_lead(stage)
+        match kind {
+            Kind::Brackets | Kind::Braces => Ok(()),
+            Kind::Struct => {
+                self.write_str(" {")?;
+                self.write_gap()
             }
-            _ => self.write_lead(stage),
+            Kind::Tuple | Kind::Unnamed => self.write_str("("),
         }
     }
 
-    // What stands before the first field of a struct.
-    fn write_struct_start(&mut self) -> Result<(), W::Error>
-        ensures { Prints W.seen self.old (struct_start (mode_of self.old)) (is_ok result) self.new }
+    // What ends a block without entries.
+    fn write_empty(&mut self, kind: Kind) -> Result<(), W::Error>
+        ensures { Prints W.seen self.old (frame (mode_of self.old) kind).empty (is_ok result) self.new }
     {
-        self.write_str(" {")?;
-        self.write_gap(self.setting.mode)
+        match kind {
+            Kind::Brackets | Kind::Braces => self.write_str(kind.closing()),
+            Kind::Struct | Kind::Tuple | Kind::Unnamed => Ok(()),
+        }
+    }
+
+    // What ends a block with one entry.
+    fn write_alone(&mut self, kind: Kind) -> Result<(), W::Error>
+        ensures { Prints W.seen self.old (frame (mode_of self.old) kind).alone (is_ok result) self.new }
+    {
+        match (kind, self.setting.mode) {
+            (Kind::Unnamed, Mode::Plain) => {
+                self.write_str(",")?;
+                self.write_str(kind.closing())
+            }
+            _ => self.write_end(kind),
+        }
+    }
+
+    // What ends a block with several entries.
+    fn write_end(&mut self, kind: Kind) -> Result<(), W::Error>
+        ensures { Prints W.seen self.old (frame (mode_of self.old) kind).end (is_ok result) self.new }
+    {
+        match kind {
+            Kind::Struct => {
+                self.write_gap()?;
+                self.write_str(kind.closing())
+            }
+            _ => self.write_str(kind.closing()),
+        }
     }
 
     // What stands inside the braces of a struct.
-    fn write_gap(&mut self, mode: Mode) -> Result<(), W::Error>
-        ensures { Prints W.seen self.old (gap mode) (is_ok result) self.new }
+    fn write_gap(&mut self) -> Result<(), W::Error>
+        ensures { Prints W.seen self.old (gap (mode_of self.old)) (is_ok result) self.new }
     {
-        match mode {
+        match self.setting.mode {
             Mode::Plain => self.write_str(" "),
             Mode::Pretty => Ok(()),
         }
     }
 
-    /// The closing brace of a struct, where it has fields.
-    pub(crate) fn write_struct_closing(&mut self, progress: Progress) -> Result<(), W::Error>
-        ensures { Prints W.seen self.old (struct_closing progress.outer (place progress.stage)) (is_ok result) self.new }
+    fn write_new_line(&mut self) -> Result<(), W::Error>
+        ensures { Prints W.seen self.old (new_line (mode_of self.old) (depth_of self.old)) (is_ok result) self.new }
     {
-        match progress.stage {
-            Stage::First => Ok(()),
-            _ => {
-                self.write_closing_lead(progress.outer)?;
-                self.write_gap(progress.outer.mode)?;
-                self.write_str("}")
+        match self.setting.mode {
+            Mode::Plain => Ok(()),
+            Mode::Pretty => {
+                self.write_str("\n")?;
+                self.indent()
             }
         }
     }
 
-    /// What stands before a tuple's field: the first of its block, or a later one.
-    pub(crate) fn write_tuple_lead(&mut self, stage: Stage) -> Result<(), W::Error>
-        ensures { Prints W.seen self.old (lead_after tuple_start (setting_of self.old) (place stage)) (is_ok result) self.new }
+    fn write_separator(&mut self) -> Result<(), W::Error>
+        ensures { Prints W.seen self.old (separator (mode_of self.old) (depth_of self.old)) (is_ok result) self.new }
     {
-        match stage {
-            Stage::First => {
-                self.write_str("(")?;
-                self.write_lead(stage)
-            }
-            _ => self.write_lead(stage),
+        match self.setting.mode {
+            Mode::Plain => self.write_str(", "),
+            Mode::Pretty => self.indent(),
         }
     }
 
-    /// The closing parenthesis of a tuple, where it has fields.
-    pub(crate) fn write_tuple_closing(
-        &mut self,
-        progress: Progress,
-        comma: Comma,
-    ) -> Result<(), W::Error>
-        ensures { Prints W.seen self.old (tuple_closing progress.outer (place progress.stage) comma) (is_ok result) self.new }
+    fn write_line_start(&mut self) -> Result<(), W::Error>
+        ensures { Prints W.seen self.old (line_start (mode_of self.old) (depth_of self.old)) (is_ok result) self.new }
     {
-        match progress.stage {
-            Stage::First => Ok(()),
-            _ => {
-                self.write_closing_lead(progress.outer)?;
-                self.write_comma(progress.outer.mode, comma)?;
-                self.write_str(")")
-            }
+        match self.setting.mode {
+            Mode::Plain => Ok(()),
+            Mode::Pretty => self.indent(),
         }
     }
 
-    // The comma after the fields of a tuple, where there is one.
-    fn write_comma(&mut self, mode: Mode, comma: Comma) -> Result<(), W::Error>
-        ensures { Prints W.seen self.old (comma_text mode comma) (is_ok result) self.new }
+    // Four spaces, as a piece, for each unit of the depth.
+    fn indent(&mut self) -> Result<(), W::Error>
+        ensures { Prints W.seen self.old (indentation (depth_of self.old)) (is_ok result) self.new }
     {
-        match (mode, comma) {
-            (Mode::Plain, Comma::Now) => self.write_str(","),
-            _ => Ok(()),
+        for _unit in 0..self.setting.depth {
+            self.write_str("    ")?;
         }
-    }
-
-    /// Goes on to the next stage where the answer is `Ok`, and else closes the builder.
-    pub(crate) fn settle(
-        &mut self,
-        progress: &mut Progress,
-        answer: Result<(), W::Error>,
-        next: Stage,
-    ) -> Result<(), W::Error>
-        ensures answer { result ≡ answer }
-        ensures same_writer { writer_of self.new ≡ writer_of self.old }
-        ensures settled { MatchBool (is_ok answer)
-            ((progress.new ≡ record progress.old { stage = next }) × (setting_of self.new ≡ setting_of self.old))
-            ((progress.new ≡ record progress.old { stage = Closed }) × (setting_of self.new ≡ progress.old.outer)) }
-    {
-        if answer.is_ok() {
-            progress.stage = next;
-        } else {
-            self.leave(progress);
-        }
-        answer
-    }
-
-    /// Goes back to the mode and depth from before the builder, and closes it.
-    pub(crate) fn leave(&mut self, progress: &mut Progress)
-        ensures closed { progress.new ≡ record progress.old { stage = Closed } }
-        ensures restored { setting_of self.new ≡ progress.old.outer }
-        ensures same_writer { writer_of self.new ≡ writer_of self.old }
-    {
-        self.setting = progress.outer;
-        progress.stage = Stage::Closed;
+        Ok(())
     }
 }

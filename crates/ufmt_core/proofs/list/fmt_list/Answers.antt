@@ -1,18 +1,18 @@
-use Rattle.ufmt_core.specs.Formatter.{text_at}
-use Rattle.ufmt_core.proofs.Blocks.{Adds-from_entries}
-use Rattle.ufmt_core.proofs.Printing.{list_refused, list_opened, entries_added, entries_stopped, entries_finished}
+use Rattle.ufmt_core.specs.Block.{entry_text}
+use Rattle.ufmt_core.proofs.Blocks.{Part-from_entries}
+use Rattle.ufmt_core.proofs.Printing.{list_not_opened, list_opened, entries_written, entries_failed, finished}
 use Rattle.ufmt_core.proofs.Writing.{LaysOut-err}
 use Rattle.ufmt_core.proofs.list.fmt_list.Goals as goal
 
 pub returns-in_err-list : goal.returns-in_err-list
-returns-in_err-list g c ds yields = list_refused _ c.from_residual.ensures.0 c.in_err-list.was c.debug_list.follows.holds-at-none
+returns-in_err-list g c ds yields = list_not_opened _ c.from_residual.ensures.0 c.in_err-list.was c.debug_list.follows.holds-at-none
 
 pub returns-in_err-entries : goal.returns-in_err-entries
 returns-in_err-entries g c ds yields =
     LaysOut-err _ c.from_residual-in_err-entries.ensures.0
-    (list_opened c.in_ok-list.ensures.opens (entries_stopped ds (Adds-from_entries g.D.uDebug.document text_at c.args.items ds _ _ _ yields c.in_err-entries.ensures.adds) (search)))
+    (list_opened c.in_ok-list.ensures.opening (entries_failed ds (Part-from_entries g.D.uDebug.document entry_text c.args.items ds _ yields c.in_err-entries.ensures.entries) (search)))
 
 pub returns : goal.returns
 returns g c ds yields =
-    list_opened c.in_ok-list.ensures.opens
-    (entries_added ds (Adds-from_entries g.D.uDebug.document text_at c.args.items ds _ _ _ yields c.in_ok-entries.ensures.adds) (entries_finished c.finish.ensures.finishes (search)))
+    list_opened c.in_ok-list.ensures.opening
+    (entries_written ds (Part-from_entries g.D.uDebug.document entry_text c.args.items ds _ yields c.in_ok-entries.ensures.entries) (finished c.finish.ensures (search)))

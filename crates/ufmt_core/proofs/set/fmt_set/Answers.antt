@@ -1,18 +1,18 @@
-use Rattle.ufmt_core.specs.Formatter.{text_at}
-use Rattle.ufmt_core.proofs.Blocks.{Adds-from_entries}
-use Rattle.ufmt_core.proofs.Printing.{set_refused, set_opened, entries_added, entries_stopped, entries_finished}
+use Rattle.ufmt_core.specs.Block.{entry_text}
+use Rattle.ufmt_core.proofs.Blocks.{Part-from_entries}
+use Rattle.ufmt_core.proofs.Printing.{set_not_opened, set_opened, entries_written, entries_failed, finished}
 use Rattle.ufmt_core.proofs.Writing.{LaysOut-err}
 use Rattle.ufmt_core.proofs.set.fmt_set.Goals as goal
 
 pub returns-in_err-set : goal.returns-in_err-set
-returns-in_err-set g c ds yields = set_refused _ c.from_residual.ensures.0 c.in_err-set.was c.debug_set.follows.holds-at-none
+returns-in_err-set g c ds yields = set_not_opened _ c.from_residual.ensures.0 c.in_err-set.was c.debug_set.follows.holds-at-none
 
 pub returns-in_err-entries : goal.returns-in_err-entries
 returns-in_err-entries g c ds yields =
     LaysOut-err _ c.from_residual-in_err-entries.ensures.0
-    (set_opened c.in_ok-set.ensures.opens (entries_stopped ds (Adds-from_entries g.D.uDebug.document text_at c.args.items ds _ _ _ yields c.in_err-entries.ensures.adds) (search)))
+    (set_opened c.in_ok-set.ensures.opening (entries_failed ds (Part-from_entries g.D.uDebug.document entry_text c.args.items ds _ yields c.in_err-entries.ensures.entries) (search)))
 
 pub returns : goal.returns
 returns g c ds yields =
-    set_opened c.in_ok-set.ensures.opens
-    (entries_added ds (Adds-from_entries g.D.uDebug.document text_at c.args.items ds _ _ _ yields c.in_ok-entries.ensures.adds) (entries_finished c.finish.ensures.finishes (search)))
+    set_opened c.in_ok-set.ensures.opening
+    (entries_written ds (Part-from_entries g.D.uDebug.document entry_text c.args.items ds _ yields c.in_ok-entries.ensures.entries) (finished c.finish.ensures (search)))

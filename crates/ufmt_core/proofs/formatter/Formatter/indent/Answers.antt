@@ -1,15 +1,17 @@
-use Rattle.std.proofs.Common.{◌≡◌, ◌+◌, ◌-◌, ◌++◌, codes, ap, ◌∙◌, arith}
+use Rattle.std.proofs.Common.{◌≡◌, ◌+◌, ◌-◌, ◌++◌, codes, false, ap, ◌∙◌, arith}
 use Rattle.ufmt_core.specs.Layout.{indentation}
+use Rattle.ufmt_core.specs.Formatter.{depth_of}
 use Rattle.ufmt_core.proofs.Writing.{Prints-then, Prints-fails, Prints-err}
 use Rattle.ufmt_core.proofs.Indentation.{indentation-add, indentation-front}
 use Rattle.ufmt_core.proofs.formatter.Formatter.indent.Goals as goal
 
 pub returns-in_err-write_str : goal.returns-in_err-write_str
 returns-in_err-write_str g c =
+    let depth = depth_of c.args.self.now in
     let done = c.loop-unit._unit + 1 in
-    let front : indentation c.args.depth ≡ (indentation c.loop-unit._unit ++ codes "    ") ++ indentation (c.args.depth - done) =
-    indentation-front done c.args.depth (omega arith) ∙ ap (λ t. t ++ indentation (c.args.depth - done)) (indentation-add c.loop-unit._unit 1) in
-    rw front (Prints-err _ c.from_residual.ensures.0 (Prints-fails _ (Prints-then c.loop-unit.invariant c.in_err-write_str.ensures)))
+    let front : indentation depth ≡ (indentation c.loop-unit._unit ++ codes "    ") ++ indentation (depth - done) =
+    indentation-front done depth (omega arith) ∙ ap (λ t. t ++ indentation (depth - done)) (indentation-add c.loop-unit._unit 1) in
+    rw front (Prints-err _ c.from_residual.ensures.0 (Prints-fails _ (Prints-then {ok = false} c.loop-unit.invariant c.in_err-write_str.ensures)))
 
 pub loop-unit-preserved : goal.loop-unit-preserved
 loop-unit-preserved g c = rw indentation-add (Prints-then c.loop-unit.invariant c.in_ok-write_str.ensures)

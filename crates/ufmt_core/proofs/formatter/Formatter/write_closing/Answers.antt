@@ -1,8 +1,0 @@
-use Rattle.ufmt_core.proofs.Blocks.{place-later}
-use Rattle.ufmt_core.proofs.Writing.{Prints-then}
-use Rattle.ufmt_core.proofs.formatter.Formatter.write_closing.Goals as goal
-
-pub returns-in_ok-write_closing_lead-in_default : goal.returns-in_ok-write_closing_lead-in_default
-returns-in_ok-write_closing_lead-in_default g c =
-    rw (place-later c.args.progress.stage c.in_default.not-First)
-    (Prints-then c.in_ok-write_closing_lead-in_default.ensures c.write_str-in_default.ensures)

@@ -1,0 +1,77 @@
+-- What contracts see of the builders, and the loans of the formatter between them and their callers.
+use Rattle.std.specs.Prelude.{◌≡◌, ℕ, List, [], Result, false, if◌then◌else◌}
+use Rattle.std.specs.Borrow.{Fml, LendsSoOk, MutBor, RattleType, RestsIfErr}
+use mir.Syntax.{named}
+use Rattle.ufmt_core.specs.declared.formatter.Formatter.{Formatter}
+use Rattle.ufmt_core.specs.declared.formatter.block.Kind.{Kind}
+use Rattle.ufmt_core.specs.declared.formatter.block.Kind.TheVariants.{Brackets, Braces, Struct, Tuple, Unnamed}
+use Rattle.ufmt_core.specs.declared.formatter.builder.Status.{Status}
+use Rattle.ufmt_core.specs.declared.formatter.builder.Status.TheVariants.{Closed}
+use Rattle.ufmt_core.specs.declared.formatter.builder.Builder.{Builder}
+use Rattle.ufmt_core.specs.declared.list.ListBlock.{ListBlock}
+use Rattle.ufmt_core.specs.declared.set.SetBlock.{SetBlock}
+use Rattle.ufmt_core.specs.declared.map.MapBlock.{MapBlock}
+use Rattle.ufmt_core.specs.declared.structs.StructBlock.{StructBlock}
+use Rattle.ufmt_core.specs.declared.tuple.TupleBlock.{TupleBlock}
+use Rattle.ufmt_core.specs.contracts.formatter.Formatter as formatter
+use Rattle.ufmt_core.specs.contracts.formatter.builder.Builder as builder
+use Rattle.ufmt_core.specs.contracts.map.MapBlock as map_marker
+use Rattle.ufmt_core.specs.contracts.structs.StructBlock as struct_marker
+use Rattle.ufmt_core.specs.contracts.tuple.TupleBlock as tuple_marker
+use Rattle.ufmt_core.specs.Writes.{Seen}
+use Rattle.ufmt_core.specs.Formatter.{Prints, at_setting}
+use Rattle.ufmt_core.specs.Block.{Block}
+
+-- a builder whose marker tells the kind of its block
+abbrev pub block : {W K : Type 0} → (K → Kind) → Builder W K → Block W
+block kind b = record { formatter = b.formatter.now; reference = b.formatter.ghost_name; kind = kind b.marker; outer = b.outer; place = b.place; status = b.status }
+
+-- a tuple's kind, which tells whether it has a name
+abbrev pub kind_of_tuple : TupleBlock → Kind
+kind_of_tuple t = if t.is_unnamed then Unnamed else Tuple
+
+-- the five builders
+module _ {W : Type 0} where
+  abbrev pub list_block : Builder W ListBlock → Block W
+  list_block = block (λ _. Brackets)
+
+  abbrev pub set_block : Builder W SetBlock → Block W
+  set_block = block (λ _. Braces)
+
+  abbrev pub map_block : Builder W MapBlock → Block W
+  map_block = block (λ _. Braces)
+
+  abbrev pub struct_block : Builder W StructBlock → Block W
+  struct_block = block (λ _. Struct)
+
+  abbrev pub tuple_block : Builder W TupleBlock → Block W
+  tuple_block = block kind_of_tuple
+
+module _ {W K : Type 0} where
+  -- the builder with this status, whose formatter has come to this value
+  abbrev pub lent : Status → Builder W K → Formatter W → Builder W K
+  lent status b f = record b { formatter = record b.formatter { now = f }; status = status }
+
+  -- the closed builder, whose formatter is back at the mode and depth from before it
+  abbrev pub left : Builder W K → Builder W K
+  left b = lent Closed b (at_setting b.formatter.now b.outer)
+
+module _ (W : RattleType) {E : Type 0} where
+  -- the builder in the answer holds the formatter; on `Err` the formatter is back, and has printed a beginning of the opening
+  abbrev pub OpeningLoan : {K : Type 0} → Seen W.Denot → MutBor (Formatter W.Denot) → Result (Builder W.Denot K) E → List ℕ → Fml
+  OpeningLoan seen self result text = RestsIfErr (formatter.the_row W) self (λ b. b.formatter.ghost_name) result (λ last. Prints seen self.now text false last)
+
+  -- the formatter is lent; when the loan ends the builder has this status, and its formatter is the one lent, as it was left; on `Err` `stop` holds of the builder
+  abbrev pub EntryLoan : (K : RattleType) → MutBor (Builder W.Denot K.Denot) → Result (MutBor (Formatter W.Denot)) E → Status → (Builder W.Denot K.Denot → Type 0) → Fml
+  EntryLoan K self result status stop =
+      LendsSoOk (builder.the_row (record { mir = named 0; lft = [] }) W K) (formatter.the_row W) self result (λ last f. last ≡ lent status self.now f) stop
+
+  -- the same of a map's, a struct's and a tuple's builder
+  abbrev pub MapLoan : MutBor (Builder W.Denot MapBlock) → Result (MutBor (Formatter W.Denot)) E → Status → (Builder W.Denot MapBlock → Type 0) → Fml
+  MapLoan = EntryLoan map_marker.the_row
+
+  abbrev pub StructLoan : MutBor (Builder W.Denot StructBlock) → Result (MutBor (Formatter W.Denot)) E → Status → (Builder W.Denot StructBlock → Type 0) → Fml
+  StructLoan = EntryLoan struct_marker.the_row
+
+  abbrev pub TupleLoan : MutBor (Builder W.Denot TupleBlock) → Result (MutBor (Formatter W.Denot)) E → Status → (Builder W.Denot TupleBlock → Type 0) → Fml
+  TupleLoan = EntryLoan tuple_marker.the_row

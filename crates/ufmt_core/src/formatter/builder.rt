@@ -1,0 +1,173 @@
+//! The builder that lists, sets, maps, structs and tuples are kinds of.
+ghost use Rattle.std.specs.Prelude.{◌≡◌, ◌↔◌, [], is_ok, true, Err, IfErr, IfOk, IsOk, IsTrue, MatchBool, OnOk};
+ghost use Rattle.std.specs.Borrow.{sem, follows};
+ghost use mir.Syntax.{named};
+ghost use Rattle.ufmt_core.specs.contracts.formatter.Formatter as formatter;
+ghost use Rattle.ufmt_core.specs.contracts.formatter.builder.Builder as builder;
+ghost use Rattle.ufmt_core.specs.declared.formatter.block.Kind.{Kind};
+ghost use Rattle.ufmt_core.specs.declared.formatter.builder.Status.TheVariants.{Lent};
+ghost use Rattle.ufmt_core.specs.Formatter.{Prints};
+ghost use Rattle.ufmt_core.specs.Block.{Closing, EntryEnd, IsOpen, Opening, Stop, ending_of, field_lead_of, lead_of};
+ghost use Rattle.ufmt_core.specs.Builder.{EntryLoan, OpeningLoan, block, left, lent};
+
+use crate::formatter::block::{Kind, Place};
+use crate::formatter::{Formatter, Setting};
+use crate::write::uWrite;
+
+/// Which calls of a builder may follow.
+#[derive(Clone, Copy)]
+pub(crate) enum Status {
+    /// An entry, or `finish`.
+    Open,
+    /// The second half of an entry whose value, in a map whose key, the formatter is lent for.
+    Lent,
+    /// The second half of a map's entry whose value the formatter is lent for.
+    LentValue,
+    /// None.
+    Closed,
+}
+
+/// What tells one builder from another: a list's, a set's, a map's, a struct's or a tuple's.
+pub trait BlockKind: Drop {
+    /// Which brackets frame the entries.
+    ghost kind: { Self → Kind };
+
+    fn kind(&self) -> Kind
+        ensures { result ≡ kind self.now };
+}
+
+/// Writes a block, entry by entry: `DebugList`, `DebugSet`, `DebugMap`, `DebugStruct` and `DebugTuple`
+/// are this type with a marker each.
+#[derive(Drop)]
+pub struct Builder<'f, W, K> {
+    pub(crate) formatter: &'f mut Formatter<W>,
+    marker: K,
+    outer: Setting,
+    place: Place,
+    status: Status,
+}
+
+impl<W: uWrite> Formatter<W> {
+    /// Writes the opening, and goes on to the mode and depth of the entries.
+    pub(crate) fn open<'f, K: BlockKind>(
+        &'f mut self,
+        opening: &str,
+        marker: K,
+    ) -> Result<Builder<'f, W, K>, W::Error>
+        ensures* loan { sem 𝓛 (OpeningLoan W.row W.seen self.entry result opening.now) }
+        ensures opening { IfOk result (λ b. Opening W.seen self.old self.entry.ghost_name (K.kind marker) opening.now (block K.kind b)) }
+    {
+        self.write_str(opening)?;
+        let outer = self.setting;
+        self.setting = outer.inside();
+        Ok(Builder {
+            formatter: self,
+            marker,
+            outer,
+            place: Place::First,
+            status: Status::Open,
+        })
+    }
+}
+
+impl<W: uWrite, K: BlockKind> Builder<'_, W, K> {
+    /// Writes what ends the block. The builder is then closed, and mode and depth are those from
+    /// before it, also where the writer fails.
+    pub fn finish(&mut self) -> Result<(), W::Error>
+        requires { IsOpen (block K.kind self.old) }
+        ensures { Closing W.seen (block K.kind self.old) (ending_of (block K.kind self.old)) (is_ok result) (block K.kind self.new) }
+    {
+        let kind = self.marker.kind();
+        self.leave();
+        self.formatter.write_ending(kind, self.place)
+    }
+
+    /// Whether entries may follow: until `finish`, or a call that fails, and not between the halves of
+    /// an entry.
+    pub fn is_open(&self) -> bool
+        ensures { IsTrue result ↔ IsOpen (block K.kind self.now) }
+    {
+        matches!(self.status, Status::Open)
+    }
+
+    /// Writes what stands before an entry, and lends the formatter for it.
+    pub(crate) fn begin(&mut self) -> Result<&mut Formatter<W>, W::Error>
+        ensures* loan { sem 𝓛 (EntryLoan W.row K.row self.entry result Lent
+            (λ last. Stop W.seen (block K.kind self.old) (lead_of (block K.kind self.old)) (block K.kind last))) }
+        ensures lead { IfOk result (λ f. Prints W.seen self.old.formatter.now (lead_of (block K.kind self.old)) true f.now) }
+    {
+        let written = self.formatter.write_lead(self.marker.kind(), self.place);
+        self.lend_if(written, Status::Lent)
+    }
+
+    /// Writes what stands before the value of a field with this name, and lends the formatter for it.
+    pub(crate) fn begin_named(&mut self, name: &str) -> Result<&mut Formatter<W>, W::Error>
+        ensures* loan { sem 𝓛 (EntryLoan W.row K.row self.entry result Lent
+            (λ last. Stop W.seen (block K.kind self.old) (field_lead_of name.now (block K.kind self.old)) (block K.kind last))) }
+        ensures lead { IfOk result (λ f. Prints W.seen self.old.formatter.now (field_lead_of name.now (block K.kind self.old)) true f.now) }
+    {
+        let kind = self.marker.kind();
+        let written = self.formatter.write_field_lead(kind, self.place, name);
+        self.lend_if(written, Status::Lent)
+    }
+
+    /// Lends the formatter where the answer is `Ok`, and else leaves the block.
+    pub(crate) fn lend_if(
+        &mut self,
+        answer: Result<(), W::Error>,
+        status: Status,
+    ) -> Result<&mut Formatter<W>, W::Error>
+        ensures* loan { sem 𝓛 (EntryLoan W.row K.row self.entry result status (λ last. last ≡ left self.old)) }
+        ensures lent { IfOk result (λ f. (f.now ≡ self.old.formatter.now) × IsOk answer) }
+        ensures error { IfErr result (λ e. answer ≡ Err e) }
+    {
+        self.settle(answer, status, self.place)?;
+        Ok(self.lend())
+    }
+
+    fn lend(&mut self) -> &mut Formatter<W>
+        ensures* loan { sem 𝓛 (follows (builder.the_row (record { mir = named 0; lft = [] }) W.row K.row) (formatter.the_row W.row) self.entry.ghost_name result.ghost_name (lent self.old.status self.old)) }
+        ensures same { result.now ≡ self.old.formatter.now }
+    {
+        &mut *self.formatter
+    }
+
+    /// Writes what stands after an entry whose `fmt` gave this answer, or passes an `Err` on.
+    pub(crate) fn end(&mut self, answer: Result<(), W::Error>) -> Result<(), W::Error>
+        ensures end { EntryEnd W.seen answer (block K.kind self.old) result (is_ok result) (block K.kind self.new) }
+        ensures is_open { OnOk result (IsOpen (block K.kind self.new)) }
+    {
+        let ended = match answer {
+            Ok(()) => self.formatter.write_trail(),
+            Err(error) => Err(error),
+        };
+        self.settle(ended, Status::Open, self.place.next())
+    }
+
+    // Goes on to this status and place where the answer is `Ok`, and else leaves the block.
+    fn settle(
+        &mut self,
+        answer: Result<(), W::Error>,
+        status: Status,
+        place: Place,
+    ) -> Result<(), W::Error>
+        ensures answer { result ≡ answer }
+        ensures settled { MatchBool (is_ok answer) (self.new ≡ record self.old { place = place; status = status }) (self.new ≡ left self.old) }
+    {
+        if answer.is_ok() {
+            self.place = place;
+            self.status = status;
+        } else {
+            self.leave();
+        }
+        answer
+    }
+
+    // Closes the builder, and goes back to the mode and depth from before it.
+    fn leave(&mut self)
+        ensures { self.new ≡ left self.old }
+    {
+        self.formatter.setting = self.outer;
+        self.status = Status::Closed;
+    }
+}
