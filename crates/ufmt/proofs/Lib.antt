@@ -1,4 +1,10 @@
 pub use Rattle.ufmt_core.proofs.Printing
+pub mod Cursors
 pub mod HexadecimalTexts
+pub mod NormalForms
 pub mod Padding
 pub mod PiecesInARow
+pub mod Shifting
+pub mod TokenLines
+pub mod WorkedShifts
+pub mod WorkedTokens

@@ -4,12 +4,13 @@ use Rattle.ufmt_core.specs.declared.formatter.Setting.{Setting}
 use Rattle.ufmt_core.specs.declared.formatter.Formatter.{Formatter}
 use Rattle.ufmt_core.specs.Document.{Document}
 use Rattle.ufmt_core.specs.Writes.{Seen}
-use Rattle.ufmt_core.specs.Formatter.{LaysOut, Prints, setting_of, text_at}
+use Rattle.ufmt_core.specs.Layout.{layout}
+use Rattle.ufmt_core.specs.Formatter.{LaysOut, Prints, setting_of}
 
 module _ {W : Type 0} {seen : Seen W} where
   -- a document that is laid out where mode and depth are those from before
-  pub Prints-shown : {f new : Formatter W} {d : Document} {ok : Bool} (s : Setting) → setting_of f ≡ s → LaysOut seen f d ok new → Prints seen f (text_at s d) ok new
-  Prints-shown {f} {new} {d} {ok} s e l = subst (λ (at : Setting). Prints seen f (text_at at d) ok new) e l.prints
+  pub Prints-shown : {f new : Formatter W} {d : Document} {ok : Bool} (s : Setting) → setting_of f ≡ s → LaysOut seen f d ok new → Prints seen f (layout s d) ok new
+  Prints-shown {f} {new} {d} {ok} s e l = subst (λ (at : Setting). Prints seen f (layout at d) ok new) e l.prints
 
   -- the last piece
   pub Prints-last : {f new : Formatter W} {text : List ℕ} {ok : Bool} → Prints seen f text ok new → Prints seen f (text ++ []) ok new

@@ -1,5 +1,5 @@
 -- What contracts see of a cursor: the bytes of its buffer that are written, and those past them.
-use Rattle.std.specs.Prelude.{◌≡◌, ◌↔◌, ℕ, ◌≤◌, List, ◌++◌, length, take, drop, Bool, false, IsTrue, ⊤}
+use Rattle.std.specs.Prelude.{◌≡◌, ◌↔◌, ℕ, ◌≤◌, List, [], ◌∷◌, ◌++◌, length, take, drop, Bool, false, IsTrue, ⊤}
 use Rattle.ufmt_core.specs.Writes.{Seen}
 use Rattle.ufmt.specs.declared.cursor.Cursor.{Cursor}
 
@@ -23,9 +23,9 @@ buffer_length c = length c.buffer.now
 abbrev pub buffer_name : Cursor → ℕ
 buffer_name c = c.buffer.ghost_name
 
--- a cursor as a writer: its text is always told, and it takes as many bytes as remain
+-- a cursor as a writer: its text is always told, it takes as many bytes as remain, and it writes over its buffer, which its name and length tell from others
 abbrev pub cursor_seen : Seen Cursor
-cursor_seen = record { told = λ c. ⊤; text = written_bytes; room = remaining_count; identity = buffer_name }
+cursor_seen = record { told = λ c. ⊤; text = written_bytes; room = remaining_count; identity = λ c. buffer_name c ∷ buffer_length c ∷ []; store = λ c. c.buffer.now }
 
 -- a piece that fits is appended and the bytes past it stay; another is refused and nothing changes
 pub record Fills (old : Cursor) (piece : List ℕ) (ok : Bool) (new : Cursor) : Type 0 where

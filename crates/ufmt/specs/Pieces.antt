@@ -3,7 +3,7 @@ use Rattle.std.specs.Prelude.{ℕ, List, [], ◌∷◌, ◌++◌}
 use Rattle.ufmt_core.specs.declared.formatter.Mode.TheVariants.{Pretty}
 use Rattle.ufmt_core.specs.declared.formatter.Setting.{Setting}
 use Rattle.ufmt_core.specs.Document.{Document}
-use Rattle.ufmt_core.specs.Layout.{layout}
+use Rattle.ufmt_core.specs.Layout.{layout, setting}
 
 -- a piece: a text, a value's document in the formatter's mode or in pretty mode, or a hexadecimal text
 pub data Piece : Type 0 where
@@ -15,8 +15,8 @@ pub data Piece : Type 0 where
 -- what a piece prints at this mode and depth
 abbrev pub piece_text : Setting → Piece → List ℕ
 piece_text s (text bytes) = bytes
-piece_text s (shown d) = layout s.mode s.depth d
-piece_text s (pretty d) = layout Pretty s.depth d
+piece_text s (shown d) = layout s d
+piece_text s (pretty d) = layout (setting Pretty s.depth) d
 piece_text s (hex bytes) = bytes
 
 -- what pieces in a row print

@@ -7,6 +7,8 @@ ghost use Rattle.ufmt_core.specs.Formatter.{Prints, setting_of};
 ghost use Rattle.ufmt.specs.Pieces.{hex, pieces_text, pretty, shown, text};
 ghost use Rattle.ufmt.specs.declared.hex.HexOptions.{HexOptions};
 ghost use Rattle.ufmt.specs.Hex.{EachNumberIsTold, OneTextTells, OneNumberIsTold, IsPadded, PrintsHexadecimal, PrintsBits, padded};
+ghost use Rattle.ufmt.specs.NormalForm.{NormalFormsAreNormal, NormalFormsKeepTexts, NormalFormsKeepTokens};
+ghost use Rattle.ufmt.specs.Shifting.{ShiftMovesEachLine, ShiftedAtDepth, ShiftedIsPretty, TokensHaveNoLineFeed};
 
 use crate::cursor::{Cursor, Full};
 use crate::display::uDisplay;
@@ -115,3 +117,22 @@ pub fn all_pieces<W: uWrite, A: uDisplay, B: uDebug, C: uDebug, N: uDisplayHex>(
 {
     uwrite!(f, text t, display a, debug b, pretty c, hex n with options)
 }
+
+/// The normal form of a document is in normal form, has the document's text in either mode and from
+/// any depth, and can be read again where the document can.
+pub fn normal_forms()
+    ensures normal { NormalFormsAreNormal }
+    ensures same_text { NormalFormsKeepTexts }
+    ensures token { NormalFormsKeepTokens }
+{}
+
+/// Pretty text can be made without a depth, by putting four spaces before each line of what stands
+/// in a block: shifted as often as blocks stand round it, a document's shifted text is what pretty
+/// mode lays out there. That holds to a depth of 255, where no leaf and no name has a line feed, as
+/// in each document whose text can be read again.
+pub fn shifted_at_depth()
+    ensures shift { ShiftMovesEachLine }
+    ensures at_depth { ShiftedAtDepth }
+    ensures pretty { ShiftedIsPretty }
+    ensures token { TokensHaveNoLineFeed }
+{}

@@ -1,5 +1,6 @@
 use Rattle.std.proofs.Common.{◌+◌, ◌-◌, ◌++◌, rules, length, take, refl, sym, ap, ◌∙◌, arith, drop-drop}
 use Rattle.std.proofs.lemmas.Slice.{take-put_mid, drop-put_mid}
+use Rattle.ufmt.proofs.Cursors.{Writes-filled}
 use Rattle.ufmt.proofs.cursor.CursoruWrite.write_str.Goals as goal
 
 pub returns-clause-fills : goal.returns-clause-fills
@@ -15,3 +16,6 @@ returns-clause-fills c =
       same_length = search rules;
       refused = λ refusal. cc;
     }
+
+pub returns-clause-writes : goal.returns-clause-writes
+returns-clause-writes c = Writes-filled _ _ _ (returns-clause-fills c) refl

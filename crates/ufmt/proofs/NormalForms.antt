@@ -1,0 +1,139 @@
+-- The normal form of a document is in normal form, and has the document's nesting, words and texts.
+use Rattle.std.proofs.Common.{◌≡◌, List, [], ◌∷◌, ℕ, ◌≤◌, refl, sym, ap, ap₂, ◌∙◌, subst, inl, append-nil}
+use Rattle.ufmt_core.specs.Document.{Document, leaf, joined, list_of, set_of, map_of, struct_of, tuple_of, pretty_part, Documents, no_documents, document, Pairs, no_pairs, pair, Fields, no_fields, field, nest, nest_all, nest_pairs, nest_fields}
+use Rattle.ufmt_core.specs.Layout.{setting, inside, tuple_kind, block, layout, layouts, texts, pair_texts, field_texts}
+use Rattle.ufmt_core.specs.declared.formatter.Mode.TheVariants.{Pretty}
+use Rattle.ufmt_core.specs.declared.formatter.Setting.{Setting}
+use Rattle.ufmt_core.specs.declared.formatter.block.Kind.TheVariants.{Brackets, Braces, Struct}
+use Rattle.ufmt.specs.Token.{HasWords, HaveWords, PairsHaveWords, FieldsHaveWords, IsToken, normal, normal_all, normal_pairs, normal_fields}
+
+mutual
+  -- taking the normal form again changes nothing
+  pub normal-normal : (d : Document) → normal (normal d) ≡ normal d
+  normal-normal (leaf text) = refl
+  normal-normal (joined ds) = ap joined (normal_all-normal_all ds)
+  normal-normal (list_of ds) = ap list_of (normal_all-normal_all ds)
+  normal-normal (set_of no_documents) = refl
+  normal-normal (set_of (document d ds)) = rw (normal-normal d, normal_all-normal_all ds)
+  normal-normal (map_of ps) = ap map_of (normal_pairs-normal_pairs ps)
+  normal-normal (struct_of name no_fields) = refl
+  normal-normal (struct_of name (field label value fs)) = rw (normal-normal value, normal_fields-normal_fields fs)
+  normal-normal (tuple_of name no_documents) = refl
+  normal-normal (tuple_of name (document d ds)) = rw (normal-normal d, normal_all-normal_all ds)
+  normal-normal (pretty_part d) = ap pretty_part (normal-normal d)
+
+  pub normal_all-normal_all : (ds : Documents) → normal_all (normal_all ds) ≡ normal_all ds
+  normal_all-normal_all no_documents = refl
+  normal_all-normal_all (document d ds) = ap₂ document (normal-normal d) (normal_all-normal_all ds)
+
+  pub normal_pairs-normal_pairs : (ps : Pairs) → normal_pairs (normal_pairs ps) ≡ normal_pairs ps
+  normal_pairs-normal_pairs no_pairs = refl
+  normal_pairs-normal_pairs (pair key value ps) = rw (normal-normal key, normal-normal value, normal_pairs-normal_pairs ps)
+
+  pub normal_fields-normal_fields : (fs : Fields) → normal_fields (normal_fields fs) ≡ normal_fields fs
+  normal_fields-normal_fields no_fields = refl
+  normal_fields-normal_fields (field label value fs) = rw (normal-normal value, normal_fields-normal_fields fs)
+
+mutual
+  -- a normal form nests as deep as its document
+  pub nest-normal : (d : Document) → nest (normal d) ≡ nest d
+  nest-normal (leaf text) = refl
+  nest-normal (joined ds) = nest_all-normal_all ds
+  nest-normal (list_of no_documents) = refl
+  nest-normal (list_of (document d ds)) = rw (nest-normal d, nest_all-normal_all ds)
+  nest-normal (set_of no_documents) = refl
+  nest-normal (set_of (document d ds)) = rw (nest-normal d, nest_all-normal_all ds)
+  nest-normal (map_of no_pairs) = refl
+  nest-normal (map_of (pair key value ps)) = rw (nest-normal key, nest-normal value, nest_pairs-normal_pairs ps)
+  nest-normal (struct_of name no_fields) = refl
+  nest-normal (struct_of name (field label value fs)) = rw (nest-normal value, nest_fields-normal_fields fs)
+  nest-normal (tuple_of name no_documents) = refl
+  nest-normal (tuple_of name (document d ds)) = rw (nest-normal d, nest_all-normal_all ds)
+  nest-normal (pretty_part d) = nest-normal d
+
+  pub nest_all-normal_all : (ds : Documents) → nest_all (normal_all ds) ≡ nest_all ds
+  nest_all-normal_all no_documents = refl
+  nest_all-normal_all (document d ds) = rw (nest-normal d, nest_all-normal_all ds)
+
+  pub nest_pairs-normal_pairs : (ps : Pairs) → nest_pairs (normal_pairs ps) ≡ nest_pairs ps
+  nest_pairs-normal_pairs no_pairs = refl
+  nest_pairs-normal_pairs (pair key value ps) = rw (nest-normal key, nest-normal value, nest_pairs-normal_pairs ps)
+
+  pub nest_fields-normal_fields : (fs : Fields) → nest_fields (normal_fields fs) ≡ nest_fields fs
+  nest_fields-normal_fields no_fields = refl
+  nest_fields-normal_fields (field label value fs) = rw (nest-normal value, nest_fields-normal_fields fs)
+
+mutual
+  -- where a document's leaves and names are words, so are those of its normal form
+  pub HasWords-normal : (d : Document) → HasWords d → HasWords (normal d)
+  HasWords-normal (leaf text) h = h
+  HasWords-normal (joined ds) h = absurd h
+  HasWords-normal (list_of ds) h = HaveWords-normal_all ds h
+  HasWords-normal (set_of no_documents) h = tt
+  HasWords-normal (set_of (document d ds)) h = (HasWords-normal d h.0, HaveWords-normal_all ds h.1)
+  HasWords-normal (map_of ps) h = PairsHaveWords-normal_pairs ps h
+  HasWords-normal (struct_of name no_fields) h = record { shape = inl h.0 }
+  HasWords-normal (struct_of name (field label value fs)) h = (h.0, (h.1.0, HasWords-normal value h.1.1, FieldsHaveWords-normal_fields fs h.1.2))
+  HasWords-normal (tuple_of name no_documents) h = record { shape = inl h }
+  HasWords-normal (tuple_of name (document d ds)) h = (h.0, HasWords-normal d h.1, HaveWords-normal_all ds h.2)
+  HasWords-normal (pretty_part d) h = absurd h
+
+  pub HaveWords-normal_all : (ds : Documents) → HaveWords ds → HaveWords (normal_all ds)
+  HaveWords-normal_all no_documents h = tt
+  HaveWords-normal_all (document d ds) h = (HasWords-normal d h.0, HaveWords-normal_all ds h.1)
+
+  pub PairsHaveWords-normal_pairs : (ps : Pairs) → PairsHaveWords ps → PairsHaveWords (normal_pairs ps)
+  PairsHaveWords-normal_pairs no_pairs h = tt
+  PairsHaveWords-normal_pairs (pair key value ps) h = (HasWords-normal key h.0, HasWords-normal value h.1, PairsHaveWords-normal_pairs ps h.2)
+
+  pub FieldsHaveWords-normal_fields : (fs : Fields) → FieldsHaveWords fs → FieldsHaveWords (normal_fields fs)
+  FieldsHaveWords-normal_fields no_fields h = tt
+  FieldsHaveWords-normal_fields (field label value fs) h = (h.0, HasWords-normal value h.1, FieldsHaveWords-normal_fields fs h.2)
+
+-- the normal form of a token document is a token document
+pub IsToken-normal : (d : Document) → IsToken d → IsToken (normal d)
+IsToken-normal d h = (HasWords-normal d h.0, subst (λ n. n ≤ 255) (sym (nest-normal d)) h.1)
+
+-- a set's normal form has the text of the set of its documents' normal forms, also where it is the empty map
+layout-normal-set_of : (s : Setting) (ds : Documents) → layout s (normal (set_of ds)) ≡ layout s (set_of (normal_all ds))
+layout-normal-set_of s no_documents = refl
+layout-normal-set_of s (document d ds) = refl
+
+-- likewise of a struct, also where it is the leaf of its name
+layout-normal-struct_of : (s : Setting) (name : List ℕ) (fs : Fields) → layout s (normal (struct_of name fs)) ≡ layout s (struct_of name (normal_fields fs))
+layout-normal-struct_of s name no_fields = sym (append-nil name)
+layout-normal-struct_of s name (field label value fs) = refl
+
+-- likewise of a tuple
+layout-normal-tuple_of : (s : Setting) (name : List ℕ) (ds : Documents) → layout s (normal (tuple_of name ds)) ≡ layout s (tuple_of name (normal_all ds))
+layout-normal-tuple_of s [] no_documents = refl
+layout-normal-tuple_of s (c ∷ name) no_documents = ap (λ text. c ∷ text) (sym (append-nil name))
+layout-normal-tuple_of s name (document d ds) = refl
+
+mutual
+  -- a normal form has its document's text, in either mode and from any depth
+  pub layout-normal : (s : Setting) (d : Document) → layout s (normal d) ≡ layout s d
+  layout-normal s (leaf text) = refl
+  layout-normal s (joined ds) = layouts-normal_all s ds
+  layout-normal s (list_of ds) = ap (block Brackets s []) (texts-normal_all (inside s) ds)
+  layout-normal s (set_of ds) = layout-normal-set_of s ds ∙ ap (block Braces s []) (texts-normal_all (inside s) ds)
+  layout-normal s (map_of ps) = ap (block Braces s []) (pair_texts-normal_pairs (inside s) ps)
+  layout-normal s (struct_of name fs) = layout-normal-struct_of s name fs ∙ ap (block Struct s name) (field_texts-normal_fields (inside s) fs)
+  layout-normal s (tuple_of name ds) = layout-normal-tuple_of s name ds ∙ ap (block (tuple_kind name) s name) (texts-normal_all (inside s) ds)
+  layout-normal s (pretty_part d) = layout-normal (setting Pretty s.depth) d
+
+  pub layouts-normal_all : (s : Setting) (ds : Documents) → layouts s (normal_all ds) ≡ layouts s ds
+  layouts-normal_all s no_documents = refl
+  layouts-normal_all s (document d ds) = rw (layout-normal s d, layouts-normal_all s ds)
+
+  pub texts-normal_all : (i : Setting) (ds : Documents) → texts i (normal_all ds) ≡ texts i ds
+  texts-normal_all i no_documents = refl
+  texts-normal_all i (document d ds) = rw (layout-normal i d, texts-normal_all i ds)
+
+  pub pair_texts-normal_pairs : (i : Setting) (ps : Pairs) → pair_texts i (normal_pairs ps) ≡ pair_texts i ps
+  pair_texts-normal_pairs i no_pairs = refl
+  pair_texts-normal_pairs i (pair key value ps) = rw (layout-normal i key, layout-normal i value, pair_texts-normal_pairs i ps)
+
+  pub field_texts-normal_fields : (i : Setting) (fs : Fields) → field_texts i (normal_fields fs) ≡ field_texts i fs
+  field_texts-normal_fields i no_fields = refl
+  field_texts-normal_fields i (field label value fs) = rw (layout-normal i value, field_texts-normal_fields i fs)

@@ -1,0 +1,217 @@
+-- Shifting a document's lines moves its pretty text one depth in, so that its shifted text is its pretty text.
+use Rattle.std.proofs.Common.{◌≡◌, ℕ, zero, suc, ◌+◌, ◌≤◌, ◌==◌, List, [], ◌∷◌, ◌++◌, map, Bool, true, false, codes, refl, sym, ap, ap₂, ◌∙◌, append_assoc, ne_eqb, arith}
+use Rattle.std.specs.Prelude.{⊤}
+use Rattle.ufmt_core.specs.Document.{Document, leaf, joined, list_of, set_of, map_of, struct_of, tuple_of, pretty_part, Documents, no_documents, document, Pairs, no_pairs, pair, Fields, no_fields, field, nest, nest_all, nest_pairs, nest_fields}
+use Rattle.ufmt_core.specs.Layout.{Frame, frame, tuple_kind, setting, inside, entry_depth, indentation, separator, lead, ending, next, rest, block, layout, layouts, texts, pair_texts, field_texts, pretty_text}
+use Rattle.ufmt_core.specs.declared.formatter.Mode.TheVariants.{Pretty}
+use Rattle.ufmt_core.specs.declared.formatter.Setting.{Setting}
+use Rattle.ufmt_core.specs.declared.formatter.block.Kind.{Kind}
+use Rattle.ufmt_core.specs.declared.formatter.block.Kind.TheVariants.{Brackets, Braces, Struct, Tuple, Unnamed}
+use Rattle.ufmt_core.specs.declared.formatter.block.Place.{Place}
+use Rattle.ufmt_core.specs.declared.formatter.block.Place.TheVariants.{First, Second, Later}
+use Rattle.ufmt.specs.Shift.{margin, shift_from, shift, shift_times, entry_lines, shifted_rest, shifted_block, shifted, shifted_joined, shifted_texts, shifted_pairs, shifted_fields, IsOneLine, HasNoLineFeed, HaveNoLineFeed, PairsHaveNoLineFeed, FieldsHaveNoLineFeed}
+
+-- ---- texts
+
+-- k times four spaces where a line begins
+abbrev margins : ℕ → Bool → List ℕ
+margins k true = indentation k
+margins k false = []
+
+-- a text with k times four spaces after each of its line feeds, so that all lines but the first are indented
+abbrev hanging : ℕ → List ℕ → List ℕ
+hanging k [] = []
+hanging k (c ∷ text) = c ∷ (margins k (c == 10) ++ hanging k text)
+
+-- one indentation is the margin that shifting puts
+margins-one : (b : Bool) → margins 1 b ≡ margin b
+margins-one true = refl
+margins-one false = refl
+
+-- no indentation is nothing
+margins-zero : (b : Bool) → margins 0 b ≡ []
+margins-zero true = refl
+margins-zero false = refl
+
+-- one more indentation goes after or before the others
+indentation-suc : (k : ℕ) (text : List ℕ) → indentation k ++ (codes "    " ++ text) ≡ indentation (suc k) ++ text
+indentation-suc zero text = refl
+indentation-suc (suc k) text = ap (λ more. codes "    " ++ more) (indentation-suc k text)
+
+-- a text that hangs by nothing is itself
+hanging-zero : (text : List ℕ) → hanging 0 text ≡ text
+hanging-zero [] = refl
+hanging-zero (c ∷ text) = rw (margins-zero (c == 10), hanging-zero text)
+
+-- parts that hang make a whole that hangs
+hanging-append : (k : ℕ) (text more : List ℕ) → hanging k (text ++ more) ≡ hanging k text ++ hanging k more
+hanging-append k [] more = refl
+hanging-append k (c ∷ text) more = rw (hanging-append k text more, append_assoc)
+
+-- a text of one line stays as it is
+hanging-one_line : (k : ℕ) (text : List ℕ) → IsOneLine text → hanging k text ≡ text
+hanging-one_line k [] h = refl
+hanging-one_line k (c ∷ text) h = rw (ne_eqb c 10 h.0, hanging-one_line k text h.1)
+
+-- what hangs by one and then by k has k indentations and one after each line feed
+hanging-margins : (k : ℕ) (b : Bool) (text : List ℕ) → margins k b ++ hanging k (margins 1 b ++ text) ≡ margins (suc k) b ++ hanging k text
+hanging-margins k true text = indentation-suc k (hanging k text)
+hanging-margins k false text = refl
+
+-- lines that hang by one and then by k hang by one more than k
+hanging-hanging : (k : ℕ) (text : List ℕ) → hanging k (hanging 1 text) ≡ hanging (suc k) text
+hanging-hanging k [] = refl
+hanging-hanging k (c ∷ text) = rw (hanging-margins k (c == 10) (hanging 1 text), hanging-hanging k text)
+
+-- to shift lines is to indent the first and to let the others hang
+shift_from-append : (b : Bool) (text : List ℕ) (c : ℕ) (more : List ℕ) → shift_from b (text ++ (c ∷ more)) ≡ margin b ++ (hanging 1 text ++ (c ∷ shift_from (c == 10) more))
+shift_from-append b [] c more = refl
+shift_from-append b (a ∷ text) c more = rw (shift_from-append (a == 10) text c more, margins-one (a == 10), append_assoc (margin (a == 10)) (hanging 1 text) _)
+
+-- each line is moved
+pub shift-line : (line lines : List ℕ) → IsOneLine line → shift (line ++ (codes "\n" ++ lines)) ≡ codes "    " ++ (line ++ (codes "\n" ++ shift lines))
+shift-line line lines h = rw (shift_from-append true line 10 lines, hanging-one_line 1 line h)
+
+-- a text with a line feed, shifted k times
+shift_times-line : (k : ℕ) (text : List ℕ) → shift_times k (text ++ codes "\n") ≡ indentation k ++ (hanging k text ++ codes "\n")
+shift_times-line zero text = rw (hanging-zero text)
+shift_times-line (suc k) text = rw (shift_from-append true text 10 [], shift_times-line k (codes "    " ++ hanging 1 text), hanging-hanging k text) (indentation-suc k _)
+
+-- ---- blocks in any frame
+
+-- the lines of an entry and more lines, shifted, inside a block at depth k
+shift-entry : (k : ℕ) (text lines end : List ℕ) →
+    indentation k ++ (hanging k (shift (text ++ (codes ",\n" ++ lines))) ++ end) ≡ indentation (suc k) ++ (hanging (suc k) text ++ (codes ",\n" ++ (indentation k ++ (hanging k (shift lines) ++ end))))
+shift-entry k text lines end = rw (shift_from-append true text 44 (10 ∷ lines), hanging-append k (hanging 1 text) _, hanging-hanging k text, append_assoc (hanging (suc k) text) _ end, append_assoc (indentation k) (hanging k (shift lines)) end) (indentation-suc k _)
+
+-- a frame whose parts stand on one line each, and which ends one entry as it ends several
+record IsSteady (f : Frame) : Type 0 where
+  opening : (k : ℕ) → hanging k f.opening ≡ f.opening
+  start : (k : ℕ) → hanging k f.start ≡ f.start
+  empty : (k : ℕ) → hanging k f.empty ≡ f.empty
+  end : (k : ℕ) → hanging k f.end ≡ f.end
+  alone : f.alone ≡ f.end
+
+-- in pretty mode every kind of block has such a frame
+IsSteady-frame : (kind : Kind) → IsSteady (frame Pretty kind)
+IsSteady-frame Brackets = record { opening = λ k. refl; start = λ k. refl; empty = λ k. refl; end = λ k. refl; alone = refl }
+IsSteady-frame Braces = record { opening = λ k. refl; start = λ k. refl; empty = λ k. refl; end = λ k. refl; alone = refl }
+IsSteady-frame Struct = record { opening = λ k. refl; start = λ k. refl; empty = λ k. refl; end = λ k. refl; alone = refl }
+IsSteady-frame Tuple = record { opening = λ k. refl; start = λ k. refl; empty = λ k. refl; end = λ k. refl; alone = refl }
+IsSteady-frame Unnamed = record { opening = λ k. refl; start = λ k. refl; empty = λ k. refl; end = λ k. refl; alone = refl }
+
+-- after an entry only the indentation stands before another one
+lead-next : (f : Frame) (i : Setting) (place : Place) → lead f i (next place) ≡ separator i.mode i.depth
+lead-next f i First = refl
+lead-next f i Second = refl
+lead-next f i Later = refl
+
+-- after an entry the block ends on a line of its own
+ending-next : (f : Frame) (k : ℕ) (place : Place) → IsSteady f → ending f (setting Pretty k) (next place) ≡ indentation k ++ f.end
+ending-next f k First p = ap (λ u. indentation k ++ u) p.alone
+ending-next f k Second p = refl
+ending-next f k Later p = refl
+
+-- what is left of a block after an entry: the other entries' lines, shifted, and the end
+rest-next : (f : Frame) (k : ℕ) (place : Place) → IsSteady f → entry_depth Pretty k ≡ suc k → (ss : List (List ℕ)) →
+    rest f (setting Pretty k) (next place) (map (hanging (suc k)) ss) ≡ indentation k ++ (hanging k (shift (entry_lines ss)) ++ f.end)
+rest-next f k place p e [] = ending-next f k place p
+rest-next f k place p e (s ∷ ss) =
+    ap₂ (λ before after. before ++ (hanging (suc k) s ++ (codes ",\n" ++ after))) (lead-next f (inside (setting Pretty k)) place ∙ ap indentation e) (rest-next f k (next place) p e ss)
+    ∙ sym (shift-entry k s (entry_lines ss) f.end)
+
+-- where a block at depth k has entries, these are one deeper
+abbrev OneDeeper : ℕ → List (List ℕ) → Type 0
+OneDeeper k [] = ⊤
+OneDeeper k (s ∷ ss) = entry_depth Pretty k ≡ suc k
+
+-- what follows a block's opening hangs
+rest-first : (f : Frame) (k : ℕ) → IsSteady f → (ss : List (List ℕ)) → OneDeeper k ss → rest f (setting Pretty k) First (map (hanging (entry_depth Pretty k)) ss) ≡ hanging k (shifted_rest f ss)
+rest-first f k p [] e = sym (p.empty k)
+rest-first f k p (s ∷ ss) e =
+    rw (ap (λ n. map (hanging n) ss) e, e, rest-next f k First p e ss, append_assoc, hanging-append k f.start _, p.start k, hanging-append k (shift (entry_lines (s ∷ ss))) f.end, p.end k)
+    (ap (λ u. f.start ++ (codes "\n" ++ u)) (sym (shift-entry k s (entry_lines ss) f.end)))
+
+-- a block in any such frame hangs where its entries do
+framed : (f : Frame) (k : ℕ) (name : List ℕ) (ss : List (List ℕ)) → IsSteady f → IsOneLine name → OneDeeper k ss →
+    name ++ (f.opening ++ rest f (setting Pretty k) First (map (hanging (entry_depth Pretty k)) ss)) ≡ hanging k (name ++ (f.opening ++ shifted_rest f ss))
+framed f k name ss p h e =
+    rw (hanging-append k name _, hanging-one_line k name h, hanging-append k f.opening _, p.opening k) (ap (λ u. name ++ (f.opening ++ u)) (rest-first f k p ss e))
+
+-- ---- documents
+
+-- the depths that a block at depth k leaves to its entries, which nest n deep and have these texts
+record HasRoom (k n : ℕ) (ss : List (List ℕ)) : Type 0 where
+  within : n + entry_depth Pretty k ≤ 255
+  deeper : OneDeeper k ss
+
+-- without entries no depth is needed
+HasRoom-empty : (k : ℕ) → 0 + k ≤ 255 → HasRoom k 0 []
+HasRoom-empty k h = record { within = omega arith; deeper = tt }
+
+-- with entries the block itself takes one
+HasRoom-entries : (k n : ℕ) (s : List ℕ) (ss : List (List ℕ)) → suc n + k ≤ 255 → HasRoom k n (s ∷ ss)
+HasRoom-entries k n s ss h = record { within = omega arith; deeper = omega arith }
+
+-- each kind of block leaves room, where it nests to the depth of 255 at most
+HasRoom-list_of : (k : ℕ) (ds : Documents) → nest (list_of ds) + k ≤ 255 → HasRoom k (nest_all ds) (shifted_texts ds)
+HasRoom-list_of k no_documents h = HasRoom-empty k h
+HasRoom-list_of k (document d ds) h = HasRoom-entries k _ _ _ h
+
+HasRoom-set_of : (k : ℕ) (ds : Documents) → nest (set_of ds) + k ≤ 255 → HasRoom k (nest_all ds) (shifted_texts ds)
+HasRoom-set_of k no_documents h = HasRoom-empty k h
+HasRoom-set_of k (document d ds) h = HasRoom-entries k _ _ _ h
+
+HasRoom-tuple_of : (k : ℕ) (name : List ℕ) (ds : Documents) → nest (tuple_of name ds) + k ≤ 255 → HasRoom k (nest_all ds) (shifted_texts ds)
+HasRoom-tuple_of k name no_documents h = HasRoom-empty k h
+HasRoom-tuple_of k name (document d ds) h = HasRoom-entries k _ _ _ h
+
+HasRoom-map_of : (k : ℕ) (ps : Pairs) → nest (map_of ps) + k ≤ 255 → HasRoom k (nest_pairs ps) (shifted_pairs ps)
+HasRoom-map_of k no_pairs h = HasRoom-empty k h
+HasRoom-map_of k (pair key value ps) h = HasRoom-entries k _ _ _ h
+
+HasRoom-struct_of : (k : ℕ) (name : List ℕ) (fs : Fields) → nest (struct_of name fs) + k ≤ 255 → HasRoom k (nest_fields fs) (shifted_fields fs)
+HasRoom-struct_of k name no_fields h = HasRoom-empty k h
+HasRoom-struct_of k name (field label value fs) h = HasRoom-entries k _ _ _ h
+
+-- a block at depth k, whose entries' texts hang as they should
+block-shifted : (kind : Kind) (k n : ℕ) (name : List ℕ) (ss ts : List (List ℕ)) → IsOneLine name → HasRoom k n ss → ts ≡ map (hanging (entry_depth Pretty k)) ss → block kind (setting Pretty k) name ts ≡ hanging k (shifted_block kind name ss)
+block-shifted kind k n name ss ts h room e = ap (block kind (setting Pretty k) name) e ∙ framed (frame Pretty kind) k name ss (IsSteady-frame kind) h room.deeper
+
+mutual
+  -- at depth k a document's pretty text is its shifted text, hanging by k
+  layout-shifted : (k : ℕ) (d : Document) → HasNoLineFeed d → nest d + k ≤ 255 → layout (setting Pretty k) d ≡ hanging k (shifted d)
+  layout-shifted k (leaf text) h n = sym (hanging-one_line k text h)
+  layout-shifted k (joined ds) h n = layouts-shifted k ds h n
+  layout-shifted k (list_of ds) h n = let room = HasRoom-list_of k ds n in block-shifted Brackets k _ [] _ _ tt room (texts-shifted _ ds h room.within)
+  layout-shifted k (set_of ds) h n = let room = HasRoom-set_of k ds n in block-shifted Braces k _ [] _ _ tt room (texts-shifted _ ds h room.within)
+  layout-shifted k (map_of ps) h n = let room = HasRoom-map_of k ps n in block-shifted Braces k _ [] _ _ tt room (pair_texts-shifted _ ps h room.within)
+  layout-shifted k (struct_of name fs) h n = let room = HasRoom-struct_of k name fs n in block-shifted Struct k _ name _ _ h.0 room (field_texts-shifted _ fs h.1 room.within)
+  layout-shifted k (tuple_of name ds) h n = let room = HasRoom-tuple_of k name ds n in block-shifted (tuple_kind name) k _ name _ _ h.0 room (texts-shifted _ ds h.1 room.within)
+  layout-shifted k (pretty_part d) h n = layout-shifted k d h n
+
+  layouts-shifted : (k : ℕ) (ds : Documents) → HaveNoLineFeed ds → nest_all ds + k ≤ 255 → layouts (setting Pretty k) ds ≡ hanging k (shifted_joined ds)
+  layouts-shifted k no_documents h n = refl
+  layouts-shifted k (document d ds) h n = rw (hanging-append k (shifted d) _) (ap₂ ◌++◌ (layout-shifted k d h.0 (omega arith)) (layouts-shifted k ds h.1 (omega arith)))
+
+  texts-shifted : (k : ℕ) (ds : Documents) → HaveNoLineFeed ds → nest_all ds + k ≤ 255 → texts (setting Pretty k) ds ≡ map (hanging k) (shifted_texts ds)
+  texts-shifted k no_documents h n = refl
+  texts-shifted k (document d ds) h n = ap₂ ◌∷◌ (layout-shifted k d h.0 (omega arith)) (texts-shifted k ds h.1 (omega arith))
+
+  pair_texts-shifted : (k : ℕ) (ps : Pairs) → PairsHaveNoLineFeed ps → nest_pairs ps + k ≤ 255 → pair_texts (setting Pretty k) ps ≡ map (hanging k) (shifted_pairs ps)
+  pair_texts-shifted k no_pairs h n = refl
+  pair_texts-shifted k (pair key value ps) h n =
+      rw (hanging-append k (shifted key) _, layout-shifted k key h.0 (omega arith), layout-shifted k value h.1 (omega arith), pair_texts-shifted k ps h.2 (omega arith))
+
+  field_texts-shifted : (k : ℕ) (fs : Fields) → FieldsHaveNoLineFeed fs → nest_fields fs + k ≤ 255 → field_texts (setting Pretty k) fs ≡ map (hanging k) (shifted_fields fs)
+  field_texts-shifted k no_fields h n = refl
+  field_texts-shifted k (field label value fs) h n =
+      rw (hanging-append k label _, hanging-one_line k label h.0, layout-shifted k value h.1 (omega arith), field_texts-shifted k fs h.2 (omega arith))
+
+-- at depth k a document's pretty text is its shifted text, as lines, shifted k times
+pub shift_times-shifted : (d : Document) (k : ℕ) → HasNoLineFeed d → nest d + k ≤ 255 → shift_times k (shifted d ++ codes "\n") ≡ indentation k ++ (layout (setting Pretty k) d ++ codes "\n")
+shift_times-shifted d k h n = shift_times-line k (shifted d) ∙ ap (λ u. indentation k ++ (u ++ codes "\n")) (sym (layout-shifted k d h n))
+
+-- a document's shifted text is its pretty text
+pub shifted-pretty_text : (d : Document) → HasNoLineFeed d → nest d ≤ 255 → shifted d ≡ pretty_text d
+shifted-pretty_text d h n = sym (hanging-zero (shifted d)) ∙ sym (layout-shifted 0 d h (omega arith))

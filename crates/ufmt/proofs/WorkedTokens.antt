@@ -1,0 +1,144 @@
+-- Words, token documents, normal forms and followers: which are and which aren't, computed.
+use Rattle.std.proofs.Common.{◌≡◌, ℕ, zero, suc, map, true, false, codes, refl, inl, inr, arith}
+use Rattle.std.proofs.lemmas.Bool.{false≢true}
+use Rattle.ufmt_core.specs.Document.{Document, leaf, joined, list_of, set_of, map_of, struct_of, tuple_of, pretty_part, Documents, no_documents, document, no_pairs, pair, no_fields, field, nest}
+use Rattle.ufmt.specs.Token.{is_word_byte, IsWord, HasWords, IsToken, normal, is_closer, IsFollower}
+
+-- ---- words
+
+-- the first and the last digit and letters, and the two marks
+word-bytes : map is_word_byte (codes "09AZaz_-") ≡ map (λ c. true) (codes "09AZaz_-")
+word-bytes = refl
+
+-- the bytes beside those
+other-bytes : map is_word_byte (codes "/:@[`{,.\n \u{7f}") ≡ map (λ c. false) (codes "/:@[`{,.\n \u{7f}")
+other-bytes = refl
+
+other-byte-128 : is_word_byte 128 ≡ false
+other-byte-128 = refl
+
+IsWord-name : IsWord (codes "a_1")
+IsWord-name = (refl, (refl, (refl, tt)))
+
+IsWord-number : IsWord (codes "-7")
+IsWord-number = (refl, (refl, tt))
+
+IsWord-not-empty : IsWord (codes "") → ⊥
+IsWord-not-empty h = h
+
+IsWord-not-spaced : IsWord (codes "a b") → ⊥
+IsWord-not-spaced h = false≢true h.1.0
+
+-- ---- token documents
+
+abbrev one : Document
+one = leaf (codes "1")
+
+abbrev lone : Document → Documents
+lone d = document d no_documents
+
+HasWords-one : HasWords one
+HasWords-one = record { shape = inl (refl, tt) }
+
+IsToken-unit : IsToken (leaf (codes "()"))
+IsToken-unit = (record { shape = inr refl }, omega arith)
+
+IsToken-not-empty_leaf : IsToken (leaf (codes "")) → ⊥
+IsToken-not-empty_leaf h = elim h.0.shape [ inl w ↦ w | inr e ↦ cc ]
+
+IsToken-not-line_feed : IsToken (leaf (codes "\n")) → ⊥
+IsToken-not-line_feed h = elim h.0.shape [ inl w ↦ false≢true w.0 | inr e ↦ cc ]
+
+-- a struct of an empty set and a tuple without a name
+IsToken-settings : IsToken (struct_of (codes "S") (field (codes "m") (set_of no_documents) (field (codes "n") (tuple_of (codes "") (lone one)) no_fields)))
+IsToken-settings = (((refl, tt), ((refl, tt), tt, ((refl, tt), (tt, HasWords-one, tt), tt))), omega arith)
+
+IsToken-map : IsToken (map_of (pair one one no_pairs))
+IsToken-map = ((HasWords-one, HasWords-one, tt), omega arith)
+
+-- a name may be empty only where a tuple has a field
+IsToken-not-empty_tuple : IsToken (tuple_of (codes "") no_documents) → ⊥
+IsToken-not-empty_tuple h = h.0
+
+IsToken-not-empty_struct : IsToken (struct_of (codes "") (field (codes "n") one no_fields)) → ⊥
+IsToken-not-empty_struct h = h.0.0
+
+IsToken-not-empty_label : IsToken (struct_of (codes "S") (field (codes "") one no_fields)) → ⊥
+IsToken-not-empty_label h = h.0.1.0
+
+IsToken-not-joined : IsToken (list_of (lone (joined no_documents))) → ⊥
+IsToken-not-joined h = h.0.0
+
+IsToken-not-pretty_part : IsToken (pretty_part one) → ⊥
+IsToken-not-pretty_part h = h.0
+
+-- an empty list in k lists
+abbrev nested : ℕ → Document
+nested zero = list_of no_documents
+nested (suc k) = list_of (lone (nested k))
+
+nest-nested : (k : ℕ) → nest (nested k) ≡ k
+nest-nested zero = refl
+nest-nested (suc k) = omega (arith, nest-nested k)
+
+HasWords-nested : (k : ℕ) → HasWords (nested k)
+HasWords-nested zero = tt
+HasWords-nested (suc k) = (HasWords-nested k, tt)
+
+-- 255 blocks with entries may lie one in another, round an empty one
+IsToken-nested : IsToken (nested 255)
+IsToken-nested = (HasWords-nested 255, omega (arith, nest-nested 255))
+
+IsToken-not-nested : IsToken (nested 256) → ⊥
+IsToken-not-nested h = omega (arith, nest-nested 256, h.1)
+
+-- ---- normal forms
+
+normal-struct : normal (struct_of (codes "A") no_fields) ≡ leaf (codes "A")
+normal-struct = refl
+
+normal-tuple : normal (tuple_of (codes "A") no_documents) ≡ leaf (codes "A")
+normal-tuple = refl
+
+normal-set : normal (set_of no_documents) ≡ map_of no_pairs
+normal-set = refl
+
+normal-list : normal (list_of no_documents) ≡ list_of no_documents
+normal-list = refl
+
+-- everywhere inside
+normal-inside : normal (struct_of (codes "S") (field (codes "a") (map_of (pair (tuple_of (codes "K") no_documents) (set_of no_documents) no_pairs)) (field (codes "b") (set_of (lone (struct_of (codes "B") no_fields))) no_fields)))
+    ≡ struct_of (codes "S") (field (codes "a") (map_of (pair (leaf (codes "K")) (map_of no_pairs) no_pairs)) (field (codes "b") (set_of (lone (leaf (codes "B")))) no_fields))
+normal-inside = refl
+
+normal-parts : normal (joined (lone (pretty_part (tuple_of (codes "T") (lone (set_of no_documents)))))) ≡ joined (lone (pretty_part (tuple_of (codes "T") (lone (map_of no_pairs)))))
+normal-parts = refl
+
+-- ---- followers
+
+closers : map is_closer (codes ",:])}") ≡ map (λ c. true) (codes ",:])}")
+closers = refl
+
+other-closers : map is_closer (codes "[({ \n;a") ≡ map (λ c. false) (codes "[({ \n;a")
+other-closers = refl
+
+IsFollower-empty : IsFollower (codes "")
+IsFollower-empty = tt
+
+IsFollower-comma : IsFollower (codes ",")
+IsFollower-comma = refl
+
+IsFollower-colon : IsFollower (codes ": 1")
+IsFollower-colon = inl refl
+
+IsFollower-brace : IsFollower (codes " }")
+IsFollower-brace = inr (refl, refl)
+
+IsFollower-not-space : IsFollower (codes " ") → ⊥
+IsFollower-not-space h = false≢true h
+
+IsFollower-not-opening : IsFollower (codes " {") → ⊥
+IsFollower-not-opening h = elim h [ inl e ↦ false≢true e | inr e ↦ omega (arith, e.1) ]
+
+IsFollower-not-word : IsFollower (codes "a,") → ⊥
+IsFollower-not-word h = elim h [ inl e ↦ false≢true e | inr e ↦ omega (arith, e.0) ]

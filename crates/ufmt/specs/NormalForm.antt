@@ -1,0 +1,18 @@
+-- What is promised of normal forms.
+use Rattle.std.specs.Prelude.{◌≡◌}
+use Rattle.ufmt_core.specs.Document.{Document}
+use Rattle.ufmt_core.specs.Layout.{layout}
+use Rattle.ufmt_core.specs.declared.formatter.Setting.{Setting}
+use Rattle.ufmt.specs.Token.{IsToken, normal}
+
+-- a normal form is its own normal form
+abbrev pub NormalFormsAreNormal : Type 0
+NormalFormsAreNormal = (d : Document) → normal (normal d) ≡ normal d
+
+-- a document and its normal form have one text, in either mode and from any depth
+abbrev pub NormalFormsKeepTexts : Type 0
+NormalFormsKeepTexts = (s : Setting) (d : Document) → layout s (normal d) ≡ layout s d
+
+-- the normal form of a token document is one too
+abbrev pub NormalFormsKeepTokens : Type 0
+NormalFormsKeepTokens = (d : Document) → IsToken d → IsToken (normal d)

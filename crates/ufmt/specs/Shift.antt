@@ -1,0 +1,98 @@
+-- Shifted text: pretty text made from the inside out, by moving finished lines, with no mode and no depth.
+use Rattle.std.specs.Prelude.{◌≢◌, ℕ, zero, suc, ◌==◌, List, [], ◌∷◌, ◌++◌, Bool, true, false, codes, ⊤}
+use Rattle.ufmt_core.specs.Document.{Document, leaf, joined, list_of, set_of, map_of, struct_of, tuple_of, pretty_part, Documents, no_documents, document, Pairs, no_pairs, pair, Fields, no_fields, field}
+use Rattle.ufmt_core.specs.Layout.{Frame, frame, tuple_kind}
+use Rattle.ufmt_core.specs.declared.formatter.Mode.TheVariants.{Pretty}
+use Rattle.ufmt_core.specs.declared.formatter.block.Kind.{Kind}
+use Rattle.ufmt_core.specs.declared.formatter.block.Kind.TheVariants.{Brackets, Braces, Struct}
+
+-- what is put before a byte: four spaces where it begins a line
+abbrev pub margin : Bool → List ℕ
+margin true = codes "    "
+margin false = []
+
+-- shifted lines, where it is told whether the first byte begins a line; one begins after each line feed
+abbrev pub shift_from : Bool → List ℕ → List ℕ
+shift_from begins [] = []
+shift_from begins (c ∷ text) = margin begins ++ (c ∷ shift_from (c == 10) text)
+
+-- each line of a text moved in by four spaces, where each ends with a line feed
+abbrev pub shift : List ℕ → List ℕ
+shift text = shift_from true text
+
+-- a text shifted k times
+abbrev pub shift_times : ℕ → List ℕ → List ℕ
+shift_times zero text = text
+shift_times (suc k) text = shift_times k (shift text)
+
+-- entries with these texts, each with a comma and a line feed after it
+abbrev pub entry_lines : List (List ℕ) → List ℕ
+entry_lines [] = []
+entry_lines (text ∷ texts) = text ++ (codes ",\n" ++ entry_lines texts)
+
+-- what follows the opening of a block in this frame: its entries' lines, shifted, and the closing
+abbrev pub shifted_rest : Frame → List (List ℕ) → List ℕ
+shifted_rest f [] = f.empty
+shifted_rest f (text ∷ texts) = f.start ++ (codes "\n" ++ (shift (entry_lines (text ∷ texts)) ++ f.end))
+
+-- a block of this kind and name, whose entries have these texts
+abbrev pub shifted_block : Kind → List ℕ → List (List ℕ) → List ℕ
+shifted_block kind name texts = name ++ ((frame Pretty kind).opening ++ shifted_rest (frame Pretty kind) texts)
+
+abbrev mutual
+  -- the shifted text of a document
+  pub shifted : Document → List ℕ
+  shifted (leaf text) = text
+  shifted (joined ds) = shifted_joined ds
+  shifted (list_of ds) = shifted_block Brackets [] (shifted_texts ds)
+  shifted (set_of ds) = shifted_block Braces [] (shifted_texts ds)
+  shifted (map_of ps) = shifted_block Braces [] (shifted_pairs ps)
+  shifted (struct_of name fs) = shifted_block Struct name (shifted_fields fs)
+  shifted (tuple_of name ds) = shifted_block (tuple_kind name) name (shifted_texts ds)
+  shifted (pretty_part d) = shifted d
+
+  pub shifted_joined : Documents → List ℕ
+  shifted_joined no_documents = []
+  shifted_joined (document d ds) = shifted d ++ shifted_joined ds
+
+  -- the shifted texts of entries, of pairs and of fields
+  pub shifted_texts : Documents → List (List ℕ)
+  shifted_texts no_documents = []
+  shifted_texts (document d ds) = shifted d ∷ shifted_texts ds
+
+  pub shifted_pairs : Pairs → List (List ℕ)
+  shifted_pairs no_pairs = []
+  shifted_pairs (pair key value ps) = (shifted key ++ (codes ": " ++ shifted value)) ∷ shifted_pairs ps
+
+  pub shifted_fields : Fields → List (List ℕ)
+  shifted_fields no_fields = []
+  shifted_fields (field label value fs) = (label ++ (codes ": " ++ shifted value)) ∷ shifted_fields fs
+
+-- no byte of a text is a line feed
+abbrev pub IsOneLine : List ℕ → Type 0
+IsOneLine [] = ⊤
+IsOneLine (c ∷ text) = (c ≢ 10) × IsOneLine text
+
+-- each leaf and each name of a document, a field's among them, has no line feed
+abbrev mutual
+  pub HasNoLineFeed : Document → Type 0
+  HasNoLineFeed (leaf text) = IsOneLine text
+  HasNoLineFeed (joined ds) = HaveNoLineFeed ds
+  HasNoLineFeed (list_of ds) = HaveNoLineFeed ds
+  HasNoLineFeed (set_of ds) = HaveNoLineFeed ds
+  HasNoLineFeed (map_of ps) = PairsHaveNoLineFeed ps
+  HasNoLineFeed (struct_of name fs) = IsOneLine name × FieldsHaveNoLineFeed fs
+  HasNoLineFeed (tuple_of name ds) = IsOneLine name × HaveNoLineFeed ds
+  HasNoLineFeed (pretty_part d) = HasNoLineFeed d
+
+  pub HaveNoLineFeed : Documents → Type 0
+  HaveNoLineFeed no_documents = ⊤
+  HaveNoLineFeed (document d ds) = HasNoLineFeed d × HaveNoLineFeed ds
+
+  pub PairsHaveNoLineFeed : Pairs → Type 0
+  PairsHaveNoLineFeed no_pairs = ⊤
+  PairsHaveNoLineFeed (pair key value ps) = HasNoLineFeed key × HasNoLineFeed value × PairsHaveNoLineFeed ps
+
+  pub FieldsHaveNoLineFeed : Fields → Type 0
+  FieldsHaveNoLineFeed no_fields = ⊤
+  FieldsHaveNoLineFeed (field label value fs) = IsOneLine label × HasNoLineFeed value × FieldsHaveNoLineFeed fs

@@ -1,0 +1,89 @@
+-- Token documents, whose texts can be read again: words, token documents, normal form and followers.
+use Rattle.std.specs.Prelude.{◌≡◌, ◌⊎◌, ℕ, ◌≤◌, ◌&&◌, ◌||◌, ◌==◌, nat_le, List, [], ◌∷◌, Bool, true, codes, ⊤}
+use Rattle.ufmt_core.specs.Document.{Document, leaf, joined, list_of, set_of, map_of, struct_of, tuple_of, pretty_part, Documents, no_documents, document, Pairs, no_pairs, pair, Fields, no_fields, field, nest}
+
+abbrev pub is_within : ℕ → ℕ → ℕ → Bool
+is_within low high c = nat_le low c && nat_le c high
+
+-- an ASCII digit, an ASCII letter, `_` or `-`
+abbrev pub is_word_byte : ℕ → Bool
+is_word_byte c = is_within 48 57 c || is_within 65 90 c || is_within 97 122 c || c == 95 || c == 45
+
+abbrev pub AreWordBytes : List ℕ → Type 0
+AreWordBytes [] = ⊤
+AreWordBytes (c ∷ text) = (is_word_byte c ≡ true) × AreWordBytes text
+
+-- one or more such bytes
+abbrev pub IsWord : List ℕ → Type 0
+IsWord [] = ⊥
+IsWord (c ∷ text) = (is_word_byte c ≡ true) × AreWordBytes text
+
+-- the text of a leaf that can be read again: a word or `()`
+pub record IsTokenLeaf (text : List ℕ) : Type 0 where
+  pub shape : IsWord text ⊎ (text ≡ codes "()")
+
+-- every leaf can be read again, and names are words, but that of a tuple with fields may be empty
+abbrev mutual
+  pub HasWords : Document → Type 0
+  HasWords (leaf text) = IsTokenLeaf text
+  HasWords (joined ds) = ⊥
+  HasWords (list_of ds) = HaveWords ds
+  HasWords (set_of ds) = HaveWords ds
+  HasWords (map_of ps) = PairsHaveWords ps
+  HasWords (struct_of name fs) = IsWord name × FieldsHaveWords fs
+  HasWords (tuple_of name no_documents) = IsWord name
+  HasWords (tuple_of name (document d ds)) = AreWordBytes name × HasWords d × HaveWords ds
+  HasWords (pretty_part d) = ⊥
+
+  pub HaveWords : Documents → Type 0
+  HaveWords no_documents = ⊤
+  HaveWords (document d ds) = HasWords d × HaveWords ds
+
+  pub PairsHaveWords : Pairs → Type 0
+  PairsHaveWords no_pairs = ⊤
+  PairsHaveWords (pair key value ps) = HasWords key × HasWords value × PairsHaveWords ps
+
+  pub FieldsHaveWords : Fields → Type 0
+  FieldsHaveWords no_fields = ⊤
+  FieldsHaveWords (field label value fs) = IsWord label × HasWords value × FieldsHaveWords fs
+
+-- a document of words whose blocks with entries lie at most 255 deep
+abbrev pub IsToken : Document → Type 0
+IsToken d = HasWords d × (nest d ≤ 255)
+
+-- the document as its text tells it: a name alone is a leaf, whatever it was the name of, and `{}` is a map, at each depth
+abbrev mutual
+  pub normal : Document → Document
+  normal (leaf text) = leaf text
+  normal (joined ds) = joined (normal_all ds)
+  normal (list_of ds) = list_of (normal_all ds)
+  normal (set_of no_documents) = map_of no_pairs
+  normal (set_of (document d ds)) = set_of (document (normal d) (normal_all ds))
+  normal (map_of ps) = map_of (normal_pairs ps)
+  normal (struct_of name no_fields) = leaf name
+  normal (struct_of name (field label value fs)) = struct_of name (field label (normal value) (normal_fields fs))
+  normal (tuple_of name no_documents) = leaf name
+  normal (tuple_of name (document d ds)) = tuple_of name (document (normal d) (normal_all ds))
+  normal (pretty_part d) = pretty_part (normal d)
+
+  pub normal_all : Documents → Documents
+  normal_all no_documents = no_documents
+  normal_all (document d ds) = document (normal d) (normal_all ds)
+
+  pub normal_pairs : Pairs → Pairs
+  normal_pairs no_pairs = no_pairs
+  normal_pairs (pair key value ps) = pair (normal key) (normal value) (normal_pairs ps)
+
+  pub normal_fields : Fields → Fields
+  normal_fields no_fields = no_fields
+  normal_fields (field label value fs) = field label (normal value) (normal_fields fs)
+
+-- a comma, a colon or a closing bracket
+abbrev pub is_closer : ℕ → Bool
+is_closer c = c == 44 || c == 58 || c == 93 || c == 41 || c == 125
+
+-- what may follow the text of a token document in a larger one: nothing, a closer, or a space and `}`
+abbrev pub IsFollower : List ℕ → Type 0
+IsFollower [] = ⊤
+IsFollower (c ∷ []) = is_closer c ≡ true
+IsFollower (c ∷ b ∷ text) = (is_closer c ≡ true) ⊎ ((c ≡ 32) × (b ≡ 125))
