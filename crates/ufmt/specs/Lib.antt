@@ -2,6 +2,9 @@ pub mod Cursor
 pub mod Hex
 pub mod NormalForm
 pub mod Pieces
+pub mod Reading
+pub mod ReadsExactly
+pub mod ReadsOneWay
 pub mod Shift
 pub mod Shifting
 pub mod Token

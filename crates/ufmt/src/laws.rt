@@ -9,6 +9,8 @@ ghost use Rattle.ufmt.specs.declared.hex.HexOptions.{HexOptions};
 ghost use Rattle.ufmt.specs.Hex.{EachNumberIsTold, OneTextTells, OneNumberIsTold, IsPadded, PrintsHexadecimal, PrintsBits, padded};
 ghost use Rattle.ufmt.specs.NormalForm.{NormalFormsAreNormal, NormalFormsKeepTexts, NormalFormsKeepTokens};
 ghost use Rattle.ufmt.specs.Shifting.{ShiftMovesEachLine, ShiftedAtDepth, ShiftedIsPretty, TokensHaveNoLineFeed};
+ghost use Rattle.ufmt.specs.ReadsExactly.{ReadsEachText, ReadsOnlyTexts, RefusesNoText};
+ghost use Rattle.ufmt.specs.ReadsOneWay.{PlainReadsOneWay, PlainTextTells, PrettyReadsOneWay, PrettyTextTells, TextsAgree};
 
 use crate::cursor::{Cursor, Full};
 use crate::display::uDisplay;
@@ -135,4 +137,32 @@ pub fn shifted_at_depth()
     ensures at_depth { ShiftedAtDepth }
     ensures pretty { ShiftedIsPretty }
     ensures token { TokensHaveNoLineFeed }
+{}
+
+/// A plain text can be read in one way: where token documents have equal plain texts, with what may
+/// follow them in a larger one, their normal forms are equal, and so is what follows.
+pub fn plain_reads_one_way()
+    ensures { PlainReadsOneWay }
+{}
+
+/// Likewise of pretty text, at each depth from which the documents' blocks lie at most 255 deep.
+pub fn pretty_reads_one_way()
+    ensures { PrettyReadsOneWay }
+{}
+
+/// Token documents have equal plain texts exactly if they have equal pretty texts, and exactly if
+/// they have equal normal forms.
+#[tactic(auto, using(crate::proofs::OneWay::plain_text_tells, crate::proofs::OneWay::pretty_text_tells, crate::proofs::OneWay::texts_agree))]
+pub fn texts_tell_normal_forms()
+    ensures plain { PlainTextTells }
+    ensures pretty { PrettyTextTells }
+    ensures agree { TextsAgree }
+{}
+
+/// Just the texts of token documents are read, in either mode, each as the normal form of the
+/// documents that have it.
+pub fn texts_are_read_exactly()
+    ensures only { ReadsOnlyTexts }
+    ensures each { ReadsEachText }
+    ensures refused { RefusesNoText }
 {}

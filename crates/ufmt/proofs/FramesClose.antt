@@ -1,0 +1,141 @@
+-- The frames of the five kinds: their ends can be told from entries, and their empty forms from what begins an entry.
+use Rattle.std.proofs.Common.{◌≡◌, inl, inr, refl, ℕ, zero, suc, ◌≤◌, ◌+◌, min, ◌==◌, Bool, true, false, List, [], ◌∷◌, ◌++◌, None, codes, eqb-true, arith}
+use Rattle.std.specs.Prelude.{⊤}
+use Rattle.ufmt_core.specs.Layout.{frame, setting, inside, entry_depth, indentation, new_line, lead, ending, trail, next, rest}
+use Rattle.ufmt_core.specs.declared.formatter.Mode.{Mode}
+use Rattle.ufmt_core.specs.declared.formatter.Mode.TheVariants.{Plain, Pretty}
+use Rattle.ufmt_core.specs.declared.formatter.Setting.{Setting}
+use Rattle.ufmt_core.specs.declared.formatter.block.Kind.{Kind}
+use Rattle.ufmt_core.specs.declared.formatter.block.Kind.TheVariants.{Brackets, Braces, Struct, Tuple, Unnamed}
+use Rattle.ufmt_core.specs.declared.formatter.block.Place.{Place}
+use Rattle.ufmt_core.specs.declared.formatter.block.Place.TheVariants.{First, Second, Later}
+use Rattle.ufmt.specs.Token.{is_closer, IsFollower}
+use Rattle.ufmt.specs.Reading.{strip}
+use Rattle.ufmt.proofs.Words.{each_closer}
+use Rattle.ufmt.proofs.BlocksComplete.{Begins, Closes}
+
+-- so many blocks fit into one another here: deeper than 255 the indentation grows no more
+abbrev pub FitsAt : Mode → ℕ → ℕ → Type 0
+FitsAt Plain k n = ⊤
+FitsAt Pretty k n = k + n ≤ 255
+
+-- the same of a mode and depth
+abbrev pub Fits : Setting → ℕ → Type 0
+Fits s n = FitsAt s.mode s.depth n
+
+-- what fits one block deeper
+pub fits_inside : (s : Setting) (n : ℕ) → Fits s (suc n) → Fits (inside s) n
+fits_inside s n h = go s.mode s.depth h
+  where
+    go : (mode : Mode) (k : ℕ) → FitsAt mode k (suc n) → FitsAt mode (entry_depth mode k) n
+    go Plain k h = tt
+    go Pretty k h = omega arith
+
+-- where more fit, fewer do
+pub fits_less : (s : Setting) (m n : ℕ) → m ≤ n → Fits s n → Fits s m
+fits_less s m n less h = go s.mode s.depth h
+  where
+    go : (mode : Mode) (k : ℕ) → FitsAt mode k n → FitsAt mode k m
+    go Plain k h = tt
+    go Pretty k h = omega (arith, less)
+
+-- a closer is none of the other bytes
+closer_differs : (c b : ℕ) → is_closer c ≡ true → is_closer b ≡ false → (c == b) ≡ false
+closer_differs c b hc hb = go (c == b) refl
+  where
+    go : (same : Bool) → (c == b) ≡ same → (c == b) ≡ false
+    go false e = e
+    go true e = let same = eqb-true c b e in absurd (cc)
+
+-- no closer stands where an entry begins
+pub closer_begins_none : (c : ℕ) (w : List ℕ) → is_closer c ≡ true → {t : List ℕ} → Begins t → strip (c ∷ w) t ≡ None
+closer_begins_none c w h b = rw (b.is, closer_differs c b.first h b.no_closer) refl
+
+-- nor before it
+pub begins_behind : (mode : Mode) (k : ℕ) {t : List ℕ} → Begins t → Begins (new_line mode k ++ t)
+begins_behind Plain k b = b
+begins_behind Pretty k {t} b = record { first = 10; tail = indentation k ++ t; is = refl; no_closer = refl }
+
+-- what a closer begins is a follower
+pub closer_follows : (c : ℕ) (u : List ℕ) → is_closer c ≡ true → IsFollower (c ∷ u)
+closer_follows c [] h = h
+closer_follows c (b ∷ u) h = inl h
+
+-- a follower begins with no parenthesis of a tuple
+pub follower_no_tuple : (u w : List ℕ) → IsFollower u → strip (40 ∷ w) u ≡ None
+follower_no_tuple [] w h = refl
+follower_no_tuple (c ∷ []) w h = each_closer (λ c. strip (40 ∷ w) (c ∷ []) ≡ None) refl refl refl refl refl c h
+follower_no_tuple (c ∷ b ∷ u) w (inl h) = each_closer (λ c. strip (40 ∷ w) (c ∷ b ∷ u) ≡ None) refl refl refl refl refl c h
+follower_no_tuple (c ∷ b ∷ u) w (inr h) = rw h.0 refl
+
+-- nor with the space and the brace of a struct
+pub follower_no_struct : (u w : List ℕ) → IsFollower u → strip (32 ∷ 123 ∷ w) u ≡ None
+follower_no_struct [] w h = refl
+follower_no_struct (c ∷ []) w h = each_closer (λ c. strip (32 ∷ 123 ∷ w) (c ∷ []) ≡ None) refl refl refl refl refl c h
+follower_no_struct (c ∷ b ∷ u) w (inl h) = each_closer (λ c. strip (32 ∷ 123 ∷ w) (c ∷ b ∷ u) ≡ None) refl refl refl refl refl c h
+follower_no_struct (c ∷ b ∷ u) w (inr h) = rw (h.0, h.1) refl
+
+-- what holds of the second place and of later ones holds of the next
+after_place : (P : Place → Type 0) → P Second → P Later → (place : Place) → P (next place)
+after_place P second later First = second
+after_place P second later Second = later
+after_place P second later Later = later
+
+-- what begins with no space isn't indented deeper
+deeper : (k c : ℕ) (w u : List ℕ) → (32 == c) ≡ false → strip (indentation (suc k)) ((indentation k ++ (c ∷ w)) ++ u) ≡ None
+deeper zero c w u e = rw e refl
+deeper (suc k) c w u e = deeper k c w u e
+
+-- the end of a block on one line may follow an entry
+plain_follows : (kind : Kind) (k : ℕ) (place : Place) (u : List ℕ) → IsFollower (ending (frame Plain kind) (setting Plain k) (next place) ++ u)
+plain_follows Brackets k place u = after_place (λ p. IsFollower (ending (frame Plain Brackets) (setting Plain k) p ++ u)) (closer_follows 93 u refl) (closer_follows 93 u refl) place
+plain_follows Braces k place u = after_place (λ p. IsFollower (ending (frame Plain Braces) (setting Plain k) p ++ u)) (closer_follows 125 u refl) (closer_follows 125 u refl) place
+plain_follows Struct k place u = after_place (λ p. IsFollower (ending (frame Plain Struct) (setting Plain k) p ++ u)) (inr (refl, refl)) (inr (refl, refl)) place
+plain_follows Tuple k place u = after_place (λ p. IsFollower (ending (frame Plain Tuple) (setting Plain k) p ++ u)) (closer_follows 41 u refl) (closer_follows 41 u refl) place
+plain_follows Unnamed k place u = after_place (λ p. IsFollower (ending (frame Plain Unnamed) (setting Plain k) p ++ u)) (inl refl) (closer_follows 41 u refl) place
+
+-- where the end of a block is no other entry, with the parts of its frame
+Differs : Mode → ℕ → Kind → List ℕ → Place → Type 0
+Differs mode k kind u place = strip (lead (frame mode kind) (inside (setting mode k)) place) (ending (frame mode kind) (setting mode k) place ++ u) ≡ None
+
+-- the end of a block on one line isn't another entry
+plain_differs : (kind : Kind) (k : ℕ) (u : List ℕ) (place : Place) → Differs Plain k kind u (next place)
+unfolding Differs
+plain_differs Brackets k u place = after_place (Differs Plain k Brackets u) refl refl place
+plain_differs Braces k u place = after_place (Differs Plain k Braces u) refl refl place
+plain_differs Struct k u place = after_place (Differs Plain k Struct u) refl refl place
+plain_differs Tuple k u place = after_place (Differs Plain k Tuple u) refl refl place
+plain_differs Unnamed k u place = after_place (Differs Plain k Unnamed u) refl refl place
+
+-- the end of a block with an entry a line isn't another entry
+end_differs : (c k : ℕ) (u : List ℕ) → k + 1 ≤ 255 → (32 == c) ≡ false → strip (indentation (min (k + 1) 255)) ((indentation k ++ (c ∷ [])) ++ u) ≡ None
+end_differs c k u h e = let depth : min (k + 1) 255 ≡ suc k = omega arith in rw depth (deeper k c [] u e)
+
+-- so for each kind of block
+pretty_differs : (kind : Kind) (k : ℕ) (u : List ℕ) → k + 1 ≤ 255 → (place : Place) → Differs Pretty k kind u (next place)
+unfolding Differs
+pretty_differs Brackets k u h place = after_place (Differs Pretty k Brackets u) (end_differs 93 k u h refl) (end_differs 93 k u h refl) place
+pretty_differs Braces k u h place = after_place (Differs Pretty k Braces u) (end_differs 125 k u h refl) (end_differs 125 k u h refl) place
+pretty_differs Struct k u h place = after_place (Differs Pretty k Struct u) (end_differs 125 k u h refl) (end_differs 125 k u h refl) place
+pretty_differs Tuple k u h place = after_place (Differs Pretty k Tuple u) (end_differs 41 k u h refl) (end_differs 41 k u h refl) place
+pretty_differs Unnamed k u h place = after_place (Differs Pretty k Unnamed u) (end_differs 41 k u h refl) (end_differs 41 k u h refl) place
+
+-- each kind's ends can be told from another entry, and may follow an entry
+closes_at : (mode : Mode) (k : ℕ) (kind : Kind) → FitsAt mode k 1 → Closes (frame mode kind) (setting mode k)
+unfolding Differs
+closes_at Plain k kind h = record { follows = plain_follows kind k; differs = λ place u. plain_differs kind k u place }
+closes_at Pretty k kind h = record { follows = λ place u. inl refl; differs = λ place u. pretty_differs kind k u h place }
+
+-- the same of a mode and depth
+pub closes : (s : Setting) (kind : Kind) → Fits s 1 → Closes (frame s.mode kind) s
+closes s kind h = closes_at s.mode s.depth kind h
+
+-- behind an entry in braces stands no colon
+no_colon_at : (mode : Mode) (k : ℕ) (texts : List (List ℕ)) (u : List ℕ) → strip (codes ": ") (trail mode ++ (rest (frame mode Braces) (setting mode k) Second texts ++ u)) ≡ None
+no_colon_at Plain k [] u = refl
+no_colon_at Plain k (text ∷ texts) u = refl
+no_colon_at Pretty k texts u = refl
+
+-- the same of a mode and depth
+pub no_colon : (s : Setting) (texts : List (List ℕ)) (u : List ℕ) → strip (codes ": ") (trail s.mode ++ (rest (frame s.mode Braces) s Second texts ++ u)) ≡ None
+no_colon s texts u = no_colon_at s.mode s.depth texts u

@@ -1,0 +1,81 @@
+-- Rows of token documents in normal form, of pairs of them and of fields with them: words, nesting, normal form and texts.
+use Rattle.std.proofs.Common.{◌≡◌, refl, ap, ap₂, ℕ, ◌<◌, List, [], ◌∷◌, map, arith}
+use Rattle.ufmt_core.specs.Document.{Document, document, documents, pairs_of, fields_of, nest, nest_all, nest_pairs, nest_fields}
+use Rattle.ufmt_core.specs.Layout.{layout, texts, pair_texts, field_texts}
+use Rattle.ufmt_core.specs.declared.formatter.Setting.{Setting}
+use Rattle.ufmt.specs.Token.{IsWord, HasWords, HaveWords, PairsHaveWords, FieldsHaveWords, normal, normal_all, normal_pairs, normal_fields}
+use Rattle.ufmt.proofs.BlocksSound.{AreGood, IsGoodPair, pair_text}
+
+-- a token document in normal form that is nested less than the number
+pub record IsNormalBelow (n : ℕ) (d : Document) : Type 0 where
+  pub words : HasWords d
+  pub nests : nest d < n
+  pub is_normal : normal d ≡ d
+
+-- token documents in normal form in a row are a row of words
+pub documents_words : (n : ℕ) (ds : List Document) → AreGood (IsNormalBelow n) ds → HaveWords (documents ds)
+documents_words n [] h = tt
+documents_words n (d ∷ ds) h = (h.0.words, documents_words n ds h.1)
+
+-- a row in normal form
+pub documents_normal : (n : ℕ) (ds : List Document) → AreGood (IsNormalBelow n) ds → normal_all (documents ds) ≡ documents ds
+documents_normal n [] h = refl
+documents_normal n (d ∷ ds) h = ap₂ document h.0.is_normal (documents_normal n ds h.1)
+
+-- nested less than the number, as each of them is
+pub documents_nest : (n : ℕ) (ds : List Document) → AreGood (IsNormalBelow n) ds → 0 < n → nest_all (documents ds) < n
+documents_nest n [] h some = some
+documents_nest n (d ∷ ds) h some = let more = documents_nest n ds h.1 some in let first = h.0.nests in omega arith
+
+-- with the texts that they have
+pub documents_texts : (i : Setting) (ds : List Document) → texts i (documents ds) ≡ map (layout i) ds
+documents_texts i [] = refl
+documents_texts i (d ∷ ds) = ap (λ ts. layout i d ∷ ts) (documents_texts i ds)
+
+-- pairs of token documents in normal form
+abbrev pub ArePairsGood : ℕ → List (Document × Document) → Type 0
+ArePairsGood n ps = AreGood (IsGoodPair (IsNormalBelow n) (IsNormalBelow n)) ps
+
+-- pairs are of words
+pub pairs_words : (n : ℕ) (ps : List (Document × Document)) → ArePairsGood n ps → PairsHaveWords (pairs_of ps)
+pairs_words n [] h = tt
+pairs_words n (p ∷ ps) h = (h.0.0.words, h.0.1.words, pairs_words n ps h.1)
+
+-- in normal form
+pub pairs_normal : (n : ℕ) (ps : List (Document × Document)) → ArePairsGood n ps → normal_pairs (pairs_of ps) ≡ pairs_of ps
+pairs_normal n [] h = refl
+pairs_normal n (p ∷ ps) h = rw (h.0.0.is_normal, h.0.1.is_normal, pairs_normal n ps h.1) refl
+
+-- nested less than the number, as each of them is
+pub pairs_nest : (n : ℕ) (ps : List (Document × Document)) → ArePairsGood n ps → 0 < n → nest_pairs (pairs_of ps) < n
+pairs_nest n [] h some = some
+pairs_nest n (p ∷ ps) h some = let more = pairs_nest n ps h.1 some in let key = h.0.0.nests in let value = h.0.1.nests in omega arith
+
+-- with the texts that they have
+pub pairs_texts : (i : Setting) (ps : List (Document × Document)) → pair_texts i (pairs_of ps) ≡ map (pair_text (layout i) (layout i)) ps
+pairs_texts i [] = refl
+pairs_texts i (p ∷ ps) = ap (λ ts. pair_text (layout i) (layout i) p ∷ ts) (pairs_texts i ps)
+
+-- fields with a word and a token document in normal form
+abbrev pub AreFieldsGood : ℕ → List (List ℕ × Document) → Type 0
+AreFieldsGood n fs = AreGood (IsGoodPair IsWord (IsNormalBelow n)) fs
+
+-- fields are of words
+pub fields_words : (n : ℕ) (fs : List (List ℕ × Document)) → AreFieldsGood n fs → FieldsHaveWords (fields_of fs)
+fields_words n [] h = tt
+fields_words n (f ∷ fs) h = (h.0.0, h.0.1.words, fields_words n fs h.1)
+
+-- in normal form
+pub fields_normal : (n : ℕ) (fs : List (List ℕ × Document)) → AreFieldsGood n fs → normal_fields (fields_of fs) ≡ fields_of fs
+fields_normal n [] h = refl
+fields_normal n (f ∷ fs) h = rw (h.0.1.is_normal, fields_normal n fs h.1) refl
+
+-- nested less than the number, as each of them is
+pub fields_nest : (n : ℕ) (fs : List (List ℕ × Document)) → AreFieldsGood n fs → 0 < n → nest_fields (fields_of fs) < n
+fields_nest n [] h some = some
+fields_nest n (f ∷ fs) h some = let more = fields_nest n fs h.1 some in let value = h.0.1.nests in omega arith
+
+-- with the texts that they have
+pub fields_texts : (i : Setting) (fs : List (List ℕ × Document)) → field_texts i (fields_of fs) ≡ map (pair_text (λ w. w) (layout i)) fs
+fields_texts i [] = refl
+fields_texts i (f ∷ fs) = ap (λ ts. pair_text (λ w. w) (layout i) f ∷ ts) (fields_texts i fs)

@@ -1,0 +1,101 @@
+-- What is left of a block is read turn by turn: the number of turns may be forgotten.
+use Rattle.std.proofs.Common.{◌≡◌, refl, ap, ◌∙◌, ℕ, zero, suc, ◌<◌, ◌≤◌, List, ◌∷◌, ◌++◌, length, length-append, Option, Some, None, option_and_then, codes, arith}
+use Rattle.ufmt_core.specs.Document.{Document}
+use Rattle.ufmt_core.specs.Layout.{Frame, inside, lead, trail, next, layout}
+use Rattle.ufmt_core.specs.declared.formatter.Setting.{Setting}
+use Rattle.ufmt_core.specs.declared.formatter.block.Place.{Place}
+use Rattle.ufmt.specs.Reading.{Parse, choose, parse_map, strip, read_word, read_pair, read_turn, read_end, read_rest, read_others, read}
+use Rattle.ufmt.proofs.Parsing.{strip_found, led_from, mapped_from}
+use Rattle.ufmt.proofs.Words.{read_word_sound}
+use Rattle.ufmt.proofs.TokenLeaves.{word_begins}
+use Rattle.ufmt.proofs.BlocksComplete.{Begins}
+use Rattle.ufmt.proofs.TextsBegin.{document_begins}
+use Rattle.ufmt.proofs.ReadingSound.{read_sound}
+
+-- what is read takes at least one byte of the text
+pub record Takes {A : Type 0} (q : Parse A) : Type 0 where
+  pub takes : (t : List ℕ) (x : A) (u : List ℕ) → q t ≡ Some (x, u) → length u < length t
+
+-- a text that begins with no closer has a byte
+begins_takes : (t text u : List ℕ) → Begins text → t ≡ text ++ u → length u < length t
+begins_takes t text u b whole =
+    let front : length text ≡ suc (length b.tail) = ap length b.is in
+    rw (whole, length-append text u) (omega arith)
+
+-- what is left where a text was stripped is no longer
+strip_within : (text t u : List ℕ) → strip text t ≡ Some u → length u ≤ length t
+strip_within text t u h = rw (strip_found text t u h, length-append text u) (omega arith)
+
+-- a document takes a byte
+pub read_takes : (s : Setting) (n : ℕ) → Takes (read s n)
+read_takes s n = record { takes = λ t d u h. let found = read_sound n s t d u h in begins_takes t (layout s d) u (document_begins s d found.words) found.whole }
+
+-- a word takes a byte
+pub read_word_takes : Takes read_word
+read_word_takes = record { takes = λ t w u h. let found = read_word_sound t w u h in begins_takes t w u (word_begins w found.0) found.1 }
+
+-- a key and a value leave less than they were read from
+pair_takes : {A : Type 0} (key : Parse A) (p : Parse Document) → Takes key → Takes p → (t : List ℕ) (x : A × Document) (u : List ℕ) → read_pair key p t ≡ Some (x, u) → length u < length t
+pair_takes key p takes_key takes t x u h =
+    let first = led_from _ (key t) (x, u) h in
+    let behind = led_from _ (strip (codes ": ") first.0.1) (x, u) first.2 in
+    let value = mapped_from _ (p behind.0) x u behind.2 in
+    let a = takes_key.takes t first.0.0 first.0.1 first.1 in
+    let b = strip_within (codes ": ") first.0.1 behind.0 behind.1 in
+    let c = takes.takes behind.0 value.0 u value.1 in
+    omega arith
+
+-- so they take a byte, where keys and values do
+pub read_pair_takes : {A : Type 0} (key : Parse A) (p : Parse Document) → Takes key → Takes p → Takes (read_pair key p)
+read_pair_takes key p takes_key takes = record { takes = pair_takes key p takes_key takes }
+
+-- two functions that agree on the value of an option, if it has one, lead to the same
+same_choice : {A B : Type 0} (o : Option A) (f g : A → B) (b : B) → ((x : A) → o ≡ Some x → f x ≡ g x) → choose o f b ≡ choose o g b
+same_choice None f g b h = refl
+same_choice (Some x) f g b h = h x refl
+
+-- likewise where the option alone leads on
+same_next : {A B : Type 0} (o : Option A) (f g : A → Option B) → ((x : A) → o ≡ Some x → f x ≡ g x) → option_and_then f o ≡ option_and_then g o
+same_next None f g h = refl
+same_next (Some x) f g h = h x refl
+
+-- a turn does the same with what agrees on shorter texts
+turn_same : {A : Type 0} (q : Parse A) → Takes q → (f : Frame) (s : Setting) (place : Place) (more other : Parse (List A)) (t : List ℕ) → ((w : List ℕ) → length w < length t → more w ≡ other w) → choose (strip (lead f (inside s) place) t) (read_turn q s.mode more) (read_end f s place t) ≡ choose (strip (lead f (inside s) place) t) (read_turn q s.mode other) (read_end f s place t)
+turn_same q takes f s place more other t agree =
+    same_choice (strip (lead f (inside s) place) t) (read_turn q s.mode more) (read_turn q s.mode other) (read_end f s place t)
+    (λ v e. same_next (q v) _ _ (λ x r. same_next (strip (trail s.mode) x.1) _ _ (λ w k. ap (parse_map (λ xs. x.0 ∷ xs)) (agree w (shorter v e x r w k)))))
+  where
+    shorter : (v : List ℕ) → strip (lead f (inside s) place) t ≡ Some v → (x : _ × List ℕ) → q v ≡ Some x → (w : List ℕ) → strip (trail s.mode) x.1 ≡ Some w → length w < length t
+    shorter v e x r w k =
+        let a = strip_within (lead f (inside s) place) t v e in
+        let b = takes.takes v x.0 x.1 r in
+        let c = strip_within (trail s.mode) x.1 w k in
+        omega arith
+
+-- more turns than the text has bytes are as good as any such number
+turns_enough : {A : Type 0} (q : Parse A) → Takes q → (f : Frame) (s : Setting) (m n : ℕ) (place : Place) (t : List ℕ) → length t < m → length t < n → read_rest q f s place m t ≡ read_rest q f s place n t
+unfolding read_rest
+turns_enough q takes f s zero n place t lm ln = absurd (omega arith)
+turns_enough q takes f s (suc m) zero place t lm ln = absurd (omega arith)
+turns_enough q takes f s (suc m) (suc n) place t lm ln = turn_same q takes f s place (read_rest q f s (next place) m) (read_rest q f s (next place) n) t (λ w less. turns_enough q takes f s m n (next place) w (omega (arith, less)) (omega (arith, less)))
+
+-- so what is left of a block is an entry and what is left behind it, or the end
+pub read_others-read_turn : {A : Type 0} (q : Parse A) → Takes q → (f : Frame) (s : Setting) (place : Place) (t : List ℕ) → read_others q f s place t ≡ choose (strip (lead f (inside s) place) t) (read_turn q s.mode (read_others q f s (next place))) (read_end f s place t)
+unfolding read_rest
+read_others-read_turn q takes f s place t = turn_same q takes f s place (read_rest q f s (next place) (length t)) (read_others q f s (next place)) t (λ w less. turns_enough q takes f s (length t) (suc (length w)) (next place) w less (omega arith))
+
+-- an entry that was read, with what stands round it, goes in front of what is left behind it
+pub read_others-entry : {A : Type 0} (q : Parse A) → Takes q → (f : Frame) (s : Setting) (place : Place) (t v w : List ℕ) (x : A) (u : List ℕ) → strip (lead f (inside s) place) t ≡ Some v → q v ≡ Some (x, w) → strip (trail s.mode) w ≡ Some u → read_others q f s place t ≡ parse_map (λ xs. x ∷ xs) (read_others q f s (next place) u)
+read_others-entry q takes f s place t v w x u before entry after = read_others-read_turn q takes f s place t ∙ rw (before, entry, after) refl
+
+-- where no entry stands there is the end
+pub read_others-read_end : {A : Type 0} (q : Parse A) → Takes q → (f : Frame) (s : Setting) (place : Place) (t : List ℕ) → strip (lead f (inside s) place) t ≡ None → read_others q f s place t ≡ read_end f s place t
+read_others-read_end q takes f s place t before = read_others-read_turn q takes f s place t ∙ rw before refl
+
+-- where what should be an entry is none, nothing is read
+pub read_others-no_entry : {A : Type 0} (q : Parse A) → Takes q → (f : Frame) (s : Setting) (place : Place) (t v : List ℕ) → strip (lead f (inside s) place) t ≡ Some v → q v ≡ None → read_others q f s place t ≡ None
+read_others-no_entry q takes f s place t v before entry = read_others-read_turn q takes f s place t ∙ rw (before, entry) refl
+
+-- likewise where what should stand after an entry doesn't
+pub read_others-no_trail : {A : Type 0} (q : Parse A) → Takes q → (f : Frame) (s : Setting) (place : Place) (t v w : List ℕ) (x : A) → strip (lead f (inside s) place) t ≡ Some v → q v ≡ Some (x, w) → strip (trail s.mode) w ≡ None → read_others q f s place t ≡ None
+read_others-no_trail q takes f s place t v w x before entry after = read_others-read_turn q takes f s place t ∙ rw (before, entry, after) refl

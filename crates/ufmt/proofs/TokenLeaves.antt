@@ -1,0 +1,64 @@
+-- All that is known of a leaf that can be read again: how it begins, that it is read, and that what is read as one is one.
+use Rattle.std.proofs.Common.{◌≡◌, ◌⊎◌, inl, inr, refl, ap, sym, ◌∙◌, ℕ, List, [], ◌∷◌, ◌++◌, Some, None, codes, append_assoc}
+use Rattle.ufmt_core.specs.Document.{Document, leaf}
+use Rattle.ufmt_core.specs.Layout.{inside, gap, new_line}
+use Rattle.ufmt_core.specs.declared.formatter.Setting.{Setting}
+use Rattle.ufmt.specs.Token.{IsWord, IsTokenLeaf, IsFollower}
+use Rattle.ufmt.specs.Reading.{Parse, strip, read_word, read_symbol, read_named, read_with}
+use Rattle.ufmt.proofs.Parsing.{beside_from, strip_found}
+use Rattle.ufmt.proofs.Words.{StopsWord, follower_stops, is_word_byte-is_closer, word_of-append, after_word-append, read_word_complete}
+use Rattle.ufmt.proofs.BlocksComplete.{Begins, IsRead}
+use Rattle.ufmt.proofs.FramesClose.{closer_begins_none, follower_no_tuple, follower_no_struct}
+
+-- a word begins with no closer
+pub word_begins : (w : List ℕ) → IsWord w → Begins w
+word_begins [] h = absurd h
+word_begins (c ∷ w) h = record { first = c; tail = w; is = refl; no_closer = is_word_byte-is_closer c h.0 }
+
+-- nor does a leaf
+pub leaf_begins : (text : List ℕ) → IsTokenLeaf text → Begins text
+leaf_begins text h = go h.shape
+  where
+    go : IsWord text ⊎ (text ≡ codes "()") → Begins text
+    go (inl w) = word_begins text w
+    go (inr e) = record { first = 40; tail = codes ")"; is = e; no_closer = refl }
+
+-- a word is a leaf
+pub word_leaf : (w : List ℕ) → IsWord w → IsTokenLeaf w
+word_leaf w h = record { shape = inl h }
+
+-- the word before a field's colon is read
+pub label_complete : (w : List ℕ) → IsWord w → IsRead read_word w w
+label_complete w h = record { begins = word_begins w h; reads = λ u follows. read_word_complete w u h (follower_stops u follows) }
+
+-- what begins with a word is read by what stands behind it
+at_word : (s : Setting) (p : Parse Document) (w u : List ℕ) → IsWord w → StopsWord u → read_with s p (w ++ u) ≡ read_named s p w u
+at_word s p [] u h stops = absurd h
+at_word s p (c ∷ w) u h stops = rw (word_of-append (c ∷ w) u h stops, after_word-append (c ∷ w) u h stops) refl
+
+-- the same where the text is in two parts
+pub word_leads : (s : Setting) (p : Parse Document) (w t u : List ℕ) → IsWord w → StopsWord (t ++ u) → read_with s p ((w ++ t) ++ u) ≡ read_named s p w (t ++ u)
+word_leads s p w t u h stops = ap (read_with s p) (append_assoc w t u) ∙ at_word s p w (t ++ u) h stops
+
+-- a name before a follower is a leaf
+name_alone : (s : Setting) (p : Parse Document) (w u : List ℕ) → IsWord w → IsFollower u → read_named s p w u ≡ Some (leaf w, u)
+name_alone s p [] u h follows = absurd h
+name_alone s p (c ∷ w) u h follows = rw (follower_no_tuple u (new_line (inside s).mode (inside s).depth) follows, follower_no_struct u (gap s.mode ++ new_line (inside s).mode (inside s).depth) follows) refl
+
+-- a leaf before a follower is read
+pub leaf_complete : (s : Setting) (p : Parse Document) (text u : List ℕ) → IsTokenLeaf text → IsFollower u → read_with s p (text ++ u) ≡ Some (leaf text, u)
+leaf_complete s p text u h follows = go h.shape
+  where
+    go : IsWord text ⊎ (text ≡ codes "()") → read_with s p (text ++ u) ≡ Some (leaf text, u)
+    go (inl w) = at_word s p text u w (follower_stops u follows) ∙ name_alone s p text u w follows
+    go (inr e) = rw e refl
+
+-- a leaf that is no word isn't an opening parenthesis before an entry
+pub no_symbol : {t : List ℕ} → Begins t → read_symbol (40 ∷ t) ≡ None
+no_symbol b = rw (closer_begins_none 41 [] refl b) refl
+
+-- what is read as a leaf that is no word is a leaf
+pub read_symbol_sound : (t text u : List ℕ) → read_symbol t ≡ Some (text, u) → IsTokenLeaf text × (t ≡ text ++ u)
+read_symbol_sound t text u h =
+    let from = beside_from (codes "()") (strip (codes "()") t) text u h in
+    (record { shape = inr (sym from.1) }, strip_found (codes "()") t u from.0 ∙ ap (λ w. w ++ u) from.1)

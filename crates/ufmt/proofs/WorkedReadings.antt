@@ -1,0 +1,71 @@
+-- The readings of some texts, computed.
+use Rattle.std.proofs.Common.{◌≡◌, [], codes, Some, None, refl}
+use Rattle.ufmt_core.specs.Document.{Document, leaf, list_of, set_of, map_of, struct_of, tuple_of, Documents, no_documents, document, no_pairs, pair, no_fields, field}
+use Rattle.ufmt_core.specs.declared.formatter.Mode.TheVariants.{Plain, Pretty}
+use Rattle.ufmt.specs.Reading.{read, read_rest, read_text}
+
+abbrev one : Document
+one = leaf (codes "1")
+
+abbrev lone : Document → Documents
+lone d = document d no_documents
+
+-- a list of an empty list and a list of one number
+abbrev lists : Document
+lists = list_of (document (list_of no_documents) (lone (list_of (lone one))))
+
+lists-plain : read_text Plain (codes "[[], [1]]") ≡ Some lists
+unfolding read read_rest
+lists-plain = refl
+
+lists-pretty : read_text Pretty (codes "[\n    [],\n    [\n        1,\n    ],\n]") ≡ Some lists
+unfolding read read_rest
+lists-pretty = refl
+
+-- the empty set is read as the empty map, and braces with a colon are a map
+braces-plain : read_text Plain (codes "{}") ≡ Some (map_of no_pairs)
+unfolding read read_rest
+braces-plain = refl
+
+set-plain : read_text Plain (codes "{a}") ≡ Some (set_of (lone (leaf (codes "a"))))
+unfolding read read_rest
+set-plain = refl
+
+map-plain : read_text Plain (codes "{a: {}, (): [1]}") ≡ Some (map_of (pair (leaf (codes "a")) (map_of no_pairs) (pair (leaf (codes "()")) (list_of (lone one)) no_pairs)))
+unfolding read read_rest
+map-plain = refl
+
+-- a struct without fields is read as the leaf of its name
+struct-plain : read_text Plain (codes "S { x: -1, y: N }") ≡ Some (struct_of (codes "S") (field (codes "x") (leaf (codes "-1")) (field (codes "y") (leaf (codes "N")) no_fields)))
+unfolding read read_rest
+struct-plain = refl
+
+struct-pretty : read_text Pretty (codes "S {\n    x: (\n        1,\n    ),\n}") ≡ Some (struct_of (codes "S") (field (codes "x") (tuple_of [] (lone one)) no_fields))
+unfolding read read_rest
+struct-pretty = refl
+
+-- the only field of a tuple without a name has a comma, and that of one with a name has none
+tuples-plain : read_text Plain (codes "P((1,))") ≡ Some (tuple_of (codes "P") (lone (tuple_of [] (lone one))))
+unfolding read read_rest
+tuples-plain = refl
+
+no_comma : read_text Plain (codes "(1)") ≡ None
+unfolding read read_rest
+no_comma = refl
+
+no_space : read_text Plain (codes "[1,1]") ≡ None
+unfolding read read_rest
+no_space = refl
+
+more_space : read_text Plain (codes "[1] ") ≡ None
+unfolding read read_rest
+more_space = refl
+
+no_text : read_text Plain [] ≡ None
+unfolding read read_rest
+no_text = refl
+
+-- a pretty text is no plain one
+not_plain : read_text Plain (codes "[\n    1,\n]") ≡ None
+unfolding read read_rest
+not_plain = refl

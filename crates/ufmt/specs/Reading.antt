@@ -1,0 +1,166 @@
+-- Reading a token document from the front of a text: what the readers of plain and of pretty texts compute.
+use Rattle.std.specs.Prelude.{ℕ, zero, suc, length, cond, ◌==◌, List, [], ◌∷◌, codes, Option, Some, None, option_map, option_and_then}
+use Rattle.ufmt_core.specs.Document.{Document, leaf, list_of, set_of, map_of, struct_of, tuple_of, no_documents, no_pairs, documents, pairs_of, fields_of}
+use Rattle.ufmt_core.specs.Layout.{Frame, frame, tuple_kind, setting, inside, lead, ending, trail, next}
+use Rattle.ufmt_core.specs.declared.formatter.Mode.{Mode}
+use Rattle.ufmt_core.specs.declared.formatter.Setting.{Setting}
+use Rattle.ufmt_core.specs.declared.formatter.block.Kind.TheVariants.{Brackets, Braces, Struct, Unnamed}
+use Rattle.ufmt_core.specs.declared.formatter.block.Place.{Place}
+use Rattle.ufmt_core.specs.declared.formatter.block.Place.TheVariants.{First, Second}
+use Rattle.ufmt.specs.Token.{is_word_byte}
+
+-- a value that stands at the front of a text, with what follows it; None where none stands there
+abbrev pub Parse : Type 0 → Type 0
+Parse A = List ℕ → Option (A × List ℕ)
+
+-- a case on an option
+abbrev pub choose : {A B : Type 0} → Option A → (A → B) → B → B
+choose None f b = b
+choose (Some x) f b = f x
+
+-- a function of the value that was read
+abbrev pub parse_map : {A B : Type 0} → (A → B) → Option (A × List ℕ) → Option (B × List ℕ)
+parse_map f o = option_map (λ x. (f x.0, x.1)) o
+
+-- what follows the first text where the second begins with it
+abbrev pub strip : List ℕ → List ℕ → Option (List ℕ)
+strip [] t = Some t
+strip (c ∷ text) [] = None
+strip (c ∷ text) (b ∷ t) = cond (c == b) (strip text t) None
+
+-- the word bytes at the front
+abbrev pub word_of : List ℕ → List ℕ
+word_of [] = []
+word_of (c ∷ t) = cond (is_word_byte c) (c ∷ word_of t) []
+
+-- what follows them
+abbrev pub after_word : List ℕ → List ℕ
+after_word [] = []
+after_word (c ∷ t) = cond (is_word_byte c) (after_word t) (c ∷ t)
+
+-- this word and what follows it, unless it is empty
+abbrev pub if_word : List ℕ → List ℕ → Option (List ℕ × List ℕ)
+if_word [] t = None
+if_word (c ∷ word) t = Some (c ∷ word, t)
+
+-- a word
+abbrev pub read_word : Parse (List ℕ)
+read_word t = if_word (word_of t) (after_word t)
+
+-- a leaf that is no word
+abbrev pub read_symbol : Parse (List ℕ)
+read_symbol t = option_map (λ u. (codes "()", u)) (strip (codes "()") t)
+
+-- a value behind a colon and a space, beside this key
+abbrev pub read_value : {A : Type 0} → Parse Document → A → Parse (A × Document)
+read_value p key t = option_and_then (λ u. parse_map (λ value. (key, value)) (p u)) (strip (codes ": ") t)
+
+-- a key and its value
+abbrev pub read_pair : {A : Type 0} → Parse A → Parse Document → Parse (A × Document)
+read_pair key p t = option_and_then (λ x. read_value p x.0 x.1) (key t)
+
+-- this entry and what `more` reads behind what stands after an entry
+abbrev pub read_after_entry : {A : Type 0} → Mode → Parse (List A) → A → Parse (List A)
+read_after_entry mode more x t = option_and_then (λ u. parse_map (λ xs. x ∷ xs) (more u)) (strip (trail mode) t)
+
+-- an entry and those that `more` reads
+abbrev pub read_turn : {A : Type 0} → Parse A → Mode → Parse (List A) → Parse (List A)
+read_turn q mode more t = option_and_then (λ x. read_after_entry mode more x.0 x.1) (q t)
+
+-- the end of a block, and no entry
+abbrev pub read_end : {A : Type 0} → Frame → Setting → Place → Parse (List A)
+read_end f s place t = option_map (λ u. ([], u)) (strip (ending f s place) t)
+
+-- what is left of a block whose entries `q` reads, from this place on, with fewer entries than the number
+unfoldable pub read_rest : {A : Type 0} → Parse A → Frame → Setting → Place → ℕ → Parse (List A)
+read_rest q f s place zero t = None
+read_rest q f s place (suc n) t = choose (strip (lead f (inside s) place) t) (read_turn q s.mode (read_rest q f s (next place) n)) (read_end f s place t)
+
+-- the same with as many entries as there are
+abbrev pub read_others : {A : Type 0} → Parse A → Frame → Setting → Place → Parse (List A)
+read_others q f s place t = read_rest q f s place (suc (length t)) t
+
+-- a block behind its first entry, this one
+abbrev pub read_after_first : {A : Type 0} → Parse A → Frame → Setting → (List A → Document) → A → Parse Document
+read_after_first q f s make x t = parse_map make (read_after_entry s.mode (read_others q f s Second) x t)
+
+-- a block behind what stands before its first entry
+abbrev pub read_entries : {A : Type 0} → Parse A → Frame → Setting → (List A → Document) → Parse Document
+read_entries q f s make t = option_and_then (λ x. read_after_first q f s make x.0 x.1) (q t)
+
+-- a block with entries behind its opening
+abbrev pub read_block : {A : Type 0} → Parse A → Frame → Setting → (List A → Document) → Parse Document
+read_block q f s make t = option_and_then (read_entries q f s make) (strip (lead f (inside s) First) t)
+
+-- a list behind its opening, where `p` reads its entries
+abbrev pub read_list : Setting → Parse Document → Parse Document
+read_list s p t = choose (strip (frame s.mode Brackets).empty t) (λ u. Some (list_of no_documents, u)) (read_block p (frame s.mode Brackets) s (λ ds. list_of (documents ds)) t)
+
+-- a map behind its first key
+abbrev pub read_map : Setting → Parse Document → Document → Parse Document
+read_map s p key t = option_and_then (λ x. read_after_first (read_pair p p) (frame s.mode Braces) s (λ ps. map_of (pairs_of ps)) x.0 x.1) (read_value p key t)
+
+-- a set behind its first entry
+abbrev pub read_set : Setting → Parse Document → Document → Parse Document
+read_set s p d t = read_after_first p (frame s.mode Braces) s (λ ds. set_of (documents ds)) d t
+
+-- a map where a colon and a space stand, or else a set
+abbrev pub read_map_or_set : Setting → Parse Document → Document → Parse Document
+read_map_or_set s p d t = choose (strip (codes ": ") t) (λ u. read_map s p d t) (read_set s p d t)
+
+-- a set or a map with entries behind its opening
+abbrev pub read_braced_entries : Setting → Parse Document → Parse Document
+read_braced_entries s p t = option_and_then (λ u. option_and_then (λ x. read_map_or_set s p x.0 x.1) (p u)) (strip (lead (frame s.mode Braces) (inside s) First) t)
+
+-- a set or a map behind its opening
+abbrev pub read_braces : Setting → Parse Document → Parse Document
+read_braces s p t = choose (strip (frame s.mode Braces).empty t) (λ u. Some (map_of no_pairs, u)) (read_braced_entries s p t)
+
+-- a tuple with this name behind what stands before its first field
+abbrev pub read_tuple : Setting → Parse Document → List ℕ → Parse Document
+read_tuple s p name t = read_entries p (frame s.mode (tuple_kind name)) s (λ ds. tuple_of name (documents ds)) t
+
+-- a struct with this name behind what stands before its first field
+abbrev pub read_struct : Setting → Parse Document → List ℕ → Parse Document
+read_struct s p name t = read_entries (read_pair read_word p) (frame s.mode Struct) s (λ fs. struct_of name (fields_of fs)) t
+
+-- a tuple without a name
+abbrev pub read_unnamed : Setting → Parse Document → Parse Document
+read_unnamed s p t = option_and_then (read_tuple s p []) (strip (lead (frame s.mode Unnamed) (inside s) First) t)
+
+-- what begins with no word
+abbrev pub read_without_name : Setting → Parse Document → Parse Document
+read_without_name s p t =
+    choose (strip (frame s.mode Brackets).opening t) (read_list s p)
+    (choose (strip (frame s.mode Braces).opening t) (read_braces s p)
+    (choose (read_symbol t) (λ x. Some (leaf x.0, x.1)) (read_unnamed s p t)))
+
+-- what begins with this word, behind the word
+abbrev pub read_named : Setting → Parse Document → List ℕ → Parse Document
+read_named s p name t =
+    choose (strip (lead (frame s.mode (tuple_kind name)) (inside s) First) t) (read_tuple s p name)
+    (choose (strip (lead (frame s.mode Struct) (inside s) First) t) (read_struct s p name)
+    (Some (leaf name, t)))
+
+-- the text `t`, whose longest word stands before `u`: by the word, or as what has none
+abbrev pub read_by_word : Setting → Parse Document → List ℕ → List ℕ → List ℕ → Option (Document × List ℕ)
+read_by_word s p t [] u = read_without_name s p t
+read_by_word s p t (c ∷ word) u = read_named s p (c ∷ word) u
+
+-- a document, where `p` reads the entries of its block
+abbrev pub read_with : Setting → Parse Document → Parse Document
+read_with s p t = read_by_word s p t (word_of t) (after_word t)
+
+-- a document at this mode and depth, whose blocks with entries lie no deeper than the number
+unfoldable pub read : Setting → ℕ → Parse Document
+read s zero t = read_with s (λ u. None) t
+read s (suc n) t = read_with s (read (inside s) n) t
+
+-- a document after which nothing is left
+abbrev pub if_all : Document → List ℕ → Option Document
+if_all d [] = Some d
+if_all d (c ∷ t) = None
+
+-- the normal form of the token document that has this text in this mode; None where there is none
+abbrev pub read_text : Mode → List ℕ → Option Document
+read_text mode t = option_and_then (λ x. if_all x.0 x.1) (read (setting mode 0) 255 t)
