@@ -10,9 +10,9 @@ pub mod Shifting
 pub mod Token
 pub use Rattle.ufmt_core.specs.Block
 pub use Rattle.ufmt_core.specs.Builder
-pub use Rattle.ufmt_core.specs.Core
 pub use Rattle.ufmt_core.specs.Decimal
 pub use Rattle.ufmt_core.specs.Document
 pub use Rattle.ufmt_core.specs.Formatter
 pub use Rattle.ufmt_core.specs.Layout
+pub use Rattle.ufmt_core.specs.Words
 pub use Rattle.ufmt_core.specs.Writes

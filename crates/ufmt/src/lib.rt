@@ -4,6 +4,7 @@
 
 mod cursor;
 mod display;
+mod fields;
 mod hex;
 pub mod laws;
 mod pieces;
@@ -15,5 +16,6 @@ pub use display::uDisplay;
 pub use hex::{HexOptions, uDisplayHex};
 pub use pieces::fmt_pretty;
 pub use ufmt_core::{
-    DebugList, DebugMap, DebugSet, DebugStruct, DebugTuple, Formatter, uDebug, uWrite, unsigned,
+    DebugList, DebugMap, DebugSet, DebugStruct, DebugTuple, Formatter, NamedFields, UnnamedFields,
+    uDebug, uWrite, unsigned,
 };

@@ -1,8 +1,8 @@
 -- How the calls of a builder make up the parts of its block.
-use Rattle.std.proofs.Common.{◌≡◌, ℕ, List, [], ◌∷◌, ◌++◌, Bool, true, false, is_ok, Result, Ok, Err, OnOk, OnErr, IsOk, IfErr, codes, refl, ap, sym, ◌∙◌, subst, map, append_assoc, append-nil}
+use Rattle.std.proofs.Common.{◌≡◌, ℕ, List, [], ◌∷◌, ◌++◌, Bool, true, false, is_ok, Result, Ok, Err, OnOk, OnErr, IsOk, IfErr, codes, ◌+◌, ◌<◌, length, take, get_or, refl, ap, sym, ◌∙◌, subst, map, append_assoc, append-nil}
 use Rattle.std.specs.Prelude.{Option}
 use Rattle.std.specs.Iterator.{AlwaysYields}
-use Rattle.std.proofs.lemmas.List.{map-append}
+use Rattle.std.proofs.lemmas.List.{map-append, take_more}
 use Rattle.std.proofs.lemmas.Simd.{map-map}
 use Rattle.ufmt_core.specs.declared.formatter.Setting.{Setting}
 use Rattle.ufmt_core.specs.declared.formatter.Formatter.{Formatter}
@@ -13,9 +13,9 @@ use Rattle.ufmt_core.specs.Document.{Document}
 use Rattle.ufmt_core.specs.Layout.{Frame, frame, inside, layout, lead, next, rest, trail}
 use Rattle.ufmt_core.specs.Writes.{Seen, Writes}
 use Rattle.ufmt_core.specs.Formatter.{LaysOut, Prints, setting_of, writer_of}
-use Rattle.ufmt_core.specs.Block.{Block, Same, Part, Entry, Entries, Abandonment, EntryEnd, Closing, After, Stop, framed, framed_all, frame_of, inner, lead_of, pair_text, place_after, trail_of}
+use Rattle.ufmt_core.specs.Block.{Block, Same, Part, Entry, Row, Entries, Abandonment, EntryEnd, Closing, After, IsOpen, Stop, framed, framed_all, frame_of, inner, lead_of, pair_text, place_after, trail_of}
 use Rattle.ufmt_core.proofs.Items.{AlwaysYields-front, AlwaysYields-end}
-use Rattle.ufmt_core.proofs.Writing.{Writes-then, Writes-fails, Prints-then}
+use Rattle.ufmt_core.proofs.Writing.{Writes-then, Writes-fails, Writes-nothing, Prints-then}
 
 module _ {W : Type 0} where
   pub Same-then : {old mid new : Block W} → Same old mid → Same mid new → Same old new
@@ -92,19 +92,23 @@ module _ {W E : Type 0} {seen : Seen W} (old : Block W) {new : Block W} {begun :
   Entry-no_value_lent (Ok x) p l stop error =
       let laid = subst (λ (s : Setting). Writes seen (writer_of begun) (layout s key) true (writer_of ended)) p.same_setting l.prints.wrote in
       let whole : (layout (inner old) key ++ (codes ": " ++ layout (inner old) value)) ++ trail_of old ≡ (layout (inner old) key ++ codes ": ") ++ (layout (inner old) value ++ trail_of old) = simp append_assoc in
-      record { part = record {
-        wrote = rw whole (Writes-then p.wrote (Writes-fails _ (Writes-then laid stop.wrote)));
-        same = record { reference = stop.same.reference; kind = stop.same.kind; outer = stop.same.outer };
-        after = stop.after;
-      } }
+      record {
+        part = record {
+          wrote = rw whole (Writes-then p.wrote (Writes-fails _ (Writes-then laid stop.wrote)));
+          same = record { reference = stop.same.reference; kind = stop.same.kind; outer = stop.same.outer };
+          after = stop.after;
+        };
+      }
   Entry-no_value_lent (Err x) p l stop error =
       let laid = subst (λ (s : Setting). Writes seen (writer_of begun) (layout s key) false (writer_of ended)) p.same_setting l.prints.wrote in
       let whole = append_assoc (layout (inner old) key) (codes ": " ++ layout (inner old) value) (trail_of old) in
-      record { part = record {
-        wrote = rw (whole, error.same_writer) (Writes-then p.wrote (Writes-fails _ laid));
-        same = record { reference = error.same.reference; kind = error.same.kind; outer = error.same.outer };
-        after = error.after;
-      } }
+      record {
+        part = record {
+          wrote = rw (whole, error.same_writer) (Writes-then p.wrote (Writes-fails _ laid));
+          same = record { reference = error.same.reference; kind = error.same.kind; outer = error.same.outer };
+          after = error.after;
+        };
+      }
 
   pub Entry-no_value : {mid : Block W} (answer : Result (Unit {0}) E) → mid ≡ lent_to Lent old ended → Prints seen old.formatter (lead_of old) true begun → LaysOut seen begun key (is_ok answer) ended →
       OnOk answer (Stop seen mid (codes ": ") new) → OnErr answer (Abandonment mid new) → Entry seen old (pair_text key value) false new
@@ -142,32 +146,39 @@ place_after-append : {X : Type 0} (place : Place) (xs : List X) (x : X) → plac
 place_after-append place [] x = refl
 place_after-append place (y ∷ xs) x = place_after-append (next place) xs x
 
-module _ {W D : Type 0} {seen : Seen W} where
+module _ {W D : Type 0} {seen : Seen W} (text_of : D → Setting → List ℕ) where
+  -- no entry yet
+  pub Row-none : (b : Block W) → IsOpen b → Row seen b text_of [] true b
+  Row-none b open_b = record { part = record { wrote = Writes-nothing _; same = record { reference = refl; kind = refl; outer = refl }; after = (refl, open_b, refl) } }
+
   -- after some entries, one more
-  pub Part-more : {old mid new : Block W} (text_of : D → Setting → List ℕ) (xs : List D) (y : D) {ok : Bool} →
-      Part seen old (framed_all (frame_of old) (inner old) old.place (map (λ x. text_of x (inner old)) xs)) true (place_after old.place xs) mid → Entry seen mid (text_of y) ok new →
-      Part seen old (framed_all (frame_of old) (inner old) old.place (map (λ x. text_of x (inner old)) (xs ++ y ∷ []))) ok (place_after old.place (xs ++ y ∷ [])) new
-  Part-more {old} {mid} {new} text_of xs y {ok} a e =
+  pub Row-more : {old mid new : Block W} (xs : List D) (y : D) (ok : Bool) → Row seen old text_of xs true mid → Entry seen mid (text_of y) ok new → Row seen old text_of (xs ++ y ∷ []) ok new
+  Row-more {old} {mid} {new} xs y ok a e =
       let texts = map (λ x. text_of x (inner old)) xs in
       let part : framed_all (frame_of old) (inner old) old.place (map (λ x. text_of x (inner old)) (xs ++ y ∷ [])) ≡
       framed_all (frame_of old) (inner old) old.place texts ++ framed (frame_of mid) (inner mid) mid.place (text_of y (inner mid)) =
       ap (λ ts. framed_all (frame_of old) (inner old) old.place ts) (map-append (λ x. text_of x (inner old)) xs (y ∷ []))
       ∙ framed_all-append (frame_of old) (inner old) old.place texts (text_of y (inner old) ∷ [])
       ∙ ap (λ t. framed_all (frame_of old) (inner old) old.place texts ++ t)
-      (append-nil _ ∙ rw (a.after.2, a.same.kind, a.after.0, place_after-map (λ x. text_of x (inner old)) old.place xs) refl) in
-      rw (part, place_after-append old.place xs y, sym a.after.0) (Part-then a e.part)
+      (append-nil _ ∙ rw (a.part.after.2, a.part.same.kind, a.part.after.0, place_after-map (λ x. text_of x (inner old)) old.place xs) refl) in
+      record { part = rw (part, place_after-append old.place xs y, sym a.part.after.0) (Part-then a.part e.part) }
+
+  -- after the first entries of a list, the next
+  pub Row-next : {old mid new : Block W} (whole : List D) (k : ℕ) (y : D) (ok : Bool) → k < length whole → y ≡ get_or whole k y → Row seen old text_of (take k whole) true mid → Entry seen mid (text_of y) ok new →
+      Row seen old text_of (take (k + 1) whole) ok new
+  Row-next {old} {mid} {new} whole k y ok within is a e =
+      subst (λ (xs : List D). Row seen old text_of xs ok new) (ap (λ z. take k whole ++ z ∷ []) is ∙ sym (take_more whole k y within)) (Row-more (take k whole) y ok a e)
 
 module _ {W U T D Y : Type 0} {seen : Seen W} {becomes : U → T → Type 0} {steps : T → Option D → T → Type 0} (view : D → Y) (text_of : Y → Setting → List ℕ) where
   -- where every run of the iterator gives items that `view` takes to `ys`, their entries were written, or a beginning of them
-  pub Part-from_entries : (entries : U) (ys : List Y) {old new : Block W} (ok : Bool) →
-      ((it : T) → becomes entries it → AlwaysYields steps view it ys) → Entries seen becomes steps (λ x. text_of (view x)) entries old ok new →
-      Part seen old (framed_all (frame_of old) (inner old) old.place (map (λ y. text_of y (inner old)) ys)) ok (place_after old.place ys) new
-  Part-from_entries entries ys {old} {new} true yields a =
+  pub Row-from_entries : (entries : U) (ys : List Y) {old new : Block W} (ok : Bool) →
+      ((it : T) → becomes entries it → AlwaysYields steps view it ys) → Entries seen becomes steps (λ x. text_of (view x)) entries old ok new → Row seen old text_of ys ok new
+  Row-from_entries entries ys {old} {new} true yields a =
       let run = AlwaysYields-front steps view a.iterator a.drains.0 a.items ys a.drains.1 (yields a.iterator a.begins) in
       let end = a.drains.2 refl in
       let all : ys ≡ map view a.items = run.1 ∙ ap (λ zs. map view a.items ++ zs) (AlwaysYields-end steps view a.drains.0 end.0 run.0 end.1 run.2) ∙ append-nil _ in
-      rw (all, map-map (λ y. text_of y (inner old)) view a.items, place_after-map view old.place a.items) a.part
-  Part-from_entries entries ys {old} {new} false yields a =
+      record { part = rw (all, map-map (λ y. text_of y (inner old)) view a.items, place_after-map view old.place a.items) a.row.part }
+  Row-from_entries entries ys {old} {new} false yields a =
       let run = AlwaysYields-front steps view a.iterator a.drains.0 a.items ys a.drains.1 (yields a.iterator a.begins) in
       let text : Y → List ℕ = λ y. text_of y (inner old) in
       let texts = map (λ x. text (view x)) a.items in
@@ -175,4 +186,4 @@ module _ {W U T D Y : Type 0} {seen : Seen W} {becomes : U → T → Type 0} {st
       framed_all (frame_of old) (inner old) old.place texts ++ framed_all (frame_of old) (inner old) (place_after old.place texts) (map text run.0) =
       ap (λ ts. framed_all (frame_of old) (inner old) old.place ts) (ap (map text) run.1 ∙ map-append text (map view a.items) run.0 ∙ ap (λ ts. ts ++ map text run.0) (map-map text view a.items))
       ∙ framed_all-append (frame_of old) (inner old) old.place texts (map text run.0) in
-      rw front (Part-fails _ a.part)
+      record { part = rw front (Part-fails _ a.row.part) }

@@ -1,6 +1,8 @@
 -- The steps by which a `fmt` is proved, one for each call of a builder: what is left to write before the call, and what is left after it.
-use Rattle.std.proofs.Common.{◌≡◌, ℕ, List, [], ◌∷◌, ◌++◌, Bool, true, false, codes, is_ok, Result, Err, OnErr, refl, ap, sym, ◌∙◌, subst, map, Iter, append_assoc, append-nil}
+use Rattle.std.proofs.Common.{◌≡◌, ℕ, List, [], ◌∷◌, ◌++◌, Bool, true, false, codes, is_ok, Result, Err, OnErr, refl, ap, sym, ◌∙◌, subst, map, Iter, ◌≤◌, length, take, drop, append_assoc, append-nil}
 use Rattle.std.specs.Prelude.{IsErr}
+use Rattle.std.proofs.lemmas.List.{map-append, take-append-drop, take_all}
+use Rattle.std.proofs.lemmas.Simd.{map-map}
 use Rattle.std.proofs.lemmas.Result.{IfErr-at_err}
 use Rattle.std.specs.Slice.Iter.{iter_rest, iter_steps}
 use Rattle.ufmt_core.specs.declared.formatter.Setting.{Setting}
@@ -16,9 +18,9 @@ use Rattle.ufmt_core.specs.Document.{Document, list_of, set_of, map_of, struct_o
 use Rattle.ufmt_core.specs.Layout.{frame, inside, layout, next, rest, texts, pair_texts, tuple_kind}
 use Rattle.ufmt_core.specs.Writes.{Seen, Writes}
 use Rattle.ufmt_core.specs.Formatter.{Prints, LaysOut, setting_of, writer_of}
-use Rattle.ufmt_core.specs.Block.{Block, Closing, Entries, Entry, EntryEnd, IsInside, Opening, Part, Stop, ending_of, entries_left, entry_text, field_lead_of, field_text, fields_left, framed, framed_all, frame_of, inner, lead_of, pair_text, pairs_left, place_after, rest_of, trail_of}
+use Rattle.ufmt_core.specs.Block.{Block, Closing, Entries, Entry, EntryEnd, IsInside, Opening, Part, Row, Stop, ending_of, entries_left, entry_text, field_lead_of, field_text, fields_left, framed, framed_all, frame_of, inner, lead_of, pair_text, pairs_left, place_after, rest_of, trail_of}
 use Rattle.ufmt_core.specs.Builder.{block, lent, struct_block}
-use Rattle.ufmt_core.proofs.Blocks.{Closing-fails, Closing-then, Part-between, Part-fails, Part-from_entries, place_after-map, rest-append}
+use Rattle.ufmt_core.proofs.Blocks.{Closing-fails, Closing-then, Part-between, Part-fails, Row-from_entries, place_after-map, rest-append}
 use Rattle.ufmt_core.proofs.Items.{AlwaysYields-items}
 use Rattle.ufmt_core.proofs.Writing.{Writes-then, Writes-fails}
 pub use Rattle.ufmt_core.proofs.Writing.{LaysOut-err}
@@ -149,15 +151,15 @@ module _ {W : Type 0} (b : Block W) where
       rest_of b (λ i. text i ∷ left i) ≡ framed (frame_of b) (inner b) b.place (text (inner b)) ++ rest (frame b.outer.mode b.kind) b.outer (next b.place) (left (inside b.outer))
   rest-entry text left inside_b = rw inside_b (simp append_assoc)
 
-  -- entries in a row are what is left
-  rest-entries : {X : Type 0} (text_of : X → Setting → List ℕ) (xs : List X) (left : Setting → List (List ℕ)) → ((i : Setting) → left i ≡ map (λ x. text_of x i) xs) → IsInside b →
-      rest_of b left ≡ framed_all (frame_of b) (inner b) b.place (map (λ x. text_of x (inner b)) xs) ++ rest (frame b.outer.mode b.kind) b.outer (place_after b.place xs) []
-  rest-entries text_of xs left all inside_b =
-      let texts = map (λ x. text_of x (inside b.outer)) xs in
+  -- entries in a row are the first of what is left
+  rest-row : {D : Type 0} (text_of : D → Setting → List ℕ) (items : List D) (left more : Setting → List (List ℕ)) → ((i : Setting) → left i ≡ map (λ x. text_of x i) items ++ more i) → IsInside b →
+      rest_of b left ≡ framed_all (frame_of b) (inner b) b.place (map (λ x. text_of x (inner b)) items) ++ rest (frame b.outer.mode b.kind) b.outer (place_after b.place items) (more (inside b.outer))
+  rest-row text_of items left more all inside_b =
+      let texts = map (λ x. text_of x (inside b.outer)) items in
       let f = frame b.outer.mode b.kind in
-      let split : rest_of b left ≡ framed_all f (inside b.outer) b.place texts ++ rest f b.outer (place_after b.place texts) [] =
-      ap (λ ts. rest f b.outer b.place ts) (all (inside b.outer) ∙ sym (append-nil _)) ∙ rest-append f b.outer b.place texts [] in
-      rw (inside_b, sym (place_after-map (λ x. text_of x (inside b.outer)) b.place xs)) split
+      let split : rest_of b left ≡ framed_all f (inside b.outer) b.place texts ++ rest f b.outer (place_after b.place texts) (more (inside b.outer)) =
+      ap (λ ts. rest f b.outer b.place ts) (all (inside b.outer)) ∙ rest-append f b.outer b.place texts (more (inside b.outer)) in
+      rw (inside_b, sym (place_after-map (λ x. text_of x (inside b.outer)) b.place items)) split
 
 module _ {W : Type 0} {seen : Seen W} {reference : ℕ} {b b' : Block W} {last : Formatter W} where
   pub entry_written : {text : Setting → List ℕ} {left : Setting → List (List ℕ)} {ok : Bool} → Entry seen b text true b' → Completes seen reference b' left ok last → Completes seen reference b (λ i. text i ∷ left i) ok last
@@ -166,22 +168,55 @@ module _ {W : Type 0} {seen : Seen W} {reference : ℕ} {b b' : Block W} {last :
   pub entry_failed : {text : Setting → List ℕ} {left : Setting → List (List ℕ)} → Entry seen b text false b' → (reference ≡ b'.reference → last ≡ b'.formatter) → Completes seen reference b (λ i. text i ∷ left i) false last
   entry_failed {text} {left} a = Completes-stops _ (rest-entry b text left) a.part
 
-  -- a part that is the entries of these documents, or of these pairs
-  pub entries_written : (ds : List Document) {ok : Bool} → Part seen b (framed_all (frame_of b) (inner b) b.place (map (λ d. entry_text d (inner b)) ds)) true (place_after b.place ds) b' →
-      Completes seen reference b' (λ i. []) ok last → Completes seen reference b (entries_left (documents ds)) ok last
-  entries_written ds = Completes-then (rest-entries b entry_text ds _ (λ i. texts-documents i ds))
+  -- entries in a row, the first of what is left
+  module _ {D : Type 0} {text_of : D → Setting → List ℕ} {items : List D} {left : Setting → List (List ℕ)} (more : Setting → List (List ℕ)) (all : (i : Setting) → left i ≡ map (λ x. text_of x i) items ++ more i) where
+    pub row_written : {ok : Bool} → Row seen b text_of items true b' → Completes seen reference b' more ok last → Completes seen reference b left ok last
+    row_written a = Completes-then (rest-row b text_of items left more all) a.part
 
-  pub entries_failed : (ds : List Document) → Part seen b (framed_all (frame_of b) (inner b) b.place (map (λ d. entry_text d (inner b)) ds)) false (place_after b.place ds) b' →
-      (reference ≡ b'.reference → last ≡ b'.formatter) → Completes seen reference b (entries_left (documents ds)) false last
-  entries_failed ds = Completes-stops _ (rest-entries b entry_text ds _ (λ i. texts-documents i ds))
+    pub row_failed : Row seen b text_of items false b' → (reference ≡ b'.reference → last ≡ b'.formatter) → Completes seen reference b left false last
+    row_failed a = Completes-stops _ (rest-row b text_of items left more all) a.part
 
-  pub pairs_written : (ps : List (Document × Document)) {ok : Bool} → Part seen b (framed_all (frame_of b) (inner b) b.place (map (λ p. pair_text p.0 p.1 (inner b)) ps)) true (place_after b.place ps) b' →
-      Completes seen reference b' (λ i. []) ok last → Completes seen reference b (pairs_left (pairs_of ps)) ok last
-  pairs_written ps = Completes-then (rest-entries b (λ p. pair_text p.0 p.1) ps _ (λ i. pair_texts-pairs_of i ps))
+  -- all of these documents, or of these pairs
+  pub entries_written : (ds : List Document) {ok : Bool} → Row seen b entry_text ds true b' → Completes seen reference b' (λ i. []) ok last → Completes seen reference b (entries_left (documents ds)) ok last
+  entries_written ds = row_written (λ i. []) (λ i. texts-documents i ds ∙ sym (append-nil _))
 
-  pub pairs_failed : (ps : List (Document × Document)) → Part seen b (framed_all (frame_of b) (inner b) b.place (map (λ p. pair_text p.0 p.1 (inner b)) ps)) false (place_after b.place ps) b' →
-      (reference ≡ b'.reference → last ≡ b'.formatter) → Completes seen reference b (pairs_left (pairs_of ps)) false last
-  pairs_failed ps = Completes-stops _ (rest-entries b (λ p. pair_text p.0 p.1) ps _ (λ i. pair_texts-pairs_of i ps))
+  pub entries_failed : (ds : List Document) → Row seen b entry_text ds false b' → (reference ≡ b'.reference → last ≡ b'.formatter) → Completes seen reference b (entries_left (documents ds)) false last
+  entries_failed ds = row_failed (λ i. []) (λ i. texts-documents i ds ∙ sym (append-nil _))
+
+  pub pairs_written : (ps : List (Document × Document)) {ok : Bool} → Row seen b (λ p. pair_text p.0 p.1) ps true b' → Completes seen reference b' (λ i. []) ok last → Completes seen reference b (pairs_left (pairs_of ps)) ok last
+  pairs_written ps = row_written (λ i. []) (λ i. pair_texts-pairs_of i ps ∙ sym (append-nil _))
+
+  pub pairs_failed : (ps : List (Document × Document)) → Row seen b (λ p. pair_text p.0 p.1) ps false b' → (reference ≡ b'.reference → last ≡ b'.formatter) → Completes seen reference b (pairs_left (pairs_of ps)) false last
+  pairs_failed ps = row_failed (λ i. []) (λ i. pair_texts-pairs_of i ps ∙ sym (append-nil _))
+
+  -- a loop over values, where entries of the first k were written: the rest was too, or the next entry failed
+  module _ {X : Type 0} (text_of : X → Setting → List ℕ) (whole : List X) {left : Setting → List (List ℕ)} (all : (i : Setting) → left i ≡ map (λ x. text_of x i) whole) where
+    pub loop_written : (k : ℕ) {ok : Bool} → length whole ≤ k → Row seen b text_of (take k whole) true b' → Completes seen reference b' (λ i. []) ok last → Completes seen reference b left ok last
+    loop_written k all_k = row_written (λ i. []) (λ i. all i ∙ ap (map (λ x. text_of x i)) (sym (take_all k whole all_k)) ∙ sym (append-nil _))
+
+    pub loop_failed : (k : ℕ) → Row seen b text_of (take k whole) false b' → (reference ≡ b'.reference → last ≡ b'.formatter) → Completes seen reference b left false last
+    loop_failed k = row_failed (λ i. map (λ x. text_of x i) (drop k whole)) (λ i. all i ∙ ap (map (λ x. text_of x i)) (sym (take-append-drop k whole)) ∙ map-append (λ x. text_of x i) (take k whole) (drop k whole))
+
+-- the texts of documents that values have, in the order of the values
+pub texts-of : {X : Type 0} (h : X → Document) (xs : List X) (i : Setting) → entries_left (documents (map h xs)) i ≡ map (λ x. entry_text (h x) i) xs
+texts-of h xs i = texts-documents i (map h xs) ∙ map-map (layout i) h xs
+
+pub pair_texts-of : {X : Type 0} (key value : X → Document) (xs : List X) (i : Setting) → pairs_left (pairs_of (map (λ x. (key x, value x)) xs)) i ≡ map (λ x. pair_text (key x) (value x) i) xs
+pair_texts-of key value xs i = pair_texts-pairs_of i (map (λ x. (key x, value x)) xs) ∙ map-map (λ p. pair_text p.0 p.1 i) (λ x. (key x, value x)) xs
+
+-- `entries` over an iterator of a slice, which has these items left
+module _ {W X : Type 0} {seen : Seen W} {b b' : Block W} {items : Iter X} {xs : List X} (h : X → Document) (left : iter_rest items ≡ xs) where
+  items-row : (ok : Bool) → Entries seen (λ items it. it ≡ items) iter_steps (λ x. entry_text (h x.now)) items b ok b' → Row seen b entry_text (map h xs) ok b'
+  items-row ok = Row-from_entries (λ x. h x.now) entry_text items (map h xs) ok (λ it gives. AlwaysYields-items h gives left)
+
+  module _ {reference : ℕ} {last : Formatter W} where
+    pub items_written : {ok : Bool} → Entries seen (λ items it. it ≡ items) iter_steps (λ x. entry_text (h x.now)) items b true b' → Completes seen reference b' (λ i. []) ok last →
+        Completes seen reference b (entries_left (documents (map h xs))) ok last
+    items_written a = entries_written (map h xs) (items-row true a)
+
+    pub items_failed : Entries seen (λ items it. it ≡ items) iter_steps (λ x. entry_text (h x.now)) items b false b' → (reference ≡ b'.reference → last ≡ b'.formatter) →
+        Completes seen reference b (entries_left (documents (map h xs))) false last
+    items_failed a = entries_failed (map h xs) (items-row false a)
 
 -- an entry in halves: the lent formatter has printed the value, and the second half has ended the entry
 module _ {W K E : Type 0} {seen : Seen W} {d : Document} {begun ended : Formatter W} {new : Block W} (answer result : Result (Unit {0}) E) where

@@ -156,6 +156,11 @@ module _ {W : Type 0} where
     pub closed : new.status ≡ Closed
     pub restored : inner new ≡ old.outer
 
+module _ {W D : Type 0} where
+  -- entries of these items were written in a row, each with the text that `text_of` tells, or a beginning of them
+  pub record Row (seen : Seen W) (old : Block W) (text_of : D → Setting → List ℕ) (items : List D) (ok : Bool) (new : Block W) : Type 0 where
+    pub part : Part seen old (framed_all (frame_of old) (inner old) old.place (map (λ x. text_of x (inner old)) items)) ok (place_after old.place items) new
+
 module _ {W U T D : Type 0} where
   -- an entry was written for each item that the iterator gave, and on `Ok` it had no more
   pub record Entries (seen : Seen W) (becomes : U → T → Type 0) (steps : T → Option D → T → Type 0) (text_of : D → Setting → List ℕ) (entries : U) (old : Block W) (ok : Bool) (new : Block W) : Type 0 where
@@ -163,4 +168,4 @@ module _ {W U T D : Type 0} where
     pub begins : becomes entries iterator
     pub items : List D
     pub drains : DrainsIf steps (ok ≡ true) iterator items
-    pub part : Part seen old (framed_all (frame_of old) (inner old) old.place (map (λ x. text_of x (inner old)) items)) ok (place_after old.place items) new
+    pub row : Row seen old text_of items ok new

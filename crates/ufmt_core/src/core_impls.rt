@@ -1,10 +1,8 @@
-ghost use Rattle.std.specs.Prelude.{codes, if◌then◌else◌, is_ok, map};
+ghost use Rattle.std.specs.Prelude.{codes, if◌then◌else◌, map};
 ghost use Rattle.ufmt_core.specs.Document.{documents, leaf, list_of};
-ghost use Rattle.ufmt_core.specs.Formatter.{LaysOut};
-ghost use Rattle.ufmt_core.specs.Core.{option_document, result_document, variant_of};
+ghost use Rattle.ufmt_core.specs.Words.{option_document, result_document};
 
 use crate::formatter::Formatter;
-use crate::list::fmt_list;
 use crate::uDebug;
 use crate::write::uWrite;
 
@@ -40,7 +38,7 @@ impl<T: uDebug> uDebug for &[T] {
     where
         W: uWrite,
     {
-        fmt_list(self.iter(), f)
+        f.list_of(self)
     }
 }
 
@@ -89,7 +87,7 @@ impl<T: uDebug> uDebug for Option<T> {
     {
         match self {
             None => f.write_str("None"),
-            Some(value) => fmt_variant("Some", value, f),
+            Some(value) => f.tuple_1("Some", value),
         }
     }
 }
@@ -103,21 +101,8 @@ impl<T: uDebug, E: uDebug> uDebug for Result<T, E> {
         W: uWrite,
     {
         match self {
-            Ok(value) => fmt_variant("Ok", value, f),
-            Err(error) => fmt_variant("Err", error, f),
+            Ok(value) => f.tuple_1("Ok", value),
+            Err(error) => f.tuple_1("Err", error),
         }
     }
-}
-
-// A tuple with this name and one field.
-fn fmt_variant<D: uDebug, W: uWrite>(
-    name: &str,
-    value: &D,
-    f: &mut Formatter<W>,
-) -> Result<(), W::Error>
-    ensures { LaysOut W.seen f.old (variant_of name.now (D.document value.now)) (is_ok result) f.new }
-{
-    let mut variant = f.debug_tuple(name)?;
-    variant.field(value)?;
-    variant.finish()
 }

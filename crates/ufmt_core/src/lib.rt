@@ -25,8 +25,8 @@ pub use formatter::Formatter;
 pub use list::DebugList;
 pub use map::DebugMap;
 pub use set::DebugSet;
-pub use structs::DebugStruct;
-pub use tuple::DebugTuple;
+pub use structs::{DebugStruct, NamedFields};
+pub use tuple::{DebugTuple, UnnamedFields};
 pub use write::uWrite;
 
 /// A value that prints itself as Rust's `{:?}` and `{:#?}` would.

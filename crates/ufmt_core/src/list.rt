@@ -1,9 +1,9 @@
-ghost use Rattle.std.specs.Prelude.{List, codes, is_ok, true, IfOk, OnOk};
+ghost use Rattle.std.specs.Prelude.{codes, is_ok, map, true, IfOk, OnOk};
 ghost use Rattle.std.specs.Borrow.{sem};
-ghost use Rattle.std.specs.Iterator.{AlwaysYields, IsFiniteIterable};
+ghost use Rattle.std.specs.Iterator.{IsFiniteIterable};
 ghost use Rattle.ufmt_core.specs.declared.formatter.block.Kind.TheVariants.{Brackets};
 ghost use Rattle.ufmt_core.specs.declared.formatter.builder.Status.TheVariants.{Lent};
-ghost use Rattle.ufmt_core.specs.Document.{Document, documents, list_of};
+ghost use Rattle.ufmt_core.specs.Document.{documents, list_of};
 ghost use Rattle.ufmt_core.specs.Formatter.{LaysOut, Prints};
 ghost use Rattle.ufmt_core.specs.Block.{Entries, Entry, EntryEnd, IsLent, IsOpen, Opening, Stop, entry_text, lead_of};
 ghost use Rattle.ufmt_core.specs.Builder.{EntryLoan, OpeningLoan, block, list_block};
@@ -42,6 +42,15 @@ impl<W: uWrite> Formatter<W> {
         ensures is_open { IfOk result (λ b. IsOpen (list_block b)) }
     {
         self.open(OPENING_BRACKET, ListBlock)
+    }
+
+    /// Writes a whole list of these items.
+    pub fn list_of<T: uDebug>(&mut self, items: &[T]) -> Result<(), W::Error>
+        ensures { LaysOut W.seen self.old (list_of (documents (map T.document items.now))) (is_ok result) self.new }
+    {
+        let mut list = self.debug_list()?;
+        list.entries(items.iter())?;
+        list.finish()
     }
 }
 
@@ -92,21 +101,4 @@ impl<W: uWrite, K: Items> Builder<'_, W, K> {
     {
         self.end(answer)
     }
-}
-
-/// Writes the items as a list: what `fmt` of the library's lists does.
-pub(crate) fn fmt_list<D: uDebug + Drop, I: IntoIterator<Item = D> + Drop, W: uWrite>(
-    items: I,
-    f: &mut Formatter<W>,
-) -> Result<(), W::Error>
-where
-    I::IntoIter: Drop,
-    requires { IsFiniteIterable I.into_iter_gives I.IntoIter.can_next I.IntoIter.remaining items }
-    ensures { (ds : List Document)
-        → ((it : I.IntoIter) → I.into_iter_gives items it → AlwaysYields I.IntoIter.next_gives D.document it ds)
-        → LaysOut W.seen f.old (list_of (documents ds)) (is_ok result) f.new }
-{
-    let mut list = f.debug_list()?;
-    list.entries(items)?;
-    list.finish()
 }

@@ -1,4 +1,4 @@
-ghost use Rattle.std.specs.Prelude.{◌≡◌, List, codes, is_ok, true, Err, IfErr, IfOk, OnErr, OnOk};
+ghost use Rattle.std.specs.Prelude.{◌≡◌, List, codes, is_ok, map, true, Err, IfErr, IfOk, OnErr, OnOk};
 ghost use Rattle.std.specs.Borrow.{sem};
 ghost use Rattle.std.specs.Iterator.{AlwaysYields, IsFiniteIterable};
 ghost use Rattle.ufmt_core.specs.declared.formatter.block.Kind.TheVariants.{Braces};
@@ -37,6 +37,17 @@ impl<W: uWrite> Formatter<W> {
         ensures is_open { IfOk result (λ b. IsOpen (map_block b)) }
     {
         self.open(OPENING_BRACE, MapBlock)
+    }
+
+    /// Writes a whole map of these keys and values.
+    pub fn map_of<K: uDebug, V: uDebug>(&mut self, pairs: &[(K, V)]) -> Result<(), W::Error>
+        ensures { LaysOut W.seen self.old (map_of (pairs_of (map (λ p. (K.document p.0, V.document p.1)) pairs.now))) (is_ok result) self.new }
+    {
+        let mut map = self.debug_map()?;
+        for pair in pairs {
+            map.entry(&pair.0, &pair.1)?;
+        }
+        map.finish()
     }
 }
 

@@ -1,4 +1,4 @@
-ghost use Rattle.std.specs.Prelude.{List, codes, is_ok, IfOk};
+ghost use Rattle.std.specs.Prelude.{List, codes, is_ok, map, IfOk};
 ghost use Rattle.std.specs.Borrow.{sem};
 ghost use Rattle.std.specs.Iterator.{AlwaysYields, IsFiniteIterable};
 ghost use Rattle.ufmt_core.specs.declared.formatter.block.Kind.TheVariants.{Braces};
@@ -39,6 +39,15 @@ impl<W: uWrite> Formatter<W> {
         ensures is_open { IfOk result (λ b. IsOpen (set_block b)) }
     {
         self.open(OPENING_BRACE, SetBlock)
+    }
+
+    /// Writes a whole set of these items.
+    pub fn set_of<T: uDebug>(&mut self, items: &[T]) -> Result<(), W::Error>
+        ensures { LaysOut W.seen self.old (set_of (documents (map T.document items.now))) (is_ok result) self.new }
+    {
+        let mut set = self.debug_set()?;
+        set.entries(items.iter())?;
+        set.finish()
     }
 }
 

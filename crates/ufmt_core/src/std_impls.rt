@@ -2,7 +2,6 @@ ghost use Rattle.std.specs.Prelude.{map};
 ghost use Rattle.ufmt_core.specs.Document.{documents, list_of, map_of, pairs_of, set_of};
 
 use crate::formatter::Formatter;
-use crate::list::fmt_list;
 use crate::map::fmt_map;
 use crate::set::fmt_set;
 use crate::uDebug;
@@ -17,7 +16,7 @@ impl<T: uDebug> uDebug for Vec<T> {
     where
         W: uWrite,
     {
-        fmt_list(self.iter(), f)
+        f.list_of(self)
     }
 }
 

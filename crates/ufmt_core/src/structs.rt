@@ -6,11 +6,14 @@ ghost use Rattle.ufmt_core.specs.Formatter.{Prints};
 ghost use Rattle.ufmt_core.specs.Block.{Entry, EntryEnd, IsLent, IsOpen, Opening, Stop, field_lead_of, field_text};
 ghost use Rattle.ufmt_core.specs.Builder.{StructLoan, OpeningLoan, struct_block};
 
+mod whole;
+
 use crate::formatter::Formatter;
 use crate::formatter::block::Kind;
 use crate::formatter::builder::{BlockKind, Builder};
 use crate::uDebug;
 use crate::write::uWrite;
+pub use whole::NamedFields;
 
 /// Writes a struct, field by field.
 pub type DebugStruct<'f, W> = Builder<'f, W, StructBlock>;

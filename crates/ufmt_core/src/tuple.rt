@@ -6,11 +6,14 @@ ghost use Rattle.ufmt_core.specs.Formatter.{Prints};
 ghost use Rattle.ufmt_core.specs.Block.{Entry, EntryEnd, IsLent, IsOpen, Opening, Stop, entry_text, lead_of};
 ghost use Rattle.ufmt_core.specs.Builder.{TupleLoan, OpeningLoan, kind_of_tuple, tuple_block};
 
+mod whole;
+
 use crate::formatter::Formatter;
 use crate::formatter::block::Kind;
 use crate::formatter::builder::{BlockKind, Builder};
 use crate::uDebug;
 use crate::write::uWrite;
+pub use whole::UnnamedFields;
 
 /// Writes a tuple, field by field.
 pub type DebugTuple<'f, W> = Builder<'f, W, TupleBlock>;

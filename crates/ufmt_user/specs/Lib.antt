@@ -1,3 +1,0 @@
-pub mod Kind
-pub mod Node
-pub mod Wrappers

@@ -1,6 +1,8 @@
-ghost use Rattle.ufmt_user.specs.Kind.{kind_document};
+ghost use Rattle.std.specs.Prelude.{[], ◌∷◌};
+ghost use Rattle.ufmt.specs.Words.{named, named_struct, named_tuple};
+ghost use Rattle.ufmt_user.specs.declared.kind.Kind.TheVariants.{A, B, C};
 
-use ufmt::{Formatter, uDebug, uWrite};
+use ufmt::{Formatter, fields, uDebug, uWrite};
 
 /// An enum with the three kinds of variants.
 #[derive(Drop)]
@@ -11,26 +13,20 @@ pub enum Kind<T> {
 }
 
 impl<T: uDebug> uDebug for Kind<T> {
-    ghost document = { kind_document T.document };
+    ghost document = { elim [
+      A ↦ named "A"
+    | B x y ↦ named_tuple "B" (T.document x ∷ T.document y ∷ [])
+    | C x y ↦ named_struct "C" (("x", T.document x) ∷ ("y", T.document y) ∷ [])
+    ] };
 
     fn fmt<W>(&self, f: &mut Formatter<W>) -> Result<(), W::Error>
     where
         W: uWrite,
     {
         match self {
-            Kind::A => f.write_str("A"),
-            Kind::B(x, y) => {
-                let mut b = f.debug_tuple("B")?;
-                b.field(x)?;
-                b.field(y)?;
-                b.finish()
-            }
-            Kind::C { x, y } => {
-                let mut c = f.debug_struct("C")?;
-                c.field("x", x)?;
-                c.field("y", y)?;
-                c.finish()
-            }
+            Kind::A => fields!(f, A),
+            Kind::B(x, y) => fields!(f, B(x, y)),
+            Kind::C { x, y } => fields!(f, C { x: x, y: y }),
         }
     }
 }

@@ -1,6 +1,6 @@
 #![tactic(auto)]
 
-//! A user's own types, with `uDebug` by the builders.
+//! A user's own types, each printed in one call.
 
 mod kind;
 mod logger;
@@ -15,7 +15,7 @@ mod wrappers;
 pub use kind::Kind;
 pub use logger::{Reading, log};
 pub use nested::Nested;
-pub use node::Node;
+pub use node::{Node, Tree};
 pub use pair::Pair;
 pub use scores::Scores;
 pub use wrappers::{Braces, I32, InPrettyMode, Parens, Tuple, X, Y};

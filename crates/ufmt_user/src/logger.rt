@@ -1,8 +1,8 @@
 //! A line of a log, in a buffer of a fixed size.
-ghost use Rattle.std.specs.Prelude.{codes};
-ghost use Rattle.ufmt.specs.Document.{field, no_fields, struct_of};
+ghost use Rattle.std.specs.Prelude.{[], ◌∷◌};
+ghost use Rattle.ufmt.specs.Words.{integer, named_struct, number};
 
-use ufmt::{Cursor, Formatter, Full, HexOptions, uDebug, uWrite, uwriteln};
+use ufmt::{Cursor, Formatter, Full, HexOptions, fields, uDebug, uWrite, uwriteln};
 
 /// What a sensor has measured.
 #[derive(Drop)]
@@ -12,16 +12,13 @@ pub struct Reading {
 }
 
 impl uDebug for Reading {
-    ghost document = { λ r. struct_of (codes "Reading") (field (codes "channel") (⟦<u8 as uDebug>⟧.document r.channel) (field (codes "celsius") (⟦<i32 as uDebug>⟧.document r.celsius) no_fields)) };
+    ghost document = { λ r. named_struct "Reading" (("channel", number r.channel) ∷ ("celsius", integer r.celsius) ∷ []) };
 
     fn fmt<W>(&self, f: &mut Formatter<W>) -> Result<(), W::Error>
     where
         W: uWrite,
     {
-        let mut reading = f.debug_struct("Reading")?;
-        reading.field("channel", &self.channel)?;
-        reading.field("celsius", &self.celsius)?;
-        reading.finish()
+        fields!(f, Reading { channel: self.channel, celsius: self.celsius })
     }
 }
 

@@ -1,7 +1,7 @@
-ghost use Rattle.std.specs.Prelude.{codes};
-ghost use Rattle.ufmt.specs.Document.{field, no_fields, struct_of};
+ghost use Rattle.std.specs.Prelude.{[], ◌∷◌};
+ghost use Rattle.ufmt.specs.Words.{named_struct};
 
-use ufmt::{Formatter, uDebug, uWrite};
+use ufmt::{Formatter, fields, uDebug, uWrite};
 
 /// A struct of two values of one type.
 #[derive(Drop)]
@@ -11,15 +11,12 @@ pub struct Nested<T> {
 }
 
 impl<T: uDebug> uDebug for Nested<T> {
-    ghost document = { λ n. struct_of (codes "Nested") (field (codes "first") (T.document n.first) (field (codes "second") (T.document n.second) no_fields)) };
+    ghost document = { λ n. named_struct "Nested" (("first", T.document n.first) ∷ ("second", T.document n.second) ∷ []) };
 
     fn fmt<W>(&self, f: &mut Formatter<W>) -> Result<(), W::Error>
     where
         W: uWrite,
     {
-        let mut nested = f.debug_struct("Nested")?;
-        nested.field("first", &self.first)?;
-        nested.field("second", &self.second)?;
-        nested.finish()
+        fields!(f, Nested { first: self.first, second: self.second })
     }
 }

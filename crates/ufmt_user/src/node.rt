@@ -1,10 +1,13 @@
-ghost use Rattle.std.specs.Prelude.{is_ok};
-ghost use Rattle.ufmt.specs.Formatter.{LaysOut};
-ghost use Rattle.ufmt_user.specs.Node.{next_document, node_document};
+//! Types that hold themselves.
+ghost use Rattle.std.specs.Prelude.{[], ◌∷◌};
+ghost use Rattle.ufmt.specs.Document.{Document, documents, list_of};
+ghost use Rattle.ufmt.specs.Words.{named_struct, number, option_document};
+ghost use Rattle.ufmt_user.specs.declared.node.Node.TheFolds.{fold-Node};
+ghost use Rattle.ufmt_user.specs.declared.node.Tree.TheFolds.{fold-Tree};
 
-use ufmt::{Formatter, uDebug, uWrite};
+use ufmt::{Formatter, fields, uDebug, uWrite};
 
-/// A number, and perhaps another node: a type that holds itself.
+/// A number, and perhaps another node.
 #[derive(Drop)]
 pub struct Node {
     pub value: u64,
@@ -12,32 +15,30 @@ pub struct Node {
 }
 
 impl uDebug for Node {
-    ghost document = { node_document };
+    ghost document = { fold-Node Document (λ n. named_struct "Node" (("value", number n.value) ∷ ("next", option_document (λ b. b.value) n.next) ∷ [])) };
 
-    #[cycle(node)]
     fn fmt<W>(&self, f: &mut Formatter<W>) -> Result<(), W::Error>
     where
         W: uWrite,
     {
-        let mut node = f.debug_struct("Node")?;
-        node.field("value", &self.value)?;
-        let answer = fmt_next(&self.next, node.begin_field("next")?);
-        node.end_field(answer)?;
-        node.finish()
+        fields!(f, Node { value: self.value, next: self.next })
     }
 }
 
-#[cycle(node)]
-fn fmt_next<W: uWrite>(next: &Option<Box<Node>>, f: &mut Formatter<W>) -> Result<(), W::Error>
-    ensures { LaysOut W.seen f.old (next_document next.now) (is_ok result) f.new }
-{
-    match next {
-        None => f.write_str("None"),
-        Some(node) => {
-            let mut some = f.debug_tuple("Some")?;
-            let answer = (**node).fmt(some.begin_field()?);
-            some.end_field(answer)?;
-            some.finish()
-        }
+/// A number, and trees below it.
+#[derive(Drop)]
+pub struct Tree {
+    pub size: u64,
+    pub children: Vec<Tree>,
+}
+
+impl uDebug for Tree {
+    ghost document = { fold-Tree Document (λ t. named_struct "Tree" (("size", number t.size) ∷ ("children", list_of (documents t.children.items)) ∷ [])) };
+
+    fn fmt<W>(&self, f: &mut Formatter<W>) -> Result<(), W::Error>
+    where
+        W: uWrite,
+    {
+        fields!(f, Tree { size: self.size, children: self.children })
     }
 }

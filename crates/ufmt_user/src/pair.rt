@@ -1,9 +1,9 @@
-ghost use Rattle.std.specs.Prelude.{codes};
-ghost use Rattle.ufmt.specs.Document.{field, no_fields, struct_of};
+ghost use Rattle.std.specs.Prelude.{[], ◌∷◌};
+ghost use Rattle.ufmt.specs.Words.{named_struct};
 
-use ufmt::{Formatter, uDebug, uWrite};
+use ufmt::{Formatter, fields, uDebug, uWrite};
 
-/// A struct with two fields of any types that print.
+/// A struct with two fields of any types that print themselves.
 #[derive(Drop)]
 pub struct Pair<T, U> {
     pub x: T,
@@ -11,15 +11,12 @@ pub struct Pair<T, U> {
 }
 
 impl<T: uDebug, U: uDebug> uDebug for Pair<T, U> {
-    ghost document = { λ p. struct_of (codes "Pair") (field (codes "x") (T.document p.x) (field (codes "y") (U.document p.y) no_fields)) };
+    ghost document = { λ p. named_struct "Pair" (("x", T.document p.x) ∷ ("y", U.document p.y) ∷ []) };
 
     fn fmt<W>(&self, f: &mut Formatter<W>) -> Result<(), W::Error>
     where
         W: uWrite,
     {
-        let mut pair = f.debug_struct("Pair")?;
-        pair.field("x", &self.x)?;
-        pair.field("y", &self.y)?;
-        pair.finish()
+        fields!(f, Pair { x: self.x, y: self.y })
     }
 }

@@ -16,8 +16,6 @@ impl<T: uDebug> uDebug for Scores<T> {
     where
         W: uWrite,
     {
-        let mut list = f.debug_list()?;
-        list.entries(self.scores.iter())?;
-        list.finish()
+        f.list_of(&self.scores)
     }
 }

@@ -1,25 +1,23 @@
 //! Structs without names for their fields, and without fields.
-ghost use Rattle.std.specs.Prelude.{codes, is_ok};
-ghost use Rattle.ufmt.specs.Core.{variant_of};
-ghost use Rattle.ufmt.specs.Document.{document, no_documents, no_fields, pretty_part, struct_of, tuple_of};
-ghost use Rattle.ufmt.specs.Formatter.{LaysOut};
-ghost use Rattle.ufmt_user.specs.Wrappers.{y_document};
+ghost use Rattle.std.specs.Prelude.{[], ◌∷◌};
+ghost use Rattle.ufmt.specs.Document.{pretty_part};
+ghost use Rattle.ufmt.specs.Words.{named, named_struct, named_tuple};
+ghost use Rattle.ufmt_user.specs.declared.wrappers.Y.TheVariants.{W, Z};
 
-use ufmt::{Formatter, uDebug, uWrite};
+use ufmt::{Formatter, fields, uDebug, uWrite};
 
 /// A struct with braces and no fields.
 #[derive(Drop)]
 pub struct Braces {}
 
 impl uDebug for Braces {
-    ghost document = { λ _. struct_of (codes "Braces") no_fields };
+    ghost document = { λ _. named_struct "Braces" [] };
 
     fn fmt<W>(&self, f: &mut Formatter<W>) -> Result<(), W::Error>
     where
         W: uWrite,
     {
-        let mut braces = f.debug_struct("Braces")?;
-        braces.finish()
+        fields!(f, Braces {})
     }
 }
 
@@ -28,14 +26,13 @@ impl uDebug for Braces {
 pub struct Parens();
 
 impl uDebug for Parens {
-    ghost document = { λ _. tuple_of (codes "Parens") no_documents };
+    ghost document = { λ _. named_tuple "Parens" [] };
 
     fn fmt<W>(&self, f: &mut Formatter<W>) -> Result<(), W::Error>
     where
         W: uWrite,
     {
-        let mut parens = f.debug_tuple("Parens")?;
-        parens.finish()
+        fields!(f, Parens())
     }
 }
 
@@ -44,30 +41,14 @@ impl uDebug for Parens {
 pub struct Tuple<T, U>(pub T, pub U);
 
 impl<T: uDebug, U: uDebug> uDebug for Tuple<T, U> {
-    ghost document = { λ t. tuple_of (codes "Tuple") (document (T.document t.0) (document (U.document t.1) no_documents)) };
+    ghost document = { λ t. named_tuple "Tuple" (T.document t.0 ∷ U.document t.1 ∷ []) };
 
     fn fmt<W>(&self, f: &mut Formatter<W>) -> Result<(), W::Error>
     where
         W: uWrite,
     {
-        let mut tuple = f.debug_tuple("Tuple")?;
-        tuple.field(&self.0)?;
-        tuple.field(&self.1)?;
-        tuple.finish()
+        fields!(f, Tuple(self.0, self.1))
     }
-}
-
-// Types of one shape may share the function that prints them.
-fn fmt_wrapper<T: uDebug, W: uWrite>(
-    name: &str,
-    value: &T,
-    f: &mut Formatter<W>,
-) -> Result<(), W::Error>
-    ensures { LaysOut W.seen f.old (variant_of name.now (T.document value.now)) (is_ok result) f.new }
-{
-    let mut wrapper = f.debug_tuple(name)?;
-    wrapper.field(value)?;
-    wrapper.finish()
 }
 
 /// A struct around one value.
@@ -75,13 +56,13 @@ fn fmt_wrapper<T: uDebug, W: uWrite>(
 pub struct X<T>(pub T);
 
 impl<T: uDebug> uDebug for X<T> {
-    ghost document = { λ x. variant_of (codes "X") (T.document x.0) };
+    ghost document = { λ x. named_tuple "X" (T.document x.0 ∷ []) };
 
     fn fmt<W>(&self, f: &mut Formatter<W>) -> Result<(), W::Error>
     where
         W: uWrite,
     {
-        fmt_wrapper("X", &self.0, f)
+        fields!(f, X(self.0))
     }
 }
 
@@ -90,13 +71,13 @@ impl<T: uDebug> uDebug for X<T> {
 pub struct I32<T>(pub T);
 
 impl<T: uDebug> uDebug for I32<T> {
-    ghost document = { λ x. variant_of (codes "I32") (T.document x.0) };
+    ghost document = { λ x. named_tuple "I32" (T.document x.0 ∷ []) };
 
     fn fmt<W>(&self, f: &mut Formatter<W>) -> Result<(), W::Error>
     where
         W: uWrite,
     {
-        fmt_wrapper("I32", &self.0, f)
+        fields!(f, I32(self.0))
     }
 }
 
@@ -108,15 +89,15 @@ pub enum Y<T> {
 }
 
 impl<T: uDebug> uDebug for Y<T> {
-    ghost document = { y_document T.document };
+    ghost document = { elim [ W ↦ named "W" | Z x ↦ named_tuple "Z" (T.document x ∷ []) ] };
 
     fn fmt<W>(&self, f: &mut Formatter<W>) -> Result<(), W::Error>
     where
         W: uWrite,
     {
         match self {
-            Y::W => f.write_str("W"),
-            Y::Z(value) => fmt_wrapper("Z", value, f),
+            Y::W => fields!(f, W),
+            Y::Z(value) => fields!(f, Z(value)),
         }
     }
 }

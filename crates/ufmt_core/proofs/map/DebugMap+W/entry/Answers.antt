@@ -17,5 +17,5 @@ returns-clause-entry g c =
     let lent = ap map_block (c.begin_entry.follows.holds c.fmt-key_answer.new.f (ap is_ok c.in_ok-begin_entry.was)) in
     let began = ap is_ok c.in_ok-begin_value.was in
     let lent_value = ap map_block (c.begin_value.follows.holds c.fmt-answer.new.f began) in
-    Entry-pair (map_block c.args.self.now) c.fmt-key_answer.new.f _ _ c.fmt-answer.new.f _ _ _ c.begin_value.result
+    Entry-pair (map_block c.args.self.now) {new = map_block c.end_entry.new.self} c.fmt-key_answer.new.f _ _ c.fmt-answer.new.f _ _ _ c.begin_value.result
     lent c.in_ok-begin_entry.ensures.lead c.fmt-key_answer.ensures c.begin_value.ensures.error began lent_value c.in_ok-begin_value.ensures.colon c.fmt-answer.ensures c.end_entry.ensures.end

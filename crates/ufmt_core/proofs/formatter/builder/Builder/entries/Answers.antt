@@ -1,7 +1,7 @@
 use Rattle.std.proofs.Common.{rules, true, false, ◌∷◌, [], ◌++◌}
 use Rattle.std.proofs.iter.Next.{Yields-more}
 use Rattle.ufmt_core.specs.Block.{entry_text}
-use Rattle.ufmt_core.proofs.Blocks.{Part-more}
+use Rattle.ufmt_core.proofs.Blocks.{Row-more}
 use Rattle.ufmt_core.proofs.Writing.{is_ok-err}
 use Rattle.ufmt_core.proofs.formatter.builder.Builder.entries.Goals as goal
 
@@ -13,7 +13,7 @@ returns-in_err-entry-clause-entries g c =
       begins = c.into_iter-entry-iterator.ensures.into_iter_gives;
       items = c.loop-entry.yielded ++ c.in-Some.entry ∷ [];
       drains = (c.next.new.self, Yields-more g.I.IntoIter.Iterator.next_gives c.into_iter-entry-iterator.result _ c.loop-entry.entry-iterator _ c.next.new.self c.loop-entry.yielded_by c.in-Some.ensures.steps, λ e. absurd (cc));
-      part = Part-more (λ x. entry_text (g.D.uDebug.document x)) _ _ {ok = false} c.loop-entry.invariant.part c.in_err-entry.ensures.entry;
+      row = Row-more (λ x. entry_text (g.D.uDebug.document x)) _ _ false c.loop-entry.invariant.row c.in_err-entry.ensures.entry;
     }
 
 pub loop-entry-preserved : goal.loop-entry-preserved
@@ -21,5 +21,5 @@ loop-entry-preserved g c = record {
   can = search rules;
   ends = search rules;
   is_open = search rules;
-  part = Part-more (λ x. entry_text (g.D.uDebug.document x)) _ _ {ok = true} c.loop-entry.invariant.part c.in_ok-entry.ensures.entry;
+  row = Row-more (λ x. entry_text (g.D.uDebug.document x)) _ _ true c.loop-entry.invariant.row c.in_ok-entry.ensures.entry;
 }

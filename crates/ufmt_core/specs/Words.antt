@@ -1,0 +1,37 @@
+-- Words for the documents of types: quoted names in place of bytes, and lists in place of chains.
+use Prim.Native.String.{String as Text}
+use Rattle.std.specs.Prelude.{ℕ, ℤ, pos, List, [], ◌∷◌, codes, Option, Some, None, Result, Ok, Err}
+use Rattle.ufmt_core.specs.Document.{Document, leaf, struct_of, tuple_of, documents, Fields, no_fields, field}
+use Rattle.ufmt_core.specs.Decimal.{decimal}
+
+-- fields with quoted names
+abbrev pub named_fields : List (Text × Document) → Fields
+named_fields [] = no_fields
+named_fields (f ∷ fs) = field (codes f.0) f.1 (named_fields fs)
+
+-- a struct, or a variant with named fields
+abbrev pub named_struct : Text → List (Text × Document) → Document
+named_struct name fs = struct_of (codes name) (named_fields fs)
+
+-- a tuple struct, or a variant with fields in parentheses
+abbrev pub named_tuple : Text → List Document → Document
+named_tuple name ds = tuple_of (codes name) (documents ds)
+
+-- a variant without fields
+abbrev pub named : Text → Document
+named name = leaf (codes name)
+
+-- a whole number
+abbrev pub number : ℕ → Document
+number n = leaf (decimal (pos n))
+
+abbrev pub integer : ℤ → Document
+integer z = leaf (decimal z)
+
+abbrev pub option_document : {T : Type 0} → (T → Document) → Option T → Document
+option_document f None = named "None"
+option_document f (Some x) = named_tuple "Some" (f x ∷ [])
+
+abbrev pub result_document : {T E : Type 0} → (T → Document) → (E → Document) → Result T E → Document
+result_document f g (Ok x) = named_tuple "Ok" (f x ∷ [])
+result_document f g (Err e) = named_tuple "Err" (g e ∷ [])

@@ -1,0 +1,582 @@
+//! A whole struct in one call: what stands under `fields!`, and what one may call in its place.
+ghost use Rattle.std.specs.Prelude.{is_ok, [], ◌∷◌};
+ghost use Rattle.ufmt_core.specs.Document.{Fields, field, fields_of, no_fields, struct_of};
+ghost use Rattle.ufmt_core.specs.Formatter.{LaysOut};
+ghost use Rattle.ufmt_core.specs.Block.{Closing, IsInside, IsOpen, fields_left, rest_of};
+ghost use Rattle.ufmt_core.specs.Builder.{struct_block};
+
+use crate::formatter::Formatter;
+use crate::structs::DebugStruct;
+use crate::uDebug;
+use crate::write::uWrite;
+
+/// The fields that are left to a struct: the name and value of the next and those after it, or `()`.
+pub trait NamedFields<'a> {
+    /// The fields' names and documents.
+    ghost fields: { Self → Fields };
+
+    /// Writes the fields, and closes the struct.
+    fn finish<W: uWrite>(&self, block: &mut DebugStruct<W>) -> Result<(), W::Error>
+        requires is_open { IsOpen (struct_block block.old) }
+        requires is_inside { IsInside (struct_block block.old) }
+        ensures { Closing W.seen (struct_block block.old) (rest_of (struct_block block.old) (fields_left (fields self.now))) (is_ok result) (struct_block block.new) };
+}
+
+impl<'a> NamedFields<'a> for () {
+    ghost fields = { λ _. no_fields };
+
+    fn finish<W: uWrite>(&self, block: &mut DebugStruct<W>) -> Result<(), W::Error> {
+        block.finish()
+    }
+}
+
+impl<'a, D: uDebug, R: NamedFields<'a>> NamedFields<'a> for (&'a str, &'a D, R) {
+    ghost fields = { λ c. field c.0.now (D.document c.1.now) (R.fields c.2) };
+
+    fn finish<W: uWrite>(&self, block: &mut DebugStruct<W>) -> Result<(), W::Error> {
+        block.field(self.0, self.1)?;
+        self.2.finish(block)
+    }
+}
+
+impl<W: uWrite> Formatter<W> {
+    /// Writes a whole struct, whose fields are a chain `(name, value, (name, value, .. ()))` of
+    /// references.
+    pub fn struct_of<'a, F: NamedFields<'a>>(
+        &mut self,
+        name: &str,
+        fields: &F,
+    ) -> Result<(), W::Error>
+        ensures { LaysOut W.seen self.old (struct_of name.now (F.fields fields.now)) (is_ok result) self.new }
+    {
+        let mut block = self.debug_struct(name)?;
+        fields.finish(&mut block)
+    }
+
+    /// Writes a whole struct with no fields.
+    pub fn struct_0(&mut self, name: &str) -> Result<(), W::Error>
+        ensures { LaysOut W.seen self.old (struct_of name.now (fields_of ([]))) (is_ok result) self.new }
+    {
+        self.struct_of(name, &())
+    }
+
+    /// Writes a whole struct with one field.
+    pub fn struct_1<'a, A: uDebug>(
+        &mut self,
+        name: &str,
+        a: &'a str,
+        a_value: &'a A,
+    ) -> Result<(), W::Error>
+        ensures { LaysOut W.seen self.old (struct_of name.now (fields_of ((a.now, A.document a_value.now) ∷ []))) (is_ok result) self.new }
+    {
+        self.struct_of(name, &(a, a_value, ()))
+    }
+
+    /// Writes a whole struct with 2 fields.
+    pub fn struct_2<'a, A: uDebug, B: uDebug>(
+        &mut self,
+        name: &str,
+        a: &'a str,
+        a_value: &'a A,
+        b: &'a str,
+        b_value: &'a B,
+    ) -> Result<(), W::Error>
+        ensures { LaysOut W.seen self.old (struct_of name.now (fields_of ((a.now, A.document a_value.now) ∷ (b.now, B.document b_value.now) ∷ []))) (is_ok result) self.new }
+    {
+        self.struct_of(name, &(a, a_value, (b, b_value, ())))
+    }
+
+    /// Writes a whole struct with 3 fields.
+    pub fn struct_3<'a, A: uDebug, B: uDebug, C: uDebug>(
+        &mut self,
+        name: &str,
+        a: &'a str,
+        a_value: &'a A,
+        b: &'a str,
+        b_value: &'a B,
+        c: &'a str,
+        c_value: &'a C,
+    ) -> Result<(), W::Error>
+        ensures { LaysOut W.seen self.old (struct_of name.now (fields_of ((a.now, A.document a_value.now) ∷ (b.now, B.document b_value.now) ∷ (c.now, C.document c_value.now) ∷ []))) (is_ok result) self.new }
+    {
+        self.struct_of(name, &(a, a_value, (b, b_value, (c, c_value, ()))))
+    }
+
+    /// Writes a whole struct with 4 fields.
+    pub fn struct_4<'a, A: uDebug, B: uDebug, C: uDebug, D: uDebug>(
+        &mut self,
+        name: &str,
+        a: &'a str,
+        a_value: &'a A,
+        b: &'a str,
+        b_value: &'a B,
+        c: &'a str,
+        c_value: &'a C,
+        d: &'a str,
+        d_value: &'a D,
+    ) -> Result<(), W::Error>
+        ensures { LaysOut W.seen self.old (struct_of name.now (fields_of ((a.now, A.document a_value.now) ∷ (b.now, B.document b_value.now) ∷ (c.now, C.document c_value.now) ∷ (d.now, D.document d_value.now) ∷ []))) (is_ok result) self.new }
+    {
+        self.struct_of(
+            name,
+            &(a, a_value, (b, b_value, (c, c_value, (d, d_value, ())))),
+        )
+    }
+
+    /// Writes a whole struct with 5 fields.
+    pub fn struct_5<'a, A: uDebug, B: uDebug, C: uDebug, D: uDebug, E: uDebug>(
+        &mut self,
+        name: &str,
+        a: &'a str,
+        a_value: &'a A,
+        b: &'a str,
+        b_value: &'a B,
+        c: &'a str,
+        c_value: &'a C,
+        d: &'a str,
+        d_value: &'a D,
+        e: &'a str,
+        e_value: &'a E,
+    ) -> Result<(), W::Error>
+        ensures { LaysOut W.seen self.old (struct_of name.now (fields_of ((a.now, A.document a_value.now) ∷ (b.now, B.document b_value.now) ∷ (c.now, C.document c_value.now) ∷ (d.now, D.document d_value.now) ∷ (e.now, E.document e_value.now) ∷ []))) (is_ok result) self.new }
+    {
+        self.struct_of(
+            name,
+            &(
+                a,
+                a_value,
+                (b, b_value, (c, c_value, (d, d_value, (e, e_value, ())))),
+            ),
+        )
+    }
+
+    /// Writes a whole struct with 6 fields.
+    pub fn struct_6<'a, A: uDebug, B: uDebug, C: uDebug, D: uDebug, E: uDebug, F: uDebug>(
+        &mut self,
+        name: &str,
+        a: &'a str,
+        a_value: &'a A,
+        b: &'a str,
+        b_value: &'a B,
+        c: &'a str,
+        c_value: &'a C,
+        d: &'a str,
+        d_value: &'a D,
+        e: &'a str,
+        e_value: &'a E,
+        f: &'a str,
+        f_value: &'a F,
+    ) -> Result<(), W::Error>
+        ensures { LaysOut W.seen self.old (struct_of name.now (fields_of ((a.now, A.document a_value.now) ∷ (b.now, B.document b_value.now) ∷ (c.now, C.document c_value.now) ∷ (d.now, D.document d_value.now) ∷ (e.now, E.document e_value.now) ∷ (f.now, F.document f_value.now) ∷ []))) (is_ok result) self.new }
+    {
+        self.struct_of(
+            name,
+            &(
+                a,
+                a_value,
+                (
+                    b,
+                    b_value,
+                    (c, c_value, (d, d_value, (e, e_value, (f, f_value, ())))),
+                ),
+            ),
+        )
+    }
+
+    /// Writes a whole struct with 7 fields.
+    pub fn struct_7<
+        'a,
+        A: uDebug,
+        B: uDebug,
+        C: uDebug,
+        D: uDebug,
+        E: uDebug,
+        F: uDebug,
+        G: uDebug,
+    >(
+        &mut self,
+        name: &str,
+        a: &'a str,
+        a_value: &'a A,
+        b: &'a str,
+        b_value: &'a B,
+        c: &'a str,
+        c_value: &'a C,
+        d: &'a str,
+        d_value: &'a D,
+        e: &'a str,
+        e_value: &'a E,
+        f: &'a str,
+        f_value: &'a F,
+        g: &'a str,
+        g_value: &'a G,
+    ) -> Result<(), W::Error>
+        ensures { LaysOut W.seen self.old (struct_of name.now (fields_of ((a.now, A.document a_value.now) ∷ (b.now, B.document b_value.now) ∷ (c.now, C.document c_value.now) ∷ (d.now, D.document d_value.now) ∷ (e.now, E.document e_value.now) ∷ (f.now, F.document f_value.now) ∷ (g.now, G.document g_value.now) ∷ []))) (is_ok result) self.new }
+    {
+        self.struct_of(
+            name,
+            &(
+                a,
+                a_value,
+                (
+                    b,
+                    b_value,
+                    (
+                        c,
+                        c_value,
+                        (d, d_value, (e, e_value, (f, f_value, (g, g_value, ())))),
+                    ),
+                ),
+            ),
+        )
+    }
+
+    /// Writes a whole struct with 8 fields.
+    pub fn struct_8<
+        'a,
+        A: uDebug,
+        B: uDebug,
+        C: uDebug,
+        D: uDebug,
+        E: uDebug,
+        F: uDebug,
+        G: uDebug,
+        H: uDebug,
+    >(
+        &mut self,
+        name: &str,
+        a: &'a str,
+        a_value: &'a A,
+        b: &'a str,
+        b_value: &'a B,
+        c: &'a str,
+        c_value: &'a C,
+        d: &'a str,
+        d_value: &'a D,
+        e: &'a str,
+        e_value: &'a E,
+        f: &'a str,
+        f_value: &'a F,
+        g: &'a str,
+        g_value: &'a G,
+        h: &'a str,
+        h_value: &'a H,
+    ) -> Result<(), W::Error>
+        ensures { LaysOut W.seen self.old (struct_of name.now (fields_of ((a.now, A.document a_value.now) ∷ (b.now, B.document b_value.now) ∷ (c.now, C.document c_value.now) ∷ (d.now, D.document d_value.now) ∷ (e.now, E.document e_value.now) ∷ (f.now, F.document f_value.now) ∷ (g.now, G.document g_value.now) ∷ (h.now, H.document h_value.now) ∷ []))) (is_ok result) self.new }
+    {
+        self.struct_of(
+            name,
+            &(
+                a,
+                a_value,
+                (
+                    b,
+                    b_value,
+                    (
+                        c,
+                        c_value,
+                        (
+                            d,
+                            d_value,
+                            (e, e_value, (f, f_value, (g, g_value, (h, h_value, ())))),
+                        ),
+                    ),
+                ),
+            ),
+        )
+    }
+
+    /// Writes a whole struct with 9 fields.
+    pub fn struct_9<
+        'a,
+        A: uDebug,
+        B: uDebug,
+        C: uDebug,
+        D: uDebug,
+        E: uDebug,
+        F: uDebug,
+        G: uDebug,
+        H: uDebug,
+        I: uDebug,
+    >(
+        &mut self,
+        name: &str,
+        a: &'a str,
+        a_value: &'a A,
+        b: &'a str,
+        b_value: &'a B,
+        c: &'a str,
+        c_value: &'a C,
+        d: &'a str,
+        d_value: &'a D,
+        e: &'a str,
+        e_value: &'a E,
+        f: &'a str,
+        f_value: &'a F,
+        g: &'a str,
+        g_value: &'a G,
+        h: &'a str,
+        h_value: &'a H,
+        i: &'a str,
+        i_value: &'a I,
+    ) -> Result<(), W::Error>
+        ensures { LaysOut W.seen self.old (struct_of name.now (fields_of ((a.now, A.document a_value.now) ∷ (b.now, B.document b_value.now) ∷ (c.now, C.document c_value.now) ∷ (d.now, D.document d_value.now) ∷ (e.now, E.document e_value.now) ∷ (f.now, F.document f_value.now) ∷ (g.now, G.document g_value.now) ∷ (h.now, H.document h_value.now) ∷ (i.now, I.document i_value.now) ∷ []))) (is_ok result) self.new }
+    {
+        self.struct_of(
+            name,
+            &(
+                a,
+                a_value,
+                (
+                    b,
+                    b_value,
+                    (
+                        c,
+                        c_value,
+                        (
+                            d,
+                            d_value,
+                            (
+                                e,
+                                e_value,
+                                (f, f_value, (g, g_value, (h, h_value, (i, i_value, ())))),
+                            ),
+                        ),
+                    ),
+                ),
+            ),
+        )
+    }
+
+    /// Writes a whole struct with 10 fields.
+    pub fn struct_10<
+        'a,
+        A: uDebug,
+        B: uDebug,
+        C: uDebug,
+        D: uDebug,
+        E: uDebug,
+        F: uDebug,
+        G: uDebug,
+        H: uDebug,
+        I: uDebug,
+        J: uDebug,
+    >(
+        &mut self,
+        name: &str,
+        a: &'a str,
+        a_value: &'a A,
+        b: &'a str,
+        b_value: &'a B,
+        c: &'a str,
+        c_value: &'a C,
+        d: &'a str,
+        d_value: &'a D,
+        e: &'a str,
+        e_value: &'a E,
+        f: &'a str,
+        f_value: &'a F,
+        g: &'a str,
+        g_value: &'a G,
+        h: &'a str,
+        h_value: &'a H,
+        i: &'a str,
+        i_value: &'a I,
+        j: &'a str,
+        j_value: &'a J,
+    ) -> Result<(), W::Error>
+        ensures { LaysOut W.seen self.old (struct_of name.now (fields_of ((a.now, A.document a_value.now) ∷ (b.now, B.document b_value.now) ∷ (c.now, C.document c_value.now) ∷ (d.now, D.document d_value.now) ∷ (e.now, E.document e_value.now) ∷ (f.now, F.document f_value.now) ∷ (g.now, G.document g_value.now) ∷ (h.now, H.document h_value.now) ∷ (i.now, I.document i_value.now) ∷ (j.now, J.document j_value.now) ∷ []))) (is_ok result) self.new }
+    {
+        self.struct_of(
+            name,
+            &(
+                a,
+                a_value,
+                (
+                    b,
+                    b_value,
+                    (
+                        c,
+                        c_value,
+                        (
+                            d,
+                            d_value,
+                            (
+                                e,
+                                e_value,
+                                (
+                                    f,
+                                    f_value,
+                                    (g, g_value, (h, h_value, (i, i_value, (j, j_value, ())))),
+                                ),
+                            ),
+                        ),
+                    ),
+                ),
+            ),
+        )
+    }
+
+    /// Writes a whole struct with 11 fields.
+    pub fn struct_11<
+        'a,
+        A: uDebug,
+        B: uDebug,
+        C: uDebug,
+        D: uDebug,
+        E: uDebug,
+        F: uDebug,
+        G: uDebug,
+        H: uDebug,
+        I: uDebug,
+        J: uDebug,
+        K: uDebug,
+    >(
+        &mut self,
+        name: &str,
+        a: &'a str,
+        a_value: &'a A,
+        b: &'a str,
+        b_value: &'a B,
+        c: &'a str,
+        c_value: &'a C,
+        d: &'a str,
+        d_value: &'a D,
+        e: &'a str,
+        e_value: &'a E,
+        f: &'a str,
+        f_value: &'a F,
+        g: &'a str,
+        g_value: &'a G,
+        h: &'a str,
+        h_value: &'a H,
+        i: &'a str,
+        i_value: &'a I,
+        j: &'a str,
+        j_value: &'a J,
+        k: &'a str,
+        k_value: &'a K,
+    ) -> Result<(), W::Error>
+        ensures { LaysOut W.seen self.old (struct_of name.now (fields_of ((a.now, A.document a_value.now) ∷ (b.now, B.document b_value.now) ∷ (c.now, C.document c_value.now) ∷ (d.now, D.document d_value.now) ∷ (e.now, E.document e_value.now) ∷ (f.now, F.document f_value.now) ∷ (g.now, G.document g_value.now) ∷ (h.now, H.document h_value.now) ∷ (i.now, I.document i_value.now) ∷ (j.now, J.document j_value.now) ∷ (k.now, K.document k_value.now) ∷ []))) (is_ok result) self.new }
+    {
+        self.struct_of(
+            name,
+            &(
+                a,
+                a_value,
+                (
+                    b,
+                    b_value,
+                    (
+                        c,
+                        c_value,
+                        (
+                            d,
+                            d_value,
+                            (
+                                e,
+                                e_value,
+                                (
+                                    f,
+                                    f_value,
+                                    (
+                                        g,
+                                        g_value,
+                                        (h, h_value, (i, i_value, (j, j_value, (k, k_value, ())))),
+                                    ),
+                                ),
+                            ),
+                        ),
+                    ),
+                ),
+            ),
+        )
+    }
+
+    /// Writes a whole struct with 12 fields.
+    pub fn struct_12<
+        'a,
+        A: uDebug,
+        B: uDebug,
+        C: uDebug,
+        D: uDebug,
+        E: uDebug,
+        F: uDebug,
+        G: uDebug,
+        H: uDebug,
+        I: uDebug,
+        J: uDebug,
+        K: uDebug,
+        L: uDebug,
+    >(
+        &mut self,
+        name: &str,
+        a: &'a str,
+        a_value: &'a A,
+        b: &'a str,
+        b_value: &'a B,
+        c: &'a str,
+        c_value: &'a C,
+        d: &'a str,
+        d_value: &'a D,
+        e: &'a str,
+        e_value: &'a E,
+        f: &'a str,
+        f_value: &'a F,
+        g: &'a str,
+        g_value: &'a G,
+        h: &'a str,
+        h_value: &'a H,
+        i: &'a str,
+        i_value: &'a I,
+        j: &'a str,
+        j_value: &'a J,
+        k: &'a str,
+        k_value: &'a K,
+        l: &'a str,
+        l_value: &'a L,
+    ) -> Result<(), W::Error>
+        ensures { LaysOut W.seen self.old (struct_of name.now (fields_of ((a.now, A.document a_value.now) ∷ (b.now, B.document b_value.now) ∷ (c.now, C.document c_value.now) ∷ (d.now, D.document d_value.now) ∷ (e.now, E.document e_value.now) ∷ (f.now, F.document f_value.now) ∷ (g.now, G.document g_value.now) ∷ (h.now, H.document h_value.now) ∷ (i.now, I.document i_value.now) ∷ (j.now, J.document j_value.now) ∷ (k.now, K.document k_value.now) ∷ (l.now, L.document l_value.now) ∷ []))) (is_ok result) self.new }
+    {
+        self.struct_of(
+            name,
+            &(
+                a,
+                a_value,
+                (
+                    b,
+                    b_value,
+                    (
+                        c,
+                        c_value,
+                        (
+                            d,
+                            d_value,
+                            (
+                                e,
+                                e_value,
+                                (
+                                    f,
+                                    f_value,
+                                    (
+                                        g,
+                                        g_value,
+                                        (
+                                            h,
+                                            h_value,
+                                            (
+                                                i,
+                                                i_value,
+                                                (j, j_value, (k, k_value, (l, l_value, ()))),
+                                            ),
+                                        ),
+                                    ),
+                                ),
+                            ),
+                        ),
+                    ),
+                ),
+            ),
+        )
+    }
+}

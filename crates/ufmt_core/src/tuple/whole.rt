@@ -1,0 +1,321 @@
+//! A whole tuple in one call: what stands under `fields!`, and what one may call in its place.
+ghost use Rattle.std.specs.Prelude.{is_ok, [], ◌∷◌};
+ghost use Rattle.ufmt_core.specs.Document.{Documents, document, documents, no_documents, tuple_of};
+ghost use Rattle.ufmt_core.specs.Formatter.{LaysOut};
+ghost use Rattle.ufmt_core.specs.Block.{Closing, IsInside, IsOpen, entries_left, rest_of};
+ghost use Rattle.ufmt_core.specs.Builder.{tuple_block};
+
+use crate::formatter::Formatter;
+use crate::tuple::DebugTuple;
+use crate::uDebug;
+use crate::write::uWrite;
+
+/// The fields that are left to a tuple: the next and those after it, or `()`.
+pub trait UnnamedFields<'a> {
+    /// The fields' documents.
+    ghost documents: { Self → Documents };
+
+    /// Writes the fields, and closes the tuple.
+    fn finish<W: uWrite>(&self, block: &mut DebugTuple<W>) -> Result<(), W::Error>
+        requires is_open { IsOpen (tuple_block block.old) }
+        requires is_inside { IsInside (tuple_block block.old) }
+        ensures { Closing W.seen (tuple_block block.old) (rest_of (tuple_block block.old) (entries_left (documents self.now))) (is_ok result) (tuple_block block.new) };
+}
+
+impl<'a> UnnamedFields<'a> for () {
+    ghost documents = { λ _. no_documents };
+
+    fn finish<W: uWrite>(&self, block: &mut DebugTuple<W>) -> Result<(), W::Error> {
+        block.finish()
+    }
+}
+
+impl<'a, D: uDebug, R: UnnamedFields<'a>> UnnamedFields<'a> for (&'a D, R) {
+    ghost documents = { λ c. document (D.document c.0.now) (R.documents c.1) };
+
+    fn finish<W: uWrite>(&self, block: &mut DebugTuple<W>) -> Result<(), W::Error> {
+        block.field(self.0)?;
+        self.1.finish(block)
+    }
+}
+
+impl<W: uWrite> Formatter<W> {
+    /// Writes a whole tuple, whose fields are a chain `(value, (value, .. ()))` of references.
+    pub fn tuple_of<'a, F: UnnamedFields<'a>>(
+        &mut self,
+        name: &str,
+        fields: &F,
+    ) -> Result<(), W::Error>
+        ensures { LaysOut W.seen self.old (tuple_of name.now (F.documents fields.now)) (is_ok result) self.new }
+    {
+        let mut block = self.debug_tuple(name)?;
+        fields.finish(&mut block)
+    }
+
+    /// Writes a whole tuple with no fields.
+    pub fn tuple_0(&mut self, name: &str) -> Result<(), W::Error>
+        ensures { LaysOut W.seen self.old (tuple_of name.now (documents ([]))) (is_ok result) self.new }
+    {
+        self.tuple_of(name, &())
+    }
+
+    /// Writes a whole tuple with one field.
+    pub fn tuple_1<'a, A: uDebug>(&mut self, name: &str, a: &'a A) -> Result<(), W::Error>
+        ensures { LaysOut W.seen self.old (tuple_of name.now (documents (A.document a.now ∷ []))) (is_ok result) self.new }
+    {
+        self.tuple_of(name, &(a, ()))
+    }
+
+    /// Writes a whole tuple with 2 fields.
+    pub fn tuple_2<'a, A: uDebug, B: uDebug>(
+        &mut self,
+        name: &str,
+        a: &'a A,
+        b: &'a B,
+    ) -> Result<(), W::Error>
+        ensures { LaysOut W.seen self.old (tuple_of name.now (documents (A.document a.now ∷ B.document b.now ∷ []))) (is_ok result) self.new }
+    {
+        self.tuple_of(name, &(a, (b, ())))
+    }
+
+    /// Writes a whole tuple with 3 fields.
+    pub fn tuple_3<'a, A: uDebug, B: uDebug, C: uDebug>(
+        &mut self,
+        name: &str,
+        a: &'a A,
+        b: &'a B,
+        c: &'a C,
+    ) -> Result<(), W::Error>
+        ensures { LaysOut W.seen self.old (tuple_of name.now (documents (A.document a.now ∷ B.document b.now ∷ C.document c.now ∷ []))) (is_ok result) self.new }
+    {
+        self.tuple_of(name, &(a, (b, (c, ()))))
+    }
+
+    /// Writes a whole tuple with 4 fields.
+    pub fn tuple_4<'a, A: uDebug, B: uDebug, C: uDebug, D: uDebug>(
+        &mut self,
+        name: &str,
+        a: &'a A,
+        b: &'a B,
+        c: &'a C,
+        d: &'a D,
+    ) -> Result<(), W::Error>
+        ensures { LaysOut W.seen self.old (tuple_of name.now (documents (A.document a.now ∷ B.document b.now ∷ C.document c.now ∷ D.document d.now ∷ []))) (is_ok result) self.new }
+    {
+        self.tuple_of(name, &(a, (b, (c, (d, ())))))
+    }
+
+    /// Writes a whole tuple with 5 fields.
+    pub fn tuple_5<'a, A: uDebug, B: uDebug, C: uDebug, D: uDebug, E: uDebug>(
+        &mut self,
+        name: &str,
+        a: &'a A,
+        b: &'a B,
+        c: &'a C,
+        d: &'a D,
+        e: &'a E,
+    ) -> Result<(), W::Error>
+        ensures { LaysOut W.seen self.old (tuple_of name.now (documents (A.document a.now ∷ B.document b.now ∷ C.document c.now ∷ D.document d.now ∷ E.document e.now ∷ []))) (is_ok result) self.new }
+    {
+        self.tuple_of(name, &(a, (b, (c, (d, (e, ()))))))
+    }
+
+    /// Writes a whole tuple with 6 fields.
+    pub fn tuple_6<'a, A: uDebug, B: uDebug, C: uDebug, D: uDebug, E: uDebug, F: uDebug>(
+        &mut self,
+        name: &str,
+        a: &'a A,
+        b: &'a B,
+        c: &'a C,
+        d: &'a D,
+        e: &'a E,
+        f: &'a F,
+    ) -> Result<(), W::Error>
+        ensures { LaysOut W.seen self.old (tuple_of name.now (documents (A.document a.now ∷ B.document b.now ∷ C.document c.now ∷ D.document d.now ∷ E.document e.now ∷ F.document f.now ∷ []))) (is_ok result) self.new }
+    {
+        self.tuple_of(name, &(a, (b, (c, (d, (e, (f, ())))))))
+    }
+
+    /// Writes a whole tuple with 7 fields.
+    pub fn tuple_7<'a, A: uDebug, B: uDebug, C: uDebug, D: uDebug, E: uDebug, F: uDebug, G: uDebug>(
+        &mut self,
+        name: &str,
+        a: &'a A,
+        b: &'a B,
+        c: &'a C,
+        d: &'a D,
+        e: &'a E,
+        f: &'a F,
+        g: &'a G,
+    ) -> Result<(), W::Error>
+        ensures { LaysOut W.seen self.old (tuple_of name.now (documents (A.document a.now ∷ B.document b.now ∷ C.document c.now ∷ D.document d.now ∷ E.document e.now ∷ F.document f.now ∷ G.document g.now ∷ []))) (is_ok result) self.new }
+    {
+        self.tuple_of(name, &(a, (b, (c, (d, (e, (f, (g, ()))))))))
+    }
+
+    /// Writes a whole tuple with 8 fields.
+    pub fn tuple_8<
+        'a,
+        A: uDebug,
+        B: uDebug,
+        C: uDebug,
+        D: uDebug,
+        E: uDebug,
+        F: uDebug,
+        G: uDebug,
+        H: uDebug,
+    >(
+        &mut self,
+        name: &str,
+        a: &'a A,
+        b: &'a B,
+        c: &'a C,
+        d: &'a D,
+        e: &'a E,
+        f: &'a F,
+        g: &'a G,
+        h: &'a H,
+    ) -> Result<(), W::Error>
+        ensures { LaysOut W.seen self.old (tuple_of name.now (documents (A.document a.now ∷ B.document b.now ∷ C.document c.now ∷ D.document d.now ∷ E.document e.now ∷ F.document f.now ∷ G.document g.now ∷ H.document h.now ∷ []))) (is_ok result) self.new }
+    {
+        self.tuple_of(name, &(a, (b, (c, (d, (e, (f, (g, (h, ())))))))))
+    }
+
+    /// Writes a whole tuple with 9 fields.
+    pub fn tuple_9<
+        'a,
+        A: uDebug,
+        B: uDebug,
+        C: uDebug,
+        D: uDebug,
+        E: uDebug,
+        F: uDebug,
+        G: uDebug,
+        H: uDebug,
+        I: uDebug,
+    >(
+        &mut self,
+        name: &str,
+        a: &'a A,
+        b: &'a B,
+        c: &'a C,
+        d: &'a D,
+        e: &'a E,
+        f: &'a F,
+        g: &'a G,
+        h: &'a H,
+        i: &'a I,
+    ) -> Result<(), W::Error>
+        ensures { LaysOut W.seen self.old (tuple_of name.now (documents (A.document a.now ∷ B.document b.now ∷ C.document c.now ∷ D.document d.now ∷ E.document e.now ∷ F.document f.now ∷ G.document g.now ∷ H.document h.now ∷ I.document i.now ∷ []))) (is_ok result) self.new }
+    {
+        self.tuple_of(name, &(a, (b, (c, (d, (e, (f, (g, (h, (i, ()))))))))))
+    }
+
+    /// Writes a whole tuple with 10 fields.
+    pub fn tuple_10<
+        'a,
+        A: uDebug,
+        B: uDebug,
+        C: uDebug,
+        D: uDebug,
+        E: uDebug,
+        F: uDebug,
+        G: uDebug,
+        H: uDebug,
+        I: uDebug,
+        J: uDebug,
+    >(
+        &mut self,
+        name: &str,
+        a: &'a A,
+        b: &'a B,
+        c: &'a C,
+        d: &'a D,
+        e: &'a E,
+        f: &'a F,
+        g: &'a G,
+        h: &'a H,
+        i: &'a I,
+        j: &'a J,
+    ) -> Result<(), W::Error>
+        ensures { LaysOut W.seen self.old (tuple_of name.now (documents (A.document a.now ∷ B.document b.now ∷ C.document c.now ∷ D.document d.now ∷ E.document e.now ∷ F.document f.now ∷ G.document g.now ∷ H.document h.now ∷ I.document i.now ∷ J.document j.now ∷ []))) (is_ok result) self.new }
+    {
+        self.tuple_of(name, &(a, (b, (c, (d, (e, (f, (g, (h, (i, (j, ())))))))))))
+    }
+
+    /// Writes a whole tuple with 11 fields.
+    pub fn tuple_11<
+        'a,
+        A: uDebug,
+        B: uDebug,
+        C: uDebug,
+        D: uDebug,
+        E: uDebug,
+        F: uDebug,
+        G: uDebug,
+        H: uDebug,
+        I: uDebug,
+        J: uDebug,
+        K: uDebug,
+    >(
+        &mut self,
+        name: &str,
+        a: &'a A,
+        b: &'a B,
+        c: &'a C,
+        d: &'a D,
+        e: &'a E,
+        f: &'a F,
+        g: &'a G,
+        h: &'a H,
+        i: &'a I,
+        j: &'a J,
+        k: &'a K,
+    ) -> Result<(), W::Error>
+        ensures { LaysOut W.seen self.old (tuple_of name.now (documents (A.document a.now ∷ B.document b.now ∷ C.document c.now ∷ D.document d.now ∷ E.document e.now ∷ F.document f.now ∷ G.document g.now ∷ H.document h.now ∷ I.document i.now ∷ J.document j.now ∷ K.document k.now ∷ []))) (is_ok result) self.new }
+    {
+        self.tuple_of(
+            name,
+            &(a, (b, (c, (d, (e, (f, (g, (h, (i, (j, (k, ()))))))))))),
+        )
+    }
+
+    /// Writes a whole tuple with 12 fields.
+    pub fn tuple_12<
+        'a,
+        A: uDebug,
+        B: uDebug,
+        C: uDebug,
+        D: uDebug,
+        E: uDebug,
+        F: uDebug,
+        G: uDebug,
+        H: uDebug,
+        I: uDebug,
+        J: uDebug,
+        K: uDebug,
+        L: uDebug,
+    >(
+        &mut self,
+        name: &str,
+        a: &'a A,
+        b: &'a B,
+        c: &'a C,
+        d: &'a D,
+        e: &'a E,
+        f: &'a F,
+        g: &'a G,
+        h: &'a H,
+        i: &'a I,
+        j: &'a J,
+        k: &'a K,
+        l: &'a L,
+    ) -> Result<(), W::Error>
+        ensures { LaysOut W.seen self.old (tuple_of name.now (documents (A.document a.now ∷ B.document b.now ∷ C.document c.now ∷ D.document d.now ∷ E.document e.now ∷ F.document f.now ∷ G.document g.now ∷ H.document h.now ∷ I.document i.now ∷ J.document j.now ∷ K.document k.now ∷ L.document l.now ∷ []))) (is_ok result) self.new }
+    {
+        self.tuple_of(
+            name,
+            &(a, (b, (c, (d, (e, (f, (g, (h, (i, (j, (k, (l, ())))))))))))),
+        )
+    }
+}
