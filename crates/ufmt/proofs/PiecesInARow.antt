@@ -4,6 +4,7 @@ use Rattle.ufmt_core.specs.declared.formatter.Setting.{Setting}
 use Rattle.ufmt_core.specs.declared.formatter.Formatter.{Formatter}
 use Rattle.ufmt_core.specs.Document.{Document}
 use Rattle.ufmt_core.specs.Writes.{Seen}
+pub use Rattle.ufmt_core.proofs.Writing.{Prints-err, Prints-fails, Prints-then}
 use Rattle.ufmt_core.specs.Layout.{layout}
 use Rattle.ufmt_core.specs.Formatter.{LaysOut, Prints, setting_of}
 

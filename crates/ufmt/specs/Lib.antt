@@ -1,3 +1,4 @@
+pub mod Buffer
 pub mod Cursor
 pub mod Hex
 pub mod NormalForm

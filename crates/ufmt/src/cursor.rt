@@ -1,8 +1,12 @@
 //! A writer over a buffer of a fixed size.
 ghost use Rattle.std.specs.Prelude.{◌≡◌, ◌+◌, ◌≤◌, [], length, is_ok, encode_utf8};
+ghost use Rattle.ufmt_core.specs.Layout.{plain_text};
 ghost use Rattle.ufmt_core.specs.Writes.{Writes};
+ghost use Rattle.ufmt.specs.Buffer.{Fronts};
 
-use ufmt_core::uWrite;
+use crate::display::uDisplay;
+use crate::pieces::{write_debug, write_display};
+use ufmt_core::{uDebug, uWrite};
 
 /// A piece has more bytes than remain in a `Cursor`.
 #[derive(Clone, Copy, PartialEq, Eq, Debug)]
@@ -73,4 +77,23 @@ impl uWrite for Cursor<'_> {
         let mut bytes = [0u8; 4];
         self.write_str(c.encode_utf8(&mut bytes))
     }
+}
+
+/// Prints the value, as `uDebug` does in plain mode, to the front of the buffer, and answers how many
+/// bytes it has. On `Full` the buffer begins with a beginning of the text. The other bytes stay.
+pub fn debug_into<T: uDebug>(buffer: &mut [u8], value: &T) -> Result<usize, Full>
+    ensures { Fronts buffer.old (plain_text (T.document value.now)) result buffer.new }
+{
+    let mut cursor = Cursor::new(buffer);
+    write_debug(&mut cursor, value)?;
+    Ok(cursor.written().len())
+}
+
+/// The same of `uDisplay`.
+pub fn display_into<T: uDisplay>(buffer: &mut [u8], value: &T) -> Result<usize, Full>
+    ensures { Fronts buffer.old (plain_text (T.display value.now)) result buffer.new }
+{
+    let mut cursor = Cursor::new(buffer);
+    write_display(&mut cursor, value)?;
+    Ok(cursor.written().len())
 }

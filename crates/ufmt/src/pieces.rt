@@ -2,7 +2,10 @@
 ghost use Rattle.std.specs.Prelude.{is_ok};
 ghost use Rattle.ufmt_core.specs.Document.{pretty_part};
 ghost use Rattle.ufmt_core.specs.Formatter.{LaysOut};
+ghost use Rattle.ufmt_core.specs.Layout.{plain_text};
+ghost use Rattle.ufmt_core.specs.Writes.{Writes};
 
+use crate::display::uDisplay;
 use ufmt_core::{Formatter, uDebug, uWrite};
 
 /// Prints the value in pretty mode, at the formatter's depth: what a piece `pretty e` does.
@@ -10,6 +13,22 @@ pub fn fmt_pretty<T: uDebug, W: uWrite>(value: &T, f: &mut Formatter<W>) -> Resu
     ensures { LaysOut W.seen f.old (pretty_part (T.document value.now)) (is_ok result) f.new }
 {
     f.pretty(|f| value.fmt(f))
+}
+
+/// Prints the value to the writer, as `uDebug` does in plain mode.
+pub fn write_debug<T: uDebug, W: uWrite>(writer: &mut W, value: &T) -> Result<(), W::Error>
+    ensures { Writes W.seen writer.old (plain_text (T.document value.now)) (is_ok result) writer.new }
+{
+    let mut f = Formatter::new(writer);
+    value.fmt(&mut f)
+}
+
+/// Prints the value to the writer, as `uDisplay` does in plain mode.
+pub fn write_display<T: uDisplay, W: uWrite>(writer: &mut W, value: &T) -> Result<(), W::Error>
+    ensures { Writes W.seen writer.old (plain_text (T.display value.now)) (is_ok result) writer.new }
+{
+    let mut f = Formatter::new(writer);
+    value.fmt(&mut f)
 }
 
 /// Writes pieces to a formatter, one after another, and answers the first failure.

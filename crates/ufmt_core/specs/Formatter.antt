@@ -1,7 +1,7 @@
 -- What contracts say of a formatter: its writer, its mode and depth, and what a call prints.
 use Rattle.std.specs.Prelude.{◌≡◌, ℕ, List, Bool}
 use Rattle.ufmt_core.specs.declared.formatter.Mode.{Mode}
-use Rattle.ufmt_core.specs.declared.formatter.Mode.TheVariants.{Pretty}
+use Rattle.ufmt_core.specs.declared.formatter.Mode.TheVariants.{Plain, Pretty}
 use Rattle.ufmt_core.specs.declared.formatter.Setting.{Setting}
 use Rattle.ufmt_core.specs.declared.formatter.Formatter.{Formatter}
 use Rattle.ufmt_core.specs.Document.{Document}
@@ -21,6 +21,10 @@ module _ {W : Type 0} where
 
   abbrev pub depth_of : Formatter W → ℕ
   depth_of f = f.setting.depth
+
+  -- plain, and outside of every block
+  abbrev pub IsNew : Formatter W → Type 0
+  IsNew f = setting_of f ≡ setting Plain 0
 
   -- the same formatter at this mode and depth
   abbrev pub at_setting : Formatter W → Setting → Formatter W

@@ -1,9 +1,9 @@
 ghost use Rattle.std.specs.Prelude.{◌≡◌, ◌↔◌, ℕ, is_ok, encode_utf8, IsTrue};
-ghost use Rattle.ufmt_core.specs.declared.formatter.Mode.TheVariants.{Plain, Pretty};
+ghost use Rattle.ufmt_core.specs.declared.formatter.Mode.TheVariants.{Pretty};
 ghost use Rattle.std.specs.Borrow.{MutBor};
 ghost use Rattle.std.specs.Fn.{FnOnceReturnsAtMut};
 ghost use Rattle.ufmt_core.specs.declared.formatter.Formatter.{Formatter};
-ghost use Rattle.ufmt_core.specs.Formatter.{Prints, at_setting, depth_of, in_pretty_mode, mode_of, setting_of, writer_of};
+ghost use Rattle.ufmt_core.specs.Formatter.{IsNew, Prints, at_setting, depth_of, in_pretty_mode, mode_of, setting_of, writer_of};
 
 pub(crate) mod block;
 pub(crate) mod builder;
@@ -35,8 +35,7 @@ impl<W: uWrite> Formatter<W> {
     /// A plain formatter at depth 0 over this writer, which may be a `&mut` to one.
     pub fn new(writer: W) -> Formatter<W>
         ensures writer { writer_of result ≡ writer }
-        ensures mode { mode_of result ≡ Plain }
-        ensures depth { depth_of result ≡ 0 }
+        ensures is_new { IsNew result }
     {
         Formatter {
             writer,
@@ -92,7 +91,8 @@ impl<W: uWrite> Formatter<W> {
         matches!(self.setting.mode, Mode::Pretty)
     }
 
-    /// How many blocks in pretty mode what is printed lies in, at most 255.
+    /// How many blocks stand round what is printed in pretty mode, at most 255: each line begins with
+    /// four spaces for each.
     pub fn depth(&self) -> u8
         ensures { result ≡ depth_of self.now }
     {
