@@ -1,5 +1,7 @@
 //! Laws, each as the contract of a function.
-ghost use Rattle.std.specs.Prelude.{[], ◌∷◌, is_ok, ◌≡◌, ◌<◌, ◌≤◌, ◌↔◌, ◌++◌, ℕ, List, length, drop, IsOk, OnOk, OnErr};
+ghost use Rattle.std.specs.Prelude.{[], ◌∷◌, is_ok, ◌≡◌, ◌<◌, ◌≤◌, ◌↔◌, ◌++◌, ℕ, ℤ, List, length, drop, map, true, false, IsOk, OnOk, OnErr, None, Some, Ok, Err};
+ghost use Rattle.ufmt_core.specs.Document.{documents, list_of, map_of, pairs_of, set_of};
+ghost use Rattle.ufmt_core.specs.Words.{integer, named, named_tuple, number};
 ghost use Rattle.std.specs.Borrow.{Bor, MutBor};
 ghost use Rattle.std.specs.Global.{Box};
 ghost use Rattle.std.specs.Int.{w8, w16, w32, w64, w128};
@@ -16,6 +18,7 @@ use crate::cursor::{Cursor, Full};
 use crate::display::uDisplay;
 use crate::hex::{HexOptions, uDisplayHex};
 use crate::uwrite;
+use std::collections::{BTreeMap, BTreeSet};
 use std::num::{
     NonZeroI8, NonZeroI16, NonZeroI32, NonZeroI64, NonZeroIsize, NonZeroU8, NonZeroU16, NonZeroU32,
     NonZeroU64, NonZeroUsize,
@@ -42,7 +45,8 @@ pub fn hexadecimal_is_one_text()
 /// A padded text has as many bytes as the greater of the length to pad to and prefix with payload,
 /// and what exceeds the latter is pad bytes.
 pub fn padding_reaches_length()
-    ensures { (options : HexOptions) (payload : List ℕ) → IsPadded options payload (padded options payload) }
+    ensures { (options : HexOptions) (payload : List ℕ) → IsPadded options payload
+        (padded options payload) }
 {}
 
 /// An unsigned number prints its hexadecimal text, padded.
@@ -92,13 +96,19 @@ pub fn both_traits_print_one_text()
     ensures of_bool { ⟦<bool as uDisplay>⟧.display ≡ ⟦<bool as uDebug>⟧.document }
 {}
 
-/// A reference prints as what it refers to, in either trait.
-pub fn references_print_what_they_refer_to<T: uDebug + uDisplay>()
+/// A reference prints as what it refers to.
+pub fn references_print_what_they_refer_to<T: uDebug>()
     ensures debug { (x : Bor T) → ⟦<&'static T as uDebug>⟧.document x ≡ T.document x.now }
-    ensures debug_mut { (x : MutBor T) → ⟦<&'static mut T as uDebug>⟧.document x ≡ T.document x.now }
+    ensures debug_mut { (x : MutBor T) → ⟦<&'static mut T as uDebug>⟧.document x ≡ T.document
+        x.now }
     ensures debug_box { (x : Box T) → ⟦<Box<T> as uDebug>⟧.document x ≡ T.document x.value }
+{}
+
+/// A reference is displayed as what it refers to.
+pub fn references_display_what_they_refer_to<T: uDisplay>()
     ensures display { (x : Bor T) → ⟦<&'static T as uDisplay>⟧.display x ≡ T.display x.now }
-    ensures display_mut { (x : MutBor T) → ⟦<&'static mut T as uDisplay>⟧.display x ≡ T.display x.now }
+    ensures display_mut { (x : MutBor T) → ⟦<&'static mut T as uDisplay>⟧.display x ≡ T.display
+        x.now }
     ensures display_box { (x : Box T) → ⟦<Box<T> as uDisplay>⟧.display x ≡ T.display x.value }
 {}
 
@@ -165,4 +175,55 @@ pub fn texts_are_read_exactly()
     ensures only { ReadsOnlyTexts }
     ensures each { ReadsEachText }
     ensures refused { RefusesNoText }
+{}
+
+/// The document of a number is the leaf of its decimal text, and that of a truth value, of `()` and
+/// of `None` the leaf of its name.
+pub fn documents_of_leaves<T: uDebug>()
+    ensures of_u8 { (n : ℕ) → ⟦<u8 as uDebug>⟧.document n ≡ number n }
+    ensures of_u16 { (n : ℕ) → ⟦<u16 as uDebug>⟧.document n ≡ number n }
+    ensures of_u32 { (n : ℕ) → ⟦<u32 as uDebug>⟧.document n ≡ number n }
+    ensures of_u64 { (n : ℕ) → ⟦<u64 as uDebug>⟧.document n ≡ number n }
+    ensures of_u128 { (n : ℕ) → ⟦<u128 as uDebug>⟧.document n ≡ number n }
+    ensures of_usize { (n : ℕ) → ⟦<usize as uDebug>⟧.document n ≡ number n }
+    ensures of_i8 { (z : ℤ) → ⟦<i8 as uDebug>⟧.document z ≡ integer z }
+    ensures of_i16 { (z : ℤ) → ⟦<i16 as uDebug>⟧.document z ≡ integer z }
+    ensures of_i32 { (z : ℤ) → ⟦<i32 as uDebug>⟧.document z ≡ integer z }
+    ensures of_i64 { (z : ℤ) → ⟦<i64 as uDebug>⟧.document z ≡ integer z }
+    ensures of_i128 { (z : ℤ) → ⟦<i128 as uDebug>⟧.document z ≡ integer z }
+    ensures of_isize { (z : ℤ) → ⟦<isize as uDebug>⟧.document z ≡ integer z }
+    ensures of_true { ⟦<bool as uDebug>⟧.document true ≡ named "true" }
+    ensures of_false { ⟦<bool as uDebug>⟧.document false ≡ named "false" }
+    ensures of_unit { (u : Unit {0}) → ⟦<() as uDebug>⟧.document u ≡ named "()" }
+    ensures of_none { ⟦<Option<T> as uDebug>⟧.document None ≡ named "None" }
+{}
+
+/// The document of a variant is the tuple of its name, that of a sequence the list of its items, that
+/// of a set the set of its items and that of a map the map of its entries, each in order.
+pub fn documents_of_collections<T: uDebug + Ord, U: uDebug, const N: usize>()
+    ensures of_some { (x : T) → ⟦<Option<T> as uDebug>⟧.document (Some x) ≡
+        named_tuple "Some" (T.document x ∷ []) }
+    ensures of_ok { (x : T) → ⟦<Result<T, U> as uDebug>⟧.document (Ok x) ≡
+        named_tuple "Ok" (T.document x ∷ []) }
+    ensures of_err { (x : U) → ⟦<Result<T, U> as uDebug>⟧.document (Err x) ≡
+        named_tuple "Err" (U.document x ∷ []) }
+    ensures of_slice { ⟦<&'static [T] as uDebug>⟧.document ≡
+        (λ xs. list_of (documents (map T.document xs.now))) }
+    ensures of_array { ⟦<[T; N] as uDebug>⟧.document ≡
+        (λ xs. list_of (documents (map T.document xs))) }
+    ensures of_vec { ⟦<Vec<T> as uDebug>⟧.document ≡
+        (λ xs. list_of (documents (map T.document xs.items))) }
+    ensures of_set { ⟦<BTreeSet<T> as uDebug>⟧.document ≡
+        (λ xs. set_of (documents (map T.document xs.keys))) }
+    ensures of_map { ⟦<BTreeMap<T, U> as uDebug>⟧.document ≡
+        (λ es. map_of (pairs_of (map (λ e. (T.document e.0, U.document e.1)) es.entries))) }
+{}
+
+/// The document of a tuple is the tuple without a name of its fields.
+pub fn documents_of_tuples<T: uDebug, U: uDebug, V: uDebug>()
+    ensures of_one { ⟦<(T,) as uDebug>⟧.document ≡ (λ t. named_tuple "" (T.document t.0 ∷ [])) }
+    ensures of_two { ⟦<(T, U) as uDebug>⟧.document ≡
+        (λ t. named_tuple "" (T.document t.0 ∷ U.document t.1 ∷ [])) }
+    ensures of_three { ⟦<(T, U, V) as uDebug>⟧.document ≡
+        (λ t. named_tuple "" (T.document t.0 ∷ U.document t.1 ∷ V.document t.2 ∷ [])) }
 {}

@@ -17,7 +17,8 @@ pub fn fmt_pretty<T: uDebug, W: uWrite>(value: &T, f: &mut Formatter<W>) -> Resu
 
 /// Prints the value to the writer, as `uDebug` does in plain mode.
 pub fn write_debug<T: uDebug, W: uWrite>(writer: &mut W, value: &T) -> Result<(), W::Error>
-    ensures { Writes W.seen writer.old (plain_text (T.document value.now)) (is_ok result) writer.new }
+    ensures { Writes W.seen writer.old (plain_text (T.document value.now)) (is_ok result)
+        writer.new }
 {
     let mut f = Formatter::new(writer);
     value.fmt(&mut f)
@@ -25,7 +26,8 @@ pub fn write_debug<T: uDebug, W: uWrite>(writer: &mut W, value: &T) -> Result<()
 
 /// Prints the value to the writer, as `uDisplay` does in plain mode.
 pub fn write_display<T: uDisplay, W: uWrite>(writer: &mut W, value: &T) -> Result<(), W::Error>
-    ensures { Writes W.seen writer.old (plain_text (T.display value.now)) (is_ok result) writer.new }
+    ensures { Writes W.seen writer.old (plain_text (T.display value.now)) (is_ok result)
+        writer.new }
 {
     let mut f = Formatter::new(writer);
     value.fmt(&mut f)

@@ -74,7 +74,8 @@ impl<W: uWrite> Formatter<W> {
         f: F,
     ) -> Result<(), W::Error>
         requires { (p : MutBor (Formatter W)) → p.now ≡ in_pretty_mode self.old → F.pre f p }
-        ensures { (last : Formatter W) × FnOnceReturnsAtMut F.FnOnce f (in_pretty_mode self.old) result last
+        ensures { (last : Formatter W) × FnOnceReturnsAtMut F.FnOnce f (in_pretty_mode self.old)
+            result last
             × (self.new ≡ at_setting last (setting_of self.old)) }
     {
         let outer = self.setting;

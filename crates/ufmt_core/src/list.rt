@@ -38,7 +38,9 @@ impl<W: uWrite> Formatter<W> {
     /// Writes `[` and begins a list. On `Err` there is no builder, and mode and depth are as before.
     pub fn debug_list<'f>(&'f mut self) -> Result<DebugList<'f, W>, W::Error>
         ensures* loan { sem 𝓛 (OpeningLoan W.row W.seen self.entry result (codes "[")) }
-        ensures opening { IfOk result (λ b. Opening W.seen self.old self.entry.ghost_name Brackets (codes "[") (list_block b)) }
+        ensures opening { IfOk result
+            (λ b. Opening W.seen self.old self.entry.ghost_name Brackets (codes "[")
+            (list_block b)) }
         ensures is_open { IfOk result (λ b. IsOpen (list_block b)) }
     {
         self.open(OPENING_BRACKET, ListBlock)
@@ -46,7 +48,8 @@ impl<W: uWrite> Formatter<W> {
 
     /// Writes a whole list of these items.
     pub fn list_of<T: uDebug>(&mut self, items: &[T]) -> Result<(), W::Error>
-        ensures { LaysOut W.seen self.old (list_of (documents (map T.document items.now))) (is_ok result) self.new }
+        ensures { LaysOut W.seen self.old (list_of (documents (map T.document items.now)))
+            (is_ok result) self.new }
     {
         let mut list = self.debug_list()?;
         list.entries(items.iter())?;
@@ -58,7 +61,8 @@ impl<W: uWrite, K: Items> Builder<'_, W, K> {
     /// Writes one entry. On `Err` a beginning of it is written and the builder is closed.
     pub fn entry<D: uDebug>(&mut self, entry: &D) -> Result<(), W::Error>
         requires { IsOpen (block K.BlockKind.kind self.old) }
-        ensures entry { Entry W.seen (block K.BlockKind.kind self.old) (entry_text (D.document entry.now)) (is_ok result) (block K.BlockKind.kind self.new) }
+        ensures entry { Entry W.seen (block K.BlockKind.kind self.old)
+            (entry_text (D.document entry.now)) (is_ok result) (block K.BlockKind.kind self.new) }
         ensures is_open { OnOk result (IsOpen (block K.BlockKind.kind self.new)) }
     {
         let answer = entry.fmt(self.begin_entry()?);
@@ -73,8 +77,11 @@ impl<W: uWrite, K: Items> Builder<'_, W, K> {
     where
         I::IntoIter: Drop,
         requires is_open { IsOpen (block K.BlockKind.kind self.old) }
-        requires ends { IsFiniteIterable I.into_iter_gives I.IntoIter.can_next I.IntoIter.remaining entries }
-        ensures entries { Entries W.seen I.into_iter_gives I.IntoIter.next_gives (λ x. entry_text (D.document x)) entries (block K.BlockKind.kind self.old) (is_ok result) (block K.BlockKind.kind self.new) }
+        requires ends { IsFiniteIterable I.into_iter_gives I.IntoIter.can_next I.IntoIter.remaining
+            entries }
+        ensures entries { Entries W.seen I.into_iter_gives I.IntoIter.next_gives
+            (λ x. entry_text (D.document x)) entries (block K.BlockKind.kind self.old)
+            (is_ok result) (block K.BlockKind.kind self.new) }
         ensures is_open { OnOk result (IsOpen (block K.BlockKind.kind self.new)) }
     {
         for entry in entries {
@@ -87,8 +94,11 @@ impl<W: uWrite, K: Items> Builder<'_, W, K> {
     pub fn begin_entry(&mut self) -> Result<&mut Formatter<W>, W::Error>
         requires { IsOpen (block K.BlockKind.kind self.old) }
         ensures* loan { sem 𝓛 (EntryLoan W.row K.row self.entry result Lent
-            (λ last. Stop W.seen (block K.BlockKind.kind self.old) (lead_of (block K.BlockKind.kind self.old)) (block K.BlockKind.kind last))) }
-        ensures lead { IfOk result (λ f. Prints W.seen self.old.formatter.now (lead_of (block K.BlockKind.kind self.old)) true f.now) }
+            (λ last. Stop W.seen (block K.BlockKind.kind self.old)
+            (lead_of (block K.BlockKind.kind self.old)) (block K.BlockKind.kind last))) }
+        ensures lead { IfOk result
+            (λ f. Prints W.seen self.old.formatter.now (lead_of (block K.BlockKind.kind self.old))
+            true f.now) }
     {
         self.begin()
     }
@@ -96,7 +106,8 @@ impl<W: uWrite, K: Items> Builder<'_, W, K> {
     /// Writes what stands after an entry whose `fmt` gave this answer, or passes an `Err` on.
     pub fn end_entry(&mut self, answer: Result<(), W::Error>) -> Result<(), W::Error>
         requires { IsLent (block K.BlockKind.kind self.old) }
-        ensures end { EntryEnd W.seen answer (block K.BlockKind.kind self.old) result (is_ok result) (block K.BlockKind.kind self.new) }
+        ensures end { EntryEnd W.seen answer (block K.BlockKind.kind self.old) result (is_ok result)
+            (block K.BlockKind.kind self.new) }
         ensures is_open { OnOk result (IsOpen (block K.BlockKind.kind self.new)) }
     {
         self.end(answer)

@@ -33,7 +33,8 @@ impl<W: uWrite> Formatter<W> {
     /// Writes `{` and begins a map. On `Err` there is no builder, and mode and depth are as before.
     pub fn debug_map<'f>(&'f mut self) -> Result<DebugMap<'f, W>, W::Error>
         ensures* loan { sem 𝓛 (OpeningLoan W.row W.seen self.entry result (codes "{")) }
-        ensures opening { IfOk result (λ b. Opening W.seen self.old self.entry.ghost_name Braces (codes "{") (map_block b)) }
+        ensures opening { IfOk result
+            (λ b. Opening W.seen self.old self.entry.ghost_name Braces (codes "{") (map_block b)) }
         ensures is_open { IfOk result (λ b. IsOpen (map_block b)) }
     {
         self.open(OPENING_BRACE, MapBlock)
@@ -41,7 +42,9 @@ impl<W: uWrite> Formatter<W> {
 
     /// Writes a whole map of these keys and values.
     pub fn map_of<K: uDebug, V: uDebug>(&mut self, pairs: &[(K, V)]) -> Result<(), W::Error>
-        ensures { LaysOut W.seen self.old (map_of (pairs_of (map (λ p. (K.document p.0, V.document p.1)) pairs.now))) (is_ok result) self.new }
+        ensures { LaysOut W.seen self.old
+            (map_of (pairs_of (map (λ p. (K.document p.0, V.document p.1)) pairs.now)))
+            (is_ok result) self.new }
     {
         let mut map = self.debug_map()?;
         for pair in pairs {
@@ -55,7 +58,9 @@ impl<W: uWrite> DebugMap<'_, W> {
     /// Writes one entry, `key: value`. On `Err` a beginning of it is written and the builder is closed.
     pub fn entry<K: uDebug, V: uDebug>(&mut self, key: &K, value: &V) -> Result<(), W::Error>
         requires { IsOpen (map_block self.old) }
-        ensures entry { Entry W.seen (map_block self.old) (pair_text (K.document key.now) (V.document value.now)) (is_ok result) (map_block self.new) }
+        ensures entry { Entry W.seen (map_block self.old)
+            (pair_text (K.document key.now) (V.document value.now)) (is_ok result)
+            (map_block self.new) }
         ensures is_open { OnOk result (IsOpen (map_block self.new)) }
     {
         let key_answer = key.fmt(self.begin_entry()?);
@@ -71,8 +76,11 @@ impl<W: uWrite> DebugMap<'_, W> {
     where
         I::IntoIter: Drop,
         requires is_open { IsOpen (map_block self.old) }
-        requires ends { IsFiniteIterable I.into_iter_gives I.IntoIter.can_next I.IntoIter.remaining entries }
-        ensures entries { Entries W.seen I.into_iter_gives I.IntoIter.next_gives (λ x. pair_text (K.document x.0) (V.document x.1)) entries (map_block self.old) (is_ok result) (map_block self.new) }
+        requires ends { IsFiniteIterable I.into_iter_gives I.IntoIter.can_next I.IntoIter.remaining
+            entries }
+        ensures entries { Entries W.seen I.into_iter_gives I.IntoIter.next_gives
+            (λ x. pair_text (K.document x.0) (V.document x.1)) entries (map_block self.old)
+            (is_ok result) (map_block self.new) }
         ensures is_open { OnOk result (IsOpen (map_block self.new)) }
     {
         for (key, value) in entries {
@@ -85,8 +93,10 @@ impl<W: uWrite> DebugMap<'_, W> {
     pub fn begin_entry(&mut self) -> Result<&mut Formatter<W>, W::Error>
         requires { IsOpen (map_block self.old) }
         ensures* loan { sem 𝓛 (MapLoan W.row self.entry result Lent
-            (λ last. Stop W.seen (map_block self.old) (lead_of (map_block self.old)) (map_block last))) }
-        ensures lead { IfOk result (λ f. Prints W.seen self.old.formatter.now (lead_of (map_block self.old)) true f.now) }
+            (λ last. Stop W.seen (map_block self.old) (lead_of (map_block self.old))
+            (map_block last))) }
+        ensures lead { IfOk result
+            (λ f. Prints W.seen self.old.formatter.now (lead_of (map_block self.old)) true f.now) }
     {
         self.begin()
     }
@@ -101,7 +111,8 @@ impl<W: uWrite> DebugMap<'_, W> {
         ensures* loan { sem 𝓛 (MapLoan W.row self.entry result LentValue
             (λ last. OnOk answer (Stop W.seen (map_block self.old) (codes ": ") (map_block last))
             × OnErr answer (Abandonment (map_block self.old) (map_block last)))) }
-        ensures colon { IfOk result (λ f. Prints W.seen self.old.formatter.now (codes ": ") true f.now) }
+        ensures colon { IfOk result
+            (λ f. Prints W.seen self.old.formatter.now (codes ": ") true f.now) }
         ensures error { IfErr answer (λ e. result ≡ Err e) }
     {
         let written = match answer {
@@ -114,7 +125,8 @@ impl<W: uWrite> DebugMap<'_, W> {
     /// Writes what stands after an entry whose value's `fmt` gave this answer, or passes an `Err` on.
     pub fn end_entry(&mut self, answer: Result<(), W::Error>) -> Result<(), W::Error>
         requires { IsLentForValue (map_block self.old) }
-        ensures end { EntryEnd W.seen answer (map_block self.old) result (is_ok result) (map_block self.new) }
+        ensures end { EntryEnd W.seen answer (map_block self.old) result (is_ok result)
+            (map_block self.new) }
         ensures is_open { OnOk result (IsOpen (map_block self.new)) }
     {
         self.end(answer)

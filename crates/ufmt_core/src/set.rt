@@ -35,7 +35,8 @@ impl<W: uWrite> Formatter<W> {
     /// Writes `{` and begins a set. On `Err` there is no builder, and mode and depth are as before.
     pub fn debug_set<'f>(&'f mut self) -> Result<DebugSet<'f, W>, W::Error>
         ensures* loan { sem 𝓛 (OpeningLoan W.row W.seen self.entry result (codes "{")) }
-        ensures opening { IfOk result (λ b. Opening W.seen self.old self.entry.ghost_name Braces (codes "{") (set_block b)) }
+        ensures opening { IfOk result
+            (λ b. Opening W.seen self.old self.entry.ghost_name Braces (codes "{") (set_block b)) }
         ensures is_open { IfOk result (λ b. IsOpen (set_block b)) }
     {
         self.open(OPENING_BRACE, SetBlock)
@@ -43,7 +44,8 @@ impl<W: uWrite> Formatter<W> {
 
     /// Writes a whole set of these items.
     pub fn set_of<T: uDebug>(&mut self, items: &[T]) -> Result<(), W::Error>
-        ensures { LaysOut W.seen self.old (set_of (documents (map T.document items.now))) (is_ok result) self.new }
+        ensures { LaysOut W.seen self.old (set_of (documents (map T.document items.now)))
+            (is_ok result) self.new }
     {
         let mut set = self.debug_set()?;
         set.entries(items.iter())?;

@@ -34,7 +34,8 @@ impl<T: uDebug + Ord> uDebug for BTreeSet<T> {
 
 /// Prints the entries in key order as a map.
 impl<K: uDebug + Ord, V: uDebug> uDebug for BTreeMap<K, V> {
-    ghost document = { λ m. map_of (pairs_of (map (λ e. (K.document e.0, V.document e.1)) m.entries)) };
+    ghost document = { λ m. map_of
+        (pairs_of (map (λ e. (K.document e.0, V.document e.1)) m.entries)) };
 
     fn fmt<W>(&self, f: &mut Formatter<W>) -> Result<(), W::Error>
     where

@@ -35,7 +35,8 @@ impl<W: uWrite> Formatter<W> {
     /// and depth are as before.
     pub fn debug_struct<'f>(&'f mut self, name: &str) -> Result<DebugStruct<'f, W>, W::Error>
         ensures* loan { sem 𝓛 (OpeningLoan W.row W.seen self.entry result name.now) }
-        ensures opening { IfOk result (λ b. Opening W.seen self.old self.entry.ghost_name Struct name.now (struct_block b)) }
+        ensures opening { IfOk result
+            (λ b. Opening W.seen self.old self.entry.ghost_name Struct name.now (struct_block b)) }
         ensures is_open { IfOk result (λ b. IsOpen (struct_block b)) }
     {
         self.open(name, StructBlock)
@@ -46,7 +47,8 @@ impl<W: uWrite> DebugStruct<'_, W> {
     /// Writes one field, `name: value`. On `Err` a beginning of it is written and the builder is closed.
     pub fn field<D: uDebug>(&mut self, name: &str, value: &D) -> Result<(), W::Error>
         requires { IsOpen (struct_block self.old) }
-        ensures entry { Entry W.seen (struct_block self.old) (field_text name.now (D.document value.now)) (is_ok result) (struct_block self.new) }
+        ensures entry { Entry W.seen (struct_block self.old)
+            (field_text name.now (D.document value.now)) (is_ok result) (struct_block self.new) }
         ensures is_open { OnOk result (IsOpen (struct_block self.new)) }
     {
         let answer = value.fmt(self.begin_field(name)?);
@@ -57,8 +59,11 @@ impl<W: uWrite> DebugStruct<'_, W> {
     pub fn begin_field(&mut self, name: &str) -> Result<&mut Formatter<W>, W::Error>
         requires { IsOpen (struct_block self.old) }
         ensures* loan { sem 𝓛 (StructLoan W.row self.entry result Lent
-            (λ last. Stop W.seen (struct_block self.old) (field_lead_of name.now (struct_block self.old)) (struct_block last))) }
-        ensures lead { IfOk result (λ f. Prints W.seen self.old.formatter.now (field_lead_of name.now (struct_block self.old)) true f.now) }
+            (λ last. Stop W.seen (struct_block self.old)
+            (field_lead_of name.now (struct_block self.old)) (struct_block last))) }
+        ensures lead { IfOk result
+            (λ f. Prints W.seen self.old.formatter.now
+            (field_lead_of name.now (struct_block self.old)) true f.now) }
     {
         self.begin_named(name)
     }
@@ -66,7 +71,8 @@ impl<W: uWrite> DebugStruct<'_, W> {
     /// Writes what stands after a field whose value's `fmt` gave this answer, or passes an `Err` on.
     pub fn end_field(&mut self, answer: Result<(), W::Error>) -> Result<(), W::Error>
         requires { IsLent (struct_block self.old) }
-        ensures end { EntryEnd W.seen answer (struct_block self.old) result (is_ok result) (struct_block self.new) }
+        ensures end { EntryEnd W.seen answer (struct_block self.old) result (is_ok result)
+            (struct_block self.new) }
         ensures is_open { OnOk result (IsOpen (struct_block self.new)) }
     {
         self.end(answer)

@@ -51,7 +51,9 @@ impl<W: uWrite> Formatter<W> {
     /// and depth are as before.
     pub fn debug_tuple<'f>(&'f mut self, name: &str) -> Result<DebugTuple<'f, W>, W::Error>
         ensures* loan { sem 𝓛 (OpeningLoan W.row W.seen self.entry result name.now) }
-        ensures opening { IfOk result (λ b. Opening W.seen self.old self.entry.ghost_name (tuple_kind name.now) name.now (tuple_block b)) }
+        ensures opening { IfOk result
+            (λ b. Opening W.seen self.old self.entry.ghost_name (tuple_kind name.now) name.now
+            (tuple_block b)) }
         ensures is_open { IfOk result (λ b. IsOpen (tuple_block b)) }
     {
         self.open(name, TupleBlock::with_name(name))
@@ -62,7 +64,8 @@ impl<W: uWrite> DebugTuple<'_, W> {
     /// Writes one field. On `Err` a beginning of it is written and the builder is closed.
     pub fn field<D: uDebug>(&mut self, value: &D) -> Result<(), W::Error>
         requires { IsOpen (tuple_block self.old) }
-        ensures entry { Entry W.seen (tuple_block self.old) (entry_text (D.document value.now)) (is_ok result) (tuple_block self.new) }
+        ensures entry { Entry W.seen (tuple_block self.old) (entry_text (D.document value.now))
+            (is_ok result) (tuple_block self.new) }
         ensures is_open { OnOk result (IsOpen (tuple_block self.new)) }
     {
         let answer = value.fmt(self.begin_field()?);
@@ -73,8 +76,11 @@ impl<W: uWrite> DebugTuple<'_, W> {
     pub fn begin_field(&mut self) -> Result<&mut Formatter<W>, W::Error>
         requires { IsOpen (tuple_block self.old) }
         ensures* loan { sem 𝓛 (TupleLoan W.row self.entry result Lent
-            (λ last. Stop W.seen (tuple_block self.old) (lead_of (tuple_block self.old)) (tuple_block last))) }
-        ensures lead { IfOk result (λ f. Prints W.seen self.old.formatter.now (lead_of (tuple_block self.old)) true f.now) }
+            (λ last. Stop W.seen (tuple_block self.old) (lead_of (tuple_block self.old))
+            (tuple_block last))) }
+        ensures lead { IfOk result
+            (λ f. Prints W.seen self.old.formatter.now (lead_of (tuple_block self.old)) true
+            f.now) }
     {
         self.begin()
     }
@@ -82,7 +88,8 @@ impl<W: uWrite> DebugTuple<'_, W> {
     /// Writes what stands after a field whose `fmt` gave this answer, or passes an `Err` on.
     pub fn end_field(&mut self, answer: Result<(), W::Error>) -> Result<(), W::Error>
         requires { IsLent (tuple_block self.old) }
-        ensures end { EntryEnd W.seen answer (tuple_block self.old) result (is_ok result) (tuple_block self.new) }
+        ensures end { EntryEnd W.seen answer (tuple_block self.old) result (is_ok result)
+            (tuple_block self.new) }
         ensures is_open { OnOk result (IsOpen (tuple_block self.new)) }
     {
         self.end(answer)

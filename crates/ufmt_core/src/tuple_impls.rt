@@ -29,7 +29,8 @@ impl<A: uDebug, B: uDebug> uDebug for (A, B) {
 }
 
 impl<A: uDebug, B: uDebug, C: uDebug> uDebug for (A, B, C) {
-    ghost document = { λ t. tuple_of [] (documents (A.document t.0 ∷ B.document t.1 ∷ C.document t.2 ∷ [])) };
+    ghost document = { λ t. tuple_of []
+        (documents (A.document t.0 ∷ B.document t.1 ∷ C.document t.2 ∷ [])) };
 
     fn fmt<W>(&self, f: &mut Formatter<W>) -> Result<(), W::Error>
     where
@@ -40,7 +41,8 @@ impl<A: uDebug, B: uDebug, C: uDebug> uDebug for (A, B, C) {
 }
 
 impl<A: uDebug, B: uDebug, C: uDebug, D: uDebug> uDebug for (A, B, C, D) {
-    ghost document = { λ t. tuple_of [] (documents (A.document t.0 ∷ B.document t.1 ∷ C.document t.2 ∷ D.document t.3 ∷ [])) };
+    ghost document = { λ t. tuple_of []
+        (documents (A.document t.0 ∷ B.document t.1 ∷ C.document t.2 ∷ D.document t.3 ∷ [])) };
 
     fn fmt<W>(&self, f: &mut Formatter<W>) -> Result<(), W::Error>
     where
@@ -51,7 +53,9 @@ impl<A: uDebug, B: uDebug, C: uDebug, D: uDebug> uDebug for (A, B, C, D) {
 }
 
 impl<A: uDebug, B: uDebug, C: uDebug, D: uDebug, E: uDebug> uDebug for (A, B, C, D, E) {
-    ghost document = { λ t. tuple_of [] (documents (A.document t.0 ∷ B.document t.1 ∷ C.document t.2 ∷ D.document t.3 ∷ E.document t.4 ∷ [])) };
+    ghost document = { λ t. tuple_of []
+        (documents (A.document t.0 ∷ B.document t.1 ∷ C.document t.2 ∷ D.document t.3 ∷ E.document
+        t.4 ∷ [])) };
 
     fn fmt<W>(&self, f: &mut Formatter<W>) -> Result<(), W::Error>
     where
@@ -63,7 +67,9 @@ impl<A: uDebug, B: uDebug, C: uDebug, D: uDebug, E: uDebug> uDebug for (A, B, C,
 
 impl<A: uDebug, B: uDebug, C: uDebug, D: uDebug, E: uDebug, F: uDebug> uDebug
     for (A, B, C, D, E, F) {
-    ghost document = { λ t. tuple_of [] (documents (A.document t.0 ∷ B.document t.1 ∷ C.document t.2 ∷ D.document t.3 ∷ E.document t.4 ∷ F.document t.5 ∷ [])) };
+    ghost document = { λ t. tuple_of []
+        (documents (A.document t.0 ∷ B.document t.1 ∷ C.document t.2 ∷ D.document t.3 ∷ E.document
+        t.4 ∷ F.document t.5 ∷ [])) };
 
     fn fmt<W>(&self, f: &mut Formatter<W>) -> Result<(), W::Error>
     where
@@ -75,7 +81,9 @@ impl<A: uDebug, B: uDebug, C: uDebug, D: uDebug, E: uDebug, F: uDebug> uDebug
 
 impl<A: uDebug, B: uDebug, C: uDebug, D: uDebug, E: uDebug, F: uDebug, G: uDebug> uDebug
     for (A, B, C, D, E, F, G) {
-    ghost document = { λ t. tuple_of [] (documents (A.document t.0 ∷ B.document t.1 ∷ C.document t.2 ∷ D.document t.3 ∷ E.document t.4 ∷ F.document t.5 ∷ G.document t.6 ∷ [])) };
+    ghost document = { λ t. tuple_of []
+        (documents (A.document t.0 ∷ B.document t.1 ∷ C.document t.2 ∷ D.document t.3 ∷ E.document
+        t.4 ∷ F.document t.5 ∷ G.document t.6 ∷ [])) };
 
     fn fmt<W>(&self, f: &mut Formatter<W>) -> Result<(), W::Error>
     where
@@ -89,7 +97,9 @@ impl<A: uDebug, B: uDebug, C: uDebug, D: uDebug, E: uDebug, F: uDebug, G: uDebug
 
 impl<A: uDebug, B: uDebug, C: uDebug, D: uDebug, E: uDebug, F: uDebug, G: uDebug, H: uDebug> uDebug
     for (A, B, C, D, E, F, G, H) {
-    ghost document = { λ t. tuple_of [] (documents (A.document t.0 ∷ B.document t.1 ∷ C.document t.2 ∷ D.document t.3 ∷ E.document t.4 ∷ F.document t.5 ∷ G.document t.6 ∷ H.document t.7 ∷ [])) };
+    ghost document = { λ t. tuple_of []
+        (documents (A.document t.0 ∷ B.document t.1 ∷ C.document t.2 ∷ D.document t.3 ∷ E.document
+        t.4 ∷ F.document t.5 ∷ G.document t.6 ∷ H.document t.7 ∷ [])) };
 
     fn fmt<W>(&self, f: &mut Formatter<W>) -> Result<(), W::Error>
     where
@@ -112,7 +122,9 @@ impl<
     H: uDebug,
     I: uDebug,
 > uDebug for (A, B, C, D, E, F, G, H, I) {
-    ghost document = { λ t. tuple_of [] (documents (A.document t.0 ∷ B.document t.1 ∷ C.document t.2 ∷ D.document t.3 ∷ E.document t.4 ∷ F.document t.5 ∷ G.document t.6 ∷ H.document t.7 ∷ I.document t.8 ∷ [])) };
+    ghost document = { λ t. tuple_of []
+        (documents (A.document t.0 ∷ B.document t.1 ∷ C.document t.2 ∷ D.document t.3 ∷ E.document
+        t.4 ∷ F.document t.5 ∷ G.document t.6 ∷ H.document t.7 ∷ I.document t.8 ∷ [])) };
 
     fn fmt<W>(&self, f: &mut Formatter<W>) -> Result<(), W::Error>
     where
@@ -136,7 +148,10 @@ impl<
     I: uDebug,
     J: uDebug,
 > uDebug for (A, B, C, D, E, F, G, H, I, J) {
-    ghost document = { λ t. tuple_of [] (documents (A.document t.0 ∷ B.document t.1 ∷ C.document t.2 ∷ D.document t.3 ∷ E.document t.4 ∷ F.document t.5 ∷ G.document t.6 ∷ H.document t.7 ∷ I.document t.8 ∷ J.document t.9 ∷ [])) };
+    ghost document = { λ t. tuple_of []
+        (documents (A.document t.0 ∷ B.document t.1 ∷ C.document t.2 ∷ D.document t.3 ∷ E.document
+        t.4 ∷ F.document t.5 ∷ G.document t.6 ∷ H.document t.7 ∷ I.document t.8 ∷ J.document t.9
+        ∷ [])) };
 
     fn fmt<W>(&self, f: &mut Formatter<W>) -> Result<(), W::Error>
     where
@@ -162,7 +177,10 @@ impl<
     J: uDebug,
     K: uDebug,
 > uDebug for (A, B, C, D, E, F, G, H, I, J, K) {
-    ghost document = { λ t. tuple_of [] (documents (A.document t.0 ∷ B.document t.1 ∷ C.document t.2 ∷ D.document t.3 ∷ E.document t.4 ∷ F.document t.5 ∷ G.document t.6 ∷ H.document t.7 ∷ I.document t.8 ∷ J.document t.9 ∷ K.document t.10 ∷ [])) };
+    ghost document = { λ t. tuple_of []
+        (documents (A.document t.0 ∷ B.document t.1 ∷ C.document t.2 ∷ D.document t.3 ∷ E.document
+        t.4 ∷ F.document t.5 ∷ G.document t.6 ∷ H.document t.7 ∷ I.document t.8 ∷ J.document t.9
+        ∷ K.document t.10 ∷ [])) };
 
     fn fmt<W>(&self, f: &mut Formatter<W>) -> Result<(), W::Error>
     where
@@ -189,7 +207,10 @@ impl<
     K: uDebug,
     L: uDebug,
 > uDebug for (A, B, C, D, E, F, G, H, I, J, K, L) {
-    ghost document = { λ t. tuple_of [] (documents (A.document t.0 ∷ B.document t.1 ∷ C.document t.2 ∷ D.document t.3 ∷ E.document t.4 ∷ F.document t.5 ∷ G.document t.6 ∷ H.document t.7 ∷ I.document t.8 ∷ J.document t.9 ∷ K.document t.10 ∷ L.document t.11 ∷ [])) };
+    ghost document = { λ t. tuple_of []
+        (documents (A.document t.0 ∷ B.document t.1 ∷ C.document t.2 ∷ D.document t.3 ∷ E.document
+        t.4 ∷ F.document t.5 ∷ G.document t.6 ∷ H.document t.7 ∷ I.document t.8 ∷ J.document t.9
+        ∷ K.document t.10 ∷ L.document t.11 ∷ [])) };
 
     fn fmt<W>(&self, f: &mut Formatter<W>) -> Result<(), W::Error>
     where

@@ -1,7 +1,8 @@
 #![tactic(auto)]
 
-//! A user's own types, each printed in one call.
+//! A user's own types, each printed in one call, and two by the builders.
 
+mod by_hand;
 mod kind;
 mod logger;
 mod nested;
@@ -12,6 +13,7 @@ mod scores;
 mod tests;
 mod wrappers;
 
+pub use by_hand::{Port, Ports, Users};
 pub use kind::Kind;
 pub use logger::{Reading, log};
 pub use nested::Nested;

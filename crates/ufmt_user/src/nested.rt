@@ -11,7 +11,8 @@ pub struct Nested<T> {
 }
 
 impl<T: uDebug> uDebug for Nested<T> {
-    ghost document = { λ n. named_struct "Nested" (("first", T.document n.first) ∷ ("second", T.document n.second) ∷ []) };
+    ghost document = { λ n. named_struct "Nested"
+        (("first", T.document n.first) ∷ ("second", T.document n.second) ∷ []) };
 
     fn fmt<W>(&self, f: &mut Formatter<W>) -> Result<(), W::Error>
     where

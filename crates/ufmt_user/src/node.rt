@@ -15,7 +15,9 @@ pub struct Node {
 }
 
 impl uDebug for Node {
-    ghost document = { fold-Node Document (λ n. named_struct "Node" (("value", number n.value) ∷ ("next", option_document (λ b. b.value) n.next) ∷ [])) };
+    ghost document = { fold-Node Document
+        (λ n. named_struct "Node"
+        (("value", number n.value) ∷ ("next", option_document (λ b. b.value) n.next) ∷ [])) };
 
     fn fmt<W>(&self, f: &mut Formatter<W>) -> Result<(), W::Error>
     where
@@ -33,7 +35,9 @@ pub struct Tree {
 }
 
 impl uDebug for Tree {
-    ghost document = { fold-Tree Document (λ t. named_struct "Tree" (("size", number t.size) ∷ ("children", list_of (documents t.children.items)) ∷ [])) };
+    ghost document = { fold-Tree Document
+        (λ t. named_struct "Tree"
+        (("size", number t.size) ∷ ("children", list_of (documents t.children.items)) ∷ [])) };
 
     fn fmt<W>(&self, f: &mut Formatter<W>) -> Result<(), W::Error>
     where

@@ -11,7 +11,8 @@ pub struct Pair<T, U> {
 }
 
 impl<T: uDebug, U: uDebug> uDebug for Pair<T, U> {
-    ghost document = { λ p. named_struct "Pair" (("x", T.document p.x) ∷ ("y", U.document p.y) ∷ []) };
+    ghost document = { λ p. named_struct "Pair"
+        (("x", T.document p.x) ∷ ("y", U.document p.y) ∷ []) };
 
     fn fmt<W>(&self, f: &mut Formatter<W>) -> Result<(), W::Error>
     where

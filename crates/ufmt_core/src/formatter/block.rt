@@ -78,7 +78,9 @@ impl Setting {
 impl<W: uWrite> Formatter<W> {
     /// What stands before an entry at this place, where the formatter is at the entries' depth.
     pub(crate) fn write_lead(&mut self, kind: Kind, place: Place) -> Result<(), W::Error>
-        ensures { Prints W.seen self.old (lead (frame (mode_of self.old) kind) (setting_of self.old) place) (is_ok result) self.new }
+        ensures { Prints W.seen self.old
+            (lead (frame (mode_of self.old) kind) (setting_of self.old) place) (is_ok result)
+            self.new }
     {
         match place {
             Place::First => {
@@ -96,7 +98,9 @@ impl<W: uWrite> Formatter<W> {
         place: Place,
         name: &str,
     ) -> Result<(), W::Error>
-        ensures { Prints W.seen self.old (lead (frame (mode_of self.old) kind) (setting_of self.old) place ++ (name.now ++ codes ": ")) (is_ok result) self.new }
+        ensures { Prints W.seen self.old
+            (lead (frame (mode_of self.old) kind) (setting_of self.old) place
+            ++ (name.now ++ codes ": ")) (is_ok result) self.new }
     {
         self.write_lead(kind, place)?;
         self.write_str(name)?;
@@ -115,7 +119,9 @@ impl<W: uWrite> Formatter<W> {
 
     /// What ends a block, where the formatter is at the block's own depth.
     pub(crate) fn write_ending(&mut self, kind: Kind, place: Place) -> Result<(), W::Error>
-        ensures { Prints W.seen self.old (ending (frame (mode_of self.old) kind) (setting_of self.old) place) (is_ok result) self.new }
+        ensures { Prints W.seen self.old
+            (ending (frame (mode_of self.old) kind) (setting_of self.old) place) (is_ok result)
+            self.new }
     {
         match place {
             Place::First => self.write_empty(kind),
@@ -132,7 +138,8 @@ impl<W: uWrite> Formatter<W> {
 
     // What stands between the brackets of a struct or a tuple and its first entry.
     fn write_start(&mut self, kind: Kind) -> Result<(), W::Error>
-        ensures { Prints W.seen self.old (frame (mode_of self.old) kind).start (is_ok result) self.new }
+        ensures { Prints W.seen self.old (frame (mode_of self.old) kind).start (is_ok result)
+            self.new }
     {
         match kind {
             Kind::Brackets | Kind::Braces => Ok(()),
@@ -146,7 +153,8 @@ impl<W: uWrite> Formatter<W> {
 
     // What ends a block without entries.
     fn write_empty(&mut self, kind: Kind) -> Result<(), W::Error>
-        ensures { Prints W.seen self.old (frame (mode_of self.old) kind).empty (is_ok result) self.new }
+        ensures { Prints W.seen self.old (frame (mode_of self.old) kind).empty (is_ok result)
+            self.new }
     {
         match kind {
             Kind::Brackets | Kind::Braces => self.write_str(kind.closing()),
@@ -156,7 +164,8 @@ impl<W: uWrite> Formatter<W> {
 
     // What ends a block with one entry.
     fn write_alone(&mut self, kind: Kind) -> Result<(), W::Error>
-        ensures { Prints W.seen self.old (frame (mode_of self.old) kind).alone (is_ok result) self.new }
+        ensures { Prints W.seen self.old (frame (mode_of self.old) kind).alone (is_ok result)
+            self.new }
     {
         match (kind, self.setting.mode) {
             (Kind::Unnamed, Mode::Plain) => {
@@ -169,7 +178,8 @@ impl<W: uWrite> Formatter<W> {
 
     // What ends a block with several entries.
     fn write_end(&mut self, kind: Kind) -> Result<(), W::Error>
-        ensures { Prints W.seen self.old (frame (mode_of self.old) kind).end (is_ok result) self.new }
+        ensures { Prints W.seen self.old (frame (mode_of self.old) kind).end (is_ok result)
+            self.new }
     {
         match kind {
             Kind::Struct => {
@@ -191,7 +201,8 @@ impl<W: uWrite> Formatter<W> {
     }
 
     fn write_new_line(&mut self) -> Result<(), W::Error>
-        ensures { Prints W.seen self.old (new_line (mode_of self.old) (depth_of self.old)) (is_ok result) self.new }
+        ensures { Prints W.seen self.old (new_line (mode_of self.old) (depth_of self.old))
+            (is_ok result) self.new }
     {
         match self.setting.mode {
             Mode::Plain => Ok(()),
@@ -203,7 +214,8 @@ impl<W: uWrite> Formatter<W> {
     }
 
     fn write_separator(&mut self) -> Result<(), W::Error>
-        ensures { Prints W.seen self.old (separator (mode_of self.old) (depth_of self.old)) (is_ok result) self.new }
+        ensures { Prints W.seen self.old (separator (mode_of self.old) (depth_of self.old))
+            (is_ok result) self.new }
     {
         match self.setting.mode {
             Mode::Plain => self.write_str(", "),
@@ -212,7 +224,8 @@ impl<W: uWrite> Formatter<W> {
     }
 
     fn write_line_start(&mut self) -> Result<(), W::Error>
-        ensures { Prints W.seen self.old (line_start (mode_of self.old) (depth_of self.old)) (is_ok result) self.new }
+        ensures { Prints W.seen self.old (line_start (mode_of self.old) (depth_of self.old))
+            (is_ok result) self.new }
     {
         match self.setting.mode {
             Mode::Plain => Ok(()),

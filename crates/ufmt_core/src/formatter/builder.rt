@@ -55,7 +55,9 @@ impl<W: uWrite> Formatter<W> {
         marker: K,
     ) -> Result<Builder<'f, W, K>, W::Error>
         ensures* loan { sem 𝓛 (OpeningLoan W.row W.seen self.entry result opening.now) }
-        ensures opening { IfOk result (λ b. Opening W.seen self.old self.entry.ghost_name (K.kind marker) opening.now (block K.kind b)) }
+        ensures opening { IfOk result
+            (λ b. Opening W.seen self.old self.entry.ghost_name (K.kind marker) opening.now
+            (block K.kind b)) }
     {
         self.write_str(opening)?;
         let outer = self.setting;
@@ -75,7 +77,8 @@ impl<W: uWrite, K: BlockKind> Builder<'_, W, K> {
     /// before it, also where the writer fails.
     pub fn finish(&mut self) -> Result<(), W::Error>
         requires { IsOpen (block K.kind self.old) }
-        ensures { Closing W.seen (block K.kind self.old) (ending_of (block K.kind self.old)) (is_ok result) (block K.kind self.new) }
+        ensures { Closing W.seen (block K.kind self.old) (ending_of (block K.kind self.old))
+            (is_ok result) (block K.kind self.new) }
     {
         let kind = self.marker.kind();
         self.leave();
@@ -93,8 +96,11 @@ impl<W: uWrite, K: BlockKind> Builder<'_, W, K> {
     /// Writes what stands before an entry, and lends the formatter for it.
     pub(crate) fn begin(&mut self) -> Result<&mut Formatter<W>, W::Error>
         ensures* loan { sem 𝓛 (EntryLoan W.row K.row self.entry result Lent
-            (λ last. Stop W.seen (block K.kind self.old) (lead_of (block K.kind self.old)) (block K.kind last))) }
-        ensures lead { IfOk result (λ f. Prints W.seen self.old.formatter.now (lead_of (block K.kind self.old)) true f.now) }
+            (λ last. Stop W.seen (block K.kind self.old) (lead_of (block K.kind self.old))
+            (block K.kind last))) }
+        ensures lead { IfOk result
+            (λ f. Prints W.seen self.old.formatter.now (lead_of (block K.kind self.old)) true
+            f.now) }
     {
         let written = self.formatter.write_lead(self.marker.kind(), self.place);
         self.lend_if(written, Status::Lent)
@@ -103,8 +109,11 @@ impl<W: uWrite, K: BlockKind> Builder<'_, W, K> {
     /// Writes what stands before the value of a field with this name, and lends the formatter for it.
     pub(crate) fn begin_named(&mut self, name: &str) -> Result<&mut Formatter<W>, W::Error>
         ensures* loan { sem 𝓛 (EntryLoan W.row K.row self.entry result Lent
-            (λ last. Stop W.seen (block K.kind self.old) (field_lead_of name.now (block K.kind self.old)) (block K.kind last))) }
-        ensures lead { IfOk result (λ f. Prints W.seen self.old.formatter.now (field_lead_of name.now (block K.kind self.old)) true f.now) }
+            (λ last. Stop W.seen (block K.kind self.old)
+            (field_lead_of name.now (block K.kind self.old)) (block K.kind last))) }
+        ensures lead { IfOk result
+            (λ f. Prints W.seen self.old.formatter.now
+            (field_lead_of name.now (block K.kind self.old)) true f.now) }
     {
         let kind = self.marker.kind();
         let written = self.formatter.write_field_lead(kind, self.place, name);
@@ -117,7 +126,8 @@ impl<W: uWrite, K: BlockKind> Builder<'_, W, K> {
         answer: Result<(), W::Error>,
         status: Status,
     ) -> Result<&mut Formatter<W>, W::Error>
-        ensures* loan { sem 𝓛 (EntryLoan W.row K.row self.entry result status (λ last. last ≡ left self.old)) }
+        ensures* loan { sem 𝓛 (EntryLoan W.row K.row self.entry result status
+            (λ last. last ≡ left self.old)) }
         ensures lent { IfOk result (λ f. (f.now ≡ self.old.formatter.now) × IsOk answer) }
         ensures error { IfErr result (λ e. answer ≡ Err e) }
     {
@@ -126,7 +136,10 @@ impl<W: uWrite, K: BlockKind> Builder<'_, W, K> {
     }
 
     fn lend(&mut self) -> &mut Formatter<W>
-        ensures* loan { sem 𝓛 (follows (builder.the_row (record { mir = named 0; lft = [] }) W.row K.row) (formatter.the_row W.row) self.entry.ghost_name result.ghost_name (lent self.old.status self.old)) }
+        ensures* loan { sem 𝓛 (follows
+            (builder.the_row (record { mir = named 0; lft = [] }) W.row K.row)
+            (formatter.the_row W.row) self.entry.ghost_name result.ghost_name
+            (lent self.old.status self.old)) }
         ensures same { result.now ≡ self.old.formatter.now }
     {
         &mut *self.formatter
@@ -134,7 +147,8 @@ impl<W: uWrite, K: BlockKind> Builder<'_, W, K> {
 
     /// Writes what stands after an entry whose `fmt` gave this answer, or passes an `Err` on.
     pub(crate) fn end(&mut self, answer: Result<(), W::Error>) -> Result<(), W::Error>
-        ensures end { EntryEnd W.seen answer (block K.kind self.old) result (is_ok result) (block K.kind self.new) }
+        ensures end { EntryEnd W.seen answer (block K.kind self.old) result (is_ok result)
+            (block K.kind self.new) }
         ensures is_open { OnOk result (IsOpen (block K.kind self.new)) }
     {
         let ended = match answer {
@@ -152,7 +166,9 @@ impl<W: uWrite, K: BlockKind> Builder<'_, W, K> {
         place: Place,
     ) -> Result<(), W::Error>
         ensures answer { result ≡ answer }
-        ensures settled { MatchBool (is_ok answer) (self.new ≡ record self.old { place = place; status = status }) (self.new ≡ left self.old) }
+        ensures settled { MatchBool (is_ok answer)
+            (self.new ≡ record self.old { place = place; status = status })
+            (self.new ≡ left self.old) }
     {
         if answer.is_ok() {
             self.place = place;

@@ -19,7 +19,9 @@ pub trait NamedFields<'a> {
     fn finish<W: uWrite>(&self, block: &mut DebugStruct<W>) -> Result<(), W::Error>
         requires is_open { IsOpen (struct_block block.old) }
         requires is_inside { IsInside (struct_block block.old) }
-        ensures { Closing W.seen (struct_block block.old) (rest_of (struct_block block.old) (fields_left (fields self.now))) (is_ok result) (struct_block block.new) };
+        ensures { Closing W.seen (struct_block block.old)
+            (rest_of (struct_block block.old) (fields_left (fields self.now))) (is_ok result)
+            (struct_block block.new) };
 }
 
 impl<'a> NamedFields<'a> for () {
@@ -47,7 +49,8 @@ impl<W: uWrite> Formatter<W> {
         name: &str,
         fields: &F,
     ) -> Result<(), W::Error>
-        ensures { LaysOut W.seen self.old (struct_of name.now (F.fields fields.now)) (is_ok result) self.new }
+        ensures { LaysOut W.seen self.old (struct_of name.now (F.fields fields.now)) (is_ok result)
+            self.new }
     {
         let mut block = self.debug_struct(name)?;
         fields.finish(&mut block)
@@ -55,7 +58,8 @@ impl<W: uWrite> Formatter<W> {
 
     /// Writes a whole struct with no fields.
     pub fn struct_0(&mut self, name: &str) -> Result<(), W::Error>
-        ensures { LaysOut W.seen self.old (struct_of name.now (fields_of ([]))) (is_ok result) self.new }
+        ensures { LaysOut W.seen self.old (struct_of name.now (fields_of ([]))) (is_ok result)
+            self.new }
     {
         self.struct_of(name, &())
     }
@@ -67,7 +71,9 @@ impl<W: uWrite> Formatter<W> {
         a: &'a str,
         a_value: &'a A,
     ) -> Result<(), W::Error>
-        ensures { LaysOut W.seen self.old (struct_of name.now (fields_of ((a.now, A.document a_value.now) ∷ []))) (is_ok result) self.new }
+        ensures { LaysOut W.seen self.old
+            (struct_of name.now (fields_of ((a.now, A.document a_value.now) ∷ []))) (is_ok result)
+            self.new }
     {
         self.struct_of(name, &(a, a_value, ()))
     }
@@ -81,7 +87,10 @@ impl<W: uWrite> Formatter<W> {
         b: &'a str,
         b_value: &'a B,
     ) -> Result<(), W::Error>
-        ensures { LaysOut W.seen self.old (struct_of name.now (fields_of ((a.now, A.document a_value.now) ∷ (b.now, B.document b_value.now) ∷ []))) (is_ok result) self.new }
+        ensures { LaysOut W.seen self.old
+            (struct_of name.now (fields_of
+            ((a.now, A.document a_value.now) ∷ (b.now, B.document b_value.now) ∷ [])))
+            (is_ok result) self.new }
     {
         self.struct_of(name, &(a, a_value, (b, b_value, ())))
     }
@@ -97,7 +106,10 @@ impl<W: uWrite> Formatter<W> {
         c: &'a str,
         c_value: &'a C,
     ) -> Result<(), W::Error>
-        ensures { LaysOut W.seen self.old (struct_of name.now (fields_of ((a.now, A.document a_value.now) ∷ (b.now, B.document b_value.now) ∷ (c.now, C.document c_value.now) ∷ []))) (is_ok result) self.new }
+        ensures { LaysOut W.seen self.old
+            (struct_of name.now (fields_of
+            ((a.now, A.document a_value.now) ∷ (b.now, B.document b_value.now)
+            ∷ (c.now, C.document c_value.now) ∷ []))) (is_ok result) self.new }
     {
         self.struct_of(name, &(a, a_value, (b, b_value, (c, c_value, ()))))
     }
@@ -115,7 +127,11 @@ impl<W: uWrite> Formatter<W> {
         d: &'a str,
         d_value: &'a D,
     ) -> Result<(), W::Error>
-        ensures { LaysOut W.seen self.old (struct_of name.now (fields_of ((a.now, A.document a_value.now) ∷ (b.now, B.document b_value.now) ∷ (c.now, C.document c_value.now) ∷ (d.now, D.document d_value.now) ∷ []))) (is_ok result) self.new }
+        ensures { LaysOut W.seen self.old
+            (struct_of name.now (fields_of
+            ((a.now, A.document a_value.now) ∷ (b.now, B.document b_value.now)
+            ∷ (c.now, C.document c_value.now) ∷ (d.now, D.document d_value.now) ∷ [])))
+            (is_ok result) self.new }
     {
         self.struct_of(
             name,
@@ -138,7 +154,11 @@ impl<W: uWrite> Formatter<W> {
         e: &'a str,
         e_value: &'a E,
     ) -> Result<(), W::Error>
-        ensures { LaysOut W.seen self.old (struct_of name.now (fields_of ((a.now, A.document a_value.now) ∷ (b.now, B.document b_value.now) ∷ (c.now, C.document c_value.now) ∷ (d.now, D.document d_value.now) ∷ (e.now, E.document e_value.now) ∷ []))) (is_ok result) self.new }
+        ensures { LaysOut W.seen self.old
+            (struct_of name.now (fields_of
+            ((a.now, A.document a_value.now) ∷ (b.now, B.document b_value.now)
+            ∷ (c.now, C.document c_value.now) ∷ (d.now, D.document d_value.now)
+            ∷ (e.now, E.document e_value.now) ∷ []))) (is_ok result) self.new }
     {
         self.struct_of(
             name,
@@ -167,7 +187,12 @@ impl<W: uWrite> Formatter<W> {
         f: &'a str,
         f_value: &'a F,
     ) -> Result<(), W::Error>
-        ensures { LaysOut W.seen self.old (struct_of name.now (fields_of ((a.now, A.document a_value.now) ∷ (b.now, B.document b_value.now) ∷ (c.now, C.document c_value.now) ∷ (d.now, D.document d_value.now) ∷ (e.now, E.document e_value.now) ∷ (f.now, F.document f_value.now) ∷ []))) (is_ok result) self.new }
+        ensures { LaysOut W.seen self.old
+            (struct_of name.now (fields_of
+            ((a.now, A.document a_value.now) ∷ (b.now, B.document b_value.now)
+            ∷ (c.now, C.document c_value.now) ∷ (d.now, D.document d_value.now)
+            ∷ (e.now, E.document e_value.now) ∷ (f.now, F.document f_value.now) ∷ [])))
+            (is_ok result) self.new }
     {
         self.struct_of(
             name,
@@ -211,7 +236,12 @@ impl<W: uWrite> Formatter<W> {
         g: &'a str,
         g_value: &'a G,
     ) -> Result<(), W::Error>
-        ensures { LaysOut W.seen self.old (struct_of name.now (fields_of ((a.now, A.document a_value.now) ∷ (b.now, B.document b_value.now) ∷ (c.now, C.document c_value.now) ∷ (d.now, D.document d_value.now) ∷ (e.now, E.document e_value.now) ∷ (f.now, F.document f_value.now) ∷ (g.now, G.document g_value.now) ∷ []))) (is_ok result) self.new }
+        ensures { LaysOut W.seen self.old
+            (struct_of name.now (fields_of
+            ((a.now, A.document a_value.now) ∷ (b.now, B.document b_value.now)
+            ∷ (c.now, C.document c_value.now) ∷ (d.now, D.document d_value.now)
+            ∷ (e.now, E.document e_value.now) ∷ (f.now, F.document f_value.now)
+            ∷ (g.now, G.document g_value.now) ∷ []))) (is_ok result) self.new }
     {
         self.struct_of(
             name,
@@ -262,7 +292,13 @@ impl<W: uWrite> Formatter<W> {
         h: &'a str,
         h_value: &'a H,
     ) -> Result<(), W::Error>
-        ensures { LaysOut W.seen self.old (struct_of name.now (fields_of ((a.now, A.document a_value.now) ∷ (b.now, B.document b_value.now) ∷ (c.now, C.document c_value.now) ∷ (d.now, D.document d_value.now) ∷ (e.now, E.document e_value.now) ∷ (f.now, F.document f_value.now) ∷ (g.now, G.document g_value.now) ∷ (h.now, H.document h_value.now) ∷ []))) (is_ok result) self.new }
+        ensures { LaysOut W.seen self.old
+            (struct_of name.now (fields_of
+            ((a.now, A.document a_value.now) ∷ (b.now, B.document b_value.now)
+            ∷ (c.now, C.document c_value.now) ∷ (d.now, D.document d_value.now)
+            ∷ (e.now, E.document e_value.now) ∷ (f.now, F.document f_value.now)
+            ∷ (g.now, G.document g_value.now) ∷ (h.now, H.document h_value.now) ∷ [])))
+            (is_ok result) self.new }
     {
         self.struct_of(
             name,
@@ -320,7 +356,13 @@ impl<W: uWrite> Formatter<W> {
         i: &'a str,
         i_value: &'a I,
     ) -> Result<(), W::Error>
-        ensures { LaysOut W.seen self.old (struct_of name.now (fields_of ((a.now, A.document a_value.now) ∷ (b.now, B.document b_value.now) ∷ (c.now, C.document c_value.now) ∷ (d.now, D.document d_value.now) ∷ (e.now, E.document e_value.now) ∷ (f.now, F.document f_value.now) ∷ (g.now, G.document g_value.now) ∷ (h.now, H.document h_value.now) ∷ (i.now, I.document i_value.now) ∷ []))) (is_ok result) self.new }
+        ensures { LaysOut W.seen self.old
+            (struct_of name.now (fields_of
+            ((a.now, A.document a_value.now) ∷ (b.now, B.document b_value.now)
+            ∷ (c.now, C.document c_value.now) ∷ (d.now, D.document d_value.now)
+            ∷ (e.now, E.document e_value.now) ∷ (f.now, F.document f_value.now)
+            ∷ (g.now, G.document g_value.now) ∷ (h.now, H.document h_value.now)
+            ∷ (i.now, I.document i_value.now) ∷ []))) (is_ok result) self.new }
     {
         self.struct_of(
             name,
@@ -385,7 +427,14 @@ impl<W: uWrite> Formatter<W> {
         j: &'a str,
         j_value: &'a J,
     ) -> Result<(), W::Error>
-        ensures { LaysOut W.seen self.old (struct_of name.now (fields_of ((a.now, A.document a_value.now) ∷ (b.now, B.document b_value.now) ∷ (c.now, C.document c_value.now) ∷ (d.now, D.document d_value.now) ∷ (e.now, E.document e_value.now) ∷ (f.now, F.document f_value.now) ∷ (g.now, G.document g_value.now) ∷ (h.now, H.document h_value.now) ∷ (i.now, I.document i_value.now) ∷ (j.now, J.document j_value.now) ∷ []))) (is_ok result) self.new }
+        ensures { LaysOut W.seen self.old
+            (struct_of name.now (fields_of
+            ((a.now, A.document a_value.now) ∷ (b.now, B.document b_value.now)
+            ∷ (c.now, C.document c_value.now) ∷ (d.now, D.document d_value.now)
+            ∷ (e.now, E.document e_value.now) ∷ (f.now, F.document f_value.now)
+            ∷ (g.now, G.document g_value.now) ∷ (h.now, H.document h_value.now)
+            ∷ (i.now, I.document i_value.now) ∷ (j.now, J.document j_value.now) ∷ [])))
+            (is_ok result) self.new }
     {
         self.struct_of(
             name,
@@ -457,7 +506,14 @@ impl<W: uWrite> Formatter<W> {
         k: &'a str,
         k_value: &'a K,
     ) -> Result<(), W::Error>
-        ensures { LaysOut W.seen self.old (struct_of name.now (fields_of ((a.now, A.document a_value.now) ∷ (b.now, B.document b_value.now) ∷ (c.now, C.document c_value.now) ∷ (d.now, D.document d_value.now) ∷ (e.now, E.document e_value.now) ∷ (f.now, F.document f_value.now) ∷ (g.now, G.document g_value.now) ∷ (h.now, H.document h_value.now) ∷ (i.now, I.document i_value.now) ∷ (j.now, J.document j_value.now) ∷ (k.now, K.document k_value.now) ∷ []))) (is_ok result) self.new }
+        ensures { LaysOut W.seen self.old
+            (struct_of name.now (fields_of
+            ((a.now, A.document a_value.now) ∷ (b.now, B.document b_value.now)
+            ∷ (c.now, C.document c_value.now) ∷ (d.now, D.document d_value.now)
+            ∷ (e.now, E.document e_value.now) ∷ (f.now, F.document f_value.now)
+            ∷ (g.now, G.document g_value.now) ∷ (h.now, H.document h_value.now)
+            ∷ (i.now, I.document i_value.now) ∷ (j.now, J.document j_value.now)
+            ∷ (k.now, K.document k_value.now) ∷ []))) (is_ok result) self.new }
     {
         self.struct_of(
             name,
@@ -536,7 +592,15 @@ impl<W: uWrite> Formatter<W> {
         l: &'a str,
         l_value: &'a L,
     ) -> Result<(), W::Error>
-        ensures { LaysOut W.seen self.old (struct_of name.now (fields_of ((a.now, A.document a_value.now) ∷ (b.now, B.document b_value.now) ∷ (c.now, C.document c_value.now) ∷ (d.now, D.document d_value.now) ∷ (e.now, E.document e_value.now) ∷ (f.now, F.document f_value.now) ∷ (g.now, G.document g_value.now) ∷ (h.now, H.document h_value.now) ∷ (i.now, I.document i_value.now) ∷ (j.now, J.document j_value.now) ∷ (k.now, K.document k_value.now) ∷ (l.now, L.document l_value.now) ∷ []))) (is_ok result) self.new }
+        ensures { LaysOut W.seen self.old
+            (struct_of name.now (fields_of
+            ((a.now, A.document a_value.now) ∷ (b.now, B.document b_value.now)
+            ∷ (c.now, C.document c_value.now) ∷ (d.now, D.document d_value.now)
+            ∷ (e.now, E.document e_value.now) ∷ (f.now, F.document f_value.now)
+            ∷ (g.now, G.document g_value.now) ∷ (h.now, H.document h_value.now)
+            ∷ (i.now, I.document i_value.now) ∷ (j.now, J.document j_value.now)
+            ∷ (k.now, K.document k_value.now) ∷ (l.now, L.document l_value.now) ∷ [])))
+            (is_ok result) self.new }
     {
         self.struct_of(
             name,

@@ -19,7 +19,9 @@ pub trait UnnamedFields<'a> {
     fn finish<W: uWrite>(&self, block: &mut DebugTuple<W>) -> Result<(), W::Error>
         requires is_open { IsOpen (tuple_block block.old) }
         requires is_inside { IsInside (tuple_block block.old) }
-        ensures { Closing W.seen (tuple_block block.old) (rest_of (tuple_block block.old) (entries_left (documents self.now))) (is_ok result) (tuple_block block.new) };
+        ensures { Closing W.seen (tuple_block block.old)
+            (rest_of (tuple_block block.old) (entries_left (documents self.now))) (is_ok result)
+            (tuple_block block.new) };
 }
 
 impl<'a> UnnamedFields<'a> for () {
@@ -46,7 +48,8 @@ impl<W: uWrite> Formatter<W> {
         name: &str,
         fields: &F,
     ) -> Result<(), W::Error>
-        ensures { LaysOut W.seen self.old (tuple_of name.now (F.documents fields.now)) (is_ok result) self.new }
+        ensures { LaysOut W.seen self.old (tuple_of name.now (F.documents fields.now))
+            (is_ok result) self.new }
     {
         let mut block = self.debug_tuple(name)?;
         fields.finish(&mut block)
@@ -54,14 +57,16 @@ impl<W: uWrite> Formatter<W> {
 
     /// Writes a whole tuple with no fields.
     pub fn tuple_0(&mut self, name: &str) -> Result<(), W::Error>
-        ensures { LaysOut W.seen self.old (tuple_of name.now (documents ([]))) (is_ok result) self.new }
+        ensures { LaysOut W.seen self.old (tuple_of name.now (documents ([]))) (is_ok result)
+            self.new }
     {
         self.tuple_of(name, &())
     }
 
     /// Writes a whole tuple with one field.
     pub fn tuple_1<'a, A: uDebug>(&mut self, name: &str, a: &'a A) -> Result<(), W::Error>
-        ensures { LaysOut W.seen self.old (tuple_of name.now (documents (A.document a.now ∷ []))) (is_ok result) self.new }
+        ensures { LaysOut W.seen self.old (tuple_of name.now (documents (A.document a.now ∷ [])))
+            (is_ok result) self.new }
     {
         self.tuple_of(name, &(a, ()))
     }
@@ -73,7 +78,9 @@ impl<W: uWrite> Formatter<W> {
         a: &'a A,
         b: &'a B,
     ) -> Result<(), W::Error>
-        ensures { LaysOut W.seen self.old (tuple_of name.now (documents (A.document a.now ∷ B.document b.now ∷ []))) (is_ok result) self.new }
+        ensures { LaysOut W.seen self.old
+            (tuple_of name.now (documents (A.document a.now ∷ B.document b.now ∷ [])))
+            (is_ok result) self.new }
     {
         self.tuple_of(name, &(a, (b, ())))
     }
@@ -86,7 +93,10 @@ impl<W: uWrite> Formatter<W> {
         b: &'a B,
         c: &'a C,
     ) -> Result<(), W::Error>
-        ensures { LaysOut W.seen self.old (tuple_of name.now (documents (A.document a.now ∷ B.document b.now ∷ C.document c.now ∷ []))) (is_ok result) self.new }
+        ensures { LaysOut W.seen self.old
+            (tuple_of name.now (documents
+            (A.document a.now ∷ B.document b.now ∷ C.document c.now ∷ []))) (is_ok result)
+            self.new }
     {
         self.tuple_of(name, &(a, (b, (c, ()))))
     }
@@ -100,7 +110,10 @@ impl<W: uWrite> Formatter<W> {
         c: &'a C,
         d: &'a D,
     ) -> Result<(), W::Error>
-        ensures { LaysOut W.seen self.old (tuple_of name.now (documents (A.document a.now ∷ B.document b.now ∷ C.document c.now ∷ D.document d.now ∷ []))) (is_ok result) self.new }
+        ensures { LaysOut W.seen self.old
+            (tuple_of name.now (documents
+            (A.document a.now ∷ B.document b.now ∷ C.document c.now ∷ D.document d.now ∷ [])))
+            (is_ok result) self.new }
     {
         self.tuple_of(name, &(a, (b, (c, (d, ())))))
     }
@@ -115,7 +128,10 @@ impl<W: uWrite> Formatter<W> {
         d: &'a D,
         e: &'a E,
     ) -> Result<(), W::Error>
-        ensures { LaysOut W.seen self.old (tuple_of name.now (documents (A.document a.now ∷ B.document b.now ∷ C.document c.now ∷ D.document d.now ∷ E.document e.now ∷ []))) (is_ok result) self.new }
+        ensures { LaysOut W.seen self.old
+            (tuple_of name.now (documents
+            (A.document a.now ∷ B.document b.now ∷ C.document c.now ∷ D.document d.now ∷ E.document
+            e.now ∷ []))) (is_ok result) self.new }
     {
         self.tuple_of(name, &(a, (b, (c, (d, (e, ()))))))
     }
@@ -131,7 +147,10 @@ impl<W: uWrite> Formatter<W> {
         e: &'a E,
         f: &'a F,
     ) -> Result<(), W::Error>
-        ensures { LaysOut W.seen self.old (tuple_of name.now (documents (A.document a.now ∷ B.document b.now ∷ C.document c.now ∷ D.document d.now ∷ E.document e.now ∷ F.document f.now ∷ []))) (is_ok result) self.new }
+        ensures { LaysOut W.seen self.old
+            (tuple_of name.now (documents
+            (A.document a.now ∷ B.document b.now ∷ C.document c.now ∷ D.document d.now ∷ E.document
+            e.now ∷ F.document f.now ∷ []))) (is_ok result) self.new }
     {
         self.tuple_of(name, &(a, (b, (c, (d, (e, (f, ())))))))
     }
@@ -148,7 +167,10 @@ impl<W: uWrite> Formatter<W> {
         f: &'a F,
         g: &'a G,
     ) -> Result<(), W::Error>
-        ensures { LaysOut W.seen self.old (tuple_of name.now (documents (A.document a.now ∷ B.document b.now ∷ C.document c.now ∷ D.document d.now ∷ E.document e.now ∷ F.document f.now ∷ G.document g.now ∷ []))) (is_ok result) self.new }
+        ensures { LaysOut W.seen self.old
+            (tuple_of name.now (documents
+            (A.document a.now ∷ B.document b.now ∷ C.document c.now ∷ D.document d.now ∷ E.document
+            e.now ∷ F.document f.now ∷ G.document g.now ∷ []))) (is_ok result) self.new }
     {
         self.tuple_of(name, &(a, (b, (c, (d, (e, (f, (g, ()))))))))
     }
@@ -176,7 +198,11 @@ impl<W: uWrite> Formatter<W> {
         g: &'a G,
         h: &'a H,
     ) -> Result<(), W::Error>
-        ensures { LaysOut W.seen self.old (tuple_of name.now (documents (A.document a.now ∷ B.document b.now ∷ C.document c.now ∷ D.document d.now ∷ E.document e.now ∷ F.document f.now ∷ G.document g.now ∷ H.document h.now ∷ []))) (is_ok result) self.new }
+        ensures { LaysOut W.seen self.old
+            (tuple_of name.now (documents
+            (A.document a.now ∷ B.document b.now ∷ C.document c.now ∷ D.document d.now ∷ E.document
+            e.now ∷ F.document f.now ∷ G.document g.now ∷ H.document h.now ∷ []))) (is_ok result)
+            self.new }
     {
         self.tuple_of(name, &(a, (b, (c, (d, (e, (f, (g, (h, ())))))))))
     }
@@ -206,7 +232,11 @@ impl<W: uWrite> Formatter<W> {
         h: &'a H,
         i: &'a I,
     ) -> Result<(), W::Error>
-        ensures { LaysOut W.seen self.old (tuple_of name.now (documents (A.document a.now ∷ B.document b.now ∷ C.document c.now ∷ D.document d.now ∷ E.document e.now ∷ F.document f.now ∷ G.document g.now ∷ H.document h.now ∷ I.document i.now ∷ []))) (is_ok result) self.new }
+        ensures { LaysOut W.seen self.old
+            (tuple_of name.now (documents
+            (A.document a.now ∷ B.document b.now ∷ C.document c.now ∷ D.document d.now ∷ E.document
+            e.now ∷ F.document f.now ∷ G.document g.now ∷ H.document h.now ∷ I.document i.now
+            ∷ []))) (is_ok result) self.new }
     {
         self.tuple_of(name, &(a, (b, (c, (d, (e, (f, (g, (h, (i, ()))))))))))
     }
@@ -238,7 +268,11 @@ impl<W: uWrite> Formatter<W> {
         i: &'a I,
         j: &'a J,
     ) -> Result<(), W::Error>
-        ensures { LaysOut W.seen self.old (tuple_of name.now (documents (A.document a.now ∷ B.document b.now ∷ C.document c.now ∷ D.document d.now ∷ E.document e.now ∷ F.document f.now ∷ G.document g.now ∷ H.document h.now ∷ I.document i.now ∷ J.document j.now ∷ []))) (is_ok result) self.new }
+        ensures { LaysOut W.seen self.old
+            (tuple_of name.now (documents
+            (A.document a.now ∷ B.document b.now ∷ C.document c.now ∷ D.document d.now ∷ E.document
+            e.now ∷ F.document f.now ∷ G.document g.now ∷ H.document h.now ∷ I.document i.now
+            ∷ J.document j.now ∷ []))) (is_ok result) self.new }
     {
         self.tuple_of(name, &(a, (b, (c, (d, (e, (f, (g, (h, (i, (j, ())))))))))))
     }
@@ -272,7 +306,11 @@ impl<W: uWrite> Formatter<W> {
         j: &'a J,
         k: &'a K,
     ) -> Result<(), W::Error>
-        ensures { LaysOut W.seen self.old (tuple_of name.now (documents (A.document a.now ∷ B.document b.now ∷ C.document c.now ∷ D.document d.now ∷ E.document e.now ∷ F.document f.now ∷ G.document g.now ∷ H.document h.now ∷ I.document i.now ∷ J.document j.now ∷ K.document k.now ∷ []))) (is_ok result) self.new }
+        ensures { LaysOut W.seen self.old
+            (tuple_of name.now (documents
+            (A.document a.now ∷ B.document b.now ∷ C.document c.now ∷ D.document d.now ∷ E.document
+            e.now ∷ F.document f.now ∷ G.document g.now ∷ H.document h.now ∷ I.document i.now
+            ∷ J.document j.now ∷ K.document k.now ∷ []))) (is_ok result) self.new }
     {
         self.tuple_of(
             name,
@@ -311,7 +349,12 @@ impl<W: uWrite> Formatter<W> {
         k: &'a K,
         l: &'a L,
     ) -> Result<(), W::Error>
-        ensures { LaysOut W.seen self.old (tuple_of name.now (documents (A.document a.now ∷ B.document b.now ∷ C.document c.now ∷ D.document d.now ∷ E.document e.now ∷ F.document f.now ∷ G.document g.now ∷ H.document h.now ∷ I.document i.now ∷ J.document j.now ∷ K.document k.now ∷ L.document l.now ∷ []))) (is_ok result) self.new }
+        ensures { LaysOut W.seen self.old
+            (tuple_of name.now (documents
+            (A.document a.now ∷ B.document b.now ∷ C.document c.now ∷ D.document d.now ∷ E.document
+            e.now ∷ F.document f.now ∷ G.document g.now ∷ H.document h.now ∷ I.document i.now
+            ∷ J.document j.now ∷ K.document k.now ∷ L.document l.now ∷ []))) (is_ok result)
+            self.new }
     {
         self.tuple_of(
             name,
