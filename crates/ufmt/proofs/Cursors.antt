@@ -1,9 +1,9 @@
 -- What filling a buffer means for a cursor as a writer.
-use Rattle.std.proofs.Common.{◌≡◌, ℕ, ◌+◌, ◌-◌, List, [], ◌∷◌, length, take, drop, true, refl, sym, ap, ap₂, ◌∙◌, length-append, length-drop, drop-drop, arith}
+use Rattle.std.proofs.Common.{◌≡◌, ℕ, ◌+◌, List, [], ◌∷◌, length, drop, true, refl, sym, ap, ap₂, ◌∙◌, length-append, length-drop, drop-drop, arith}
 use Rattle.std.proofs.lemmas.List.{length-take-le}
 use Rattle.ufmt_core.specs.Writes.{Writes}
 use Rattle.ufmt.specs.declared.cursor.Cursor.{Cursor}
-use Rattle.ufmt.specs.Cursor.{Fills, buffer_length, buffer_name, cursor_seen, unwritten_bytes, written_bytes}
+use Rattle.ufmt.specs.Cursor.{Fills, buffer_name, cursor_seen, unwritten_bytes, written_bytes}
 
 -- a cursor has written as many bytes as it counts
 length-written_bytes : (c : Cursor) → length (written_bytes c) ≡ c.count

@@ -10,7 +10,7 @@ use Rattle.ufmt_core.specs.declared.formatter.block.Place.{Place}
 use Rattle.ufmt_core.specs.declared.formatter.builder.Status.{Status}
 use Rattle.ufmt_core.specs.declared.formatter.builder.Status.TheVariants.{Lent, LentValue}
 use Rattle.ufmt_core.specs.Document.{Document}
-use Rattle.ufmt_core.specs.Layout.{Frame, frame, inside, layout, lead, next, rest, trail}
+use Rattle.ufmt_core.specs.Layout.{Frame, inside, layout, next, rest, trail}
 use Rattle.ufmt_core.specs.Writes.{Seen, Writes}
 use Rattle.ufmt_core.specs.Formatter.{LaysOut, Prints, setting_of, writer_of}
 use Rattle.ufmt_core.specs.Block.{Block, Same, Part, Entry, Row, Entries, Abandonment, EntryEnd, Closing, After, IsOpen, Stop, framed, framed_all, frame_of, inner, lead_of, pair_text, place_after, trail_of}
