@@ -14,8 +14,6 @@ mod set;
 mod signed;
 mod std_impls;
 mod structs;
-#[cfg(test)]
-mod tests;
 mod tuple;
 mod tuple_impls;
 pub mod unsigned;

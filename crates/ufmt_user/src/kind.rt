@@ -14,9 +14,9 @@ pub enum Kind<T> {
 
 impl<T: uDebug> uDebug for Kind<T> {
     ghost document = { elim [
-      A ↦ named "A"
-    | B x y ↦ named_tuple "B" (T.document x ∷ T.document y ∷ [])
-    | C x y ↦ named_struct "C" (("x", T.document x) ∷ ("y", T.document y) ∷ [])
+      | A ↦ named "A"
+      | B x y ↦ named_tuple "B" (T.document x ∷ T.document y ∷ [])
+      | C x y ↦ named_struct "C" (("x", T.document x) ∷ ("y", T.document y) ∷ [])
     ] };
 
     fn fmt<W>(&self, f: &mut Formatter<W>) -> Result<(), W::Error>

@@ -21,7 +21,13 @@ impl uDebug for Reading {
     where
         W: uWrite,
     {
-        fields!(f, Reading { channel: self.channel, celsius: self.celsius })
+        fields!(
+            f,
+            Reading {
+                channel: self.channel,
+                celsius: self.celsius
+            }
+        )
     }
 }
 

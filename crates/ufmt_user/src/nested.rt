@@ -18,6 +18,12 @@ impl<T: uDebug> uDebug for Nested<T> {
     where
         W: uWrite,
     {
-        fields!(f, Nested { first: self.first, second: self.second })
+        fields!(
+            f,
+            Nested {
+                first: self.first,
+                second: self.second
+            }
+        )
     }
 }

@@ -23,7 +23,13 @@ impl uDebug for Node {
     where
         W: uWrite,
     {
-        fields!(f, Node { value: self.value, next: self.next })
+        fields!(
+            f,
+            Node {
+                value: self.value,
+                next: self.next
+            }
+        )
     }
 }
 
@@ -43,6 +49,12 @@ impl uDebug for Tree {
     where
         W: uWrite,
     {
-        fields!(f, Tree { size: self.size, children: self.children })
+        fields!(
+            f,
+            Tree {
+                size: self.size,
+                children: self.children
+            }
+        )
     }
 }

@@ -18,6 +18,12 @@ impl<T: uDebug, U: uDebug> uDebug for Pair<T, U> {
     where
         W: uWrite,
     {
-        fields!(f, Pair { x: self.x, y: self.y })
+        fields!(
+            f,
+            Pair {
+                x: self.x,
+                y: self.y
+            }
+        )
     }
 }

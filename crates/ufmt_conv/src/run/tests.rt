@@ -15,16 +15,7 @@ struct Source<'a> {
 }
 
 impl<'a> Source<'a> {
-    fn new(bytes: &'a [u8], most: usize) -> Self {
-        Source {
-            left: bytes,
-            most,
-            calls: 0,
-            fails_at: 0,
-        }
-    }
-
-    fn failing_at(bytes: &'a [u8], most: usize, fails_at: usize) -> Self {
+    fn new(bytes: &'a [u8], most: usize, fails_at: usize) -> Self {
         Source {
             left: bytes,
             most,
@@ -47,8 +38,8 @@ impl Read for Source<'_> {
     }
 }
 
-// Keeps what is written, at most `most` bytes a call, and fails at call number `fails_at`, counted
-// from one, and at a flush where `fails_flush` says so.
+// Keeps what is written, at most `most` bytes a call. Its writes and flushes are counted from one,
+// together, and it fails at number `fails_at`, and at a flush where `fails_flush` says so.
 #[derive(Drop)]
 struct Sink {
     taken: Vec<u8>,
@@ -59,13 +50,13 @@ struct Sink {
 }
 
 impl Sink {
-    fn new(alloc: Global, most: usize) -> Self {
+    fn new(alloc: Global, most: usize, fails_at: usize, fails_flush: bool) -> Self {
         Sink {
             taken: Vec::new(alloc),
             most,
             calls: 0,
-            fails_at: 0,
-            fails_flush: false,
+            fails_at,
+            fails_flush,
         }
     }
 }
@@ -82,7 +73,8 @@ impl Write for Sink {
     }
 
     fn flush(&mut self) -> io::Result<()> {
-        if self.fails_flush {
+        self.calls = self.calls.saturating_add(1);
+        if self.calls == self.fails_at || self.fails_flush {
             return Err(io::Error::from(ErrorKind::BrokenPipe));
         }
         Ok(())
@@ -91,9 +83,12 @@ impl Write for Sink {
 
 const WHOLE: usize = 4096;
 
+const NEVER: usize = 0;
+
 // Runs `lengths` and asserts the outcome and what was written.
-fn expect_run(
-    rt: &(impl Abort + Alloc<A = Global>),
+fn row(
+    rt: &(impl Abort + AllocGlobal),
+    case: &str,
     source: Source<'_>,
     sink: Sink,
     outcome: Result<(), Fault>,
@@ -102,26 +97,22 @@ fn expect_run(
     let mut input = Watched::new(source);
     let mut output = Watched::new(sink);
     let result = run(rt.alloc(), Command::Lengths, &mut input, &mut output);
-    assert_eq!(rt; result, outcome);
-    assert_eq!(rt; output.device().taken.as_slice(), written);
-    assert_eq!(rt; input.has_failed(), outcome == Err(Fault::CannotRead));
-    assert_eq!(rt; output.has_failed(), outcome == Err(Fault::CannotWrite));
-}
-
-#[test]
-fn run_is_not_always_refused(rt: HostRuntime) {
-    let sink = Sink::new(rt.alloc(), WHOLE);
-    expect_run(
-        &rt,
-        Source::new(b"ab\n\nxyz", WHOLE),
-        sink,
-        Ok(()),
-        b"[2, 0, 3]\n",
+    assert_eq!(rt; result, outcome, "{case}");
+    assert_eq!(rt; output.device().taken.as_slice(), written, "{case}");
+    assert_eq!(rt;
+        input.has_failed(),
+        outcome == Err(Fault::CannotRead),
+        "{case}: the input"
+    );
+    assert_eq!(rt;
+        output.has_failed(),
+        outcome == Err(Fault::CannotWrite),
+        "{case}: the output"
     );
 }
 
 #[test]
-fn answers_do_not_depend_on_the_pieces(rt: HostRuntime) {
+fn runs(rt: HostRuntime) -> Result<(), Fail> {
     let rows: [(&[u8], &[u8]); 5] = [
         (b"", b"[]\n"),
         (b"\n", b"[0]\n"),
@@ -131,57 +122,62 @@ fn answers_do_not_depend_on_the_pieces(rt: HostRuntime) {
     ];
     for (input, written) in rows {
         for most in [1, 2, WHOLE] {
-            let sink = Sink::new(rt.alloc(), most);
-            expect_run(&rt, Source::new(input, most), sink, Ok(()), written);
+            let case = format!(in rt.alloc(); "{input:?}, at most {most} bytes a call")?;
+            let source = Source::new(input, most, NEVER);
+            let sink = Sink::new(rt.alloc(), most, NEVER, false);
+            row(&rt, case.as_str(), source, sink, Ok(()), written);
         }
     }
-}
-
-#[test]
-fn a_long_line_is_counted_whole(rt: HostRuntime) -> Result<(), Fail> {
     let line = vec![in rt.alloc(); b'a'; 200_000]?;
-    let sink = Sink::new(rt.alloc(), WHOLE);
-    expect_run(&rt, Source::new(&line, 70_000), sink, Ok(()), b"[200000]\n");
+    let source = Source::new(&line, 70_000, NEVER);
+    let sink = Sink::new(rt.alloc(), WHOLE, NEVER, false);
+    row(&rt, "a long line", source, sink, Ok(()), b"[200000]\n");
     Ok(())
 }
 
 #[test]
-fn a_reader_that_fails_leaves_the_output_alone(rt: HostRuntime) {
+fn runs_whose_input_fails(rt: HostRuntime) -> Result<(), Fail> {
+    let outcome = Err(Fault::CannotRead);
     for fails_at in [1, 2, 4] {
-        let source = Source::failing_at(b"ab\n", 1, fails_at);
-        let sink = Sink::new(rt.alloc(), WHOLE);
-        expect_run(&rt, source, sink, Err(Fault::CannotRead), b"");
+        let case = format!(in rt.alloc(); "the input fails at call {fails_at}")?;
+        let source = Source::new(b"ab\n", 1, fails_at);
+        let sink = Sink::new(rt.alloc(), WHOLE, NEVER, false);
+        row(&rt, case.as_str(), source, sink, outcome, b"");
     }
+    Ok(())
 }
 
+// An output that takes two bytes a call is flushed at call 6.
 #[test]
-fn a_writer_that_fails_has_a_beginning(rt: HostRuntime) {
-    let rows: [(usize, &[u8]); 4] = [(1, b""), (2, b"[2"), (3, b"[2, "), (5, b"[2, 0, 3")];
+fn runs_whose_output_fails(rt: HostRuntime) -> Result<(), Fail> {
+    let outcome = Err(Fault::CannotWrite);
+    let rows: [(usize, &[u8]); 5] = [
+        (1, b""),
+        (2, b"[2"),
+        (3, b"[2, "),
+        (5, b"[2, 0, 3"),
+        (6, b"[2, 0, 3]\n"),
+    ];
     for (fails_at, written) in rows {
-        let mut sink = Sink::new(rt.alloc(), 2);
-        sink.fails_at = fails_at;
-        let source = Source::new(b"ab\n\nxyz", WHOLE);
-        expect_run(&rt, source, sink, Err(Fault::CannotWrite), written);
+        let case = format!(in rt.alloc(); "the output fails at call {fails_at}")?;
+        let source = Source::new(b"ab\n\nxyz", WHOLE, NEVER);
+        let sink = Sink::new(rt.alloc(), 2, fails_at, false);
+        row(&rt, case.as_str(), source, sink, outcome, written);
     }
+    let rows: [(&str, usize, bool, &[u8]); 2] = [
+        ("the output takes nothing", 0, false, b""),
+        ("the flush fails", WHOLE, true, b"[2]\n"),
+    ];
+    for (case, most, fails_flush, written) in rows {
+        let source = Source::new(b"ab", WHOLE, NEVER);
+        let sink = Sink::new(rt.alloc(), most, NEVER, fails_flush);
+        row(&rt, case, source, sink, outcome, written);
+    }
+    Ok(())
 }
 
 #[test]
-fn a_writer_that_takes_nothing_has_failed(rt: HostRuntime) {
-    let sink = Sink::new(rt.alloc(), 0);
-    let source = Source::new(b"ab", WHOLE);
-    expect_run(&rt, source, sink, Err(Fault::CannotWrite), b"");
-}
-
-#[test]
-fn a_flush_that_fails_comes_after_the_answer(rt: HostRuntime) {
-    let mut sink = Sink::new(rt.alloc(), WHOLE);
-    sink.fails_flush = true;
-    let source = Source::new(b"ab", WHOLE);
-    expect_run(&rt, source, sink, Err(Fault::CannotWrite), b"[2]\n");
-}
-
-#[test]
-fn line_lengths_is_not_always_refused(rt: HostRuntime) -> Result<(), Fail> {
+fn lengths_of_lines(rt: HostRuntime) -> Result<(), Fail> {
     let rows: [(&[u8], &[u64], &str); 4] = [
         (b"", &[], "[]"),
         (b"\n", &[0], "[0]"),
@@ -190,45 +186,91 @@ fn line_lengths_is_not_always_refused(rt: HostRuntime) -> Result<(), Fail> {
     ];
     for (input, lengths, text) in rows {
         let found = line_lengths(rt.alloc(), input)?;
-        assert_eq!(rt; found.as_slice(), lengths);
+        assert_eq!(rt; found.as_slice(), lengths, "{input:?}");
         let mut buffer = [0; 9];
         let mut f = Formatter::new(Cursor::new(&mut buffer));
-        assert_eq!(rt; found.fmt(&mut f), Ok(()));
-        assert_eq!(rt; f.into_inner().written(), text.as_bytes());
+        assert_eq!(rt; found.fmt(&mut f), Ok(()), "{input:?}");
+        assert_eq!(rt; f.into_inner().written(), text.as_bytes(), "{input:?}");
     }
     Ok(())
 }
 
+// A watched reader answers as its device does, at one call of it, and has failed from the first
+// failure on.
 #[test]
-fn read_some_does_not_always_fail(rt: HostRuntime) {
-    let mut input = Watched::new(Source::new(b"ab", WHOLE));
-    let mut buffer = [0u8; 4];
-    assert_eq!(rt; input.read_some(&mut buffer), Ok(2));
-    assert_eq!(rt; buffer, *b"ab\0\0");
-    assert_eq!(rt; input.read_some(&mut buffer), Ok(0));
-    assert!(rt; !input.has_failed());
-}
-
-#[test]
-fn a_failure_is_noted_for_good(rt: HostRuntime) {
-    let mut input = Watched::new(Source::failing_at(b"ab", 1, 2));
-    let mut buffer = [0u8; 4];
-    let answers = [(Ok(1), false), (Err(Failed), true), (Ok(1), true)];
-    for (answer, has_failed) in answers {
-        assert_eq!(rt; input.read_some(&mut buffer), answer);
-        assert_eq!(rt; input.has_failed(), has_failed);
+fn watched_reads(rt: HostRuntime) {
+    let never_fails = [
+        (1, Ok(2), b"ab..", false),
+        (2, Ok(1), b"c...", false),
+        (3, Ok(0), b"....", false),
+    ];
+    let fails_once = [
+        (1, Ok(2), b"ab..", false),
+        (2, Err(Failed), b"....", true),
+        (3, Ok(1), b"c...", true),
+    ];
+    for (fails_at, rows) in [(NEVER, never_fails), (2, fails_once)] {
+        let mut input = Watched::new(Source::new(b"abc", 2, fails_at));
+        assert!(rt; !input.has_failed(), "a new one");
+        for (call, answer, read, has_failed) in rows {
+            let mut buffer = *b"....";
+            assert_eq!(rt;
+                input.read_some(&mut buffer),
+                answer,
+                "call {call} of those that fail at {fails_at}"
+            );
+            assert_eq!(rt;
+                buffer,
+                *read,
+                "call {call} of those that fail at {fails_at}"
+            );
+            assert_eq!(rt;
+                input.has_failed(),
+                has_failed,
+                "call {call} of those that fail at {fails_at}"
+            );
+            assert_eq!(rt; input.device().calls, call, "the device's calls");
+        }
     }
-    assert_eq!(rt; input.device().calls, 3);
 }
 
+// A watched writer does likewise, and has failed too where nothing is taken of a piece that isn't empty.
 #[test]
-fn an_empty_piece_is_no_failure(rt: HostRuntime) {
-    let mut output = Watched::new(Sink::new(rt.alloc(), WHOLE));
-    assert_eq!(rt; output.write_some(b""), Ok(0));
-    assert_eq!(rt; output.write_some(b"ab"), Ok(2));
-    assert_eq!(rt; output.flush_all(), Ok(()));
-    assert!(rt; !output.has_failed());
-    assert_eq!(rt; output.device().calls, 2);
+fn watched_writes_and_flushes(rt: HostRuntime) {
+    let rows: [(&str, usize, usize, &[u8], Result<usize, Failed>); 6] = [
+        ("a whole piece", WHOLE, NEVER, b"abc", Ok(3)),
+        ("a beginning", 2, NEVER, b"abc", Ok(2)),
+        ("an empty piece", WHOLE, NEVER, b"", Ok(0)),
+        ("an empty piece of nothing", 0, NEVER, b"", Ok(0)),
+        ("nothing of a piece", 0, NEVER, b"abc", Err(Failed)),
+        ("an error", WHOLE, 1, b"abc", Err(Failed)),
+    ];
+    for (case, most, fails_at, bytes, answer) in rows {
+        let mut output = Watched::new(Sink::new(rt.alloc(), most, fails_at, false));
+        assert!(rt; !output.has_failed(), "before {case}");
+        assert_eq!(rt; output.write_some(bytes), answer, "{case}");
+        assert_eq!(rt; output.has_failed(), answer == Err(Failed), "after {case}");
+        assert_eq!(rt; output.device().calls, 1, "{case}");
+        assert_eq!(rt; output.flush_all(), Ok(()), "a flush after {case}");
+        assert_eq!(rt;
+            output.has_failed(),
+            answer == Err(Failed),
+            "a flush after {case}"
+        );
+        assert_eq!(rt; output.device().calls, 2, "a flush after {case}");
+    }
+    for (case, fails_flush, answer) in [
+        ("a flush", false, Ok(())),
+        ("a flush that fails", true, Err(Failed)),
+    ] {
+        let mut output = Watched::new(Sink::new(rt.alloc(), WHOLE, NEVER, fails_flush));
+        assert_eq!(rt; output.flush_all(), answer, "{case}");
+        assert_eq!(rt; output.has_failed(), fails_flush, "after {case}");
+        assert_eq!(rt; output.device().calls, 1, "{case}");
+        assert_eq!(rt; output.write_some(b"ab"), Ok(2), "a piece after {case}");
+        assert_eq!(rt; output.has_failed(), fails_flush, "a piece after {case}");
+        assert_eq!(rt; output.device().calls, 2, "a piece after {case}");
+    }
 }
 
 #[test]
@@ -246,21 +288,21 @@ fn one_word_is_a_command(rt: HostRuntime) -> Result<(), Fail> {
         for word in row {
             words.push(String::from_str(rt.alloc(), word)?)?;
         }
-        assert_eq!(rt; Command::parse(&words), command);
+        assert_eq!(rt; Command::parse(&words), command, "{row:?}");
     }
     Ok(())
 }
 
 #[test]
-fn faults_are_reported(rt: HostRuntime) {
+fn lines_and_statuses(rt: HostRuntime) {
     let rows = [
         (Fault::CannotRead, 3, "ufmt_conv: cannot read"),
         (Fault::CannotWrite, 4, "ufmt_conv: cannot write"),
         (Fault::OutOfMemory, 5, "ufmt_conv: out of memory"),
     ];
     for (fault, status, line) in rows {
-        assert_eq!(rt; fault.status(), status);
-        assert_eq!(rt; fault.line(), line);
+        assert_eq!(rt; fault.status(), status, "{fault:?}");
+        assert_eq!(rt; fault.line(), line, "{fault:?}");
     }
     assert_eq!(rt; usage(), "usage: ufmt_conv lengths|pretty|plain");
 }
