@@ -30,7 +30,7 @@ impl Noted {
 impl uWrite for Noted {
     type Error = AllocError;
 
-    ghost seen = { record { told = λ _. ⊥; text = λ _. []; room = λ _. 0; identity = λ _. 0 } };
+    ghost seen = { record { told = λ _. ⊥; text = λ _. []; room = λ _. 0; identity = λ _. []; store = λ _. [] } };
 
     fn write_str(&mut self, s: &str) -> Result<(), AllocError> {
         if s.is_empty() {
