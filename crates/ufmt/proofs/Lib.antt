@@ -1,3 +1,5 @@
+pub use Rattle.ufmt_core.proofs.Blocks
+pub use Rattle.ufmt_core.proofs.Loops
 pub use Rattle.ufmt_core.proofs.Printing
 pub mod Cursors
 pub mod HexadecimalTexts

@@ -1,2 +1,3 @@
+pub mod Docs
 pub mod KnownParts
 pub mod Lines
