@@ -4,3 +4,4 @@ pub mod Doc
 pub mod Fault
 pub mod Written
 pub mod Watched
+pub mod Within
