@@ -92,19 +92,23 @@ module _ {W E : Type 0} {seen : Seen W} (old : Block W) {new : Block W} {begun :
   Entry-no_value_lent (Ok x) p l stop error =
       let laid = subst (λ (s : Setting). Writes seen (writer_of begun) (layout s key) true (writer_of ended)) p.same_setting l.prints.wrote in
       let whole : (layout (inner old) key ++ (codes ": " ++ layout (inner old) value)) ++ trail_of old ≡ (layout (inner old) key ++ codes ": ") ++ (layout (inner old) value ++ trail_of old) = simp append_assoc in
-      record { part = record {
-        wrote = rw whole (Writes-then p.wrote (Writes-fails _ (Writes-then laid stop.wrote)));
-        same = record { reference = stop.same.reference; kind = stop.same.kind; outer = stop.same.outer };
-        after = stop.after;
-      } }
+      record {
+        part = record {
+          wrote = rw whole (Writes-then p.wrote (Writes-fails _ (Writes-then laid stop.wrote)));
+          same = record { reference = stop.same.reference; kind = stop.same.kind; outer = stop.same.outer };
+          after = stop.after;
+        };
+      }
   Entry-no_value_lent (Err x) p l stop error =
       let laid = subst (λ (s : Setting). Writes seen (writer_of begun) (layout s key) false (writer_of ended)) p.same_setting l.prints.wrote in
       let whole = append_assoc (layout (inner old) key) (codes ": " ++ layout (inner old) value) (trail_of old) in
-      record { part = record {
-        wrote = rw (whole, error.same_writer) (Writes-then p.wrote (Writes-fails _ laid));
-        same = record { reference = error.same.reference; kind = error.same.kind; outer = error.same.outer };
-        after = error.after;
-      } }
+      record {
+        part = record {
+          wrote = rw (whole, error.same_writer) (Writes-then p.wrote (Writes-fails _ laid));
+          same = record { reference = error.same.reference; kind = error.same.kind; outer = error.same.outer };
+          after = error.after;
+        };
+      }
 
   pub Entry-no_value : {mid : Block W} (answer : Result (Unit {0}) E) → mid ≡ lent_to Lent old ended → Prints seen old.formatter (lead_of old) true begun → LaysOut seen begun key (is_ok answer) ended →
       OnOk answer (Stop seen mid (codes ": ") new) → OnErr answer (Abandonment mid new) → Entry seen old (pair_text key value) false new

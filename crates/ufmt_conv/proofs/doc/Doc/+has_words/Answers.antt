@@ -17,14 +17,14 @@ pub returns-then-deepest-eq0-4 : goal.returns-then-deepest-eq0-4
 returns-then-deepest-eq0-4 t c =
     let first = fields-first (item-first _ _ _ _ c.loop-label-test.true c.loop-label-item.is) refl in
     elim c.then-deepest-eq0-4.branch [
-      then-deepest-eq0-4-via-then-deepest-eq0-4 w ↦ fields_within-zero c.loop-label.invariant first w.if-deepest-eq0-4.true
-    | then-deepest-eq0-4-via-else-deepest-eq0-4+then-not-is_word-2 w ↦
-        fields_within-no_label c.loop-label.invariant first (c.args.deepest - 1) (omega arith)
-        (ap is_word (sym w.deref-else-deepest-eq0-4.ensures) ∙ sym w.is_word-else-deepest-eq0-4.ensures ∙ w.if-not-is_word-2.true)
-    | then-deepest-eq0-4-via-else-deepest-eq0-4+else-not-is_word-2+then-not-has_words-5 w ↦
-        fields_within-no_value c.loop-label.invariant first (c.args.deepest - 1) (omega arith)
-        (ap is_word (sym w.deref-else-deepest-eq0-4.ensures) ∙ sym w.is_word-else-deepest-eq0-4.ensures ∙ w.if-not-is_word-2.false)
-        (sym w.has_words-else-not-is_word-2.ensures ∙ w.if-not-has_words-5.true)
+      | then-deepest-eq0-4-via-then-deepest-eq0-4 w ↦ fields_within-zero c.loop-label.invariant first w.if-deepest-eq0-4.true
+      | then-deepest-eq0-4-via-else-deepest-eq0-4+then-not-is_word-2 w ↦
+          fields_within-no_label c.loop-label.invariant first (c.args.deepest - 1) (omega arith)
+          (ap is_word (sym w.deref-else-deepest-eq0-4.ensures) ∙ sym w.is_word-else-deepest-eq0-4.ensures ∙ w.if-not-is_word-2.true)
+      | then-deepest-eq0-4-via-else-deepest-eq0-4+else-not-is_word-2+then-not-has_words-5 w ↦
+          fields_within-no_value c.loop-label.invariant first (c.args.deepest - 1) (omega arith)
+          (ap is_word (sym w.deref-else-deepest-eq0-4.ensures) ∙ sym w.is_word-else-deepest-eq0-4.ensures ∙ w.if-not-is_word-2.false)
+          (sym w.has_words-else-not-is_word-2.ensures ∙ w.if-not-has_words-5.true)
     ]
 
 pub loop-label-preserved : goal.loop-label-preserved
@@ -37,7 +37,7 @@ loop-label-preserved t c =
 pub loop-value-init : goal.loop-value-init
 loop-value-init t c =
     let some : length c.in-TupleOf.fields.items ≡ 0 → ⊥ = λ e.
-        let empty : c.is_empty.result ≡ true = c.is_empty.ensures ∙ ap (λ n. n == 0) (sym c.deref-value-items.ensures.len ∙ ap length c.deref-value-items.ensures.value ∙ e) in cc in
+    let empty : c.is_empty.result ≡ true = c.is_empty.ensures ∙ ap (λ n. n == 0) (sym c.deref-value-items.ensures.len ∙ ap length c.deref-value-items.ensures.value ∙ e) in cc in
     let spelled : are_word_bytes (string_bytes c.in-TupleOf.name) ≡ true = ap are_word_bytes (sym c.deref-in-TupleOf.ensures) ∙ sym c.are_word_bytes.ensures ∙ c.if-not-are_word_bytes.false in
     let named : is_tuple_name (string_bytes c.in-TupleOf.name) (documents (map doc_document c.in-TupleOf.fields.items)) ≡ true = is_tuple_name-fields doc_document (string_bytes c.in-TupleOf.name) c.in-TupleOf.fields.items some spelled in
     rw (ap doc_document c.in-TupleOf.is ∙ doc_document-TupleOf c.in-TupleOf.name c.in-TupleOf.fields, c.deref-value-items.ensures.value, named) refl
