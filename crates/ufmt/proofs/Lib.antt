@@ -22,4 +22,6 @@ pub mod Words
 pub mod WorkedReadings
 pub mod WorkedShifts
 pub mod WorkedTokens
+pub use Rattle.ufmt_core.proofs.Blocks
+pub use Rattle.ufmt_core.proofs.Loops
 pub use Rattle.ufmt_core.proofs.Printing

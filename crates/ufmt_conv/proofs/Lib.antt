@@ -1,2 +1,4 @@
+pub mod Docs
 pub mod KnownParts
 pub mod Lines
+pub mod Within

@@ -5,7 +5,11 @@ ghost use Rattle.std.specs.Prelude.{◌≡◌};
 ghost use Rattle.std.specs.Process.{exit_status};
 ghost use Rattle.ufmt_conv.specs.Fault.{status_of};
 
+pub mod convert;
+pub mod doc;
 pub mod run;
+#[cfg(test)]
+mod tests;
 
 use run::{Command, Fault, Watched};
 use std::process::ExitCode;

@@ -11,7 +11,6 @@ mod fault;
 mod input;
 mod lengths;
 mod output;
-mod plain_list;
 #[cfg(test)]
 mod tests;
 mod watched;

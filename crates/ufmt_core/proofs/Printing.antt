@@ -253,6 +253,9 @@ module _ {W X E : Type 0} {seen : Seen W} {b : Block W} (d : Document) {r : Resu
   pub entry_not_begun : r ≡ Err e → OnErr r (Stop seen b (lead_of b) b') → Entry seen b (entry_text d) false b'
   entry_not_begun was stop = record { part = Part-fails _ (IfErr-at_err _ was stop) }
 
+  pub pair_not_begun : (value : Document) → r ≡ Err e → OnErr r (Stop seen b (lead_of b) b') → Entry seen b (pair_text d value) false b'
+  pair_not_begun value was stop = record { part = Part-fails _ (IfErr-at_err _ was stop) }
+
   pub field_not_begun : (label : List ℕ) → r ≡ Err e → OnErr r (Stop seen b (field_lead_of label b) b') → Entry seen b (field_text label d) false b'
   field_not_begun label was stop =
       let whole : framed (frame_of b) (inner b) b.place (field_text label d (inner b)) ≡ field_lead_of label b ++ (entry_text d (inner b) ++ trail_of b) = simp append_assoc in

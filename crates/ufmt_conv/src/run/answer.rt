@@ -4,7 +4,7 @@ ghost use Rattle.ufmt_conv.specs.Answer.{answer_line};
 
 use super::command::Command;
 use super::lengths::line_lengths;
-use super::plain_list::plain_list;
+use crate::convert::plain_text;
 use std::alloc::{AllocError, Global};
 
 // The answer and a line feed.
@@ -16,7 +16,7 @@ pub(super) fn answer_line(
     ensures { IfOk result (λ line. string_bytes line ≡ answer_line command input.now) }
 {
     let mut line = match command {
-        Command::Lengths => plain_list(alloc, &line_lengths(alloc, input)?)?,
+        Command::Lengths => plain_text(alloc, &line_lengths(alloc, input)?)?,
     };
     line.push('\n')?;
     Ok(line)
