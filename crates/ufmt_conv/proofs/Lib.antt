@@ -1,2 +1,4 @@
 pub mod KnownParts
 pub mod Lines
+pub mod WordBytes
+pub mod Strips
