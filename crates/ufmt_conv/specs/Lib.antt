@@ -7,5 +7,6 @@ pub mod Fault
 pub mod Level
 pub mod Read
 pub mod ReadError
+pub mod Texts
 pub mod Watched
 pub mod Written

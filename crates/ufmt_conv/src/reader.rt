@@ -1,23 +1,41 @@
 //! Reading a token document from the front of a text, in either mode.
-ghost use Rattle.ufmt.specs.Reading.{read, read_braces, read_list, read_named, read_pair, read_without_name, read_word};
+ghost use Rattle.ufmt.specs.Reading.{read, read_braces, read_list, read_named, read_pair, read_text, read_without_name, read_word};
 ghost use Rattle.ufmt.specs.Token.{IsWord};
 ghost use Rattle.ufmt_conv.specs.Doc.{doc_document};
 ghost use Rattle.ufmt_conv.specs.DocViews.{docs_view, field_view, fields_view, pairs_view};
 ghost use Rattle.ufmt_conv.specs.Entries.{read_all, read_behind};
-ghost use Rattle.ufmt_conv.specs.Level.{entry_of, frame_of, setting_of};
-ghost use Rattle.ufmt_conv.specs.Read.{Reads};
+ghost use Rattle.ufmt_conv.specs.Level.{entry_of, frame_of, mode_of, setting_of};
+ghost use Rattle.ufmt_conv.specs.Read.{Gives, Reads};
 
-pub(crate) mod error;
-pub(crate) mod level;
+mod error;
+mod level;
 mod word;
 
 use crate::doc::Doc;
-use error::ReadError;
+pub use error::ReadError;
+pub(crate) use level::Mode;
 use level::{Kind, Level, expect, strip};
 use std::alloc::Global;
 use word::{split_word, word_text};
 
-/// A document at this level.
+/// The document that the whole text is of.
+pub(crate) fn read_text(alloc: Global, mode: Mode, input: &[u8]) -> Result<Doc, ReadError>
+    ensures { Gives doc_document result (read_text (mode_of mode) input.now) }
+{
+    let level = Level {
+        mode,
+        depth: 0,
+        budget: u8::MAX,
+    };
+    let (doc, rest) = read_document(alloc, level, input)?;
+    if rest.is_empty() {
+        Ok(doc)
+    } else {
+        Err(ReadError::NotText)
+    }
+}
+
+// A document at this level.
 #[cycle(document)]
 fn read_document(alloc: Global, level: Level, input: &[u8]) -> Result<(Doc, &[u8]), ReadError>
     ensures { Reads doc_document result (read (setting_of level) level.budget input.now) }

@@ -1,4 +1,11 @@
 use Rattle.std.proofs.Common.{ℕ, ◌+◌, ◌*◌, length}
+use Rattle.ufmt.specs.Reading.{read_pair, read_word}
+use Rattle.ufmt_conv.specs.declared.reader.level.Kind.TheVariants.{Braces, Struct}
+use Rattle.ufmt_conv.specs.Doc.{doc_document}
+use Rattle.ufmt_conv.specs.DocViews.{docs_view, fields_view, pair_view, pairs_view}
+use Rattle.ufmt_conv.specs.Entries.{read_all, read_behind}
+use Rattle.ufmt_conv.specs.Level.{entry_of, frame_of, setting_of}
+use Rattle.ufmt_conv.proofs.EntryLoops.{Going}
 use Rattle.ufmt_conv.proofs.reader.+document.Given as goal
 
 abbrev pub decreases-read_entry : goal.decreases-read_entry
@@ -33,3 +40,21 @@ decreases-read_without_name l = 6 * l.level.budget + 4
 
 abbrev pub decreases-read_document : goal.decreases-read_document
 decreases-read_document l = 6 * l.level.budget + 5
+
+abbrev pub invariant-read_fields-fields : goal.invariant-read_fields-fields
+invariant-read_fields-fields l = Going (read_pair read_word (entry_of l.level)) (frame_of l.level Struct) (setting_of l.level) (read_all (read_pair read_word (entry_of l.level)) (frame_of l.level Struct) (setting_of l.level) l.fn.input) (fields_view l.fields) l.alone l.rest
+
+abbrev pub decreases-read_fields-fields : goal.decreases-read_fields-fields
+decreases-read_fields-fields l = length l.rest
+
+abbrev pub invariant-read_more_documents-entries : goal.invariant-read_more_documents-entries
+invariant-read_more_documents-entries l = Going (entry_of l.level) (frame_of l.level l.kind) (setting_of l.level) (read_behind (entry_of l.level) (frame_of l.level l.kind) (setting_of l.level) (doc_document l.fn.first) l.input) (docs_view l.entries) l.alone l.rest
+
+abbrev pub decreases-read_more_documents-entries : goal.decreases-read_more_documents-entries
+decreases-read_more_documents-entries l = length l.rest
+
+abbrev pub invariant-read_more_pairs-pairs : goal.invariant-read_more_pairs-pairs
+invariant-read_more_pairs-pairs l = Going (read_pair (entry_of l.level) (entry_of l.level)) (frame_of l.level Braces) (setting_of l.level) (read_behind (read_pair (entry_of l.level) (entry_of l.level)) (frame_of l.level Braces) (setting_of l.level) (pair_view (l.fn.key, l.fn.value)) l.input) (pairs_view l.pairs) l.alone l.rest
+
+abbrev pub decreases-read_more_pairs-pairs : goal.decreases-read_more_pairs-pairs
+decreases-read_more_pairs-pairs l = length l.rest
