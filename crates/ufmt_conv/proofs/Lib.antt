@@ -1,4 +1,3 @@
-pub mod Docs
 pub mod DocumentParts
 pub mod EntryLoops
 pub mod Given

@@ -1,6 +1,5 @@
 pub mod Answer
 pub mod Command
-pub mod Doc
 pub mod DocViews
 pub mod Entries
 pub mod Fault
