@@ -1,5 +1,8 @@
 pub mod BlocksComplete
 pub mod BlocksSound
+pub use Rattle.ufmt_core.proofs.Blocks
+pub use Rattle.ufmt_core.proofs.Loops
+pub use Rattle.ufmt_core.proofs.Printing
 pub mod Cursors
 pub mod FramesClose
 pub mod HexadecimalTexts

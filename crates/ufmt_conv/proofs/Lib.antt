@@ -1,6 +1,7 @@
 pub mod DocumentParts
 pub mod EntryLoops
 pub mod Given
+pub mod Docs
 pub mod KnownParts
 pub mod Lines
 pub mod Strips

@@ -2,6 +2,7 @@ pub mod Answer
 pub mod Command
 pub mod DocViews
 pub mod Entries
+pub mod Doc
 pub mod Fault
 pub mod Level
 pub mod Read

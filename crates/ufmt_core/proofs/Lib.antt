@@ -2,6 +2,7 @@ pub mod Blocks
 pub mod DecimalTexts
 pub mod Indentation
 pub mod Items
+pub mod Loops
 pub mod NumeralTexts
 pub mod Numerals
 pub mod Printing

@@ -11,13 +11,16 @@ use Rattle.ufmt_core.specs.declared.formatter.block.Place.{Place}
 use Rattle.ufmt_core.specs.declared.formatter.block.Place.TheVariants.{First}
 use Rattle.ufmt_core.specs.declared.formatter.builder.Status.TheVariants.{Lent}
 use Rattle.ufmt_core.specs.declared.formatter.builder.Builder.{Builder}
+use Rattle.ufmt_core.specs.declared.list.ListBlock.{ListBlock}
+use Rattle.ufmt_core.specs.declared.set.SetBlock.{SetBlock}
 use Rattle.ufmt_core.specs.declared.structs.StructBlock.{StructBlock}
+use Rattle.ufmt_core.specs.declared.tuple.TupleBlock.{TupleBlock}
 use Rattle.ufmt_core.specs.Document.{Document, list_of, set_of, map_of, struct_of, tuple_of, Documents, Pairs, Fields, documents, pairs_of}
 use Rattle.ufmt_core.specs.Layout.{frame, inside, layout, next, rest, texts, pair_texts, tuple_kind}
 use Rattle.ufmt_core.specs.Writes.{Seen, Writes}
 use Rattle.ufmt_core.specs.Formatter.{Prints, LaysOut, setting_of, writer_of}
 use Rattle.ufmt_core.specs.Block.{Block, Closing, Entries, Entry, EntryEnd, IsInside, Opening, Part, Stop, ending_of, entries_left, entry_text, field_lead_of, field_text, fields_left, framed, framed_all, frame_of, inner, lead_of, pair_text, pairs_left, place_after, rest_of, trail_of}
-use Rattle.ufmt_core.specs.Builder.{block, lent, struct_block}
+use Rattle.ufmt_core.specs.Builder.{block, kind_of_tuple, lent, list_block, set_block, struct_block, tuple_block}
 use Rattle.ufmt_core.proofs.Blocks.{Closing-fails, Closing-then, Part-between, Part-fails, Part-from_entries, place_after-map, rest-append}
 use Rattle.ufmt_core.proofs.Items.{AlwaysYields-items}
 use Rattle.ufmt_core.proofs.Writing.{Writes-then, Writes-fails}
@@ -189,6 +192,20 @@ module _ {W K E : Type 0} {seen : Seen W} {d : Document} {begun ended : Formatte
       LaysOut seen begun d (is_ok answer) ended → EntryEnd seen answer (block kind mid) result (is_ok result) new → Entry seen (block kind old) (entry_text d) (is_ok result) new
   entry_between kind old m p l e = record { part = Part-between Lent (block kind old) ended _ (entry_text d) answer result (ap (block kind) m) p l.prints e }
 
+-- the same of a list, a set and a tuple
+module _ {W E : Type 0} {seen : Seen W} {d : Document} {begun ended : Formatter W} {new : Block W} (answer result : Result (Unit {0}) E) where
+  pub list_entry_between : (old : Builder W ListBlock) {mid : Builder W ListBlock} → mid ≡ lent Lent old ended → Prints seen old.formatter.now (lead_of (list_block old)) true begun →
+      LaysOut seen begun d (is_ok answer) ended → EntryEnd seen answer (list_block mid) result (is_ok result) new → Entry seen (list_block old) (entry_text d) (is_ok result) new
+  list_entry_between = entry_between answer result (λ _. Brackets)
+
+  pub set_entry_between : (old : Builder W SetBlock) {mid : Builder W SetBlock} → mid ≡ lent Lent old ended → Prints seen old.formatter.now (lead_of (set_block old)) true begun →
+      LaysOut seen begun d (is_ok answer) ended → EntryEnd seen answer (set_block mid) result (is_ok result) new → Entry seen (set_block old) (entry_text d) (is_ok result) new
+  set_entry_between = entry_between answer result (λ _. Braces)
+
+  pub tuple_field_between : (old : Builder W TupleBlock) {mid : Builder W TupleBlock} → mid ≡ lent Lent old ended → Prints seen old.formatter.now (lead_of (tuple_block old)) true begun →
+      LaysOut seen begun d (is_ok answer) ended → EntryEnd seen answer (tuple_block mid) result (is_ok result) new → Entry seen (tuple_block old) (entry_text d) (is_ok result) new
+  tuple_field_between = entry_between answer result kind_of_tuple
+
 module _ {W E : Type 0} {seen : Seen W} {d : Document} {begun ended : Formatter W} {new : Block W} (answer result : Result (Unit {0}) E) where
   pub field_between : (old : Builder W StructBlock) {mid : Builder W StructBlock} (label : List ℕ) → mid ≡ lent Lent old ended → Prints seen old.formatter.now (field_lead_of label (struct_block old)) true begun →
       LaysOut seen begun d (is_ok answer) ended → EntryEnd seen answer (struct_block mid) result (is_ok result) new → Entry seen (struct_block old) (field_text label d) (is_ok result) new
@@ -201,6 +218,9 @@ module _ {W E : Type 0} {seen : Seen W} {d : Document} {begun ended : Formatter 
 module _ {W X E : Type 0} {seen : Seen W} {b : Block W} (d : Document) {r : Result X E} {e : E} (b' : Block W) where
   pub entry_not_begun : r ≡ Err e → OnErr r (Stop seen b (lead_of b) b') → Entry seen b (entry_text d) false b'
   entry_not_begun was stop = record { part = Part-fails _ (IfErr-at_err _ was stop) }
+
+  pub pair_not_begun : (value : Document) → r ≡ Err e → OnErr r (Stop seen b (lead_of b) b') → Entry seen b (pair_text d value) false b'
+  pair_not_begun value was stop = record { part = Part-fails _ (IfErr-at_err _ was stop) }
 
   pub field_not_begun : (label : List ℕ) → r ≡ Err e → OnErr r (Stop seen b (field_lead_of label b) b') → Entry seen b (field_text label d) false b'
   field_not_begun label was stop =
