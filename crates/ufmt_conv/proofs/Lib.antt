@@ -7,3 +7,4 @@ pub mod Lines
 pub mod Strips
 pub mod WholeTexts
 pub mod WordBytes
+pub mod Conversions
