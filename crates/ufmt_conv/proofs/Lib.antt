@@ -1,2 +1,9 @@
+pub mod Docs
+pub mod DocumentParts
+pub mod EntryLoops
+pub mod Given
 pub mod KnownParts
 pub mod Lines
+pub mod Strips
+pub mod WholeTexts
+pub mod WordBytes
