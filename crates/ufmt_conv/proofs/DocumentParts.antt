@@ -17,20 +17,20 @@ pub map_one_more : {A B : Type 0} (f : A → B) (old new : List A) (x : A) → n
 map_one_more f old new x h = rw (h, map-append f old (x ∷ [])) refl
 
 -- a pair is read from a key, a colon and a value
-pub pair_is_read : {A : Type 0} (key : Parse A) (p : Parse Document) (t u v w : List ℕ) (x : A) (d : Document) → key t ≡ Some (x, u) → strip (codes ": ") u ≡ Some v → p v ≡ Some (d, w) → read_pair key p t ≡ Some ((x, d), w)
-pair_is_read key p t u v w x d first colon value = rw (first, colon, value) refl
+pub pair_is_read : {A : Type 0} (key : Parse A) (p : Parse Document) {t u v w : List ℕ} {x : A} {d : Document} → key t ≡ Some (x, u) → strip (codes ": ") u ≡ Some v → p v ≡ Some (d, w) → read_pair key p t ≡ Some ((x, d), w)
+pair_is_read key p first colon value = rw (first, colon, value) refl
 
 -- without a key there is none
-pub pair_without_key : {A : Type 0} (key : Parse A) (p : Parse Document) (t : List ℕ) → key t ≡ None → read_pair key p t ≡ None
-pair_without_key key p t first = rw first refl
+pub pair_without_key : {A : Type 0} (key : Parse A) (p : Parse Document) {t : List ℕ} → key t ≡ None → read_pair key p t ≡ None
+pair_without_key key p first = rw first refl
 
 -- nor without a colon
-pub pair_without_colon : {A : Type 0} (key : Parse A) (p : Parse Document) (t u : List ℕ) (x : A) → key t ≡ Some (x, u) → strip (codes ": ") u ≡ None → read_pair key p t ≡ None
-pair_without_colon key p t u x first colon = rw (first, colon) refl
+pub pair_without_colon : {A : Type 0} (key : Parse A) (p : Parse Document) {t u : List ℕ} {x : A} → key t ≡ Some (x, u) → strip (codes ": ") u ≡ None → read_pair key p t ≡ None
+pair_without_colon key p first colon = rw (first, colon) refl
 
 -- nor without a value
-pub pair_without_value : {A : Type 0} (key : Parse A) (p : Parse Document) (t u v : List ℕ) (x : A) → key t ≡ Some (x, u) → strip (codes ": ") u ≡ Some v → p v ≡ None → read_pair key p t ≡ None
-pair_without_value key p t u v x first colon value = rw (first, colon, value) refl
+pub pair_without_value : {A : Type 0} (key : Parse A) (p : Parse Document) {t u v : List ℕ} {x : A} → key t ≡ Some (x, u) → strip (codes ": ") u ≡ Some v → p v ≡ None → read_pair key p t ≡ None
+pair_without_value key p first colon value = rw (first, colon, value) refl
 
 -- the entries of a block make the block
 entries_from : {A : Type 0} (q : Parse A) (f : Frame) (s : Setting) (make : List A → Document) (o : Option (A × List ℕ)) → option_and_then (λ x. parse_map make (read_behind q f s x.0 x.1)) o ≡ parse_map make (option_and_then (λ x. read_behind q f s x.0 x.1) o)
