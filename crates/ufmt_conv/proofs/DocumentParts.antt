@@ -1,5 +1,5 @@
 -- Documents, pairs and fields, from what their parts are read as.
-use Rattle.std.proofs.Common.{◌≡◌, refl, ap, ◌∙◌, sym, ℕ, zero, suc, ◌==◌, Bool, true, false, List, [], ◌∷◌, ◌++◌, length, map, eqb-true, Option, Some, None, option_and_then, codes, arith}
+use Rattle.std.proofs.Common.{◌≡◌, refl, ◌∙◌, ℕ, zero, suc, ◌==◌, true, false, List, [], ◌∷◌, ◌++◌, length, map, eqb-true, Option, Some, None, option_and_then, codes, arith}
 use Rattle.std.proofs.lemmas.List.{map-append}
 use Rattle.ufmt.specs.Document.{Document, struct_of, fields_of}
 use Rattle.ufmt_core.specs.declared.formatter.Setting.{Setting}
@@ -7,7 +7,7 @@ use Rattle.ufmt_core.specs.declared.formatter.block.Kind.TheVariants.{Struct, Tu
 use Rattle.ufmt_core.specs.declared.formatter.block.Place.TheVariants.{First}
 use Rattle.ufmt.specs.Layout.{Frame, frame, inside, lead}
 use Rattle.ufmt.specs.Token.{AreWordBytes, IsWord}
-use Rattle.ufmt.specs.Reading.{Parse, parse_map, strip, word_of, after_word, read_word, read_pair, read_entries, read_named, read_without_name, read_with, read}
+use Rattle.ufmt.specs.Reading.{Parse, parse_map, strip, word_of, after_word, read_word, read_pair, read_named, read_without_name, read_with, read}
 use Rattle.ufmt.proofs.Words.{word_of_bytes}
 use Rattle.ufmt_conv.specs.Entries.{read_all, read_behind}
 use Rattle.ufmt_conv.specs.Level.{entry_at}
@@ -17,20 +17,20 @@ pub map_one_more : {A B : Type 0} (f : A → B) (old new : List A) (x : A) → n
 map_one_more f old new x h = rw (h, map-append f old (x ∷ [])) refl
 
 -- a pair is read from a key, a colon and a value
-pub pair_is_read : {A : Type 0} (key : Parse A) (p : Parse Document) (t u v w : List ℕ) (x : A) (d : Document) → key t ≡ Some (x, u) → strip (codes ": ") u ≡ Some v → p v ≡ Some (d, w) → read_pair key p t ≡ Some ((x, d), w)
-pair_is_read key p t u v w x d first colon value = rw (first, colon, value) refl
+pub pair_is_read : {A : Type 0} (key : Parse A) (p : Parse Document) {t u v w : List ℕ} {x : A} {d : Document} → key t ≡ Some (x, u) → strip (codes ": ") u ≡ Some v → p v ≡ Some (d, w) → read_pair key p t ≡ Some ((x, d), w)
+pair_is_read key p first colon value = rw (first, colon, value) refl
 
 -- without a key there is none
-pub pair_without_key : {A : Type 0} (key : Parse A) (p : Parse Document) (t : List ℕ) → key t ≡ None → read_pair key p t ≡ None
-pair_without_key key p t first = rw first refl
+pub pair_without_key : {A : Type 0} (key : Parse A) (p : Parse Document) {t : List ℕ} → key t ≡ None → read_pair key p t ≡ None
+pair_without_key key p first = rw first refl
 
 -- nor without a colon
-pub pair_without_colon : {A : Type 0} (key : Parse A) (p : Parse Document) (t u : List ℕ) (x : A) → key t ≡ Some (x, u) → strip (codes ": ") u ≡ None → read_pair key p t ≡ None
-pair_without_colon key p t u x first colon = rw (first, colon) refl
+pub pair_without_colon : {A : Type 0} (key : Parse A) (p : Parse Document) {t u : List ℕ} {x : A} → key t ≡ Some (x, u) → strip (codes ": ") u ≡ None → read_pair key p t ≡ None
+pair_without_colon key p first colon = rw (first, colon) refl
 
 -- nor without a value
-pub pair_without_value : {A : Type 0} (key : Parse A) (p : Parse Document) (t u v : List ℕ) (x : A) → key t ≡ Some (x, u) → strip (codes ": ") u ≡ Some v → p v ≡ None → read_pair key p t ≡ None
-pair_without_value key p t u v x first colon value = rw (first, colon, value) refl
+pub pair_without_value : {A : Type 0} (key : Parse A) (p : Parse Document) {t u v : List ℕ} {x : A} → key t ≡ Some (x, u) → strip (codes ": ") u ≡ Some v → p v ≡ None → read_pair key p t ≡ None
+pair_without_value key p first colon value = rw (first, colon, value) refl
 
 -- the entries of a block make the block
 entries_from : {A : Type 0} (q : Parse A) (f : Frame) (s : Setting) (make : List A → Document) (o : Option (A × List ℕ)) → option_and_then (λ x. parse_map make (read_behind q f s x.0 x.1)) o ≡ parse_map make (option_and_then (λ x. read_behind q f s x.0 x.1) o)

@@ -1,5 +1,5 @@
 -- What an error tells of what there is to read.
-use Rattle.std.proofs.Common.{◌≡◌, ◌∙◌, Option, Some, None, Result, Ok, Err}
+use Rattle.std.proofs.Common.{◌≡◌, Option, None, Result, Ok, Err}
 use Rattle.std.specs.Result.{IsErrAnd}
 use Rattle.ufmt_conv.specs.declared.reader.error.ReadError.{ReadError}
 use Rattle.ufmt_conv.specs.declared.reader.error.ReadError.TheVariants.{NotText, OutOfMemory}

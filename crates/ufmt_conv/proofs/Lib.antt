@@ -1,10 +1,10 @@
+pub mod Conversions
+pub mod Docs
 pub mod DocumentParts
 pub mod EntryLoops
 pub mod Given
-pub mod Docs
 pub mod KnownParts
 pub mod Lines
 pub mod Strips
 pub mod WholeTexts
 pub mod WordBytes
-pub mod Conversions

@@ -1,8 +1,8 @@
 pub mod Answer
 pub mod Command
+pub mod Doc
 pub mod DocViews
 pub mod Entries
-pub mod Doc
 pub mod Fault
 pub mod Level
 pub mod Read

@@ -5,11 +5,11 @@ ghost use Rattle.std.specs.Prelude.{◌≡◌};
 ghost use Rattle.std.specs.Process.{exit_status};
 ghost use Rattle.ufmt_conv.specs.Fault.{status_of};
 
+pub mod convert;
+pub mod doc;
 pub mod plain_reader;
 pub mod pretty_reader;
 mod reader;
-pub mod convert;
-pub mod doc;
 pub mod run;
 
 use run::{Command, Fault, Watched};

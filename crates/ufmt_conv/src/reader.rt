@@ -9,6 +9,8 @@ ghost use Rattle.ufmt_conv.specs.Read.{Gives, Reads};
 
 mod error;
 mod level;
+#[cfg(test)]
+mod tests;
 mod word;
 
 use crate::doc::Doc;
@@ -84,11 +86,7 @@ fn read_named<'a>(
 
 // What begins with no word.
 #[cycle(document)]
-fn read_without_name(
-    alloc: Global,
-    level: Level,
-    input: &[u8],
-) -> Result<(Doc, &[u8]), ReadError>
+fn read_without_name(alloc: Global, level: Level, input: &[u8]) -> Result<(Doc, &[u8]), ReadError>
     ensures { Reads doc_document result (read_without_name (setting_of level) (entry_of level) input.now) }
 {
     if let Some(rest) = strip(b"[", input) {

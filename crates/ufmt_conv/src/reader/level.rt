@@ -158,7 +158,12 @@ impl Level {
     }
 
     /// What follows the end of a block with one entry alone, or with more.
-    pub(super) fn expect_ending(self, kind: Kind, alone: bool, input: &[u8]) -> Result<&[u8], ReadError>
+    pub(super) fn expect_ending(
+        self,
+        kind: Kind,
+        alone: bool,
+        input: &[u8],
+    ) -> Result<&[u8], ReadError>
         ensures { Strips result (strip (ending (frame_of self kind) (setting_of self) (place_of alone)) input.now) }
     {
         let Some(rest) = self.strip_line_start(input) else {

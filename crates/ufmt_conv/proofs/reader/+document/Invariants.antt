@@ -1,4 +1,4 @@
-use Rattle.std.proofs.Common.{ℕ, ◌+◌, ◌*◌, length}
+use Rattle.std.proofs.Common.{◌+◌, ◌*◌, length}
 use Rattle.ufmt.specs.Reading.{read_pair, read_word}
 use Rattle.ufmt_conv.specs.declared.reader.level.Kind.TheVariants.{Braces, Struct}
 use Rattle.ufmt_conv.specs.Doc.{doc_document}

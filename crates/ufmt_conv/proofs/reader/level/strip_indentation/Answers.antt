@@ -1,4 +1,4 @@
-use Rattle.std.proofs.Common.{◌∙◌, ◌<◌, sym, arith}
+use Rattle.std.proofs.Common.{◌∙◌, sym, arith}
 use Rattle.ufmt_conv.proofs.Strips.{indentation_goes_on, indentation_ends}
 use Rattle.ufmt_conv.proofs.reader.level.strip_indentation.Goals as goal
 
