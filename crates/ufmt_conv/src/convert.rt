@@ -5,6 +5,9 @@ ghost use Rattle.ufmt.specs.Layout.{plain_text, pretty_text};
 ghost use Rattle.ufmt.specs.Shift.{HasNoLineFeed, shifted};
 ghost use Rattle.ufmt_conv.specs.Texts.{IsConverted, IsNoText};
 
+#[cfg(test)]
+mod tests;
+
 use crate::plain_reader::{ReadError, read_plain};
 use crate::pretty_reader::read_pretty;
 use std::alloc::{AllocError, Global};
