@@ -1,4 +1,11 @@
+pub mod Conversions
 pub mod Docs
+pub mod DocumentParts
+pub mod EntryLoops
+pub mod Given
 pub mod KnownParts
 pub mod Lines
+pub mod Strips
+pub mod WholeTexts
 pub mod Within
+pub mod WordBytes

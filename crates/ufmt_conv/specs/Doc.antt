@@ -1,5 +1,5 @@
 -- The document that a value of type `Doc` is.
-use Rattle.std.specs.Prelude.{ℕ, List, map, string_bytes}
+use Rattle.std.specs.Prelude.{map, string_bytes}
 use Rattle.ufmt_conv.specs.declared.doc.Doc.{Doc}
 use Rattle.ufmt_conv.specs.declared.doc.Doc.TheOpen.{Doc-F, Leaf, Listed, SetOf, MapOf, StructOf, TupleOf}
 use Rattle.ufmt_conv.specs.declared.doc.Doc.TheFolds.{fold-Doc}

@@ -1,7 +1,13 @@
 pub mod Answer
 pub mod Command
 pub mod Doc
+pub mod DocViews
+pub mod Entries
 pub mod Fault
-pub mod Written
+pub mod Level
+pub mod Read
+pub mod ReadError
+pub mod Texts
 pub mod Watched
 pub mod Within
+pub mod Written

@@ -1,9 +1,15 @@
-//! Values to texts.
-ghost use Rattle.std.specs.Prelude.{◌≡◌, ◌≤◌, string_bytes, IfOk};
+//! Values to texts, and plain texts to pretty ones and back.
+ghost use Rattle.std.specs.Prelude.{◌≡◌, ◌≤◌, string_bytes, IfOk, IsErrOf};
 ghost use Rattle.ufmt.specs.Document.{nest};
 ghost use Rattle.ufmt.specs.Layout.{plain_text, pretty_text};
 ghost use Rattle.ufmt.specs.Shift.{HasNoLineFeed, shifted};
+ghost use Rattle.ufmt_conv.specs.Texts.{IsConverted, IsNoText};
 
+#[cfg(test)]
+mod tests;
+
+use crate::plain_reader::{ReadError, read_plain};
+use crate::pretty_reader::read_pretty;
 use std::alloc::{AllocError, Global};
 use ufmt::{Formatter, uDebug};
 
@@ -29,5 +35,25 @@ pub fn pretty_text<T: uDebug>(alloc: Global, value: &T) -> Result<String, AllocE
     let mut f = Formatter::new(&mut text);
     f.pretty(|f| value.fmt(f))?;
     f.into_inner();
+    Ok(text)
+}
+
+/// The pretty text of the token documents with this plain text.
+pub fn to_pretty(alloc: Global, input: &[u8]) -> Result<String, ReadError>
+    ensures ok { IfOk result (λ text. IsConverted plain_text pretty_text input.now (string_bytes text)) }
+    ensures not_text { IsErrOf result ReadError.NotText → IsNoText plain_text input.now }
+{
+    let doc = read_plain(alloc, input)?;
+    let text = pretty_text(alloc, &doc)?;
+    Ok(text)
+}
+
+/// The plain text of the token documents with this pretty text.
+pub fn to_plain(alloc: Global, input: &[u8]) -> Result<String, ReadError>
+    ensures ok { IfOk result (λ text. IsConverted pretty_text plain_text input.now (string_bytes text)) }
+    ensures not_text { IsErrOf result ReadError.NotText → IsNoText pretty_text input.now }
+{
+    let doc = read_pretty(alloc, input)?;
+    let text = plain_text(alloc, &doc)?;
     Ok(text)
 }

@@ -7,6 +7,9 @@ ghost use Rattle.ufmt_conv.specs.Fault.{status_of};
 
 pub mod convert;
 pub mod doc;
+pub mod plain_reader;
+pub mod pretty_reader;
+mod reader;
 pub mod run;
 #[cfg(test)]
 mod tests;

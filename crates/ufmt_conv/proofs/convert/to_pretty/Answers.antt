@@ -1,0 +1,6 @@
+use Rattle.ufmt_conv.specs.Doc.{doc_document}
+use Rattle.ufmt_conv.proofs.Conversions.{plain_converted}
+use Rattle.ufmt_conv.proofs.convert.to_pretty.Goals as goal
+
+pub returns-clause-ok : goal.returns-clause-ok
+returns-clause-ok c = plain_converted c.args.input.now _ (doc_document c.in_ok-doc.doc) c.in_ok-doc.ensures.ok c.in_ok-text.ensures.text

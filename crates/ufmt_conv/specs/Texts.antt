@@ -1,0 +1,17 @@
+-- What readers promise: of the documents with a text, or of a text that no document has.
+use Rattle.std.specs.Prelude.{◌≡◌, ◌≢◌, List, ℕ}
+use Rattle.ufmt.specs.Document.{Document}
+use Rattle.ufmt.specs.Token.{IsToken, normal}
+
+-- a token document in normal form that has this text
+abbrev pub IsNormalForm : (Document → List ℕ) → List ℕ → Document → Type 0
+IsNormalForm text_of input d = IsToken d × (normal d ≡ d) × (text_of d ≡ input)
+
+-- no token document has this text
+abbrev pub IsNoText : (Document → List ℕ) → List ℕ → Type 0
+IsNoText text_of input = (d : Document) → IsToken d → text_of d ≢ input
+
+-- what a text is converted to: some token document has the text, and each that has it has the answer as its other text
+pub record IsConverted (from to : Document → List ℕ) (input answer : List ℕ) : Type 0 where
+  pub some : (d : Document) × IsToken d × (from d ≡ input)
+  pub each : (d : Document) → IsToken d → from d ≡ input → to d ≡ answer

@@ -1,0 +1,38 @@
+use super::*;
+use std::process::Abort;
+
+// The pretty text of a plain one, and the plain text of that again.
+fn expect_converted(rt: &(impl Abort + Alloc<A = Global>), plain: &str, pretty: &str) {
+    let converted = to_pretty(rt.alloc(), plain.as_bytes());
+    assert!(rt; matches!(converted, Ok(text) if text.as_str() == pretty));
+    let back = to_plain(rt.alloc(), pretty.as_bytes());
+    assert!(rt; matches!(back, Ok(text) if text.as_str() == plain));
+}
+
+#[test]
+fn texts_are_converted(rt: HostRuntime) {
+    let rows = [
+        ("x", "x"),
+        ("{}", "{}"),
+        ("(x,)", "(\n    x,\n)"),
+        ("n(x)", "n(\n    x,\n)"),
+        (
+            "S { a: [b], c: {d: ()} }",
+            "S {\n    a: [\n        b,\n    ],\n    c: {\n        d: (),\n    },\n}",
+        ),
+    ];
+    for (plain, pretty) in rows {
+        expect_converted(&rt, plain, pretty);
+    }
+}
+
+#[test]
+fn other_texts_are_not_converted(rt: HostRuntime) {
+    assert!(rt;
+        matches!(
+            to_pretty(rt.alloc(), b"[\n    x,\n]"),
+            Err(ReadError::NotText)
+        )
+    );
+    assert!(rt; matches!(to_plain(rt.alloc(), b"[x]"), Err(ReadError::NotText)));
+}

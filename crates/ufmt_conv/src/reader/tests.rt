@@ -1,0 +1,190 @@
+use super::*;
+use crate::plain_reader::read_plain;
+use crate::pretty_reader::read_pretty;
+use std::process::Abort;
+use std::test::Fail;
+
+// 0 where a document was read, and the error's code where none was.
+fn code(answer: Result<Doc, ReadError>) -> u8 {
+    match answer {
+        Ok(_) => 0,
+        Err(error) => error.code(),
+    }
+}
+
+// `depth` lists with one entry, one in another, round a word, plain.
+fn plain_lists(alloc: Global, depth: usize) -> Result<Vec<u8>, Fail> {
+    let mut text = Vec::new(alloc);
+    for _ in 0..depth {
+        text.push(b'[')?;
+    }
+    text.push(b'x')?;
+    for _ in 0..depth {
+        text.push(b']')?;
+    }
+    Ok(text)
+}
+
+fn indent(text: &mut Vec<u8>, depth: usize) -> Result<(), Fail> {
+    for _ in 0..depth {
+        text.extend_from_slice(b"    ")?;
+    }
+    Ok(())
+}
+
+// The same, pretty.
+fn pretty_lists(alloc: Global, depth: usize) -> Result<Vec<u8>, Fail> {
+    let mut text = Vec::new(alloc);
+    for k in 0..depth {
+        text.extend_from_slice(b"[\n")?;
+        indent(&mut text, k + 1)?;
+    }
+    text.push(b'x')?;
+    for k in 0..depth {
+        text.extend_from_slice(b",\n")?;
+        indent(&mut text, depth - k - 1)?;
+        text.push(b']')?;
+    }
+    Ok(text)
+}
+
+#[test]
+fn plain_texts_are_read(rt: HostRuntime) {
+    let texts: [&[u8]; 14] = [
+        b"x",
+        b"-",
+        b"_",
+        b"()",
+        b"[]",
+        b"{}",
+        b"(x,)",
+        b"(x, y)",
+        b"n(x)",
+        b"{(x,): ()}",
+        b"{[x]: y}",
+        b"{S { a: b }}",
+        b"S { a: b, c: [] }",
+        b"{a: b, c: d}",
+    ];
+    for text in texts {
+        assert_eq!(rt; code(read_plain(rt.alloc(), text)), 0);
+    }
+}
+
+#[test]
+fn what_is_no_plain_text_is_refused(rt: HostRuntime) {
+    let texts: [&[u8]; 32] = [
+        b"",
+        b" x",
+        b"x ",
+        b"()x",
+        b"(,)",
+        b"(x)",
+        b"(x, )",
+        b"(x,y)",
+        b"n()",
+        b"n( x)",
+        b"n(x,)",
+        b"()(x)",
+        b"{a:b}",
+        b"{a: b: c}",
+        b"{a: b, c}",
+        b"{x, y: z}",
+        b"{ a: b }",
+        b"{}}",
+        b"[x",
+        b"[x]]",
+        b"[x,]",
+        b"[x y]",
+        b"S {}",
+        b"S {a: b }",
+        b"S { a: b}",
+        b"S { a: b, }",
+        b"S { (): b }",
+        b"S { a b }",
+        b"x\r",
+        b"\xc3\xa9",
+        b"\xff",
+        b"[\n    x,\n]",
+    ];
+    for text in texts {
+        assert_eq!(rt; code(read_plain(rt.alloc(), text)), 1);
+    }
+}
+
+#[test]
+fn pretty_texts_are_read(rt: HostRuntime) {
+    let texts: [&[u8]; 9] = [
+        b"x",
+        b"()",
+        b"[]",
+        b"{}",
+        b"(\n    x,\n)",
+        b"n(\n    x,\n    y,\n)",
+        b"S {\n    a: [\n        b,\n    ],\n}",
+        b"{\n    a: b,\n    c: d,\n}",
+        b"{\n    a,\n    {},\n}",
+    ];
+    for text in texts {
+        assert_eq!(rt; code(read_pretty(rt.alloc(), text)), 0);
+    }
+}
+
+#[test]
+fn what_is_no_pretty_text_is_refused(rt: HostRuntime) {
+    let texts: [&[u8]; 17] = [
+        b"[\n]",
+        b"{\n}",
+        b"S {\n}",
+        b"(\n)",
+        b"(\n    x\n)",
+        b"[\n    x,\n    ]",
+        b"[\n    x,\n\n    y,\n]",
+        b"[\n    x, y,\n]",
+        b"{\n    a : b,\n}",
+        b"{\n    a: b,\n    c,\n}",
+        b"[\n    x,\n]x",
+        b"[\n     x,\n]",
+        b"[\n    x,\r\n]",
+        b"\xff",
+        b"[x]",
+        b"[\n   x,\n]",
+        b"[\n    x,\n    y\n]",
+    ];
+    for text in texts {
+        assert_eq!(rt; code(read_pretty(rt.alloc(), text)), 1);
+    }
+}
+
+#[test]
+fn empty_braces_are_a_map(rt: HostRuntime) {
+    assert!(rt; matches!(read_plain(rt.alloc(), b"{}"), Ok(Doc::MapOf(pairs)) if pairs.is_empty()));
+    assert!(rt;
+        matches!(read_pretty(rt.alloc(), b"{}"), Ok(Doc::MapOf(pairs)) if pairs.is_empty())
+    );
+    assert!(rt;
+        matches!(read_plain(rt.alloc(), b"{x}"), Ok(Doc::SetOf(entries)) if entries.len() == 1)
+    );
+    assert!(rt; matches!(read_plain(rt.alloc(), b"n"), Ok(Doc::Leaf(_))));
+}
+
+#[test]
+fn blocks_lie_at_most_255_deep(rt: HostRuntime) -> Result<(), Fail> {
+    assert_eq!(rt;
+        code(read_plain(rt.alloc(), &plain_lists(rt.alloc(), 255)?)),
+        0
+    );
+    assert_eq!(rt;
+        code(read_plain(rt.alloc(), &plain_lists(rt.alloc(), 256)?)),
+        1
+    );
+    assert_eq!(rt;
+        code(read_pretty(rt.alloc(), &pretty_lists(rt.alloc(), 255)?)),
+        0
+    );
+    assert_eq!(rt;
+        code(read_pretty(rt.alloc(), &pretty_lists(rt.alloc(), 256)?)),
+        1
+    );
+    Ok(())
+}
