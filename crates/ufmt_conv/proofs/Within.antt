@@ -1,9 +1,9 @@
 -- A document passes the test with the depth 255 exactly if its text can be read again.
-use Rattle.std.proofs.Common.{◌≡◌, length, map, ◌⊎◌, inl, inr, ℕ, zero, suc, ◌≤◌, ◌&&◌, ◌||◌, List, [], ◌∷◌, Bool, true, false, codes, refl, sym, ap, ◌∙◌, arith}
+use Rattle.std.proofs.Common.{◌≡◌, length, map, ◌⊎◌, inl, inr, ℕ, zero, suc, ◌≤◌, ◌&&◌, ◌||◌, List, [], ◌∷◌, Bool, true, false, codes, refl, sym, arith}
 use Rattle.std.specs.Prelude.{IsTrue, ◌↔◌, bytes_eq}
 use Rattle.std.proofs.lemmas.Slice.Eq.{bytes_eq-Decides}
 use Rattle.ufmt.specs.Document.{Document, leaf, joined, list_of, set_of, map_of, struct_of, tuple_of, pretty_part, Documents, no_documents, document, documents, Pairs, no_pairs, pair, Fields, no_fields, field, nest, nest_all, nest_pairs, nest_fields}
-use Rattle.ufmt.specs.Token.{AreWordBytes, IsWord, IsTokenLeaf, HasWords, HaveWords, PairsHaveWords, FieldsHaveWords, IsToken, is_word_byte}
+use Rattle.ufmt.specs.Token.{AreWordBytes, IsWord, HasWords, HaveWords, PairsHaveWords, FieldsHaveWords, IsToken, is_word_byte}
 use Rattle.ufmt_conv.specs.Within.{are_word_bytes, is_word, is_token_leaf, is_tuple_name, words_within, all_within, pairs_within, fields_within}
 
 -- both tests, and one of two

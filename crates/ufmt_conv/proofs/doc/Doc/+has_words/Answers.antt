@@ -1,4 +1,4 @@
-use Rattle.std.proofs.Common.{◌≡◌, ◌-◌, ◌==◌, length, map, suc, true, false, refl, ap, sym, ◌∙◌, arith}
+use Rattle.std.proofs.Common.{◌≡◌, ◌-◌, ◌==◌, length, map, true, refl, ap, sym, ◌∙◌, arith}
 use Rattle.std.specs.Prelude.{string_bytes}
 use Rattle.ufmt.specs.Document.{documents}
 use Rattle.ufmt_conv.specs.Within.{is_word, is_tuple_name, are_word_bytes}

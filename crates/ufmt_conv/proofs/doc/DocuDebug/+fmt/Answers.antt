@@ -8,7 +8,7 @@ use Rattle.ufmt.proofs.Blocks.{Entry-no_value, Entry-pair}
 use Rattle.ufmt.proofs.Loops.{list_begun, set_begun, map_begun, struct_begun, tuple_begun, entries_next, entries_stopped, entries_finished, fields_next, fields_stopped, fields_finished, pairs_next, pairs_stopped, pairs_finished}
 use Rattle.ufmt.proofs.Printing.{LaysOut-err, list_not_opened, set_not_opened, map_not_opened, struct_not_opened, tuple_not_opened, entry_not_begun, field_not_begun, pair_not_begun, list_entry_between, set_entry_between, tuple_field_between, field_between}
 use Rattle.ufmt_conv.specs.Doc.{doc_document}
-use Rattle.ufmt_conv.proofs.Docs.{doc_document-Leaf, doc_document-Listed, doc_document-SetOf, doc_document-MapOf, doc_document-StructOf, doc_document-TupleOf, item-first, fields-first}
+use Rattle.ufmt_conv.proofs.Docs.{doc_document-Listed, doc_document-SetOf, doc_document-MapOf, doc_document-StructOf, doc_document-TupleOf, item-first, fields-first}
 use Rattle.ufmt_conv.proofs.doc.DocuDebug.+fmt.Goals as goal
 
 pub returns-in_err-list-in-Listed : goal.returns-in_err-list-in-Listed
