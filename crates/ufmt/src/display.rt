@@ -15,7 +15,8 @@ pub trait uDisplay {
     ghost display: { Self → Document };
 
     /// Appends the layout of the value's document in the formatter's mode and from its depth, or,
-    /// where the writer fails, a beginning of it. Writer, mode and depth are then as before.
+    /// where the writer fails, a beginning of it. The formatter has the same writer then, which holds
+    /// the text, at the same mode and depth.
     fn fmt<W>(&self, f: &mut Formatter<W>) -> Result<(), W::Error>
     where
         W: uWrite,

@@ -83,7 +83,8 @@ pub(crate) fn write_digits<M: Magnitude>(n: M, buffer: &mut [u8]) -> usize
     }
 }
 
-/// The text that ends `buffer`, from `start` on.
+/// The text that ends `buffer`, from `start` on. It asks that `start` is within the buffer and that the
+/// bytes from there on are ASCII: `ufmt` calls it for hexadecimal digits.
 pub fn text_from(buffer: &[u8], start: usize) -> &str
     requires within { start ≤ length buffer.now }
     requires ascii { IsAscii (drop start buffer.now) }
