@@ -2,11 +2,16 @@ use super::*;
 use std::process::Abort;
 
 // The pretty text of a plain one, and the plain text of that again.
-fn expect_converted(rt: &(impl Abort + Alloc<A = Global>), plain: &str, pretty: &str) {
-    let converted = to_pretty(rt.alloc(), plain.as_bytes());
-    assert!(rt; matches!(converted, Ok(text) if text.as_str() == pretty));
-    let back = to_plain(rt.alloc(), pretty.as_bytes());
-    assert!(rt; matches!(back, Ok(text) if text.as_str() == plain));
+fn expect_converted(
+    rt: &(impl Abort + Alloc<A = Global>),
+    plain: &str,
+    pretty: &str,
+) -> Result<(), ReadError> {
+    let converted = to_pretty(rt.alloc(), plain.as_bytes())?;
+    assert_eq!(rt; converted.as_str(), pretty);
+    let back = to_plain(rt.alloc(), pretty.as_bytes())?;
+    assert_eq!(rt; back.as_str(), plain);
+    Ok(())
 }
 
 #[test]
@@ -22,7 +27,7 @@ fn texts_are_converted(rt: HostRuntime) {
         ),
     ];
     for (plain, pretty) in rows {
-        expect_converted(&rt, plain, pretty);
+        assert_eq!(rt; expect_converted(&rt, plain, pretty), Ok(()));
     }
 }
 

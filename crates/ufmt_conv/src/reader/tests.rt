@@ -156,16 +156,22 @@ fn what_is_no_pretty_text_is_refused(rt: HostRuntime) {
     }
 }
 
+// The kind of the document, and how many entries a set or a map has.
+fn shape(answer: Result<Doc, ReadError>) -> (&'static str, usize) {
+    match &answer {
+        Ok(Doc::Leaf(_text)) => ("leaf", 0),
+        Ok(Doc::SetOf(entries)) => ("set", entries.len()),
+        Ok(Doc::MapOf(pairs)) => ("map", pairs.len()),
+        _ => ("other", 0),
+    }
+}
+
 #[test]
 fn empty_braces_are_a_map(rt: HostRuntime) {
-    assert!(rt; matches!(read_plain(rt.alloc(), b"{}"), Ok(Doc::MapOf(pairs)) if pairs.is_empty()));
-    assert!(rt;
-        matches!(read_pretty(rt.alloc(), b"{}"), Ok(Doc::MapOf(pairs)) if pairs.is_empty())
-    );
-    assert!(rt;
-        matches!(read_plain(rt.alloc(), b"{x}"), Ok(Doc::SetOf(entries)) if entries.len() == 1)
-    );
-    assert!(rt; matches!(read_plain(rt.alloc(), b"n"), Ok(Doc::Leaf(_))));
+    assert_eq!(rt; shape(read_plain(rt.alloc(), b"{}")), ("map", 0));
+    assert_eq!(rt; shape(read_pretty(rt.alloc(), b"{}")), ("map", 0));
+    assert_eq!(rt; shape(read_plain(rt.alloc(), b"{x}")), ("set", 1));
+    assert_eq!(rt; shape(read_plain(rt.alloc(), b"n")), ("leaf", 0));
 }
 
 #[test]
