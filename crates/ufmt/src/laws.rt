@@ -219,11 +219,30 @@ pub fn documents_of_collections<T: uDebug + Ord, U: uDebug, const N: usize>()
         (λ es. map_of (pairs_of (map (λ e. (T.document e.0, U.document e.1)) es.entries))) }
 {}
 
-/// The document of a tuple is the tuple without a name of its fields.
+/// The document of a tuple is the tuple without a name of its fields, in order: of one to three types,
+/// and of one type as often as it has fields.
 pub fn documents_of_tuples<T: uDebug, U: uDebug, V: uDebug>()
     ensures of_one { ⟦<(T,) as uDebug>⟧.document ≡ (λ t. named_tuple "" (T.document t.0 ∷ [])) }
     ensures of_two { ⟦<(T, U) as uDebug>⟧.document ≡
         (λ t. named_tuple "" (T.document t.0 ∷ U.document t.1 ∷ [])) }
     ensures of_three { ⟦<(T, U, V) as uDebug>⟧.document ≡
         (λ t. named_tuple "" (T.document t.0 ∷ U.document t.1 ∷ V.document t.2 ∷ [])) }
+    ensures of_four { ⟦<(T, T, T, T) as uDebug>⟧.document ≡
+        (λ t. named_tuple "" (map T.document (t.0 ∷ t.1 ∷ t.2 ∷ t.3 ∷ []))) }
+    ensures of_five { ⟦<(T, T, T, T, T) as uDebug>⟧.document ≡
+        (λ t. named_tuple "" (map T.document (t.0 ∷ t.1 ∷ t.2 ∷ t.3 ∷ t.4 ∷ []))) }
+    ensures of_six { ⟦<(T, T, T, T, T, T) as uDebug>⟧.document ≡
+        (λ t. named_tuple "" (map T.document (t.0 ∷ t.1 ∷ t.2 ∷ t.3 ∷ t.4 ∷ t.5 ∷ []))) }
+    ensures of_seven { ⟦<(T, T, T, T, T, T, T) as uDebug>⟧.document ≡
+        (λ t. named_tuple "" (map T.document (t.0 ∷ t.1 ∷ t.2 ∷ t.3 ∷ t.4 ∷ t.5 ∷ t.6 ∷ []))) }
+    ensures of_eight { ⟦<(T, T, T, T, T, T, T, T) as uDebug>⟧.document ≡
+        (λ t. named_tuple "" (map T.document (t.0 ∷ t.1 ∷ t.2 ∷ t.3 ∷ t.4 ∷ t.5 ∷ t.6 ∷ t.7 ∷ []))) }
+    ensures of_nine { ⟦<(T, T, T, T, T, T, T, T, T) as uDebug>⟧.document ≡
+        (λ t. named_tuple "" (map T.document (t.0 ∷ t.1 ∷ t.2 ∷ t.3 ∷ t.4 ∷ t.5 ∷ t.6 ∷ t.7 ∷ t.8 ∷ []))) }
+    ensures of_ten { ⟦<(T, T, T, T, T, T, T, T, T, T) as uDebug>⟧.document ≡
+        (λ t. named_tuple "" (map T.document (t.0 ∷ t.1 ∷ t.2 ∷ t.3 ∷ t.4 ∷ t.5 ∷ t.6 ∷ t.7 ∷ t.8 ∷ t.9 ∷ []))) }
+    ensures of_eleven { ⟦<(T, T, T, T, T, T, T, T, T, T, T) as uDebug>⟧.document ≡
+        (λ t. named_tuple "" (map T.document (t.0 ∷ t.1 ∷ t.2 ∷ t.3 ∷ t.4 ∷ t.5 ∷ t.6 ∷ t.7 ∷ t.8 ∷ t.9 ∷ t.10 ∷ []))) }
+    ensures of_twelve { ⟦<(T, T, T, T, T, T, T, T, T, T, T, T) as uDebug>⟧.document ≡
+        (λ t. named_tuple "" (map T.document (t.0 ∷ t.1 ∷ t.2 ∷ t.3 ∷ t.4 ∷ t.5 ∷ t.6 ∷ t.7 ∷ t.8 ∷ t.9 ∷ t.10 ∷ t.11 ∷ []))) }
 {}

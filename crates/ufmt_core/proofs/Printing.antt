@@ -1,5 +1,5 @@
 -- The steps by which a `fmt` is proved, one for each call of a builder: what is left to write before the call, and what is left after it.
-use Rattle.std.proofs.Common.{◌≡◌, ℕ, List, [], ◌∷◌, ◌++◌, Bool, true, false, codes, is_ok, Result, Err, OnErr, refl, ap, sym, ◌∙◌, subst, map, Iter, ◌≤◌, length, take, drop, append_assoc, append-nil}
+use Rattle.std.proofs.Common.{◌≡◌, ℕ, List, [], ◌∷◌, ◌++◌, Bool, true, false, codes, is_ok, Result, Err, OnErr, refl, ap, sym, ◌∙◌, subst, map, Iter, ◌+◌, ◌<◌, ◌≤◌, length, get_or, take, drop, append_assoc, append-nil}
 use Rattle.std.specs.Prelude.{IsErr}
 use Rattle.std.proofs.lemmas.List.{map-append, take-append-drop, take_all}
 use Rattle.std.proofs.lemmas.Simd.{map-map}
@@ -23,7 +23,7 @@ use Rattle.ufmt_core.specs.Writes.{Seen, Writes}
 use Rattle.ufmt_core.specs.Formatter.{Prints, LaysOut, setting_of, writer_of}
 use Rattle.ufmt_core.specs.Block.{Block, Closing, Entries, Entry, EntryEnd, IsInside, Opening, Part, Row, Stop, ending_of, entries_left, entry_text, field_lead_of, field_text, fields_left, framed, framed_all, frame_of, inner, lead_of, pair_text, pairs_left, place_after, rest_of, trail_of}
 use Rattle.ufmt_core.specs.Builder.{block, kind_of_tuple, lent, list_block, set_block, struct_block, tuple_block}
-use Rattle.ufmt_core.proofs.Blocks.{Closing-fails, Closing-then, Part-between, Part-fails, Row-from_entries, place_after-map, rest-append}
+use Rattle.ufmt_core.proofs.Blocks.{Closing-fails, Closing-then, Part-between, Part-fails, Row-from_entries, Row-next, place_after-map, rest-append}
 use Rattle.ufmt_core.proofs.Items.{AlwaysYields-items}
 use Rattle.ufmt_core.proofs.Writing.{Writes-then, Writes-fails}
 pub use Rattle.ufmt_core.proofs.Blocks.{Row-more, Row-next, Row-none}
@@ -193,13 +193,16 @@ module _ {W : Type 0} {seen : Seen W} {reference : ℕ} {b b' : Block W} {last :
   pub pairs_failed : (ps : List (Document × Document)) → Row seen b (λ p. pair_text p.0 p.1) ps false b' → (reference ≡ b'.reference → last ≡ b'.formatter) → Completes seen reference b (pairs_left (pairs_of ps)) false last
   pairs_failed ps = row_failed (λ i. []) (λ i. pair_texts-pairs_of i ps ∙ sym (append-nil _))
 
-  -- a loop over values, where entries of the first k were written: the rest was too, or the next entry failed
+  -- a loop over values, where entries of the first k were written: these were all, or the next entry failed
   module _ {X : Type 0} (text_of : X → Setting → List ℕ) (whole : List X) {left : Setting → List (List ℕ)} (all : (i : Setting) → left i ≡ map (λ x. text_of x i) whole) where
     pub loop_written : (k : ℕ) {ok : Bool} → length whole ≤ k → Row seen b text_of (take k whole) true b' → Completes seen reference b' (λ i. []) ok last → Completes seen reference b left ok last
     loop_written k all_k = row_written (λ i. []) (λ i. all i ∙ ap (map (λ x. text_of x i)) (sym (take_all k whole all_k)) ∙ sym (append-nil _))
 
-    pub loop_failed : (k : ℕ) → Row seen b text_of (take k whole) false b' → (reference ≡ b'.reference → last ≡ b'.formatter) → Completes seen reference b left false last
-    loop_failed k = row_failed (λ i. map (λ x. text_of x i) (drop k whole)) (λ i. all i ∙ ap (map (λ x. text_of x i)) (sym (take-append-drop k whole)) ∙ map-append (λ x. text_of x i) (take k whole) (drop k whole))
+    pub loop_failed : (k : ℕ) {y : X} {mid : Block W} → k < length whole → y ≡ get_or whole k y → Row seen b text_of (take k whole) true mid → Entry seen mid (text_of y) false b' →
+        (reference ≡ b'.reference → last ≡ b'.formatter) → Completes seen reference b left false last
+    loop_failed k {y} within is written failed =
+        let more = λ (i : Setting). map (λ x. text_of x i) (drop (k + 1) whole) in
+        row_failed more (λ i. all i ∙ ap (map (λ x. text_of x i)) (sym (take-append-drop (k + 1) whole)) ∙ map-append (λ x. text_of x i) (take (k + 1) whole) (drop (k + 1) whole)) (Row-next text_of whole k y false within is written failed)
 
 -- the texts of documents that values have, in the order of the values
 pub texts-of : {X : Type 0} (h : X → Document) (xs : List X) (i : Setting) → entries_left (documents (map h xs)) i ≡ map (λ x. entry_text (h x) i) xs

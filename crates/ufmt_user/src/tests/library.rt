@@ -1,76 +1,42 @@
-//! What no clause says: the texts that core::fmt prints of the same values, and that each call can succeed.
+//! The types and calls of the library itself.
+use super::rows::Rows;
 use std::alloc::{AllocError, Global};
-use std::process::Abort;
+use ufmt::laws;
 use ufmt::unsigned::decimal_is_one_text;
-use ufmt::{Formatter, uDebug};
 
 mod collections;
+mod cursors;
+mod display;
 mod formatters;
+mod hexadecimal;
+mod macros;
 mod numbers;
+mod pieces;
 mod structs;
 
 #[test]
-fn laws_can_be_called() {
+fn laws_of_numbers_and_types_can_be_called() {
     decimal_is_one_text();
+    laws::hexadecimal_is_one_text();
+    laws::unsigned_prints_hexadecimal();
+    laws::signed_prints_as_unsigned();
+    laws::padding_reaches_length();
+    laws::both_traits_print_one_text();
+    laws::references_print_what_they_refer_to::<u8>();
+    laws::references_display_what_they_refer_to::<u8>();
+    laws::documents_of_leaves::<u8>();
+    laws::documents_of_collections::<u8, u16, 3>();
+    laws::documents_of_tuples::<u8, u16, u32>();
 }
 
-// What asserts the rows of a table, whose numbers are of the type with this name.
-#[derive(Clone, Copy)]
-struct Rows<'a, R> {
-    rt: &'a R,
-    numbers: &'a str,
-}
-
-impl<'a, R: Abort + AllocGlobal> Rows<'a, R> {
-    fn of(numbers: &'a str, rt: &'a R) -> Self {
-        Rows { rt, numbers }
-    }
-
-    fn alloc(&self) -> Global {
-        self.rt.alloc()
-    }
-
-    fn plain_row<T: uDebug>(&self, case: &str, value: &T, plain: &str) -> Result<(), AllocError> {
-        let numbers = self.numbers;
-        let mut text = String::new(self.alloc());
-        value.fmt(&mut Formatter::new(&mut text))?;
-        assert_eq!(self.rt; text.as_str(), plain, "{case} of {numbers}, plain");
-        Ok(())
-    }
-
-    // Both texts are those of ufmt 0.2.0 and of core::fmt.
-    fn row<T: uDebug>(
-        &self,
-        case: &str,
-        value: &T,
-        plain: &str,
-        pretty: &str,
-    ) -> Result<(), AllocError> {
-        self.plain_row(case, value, plain)?;
-        let numbers = self.numbers;
-        let mut text = String::new(self.alloc());
-        let mut f = Formatter::new(&mut text);
-        f.pretty(|f| value.fmt(f))?;
-        assert!(self.rt; !f.is_pretty(), "{case} of {numbers} leaves pretty mode on");
-        assert_eq!(self.rt; f.depth(), 0, "{case} of {numbers} leaves a depth");
-        assert_eq!(self.rt; text.as_str(), pretty, "{case} of {numbers}, pretty");
-        Ok(())
-    }
-
-    // The pretty text is that of core::fmt, from which that of ufmt 0.2.0 differs.
-    fn row_unlike_ufmt<T: uDebug>(
-        &self,
-        case: &str,
-        value: &T,
-        plain: &str,
-        pretty: &str,
-        ufmt_pretty: &str,
-    ) -> Result<(), AllocError> {
-        let case = format!(in self.alloc();
-            "{case}, for which ufmt 0.2.0 prints {ufmt_pretty:?},"
-        )?;
-        self.row(case.as_str(), value, plain, pretty)
-    }
+#[test]
+fn laws_of_documents_can_be_called() {
+    laws::normal_forms();
+    laws::shifted_at_depth();
+    laws::plain_reads_one_way();
+    laws::pretty_reads_one_way();
+    laws::texts_tell_normal_forms();
+    laws::texts_are_read_exactly();
 }
 
 // The text with `part` as often as `count` says between its beginning and its end.

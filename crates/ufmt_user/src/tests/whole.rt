@@ -1,11 +1,11 @@
-use super::row;
+use super::rows::Rows;
 use crate::{Port, Ports, Tree, Users};
 use std::test::Fail;
 use ufmt::{Formatter, Full, debug_into, display_into, fields, uWrite, write_debug, write_display};
 
 // Rust prints these as its derives and `debug_map` and `debug_list` would.
 #[test]
-fn trees_and_loops(rt: HostRuntime) -> Result<(), Fail> {
+fn trees(rt: HostRuntime) -> Result<(), Fail> {
     let alloc = rt.alloc();
     let leaf = Tree {
         size: 2,
@@ -18,8 +18,13 @@ fn trees_and_loops(rt: HostRuntime) -> Result<(), Fail> {
     let plain = "Tree { size: 1, children: [Tree { size: 2, children: [] }] }";
     let pretty =
         "Tree {\n    size: 1,\n    children: [\n        Tree {\n            size: 2,\n            children: [],\n        },\n    ],\n}";
-    row(&rt, "u64", &tree, plain, pretty)?;
+    Rows::of("u64", &rt).row("Tree", &tree, plain, pretty)?;
+    Ok(())
+}
 
+#[test]
+fn builders_in_loops(rt: HostRuntime) -> Result<(), Fail> {
+    let rows = Rows::of("u8", &rt);
     let http = Port {
         number: 80,
         user: 7u8,
@@ -29,12 +34,12 @@ fn trees_and_loops(rt: HostRuntime) -> Result<(), Fail> {
         user: 9u8,
     };
     let ports = Ports {
-        ports: vec![in alloc; http, https]?,
+        ports: vec![in rt.alloc(); http, https]?,
     };
     let pretty = "{\n    80: 7,\n    443: 9,\n}";
-    row(&rt, "ports", &ports, "{80: 7, 443: 9}", pretty)?;
+    rows.row("Ports", &ports, "{80: 7, 443: 9}", pretty)?;
     let users = Users { ports: ports.ports };
-    row(&rt, "users", &users, "[7, 9]", "[\n    7,\n    9,\n]")?;
+    rows.row("Users", &users, "[7, 9]", "[\n    7,\n    9,\n]")?;
     Ok(())
 }
 
@@ -73,45 +78,39 @@ fn long<W: uWrite>(f: &mut Formatter<W>) -> Result<(), W::Error> {
 
 #[test]
 fn whole_values_in_one_call(rt: HostRuntime) -> Result<(), Fail> {
+    let rows = Rows::of("one call", &rt);
     let mut text = String::new(rt.alloc());
     collections(&mut Formatter::new(&mut text))?;
-    assert_eq!(rt; text.as_str(), "[1, 2]{1, 2}{1: 2, 3: 4}");
+    rows.same(text.as_str(), "[1, 2]{1, 2}{1: 2, 3: 4}", "collections");
 
     let mut text = String::new(rt.alloc());
     long(&mut Formatter::new(&mut text))?;
-    assert_eq!(rt;
-        text.as_str(),
-        "Long { a: 1, b: 2, c: 3, d: 4, e: 5, f: 6, g: 7, h: 8, i: 9, j: 10, k: 11, l: 12, m: 13 }Long(1, 2, 3, 4, 5, 6, 7, 8, 9, 10, 11, 12, 13)",
-        "by a chain"
-    );
+    let expected =
+        "Long { a: 1, b: 2, c: 3, d: 4, e: 5, f: 6, g: 7, h: 8, i: 9, j: 10, k: 11, l: 12, m: 13 }Long(1, 2, 3, 4, 5, 6, 7, 8, 9, 10, 11, 12, 13)";
+    rows.same(text.as_str(), expected, "by a chain");
 
     let mut text = String::new(rt.alloc());
     write_debug(&mut text, &7u8)?;
     write_display(&mut text, &"7")?;
-    assert_eq!(rt; text.as_str(), "77");
+    rows.same(text.as_str(), "77", "over a writer");
     Ok(())
 }
 
 #[test]
 fn values_into_a_buffer(rt: HostRuntime) {
+    let rows = Rows::of("into a buffer", &rt);
     for (length, answer, left) in [
         (4, Ok(3), "123."),
         (3, Ok(3), "123."),
         (2, Err(Full), "...."),
     ] {
         let mut buffer = [b'.'; 4];
-        assert_eq!(rt;
-            debug_into(&mut buffer[..length], &123u8),
-            answer,
-            "into {length} bytes"
-        );
-        assert_eq!(rt; buffer.as_slice(), left.as_bytes(), "into {length} bytes");
+        let given = debug_into(&mut buffer[..length], &123u8);
+        rows.same((length, given), (length, answer), "debug");
+        rows.same(buffer.as_slice(), left.as_bytes(), "debug");
         let mut buffer = [b'.'; 4];
-        assert_eq!(rt;
-            display_into(&mut buffer[..length], &"123"),
-            answer,
-            "into {length} bytes"
-        );
-        assert_eq!(rt; buffer.as_slice(), left.as_bytes(), "into {length} bytes");
+        let given = display_into(&mut buffer[..length], &"123");
+        rows.same((length, given), (length, answer), "display");
+        rows.same(buffer.as_slice(), left.as_bytes(), "display");
     }
 }

@@ -1,3 +1,4 @@
+use super::Rows;
 use std::alloc::AllocError;
 use std::collections::BTreeMap;
 use std::process::Abort;
@@ -6,23 +7,27 @@ use ufmt::{Formatter, uDebug, uWrite};
 
 #[test]
 fn texts_and_characters_go_to_the_writer(rt: HostRuntime) -> Result<(), Fail> {
+    let rows = Rows::of("texts and characters", &rt);
     let mut text = String::new(rt.alloc());
     text.write_str("a")?;
     text.write_char('é')?;
     text.write_str("")?;
-    assert_eq!(rt; text.as_str(), "aé", "of the writer's own calls");
     let mut f = Formatter::new(&mut text);
     f.write_str("")?;
     f.write_str("b")?;
     f.write_char('é')?;
-    assert!(rt; !f.is_pretty(), "a new formatter is plain");
-    assert_eq!(rt; f.depth(), 0, "a new formatter is at depth 0");
-    assert_eq!(rt; f.into_inner().as_str(), "aébé", "and of the formatter's");
+    rows.same((f.is_pretty(), f.depth()), (false, 0), "a new formatter");
+    rows.same(
+        text.as_str(),
+        "aébé",
+        "by the writer's calls and by the formatter's",
+    );
     Ok(())
 }
 
 #[test]
 fn pretty_goes_back_to_the_mode_and_depth_before(rt: HostRuntime) -> Result<(), Fail> {
+    let rows = Rows::of("pretty", &rt);
     let mut text = String::new(rt.alloc());
     let mut f = Formatter::new(&mut text);
     let mut is_pretty_between = false;
@@ -31,15 +36,17 @@ fn pretty_goes_back_to_the_mode_and_depth_before(rt: HostRuntime) -> Result<(), 
         is_pretty_between = f.is_pretty();
         Ok(())
     })?;
-    assert!(rt; is_pretty_between, "pretty inside pretty");
-    assert!(rt; !f.is_pretty(), "pretty inside pretty");
+    rows.same(
+        (is_pretty_between, f.is_pretty()),
+        (true, false),
+        "pretty inside pretty",
+    );
     f.pretty(|f| {
         let _list = f.debug_list()?;
         Ok(())
     })?;
-    assert!(rt; !f.is_pretty(), "a dropped builder");
-    assert_eq!(rt; f.depth(), 0, "a dropped builder");
-    assert_eq!(rt; text.as_str(), "1[");
+    rows.same((f.is_pretty(), f.depth()), (false, 0), "a dropped builder");
+    rows.same(text.as_str(), "1[", "a dropped builder");
     Ok(())
 }
 
@@ -92,41 +99,52 @@ fn write_halves<W: uWrite, N: uDebug>(
     map.finish()
 }
 
-// The slice holds 2 and 3.
-fn builder_rows<N: uDebug + Copy + Ord>(
-    rt: &(impl Abort + AllocGlobal),
-    numbers: &str,
-    one: N,
-    two: N,
+// What both forms of calls print.
+fn write_builders<W: uWrite, N: uDebug + Ord>(
+    f: &mut Formatter<W>,
+    [one, two]: &[N; 2],
     more: &[N],
-    (three, four): (N, N),
-) -> Result<(), AllocError> {
-    let mut pairs = BTreeMap::new(rt.alloc());
-    pairs.insert(three, four)?;
-    let mut text = String::new(rt.alloc());
-    let mut f = Formatter::new(&mut text);
-    let were_open_in_time = write_entries(&mut f, &one, &two, more, &pairs)?;
-    assert!(rt; were_open_in_time, "builders of {numbers}");
-    write_halves(&mut f, &one, &two)?;
-    let plain = "[1, 2, 3]{1, 2, 3}{1: 2, 3: 4}[1]{1}{1: 2}";
-    assert_eq!(rt; text.as_str(), plain, "plain builders of {numbers}");
+    more_pairs: &BTreeMap<N, N>,
+) -> Result<bool, W::Error> {
+    let were_open_in_time = write_entries(f, one, two, more, more_pairs)?;
+    write_halves(f, one, two)?;
+    Ok(were_open_in_time)
+}
 
-    let mut text = String::new(rt.alloc());
-    let mut f = Formatter::new(&mut text);
-    f.pretty(|f| {
-        write_entries(f, &one, &two, more, &pairs)?;
-        write_halves(f, &one, &two)
-    })?;
-    assert_eq!(rt; f.depth(), 0, "pretty builders of {numbers}");
-    let pretty =
-        "[\n    1,\n    2,\n    3,\n]{\n    1,\n    2,\n    3,\n}{\n    1: 2,\n    3: 4,\n}[\n    1,\n]{\n    1,\n}{\n    1: 2,\n}";
-    assert_eq!(rt; text.as_str(), pretty, "pretty builders of {numbers}");
-    Ok(())
+impl<R: Abort + AllocGlobal> Rows<'_, R> {
+    // The slice holds 2 and 3.
+    fn builders_with_brackets<N: uDebug + Copy + Ord>(
+        &self,
+        both: [N; 2],
+        more: &[N],
+        (three, four): (N, N),
+    ) -> Result<(), AllocError> {
+        let mut pairs = BTreeMap::new(self.alloc());
+        pairs.insert(three, four)?;
+        let mut text = String::new(self.alloc());
+        let mut f = Formatter::new(&mut text);
+        let were_open_in_time = write_builders(&mut f, &both, more, &pairs)?;
+        self.holds(were_open_in_time, "plain builders");
+        let plain = "[1, 2, 3]{1, 2, 3}{1: 2, 3: 4}[1]{1}{1: 2}";
+        self.same(text.as_str(), plain, "plain builders");
+
+        let mut text = String::new(self.alloc());
+        let mut f = Formatter::new(&mut text);
+        f.pretty(|f| {
+            write_builders(f, &both, more, &pairs)?;
+            Ok(())
+        })?;
+        self.same(f.depth(), 0, "pretty builders");
+        let pretty =
+            "[\n    1,\n    2,\n    3,\n]{\n    1,\n    2,\n    3,\n}{\n    1: 2,\n    3: 4,\n}[\n    1,\n]{\n    1,\n}{\n    1: 2,\n}";
+        self.same(text.as_str(), pretty, "pretty builders");
+        Ok(())
+    }
 }
 
 #[test]
 fn builders_with_brackets(rt: HostRuntime) -> Result<(), Fail> {
-    builder_rows(&rt, "u64", 1u64, 2, &[2, 3], (3, 4))?;
-    builder_rows(&rt, "i32", 1i32, 2, &[2, 3], (3, 4))?;
+    Rows::of("u64", &rt).builders_with_brackets([1u64, 2], &[2, 3], (3, 4))?;
+    Rows::of("i32", &rt).builders_with_brackets([1i32, 2], &[2, 3], (3, 4))?;
     Ok(())
 }

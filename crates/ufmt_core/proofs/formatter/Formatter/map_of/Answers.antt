@@ -1,4 +1,4 @@
-use Rattle.std.proofs.Common.{◌+◌, true, false}
+use Rattle.std.proofs.Common.{true}
 use Rattle.ufmt_core.specs.Block.{pair_text}
 use Rattle.ufmt_core.proofs.Blocks.{Row-next, Row-none}
 use Rattle.ufmt_core.proofs.Printing.{map_not_opened, map_opened, loop_written, loop_failed, pair_texts-of, finished}
@@ -13,11 +13,10 @@ loop-pair-init g c = record { is_open = c.in_ok-map.ensures.is_open; row = Row-n
 
 pub returns-in_err-entry : goal.returns-in_err-entry
 returns-in_err-entry g c =
-    let pairs = c.args.pairs.now in
     LaysOut-err _ c.from_residual-in_err-entry.ensures.0
     (map_opened c.in_ok-map.ensures.opening
-    (loop_failed (λ p. pair_text (g.K.uDebug.document p.0) (g.V.uDebug.document p.1)) pairs (pair_texts-of (λ p. g.K.uDebug.document p.0) (λ p. g.V.uDebug.document p.1) pairs) (c.loop-pair.pair-index + 1)
-    (Row-next (λ p. pair_text (g.K.uDebug.document p.0) (g.V.uDebug.document p.1)) pairs c.loop-pair.pair-index c.pair-item.result false c.loop-pair-test.true c.pair-item.is c.loop-pair.invariant.row c.in_err-entry.ensures.entry) (search)))
+    (loop_failed (λ p. pair_text (g.K.uDebug.document p.0) (g.V.uDebug.document p.1)) _ (pair_texts-of (λ p. g.K.uDebug.document p.0) (λ p. g.V.uDebug.document p.1) c.args.pairs.now) c.loop-pair.pair-index
+    c.loop-pair-test.true c.pair-item.is c.loop-pair.invariant.row c.in_err-entry.ensures.entry (search)))
 
 pub loop-pair-preserved : goal.loop-pair-preserved
 loop-pair-preserved g c = record {

@@ -1,4 +1,4 @@
-use Rattle.std.proofs.Common.{◌+◌, sym, true, false}
+use Rattle.std.proofs.Common.{sym, true}
 use Rattle.ufmt.specs.Block.{pair_text}
 use Rattle.ufmt.specs.Words.{number}
 use Rattle.ufmt.proofs.Printing.{LaysOut-err, Row-next, Row-none, finished, loop_failed, loop_written, map_not_opened, map_opened, pair_texts-of}
@@ -12,19 +12,15 @@ loop-port-init g c = record { is_open = c.in_ok-map.ensures.is_open; row = Row-n
 
 pub returns-in_err-entry : goal.returns-in_err-entry
 returns-in_err-entry g c =
-    let items = c.deref-port-items.result.now in
     rw (sym c.deref-port-items.ensures.value) (LaysOut-err _ c.from_residual-in_err-entry.ensures.0
-    (map_opened c.in_ok-map.ensures.opening (loop_failed (λ p. pair_text (number p.number) (g.T.uDebug.document p.user)) items (pair_texts-of (λ p. number p.number) (λ p. g.T.uDebug.document p.user) items) (c.loop-port.port-index + 1)
-    (Row-next (λ p. pair_text (number p.number) (g.T.uDebug.document p.user)) items c.loop-port.port-index c.port-item.result false c.loop-port-test.true c.port-item.is c.loop-port.invariant.row c.in_err-entry.ensures.entry) (search))))
+    (map_opened c.in_ok-map.ensures.opening (loop_failed (λ p. pair_text (number p.number) (g.T.uDebug.document p.user)) _ (pair_texts-of (λ p. number p.number) (λ p. g.T.uDebug.document p.user) c.deref-port-items.result.now)
+    c.loop-port.port-index c.loop-port-test.true c.port-item.is c.loop-port.invariant.row c.in_err-entry.ensures.entry (search))))
 
 pub loop-port-preserved : goal.loop-port-preserved
-loop-port-preserved g c = record {
-  is_open = c.in_ok-entry.ensures.is_open;
-  row = Row-next (λ p. pair_text (number p.number) (g.T.uDebug.document p.user)) c.deref-port-items.result.now c.loop-port.port-index c.port-item.result true c.loop-port-test.true c.port-item.is c.loop-port.invariant.row c.in_ok-entry.ensures.entry;
-}
+loop-port-preserved g c = record { is_open = c.in_ok-entry.ensures.is_open; row = Row-next (λ p. pair_text (number p.number) (g.T.uDebug.document p.user)) c.deref-port-items.result.now c.loop-port.port-index c.port-item.result true c.loop-port-test.true c.port-item.is c.loop-port.invariant.row c.in_ok-entry.ensures.entry }
 
 pub returns : goal.returns
 returns g c =
-    let items = c.deref-port-items.result.now in
     rw (sym c.deref-port-items.ensures.value)
-    (map_opened c.in_ok-map.ensures.opening (loop_written (λ p. pair_text (number p.number) (g.T.uDebug.document p.user)) items (pair_texts-of (λ p. number p.number) (λ p. g.T.uDebug.document p.user) items) c.loop-port.port-index c.loop-port-test.false c.loop-port.invariant.row (finished c.finish.ensures (search))))
+    (map_opened c.in_ok-map.ensures.opening (loop_written (λ p. pair_text (number p.number) (g.T.uDebug.document p.user)) _ (pair_texts-of (λ p. number p.number) (λ p. g.T.uDebug.document p.user) c.deref-port-items.result.now)
+    c.loop-port.port-index c.loop-port-test.false c.loop-port.invariant.row (finished c.finish.ensures (search))))

@@ -1,4 +1,4 @@
-use Rattle.std.proofs.Common.{pos, take, true}
+use Rattle.std.proofs.Common.{take, true}
 use Rattle.ufmt.specs.Block.{IsOpen, Row, pair_text}
 use Rattle.ufmt.specs.Builder.{map_block}
 use Rattle.ufmt.specs.Words.{number}

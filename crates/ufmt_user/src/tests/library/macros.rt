@@ -1,5 +1,6 @@
-use crate::{Cursor, Formatter, Full, HexOptions, laws, uWrite, uwrite, uwriteln};
+use super::Rows;
 use std::test::Fail;
+use ufmt::{Cursor, Formatter, Full, HexOptions, laws, uWrite, uwrite, uwriteln};
 
 const PREFIXED: HexOptions = HexOptions {
     upper_case: false,
@@ -10,18 +11,16 @@ const PREFIXED: HexOptions = HexOptions {
 
 #[test]
 fn pieces_come_in_order(rt: HostRuntime) -> Result<(), Fail> {
+    let rows = Rows::of("pieces", &rt);
     let mut text = String::new(rt.alloc());
     let mut f = Formatter::new(&mut text);
     uwrite!(&mut f, text "a",)?;
     uwrite!(&mut f, text "b", display 42i32, debug &[1u8, 2].as_slice(), pretty &[3u8].as_slice(), hex 255u8 with PREFIXED)?;
     uwriteln!(&mut f, text "The answer is ", display 42i32)?;
     uwriteln!(&mut f, hex (33u8 + 1) with PREFIXED,)?;
-    assert!(rt; !f.is_pretty());
-    assert_eq!(rt; f.depth(), 0);
-    assert_eq!(rt;
-        text.as_str(),
-        "ab42[1, 2][\n    3,\n]0x00ffThe answer is 42\n0x0022\n"
-    );
+    rows.same((f.is_pretty(), f.depth()), (false, 0), "what is left");
+    let expected = "ab42[1, 2][\n    3,\n]0x00ffThe answer is 42\n0x0022\n";
+    rows.same(text.as_str(), expected, "in order");
     Ok(())
 }
 
@@ -33,6 +32,7 @@ fn noted(calls: &mut u32) -> u32 {
 
 #[test]
 fn each_part_is_evaluated_once(rt: HostRuntime) -> Result<(), Fail> {
+    let rows = Rows::of("evaluations", &rt);
     let mut text = String::new(rt.alloc());
     let mut f = Formatter::new(&mut text);
     let (mut formatters, mut texts, mut values, mut options) = (0, 0, 0, 0);
@@ -53,11 +53,8 @@ fn each_part_is_evaluated_once(rt: HostRuntime) -> Result<(), Fail> {
             PREFIXED
         },
     )?;
-    assert_eq!(rt;
-        (formatters, texts, values, options),
-        (1, 1, 4, 1),
-        "by uwrite"
-    );
+    let calls = (formatters, texts, values, options);
+    rows.same(calls, (1, 1, 4, 1), "by uwrite");
     uwriteln!(
         {
             noted(&mut formatters);
@@ -65,24 +62,22 @@ fn each_part_is_evaluated_once(rt: HostRuntime) -> Result<(), Fail> {
         },
         display noted(&mut values)
     )?;
-    assert_eq!(rt; (formatters, values), (2, 5), "by uwriteln");
-    assert_eq!(rt; text.as_str(), "n=1230x00045\n");
+    rows.same((formatters, values), (2, 5), "by uwriteln");
+    rows.same(text.as_str(), "n=1230x00045\n", "by both");
     Ok(())
 }
 
 #[test]
 fn nothing_is_evaluated_after_a_failure(rt: HostRuntime) {
+    let rows = Rows::of("evaluations", &rt);
     let mut calls = 0;
     let mut buffer = [0; 1];
     let mut f = Formatter::new(Cursor::new(&mut buffer));
-    assert_eq!(rt;
-        uwrite!(&mut f, text "ab", display noted(&mut calls)),
-        Err(Full)
-    );
-    assert_eq!(rt; calls, 0, "after a failure");
-    assert_eq!(rt; uwrite!(&mut f, display noted(&mut calls)), Ok(()));
-    assert_eq!(rt; calls, 1, "without a failure");
-    assert_eq!(rt; f.into_inner().written(), b"1".as_slice());
+    let answer = uwrite!(&mut f, text "ab", display noted(&mut calls));
+    rows.same((answer, calls), (Err(Full), 0), "after a failure");
+    let answer = uwrite!(&mut f, display noted(&mut calls));
+    rows.same((answer, calls), (Ok(()), 1), "without a failure");
+    rows.same(f.into_inner().written(), b"1".as_slice(), "of both");
 }
 
 fn write_all_pieces<W: uWrite>(f: &mut Formatter<W>) -> Result<(), W::Error> {
@@ -91,44 +86,20 @@ fn write_all_pieces<W: uWrite>(f: &mut Formatter<W>) -> Result<(), W::Error> {
 
 #[test]
 fn all_pieces_in_a_row(rt: HostRuntime) -> Result<(), Fail> {
+    let rows = Rows::of("all pieces", &rt);
     let whole = "n=7(1,)Some(\n    2,\n)0x00ff";
     let mut text = String::new(rt.alloc());
     write_all_pieces(&mut Formatter::new(&mut text))?;
-    assert_eq!(rt; text.as_str(), whole);
+    rows.same(text.as_str(), whole, "a text");
     for (length, answer, written) in [(27, Ok(()), whole), (10, Err(Full), "n=7(1,)")] {
         let mut buffer = [0; 27];
         let mut f = Formatter::new(Cursor::new(&mut buffer[..length]));
-        assert_eq!(rt; write_all_pieces(&mut f), answer, "into {length} bytes");
-        assert!(rt; !f.is_pretty(), "into {length} bytes");
-        assert_eq!(rt; f.depth(), 0, "into {length} bytes");
-        assert_eq!(rt;
-            f.into_inner().written(),
-            written.as_bytes(),
-            "into {length} bytes"
-        );
+        let given = write_all_pieces(&mut f);
+        let left = (given, f.is_pretty(), f.depth());
+        rows.same(left, (answer, false, 0), written);
+        rows.same(f.into_inner().written(), written.as_bytes(), "a buffer");
     }
     Ok(())
-}
-
-mod foreign {
-    use crate::{Cursor, Formatter, Full, uwrite, uwriteln};
-
-    #[derive(Drop)]
-    pub struct Result;
-
-    #[derive(Drop)]
-    pub enum Answer {
-        Ok,
-        Err,
-    }
-
-    use Answer::{Err, Ok};
-
-    pub fn write(f: &mut Formatter<Cursor<'_>>) -> std::result::Result<(), Full> {
-        let _names = (Ok, Err, Result);
-        uwrite!(f, text "Hello, world!")?;
-        uwriteln!(f, text "The answer is ", display 42i32)
-    }
 }
 
 // The same into a `String` and into a `Cursor` of 256 bytes.
@@ -141,22 +112,14 @@ fn write_lines<W: uWrite>(f: &mut Formatter<W>) -> Result<(), W::Error> {
 
 #[test]
 fn lines_of_texts(rt: HostRuntime) -> Result<(), Fail> {
+    let rows = Rows::of("lines", &rt);
     let lines = "Hello, world!The answer is 42Hello\nWorld\n";
     let mut text = String::new(rt.alloc());
     write_lines(&mut Formatter::new(&mut text))?;
-    assert_eq!(rt; text.as_str(), lines);
+    rows.same(text.as_str(), lines, "a text");
     let mut buffer = [0; 256];
     let mut f = Formatter::new(Cursor::new(&mut buffer));
-    assert_eq!(rt; write_lines(&mut f), Ok(()));
-    assert_eq!(rt; f.into_inner().written(), lines.as_bytes());
-
-    let lines = "Hello, world!The answer is 42\n";
-    let mut f = Formatter::new(Cursor::new(&mut buffer));
-    assert_eq!(rt; foreign::write(&mut f), Ok(()), "where names are foreign");
-    assert_eq!(rt;
-        f.into_inner().written(),
-        lines.as_bytes(),
-        "where names are foreign"
-    );
+    rows.same(write_lines(&mut f), Ok(()), "a buffer");
+    rows.same(f.into_inner().written(), lines.as_bytes(), "a buffer");
     Ok(())
 }
