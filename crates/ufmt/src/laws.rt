@@ -62,11 +62,16 @@ pub fn unsigned_prints_hexadecimal()
 /// A signed number prints the hexadecimal text of the unsigned number of its width and bits.
 pub fn signed_prints_as_unsigned()
     ensures of_i8 { PrintsBits w8 ⟦<i8 as uDisplayHex>⟧.hex_text ⟦<u8 as uDisplayHex>⟧.hex_text }
-    ensures of_i16 { PrintsBits w16 ⟦<i16 as uDisplayHex>⟧.hex_text ⟦<u16 as uDisplayHex>⟧.hex_text }
-    ensures of_i32 { PrintsBits w32 ⟦<i32 as uDisplayHex>⟧.hex_text ⟦<u32 as uDisplayHex>⟧.hex_text }
-    ensures of_i64 { PrintsBits w64 ⟦<i64 as uDisplayHex>⟧.hex_text ⟦<u64 as uDisplayHex>⟧.hex_text }
-    ensures of_i128 { PrintsBits w128 ⟦<i128 as uDisplayHex>⟧.hex_text ⟦<u128 as uDisplayHex>⟧.hex_text }
-    ensures of_isize { PrintsBits w64 ⟦<isize as uDisplayHex>⟧.hex_text ⟦<usize as uDisplayHex>⟧.hex_text }
+    ensures of_i16 { PrintsBits w16 ⟦<i16 as uDisplayHex>⟧.hex_text
+        ⟦<u16 as uDisplayHex>⟧.hex_text }
+    ensures of_i32 { PrintsBits w32 ⟦<i32 as uDisplayHex>⟧.hex_text
+        ⟦<u32 as uDisplayHex>⟧.hex_text }
+    ensures of_i64 { PrintsBits w64 ⟦<i64 as uDisplayHex>⟧.hex_text
+        ⟦<u64 as uDisplayHex>⟧.hex_text }
+    ensures of_i128 { PrintsBits w128 ⟦<i128 as uDisplayHex>⟧.hex_text
+        ⟦<u128 as uDisplayHex>⟧.hex_text }
+    ensures of_isize { PrintsBits w64 ⟦<isize as uDisplayHex>⟧.hex_text
+        ⟦<usize as uDisplayHex>⟧.hex_text }
 {}
 
 /// A whole number, a nonzero number and a truth value print one text by `uDebug` and by `uDisplay`.
@@ -84,15 +89,23 @@ pub fn both_traits_print_one_text()
     ensures of_i128 { ⟦<i128 as uDisplay>⟧.display ≡ ⟦<i128 as uDebug>⟧.document }
     ensures of_isize { ⟦<isize as uDisplay>⟧.display ≡ ⟦<isize as uDebug>⟧.document }
     ensures of_nonzero_u8 { ⟦<NonZeroU8 as uDisplay>⟧.display ≡ ⟦<NonZeroU8 as uDebug>⟧.document }
-    ensures of_nonzero_u16 { ⟦<NonZeroU16 as uDisplay>⟧.display ≡ ⟦<NonZeroU16 as uDebug>⟧.document }
-    ensures of_nonzero_u32 { ⟦<NonZeroU32 as uDisplay>⟧.display ≡ ⟦<NonZeroU32 as uDebug>⟧.document }
-    ensures of_nonzero_u64 { ⟦<NonZeroU64 as uDisplay>⟧.display ≡ ⟦<NonZeroU64 as uDebug>⟧.document }
-    ensures of_nonzero_usize { ⟦<NonZeroUsize as uDisplay>⟧.display ≡ ⟦<NonZeroUsize as uDebug>⟧.document }
+    ensures of_nonzero_u16 { ⟦<NonZeroU16 as uDisplay>⟧.display ≡
+        ⟦<NonZeroU16 as uDebug>⟧.document }
+    ensures of_nonzero_u32 { ⟦<NonZeroU32 as uDisplay>⟧.display ≡
+        ⟦<NonZeroU32 as uDebug>⟧.document }
+    ensures of_nonzero_u64 { ⟦<NonZeroU64 as uDisplay>⟧.display ≡
+        ⟦<NonZeroU64 as uDebug>⟧.document }
+    ensures of_nonzero_usize { ⟦<NonZeroUsize as uDisplay>⟧.display ≡
+        ⟦<NonZeroUsize as uDebug>⟧.document }
     ensures of_nonzero_i8 { ⟦<NonZeroI8 as uDisplay>⟧.display ≡ ⟦<NonZeroI8 as uDebug>⟧.document }
-    ensures of_nonzero_i16 { ⟦<NonZeroI16 as uDisplay>⟧.display ≡ ⟦<NonZeroI16 as uDebug>⟧.document }
-    ensures of_nonzero_i32 { ⟦<NonZeroI32 as uDisplay>⟧.display ≡ ⟦<NonZeroI32 as uDebug>⟧.document }
-    ensures of_nonzero_i64 { ⟦<NonZeroI64 as uDisplay>⟧.display ≡ ⟦<NonZeroI64 as uDebug>⟧.document }
-    ensures of_nonzero_isize { ⟦<NonZeroIsize as uDisplay>⟧.display ≡ ⟦<NonZeroIsize as uDebug>⟧.document }
+    ensures of_nonzero_i16 { ⟦<NonZeroI16 as uDisplay>⟧.display ≡
+        ⟦<NonZeroI16 as uDebug>⟧.document }
+    ensures of_nonzero_i32 { ⟦<NonZeroI32 as uDisplay>⟧.display ≡
+        ⟦<NonZeroI32 as uDebug>⟧.document }
+    ensures of_nonzero_i64 { ⟦<NonZeroI64 as uDisplay>⟧.display ≡
+        ⟦<NonZeroI64 as uDebug>⟧.document }
+    ensures of_nonzero_isize { ⟦<NonZeroIsize as uDisplay>⟧.display ≡
+        ⟦<NonZeroIsize as uDebug>⟧.document }
     ensures of_bool { ⟦<bool as uDisplay>⟧.display ≡ ⟦<bool as uDebug>⟧.document }
 {}
 

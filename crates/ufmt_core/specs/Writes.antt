@@ -9,7 +9,7 @@ pub record Seen (W : Type 0) : Type 1 where
   pub text : W → List ℕ
   -- a number of bytes that it surely takes
   pub room : W → ℕ
-  -- which writer it is: the ghost names of the `&mut` that lead to where it writes
+  -- which writer it is: the ghost names of the `&mut` that lead to where it writes, and how long its buffer is where a caller lent it one
   pub identity : W → List ℕ
   -- the bytes that it writes over, which begin with its text, where it has a buffer of a caller's
   pub store : W → List ℕ
