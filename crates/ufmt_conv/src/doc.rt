@@ -88,7 +88,7 @@ impl Doc {
 
     /// Makes it its normal form, which has the same texts: a struct or a tuple without fields
     /// becomes the leaf of its name, and an empty set the empty map, at each depth. It takes no
-    /// memory: `alloc` serves empty vectors and texts.
+    /// memory: `alloc` serves empty vectors and texts alone.
     #[cycle(normalize)]
     pub fn normalize(&mut self, alloc: Global)
         ensures { doc_document self.new ≡ normal (doc_document self.old) }
