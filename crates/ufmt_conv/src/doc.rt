@@ -1,9 +1,13 @@
 //! Documents as values.
-ghost use Rattle.std.specs.Prelude.{◌≡◌, ◌↔◌, IsTrue};
-ghost use Rattle.ufmt.specs.Token.{IsToken, is_word_byte};
+ghost use Rattle.std.specs.Prelude.{◌≡◌, ◌↔◌, IsTrue, map};
+ghost use Rattle.ufmt.specs.Document.{documents, fields_of, pairs_of};
+ghost use Rattle.ufmt.specs.Token.{IsToken, is_word_byte, normal, normal_all, normal_fields, normal_pairs};
 ghost use Rattle.ufmt_conv.specs.Doc.{doc_document};
+ghost use Rattle.ufmt_conv.specs.DocViews.{pair_view, field_view};
 ghost use Rattle.ufmt_conv.specs.Within.{are_word_bytes, is_token_leaf, is_word, words_within};
 
+use std::alloc::Global;
+use std::mem;
 use ufmt::{Formatter, uDebug, uWrite};
 
 // How deep blocks with entries lie at most in a document whose text can be read again.
@@ -82,6 +86,26 @@ impl Doc {
         self.has_words(DEEPEST)
     }
 
+    /// Makes it its normal form, which has the same texts: a struct or a tuple without fields
+    /// becomes the leaf of its name, and an empty set the empty map, at each depth. It takes no
+    /// memory: `alloc` serves empty vectors and texts alone.
+    #[cycle(normalize)]
+    pub fn normalize(&mut self, alloc: Global)
+        ensures { doc_document self.new ≡ normal (doc_document self.old) }
+    {
+        match self {
+            Doc::Leaf(_) => {}
+            Doc::Listed(entries) => normalize_all(alloc, entries),
+            Doc::SetOf(entries) if !entries.is_empty() => normalize_all(alloc, entries),
+            Doc::SetOf(_) => *self = Doc::MapOf(Vec::new(alloc)),
+            Doc::MapOf(pairs) => normalize_pairs(alloc, pairs),
+            Doc::StructOf(_, fields) if !fields.is_empty() => normalize_fields(alloc, fields),
+            Doc::StructOf(name, _) => *self = Doc::Leaf(mem::replace(name, String::new(alloc))),
+            Doc::TupleOf(_, fields) if !fields.is_empty() => normalize_all(alloc, fields),
+            Doc::TupleOf(name, _) => *self = Doc::Leaf(mem::replace(name, String::new(alloc))),
+        }
+    }
+
     // Whether leaves and names are words, and blocks with entries lie at most so deep.
     fn has_words(&self, deepest: u8) -> bool
         ensures { result ≡ words_within deepest (doc_document self.now) }
@@ -141,6 +165,39 @@ impl Doc {
                 true
             }
         }
+    }
+}
+
+// Makes each document its normal form.
+#[cycle(normalize)]
+fn normalize_all(alloc: Global, docs: &mut [Doc])
+    ensures { documents (map doc_document docs.new)
+        ≡ normal_all (documents (map doc_document docs.old)) }
+{
+    for doc in docs.iter_mut() {
+        doc.normalize(alloc);
+    }
+}
+
+// The same of keys and values.
+#[cycle(normalize)]
+fn normalize_pairs(alloc: Global, pairs: &mut [(Doc, Doc)])
+    ensures { pairs_of (map pair_view pairs.new) ≡ normal_pairs (pairs_of (map pair_view pairs.old)) }
+{
+    for (key, value) in pairs.iter_mut() {
+        key.normalize(alloc);
+        value.normalize(alloc);
+    }
+}
+
+// The same of the values of fields.
+#[cycle(normalize)]
+fn normalize_fields(alloc: Global, fields: &mut [(String, Doc)])
+    ensures { fields_of (map field_view fields.new)
+        ≡ normal_fields (fields_of (map field_view fields.old)) }
+{
+    for (_, value) in fields.iter_mut() {
+        value.normalize(alloc);
     }
 }
 

@@ -88,6 +88,33 @@ fn blocks_print_their_entries(rt: HostRuntime) -> Result<(), Fail> {
 }
 
 #[test]
+fn entries_stand_a_line_each(rt: HostRuntime) -> Result<(), Fail> {
+    let alloc = rt.alloc();
+    let mut lists = one(alloc, Doc::Listed(Vec::new(alloc)))?;
+    lists.push(Doc::Listed(one(alloc, leaf(alloc, "1")?)?))?;
+    check(
+        &rt,
+        alloc,
+        &Doc::Listed(lists),
+        "[[], [1]]",
+        "[\n    [],\n    [\n        1,\n    ],\n]",
+    )?;
+
+    let mut pairs = Vec::new(alloc);
+    pairs.push((leaf(alloc, "1")?, leaf(alloc, "2")?))?;
+    let mut fields = one_field(alloc, "m", Doc::MapOf(pairs))?;
+    fields.push((text(alloc, "n")?, leaf(alloc, "3")?))?;
+    check(
+        &rt,
+        alloc,
+        &Doc::StructOf(text(alloc, "S")?, fields),
+        "S { m: {1: 2}, n: 3 }",
+        "S {\n    m: {\n        1: 2,\n    },\n    n: 3,\n}",
+    )?;
+    Ok(())
+}
+
+#[test]
 fn deep_lists_have_these_sizes(rt: HostRuntime) -> Result<(), Fail> {
     let alloc = rt.alloc();
     let doc = lists_round(alloc, 255, leaf(alloc, "x")?)?;
@@ -128,5 +155,36 @@ fn is_token_tells_these_apart(rt: HostRuntime) -> Result<(), Fail> {
     assert!(&rt; leaf(alloc, "-")?.is_token());
     assert!(&rt; lists_round(alloc, 255, leaf(alloc, "x")?)?.is_token());
     assert!(&rt; lists_round(alloc, 255, Doc::Listed(Vec::new(alloc)))?.is_token());
+    Ok(())
+}
+
+// Whether it is the tuple without a name of the leaf `A` and the empty map.
+fn is_leaf_and_map(doc: &Doc) -> bool {
+    let Doc::TupleOf(name, fields) = doc else {
+        return false;
+    };
+    if !name.is_empty() || fields.len() != 2 {
+        return false;
+    }
+    match (&fields[0], &fields[1]) {
+        (Doc::Leaf(leaf), Doc::MapOf(pairs)) => leaf.as_str() == "A" && pairs.is_empty(),
+        _ => false,
+    }
+}
+
+#[test]
+fn normalize_gives_the_leaf_of_a_name_and_the_empty_map(rt: HostRuntime) -> Result<(), Fail> {
+    let alloc = rt.alloc();
+    let mut fields = one(alloc, Doc::StructOf(text(alloc, "A")?, Vec::new(alloc)))?;
+    fields.push(Doc::SetOf(Vec::new(alloc)))?;
+    let mut doc = Doc::TupleOf(text(alloc, "")?, fields);
+    assert!(&rt; !is_leaf_and_map(&doc));
+    assert_eq!(&rt; plain_text(alloc, &doc)?.as_str(), "(A, {})");
+    // The second call changes nothing.
+    for _ in 0..2 {
+        doc.normalize(alloc);
+        assert!(&rt; is_leaf_and_map(&doc));
+        assert_eq!(&rt; plain_text(alloc, &doc)?.as_str(), "(A, {})");
+    }
     Ok(())
 }
