@@ -1,10 +1,11 @@
 -- What the program answers to an input.
-use Rattle.std.specs.Prelude.{ℕ, List, [], ◌∷◌, ◌++◌, ◌==◌, if◌then◌else◌, length, map, pos}
+use Rattle.std.specs.Prelude.{◌≡◌, ℕ, ◌-◌, List, [], ◌∷◌, ◌++◌, ◌==◌, if◌then◌else◌, length, map, pos, slice_index, take}
 use Rattle.ufmt_conv.specs.declared.run.command.Command.{Command}
-use Rattle.ufmt_conv.specs.declared.run.command.Command.TheVariants.{Lengths}
+use Rattle.ufmt_conv.specs.declared.run.command.Command.TheVariants.{Lengths, Pretty, Plain}
 use Rattle.ufmt.specs.Decimal.{decimal}
 use Rattle.ufmt.specs.Document.{documents, leaf, list_of}
-use Rattle.ufmt.specs.Layout.{plain_text}
+use Rattle.ufmt.specs.Layout.{plain_text, pretty_text}
+use Rattle.ufmt_conv.specs.Texts.{IsConverted}
 
 -- a byte before the first line, which it begins where there is none
 abbrev pub onto_first_line : ℕ → List (List ℕ) → List (List ℕ)
@@ -24,10 +25,19 @@ line_lengths input = map length (lines_of input)
 abbrev pub plain_list : List ℕ → List ℕ
 plain_list numbers = plain_text (list_of (documents (map (λ number. leaf (decimal (pos number))) numbers)))
 
--- the text that answers a command on an input
-abbrev pub answer : Command → List ℕ → List ℕ
-answer Lengths input = plain_list (line_lengths input)
+-- an input without one final line feed, if it has one
+abbrev pub without_line_feed : List ℕ → List ℕ
+without_line_feed input =
+    let last = length input - 1 in
+    if slice_index input last == 10 then take last input else input
+
+-- the answer to a command on an input
+abbrev pub IsAnswer : Command → List ℕ → List ℕ → Type 0
+IsAnswer Lengths input answer = answer ≡ plain_list (line_lengths input)
+IsAnswer Pretty input answer = IsConverted plain_text pretty_text (without_line_feed input) answer
+IsAnswer Plain input answer = IsConverted pretty_text plain_text (without_line_feed input) answer
 
 -- what is written for a command on an input: its answer and a line feed
-abbrev pub answer_line : Command → List ℕ → List ℕ
-answer_line command input = answer command input ++ 10 ∷ []
+abbrev pub IsAnswerLine : Command → List ℕ → List ℕ → Type 0
+IsAnswerLine command input line =
+    (answer : List ℕ) × IsAnswer command input answer × (line ≡ answer ++ 10 ∷ [])

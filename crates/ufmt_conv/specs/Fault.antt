@@ -1,16 +1,20 @@
 -- How the program reports each fault.
 use Rattle.std.specs.Prelude.{ℕ, List, codes}
 use Rattle.ufmt_conv.specs.declared.run.fault.Fault.{Fault}
-use Rattle.ufmt_conv.specs.declared.run.fault.Fault.TheVariants.{CannotRead, CannotWrite, OutOfMemory}
+use Rattle.ufmt_conv.specs.declared.run.fault.Fault.TheVariants.{NotPlain, NotPretty, CannotRead, CannotWrite, OutOfMemory}
 
 -- the status that the program ends with
 abbrev pub status_of : Fault → ℕ
+status_of NotPlain = 1
+status_of NotPretty = 1
 status_of CannotRead = 3
 status_of CannotWrite = 4
 status_of OutOfMemory = 5
 
 -- the line on standard error
 abbrev pub line_of : Fault → List ℕ
+line_of NotPlain = codes "ufmt_conv: not a plain text"
+line_of NotPretty = codes "ufmt_conv: not a pretty text"
 line_of CannotRead = codes "ufmt_conv: cannot read"
 line_of CannotWrite = codes "ufmt_conv: cannot write"
 line_of OutOfMemory = codes "ufmt_conv: out of memory"

@@ -1,4 +1,5 @@
-//! Answers a command on standard input: `ufmt_conv lengths` prints the lengths of its lines.
+//! Answers a command on standard input: `ufmt_conv lengths` prints the lengths of its lines, `pretty`
+//! the pretty text of a document whose plain text it is, and `plain` the plain text of a pretty one.
 #![tactic(auto)]
 
 ghost use Rattle.std.specs.Prelude.{◌≡◌};

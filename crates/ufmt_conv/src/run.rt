@@ -1,7 +1,9 @@
 //! A run of the program: it reads all its input, and writes the answer to it.
-ghost use Rattle.std.specs.Prelude.{◌≡◌, ◌↔◌, false, IsTrue, IfSome, IsErrOf, OnOk};
+ghost use Rattle.std.specs.Prelude.{◌≡◌, ◌≢◌, ◌↔◌, List, ℕ, false, IsTrue, IfErr, IfSome, IsErrOf, OnOk};
 ghost use Rattle.std.specs.Io.KnownBytes.{Appends, IsAtEnd};
-ghost use Rattle.ufmt_conv.specs.Answer.{answer_line};
+ghost use Rattle.ufmt.specs.Layout.{plain_text, pretty_text};
+ghost use Rattle.ufmt_conv.specs.Answer.{IsAnswerLine, without_line_feed};
+ghost use Rattle.ufmt_conv.specs.Texts.{IsNoText};
 ghost use Rattle.ufmt_conv.specs.Watched.{device_of, has_failed};
 ghost use Rattle.ufmt_conv.specs.Written.{AppendsBeginning};
 
@@ -27,9 +29,9 @@ pub use watched::{Failed, Watched};
 
 /// Reads the input to its end and writes the command's answer to it, a line feed, and nothing else.
 ///
-/// On `CannotWrite` the output took a beginning of these bytes, perhaps nothing, perhaps all. On
-/// `CannotRead` and `OutOfMemory` nothing was written; how much was read is left open. A reader that
-/// never ends is `OutOfMemory` once what it gave has no room.
+/// On `CannotWrite` the output took a beginning of these bytes, perhaps nothing, perhaps all. On any
+/// other fault nothing was written; how much was read is left open. A reader that never ends is
+/// `OutOfMemory` once what it gave has no room.
 pub fn run<R: Read, W: Write>(
     alloc: Global,
     command: Command,
@@ -41,16 +43,24 @@ pub fn run<R: Read, W: Write>(
 
     // Where reader and writer tell their bytes.
     ensures ok { OnOk result (IfSome (R.remaining (device_of input.old)) (λ bytes.
-        Appends (W.contents (device_of output.old)) (W.contents (device_of output.new))
-        (answer_line command bytes))) }
+        (line : List ℕ) × IsAnswerLine command bytes line
+        × Appends (W.contents (device_of output.old)) (W.contents (device_of output.new)) line)) }
     ensures read_whole { OnOk result (IsAtEnd (R.remaining (device_of input.new))) }
-    ensures partly_written { IsErrOf result Fault.CannotWrite → IfSome (R.remaining (device_of input.old)) (λ bytes.
-        AppendsBeginning (W.contents (device_of output.old)) (W.contents (device_of output.new))
-        (answer_line command bytes)) }
+    ensures partly_written { IsErrOf result Fault.CannotWrite
+        → IfSome (R.remaining (device_of input.old)) (λ bytes.
+        (line : List ℕ) × IsAnswerLine command bytes line × AppendsBeginning
+        (W.contents (device_of output.old)) (W.contents (device_of output.new)) line) }
+    ensures not_plain { IsErrOf result Fault.NotPlain
+        → IfSome (R.remaining (device_of input.old)) (λ bytes.
+        IsNoText plain_text (without_line_feed bytes)) }
+    ensures not_pretty { IsErrOf result Fault.NotPretty
+        → IfSome (R.remaining (device_of input.old)) (λ bytes.
+        IsNoText pretty_text (without_line_feed bytes)) }
 
     // What each fault means.
-    ensures unread { IsErrOf result Fault.CannotRead → output.new ≡ output.old }
-    ensures no_memory { IsErrOf result Fault.OutOfMemory → output.new ≡ output.old }
+    ensures only_pretty { IsErrOf result Fault.NotPlain → command ≡ Command.Pretty }
+    ensures only_plain { IsErrOf result Fault.NotPretty → command ≡ Command.Plain }
+    ensures unwritten { IfErr result (λ fault. fault ≢ Fault.CannotWrite → output.new ≡ output.old) }
     ensures input_failed { IsErrOf result Fault.CannotRead ↔ IsTrue (has_failed input.new) }
     ensures output_failed { IsErrOf result Fault.CannotWrite ↔ IsTrue (has_failed output.new) }
 {

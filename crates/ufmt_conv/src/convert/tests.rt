@@ -41,3 +41,9 @@ fn other_texts_are_not_converted(rt: HostRuntime) {
     );
     assert!(rt; matches!(to_plain(rt.alloc(), b"[x]"), Err(ReadError::NotText)));
 }
+
+#[test]
+fn to_pretty_and_to_plain_are_not_always_refused(rt: HostRuntime) {
+    assert!(rt; to_pretty(rt.alloc(), b"x").is_ok());
+    assert!(rt; to_plain(rt.alloc(), b"x").is_ok());
+}

@@ -12,13 +12,13 @@ fn code(answer: Result<Doc, ReadError>) -> u8 {
     }
 }
 
-// `depth` lists with one entry, one in another, round a word, plain.
-fn plain_lists(alloc: Global, depth: usize) -> Result<Vec<u8>, Fail> {
+// `depth` lists with one entry, one in another, round what has the text `inner`, plain.
+fn plain_lists(alloc: Global, depth: usize, inner: &[u8]) -> Result<Vec<u8>, Fail> {
     let mut text = Vec::new(alloc);
     for _ in 0..depth {
         text.push(b'[')?;
     }
-    text.push(b'x')?;
+    text.extend_from_slice(inner)?;
     for _ in 0..depth {
         text.push(b']')?;
     }
@@ -33,13 +33,13 @@ fn indent(text: &mut Vec<u8>, depth: usize) -> Result<(), Fail> {
 }
 
 // The same, pretty.
-fn pretty_lists(alloc: Global, depth: usize) -> Result<Vec<u8>, Fail> {
+fn pretty_lists(alloc: Global, depth: usize, inner: &[u8]) -> Result<Vec<u8>, Fail> {
     let mut text = Vec::new(alloc);
     for k in 0..depth {
         text.extend_from_slice(b"[\n")?;
         indent(&mut text, k + 1)?;
     }
-    text.push(b'x')?;
+    text.extend_from_slice(inner)?;
     for k in 0..depth {
         text.extend_from_slice(b",\n")?;
         indent(&mut text, depth - k - 1)?;
@@ -175,22 +175,26 @@ fn empty_braces_are_a_map(rt: HostRuntime) {
 }
 
 #[test]
-fn blocks_lie_at_most_255_deep(rt: HostRuntime) -> Result<(), Fail> {
-    assert_eq!(rt;
-        code(read_plain(rt.alloc(), &plain_lists(rt.alloc(), 255)?)),
-        0
-    );
-    assert_eq!(rt;
-        code(read_plain(rt.alloc(), &plain_lists(rt.alloc(), 256)?)),
-        1
-    );
-    assert_eq!(rt;
-        code(read_pretty(rt.alloc(), &pretty_lists(rt.alloc(), 255)?)),
-        0
-    );
-    assert_eq!(rt;
-        code(read_pretty(rt.alloc(), &pretty_lists(rt.alloc(), 256)?)),
-        1
-    );
+fn blocks_with_entries_lie_at_most_255_deep(rt: HostRuntime) -> Result<(), Fail> {
+    let rows: [(usize, &[u8], u8); 4] = [
+        (255, b"x", 0),
+        (256, b"x", 1),
+        (255, b"[]", 0),
+        (256, b"[]", 1),
+    ];
+    for (depth, inner, expected) in rows {
+        let plain = plain_lists(rt.alloc(), depth, inner)?;
+        assert_eq!(rt;
+            code(read_plain(rt.alloc(), &plain)),
+            expected,
+            "{depth} plain lists round {inner:?}"
+        );
+        let pretty = pretty_lists(rt.alloc(), depth, inner)?;
+        assert_eq!(rt;
+            code(read_pretty(rt.alloc(), &pretty)),
+            expected,
+            "{depth} pretty lists round {inner:?}"
+        );
+    }
     Ok(())
 }

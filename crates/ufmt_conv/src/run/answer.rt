@@ -1,23 +1,50 @@
 //! The bytes that are written for an input.
-ghost use Rattle.std.specs.Prelude.{◌≡◌, string_bytes, IfOk};
-ghost use Rattle.ufmt_conv.specs.Answer.{answer_line};
+ghost use Rattle.std.specs.Prelude.{◌≡◌, ◌≢◌, string_bytes, IfErr, IfOk, IsErrOf};
+ghost use Rattle.ufmt.specs.Layout.{plain_text, pretty_text};
+ghost use Rattle.ufmt_conv.specs.Answer.{IsAnswerLine, without_line_feed};
+ghost use Rattle.ufmt_conv.specs.Texts.{IsNoText};
 
 use super::command::Command;
+use super::fault::Fault;
 use super::lengths::line_lengths;
-use crate::convert::plain_text;
-use std::alloc::{AllocError, Global};
+use crate::convert::{plain_text, to_plain, to_pretty};
+use crate::plain_reader::ReadError;
+use std::alloc::Global;
 
 // The answer and a line feed.
-pub(super) fn answer_line(
-    alloc: Global,
-    command: Command,
-    input: &[u8],
-) -> Result<String, AllocError>
-    ensures { IfOk result (λ line. string_bytes line ≡ answer_line command input.now) }
+pub(super) fn answer_line(alloc: Global, command: Command, input: &[u8]) -> Result<String, Fault>
+    ensures ok { IfOk result (λ line. IsAnswerLine command input.now (string_bytes line)) }
+    ensures not_plain { IsErrOf result Fault.NotPlain → (command ≡ Command.Pretty)
+        × IsNoText plain_text (without_line_feed input.now) }
+    ensures not_pretty { IsErrOf result Fault.NotPretty → (command ≡ Command.Plain)
+        × IsNoText pretty_text (without_line_feed input.now) }
+    ensures no_device { IfErr result (λ fault.
+        (fault ≢ Fault.CannotRead) × (fault ≢ Fault.CannotWrite)) }
 {
+    let text = without_line_feed(input);
     let mut line = match command {
         Command::Lengths => plain_text(alloc, &line_lengths(alloc, input)?)?,
+        Command::Pretty => to_pretty(alloc, text).map_err(|error| fault(error, Fault::NotPlain))?,
+        Command::Plain => to_plain(alloc, text).map_err(|error| fault(error, Fault::NotPretty))?,
     };
     line.push('\n')?;
     Ok(line)
+}
+
+// The input without one final line feed, if it has one.
+fn without_line_feed(input: &[u8]) -> &[u8]
+    ensures { result.now ≡ without_line_feed input.now }
+{
+    input.strip_suffix(b"\n").unwrap_or(input)
+}
+
+// The fault of a text that was not read: `not_text` where it is none.
+fn fault(error: ReadError, not_text: Fault) -> Fault
+    ensures not_text { error ≡ ReadError.NotText → result ≡ not_text }
+    ensures no_memory { error ≡ ReadError.OutOfMemory → result ≡ Fault.OutOfMemory }
+{
+    match error {
+        ReadError::NotText => not_text,
+        ReadError::OutOfMemory => Fault::OutOfMemory,
+    }
 }

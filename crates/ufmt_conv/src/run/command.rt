@@ -1,19 +1,23 @@
 //! What the program can be asked for.
-ghost use Rattle.std.specs.Prelude.{◌≡◌, ◌↔◌, [], ◌∷◌, codes, map, string_bytes, Some};
-ghost use Rattle.ufmt_conv.specs.Command.{usage_line};
+ghost use Rattle.std.specs.Prelude.{◌≡◌, ◌↔◌, [], ◌∷◌, map, string_bytes, Some};
+ghost use Rattle.ufmt_conv.specs.Command.{name_of, usage_line};
 
 /// What is to be answered about the input.
 #[derive(Clone, Copy, PartialEq, Eq, Debug)]
 pub enum Command {
     /// The lengths of its lines.
     Lengths,
+    /// The pretty text of the document whose plain text it is.
+    Pretty,
+    /// The plain text of the document whose pretty text it is.
+    Plain,
 }
 
 impl Command {
     /// The command that the words after the program's name ask for: one word, which is its name.
     pub fn parse(words: &[String]) -> Option<Command>
-        ensures lengths { (result ≡ Some Command.Lengths)
-            ↔ (map string_bytes words.now ≡ codes "lengths" ∷ []) }
+        ensures { (command : Command) → (result ≡ Some command)
+            ↔ (map string_bytes words.now ≡ name_of command ∷ []) }
     {
         match words {
             [word] => Command::named(word.as_str()),
@@ -23,10 +27,12 @@ impl Command {
 
     // The command with this name.
     fn named(name: &str) -> Option<Command>
-        ensures lengths { (result ≡ Some Command.Lengths) ↔ (name.now ≡ codes "lengths") }
+        ensures { (command : Command) → (result ≡ Some command) ↔ (name.now ≡ name_of command) }
     {
         match name {
             "lengths" => Some(Command::Lengths),
+            "pretty" => Some(Command::Pretty),
+            "plain" => Some(Command::Plain),
             _ => None,
         }
     }

@@ -7,6 +7,10 @@ use std::alloc::AllocError;
 /// Why a run wrote no whole answer.
 #[derive(Clone, Copy, PartialEq, Eq, Debug)]
 pub enum Fault {
+    /// `pretty` was asked for, and no token document has the input as its plain text.
+    NotPlain,
+    /// `plain` was asked for, and no token document has the input as its pretty text.
+    NotPretty,
     /// The input failed.
     CannotRead,
     /// The output failed.
@@ -23,6 +27,8 @@ impl Fault {
         ensures { result ≡ status_of self.now }
     {
         match self {
+            Fault::NotPlain => 1,
+            Fault::NotPretty => 1,
             Fault::CannotRead => 3,
             Fault::CannotWrite => 4,
             Fault::OutOfMemory => 5,
@@ -34,6 +40,8 @@ impl Fault {
         ensures { result.now ≡ line_of self.now }
     {
         match self {
+            Fault::NotPlain => "ufmt_conv: not a plain text",
+            Fault::NotPretty => "ufmt_conv: not a pretty text",
             Fault::CannotRead => "ufmt_conv: cannot read",
             Fault::CannotWrite => "ufmt_conv: cannot write",
             Fault::OutOfMemory => "ufmt_conv: out of memory",

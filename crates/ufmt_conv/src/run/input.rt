@@ -1,5 +1,5 @@
 //! Reading an input to its end.
-ghost use Rattle.std.specs.Prelude.{◌≡◌, ◌≢◌, ◌+◌, ◌<◌, ◌≤◌, ◌↔◌, false, drop, take, vec_len, length, IfOk, IfSome, IsErrOf, MatchResult, IsTrue, OnErr, OnOk};
+ghost use Rattle.std.specs.Prelude.{◌≡◌, ◌+◌, ◌<◌, ◌≤◌, ◌↔◌, ◌⊎◌, false, drop, take, vec_len, length, IfErr, IfOk, IfSome, IsErrOf, MatchResult, IsTrue, OnErr, OnOk};
 ghost use Rattle.std.specs.Io.KnownBytes.{Consumes, IsAtEnd};
 ghost use Rattle.ufmt_conv.specs.Watched.{device_of, has_failed};
 
@@ -19,7 +19,8 @@ pub(super) fn read_to_end<R: Read>(alloc: Global, input: &mut Watched<R>) -> Res
         text.items ≡ bytes)) }
     ensures end { OnOk result (IsAtEnd (R.remaining (device_of input.new))) }
     ensures failed { IsErrOf result Fault.CannotRead ↔ IsTrue (has_failed input.new) }
-    ensures wrote_nothing { result ≢ Err Fault.CannotWrite }
+    ensures refusals { IfErr result (λ fault.
+        (fault ≡ Fault.CannotRead) ⊎ (fault ≡ Fault.OutOfMemory)) }
 {
     let mut text = Vec::new(alloc);
     let mut filled = 0;
@@ -47,7 +48,8 @@ fn read_after<R: Read>(
         (R.remaining (device_of input.new)) (take count (drop filled text.new.items))) }
     ensures end { IfOk result (λ count. count ≡ 0 → IsAtEnd (R.remaining (device_of input.new))) }
     ensures failed { IsErrOf result Fault.CannotRead ↔ IsTrue (has_failed input.new) }
-    ensures wrote_nothing { result ≢ Err Fault.CannotWrite }
+    ensures refusals { IfErr result (λ fault.
+        (fault ≡ Fault.CannotRead) ⊎ (fault ≡ Fault.OutOfMemory)) }
 {
     if filled == text.len() {
         text.resize(filled + ROOM, 0)?;

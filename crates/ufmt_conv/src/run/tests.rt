@@ -85,10 +85,11 @@ const WHOLE: usize = 4096;
 
 const NEVER: usize = 0;
 
-// Runs `lengths` and asserts the outcome and what was written.
+// Runs a command and asserts the outcome and what was written.
 fn row(
     rt: &(impl Abort + AllocGlobal),
     case: &str,
+    command: Command,
     source: Source<'_>,
     sink: Sink,
     outcome: Result<(), Fault>,
@@ -96,7 +97,7 @@ fn row(
 ) {
     let mut input = Watched::new(source);
     let mut output = Watched::new(sink);
-    let result = run(rt.alloc(), Command::Lengths, &mut input, &mut output);
+    let result = run(rt.alloc(), command, &mut input, &mut output);
     assert_eq!(rt; result, outcome, "{case}");
     assert_eq!(rt; output.device().taken.as_slice(), written, "{case}");
     assert_eq!(rt;
@@ -111,8 +112,36 @@ fn row(
     );
 }
 
+// The same over devices that never fail.
+fn command_row(
+    rt: &(impl Abort + AllocGlobal),
+    command: Command,
+    input: &[u8],
+    outcome: Result<(), Fault>,
+    written: &[u8],
+) -> Result<(), Fail> {
+    let case = format!(in rt.alloc(); "{command:?} of {input:?}")?;
+    let source = Source::new(input, WHOLE, NEVER);
+    let sink = Sink::new(rt.alloc(), WHOLE, NEVER, false);
+    row(rt, case.as_str(), command, source, sink, outcome, written);
+    Ok(())
+}
+
 #[test]
-fn runs(rt: HostRuntime) -> Result<(), Fail> {
+fn no_command_is_always_refused(rt: HostRuntime) -> Result<(), Fail> {
+    let rows: [(Command, &[u8], &[u8]); 3] = [
+        (Command::Lengths, b"ab\n", b"[2]\n"),
+        (Command::Pretty, b"[ab]", b"[\n    ab,\n]\n"),
+        (Command::Plain, b"[\n    ab,\n]", b"[ab]\n"),
+    ];
+    for (command, input, written) in rows {
+        command_row(&rt, command, input, Ok(()), written)?;
+    }
+    Ok(())
+}
+
+#[test]
+fn lengths_are_answered(rt: HostRuntime) -> Result<(), Fail> {
     let rows: [(&[u8], &[u8]); 5] = [
         (b"", b"[]\n"),
         (b"\n", b"[0]\n"),
@@ -125,44 +154,192 @@ fn runs(rt: HostRuntime) -> Result<(), Fail> {
             let case = format!(in rt.alloc(); "{input:?}, at most {most} bytes a call")?;
             let source = Source::new(input, most, NEVER);
             let sink = Sink::new(rt.alloc(), most, NEVER, false);
-            row(&rt, case.as_str(), source, sink, Ok(()), written);
+            row(
+                &rt,
+                case.as_str(),
+                Command::Lengths,
+                source,
+                sink,
+                Ok(()),
+                written,
+            );
         }
     }
     let line = vec![in rt.alloc(); b'a'; 200_000]?;
     let source = Source::new(&line, 70_000, NEVER);
     let sink = Sink::new(rt.alloc(), WHOLE, NEVER, false);
-    row(&rt, "a long line", source, sink, Ok(()), b"[200000]\n");
+    row(
+        &rt,
+        "a long line",
+        Command::Lengths,
+        source,
+        sink,
+        Ok(()),
+        b"[200000]\n",
+    );
     Ok(())
+}
+
+// The README shows these two lines; `.ci/run` compares the second.
+const README_PLAIN: &str = "Node { value: 1, next: Some(Node { value: 0, next: None }) }\n";
+
+const README_PRETTY: &str = "\
+Node {
+    value: 1,
+    next: Some(
+        Node {
+            value: 0,
+            next: None,
+        },
+    ),
+}
+";
+
+// Each row is a plain text and the pretty text of the same document, with a line feed.
+#[test]
+fn pretty_and_plain_lead_to_each_other(rt: HostRuntime) -> Result<(), Fail> {
+    let rows = [
+        (README_PLAIN, README_PRETTY),
+        ("x\n", "x\n"),
+        ("(x,)\n", "(\n    x,\n)\n"),
+        ("n(x)\n", "n(\n    x,\n)\n"),
+        ("S { x: y }\n", "S {\n    x: y,\n}\n"),
+        (
+            "{S { a: b }: c}\n",
+            "{\n    S {\n        a: b,\n    }: c,\n}\n",
+        ),
+        (
+            "{a: S { b: -1 }, c: ()}\n",
+            "{\n    a: S {\n        b: -1,\n    },\n    c: (),\n}\n",
+        ),
+    ];
+    for (plain, pretty) in rows {
+        for input in [plain, plain.trim_end()] {
+            command_row(
+                &rt,
+                Command::Pretty,
+                input.as_bytes(),
+                Ok(()),
+                pretty.as_bytes(),
+            )?;
+        }
+        for input in [pretty, pretty.trim_end()] {
+            command_row(
+                &rt,
+                Command::Plain,
+                input.as_bytes(),
+                Ok(()),
+                plain.as_bytes(),
+            )?;
+        }
+    }
+    Ok(())
+}
+
+#[test]
+fn pretty_refuses_what_is_no_plain_text(rt: HostRuntime) -> Result<(), Fail> {
+    let inputs: [&[u8]; 12] = [
+        b"",
+        b"\n",
+        b"[1,2]",
+        b"S { }",
+        b"n(1,)",
+        b"(1)",
+        b"{a: b, c}",
+        b"[1, ]",
+        b"[1",
+        b"a b",
+        b"[]\n\n",
+        b"[\n    1,\n]",
+    ];
+    for input in inputs {
+        command_row(&rt, Command::Pretty, input, Err(Fault::NotPlain), b"")?;
+    }
+    Ok(())
+}
+
+#[test]
+fn plain_refuses_what_is_no_pretty_text(rt: HostRuntime) -> Result<(), Fail> {
+    let inputs: [&[u8]; 8] = [
+        b"",
+        b"\n",
+        b"[\n   1,\n]",
+        b"[\n\t1,\n]",
+        b"[\n    1\n]",
+        b"[\n    1,\n]\n\n",
+        b"[\n    [\n        1,\n],\n]",
+        b"[1]",
+    ];
+    for input in inputs {
+        command_row(&rt, Command::Plain, input, Err(Fault::NotPretty), b"")?;
+    }
+    Ok(())
+}
+
+// The plain text of `count` lists, one in another, round what has the text `inner`, and a line feed.
+fn nested_lists(alloc: Global, count: usize, inner: &str) -> Result<Vec<u8>, Fail> {
+    let mut text = Vec::new(alloc);
+    for _ in 0..count {
+        text.push(b'[')?;
+    }
+    text.extend_from_slice(inner.as_bytes())?;
+    for _ in 0..count {
+        text.push(b']')?;
+    }
+    text.push(b'\n')?;
+    Ok(text)
+}
+
+#[test]
+fn lists_are_converted_to_255_deep(rt: HostRuntime) -> Result<(), Fail> {
+    for (inner, size) in [("x", 261_376), ("[]", 261_377)] {
+        let plain = nested_lists(rt.alloc(), 255, inner)?;
+        let mut input = Watched::new(Source::new(&plain, WHOLE, NEVER));
+        let mut output = Watched::new(Sink::new(rt.alloc(), WHOLE, NEVER, false));
+        let result = run(rt.alloc(), Command::Pretty, &mut input, &mut output);
+        assert_eq!(rt; result, Ok(()), "lists round {inner}");
+        let pretty = output.device().taken.as_slice();
+        assert_eq!(rt; pretty.len(), size + 1, "lists round {inner}");
+        command_row(&rt, Command::Plain, pretty, Ok(()), &plain)?;
+    }
+    let too_deep = nested_lists(rt.alloc(), 256, "x")?;
+    command_row(&rt, Command::Pretty, &too_deep, Err(Fault::NotPlain), b"")
 }
 
 #[test]
 fn runs_whose_input_fails(rt: HostRuntime) -> Result<(), Fail> {
     let outcome = Err(Fault::CannotRead);
-    for fails_at in [1, 2, 4] {
-        let case = format!(in rt.alloc(); "the input fails at call {fails_at}")?;
-        let source = Source::new(b"ab\n", 1, fails_at);
-        let sink = Sink::new(rt.alloc(), WHOLE, NEVER, false);
-        row(&rt, case.as_str(), source, sink, outcome, b"");
+    for command in [Command::Lengths, Command::Pretty, Command::Plain] {
+        for fails_at in [1, 2, 4] {
+            let case = format!(in rt.alloc(); "{command:?}, the input fails at call {fails_at}")?;
+            let source = Source::new(b"ab\n", 1, fails_at);
+            let sink = Sink::new(rt.alloc(), WHOLE, NEVER, false);
+            row(&rt, case.as_str(), command, source, sink, outcome, b"");
+        }
     }
     Ok(())
 }
 
-// An output that takes two bytes a call is flushed at call 6.
+// An output that takes two bytes a call is flushed after all calls.
 #[test]
 fn runs_whose_output_fails(rt: HostRuntime) -> Result<(), Fail> {
     let outcome = Err(Fault::CannotWrite);
-    let rows: [(usize, &[u8]); 5] = [
-        (1, b""),
-        (2, b"[2"),
-        (3, b"[2, "),
-        (5, b"[2, 0, 3"),
-        (6, b"[2, 0, 3]\n"),
+    let rows: [(Command, &[u8], usize, &[u8]); 9] = [
+        (Command::Lengths, b"ab\n\nxyz", 1, b""),
+        (Command::Lengths, b"ab\n\nxyz", 2, b"[2"),
+        (Command::Lengths, b"ab\n\nxyz", 3, b"[2, "),
+        (Command::Lengths, b"ab\n\nxyz", 5, b"[2, 0, 3"),
+        (Command::Lengths, b"ab\n\nxyz", 6, b"[2, 0, 3]\n"),
+        (Command::Pretty, b"[1]", 4, b"[\n    "),
+        (Command::Pretty, b"[1]", 7, b"[\n    1,\n]\n"),
+        (Command::Plain, b"[\n    1,\n]", 1, b""),
+        (Command::Plain, b"[\n    1,\n]", 2, b"[1"),
     ];
-    for (fails_at, written) in rows {
-        let case = format!(in rt.alloc(); "the output fails at call {fails_at}")?;
-        let source = Source::new(b"ab\n\nxyz", WHOLE, NEVER);
+    for (command, input, fails_at, written) in rows {
+        let case = format!(in rt.alloc(); "{command:?}, the output fails at call {fails_at}")?;
+        let source = Source::new(input, WHOLE, NEVER);
         let sink = Sink::new(rt.alloc(), 2, fails_at, false);
-        row(&rt, case.as_str(), source, sink, outcome, written);
+        row(&rt, case.as_str(), command, source, sink, outcome, written);
     }
     let rows: [(&str, usize, bool, &[u8]); 2] = [
         ("the output takes nothing", 0, false, b""),
@@ -171,7 +348,7 @@ fn runs_whose_output_fails(rt: HostRuntime) -> Result<(), Fail> {
     for (case, most, fails_flush, written) in rows {
         let source = Source::new(b"ab", WHOLE, NEVER);
         let sink = Sink::new(rt.alloc(), most, NEVER, fails_flush);
-        row(&rt, case, source, sink, outcome, written);
+        row(&rt, case, Command::Lengths, source, sink, outcome, written);
     }
     Ok(())
 }
@@ -275,13 +452,18 @@ fn watched_writes_and_flushes(rt: HostRuntime) {
 
 #[test]
 fn one_word_is_a_command(rt: HostRuntime) -> Result<(), Fail> {
-    let rows: [(&[&str], Option<Command>); 6] = [
+    let rows: [(&[&str], Option<Command>); 11] = [
         (&["lengths"], Some(Command::Lengths)),
+        (&["pretty"], Some(Command::Pretty)),
+        (&["plain"], Some(Command::Plain)),
         (&[], None),
+        (&[""], None),
         (&["lengths", "lengths"], None),
+        (&["pretty", "plain"], None),
         (&["Pretty"], None),
         (&["Lengths"], None),
         (&["lengths "], None),
+        (&["plain\n"], None),
     ];
     for (row, command) in rows {
         let mut words = Vec::new(rt.alloc());
@@ -296,6 +478,8 @@ fn one_word_is_a_command(rt: HostRuntime) -> Result<(), Fail> {
 #[test]
 fn lines_and_statuses(rt: HostRuntime) {
     let rows = [
+        (Fault::NotPlain, 1, "ufmt_conv: not a plain text"),
+        (Fault::NotPretty, 1, "ufmt_conv: not a pretty text"),
         (Fault::CannotRead, 3, "ufmt_conv: cannot read"),
         (Fault::CannotWrite, 4, "ufmt_conv: cannot write"),
         (Fault::OutOfMemory, 5, "ufmt_conv: out of memory"),
