@@ -2,8 +2,18 @@
 use crate::convert::{plain_text, pretty_text};
 use crate::doc::Doc;
 use std::alloc::{AllocError, Global};
+use std::fmt::Debug;
 use std::process::Abort;
 use std::test::Fail;
+
+// Asserts are calls of these two: one that is written out takes the check as long as a score of calls.
+pub fn same<T: PartialEq + Debug + Drop>(rt: &impl Abort, given: T, wanted: T, case: &str) {
+    assert_eq!(rt; given, wanted, "{case}");
+}
+
+pub fn holds(rt: &impl Abort, condition: bool, case: &str) {
+    assert!(rt; condition, "{case}");
+}
 
 fn text(alloc: Global, text: &str) -> Result<String, AllocError> {
     String::from_str(alloc, text)
@@ -41,21 +51,21 @@ fn check(
     plain: &str,
     pretty: &str,
 ) -> Result<(), AllocError> {
-    assert_eq!(rt; plain_text(alloc, doc)?.as_str(), plain);
-    assert_eq!(rt; pretty_text(alloc, doc)?.as_str(), pretty);
+    same(rt, plain_text(alloc, doc)?.as_str(), plain, "plain");
+    same(rt, pretty_text(alloc, doc)?.as_str(), pretty, "pretty");
     Ok(())
 }
 
 #[test]
 fn plain_text_and_pretty_text_are_not_always_refused(rt: HostRuntime) -> Result<(), Fail> {
     let alloc = rt.alloc();
-    assert_eq!(&rt; plain_text(alloc, &7u64)?.as_str(), "7");
-    assert_eq!(&rt; pretty_text(alloc, &7u64)?.as_str(), "7");
+    same(&rt, plain_text(alloc, &7u64)?.as_str(), "7", "plain");
+    same(&rt, pretty_text(alloc, &7u64)?.as_str(), "7", "pretty");
     Ok(())
 }
 
 #[test]
-fn blocks_print_their_entries(rt: HostRuntime) -> Result<(), Fail> {
+fn a_node_prints_its_fields(rt: HostRuntime) -> Result<(), Fail> {
     let alloc = rt.alloc();
     let mut inner = Vec::new(alloc);
     inner.push((text(alloc, "value")?, leaf(alloc, "0")?))?;
@@ -72,7 +82,12 @@ fn blocks_print_their_entries(rt: HostRuntime) -> Result<(), Fail> {
         "Node { value: 1, next: Some(Node { value: 0, next: None }) }",
         "Node {\n    value: 1,\n    next: Some(\n        Node {\n            value: 0,\n            next: None,\n        },\n    ),\n}",
     )?;
+    Ok(())
+}
 
+#[test]
+fn sets_and_maps_print_their_entries(rt: HostRuntime) -> Result<(), Fail> {
+    let alloc = rt.alloc();
     let set = Doc::SetOf(one(alloc, Doc::SetOf(Vec::new(alloc)))?);
     let mut pairs = Vec::new(alloc);
     pairs.push((set, Doc::MapOf(Vec::new(alloc))))?;
@@ -88,7 +103,7 @@ fn blocks_print_their_entries(rt: HostRuntime) -> Result<(), Fail> {
 }
 
 #[test]
-fn entries_stand_a_line_each(rt: HostRuntime) -> Result<(), Fail> {
+fn lists_print_their_entries(rt: HostRuntime) -> Result<(), Fail> {
     let alloc = rt.alloc();
     let mut lists = one(alloc, Doc::Listed(Vec::new(alloc)))?;
     lists.push(Doc::Listed(one(alloc, leaf(alloc, "1")?)?))?;
@@ -99,7 +114,12 @@ fn entries_stand_a_line_each(rt: HostRuntime) -> Result<(), Fail> {
         "[[], [1]]",
         "[\n    [],\n    [\n        1,\n    ],\n]",
     )?;
+    Ok(())
+}
 
+#[test]
+fn structs_print_their_fields(rt: HostRuntime) -> Result<(), Fail> {
+    let alloc = rt.alloc();
     let mut pairs = Vec::new(alloc);
     pairs.push((leaf(alloc, "1")?, leaf(alloc, "2")?))?;
     let mut fields = one_field(alloc, "m", Doc::MapOf(pairs))?;
@@ -118,43 +138,60 @@ fn entries_stand_a_line_each(rt: HostRuntime) -> Result<(), Fail> {
 fn deep_lists_have_these_sizes(rt: HostRuntime) -> Result<(), Fail> {
     let alloc = rt.alloc();
     let doc = lists_round(alloc, 255, leaf(alloc, "x")?)?;
-    assert_eq!(&rt; plain_text(alloc, &doc)?.len(), 511);
-    assert_eq!(&rt; pretty_text(alloc, &doc)?.len(), 261_376);
+    same(&rt, plain_text(alloc, &doc)?.len(), 511, "plain");
+    same(&rt, pretty_text(alloc, &doc)?.len(), 261_376, "pretty");
+    Ok(())
+}
 
-    let doc = lists_round(alloc, 300, leaf(alloc, "x")?)?;
-    let pretty = pretty_text(alloc, &doc)?;
-    assert_eq!(&rt; pretty.len(), 353_401);
-    let mut count = 0usize;
-    let mut deepest_line = false;
-    for line in pretty.lines() {
+// How many lines a text has, and with how many spaces the line `x,` begins.
+fn lines_and_spaces(text: &str) -> (usize, usize) {
+    let (mut count, mut spaces) = (0usize, 0);
+    for line in text.lines() {
         count = count.saturating_add(1);
-        let spaces = line.len().saturating_sub(2);
-        if line.ends_with("x,") {
-            deepest_line = spaces == 1020 && line.trim_start() == "x,";
+        if line.trim_start() == "x," {
+            spaces = line.len().saturating_sub(2);
         }
     }
-    assert_eq!(&rt; count, 601);
-    assert!(&rt; deepest_line);
+    (count, spaces)
+}
+
+#[test]
+fn lines_begin_with_at_most_1020_spaces(rt: HostRuntime) -> Result<(), Fail> {
+    let alloc = rt.alloc();
+    let doc = lists_round(alloc, 300, leaf(alloc, "x")?)?;
+    let pretty = pretty_text(alloc, &doc)?;
+    same(&rt, pretty.len(), 353_401, "the length");
+    same(&rt, lines_and_spaces(&pretty), (601, 1020), "the lines");
     Ok(())
 }
 
 #[test]
-fn is_token_tells_these_apart(rt: HostRuntime) -> Result<(), Fail> {
+fn is_token_tells_leaves_and_names_apart(rt: HostRuntime) -> Result<(), Fail> {
     let alloc = rt.alloc();
-    assert!(&rt; !leaf(alloc, "")?.is_token());
-    assert!(&rt; !leaf(alloc, "a b")?.is_token());
-    assert!(&rt; !Doc::TupleOf(text(alloc, "")?, Vec::new(alloc)).is_token());
-    assert!(&rt; !Doc::TupleOf(text(alloc, "()")?, Vec::new(alloc)).is_token());
-    let fields = one_field(alloc, "a", leaf(alloc, "x")?)?;
-    assert!(&rt; !Doc::StructOf(text(alloc, "")?, fields).is_token());
-    let fields = one_field(alloc, "()", leaf(alloc, "x")?)?;
-    assert!(&rt; !Doc::StructOf(text(alloc, "S")?, fields).is_token());
-    assert!(&rt; !lists_round(alloc, 256, leaf(alloc, "x")?)?.is_token());
+    for (name, is_token) in [("", false), ("a b", false), ("()", true), ("-", true)] {
+        same(&rt, leaf(alloc, name)?.is_token(), is_token, name);
+    }
+    for name in ["", "()"] {
+        let tuple = Doc::TupleOf(text(alloc, name)?, Vec::new(alloc));
+        same(&rt, tuple.is_token(), false, name);
+    }
+    for (name, label) in [("", "a"), ("S", "()")] {
+        let fields = one_field(alloc, label, leaf(alloc, "x")?)?;
+        let value = Doc::StructOf(text(alloc, name)?, fields);
+        same(&rt, value.is_token(), false, label);
+    }
+    Ok(())
+}
 
-    assert!(&rt; leaf(alloc, "()")?.is_token());
-    assert!(&rt; leaf(alloc, "-")?.is_token());
-    assert!(&rt; lists_round(alloc, 255, leaf(alloc, "x")?)?.is_token());
-    assert!(&rt; lists_round(alloc, 255, Doc::Listed(Vec::new(alloc)))?.is_token());
+#[test]
+fn is_token_tells_depths_apart(rt: HostRuntime) -> Result<(), Fail> {
+    let alloc = rt.alloc();
+    for (count, is_token) in [(256, false), (255, true)] {
+        let lists = lists_round(alloc, count, leaf(alloc, "x")?)?;
+        same(&rt, lists.is_token(), is_token, "lists round a leaf");
+    }
+    let lists = lists_round(alloc, 255, Doc::Listed(Vec::new(alloc)))?;
+    holds(&rt, lists.is_token(), "lists round an empty one");
     Ok(())
 }
 
@@ -178,13 +215,13 @@ fn normalize_gives_the_leaf_of_a_name_and_the_empty_map(rt: HostRuntime) -> Resu
     let mut fields = one(alloc, Doc::StructOf(text(alloc, "A")?, Vec::new(alloc)))?;
     fields.push(Doc::SetOf(Vec::new(alloc)))?;
     let mut doc = Doc::TupleOf(text(alloc, "")?, fields);
-    assert!(&rt; !is_leaf_and_map(&doc));
-    assert_eq!(&rt; plain_text(alloc, &doc)?.as_str(), "(A, {})");
+    holds(&rt, !is_leaf_and_map(&doc), "before");
+    same(&rt, plain_text(alloc, &doc)?.as_str(), "(A, {})", "before");
     // The second call changes nothing.
     for _ in 0..2 {
         doc.normalize(alloc);
-        assert!(&rt; is_leaf_and_map(&doc));
-        assert_eq!(&rt; plain_text(alloc, &doc)?.as_str(), "(A, {})");
+        holds(&rt, is_leaf_and_map(&doc), "after");
+        same(&rt, plain_text(alloc, &doc)?.as_str(), "(A, {})", "after");
     }
     Ok(())
 }

@@ -1,4 +1,5 @@
 use super::*;
+use crate::tests::{holds, same};
 use std::process::Abort;
 
 // The pretty text of a plain one, and the plain text of that again.
@@ -8,9 +9,9 @@ fn expect_converted(
     pretty: &str,
 ) -> Result<(), ReadError> {
     let converted = to_pretty(rt.alloc(), plain.as_bytes())?;
-    assert_eq!(rt; converted.as_str(), pretty);
+    same(rt, converted.as_str(), pretty, plain);
     let back = to_plain(rt.alloc(), pretty.as_bytes())?;
-    assert_eq!(rt; back.as_str(), plain);
+    same(rt, back.as_str(), plain, pretty);
     Ok(())
 }
 
@@ -27,23 +28,20 @@ fn texts_are_converted(rt: HostRuntime) {
         ),
     ];
     for (plain, pretty) in rows {
-        assert_eq!(rt; expect_converted(&rt, plain, pretty), Ok(()));
+        same(&rt, expect_converted(&rt, plain, pretty), Ok(()), plain);
     }
 }
 
 #[test]
 fn other_texts_are_not_converted(rt: HostRuntime) {
-    assert!(rt;
-        matches!(
-            to_pretty(rt.alloc(), b"[\n    x,\n]"),
-            Err(ReadError::NotText)
-        )
-    );
-    assert!(rt; matches!(to_plain(rt.alloc(), b"[x]"), Err(ReadError::NotText)));
+    let answer = to_pretty(rt.alloc(), b"[\n    x,\n]");
+    holds(&rt, matches!(answer, Err(ReadError::NotText)), "to_pretty");
+    let answer = to_plain(rt.alloc(), b"[x]");
+    holds(&rt, matches!(answer, Err(ReadError::NotText)), "to_plain");
 }
 
 #[test]
 fn to_pretty_and_to_plain_are_not_always_refused(rt: HostRuntime) {
-    assert!(rt; to_pretty(rt.alloc(), b"x").is_ok());
-    assert!(rt; to_plain(rt.alloc(), b"x").is_ok());
+    holds(&rt, to_pretty(rt.alloc(), b"x").is_ok(), "to_pretty");
+    holds(&rt, to_plain(rt.alloc(), b"x").is_ok(), "to_plain");
 }

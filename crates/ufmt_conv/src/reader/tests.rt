@@ -1,7 +1,7 @@
 use super::*;
 use crate::plain_reader::read_plain;
 use crate::pretty_reader::read_pretty;
-use std::process::Abort;
+use crate::tests::same;
 use std::test::Fail;
 
 // 0 where a document was read, and the error's code where none was.
@@ -67,7 +67,12 @@ fn plain_texts_are_read(rt: HostRuntime) {
         b"{a: b, c: d}",
     ];
     for text in texts {
-        assert_eq!(rt; code(read_plain(rt.alloc(), text)), 0);
+        same(
+            &rt,
+            (text, code(read_plain(rt.alloc(), text))),
+            (text, 0),
+            "a plain text",
+        );
     }
 }
 
@@ -108,7 +113,12 @@ fn what_is_no_plain_text_is_refused(rt: HostRuntime) {
         b"[\n    x,\n]",
     ];
     for text in texts {
-        assert_eq!(rt; code(read_plain(rt.alloc(), text)), 1);
+        same(
+            &rt,
+            (text, code(read_plain(rt.alloc(), text))),
+            (text, 1),
+            "no plain text",
+        );
     }
 }
 
@@ -126,7 +136,12 @@ fn pretty_texts_are_read(rt: HostRuntime) {
         b"{\n    a,\n    {},\n}",
     ];
     for text in texts {
-        assert_eq!(rt; code(read_pretty(rt.alloc(), text)), 0);
+        same(
+            &rt,
+            (text, code(read_pretty(rt.alloc(), text))),
+            (text, 0),
+            "a pretty text",
+        );
     }
 }
 
@@ -152,7 +167,12 @@ fn what_is_no_pretty_text_is_refused(rt: HostRuntime) {
         b"[\n    x,\n    y\n]",
     ];
     for text in texts {
-        assert_eq!(rt; code(read_pretty(rt.alloc(), text)), 1);
+        same(
+            &rt,
+            (text, code(read_pretty(rt.alloc(), text))),
+            (text, 1),
+            "no pretty text",
+        );
     }
 }
 
@@ -168,10 +188,30 @@ fn shape(answer: Result<Doc, ReadError>) -> (&'static str, usize) {
 
 #[test]
 fn empty_braces_are_a_map(rt: HostRuntime) {
-    assert_eq!(rt; shape(read_plain(rt.alloc(), b"{}")), ("map", 0));
-    assert_eq!(rt; shape(read_pretty(rt.alloc(), b"{}")), ("map", 0));
-    assert_eq!(rt; shape(read_plain(rt.alloc(), b"{x}")), ("set", 1));
-    assert_eq!(rt; shape(read_plain(rt.alloc(), b"n")), ("leaf", 0));
+    same(
+        &rt,
+        shape(read_plain(rt.alloc(), b"{}")),
+        ("map", 0),
+        "plain {}",
+    );
+    same(
+        &rt,
+        shape(read_pretty(rt.alloc(), b"{}")),
+        ("map", 0),
+        "pretty {}",
+    );
+    same(
+        &rt,
+        shape(read_plain(rt.alloc(), b"{x}")),
+        ("set", 1),
+        "plain {x}",
+    );
+    same(
+        &rt,
+        shape(read_plain(rt.alloc(), b"n")),
+        ("leaf", 0),
+        "plain n",
+    );
 }
 
 #[test]
@@ -184,16 +224,20 @@ fn blocks_with_entries_lie_at_most_255_deep(rt: HostRuntime) -> Result<(), Fail>
     ];
     for (depth, inner, expected) in rows {
         let plain = plain_lists(rt.alloc(), depth, inner)?;
-        assert_eq!(rt;
-            code(read_plain(rt.alloc(), &plain)),
-            expected,
-            "{depth} plain lists round {inner:?}"
+        let answer = code(read_plain(rt.alloc(), &plain));
+        same(
+            &rt,
+            (depth, inner, answer),
+            (depth, inner, expected),
+            "plain",
         );
         let pretty = pretty_lists(rt.alloc(), depth, inner)?;
-        assert_eq!(rt;
-            code(read_pretty(rt.alloc(), &pretty)),
-            expected,
-            "{depth} pretty lists round {inner:?}"
+        let answer = code(read_pretty(rt.alloc(), &pretty));
+        same(
+            &rt,
+            (depth, inner, answer),
+            (depth, inner, expected),
+            "pretty",
         );
     }
     Ok(())

@@ -1,4 +1,5 @@
 use super::*;
+use crate::tests::{holds, same};
 use std::io;
 use std::io::ErrorKind;
 use std::process::Abort;
@@ -88,28 +89,27 @@ const NEVER: usize = 0;
 // Runs a command and asserts the outcome and what was written.
 fn row(
     rt: &(impl Abort + AllocGlobal),
-    case: &str,
     command: Command,
     source: Source<'_>,
     sink: Sink,
     outcome: Result<(), Fault>,
     written: &[u8],
 ) {
+    let text = source.left;
     let mut input = Watched::new(source);
     let mut output = Watched::new(sink);
     let result = run(rt.alloc(), command, &mut input, &mut output);
-    assert_eq!(rt; result, outcome, "{case}");
-    assert_eq!(rt; output.device().taken.as_slice(), written, "{case}");
-    assert_eq!(rt;
-        input.has_failed(),
-        outcome == Err(Fault::CannotRead),
-        "{case}: the input"
+    same(
+        rt,
+        (command, text, result),
+        (command, text, outcome),
+        "the outcome",
     );
-    assert_eq!(rt;
-        output.has_failed(),
-        outcome == Err(Fault::CannotWrite),
-        "{case}: the output"
-    );
+    same(rt, output.device().taken.as_slice(), written, "the output");
+    let unread = outcome == Err(Fault::CannotRead);
+    let unwritten = outcome == Err(Fault::CannotWrite);
+    let failures = (input.has_failed(), output.has_failed());
+    same(rt, failures, (unread, unwritten), "which device failed");
 }
 
 // The same over devices that never fail.
@@ -119,29 +119,26 @@ fn command_row(
     input: &[u8],
     outcome: Result<(), Fault>,
     written: &[u8],
-) -> Result<(), Fail> {
-    let case = format!(in rt.alloc(); "{command:?} of {input:?}")?;
+) {
     let source = Source::new(input, WHOLE, NEVER);
     let sink = Sink::new(rt.alloc(), WHOLE, NEVER, false);
-    row(rt, case.as_str(), command, source, sink, outcome, written);
-    Ok(())
+    row(rt, command, source, sink, outcome, written);
 }
 
 #[test]
-fn no_command_is_always_refused(rt: HostRuntime) -> Result<(), Fail> {
+fn no_command_is_always_refused(rt: HostRuntime) {
     let rows: [(Command, &[u8], &[u8]); 3] = [
         (Command::Lengths, b"ab\n", b"[2]\n"),
         (Command::Pretty, b"[ab]", b"[\n    ab,\n]\n"),
         (Command::Plain, b"[\n    ab,\n]", b"[ab]\n"),
     ];
     for (command, input, written) in rows {
-        command_row(&rt, command, input, Ok(()), written)?;
+        command_row(&rt, command, input, Ok(()), written);
     }
-    Ok(())
 }
 
 #[test]
-fn lengths_are_answered(rt: HostRuntime) -> Result<(), Fail> {
+fn lengths_are_answered(rt: HostRuntime) {
     let rows: [(&[u8], &[u8]); 5] = [
         (b"", b"[]\n"),
         (b"\n", b"[0]\n"),
@@ -151,32 +148,19 @@ fn lengths_are_answered(rt: HostRuntime) -> Result<(), Fail> {
     ];
     for (input, written) in rows {
         for most in [1, 2, WHOLE] {
-            let case = format!(in rt.alloc(); "{input:?}, at most {most} bytes a call")?;
             let source = Source::new(input, most, NEVER);
             let sink = Sink::new(rt.alloc(), most, NEVER, false);
-            row(
-                &rt,
-                case.as_str(),
-                Command::Lengths,
-                source,
-                sink,
-                Ok(()),
-                written,
-            );
+            row(&rt, Command::Lengths, source, sink, Ok(()), written);
         }
     }
+}
+
+#[test]
+fn a_long_line_is_answered(rt: HostRuntime) -> Result<(), Fail> {
     let line = vec![in rt.alloc(); b'a'; 200_000]?;
     let source = Source::new(&line, 70_000, NEVER);
     let sink = Sink::new(rt.alloc(), WHOLE, NEVER, false);
-    row(
-        &rt,
-        "a long line",
-        Command::Lengths,
-        source,
-        sink,
-        Ok(()),
-        b"[200000]\n",
-    );
+    row(&rt, Command::Lengths, source, sink, Ok(()), b"[200000]\n");
     Ok(())
 }
 
@@ -197,7 +181,7 @@ Node {
 
 // Each row is a plain text and the pretty text of the same document, with a line feed.
 #[test]
-fn pretty_and_plain_lead_to_each_other(rt: HostRuntime) -> Result<(), Fail> {
+fn pretty_and_plain_lead_to_each_other(rt: HostRuntime) {
     let rows = [
         (README_PLAIN, README_PRETTY),
         ("x\n", "x\n"),
@@ -215,29 +199,18 @@ fn pretty_and_plain_lead_to_each_other(rt: HostRuntime) -> Result<(), Fail> {
     ];
     for (plain, pretty) in rows {
         for input in [plain, plain.trim_end()] {
-            command_row(
-                &rt,
-                Command::Pretty,
-                input.as_bytes(),
-                Ok(()),
-                pretty.as_bytes(),
-            )?;
+            let answer = pretty.as_bytes();
+            command_row(&rt, Command::Pretty, input.as_bytes(), Ok(()), answer);
         }
         for input in [pretty, pretty.trim_end()] {
-            command_row(
-                &rt,
-                Command::Plain,
-                input.as_bytes(),
-                Ok(()),
-                plain.as_bytes(),
-            )?;
+            let answer = plain.as_bytes();
+            command_row(&rt, Command::Plain, input.as_bytes(), Ok(()), answer);
         }
     }
-    Ok(())
 }
 
 #[test]
-fn pretty_refuses_what_is_no_plain_text(rt: HostRuntime) -> Result<(), Fail> {
+fn pretty_refuses_what_is_no_plain_text(rt: HostRuntime) {
     let inputs: [&[u8]; 12] = [
         b"",
         b"\n",
@@ -253,13 +226,12 @@ fn pretty_refuses_what_is_no_plain_text(rt: HostRuntime) -> Result<(), Fail> {
         b"[\n    1,\n]",
     ];
     for input in inputs {
-        command_row(&rt, Command::Pretty, input, Err(Fault::NotPlain), b"")?;
+        command_row(&rt, Command::Pretty, input, Err(Fault::NotPlain), b"");
     }
-    Ok(())
 }
 
 #[test]
-fn plain_refuses_what_is_no_pretty_text(rt: HostRuntime) -> Result<(), Fail> {
+fn plain_refuses_what_is_no_pretty_text(rt: HostRuntime) {
     let inputs: [&[u8]; 8] = [
         b"",
         b"\n",
@@ -271,9 +243,8 @@ fn plain_refuses_what_is_no_pretty_text(rt: HostRuntime) -> Result<(), Fail> {
         b"[1]",
     ];
     for input in inputs {
-        command_row(&rt, Command::Plain, input, Err(Fault::NotPretty), b"")?;
+        command_row(&rt, Command::Plain, input, Err(Fault::NotPretty), b"");
     }
-    Ok(())
 }
 
 // The plain text of `count` lists, one in another, round what has the text `inner`, and a line feed.
@@ -297,32 +268,30 @@ fn lists_are_converted_to_255_deep(rt: HostRuntime) -> Result<(), Fail> {
         let mut input = Watched::new(Source::new(&plain, WHOLE, NEVER));
         let mut output = Watched::new(Sink::new(rt.alloc(), WHOLE, NEVER, false));
         let result = run(rt.alloc(), Command::Pretty, &mut input, &mut output);
-        assert_eq!(rt; result, Ok(()), "lists round {inner}");
         let pretty = output.device().taken.as_slice();
-        assert_eq!(rt; pretty.len(), size + 1, "lists round {inner}");
-        command_row(&rt, Command::Plain, pretty, Ok(()), &plain)?;
+        same(&rt, (result, pretty.len()), (Ok(()), size + 1), inner);
+        command_row(&rt, Command::Plain, pretty, Ok(()), &plain);
     }
     let too_deep = nested_lists(rt.alloc(), 256, "x")?;
-    command_row(&rt, Command::Pretty, &too_deep, Err(Fault::NotPlain), b"")
+    command_row(&rt, Command::Pretty, &too_deep, Err(Fault::NotPlain), b"");
+    Ok(())
 }
 
 #[test]
-fn runs_whose_input_fails(rt: HostRuntime) -> Result<(), Fail> {
+fn runs_whose_input_fails(rt: HostRuntime) {
     let outcome = Err(Fault::CannotRead);
     for command in [Command::Lengths, Command::Pretty, Command::Plain] {
         for fails_at in [1, 2, 4] {
-            let case = format!(in rt.alloc(); "{command:?}, the input fails at call {fails_at}")?;
             let source = Source::new(b"ab\n", 1, fails_at);
             let sink = Sink::new(rt.alloc(), WHOLE, NEVER, false);
-            row(&rt, case.as_str(), command, source, sink, outcome, b"");
+            row(&rt, command, source, sink, outcome, b"");
         }
     }
-    Ok(())
 }
 
 // An output that takes two bytes a call is flushed after all calls.
 #[test]
-fn runs_whose_output_fails(rt: HostRuntime) -> Result<(), Fail> {
+fn runs_whose_output_fails(rt: HostRuntime) {
     let outcome = Err(Fault::CannotWrite);
     let rows: [(Command, &[u8], usize, &[u8]); 9] = [
         (Command::Lengths, b"ab\n\nxyz", 1, b""),
@@ -336,21 +305,21 @@ fn runs_whose_output_fails(rt: HostRuntime) -> Result<(), Fail> {
         (Command::Plain, b"[\n    1,\n]", 2, b"[1"),
     ];
     for (command, input, fails_at, written) in rows {
-        let case = format!(in rt.alloc(); "{command:?}, the output fails at call {fails_at}")?;
         let source = Source::new(input, WHOLE, NEVER);
         let sink = Sink::new(rt.alloc(), 2, fails_at, false);
-        row(&rt, case.as_str(), command, source, sink, outcome, written);
+        row(&rt, command, source, sink, outcome, written);
     }
-    let rows: [(&str, usize, bool, &[u8]); 2] = [
-        ("the output takes nothing", 0, false, b""),
-        ("the flush fails", WHOLE, true, b"[2]\n"),
-    ];
-    for (case, most, fails_flush, written) in rows {
+}
+
+#[test]
+fn runs_whose_output_takes_nothing_or_fails_to_flush(rt: HostRuntime) {
+    let outcome = Err(Fault::CannotWrite);
+    let rows: [(usize, bool, &[u8]); 2] = [(0, false, b""), (WHOLE, true, b"[2]\n")];
+    for (most, fails_flush, written) in rows {
         let source = Source::new(b"ab", WHOLE, NEVER);
         let sink = Sink::new(rt.alloc(), most, NEVER, fails_flush);
-        row(&rt, case, Command::Lengths, source, sink, outcome, written);
+        row(&rt, Command::Lengths, source, sink, outcome, written);
     }
-    Ok(())
 }
 
 #[test]
@@ -363,11 +332,11 @@ fn lengths_of_lines(rt: HostRuntime) -> Result<(), Fail> {
     ];
     for (input, lengths, text) in rows {
         let found = line_lengths(rt.alloc(), input)?;
-        assert_eq!(rt; found.as_slice(), lengths, "{input:?}");
+        same(&rt, found.as_slice(), lengths, text);
         let mut buffer = [0; 9];
         let mut f = Formatter::new(Cursor::new(&mut buffer));
-        assert_eq!(rt; found.fmt(&mut f), Ok(()), "{input:?}");
-        assert_eq!(rt; f.into_inner().written(), text.as_bytes(), "{input:?}");
+        same(&rt, found.fmt(&mut f), Ok(()), text);
+        same(&rt, f.into_inner().written(), text.as_bytes(), "printed");
     }
     Ok(())
 }
@@ -388,32 +357,21 @@ fn watched_reads(rt: HostRuntime) {
     ];
     for (fails_at, rows) in [(NEVER, never_fails), (2, fails_once)] {
         let mut input = Watched::new(Source::new(b"abc", 2, fails_at));
-        assert!(rt; !input.has_failed(), "a new one");
+        holds(&rt, !input.has_failed(), "a new one");
         for (call, answer, read, has_failed) in rows {
             let mut buffer = *b"....";
-            assert_eq!(rt;
-                input.read_some(&mut buffer),
-                answer,
-                "call {call} of those that fail at {fails_at}"
-            );
-            assert_eq!(rt;
-                buffer,
-                *read,
-                "call {call} of those that fail at {fails_at}"
-            );
-            assert_eq!(rt;
-                input.has_failed(),
-                has_failed,
-                "call {call} of those that fail at {fails_at}"
-            );
-            assert_eq!(rt; input.device().calls, call, "the device's calls");
+            let given = input.read_some(&mut buffer);
+            same(&rt, (call, given), (call, answer), "the answer");
+            same(&rt, buffer, *read, "what is read");
+            let left = (input.has_failed(), input.device().calls);
+            same(&rt, left, (has_failed, call), "failures and calls");
         }
     }
 }
 
 // A watched writer does likewise, and has failed too where nothing is taken of a piece that isn't empty.
 #[test]
-fn watched_writes_and_flushes(rt: HostRuntime) {
+fn watched_writes(rt: HostRuntime) {
     let rows: [(&str, usize, usize, &[u8], Result<usize, Failed>); 6] = [
         ("a whole piece", WHOLE, NEVER, b"abc", Ok(3)),
         ("a beginning", 2, NEVER, b"abc", Ok(2)),
@@ -424,29 +382,30 @@ fn watched_writes_and_flushes(rt: HostRuntime) {
     ];
     for (case, most, fails_at, bytes, answer) in rows {
         let mut output = Watched::new(Sink::new(rt.alloc(), most, fails_at, false));
-        assert!(rt; !output.has_failed(), "before {case}");
-        assert_eq!(rt; output.write_some(bytes), answer, "{case}");
-        assert_eq!(rt; output.has_failed(), answer == Err(Failed), "after {case}");
-        assert_eq!(rt; output.device().calls, 1, "{case}");
-        assert_eq!(rt; output.flush_all(), Ok(()), "a flush after {case}");
-        assert_eq!(rt;
-            output.has_failed(),
-            answer == Err(Failed),
-            "a flush after {case}"
-        );
-        assert_eq!(rt; output.device().calls, 2, "a flush after {case}");
+        holds(&rt, !output.has_failed(), case);
+        let has_failed = answer == Err(Failed);
+        same(&rt, output.write_some(bytes), answer, case);
+        let left = (output.has_failed(), output.device().calls);
+        same(&rt, left, (has_failed, 1), case);
+        same(&rt, output.flush_all(), Ok(()), "a flush after it");
+        let left = (output.has_failed(), output.device().calls);
+        same(&rt, left, (has_failed, 2), case);
     }
+}
+
+#[test]
+fn watched_flushes(rt: HostRuntime) {
     for (case, fails_flush, answer) in [
         ("a flush", false, Ok(())),
         ("a flush that fails", true, Err(Failed)),
     ] {
         let mut output = Watched::new(Sink::new(rt.alloc(), WHOLE, NEVER, fails_flush));
-        assert_eq!(rt; output.flush_all(), answer, "{case}");
-        assert_eq!(rt; output.has_failed(), fails_flush, "after {case}");
-        assert_eq!(rt; output.device().calls, 1, "{case}");
-        assert_eq!(rt; output.write_some(b"ab"), Ok(2), "a piece after {case}");
-        assert_eq!(rt; output.has_failed(), fails_flush, "a piece after {case}");
-        assert_eq!(rt; output.device().calls, 2, "a piece after {case}");
+        same(&rt, output.flush_all(), answer, case);
+        let left = (output.has_failed(), output.device().calls);
+        same(&rt, left, (fails_flush, 1), case);
+        same(&rt, output.write_some(b"ab"), Ok(2), "a piece after it");
+        let left = (output.has_failed(), output.device().calls);
+        same(&rt, left, (fails_flush, 2), case);
     }
 }
 
@@ -470,7 +429,7 @@ fn one_word_is_a_command(rt: HostRuntime) -> Result<(), Fail> {
         for word in row {
             words.push(String::from_str(rt.alloc(), word)?)?;
         }
-        assert_eq!(rt; Command::parse(&words), command, "{row:?}");
+        same(&rt, (row, Command::parse(&words)), (row, command), "words");
     }
     Ok(())
 }
@@ -485,8 +444,13 @@ fn lines_and_statuses(rt: HostRuntime) {
         (Fault::OutOfMemory, 5, "ufmt_conv: out of memory"),
     ];
     for (fault, status, line) in rows {
-        assert_eq!(rt; fault.status(), status, "{fault:?}");
-        assert_eq!(rt; fault.line(), line, "{fault:?}");
+        same(&rt, fault.status(), status, line);
+        same(&rt, fault.line(), line, line);
     }
-    assert_eq!(rt; usage(), "usage: ufmt_conv lengths|pretty|plain");
+    same(
+        &rt,
+        usage(),
+        "usage: ufmt_conv lengths|pretty|plain",
+        "usage",
+    );
 }
