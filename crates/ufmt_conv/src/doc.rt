@@ -1,7 +1,8 @@
 //! Documents as values.
 ghost use Rattle.std.specs.Prelude.{◌≡◌, ◌↔◌, IsTrue, map};
 ghost use Rattle.ufmt.specs.Document.{documents, fields_of, pairs_of};
-ghost use Rattle.ufmt.specs.Token.{IsToken, is_word_byte, normal, normal_all, normal_fields, normal_pairs};
+ghost use Rattle.ufmt.specs.Token.{IsToken, is_word_byte};
+ghost use Rattle.ufmt.specs.Token.{normal, normal_all, normal_fields, normal_pairs};
 ghost use Rattle.ufmt_conv.specs.Doc.{doc_document};
 ghost use Rattle.ufmt_conv.specs.DocViews.{pair_view, field_view};
 ghost use Rattle.ufmt_conv.specs.Within.{are_word_bytes, is_token_leaf, is_word, words_within};
@@ -182,7 +183,8 @@ fn normalize_all(alloc: Global, docs: &mut [Doc])
 // The same of keys and values.
 #[cycle(normalize)]
 fn normalize_pairs(alloc: Global, pairs: &mut [(Doc, Doc)])
-    ensures { pairs_of (map pair_view pairs.new) ≡ normal_pairs (pairs_of (map pair_view pairs.old)) }
+    ensures { pairs_of (map pair_view pairs.new)
+        ≡ normal_pairs (pairs_of (map pair_view pairs.old)) }
 {
     for (key, value) in pairs.iter_mut() {
         key.normalize(alloc);

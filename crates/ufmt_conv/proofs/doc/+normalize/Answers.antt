@@ -11,6 +11,7 @@ use Rattle.ufmt_conv.specs.DocViews.{pair_view, field_view}
 use Rattle.ufmt_conv.proofs.Normals.{normal_all-become, normal_pairs-become, normal_fields-become, normal-StructOf}
 use Rattle.ufmt_conv.proofs.doc.+normalize.Goals as goal
 
+-- behind a loop all entries are visited
 pub normalize_all-returns : goal.normalize_all-returns
 normalize_all-returns t c =
     let l = c.loop-doc in
@@ -26,6 +27,7 @@ normalize_fields-returns t c =
     let l = c.loop-value in
     normal_fields-become l.value-index l.fields c.args.fields.now l.invariant.rest.0 c.loop-value-test.false field_view l.invariant.done
 
+-- a struct that has fields: the vector behind the loan holds what they became
 pub Doc::normalize-returns-in-StructOf : goal.Doc::normalize-returns-in-StructOf
 Doc::normalize-returns-in-StructOf t c =
     let name = c.in-StructOf.field-0 in
