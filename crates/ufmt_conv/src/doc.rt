@@ -4,6 +4,9 @@ ghost use Rattle.ufmt.specs.Token.{IsToken, is_word_byte};
 ghost use Rattle.ufmt_conv.specs.Doc.{doc_document};
 ghost use Rattle.ufmt_conv.specs.Within.{are_word_bytes, is_token_leaf, is_word, words_within};
 
+mod same;
+
+pub use same::same_text;
 use ufmt::{Formatter, uDebug, uWrite};
 
 // How deep blocks with entries lie at most in a document whose text can be read again.
