@@ -5,6 +5,7 @@ pub mod EntryLoops
 pub mod Given
 pub mod KnownParts
 pub mod Lines
+pub mod NormalDocs
 pub mod Same
 pub mod Strips
 pub mod WholeTexts

@@ -1,4 +1,4 @@
--- The parts of documents that `same_text` compares: normal forms of entries, pairs and fields, and the texts of leaves.
+-- A device of the proof of `same_text`: the normal forms of documents, pairs and fields, which it compares part by part.
 use Rattle.std.specs.Prelude.{ℕ, List, Option, Some, None, String, string_bytes}
 use Rattle.std.specs.declared.alloc.Global.{Global}
 use Rattle.ufmt.specs.Document.{Document, leaf}

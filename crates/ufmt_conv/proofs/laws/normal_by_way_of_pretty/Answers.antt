@@ -1,4 +1,4 @@
-use Rattle.std.proofs.Common.{◌∙◌, rules}
+use Rattle.std.proofs.Common.{rules}
 use Rattle.ufmt_conv.specs.Doc.{doc_document}
 use Rattle.ufmt_conv.proofs.Conversions.{pretty_read_again}
 use Rattle.ufmt_conv.proofs.laws.normal_by_way_of_pretty.Goals as goal

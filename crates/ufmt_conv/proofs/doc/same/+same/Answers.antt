@@ -1,4 +1,4 @@
-use Rattle.std.proofs.Common.{◌≡◌, ◌&&◌, ◌==◌, Bool, false, true, not, refl, ap, sym, ◌∙◌, rules}
+use Rattle.std.proofs.Common.{◌≡◌, Bool, false, true, not, refl, ap, sym, ◌∙◌, rules}
 use Rattle.std.proofs.lemmas.Slice.Zip.{zip_turn}
 use Rattle.ufmt_conv.specs.Same.{normal_doc, normal_field, normal_pair}
 use Rattle.ufmt_conv.proofs.Same.{string_eq_tells, string_eq_told, same-Listed, same-SetOf, same-MapOf, same-SetOf-MapOf, same-StructOf, same-TupleOf, in_other_order, differ_at, more_same, differ-Listed, differ-SetOf, differ-MapOf, differ-StructOf, differ-TupleOf, text_is_leaf}

@@ -1,5 +1,5 @@
-use Rattle.std.proofs.Common.{sym, ◌∙◌}
-use Rattle.ufmt_conv.proofs.Same.{leaf-StructOf, leaf-TupleOf, leaf-default}
+use Rattle.std.proofs.Common.{sym}
+use Rattle.ufmt_conv.proofs.NormalDocs.{leaf-StructOf, leaf-TupleOf, leaf-default}
 use Rattle.ufmt_conv.proofs.doc.same.leaf_text.Goals.{in_default-via-in-StructOf+else-is_empty, in_default-via-in-TupleOf+else-is_empty-2, in_default-via-in_default}
 use Rattle.ufmt_conv.proofs.doc.same.leaf_text.Goals as goal
 
