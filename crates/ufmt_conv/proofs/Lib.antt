@@ -5,7 +5,9 @@ pub mod EntryLoops
 pub mod Given
 pub mod KnownParts
 pub mod Lines
+pub mod NormalDocs
 pub mod Normals
+pub mod Same
 pub mod Strips
 pub mod WholeTexts
 pub mod Within

@@ -24,15 +24,15 @@ HasBecome-all now then i (x ∷ xs) (y ∷ ys) same all h =
     cc
 
 -- the normal form of entries is that of each: of documents, of pairs and of fields
-normal_all-map : {X : Type 0} (f : X → Document) (xs : List X) → documents (map (λ x. normal (f x)) xs) ≡ normal_all (documents (map f xs))
+pub normal_all-map : {X : Type 0} (f : X → Document) (xs : List X) → documents (map (λ x. normal (f x)) xs) ≡ normal_all (documents (map f xs))
 normal_all-map f [] = refl
 normal_all-map f (x ∷ xs) = ap (document (normal (f x))) (normal_all-map f xs)
 
-normal_pairs-map : {X : Type 0} (f : X → Document × Document) (xs : List X) → pairs_of (map (λ x. (normal (f x).0, normal (f x).1)) xs) ≡ normal_pairs (pairs_of (map f xs))
+pub normal_pairs-map : {X : Type 0} (f : X → Document × Document) (xs : List X) → pairs_of (map (λ x. (normal (f x).0, normal (f x).1)) xs) ≡ normal_pairs (pairs_of (map f xs))
 normal_pairs-map f [] = refl
 normal_pairs-map f (x ∷ xs) = ap (pair (normal (f x).0) (normal (f x).1)) (normal_pairs-map f xs)
 
-normal_fields-map : {X : Type 0} (f : X → List ℕ × Document) (xs : List X) → fields_of (map (λ x. ((f x).0, normal (f x).1)) xs) ≡ normal_fields (fields_of (map f xs))
+pub normal_fields-map : {X : Type 0} (f : X → List ℕ × Document) (xs : List X) → fields_of (map (λ x. ((f x).0, normal (f x).1)) xs) ≡ normal_fields (fields_of (map f xs))
 normal_fields-map f [] = refl
 normal_fields-map f (x ∷ xs) = ap (field (f x).0 (normal (f x).1)) (normal_fields-map f xs)
 

@@ -7,6 +7,7 @@ pub mod Fault
 pub mod Level
 pub mod Read
 pub mod ReadError
+pub mod Same
 pub mod Texts
 pub mod Watched
 pub mod Within

@@ -15,3 +15,11 @@ IsNoText text_of input = (d : Document) → IsToken d → text_of d ≢ input
 pub record IsConverted (from to : Document → List ℕ) (input answer : List ℕ) : Type 0 where
   pub some : (d : Document) × IsToken d × (from d ≡ input)
   pub each : (d : Document) → IsToken d → from d ≡ input → to d ≡ answer
+
+-- the answer is the text from which the input was converted, if it was converted from one
+abbrev pub Undoes : (Document → List ℕ) → (Document → List ℕ) → List ℕ → List ℕ → Type 0
+Undoes from to input answer = (earlier : List ℕ) → IsConverted to from earlier input → answer ≡ earlier
+
+-- the input was converted from no text
+abbrev pub IsUnconverted : (Document → List ℕ) → (Document → List ℕ) → List ℕ → Type 0
+IsUnconverted from to input = (earlier : List ℕ) → IsConverted to from earlier input → ⊥

@@ -3,7 +3,7 @@ ghost use Rattle.std.specs.Prelude.{◌≡◌, ◌≤◌, string_bytes, IfOk, Is
 ghost use Rattle.ufmt.specs.Document.{nest};
 ghost use Rattle.ufmt.specs.Layout.{plain_text, pretty_text};
 ghost use Rattle.ufmt.specs.Shift.{HasNoLineFeed, shifted};
-ghost use Rattle.ufmt_conv.specs.Texts.{IsConverted, IsNoText};
+ghost use Rattle.ufmt_conv.specs.Texts.{IsConverted, IsNoText, IsUnconverted, Undoes};
 
 #[cfg(test)]
 mod tests;
@@ -38,20 +38,26 @@ pub fn pretty_text<T: uDebug>(alloc: Global, value: &T) -> Result<String, AllocE
     Ok(text)
 }
 
-/// The pretty text of the token documents with this plain text.
+/// The pretty text of the token documents with this plain text. Of a text that `to_plain` answered
+/// that is the text from which it was made.
 pub fn to_pretty(alloc: Global, input: &[u8]) -> Result<String, ReadError>
     ensures ok { IfOk result (λ text. IsConverted plain_text pretty_text input.now (string_bytes text)) }
     ensures not_text { IsErrOf result ReadError.NotText → IsNoText plain_text input.now }
+    ensures undoes { IfOk result (λ text. Undoes plain_text pretty_text input.now (string_bytes text)) }
+    ensures unconverted { IsErrOf result ReadError.NotText → IsUnconverted plain_text pretty_text input.now }
 {
     let doc = read_plain(alloc, input)?;
     let text = pretty_text(alloc, &doc)?;
     Ok(text)
 }
 
-/// The plain text of the token documents with this pretty text.
+/// The plain text of the token documents with this pretty text. Of a text that `to_pretty` answered
+/// that is the text from which it was made.
 pub fn to_plain(alloc: Global, input: &[u8]) -> Result<String, ReadError>
     ensures ok { IfOk result (λ text. IsConverted pretty_text plain_text input.now (string_bytes text)) }
     ensures not_text { IsErrOf result ReadError.NotText → IsNoText pretty_text input.now }
+    ensures undoes { IfOk result (λ text. Undoes pretty_text plain_text input.now (string_bytes text)) }
+    ensures unconverted { IsErrOf result ReadError.NotText → IsUnconverted pretty_text plain_text input.now }
 {
     let doc = read_pretty(alloc, input)?;
     let text = plain_text(alloc, &doc)?;

@@ -7,6 +7,9 @@ ghost use Rattle.ufmt_conv.specs.Doc.{doc_document};
 ghost use Rattle.ufmt_conv.specs.DocViews.{pair_view, field_view};
 ghost use Rattle.ufmt_conv.specs.Within.{are_word_bytes, is_token_leaf, is_word, words_within};
 
+mod same;
+
+pub use same::same_text;
 use std::alloc::Global;
 use std::mem;
 use ufmt::{Formatter, uDebug, uWrite};

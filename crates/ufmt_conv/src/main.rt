@@ -8,6 +8,7 @@ ghost use Rattle.ufmt_conv.specs.Fault.{status_of};
 
 pub mod convert;
 pub mod doc;
+pub mod laws;
 pub mod plain_reader;
 pub mod pretty_reader;
 mod reader;

@@ -15,15 +15,15 @@ pub fn holds(rt: &impl Abort, condition: bool, case: &str) {
     assert!(rt; condition, "{case}");
 }
 
-fn text(alloc: Global, text: &str) -> Result<String, AllocError> {
+pub fn text(alloc: Global, text: &str) -> Result<String, AllocError> {
     String::from_str(alloc, text)
 }
 
-fn leaf(alloc: Global, name: &str) -> Result<Doc, AllocError> {
+pub fn leaf(alloc: Global, name: &str) -> Result<Doc, AllocError> {
     Ok(Doc::Leaf(text(alloc, name)?))
 }
 
-fn one(alloc: Global, doc: Doc) -> Result<Vec<Doc>, AllocError> {
+pub fn one(alloc: Global, doc: Doc) -> Result<Vec<Doc>, AllocError> {
     let mut docs = Vec::new(alloc);
     docs.push(doc)?;
     Ok(docs)
