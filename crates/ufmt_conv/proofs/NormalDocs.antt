@@ -3,7 +3,7 @@ use Rattle.std.proofs.Common.{◌≡◌, refl, sym, ap, ◌∙◌, ℕ, ◌==◌
 use Rattle.std.proofs.lemmas.List.{length-map}
 use Rattle.std.specs.Prelude.{string_bytes}
 use Rattle.std.specs.Vec.{vec_len}
-use Rattle.ufmt.specs.Document.{Document, leaf, list_of, set_of, map_of, struct_of, tuple_of, document, documents, no_pairs, pair, pairs_of, field, fields_of}
+use Rattle.ufmt.specs.Document.{Document, leaf, list_of, set_of, map_of, struct_of, tuple_of, document, documents, no_pairs, pairs_of, field, fields_of}
 use Rattle.ufmt.specs.Token.{normal}
 use Rattle.ufmt_conv.specs.declared.doc.Doc.{Doc, Doc-F, out-Doc, roll-Doc, roll-out-Doc}
 use Rattle.ufmt_conv.specs.declared.doc.Doc.TheOpen as layer
