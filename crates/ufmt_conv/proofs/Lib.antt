@@ -1,10 +1,11 @@
 pub mod Conversions
 pub mod Docs
 pub mod DocumentParts
-pub mod EntryLoops
+pub mod EntrySteps
 pub mod Given
 pub mod KnownParts
 pub mod Lines
+pub mod Stacks
 pub mod Strips
 pub mod WholeTexts
 pub mod Within

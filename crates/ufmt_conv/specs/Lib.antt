@@ -7,6 +7,8 @@ pub mod Fault
 pub mod Level
 pub mod Read
 pub mod ReadError
+pub mod Stack
+pub mod Steps
 pub mod Texts
 pub mod Watched
 pub mod Within
