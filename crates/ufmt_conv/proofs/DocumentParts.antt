@@ -1,5 +1,5 @@
 -- Where documents, pairs and fields begin, in terms of what their entries are read as.
-use Rattle.std.proofs.Common.{◌≡◌, refl, ap, ◌∙◌, ℕ, zero, suc, ◌<◌, ◌≤◌, ◌==◌, true, false, List, [], ◌∷◌, ◌++◌, length, map, length-append, eqb-true, Option, Some, None, option_map, option_and_then, codes, arith}
+use Rattle.std.proofs.Common.{◌≡◌, refl, ap, ◌∙◌, ℕ, zero, suc, ◌<◌, ◌≤◌, ◌==◌, Bool, true, false, cond, Result, Ok, Err, MatchResult, Bor, List, [], ◌∷◌, ◌++◌, length, map, length-append, eqb-true, Option, Some, None, option_map, option_and_then, codes, arith}
 use Rattle.ufmt.specs.Document.{Document, list_of, set_of, map_of, struct_of, tuple_of, documents, pairs_of, fields_of}
 use Rattle.ufmt_core.specs.declared.formatter.Setting.{Setting}
 use Rattle.ufmt_core.specs.declared.formatter.block.Kind.TheVariants.{Brackets, Braces, Struct, Tuple, Unnamed}
@@ -10,6 +10,8 @@ use Rattle.ufmt.specs.Reading.{Parse, parse_map, strip, word_of, after_word, rea
 use Rattle.ufmt.proofs.Parsing.{led_from, beside_from}
 use Rattle.ufmt.proofs.ReadingTurns.{read_word_takes}
 use Rattle.ufmt.proofs.Words.{word_of_bytes}
+use Rattle.ufmt_conv.specs.declared.reader.error.ReadError.{ReadError}
+use Rattle.ufmt_conv.specs.declared.reader.error.ReadError.TheVariants.{NotText}
 use Rattle.ufmt_conv.specs.Entries.{read_on}
 use Rattle.ufmt_conv.specs.Level.{entry_at}
 use Rattle.ufmt_conv.specs.Steps.{read_label}
@@ -81,6 +83,14 @@ pair_is p f s make xs t = by_key (p t)
     by_key : (o : Option (Document × List ℕ)) → read_on (read_pair p p) f s make xs (option_and_then (λ x. read_value p x.0 x.1) o) ≡ option_and_then (λ x. read_on (read_pair p p) f s make xs (read_value p x.0 x.1)) o
     by_key None = refl
     by_key (Some x) = refl
+
+-- so where the next pair begins, its key decides
+pub pairs_pass : (p : Parse Document) (f : Frame) (s : Setting) (make : List (Document × Document) → Document) (xs : List (Document × Document)) (ended : Document) (n : ℕ) (there : Option (Document × List ℕ)) (answer : Result (Bool × Bor (List ℕ)) ReadError)
+    → MatchResult answer (λ a. (there ≡ cond a.0 (read_on (read_pair p p) f s make xs (read_pair p p a.1.now)) (Some (ended, a.1.now))) × (length a.1.now ≤ n)) (λ e. e ≡ NotText → there ≡ None)
+    → MatchResult answer (λ a. (there ≡ cond a.0 (option_and_then (λ x. read_on (read_pair p p) f s make xs (read_value p x.0 x.1)) (p a.1.now)) (Some (ended, a.1.now))) × (length a.1.now ≤ n)) (λ e. e ≡ NotText → there ≡ None)
+pairs_pass p f s make xs ended n there (Err e) h = h
+pairs_pass p f s make xs ended n there (Ok (true, v)) h = (h.0 ∙ pair_is p f s make xs v.now, h.1)
+pairs_pass p f s make xs ended n there (Ok (false, v)) h = h
 
 -- a document is read in terms of what reads its entries
 read_is : (s : Setting) (n : ℕ) (t : List ℕ) → read s n t ≡ read_with s (entry_at s n) t

@@ -1,5 +1,5 @@
 -- An open block behind one of its entries: the next entry, or its end.
-use Rattle.std.proofs.Common.{◌≡◌, refl, ap, ◌∙◌, sym, ℕ, zero, suc, ◌+◌, ◌<◌, ◌≤◌, ◌==◌, Bool, true, false, cond, List, [], ◌∷◌, ◌++◌, length, append-nil, append_assoc, length-append, map, Option, Some, None, option_map, option_and_then, arith}
+use Rattle.std.proofs.Common.{◌≡◌, refl, ap, ◌∙◌, sym, ℕ, zero, suc, ◌+◌, ◌<◌, ◌≤◌, ◌==◌, Bool, true, false, cond, List, [], ◌∷◌, ◌++◌, length, append-nil, append_assoc, length-append, map, Option, Some, None, Result, Ok, Err, MatchResult, Bor, option_map, option_and_then, arith}
 use Rattle.std.proofs.lemmas.Bool.Decides.{nat_tests}
 use Rattle.std.proofs.lemmas.List.{map-append, length-map}
 use Rattle.ufmt_core.specs.declared.formatter.Setting.{Setting}
@@ -9,6 +9,9 @@ use Rattle.ufmt_core.specs.declared.formatter.block.Place.TheVariants.{Second}
 use Rattle.ufmt.specs.Reading.{Parse, choose, parse_map, strip, read_word, read_pair, read_others, read_after_first}
 use Rattle.ufmt.proofs.Parsing.{strip_found, same_parts}
 use Rattle.ufmt.proofs.ReadingTurns.{Takes, read_takes, read_pair_takes, read_word_takes, read_others-read_turn}
+use Rattle.ufmt_conv.specs.declared.reader.error.ReadError.{ReadError}
+use Rattle.ufmt_conv.specs.declared.reader.error.ReadError.TheVariants.{NotText}
+use Rattle.ufmt_conv.specs.Read.{Reads}
 use Rattle.ufmt_conv.specs.Entries.{behind_entry, read_more, read_on}
 use Rattle.ufmt_conv.specs.declared.reader.level.Level.{Level}
 use Rattle.ufmt_conv.specs.Level.{budget_of, entry_at, entry_of, place_of, setting_of}
@@ -186,6 +189,9 @@ put_ends {q = q} f s make view old new x count t v takes pushed counted h =
     let p = count_is view old new x count pushed counted in
     rw (← p.0) (ends f s make (map view new) t v takes p.2 (rw (← p.1) h))
 
--- what is left behind an entry is no longer
-pub put_within : (f : Frame) (s : Setting) (alone goes : Bool) (t v : List ℕ) → behind_entry f s alone t ≡ Some (goes, v) → length v < suc (length t)
-put_within f s alone goes t v h = let within = behind_within f s alone t goes v h in omega arith
+-- so what stands behind the entry says what is read, and leaves no more bytes
+pub put_passes : {A B : Type 0} {q : Parse B} (f : Frame) (s : Setting) (make : List B → Document) (view : A → B) (old new : List A) (x : A) (count : ℕ) (t : List ℕ) (answer : Result (Bool × Bor (List ℕ)) ReadError) → Takes q → new ≡ old ++ x ∷ [] → count ≡ length new → Reads (λ goes. goes) answer (behind_entry f s (count == 1) t)
+    → MatchResult answer (λ a. (read_more q f s make (map view old ++ view x ∷ []) t ≡ cond a.0 (read_on q f s make (map view new) (q a.1.now)) (Some (make (map view new), a.1.now))) × (length a.1.now ≤ length t)) (λ e. e ≡ NotText → read_more q f s make (map view old ++ view x ∷ []) t ≡ None)
+put_passes f s make view old new x count t (Err e) takes pushed counted h = λ is. put_refused f s make view old new x count t takes pushed counted (h is)
+put_passes f s make view old new x count t (Ok (true, v)) takes pushed counted h = (put_goes_on f s make view old new x count t v.now takes pushed counted h, behind_within f s (count == 1) t true v.now h)
+put_passes f s make view old new x count t (Ok (false, v)) takes pushed counted h = (put_ends f s make view old new x count t v.now takes pushed counted h, behind_within f s (count == 1) t false v.now h)

@@ -1,7 +1,7 @@
 -- What reading does with an entry of a block that is open.
-use Rattle.std.specs.Prelude.{◌≡◌, ℕ, ◌<◌, length, List, [], ◌∷◌, codes, string_bytes, Option, Some, None, option_map, option_and_then, Result, MatchResult}
+use Rattle.std.specs.Prelude.{◌≡◌, ℕ, ◌<◌, ◌≤◌, Bool, cond, length, List, [], ◌∷◌, codes, string_bytes, Option, Some, None, option_map, option_and_then, Result, MatchResult}
 use Rattle.std.specs.Borrow.{Bor}
-use Rattle.ufmt.specs.Document.{Document, list_of, set_of, map_of, struct_of, tuple_of, documents, pairs_of, fields_of}
+use Rattle.ufmt.specs.Document.{Document, list_of, set_of, map_of, struct_of, tuple_of, no_pairs, documents, pairs_of, fields_of}
 use Rattle.ufmt.specs.Layout.{frame, tuple_kind}
 use Rattle.ufmt.specs.Reading.{Parse, parse_map, strip, read_word, read_value, read_pair, read_map_or_set}
 use Rattle.ufmt_conv.specs.declared.reader.error.ReadError.{ReadError}
@@ -30,6 +30,23 @@ finish level (blocks.Map pairs None) o = option_and_then (λ x. read_on (read_pa
 finish level (blocks.Map pairs (Some key)) o = read_on (read_pair (entry_of level) (entry_of level)) (frame_of level kinds.Braces) (setting_of level) (λ ps. map_of (pairs_of ps)) (pairs_view pairs) (parse_map (λ value. (doc_document key, value)) o)
 finish level (blocks.Struct name fields label) o = read_on (read_pair read_word (entry_of level)) (frame_of level kinds.Struct) (setting_of level) (λ fs. struct_of (string_bytes name) (fields_of fs)) (fields_view fields) (parse_map (λ value. (string_bytes label, value)) o)
 finish level (blocks.Tuple name entries) o = read_on (entry_of level) (frame (mode_of level.mode) (tuple_kind (string_bytes name))) (setting_of level) (λ ds. tuple_of (string_bytes name) (documents ds)) (docs_view entries) o
+
+-- the document of a block with its entries so far
+abbrev pub block_document : OpenBlock → Document
+block_document (blocks.List entries) = list_of (documents (docs_view entries))
+block_document blocks.Braces = map_of no_pairs
+block_document (blocks.Set entries) = set_of (documents (docs_view entries))
+block_document (blocks.Map pairs key) = map_of (pairs_of (pairs_view pairs))
+block_document (blocks.Struct name fields label) = struct_of (string_bytes name) (fields_of (fields_view fields))
+block_document (blocks.Tuple name entries) = tuple_of (string_bytes name) (documents (docs_view entries))
+
+-- what a block makes of the rest of the text where an entry begins in it, or where it ended
+abbrev pub left : Level → OpenBlock → Bool → List ℕ → Option (Document × List ℕ)
+left level block goes_on t = cond goes_on (finish level block (entry_of level t)) (Some (block_document block, t))
+
+-- this block, and no more bytes than the number, were come to in reading this
+abbrev pub Puts : Level → ℕ → Result (Bool × Bor (List ℕ)) ReadError → OpenBlock → Option (Document × List ℕ) → Type 0
+Puts level bytes answer block there = MatchResult answer (λ x. (there ≡ left level block x.0 x.1.now) × (length x.1.now ≤ bytes)) (λ e. e ≡ NotText → there ≡ None)
 
 -- what a step makes of the rest of the text
 abbrev pub stepped : Level → Step → List ℕ → Option (Document × List ℕ)

@@ -1,16 +1,18 @@
 //! Blocks that are read, up to an entry that begins in them.
-ghost use Rattle.std.specs.Prelude.{◌≡◌, suc, length, Some, None, string_bytes};
+ghost use Rattle.std.specs.Prelude.{◌≡◌, length, Some, String, string_bytes};
+ghost use Rattle.std.specs.declared.alloc.Global.{Global};
 ghost use Rattle.ufmt.specs.Layout.{tuple_kind};
 ghost use Rattle.ufmt_conv.specs.Doc.{doc_document};
 ghost use Rattle.ufmt_conv.specs.Level.{kind_of};
 ghost use Rattle.ufmt_conv.specs.Read.{Reads};
-ghost use Rattle.ufmt_conv.specs.Steps.{Steps, finish, read_label};
+ghost use Rattle.ufmt_conv.specs.Steps.{Puts, block_document, finish, read_label};
 
 use crate::doc::Doc;
 use crate::reader::error::ReadError;
 use crate::reader::level::{Kind, Level, expect, strip};
 use crate::reader::word::{split_word, word_text};
 use std::alloc::Global;
+use std::mem;
 
 /// A block in which an entry begins, or the value of one: its kind and name, the entries before,
 /// and the key or the field's name that waits for the value.
@@ -34,151 +36,154 @@ pub(super) enum Step {
 }
 
 impl OpenBlock {
-    /// Takes the entry, key or value that began, and reads on to the next or to the block's end.
-    pub(super) fn take(
-        self,
+    /// Puts in the entry, key or value that began, and reads on: true, and where the next one
+    /// begins, or false, and what follows the block's end.
+    pub(super) fn put<'a>(
+        &mut self,
         alloc: Global,
         level: Level,
         doc: Doc,
-        input: &[u8],
-    ) -> Result<(Step, &[u8]), ReadError>
-        ensures { Steps level (suc (length input.now)) result (finish level self (Some (doc_document doc, input.now))) }
+        input: &'a [u8],
+    ) -> Result<(bool, &'a [u8]), ReadError>
+        ensures { Puts level (length input.now) result self.new (finish level self.old (Some (doc_document doc, input.now))) }
     {
         match self {
-            OpenBlock::List(entries) => in_list(level, entries, doc, input),
-            OpenBlock::Braces => in_braces(alloc, level, doc, input),
-            OpenBlock::Set(entries) => in_set(level, entries, doc, input),
-            OpenBlock::Map(pairs, key) => match key {
-                Some(key) => in_map(level, pairs, key, doc, input),
-                None => {
-                    let rest = expect(b": ", input)?;
-                    Ok((Step::Open(OpenBlock::Map(pairs, Some(doc))), rest))
-                }
-            },
-            OpenBlock::Struct(name, fields, label) => {
-                in_struct(alloc, level, name, fields, (label, doc), input)
+            OpenBlock::List(entries) => put_listed(level, entries, doc, input),
+            OpenBlock::Braces => decide(alloc, level, self, doc, input),
+            OpenBlock::Set(entries) => put_in_set(level, entries, doc, input),
+            OpenBlock::Map(pairs, key) => put_in_map(level, pairs, key, doc, input),
+            OpenBlock::Struct(_name, fields, label) => {
+                put_field(alloc, level, fields, label, doc, input)
             }
-            OpenBlock::Tuple(name, entries) => in_tuple(level, name, entries, doc, input),
+            OpenBlock::Tuple(name, entries) => {
+                put_in_tuple(level, tuple_kind(name), entries, doc, input)
+            }
+        }
+    }
+
+    /// The document of a block that ended, with its entries.
+    pub(super) fn close(self, alloc: Global) -> Doc
+        ensures { doc_document result ≡ block_document self }
+    {
+        match self {
+            OpenBlock::List(entries) => Doc::Listed(entries),
+            OpenBlock::Braces => Doc::MapOf(Vec::new(alloc)),
+            OpenBlock::Set(entries) => Doc::SetOf(entries),
+            OpenBlock::Map(pairs, _key) => Doc::MapOf(pairs),
+            OpenBlock::Struct(name, fields, _label) => Doc::StructOf(name, fields),
+            OpenBlock::Tuple(name, entries) => Doc::TupleOf(name, entries),
         }
     }
 }
 
-// A list behind an entry, this one.
-fn in_list(
+// Puts an entry into a list.
+fn put_listed<'a>(
     level: Level,
-    entries: Vec<Doc>,
+    entries: &mut Vec<Doc>,
     doc: Doc,
-    input: &[u8],
-) -> Result<(Step, &[u8]), ReadError>
-    ensures { Steps level (suc (length input.now)) result (finish level (OpenBlock.List entries) (Some (doc_document doc, input.now))) }
+    input: &'a [u8],
+) -> Result<(bool, &'a [u8]), ReadError>
+    ensures { Puts level (length input.now) result (OpenBlock.List entries.new) (finish level (OpenBlock.List entries.old) (Some (doc_document doc, input.now))) }
 {
-    let mut entries = entries;
     entries.push(doc)?;
-    let (goes_on, rest) = level.pass_entry(Kind::Brackets, entries.len() == 1, input)?;
-    if goes_on {
-        Ok((Step::Open(OpenBlock::List(entries)), rest))
-    } else {
-        Ok((Step::Read(Doc::Listed(entries)), rest))
-    }
+    level.pass_entry(Kind::Brackets, entries.len() == 1, input)
 }
 
-// A set or a map behind what stands first in it: a colon makes it a map.
-fn in_braces(
+// Puts an entry into a set.
+fn put_in_set<'a>(
+    level: Level,
+    entries: &mut Vec<Doc>,
+    doc: Doc,
+    input: &'a [u8],
+) -> Result<(bool, &'a [u8]), ReadError>
+    ensures { Puts level (length input.now) result (OpenBlock.Set entries.new) (finish level (OpenBlock.Set entries.old) (Some (doc_document doc, input.now))) }
+{
+    entries.push(doc)?;
+    level.pass_entry(Kind::Braces, entries.len() == 1, input)
+}
+
+// Makes braces a set or a map with what stands first in them: a colon makes them a map.
+fn decide<'a>(
     alloc: Global,
     level: Level,
+    braces: &mut OpenBlock,
     doc: Doc,
-    input: &[u8],
-) -> Result<(Step, &[u8]), ReadError>
-    ensures { Steps level (suc (length input.now)) result (finish level OpenBlock.Braces (Some (doc_document doc, input.now))) }
+    input: &'a [u8],
+) -> Result<(bool, &'a [u8]), ReadError>
+    ensures { Puts level (length input.now) result braces.new (finish level OpenBlock.Braces (Some (doc_document doc, input.now))) }
 {
     match strip(b": ", input) {
         Some(rest) => {
-            let map = OpenBlock::Map(Vec::new(alloc), Some(doc));
-            Ok((Step::Open(map), rest))
+            *braces = OpenBlock::Map(Vec::new(alloc), Some(doc));
+            Ok((true, rest))
         }
-        None => in_set(level, Vec::new(alloc), doc, input),
+        None => {
+            let mut entries = Vec::new(alloc);
+            let answer = put_in_set(level, &mut entries, doc, input)?;
+            *braces = OpenBlock::Set(entries);
+            Ok(answer)
+        }
     }
 }
 
-// A set behind an entry, this one.
-fn in_set(
+// Puts a key into a map, or a value beside the key that waits.
+fn put_in_map<'a>(
     level: Level,
-    entries: Vec<Doc>,
+    pairs: &mut Vec<(Doc, Doc)>,
+    key: &mut Option<Doc>,
     doc: Doc,
-    input: &[u8],
-) -> Result<(Step, &[u8]), ReadError>
-    ensures { Steps level (suc (length input.now)) result (finish level (OpenBlock.Set entries) (Some (doc_document doc, input.now))) }
+    input: &'a [u8],
+) -> Result<(bool, &'a [u8]), ReadError>
+    ensures { Puts level (length input.now) result (OpenBlock.Map pairs.new key.new) (finish level (OpenBlock.Map pairs.old key.old) (Some (doc_document doc, input.now))) }
 {
-    let mut entries = entries;
-    entries.push(doc)?;
-    let (goes_on, rest) = level.pass_entry(Kind::Braces, entries.len() == 1, input)?;
-    if goes_on {
-        Ok((Step::Open(OpenBlock::Set(entries)), rest))
-    } else {
-        Ok((Step::Read(Doc::SetOf(entries)), rest))
+    match key.take() {
+        Some(first) => {
+            pairs.push((first, doc))?;
+            level.pass_entry(Kind::Braces, pairs.len() == 1, input)
+        }
+        None => {
+            let rest = expect(b": ", input)?;
+            *key = Some(doc);
+            Ok((true, rest))
+        }
     }
 }
 
-// A map behind a pair of this key and this value.
-fn in_map(
-    level: Level,
-    pairs: Vec<(Doc, Doc)>,
-    key: Doc,
-    value: Doc,
-    input: &[u8],
-) -> Result<(Step, &[u8]), ReadError>
-    ensures { Steps level (suc (length input.now)) result (finish level (OpenBlock.Map pairs (Some key)) (Some (doc_document value, input.now))) }
-{
-    let mut pairs = pairs;
-    pairs.push((key, value))?;
-    let (goes_on, rest) = level.pass_entry(Kind::Braces, pairs.len() == 1, input)?;
-    if goes_on {
-        Ok((Step::Open(OpenBlock::Map(pairs, None)), rest))
-    } else {
-        Ok((Step::Read(Doc::MapOf(pairs)), rest))
-    }
-}
-
-// A struct behind this field.
-fn in_struct(
+// Puts a value into a struct beside the name that waits, and reads the next name.
+fn put_field<'a>(
     alloc: Global,
     level: Level,
-    name: String,
-    fields: Vec<(String, Doc)>,
-    field: (String, Doc),
-    input: &[u8],
-) -> Result<(Step, &[u8]), ReadError>
-    ensures { Steps level (suc (length input.now)) result (finish level (OpenBlock.Struct name fields field.0) (Some (doc_document field.1, input.now))) }
+    fields: &mut Vec<(String, Doc)>,
+    label: &mut String,
+    doc: Doc,
+    input: &'a [u8],
+) -> Result<(bool, &'a [u8]), ReadError>
+    ensures { (name : String Global) → Puts level (length input.now) result (OpenBlock.Struct name fields.new label.new) (finish level (OpenBlock.Struct name fields.old label.old) (Some (doc_document doc, input.now))) }
 {
-    let mut fields = fields;
-    fields.push(field)?;
+    let waiting = mem::replace(label, String::new(alloc));
+    fields.push((waiting, doc))?;
     let (goes_on, rest) = level.pass_entry(Kind::Struct, fields.len() == 1, input)?;
     if goes_on {
-        let (label, rest) = read_label(alloc, rest)?;
-        Ok((Step::Open(OpenBlock::Struct(name, fields, label)), rest))
+        let (next, rest) = read_label(alloc, rest)?;
+        *label = next;
+        Ok((true, rest))
     } else {
-        Ok((Step::Read(Doc::StructOf(name, fields)), rest))
+        Ok((false, rest))
     }
 }
 
-// A tuple behind an entry, this one.
-fn in_tuple(
+// Puts an entry into a tuple of this kind.
+fn put_in_tuple<'a>(
     level: Level,
-    name: String,
-    entries: Vec<Doc>,
+    kind: Kind,
+    entries: &mut Vec<Doc>,
     doc: Doc,
-    input: &[u8],
-) -> Result<(Step, &[u8]), ReadError>
-    ensures { Steps level (suc (length input.now)) result (finish level (OpenBlock.Tuple name entries) (Some (doc_document doc, input.now))) }
+    input: &'a [u8],
+) -> Result<(bool, &'a [u8]), ReadError>
+    ensures { (name : String Global) → kind_of kind ≡ tuple_kind (string_bytes name) → Puts level (length input.now) result (OpenBlock.Tuple name entries.new) (finish level (OpenBlock.Tuple name entries.old) (Some (doc_document doc, input.now))) }
 {
-    let mut entries = entries;
     entries.push(doc)?;
-    let (goes_on, rest) = level.pass_entry(tuple_kind(&name), entries.len() == 1, input)?;
-    if goes_on {
-        Ok((Step::Open(OpenBlock::Tuple(name, entries)), rest))
-    } else {
-        Ok((Step::Read(Doc::TupleOf(name, entries)), rest))
-    }
+    level.pass_entry(kind, entries.len() == 1, input)
 }
 
 // The kind of a tuple with this name.

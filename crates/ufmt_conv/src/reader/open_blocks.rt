@@ -6,7 +6,7 @@ ghost use Rattle.ufmt_conv.specs.Stack.{Hands, level_at, resume};
 use crate::doc::Doc;
 use crate::reader::error::ReadError;
 use crate::reader::level::{Level, Mode};
-use crate::reader::open_block::{OpenBlock, Step};
+use crate::reader::open_block::OpenBlock;
 use std::alloc::Global;
 
 /// The open blocks, the outermost first, each but the last with an entry that is open too.
@@ -66,15 +66,14 @@ impl OpenBlocks {
         let mut doc = doc;
         let mut rest = input;
         'ends: while let Some((block, level)) = self.pop(mode) {
-            let (step, after) = block.take(alloc, level, doc, rest)?;
+            let mut block = block;
+            let (goes_on, after) = block.put(alloc, level, doc, rest)?;
             rest = after;
-            match step {
-                Step::Open(block) => {
-                    self.push(block)?;
-                    return Ok((None, rest));
-                }
-                Step::Read(read) => doc = read,
+            if goes_on {
+                self.push(block)?;
+                return Ok((None, rest));
             }
+            doc = block.close(alloc);
         }
         Ok((Some(doc), rest))
     }
