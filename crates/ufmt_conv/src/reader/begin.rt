@@ -13,11 +13,7 @@ use crate::reader::word::{split_word, word_text};
 use std::alloc::Global;
 
 /// Reads a leaf or an empty block, or opens a block up to its first entry.
-pub(super) fn begin(
-    alloc: Global,
-    level: Level,
-    input: &[u8],
-) -> Result<(Step, &[u8]), ReadError>
+pub(super) fn begin(alloc: Global, level: Level, input: &[u8]) -> Result<(Step, &[u8]), ReadError>
     ensures { Steps level (length input.now) result (read (setting_of level) (budget_of level) input.now) }
 {
     let (word, rest) = split_word(input);
@@ -52,11 +48,7 @@ fn begin_named<'a>(
 }
 
 // What begins with no word.
-fn begin_without_name(
-    alloc: Global,
-    level: Level,
-    input: &[u8],
-) -> Result<(Step, &[u8]), ReadError>
+fn begin_without_name(alloc: Global, level: Level, input: &[u8]) -> Result<(Step, &[u8]), ReadError>
     ensures { Steps level (length input.now) result (read_without_name (setting_of level) (entry_of level) input.now) }
 {
     if let Some(rest) = strip(b"[", input) {

@@ -29,8 +29,8 @@ returns-in-Some-whole c =
     let level = c.in-Some.ensures in
     let blocks = c.entries.blocks.blocks.items in
     let read_is = c.entries.invariant
-      ∙ ap (λ o. resume c.args.mode 0 blocks o) (begins c.args.mode (length blocks) c.in-Some.level c.entries.rest.now level.0 level.1 ∙ c.in_ok-step.ensures.0 ∙ ap (λ s. stepped c.in-Some.level s c.in_ok-step.after.now) c.in-Read.is)
-      ∙ c.in_ok-whole-in-Read.ensures.0 ∙ ap (λ o. handed c.args.mode c.take.new.self.blocks.items o c.in_ok-whole-in-Read.after.now) c.in-Some-whole.is in
+    ∙ ap (λ o. resume c.args.mode 0 blocks o) (begins c.args.mode (length blocks) c.in-Some.level c.entries.rest.now level.0 level.1 ∙ c.in_ok-step.ensures.0 ∙ ap (λ s. stepped c.in-Some.level s c.in_ok-step.after.now) c.in-Read.is)
+    ∙ c.in_ok-whole-in-Read.ensures.0 ∙ ap (λ o. handed c.args.mode c.take.new.self.blocks.items o c.in_ok-whole-in-Read.after.now) c.in-Some-whole.is in
     subst (λ there. Gives doc_document c.if_all.result there) (sym (ap (λ o. option_and_then (λ x. if_all x.0 x.1) o) read_is)) c.if_all.ensures
 
 pub returns : goal.returns

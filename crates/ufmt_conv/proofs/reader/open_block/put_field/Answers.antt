@@ -29,10 +29,11 @@ returns-in_ok-next c = λ name.
     let level = c.args.level in
     let pushed = c.in_ok-push.ensures.items ∙ ap (λ waiting. c.args.fields.now.items ++ (waiting, c.args.doc) ∷ []) c.replace-waiting.ensures.value in
     let a : length c.in_ok-goes_on.rest.now ≤ length c.args.input.now = behind_within _ _ _ _ _ _ c.in_ok-goes_on.ensures in
-    let b : length c.in_ok-next.rest.now < length c.in_ok-goes_on.rest.now = label_within _ _ _ c.in_ok-next.ensures in
-    (put_goes_on _ _ _ field_view _ _ _ _ _ _ (field_takes level) pushed (c.len.ensures ∙ c.push.new.self.ok.0) (c.in_ok-goes_on.ensures ∙ ap (λ b. Some (b, c.in_ok-goes_on.rest.now)) c.if-goes_on.true)
-     ∙ ap (λ o. read_on (read_pair read_word (entry_of level)) (frame_of level Struct) (setting_of level) (λ fs. struct_of (string_bytes name) (fields_of fs)) (fields_view c.push.new.self) o) (field_from (entry_of level) c.in_ok-goes_on.rest.now _ _ c.in_ok-next.ensures),
-     omega (arith, a, b))
+    let b : length c.in_ok-next.rest.now < length c.in_ok-goes_on.rest.now = label_within _ _ _ c.in_ok-next.ensures in (
+      put_goes_on _ _ _ field_view _ _ _ _ _ _ (field_takes level) pushed (c.len.ensures ∙ c.push.new.self.ok.0) (c.in_ok-goes_on.ensures ∙ ap (λ b. Some (b, c.in_ok-goes_on.rest.now)) c.if-goes_on.true)
+          ∙ ap (λ o. read_on (read_pair read_word (entry_of level)) (frame_of level Struct) (setting_of level) (λ fs. struct_of (string_bytes name) (fields_of fs)) (fields_view c.push.new.self) o) (field_from (entry_of level) c.in_ok-goes_on.rest.now _ _ c.in_ok-next.ensures),
+      omega (arith, a, b),
+    )
 
 pub returns-else-goes_on : goal.returns-else-goes_on
 returns-else-goes_on c = λ name.
