@@ -1,46 +1,96 @@
--- Documents, pairs and fields, from what their parts are read as.
-use Rattle.std.proofs.Common.{◌≡◌, refl, ◌∙◌, ℕ, zero, suc, ◌==◌, true, false, List, [], ◌∷◌, ◌++◌, length, map, eqb-true, Option, Some, None, option_and_then, codes, arith}
-use Rattle.std.proofs.lemmas.List.{map-append}
-use Rattle.ufmt.specs.Document.{Document, struct_of, fields_of}
+-- Where documents, pairs and fields begin, in terms of what their entries are read as.
+use Rattle.std.proofs.Common.{◌≡◌, refl, ap, ◌∙◌, ℕ, zero, suc, ◌<◌, ◌≤◌, ◌==◌, Bool, true, false, cond, Result, Ok, Err, MatchResult, Bor, List, [], ◌∷◌, ◌++◌, length, map, length-append, eqb-true, Option, Some, None, option_map, option_and_then, codes, arith}
+use Rattle.ufmt.specs.Document.{Document, list_of, set_of, map_of, struct_of, tuple_of, documents, pairs_of, fields_of}
 use Rattle.ufmt_core.specs.declared.formatter.Setting.{Setting}
-use Rattle.ufmt_core.specs.declared.formatter.block.Kind.TheVariants.{Struct, Tuple}
+use Rattle.ufmt_core.specs.declared.formatter.block.Kind.TheVariants.{Brackets, Braces, Struct, Tuple, Unnamed}
 use Rattle.ufmt_core.specs.declared.formatter.block.Place.TheVariants.{First}
-use Rattle.ufmt.specs.Layout.{Frame, frame, inside, lead}
+use Rattle.ufmt.specs.Layout.{Frame, frame, tuple_kind, inside, lead}
 use Rattle.ufmt.specs.Token.{AreWordBytes, IsWord}
-use Rattle.ufmt.specs.Reading.{Parse, parse_map, strip, word_of, after_word, read_word, read_pair, read_named, read_without_name, read_with, read}
+use Rattle.ufmt.specs.Reading.{Parse, parse_map, strip, word_of, after_word, read_word, read_value, read_pair, read_list, read_braces, read_map_or_set, read_named, read_without_name, read_with, read}
+use Rattle.ufmt.proofs.Parsing.{led_from, beside_from}
+use Rattle.ufmt.proofs.ReadingTurns.{read_word_takes}
 use Rattle.ufmt.proofs.Words.{word_of_bytes}
-use Rattle.ufmt_conv.specs.Entries.{read_all, read_behind}
+use Rattle.ufmt_conv.specs.declared.reader.error.ReadError.{ReadError}
+use Rattle.ufmt_conv.specs.declared.reader.error.ReadError.TheVariants.{NotText}
+use Rattle.ufmt_conv.specs.Entries.{read_on}
 use Rattle.ufmt_conv.specs.Level.{entry_at}
+use Rattle.ufmt_conv.specs.Steps.{read_label}
+use Rattle.ufmt_conv.proofs.EntrySteps.{first_is_read_on, strip_within}
 
--- one more at the end of a list, seen through f
-pub map_one_more : {A B : Type 0} (f : A → B) (old new : List A) (x : A) → new ≡ old ++ x ∷ [] → map f new ≡ map f old ++ f x ∷ []
-map_one_more f old new x h = rw (h, map-append f old (x ∷ [])) refl
+-- a named tuple behind what stands before its first field
+pub tuple_begins : (s : Setting) (p : Parse Document) (w t r : List ℕ) → IsWord w → strip (lead (frame s.mode Tuple) (inside s) First) t ≡ Some r → read_named s p w t ≡ read_on p (frame s.mode (tuple_kind w)) s (λ ds. tuple_of w (documents ds)) [] (p r)
+tuple_begins s p [] t r word opening = absurd word
+tuple_begins s p (c ∷ w) t r word opening = rw opening (first_is_read_on p (frame s.mode Tuple) s (λ ds. tuple_of (c ∷ w) (documents ds)) (p r))
 
--- a pair is read from a key, a colon and a value
-pub pair_is_read : {A : Type 0} (key : Parse A) (p : Parse Document) {t u v w : List ℕ} {x : A} {d : Document} → key t ≡ Some (x, u) → strip (codes ": ") u ≡ Some v → p v ≡ Some (d, w) → read_pair key p t ≡ Some ((x, d), w)
-pair_is_read key p first colon value = rw (first, colon, value) refl
+-- a struct behind what stands before its first field, from that field
+pub struct_begins : (s : Setting) (p : Parse Document) (w t r : List ℕ) → IsWord w → strip (lead (frame s.mode Tuple) (inside s) First) t ≡ None → strip (lead (frame s.mode Struct) (inside s) First) t ≡ Some r → read_named s p w t ≡ read_on (read_pair read_word p) (frame s.mode Struct) s (λ fs. struct_of w (fields_of fs)) [] (read_pair read_word p r)
+struct_begins s p [] t r word tuple opening = absurd word
+struct_begins s p (c ∷ w) t r word tuple opening = rw (tuple, opening) (first_is_read_on (read_pair read_word p) (frame s.mode Struct) s (λ fs. struct_of (c ∷ w) (fields_of fs)) (read_pair read_word p r))
 
--- without a key there is none
-pub pair_without_key : {A : Type 0} (key : Parse A) (p : Parse Document) {t : List ℕ} → key t ≡ None → read_pair key p t ≡ None
-pair_without_key key p first = rw first refl
+-- a field from its name and colon
+pub field_is : (p : Parse Document) (t : List ℕ) → read_pair read_word p t ≡ option_and_then (λ x. parse_map {A = Document} {B = List ℕ × Document} (λ value. (x.0, value)) (p x.1)) (read_label t)
+field_is p t = by_word (read_word t)
+  where
+    colon : (label : List ℕ) (o : Option (List ℕ)) → option_and_then (λ u. parse_map (λ value. (label, value)) (p u)) o ≡ option_and_then (λ x. parse_map {A = Document} {B = List ℕ × Document} (λ value. (x.0, value)) (p x.1)) (option_map {U = List ℕ × List ℕ} (λ u. (label, u)) o)
+    colon label None = refl
+    colon label (Some u) = refl
 
--- nor without a colon
-pub pair_without_colon : {A : Type 0} (key : Parse A) (p : Parse Document) {t u : List ℕ} {x : A} → key t ≡ Some (x, u) → strip (codes ": ") u ≡ None → read_pair key p t ≡ None
-pair_without_colon key p first colon = rw (first, colon) refl
+    by_word : (o : Option (List ℕ × List ℕ)) → option_and_then (λ x. read_value p x.0 x.1) o ≡ option_and_then (λ x. parse_map {A = Document} {B = List ℕ × Document} (λ value. (x.0, value)) (p x.1)) (option_and_then (λ x. option_map {U = List ℕ × List ℕ} (λ u. (x.0, u)) (strip (codes ": ") x.1)) o)
+    by_word None = refl
+    by_word (Some x) = colon x.0 (strip (codes ": ") x.1)
 
--- nor without a value
-pub pair_without_value : {A : Type 0} (key : Parse A) (p : Parse Document) {t u v : List ℕ} {x : A} → key t ≡ Some (x, u) → strip (codes ": ") u ≡ Some v → p v ≡ None → read_pair key p t ≡ None
-pair_without_value key p first colon value = rw (first, colon, value) refl
+-- where a name and a colon stand, the field is that and its value
+pub field_from : (p : Parse Document) (t label u : List ℕ) → read_label t ≡ Some (label, u) → read_pair read_word p t ≡ parse_map (λ value. (label, value)) (p u)
+field_from p t label u h = field_is p t ∙ ap (λ o. option_and_then (λ x. parse_map {A = Document} {B = List ℕ × Document} (λ value. (x.0, value)) (p x.1)) o) h
 
--- the entries of a block make the block
-entries_from : {A : Type 0} (q : Parse A) (f : Frame) (s : Setting) (make : List A → Document) (o : Option (A × List ℕ)) → option_and_then (λ x. parse_map make (read_behind q f s x.0 x.1)) o ≡ parse_map make (option_and_then (λ x. read_behind q f s x.0 x.1) o)
-entries_from q f s make None = refl
-entries_from q f s make (Some x) = refl
+-- and else there is none
+pub field_without : (p : Parse Document) (t : List ℕ) → read_label t ≡ None → read_pair read_word p t ≡ None
+field_without p t h = field_is p t ∙ ap (λ o. option_and_then (λ x. parse_map {A = Document} {B = List ℕ × Document} (λ value. (x.0, value)) (p x.1)) o) h
 
--- behind a word and the opening of a struct, its fields make the struct
-pub struct_is_read : (s : Setting) (p : Parse Document) (w t r u : List ℕ) (fs : List (List ℕ × Document)) → IsWord w → strip (lead (frame s.mode Tuple) (inside s) First) t ≡ None → strip (lead (frame s.mode Struct) (inside s) First) t ≡ Some r → read_all (read_pair read_word p) (frame s.mode Struct) s r ≡ Some (fs, u) → read_named s p w t ≡ Some (struct_of w (fields_of fs), u)
-struct_is_read s p [] t r u fs word tuple opening fields = absurd word
-struct_is_read s p (c ∷ w) t r u fs word tuple opening fields = rw (tuple, opening) (entries_from (read_pair read_word p) (frame s.mode Struct) s (λ xs. struct_of (c ∷ w) (fields_of xs)) (read_pair read_word p r) ∙ rw fields refl)
+-- what follows a name and a colon is shorter
+pub label_within : (t label u : List ℕ) → read_label t ≡ Some (label, u) → length u < length t
+label_within t label u h =
+    let word = led_from _ (read_word t) (label, u) h in
+    let colon = beside_from word.0.0 (strip (codes ": ") word.0.1) label u word.2 in
+    let a = read_word_takes.takes t word.0.0 word.0.1 word.1 in
+    let b = strip_within (codes ": ") word.0.1 u colon.0 in
+    omega arith
+
+-- a list behind what stands before its first entry
+pub list_begins : (s : Setting) (p : Parse Document) (t r : List ℕ) → strip (codes "]") t ≡ None → strip (lead (frame s.mode Brackets) (inside s) First) t ≡ Some r → read_list s p t ≡ read_on p (frame s.mode Brackets) s (λ ds. list_of (documents ds)) [] (p r)
+list_begins s p t r empty opening = rw (empty, opening) (first_is_read_on p (frame s.mode Brackets) s (λ ds. list_of (documents ds)) (p r))
+
+-- a set or a map behind what stands before its first entry
+pub braces_begin : (s : Setting) (p : Parse Document) (t r : List ℕ) → strip (codes "}") t ≡ None → strip (lead (frame s.mode Braces) (inside s) First) t ≡ Some r → read_braces s p t ≡ option_and_then (λ x. read_map_or_set s p x.0 x.1) (p r)
+braces_begin s p t r empty opening = rw (empty, opening) refl
+
+-- a tuple without a name behind what stands before its first field
+pub unnamed_begins : (s : Setting) (p : Parse Document) (t r : List ℕ) → strip (codes "[") t ≡ None → strip (codes "{") t ≡ None → strip (codes "()") t ≡ None → strip (lead (frame s.mode Unnamed) (inside s) First) t ≡ Some r → read_without_name s p t ≡ read_on p (frame s.mode Unnamed) s (λ ds. tuple_of [] (documents ds)) [] (p r)
+unnamed_begins s p t r bracket brace unit opening = rw (bracket, brace, unit, opening) (first_is_read_on p (frame s.mode Unnamed) s (λ ds. tuple_of [] (documents ds)) (p r))
+
+-- a map where a colon follows its first key
+pub map_begins : (s : Setting) (p : Parse Document) (d : Document) (t u : List ℕ) → strip (codes ": ") t ≡ Some u → read_map_or_set s p d t ≡ read_on (read_pair p p) (frame s.mode Braces) s (λ ps. map_of (pairs_of ps)) [] (parse_map (λ value. (d, value)) (p u))
+map_begins s p d t u colon = rw colon (first_is_read_on (read_pair p p) (frame s.mode Braces) s (λ ps. map_of (pairs_of ps)) (parse_map (λ value. (d, value)) (p u)))
+
+-- and else a set
+pub set_begins : (s : Setting) (p : Parse Document) (d : Document) (t : List ℕ) → strip (codes ": ") t ≡ None → read_map_or_set s p d t ≡ read_on p (frame s.mode Braces) s (λ ds. set_of (documents ds)) [] (Some (d, t))
+set_begins s p d t colon = rw colon (first_is_read_on p (frame s.mode Braces) s (λ ds. set_of (documents ds)) (Some (d, t)))
+
+-- a pair of a map is a key, and then a value
+pub pair_is : (p : Parse Document) (f : Frame) (s : Setting) (make : List (Document × Document) → Document) (xs : List (Document × Document)) (t : List ℕ) → read_on (read_pair p p) f s make xs (read_pair p p t) ≡ option_and_then (λ x. read_on (read_pair p p) f s make xs (read_value p x.0 x.1)) (p t)
+pair_is p f s make xs t = by_key (p t)
+  where
+    by_key : (o : Option (Document × List ℕ)) → read_on (read_pair p p) f s make xs (option_and_then (λ x. read_value p x.0 x.1) o) ≡ option_and_then (λ x. read_on (read_pair p p) f s make xs (read_value p x.0 x.1)) o
+    by_key None = refl
+    by_key (Some x) = refl
+
+-- so where the next pair begins, its key decides
+pub pairs_pass : (p : Parse Document) (f : Frame) (s : Setting) (make : List (Document × Document) → Document) (xs : List (Document × Document)) (ended : Document) (n : ℕ) (there : Option (Document × List ℕ)) (answer : Result (Bool × Bor (List ℕ)) ReadError)
+    → MatchResult answer (λ a. (there ≡ cond a.0 (read_on (read_pair p p) f s make xs (read_pair p p a.1.now)) (Some (ended, a.1.now))) × (length a.1.now ≤ n)) (λ e. e ≡ NotText → there ≡ None)
+    → MatchResult answer (λ a. (there ≡ cond a.0 (option_and_then (λ x. read_on (read_pair p p) f s make xs (read_value p x.0 x.1)) (p a.1.now)) (Some (ended, a.1.now))) × (length a.1.now ≤ n)) (λ e. e ≡ NotText → there ≡ None)
+pairs_pass p f s make xs ended n there (Err e) h = h
+pairs_pass p f s make xs ended n there (Ok (true, v)) h = (h.0 ∙ pair_is p f s make xs v.now, h.1)
+pairs_pass p f s make xs ended n there (Ok (false, v)) h = h
 
 -- a document is read in terms of what reads its entries
 read_is : (s : Setting) (n : ℕ) (t : List ℕ) → read s n t ≡ read_with s (entry_at s n) t
@@ -75,3 +125,7 @@ front_is_bytes t w word = rw word (word_of_bytes t)
 pub word_is_read : (t w u : List ℕ) → w ≡ word_of t → u ≡ after_word t → (length w == 0) ≡ false → read_word t ≡ Some (w, u)
 word_is_read t [] u word rest some = absurd (cc)
 word_is_read t (c ∷ w) u word rest some = rw (← word, ← rest) refl
+
+-- what follows them is shorter
+pub word_within : (t w u : List ℕ) → w ≡ word_of t → u ≡ after_word t → (length w == 0) ≡ false → suc (length u) ≤ length t
+word_within t w u word rest some = let shorter = read_word_takes.takes t w u (word_is_read t w u word rest some) in omega (arith, shorter)

@@ -1,13 +1,14 @@
 pub mod Conversions
 pub mod Docs
 pub mod DocumentParts
-pub mod EntryLoops
+pub mod EntrySteps
 pub mod Given
 pub mod KnownParts
 pub mod Lines
 pub mod NormalDocs
 pub mod Normals
 pub mod Same
+pub mod Stacks
 pub mod Strips
 pub mod WholeTexts
 pub mod Within

@@ -1,14 +1,19 @@
--- Reading the entries of a block, whatever they make.
-use Rattle.std.specs.Prelude.{List, option_and_then}
+-- Reading the entries of a block one after another, whatever they make.
+use Rattle.std.specs.Prelude.{ℕ, ◌==◌, Bool, true, false, cond, List, [], ◌∷◌, ◌++◌, length, Option, Some, option_map, option_and_then}
 use Rattle.ufmt_core.specs.declared.formatter.Setting.{Setting}
-use Rattle.ufmt_core.specs.declared.formatter.block.Place.TheVariants.{Second}
-use Rattle.ufmt.specs.Layout.{Frame}
-use Rattle.ufmt.specs.Reading.{Parse, read_after_entry, read_others}
+use Rattle.ufmt.specs.Document.{Document}
+use Rattle.ufmt.specs.Layout.{Frame, ending, inside, separator, trail}
+use Rattle.ufmt.specs.Reading.{Parse, choose, parse_map, strip, read_others}
+use Rattle.ufmt_conv.specs.Level.{place_of}
 
--- the entries of a block behind the first, with that one, and its end
-abbrev pub read_behind : {A : Type 0} → Parse A → Frame → Setting → A → Parse (List A)
-read_behind q f s x t = read_after_entry s.mode (read_others q f s Second) x t
+-- behind an entry, alone so far or not: true and the start of the next one, or false and what follows the block's end
+unfoldable pub behind_entry : Frame → Setting → Bool → Parse Bool
+behind_entry f s alone t = option_and_then (λ u. choose (strip (separator (inside s).mode (inside s).depth) u) (λ v. Some (true, v)) (option_map (λ v. (false, v)) (strip (ending f s (place_of alone)) u))) (strip (trail s.mode) t)
 
--- all entries of a block that has some, and its end
-abbrev pub read_all : {A : Type 0} → Parse A → Frame → Setting → Parse (List A)
-read_all q f s t = option_and_then (λ x. read_behind q f s x.0 x.1) (q t)
+-- a block behind its entries so far
+unfoldable pub read_more : {A : Type 0} → Parse A → Frame → Setting → (List A → Document) → List A → Parse Document
+read_more q f s make xs t = option_and_then (λ u. parse_map (λ ys. make (xs ++ ys)) (read_others q f s (place_of (length xs == 1)) u)) (strip (trail s.mode) t)
+
+-- the same where this is what its next entry is read as
+abbrev pub read_on : {A : Type 0} → Parse A → Frame → Setting → (List A → Document) → List A → Option (A × List ℕ) → Option (Document × List ℕ)
+read_on q f s make xs o = option_and_then (λ x. read_more q f s make (xs ++ x.0 ∷ []) x.1) o

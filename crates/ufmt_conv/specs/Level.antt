@@ -1,5 +1,5 @@
 -- Levels of a reader, as the settings of layouts that they are.
-use Rattle.std.specs.Prelude.{ℕ, zero, suc, List, Bool, true, false, None}
+use Rattle.std.specs.Prelude.{ℕ, zero, suc, ◌-◌, List, Bool, true, false, None}
 use Rattle.ufmt.specs.Document.{Document}
 use Rattle.ufmt.specs.Layout.{Frame, frame, setting, inside}
 use Rattle.ufmt_core.specs.declared.formatter.Mode.{Mode as LayoutMode}
@@ -29,9 +29,14 @@ kind_of Struct = blocks.Struct
 kind_of Tuple = blocks.Tuple
 kind_of Unnamed = blocks.Unnamed
 
+-- the depth that a document is laid out at, with this many blocks round it
+abbrev pub depth_in : Mode → ℕ → ℕ
+depth_in Plain k = 0
+depth_in Pretty k = k
+
 -- the mode and depth of a level
 abbrev pub setting_of : Level → Setting
-setting_of level = setting (mode_of level.mode) level.depth
+setting_of level = setting (mode_of level.mode) (depth_in level.mode level.depth)
 
 -- what frames a block of this kind at a level
 abbrev pub frame_of : Level → Kind → Frame
@@ -52,6 +57,10 @@ abbrev pub entry_at : Setting → ℕ → Parse Document
 entry_at s zero = λ t. None
 entry_at s (suc n) = read (inside s) n
 
+-- how many blocks with entries may lie in a document at this level one in another
+abbrev pub budget_of : Level → ℕ
+budget_of level = 255 - level.depth
+
 -- what reads an entry of a block at this level
 abbrev pub entry_of : Level → Parse Document
-entry_of level = entry_at (setting_of level) level.budget
+entry_of level = entry_at (setting_of level) (budget_of level)

@@ -8,6 +8,8 @@ pub mod Level
 pub mod Read
 pub mod ReadError
 pub mod Same
+pub mod Stack
+pub mod Steps
 pub mod Texts
 pub mod Watched
 pub mod Within

@@ -4,7 +4,8 @@ ghost use Rattle.ufmt.specs.Layout.{Frame, ending, gap, indentation, inside, lea
 ghost use Rattle.ufmt_core.specs.declared.formatter.block.Place.TheVariants.{First};
 ghost use Rattle.ufmt.specs.Reading.{strip};
 ghost use Rattle.ufmt_conv.specs.Level.{closing, frame_of, kind_of, mode_of, place_of, setting_of};
-ghost use Rattle.ufmt_conv.specs.Read.{Strips, now_of};
+ghost use Rattle.ufmt_conv.specs.Entries.{behind_entry};
+ghost use Rattle.ufmt_conv.specs.Read.{Reads, Strips, now_of};
 
 use crate::reader::error::ReadError;
 
@@ -28,13 +29,11 @@ pub(super) enum Kind {
     Unnamed,
 }
 
-/// Where a document stands: the mode and depth that it is laid out in, and how many blocks with
-/// entries may lie in it one in another.
+/// Where a document stands: the mode that it is laid out in, and how many blocks are open round it.
 #[derive(Clone, Copy)]
 pub(super) struct Level {
     pub(super) mode: Mode,
     pub(super) depth: u8,
-    pub(super) budget: u8,
 }
 
 /// What follows `text`, where the input begins with it.
@@ -63,26 +62,11 @@ fn strip_indentation(depth: u8, input: &[u8]) -> Option<&[u8]>
 }
 
 impl Level {
-    /// The level of the entries of a block, unless no block with entries may lie here.
-    pub(super) fn inside(self) -> Option<Level>
-        ensures { MatchOption result (self.budget ≡ 0) (λ level. (setting_of level ≡ inside (setting_of self)) × (suc level.budget ≡ self.budget)) }
-    {
-        let budget = self.budget.checked_sub(1)?;
-        Some(Level {
-            mode: self.mode,
-            depth: self.entry_depth(),
-            budget,
-        })
-    }
-
-    // The depth of the entries of a block.
+    // The depth that entries of a block are laid out at, where they stand on lines of their own.
     fn entry_depth(self) -> u8
-        ensures { result ≡ (inside (setting_of self)).depth }
+        ensures { self.mode ≡ Mode.Pretty → result ≡ (inside (setting_of self)).depth }
     {
-        match self.mode {
-            Mode::Plain => self.depth,
-            Mode::Pretty => self.depth.saturating_add(1),
-        }
+        self.depth.saturating_add(1)
     }
 
     // What follows what stands between the name of a block and its first entry.
@@ -114,8 +98,8 @@ impl Level {
         self.strip_new_line(self.strip_start(kind, input)?)
     }
 
-    /// What follows what stands before a later entry of a block.
-    pub(super) fn strip_separator(self, input: &[u8]) -> Option<&[u8]>
+    // What follows what stands before a later entry of a block.
+    fn strip_separator(self, input: &[u8]) -> Option<&[u8]>
         ensures { now_of result ≡ strip (separator (mode_of self.mode) (inside (setting_of self)).depth) input.now }
     {
         match self.mode {
@@ -124,8 +108,8 @@ impl Level {
         }
     }
 
-    /// What follows what is to stand after an entry.
-    pub(super) fn expect_trail(self, input: &[u8]) -> Result<&[u8], ReadError>
+    // What follows what is to stand after an entry.
+    fn expect_trail(self, input: &[u8]) -> Result<&[u8], ReadError>
         ensures { Strips result (strip (trail (mode_of self.mode)) input.now) }
     {
         match self.mode {
@@ -136,7 +120,7 @@ impl Level {
 
     // What follows the start of the line on which a block ends.
     fn strip_line_start(self, input: &[u8]) -> Option<&[u8]>
-        ensures { now_of result ≡ strip (line_start (mode_of self.mode) self.depth) input.now }
+        ensures { now_of result ≡ strip (line_start (mode_of self.mode) (setting_of self).depth) input.now }
     {
         match self.mode {
             Mode::Plain => Some(input),
@@ -157,18 +141,31 @@ impl Level {
         }
     }
 
-    /// What follows the end of a block with one entry alone, or with more.
-    pub(super) fn expect_ending(
-        self,
-        kind: Kind,
-        alone: bool,
-        input: &[u8],
-    ) -> Result<&[u8], ReadError>
+    // What follows the end of a block with one entry alone, or with more.
+    fn expect_ending(self, kind: Kind, alone: bool, input: &[u8]) -> Result<&[u8], ReadError>
         ensures { Strips result (strip (ending (frame_of self kind) (setting_of self) (place_of alone)) input.now) }
     {
         let Some(rest) = self.strip_line_start(input) else {
             return Err(ReadError::NotText);
         };
         expect(self.closing(kind, alone), rest)
+    }
+
+    /// What follows an entry of a block, the only one so far or one of more: true, and where the
+    /// next entry begins, or false, and what follows the block's end.
+    #[tactic(auto, unfolding(crate::specs::Entries::behind_entry))]
+    pub(super) fn pass_entry(
+        self,
+        kind: Kind,
+        alone: bool,
+        input: &[u8],
+    ) -> Result<(bool, &[u8]), ReadError>
+        ensures { Reads (λ goes_on. goes_on) result (behind_entry (frame_of self kind) (setting_of self) alone input.now) }
+    {
+        let rest = self.expect_trail(input)?;
+        match self.strip_separator(rest) {
+            Some(start) => Ok((true, start)),
+            None => Ok((false, self.expect_ending(kind, alone, rest)?)),
+        }
     }
 }

@@ -242,3 +242,23 @@ fn blocks_with_entries_lie_at_most_255_deep(rt: HostRuntime) -> Result<(), Fail>
     }
     Ok(())
 }
+
+// So many opening lines of lists, each with four more spaces before it than the line above.
+fn opening_lines(alloc: Global, count: usize) -> Result<Vec<u8>, Fail> {
+    let mut text = Vec::new(alloc);
+    for k in 0..count {
+        indent(&mut text, k)?;
+        text.extend_from_slice(b"[\n")?;
+    }
+    Ok(text)
+}
+
+#[test]
+fn blocks_that_never_end_are_refused(rt: HostRuntime) -> Result<(), Fail> {
+    let mut brackets = Vec::new(rt.alloc());
+    brackets.resize(1_000_000, b'[')?;
+    assert_eq!(rt; code(read_plain(rt.alloc(), &brackets)), 1);
+    let lines = opening_lines(rt.alloc(), 1000)?;
+    assert_eq!(rt; code(read_pretty(rt.alloc(), &lines)), 1);
+    Ok(())
+}

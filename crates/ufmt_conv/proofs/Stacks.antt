@@ -1,0 +1,87 @@
+-- Blocks that are open one in another, and what their innermost entry is read as.
+use Rattle.std.proofs.Common.{◌≡◌, refl, ap, ◌∙◌, sym, ℕ, zero, suc, ◌+◌, ◌-◌, ◌<◌, ◌≤◌, min, List, [], ◌∷◌, ◌++◌, length, length-append, Option, Some, None, Result, Ok, Err, Bor, arith}
+use Rattle.ufmt.specs.Document.{Document}
+use Rattle.ufmt.specs.Layout.{inside, setting}
+use Rattle.ufmt.specs.Reading.{read}
+use Rattle.ufmt_core.specs.declared.formatter.Setting.{Setting}
+use Rattle.ufmt_conv.specs.declared.reader.error.ReadError.{ReadError}
+use Rattle.ufmt_conv.specs.declared.reader.level.Level.{Level}
+use Rattle.ufmt_conv.specs.declared.reader.level.Mode.{Mode}
+use Rattle.ufmt_conv.specs.declared.reader.level.Mode.TheVariants.{Plain, Pretty}
+use Rattle.ufmt_conv.specs.declared.reader.open_block.OpenBlock.{OpenBlock}
+use Rattle.ufmt_conv.specs.declared.reader.open_block.OpenBlock.TheVariants as blocks
+use Rattle.ufmt_conv.specs.declared.reader.open_block.Step.{Step}
+use Rattle.ufmt_conv.specs.Level.{budget_of, depth_in, entry_at, entry_of, mode_of, setting_of}
+use Rattle.ufmt_conv.specs.Stack.{document_at, level_at, resume}
+use Rattle.ufmt_conv.specs.Steps.{Steps, finish}
+
+-- a step that leaves fewer bytes than one number leaves fewer than a larger one
+pub steps_longer : (level : Level) (m n : ℕ) (answer : Result (Step × Bor (List ℕ)) ReadError) (there : Option (Document × List ℕ)) → m ≤ n → Steps level m answer there → Steps level n answer there
+steps_longer level m n (Ok x) there longer h = (h.0, let less = h.1 in omega (arith, less))
+steps_longer level m n (Err e) there longer h = h
+
+-- a block whose entry isn't read is none
+finish_none : (level : Level) (block : OpenBlock) → finish level block None ≡ None
+finish_none level (blocks.List entries) = refl
+finish_none level blocks.Braces = refl
+finish_none level (blocks.Set entries) = refl
+finish_none level (blocks.Map pairs None) = refl
+finish_none level (blocks.Map pairs (Some key)) = refl
+finish_none level (blocks.Struct name fields label) = refl
+finish_none level (blocks.Tuple name entries) = refl
+
+-- likewise several blocks
+pub resume_none : (mode : Mode) (k : ℕ) (open_blocks : List OpenBlock) → resume mode k open_blocks None ≡ None
+resume_none mode k [] = refl
+resume_none mode k (block ∷ more) = rw (resume_none mode (suc k) more) (finish_none (level_at mode k) block)
+
+-- the innermost block is finished first
+pub resume_last : (mode : Mode) (k : ℕ) (open_blocks : List OpenBlock) (block : OpenBlock) (o : Option (Document × List ℕ)) → resume mode k (open_blocks ++ block ∷ []) o ≡ resume mode k open_blocks (finish (level_at mode (k + length open_blocks)) block o)
+resume_last mode k [] block o = let same : k ≡ k + 0 = omega arith in ap (λ n. finish (level_at mode n) block o) same
+resume_last mode k (first ∷ more) block o =
+    let same : suc k + length more ≡ k + suc (length more) = omega arith in
+    ap (finish (level_at mode k) first) (resume_last mode (suc k) more block o ∙ ap (λ n. resume mode (suc k) more (finish (level_at mode n) block o)) same)
+
+-- entries are laid out one block deeper
+setting_inside : (mode : Mode) (k : ℕ) → k < 255 → inside (setting_of (level_at mode k)) ≡ setting_of (level_at mode (suc k))
+setting_inside Plain k few = refl
+setting_inside Pretty k few = let same : min (k + 1) 255 ≡ suc k = grind arith in ap (λ n. setting (mode_of Pretty) n) same
+
+-- up to 255 blocks round it, a document is read at its level
+document_is : (mode : Mode) (k : ℕ) (t : List ℕ) → k < 256 → document_at mode k t ≡ read (setting_of (level_at mode k)) (budget_of (level_at mode k)) t
+document_is Plain zero t few = refl
+document_is Pretty zero t few = refl
+document_is mode (suc k) t few =
+    let left : 255 - k ≡ suc (255 - suc k) = omega arith in
+    ap (λ n. entry_at (setting_of (level_at mode k)) n t) left ∙ ap (λ s. read s (255 - suc k) t) (setting_inside mode k (omega arith))
+
+-- likewise at a level that is told
+pub begins : (mode : Mode) (k : ℕ) (level : Level) (t : List ℕ) → level ≡ level_at mode k → k < 256 → document_at mode k t ≡ read (setting_of level) (budget_of level) t
+begins mode k level t same few = document_is mode k t few ∙ ap (λ l. read (setting_of l) (budget_of l) t) (sym same)
+
+-- in the 256th block no entry is read
+pub document_is_none : (mode : Mode) (k : ℕ) (t : List ℕ) → k ≡ 256 → document_at mode k t ≡ None
+document_is_none mode k t all = ap (λ n. document_at mode n t) all
+
+-- none and more are more
+zero_more : (n : ℕ) → 0 + n ≡ n
+zero_more n = omega arith
+
+-- what the innermost block makes of its entry goes on to the next one out
+pub finishes : (mode : Mode) (old new : List OpenBlock) (block : OpenBlock) (level : Level) (o there : Option (Document × List ℕ)) → old ≡ new ++ block ∷ [] → level ≡ level_at mode (length new) → finish level block o ≡ there → resume mode 0 old o ≡ resume mode 0 new there
+finishes mode old new block level o there popped same step =
+    ap (λ open_blocks. resume mode 0 open_blocks o) popped
+    ∙ resume_last mode 0 new block o
+    ∙ ap (λ n. resume mode 0 new (finish (level_at mode n) block o)) (zero_more (length new))
+    ∙ ap (λ l. resume mode 0 new (finish l block o)) (sym same)
+    ∙ ap (λ p. resume mode 0 new p) step
+
+-- an entry begins in a block that is opened
+pub opens : (mode : Mode) (old new : List OpenBlock) (block : OpenBlock) (level : Level) (t : List ℕ) → new ≡ old ++ block ∷ [] → level ≡ level_at mode (length old) → resume mode 0 old (finish level block (entry_of level t)) ≡ resume mode 0 new (document_at mode (length new) t)
+opens mode old new block level t pushed same =
+    let one_more : length new ≡ suc (length old) = ap (λ open_blocks. length open_blocks) pushed ∙ length-append old (block ∷ []) ∙ omega arith in
+    ap (λ l. resume mode 0 old (finish l block (entry_of l t))) same
+    ∙ sym (ap (λ open_blocks. resume mode 0 open_blocks (document_at mode (length new) t)) pushed
+    ∙ resume_last mode 0 old block (document_at mode (length new) t)
+    ∙ ap (λ n. resume mode 0 old (finish (level_at mode n) block (document_at mode (length new) t))) (zero_more (length old))
+    ∙ ap (λ n. resume mode 0 old (finish (level_at mode (length old)) block (document_at mode n t))) one_more)

@@ -1,0 +1,80 @@
+//! The blocks that are open, one in another.
+ghost use Rattle.std.specs.Prelude.{◌≡◌, ◌<◌, ◌≤◌, [], ◌∷◌, ◌++◌, length, Some, IfErr, MatchOption, OnOk};
+ghost use Rattle.ufmt_conv.specs.Doc.{doc_document};
+ghost use Rattle.ufmt_conv.specs.Stack.{Hands, level_at, resume};
+
+use crate::doc::Doc;
+use crate::reader::error::ReadError;
+use crate::reader::level::{Level, Mode};
+use crate::reader::open_block::OpenBlock;
+use std::alloc::Global;
+
+/// The open blocks, the outermost first, each but the last with an entry that is open too.
+#[derive(Drop)]
+pub(super) struct OpenBlocks {
+    blocks: Vec<OpenBlock>,
+    ghost few: { length blocks.items ≤ 256 },
+}
+
+impl OpenBlocks {
+    pub(super) fn new(alloc: Global) -> OpenBlocks
+        ensures { result.blocks.items ≡ [] }
+    {
+        OpenBlocks {
+            blocks: Vec::new(alloc),
+        }
+    }
+
+    /// The level of an entry that begins in the innermost block, unless no entry may.
+    pub(super) fn entry_level(&self, mode: Mode) -> Option<Level>
+        ensures { MatchOption result (length self.now.blocks.items ≡ 256) (λ level. (level ≡ level_at mode (length self.now.blocks.items)) × (length self.now.blocks.items < 256)) }
+    {
+        let depth = u8::try_from(self.blocks.len()).ok()?;
+        Some(Level { mode, depth })
+    }
+
+    /// Opens a block in the innermost one.
+    pub(super) fn push(&mut self, block: OpenBlock) -> Result<(), ReadError>
+        requires { length self.old.blocks.items < 256 }
+        ensures ok { OnOk result (self.new.blocks.items ≡ self.old.blocks.items ++ block ∷ []) }
+        ensures memory { IfErr result (λ e. e ≡ ReadError.OutOfMemory) }
+    {
+        self.blocks.push(block)?;
+        Ok(())
+    }
+
+    // The innermost block, which is open no longer, and its level.
+    fn pop(&mut self, mode: Mode) -> Option<(OpenBlock, Level)>
+        ensures { MatchOption result (self.old.blocks.items ≡ []) (λ x. (self.old.blocks.items ≡ self.new.blocks.items ++ x.0 ∷ []) × (x.1 ≡ level_at mode (length self.new.blocks.items)) × (length self.new.blocks.items < 256)) }
+    {
+        let block = self.blocks.pop()?;
+        let depth = self.blocks.len() as u8;
+        Some((block, Level { mode, depth }))
+    }
+
+    /// Takes what was read in the innermost block, and closes each block that ends behind it. The
+    /// answer is the document of the outermost block if that ended too.
+    pub(super) fn take<'a>(
+        &mut self,
+        alloc: Global,
+        mode: Mode,
+        doc: Doc,
+        input: &'a [u8],
+    ) -> Result<(Option<Doc>, &'a [u8]), ReadError>
+        ensures { Hands mode (length input.now) result self.new.blocks.items (resume mode 0 self.old.blocks.items (Some (doc_document doc, input.now))) }
+    {
+        let mut doc = doc;
+        let mut rest = input;
+        'ends: while let Some((block, level)) = self.pop(mode) {
+            let mut block = block;
+            let (goes_on, after) = block.put(alloc, level, doc, rest)?;
+            rest = after;
+            if goes_on {
+                self.push(block)?;
+                return Ok((None, rest));
+            }
+            doc = block.close(alloc);
+        }
+        Ok((Some(doc), rest))
+    }
+}
