@@ -1,7 +1,7 @@
 //! Decimal texts of unsigned numbers.
 ghost use Rattle.std.specs.Prelude.{◌≡◌, ◌↔◌, ◌+◌, ◌/◌, ◌%◌, ◌^◌, ◌<◌, ◌≤◌, ℕ, pos, length, drop, IsTrue, IsAscii};
 ghost use Rattle.ufmt_core.specs.Document.{leaf};
-ghost use Rattle.ufmt_core.specs.Decimal.{decimal, EachNumberIsTold, OneTextTells, OneNumberIsTold};
+ghost use Rattle.ufmt_core.specs.Decimal.{decimal, decimal_byte, EachNumberIsTold, OneTextTells, OneNumberIsTold};
 
 use crate::formatter::Formatter;
 use crate::uDebug;
@@ -14,6 +14,25 @@ pub fn decimal_is_one_text()
     ensures one_text { OneTextTells }
     ensures one_number { OneNumberIsTold }
 {}
+
+// The two digits of each number below 100, the tens first.
+static DIGIT_PAIRS: [u8; 200] = *b"\
+    00010203040506070809101112131415161718192021222324252627282930313233343536373839\
+    40414243444546474849505152535455565758596061626364656667686970717273747576777879\
+    8081828384858687888990919293949596979899";
+
+const _: () = prove!(DIGIT_PAIRS.len() == 2 * 100);
+
+/// The bytes of the two decimal digits of `i`, the tens first. It asks that `i` is below 100.
+#[inline]
+pub fn digit_pair(i: u8) -> (u8, u8)
+    requires { i < 100 }
+    ensures tens { result.0 ≡ decimal_byte (i / 10) }
+    ensures ones { result.1 ≡ decimal_byte (i % 10) }
+{
+    let at = 2 * i as usize;
+    (DIGIT_PAIRS[at], DIGIT_PAIRS[at + 1])
+}
 
 /// An unsigned number of some width, as its decimal digits see it.
 pub(crate) trait Magnitude: Copy {
