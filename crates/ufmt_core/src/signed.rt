@@ -6,7 +6,7 @@ ghost use Rattle.ufmt_core.specs.Decimal.{decimal};
 
 use crate::formatter::Formatter;
 use crate::uDebug;
-use crate::unsigned::{Magnitude, text_from, write_digits};
+use crate::unsigned::{Magnitude, text_from};
 use crate::write::uWrite;
 
 /// A signed number of some width, as its decimal text sees it.
@@ -67,7 +67,7 @@ fn write_decimal<S: Signed>(z: S, buffer: &mut [u8]) -> usize
     ensures start { result + length (decimal (S.value z)) ≡ length buffer.old }
     ensures written { drop result buffer.new ≡ decimal (S.value z) }
 {
-    let start = write_digits(z.magnitude(), buffer);
+    let start = z.magnitude().write_digits(buffer);
     if !z.is_negative() {
         return start;
     }

@@ -1,7 +1,7 @@
 //! Decimal texts of unsigned numbers.
-ghost use Rattle.std.specs.Prelude.{◌≡◌, ◌↔◌, ◌+◌, ◌/◌, ◌%◌, ◌^◌, ◌<◌, ◌≤◌, ℕ, pos, length, drop, IsTrue, IsAscii};
+ghost use Rattle.std.specs.Prelude.{◌≡◌, ◌+◌, ◌++◌, ◌/◌, ◌%◌, ◌^◌, ◌<◌, ◌≤◌, ℕ, pos, length, drop, IsAscii};
 ghost use Rattle.ufmt_core.specs.Document.{leaf};
-ghost use Rattle.ufmt_core.specs.Decimal.{decimal, decimal_byte, EachNumberIsTold, OneTextTells, OneNumberIsTold};
+ghost use Rattle.ufmt_core.specs.Decimal.{decimal, decimal_byte, last_digits, EachNumberIsTold, OneTextTells, OneNumberIsTold};
 
 use crate::formatter::Formatter;
 use crate::uDebug;
@@ -38,39 +38,95 @@ pub fn digit_pair(i: u8) -> (u8, u8)
 pub(crate) trait Magnitude: Copy {
     ghost value: { Self → ℕ };
 
-    fn is_zero(self) -> bool
-        ensures { IsTrue result ↔ (value self ≡ 0) };
-
-    /// The number without its last digit, and that digit.
-    fn split_last_digit(self) -> (Self, u8)
-        ensures rest { value result.0 ≡ value self / 10 }
-        ensures digit { result.1 ≡ value self % 10 };
+    /// Writes the decimal text at the end of `buffer`, and gives the index of its first digit.
+    fn write_digits(self, buffer: &mut [u8]) -> usize
+        requires { length (decimal (pos (value self))) ≤ length buffer.old }
+        ensures start { result + length (decimal (pos (value self))) ≡ length buffer.old }
+        ensures written { drop result buffer.new ≡ decimal (pos (value self)) };
 }
 
+/// Two digits a turn, from the right.
 impl Magnitude for u64 {
     ghost value = { λ n. n };
 
-    fn is_zero(self) -> bool {
-        self == 0
-    }
-
-    fn split_last_digit(self) -> (u64, u8) {
-        let rest = self / 10;
-        (rest, (self - 10 * rest) as u8)
+    fn write_digits(self, buffer: &mut [u8]) -> usize {
+        let mut start = buffer.len();
+        let mut left = self;
+        while left >= 100 {
+            let rest = left / 100;
+            start -= 2;
+            write_pair((left - 100 * rest) as u8, buffer, start);
+            left = rest;
+        }
+        write_first(left as u8, buffer, start)
     }
 }
 
+/// A part of 64 bits a turn, from the right, since a division of 128 bits is slow.
 impl Magnitude for u128 {
     ghost value = { λ n. n };
 
-    fn is_zero(self) -> bool {
-        self == 0
+    fn write_digits(self, buffer: &mut [u8]) -> usize {
+        let mut start = buffer.len();
+        let mut left = self;
+        while left > u64::MAX as u128 {
+            let rest = left / PART;
+            start -= PART_DIGITS;
+            write_part((left - PART * rest) as u64, buffer, start);
+            left = rest;
+        }
+        (left as u64).write_digits(&mut buffer[..start])
     }
+}
 
-    fn split_last_digit(self) -> (u128, u8) {
-        let rest = self / 10;
-        (rest, (self - 10 * rest) as u8)
+// How many digits a part of a wide number has, and the number that is one more than the greatest part.
+const PART_DIGITS: usize = 18;
+
+const PART: u128 = 1_000_000_000_000_000_000;
+
+// Writes the digits of a part, with zeros before a short one.
+fn write_part(part: u64, buffer: &mut [u8], start: usize)
+    requires { start + 18 ≤ length buffer.old }
+    ensures { drop start buffer.new ≡ last_digits 18 part ++ drop (start + 18) buffer.old }
+{
+    let mut at = start + PART_DIGITS;
+    let mut left = part;
+    while at > start {
+        let rest = left / 100;
+        at -= 2;
+        write_pair((left - 100 * rest) as u8, buffer, at);
+        left = rest;
     }
+}
+
+// Writes two digits.
+#[inline]
+fn write_pair(pair: u8, buffer: &mut [u8], start: usize)
+    requires two_digits { pair < 100 }
+    requires room { start + 2 ≤ length buffer.old }
+    ensures { drop start buffer.new ≡ last_digits 2 pair ++ drop (start + 2) buffer.old }
+{
+    let (tens, ones) = digit_pair(pair);
+    buffer[start] = tens;
+    buffer[start + 1] = ones;
+}
+
+// Writes the first digit of a number, or the first two, before `end`, and gives the index of the first.
+#[inline]
+fn write_first(n: u8, buffer: &mut [u8], end: usize) -> usize
+    requires two_digits { n < 100 }
+    requires room { length (decimal (pos n)) ≤ end }
+    requires within { end ≤ length buffer.old }
+    ensures start { result + length (decimal (pos n)) ≡ end }
+    ensures written { drop result buffer.new ≡ decimal (pos n) ++ drop end buffer.old }
+{
+    let (tens, ones) = digit_pair(n);
+    buffer[end - 1] = ones;
+    if n < 10 {
+        return end - 1;
+    }
+    buffer[end - 2] = tens;
+    end - 2
 }
 
 /// The decimal text of `n`, made at the end of `buffer`.
@@ -79,27 +135,8 @@ pub(crate) fn decimal_text<M: Magnitude, const N: usize>(n: M, buffer: &mut [u8;
     requires room { M.value n < 10 ^ N }
     ensures { result.now ≡ decimal (pos (M.value n)) }
 {
-    let start = write_digits(n, buffer);
+    let start = n.write_digits(buffer);
     text_from(buffer, start)
-}
-
-/// Writes the decimal text of `n` at the end of `buffer`, and gives the index of its first digit.
-pub(crate) fn write_digits<M: Magnitude>(n: M, buffer: &mut [u8]) -> usize
-    requires { length (decimal (pos (M.value n))) ≤ length buffer.old }
-    ensures start { result + length (decimal (pos (M.value n))) ≡ length buffer.old }
-    ensures written { drop result buffer.new ≡ decimal (pos (M.value n)) }
-{
-    let mut start = buffer.len();
-    let mut left = n;
-    loop {
-        let (rest, digit) = left.split_last_digit();
-        start -= 1;
-        buffer[start] = b'0' + digit;
-        if rest.is_zero() {
-            return start;
-        }
-        left = rest;
-    }
 }
 
 /// The text that ends `buffer`, from `start` on. It asks that `start` is within the buffer and that the
@@ -109,7 +146,8 @@ pub fn text_from(buffer: &[u8], start: usize) -> &str
     requires ascii { IsAscii (drop start buffer.now) }
     ensures { result.now ≡ drop start buffer.now }
 {
-    str::from_utf8(&buffer[start..]).unwrap()
+    // The check proves at this call that the bytes are a text.
+    unsafe { str::from_utf8_unchecked(&buffer[start..]) }
 }
 
 impl uDebug for u8 {
