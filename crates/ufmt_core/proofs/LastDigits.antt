@@ -65,6 +65,11 @@ decimal-cut count n high =
     ap (λ m. decimal (pos m)) (sym (div-add-mod' n (10 ^ count)))
     ∙ decimal-front count (n / 10 ^ count) (n % 10 ^ count) (le-div 1 n (10 ^ count) (positive_power count) (omega arith)) (mod_below n (10 ^ count) (positive_power count))
 
+-- and is shorter by as many
+pub length-cut : (count n : ℕ) → 10 ^ count ≤ n → length (decimal (pos n)) ≡ length (decimal (pos (n / 10 ^ count))) + count
+length-cut count n high =
+    omega (arith, ap length (decimal-cut count n high), length-append (decimal (pos (n / 10 ^ count))) (last_digits count (n % 10 ^ count)), length-last_digits count (n % 10 ^ count))
+
 module _ (n left start : ℕ) (buffer : List ℕ) (fits : length (decimal (pos n)) ≤ length buffer) (written : IsWrittenFrom (λ m. decimal (pos m)) n left start buffer) (count : ℕ) (high : 10 ^ count ≤ left) where
   -- there is room for the last digits and for another
   pub cut_fits : count < start
@@ -75,9 +80,7 @@ module _ (n left start : ℕ) (buffer : List ℕ) (fits : length (decimal (pos n
         ap length written.joined,
         length-append (decimal (pos left)) (drop start buffer),
         length-drop start buffer,
-        ap length (decimal-cut count left high),
-        length-append (decimal (pos (left / 10 ^ count))) (last_digits count (left % 10 ^ count)),
-        length-last_digits count (left % 10 ^ count),
+        length-cut count left high,
         text-nonempty decimal-in_base (left / 10 ^ count),
       )
 

@@ -45,20 +45,21 @@ pub(crate) trait Magnitude: Copy {
         ensures written { drop result buffer.new ≡ decimal (pos (value self)) };
 }
 
-/// Two digits a turn, from the right.
+/// Two digits a turn, from the right, and two turns an iteration.
 impl Magnitude for u64 {
     ghost value = { λ n. n };
 
     fn write_digits(self, buffer: &mut [u8]) -> usize {
         let mut start = buffer.len();
         let mut left = self;
-        while left >= 100 {
-            let rest = left / 100;
-            start -= 2;
-            write_pair((left - 100 * rest) as u8, buffer, start);
-            left = rest;
+        while left >= 10_000 {
+            start -= 4;
+            write_pair((left % 100) as u8, buffer, start + 2);
+            left /= 100;
+            write_pair((left % 100) as u8, buffer, start);
+            left /= 100;
         }
-        write_first(left as u8, buffer, start)
+        write_short(left, buffer, start)
     }
 }
 
@@ -70,10 +71,9 @@ impl Magnitude for u128 {
         let mut start = buffer.len();
         let mut left = self;
         while left > u64::MAX as u128 {
-            let rest = left / PART;
             start -= PART_DIGITS;
-            write_part((left - PART * rest) as u64, buffer, start);
-            left = rest;
+            write_part((left % PART) as u64, buffer, start);
+            left /= PART;
         }
         (left as u64).write_digits(&mut buffer[..start])
     }
@@ -92,10 +92,9 @@ fn write_part(part: u64, buffer: &mut [u8], start: usize)
     let mut at = start + PART_DIGITS;
     let mut left = part;
     while at > start {
-        let rest = left / 100;
         at -= 2;
-        write_pair((left - 100 * rest) as u8, buffer, at);
-        left = rest;
+        write_pair((left % 100) as u8, buffer, at);
+        left /= 100;
     }
 }
 
@@ -111,7 +110,23 @@ fn write_pair(pair: u8, buffer: &mut [u8], start: usize)
     buffer[start + 1] = ones;
 }
 
-// Writes the first digit of a number, or the first two, before `end`, and gives the index of the first.
+// Writes a number of at most four digits before `end`, and gives the index of the first.
+#[inline]
+fn write_short(n: u64, buffer: &mut [u8], end: usize) -> usize
+    requires four_digits { n < 10000 }
+    requires room { length (decimal (pos n)) ≤ end }
+    requires within { end ≤ length buffer.old }
+    ensures start { result + length (decimal (pos n)) ≡ end }
+    ensures written { drop result buffer.new ≡ decimal (pos n) ++ drop end buffer.old }
+{
+    if n < 100 {
+        return write_first(n as u8, buffer, end);
+    }
+    write_pair((n % 100) as u8, buffer, end - 2);
+    write_first((n / 100) as u8, buffer, end - 2)
+}
+
+// Writes a number of one digit or two before `end`, and gives the index of the first.
 #[inline]
 fn write_first(n: u8, buffer: &mut [u8], end: usize) -> usize
     requires two_digits { n < 100 }

@@ -1,4 +1,4 @@
-use Rattle.std.proofs.Common.{◌≡◌, ◌+◌, ◌-◌, ◌*◌, ◌/◌, ◌%◌, ◌≤◌, arith, append_assoc}
+use Rattle.std.proofs.Common.{◌≡◌, ◌+◌, ◌-◌, ◌/◌, ◌%◌, ◌≤◌, arith, append_assoc}
 use Rattle.ufmt_core.specs.Decimal.{last_digits}
 use Rattle.ufmt_core.proofs.LastDigits.{last_digits-none, last_digits-more}
 use Rattle.ufmt_core.proofs.unsigned.write_part.Goals as goal
@@ -10,12 +10,11 @@ loop-at-preserved c =
     let pairs : 2 ≤ l.at - c.args.start = omega arith in
     let count : l.at - c.args.start ≡ before + 2 = omega arith in
     let next : l.at - 2 + 2 ≡ l.at = omega arith in
-    let pair : l.left - 100 * (l.left / 100) ≡ l.left % 100 = omega arith in
     record {
       within = (omega arith, omega arith);
       in_pairs = omega arith;
       written =
-          rw (c.write_pair.ensures, pair, next, ← append_assoc (last_digits before (l.left / 100)) (last_digits 2 (l.left % 100)) _, ← last_digits-more before l.left, ← count) l.invariant.written;
+          rw (c.write_pair.ensures, next, ← append_assoc (last_digits before (l.left / 100)) (last_digits 2 (l.left % 100)) _, ← last_digits-more before l.left, ← count) l.invariant.written;
     }
 
 pub returns : goal.returns

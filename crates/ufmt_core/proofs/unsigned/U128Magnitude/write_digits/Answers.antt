@@ -1,4 +1,4 @@
-use Rattle.std.proofs.Common.{◌≡◌, ◌+◌, ◌-◌, ◌*◌, ◌/◌, ◌%◌, refl, arith}
+use Rattle.std.proofs.Common.{◌≡◌, ◌+◌, ◌-◌, ◌/◌, ◌%◌, refl, arith}
 use Rattle.ufmt_core.proofs.LastDigits.{cut_fits, IsWrittenFrom-cut}
 use Rattle.ufmt_core.proofs.unsigned.U128Magnitude.write_digits.Goals as goal
 
@@ -17,5 +17,4 @@ loop-left-preserved c =
     let l = c.loop-left in
     let fits = cut_fits c.args.self l.left l.start l.buffer (omega arith) l.invariant 18 (omega (arith, c.loop-left-test.true)) in
     let next : l.start - 18 + 18 ≡ l.start = omega arith in
-    let part : l.left - 1000000000000000000 * (l.left / 1000000000000000000) ≡ l.left % 1000000000000000000 = omega arith in
-    IsWrittenFrom-cut c.args.self l.left l.start l.buffer (omega arith) l.invariant 18 (omega (arith, c.loop-left-test.true)) (l.left / 1000000000000000000) _ c.write_part.new.buffer refl part (omega arith) (rw next at c.write_part.ensures)
+    IsWrittenFrom-cut c.args.self l.left l.start l.buffer (omega arith) l.invariant 18 (omega (arith, c.loop-left-test.true)) (l.left / 1000000000000000000) (l.left % 1000000000000000000) c.write_part.new.buffer refl refl (omega arith) (rw next at c.write_part.ensures)
