@@ -1,6 +1,7 @@
 -- Decimal texts that are written from the right, several digits at a time.
 use Rattle.std.proofs.Common.{◌≡◌, ℕ, zero, suc, ◌+◌, ◌-◌, ◌*◌, ◌/◌, ◌%◌, ◌^◌, ◌<◌, ◌≤◌, List, [], ◌∷◌, ◌++◌, length, drop, set, pos, refl, sym, ap, ap₂, ◌∙◌, arith, pow-suc, mul-le-mul_right, length-append, length-drop, append_assoc, append-nil}
-use Rattle.std.proofs.Math.Nat.{pow-zero, mul_assoc, one-le-pow}
+use Rattle.std.proofs.Math.Nat.{pow-zero, pow-succ', div-one, mul_assoc, one-le-pow, div-div-eq-div-mul}
+use Rattle.std.proofs.Math.Arith.{mod-mul}
 use Rattle.std.proofs.lemmas.Nat.{div-add-mod', le-div, mod_below}
 use Rattle.std.proofs.lemmas.List.{drop-set}
 use Rattle.ufmt_core.specs.Decimal.{decimal_byte, decimal, last_digits}
@@ -28,19 +29,21 @@ last_digits-two n low = let tens : n / 10 % 10 ≡ n / 10 = omega arith in rw te
 pub decimal-two : (n : ℕ) → 10 ≤ n → n < 100 → decimal (pos n) ≡ decimal_byte (n / 10) ∷ decimal_byte (n % 10) ∷ []
 decimal-two n high low = text-step decimal-in_base n high ∙ rw (text-digit decimal-in_base (n / 10) (omega arith)) refl
 
--- two more
-pub last_digits-more : (count n : ℕ) → last_digits (count + 2) n ≡ last_digits count (n / 100) ++ last_digits 2 (n % 100)
-unfolding last_digits
-last_digits-more count n =
-    let more : count + 2 ≡ suc (suc count) = omega arith in
-    let hundreds : n / 10 / 10 ≡ n / 100 = omega arith in
-    let tens : n % 100 / 10 % 10 ≡ n / 10 % 10 = omega arith in
-    let ones : n % 100 % 10 ≡ n % 10 = omega arith in
-    rw (more, hundreds, tens, ones) (append_assoc (last_digits count (n / 100)) (decimal_byte (n / 10 % 10) ∷ []) (decimal_byte (n % 10) ∷ []))
-
 -- a power is positive
 positive_power : (count : ℕ) → 0 < 10 ^ count
 positive_power count = one-le-pow count 10 (omega arith)
+
+-- they are those before the last ones, and those
+pub last_digits-split : (front count n : ℕ) → last_digits (front + count) n ≡ last_digits front (n / 10 ^ count) ++ last_digits count (n % 10 ^ count)
+unfolding last_digits
+last_digits-split front zero n = let all : front + 0 ≡ front = omega arith in rw (pow-zero, div-one, append-nil, all) refl
+last_digits-split front (suc count) n =
+    let digits = mod-mul n {m = 10 ^ count} {c = 10} (positive_power count) (omega arith) in
+    let more : front + suc count ≡ suc (front + count) = omega arith in
+    let quotient : n / 10 / 10 ^ count ≡ n / 10 ^ suc count = div-div-eq-div-mul n 10 (10 ^ count) ∙ ap (λ power. n / power) (sym (pow-succ' 10 count)) in
+    let middle : n % 10 ^ suc count / 10 ≡ n / 10 % 10 ^ count = rw pow-suc (omega (arith, digits)) in
+    let last : n % 10 ^ suc count % 10 ≡ n % 10 = rw pow-suc (omega (arith, digits)) in
+    rw (more, ← quotient, middle, last, last_digits-split front count (n / 10)) (append_assoc (last_digits front (n / 10 / 10 ^ count)) (last_digits count (n / 10 % 10 ^ count)) (decimal_byte (n % 10) ∷ []))
 
 -- the digits of a number above 0 stand before the last ones
 decimal-front : (count front part : ℕ) → 0 < front → part < 10 ^ count → decimal (pos (front * 10 ^ count + part)) ≡ decimal (pos front) ++ last_digits count part

@@ -45,25 +45,39 @@ pub(crate) trait Magnitude: Copy {
         ensures written { drop result buffer.new ≡ decimal (pos (value self)) };
 }
 
-/// Two digits a turn, from the right, and two turns an iteration.
+/// Two digits a turn, from the right.
+impl Magnitude for u32 {
+    ghost value = { λ n. n };
+
+    fn write_digits(self, buffer: &mut [u8]) -> usize {
+        let mut start = buffer.len();
+        let mut left = self;
+        while left >= 100 {
+            start -= 2;
+            write_pair((left % 100) as u8, buffer, start);
+            left /= 100;
+        }
+        write_first(left as u8, buffer, start)
+    }
+}
+
+/// Parts of eight digits, from the right, and then what fits 32 bits.
 impl Magnitude for u64 {
     ghost value = { λ n. n };
 
     fn write_digits(self, buffer: &mut [u8]) -> usize {
         let mut start = buffer.len();
         let mut left = self;
-        while left >= 10_000 {
-            start -= 4;
-            write_pair((left % 100) as u8, buffer, start + 2);
-            left /= 100;
-            write_pair((left % 100) as u8, buffer, start);
-            left /= 100;
+        while left > u32::MAX as u64 {
+            start -= 8;
+            write_eight((left % EIGHT_DIGITS) as u32, buffer, start);
+            left /= EIGHT_DIGITS;
         }
-        write_short(left, buffer, start)
+        (left as u32).write_digits(&mut buffer[..start])
     }
 }
 
-/// A part of 64 bits a turn, from the right, since a division of 128 bits is slow.
+/// Parts of sixteen digits, from the right, and then what fits 64 bits: a division of 128 bits is slow.
 impl Magnitude for u128 {
     ghost value = { λ n. n };
 
@@ -71,26 +85,36 @@ impl Magnitude for u128 {
         let mut start = buffer.len();
         let mut left = self;
         while left > u64::MAX as u128 {
-            start -= PART_DIGITS;
-            write_part((left % PART) as u64, buffer, start);
-            left /= PART;
+            start -= 16;
+            write_sixteen((left % SIXTEEN_DIGITS) as u64, buffer, start);
+            left /= SIXTEEN_DIGITS;
         }
         (left as u64).write_digits(&mut buffer[..start])
     }
 }
 
-// How many digits a part of a wide number has, and the number that is one more than the greatest part.
-const PART_DIGITS: usize = 18;
+// One more than the greatest number with so many digits.
+const EIGHT_DIGITS: u64 = 100_000_000;
 
-const PART: u128 = 1_000_000_000_000_000_000;
+const SIXTEEN_DIGITS: u128 = 10_000_000_000_000_000;
 
-// Writes the digits of a part, with zeros before a short one.
-fn write_part(part: u64, buffer: &mut [u8], start: usize)
-    requires { start + 18 ≤ length buffer.old }
-    ensures { drop start buffer.new ≡ last_digits 18 part ++ drop (start + 18) buffer.old }
+// Writes sixteen digits, with zeros before those of a short number.
+fn write_sixteen(n: u64, buffer: &mut [u8], start: usize)
+    requires sixteen_digits { n < 10 ^ 16 }
+    requires room { start + 16 ≤ length buffer.old }
+    ensures { drop start buffer.new ≡ last_digits 16 n ++ drop (start + 16) buffer.old }
 {
-    let mut at = start + PART_DIGITS;
-    let mut left = part;
+    write_eight((n % EIGHT_DIGITS) as u32, buffer, start + 8);
+    write_eight((n / EIGHT_DIGITS) as u32, buffer, start);
+}
+
+// Writes eight digits, with zeros before those of a short number.
+fn write_eight(n: u32, buffer: &mut [u8], start: usize)
+    requires { start + 8 ≤ length buffer.old }
+    ensures { drop start buffer.new ≡ last_digits 8 n ++ drop (start + 8) buffer.old }
+{
+    let mut at = start + 8;
+    let mut left = n;
     while at > start {
         at -= 2;
         write_pair((left % 100) as u8, buffer, at);
@@ -108,22 +132,6 @@ fn write_pair(pair: u8, buffer: &mut [u8], start: usize)
     let (tens, ones) = digit_pair(pair);
     buffer[start] = tens;
     buffer[start + 1] = ones;
-}
-
-// Writes a number of at most four digits before `end`, and gives the index of the first.
-#[inline]
-fn write_short(n: u64, buffer: &mut [u8], end: usize) -> usize
-    requires four_digits { n < 10000 }
-    requires room { length (decimal (pos n)) ≤ end }
-    requires within { end ≤ length buffer.old }
-    ensures start { result + length (decimal (pos n)) ≡ end }
-    ensures written { drop result buffer.new ≡ decimal (pos n) ++ drop end buffer.old }
-{
-    if n < 100 {
-        return write_first(n as u8, buffer, end);
-    }
-    write_pair((n % 100) as u8, buffer, end - 2);
-    write_first((n / 100) as u8, buffer, end - 2)
 }
 
 // Writes a number of one digit or two before `end`, and gives the index of the first.

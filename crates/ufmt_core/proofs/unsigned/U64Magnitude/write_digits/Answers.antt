@@ -1,30 +1,20 @@
-use Rattle.std.proofs.Common.{◌≡◌, ◌+◌, ◌-◌, ◌/◌, ◌%◌, ◌<◌, refl, arith}
+use Rattle.std.proofs.Common.{◌≡◌, ◌+◌, ◌-◌, ◌/◌, ◌%◌, refl, arith}
 use Rattle.ufmt_core.proofs.LastDigits.{cut_fits, IsWrittenFrom-cut}
 use Rattle.ufmt_core.proofs.unsigned.U64Magnitude.write_digits.Goals as goal
 
 pub overflow_sub-start : goal.overflow_sub-start
 overflow_sub-start c =
     let l = c.loop-left in
-    omega (arith, cut_fits c.args.self l.left l.start l.buffer (omega arith) l.invariant 4 c.loop-left-test.true)
+    omega (arith, cut_fits c.args.self l.left l.start l.buffer (omega arith) l.invariant 8 (omega (arith, c.loop-left-test.true)))
 
-pub write_pair-requires-clause-room : goal.write_pair-requires-clause-room
-write_pair-requires-clause-room c =
+pub write_eight-requires : goal.write_eight-requires
+write_eight-requires c =
     let l = c.loop-left in
-    omega (arith, l.invariant.within, cut_fits c.args.self l.left l.start l.buffer (omega arith) l.invariant 4 c.loop-left-test.true)
-
-pub write_pair-requires-in-loop-left-clause-room : goal.write_pair-requires-in-loop-left-clause-room
-write_pair-requires-in-loop-left-clause-room c =
-    let l = c.loop-left in
-    omega (arith, l.invariant.within, cut_fits c.args.self l.left l.start l.buffer (omega arith) l.invariant 4 c.loop-left-test.true)
+    omega (arith, l.invariant.within, cut_fits c.args.self l.left l.start l.buffer (omega arith) l.invariant 8 (omega (arith, c.loop-left-test.true)))
 
 pub loop-left-preserved : goal.loop-left-preserved
 loop-left-preserved c =
     let l = c.loop-left in
-    let fits = cut_fits c.args.self l.left l.start l.buffer (omega arith) l.invariant 4 c.loop-left-test.true in
-    let middle : l.start - 4 + 2 ≡ l.start - 2 = omega arith in
-    let last : l.start - 2 + 2 ≡ l.start = omega arith in
-    let first : l.start - 2 - 2 ≡ l.start - 4 = omega arith in
-    let ones = IsWrittenFrom-cut c.args.self l.left l.start l.buffer (omega arith) l.invariant 2 (omega arith) (l.left / 100) (l.left % 100) c.write_pair.new.buffer refl refl (omega arith) (rw (middle, last) at c.write_pair.ensures) in
-    let pair = c.write_pair-in-loop-left in
-    let hundreds = IsWrittenFrom-cut c.args.self (l.left / 100) (l.start - 2) c.write_pair.new.buffer (omega arith) ones 2 (omega arith) (l.left / 100 / 100) (l.left / 100 % 100) pair.new.buffer refl refl (omega arith) (rw first (rw middle at pair.ensures)) in
-    rw first at hundreds
+    let fits = cut_fits c.args.self l.left l.start l.buffer (omega arith) l.invariant 8 (omega (arith, c.loop-left-test.true)) in
+    let next : l.start - 8 + 8 ≡ l.start = omega arith in
+    IsWrittenFrom-cut c.args.self l.left l.start l.buffer (omega arith) l.invariant 8 (omega (arith, c.loop-left-test.true)) (l.left / 100000000) (l.left % 100000000) c.write_eight.new.buffer refl refl (omega arith) (rw next at c.write_eight.ensures)

@@ -1,7 +1,7 @@
 use Rattle.std.proofs.Common.{◌≡◌, ◌+◌, ◌-◌, ◌/◌, ◌%◌, ◌≤◌, arith, append_assoc}
 use Rattle.ufmt_core.specs.Decimal.{last_digits}
-use Rattle.ufmt_core.proofs.LastDigits.{last_digits-none, last_digits-more}
-use Rattle.ufmt_core.proofs.unsigned.write_part.Goals as goal
+use Rattle.ufmt_core.proofs.LastDigits.{last_digits-none, last_digits-split}
+use Rattle.ufmt_core.proofs.unsigned.write_eight.Goals as goal
 
 pub loop-at-preserved : goal.loop-at-preserved
 loop-at-preserved c =
@@ -14,7 +14,7 @@ loop-at-preserved c =
       within = (omega arith, omega arith);
       in_pairs = omega arith;
       written =
-          rw (c.write_pair.ensures, next, ← append_assoc (last_digits before (l.left / 100)) (last_digits 2 (l.left % 100)) _, ← last_digits-more before l.left, ← count) l.invariant.written;
+          rw (c.write_pair.ensures, next, ← append_assoc (last_digits before (l.left / 100)) (last_digits 2 (l.left % 100)) _, ← last_digits-split before 2 l.left, ← count) l.invariant.written;
     }
 
 pub returns : goal.returns
