@@ -1,5 +1,5 @@
 //! A writer over a buffer of a fixed size.
-ghost use Rattle.std.specs.Prelude.{◌≡◌, ◌+◌, ◌≤◌, [], length, is_ok, encode_utf8};
+ghost use Rattle.std.specs.Prelude.{◌≡◌, ◌+◌, ◌++◌, ◌≤◌, [], length, take, drop, is_ok, encode_utf8};
 ghost use Rattle.ufmt_core.specs.Layout.{plain_text};
 ghost use Rattle.ufmt_core.specs.Writes.{Writes};
 ghost use Rattle.ufmt.specs.Buffer.{Fronts};
@@ -64,9 +64,8 @@ impl uWrite for Cursor<'_> {
         if s.len() > self.remaining() {
             return Err(Full);
         }
-        let end = self.count + s.len();
-        self.buffer[self.count..end].copy_from_slice(s.as_bytes());
-        self.count = end;
+        put(s.as_bytes(), self.buffer, self.count);
+        self.count += s.len();
         Ok(())
     }
 
@@ -77,6 +76,21 @@ impl uWrite for Cursor<'_> {
         let mut bytes = [0u8; 4];
         self.write_str(c.encode_utf8(&mut bytes))
     }
+}
+
+// Writes the bytes over those of the buffer from `start` on. A byte alone needs no call of a copy.
+#[inline]
+fn put(bytes: &[u8], buffer: &mut [u8], start: usize)
+    requires { start + length bytes.now ≤ length buffer.old }
+    ensures written { take (start + length bytes.now) buffer.new ≡ take start buffer.old ++ bytes.now }
+    ensures unwritten { drop (start + length bytes.now) buffer.new
+        ≡ drop (start + length bytes.now) buffer.old }
+{
+    if let [byte] = bytes {
+        buffer[start] = *byte;
+        return;
+    }
+    buffer[start..start + bytes.len()].copy_from_slice(bytes);
 }
 
 /// Prints the value, as `uDebug` does in plain mode, to the front of the buffer, and answers how many

@@ -99,6 +99,7 @@ const EIGHT_DIGITS: u64 = 100_000_000;
 const SIXTEEN_DIGITS: u128 = 10_000_000_000_000_000;
 
 // Writes sixteen digits, with zeros before those of a short number.
+#[inline]
 fn write_sixteen(n: u64, buffer: &mut [u8], start: usize)
     requires sixteen_digits { n < 10 ^ 16 }
     requires room { start + 16 ≤ length buffer.old }
@@ -108,18 +109,26 @@ fn write_sixteen(n: u64, buffer: &mut [u8], start: usize)
     write_eight((n / EIGHT_DIGITS) as u32, buffer, start);
 }
 
-// Writes eight digits, with zeros before those of a short number.
+// Writes eight digits.
+#[inline]
 fn write_eight(n: u32, buffer: &mut [u8], start: usize)
-    requires { start + 8 ≤ length buffer.old }
+    requires eight_digits { n < 10 ^ 8 }
+    requires room { start + 8 ≤ length buffer.old }
     ensures { drop start buffer.new ≡ last_digits 8 n ++ drop (start + 8) buffer.old }
 {
-    let mut at = start + 8;
-    let mut left = n;
-    while at > start {
-        at -= 2;
-        write_pair((left % 100) as u8, buffer, at);
-        left /= 100;
-    }
+    write_four(n % 10_000, buffer, start + 4);
+    write_four(n / 10_000, buffer, start);
+}
+
+// Writes four digits.
+#[inline]
+fn write_four(n: u32, buffer: &mut [u8], start: usize)
+    requires four_digits { n < 10 ^ 4 }
+    requires room { start + 4 ≤ length buffer.old }
+    ensures { drop start buffer.new ≡ last_digits 4 n ++ drop (start + 4) buffer.old }
+{
+    write_pair((n % 100) as u8, buffer, start + 2);
+    write_pair((n / 100) as u8, buffer, start);
 }
 
 // Writes two digits.

@@ -1,12 +1,13 @@
 use super::Rows;
 use std::alloc::AllocError;
+use std::fmt::Display;
 use std::num::{
     NonZeroI8, NonZeroI16, NonZeroI32, NonZeroI64, NonZeroIsize, NonZeroU8, NonZeroU16, NonZeroU32,
     NonZeroU64, NonZeroUsize,
 };
 use std::process::Abort;
 use std::test::Fail;
-use ufmt::uDebug;
+use ufmt::{Formatter, uDebug};
 
 // A number has one text in both modes.
 fn row<N: uDebug + Drop>(
@@ -62,6 +63,110 @@ fn signed_numbers(rt: HostRuntime) -> Result<(), Fail> {
     row(&rt, "NonZeroI32", some(&rt, NonZeroI32::new(-3)), "-3")?;
     row(&rt, "NonZeroI64", some(&rt, NonZeroI64::new(-4)), "-4")?;
     row(&rt, "NonZeroIsize", some(&rt, NonZeroIsize::new(-5)), "-5")?;
+    Ok(())
+}
+
+// The text is the library's own decimal text of the number.
+fn same<N: uDebug + Display + Drop>(
+    rt: &(impl Abort + AllocGlobal),
+    n: N,
+) -> Result<(), AllocError> {
+    let mut text = String::new(rt.alloc());
+    uDebug::fmt(&n, &mut Formatter::new(&mut text))?;
+    let expected = n.to_string(rt.alloc())?;
+    assert_eq!(rt; text.as_str(), expected.as_str());
+    Ok(())
+}
+
+// The same at each unsigned width that the number fits.
+fn same_unsigned(rt: &(impl Abort + AllocGlobal), n: u128) -> Result<(), AllocError> {
+    if let Ok(n) = u8::try_from(n) {
+        same(rt, n)?;
+    }
+    if let Ok(n) = u16::try_from(n) {
+        same(rt, n)?;
+    }
+    if let Ok(n) = u32::try_from(n) {
+        same(rt, n)?;
+    }
+    if let Ok(n) = u64::try_from(n) {
+        same(rt, n)?;
+    }
+    if let Ok(n) = usize::try_from(n) {
+        same(rt, n)?;
+    }
+    same(rt, n)
+}
+
+// The same at each signed width that the number fits.
+fn same_signed(rt: &(impl Abort + AllocGlobal), z: i128) -> Result<(), AllocError> {
+    if let Ok(z) = i8::try_from(z) {
+        same(rt, z)?;
+    }
+    if let Ok(z) = i16::try_from(z) {
+        same(rt, z)?;
+    }
+    if let Ok(z) = i32::try_from(z) {
+        same(rt, z)?;
+    }
+    if let Ok(z) = i64::try_from(z) {
+        same(rt, z)?;
+    }
+    if let Ok(z) = isize::try_from(z) {
+        same(rt, z)?;
+    }
+    same(rt, z)
+}
+
+#[test]
+fn each_number_of_two_bytes(rt: HostRuntime) -> Result<(), Fail> {
+    for n in 0..=u16::MAX {
+        same(&rt, n)?;
+        same(&rt, u64::from(n))?;
+        same(&rt, u128::from(n))?;
+    }
+    for z in i16::MIN..=i16::MAX {
+        same(&rt, z)?;
+    }
+    Ok(())
+}
+
+#[test]
+fn powers_of_ten(rt: HostRuntime) -> Result<(), Fail> {
+    let mut power = 1u128;
+    for _digits in 1..40 {
+        for n in [power.saturating_sub(1), power, power.saturating_add(1)] {
+            same_unsigned(&rt, n)?;
+        }
+        power = power.saturating_mul(10);
+    }
+    Ok(())
+}
+
+#[test]
+fn signed_powers_of_ten(rt: HostRuntime) -> Result<(), Fail> {
+    let mut power = 1i128;
+    for _digits in 1..40 {
+        for z in [power.saturating_sub(1), power, power.saturating_add(1)] {
+            same_signed(&rt, z)?;
+            same_signed(&rt, z.saturating_neg())?;
+        }
+        power = power.saturating_mul(10);
+    }
+    Ok(())
+}
+
+#[test]
+fn least_and_greatest_numbers(rt: HostRuntime) -> Result<(), Fail> {
+    for n in [u8::MAX as u128, u16::MAX as u128, u32::MAX as u128, u64::MAX as u128, u128::MAX] {
+        same_unsigned(&rt, n)?;
+    }
+    for z in [i8::MIN as i128, i16::MIN as i128, i32::MIN as i128, i64::MIN as i128, i128::MIN] {
+        same_signed(&rt, z)?;
+    }
+    for z in [i8::MAX as i128, i16::MAX as i128, i32::MAX as i128, i64::MAX as i128, i128::MAX] {
+        same_signed(&rt, z)?;
+    }
     Ok(())
 }
 

@@ -7,8 +7,8 @@ overflow_sub-start c =
     let l = c.loop-left in
     omega (arith, cut_fits c.args.self l.left l.start l.buffer (omega arith) l.invariant 8 (omega (arith, c.loop-left-test.true)))
 
-pub write_eight-requires : goal.write_eight-requires
-write_eight-requires c =
+pub write_eight-requires-clause-room : goal.write_eight-requires-clause-room
+write_eight-requires-clause-room c =
     let l = c.loop-left in
     omega (arith, l.invariant.within, cut_fits c.args.self l.left l.start l.buffer (omega arith) l.invariant 8 (omega (arith, c.loop-left-test.true)))
 
