@@ -24,7 +24,7 @@ static DIGIT_PAIRS: [u8; 200] = *b"\
 const _: () = prove!(DIGIT_PAIRS.len() == 2 * 100);
 
 /// The bytes of the two decimal digits of `i`, the tens first. It asks that `i` is below 100.
-#[inline]
+#[inline(always)]
 pub fn digit_pair(i: u8) -> (u8, u8)
     requires { i < 100 }
     ensures tens { result.0 ≡ decimal_byte (i / 10) }
@@ -49,6 +49,7 @@ pub(crate) trait Magnitude: Copy {
 impl Magnitude for u32 {
     ghost value = { λ n. n };
 
+    #[inline(always)]
     fn write_digits(self, buffer: &mut [u8]) -> usize {
         let mut start = buffer.len();
         let mut left = self;
@@ -65,6 +66,7 @@ impl Magnitude for u32 {
 impl Magnitude for u64 {
     ghost value = { λ n. n };
 
+    #[inline(always)]
     fn write_digits(self, buffer: &mut [u8]) -> usize {
         let mut start = buffer.len();
         let mut left = self;
@@ -121,7 +123,7 @@ fn write_eight(n: u32, buffer: &mut [u8], start: usize)
 }
 
 // Writes four digits.
-#[inline]
+#[inline(always)]
 fn write_four(n: u32, buffer: &mut [u8], start: usize)
     requires four_digits { n < 10 ^ 4 }
     requires room { start + 4 ≤ length buffer.old }
@@ -132,7 +134,7 @@ fn write_four(n: u32, buffer: &mut [u8], start: usize)
 }
 
 // Writes two digits.
-#[inline]
+#[inline(always)]
 fn write_pair(pair: u8, buffer: &mut [u8], start: usize)
     requires two_digits { pair < 100 }
     requires room { start + 2 ≤ length buffer.old }
@@ -144,7 +146,7 @@ fn write_pair(pair: u8, buffer: &mut [u8], start: usize)
 }
 
 // Writes a number of one digit or two before `end`, and gives the index of the first.
-#[inline]
+#[inline(always)]
 fn write_first(n: u8, buffer: &mut [u8], end: usize) -> usize
     requires two_digits { n < 100 }
     requires room { length (decimal (pos n)) ≤ end }
@@ -162,6 +164,7 @@ fn write_first(n: u8, buffer: &mut [u8], end: usize) -> usize
 }
 
 /// The decimal text of `n`, made at the end of `buffer`.
+#[inline(always)]
 pub(crate) fn decimal_text<M: Magnitude, const N: usize>(n: M, buffer: &mut [u8; N]) -> &str
     requires not_empty { 0 < N }
     requires room { M.value n < 10 ^ N }
@@ -173,6 +176,7 @@ pub(crate) fn decimal_text<M: Magnitude, const N: usize>(n: M, buffer: &mut [u8;
 
 /// The text that ends `buffer`, from `start` on. It asks that `start` is within the buffer and that the
 /// bytes from there on are ASCII: `ufmt` calls it for hexadecimal digits.
+#[inline(always)]
 pub fn text_from(buffer: &[u8], start: usize) -> &str
     requires within { start ≤ length buffer.now }
     requires ascii { IsAscii (drop start buffer.now) }
