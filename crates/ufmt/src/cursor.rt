@@ -57,6 +57,7 @@ impl uWrite for Cursor<'_> {
 
     ghost seen = { cursor_seen };
 
+    #[inline(always)]
     fn write_str(&mut self, s: &str) -> Result<(), Full>
         ensures writes { Writes cursor_seen self.old s.now (is_ok result) self.new }
         ensures fills { Fills self.old s.now (is_ok result) self.new }
@@ -79,7 +80,7 @@ impl uWrite for Cursor<'_> {
 }
 
 // Writes the bytes over those of the buffer from `start` on. A byte alone needs no call of a copy.
-#[inline]
+#[inline(always)]
 fn put(bytes: &[u8], buffer: &mut [u8], start: usize)
     requires { start + length bytes.now ≤ length buffer.old }
     ensures written { take (start + length bytes.now) buffer.new ≡ take start buffer.old ++ bytes.now }
