@@ -1,6 +1,5 @@
-use Rattle.std.proofs.Common.{◌≡◌, ◌+◌, ◌-◌, ◌<◌, ◌≤◌, ◌++◌, length, set, pos, refl, ap, arith, length-set}
+use Rattle.std.proofs.Common.{◌≡◌, ◌+◌, ◌-◌, ◌≤◌, length, set, refl, ap, arith, length-set}
 use Rattle.std.proofs.lemmas.List.{drop-set}
-use Rattle.ufmt_core.specs.Decimal.{decimal}
 use Rattle.ufmt_core.proofs.DecimalTexts.{decimal-in_base}
 use Rattle.ufmt_core.proofs.NumeralTexts.{text-digit, text-nonempty}
 use Rattle.ufmt_core.proofs.LastDigits.{decimal-two}
