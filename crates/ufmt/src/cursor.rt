@@ -1,5 +1,5 @@
 //! A writer over a buffer of a fixed size.
-ghost use Rattle.std.specs.Prelude.{◌≡◌, ◌+◌, ◌≤◌, [], length, is_ok, encode_utf8};
+ghost use Rattle.std.specs.Prelude.{◌≡◌, ◌+◌, ◌++◌, ◌≤◌, [], length, take, drop, is_ok, encode_utf8};
 ghost use Rattle.ufmt_core.specs.Layout.{plain_text};
 ghost use Rattle.ufmt_core.specs.Writes.{Writes};
 ghost use Rattle.ufmt.specs.Buffer.{Fronts};
@@ -57,6 +57,7 @@ impl uWrite for Cursor<'_> {
 
     ghost seen = { cursor_seen };
 
+    #[inline(always)]
     fn write_str(&mut self, s: &str) -> Result<(), Full>
         ensures writes { Writes cursor_seen self.old s.now (is_ok result) self.new }
         ensures fills { Fills self.old s.now (is_ok result) self.new }
@@ -64,9 +65,8 @@ impl uWrite for Cursor<'_> {
         if s.len() > self.remaining() {
             return Err(Full);
         }
-        let end = self.count + s.len();
-        self.buffer[self.count..end].copy_from_slice(s.as_bytes());
-        self.count = end;
+        put(s.as_bytes(), self.buffer, self.count);
+        self.count += s.len();
         Ok(())
     }
 
@@ -77,6 +77,21 @@ impl uWrite for Cursor<'_> {
         let mut bytes = [0u8; 4];
         self.write_str(c.encode_utf8(&mut bytes))
     }
+}
+
+// Writes the bytes over those of the buffer from `start` on. A byte alone needs no call of a copy.
+#[inline(always)]
+fn put(bytes: &[u8], buffer: &mut [u8], start: usize)
+    requires { start + length bytes.now ≤ length buffer.old }
+    ensures written { take (start + length bytes.now) buffer.new ≡ take start buffer.old ++ bytes.now }
+    ensures unwritten { drop (start + length bytes.now) buffer.new
+        ≡ drop (start + length bytes.now) buffer.old }
+{
+    if let [byte] = bytes {
+        buffer[start] = *byte;
+        return;
+    }
+    buffer[start..start + bytes.len()].copy_from_slice(bytes);
 }
 
 /// Prints the value, as `uDebug` does in plain mode, to the front of the buffer, and answers how many

@@ -1,7 +1,9 @@
 pub mod Blocks
 pub mod DecimalTexts
+pub mod DigitPairs
 pub mod Indentation
 pub mod Items
+pub mod LastDigits
 pub mod Loops
 pub mod NumeralTexts
 pub mod Numerals

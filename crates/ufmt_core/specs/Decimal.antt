@@ -1,5 +1,5 @@
 -- Decimal texts of whole numbers: which text tells which number.
-use Rattle.std.specs.Prelude.{◌≡◌, ℕ, zero, suc, ◌+◌, ◌*◌, ◌^◌, ◌<◌, List, [], ◌∷◌, ◌++◌, map, length, slice_index, codes, ℤ, pos, negsuc, nat_abs}
+use Rattle.std.specs.Prelude.{◌≡◌, ℕ, zero, suc, ◌+◌, ◌*◌, ◌/◌, ◌%◌, ◌^◌, ◌<◌, List, [], ◌∷◌, ◌++◌, map, length, slice_index, codes, ℤ, pos, negsuc, nat_abs}
 use Rattle.std.specs.List.{All}
 use Rattle.std.specs.Int.Digits.{digits_of}
 
@@ -44,6 +44,11 @@ numeral base (suc n) = digits_of base (suc n)
 -- the text that tells this number: which one follows from `EachNumberIsTold` and `OneTextTells` alone
 unfoldable pub decimal : ℤ → List ℕ
 decimal z = sign_of z ++ map decimal_byte (numeral 10 (nat_abs z))
+
+-- the last digits of a number, as many as `count`: a short number has zeros before its own
+unfoldable pub last_digits : ℕ → ℕ → List ℕ
+last_digits zero n = []
+last_digits (suc count) n = last_digits count (n / 10) ++ (decimal_byte (n % 10) ∷ [])
 
 -- each number has a decimal text, which `decimal` gives
 abbrev pub EachNumberIsTold : Type 0

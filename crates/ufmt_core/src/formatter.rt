@@ -54,6 +54,7 @@ impl<W: uWrite> Formatter<W> {
     }
 
     /// Hands the text on to the writer as one piece.
+    #[inline(always)]
     pub fn write_str(&mut self, s: &str) -> Result<(), W::Error>
         ensures { Prints W.seen self.old s.now (is_ok result) self.new }
     {

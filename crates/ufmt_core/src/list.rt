@@ -24,6 +24,7 @@ pub struct ListBlock;
 impl BlockKind for ListBlock {
     ghost kind = { λ _. Brackets };
 
+    #[inline(always)]
     fn kind(&self) -> Kind {
         Kind::Brackets
     }
@@ -36,6 +37,7 @@ impl Items for ListBlock {}
 
 impl<W: uWrite> Formatter<W> {
     /// Writes `[` and begins a list. On `Err` there is no builder, and mode and depth are as before.
+    #[inline(always)]
     pub fn debug_list<'f>(&'f mut self) -> Result<DebugList<'f, W>, W::Error>
         ensures* loan { sem 𝓛 (OpeningLoan W.row W.seen self.entry result (codes "[")) }
         ensures opening { IfOk result
@@ -59,6 +61,7 @@ impl<W: uWrite> Formatter<W> {
 
 impl<W: uWrite, K: Items> Builder<'_, W, K> {
     /// Writes one entry. On `Err` a beginning of it is written and the builder is closed.
+    #[inline(always)]
     pub fn entry<D: uDebug>(&mut self, entry: &D) -> Result<(), W::Error>
         requires { IsOpen (block K.BlockKind.kind self.old) }
         ensures entry { Entry W.seen (block K.BlockKind.kind self.old)
@@ -70,6 +73,7 @@ impl<W: uWrite, K: Items> Builder<'_, W, K> {
     }
 
     /// Writes an entry for each item, in order, and takes no item after a failure.
+    #[inline(always)]
     pub fn entries<D: uDebug + Drop, I: IntoIterator<Item = D>>(
         &mut self,
         entries: I,
@@ -91,6 +95,7 @@ impl<W: uWrite, K: Items> Builder<'_, W, K> {
     }
 
     /// Writes what stands before an entry, and lends the formatter for it.
+    #[inline(always)]
     pub fn begin_entry(&mut self) -> Result<&mut Formatter<W>, W::Error>
         requires { IsOpen (block K.BlockKind.kind self.old) }
         ensures* loan { sem 𝓛 (EntryLoan W.row K.row self.entry result Lent
@@ -104,6 +109,7 @@ impl<W: uWrite, K: Items> Builder<'_, W, K> {
     }
 
     /// Writes what stands after an entry whose `fmt` gave this answer, or passes an `Err` on.
+    #[inline(always)]
     pub fn end_entry(&mut self, answer: Result<(), W::Error>) -> Result<(), W::Error>
         requires { IsLent (block K.BlockKind.kind self.old) }
         ensures end { EntryEnd W.seen answer (block K.BlockKind.kind self.old) result (is_ok result)

@@ -6,7 +6,7 @@ ghost use Rattle.ufmt_core.specs.Decimal.{decimal};
 
 use crate::formatter::Formatter;
 use crate::uDebug;
-use crate::unsigned::{Magnitude, text_from, write_digits};
+use crate::unsigned::{Magnitude, text_from};
 use crate::write::uWrite;
 
 /// A signed number of some width, as its decimal text sees it.
@@ -52,6 +52,7 @@ impl Signed for i128 {
 }
 
 /// The decimal text of `z`, made at the end of `buffer`.
+#[inline(always)]
 pub(crate) fn decimal_text<S: Signed, const N: usize>(z: S, buffer: &mut [u8; N]) -> &str
     requires sign_and_digit { 1 < N }
     requires room { nat_abs (S.value z) < 10 ^ (N - 1) }
@@ -62,12 +63,13 @@ pub(crate) fn decimal_text<S: Signed, const N: usize>(z: S, buffer: &mut [u8; N]
 }
 
 /// Writes the decimal text of `z` at the end of `buffer`, and gives the index of its first byte.
+#[inline(always)]
 fn write_decimal<S: Signed>(z: S, buffer: &mut [u8]) -> usize
     requires { length (decimal (S.value z)) ≤ length buffer.old }
     ensures start { result + length (decimal (S.value z)) ≡ length buffer.old }
     ensures written { drop result buffer.new ≡ decimal (S.value z) }
 {
-    let start = write_digits(z.magnitude(), buffer);
+    let start = z.magnitude().write_digits(buffer);
     if !z.is_negative() {
         return start;
     }

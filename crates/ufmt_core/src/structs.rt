@@ -25,6 +25,7 @@ pub struct StructBlock;
 impl BlockKind for StructBlock {
     ghost kind = { λ _. Struct };
 
+    #[inline(always)]
     fn kind(&self) -> Kind {
         Kind::Struct
     }
@@ -33,6 +34,7 @@ impl BlockKind for StructBlock {
 impl<W: uWrite> Formatter<W> {
     /// Writes the name, which may be empty, and begins a struct. On `Err` there is no builder, and mode
     /// and depth are as before.
+    #[inline(always)]
     pub fn debug_struct<'f>(&'f mut self, name: &str) -> Result<DebugStruct<'f, W>, W::Error>
         ensures* loan { sem 𝓛 (OpeningLoan W.row W.seen self.entry result name.now) }
         ensures opening { IfOk result
@@ -45,6 +47,7 @@ impl<W: uWrite> Formatter<W> {
 
 impl<W: uWrite> DebugStruct<'_, W> {
     /// Writes one field, `name: value`. On `Err` a beginning of it is written and the builder is closed.
+    #[inline(always)]
     pub fn field<D: uDebug>(&mut self, name: &str, value: &D) -> Result<(), W::Error>
         requires { IsOpen (struct_block self.old) }
         ensures entry { Entry W.seen (struct_block self.old)
@@ -56,6 +59,7 @@ impl<W: uWrite> DebugStruct<'_, W> {
     }
 
     /// Writes what stands before a field's value, and lends the formatter for the value.
+    #[inline(always)]
     pub fn begin_field(&mut self, name: &str) -> Result<&mut Formatter<W>, W::Error>
         requires { IsOpen (struct_block self.old) }
         ensures* loan { sem 𝓛 (StructLoan W.row self.entry result Lent
@@ -69,6 +73,7 @@ impl<W: uWrite> DebugStruct<'_, W> {
     }
 
     /// Writes what stands after a field whose value's `fmt` gave this answer, or passes an `Err` on.
+    #[inline(always)]
     pub fn end_field(&mut self, answer: Result<(), W::Error>) -> Result<(), W::Error>
         requires { IsLent (struct_block self.old) }
         ensures end { EntryEnd W.seen answer (struct_block self.old) result (is_ok result)

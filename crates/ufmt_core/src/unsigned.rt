@@ -1,7 +1,7 @@
 //! Decimal texts of unsigned numbers.
-ghost use Rattle.std.specs.Prelude.{◌≡◌, ◌↔◌, ◌+◌, ◌/◌, ◌%◌, ◌^◌, ◌<◌, ◌≤◌, ℕ, pos, length, drop, IsTrue, IsAscii};
+ghost use Rattle.std.specs.Prelude.{◌≡◌, ◌+◌, ◌++◌, ◌/◌, ◌%◌, ◌^◌, ◌<◌, ◌≤◌, ℕ, pos, length, drop, IsAscii};
 ghost use Rattle.ufmt_core.specs.Document.{leaf};
-ghost use Rattle.ufmt_core.specs.Decimal.{decimal, EachNumberIsTold, OneTextTells, OneNumberIsTold};
+ghost use Rattle.ufmt_core.specs.Decimal.{decimal, decimal_byte, last_digits, EachNumberIsTold, OneTextTells, OneNumberIsTold};
 
 use crate::formatter::Formatter;
 use crate::uDebug;
@@ -15,82 +15,175 @@ pub fn decimal_is_one_text()
     ensures one_number { OneNumberIsTold }
 {}
 
+// The two digits of each number below 100, the tens first.
+static DIGIT_PAIRS: [u8; 200] = *b"\
+    00010203040506070809101112131415161718192021222324252627282930313233343536373839\
+    40414243444546474849505152535455565758596061626364656667686970717273747576777879\
+    8081828384858687888990919293949596979899";
+
+const _: () = prove!(DIGIT_PAIRS.len() == 2 * 100);
+
+/// The bytes of the two decimal digits of `i`, the tens first. It asks that `i` is below 100.
+#[inline(always)]
+pub fn digit_pair(i: u8) -> (u8, u8)
+    requires { i < 100 }
+    ensures tens { result.0 ≡ decimal_byte (i / 10) }
+    ensures ones { result.1 ≡ decimal_byte (i % 10) }
+{
+    let at = 2 * i as usize;
+    (DIGIT_PAIRS[at], DIGIT_PAIRS[at + 1])
+}
+
 /// An unsigned number of some width, as its decimal digits see it.
 pub(crate) trait Magnitude: Copy {
     ghost value: { Self → ℕ };
 
-    fn is_zero(self) -> bool
-        ensures { IsTrue result ↔ (value self ≡ 0) };
-
-    /// The number without its last digit, and that digit.
-    fn split_last_digit(self) -> (Self, u8)
-        ensures rest { value result.0 ≡ value self / 10 }
-        ensures digit { result.1 ≡ value self % 10 };
+    /// Writes the decimal text at the end of `buffer`, and gives the index of its first digit.
+    fn write_digits(self, buffer: &mut [u8]) -> usize
+        requires { length (decimal (pos (value self))) ≤ length buffer.old }
+        ensures start { result + length (decimal (pos (value self))) ≡ length buffer.old }
+        ensures written { drop result buffer.new ≡ decimal (pos (value self)) };
 }
 
+/// Two digits a turn, from the right.
+impl Magnitude for u32 {
+    ghost value = { λ n. n };
+
+    #[inline(always)]
+    fn write_digits(self, buffer: &mut [u8]) -> usize {
+        let mut start = buffer.len();
+        let mut left = self;
+        while left >= 100 {
+            start -= 2;
+            write_pair((left % 100) as u8, buffer, start);
+            left /= 100;
+        }
+        write_first(left as u8, buffer, start)
+    }
+}
+
+/// Parts of eight digits, from the right, and then what fits 32 bits.
 impl Magnitude for u64 {
     ghost value = { λ n. n };
 
-    fn is_zero(self) -> bool {
-        self == 0
-    }
-
-    fn split_last_digit(self) -> (u64, u8) {
-        let rest = self / 10;
-        (rest, (self - 10 * rest) as u8)
+    #[inline(always)]
+    fn write_digits(self, buffer: &mut [u8]) -> usize {
+        let mut start = buffer.len();
+        let mut left = self;
+        while left > u32::MAX as u64 {
+            start -= 8;
+            write_eight((left % EIGHT_DIGITS) as u32, buffer, start);
+            left /= EIGHT_DIGITS;
+        }
+        (left as u32).write_digits(&mut buffer[..start])
     }
 }
 
+/// Parts of sixteen digits, from the right, and then what fits 64 bits: a division of 128 bits is slow.
 impl Magnitude for u128 {
     ghost value = { λ n. n };
 
-    fn is_zero(self) -> bool {
-        self == 0
-    }
-
-    fn split_last_digit(self) -> (u128, u8) {
-        let rest = self / 10;
-        (rest, (self - 10 * rest) as u8)
+    fn write_digits(self, buffer: &mut [u8]) -> usize {
+        let mut start = buffer.len();
+        let mut left = self;
+        while left > u64::MAX as u128 {
+            start -= 16;
+            write_sixteen((left % SIXTEEN_DIGITS) as u64, buffer, start);
+            left /= SIXTEEN_DIGITS;
+        }
+        (left as u64).write_digits(&mut buffer[..start])
     }
 }
 
+// One more than the greatest number with so many digits.
+const EIGHT_DIGITS: u64 = 100_000_000;
+
+const SIXTEEN_DIGITS: u128 = 10_000_000_000_000_000;
+
+// Writes sixteen digits, with zeros before those of a short number.
+#[inline]
+fn write_sixteen(n: u64, buffer: &mut [u8], start: usize)
+    requires sixteen_digits { n < 10 ^ 16 }
+    requires room { start + 16 ≤ length buffer.old }
+    ensures { drop start buffer.new ≡ last_digits 16 n ++ drop (start + 16) buffer.old }
+{
+    write_eight((n % EIGHT_DIGITS) as u32, buffer, start + 8);
+    write_eight((n / EIGHT_DIGITS) as u32, buffer, start);
+}
+
+// Writes eight digits.
+#[inline]
+fn write_eight(n: u32, buffer: &mut [u8], start: usize)
+    requires eight_digits { n < 10 ^ 8 }
+    requires room { start + 8 ≤ length buffer.old }
+    ensures { drop start buffer.new ≡ last_digits 8 n ++ drop (start + 8) buffer.old }
+{
+    write_four(n % 10_000, buffer, start + 4);
+    write_four(n / 10_000, buffer, start);
+}
+
+// Writes four digits.
+#[inline(always)]
+fn write_four(n: u32, buffer: &mut [u8], start: usize)
+    requires four_digits { n < 10 ^ 4 }
+    requires room { start + 4 ≤ length buffer.old }
+    ensures { drop start buffer.new ≡ last_digits 4 n ++ drop (start + 4) buffer.old }
+{
+    write_pair((n % 100) as u8, buffer, start + 2);
+    write_pair((n / 100) as u8, buffer, start);
+}
+
+// Writes two digits.
+#[inline(always)]
+fn write_pair(pair: u8, buffer: &mut [u8], start: usize)
+    requires two_digits { pair < 100 }
+    requires room { start + 2 ≤ length buffer.old }
+    ensures { drop start buffer.new ≡ last_digits 2 pair ++ drop (start + 2) buffer.old }
+{
+    let (tens, ones) = digit_pair(pair);
+    buffer[start] = tens;
+    buffer[start + 1] = ones;
+}
+
+// Writes a number of one digit or two before `end`, and gives the index of the first.
+#[inline(always)]
+fn write_first(n: u8, buffer: &mut [u8], end: usize) -> usize
+    requires two_digits { n < 100 }
+    requires room { length (decimal (pos n)) ≤ end }
+    requires within { end ≤ length buffer.old }
+    ensures start { result + length (decimal (pos n)) ≡ end }
+    ensures written { drop result buffer.new ≡ decimal (pos n) ++ drop end buffer.old }
+{
+    let (tens, ones) = digit_pair(n);
+    buffer[end - 1] = ones;
+    if n < 10 {
+        return end - 1;
+    }
+    buffer[end - 2] = tens;
+    end - 2
+}
+
 /// The decimal text of `n`, made at the end of `buffer`.
+#[inline(always)]
 pub(crate) fn decimal_text<M: Magnitude, const N: usize>(n: M, buffer: &mut [u8; N]) -> &str
     requires not_empty { 0 < N }
     requires room { M.value n < 10 ^ N }
     ensures { result.now ≡ decimal (pos (M.value n)) }
 {
-    let start = write_digits(n, buffer);
+    let start = n.write_digits(buffer);
     text_from(buffer, start)
-}
-
-/// Writes the decimal text of `n` at the end of `buffer`, and gives the index of its first digit.
-pub(crate) fn write_digits<M: Magnitude>(n: M, buffer: &mut [u8]) -> usize
-    requires { length (decimal (pos (M.value n))) ≤ length buffer.old }
-    ensures start { result + length (decimal (pos (M.value n))) ≡ length buffer.old }
-    ensures written { drop result buffer.new ≡ decimal (pos (M.value n)) }
-{
-    let mut start = buffer.len();
-    let mut left = n;
-    loop {
-        let (rest, digit) = left.split_last_digit();
-        start -= 1;
-        buffer[start] = b'0' + digit;
-        if rest.is_zero() {
-            return start;
-        }
-        left = rest;
-    }
 }
 
 /// The text that ends `buffer`, from `start` on. It asks that `start` is within the buffer and that the
 /// bytes from there on are ASCII: `ufmt` calls it for hexadecimal digits.
+#[inline(always)]
 pub fn text_from(buffer: &[u8], start: usize) -> &str
     requires within { start ≤ length buffer.now }
     requires ascii { IsAscii (drop start buffer.now) }
     ensures { result.now ≡ drop start buffer.now }
 {
-    str::from_utf8(&buffer[start..]).unwrap()
+    // The check proves at this call that the bytes are a text.
+    unsafe { str::from_utf8_unchecked(&buffer[start..]) }
 }
 
 impl uDebug for u8 {

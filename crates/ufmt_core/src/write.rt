@@ -63,6 +63,7 @@ impl<W: uWrite> uWrite for &mut W {
       store = λ r. W.seen.store r.now;
     } };
 
+    #[inline(always)]
     fn write_str(&mut self, s: &str) -> Result<(), W::Error> {
         (**self).write_str(s)
     }

@@ -74,14 +74,16 @@ fn write_digits<N: Nibbles>(n: N, upper_case: bool, buffer: &mut [u8]) -> usize
     }
 }
 
+static LOWER_CASE: [u8; 16] = *b"0123456789abcdef";
+static UPPER_CASE: [u8; 16] = *b"0123456789ABCDEF";
+
+#[inline]
 fn digit_byte(digit: u8, upper_case: bool) -> u8
     requires { digit < 16 }
     ensures { result ≡ hexadecimal_byte upper_case digit }
 {
-    let letter_of_ten = if upper_case { b'A' } else { b'a' };
-    if digit < 10 {
-        b'0' + digit
-    } else {
-        letter_of_ten + (digit - 10)
+    if upper_case {
+        return UPPER_CASE[digit as usize];
     }
+    LOWER_CASE[digit as usize]
 }

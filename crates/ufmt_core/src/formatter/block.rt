@@ -37,6 +37,7 @@ pub(crate) enum Place {
 
 impl Kind {
     // The bracket that ends a block with entries.
+    #[inline(always)]
     fn closing(self) -> &'static str
         ensures { result.now ≡ (frame Pretty self).end }
     {
@@ -50,6 +51,7 @@ impl Kind {
 
 impl Place {
     /// The place after an entry.
+    #[inline(always)]
     pub(crate) fn next(self) -> Place
         ensures { result ≡ next self }
     {
@@ -62,6 +64,7 @@ impl Place {
 
 impl Setting {
     /// The mode and depth of the entries of a block. The depth saturates.
+    #[inline(always)]
     pub(crate) fn inside(self) -> Setting
         ensures { result ≡ inside self }
     {
@@ -77,6 +80,7 @@ impl Setting {
 
 impl<W: uWrite> Formatter<W> {
     /// What stands before an entry at this place, where the formatter is at the entries' depth.
+    #[inline(always)]
     pub(crate) fn write_lead(&mut self, kind: Kind, place: Place) -> Result<(), W::Error>
         ensures { Prints W.seen self.old
             (lead (frame (mode_of self.old) kind) (setting_of self.old) place) (is_ok result)
@@ -92,6 +96,7 @@ impl<W: uWrite> Formatter<W> {
     }
 
     /// What stands before the value of a struct's field with this name.
+    #[inline(always)]
     pub(crate) fn write_field_lead(
         &mut self,
         kind: Kind,
@@ -108,6 +113,7 @@ impl<W: uWrite> Formatter<W> {
     }
 
     /// What stands after an entry.
+    #[inline(always)]
     pub(crate) fn write_trail(&mut self) -> Result<(), W::Error>
         ensures { Prints W.seen self.old (trail (mode_of self.old)) (is_ok result) self.new }
     {
@@ -118,6 +124,7 @@ impl<W: uWrite> Formatter<W> {
     }
 
     /// What ends a block, where the formatter is at the block's own depth.
+    #[inline(always)]
     pub(crate) fn write_ending(&mut self, kind: Kind, place: Place) -> Result<(), W::Error>
         ensures { Prints W.seen self.old
             (ending (frame (mode_of self.old) kind) (setting_of self.old) place) (is_ok result)
@@ -137,6 +144,7 @@ impl<W: uWrite> Formatter<W> {
     }
 
     // What stands between the brackets of a struct or a tuple and its first entry.
+    #[inline(always)]
     fn write_start(&mut self, kind: Kind) -> Result<(), W::Error>
         ensures { Prints W.seen self.old (frame (mode_of self.old) kind).start (is_ok result)
             self.new }
@@ -152,6 +160,7 @@ impl<W: uWrite> Formatter<W> {
     }
 
     // What ends a block without entries.
+    #[inline(always)]
     fn write_empty(&mut self, kind: Kind) -> Result<(), W::Error>
         ensures { Prints W.seen self.old (frame (mode_of self.old) kind).empty (is_ok result)
             self.new }
@@ -163,6 +172,7 @@ impl<W: uWrite> Formatter<W> {
     }
 
     // What ends a block with one entry.
+    #[inline(always)]
     fn write_alone(&mut self, kind: Kind) -> Result<(), W::Error>
         ensures { Prints W.seen self.old (frame (mode_of self.old) kind).alone (is_ok result)
             self.new }
@@ -177,6 +187,7 @@ impl<W: uWrite> Formatter<W> {
     }
 
     // What ends a block with several entries.
+    #[inline(always)]
     fn write_end(&mut self, kind: Kind) -> Result<(), W::Error>
         ensures { Prints W.seen self.old (frame (mode_of self.old) kind).end (is_ok result)
             self.new }
@@ -191,6 +202,7 @@ impl<W: uWrite> Formatter<W> {
     }
 
     // What stands inside the braces of a struct.
+    #[inline(always)]
     fn write_gap(&mut self) -> Result<(), W::Error>
         ensures { Prints W.seen self.old (gap (mode_of self.old)) (is_ok result) self.new }
     {
@@ -200,6 +212,7 @@ impl<W: uWrite> Formatter<W> {
         }
     }
 
+    #[inline(always)]
     fn write_new_line(&mut self) -> Result<(), W::Error>
         ensures { Prints W.seen self.old (new_line (mode_of self.old) (depth_of self.old))
             (is_ok result) self.new }
@@ -213,6 +226,7 @@ impl<W: uWrite> Formatter<W> {
         }
     }
 
+    #[inline(always)]
     fn write_separator(&mut self) -> Result<(), W::Error>
         ensures { Prints W.seen self.old (separator (mode_of self.old) (depth_of self.old))
             (is_ok result) self.new }
@@ -223,6 +237,7 @@ impl<W: uWrite> Formatter<W> {
         }
     }
 
+    #[inline(always)]
     fn write_line_start(&mut self) -> Result<(), W::Error>
         ensures { Prints W.seen self.old (line_start (mode_of self.old) (depth_of self.old))
             (is_ok result) self.new }

@@ -49,6 +49,7 @@ pub struct Builder<'f, W, K> {
 
 impl<W: uWrite> Formatter<W> {
     /// Writes the opening, and goes on to the mode and depth of the entries.
+    #[inline(always)]
     pub(crate) fn open<'f, K: BlockKind>(
         &'f mut self,
         opening: &str,
@@ -75,6 +76,7 @@ impl<W: uWrite> Formatter<W> {
 impl<W: uWrite, K: BlockKind> Builder<'_, W, K> {
     /// Writes what ends the block. The builder is then closed, and mode and depth are those from
     /// before it, also where the writer fails.
+    #[inline(always)]
     pub fn finish(&mut self) -> Result<(), W::Error>
         requires { IsOpen (block K.kind self.old) }
         ensures { Closing W.seen (block K.kind self.old) (ending_of (block K.kind self.old))
@@ -94,6 +96,7 @@ impl<W: uWrite, K: BlockKind> Builder<'_, W, K> {
     }
 
     /// Writes what stands before an entry, and lends the formatter for it.
+    #[inline(always)]
     pub(crate) fn begin(&mut self) -> Result<&mut Formatter<W>, W::Error>
         ensures* loan { sem 𝓛 (EntryLoan W.row K.row self.entry result Lent
             (λ last. Stop W.seen (block K.kind self.old) (lead_of (block K.kind self.old))
@@ -107,6 +110,7 @@ impl<W: uWrite, K: BlockKind> Builder<'_, W, K> {
     }
 
     /// Writes what stands before the value of a field with this name, and lends the formatter for it.
+    #[inline(always)]
     pub(crate) fn begin_named(&mut self, name: &str) -> Result<&mut Formatter<W>, W::Error>
         ensures* loan { sem 𝓛 (EntryLoan W.row K.row self.entry result Lent
             (λ last. Stop W.seen (block K.kind self.old)
@@ -121,6 +125,7 @@ impl<W: uWrite, K: BlockKind> Builder<'_, W, K> {
     }
 
     /// Lends the formatter where the answer is `Ok`, and else leaves the block.
+    #[inline(always)]
     pub(crate) fn lend_if(
         &mut self,
         answer: Result<(), W::Error>,
@@ -135,6 +140,7 @@ impl<W: uWrite, K: BlockKind> Builder<'_, W, K> {
         Ok(self.lend())
     }
 
+    #[inline(always)]
     fn lend(&mut self) -> &mut Formatter<W>
         ensures* loan { sem 𝓛 (follows
             (builder.the_row (record { mir = named 0; lft = [] }) W.row K.row)
@@ -146,6 +152,7 @@ impl<W: uWrite, K: BlockKind> Builder<'_, W, K> {
     }
 
     /// Writes what stands after an entry whose `fmt` gave this answer, or passes an `Err` on.
+    #[inline(always)]
     pub(crate) fn end(&mut self, answer: Result<(), W::Error>) -> Result<(), W::Error>
         ensures end { EntryEnd W.seen answer (block K.kind self.old) result (is_ok result)
             (block K.kind self.new) }
@@ -159,6 +166,7 @@ impl<W: uWrite, K: BlockKind> Builder<'_, W, K> {
     }
 
     // Goes on to this status and place where the answer is `Ok`, and else leaves the block.
+    #[inline(always)]
     fn settle(
         &mut self,
         answer: Result<(), W::Error>,
@@ -180,6 +188,7 @@ impl<W: uWrite, K: BlockKind> Builder<'_, W, K> {
     }
 
     // Closes the builder, and goes back to the mode and depth from before it.
+    #[inline(always)]
     fn leave(&mut self)
         ensures { self.new ≡ left self.old }
     {

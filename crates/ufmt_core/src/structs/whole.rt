@@ -16,6 +16,7 @@ pub trait NamedFields<'a> {
     ghost fields: { Self → Fields };
 
     /// Writes the fields, and closes the struct.
+    #[inline(always)]
     fn finish<W: uWrite>(&self, block: &mut DebugStruct<W>) -> Result<(), W::Error>
         requires is_open { IsOpen (struct_block block.old) }
         requires is_inside { IsInside (struct_block block.old) }
@@ -27,6 +28,7 @@ pub trait NamedFields<'a> {
 impl<'a> NamedFields<'a> for () {
     ghost fields = { λ _. no_fields };
 
+    #[inline(always)]
     fn finish<W: uWrite>(&self, block: &mut DebugStruct<W>) -> Result<(), W::Error> {
         block.finish()
     }
@@ -35,6 +37,7 @@ impl<'a> NamedFields<'a> for () {
 impl<'a, D: uDebug, R: NamedFields<'a>> NamedFields<'a> for (&'a str, &'a D, R) {
     ghost fields = { λ c. field c.0.now (D.document c.1.now) (R.fields c.2) };
 
+    #[inline(always)]
     fn finish<W: uWrite>(&self, block: &mut DebugStruct<W>) -> Result<(), W::Error> {
         block.field(self.0, self.1)?;
         self.2.finish(block)
@@ -44,6 +47,7 @@ impl<'a, D: uDebug, R: NamedFields<'a>> NamedFields<'a> for (&'a str, &'a D, R) 
 impl<W: uWrite> Formatter<W> {
     /// Writes a whole struct, whose fields are a chain `(name, value, (name, value, .. ()))` of
     /// references.
+    #[inline(always)]
     pub fn struct_of<'a, F: NamedFields<'a>>(
         &mut self,
         name: &str,
@@ -57,6 +61,7 @@ impl<W: uWrite> Formatter<W> {
     }
 
     /// Writes a whole struct with no fields.
+    #[inline(always)]
     pub fn struct_0(&mut self, name: &str) -> Result<(), W::Error>
         ensures { LaysOut W.seen self.old (struct_of name.now (fields_of ([]))) (is_ok result)
             self.new }
@@ -65,6 +70,7 @@ impl<W: uWrite> Formatter<W> {
     }
 
     /// Writes a whole struct with one field.
+    #[inline(always)]
     pub fn struct_1<'a, A: uDebug>(
         &mut self,
         name: &str,
@@ -79,6 +85,7 @@ impl<W: uWrite> Formatter<W> {
     }
 
     /// Writes a whole struct with 2 fields.
+    #[inline(always)]
     pub fn struct_2<'a, A: uDebug, B: uDebug>(
         &mut self,
         name: &str,
@@ -96,6 +103,7 @@ impl<W: uWrite> Formatter<W> {
     }
 
     /// Writes a whole struct with 3 fields.
+    #[inline(always)]
     pub fn struct_3<'a, A: uDebug, B: uDebug, C: uDebug>(
         &mut self,
         name: &str,
@@ -115,6 +123,7 @@ impl<W: uWrite> Formatter<W> {
     }
 
     /// Writes a whole struct with 4 fields.
+    #[inline(always)]
     pub fn struct_4<'a, A: uDebug, B: uDebug, C: uDebug, D: uDebug>(
         &mut self,
         name: &str,
@@ -140,6 +149,7 @@ impl<W: uWrite> Formatter<W> {
     }
 
     /// Writes a whole struct with 5 fields.
+    #[inline(always)]
     pub fn struct_5<'a, A: uDebug, B: uDebug, C: uDebug, D: uDebug, E: uDebug>(
         &mut self,
         name: &str,
@@ -171,6 +181,7 @@ impl<W: uWrite> Formatter<W> {
     }
 
     /// Writes a whole struct with 6 fields.
+    #[inline(always)]
     pub fn struct_6<'a, A: uDebug, B: uDebug, C: uDebug, D: uDebug, E: uDebug, F: uDebug>(
         &mut self,
         name: &str,
@@ -209,6 +220,7 @@ impl<W: uWrite> Formatter<W> {
     }
 
     /// Writes a whole struct with 7 fields.
+    #[inline(always)]
     pub fn struct_7<
         'a,
         A: uDebug,
@@ -262,6 +274,7 @@ impl<W: uWrite> Formatter<W> {
     }
 
     /// Writes a whole struct with 8 fields.
+    #[inline(always)]
     pub fn struct_8<
         'a,
         A: uDebug,
@@ -323,6 +336,7 @@ impl<W: uWrite> Formatter<W> {
     }
 
     /// Writes a whole struct with 9 fields.
+    #[inline(always)]
     pub fn struct_9<
         'a,
         A: uDebug,
@@ -391,6 +405,7 @@ impl<W: uWrite> Formatter<W> {
     }
 
     /// Writes a whole struct with 10 fields.
+    #[inline(always)]
     pub fn struct_10<
         'a,
         A: uDebug,
@@ -467,6 +482,7 @@ impl<W: uWrite> Formatter<W> {
     }
 
     /// Writes a whole struct with 11 fields.
+    #[inline(always)]
     pub fn struct_11<
         'a,
         A: uDebug,
@@ -550,6 +566,7 @@ impl<W: uWrite> Formatter<W> {
     }
 
     /// Writes a whole struct with 12 fields.
+    #[inline(always)]
     pub fn struct_12<
         'a,
         A: uDebug,

@@ -1,0 +1,89 @@
+-- Decimal texts that are written from the right, several digits at a time.
+use Rattle.std.proofs.Common.{◌≡◌, ℕ, zero, suc, ◌+◌, ◌-◌, ◌*◌, ◌/◌, ◌%◌, ◌^◌, ◌<◌, ◌≤◌, List, [], ◌∷◌, ◌++◌, length, drop, pos, refl, sym, ap, ◌∙◌, arith, pow-suc, mul-le-mul_right, length-append, length-drop, append_assoc, append-nil}
+use Rattle.std.proofs.Math.Nat.{pow-zero, pow-succ', div-one, mul_assoc, one-le-pow, div-div-eq-div-mul}
+use Rattle.std.proofs.Math.Arith.{mod-mul}
+use Rattle.std.proofs.lemmas.Nat.{div-add-mod', le-div, mod_below}
+use Rattle.ufmt_core.specs.Decimal.{decimal_byte, decimal, last_digits}
+use Rattle.ufmt_core.proofs.DecimalTexts.{decimal-in_base}
+use Rattle.ufmt_core.proofs.NumeralTexts.{text-digit, text-step, text-nonempty}
+use Rattle.ufmt_core.proofs.WrittenDigits.{IsWrittenFrom}
+
+-- there are as many as asked for
+pub length-last_digits : (count n : ℕ) → length (last_digits count n) ≡ count
+unfolding last_digits
+length-last_digits zero n = refl
+length-last_digits (suc count) n = omega (arith, length-append (last_digits count (n / 10)) (decimal_byte (n % 10) ∷ []), length-last_digits count (n / 10))
+
+-- two are the tens and the ones
+pub last_digits-two : (n : ℕ) → n < 100 → last_digits 2 n ≡ decimal_byte (n / 10) ∷ decimal_byte (n % 10) ∷ []
+unfolding last_digits
+last_digits-two n low = let tens : n / 10 % 10 ≡ n / 10 = omega arith in rw tens refl
+
+-- they are the whole text of a number of two digits
+pub decimal-two : (n : ℕ) → 10 ≤ n → n < 100 → decimal (pos n) ≡ decimal_byte (n / 10) ∷ decimal_byte (n % 10) ∷ []
+decimal-two n high low = text-step decimal-in_base n high ∙ rw (text-digit decimal-in_base (n / 10) (omega arith)) refl
+
+-- a power is positive
+positive_power : (count : ℕ) → 0 < 10 ^ count
+positive_power count = one-le-pow count 10 (omega arith)
+
+-- they are those before the last ones, and those
+pub last_digits-split : (front count n : ℕ) → last_digits (front + count) n ≡ last_digits front (n / 10 ^ count) ++ last_digits count (n % 10 ^ count)
+unfolding last_digits
+last_digits-split front zero n = let all : front + 0 ≡ front = omega arith in rw (pow-zero, div-one, append-nil, all) refl
+last_digits-split front (suc count) n =
+    let digits = mod-mul n {m = 10 ^ count} {c = 10} (positive_power count) (omega arith) in
+    let more : front + suc count ≡ suc (front + count) = omega arith in
+    let quotient : n / 10 / 10 ^ count ≡ n / 10 ^ suc count = div-div-eq-div-mul n 10 (10 ^ count) ∙ ap (λ power. n / power) (sym (pow-succ' 10 count)) in
+    let middle : n % 10 ^ suc count / 10 ≡ n / 10 % 10 ^ count = rw pow-suc (omega (arith, digits)) in
+    let last : n % 10 ^ suc count % 10 ≡ n % 10 = rw pow-suc (omega (arith, digits)) in
+    rw (more, ← quotient, middle, last, last_digits-split front count (n / 10)) (append_assoc (last_digits front (n / 10 / 10 ^ count)) (last_digits count (n / 10 % 10 ^ count)) (decimal_byte (n % 10) ∷ []))
+
+-- the digits of a number above 0 stand before the last ones
+decimal-front : (count front part : ℕ) → 0 < front → part < 10 ^ count → decimal (pos (front * 10 ^ count + part)) ≡ decimal (pos front) ++ last_digits count part
+unfolding last_digits
+decimal-front zero front part some low =
+    let same : front * 10 ^ 0 + part ≡ front = omega (arith, pow-zero 10) in
+    rw (same, append-nil) refl
+decimal-front (suc count) front part some low =
+    let power = pow-suc 10 count in
+    let product = mul_assoc front (10 ^ count) 10 in
+    let n = front * 10 ^ suc count + part in
+    let split : n ≡ (front * 10 ^ count) * 10 + part = rw power (omega (arith, product)) in
+    let quotient : n / 10 ≡ front * 10 ^ count + part / 10 = omega arith in
+    let last : n % 10 ≡ part % 10 = omega arith in
+    let high : 10 ≤ n = omega (arith, split, mul-le-mul_right (10 ^ count) some, positive_power count) in
+    text-step decimal-in_base n high
+    ∙ rw (quotient, last, decimal-front count front (part / 10) some (omega (arith, power))) (append_assoc (decimal (pos front)) (last_digits count (part / 10)) (decimal_byte (part % 10) ∷ []))
+
+-- a number is cut before its last digits
+pub decimal-cut : (count n : ℕ) → 10 ^ count ≤ n → decimal (pos n) ≡ decimal (pos (n / 10 ^ count)) ++ last_digits count (n % 10 ^ count)
+decimal-cut count n high =
+    ap (λ m. decimal (pos m)) (sym (div-add-mod' n (10 ^ count)))
+    ∙ decimal-front count (n / 10 ^ count) (n % 10 ^ count) (le-div 1 n (10 ^ count) (positive_power count) (omega arith)) (mod_below n (10 ^ count) (positive_power count))
+
+-- and is shorter by as many
+pub length-cut : (count n : ℕ) → 10 ^ count ≤ n → length (decimal (pos n)) ≡ length (decimal (pos (n / 10 ^ count))) + count
+length-cut count n high =
+    omega (arith, ap length (decimal-cut count n high), length-append (decimal (pos (n / 10 ^ count))) (last_digits count (n % 10 ^ count)), length-last_digits count (n % 10 ^ count))
+
+module _ (n left start : ℕ) (buffer : List ℕ) (fits : length (decimal (pos n)) ≤ length buffer) (written : IsWrittenFrom (λ m. decimal (pos m)) n left start buffer) (count : ℕ) (high : 10 ^ count ≤ left) where
+  -- there is room for the last digits and for another
+  pub cut_fits : count < start
+  cut_fits =
+      omega (
+        arith,
+        written.within,
+        ap length written.joined,
+        length-append (decimal (pos left)) (drop start buffer),
+        length-drop start buffer,
+        length-cut count left high,
+        text-nonempty decimal-in_base (left / 10 ^ count),
+      )
+
+  -- the step of a loop that writes the last digits before the others
+  pub IsWrittenFrom-cut : (rest part : ℕ) (new : List ℕ) → rest ≡ left / 10 ^ count → part ≡ left % 10 ^ count → length new ≡ length buffer → drop (start - count) new ≡ last_digits count part ++ drop start buffer → IsWrittenFrom (λ m. decimal (pos m)) n rest (start - count) new
+  IsWrittenFrom-cut rest part new is_rest is_part same_length placed = record {
+    within = omega (arith, written.within);
+    joined = rw (is_rest, placed, is_part, ← append_assoc (decimal (pos (left / 10 ^ count))) (last_digits count (left % 10 ^ count)) (drop start buffer), ← decimal-cut count left high) written.joined;
+  }
