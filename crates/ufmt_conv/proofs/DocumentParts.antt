@@ -1,5 +1,5 @@
 -- Where documents, pairs and fields begin, in terms of what their entries are read as.
-use Rattle.std.proofs.Common.{◌≡◌, refl, ap, ◌∙◌, ℕ, zero, suc, ◌<◌, ◌≤◌, ◌==◌, Bool, true, false, cond, Result, Ok, Err, MatchResult, Bor, List, [], ◌∷◌, ◌++◌, length, map, length-append, eqb-true, Option, Some, None, option_map, option_and_then, codes, arith}
+use Rattle.std.proofs.Common.{◌≡◌, refl, ap, ◌∙◌, ℕ, zero, suc, ◌<◌, ◌≤◌, ◌==◌, Bool, true, false, cond, Result, Ok, Err, MatchResult, Bor, List, [], ◌∷◌, length, eqb-true, Option, Some, None, option_map, option_and_then, codes, arith}
 use Rattle.ufmt.specs.Document.{Document, list_of, set_of, map_of, struct_of, tuple_of, documents, pairs_of, fields_of}
 use Rattle.ufmt_core.specs.declared.formatter.Setting.{Setting}
 use Rattle.ufmt_core.specs.declared.formatter.block.Kind.TheVariants.{Brackets, Braces, Struct, Tuple, Unnamed}

@@ -2,7 +2,7 @@
 use Rattle.std.proofs.Common.{◌≡◌, Option, None, Result, Ok, Err, MatchResult}
 use Rattle.std.specs.Result.{IsErrAnd}
 use Rattle.ufmt_conv.specs.declared.reader.error.ReadError.{ReadError}
-use Rattle.ufmt_conv.specs.declared.reader.error.ReadError.TheVariants.{NotText, OutOfMemory}
+use Rattle.ufmt_conv.specs.declared.reader.error.ReadError.TheVariants.{NotText}
 
 -- an error that is passed on, whatever holds of the other answer
 pub passes_on : {A B : Type 0} (P : A → Type 0) (answer : Result A ReadError) (there : Option B) (e : ReadError) (Q : ReadError → Type 0) → IsErrAnd answer Q → ((y : ReadError) → Q y → y ≡ e) → (e ≡ NotText → there ≡ None) → MatchResult answer P (λ y. y ≡ NotText → there ≡ None)

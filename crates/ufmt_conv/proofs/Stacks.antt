@@ -3,7 +3,6 @@ use Rattle.std.proofs.Common.{◌≡◌, refl, ap, ◌∙◌, sym, ℕ, zero, su
 use Rattle.ufmt.specs.Document.{Document}
 use Rattle.ufmt.specs.Layout.{inside, setting}
 use Rattle.ufmt.specs.Reading.{read}
-use Rattle.ufmt_core.specs.declared.formatter.Setting.{Setting}
 use Rattle.ufmt_conv.specs.declared.reader.error.ReadError.{ReadError}
 use Rattle.ufmt_conv.specs.declared.reader.level.Level.{Level}
 use Rattle.ufmt_conv.specs.declared.reader.level.Mode.{Mode}
@@ -11,7 +10,7 @@ use Rattle.ufmt_conv.specs.declared.reader.level.Mode.TheVariants.{Plain, Pretty
 use Rattle.ufmt_conv.specs.declared.reader.open_block.OpenBlock.{OpenBlock}
 use Rattle.ufmt_conv.specs.declared.reader.open_block.OpenBlock.TheVariants as blocks
 use Rattle.ufmt_conv.specs.declared.reader.open_block.Step.{Step}
-use Rattle.ufmt_conv.specs.Level.{budget_of, depth_in, entry_at, entry_of, mode_of, setting_of}
+use Rattle.ufmt_conv.specs.Level.{budget_of, entry_at, entry_of, mode_of, setting_of}
 use Rattle.ufmt_conv.specs.Stack.{document_at, level_at, resume}
 use Rattle.ufmt_conv.specs.Steps.{Steps, finish}
 

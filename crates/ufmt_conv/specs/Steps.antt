@@ -1,5 +1,5 @@
 -- What reading does with an entry of a block that is open.
-use Rattle.std.specs.Prelude.{◌≡◌, ℕ, ◌<◌, ◌≤◌, Bool, cond, length, List, [], ◌∷◌, codes, string_bytes, Option, Some, None, option_map, option_and_then, Result, MatchResult}
+use Rattle.std.specs.Prelude.{◌≡◌, ℕ, ◌<◌, ◌≤◌, Bool, cond, length, List, codes, string_bytes, Option, Some, None, option_map, option_and_then, Result, MatchResult}
 use Rattle.std.specs.Borrow.{Bor}
 use Rattle.ufmt.specs.Document.{Document, list_of, set_of, map_of, struct_of, tuple_of, no_pairs, documents, pairs_of, fields_of}
 use Rattle.ufmt.specs.Layout.{frame, tuple_kind}

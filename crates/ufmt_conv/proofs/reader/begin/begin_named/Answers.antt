@@ -1,4 +1,4 @@
-use Rattle.std.proofs.Common.{◌∙◌, ap, sym, ◌≤◌, ◌<◌, suc, length, arith}
+use Rattle.std.proofs.Common.{sym, ◌≤◌, ◌<◌, length, arith}
 use Rattle.ufmt_conv.specs.Level.{entry_of, frame_of, setting_of}
 use Rattle.ufmt.specs.Layout.{inside, lead}
 use Rattle.ufmt_core.specs.declared.formatter.block.Place.TheVariants.{First}

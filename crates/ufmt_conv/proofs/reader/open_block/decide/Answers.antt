@@ -1,6 +1,5 @@
-use Rattle.std.proofs.Common.{◌≡◌, ◌∙◌, ap, sym, ◌≤◌, length, map, ℕ, List, Option, Some, codes}
+use Rattle.std.proofs.Common.{◌∙◌, ap, sym, ◌≤◌, length, map, ℕ, List, Option, Some, codes}
 use Rattle.ufmt.specs.Document.{Document, set_of, documents}
-use Rattle.ufmt.specs.Reading.{read_map_or_set}
 use Rattle.ufmt_conv.specs.declared.doc.Doc.{Doc}
 use Rattle.ufmt_conv.specs.declared.reader.level.Kind.TheVariants.{Braces}
 use Rattle.ufmt_conv.specs.declared.reader.level.Level.{Level}
