@@ -75,6 +75,7 @@ fn write_digits<N: Nibbles>(n: N, upper_case: bool, buffer: &mut [u8]) -> usize
 }
 
 static LOWER_CASE: [u8; 16] = *b"0123456789abcdef";
+
 static UPPER_CASE: [u8; 16] = *b"0123456789ABCDEF";
 
 #[inline]

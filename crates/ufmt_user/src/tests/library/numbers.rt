@@ -184,13 +184,31 @@ fn signed_powers_of_ten(rt: HostRuntime) -> Result<(), Fail> {
 #[test]
 fn least_and_greatest_numbers(rt: HostRuntime) -> Result<(), Fail> {
     let rows = Rows::of("least and greatest", &rt);
-    for n in [u8::MAX as u128, u16::MAX as u128, u32::MAX as u128, u64::MAX as u128, u128::MAX] {
+    for n in [
+        u8::MAX as u128,
+        u16::MAX as u128,
+        u32::MAX as u128,
+        u64::MAX as u128,
+        u128::MAX,
+    ] {
         rows.unsigned(n)?;
     }
-    for z in [i8::MIN as i128, i16::MIN as i128, i32::MIN as i128, i64::MIN as i128, i128::MIN] {
+    for z in [
+        i8::MIN as i128,
+        i16::MIN as i128,
+        i32::MIN as i128,
+        i64::MIN as i128,
+        i128::MIN,
+    ] {
         rows.signed(z)?;
     }
-    for z in [i8::MAX as i128, i16::MAX as i128, i32::MAX as i128, i64::MAX as i128, i128::MAX] {
+    for z in [
+        i8::MAX as i128,
+        i16::MAX as i128,
+        i32::MAX as i128,
+        i64::MAX as i128,
+        i128::MAX,
+    ] {
         rows.signed(z)?;
     }
     Ok(())
