@@ -257,8 +257,8 @@ fn opening_lines(alloc: Global, count: usize) -> Result<Vec<u8>, Fail> {
 fn blocks_that_never_end_are_refused(rt: HostRuntime) -> Result<(), Fail> {
     let mut brackets = Vec::new(rt.alloc());
     brackets.resize(1_000_000, b'[')?;
-    assert_eq!(rt; code(read_plain(rt.alloc(), &brackets)), 1);
+    same(&rt, code(read_plain(rt.alloc(), &brackets)), 1, "plain");
     let lines = opening_lines(rt.alloc(), 1000)?;
-    assert_eq!(rt; code(read_pretty(rt.alloc(), &lines)), 1);
+    same(&rt, code(read_pretty(rt.alloc(), &lines)), 1, "pretty");
     Ok(())
 }
