@@ -2,13 +2,14 @@
 use Rattle.std.proofs.Common.{◌≡◌, ℕ, List, [], ◌∷◌, Bool, true, false, codes, subst, sym, ◌∙◌}
 use Rattle.ufmt_core.specs.declared.formatter.Setting.{Setting}
 use Rattle.ufmt_core.specs.declared.formatter.Formatter.{Formatter}
+use Rattle.ufmt_core.specs.declared.formatter.block.Kind.{Kind}
 use Rattle.ufmt_core.specs.declared.formatter.block.Kind.TheVariants.{Brackets, Braces, Struct}
 use Rattle.ufmt_core.specs.Document.{Document, list_of, set_of, map_of, struct_of, tuple_of, Documents, no_documents, document, Pairs, no_pairs, pair, Fields, no_fields, field}
 use Rattle.ufmt_core.specs.Layout.{tuple_kind}
 use Rattle.ufmt_core.specs.Writes.{Seen}
 use Rattle.ufmt_core.specs.Formatter.{LaysOut}
 use Rattle.ufmt_core.specs.Block.{Block, Closing, Entry, Opening, ending_of, entries_left, entry_text, fields_left, field_text, pair_text, pairs_left}
-use Rattle.ufmt_core.proofs.Printing.{Completes, list_opened, set_opened, map_opened, struct_opened, tuple_opened, entry_written, entry_failed, finished}
+use Rattle.ufmt_core.proofs.Printing.{Completes, IsBlock, LaysOut-opened, list-is_block, set-is_block, map-is_block, struct-is_block, tuple-is_block, entry_written, entry_failed, finished}
 
 module _ {W : Type 0} where
   -- once what is left of the block is written, the document is laid out
@@ -17,20 +18,23 @@ module _ {W : Type 0} where
 
 -- before the first turn all entries are left, where the builder that has begun holds the reference
 module _ {W : Type 0} {seen : Seen W} {start : Formatter W} {reference : ℕ} {b : Block W} where
+  begun : {d : Document} {kind : Kind} {opening : List ℕ} {left : Setting → List (List ℕ)} → IsBlock d kind opening left → Opening seen start reference kind opening b → Leaves seen start d b.reference b left
+  begun {left = left} is_block o = record { completes = λ ok last c. LaysOut-opened is_block o (subst (λ (r : ℕ). Completes seen r b left ok last) o.same.reference c) }
+
   pub list_begun : {ds : Documents} → Opening seen start reference Brackets (codes "[") b → Leaves seen start (list_of ds) b.reference b (entries_left ds)
-  list_begun {ds} o = record { completes = λ ok last c. list_opened o (subst (λ (r : ℕ). Completes seen r b (entries_left ds) ok last) o.same.reference c) }
+  list_begun {ds} = begun (list-is_block ds)
 
   pub set_begun : {ds : Documents} → Opening seen start reference Braces (codes "{") b → Leaves seen start (set_of ds) b.reference b (entries_left ds)
-  set_begun {ds} o = record { completes = λ ok last c. set_opened o (subst (λ (r : ℕ). Completes seen r b (entries_left ds) ok last) o.same.reference c) }
+  set_begun {ds} = begun (set-is_block ds)
 
   pub map_begun : {ps : Pairs} → Opening seen start reference Braces (codes "{") b → Leaves seen start (map_of ps) b.reference b (pairs_left ps)
-  map_begun {ps} o = record { completes = λ ok last c. map_opened o (subst (λ (r : ℕ). Completes seen r b (pairs_left ps) ok last) o.same.reference c) }
+  map_begun {ps} = begun (map-is_block ps)
 
   pub struct_begun : {name : List ℕ} {fs : Fields} → Opening seen start reference Struct name b → Leaves seen start (struct_of name fs) b.reference b (fields_left fs)
-  struct_begun {name} {fs} o = record { completes = λ ok last c. struct_opened o (subst (λ (r : ℕ). Completes seen r b (fields_left fs) ok last) o.same.reference c) }
+  struct_begun {name} {fs} = begun (struct-is_block name fs)
 
   pub tuple_begun : {name : List ℕ} {ds : Documents} → Opening seen start reference (tuple_kind name) name b → Leaves seen start (tuple_of name ds) b.reference b (entries_left ds)
-  tuple_begun {name} {ds} o = record { completes = λ ok last c. tuple_opened o (subst (λ (r : ℕ). Completes seen r b (entries_left ds) ok last) o.same.reference c) }
+  tuple_begun {name} {ds} = begun (tuple-is_block name ds)
 
 module _ {W : Type 0} {seen : Seen W} {start : Formatter W} {d : Document} {reference : ℕ} {b b' : Block W} where
   -- a turn that wrote an entry leaves the others

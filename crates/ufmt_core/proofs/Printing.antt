@@ -43,19 +43,19 @@ module _ {W : Type 0} where
 pub record IsBlock (d : Document) (kind : Kind) (opening : List ℕ) (left : Setting → List (List ℕ)) : Type 0 where
   pub joined : (s : Setting) → layout s d ≡ opening ++ rest (frame s.mode kind) s First (left (inside s))
 
-list-is_block : (ds : Documents) → IsBlock (list_of ds) Brackets (codes "[") (entries_left ds)
+pub list-is_block : (ds : Documents) → IsBlock (list_of ds) Brackets (codes "[") (entries_left ds)
 list-is_block ds = record { joined = λ s. refl }
 
-set-is_block : (ds : Documents) → IsBlock (set_of ds) Braces (codes "{") (entries_left ds)
+pub set-is_block : (ds : Documents) → IsBlock (set_of ds) Braces (codes "{") (entries_left ds)
 set-is_block ds = record { joined = λ s. refl }
 
-map-is_block : (ps : Pairs) → IsBlock (map_of ps) Braces (codes "{") (pairs_left ps)
+pub map-is_block : (ps : Pairs) → IsBlock (map_of ps) Braces (codes "{") (pairs_left ps)
 map-is_block ps = record { joined = λ s. refl }
 
-struct-is_block : (name : List ℕ) (fs : Fields) → IsBlock (struct_of name fs) Struct name (fields_left fs)
+pub struct-is_block : (name : List ℕ) (fs : Fields) → IsBlock (struct_of name fs) Struct name (fields_left fs)
 struct-is_block name fs = record { joined = λ s. refl }
 
-tuple-is_block : (name : List ℕ) (ds : Documents) → IsBlock (tuple_of name ds) (tuple_kind name) name (entries_left ds)
+pub tuple-is_block : (name : List ℕ) (ds : Documents) → IsBlock (tuple_of name ds) (tuple_kind name) name (entries_left ds)
 tuple-is_block [] ds = record { joined = λ s. refl }
 tuple-is_block (c ∷ name) ds = record { joined = λ s. refl }
 
@@ -67,7 +67,7 @@ module _ {W : Type 0} {seen : Seen W} {start last : Formatter W} {d : Document} 
       LaysOut-err answer failed (record { prints = record { wrote = rw (is_block.joined (setting_of start)) (Writes-fails _ p.wrote); same_setting = p.same_setting } })
 
   -- a builder that began, and what was written from then on
-  LaysOut-opened : {reference : ℕ} {b : Block W} {ok : Bool} → Opening seen start reference kind opening b → Completes seen reference b left ok last → LaysOut seen start d ok last
+  pub LaysOut-opened : {reference : ℕ} {b : Block W} {ok : Bool} → Opening seen start reference kind opening b → Completes seen reference b left ok last → LaysOut seen start d ok last
   LaysOut-opened {b = b} o c =
       let more = c.continues (sym o.same.reference) (o.inner ∙ ap inside (sym o.same.outer)) in
       let text : layout (setting_of start) d ≡ opening ++ rest_of b left = rw (o.same.outer, o.same.kind, o.place) (is_block.joined (setting_of start)) in
