@@ -1,5 +1,7 @@
 -- Blocks that are open one in another, and what their innermost entry is read as.
-use Rattle.std.proofs.Common.{◌≡◌, refl, ap, ◌∙◌, sym, ℕ, zero, suc, ◌+◌, ◌-◌, ◌<◌, ◌≤◌, min, List, [], ◌∷◌, ◌++◌, length, length-append, Option, Some, None, Result, Ok, Err, Bor, arith}
+use Rattle.std.proofs.Common.{◌≡◌, refl, ap, ◌∙◌, sym, ℕ, zero, suc, ◌+◌, ◌-◌, ◌<◌, ◌≤◌, min, List, [], ◌∷◌, ◌++◌, length, length-append, get_or, set, take, Option, Some, None, Result, Ok, Err, Bor, arith}
+use Rattle.std.proofs.Math.Seq.{take-length}
+use Rattle.std.proofs.lemmas.List.{length-set, length-take-le, take_more, take_more_set}
 use Rattle.ufmt.specs.Document.{Document}
 use Rattle.ufmt.specs.Layout.{inside, setting}
 use Rattle.ufmt.specs.Reading.{read}
@@ -84,3 +86,19 @@ opens mode old new block level t pushed same =
     ∙ resume_last mode 0 old block (document_at mode (length new) t)
     ∙ ap (λ n. resume mode 0 old (finish (level_at mode n) block (document_at mode (length new) t))) (zero_more (length old))
     ∙ ap (λ n. resume mode 0 old (finish (level_at mode (length old)) block (document_at mode n t))) one_more)
+
+-- a list is what stands before its last item, and that item
+pub last_apart : {X : Type 0} (xs : List X) (k : ℕ) (x : X) → k + 1 ≡ length xs → x ≡ get_or xs k x → xs ≡ take k xs ++ x ∷ []
+last_apart xs k x last here =
+    let within : k < length xs = omega (arith, last) in
+    sym (take-length xs) ∙ ap (λ n. take n xs) (sym last) ∙ take_more xs k x within ∙ ap (λ y. take k xs ++ y ∷ []) (sym here)
+
+-- setting the last item leaves what stands before it
+pub last_set : {X : Type 0} (xs : List X) (k : ℕ) (y : X) → k + 1 ≡ length xs → set xs k y ≡ take k xs ++ y ∷ []
+last_set xs k y last =
+    let within : k < length xs = omega (arith, last) in
+    sym (take-length (set xs k y)) ∙ ap (λ n. take n (set xs k y)) (length-set xs k y ∙ sym last) ∙ take_more_set xs k y within
+
+-- before the last of several blocks lie as many as its level tells
+pub level_before : (mode : Mode) (k : ℕ) (xs : List OpenBlock) → k + 1 ≡ length xs → level_at mode k ≡ level_at mode (length (take k xs))
+level_before mode k xs last = ap (λ n. level_at mode n) (sym (length-take-le k xs (omega (arith, last))))
