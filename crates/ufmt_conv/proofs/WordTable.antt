@@ -1,5 +1,5 @@
 -- The table of word bytes.
-use Rattle.std.proofs.Common.{◌≡◌, refl, ℕ, zero, suc, ◌-◌, ◌<◌, Bool, true, false, ◌&&◌, T, eqb, slice_index_or, inl, inr, arith, eq-zero-or-pos}
+use Rattle.std.proofs.Common.{◌≡◌, refl, ℕ, zero, suc, ◌-◌, ◌<◌, Bool, true, false, ◌&&◌, T, slice_index_or, inl, inr, arith, eq-zero-or-pos}
 use lib.Ieee.Fits.{and_l, and_r}
 use Rattle.ufmt.specs.Token.{is_word_byte}
 use Rattle.ufmt_conv.specs.declared.reader.word.TheConstants.{WORD_BYTES}
