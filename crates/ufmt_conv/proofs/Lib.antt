@@ -13,3 +13,4 @@ pub mod Strips
 pub mod WholeTexts
 pub mod Within
 pub mod WordBytes
+pub mod WordTable

@@ -1,23 +1,38 @@
 -- Blocks that are open one in another, and what their innermost entry is read as.
-use Rattle.std.proofs.Common.{◌≡◌, refl, ap, ◌∙◌, sym, ℕ, zero, suc, ◌+◌, ◌-◌, ◌<◌, ◌≤◌, min, List, [], ◌∷◌, ◌++◌, length, length-append, Option, Some, None, Result, Ok, Err, Bor, arith}
+use Rattle.std.proofs.Common.{◌≡◌, refl, ap, ◌∙◌, sym, subst, ℕ, zero, suc, ◌+◌, ◌-◌, ◌<◌, ◌≤◌, min, List, [], ◌∷◌, ◌++◌, length, length-append, get_or, set, take, Option, Some, None, Result, Ok, Err, Bor, arith}
+use Rattle.std.proofs.Math.Seq.{take-length}
+use Rattle.std.proofs.lemmas.List.{length-set, length-take-le, take_more, take_more_set}
 use Rattle.ufmt.specs.Document.{Document}
 use Rattle.ufmt.specs.Layout.{inside, setting}
 use Rattle.ufmt.specs.Reading.{read}
+use Rattle.ufmt_conv.specs.declared.doc.Doc.{Doc}
 use Rattle.ufmt_conv.specs.declared.reader.error.ReadError.{ReadError}
 use Rattle.ufmt_conv.specs.declared.reader.level.Level.{Level}
 use Rattle.ufmt_conv.specs.declared.reader.level.Mode.{Mode}
 use Rattle.ufmt_conv.specs.declared.reader.level.Mode.TheVariants.{Plain, Pretty}
 use Rattle.ufmt_conv.specs.declared.reader.open_block.OpenBlock.{OpenBlock}
 use Rattle.ufmt_conv.specs.declared.reader.open_block.OpenBlock.TheVariants as blocks
-use Rattle.ufmt_conv.specs.declared.reader.open_block.Step.{Step}
+use Rattle.ufmt_conv.specs.Doc.{doc_document}
 use Rattle.ufmt_conv.specs.Level.{budget_of, entry_at, entry_of, mode_of, setting_of}
 use Rattle.ufmt_conv.specs.Stack.{document_at, level_at, resume}
-use Rattle.ufmt_conv.specs.Steps.{Steps, finish}
+use Rattle.ufmt_conv.specs.Steps.{Opens, Steps, finish, innermost, stepped}
 
 -- a step that leaves fewer bytes than one number leaves fewer than a larger one
-pub steps_longer : (level : Level) (m n : ℕ) (answer : Result (Step × Bor (List ℕ)) ReadError) (there : Option (Document × List ℕ)) → m ≤ n → Steps level m answer there → Steps level n answer there
-steps_longer level m n (Ok x) there longer h = (h.0, let less = h.1 in omega (arith, less))
-steps_longer level m n (Err e) there longer h = h
+pub steps_longer : (level : Level) (m n : ℕ) (answer : Result (Option Doc × Bor (List ℕ)) ReadError) (old new : List OpenBlock) (there : Option (Document × List ℕ)) → m ≤ n → Steps level m answer old new there → Steps level n answer old new there
+steps_longer level m n (Ok x) old new there longer h = (h.0, let less = h.1 in omega (arith, less), h.2)
+steps_longer level m n (Err e) old new there longer h = h
+
+-- the innermost block is the one that was opened
+innermost_is : (old : List OpenBlock) (block : OpenBlock) → innermost (old ++ block ∷ []) ≡ block
+innermost_is [] block = refl
+innermost_is (first ∷ []) block = refl
+innermost_is (first ∷ next ∷ more) block = innermost_is (next ∷ more) block
+
+-- a step opens a block
+pub opened : (level : Level) (n : ℕ) (old new : List OpenBlock) (block : OpenBlock) (t : List ℕ) (there : Option (Document × List ℕ)) → new ≡ old ++ block ∷ [] → there ≡ finish level block (entry_of level t) → length t < n → (there ≡ stepped level new None t) × (length t < n) × Opens old new None
+opened level n old new block t there pushed step fewer =
+    let same : innermost new ≡ block = ap (λ bs. innermost bs) pushed ∙ innermost_is old block in
+    (step ∙ ap (λ b. finish level b (entry_of level t)) (sym same), fewer, pushed ∙ ap (λ b. old ++ b ∷ []) (sym same))
 
 -- a block whose entry isn't read is none
 finish_none : (level : Level) (block : OpenBlock) → finish level block None ≡ None
@@ -84,3 +99,30 @@ opens mode old new block level t pushed same =
     ∙ resume_last mode 0 old block (document_at mode (length new) t)
     ∙ ap (λ n. resume mode 0 old (finish (level_at mode n) block (document_at mode (length new) t))) (zero_more (length old))
     ∙ ap (λ n. resume mode 0 old (finish (level_at mode (length old)) block (document_at mode n t))) one_more)
+
+-- a list is what stands before its last item, and that item
+pub last_apart : {X : Type 0} (xs : List X) (k : ℕ) (x : X) → k + 1 ≡ length xs → x ≡ get_or xs k x → xs ≡ take k xs ++ x ∷ []
+last_apart xs k x last here =
+    let within : k < length xs = omega (arith, last) in
+    sym (take-length xs) ∙ ap (λ n. take n xs) (sym last) ∙ take_more xs k x within ∙ ap (λ y. take k xs ++ y ∷ []) (sym here)
+
+-- setting the last item leaves what stands before it
+pub last_set : {X : Type 0} (xs : List X) (k : ℕ) (y : X) → k + 1 ≡ length xs → set xs k y ≡ take k xs ++ y ∷ []
+last_set xs k y last =
+    let within : k < length xs = omega (arith, last) in
+    sym (take-length (set xs k y)) ∙ ap (λ n. take n (set xs k y)) (length-set xs k y ∙ sym last) ∙ take_more_set xs k y within
+
+-- before the last of several blocks lie as many as its level tells
+pub level_before : (mode : Mode) (k : ℕ) (xs : List OpenBlock) → k + 1 ≡ length xs → level_at mode k ≡ level_at mode (length (take k xs))
+level_before mode k xs last = ap (λ n. level_at mode n) (sym (length-take-le k xs (omega (arith, last))))
+
+-- a document that a step read is an entry of the blocks behind it
+pub step_reads : (mode : Mode) (level : Level) (old new : List OpenBlock) (read : Option Doc) (doc : Doc) (t : List ℕ) → read ≡ Some doc → Opens old new read → resume mode 0 old (stepped level new read t) ≡ resume mode 0 new (Some (doc_document doc, t))
+step_reads mode level old new read doc t is kept =
+    let same : new ≡ old = subst (λ r. Opens old new r) is kept in
+    ap (λ r. resume mode 0 old (stepped level new r t)) is ∙ ap (λ bs. resume mode 0 bs (Some (doc_document doc, t))) (sym same)
+
+-- an entry begins in a block that a step opened
+pub step_opens : (mode : Mode) (level : Level) (old new : List OpenBlock) (read : Option Doc) (t : List ℕ) → read ≡ None → level ≡ level_at mode (length old) → Opens old new read → resume mode 0 old (stepped level new read t) ≡ resume mode 0 new (document_at mode (length new) t)
+step_opens mode level old new read t is same pushed =
+    ap (λ r. resume mode 0 old (stepped level new r t)) is ∙ opens mode old new (innermost new) level t (subst (λ r. Opens old new r) is pushed) same

@@ -1,17 +1,16 @@
 -- What reading does with an entry of a block that is open.
-use Rattle.std.specs.Prelude.{◌≡◌, ℕ, ◌<◌, ◌≤◌, Bool, cond, length, List, codes, string_bytes, Option, Some, None, option_map, option_and_then, Result, MatchResult}
+use Rattle.std.specs.Prelude.{◌≡◌, ℕ, ◌<◌, ◌≤◌, Bool, cond, length, List, [], ◌∷◌, ◌++◌, codes, string_bytes, Option, Some, None, option_map, option_and_then, Result, MatchResult}
 use Rattle.std.specs.Borrow.{Bor}
 use Rattle.ufmt.specs.Document.{Document, list_of, set_of, map_of, struct_of, tuple_of, no_pairs, documents, pairs_of, fields_of}
 use Rattle.ufmt.specs.Layout.{frame, tuple_kind}
 use Rattle.ufmt.specs.Reading.{Parse, parse_map, strip, read_word, read_value, read_pair, read_map_or_set}
+use Rattle.ufmt_conv.specs.declared.doc.Doc.{Doc}
 use Rattle.ufmt_conv.specs.declared.reader.error.ReadError.{ReadError}
 use Rattle.ufmt_conv.specs.declared.reader.error.ReadError.TheVariants.{NotText}
 use Rattle.ufmt_conv.specs.declared.reader.level.Level.{Level}
 use Rattle.ufmt_conv.specs.declared.reader.level.Kind.TheVariants as kinds
 use Rattle.ufmt_conv.specs.declared.reader.open_block.OpenBlock.{OpenBlock}
 use Rattle.ufmt_conv.specs.declared.reader.open_block.OpenBlock.TheVariants as blocks
-use Rattle.ufmt_conv.specs.declared.reader.open_block.Step.{Step}
-use Rattle.ufmt_conv.specs.declared.reader.open_block.Step.TheVariants.{Read, Open}
 use Rattle.ufmt_conv.specs.Doc.{doc_document}
 use Rattle.ufmt_conv.specs.DocViews.{docs_view, pairs_view, fields_view}
 use Rattle.ufmt_conv.specs.Entries.{read_on}
@@ -48,11 +47,22 @@ left level block goes_on t = cond goes_on (finish level block (entry_of level t)
 abbrev pub Puts : Level → ℕ → Result (Bool × Bor (List ℕ)) ReadError → OpenBlock → Option (Document × List ℕ) → Type 0
 Puts level bytes answer block there = MatchResult answer (λ x. (there ≡ left level block x.0 x.1.now) × (length x.1.now ≤ bytes)) (λ e. e ≡ NotText → there ≡ None)
 
--- what a step makes of the rest of the text
-abbrev pub stepped : Level → Step → List ℕ → Option (Document × List ℕ)
-stepped level (Read doc) t = Some (doc_document doc, t)
-stepped level (Open block) t = finish level block (entry_of level t)
+-- the innermost of the blocks that are open, where any is
+abbrev pub innermost : List OpenBlock → OpenBlock
+innermost [] = blocks.Braces
+innermost (block ∷ []) = block
+innermost (block ∷ next ∷ more) = innermost (next ∷ more)
+
+-- what a step makes of the rest of the text where it read a document whole, or opened the innermost block
+abbrev pub stepped : Level → List OpenBlock → Option Doc → List ℕ → Option (Document × List ℕ)
+stepped level open_blocks None t = finish level (innermost open_blocks) (entry_of level t)
+stepped level open_blocks (Some doc) t = Some (doc_document doc, t)
+
+-- the blocks that are open before and behind a step
+abbrev pub Opens : List OpenBlock → List OpenBlock → Option Doc → Type 0
+Opens old new None = new ≡ old ++ innermost new ∷ []
+Opens old new (Some doc) = new ≡ old
 
 -- the step was made in reading this, and leaves fewer bytes than the number
-abbrev pub Steps : Level → ℕ → Result (Step × Bor (List ℕ)) ReadError → Option (Document × List ℕ) → Type 0
-Steps level bytes answer there = MatchResult answer (λ x. (there ≡ stepped level x.0 x.1.now) × (length x.1.now < bytes)) (λ e. e ≡ NotText → there ≡ None)
+abbrev pub Steps : Level → ℕ → Result (Option Doc × Bor (List ℕ)) ReadError → List OpenBlock → List OpenBlock → Option (Document × List ℕ) → Type 0
+Steps level bytes answer old new there = MatchResult answer (λ x. (there ≡ stepped level new x.0 x.1.now) × (length x.1.now < bytes) × Opens old new x.0) (λ e. e ≡ NotText → there ≡ None)

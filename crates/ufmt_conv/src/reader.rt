@@ -17,7 +17,6 @@ use crate::doc::Doc;
 use begin::begin;
 pub use error::ReadError;
 pub(crate) use level::Mode;
-use open_block::Step;
 use open_blocks::OpenBlocks;
 use std::alloc::Global;
 
@@ -28,16 +27,13 @@ pub(crate) fn read_text(alloc: Global, mode: Mode, input: &[u8]) -> Result<Doc, 
     let mut blocks = OpenBlocks::new(alloc);
     let mut rest = input;
     'entries: while let Some(level) = blocks.entry_level(mode) {
-        let (step, after) = begin(alloc, level, rest)?;
+        let (read, after) = begin(alloc, level, &mut blocks, rest)?;
         rest = after;
-        match step {
-            Step::Open(block) => blocks.push(block)?,
-            Step::Read(doc) => {
-                let (whole, after) = blocks.take(alloc, mode, doc, rest)?;
-                rest = after;
-                if let Some(doc) = whole {
-                    return if_all(doc, rest);
-                }
+        if let Some(doc) = read {
+            let (whole, after) = blocks.take(alloc, mode, doc, rest)?;
+            rest = after;
+            if let Some(doc) = whole {
+                return if_all(doc, rest);
             }
         }
     }

@@ -28,13 +28,6 @@ pub(super) enum OpenBlock {
     Tuple(String, Vec<Doc>),
 }
 
-/// How far a document was read: to its end, or to where an entry begins in its block.
-#[derive(Drop)]
-pub(super) enum Step {
-    Read(Doc),
-    Open(OpenBlock),
-}
-
 impl OpenBlock {
     /// Puts in the entry, key or value that began, and reads on: true, and where the next one
     /// begins, or false, and what follows the block's end.

@@ -43,15 +43,6 @@ impl OpenBlocks {
         Ok(())
     }
 
-    // The innermost block, which is open no longer, and its level.
-    fn pop(&mut self, mode: Mode) -> Option<(OpenBlock, Level)>
-        ensures { MatchOption result (self.old.blocks.items ≡ []) (λ x. (self.old.blocks.items ≡ self.new.blocks.items ++ x.0 ∷ []) × (x.1 ≡ level_at mode (length self.new.blocks.items)) × (length self.new.blocks.items < 256)) }
-    {
-        let block = self.blocks.pop()?;
-        let depth = self.blocks.len() as u8;
-        Some((block, Level { mode, depth }))
-    }
-
     /// Takes what was read in the innermost block, and closes each block that ends behind it. The
     /// answer is the document of the outermost block if that ended too.
     pub(super) fn take<'a>(
@@ -65,15 +56,17 @@ impl OpenBlocks {
     {
         let mut doc = doc;
         let mut rest = input;
-        'ends: while let Some((block, level)) = self.pop(mode) {
-            let mut block = block;
-            let (goes_on, after) = block.put(alloc, level, doc, rest)?;
+        'ends: while let Some(depth) = self.blocks.len().checked_sub(1) {
+            let level = Level {
+                mode,
+                depth: depth as u8,
+            };
+            let (goes_on, after) = self.blocks[depth].put(alloc, level, doc, rest)?;
             rest = after;
             if goes_on {
-                self.push(block)?;
                 return Ok((None, rest));
             }
-            doc = block.close(alloc);
+            doc = self.blocks.pop().unwrap().close(alloc);
         }
         Ok((Some(doc), rest))
     }

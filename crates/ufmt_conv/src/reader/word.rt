@@ -6,13 +6,36 @@ ghost use Rattle.ufmt_conv.specs.declared.reader.error.ReadError.TheVariants.{Ou
 
 use crate::reader::error::ReadError;
 use std::alloc::Global;
-use std::str;
+use ufmt::unsigned::text_from;
 
-/// An ASCII digit, an ASCII letter, `_` or `-`.
+// Of each byte, whether it is an ASCII digit, an ASCII letter, `_` or `-`.
+static WORD_BYTES: [bool; 256] = [
+    false, false, false, false, false, false, false, false, false, false, false, false, false,
+    false, false, false, false, false, false, false, false, false, false, false, false, false,
+    false, false, false, false, false, false, false, false, false, false, false, false, false,
+    false, false, false, false, false, false, true, false, false, true, true, true, true, true,
+    true, true, true, true, true, false, false, false, false, false, false, false, true, true,
+    true, true, true, true, true, true, true, true, true, true, true, true, true, true, true, true,
+    true, true, true, true, true, true, true, true, false, false, false, false, true, false, true,
+    true, true, true, true, true, true, true, true, true, true, true, true, true, true, true, true,
+    true, true, true, true, true, true, true, true, true, false, false, false, false, false, false,
+    false, false, false, false, false, false, false, false, false, false, false, false, false,
+    false, false, false, false, false, false, false, false, false, false, false, false, false,
+    false, false, false, false, false, false, false, false, false, false, false, false, false,
+    false, false, false, false, false, false, false, false, false, false, false, false, false,
+    false, false, false, false, false, false, false, false, false, false, false, false, false,
+    false, false, false, false, false, false, false, false, false, false, false, false, false,
+    false, false, false, false, false, false, false, false, false, false, false, false, false,
+    false, false, false, false, false, false, false, false, false, false, false, false, false,
+    false, false, false, false, false, false, false, false, false, false, false, false, false,
+    false, false, false, false, false, false, false, false, false, false,
+];
+
+#[inline(always)]
 fn is_word_byte(byte: u8) -> bool
     ensures { result ≡ is_word_byte byte }
 {
-    matches!(byte, b'0'..=b'9' | b'A'..=b'Z' | b'a'..=b'z' | b'_' | b'-')
+    WORD_BYTES[byte as usize]
 }
 
 /// The word bytes at the front, and what follows them.
@@ -33,6 +56,5 @@ pub(super) fn word_text(alloc: Global, word: &[u8]) -> Result<String, ReadError>
     requires { AreWordBytes word.now }
     ensures { MatchResult result (λ text. string_bytes text ≡ word.now) (λ e. e ≡ OutOfMemory) }
 {
-    let text = str::from_utf8(word).unwrap();
-    Ok(String::from_str(alloc, text)?)
+    Ok(String::from_str(alloc, text_from(word, 0))?)
 }

@@ -4,8 +4,8 @@ use Rattle.ufmt_conv.proofs.DocumentParts.{reads_without_name, reads_named, fron
 use Rattle.ufmt_conv.proofs.Stacks.{steps_longer}
 use Rattle.ufmt_conv.proofs.reader.begin.begin.Goals as goal
 
-pub begin_named-requires : goal.begin_named-requires
-begin_named-requires c =
+pub begin_named-requires-clause-word : goal.begin_named-requires-clause-word
+begin_named-requires-clause-word c =
     front_is_word c.args.input.now c.split_word.result.0.now c.split_word.ensures.word (sym c.is_empty.ensures ∙ c.if-is_empty.false)
 
 pub returns-then-is_empty : goal.returns-then-is_empty
@@ -15,5 +15,5 @@ returns-then-is_empty c =
 pub returns-else-is_empty : goal.returns-else-is_empty
 returns-else-is_empty c =
     let some = sym c.is_empty.ensures ∙ c.if-is_empty.false in
-    steps_longer c.args.level _ _ c.begin_named.result _ (word_within c.args.input.now c.split_word.result.0.now c.split_word.result.1.now c.split_word.ensures.word c.split_word.ensures.rest some)
+    steps_longer c.args.level _ _ c.begin_named.result c.args.blocks.now.blocks.items c.begin_named.new.blocks.blocks.items _ (word_within c.args.input.now c.split_word.result.0.now c.split_word.result.1.now c.split_word.ensures.word c.split_word.ensures.rest some)
     (rw (reads_named (setting_of c.args.level) (budget_of c.args.level) c.args.input.now c.split_word.result.0.now c.split_word.result.1.now c.split_word.ensures.word c.split_word.ensures.rest some) c.begin_named.ensures)
