@@ -1,7 +1,7 @@
 //! Documents as values.
 ghost use Rattle.std.specs.Prelude.{◌≡◌, ◌↔◌, IsTrue, map};
 ghost use Rattle.ufmt.specs.Document.{documents, fields_of, pairs_of};
-ghost use Rattle.ufmt.specs.Token.{IsToken, is_word_byte};
+ghost use Rattle.ufmt.specs.Token.{IsToken};
 ghost use Rattle.ufmt.specs.Token.{normal, normal_all, normal_fields, normal_pairs};
 ghost use Rattle.ufmt_conv.specs.Doc.{doc_document};
 ghost use Rattle.ufmt_conv.specs.DocViews.{pair_view, field_view};
@@ -9,6 +9,7 @@ ghost use Rattle.ufmt_conv.specs.Within.{are_word_bytes, is_token_leaf, is_word,
 
 mod same;
 
+use crate::reader::word::is_word_byte;
 pub use same::same_text;
 use std::alloc::Global;
 use std::mem;
@@ -230,11 +231,4 @@ fn are_word_bytes(text: &str) -> bool
         }
     }
     true
-}
-
-// An ASCII digit, an ASCII letter, `_` or `-`.
-fn is_word_byte(byte: u8) -> bool
-    ensures { result ≡ is_word_byte byte }
-{
-    matches!(byte, b'0'..=b'9' | b'A'..=b'Z' | b'a'..=b'z' | b'_' | b'-')
 }

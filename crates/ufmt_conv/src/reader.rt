@@ -11,7 +11,7 @@ mod open_block;
 mod open_blocks;
 #[cfg(test)]
 mod tests;
-mod word;
+pub(crate) mod word;
 
 use crate::doc::Doc;
 use begin::begin;
