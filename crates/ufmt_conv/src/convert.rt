@@ -29,7 +29,9 @@ pub fn plain_text<T: uDebug>(alloc: Global, value: &T) -> Result<String, AllocEr
 /// is want of memory.
 pub fn pretty_text<T: uDebug>(alloc: Global, value: &T) -> Result<String, AllocError>
     ensures text { IfOk result (λ text. string_bytes text ≡ pretty_text (T.document value.now)) }
-    ensures shifted { IfOk result (λ text. HasNoLineFeed (T.document value.now) → nest (T.document value.now) ≤ 255 → string_bytes text ≡ shifted (T.document value.now)) }
+    ensures shifted { IfOk result (λ text.
+        HasNoLineFeed (T.document value.now) → nest (T.document value.now) ≤ 255
+        → string_bytes text ≡ shifted (T.document value.now)) }
 {
     let mut text = String::new(alloc);
     let mut f = Formatter::new(&mut text);
@@ -41,10 +43,13 @@ pub fn pretty_text<T: uDebug>(alloc: Global, value: &T) -> Result<String, AllocE
 /// The pretty text of the token documents with this plain text. Of a text that `to_plain` answered
 /// that is the text from which it was made.
 pub fn to_pretty(alloc: Global, input: &[u8]) -> Result<String, ReadError>
-    ensures ok { IfOk result (λ text. IsConverted plain_text pretty_text input.now (string_bytes text)) }
+    ensures ok { IfOk result (λ text.
+        IsConverted plain_text pretty_text input.now (string_bytes text)) }
     ensures not_text { IsErrOf result ReadError.NotText → IsNoText plain_text input.now }
-    ensures undoes { IfOk result (λ text. Undoes plain_text pretty_text input.now (string_bytes text)) }
-    ensures unconverted { IsErrOf result ReadError.NotText → IsUnconverted plain_text pretty_text input.now }
+    ensures undoes { IfOk result (λ text.
+        Undoes plain_text pretty_text input.now (string_bytes text)) }
+    ensures unconverted { IsErrOf result ReadError.NotText
+        → IsUnconverted plain_text pretty_text input.now }
 {
     let doc = read_plain(alloc, input)?;
     let text = pretty_text(alloc, &doc)?;
@@ -54,10 +59,13 @@ pub fn to_pretty(alloc: Global, input: &[u8]) -> Result<String, ReadError>
 /// The plain text of the token documents with this pretty text. Of a text that `to_pretty` answered
 /// that is the text from which it was made.
 pub fn to_plain(alloc: Global, input: &[u8]) -> Result<String, ReadError>
-    ensures ok { IfOk result (λ text. IsConverted pretty_text plain_text input.now (string_bytes text)) }
+    ensures ok { IfOk result (λ text.
+        IsConverted pretty_text plain_text input.now (string_bytes text)) }
     ensures not_text { IsErrOf result ReadError.NotText → IsNoText pretty_text input.now }
-    ensures undoes { IfOk result (λ text. Undoes pretty_text plain_text input.now (string_bytes text)) }
-    ensures unconverted { IsErrOf result ReadError.NotText → IsUnconverted pretty_text plain_text input.now }
+    ensures undoes { IfOk result (λ text.
+        Undoes pretty_text plain_text input.now (string_bytes text)) }
+    ensures unconverted { IsErrOf result ReadError.NotText
+        → IsUnconverted pretty_text plain_text input.now }
 {
     let doc = read_pretty(alloc, input)?;
     let text = plain_text(alloc, &doc)?;

@@ -60,7 +60,8 @@ pub fn run<R: Read, W: Write>(
     // What each fault means.
     ensures only_pretty { IsErrOf result Fault.NotPlain → command ≡ Command.Pretty }
     ensures only_plain { IsErrOf result Fault.NotPretty → command ≡ Command.Plain }
-    ensures unwritten { IfErr result (λ fault. fault ≢ Fault.CannotWrite → output.new ≡ output.old) }
+    ensures unwritten { IfErr result (λ fault. fault ≢ Fault.CannotWrite
+        → output.new ≡ output.old) }
     ensures input_failed { IsErrOf result Fault.CannotRead ↔ IsTrue (has_failed input.new) }
     ensures output_failed { IsErrOf result Fault.CannotWrite ↔ IsTrue (has_failed output.new) }
 {

@@ -15,8 +15,10 @@ use super::Doc;
 pub fn same_text(a: &Doc, b: &Doc) -> bool
     requires a_is_token { IsToken (doc_document a.now) }
     requires b_is_token { IsToken (doc_document b.now) }
-    ensures plain { IsTrue result ↔ (plain_text (doc_document a.now) ≡ plain_text (doc_document b.now)) }
-    ensures pretty { IsTrue result ↔ (pretty_text (doc_document a.now) ≡ pretty_text (doc_document b.now)) }
+    ensures plain { IsTrue result
+        ↔ (plain_text (doc_document a.now) ≡ plain_text (doc_document b.now)) }
+    ensures pretty { IsTrue result
+        ↔ (pretty_text (doc_document a.now) ≡ pretty_text (doc_document b.now)) }
     ensures normal { IsTrue result ↔ (normal (doc_document a.now) ≡ normal (doc_document b.now)) }
 {
     is_same(a, b)

@@ -22,7 +22,9 @@ pub(super) fn begin<'a>(
     input: &'a [u8],
 ) -> Result<(Option<Doc>, &'a [u8]), ReadError>
     requires { length blocks.old.blocks.items < 256 }
-    ensures { Steps level (length input.now) result blocks.old.blocks.items blocks.new.blocks.items (read (setting_of level) (budget_of level) input.now) }
+    ensures { Steps level (length input.now) result
+        blocks.old.blocks.items blocks.new.blocks.items
+        (read (setting_of level) (budget_of level) input.now) }
 {
     let (word, rest) = split_word(input);
     if word.is_empty() {
@@ -42,7 +44,9 @@ fn begin_named<'a>(
 ) -> Result<(Option<Doc>, &'a [u8]), ReadError>
     requires few { length blocks.old.blocks.items < 256 }
     requires word { IsWord word.now }
-    ensures { Steps level (suc (length input.now)) result blocks.old.blocks.items blocks.new.blocks.items (read_named (setting_of level) (entry_of level) word.now input.now) }
+    ensures { Steps level (suc (length input.now)) result
+        blocks.old.blocks.items blocks.new.blocks.items
+        (read_named (setting_of level) (entry_of level) word.now input.now) }
 {
     let name = word_text(alloc, word)?;
     if let Some(rest) = level.strip_lead(Kind::Tuple, input) {
@@ -67,7 +71,9 @@ fn begin_without_name<'a>(
     input: &'a [u8],
 ) -> Result<(Option<Doc>, &'a [u8]), ReadError>
     requires { length blocks.old.blocks.items < 256 }
-    ensures { Steps level (length input.now) result blocks.old.blocks.items blocks.new.blocks.items (read_without_name (setting_of level) (entry_of level) input.now) }
+    ensures { Steps level (length input.now) result
+        blocks.old.blocks.items blocks.new.blocks.items
+        (read_without_name (setting_of level) (entry_of level) input.now) }
 {
     if let Some(rest) = strip(b"[", input) {
         begin_list(alloc, level, blocks, rest)
@@ -92,7 +98,9 @@ fn begin_list<'a>(
     input: &'a [u8],
 ) -> Result<(Option<Doc>, &'a [u8]), ReadError>
     requires { length blocks.old.blocks.items < 256 }
-    ensures { Steps level (suc (length input.now)) result blocks.old.blocks.items blocks.new.blocks.items (read_list (setting_of level) (entry_of level) input.now) }
+    ensures { Steps level (suc (length input.now)) result
+        blocks.old.blocks.items blocks.new.blocks.items
+        (read_list (setting_of level) (entry_of level) input.now) }
 {
     if let Some(rest) = strip(b"]", input) {
         Ok((Some(Doc::Listed(Vec::new(alloc))), rest))
@@ -112,7 +120,9 @@ fn begin_braces<'a>(
     input: &'a [u8],
 ) -> Result<(Option<Doc>, &'a [u8]), ReadError>
     requires { length blocks.old.blocks.items < 256 }
-    ensures { Steps level (suc (length input.now)) result blocks.old.blocks.items blocks.new.blocks.items (read_braces (setting_of level) (entry_of level) input.now) }
+    ensures { Steps level (suc (length input.now)) result
+        blocks.old.blocks.items blocks.new.blocks.items
+        (read_braces (setting_of level) (entry_of level) input.now) }
 {
     if let Some(rest) = strip(b"}", input) {
         Ok((Some(Doc::MapOf(Vec::new(alloc))), rest))

@@ -83,7 +83,8 @@ impl Level {
 
     // What follows a new line and its indentation, where entries stand on lines of their own.
     fn strip_new_line(self, input: &[u8]) -> Option<&[u8]>
-        ensures { now_of result ≡ strip (new_line (mode_of self.mode) (inside (setting_of self)).depth) input.now }
+        ensures { now_of result
+            ≡ strip (new_line (mode_of self.mode) (inside (setting_of self)).depth) input.now }
     {
         match self.mode {
             Mode::Plain => Some(input),
@@ -93,14 +94,16 @@ impl Level {
 
     /// What follows what stands before the first entry of a block.
     pub(super) fn strip_lead(self, kind: Kind, input: &[u8]) -> Option<&[u8]>
-        ensures { now_of result ≡ strip (lead (frame_of self kind) (inside (setting_of self)) First) input.now }
+        ensures { now_of result
+            ≡ strip (lead (frame_of self kind) (inside (setting_of self)) First) input.now }
     {
         self.strip_new_line(self.strip_start(kind, input)?)
     }
 
     // What follows what stands before a later entry of a block.
     fn strip_separator(self, input: &[u8]) -> Option<&[u8]>
-        ensures { now_of result ≡ strip (separator (mode_of self.mode) (inside (setting_of self)).depth) input.now }
+        ensures { now_of result
+            ≡ strip (separator (mode_of self.mode) (inside (setting_of self)).depth) input.now }
     {
         match self.mode {
             Mode::Plain => strip(b", ", input),
@@ -120,7 +123,8 @@ impl Level {
 
     // What follows the start of the line on which a block ends.
     fn strip_line_start(self, input: &[u8]) -> Option<&[u8]>
-        ensures { now_of result ≡ strip (line_start (mode_of self.mode) (setting_of self).depth) input.now }
+        ensures { now_of result
+            ≡ strip (line_start (mode_of self.mode) (setting_of self).depth) input.now }
     {
         match self.mode {
             Mode::Plain => Some(input),
@@ -143,7 +147,8 @@ impl Level {
 
     // What follows the end of a block with one entry alone, or with more.
     fn expect_ending(self, kind: Kind, alone: bool, input: &[u8]) -> Result<&[u8], ReadError>
-        ensures { Strips result (strip (ending (frame_of self kind) (setting_of self) (place_of alone)) input.now) }
+        ensures { Strips result
+            (strip (ending (frame_of self kind) (setting_of self) (place_of alone)) input.now) }
     {
         let Some(rest) = self.strip_line_start(input) else {
             return Err(ReadError::NotText);
@@ -160,7 +165,8 @@ impl Level {
         alone: bool,
         input: &[u8],
     ) -> Result<(bool, &[u8]), ReadError>
-        ensures { Reads (λ goes_on. goes_on) result (behind_entry (frame_of self kind) (setting_of self) alone input.now) }
+        ensures { Reads (λ goes_on. goes_on) result
+            (behind_entry (frame_of self kind) (setting_of self) alone input.now) }
     {
         let rest = self.expect_trail(input)?;
         match self.strip_separator(rest) {

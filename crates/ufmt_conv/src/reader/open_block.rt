@@ -38,7 +38,8 @@ impl OpenBlock {
         doc: Doc,
         input: &'a [u8],
     ) -> Result<(bool, &'a [u8]), ReadError>
-        ensures { Puts level (length input.now) result self.new (finish level self.old (Some (doc_document doc, input.now))) }
+        ensures { Puts level (length input.now) result self.new
+            (finish level self.old (Some (doc_document doc, input.now))) }
     {
         match self {
             OpenBlock::List(entries) => put_listed(level, entries, doc, input),
@@ -76,7 +77,8 @@ fn put_listed<'a>(
     doc: Doc,
     input: &'a [u8],
 ) -> Result<(bool, &'a [u8]), ReadError>
-    ensures { Puts level (length input.now) result (OpenBlock.List entries.new) (finish level (OpenBlock.List entries.old) (Some (doc_document doc, input.now))) }
+    ensures { Puts level (length input.now) result (OpenBlock.List entries.new)
+        (finish level (OpenBlock.List entries.old) (Some (doc_document doc, input.now))) }
 {
     entries.push(doc)?;
     level.pass_entry(Kind::Brackets, entries.len() == 1, input)
@@ -89,7 +91,8 @@ fn put_in_set<'a>(
     doc: Doc,
     input: &'a [u8],
 ) -> Result<(bool, &'a [u8]), ReadError>
-    ensures { Puts level (length input.now) result (OpenBlock.Set entries.new) (finish level (OpenBlock.Set entries.old) (Some (doc_document doc, input.now))) }
+    ensures { Puts level (length input.now) result (OpenBlock.Set entries.new)
+        (finish level (OpenBlock.Set entries.old) (Some (doc_document doc, input.now))) }
 {
     entries.push(doc)?;
     level.pass_entry(Kind::Braces, entries.len() == 1, input)
@@ -103,7 +106,8 @@ fn decide<'a>(
     doc: Doc,
     input: &'a [u8],
 ) -> Result<(bool, &'a [u8]), ReadError>
-    ensures { Puts level (length input.now) result braces.new (finish level OpenBlock.Braces (Some (doc_document doc, input.now))) }
+    ensures { Puts level (length input.now) result braces.new
+        (finish level OpenBlock.Braces (Some (doc_document doc, input.now))) }
 {
     match strip(b": ", input) {
         Some(rest) => {
@@ -127,7 +131,8 @@ fn put_in_map<'a>(
     doc: Doc,
     input: &'a [u8],
 ) -> Result<(bool, &'a [u8]), ReadError>
-    ensures { Puts level (length input.now) result (OpenBlock.Map pairs.new key.new) (finish level (OpenBlock.Map pairs.old key.old) (Some (doc_document doc, input.now))) }
+    ensures { Puts level (length input.now) result (OpenBlock.Map pairs.new key.new)
+        (finish level (OpenBlock.Map pairs.old key.old) (Some (doc_document doc, input.now))) }
 {
     match key.take() {
         Some(first) => {
@@ -151,7 +156,9 @@ fn put_field<'a>(
     doc: Doc,
     input: &'a [u8],
 ) -> Result<(bool, &'a [u8]), ReadError>
-    ensures { (name : String Global) → Puts level (length input.now) result (OpenBlock.Struct name fields.new label.new) (finish level (OpenBlock.Struct name fields.old label.old) (Some (doc_document doc, input.now))) }
+    ensures { (name : String Global)
+        → Puts level (length input.now) result (OpenBlock.Struct name fields.new label.new)
+        (finish level (OpenBlock.Struct name fields.old label.old) (Some (doc_document doc, input.now))) }
 {
     let waiting = mem::replace(label, String::new(alloc));
     fields.push((waiting, doc))?;
@@ -173,7 +180,10 @@ fn put_in_tuple<'a>(
     doc: Doc,
     input: &'a [u8],
 ) -> Result<(bool, &'a [u8]), ReadError>
-    ensures { (name : String Global) → kind_of kind ≡ tuple_kind (string_bytes name) → Puts level (length input.now) result (OpenBlock.Tuple name entries.new) (finish level (OpenBlock.Tuple name entries.old) (Some (doc_document doc, input.now))) }
+    ensures { (name : String Global)
+        → kind_of kind ≡ tuple_kind (string_bytes name)
+        → Puts level (length input.now) result (OpenBlock.Tuple name entries.new)
+        (finish level (OpenBlock.Tuple name entries.old) (Some (doc_document doc, input.now))) }
 {
     entries.push(doc)?;
     level.pass_entry(kind, entries.len() == 1, input)

@@ -27,7 +27,9 @@ impl OpenBlocks {
 
     /// The level of an entry that begins in the innermost block, unless no entry may.
     pub(super) fn entry_level(&self, mode: Mode) -> Option<Level>
-        ensures { MatchOption result (length self.now.blocks.items ≡ 256) (λ level. (level ≡ level_at mode (length self.now.blocks.items)) × (length self.now.blocks.items < 256)) }
+        ensures { MatchOption result (length self.now.blocks.items ≡ 256)
+            (λ level. (level ≡ level_at mode (length self.now.blocks.items))
+            × (length self.now.blocks.items < 256)) }
     {
         let depth = u8::try_from(self.blocks.len()).ok()?;
         Some(Level { mode, depth })
@@ -52,7 +54,8 @@ impl OpenBlocks {
         doc: Doc,
         input: &'a [u8],
     ) -> Result<(Option<Doc>, &'a [u8]), ReadError>
-        ensures { Hands mode (length input.now) result self.new.blocks.items (resume mode 0 self.old.blocks.items (Some (doc_document doc, input.now))) }
+        ensures { Hands mode (length input.now) result self.new.blocks.items
+            (resume mode 0 self.old.blocks.items (Some (doc_document doc, input.now))) }
     {
         let mut doc = doc;
         let mut rest = input;
