@@ -23,7 +23,7 @@ begins_takes t text u b whole =
     rw (whole, length-append text u) (omega arith)
 
 -- what is left where a text was stripped is no longer
-strip_within : (text t u : List ℕ) → strip text t ≡ Some u → length u ≤ length t
+pub strip_within : (text t u : List ℕ) → strip text t ≡ Some u → length u ≤ length t
 strip_within text t u h = rw (strip_found text t u h, length-append text u) (omega arith)
 
 -- a document takes a byte

@@ -8,14 +8,14 @@ use Rattle.ufmt.specs.Layout.{Frame, frame, tuple_kind, inside, lead}
 use Rattle.ufmt.specs.Token.{AreWordBytes, IsWord}
 use Rattle.ufmt.specs.Reading.{Parse, parse_map, strip, word_of, after_word, read_word, read_value, read_pair, read_list, read_braces, read_map_or_set, read_named, read_without_name, read_with, read}
 use Rattle.ufmt.proofs.Parsing.{led_from, beside_from}
-use Rattle.ufmt.proofs.ReadingTurns.{read_word_takes}
+use Rattle.ufmt.proofs.ReadingTurns.{read_word_takes, strip_within}
 use Rattle.ufmt.proofs.Words.{word_of_bytes}
 use Rattle.ufmt_conv.specs.declared.reader.error.ReadError.{ReadError}
 use Rattle.ufmt_conv.specs.declared.reader.error.ReadError.TheVariants.{NotText}
 use Rattle.ufmt_conv.specs.Entries.{read_on}
 use Rattle.ufmt_conv.specs.Level.{entry_at}
 use Rattle.ufmt_conv.specs.Steps.{read_label}
-use Rattle.ufmt_conv.proofs.EntrySteps.{first_is_read_on, strip_within}
+use Rattle.ufmt_conv.proofs.EntrySteps.{first_is_read_on}
 
 -- a named tuple behind what stands before its first field
 pub tuple_begins : (s : Setting) (p : Parse Document) (w t r : List ℕ) → IsWord w → strip (lead (frame s.mode Tuple) (inside s) First) t ≡ Some r → read_named s p w t ≡ read_on p (frame s.mode (tuple_kind w)) s (λ ds. tuple_of w (documents ds)) [] (p r)

@@ -8,7 +8,7 @@ use Rattle.ufmt.specs.Layout.{Frame, ending, inside, lead, next, separator, trai
 use Rattle.ufmt_core.specs.declared.formatter.block.Place.TheVariants.{Second}
 use Rattle.ufmt.specs.Reading.{Parse, choose, parse_map, strip, read_word, read_pair, read_others, read_after_first}
 use Rattle.ufmt.proofs.Parsing.{strip_found, same_parts}
-use Rattle.ufmt.proofs.ReadingTurns.{Takes, read_takes, read_pair_takes, read_word_takes, read_others-read_turn}
+use Rattle.ufmt.proofs.ReadingTurns.{Takes, strip_within, read_takes, read_pair_takes, read_word_takes, read_others-read_turn}
 use Rattle.ufmt_conv.specs.declared.reader.error.ReadError.{ReadError}
 use Rattle.ufmt_conv.specs.declared.reader.error.ReadError.TheVariants.{NotText}
 use Rattle.ufmt_conv.specs.Read.{Reads}
@@ -70,51 +70,22 @@ others_are {A} q takes f s make alone xs u some =
     by_separator None = end_in_front make xs (strip (ending f s (place_of alone)) u)
     by_separator (Some v) = turn_in_front q f s make alone xs (q v) some
 
--- where nothing that may stand behind an entry does, nothing is read
-pub is_refused : {A : Type 0} {q : Parse A} (f : Frame) (s : Setting) (make : List A → Document) (xs : List A) (t : List ℕ) → Takes q → 0 < length xs → behind_entry f s (length xs == 1) t ≡ None → read_more q f s make xs t ≡ None
+-- what stands behind an entry decides: the next entry begins, or the block ends, or nothing is read
+behind_decides : {A : Type 0} {q : Parse A} (f : Frame) (s : Setting) (make : List A → Document) (xs : List A) (t : List ℕ) → Takes q → 0 < length xs →
+    read_more q f s make xs t ≡ option_and_then (λ x. cond x.0 (read_on q f s make xs (q x.1)) (Some (make xs, x.1))) (behind_entry f s (length xs == 1) t)
 unfolding behind_entry read_more
-is_refused {q = q} f s make xs t takes some h = behind (strip (trail s.mode) t) h
+behind_decides {q = q} f s make xs t takes some = behind (strip (trail s.mode) t)
   where
-    chosen : (u : List ℕ) (o : Option (List ℕ)) (e : Option (List ℕ)) → choose o (λ v. Some (true, v)) (option_map {U = Bool × List ℕ} (λ v. (false, v)) e) ≡ None → choose o (λ v. read_on q f s make xs (q v)) (option_map {U = Document × List ℕ} (λ v. (make xs, v)) e) ≡ None
-    chosen u None None h = refl
-    chosen u None (Some v) h = absurd (cc)
-    chosen u (Some v) e h = absurd (cc)
+    chosen : (o e : Option (List ℕ)) → choose o (λ v. read_on q f s make xs (q v)) (option_map {U = Document × List ℕ} (λ v. (make xs, v)) e)
+        ≡ option_and_then (λ x. cond x.0 (read_on q f s make xs (q x.1)) (Some (make xs, x.1))) (choose o (λ v. Some (true, v)) (option_map {U = Bool × List ℕ} (λ v. (false, v)) e))
+    chosen None None = refl
+    chosen None (Some v) = refl
+    chosen (Some v) e = refl
 
-    behind : (o : Option (List ℕ)) → option_and_then (λ u. choose (strip (separator (inside s).mode (inside s).depth) u) (λ v. Some (true, v)) (option_map {U = Bool × List ℕ} (λ v. (false, v)) (strip (ending f s (place_of (length xs == 1))) u))) o ≡ None → option_and_then (λ u. parse_map (λ ys. make (xs ++ ys)) (read_others q f s (place_of (length xs == 1)) u)) o ≡ None
-    behind None h = refl
-    behind (Some u) h = others_are q takes f s make (length xs == 1) xs u some ∙ chosen u (strip (separator (inside s).mode (inside s).depth) u) (strip (ending f s (place_of (length xs == 1))) u) h
-
--- where the next entry begins, what it is read as decides
-pub goes_on : {A : Type 0} {q : Parse A} (f : Frame) (s : Setting) (make : List A → Document) (xs : List A) (t v : List ℕ) → Takes q → 0 < length xs → behind_entry f s (length xs == 1) t ≡ Some (true, v) → read_more q f s make xs t ≡ read_on q f s make xs (q v)
-unfolding behind_entry read_more
-goes_on {q = q} f s make xs t v takes some h = behind (strip (trail s.mode) t) h
-  where
-    chosen : (o : Option (List ℕ)) (e : Option (List ℕ)) → choose o (λ v. Some (true, v)) (option_map {U = Bool × List ℕ} (λ v. (false, v)) e) ≡ Some (true, v) → choose o (λ v. read_on q f s make xs (q v)) (option_map {U = Document × List ℕ} (λ v. (make xs, v)) e) ≡ read_on q f s make xs (q v)
-    chosen None None h = absurd (cc)
-    chosen None (Some w) h = let differ = (same_parts {A = Bool} {B = List ℕ} (false, w) (true, v) h).0 in absurd (cc)
-    chosen (Some w) e h = let same = (same_parts {A = Bool} {B = List ℕ} (true, w) (true, v) h).1 in ap (λ w. read_on q f s make xs (q w)) same
-
-    behind : (o : Option (List ℕ)) → option_and_then (λ u. choose (strip (separator (inside s).mode (inside s).depth) u) (λ v. Some (true, v)) (option_map {U = Bool × List ℕ} (λ v. (false, v)) (strip (ending f s (place_of (length xs == 1))) u))) o ≡ Some (true, v) → option_and_then (λ u. parse_map (λ ys. make (xs ++ ys)) (read_others q f s (place_of (length xs == 1)) u)) o ≡ read_on q f s make xs (q v)
-    behind None h = absurd (cc)
-    behind (Some u) h = others_are q takes f s make (length xs == 1) xs u some ∙ chosen (strip (separator (inside s).mode (inside s).depth) u) (strip (ending f s (place_of (length xs == 1))) u) h
-
--- behind the block's end stands what follows the block
-pub ends : {A : Type 0} {q : Parse A} (f : Frame) (s : Setting) (make : List A → Document) (xs : List A) (t v : List ℕ) → Takes q → 0 < length xs → behind_entry f s (length xs == 1) t ≡ Some (false, v) → read_more q f s make xs t ≡ Some (make xs, v)
-unfolding behind_entry read_more
-ends {q = q} f s make xs t v takes some h = behind (strip (trail s.mode) t) h
-  where
-    chosen : (o : Option (List ℕ)) (e : Option (List ℕ)) → choose o (λ v. Some (true, v)) (option_map {U = Bool × List ℕ} (λ v. (false, v)) e) ≡ Some (false, v) → choose o (λ v. read_on q f s make xs (q v)) (option_map {U = Document × List ℕ} (λ v. (make xs, v)) e) ≡ Some (make xs, v)
-    chosen None None h = absurd (cc)
-    chosen None (Some w) h = let same = (same_parts {A = Bool} {B = List ℕ} (false, w) (false, v) h).1 in ap (λ w. Some (make xs, w)) same
-    chosen (Some w) e h = let differ = (same_parts {A = Bool} {B = List ℕ} (true, w) (false, v) h).0 in absurd (cc)
-
-    behind : (o : Option (List ℕ)) → option_and_then (λ u. choose (strip (separator (inside s).mode (inside s).depth) u) (λ v. Some (true, v)) (option_map {U = Bool × List ℕ} (λ v. (false, v)) (strip (ending f s (place_of (length xs == 1))) u))) o ≡ Some (false, v) → option_and_then (λ u. parse_map (λ ys. make (xs ++ ys)) (read_others q f s (place_of (length xs == 1)) u)) o ≡ Some (make xs, v)
-    behind None h = absurd (cc)
-    behind (Some u) h = others_are q takes f s make (length xs == 1) xs u some ∙ chosen (strip (separator (inside s).mode (inside s).depth) u) (strip (ending f s (place_of (length xs == 1))) u) h
-
--- what is left where a text was stripped is no longer
-pub strip_within : (text t u : List ℕ) → strip text t ≡ Some u → length u ≤ length t
-strip_within text t u h = rw (strip_found text t u h, length-append text u) (omega arith)
+    behind : (o : Option (List ℕ)) → option_and_then (λ u. parse_map (λ ys. make (xs ++ ys)) (read_others q f s (place_of (length xs == 1)) u)) o
+        ≡ option_and_then (λ x. cond x.0 (read_on q f s make xs (q x.1)) (Some (make xs, x.1))) (option_and_then (λ u. choose (strip (separator (inside s).mode (inside s).depth) u) (λ v. Some (true, v)) (option_map {U = Bool × List ℕ} (λ v. (false, v)) (strip (ending f s (place_of (length xs == 1))) u))) o)
+    behind None = refl
+    behind (Some u) = others_are q takes f s make (length xs == 1) xs u some ∙ chosen (strip (separator (inside s).mode (inside s).depth) u) (strip (ending f s (place_of (length xs == 1))) u)
 
 -- behind a text that has a byte it is shorter
 pub strip_shortens : (c : ℕ) (text t u : List ℕ) → strip (c ∷ text) t ≡ Some u → length u < length t
@@ -171,27 +142,15 @@ count_is : {A B : Type 0} (f : A → B) (old new : List A) (x : A) (count : ℕ)
 count_is f old new x count pushed counted =
     (map_one_more f old new x pushed, counted ∙ sym (length-map new f), rw (length-map new f, pushed, length-append old (x ∷ [])) (omega arith))
 
--- an entry was put into a block: where nothing that may stand behind it does, nothing is read
-pub put_refused : {A B : Type 0} {q : Parse B} (f : Frame) (s : Setting) (make : List B → Document) (view : A → B) (old new : List A) (x : A) (count : ℕ) (t : List ℕ) → Takes q → new ≡ old ++ x ∷ [] → count ≡ length new → behind_entry f s (count == 1) t ≡ None → read_more q f s make (map view old ++ view x ∷ []) t ≡ None
-put_refused {q = q} f s make view old new x count t takes pushed counted h =
+-- an entry was put into a block: what stands behind it decides
+pub put_decides : {A B : Type 0} {q : Parse B} {there : Option (Bool × List ℕ)} (f : Frame) (s : Setting) (make : List B → Document) (view : A → B) (old new : List A) (x : A) (count : ℕ) (t : List ℕ) → Takes q → new ≡ old ++ x ∷ [] → count ≡ length new → behind_entry f s (count == 1) t ≡ there →
+    read_more q f s make (map view old ++ view x ∷ []) t ≡ option_and_then (λ y. cond y.0 (read_on q f s make (map view new) (q y.1)) (Some (make (map view new), y.1))) there
+put_decides {q = q} f s make view old new x count t takes pushed counted h =
     let p = count_is view old new x count pushed counted in
-    rw (← p.0) (is_refused f s make (map view new) t takes p.2 (rw (← p.1) h))
+    rw (← h, ← p.0, p.1) (behind_decides f s make (map view new) t takes p.2)
 
--- where the next entry begins, what it is read as decides
-pub put_goes_on : {A B : Type 0} {q : Parse B} (f : Frame) (s : Setting) (make : List B → Document) (view : A → B) (old new : List A) (x : A) (count : ℕ) (t v : List ℕ) → Takes q → new ≡ old ++ x ∷ [] → count ≡ length new → behind_entry f s (count == 1) t ≡ Some (true, v) → read_more q f s make (map view old ++ view x ∷ []) t ≡ read_on q f s make (map view new) (q v)
-put_goes_on {q = q} f s make view old new x count t v takes pushed counted h =
-    let p = count_is view old new x count pushed counted in
-    rw (← p.0) (goes_on f s make (map view new) t v takes p.2 (rw (← p.1) h))
-
--- where the block ends, these are its entries
-pub put_ends : {A B : Type 0} {q : Parse B} (f : Frame) (s : Setting) (make : List B → Document) (view : A → B) (old new : List A) (x : A) (count : ℕ) (t v : List ℕ) → Takes q → new ≡ old ++ x ∷ [] → count ≡ length new → behind_entry f s (count == 1) t ≡ Some (false, v) → read_more q f s make (map view old ++ view x ∷ []) t ≡ Some (make (map view new), v)
-put_ends {q = q} f s make view old new x count t v takes pushed counted h =
-    let p = count_is view old new x count pushed counted in
-    rw (← p.0) (ends f s make (map view new) t v takes p.2 (rw (← p.1) h))
-
--- so what stands behind the entry says what is read, and leaves no more bytes
+-- so it says what is read, and no more bytes are left
 pub put_passes : {A B : Type 0} {q : Parse B} (f : Frame) (s : Setting) (make : List B → Document) (view : A → B) (old new : List A) (x : A) (count : ℕ) (t : List ℕ) (answer : Result (Bool × Bor (List ℕ)) ReadError) → Takes q → new ≡ old ++ x ∷ [] → count ≡ length new → Reads (λ goes. goes) answer (behind_entry f s (count == 1) t)
     → MatchResult answer (λ a. (read_more q f s make (map view old ++ view x ∷ []) t ≡ cond a.0 (read_on q f s make (map view new) (q a.1.now)) (Some (make (map view new), a.1.now))) × (length a.1.now ≤ length t)) (λ e. e ≡ NotText → read_more q f s make (map view old ++ view x ∷ []) t ≡ None)
-put_passes f s make view old new x count t (Err e) takes pushed counted h = λ is. put_refused f s make view old new x count t takes pushed counted (h is)
-put_passes f s make view old new x count t (Ok (true, v)) takes pushed counted h = (put_goes_on f s make view old new x count t v.now takes pushed counted h, behind_within f s (count == 1) t true v.now h)
-put_passes f s make view old new x count t (Ok (false, v)) takes pushed counted h = (put_ends f s make view old new x count t v.now takes pushed counted h, behind_within f s (count == 1) t false v.now h)
+put_passes f s make view old new x count t (Err e) takes pushed counted h = λ is. put_decides f s make view old new x count t takes pushed counted (h is)
+put_passes f s make view old new x count t (Ok (goes, v)) takes pushed counted h = (put_decides f s make view old new x count t takes pushed counted h, behind_within f s (count == 1) t goes v.now h)

@@ -4,7 +4,7 @@ use Rattle.ufmt_core.specs.declared.formatter.block.Place.TheVariants.{First}
 use Rattle.ufmt_conv.specs.declared.reader.level.Kind.TheVariants.{Braces}
 use Rattle.ufmt_conv.specs.Level.{entry_of, frame_of, setting_of}
 use Rattle.ufmt_conv.proofs.DocumentParts.{braces_begin}
-use Rattle.ufmt_conv.proofs.EntrySteps.{strip_within}
+use Rattle.ufmt.proofs.ReadingTurns.{strip_within}
 use Rattle.ufmt_conv.proofs.Stacks.{opened}
 use Rattle.ufmt_conv.proofs.reader.begin.begin_braces.Goals as goal
 

@@ -4,7 +4,7 @@ use Rattle.ufmt.specs.Layout.{inside, lead}
 use Rattle.ufmt_core.specs.declared.formatter.block.Place.TheVariants.{First}
 use Rattle.ufmt_conv.specs.declared.reader.level.Kind.TheVariants.{Struct, Tuple}
 use Rattle.ufmt_conv.proofs.DocumentParts.{tuple_begins, struct_begins, field_from, label_within}
-use Rattle.ufmt_conv.proofs.EntrySteps.{strip_within}
+use Rattle.ufmt.proofs.ReadingTurns.{strip_within}
 use Rattle.ufmt_conv.proofs.Stacks.{opened}
 use Rattle.ufmt_conv.proofs.reader.begin.begin_named.Goals as goal
 

@@ -7,7 +7,7 @@ use Rattle.ufmt_conv.specs.Doc.{doc_document}
 use Rattle.ufmt_conv.specs.Entries.{read_on}
 use Rattle.ufmt_conv.specs.Level.{entry_of, frame_of, setting_of}
 use Rattle.ufmt_conv.proofs.DocumentParts.{map_begins, set_begins}
-use Rattle.ufmt_conv.proofs.EntrySteps.{strip_within}
+use Rattle.ufmt.proofs.ReadingTurns.{strip_within}
 use Rattle.ufmt_conv.proofs.Given.{passes_on}
 use Rattle.ufmt_conv.proofs.reader.open_block.decide.Goals as goal
 
