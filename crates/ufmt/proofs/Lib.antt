@@ -2,7 +2,6 @@ pub mod BlocksComplete
 pub mod BlocksSound
 pub mod Cursors
 pub mod FramesClose
-pub mod HexadecimalDigits
 pub mod HexadecimalTexts
 pub mod ListedDocuments
 pub mod NormalForms

@@ -13,4 +13,3 @@ pub mod Strips
 pub mod WholeTexts
 pub mod Within
 pub mod WordBytes
-pub mod WordTable
