@@ -158,6 +158,7 @@ impl Level {
 
     /// What follows an entry of a block, the only one so far or one of more: true, and where the
     /// next entry begins, or false, and what follows the block's end.
+    #[inline(always)]
     #[tactic(auto, unfolding(crate::specs::Entries::behind_entry))]
     pub(super) fn pass_entry(
         self,
