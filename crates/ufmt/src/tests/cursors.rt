@@ -1,6 +1,6 @@
-use super::Rows;
+use super::rows::Rows;
+use crate::{Cursor, Formatter, Full, laws, uDebug, uWrite};
 use std::process::Abort;
-use ufmt::{Cursor, Formatter, Full, laws, uDebug, uWrite};
 
 // What a call on the cursor answered, and what is then written and remains.
 type State<'a> = (Result<(), Full>, &'a [u8], usize);
