@@ -1,5 +1,5 @@
-//! What no clause says: the texts that core::fmt prints of the same values, where pieces end, what the
-//! macros evaluate, and that each call can succeed.
+//! What no clause says: the texts that core::fmt prints of the same values, where pieces end, what
+//! the macros evaluate, and that each call can succeed.
 use crate::laws;
 use crate::unsigned::decimal_is_one_text;
 

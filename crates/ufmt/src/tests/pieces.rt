@@ -156,12 +156,16 @@ fn other_leaves_are_one_piece(rt: HostRuntime) -> Result<(), Fail> {
     Ok(())
 }
 
-// A struct of two fields, one without fields, and a tuple without fields.
-fn write_structs<W: uWrite>(f: &mut Formatter<W>) -> Result<(), W::Error> {
+fn write_pair<W: uWrite>(f: &mut Formatter<W>) -> Result<(), W::Error> {
     let mut pair = f.debug_struct("S")?;
     pair.field("a", &1i32)?;
     pair.field("b", &2i32)?;
-    pair.finish()?;
+    pair.finish()
+}
+
+// A struct of two fields, one without fields, and a tuple without fields.
+fn write_structs<W: uWrite>(f: &mut Formatter<W>) -> Result<(), W::Error> {
+    write_pair(f)?;
     let mut unit = f.debug_struct("A")?;
     unit.finish()?;
     let mut unit = f.debug_tuple("T")?;
