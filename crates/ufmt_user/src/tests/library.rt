@@ -1,43 +1,10 @@
-//! The types and calls of the library itself.
+//! Builders, and the values of std's own types.
 use super::rows::Rows;
 use std::alloc::{AllocError, Global};
-use ufmt::laws;
-use ufmt::unsigned::decimal_is_one_text;
 
 mod collections;
-mod cursors;
-mod display;
 mod formatters;
-mod hexadecimal;
-mod macros;
-mod numbers;
-mod pieces;
 mod structs;
-
-#[test]
-fn laws_of_numbers_and_types_can_be_called() {
-    decimal_is_one_text();
-    laws::hexadecimal_is_one_text();
-    laws::unsigned_prints_hexadecimal();
-    laws::signed_prints_as_unsigned();
-    laws::padding_reaches_length();
-    laws::both_traits_print_one_text();
-    laws::references_print_what_they_refer_to::<u8>();
-    laws::references_display_what_they_refer_to::<u8>();
-    laws::documents_of_leaves::<u8>();
-    laws::documents_of_collections::<u8, u16, 3>();
-    laws::documents_of_tuples::<u8, u16, u32>();
-}
-
-#[test]
-fn laws_of_documents_can_be_called() {
-    laws::normal_forms();
-    laws::shifted_at_depth();
-    laws::plain_reads_one_way();
-    laws::pretty_reads_one_way();
-    laws::texts_tell_normal_forms();
-    laws::texts_are_read_exactly();
-}
 
 // The text with `part` as often as `count` says between its beginning and its end.
 fn repeated(

@@ -50,48 +50,77 @@ fn pretty_goes_back_to_the_mode_and_depth_before(rt: HostRuntime) -> Result<(), 
     Ok(())
 }
 
-// A list, a set and a map by whole entries, and whether each was open just until it was finished.
-fn write_entries<W: uWrite, N: uDebug + Ord>(
+// A list by whole entries, and whether it was open just until it was finished.
+fn write_list<W: uWrite, N: uDebug>(
     f: &mut Formatter<W>,
     one: &N,
-    two: &N,
     more: &[N],
-    more_pairs: &BTreeMap<N, N>,
 ) -> Result<bool, W::Error> {
     let mut list = f.debug_list()?;
     list.entry(one)?;
     list.entries(more)?;
     let was_open = list.is_open();
     list.finish()?;
-    let mut is_open = list.is_open();
+    Ok(was_open && !list.is_open())
+}
+
+// A set by whole entries, and whether it was open just until it was finished.
+fn write_set<W: uWrite, N: uDebug>(
+    f: &mut Formatter<W>,
+    one: &N,
+    more: &[N],
+) -> Result<bool, W::Error> {
     let mut set = f.debug_set()?;
     set.entry(one)?;
     set.entries(more)?;
-    let was_open = was_open && set.is_open();
+    let was_open = set.is_open();
     set.finish()?;
-    is_open = is_open || set.is_open();
-    let mut map = f.debug_map()?;
-    map.entry(one, two)?;
-    map.entries(more_pairs.iter())?;
-    let was_open = was_open && map.is_open();
-    map.finish()?;
-    Ok(was_open && !is_open && !map.is_open())
+    Ok(was_open && !set.is_open())
 }
 
-// The same by begin and end calls, with one entry each.
-fn write_halves<W: uWrite, N: uDebug>(
+// A map by whole entries, and whether it was open just until it was finished.
+fn write_map<W: uWrite, N: uDebug + Ord>(
     f: &mut Formatter<W>,
     one: &N,
     two: &N,
+    more_pairs: &BTreeMap<N, N>,
+) -> Result<bool, W::Error> {
+    let mut map = f.debug_map()?;
+    map.entry(one, two)?;
+    map.entries(more_pairs.iter())?;
+    let was_open = map.is_open();
+    map.finish()?;
+    Ok(was_open && !map.is_open())
+}
+
+// A list of one entry by begin and end calls.
+fn write_list_by_halves<W: uWrite, N: uDebug>(
+    f: &mut Formatter<W>,
+    one: &N,
 ) -> Result<(), W::Error> {
     let mut list = f.debug_list()?;
     let answer = one.fmt(list.begin_entry()?);
     list.end_entry(answer)?;
-    list.finish()?;
+    list.finish()
+}
+
+// A set of one entry by begin and end calls.
+fn write_set_by_halves<W: uWrite, N: uDebug>(
+    f: &mut Formatter<W>,
+    one: &N,
+) -> Result<(), W::Error> {
     let mut set = f.debug_set()?;
     let answer = one.fmt(set.begin_entry()?);
     set.end_entry(answer)?;
-    set.finish()?;
+    set.finish()
+}
+
+// A map of one entry by begin and end calls.
+fn write_map_by_halves<W: uWrite, N: uDebug>(
+    f: &mut Formatter<W>,
+    one: &N,
+    two: &N,
+) -> Result<(), W::Error> {
     let mut map = f.debug_map()?;
     let answer = one.fmt(map.begin_entry()?);
     let answer = two.fmt(map.begin_value(answer)?);
@@ -106,9 +135,13 @@ fn write_builders<W: uWrite, N: uDebug + Ord>(
     more: &[N],
     more_pairs: &BTreeMap<N, N>,
 ) -> Result<bool, W::Error> {
-    let were_open_in_time = write_entries(f, one, two, more, more_pairs)?;
-    write_halves(f, one, two)?;
-    Ok(were_open_in_time)
+    let list_was_open_in_time = write_list(f, one, more)?;
+    let set_was_open_in_time = write_set(f, one, more)?;
+    let map_was_open_in_time = write_map(f, one, two, more_pairs)?;
+    write_list_by_halves(f, one)?;
+    write_set_by_halves(f, one)?;
+    write_map_by_halves(f, one, two)?;
+    Ok(list_was_open_in_time && set_was_open_in_time && map_was_open_in_time)
 }
 
 impl<R: Abort + AllocGlobal> Rows<'_, R> {

@@ -5,9 +5,9 @@ use std::process::Abort;
 use std::test::Fail;
 use ufmt::{Formatter, uDebug, uWrite};
 
-// A struct with a map and a number, its number by a begin and an end call, and a struct without
-// fields, and whether each was open just until it was finished.
-fn write_structs<W: uWrite, N: uDebug + Ord>(
+// A struct with a map and a number, its number by a begin and an end call, and whether it was open
+// just until it was finished.
+fn write_settings<W: uWrite, N: uDebug + Ord>(
     f: &mut Formatter<W>,
     map: &BTreeMap<N, N>,
     number: &N,
@@ -18,33 +18,63 @@ fn write_structs<W: uWrite, N: uDebug + Ord>(
     settings.end_field(answer)?;
     let was_open = settings.is_open();
     settings.finish()?;
-    let is_open = settings.is_open();
-    let mut unit = f.debug_struct("A")?;
-    unit.finish()?;
-    Ok(was_open && !is_open && !unit.is_open())
+    Ok(was_open && !settings.is_open())
 }
 
-// Tuples of no field, one and two, with a name and without, and whether they were closed then.
+// That struct and one without fields, and whether each was closed just when it was finished.
+fn write_structs<W: uWrite, N: uDebug + Ord>(
+    f: &mut Formatter<W>,
+    map: &BTreeMap<N, N>,
+    number: &N,
+) -> Result<bool, W::Error> {
+    let were_closed_in_time = write_settings(f, map, number)?;
+    let mut unit = f.debug_struct("A")?;
+    unit.finish()?;
+    Ok(were_closed_in_time && !unit.is_open())
+}
+
+// Tuples of no field and of one.
+fn write_short_tuples<W: uWrite, N: uDebug>(
+    f: &mut Formatter<W>,
+    name: &str,
+    one: &N,
+) -> Result<(), W::Error> {
+    let mut none = f.debug_tuple(name)?;
+    none.finish()?;
+    let mut single = f.debug_tuple(name)?;
+    single.field(one)?;
+    single.finish()
+}
+
+// A tuple of two fields, the second by a begin and an end call, and whether it was closed then.
+fn write_pair<W: uWrite, N: uDebug>(
+    f: &mut Formatter<W>,
+    name: &str,
+    one: &N,
+    two: &N,
+) -> Result<bool, W::Error> {
+    let mut pair = f.debug_tuple(name)?;
+    pair.field(one)?;
+    let answer = two.fmt(pair.begin_field()?);
+    pair.end_field(answer)?;
+    pair.finish()?;
+    Ok(!pair.is_open())
+}
+
+// Tuples of no field, one and two, with a name and without, and whether those of two were closed
+// then.
 fn write_tuples<W: uWrite, N: uDebug>(
     f: &mut Formatter<W>,
     one: &N,
     two: &N,
 ) -> Result<bool, W::Error> {
-    let mut is_open = false;
+    let mut were_closed = true;
     for name in ["", "T"] {
-        let mut none = f.debug_tuple(name)?;
-        none.finish()?;
-        let mut single = f.debug_tuple(name)?;
-        single.field(one)?;
-        single.finish()?;
-        let mut several = f.debug_tuple(name)?;
-        several.field(one)?;
-        let answer = two.fmt(several.begin_field()?);
-        several.end_field(answer)?;
-        several.finish()?;
-        is_open = is_open || several.is_open();
+        write_short_tuples(f, name, one)?;
+        let was_closed = write_pair(f, name, one, two)?;
+        were_closed = were_closed && was_closed;
     }
-    Ok(!is_open)
+    Ok(were_closed)
 }
 
 impl<R: Abort + AllocGlobal> Rows<'_, R> {

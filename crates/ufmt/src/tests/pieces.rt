@@ -1,15 +1,15 @@
 //! What a writer is handed, piece by piece.
 ghost use Rattle.std.specs.Prelude.{[]};
 
-use super::Rows;
+use super::rows::Rows;
+use crate::{
+    Cursor, Formatter, Full, HexOptions, uDebug, uDisplay, uDisplayHex, uWrite, uwrite, uwriteln,
+};
 use std::alloc::{AllocError, Global};
 use std::collections::{BTreeMap, BTreeSet};
 use std::num::NonZeroI8;
 use std::process::Abort;
 use std::test::Fail;
-use ufmt::{
-    Cursor, Formatter, Full, HexOptions, uDebug, uDisplay, uDisplayHex, uWrite, uwrite, uwriteln,
-};
 
 // A writer that ends each piece by a bar, and counts those that came as characters. What it holds is
 // not told to contracts.
@@ -156,12 +156,16 @@ fn other_leaves_are_one_piece(rt: HostRuntime) -> Result<(), Fail> {
     Ok(())
 }
 
-// A struct of two fields, one without fields, and a tuple without fields.
-fn write_structs<W: uWrite>(f: &mut Formatter<W>) -> Result<(), W::Error> {
+fn write_pair<W: uWrite>(f: &mut Formatter<W>) -> Result<(), W::Error> {
     let mut pair = f.debug_struct("S")?;
     pair.field("a", &1i32)?;
     pair.field("b", &2i32)?;
-    pair.finish()?;
+    pair.finish()
+}
+
+// A struct of two fields, one without fields, and a tuple without fields.
+fn write_structs<W: uWrite>(f: &mut Formatter<W>) -> Result<(), W::Error> {
+    write_pair(f)?;
     let mut unit = f.debug_struct("A")?;
     unit.finish()?;
     let mut unit = f.debug_tuple("T")?;

@@ -1,12 +1,19 @@
-use super::Rows;
+use super::rows::Rows;
+use crate::{Cursor, Formatter, Full, laws, uDebug, uWrite};
 use std::process::Abort;
-use ufmt::{Cursor, Formatter, Full, laws, uDebug, uWrite};
 
-// What a call on the cursor answered, and what is then written and remains.
-type State<'a> = (Result<(), Full>, &'a [u8], usize);
-
-fn state<'a>(answer: Result<(), Full>, cursor: &'a Cursor<'_>) -> State<'a> {
-    (answer, cursor.written(), cursor.remaining())
+impl<R: Abort + AllocGlobal> Rows<'_, R> {
+    // What a call on the cursor answered, and what is then written and remains.
+    fn state(
+        &self,
+        answer: Result<(), Full>,
+        cursor: &Cursor<'_>,
+        (expected, written, remaining): (Result<(), Full>, &str, usize),
+        case: &str,
+    ) {
+        let given = (answer, cursor.written(), cursor.remaining());
+        self.same(given, (expected, written.as_bytes(), remaining), case);
+    }
 }
 
 #[test]
@@ -20,26 +27,14 @@ fn a_cursor_fills_its_buffer(rt: HostRuntime) {
         ("cdefg", Err(Full), "ab", 4),
     ] {
         let given = cursor.write_str(piece);
-        rows.same(
-            state(given, &cursor),
-            (answer, written.as_bytes(), remaining),
-            piece,
-        );
+        rows.state(given, &cursor, (answer, written, remaining), piece);
     }
     for (c, answer) in [('é', Ok(())), ('€', Err(Full))] {
         let given = cursor.write_char(c);
-        rows.same(
-            state(given, &cursor),
-            (answer, "abé".as_bytes(), 2),
-            "characters",
-        );
+        rows.state(given, &cursor, (answer, "abé", 2), "characters");
     }
     let given = cursor.write_str("");
-    rows.same(
-        state(given, &cursor),
-        (Ok(()), "abé".as_bytes(), 2),
-        "after a refusal",
-    );
+    rows.state(given, &cursor, (Ok(()), "abé", 2), "after a refusal");
     rows.same(buffer.as_slice(), "abé..".as_bytes(), "the whole buffer");
 }
 
@@ -49,7 +44,7 @@ fn a_buffer_keeps_what_it_is_not_given(rt: HostRuntime) {
     let mut cursor = Cursor::new(&mut []);
     for (piece, answer) in [("", Ok(())), ("a", Err(Full))] {
         let given = cursor.write_str(piece);
-        rows.same(state(given, &cursor), (answer, b"".as_slice(), 0), piece);
+        rows.state(given, &cursor, (answer, "", 0), piece);
     }
     let mut buffer = *b"....";
     for (piece, answer, left) in [("abcde", Err(Full), "...."), ("ab", Ok(()), "ab..")] {

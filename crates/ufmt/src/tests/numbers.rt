@@ -1,4 +1,5 @@
-use super::Rows;
+use super::rows::Rows;
+use crate::{Formatter, uDebug};
 use std::alloc::AllocError;
 use std::fmt::Display;
 use std::num::{
@@ -7,7 +8,6 @@ use std::num::{
 };
 use std::process::Abort;
 use std::test::Fail;
-use ufmt::{Formatter, uDebug};
 
 impl<R: Abort + AllocGlobal> Rows<'_, R> {
     // Numbers of one type, each with one text in both modes.
