@@ -72,6 +72,7 @@ impl OpenBlock {
 }
 
 // Puts an entry into a list, a set or a tuple, whose entries a block of this kind frames.
+#[inline(always)]
 fn put_entry<'a>(
     level: Level,
     kind: Kind,
