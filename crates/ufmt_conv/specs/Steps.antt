@@ -8,6 +8,7 @@ use Rattle.ufmt_conv.specs.declared.doc.Doc.{Doc}
 use Rattle.ufmt_conv.specs.declared.reader.error.ReadError.{ReadError}
 use Rattle.ufmt_conv.specs.declared.reader.error.ReadError.TheVariants.{NotText}
 use Rattle.ufmt_conv.specs.declared.reader.level.Level.{Level}
+use Rattle.ufmt_conv.specs.declared.reader.level.Kind.{Kind}
 use Rattle.ufmt_conv.specs.declared.reader.level.Kind.TheVariants as kinds
 use Rattle.ufmt_conv.specs.declared.reader.open_block.OpenBlock.{OpenBlock}
 use Rattle.ufmt_conv.specs.declared.reader.open_block.OpenBlock.TheVariants as blocks
@@ -46,6 +47,13 @@ left level block goes_on t = cond goes_on (finish level block (entry_of level t)
 -- this block, and no more bytes than the number, were come to in reading this
 abbrev pub Puts : Level → ℕ → Result (Bool × Bor (List ℕ)) ReadError → OpenBlock → Option (Document × List ℕ) → Type 0
 Puts level bytes answer block there = MatchResult answer (λ x. (there ≡ left level block x.0 x.1.now) × (length x.1.now ≤ bytes)) (λ e. e ≡ NotText → there ≡ None)
+
+-- the same of an entry of a block of this kind, whatever the document that its entries make
+abbrev pub PutsEntry : Level → Kind → ℕ → Result (Bool × Bor (List ℕ)) ReadError → List Document → List Document → Document → List ℕ → Type 0
+PutsEntry level kind bytes answer new old d t = (make : List Document → Document) →
+    MatchResult answer
+    (λ x. (read_on (entry_of level) (frame_of level kind) (setting_of level) make old (Some (d, t)) ≡ cond x.0 (read_on (entry_of level) (frame_of level kind) (setting_of level) make new (entry_of level x.1.now)) (Some (make new, x.1.now))) × (length x.1.now ≤ bytes))
+    (λ e. e ≡ NotText → read_on (entry_of level) (frame_of level kind) (setting_of level) make old (Some (d, t)) ≡ None)
 
 -- the innermost of the blocks that are open, where any is
 abbrev pub innermost : List OpenBlock → OpenBlock

@@ -3,9 +3,10 @@ ghost use Rattle.std.specs.Prelude.{◌≡◌, length, Some, String, string_byte
 ghost use Rattle.std.specs.declared.alloc.Global.{Global};
 ghost use Rattle.ufmt.specs.Layout.{tuple_kind};
 ghost use Rattle.ufmt_conv.specs.Doc.{doc_document};
+ghost use Rattle.ufmt_conv.specs.DocViews.{docs_view};
 ghost use Rattle.ufmt_conv.specs.Level.{kind_of};
 ghost use Rattle.ufmt_conv.specs.Read.{Reads};
-ghost use Rattle.ufmt_conv.specs.Steps.{Puts, block_document, finish, read_label};
+ghost use Rattle.ufmt_conv.specs.Steps.{Puts, PutsEntry, block_document, finish, read_label};
 
 use crate::doc::Doc;
 use crate::reader::error::ReadError;
@@ -42,15 +43,15 @@ impl OpenBlock {
             (finish level self.old (Some (doc_document doc, input.now))) }
     {
         match self {
-            OpenBlock::List(entries) => put_listed(level, entries, doc, input),
+            OpenBlock::List(entries) => put_entry(level, Kind::Brackets, entries, doc, input),
             OpenBlock::Braces => decide(alloc, level, self, doc, input),
-            OpenBlock::Set(entries) => put_in_set(level, entries, doc, input),
+            OpenBlock::Set(entries) => put_entry(level, Kind::Braces, entries, doc, input),
             OpenBlock::Map(pairs, key) => put_in_map(level, pairs, key, doc, input),
             OpenBlock::Struct(_name, fields, label) => {
                 put_field(alloc, level, fields, label, doc, input)
             }
             OpenBlock::Tuple(name, entries) => {
-                put_in_tuple(level, tuple_kind(name), entries, doc, input)
+                put_entry(level, tuple_kind(name), entries, doc, input)
             }
         }
     }
@@ -70,32 +71,20 @@ impl OpenBlock {
     }
 }
 
-// Puts an entry into a list.
-fn put_listed<'a>(
+// Puts an entry into a list, a set or a tuple, whose entries a block of this kind frames.
+#[inline(always)]
+fn put_entry<'a>(
     level: Level,
+    kind: Kind,
     entries: &mut Vec<Doc>,
     doc: Doc,
     input: &'a [u8],
 ) -> Result<(bool, &'a [u8]), ReadError>
-    ensures { Puts level (length input.now) result (OpenBlock.List entries.new)
-        (finish level (OpenBlock.List entries.old) (Some (doc_document doc, input.now))) }
+    ensures { PutsEntry level kind (length input.now) result
+        (docs_view entries.new) (docs_view entries.old) (doc_document doc) input.now }
 {
     entries.push(doc)?;
-    level.pass_entry(Kind::Brackets, entries.len() == 1, input)
-}
-
-// Puts an entry into a set.
-fn put_in_set<'a>(
-    level: Level,
-    entries: &mut Vec<Doc>,
-    doc: Doc,
-    input: &'a [u8],
-) -> Result<(bool, &'a [u8]), ReadError>
-    ensures { Puts level (length input.now) result (OpenBlock.Set entries.new)
-        (finish level (OpenBlock.Set entries.old) (Some (doc_document doc, input.now))) }
-{
-    entries.push(doc)?;
-    level.pass_entry(Kind::Braces, entries.len() == 1, input)
+    level.pass_entry(kind, entries.len() == 1, input)
 }
 
 // Makes braces a set or a map with what stands first in them: a colon makes them a map.
@@ -116,7 +105,7 @@ fn decide<'a>(
         }
         None => {
             let mut entries = Vec::new(alloc);
-            let answer = put_in_set(level, &mut entries, doc, input)?;
+            let answer = put_entry(level, Kind::Braces, &mut entries, doc, input)?;
             *braces = OpenBlock::Set(entries);
             Ok(answer)
         }
@@ -170,23 +159,6 @@ fn put_field<'a>(
     } else {
         Ok((false, rest))
     }
-}
-
-// Puts an entry into a tuple of this kind.
-fn put_in_tuple<'a>(
-    level: Level,
-    kind: Kind,
-    entries: &mut Vec<Doc>,
-    doc: Doc,
-    input: &'a [u8],
-) -> Result<(bool, &'a [u8]), ReadError>
-    ensures { (name : String Global)
-        → kind_of kind ≡ tuple_kind (string_bytes name)
-        → Puts level (length input.now) result (OpenBlock.Tuple name entries.new)
-        (finish level (OpenBlock.Tuple name entries.old) (Some (doc_document doc, input.now))) }
-{
-    entries.push(doc)?;
-    level.pass_entry(kind, entries.len() == 1, input)
 }
 
 // The kind of a tuple with this name.

@@ -20,7 +20,7 @@ returns-in_err-answer-in-None c =
     let level = c.args.level in
     let d = doc_document c.args.doc in
     passes_on _ c.from_residual.result _ c.in_err-answer-in-None.field-0.0 _ c.from_residual.ensures.1 (λ y p. p) λ refused.
-    set_begins (setting_of level) (entry_of level) d c.args.input.now (sym c.in-None.ensures) ∙ ap (put_in level d c.args.input.now) (sym c.new-entries.ensures.items) ∙ c.in_err-answer-in-None.ensures refused
+    set_begins (setting_of level) (entry_of level) d c.args.input.now (sym c.in-None.ensures) ∙ ap (put_in level d c.args.input.now) (sym c.new-entries.ensures.items) ∙ c.in_err-answer-in-None.ensures (λ ds. set_of (documents ds)) refused
 
 pub returns-in-Some : goal.returns-in-Some
 returns-in-Some c =
@@ -32,4 +32,4 @@ pub returns-in_ok-answer-in-None : goal.returns-in_ok-answer-in-None
 returns-in_ok-answer-in-None c =
     let level = c.args.level in
     let d = doc_document c.args.doc in
-    (set_begins (setting_of level) (entry_of level) d c.args.input.now (sym c.in-None.ensures) ∙ ap (put_in level d c.args.input.now) (sym c.new-entries.ensures.items) ∙ c.in_ok-answer-in-None.ensures.0, c.in_ok-answer-in-None.ensures.1)
+    (set_begins (setting_of level) (entry_of level) d c.args.input.now (sym c.in-None.ensures) ∙ ap (put_in level d c.args.input.now) (sym c.new-entries.ensures.items) ∙ (c.in_ok-answer-in-None.ensures (λ ds. set_of (documents ds))).0, (c.in_ok-answer-in-None.ensures (λ ds. set_of (documents ds))).1)
