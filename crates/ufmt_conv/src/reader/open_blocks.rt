@@ -47,6 +47,7 @@ impl OpenBlocks {
 
     /// Takes what was read in the innermost block, and closes each block that ends behind it. The
     /// answer is the document of the outermost block if that ended too.
+    #[inline(always)]
     pub(super) fn take<'a>(
         &mut self,
         alloc: Global,
