@@ -83,7 +83,8 @@ impl uWrite for Cursor<'_> {
 #[inline(always)]
 fn put(bytes: &[u8], buffer: &mut [u8], start: usize)
     requires { start + length bytes.now ≤ length buffer.old }
-    ensures written { take (start + length bytes.now) buffer.new ≡ take start buffer.old ++ bytes.now }
+    ensures written { take (start + length bytes.now) buffer.new
+        ≡ take start buffer.old ++ bytes.now }
     ensures unwritten { drop (start + length bytes.now) buffer.new
         ≡ drop (start + length bytes.now) buffer.old }
 {
