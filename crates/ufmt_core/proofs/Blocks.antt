@@ -4,16 +4,11 @@ use Rattle.std.specs.Prelude.{Option}
 use Rattle.std.specs.Iterator.{AlwaysYields}
 use Rattle.std.proofs.lemmas.List.{map-append, take_more}
 use Rattle.std.proofs.lemmas.Simd.{map-map}
-use Rattle.ufmt_core.specs.declared.formatter.Setting.{Setting}
-use Rattle.ufmt_core.specs.declared.formatter.Formatter.{Formatter}
-use Rattle.ufmt_core.specs.declared.formatter.block.Place.{Place}
-use Rattle.ufmt_core.specs.declared.formatter.builder.Status.{Status}
-use Rattle.ufmt_core.specs.declared.formatter.builder.Status.TheVariants.{Lent, LentValue}
 use Rattle.ufmt_core.specs.Document.{Document}
-use Rattle.ufmt_core.specs.Layout.{Frame, inside, layout, next, rest, trail}
+use Rattle.ufmt_core.specs.Layout.{Setting, Place, Frame, inside, layout, next, rest, trail}
 use Rattle.ufmt_core.specs.Writes.{Seen, Writes}
-use Rattle.ufmt_core.specs.Formatter.{LaysOut, Prints, setting_of, writer_of}
-use Rattle.ufmt_core.specs.Block.{Block, Same, Part, Entry, Row, Entries, Abandonment, EntryEnd, Closing, After, IsOpen, Stop, framed, framed_all, frame_of, inner, lead_of, pair_text, place_after, trail_of}
+use Rattle.ufmt_core.specs.Formatter.{Formatter, LaysOut, Prints, setting_of, writer_of}
+use Rattle.ufmt_core.specs.Block.{Status, Lent, LentValue, Block, Same, Part, Entry, Row, Entries, Abandonment, EntryEnd, Closing, After, IsOpen, Stop, framed, framed_all, frame_of, inner, lead_of, pair_text, place_after, trail_of}
 use Rattle.ufmt_core.proofs.Items.{AlwaysYields-front, AlwaysYields-end}
 use Rattle.ufmt_core.proofs.Writing.{Writes-then, Writes-fails, Writes-nothing, Prints-then}
 

@@ -5,24 +5,12 @@ use Rattle.std.proofs.lemmas.List.{map-append, take-append-drop, take_all}
 use Rattle.std.proofs.lemmas.Simd.{map-map}
 use Rattle.std.proofs.lemmas.Result.{IfErr-at_err}
 use Rattle.std.specs.Slice.Iter.{iter_rest, iter_steps}
-use Rattle.ufmt_core.specs.declared.formatter.Setting.{Setting}
-use Rattle.ufmt_core.specs.declared.formatter.Formatter.{Formatter}
-use Rattle.ufmt_core.specs.declared.formatter.block.Kind.{Kind}
-use Rattle.ufmt_core.specs.declared.formatter.block.Kind.TheVariants.{Brackets, Braces, Struct}
-use Rattle.ufmt_core.specs.declared.formatter.block.Place.{Place}
-use Rattle.ufmt_core.specs.declared.formatter.block.Place.TheVariants.{First}
-use Rattle.ufmt_core.specs.declared.formatter.builder.Status.TheVariants.{Lent}
-use Rattle.ufmt_core.specs.declared.formatter.builder.Builder.{Builder}
-use Rattle.ufmt_core.specs.declared.list.ListBlock.{ListBlock}
-use Rattle.ufmt_core.specs.declared.set.SetBlock.{SetBlock}
-use Rattle.ufmt_core.specs.declared.structs.StructBlock.{StructBlock}
-use Rattle.ufmt_core.specs.declared.tuple.TupleBlock.{TupleBlock}
 use Rattle.ufmt_core.specs.Document.{Document, list_of, set_of, map_of, struct_of, tuple_of, Documents, Pairs, Fields, documents, pairs_of}
-use Rattle.ufmt_core.specs.Layout.{frame, inside, layout, next, rest, texts, pair_texts, tuple_kind}
+use Rattle.ufmt_core.specs.Layout.{Setting, Kind, Brackets, Braces, Struct, Place, First, frame, inside, layout, next, rest, texts, pair_texts, tuple_kind}
 use Rattle.ufmt_core.specs.Writes.{Seen, Writes}
-use Rattle.ufmt_core.specs.Formatter.{Prints, LaysOut, setting_of, writer_of}
-use Rattle.ufmt_core.specs.Block.{Block, Closing, Entries, Entry, EntryEnd, IsInside, Opening, Part, Row, Stop, ending_of, entries_left, entry_text, field_lead_of, field_text, fields_left, framed, framed_all, frame_of, inner, lead_of, pair_text, pairs_left, place_after, rest_of, trail_of}
-use Rattle.ufmt_core.specs.Builder.{block, kind_of_tuple, lent, list_block, set_block, struct_block, tuple_block}
+use Rattle.ufmt_core.specs.Formatter.{Formatter, Prints, LaysOut, setting_of, writer_of}
+use Rattle.ufmt_core.specs.Block.{Lent, Block, Closing, Entries, Entry, EntryEnd, IsInside, Opening, Part, Row, Stop, ending_of, entries_left, entry_text, field_lead_of, field_text, fields_left, framed, framed_all, frame_of, inner, lead_of, pair_text, pairs_left, place_after, rest_of, trail_of}
+use Rattle.ufmt_core.specs.Builder.{Builder, ListBlock, SetBlock, StructBlock, TupleBlock, block, kind_of_tuple, lent, list_block, set_block, struct_block, tuple_block}
 use Rattle.ufmt_core.proofs.Blocks.{Closing-fails, Closing-then, Part-between, Part-fails, Row-from_entries, Row-next, place_after-map, rest-append}
 use Rattle.ufmt_core.proofs.Items.{AlwaysYields-items}
 use Rattle.ufmt_core.proofs.Writing.{Writes-then, Writes-fails}

@@ -2,11 +2,10 @@
 use Rattle.std.proofs.Common.{◌≡◌, ℕ, ◌+◌, ◌-◌, ◌≤◌, List, [], ◌++◌, length, drop, Bool, true, false, is_ok, Result, Ok, Err, refl, ap, sym, ◌∙◌, subst, append_assoc, append-nil, length-append, arith}
 use Rattle.std.proofs.lemmas.List.{drop-drop}
 use Rattle.std.specs.Prelude.{IsErr}
-use Rattle.ufmt_core.specs.declared.formatter.Setting.{Setting}
-use Rattle.ufmt_core.specs.declared.formatter.Formatter.{Formatter}
 use Rattle.ufmt_core.specs.Document.{Document}
+use Rattle.ufmt_core.specs.Layout.{Setting}
 use Rattle.ufmt_core.specs.Writes.{Seen, Appended, Writes}
-use Rattle.ufmt_core.specs.Formatter.{Prints, LaysOut, setting_of}
+use Rattle.ufmt_core.specs.Formatter.{Formatter, Prints, LaysOut, setting_of}
 
 -- an answer that is no `Ok`
 pub is_ok-err : {X E : Type 0} (r : Result X E) → IsErr r → is_ok r ≡ false
