@@ -1,15 +1,16 @@
 -- How the calls of a builder make up the parts of its block.
-use Rattle.std.proofs.Common.{◌≡◌, ℕ, List, [], ◌∷◌, ◌++◌, Bool, true, false, is_ok, Result, Ok, Err, OnOk, OnErr, IsOk, IfErr, codes, ◌+◌, ◌<◌, length, take, get_or, refl, ap, sym, ◌∙◌, subst, map, append_assoc, append-nil}
+use Rattle.std.proofs.Common.{◌≡◌, ℕ, List, [], ◌∷◌, ◌++◌, Bool, true, false, is_ok, Result, Ok, Err, OnOk, OnErr, IsOk, IfErr, codes, ◌+◌, ◌<◌, length, take, drop, get_or, refl, ap, sym, ◌∙◌, subst, map, append_assoc, append-nil}
 use Rattle.std.specs.Prelude.{Option}
 use Rattle.std.specs.Iterator.{AlwaysYields}
-use Rattle.std.proofs.lemmas.List.{map-append, take_more}
+use Rattle.std.proofs.lemmas.Iterator.{YieldsList, items_from_drains}
+use Rattle.std.proofs.lemmas.Iterator.Consumers.{YieldsList-so_far}
+use Rattle.std.proofs.lemmas.List.{map-append, take_more, take-append-drop}
 use Rattle.std.proofs.lemmas.Simd.{map-map}
 use Rattle.ufmt_core.specs.Document.{Document}
 use Rattle.ufmt_core.specs.Layout.{Setting, Place, Frame, inside, layout, next, rest, trail}
 use Rattle.ufmt_core.specs.Writes.{Seen, Writes}
 use Rattle.ufmt_core.specs.Formatter.{Formatter, LaysOut, Prints, setting_of, writer_of}
 use Rattle.ufmt_core.specs.Block.{Status, Lent, LentValue, Block, Same, Part, Entry, Row, Entries, Abandonment, EntryEnd, Closing, After, IsOpen, Stop, framed, framed_all, frame_of, inner, lead_of, pair_text, place_after, trail_of}
-use Rattle.ufmt_core.proofs.Items.{AlwaysYields-front, AlwaysYields-end}
 use Rattle.ufmt_core.proofs.Writing.{Writes-then, Writes-fails, Writes-nothing, Prints-then}
 
 module _ {W : Type 0} where
@@ -169,16 +170,16 @@ module _ {W U T D Y : Type 0} {seen : Seen W} {becomes : U → T → Type 0} {st
   pub Row-from_entries : (entries : U) (ys : List Y) {old new : Block W} (ok : Bool) →
       ((it : T) → becomes entries it → AlwaysYields steps view it ys) → Entries seen becomes steps (λ x. text_of (view x)) entries old ok new → Row seen old text_of ys ok new
   Row-from_entries entries ys {old} {new} true yields a =
-      let run = AlwaysYields-front steps view a.iterator a.drains.0 a.items ys a.drains.1 (yields a.iterator a.begins) in
-      let end = a.drains.2 refl in
-      let all : ys ≡ map view a.items = run.1 ∙ ap (λ zs. map view a.items ++ zs) (AlwaysYields-end steps view a.drains.0 end.0 run.0 end.1 run.2) ∙ append-nil _ in
-      record { part = rw (all, map-map (λ y. text_of y (inner old)) view a.items, place_after-map view old.place a.items) a.row.part }
+      let given : YieldsList steps view a.iterator ys = record { runs = yields a.iterator a.begins } in
+      let all = items_from_drains a.items (a.drains.0, a.drains.1, λ _. a.drains.2 refl) given in
+      record { part = rw (← all, map-map (λ y. text_of y (inner old)) view a.items, place_after-map view old.place a.items) a.row.part }
   Row-from_entries entries ys {old} {new} false yields a =
-      let run = AlwaysYields-front steps view a.iterator a.drains.0 a.items ys a.drains.1 (yields a.iterator a.begins) in
       let text : Y → List ℕ = λ y. text_of y (inner old) in
       let texts = map (λ x. text (view x)) a.items in
-      let front : framed_all (frame_of old) (inner old) old.place (map text ys) ≡
-      framed_all (frame_of old) (inner old) old.place texts ++ framed_all (frame_of old) (inner old) (place_after old.place texts) (map text run.0) =
-      ap (λ ts. framed_all (frame_of old) (inner old) old.place ts) (ap (map text) run.1 ∙ map-append text (map view a.items) run.0 ∙ ap (λ ts. ts ++ map text run.0) (map-map text view a.items))
-      ∙ framed_all-append (frame_of old) (inner old) old.place texts (map text run.0) in
-      record { part = rw front (Part-fails _ a.row.part) }
+      let count = length a.items in
+      let given : YieldsList steps view a.iterator ys = record { runs = yields a.iterator a.begins } in
+      let first = YieldsList-so_far given a.items a.drains.0 a.drains.1 in
+      let all : map text ys ≡ texts ++ map text (drop count ys) =
+      ap (map text) (sym (take-append-drop count ys) ∙ ap (λ front. front ++ drop count ys) (sym first))
+      ∙ map-append text (map view a.items) (drop count ys) ∙ ap (λ ts. ts ++ map text (drop count ys)) (map-map text view a.items) in
+      record { part = rw (all, framed_all-append) (Part-fails _ a.row.part) }

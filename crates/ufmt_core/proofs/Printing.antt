@@ -2,6 +2,7 @@
 use Rattle.std.proofs.Common.{◌≡◌, ℕ, List, [], ◌∷◌, ◌++◌, Bool, true, false, codes, is_ok, Result, Err, OnErr, refl, ap, sym, ◌∙◌, subst, map, Iter, ◌+◌, ◌<◌, ◌≤◌, length, get_or, take, drop, append_assoc, append-nil}
 use Rattle.std.specs.Prelude.{IsErr}
 use Rattle.std.proofs.lemmas.List.{map-append, take-append-drop, take_all}
+use Rattle.std.proofs.lemmas.Iterator.{YieldsList-from_slice}
 use Rattle.std.proofs.lemmas.Simd.{map-map}
 use Rattle.std.proofs.lemmas.Result.{IfErr-at_err}
 use Rattle.std.specs.Slice.Iter.{iter_rest, iter_steps}
@@ -202,7 +203,7 @@ pair_texts-of key value xs i = pair_texts-pairs_of i (map (λ x. (key x, value x
 -- `entries` over an iterator of a slice, which has these items left
 module _ {W X : Type 0} {seen : Seen W} {b b' : Block W} {items : Iter X} {xs : List X} (h : X → Document) (left : iter_rest items ≡ xs) where
   items-row : (ok : Bool) → Entries seen (λ items it. it ≡ items) iter_steps (λ x. entry_text (h x.now)) items b ok b' → Row seen b entry_text (map h xs) ok b'
-  items-row ok = Row-from_entries (λ x. h x.now) entry_text items (map h xs) ok (λ it gives. AlwaysYields-items h gives left)
+  items-row ok = Row-from_entries (λ x. h x.now) entry_text items (map h xs) ok (λ it gives. AlwaysYields-items h xs (YieldsList-from_slice xs (ap iter_rest gives ∙ left)))
 
   module _ {reference : ℕ} {last : Formatter W} where
     pub items_written : {ok : Bool} → Entries seen (λ items it. it ≡ items) iter_steps (λ x. entry_text (h x.now)) items b true b' → Completes seen reference b' (λ i. []) ok last →
