@@ -39,6 +39,13 @@ last_digits-split front (suc count) n =
     let last : n % 10 ^ suc count % 10 ≡ n % 10 = rw pow-suc (omega (arith, digits)) in
     rw (more, ← quotient, middle, last, last_digits-split front count (n / 10)) (append_assoc (last_digits front (n / 10 / 10 ^ count)) (last_digits count (n / 10 % 10 ^ count)) (decimal_byte (n % 10) ∷ []))
 
+-- the last digits are written in two halves, the second first
+pub last_digits-halves : (half n start : ℕ) (buffer mid new : List ℕ) → drop (start + half) mid ≡ last_digits half (n % 10 ^ half) ++ drop (start + half + half) buffer →
+    drop start new ≡ last_digits half (n / 10 ^ half) ++ drop (start + half) mid → drop start new ≡ last_digits (half + half) n ++ drop (start + (half + half)) buffer
+last_digits-halves half n start buffer mid new second first =
+    let end : start + half + half ≡ start + (half + half) = omega arith in
+    rw (first, second, end, last_digits-split half half n) (sym (append_assoc (last_digits half (n / 10 ^ half)) (last_digits half (n % 10 ^ half)) (drop (start + (half + half)) buffer)))
+
 -- the digits of a number above 0 stand before the last ones
 decimal-front : (count front part : ℕ) → 0 < front → part < 10 ^ count → decimal (pos (front * 10 ^ count + part)) ≡ decimal (pos front) ++ last_digits count part
 unfolding last_digits

@@ -82,9 +82,6 @@ module _ {W : Type 0} {seen : Seen W} where
   pub Prints-fails : {old new : Formatter W} {p : List ℕ} (q : List ℕ) → Prints seen old p false new → Prints seen old (p ++ q) false new
   Prints-fails q a = record { wrote = Writes-fails q a.wrote; same_setting = a.same_setting }
 
-  pub Prints-nothing : (f : Formatter W) → Prints seen f [] true f
-  Prints-nothing f = record { wrote = Writes-nothing _; same_setting = refl }
-
   -- at the exit of a `?`
   pub Prints-err : {X E : Type 0} {old new : Formatter W} {p : List ℕ} (r : Result X E) → IsErr r → Prints seen old p false new → Prints seen old p (is_ok r) new
   Prints-err {old = old} {new = new} {p = p} r h a = subst (λ (ok : Bool). Prints seen old p ok new) (sym (is_ok-err r h)) a

@@ -46,10 +46,6 @@ module _ {base : ℕ} {byte_of : ℕ → ℕ} {text : ℕ → List ℕ} (t : IsT
         let same : digit ≡ left = is_digit ∙ mod-eq_of_lt low in
         put_before [] buffer start byte digit_fits written.within ∙ rw (is_byte, same) (rw (text-digit t left low) at written.joined)
 
--- where a text starts that ends a buffer
-pub start_of_end : (text buffer : List ℕ) (start : ℕ) → 0 < length text → drop start buffer ≡ text → start + length text ≡ length buffer
-start_of_end text buffer start some end = omega (arith, length-drop start buffer, ap length end)
-
 module _ (z : ℤ) (magnitude start : ℕ) (buffer : List ℕ) (negative : is_negative z ≡ true) (is_magnitude : magnitude ≡ nat_abs z) (starts : start + length (decimal (pos magnitude)) ≡ length buffer) (fits : length (decimal z) ≤ length buffer) where
   -- a sign makes a text longer by a byte
   length-decimal-negative : length (decimal z) ≡ length (decimal (pos magnitude)) + 1
