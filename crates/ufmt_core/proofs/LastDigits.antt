@@ -1,7 +1,9 @@
 -- Decimal texts that are written from the right, several digits at a time.
-use Rattle.std.proofs.Common.{◌≡◌, ℕ, zero, suc, ◌+◌, ◌-◌, ◌*◌, ◌/◌, ◌%◌, ◌^◌, ◌<◌, ◌≤◌, List, [], ◌∷◌, ◌++◌, length, drop, pos, refl, sym, ap, ◌∙◌, arith, pow-suc, mul-le-mul_right, length-append, length-drop, append_assoc, append-nil}
+use Rattle.std.proofs.Common.{◌≡◌, ℕ, zero, suc, ◌+◌, ◌-◌, ◌*◌, ◌/◌, ◌%◌, ◌^◌, ◌<◌, ◌≤◌, List, [], ◌∷◌, ◌++◌, length, drop, set, pos, refl, sym, ap, ◌∙◌, arith, pow-suc, mul-le-mul_right, length-append, length-drop, length-set, append_assoc, append-nil}
 use Rattle.std.proofs.Math.Nat.{pow-zero, pow-succ', div-one, mul_assoc, one-le-pow, div-div-eq-div-mul}
 use Rattle.std.proofs.Math.Arith.{mod-mul}
+use Rattle.std.proofs.Math.Seq.{drop-length}
+use Rattle.std.proofs.lemmas.List.{drop-set}
 use Rattle.std.proofs.lemmas.Nat.{div-add-mod', le-div, mod_below}
 use Rattle.ufmt_core.specs.Decimal.{decimal_byte, decimal, last_digits}
 use Rattle.ufmt_core.proofs.DecimalTexts.{decimal-in_base}
@@ -18,6 +20,12 @@ length-last_digits (suc count) n = omega (arith, length-append (last_digits coun
 pub last_digits-two : (n : ℕ) → n < 100 → last_digits 2 n ≡ decimal_byte (n / 10) ∷ decimal_byte (n % 10) ∷ []
 unfolding last_digits
 last_digits-two n low = let tens : n / 10 % 10 ≡ n / 10 = omega arith in rw tens refl
+
+-- two bytes written at `at`, and what was behind them
+pub drop-pair : (buffer : List ℕ) (at next tens ones : ℕ) → next ≡ at + 1 → at + 2 ≤ length buffer → drop at (set (set buffer next ones) at tens) ≡ tens ∷ ones ∷ drop (at + 2) buffer
+drop-pair buffer at next tens ones after room =
+    let end : next + 1 ≡ at + 2 = omega arith in
+    rw (drop-set (set buffer next ones) at tens (omega (arith, length-set buffer next ones)), ← after, drop-set buffer next ones (omega arith), end) refl
 
 -- they are the whole text of a number of two digits
 pub decimal-two : (n : ℕ) → 10 ≤ n → n < 100 → decimal (pos n) ≡ decimal_byte (n / 10) ∷ decimal_byte (n % 10) ∷ []
@@ -74,23 +82,29 @@ pub length-cut : (count n : ℕ) → 10 ^ count ≤ n → length (decimal (pos n
 length-cut count n high =
     omega (arith, ap length (decimal-cut count n high), length-append (decimal (pos (n / 10 ^ count))) (last_digits count (n % 10 ^ count)), length-last_digits count (n % 10 ^ count))
 
-module _ (n left start : ℕ) (buffer : List ℕ) (fits : length (decimal (pos n)) ≤ length buffer) (written : IsWrittenFrom (λ m. decimal (pos m)) n left start buffer) (count : ℕ) (high : 10 ^ count ≤ left) where
-  -- there is room for the last digits and for another
-  pub cut_fits : count < start
-  cut_fits =
-      omega (
-        arith,
-        written.within,
-        ap length written.joined,
-        length-append (decimal (pos left)) (drop start buffer),
-        length-drop start buffer,
-        length-cut count left high,
-        text-nonempty decimal-in_base (left / 10 ^ count),
-      )
+-- what a loop that writes the last digits before the others keeps: where they are left, there is room for them and for another
+pub record IsCutFrom (count n left start : ℕ) (buffer : List ℕ) : Type 0 where
+  pub fits : length (decimal (pos n)) ≤ length buffer
+  pub written : IsWrittenFrom (λ m. decimal (pos m)) n left start buffer
+  pub room : 10 ^ count ≤ left → count < start
 
-  -- the step of a loop that writes the last digits before the others
-  pub IsWrittenFrom-cut : (rest part : ℕ) (new : List ℕ) → rest ≡ left / 10 ^ count → part ≡ left % 10 ^ count → length new ≡ length buffer → drop (start - count) new ≡ last_digits count part ++ drop start buffer → IsWrittenFrom (λ m. decimal (pos m)) n rest (start - count) new
-  IsWrittenFrom-cut rest part new is_rest is_part same_length placed = record {
-    within = omega (arith, written.within);
-    joined = rw (is_rest, placed, is_part, ← append_assoc (decimal (pos (left / 10 ^ count))) (last_digits count (left % 10 ^ count)) (drop start buffer), ← decimal-cut count left high) written.joined;
-  }
+cut_from : (count n left start : ℕ) (buffer : List ℕ) → length (decimal (pos n)) ≤ length buffer → IsWrittenFrom (λ m. decimal (pos m)) n left start buffer → IsCutFrom count n left start buffer
+cut_from count n left start buffer fits written =
+    let digits = ap length written.joined in
+    let whole = length-append (decimal (pos left)) (drop start buffer) in
+    let another = text-nonempty decimal-in_base (left / 10 ^ count) in
+    record { fits = fits; written = written; room = λ high. omega (arith, written.within, digits, whole, length-drop start buffer, length-cut count left high, another) }
+
+pub IsCutFrom-none : (count n : ℕ) (buffer : List ℕ) → length (decimal (pos n)) ≤ length buffer → IsCutFrom count n n (length buffer) buffer
+IsCutFrom-none count n buffer fits =
+    cut_from count n n (length buffer) buffer fits record { within = omega arith; joined = rw (drop-length buffer, append-nil) refl }
+
+-- a turn
+pub IsCutFrom-more : {count n left start : ℕ} {buffer : List ℕ} (new : List ℕ) → IsCutFrom count n left start buffer → 10 ^ count ≤ left → length new ≡ length buffer →
+    drop (start - count) new ≡ last_digits count (left % 10 ^ count) ++ drop (start - count + count) buffer → IsCutFrom count n (left / 10 ^ count) (start - count) new
+IsCutFrom-more {count} {n} {left} {start} {buffer} new cut high same_length placed =
+    let next : start - count + count ≡ start = omega (arith, cut.room high) in
+    cut_from count n (left / 10 ^ count) (start - count) new (omega (arith, cut.fits)) record {
+      within = omega (arith, cut.written.within);
+      joined = rw (placed, next, ← append_assoc (decimal (pos (left / 10 ^ count))) (last_digits count (left % 10 ^ count)) (drop start buffer), ← decimal-cut count left high) cut.written.joined;
+    }
