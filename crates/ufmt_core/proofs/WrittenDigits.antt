@@ -1,5 +1,5 @@
 -- Digits that are written from the last to the first, before one another.
-use Rattle.std.proofs.Common.{true, ℤ, nat_abs, ◌≡◌, ◌≢◌, ℕ, ◌+◌, ◌-◌, ◌/◌, ◌%◌, ◌<◌, ◌≤◌, List, [], ◌∷◌, ◌++◌, length, drop, set, pos, ap, ◌∙◌, arith, length-append, length-drop, length-set, append_assoc, sym, ⊎_elim}
+use Rattle.std.proofs.Common.{true, ℤ, nat_abs, ◌≡◌, ◌≢◌, ℕ, ◌+◌, ◌-◌, ◌/◌, ◌%◌, ◌<◌, ◌≤◌, List, [], ◌∷◌, ◌++◌, length, drop, set, pos, ap, ◌∙◌, refl, arith, length-append, length-drop, length-set, append_assoc, sym, ⊎_elim}
 use Rattle.std.proofs.Math.Nat.{div-eq_of_lt, le-div_iff_mul-le, mod-eq_of_lt}
 use Rattle.std.proofs.lemmas.Bool.{cases_lt}
 use Rattle.std.proofs.lemmas.List.{drop-set}
@@ -46,19 +46,15 @@ module _ {base : ℕ} {byte_of : ℕ → ℕ} {text : ℕ → List ℕ} (t : IsT
         let same : digit ≡ left = is_digit ∙ mod-eq_of_lt low in
         put_before [] buffer start byte digit_fits written.within ∙ rw (is_byte, same) (rw (text-digit t left low) at written.joined)
 
-module _ (z : ℤ) (magnitude start : ℕ) (buffer : List ℕ) (negative : is_negative z ≡ true) (is_magnitude : magnitude ≡ nat_abs z) (starts : start + length (decimal (pos magnitude)) ≡ length buffer) (fits : length (decimal z) ≤ length buffer) where
-  -- a sign makes a text longer by a byte
-  length-decimal-negative : length (decimal z) ≡ length (decimal (pos magnitude)) + 1
-  length-decimal-negative = rw (decimal-negative z negative, is_magnitude) (omega arith)
+-- a negative number, where the digits of its magnitude end the buffer from start on: a sign before them completes its text
+pub record IsSigned (z : ℤ) (start : ℕ) (buffer : List ℕ) : Type 0 where
+  pub room : 0 < start
+  pub starts : start - 1 + length (decimal z) ≡ length buffer
+  pub written : drop (start - 1) (set buffer (start - 1) 45) ≡ decimal z
 
-  -- there is room for the sign
-  pub sign_fits : 0 < start
-  sign_fits = omega (arith, length-decimal-negative)
-
-  -- the text starts at the sign
-  pub start_of_sign : start - 1 + length (decimal z) ≡ length buffer
-  start_of_sign = omega (arith, length-decimal-negative, sign_fits)
-
-  -- the sign and the digits are the text
-  pub drop-sign : drop start buffer ≡ decimal (pos magnitude) → drop (start - 1) (set buffer (start - 1) 45) ≡ decimal z
-  drop-sign written = put_before [] buffer start 45 sign_fits (omega arith) ∙ rw (decimal-negative z negative, ← is_magnitude) (ap (λ digits. 45 ∷ digits) written)
+pub put_sign : (z : ℤ) {magnitude : ℕ} (start : ℕ) (buffer : List ℕ) → is_negative z ≡ true → magnitude ≡ nat_abs z → length (decimal z) ≤ length buffer →
+    start + length (decimal (pos magnitude)) ≡ length buffer → drop start buffer ≡ decimal (pos magnitude) → IsSigned z start buffer
+put_sign z {magnitude} start buffer negative is_magnitude fits starts digits =
+    let whole : decimal z ≡ 45 ∷ decimal (pos magnitude) = rw is_magnitude (decimal-negative z negative) in
+    let longer = ap length whole in
+    record { room = omega arith; starts = omega arith; written = put_before [] buffer start 45 (omega arith) (omega arith) ∙ rw (whole, digits) refl }
