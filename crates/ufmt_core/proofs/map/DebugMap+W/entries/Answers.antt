@@ -20,6 +20,5 @@ pub loop-key-preserved : goal.loop-key-preserved
 loop-key-preserved g c = record {
   can = search rules;
   ends = search rules;
-  is_open = search rules;
   row = Row-more (λ x. pair_text (g.K.uDebug.document x.0) (g.V.uDebug.document x.1)) _ _ true c.loop-key.invariant.row c.in_ok-entry.ensures.entry;
 }

@@ -20,6 +20,5 @@ pub loop-entry-preserved : goal.loop-entry-preserved
 loop-entry-preserved g c = record {
   can = search rules;
   ends = search rules;
-  is_open = search rules;
   row = Row-more (λ x. entry_text (g.D.uDebug.document x)) _ _ true c.loop-entry.invariant.row c.in_ok-entry.ensures.entry;
 }
