@@ -1,7 +1,8 @@
 -- How the calls of a builder make up the parts of its block.
 use Rattle.std.proofs.Common.{◌≡◌, ℕ, List, [], ◌∷◌, ◌++◌, Bool, true, false, is_ok, Result, Ok, Err, OnOk, OnErr, IsOk, IfErr, codes, ◌+◌, ◌<◌, length, take, drop, get_or, refl, ap, sym, ◌∙◌, subst, map, append_assoc, append-nil}
-use Rattle.std.specs.Prelude.{Option}
-use Rattle.std.specs.Iterator.{AlwaysYields}
+use Rattle.std.specs.Prelude.{IsErr, Option, Some}
+use Rattle.std.specs.Iterator.{AlwaysYields, Yields}
+use Rattle.std.proofs.iter.Next.{Yields-more}
 use Rattle.std.proofs.lemmas.Iterator.{YieldsList, items_from_drains}
 use Rattle.std.proofs.lemmas.Iterator.Consumers.{YieldsList-so_far}
 use Rattle.std.proofs.lemmas.List.{map-append, take_more, take-append-drop}
@@ -11,7 +12,7 @@ use Rattle.ufmt_core.specs.Layout.{Setting, Place, Frame, inside, layout, next, 
 use Rattle.ufmt_core.specs.Writes.{Seen, Writes}
 use Rattle.ufmt_core.specs.Formatter.{Formatter, LaysOut, Prints, setting_of, writer_of}
 use Rattle.ufmt_core.specs.Block.{Status, Lent, LentValue, Block, Same, Part, Entry, Row, Entries, Abandonment, EntryEnd, Closing, After, IsOpen, Stop, framed, framed_all, frame_of, inner, lead_of, pair_text, place_after, trail_of}
-use Rattle.ufmt_core.proofs.Writing.{Writes-then, Writes-fails, Writes-nothing, Prints-then}
+use Rattle.ufmt_core.proofs.Writing.{is_ok-err, Writes-then, Writes-fails, Writes-nothing, Prints-then}
 
 module _ {W : Type 0} where
   pub Same-then : {old mid new : Block W} → Same old mid → Same mid new → Same old new
@@ -164,6 +165,19 @@ module _ {W D : Type 0} {seen : Seen W} (text_of : D → Setting → List ℕ) w
       Row seen old text_of (take (k + 1) whole) ok new
   Row-next {old} {mid} {new} whole k y ok within is a e =
       subst (λ (xs : List D). Row seen old text_of xs ok new) (ap (λ z. take k whole ++ z ∷ []) is ∙ sym (take_more whole k y within)) (Row-more (take k whole) y ok a e)
+
+module _ {W U T D X E : Type 0} {seen : Seen W} {becomes : U → T → Type 0} (steps : T → Option D → T → Type 0) (text_of : D → Setting → List ℕ) where
+  -- a loop over the items of an iterator, where the entry after the first ones failed
+  pub Entries-stopped : {entries : U} (first here after : T) {xs : List D} {y : D} {old mid new : Block W} (answer : Result X E) → IsErr answer → becomes entries first →
+      Yields steps first xs here → steps here (Some y) after → Row seen old text_of xs true mid → Entry seen mid (text_of y) false new → Entries seen becomes steps text_of entries old (is_ok answer) new
+  Entries-stopped first here after {xs} {y} answer failed begins yields step a e =
+      rw (is_ok-err answer failed) record {
+        iterator = first;
+        begins = begins;
+        items = xs ++ y ∷ [];
+        drains = (after, Yields-more steps first xs here y after yields step, λ ok. absurd (cc));
+        row = Row-more text_of xs y false a e;
+      }
 
 module _ {W U T D Y : Type 0} {seen : Seen W} {becomes : U → T → Type 0} {steps : T → Option D → T → Type 0} (view : D → Y) (text_of : Y → Setting → List ℕ) where
   -- where every run of the iterator gives items that `view` takes to `ys`, their entries were written, or a beginning of them
