@@ -12,7 +12,7 @@ use Rattle.ufmt_core.specs.Layout.{Setting, Place, Frame, inside, layout, next, 
 use Rattle.ufmt_core.specs.Writes.{Seen, Writes}
 use Rattle.ufmt_core.specs.Formatter.{Formatter, LaysOut, Prints, setting_of, writer_of}
 use Rattle.ufmt_core.specs.Block.{Status, Lent, LentValue, Block, Same, Part, Entry, Row, Entries, Abandonment, EntryEnd, Closing, After, IsOpen, Stop, framed, framed_all, frame_of, inner, lead_of, pair_text, place_after, trail_of}
-use Rattle.ufmt_core.proofs.Writing.{is_ok-err, Writes-then, Writes-fails, Writes-nothing, Prints-then}
+use Rattle.ufmt_core.proofs.Writing.{is_ok-err, Writes-then, Writes-fails, Writes-nothing, Prints-then, Prints-then_at}
 
 module _ {W : Type 0} where
   pub Same-then : {old mid new : Block W} → Same old mid → Same mid new → Same old new
@@ -53,64 +53,44 @@ handed_ok : {X Y E : Type 0} (answer : Result X E) (result : Result Y E) → IfE
 handed_ok (Ok x) result h k = refl
 handed_ok (Err x) result h k = cc (ap is_ok h)
 
+-- the lent formatter has printed a text, and then a call of the builder
+module _ {W : Type 0} {seen : Seen W} (pending : Status) (old : Block W) {new : Block W} {ended : Formatter W} {printed : List ℕ} where
+  -- wrote what follows
+  Part-printed : (tail : Setting → List ℕ) {ok : Bool} {place : Place} → Prints seen old.formatter printed true ended → Part seen (lent_to pending old ended) (tail (setting_of ended)) ok place new →
+      Part seen old (printed ++ tail (inner old)) ok place new
+  Part-printed tail {ok} {place} p a = record {
+    wrote = Writes-then p.wrote (subst (λ (s : Setting). Writes seen (writer_of ended) (tail s) ok (writer_of new.formatter)) p.same_setting a.wrote);
+    same = record { reference = a.same.reference; kind = a.same.kind; outer = a.same.outer };
+    after = After-from ok place old (lent_to pending old ended) new p.same_setting refl a.after;
+  }
+
+  -- was handed its failure
+  Part-abandoned : Prints seen old.formatter printed false ended → Abandonment (lent_to pending old ended) new → Stop seen old printed new
+  Part-abandoned p a = record { wrote = rw a.same_writer p.wrote; same = record { reference = a.same.reference; kind = a.same.kind; outer = a.same.outer }; after = a.after }
+
 -- an entry in halves: what stands before the value was written, the lent formatter has printed the value's text, and the second half has ended the entry
 module _ {W E : Type 0} {seen : Seen W} (pending : Status) (old : Block W) {new : Block W} {begun : Formatter W} (ended : Formatter W) (before : List ℕ) (text : Setting → List ℕ) where
-  Part-between_lent : (answer result : Result (Unit {0}) E) → Prints seen old.formatter before true begun → Prints seen begun (text (setting_of begun)) (is_ok answer) ended →
-      EntryEnd seen answer (lent_to pending old ended) result (is_ok result) new → Part seen old (before ++ (text (inner old) ++ trail_of old)) (is_ok result) (next old.place) new
-  Part-between_lent (Ok x) result p l e =
-      let same : setting_of ended ≡ inner old = l.same_setting ∙ p.same_setting in
-      let laid = subst (λ (s : Setting). Writes seen (writer_of begun) (text s) true (writer_of ended)) p.same_setting l.wrote in
-      let trailed = subst (λ (s : Setting). Writes seen (writer_of ended) (trail s.mode) (is_ok result) (writer_of new.formatter)) same e.trail.wrote in
-      record {
-        wrote = Writes-then p.wrote (Writes-then laid trailed);
-        same = record { reference = e.trail.same.reference; kind = e.trail.same.kind; outer = e.trail.same.outer };
-        after = After-from (is_ok result) (next old.place) old (lent_to pending old ended) new same refl e.trail.after;
-      }
-  Part-between_lent (Err x) result p l e =
-      let laid = subst (λ (s : Setting). Writes seen (writer_of begun) (text s) false (writer_of ended)) p.same_setting l.wrote in
-      let whole = before ++ (text (inner old) ++ trail_of old) in
-      let failed : Part seen old whole false (next old.place) new = record {
-        wrote = subst (λ (w : W). Writes seen (writer_of old.formatter) whole false w) (sym e.error.1.same_writer) (Writes-then p.wrote (Writes-fails _ laid));
-        same = record { reference = e.error.1.same.reference; kind = e.error.1.same.kind; outer = e.error.1.same.outer };
-        after = e.error.1.after;
-      } in
-      subst (λ (ok : Bool). Part seen old whole ok (next old.place) new) (sym (ap is_ok e.error.0)) failed
-
   pub Part-between : {mid : Block W} (answer result : Result (Unit {0}) E) → mid ≡ lent_to pending old ended → Prints seen old.formatter before true begun →
       Prints seen begun (text (setting_of begun)) (is_ok answer) ended → EntryEnd seen answer mid result (is_ok result) new →
       Part seen old (before ++ (text (inner old) ++ trail_of old)) (is_ok result) (next old.place) new
-  Part-between answer result m p l e = Part-between_lent answer result p l (subst (λ (b : Block W). EntryEnd seen answer b result (is_ok result) new) m e)
+  Part-between (Ok x) result m p l e =
+      let end = subst (λ (b : Block W). EntryEnd seen (Ok x) b result (is_ok result) new) m e in
+      rw (← append_assoc before (text (inner old)) (trail_of old)) (Part-printed pending old (λ s. trail s.mode) (Prints-then_at text p l) end.trail)
+  Part-between (Err x) result m p l e =
+      let end = subst (λ (b : Block W). EntryEnd seen (Err x) b result (is_ok result) new) m e in
+      rw (ap is_ok end.error.0, ← append_assoc before (text (inner old)) (trail_of old)) (Part-fails _ (Part-abandoned pending old (Prints-then_at text p l) end.error.1))
 
 -- a map's entry: the key, `: ` and the value, each by the lent formatter
 module _ {W E : Type 0} {seen : Seen W} (old : Block W) {new : Block W} {begun : Formatter W} (ended : Formatter W) (key value : Document) where
   -- the key and then `: `, where that failed, or where the key's answer was an error
-  Entry-no_value_lent : (answer : Result (Unit {0}) E) → Prints seen old.formatter (lead_of old) true begun → LaysOut seen begun key (is_ok answer) ended →
-      OnOk answer (Stop seen (lent_to Lent old ended) (codes ": ") new) → OnErr answer (Abandonment (lent_to Lent old ended) new) → Entry seen old (pair_text key value) false new
-  Entry-no_value_lent (Ok x) p l stop error =
-      let laid = subst (λ (s : Setting). Writes seen (writer_of begun) (layout s key) true (writer_of ended)) p.same_setting l.prints.wrote in
-      let whole : (layout (inner old) key ++ (codes ": " ++ layout (inner old) value)) ++ trail_of old ≡ (layout (inner old) key ++ codes ": ") ++ (layout (inner old) value ++ trail_of old) = simp append_assoc in
-      record {
-        part = record {
-          wrote = rw whole (Writes-then p.wrote (Writes-fails _ (Writes-then laid stop.wrote)));
-          same = record { reference = stop.same.reference; kind = stop.same.kind; outer = stop.same.outer };
-          after = stop.after;
-        };
-      }
-  Entry-no_value_lent (Err x) p l stop error =
-      let laid = subst (λ (s : Setting). Writes seen (writer_of begun) (layout s key) false (writer_of ended)) p.same_setting l.prints.wrote in
-      let whole = append_assoc (layout (inner old) key) (codes ": " ++ layout (inner old) value) (trail_of old) in
-      record {
-        part = record {
-          wrote = rw (whole, error.same_writer) (Writes-then p.wrote (Writes-fails _ laid));
-          same = record { reference = error.same.reference; kind = error.same.kind; outer = error.same.outer };
-          after = error.after;
-        };
-      }
-
   pub Entry-no_value : {mid : Block W} (answer : Result (Unit {0}) E) → mid ≡ lent_to Lent old ended → Prints seen old.formatter (lead_of old) true begun → LaysOut seen begun key (is_ok answer) ended →
       OnOk answer (Stop seen mid (codes ": ") new) → OnErr answer (Abandonment mid new) → Entry seen old (pair_text key value) false new
-  Entry-no_value answer m p l stop error =
-      Entry-no_value_lent answer p l (subst (λ (b : Block W). OnOk answer (Stop seen b (codes ": ") new)) m stop) (subst (λ (b : Block W). OnErr answer (Abandonment b new)) m error)
+  Entry-no_value (Ok x) m p l stop error =
+      let whole : framed (frame_of old) (inner old) old.place (pair_text key value (inner old)) ≡ ((lead_of old ++ layout (inner old) key) ++ codes ": ") ++ (layout (inner old) value ++ trail_of old) = simp append_assoc in
+      record { part = rw whole (Part-fails _ (Part-printed Lent old (λ s. codes ": ") (Prints-then_at (λ s. layout s key) p l.prints) (subst (λ (b : Block W). Stop seen b (codes ": ") new) m stop))) }
+  Entry-no_value (Err x) m p l stop error =
+      let whole : framed (frame_of old) (inner old) old.place (pair_text key value (inner old)) ≡ (lead_of old ++ layout (inner old) key) ++ (codes ": " ++ (layout (inner old) value ++ trail_of old)) = simp append_assoc in
+      record { part = rw whole (Part-fails _ (Part-abandoned Lent old (Prints-then_at (λ s. layout s key) p l.prints) (subst (λ (b : Block W). Abandonment b new) m error))) }
 
   -- `: ` and the value too
   pub Entry-pair : {Y : Type 0} {mid last : Block W} {lent : Formatter W} (printed : Formatter W) (key_answer answer result : Result (Unit {0}) E) (lending : Result Y E) →
@@ -118,10 +98,10 @@ module _ {W E : Type 0} {seen : Seen W} (old : Block W) {new : Block W} {begun :
       last ≡ lent_to LentValue mid printed → Prints seen mid.formatter (codes ": ") true lent → LaysOut seen lent value (is_ok answer) printed → EntryEnd seen answer last result (is_ok result) new →
       Entry seen old (pair_text key value) (is_ok result) new
   Entry-pair {last = last} {lent = lent} printed key_answer answer result lending m p k error ok l colon v e =
-      let keyed : Prints seen begun (layout (setting_of begun) key) true ended = subst (λ (o : Bool). Prints seen begun (layout (setting_of begun) key) o ended) (handed_ok key_answer lending error ok) k.prints in
-      let front = Prints-then p (Prints-then (subst (λ (s : Setting). Prints seen begun (layout s key) true ended) p.same_setting keyed) (subst (λ (b : Block W). Prints seen b.formatter (codes ": ") true lent) m colon)) in
+      let keyed = subst (λ (o : Bool). Prints seen begun (layout (setting_of begun) key) o ended) (handed_ok key_answer lending error ok) k.prints in
+      let front = Prints-then (Prints-then_at (λ s. layout s key) p keyed) (subst (λ (b : Block W). Prints seen b.formatter (codes ": ") true lent) m colon) in
       let lent_value : last ≡ lent_to LentValue old printed = l ∙ ap (λ b. lent_to LentValue b printed) m in
-      let whole : framed (frame_of old) (inner old) old.place (pair_text key value (inner old)) ≡ (lead_of old ++ (layout (inner old) key ++ codes ": ")) ++ (layout (inner old) value ++ trail_of old) = simp append_assoc in
+      let whole : framed (frame_of old) (inner old) old.place (pair_text key value (inner old)) ≡ ((lead_of old ++ layout (inner old) key) ++ codes ": ") ++ (layout (inner old) value ++ trail_of old) = simp append_assoc in
       record { part = rw whole (Part-between LentValue old printed _ (λ s. layout s value) answer result lent_value front v.prints e) }
 
 -- entries in a row
