@@ -1,6 +1,5 @@
 use Rattle.ufmt_core.proofs.Blocks.{Row-from_entries}
-use Rattle.ufmt_core.proofs.Printing.{map_not_opened, map_opened, pairs_written, pairs_failed, finished}
-use Rattle.ufmt_core.proofs.Writing.{LaysOut-err}
+use Rattle.ufmt_core.proofs.Printing.{LaysOut-err, map_not_opened, map_opened, pairs_written, pairs_failed, finished}
 use Rattle.ufmt_core.proofs.map.fmt_map.Goals as goal
 
 pub returns-in_err-map : goal.returns-in_err-map

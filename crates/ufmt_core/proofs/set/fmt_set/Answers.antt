@@ -1,6 +1,5 @@
 use Rattle.ufmt_core.proofs.Blocks.{Row-from_entries}
-use Rattle.ufmt_core.proofs.Printing.{set_not_opened, set_opened, entries_written, entries_failed, finished}
-use Rattle.ufmt_core.proofs.Writing.{LaysOut-err}
+use Rattle.ufmt_core.proofs.Printing.{LaysOut-err, set_not_opened, set_opened, entries_written, entries_failed, finished}
 use Rattle.ufmt_core.proofs.set.fmt_set.Goals as goal
 
 pub returns-in_err-set : goal.returns-in_err-set
