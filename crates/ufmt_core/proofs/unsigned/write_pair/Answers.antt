@@ -1,4 +1,4 @@
-use Rattle.std.proofs.Common.{◌≡◌, ◌+◌, arith, refl}
+use Rattle.std.proofs.Common.{◌+◌, arith, refl}
 use Rattle.std.proofs.lemmas.List.{set_comm}
 use Rattle.ufmt_core.proofs.LastDigits.{last_digits-two, drop-pair}
 use Rattle.ufmt_core.proofs.unsigned.write_pair.Goals as goal
