@@ -215,23 +215,22 @@ module _ {W X : Type 0} {seen : Seen W} {b b' : Block W} {items : Iter X} {xs : 
     items_failed a = entries_failed (map h xs) (items-row false a)
 
 -- an entry in halves: the lent formatter has printed the value, and the second half has ended the entry
-module _ {W K E : Type 0} {seen : Seen W} {d : Document} {begun ended : Formatter W} {new : Block W} (answer result : Result (Unit {0}) E) where
-  pub entry_between : (kind : K → Kind) (old : Builder W K) {mid : Builder W K} → mid ≡ lent Lent old ended → Prints seen old.formatter.now (lead_of (block kind old)) true begun →
+module _ {W E : Type 0} {seen : Seen W} {d : Document} {begun ended : Formatter W} {new : Block W} (answer result : Result (Unit {0}) E) where
+  pub entry_between : {K : Type 0} (kind : K → Kind) (old : Builder W K) {mid : Builder W K} → mid ≡ lent Lent old ended → Prints seen old.formatter.now (lead_of (block kind old)) true begun →
       LaysOut seen begun d (is_ok answer) ended → EntryEnd seen answer (block kind mid) result (is_ok result) new → Entry seen (block kind old) (entry_text d) (is_ok result) new
   entry_between kind old m p l e = record { part = Part-between Lent (block kind old) ended _ (entry_text d) answer result (ap (block kind) m) p l.prints e }
 
-module _ {W E : Type 0} {seen : Seen W} {d : Document} {begun ended : Formatter W} {new : Block W} (answer result : Result (Unit {0}) E) where
   pub list_entry_between : (old : Builder W ListBlock) {mid : Builder W ListBlock} → mid ≡ lent Lent old ended → Prints seen old.formatter.now (lead_of (list_block old)) true begun →
       LaysOut seen begun d (is_ok answer) ended → EntryEnd seen answer (list_block mid) result (is_ok result) new → Entry seen (list_block old) (entry_text d) (is_ok result) new
-  list_entry_between = entry_between answer result (λ _. Brackets)
+  list_entry_between = entry_between (λ _. Brackets)
 
   pub set_entry_between : (old : Builder W SetBlock) {mid : Builder W SetBlock} → mid ≡ lent Lent old ended → Prints seen old.formatter.now (lead_of (set_block old)) true begun →
       LaysOut seen begun d (is_ok answer) ended → EntryEnd seen answer (set_block mid) result (is_ok result) new → Entry seen (set_block old) (entry_text d) (is_ok result) new
-  set_entry_between = entry_between answer result (λ _. Braces)
+  set_entry_between = entry_between (λ _. Braces)
 
   pub tuple_field_between : (old : Builder W TupleBlock) {mid : Builder W TupleBlock} → mid ≡ lent Lent old ended → Prints seen old.formatter.now (lead_of (tuple_block old)) true begun →
       LaysOut seen begun d (is_ok answer) ended → EntryEnd seen answer (tuple_block mid) result (is_ok result) new → Entry seen (tuple_block old) (entry_text d) (is_ok result) new
-  tuple_field_between = entry_between answer result kind_of_tuple
+  tuple_field_between = entry_between kind_of_tuple
 
   pub field_between : (old : Builder W StructBlock) {mid : Builder W StructBlock} (label : List ℕ) → mid ≡ lent Lent old ended → Prints seen old.formatter.now (field_lead_of label (struct_block old)) true begun →
       LaysOut seen begun d (is_ok answer) ended → EntryEnd seen answer (struct_block mid) result (is_ok result) new → Entry seen (struct_block old) (field_text label d) (is_ok result) new

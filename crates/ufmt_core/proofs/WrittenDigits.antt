@@ -1,7 +1,6 @@
 -- Digits that are written from the last to the first, before one another.
-use Rattle.std.proofs.Common.{true, ℤ, nat_abs, ◌≡◌, ◌≢◌, ℕ, ◌+◌, ◌-◌, ◌/◌, ◌%◌, ◌<◌, ◌≤◌, List, [], ◌∷◌, ◌++◌, length, drop, set, pos, ap, ◌∙◌, refl, arith, length-append, length-drop, length-set, append_assoc, sym, ⊎_elim}
-use Rattle.std.proofs.Math.Nat.{div-eq_of_lt, le-div_iff_mul-le, mod-eq_of_lt}
-use Rattle.std.proofs.lemmas.Bool.{cases_lt}
+use Rattle.std.proofs.Common.{true, ℤ, nat_abs, ◌≡◌, ◌≢◌, ℕ, ◌+◌, ◌-◌, ◌/◌, ◌%◌, ◌<◌, ◌≤◌, List, [], ◌∷◌, ◌++◌, length, drop, set, pos, ap, ◌∙◌, refl, arith, length-append, length-drop, length-set, append_assoc}
+use Rattle.std.proofs.Math.Nat.{div-lt_iff_lt-mul, le-div_iff_mul-le, mod-eq_of_lt}
 use Rattle.std.proofs.lemmas.List.{drop-set}
 use Rattle.std.specs.Int.{is_negative}
 use Rattle.ufmt_core.specs.Decimal.{decimal}
@@ -19,12 +18,6 @@ put_before front buffer start byte room within =
     let next : start - 1 + 1 ≡ start = omega arith in
     rw (drop-set buffer (start - 1) byte (omega arith), next, append_assoc)
 
--- no quotient is left where a number is below the base
-below_base : (base left : ℕ) → 2 ≤ base → left / base ≡ 0 → left < base
-below_base base left two none =
-    let high : base ≤ left → ⊥ = λ more. omega (arith, (le-div_iff_mul-le {k = base} {x = 1} {y = left} (omega arith)).1 (omega arith)) in
-    ⊎_elim (λ low. low) (λ more. absurd (high more)) (cases_lt left base)
-
 module _ {base : ℕ} {byte_of : ℕ → ℕ} {text : ℕ → List ℕ} (t : IsTextInBase base byte_of text) (n left start : ℕ) (buffer : List ℕ) (fits : length (text n) ≤ length buffer) (written : IsWrittenFrom text n left start buffer) where
   -- there is room for a digit
   pub digit_fits : 0 < start
@@ -34,7 +27,7 @@ module _ {base : ℕ} {byte_of : ℕ → ℕ} {text : ℕ → List ℕ} (t : IsT
     -- the step of the loop where digits are left
     pub IsWrittenFrom-more : rest ≢ 0 → IsWrittenFrom text n rest (start - 1) (set buffer (start - 1) byte)
     IsWrittenFrom-more more =
-        let high : base ≤ left = ⊎_elim (λ low. absurd (more (is_rest ∙ div-eq_of_lt low))) (λ high. high) (cases_lt left base) in record {
+        let high : base ≤ left = omega (arith, (le-div_iff_mul-le {k = base} {x = 1} {y = left} (omega arith)).0 (omega arith)) in record {
           within = omega (arith, written.within, length-set buffer (start - 1) byte);
           joined = rw (put_before (text rest) buffer start byte digit_fits written.within, is_byte, is_rest, is_digit, ← text-step t left high) written.joined;
         }
@@ -42,7 +35,7 @@ module _ {base : ℕ} {byte_of : ℕ → ℕ} {text : ℕ → List ℕ} (t : IsT
     -- the last step
     pub IsWrittenFrom-all : rest ≡ 0 → drop (start - 1) (set buffer (start - 1) byte) ≡ text n
     IsWrittenFrom-all none =
-        let low = below_base base left t.two (sym is_rest ∙ none) in
+        let low : left < base = omega (arith, (div-lt_iff_lt-mul {k = base} {x = left} {y = 1} (omega arith)).0 (omega arith)) in
         let same : digit ≡ left = is_digit ∙ mod-eq_of_lt low in
         put_before [] buffer start byte digit_fits written.within ∙ rw (is_byte, same) (rw (text-digit t left low) at written.joined)
 
