@@ -1,10 +1,10 @@
 -- Decimal texts that are written from the right, several digits at a time.
-use Rattle.std.proofs.Common.{◌≡◌, ℕ, zero, suc, ◌+◌, ◌-◌, ◌*◌, ◌/◌, ◌%◌, ◌^◌, ◌<◌, ◌≤◌, List, [], ◌∷◌, ◌++◌, length, drop, set, pos, refl, sym, ap, ◌∙◌, arith, pow-suc, mul-le-mul_right, length-append, length-drop, length-set, append_assoc, append-nil}
-use Rattle.std.proofs.Math.Nat.{pow-zero, pow-succ', div-one, mul_assoc, one-le-pow, div-div-eq-div-mul}
+use Rattle.std.proofs.Common.{◌≡◌, ℕ, zero, suc, ◌+◌, ◌-◌, ◌/◌, ◌%◌, ◌^◌, ◌<◌, ◌≤◌, List, [], ◌∷◌, ◌++◌, length, drop, set, pos, refl, sym, ap, ◌∙◌, arith, pow-suc, length-append, length-drop, length-set, append_assoc, append-nil}
+use Rattle.std.proofs.Math.Nat.{pow-zero, pow-succ', div-one, one-le-pow, div-div-eq-div-mul}
 use Rattle.std.proofs.Math.Arith.{mod-mul}
 use Rattle.std.proofs.Math.Seq.{drop-length}
 use Rattle.std.proofs.lemmas.List.{drop-set}
-use Rattle.std.proofs.lemmas.Nat.{div-add-mod', le-div, mod_below}
+use Rattle.std.proofs.lemmas.Nat.{le-div}
 use Rattle.ufmt_core.specs.Decimal.{decimal_byte, decimal, last_digits}
 use Rattle.ufmt_core.proofs.DecimalTexts.{decimal-in_base}
 use Rattle.ufmt_core.proofs.NumeralTexts.{text-digit, text-step, text-nonempty}

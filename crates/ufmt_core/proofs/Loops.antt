@@ -1,10 +1,10 @@
 -- A block whose entries a loop writes, one a turn: what is left of it before each turn.
 use Rattle.std.proofs.Common.{◌≡◌, ℕ, List, [], ◌∷◌, Bool, true, false, codes, subst, sym, ◌∙◌}
-use Rattle.ufmt_core.specs.Document.{Document, list_of, set_of, map_of, struct_of, tuple_of, Documents, no_documents, document, Pairs, no_pairs, pair, Fields, no_fields, field}
+use Rattle.ufmt_core.specs.Document.{Document, list_of, set_of, map_of, struct_of, tuple_of, Documents, Pairs, Fields}
 use Rattle.ufmt_core.specs.Layout.{Setting, Kind, Brackets, Braces, Struct, tuple_kind}
 use Rattle.ufmt_core.specs.Writes.{Seen}
 use Rattle.ufmt_core.specs.Formatter.{Formatter, LaysOut}
-use Rattle.ufmt_core.specs.Block.{Block, Closing, Entry, Opening, ending_of, entries_left, entry_text, fields_left, field_text, pair_text, pairs_left}
+use Rattle.ufmt_core.specs.Block.{Block, Closing, Entry, Opening, ending_of, entries_left, fields_left, pairs_left}
 use Rattle.ufmt_core.proofs.Printing.{Completes, IsBlock, LaysOut-opened, list-is_block, set-is_block, map-is_block, struct-is_block, tuple-is_block, entry_written, entry_failed, finished}
 
 module _ {W : Type 0} where

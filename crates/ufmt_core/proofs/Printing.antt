@@ -1,5 +1,5 @@
 -- The steps by which a `fmt` is proved, one for each call of a builder: what is left to write before the call, and what is left after it.
-use Rattle.std.proofs.Common.{◌≡◌, ℕ, List, [], ◌∷◌, ◌++◌, Bool, true, false, codes, is_ok, Result, Err, OnErr, refl, ap, sym, ◌∙◌, subst, map, Iter, ◌+◌, ◌<◌, ◌≤◌, length, get_or, take, drop, append_assoc, append-nil}
+use Rattle.std.proofs.Common.{◌≡◌, ℕ, List, [], ◌∷◌, ◌++◌, Bool, true, false, codes, is_ok, Result, Err, OnErr, refl, ap, sym, ◌∙◌, map, Iter, ◌+◌, ◌<◌, ◌≤◌, length, get_or, take, drop, append_assoc, append-nil}
 use Rattle.std.specs.Prelude.{IsErr}
 use Rattle.std.proofs.lemmas.List.{map-append, take-append-drop, take_all}
 use Rattle.std.proofs.lemmas.Iterator.{YieldsList-from_slice}
@@ -118,22 +118,22 @@ module _ {W : Type 0} {seen : Seen W} {reference : ℕ} {b b' : Block W} {last :
         record { wrote = rw whole (Writes-then a.wrote then.wrote); restored = then.restored ∙ a.same.outer };
   }
 
-  -- a call that failed wrote a beginning of this part
-  Completes-stops : {part : List ℕ} (more : List ℕ) {place : Place} {left : Setting → List (List ℕ)} →
-      (IsInside b → rest_of b left ≡ part ++ more) → Part seen b part false place b' → (reference ≡ b'.reference → last ≡ b'.formatter) → Completes seen reference b left false last
-  Completes-stops more text a e = record {
+  -- what closed the block, where the builder was at the mode and depth of the entries
+  Completes-closed : {left : Setting → List (List ℕ)} {ok : Bool} → (IsInside b → Closing seen b (rest_of b left) ok b') → (reference ≡ b'.reference → last ≡ b'.formatter) → Completes seen reference b left ok last
+  Completes-closed closing e = record {
     continues = λ h inside_b.
-        let at_end = e (h ∙ sym a.same.reference) in
-        record { wrote = rw (text inside_b, at_end) (Writes-fails _ a.wrote); restored = ap setting_of at_end ∙ a.after.1 };
-  }
-
-  -- what closes the block
-  pub completed : {left : Setting → List (List ℕ)} {ok : Bool} → Closing seen b (rest_of b left) ok b' → (reference ≡ b'.reference → last ≡ b'.formatter) → Completes seen reference b left ok last
-  completed f e = record {
-    continues = λ h inside_b.
+        let f = closing inside_b in
         let at_end = e (h ∙ sym f.same.reference) in
         record { wrote = rw at_end f.wrote; restored = ap setting_of at_end ∙ f.restored };
   }
+
+  -- as a call that failed does, which wrote a beginning of this part
+  Completes-stops : {part : List ℕ} (more : List ℕ) {place : Place} {left : Setting → List (List ℕ)} →
+      (IsInside b → rest_of b left ≡ part ++ more) → Part seen b part false place b' → (reference ≡ b'.reference → last ≡ b'.formatter) → Completes seen reference b left false last
+  Completes-stops more text a = Completes-closed (λ inside_b. rw (text inside_b) (Closing-fails more a))
+
+  pub completed : {left : Setting → List (List ℕ)} {ok : Bool} → Closing seen b (rest_of b left) ok b' → (reference ≡ b'.reference → last ≡ b'.formatter) → Completes seen reference b left ok last
+  completed f = Completes-closed (λ inside_b. f)
 
   pub finished : {ok : Bool} → Closing seen b (ending_of b) ok b' → (reference ≡ b'.reference → last ≡ b'.formatter) → Completes seen reference b (λ i. []) ok last
   finished = completed
@@ -255,10 +255,10 @@ module _ {W X E : Type 0} {seen : Seen W} {b : Block W} (d : Document) {r : Resu
 -- an entry, and then a call that writes all that are left and the end
 module _ {W : Type 0} {seen : Seen W} {old new : Block W} {text : Setting → List ℕ} (left : Setting → List (List ℕ)) (inside_old : IsInside old) where
   pub closing_after_entry : {mid : Block W} {ok : Bool} → Entry seen old text true mid → Closing seen mid (rest_of mid left) ok new → Closing seen old (rest_of old (λ i. text i ∷ left i)) ok new
-  closing_after_entry {mid} {ok} a f =
-      let whole : framed (frame_of old) (inner old) old.place (text (inner old)) ++ rest_of mid left ≡ rest_of old (λ i. text i ∷ left i) =
-      rw (a.part.same.outer, a.part.same.kind, a.part.after.0) (sym (rest-entry old text left inside_old)) in
-      subst (λ (t : List ℕ). Closing seen old t ok new) whole (Closing-then a.part f)
+  closing_after_entry {mid} a f =
+      let whole : rest_of old (λ i. text i ∷ left i) ≡ framed (frame_of old) (inner old) old.place (text (inner old)) ++ rest_of mid left =
+      rw (a.part.same.outer, a.part.same.kind, a.part.after.0) (rest-entry old text left inside_old) in
+      rw whole (Closing-then a.part f)
 
   pub closing_failed : Entry seen old text false new → Closing seen old (rest_of old (λ i. text i ∷ left i)) false new
-  closing_failed a = subst (λ (t : List ℕ). Closing seen old t false new) (sym (rest-entry old text left inside_old)) (Closing-fails _ a.part)
+  closing_failed a = rw (rest-entry old text left inside_old) (Closing-fails _ a.part)
