@@ -1,21 +1,18 @@
 -- How the calls of a builder make up the parts of its block.
-use Rattle.std.proofs.Common.{◌≡◌, ℕ, List, [], ◌∷◌, ◌++◌, Bool, true, false, is_ok, Result, Ok, Err, OnOk, OnErr, IsOk, IfErr, codes, ◌+◌, ◌<◌, length, take, get_or, refl, ap, sym, ◌∙◌, subst, map, append_assoc, append-nil}
-use Rattle.std.specs.Prelude.{Option}
-use Rattle.std.specs.Iterator.{AlwaysYields}
-use Rattle.std.proofs.lemmas.List.{map-append, take_more}
+use Rattle.std.proofs.Common.{◌≡◌, ℕ, List, [], ◌∷◌, ◌++◌, Bool, true, false, is_ok, Result, Ok, Err, OnOk, OnErr, IsOk, IfErr, codes, ◌+◌, ◌<◌, length, take, drop, get_or, refl, ap, sym, ◌∙◌, subst, map, append_assoc, append-nil}
+use Rattle.std.specs.Prelude.{IsErr, Option, Some}
+use Rattle.std.specs.Iterator.{AlwaysYields, Yields}
+use Rattle.std.proofs.iter.Next.{Yields-more}
+use Rattle.std.proofs.lemmas.Iterator.{YieldsList, items_from_drains}
+use Rattle.std.proofs.lemmas.Iterator.Consumers.{YieldsList-so_far}
+use Rattle.std.proofs.lemmas.List.{map-append, take_more, take-append-drop}
 use Rattle.std.proofs.lemmas.Simd.{map-map}
-use Rattle.ufmt_core.specs.declared.formatter.Setting.{Setting}
-use Rattle.ufmt_core.specs.declared.formatter.Formatter.{Formatter}
-use Rattle.ufmt_core.specs.declared.formatter.block.Place.{Place}
-use Rattle.ufmt_core.specs.declared.formatter.builder.Status.{Status}
-use Rattle.ufmt_core.specs.declared.formatter.builder.Status.TheVariants.{Lent, LentValue}
 use Rattle.ufmt_core.specs.Document.{Document}
-use Rattle.ufmt_core.specs.Layout.{Frame, inside, layout, next, rest, trail}
+use Rattle.ufmt_core.specs.Layout.{Setting, Place, Frame, inside, layout, next, rest, trail}
 use Rattle.ufmt_core.specs.Writes.{Seen, Writes}
-use Rattle.ufmt_core.specs.Formatter.{LaysOut, Prints, setting_of, writer_of}
-use Rattle.ufmt_core.specs.Block.{Block, Same, Part, Entry, Row, Entries, Abandonment, EntryEnd, Closing, After, IsOpen, Stop, framed, framed_all, frame_of, inner, lead_of, pair_text, place_after, trail_of}
-use Rattle.ufmt_core.proofs.Items.{AlwaysYields-front, AlwaysYields-end}
-use Rattle.ufmt_core.proofs.Writing.{Writes-then, Writes-fails, Writes-nothing, Prints-then}
+use Rattle.ufmt_core.specs.Formatter.{Formatter, LaysOut, Prints, setting_of, writer_of}
+use Rattle.ufmt_core.specs.Block.{Status, Lent, LentValue, Block, Same, Part, Entry, Row, Entries, Abandonment, EntryEnd, Closing, After, IsOpen, Stop, framed, framed_all, frame_of, inner, lead_of, pair_text, place_after, trail_of}
+use Rattle.ufmt_core.proofs.Writing.{is_ok-err, Writes-then, Writes-fails, Writes-nothing, Prints-then, Prints-then_at}
 
 module _ {W : Type 0} where
   pub Same-then : {old mid new : Block W} → Same old mid → Same mid new → Same old new
@@ -56,64 +53,44 @@ handed_ok : {X Y E : Type 0} (answer : Result X E) (result : Result Y E) → IfE
 handed_ok (Ok x) result h k = refl
 handed_ok (Err x) result h k = cc (ap is_ok h)
 
+-- the lent formatter has printed a text, and then a call of the builder
+module _ {W : Type 0} {seen : Seen W} (pending : Status) (old : Block W) {new : Block W} {ended : Formatter W} {printed : List ℕ} where
+  -- wrote what follows
+  Part-printed : (tail : Setting → List ℕ) {ok : Bool} {place : Place} → Prints seen old.formatter printed true ended → Part seen (lent_to pending old ended) (tail (setting_of ended)) ok place new →
+      Part seen old (printed ++ tail (inner old)) ok place new
+  Part-printed tail {ok} {place} p a = record {
+    wrote = Writes-then p.wrote (subst (λ (s : Setting). Writes seen (writer_of ended) (tail s) ok (writer_of new.formatter)) p.same_setting a.wrote);
+    same = record { reference = a.same.reference; kind = a.same.kind; outer = a.same.outer };
+    after = After-from ok place old (lent_to pending old ended) new p.same_setting refl a.after;
+  }
+
+  -- was handed its failure
+  Part-abandoned : Prints seen old.formatter printed false ended → Abandonment (lent_to pending old ended) new → Stop seen old printed new
+  Part-abandoned p a = record { wrote = rw a.same_writer p.wrote; same = record { reference = a.same.reference; kind = a.same.kind; outer = a.same.outer }; after = a.after }
+
 -- an entry in halves: what stands before the value was written, the lent formatter has printed the value's text, and the second half has ended the entry
 module _ {W E : Type 0} {seen : Seen W} (pending : Status) (old : Block W) {new : Block W} {begun : Formatter W} (ended : Formatter W) (before : List ℕ) (text : Setting → List ℕ) where
-  Part-between_lent : (answer result : Result (Unit {0}) E) → Prints seen old.formatter before true begun → Prints seen begun (text (setting_of begun)) (is_ok answer) ended →
-      EntryEnd seen answer (lent_to pending old ended) result (is_ok result) new → Part seen old (before ++ (text (inner old) ++ trail_of old)) (is_ok result) (next old.place) new
-  Part-between_lent (Ok x) result p l e =
-      let same : setting_of ended ≡ inner old = l.same_setting ∙ p.same_setting in
-      let laid = subst (λ (s : Setting). Writes seen (writer_of begun) (text s) true (writer_of ended)) p.same_setting l.wrote in
-      let trailed = subst (λ (s : Setting). Writes seen (writer_of ended) (trail s.mode) (is_ok result) (writer_of new.formatter)) same e.trail.wrote in
-      record {
-        wrote = Writes-then p.wrote (Writes-then laid trailed);
-        same = record { reference = e.trail.same.reference; kind = e.trail.same.kind; outer = e.trail.same.outer };
-        after = After-from (is_ok result) (next old.place) old (lent_to pending old ended) new same refl e.trail.after;
-      }
-  Part-between_lent (Err x) result p l e =
-      let laid = subst (λ (s : Setting). Writes seen (writer_of begun) (text s) false (writer_of ended)) p.same_setting l.wrote in
-      let whole = before ++ (text (inner old) ++ trail_of old) in
-      let failed : Part seen old whole false (next old.place) new = record {
-        wrote = subst (λ (w : W). Writes seen (writer_of old.formatter) whole false w) (sym e.error.1.same_writer) (Writes-then p.wrote (Writes-fails _ laid));
-        same = record { reference = e.error.1.same.reference; kind = e.error.1.same.kind; outer = e.error.1.same.outer };
-        after = e.error.1.after;
-      } in
-      subst (λ (ok : Bool). Part seen old whole ok (next old.place) new) (sym (ap is_ok e.error.0)) failed
-
   pub Part-between : {mid : Block W} (answer result : Result (Unit {0}) E) → mid ≡ lent_to pending old ended → Prints seen old.formatter before true begun →
       Prints seen begun (text (setting_of begun)) (is_ok answer) ended → EntryEnd seen answer mid result (is_ok result) new →
       Part seen old (before ++ (text (inner old) ++ trail_of old)) (is_ok result) (next old.place) new
-  Part-between answer result m p l e = Part-between_lent answer result p l (subst (λ (b : Block W). EntryEnd seen answer b result (is_ok result) new) m e)
+  Part-between (Ok x) result m p l e =
+      let end = subst (λ (b : Block W). EntryEnd seen (Ok x) b result (is_ok result) new) m e in
+      rw (← append_assoc before (text (inner old)) (trail_of old)) (Part-printed pending old (λ s. trail s.mode) (Prints-then_at text p l) end.trail)
+  Part-between (Err x) result m p l e =
+      let end = subst (λ (b : Block W). EntryEnd seen (Err x) b result (is_ok result) new) m e in
+      rw (ap is_ok end.error.0, ← append_assoc before (text (inner old)) (trail_of old)) (Part-fails _ (Part-abandoned pending old (Prints-then_at text p l) end.error.1))
 
 -- a map's entry: the key, `: ` and the value, each by the lent formatter
 module _ {W E : Type 0} {seen : Seen W} (old : Block W) {new : Block W} {begun : Formatter W} (ended : Formatter W) (key value : Document) where
   -- the key and then `: `, where that failed, or where the key's answer was an error
-  Entry-no_value_lent : (answer : Result (Unit {0}) E) → Prints seen old.formatter (lead_of old) true begun → LaysOut seen begun key (is_ok answer) ended →
-      OnOk answer (Stop seen (lent_to Lent old ended) (codes ": ") new) → OnErr answer (Abandonment (lent_to Lent old ended) new) → Entry seen old (pair_text key value) false new
-  Entry-no_value_lent (Ok x) p l stop error =
-      let laid = subst (λ (s : Setting). Writes seen (writer_of begun) (layout s key) true (writer_of ended)) p.same_setting l.prints.wrote in
-      let whole : (layout (inner old) key ++ (codes ": " ++ layout (inner old) value)) ++ trail_of old ≡ (layout (inner old) key ++ codes ": ") ++ (layout (inner old) value ++ trail_of old) = simp append_assoc in
-      record {
-        part = record {
-          wrote = rw whole (Writes-then p.wrote (Writes-fails _ (Writes-then laid stop.wrote)));
-          same = record { reference = stop.same.reference; kind = stop.same.kind; outer = stop.same.outer };
-          after = stop.after;
-        };
-      }
-  Entry-no_value_lent (Err x) p l stop error =
-      let laid = subst (λ (s : Setting). Writes seen (writer_of begun) (layout s key) false (writer_of ended)) p.same_setting l.prints.wrote in
-      let whole = append_assoc (layout (inner old) key) (codes ": " ++ layout (inner old) value) (trail_of old) in
-      record {
-        part = record {
-          wrote = rw (whole, error.same_writer) (Writes-then p.wrote (Writes-fails _ laid));
-          same = record { reference = error.same.reference; kind = error.same.kind; outer = error.same.outer };
-          after = error.after;
-        };
-      }
-
   pub Entry-no_value : {mid : Block W} (answer : Result (Unit {0}) E) → mid ≡ lent_to Lent old ended → Prints seen old.formatter (lead_of old) true begun → LaysOut seen begun key (is_ok answer) ended →
       OnOk answer (Stop seen mid (codes ": ") new) → OnErr answer (Abandonment mid new) → Entry seen old (pair_text key value) false new
-  Entry-no_value answer m p l stop error =
-      Entry-no_value_lent answer p l (subst (λ (b : Block W). OnOk answer (Stop seen b (codes ": ") new)) m stop) (subst (λ (b : Block W). OnErr answer (Abandonment b new)) m error)
+  Entry-no_value (Ok x) m p l stop error =
+      let whole : framed (frame_of old) (inner old) old.place (pair_text key value (inner old)) ≡ ((lead_of old ++ layout (inner old) key) ++ codes ": ") ++ (layout (inner old) value ++ trail_of old) = simp append_assoc in
+      record { part = rw whole (Part-fails _ (Part-printed Lent old (λ s. codes ": ") (Prints-then_at (λ s. layout s key) p l.prints) (subst (λ (b : Block W). Stop seen b (codes ": ") new) m stop))) }
+  Entry-no_value (Err x) m p l stop error =
+      let whole : framed (frame_of old) (inner old) old.place (pair_text key value (inner old)) ≡ (lead_of old ++ layout (inner old) key) ++ (codes ": " ++ (layout (inner old) value ++ trail_of old)) = simp append_assoc in
+      record { part = rw whole (Part-fails _ (Part-abandoned Lent old (Prints-then_at (λ s. layout s key) p l.prints) (subst (λ (b : Block W). Abandonment b new) m error))) }
 
   -- `: ` and the value too
   pub Entry-pair : {Y : Type 0} {mid last : Block W} {lent : Formatter W} (printed : Formatter W) (key_answer answer result : Result (Unit {0}) E) (lending : Result Y E) →
@@ -121,10 +98,10 @@ module _ {W E : Type 0} {seen : Seen W} (old : Block W) {new : Block W} {begun :
       last ≡ lent_to LentValue mid printed → Prints seen mid.formatter (codes ": ") true lent → LaysOut seen lent value (is_ok answer) printed → EntryEnd seen answer last result (is_ok result) new →
       Entry seen old (pair_text key value) (is_ok result) new
   Entry-pair {last = last} {lent = lent} printed key_answer answer result lending m p k error ok l colon v e =
-      let keyed : Prints seen begun (layout (setting_of begun) key) true ended = subst (λ (o : Bool). Prints seen begun (layout (setting_of begun) key) o ended) (handed_ok key_answer lending error ok) k.prints in
-      let front = Prints-then p (Prints-then (subst (λ (s : Setting). Prints seen begun (layout s key) true ended) p.same_setting keyed) (subst (λ (b : Block W). Prints seen b.formatter (codes ": ") true lent) m colon)) in
+      let keyed = subst (λ (o : Bool). Prints seen begun (layout (setting_of begun) key) o ended) (handed_ok key_answer lending error ok) k.prints in
+      let front = Prints-then (Prints-then_at (λ s. layout s key) p keyed) (subst (λ (b : Block W). Prints seen b.formatter (codes ": ") true lent) m colon) in
       let lent_value : last ≡ lent_to LentValue old printed = l ∙ ap (λ b. lent_to LentValue b printed) m in
-      let whole : framed (frame_of old) (inner old) old.place (pair_text key value (inner old)) ≡ (lead_of old ++ (layout (inner old) key ++ codes ": ")) ++ (layout (inner old) value ++ trail_of old) = simp append_assoc in
+      let whole : framed (frame_of old) (inner old) old.place (pair_text key value (inner old)) ≡ ((lead_of old ++ layout (inner old) key) ++ codes ": ") ++ (layout (inner old) value ++ trail_of old) = simp append_assoc in
       record { part = rw whole (Part-between LentValue old printed _ (λ s. layout s value) answer result lent_value front v.prints e) }
 
 -- entries in a row
@@ -169,21 +146,34 @@ module _ {W D : Type 0} {seen : Seen W} (text_of : D → Setting → List ℕ) w
   Row-next {old} {mid} {new} whole k y ok within is a e =
       subst (λ (xs : List D). Row seen old text_of xs ok new) (ap (λ z. take k whole ++ z ∷ []) is ∙ sym (take_more whole k y within)) (Row-more (take k whole) y ok a e)
 
+module _ {W U T D X E : Type 0} {seen : Seen W} {becomes : U → T → Type 0} (steps : T → Option D → T → Type 0) (text_of : D → Setting → List ℕ) where
+  -- a loop over the items of an iterator, where the entry after the first ones failed
+  pub Entries-stopped : {entries : U} (first here after : T) {xs : List D} {y : D} {old mid new : Block W} (answer : Result X E) → IsErr answer → becomes entries first →
+      Yields steps first xs here → steps here (Some y) after → Row seen old text_of xs true mid → Entry seen mid (text_of y) false new → Entries seen becomes steps text_of entries old (is_ok answer) new
+  Entries-stopped first here after {xs} {y} answer failed begins yields step a e =
+      rw (is_ok-err answer failed) record {
+        iterator = first;
+        begins = begins;
+        items = xs ++ y ∷ [];
+        drains = (after, Yields-more steps first xs here y after yields step, λ ok. absurd (cc));
+        row = Row-more text_of xs y false a e;
+      }
+
 module _ {W U T D Y : Type 0} {seen : Seen W} {becomes : U → T → Type 0} {steps : T → Option D → T → Type 0} (view : D → Y) (text_of : Y → Setting → List ℕ) where
   -- where every run of the iterator gives items that `view` takes to `ys`, their entries were written, or a beginning of them
   pub Row-from_entries : (entries : U) (ys : List Y) {old new : Block W} (ok : Bool) →
       ((it : T) → becomes entries it → AlwaysYields steps view it ys) → Entries seen becomes steps (λ x. text_of (view x)) entries old ok new → Row seen old text_of ys ok new
   Row-from_entries entries ys {old} {new} true yields a =
-      let run = AlwaysYields-front steps view a.iterator a.drains.0 a.items ys a.drains.1 (yields a.iterator a.begins) in
-      let end = a.drains.2 refl in
-      let all : ys ≡ map view a.items = run.1 ∙ ap (λ zs. map view a.items ++ zs) (AlwaysYields-end steps view a.drains.0 end.0 run.0 end.1 run.2) ∙ append-nil _ in
-      record { part = rw (all, map-map (λ y. text_of y (inner old)) view a.items, place_after-map view old.place a.items) a.row.part }
+      let given : YieldsList steps view a.iterator ys = record { runs = yields a.iterator a.begins } in
+      let all = items_from_drains a.items (a.drains.0, a.drains.1, λ _. a.drains.2 refl) given in
+      record { part = rw (← all, map-map (λ y. text_of y (inner old)) view a.items, place_after-map view old.place a.items) a.row.part }
   Row-from_entries entries ys {old} {new} false yields a =
-      let run = AlwaysYields-front steps view a.iterator a.drains.0 a.items ys a.drains.1 (yields a.iterator a.begins) in
       let text : Y → List ℕ = λ y. text_of y (inner old) in
       let texts = map (λ x. text (view x)) a.items in
-      let front : framed_all (frame_of old) (inner old) old.place (map text ys) ≡
-      framed_all (frame_of old) (inner old) old.place texts ++ framed_all (frame_of old) (inner old) (place_after old.place texts) (map text run.0) =
-      ap (λ ts. framed_all (frame_of old) (inner old) old.place ts) (ap (map text) run.1 ∙ map-append text (map view a.items) run.0 ∙ ap (λ ts. ts ++ map text run.0) (map-map text view a.items))
-      ∙ framed_all-append (frame_of old) (inner old) old.place texts (map text run.0) in
-      record { part = rw front (Part-fails _ a.row.part) }
+      let count = length a.items in
+      let given : YieldsList steps view a.iterator ys = record { runs = yields a.iterator a.begins } in
+      let first = YieldsList-so_far given a.items a.drains.0 a.drains.1 in
+      let all : map text ys ≡ texts ++ map text (drop count ys) =
+      ap (map text) (sym (take-append-drop count ys) ∙ ap (λ front. front ++ drop count ys) (sym first))
+      ∙ map-append text (map view a.items) (drop count ys) ∙ ap (λ ts. ts ++ map text (drop count ys)) (map-map text view a.items) in
+      record { part = rw (all, framed_all-append) (Part-fails _ a.row.part) }

@@ -8,17 +8,9 @@ use Rattle.ufmt_core.specs.Decimal.{decimal_byte, TellsMagnitude, sign_of, Tells
 use Rattle.ufmt_core.proofs.Numerals.{numeral-tells}
 use Rattle.ufmt_core.proofs.NumeralTexts.{one_text, one_number, IsTextInBase, length-text-le, IsAscii-text}
 
--- a byte tells its digit
-byte_same : (x y : ℕ) → decimal_byte x ≡ decimal_byte y → x ≡ y
-byte_same x y same = omega arith
-
--- a magnitude has one text
-TellsMagnitude-one : (s t : List ℕ) (n : ℕ) → TellsMagnitude s n → TellsMagnitude t n → s ≡ t
-TellsMagnitude-one s t n told_s told_t = one_text 10 decimal_byte n (omega arith) told_s.bytes told_s.told told_t.bytes told_t.told
-
 -- a text tells one magnitude
 TellsMagnitude-number : (s t : List ℕ) (m n : ℕ) → s ≡ t → TellsMagnitude s m → TellsMagnitude t n → m ≡ n
-TellsMagnitude-number s t m n same told_m told_n = one_number 10 decimal_byte m n byte_same same told_m.bytes told_m.told told_n.bytes told_n.told
+TellsMagnitude-number s t m n same told_m told_n = one_number 10 decimal_byte m n (λ x y bytes. omega arith) same told_m.bytes told_m.told told_n.bytes told_n.told
 
 -- the first byte of digits is no less than `0`
 first_byte : (digits : List ℕ) → 0 < length digits → 48 ≤ get_or (map decimal_byte digits) 0 0
@@ -33,7 +25,8 @@ no_sign text rest n told minus =
 -- a number has one decimal text
 pub TellsDecimal-one : (z : ℤ) (s t : List ℕ) → TellsDecimal s z → TellsDecimal t z → s ≡ t
 TellsDecimal-one z s t told_s told_t =
-    told_s.signed ∙ ap (λ magnitude. sign_of z ++ magnitude) (TellsMagnitude-one told_s.magnitude told_t.magnitude (nat_abs z) told_s.told told_t.told) ∙ sym told_t.signed
+    let same = one_text 10 decimal_byte (nat_abs z) (omega arith) told_s.told.bytes told_s.told.told told_t.told.bytes told_t.told.told in
+    told_s.signed ∙ ap (λ magnitude. sign_of z ++ magnitude) same ∙ sym told_t.signed
 
 -- a decimal text tells one number
 pub TellsDecimal-number : (text : List ℕ) (y z : ℤ) → TellsDecimal text y → TellsDecimal text z → y ≡ z

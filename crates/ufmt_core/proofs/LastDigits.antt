@@ -1,8 +1,10 @@
 -- Decimal texts that are written from the right, several digits at a time.
-use Rattle.std.proofs.Common.{◌≡◌, ℕ, zero, suc, ◌+◌, ◌-◌, ◌*◌, ◌/◌, ◌%◌, ◌^◌, ◌<◌, ◌≤◌, List, [], ◌∷◌, ◌++◌, length, drop, pos, refl, sym, ap, ◌∙◌, arith, pow-suc, mul-le-mul_right, length-append, length-drop, append_assoc, append-nil}
-use Rattle.std.proofs.Math.Nat.{pow-zero, pow-succ', div-one, mul_assoc, one-le-pow, div-div-eq-div-mul}
+use Rattle.std.proofs.Common.{◌≡◌, ℕ, zero, suc, ◌+◌, ◌-◌, ◌/◌, ◌%◌, ◌^◌, ◌<◌, ◌≤◌, List, [], ◌∷◌, ◌++◌, length, drop, set, pos, refl, sym, ap, ◌∙◌, arith, pow-suc, length-append, length-drop, length-set, append_assoc, append-nil}
+use Rattle.std.proofs.Math.Nat.{pow-zero, pow-succ', div-one, one-le-pow, div-div-eq-div-mul}
 use Rattle.std.proofs.Math.Arith.{mod-mul}
-use Rattle.std.proofs.lemmas.Nat.{div-add-mod', le-div, mod_below}
+use Rattle.std.proofs.Math.Seq.{drop-length}
+use Rattle.std.proofs.lemmas.List.{drop-set}
+use Rattle.std.proofs.lemmas.Nat.{le-div}
 use Rattle.ufmt_core.specs.Decimal.{decimal_byte, decimal, last_digits}
 use Rattle.ufmt_core.proofs.DecimalTexts.{decimal-in_base}
 use Rattle.ufmt_core.proofs.NumeralTexts.{text-digit, text-step, text-nonempty}
@@ -23,67 +25,79 @@ last_digits-two n low = let tens : n / 10 % 10 ≡ n / 10 = omega arith in rw te
 pub decimal-two : (n : ℕ) → 10 ≤ n → n < 100 → decimal (pos n) ≡ decimal_byte (n / 10) ∷ decimal_byte (n % 10) ∷ []
 decimal-two n high low = text-step decimal-in_base n high ∙ rw (text-digit decimal-in_base (n / 10) (omega arith)) refl
 
+-- two bytes written at `at`, and what was behind them
+pub drop-pair : (buffer : List ℕ) (at next tens ones : ℕ) → next ≡ at + 1 → at + 2 ≤ length buffer → drop at (set (set buffer next ones) at tens) ≡ tens ∷ ones ∷ drop (at + 2) buffer
+drop-pair buffer at next tens ones after room =
+    let end : next + 1 ≡ at + 2 = omega arith in
+    rw (drop-set (set buffer next ones) at tens (omega (arith, length-set buffer next ones)), ← after, drop-set buffer next ones (omega arith), end) refl
+
 -- a power is positive
 positive_power : (count : ℕ) → 0 < 10 ^ count
 positive_power count = one-le-pow count 10 (omega arith)
 
--- they are those before the last ones, and those
-pub last_digits-split : (front count n : ℕ) → last_digits (front + count) n ≡ last_digits front (n / 10 ^ count) ++ last_digits count (n % 10 ^ count)
+-- texts that grow by a last digit, where `high` holds, end in as many last digits
+cut : (text : ℕ → ℕ → List ℕ) (high : ℕ → ℕ → Type 0) → ((count n : ℕ) → high (suc count) n → (text (suc count) n ≡ text count (n / 10) ++ (decimal_byte (n % 10) ∷ [])) × high count (n / 10)) →
+    (count n : ℕ) → high count n → text count n ≡ text 0 (n / 10 ^ count) ++ last_digits count (n % 10 ^ count)
 unfolding last_digits
-last_digits-split front zero n = let all : front + 0 ≡ front = omega arith in rw (pow-zero, div-one, append-nil, all) refl
-last_digits-split front (suc count) n =
+cut text high grows zero n h = rw (pow-zero, div-one, append-nil) refl
+cut text high grows (suc count) n h =
+    let step = grows count n h in
     let digits = mod-mul n {m = 10 ^ count} {c = 10} (positive_power count) (omega arith) in
-    let more : front + suc count ≡ suc (front + count) = omega arith in
     let quotient : n / 10 / 10 ^ count ≡ n / 10 ^ suc count = div-div-eq-div-mul n 10 (10 ^ count) ∙ ap (λ power. n / power) (sym (pow-succ' 10 count)) in
     let middle : n % 10 ^ suc count / 10 ≡ n / 10 % 10 ^ count = rw pow-suc (omega (arith, digits)) in
     let last : n % 10 ^ suc count % 10 ≡ n % 10 = rw pow-suc (omega (arith, digits)) in
-    rw (more, ← quotient, middle, last, last_digits-split front count (n / 10)) (append_assoc (last_digits front (n / 10 / 10 ^ count)) (last_digits count (n / 10 % 10 ^ count)) (decimal_byte (n % 10) ∷ []))
+    step.0 ∙ rw (← quotient, middle, last, cut text high grows count (n / 10) step.1) (append_assoc (text 0 (n / 10 / 10 ^ count)) (last_digits count (n / 10 % 10 ^ count)) (decimal_byte (n % 10) ∷ []))
 
--- the digits of a number above 0 stand before the last ones
-decimal-front : (count front part : ℕ) → 0 < front → part < 10 ^ count → decimal (pos (front * 10 ^ count + part)) ≡ decimal (pos front) ++ last_digits count part
+-- as the last digits do
+last_digits-split : (front count n : ℕ) → last_digits (front + count) n ≡ last_digits front (n / 10 ^ count) ++ last_digits count (n % 10 ^ count)
 unfolding last_digits
-decimal-front zero front part some low =
-    let same : front * 10 ^ 0 + part ≡ front = omega (arith, pow-zero 10) in
-    rw (same, append-nil) refl
-decimal-front (suc count) front part some low =
-    let power = pow-suc 10 count in
-    let product = mul_assoc front (10 ^ count) 10 in
-    let n = front * 10 ^ suc count + part in
-    let split : n ≡ (front * 10 ^ count) * 10 + part = rw power (omega (arith, product)) in
-    let quotient : n / 10 ≡ front * 10 ^ count + part / 10 = omega arith in
-    let last : n % 10 ≡ part % 10 = omega arith in
-    let high : 10 ≤ n = omega (arith, split, mul-le-mul_right (10 ^ count) some, positive_power count) in
-    text-step decimal-in_base n high
-    ∙ rw (quotient, last, decimal-front count front (part / 10) some (omega (arith, power))) (append_assoc (decimal (pos front)) (last_digits count (part / 10)) (decimal_byte (part % 10) ∷ []))
+last_digits-split front count n =
+    let none : front + 0 ≡ front = omega arith in
+    cut (λ c m. last_digits (front + c) m) (λ c m. Unit {0}) (λ c m h. (ap (λ k. last_digits k m) {x = front + suc c} {y = suc (front + c)} (omega arith), h)) count n tt ∙ rw none refl
 
--- a number is cut before its last digits
-pub decimal-cut : (count n : ℕ) → 10 ^ count ≤ n → decimal (pos n) ≡ decimal (pos (n / 10 ^ count)) ++ last_digits count (n % 10 ^ count)
-decimal-cut count n high =
-    ap (λ m. decimal (pos m)) (sym (div-add-mod' n (10 ^ count)))
-    ∙ decimal-front count (n / 10 ^ count) (n % 10 ^ count) (le-div 1 n (10 ^ count) (positive_power count) (omega arith)) (mod_below n (10 ^ count) (positive_power count))
+-- and decimal texts
+decimal-cut : (count n : ℕ) → 10 ^ count ≤ n → decimal (pos n) ≡ decimal (pos (n / 10 ^ count)) ++ last_digits count (n % 10 ^ count)
+decimal-cut =
+    cut (λ c m. decimal (pos m)) (λ c m. 10 ^ c ≤ m)
+    (λ c m h. (text-step decimal-in_base m (omega (arith, pow-suc 10 c, positive_power c)), le-div (10 ^ c) m 10 (omega arith) (omega (arith, pow-suc 10 c))))
 
--- and is shorter by as many
-pub length-cut : (count n : ℕ) → 10 ^ count ≤ n → length (decimal (pos n)) ≡ length (decimal (pos (n / 10 ^ count))) + count
+-- which then are shorter by as many
+length-cut : (count n : ℕ) → 10 ^ count ≤ n → length (decimal (pos n)) ≡ length (decimal (pos (n / 10 ^ count))) + count
 length-cut count n high =
     omega (arith, ap length (decimal-cut count n high), length-append (decimal (pos (n / 10 ^ count))) (last_digits count (n % 10 ^ count)), length-last_digits count (n % 10 ^ count))
 
-module _ (n left start : ℕ) (buffer : List ℕ) (fits : length (decimal (pos n)) ≤ length buffer) (written : IsWrittenFrom (λ m. decimal (pos m)) n left start buffer) (count : ℕ) (high : 10 ^ count ≤ left) where
-  -- there is room for the last digits and for another
-  pub cut_fits : count < start
-  cut_fits =
-      omega (
-        arith,
-        written.within,
-        ap length written.joined,
-        length-append (decimal (pos left)) (drop start buffer),
-        length-drop start buffer,
-        length-cut count left high,
-        text-nonempty decimal-in_base (left / 10 ^ count),
-      )
+-- the last digits are written in two halves, the second first
+pub last_digits-halves : (half n start : ℕ) (buffer mid new : List ℕ) → drop (start + half) mid ≡ last_digits half (n % 10 ^ half) ++ drop (start + half + half) buffer →
+    drop start new ≡ last_digits half (n / 10 ^ half) ++ drop (start + half) mid → drop start new ≡ last_digits (half + half) n ++ drop (start + (half + half)) buffer
+last_digits-halves half n start buffer mid new second first =
+    let end : start + half + half ≡ start + (half + half) = omega arith in
+    rw (first, second, end, last_digits-split half half n) (sym (append_assoc (last_digits half (n / 10 ^ half)) (last_digits half (n % 10 ^ half)) (drop (start + (half + half)) buffer)))
 
-  -- the step of a loop that writes the last digits before the others
-  pub IsWrittenFrom-cut : (rest part : ℕ) (new : List ℕ) → rest ≡ left / 10 ^ count → part ≡ left % 10 ^ count → length new ≡ length buffer → drop (start - count) new ≡ last_digits count part ++ drop start buffer → IsWrittenFrom (λ m. decimal (pos m)) n rest (start - count) new
-  IsWrittenFrom-cut rest part new is_rest is_part same_length placed = record {
-    within = omega (arith, written.within);
-    joined = rw (is_rest, placed, is_part, ← append_assoc (decimal (pos (left / 10 ^ count))) (last_digits count (left % 10 ^ count)) (drop start buffer), ← decimal-cut count left high) written.joined;
-  }
+-- what a loop that writes the last digits before the others keeps: where they are left, there is room for them and for another
+pub record IsCutFrom (count n left start : ℕ) (buffer : List ℕ) : Type 0 where
+  pub fits : length (decimal (pos n)) ≤ length buffer
+  pub written : IsWrittenFrom (λ m. decimal (pos m)) n left start buffer
+  pub room : 10 ^ count ≤ left → count < start
+
+-- the room comes of how long the texts are
+cut_from : (count n left start : ℕ) (buffer : List ℕ) → length (decimal (pos n)) ≤ length buffer → IsWrittenFrom (λ m. decimal (pos m)) n left start buffer → IsCutFrom count n left start buffer
+cut_from count n left start buffer fits written =
+    let digits = ap length written.joined in
+    let whole = length-append (decimal (pos left)) (drop start buffer) in
+    let another = text-nonempty decimal-in_base (left / 10 ^ count) in
+    record { fits = fits; written = written; room = λ high. omega (arith, written.within, digits, whole, length-drop start buffer, length-cut count left high, another) }
+
+-- before the first turn
+pub IsCutFrom-none : (count n : ℕ) (buffer : List ℕ) → length (decimal (pos n)) ≤ length buffer → IsCutFrom count n n (length buffer) buffer
+IsCutFrom-none count n buffer fits =
+    cut_from count n n (length buffer) buffer fits record { within = omega arith; joined = rw (drop-length buffer, append-nil) refl }
+
+-- a turn
+pub IsCutFrom-more : {count n left start : ℕ} {buffer : List ℕ} (new : List ℕ) → IsCutFrom count n left start buffer → 10 ^ count ≤ left → length new ≡ length buffer →
+    drop (start - count) new ≡ last_digits count (left % 10 ^ count) ++ drop (start - count + count) buffer → IsCutFrom count n (left / 10 ^ count) (start - count) new
+IsCutFrom-more {count} {n} {left} {start} {buffer} new kept high same_length placed =
+    let next : start - count + count ≡ start = omega (arith, kept.room high) in
+    cut_from count n (left / 10 ^ count) (start - count) new (omega (arith, kept.fits)) record {
+      within = omega (arith, kept.written.within);
+      joined = rw (placed, next, ← append_assoc (decimal (pos (left / 10 ^ count))) (last_digits count (left % 10 ^ count)) (drop start buffer), ← decimal-cut count left high) kept.written.joined;
+    }

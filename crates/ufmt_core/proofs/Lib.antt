@@ -1,6 +1,5 @@
 pub mod Blocks
 pub mod DecimalTexts
-pub mod Indentation
 pub mod Items
 pub mod LastDigits
 pub mod Loops

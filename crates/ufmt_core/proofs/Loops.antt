@@ -1,14 +1,10 @@
 -- A block whose entries a loop writes, one a turn: what is left of it before each turn.
 use Rattle.std.proofs.Common.{◌≡◌, ℕ, List, [], ◌∷◌, Bool, true, false, codes, subst, sym, ◌∙◌}
-use Rattle.ufmt_core.specs.declared.formatter.Setting.{Setting}
-use Rattle.ufmt_core.specs.declared.formatter.Formatter.{Formatter}
-use Rattle.ufmt_core.specs.declared.formatter.block.Kind.{Kind}
-use Rattle.ufmt_core.specs.declared.formatter.block.Kind.TheVariants.{Brackets, Braces, Struct}
-use Rattle.ufmt_core.specs.Document.{Document, list_of, set_of, map_of, struct_of, tuple_of, Documents, no_documents, document, Pairs, no_pairs, pair, Fields, no_fields, field}
-use Rattle.ufmt_core.specs.Layout.{tuple_kind}
+use Rattle.ufmt_core.specs.Document.{Document, list_of, set_of, map_of, struct_of, tuple_of, Documents, Pairs, Fields}
+use Rattle.ufmt_core.specs.Layout.{Setting, Kind, Brackets, Braces, Struct, tuple_kind}
 use Rattle.ufmt_core.specs.Writes.{Seen}
-use Rattle.ufmt_core.specs.Formatter.{LaysOut}
-use Rattle.ufmt_core.specs.Block.{Block, Closing, Entry, Opening, ending_of, entries_left, entry_text, fields_left, field_text, pair_text, pairs_left}
+use Rattle.ufmt_core.specs.Formatter.{Formatter, LaysOut}
+use Rattle.ufmt_core.specs.Block.{Block, Closing, Entry, Opening, ending_of, entries_left, fields_left, pairs_left}
 use Rattle.ufmt_core.proofs.Printing.{Completes, IsBlock, LaysOut-opened, list-is_block, set-is_block, map-is_block, struct-is_block, tuple-is_block, entry_written, entry_failed, finished}
 
 module _ {W : Type 0} where
@@ -36,46 +32,17 @@ module _ {W : Type 0} {seen : Seen W} {start : Formatter W} {reference : ℕ} {b
   pub tuple_begun : {name : List ℕ} {ds : Documents} → Opening seen start reference (tuple_kind name) name b → Leaves seen start (tuple_of name ds) b.reference b (entries_left ds)
   tuple_begun {name} {ds} = begun (tuple-is_block name ds)
 
-module _ {W : Type 0} {seen : Seen W} {start : Formatter W} {d : Document} {reference : ℕ} {b b' : Block W} where
-  -- a turn that wrote an entry leaves the others
-  Leaves-next : {text : Setting → List ℕ} {left : Setting → List (List ℕ)} → Leaves seen start d reference b (λ i. text i ∷ left i) → Entry seen b text true b' → Leaves seen start d reference b' left
-  Leaves-next h e = record { completes = λ ok f c. h.completes ok f (entry_written e c) }
+module _ {W : Type 0} {seen : Seen W} {start : Formatter W} {d : Document} {reference : ℕ} {b b' : Block W} {left : Setting → List (List ℕ)} (leaves : Leaves seen start d reference b left) where
+  -- a turn that wrote the first of the entries that are left
+  pub leaves_next : {text : Setting → List ℕ} {more : Setting → List (List ℕ)} → left ≡ (λ i. text i ∷ more i) → Entry seen b text true b' → Leaves seen start d reference b' more
+  leaves_next first e = record { completes = λ ok f c. leaves.completes ok f (rw first (entry_written e c)) }
 
-  -- a turn that failed
-  Leaves-failed : {begun : ℕ} {last : Formatter W} {text : Setting → List ℕ} {left : Setting → List (List ℕ)} → Leaves seen start d reference b (λ i. text i ∷ left i) → Entry seen b text false b' → reference ≡ begun → (begun ≡ b'.reference → last ≡ b'.formatter) → LaysOut seen start d false last
-  Leaves-failed {last = last} h e same at_end = h.completes false last (entry_failed e (λ held. at_end (sym same ∙ held)))
+  -- a turn that failed at it
+  pub leaves_stopped : {begun : ℕ} {last : Formatter W} {text : Setting → List ℕ} {more : Setting → List (List ℕ)} → left ≡ (λ i. text i ∷ more i) → Entry seen b text false b' →
+      reference ≡ begun → (begun ≡ b'.reference → last ≡ b'.formatter) → LaysOut seen start d false last
+  leaves_stopped {last = last} first e same at_end = leaves.completes false last (rw first (entry_failed e (λ held. at_end (sym same ∙ held))))
 
   -- the end, where no entry is left
-  Leaves-finished : {ok : Bool} {begun : ℕ} {last : Formatter W} → Leaves seen start d reference b (λ i. []) → Closing seen b (ending_of b) ok b' → reference ≡ begun → (begun ≡ b'.reference → last ≡ b'.formatter) → LaysOut seen start d ok last
-  Leaves-finished {ok} {last = last} h f same at_end = h.completes ok last (finished f (λ held. at_end (sym same ∙ held)))
-
-  -- the same of documents, of pairs and of fields that are left
-  module _ {ds : Documents} (leaves : Leaves seen start d reference b (entries_left ds)) where
-    pub entries_next : {one : Document} {more : Documents} → ds ≡ document one more → Entry seen b (entry_text one) true b' → Leaves seen start d reference b' (entries_left more)
-    entries_next h = Leaves-next (subst (λ (xs : Documents). Leaves seen start d reference b (entries_left xs)) h leaves)
-
-    pub entries_stopped : {begun : ℕ} {last : Formatter W} {one : Document} {more : Documents} → ds ≡ document one more → Entry seen b (entry_text one) false b' → reference ≡ begun → (begun ≡ b'.reference → last ≡ b'.formatter) → LaysOut seen start d false last
-    entries_stopped h = Leaves-failed (subst (λ (xs : Documents). Leaves seen start d reference b (entries_left xs)) h leaves)
-
-    pub entries_finished : {ok : Bool} {begun : ℕ} {last : Formatter W} → ds ≡ no_documents → Closing seen b (ending_of b) ok b' → reference ≡ begun → (begun ≡ b'.reference → last ≡ b'.formatter) → LaysOut seen start d ok last
-    entries_finished h = Leaves-finished (subst (λ (xs : Documents). Leaves seen start d reference b (entries_left xs)) h leaves)
-
-  module _ {ps : Pairs} (leaves : Leaves seen start d reference b (pairs_left ps)) where
-    pub pairs_next : {key value : Document} {more : Pairs} → ps ≡ pair key value more → Entry seen b (pair_text key value) true b' → Leaves seen start d reference b' (pairs_left more)
-    pairs_next h = Leaves-next (subst (λ (xs : Pairs). Leaves seen start d reference b (pairs_left xs)) h leaves)
-
-    pub pairs_stopped : {begun : ℕ} {last : Formatter W} {key value : Document} {more : Pairs} → ps ≡ pair key value more → Entry seen b (pair_text key value) false b' → reference ≡ begun → (begun ≡ b'.reference → last ≡ b'.formatter) → LaysOut seen start d false last
-    pairs_stopped h = Leaves-failed (subst (λ (xs : Pairs). Leaves seen start d reference b (pairs_left xs)) h leaves)
-
-    pub pairs_finished : {ok : Bool} {begun : ℕ} {last : Formatter W} → ps ≡ no_pairs → Closing seen b (ending_of b) ok b' → reference ≡ begun → (begun ≡ b'.reference → last ≡ b'.formatter) → LaysOut seen start d ok last
-    pairs_finished h = Leaves-finished (subst (λ (xs : Pairs). Leaves seen start d reference b (pairs_left xs)) h leaves)
-
-  module _ {fs : Fields} (leaves : Leaves seen start d reference b (fields_left fs)) where
-    pub fields_next : {label : List ℕ} {value : Document} {more : Fields} → fs ≡ field label value more → Entry seen b (field_text label value) true b' → Leaves seen start d reference b' (fields_left more)
-    fields_next h = Leaves-next (subst (λ (xs : Fields). Leaves seen start d reference b (fields_left xs)) h leaves)
-
-    pub fields_stopped : {begun : ℕ} {last : Formatter W} {label : List ℕ} {value : Document} {more : Fields} → fs ≡ field label value more → Entry seen b (field_text label value) false b' → reference ≡ begun → (begun ≡ b'.reference → last ≡ b'.formatter) → LaysOut seen start d false last
-    fields_stopped h = Leaves-failed (subst (λ (xs : Fields). Leaves seen start d reference b (fields_left xs)) h leaves)
-
-    pub fields_finished : {ok : Bool} {begun : ℕ} {last : Formatter W} → fs ≡ no_fields → Closing seen b (ending_of b) ok b' → reference ≡ begun → (begun ≡ b'.reference → last ≡ b'.formatter) → LaysOut seen start d ok last
-    fields_finished h = Leaves-finished (subst (λ (xs : Fields). Leaves seen start d reference b (fields_left xs)) h leaves)
+  pub leaves_finished : {ok : Bool} {begun : ℕ} {last : Formatter W} → left ≡ (λ i. []) → Closing seen b (ending_of b) ok b' →
+      reference ≡ begun → (begun ≡ b'.reference → last ≡ b'.formatter) → LaysOut seen start d ok last
+  leaves_finished {ok} {last = last} none f same at_end = leaves.completes ok last (rw none (finished f (λ held. at_end (sym same ∙ held))))

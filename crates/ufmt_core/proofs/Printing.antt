@@ -1,28 +1,17 @@
 -- The steps by which a `fmt` is proved, one for each call of a builder: what is left to write before the call, and what is left after it.
-use Rattle.std.proofs.Common.{◌≡◌, ℕ, List, [], ◌∷◌, ◌++◌, Bool, true, false, codes, is_ok, Result, Err, OnErr, refl, ap, sym, ◌∙◌, subst, map, Iter, ◌+◌, ◌<◌, ◌≤◌, length, get_or, take, drop, append_assoc, append-nil}
+use Rattle.std.proofs.Common.{◌≡◌, ℕ, List, [], ◌∷◌, ◌++◌, Bool, true, false, codes, is_ok, Result, Err, OnErr, refl, ap, sym, ◌∙◌, map, Iter, ◌+◌, ◌<◌, ◌≤◌, length, get_or, take, drop, append_assoc, append-nil}
 use Rattle.std.specs.Prelude.{IsErr}
 use Rattle.std.proofs.lemmas.List.{map-append, take-append-drop, take_all}
+use Rattle.std.proofs.lemmas.Iterator.{YieldsList-from_slice}
 use Rattle.std.proofs.lemmas.Simd.{map-map}
 use Rattle.std.proofs.lemmas.Result.{IfErr-at_err}
 use Rattle.std.specs.Slice.Iter.{iter_rest, iter_steps}
-use Rattle.ufmt_core.specs.declared.formatter.Setting.{Setting}
-use Rattle.ufmt_core.specs.declared.formatter.Formatter.{Formatter}
-use Rattle.ufmt_core.specs.declared.formatter.block.Kind.{Kind}
-use Rattle.ufmt_core.specs.declared.formatter.block.Kind.TheVariants.{Brackets, Braces, Struct}
-use Rattle.ufmt_core.specs.declared.formatter.block.Place.{Place}
-use Rattle.ufmt_core.specs.declared.formatter.block.Place.TheVariants.{First}
-use Rattle.ufmt_core.specs.declared.formatter.builder.Status.TheVariants.{Lent}
-use Rattle.ufmt_core.specs.declared.formatter.builder.Builder.{Builder}
-use Rattle.ufmt_core.specs.declared.list.ListBlock.{ListBlock}
-use Rattle.ufmt_core.specs.declared.set.SetBlock.{SetBlock}
-use Rattle.ufmt_core.specs.declared.structs.StructBlock.{StructBlock}
-use Rattle.ufmt_core.specs.declared.tuple.TupleBlock.{TupleBlock}
 use Rattle.ufmt_core.specs.Document.{Document, list_of, set_of, map_of, struct_of, tuple_of, Documents, Pairs, Fields, documents, pairs_of}
-use Rattle.ufmt_core.specs.Layout.{frame, inside, layout, next, rest, texts, pair_texts, tuple_kind}
+use Rattle.ufmt_core.specs.Layout.{Setting, Kind, Brackets, Braces, Struct, Place, First, frame, inside, layout, next, rest, texts, pair_texts, tuple_kind}
 use Rattle.ufmt_core.specs.Writes.{Seen, Writes}
-use Rattle.ufmt_core.specs.Formatter.{Prints, LaysOut, setting_of, writer_of}
-use Rattle.ufmt_core.specs.Block.{Block, Closing, Entries, Entry, EntryEnd, IsInside, Opening, Part, Row, Stop, ending_of, entries_left, entry_text, field_lead_of, field_text, fields_left, framed, framed_all, frame_of, inner, lead_of, pair_text, pairs_left, place_after, rest_of, trail_of}
-use Rattle.ufmt_core.specs.Builder.{block, kind_of_tuple, lent, list_block, set_block, struct_block, tuple_block}
+use Rattle.ufmt_core.specs.Formatter.{Formatter, Prints, LaysOut, setting_of, writer_of}
+use Rattle.ufmt_core.specs.Block.{Lent, Block, Closing, Entries, Entry, EntryEnd, IsInside, Opening, Part, Row, Stop, ending_of, entries_left, entry_text, field_lead_of, field_text, fields_left, framed, framed_all, frame_of, inner, lead_of, pair_text, pairs_left, place_after, rest_of, trail_of}
+use Rattle.ufmt_core.specs.Builder.{Builder, ListBlock, SetBlock, StructBlock, TupleBlock, block, kind_of_tuple, lent, list_block, set_block, struct_block, tuple_block}
 use Rattle.ufmt_core.proofs.Blocks.{Closing-fails, Closing-then, Part-between, Part-fails, Row-from_entries, Row-next, place_after-map, rest-append}
 use Rattle.ufmt_core.proofs.Items.{AlwaysYields-items}
 use Rattle.ufmt_core.proofs.Writing.{Writes-then, Writes-fails}
@@ -129,22 +118,22 @@ module _ {W : Type 0} {seen : Seen W} {reference : ℕ} {b b' : Block W} {last :
         record { wrote = rw whole (Writes-then a.wrote then.wrote); restored = then.restored ∙ a.same.outer };
   }
 
-  -- a call that failed wrote a beginning of this part
-  Completes-stops : {part : List ℕ} (more : List ℕ) {place : Place} {left : Setting → List (List ℕ)} →
-      (IsInside b → rest_of b left ≡ part ++ more) → Part seen b part false place b' → (reference ≡ b'.reference → last ≡ b'.formatter) → Completes seen reference b left false last
-  Completes-stops more text a e = record {
+  -- what closed the block, where the builder was at the mode and depth of the entries
+  Completes-closed : {left : Setting → List (List ℕ)} {ok : Bool} → (IsInside b → Closing seen b (rest_of b left) ok b') → (reference ≡ b'.reference → last ≡ b'.formatter) → Completes seen reference b left ok last
+  Completes-closed closing e = record {
     continues = λ h inside_b.
-        let at_end = e (h ∙ sym a.same.reference) in
-        record { wrote = rw (text inside_b, at_end) (Writes-fails _ a.wrote); restored = ap setting_of at_end ∙ a.after.1 };
-  }
-
-  -- what closes the block
-  pub completed : {left : Setting → List (List ℕ)} {ok : Bool} → Closing seen b (rest_of b left) ok b' → (reference ≡ b'.reference → last ≡ b'.formatter) → Completes seen reference b left ok last
-  completed f e = record {
-    continues = λ h inside_b.
+        let f = closing inside_b in
         let at_end = e (h ∙ sym f.same.reference) in
         record { wrote = rw at_end f.wrote; restored = ap setting_of at_end ∙ f.restored };
   }
+
+  -- as a call that failed does, which wrote a beginning of this part
+  Completes-stops : {part : List ℕ} (more : List ℕ) {place : Place} {left : Setting → List (List ℕ)} →
+      (IsInside b → rest_of b left ≡ part ++ more) → Part seen b part false place b' → (reference ≡ b'.reference → last ≡ b'.formatter) → Completes seen reference b left false last
+  Completes-stops more text a = Completes-closed (λ inside_b. rw (text inside_b) (Closing-fails more a))
+
+  pub completed : {left : Setting → List (List ℕ)} {ok : Bool} → Closing seen b (rest_of b left) ok b' → (reference ≡ b'.reference → last ≡ b'.formatter) → Completes seen reference b left ok last
+  completed f = Completes-closed (λ inside_b. f)
 
   pub finished : {ok : Bool} → Closing seen b (ending_of b) ok b' → (reference ≡ b'.reference → last ≡ b'.formatter) → Completes seen reference b (λ i. []) ok last
   finished = completed
@@ -214,7 +203,7 @@ pair_texts-of key value xs i = pair_texts-pairs_of i (map (λ x. (key x, value x
 -- `entries` over an iterator of a slice, which has these items left
 module _ {W X : Type 0} {seen : Seen W} {b b' : Block W} {items : Iter X} {xs : List X} (h : X → Document) (left : iter_rest items ≡ xs) where
   items-row : (ok : Bool) → Entries seen (λ items it. it ≡ items) iter_steps (λ x. entry_text (h x.now)) items b ok b' → Row seen b entry_text (map h xs) ok b'
-  items-row ok = Row-from_entries (λ x. h x.now) entry_text items (map h xs) ok (λ it gives. AlwaysYields-items h gives left)
+  items-row ok = Row-from_entries (λ x. h x.now) entry_text items (map h xs) ok (λ it gives. AlwaysYields-items h xs (YieldsList-from_slice xs (ap iter_rest gives ∙ left)))
 
   module _ {reference : ℕ} {last : Formatter W} where
     pub items_written : {ok : Bool} → Entries seen (λ items it. it ≡ items) iter_steps (λ x. entry_text (h x.now)) items b true b' → Completes seen reference b' (λ i. []) ok last →
@@ -226,23 +215,22 @@ module _ {W X : Type 0} {seen : Seen W} {b b' : Block W} {items : Iter X} {xs : 
     items_failed a = entries_failed (map h xs) (items-row false a)
 
 -- an entry in halves: the lent formatter has printed the value, and the second half has ended the entry
-module _ {W K E : Type 0} {seen : Seen W} {d : Document} {begun ended : Formatter W} {new : Block W} (answer result : Result (Unit {0}) E) where
-  pub entry_between : (kind : K → Kind) (old : Builder W K) {mid : Builder W K} → mid ≡ lent Lent old ended → Prints seen old.formatter.now (lead_of (block kind old)) true begun →
+module _ {W E : Type 0} {seen : Seen W} {d : Document} {begun ended : Formatter W} {new : Block W} (answer result : Result (Unit {0}) E) where
+  pub entry_between : {K : Type 0} (kind : K → Kind) (old : Builder W K) {mid : Builder W K} → mid ≡ lent Lent old ended → Prints seen old.formatter.now (lead_of (block kind old)) true begun →
       LaysOut seen begun d (is_ok answer) ended → EntryEnd seen answer (block kind mid) result (is_ok result) new → Entry seen (block kind old) (entry_text d) (is_ok result) new
   entry_between kind old m p l e = record { part = Part-between Lent (block kind old) ended _ (entry_text d) answer result (ap (block kind) m) p l.prints e }
 
-module _ {W E : Type 0} {seen : Seen W} {d : Document} {begun ended : Formatter W} {new : Block W} (answer result : Result (Unit {0}) E) where
   pub list_entry_between : (old : Builder W ListBlock) {mid : Builder W ListBlock} → mid ≡ lent Lent old ended → Prints seen old.formatter.now (lead_of (list_block old)) true begun →
       LaysOut seen begun d (is_ok answer) ended → EntryEnd seen answer (list_block mid) result (is_ok result) new → Entry seen (list_block old) (entry_text d) (is_ok result) new
-  list_entry_between = entry_between answer result (λ _. Brackets)
+  list_entry_between = entry_between (λ _. Brackets)
 
   pub set_entry_between : (old : Builder W SetBlock) {mid : Builder W SetBlock} → mid ≡ lent Lent old ended → Prints seen old.formatter.now (lead_of (set_block old)) true begun →
       LaysOut seen begun d (is_ok answer) ended → EntryEnd seen answer (set_block mid) result (is_ok result) new → Entry seen (set_block old) (entry_text d) (is_ok result) new
-  set_entry_between = entry_between answer result (λ _. Braces)
+  set_entry_between = entry_between (λ _. Braces)
 
   pub tuple_field_between : (old : Builder W TupleBlock) {mid : Builder W TupleBlock} → mid ≡ lent Lent old ended → Prints seen old.formatter.now (lead_of (tuple_block old)) true begun →
       LaysOut seen begun d (is_ok answer) ended → EntryEnd seen answer (tuple_block mid) result (is_ok result) new → Entry seen (tuple_block old) (entry_text d) (is_ok result) new
-  tuple_field_between = entry_between answer result kind_of_tuple
+  tuple_field_between = entry_between kind_of_tuple
 
   pub field_between : (old : Builder W StructBlock) {mid : Builder W StructBlock} (label : List ℕ) → mid ≡ lent Lent old ended → Prints seen old.formatter.now (field_lead_of label (struct_block old)) true begun →
       LaysOut seen begun d (is_ok answer) ended → EntryEnd seen answer (struct_block mid) result (is_ok result) new → Entry seen (struct_block old) (field_text label d) (is_ok result) new
@@ -267,10 +255,10 @@ module _ {W X E : Type 0} {seen : Seen W} {b : Block W} (d : Document) {r : Resu
 -- an entry, and then a call that writes all that are left and the end
 module _ {W : Type 0} {seen : Seen W} {old new : Block W} {text : Setting → List ℕ} (left : Setting → List (List ℕ)) (inside_old : IsInside old) where
   pub closing_after_entry : {mid : Block W} {ok : Bool} → Entry seen old text true mid → Closing seen mid (rest_of mid left) ok new → Closing seen old (rest_of old (λ i. text i ∷ left i)) ok new
-  closing_after_entry {mid} {ok} a f =
-      let whole : framed (frame_of old) (inner old) old.place (text (inner old)) ++ rest_of mid left ≡ rest_of old (λ i. text i ∷ left i) =
-      rw (a.part.same.outer, a.part.same.kind, a.part.after.0) (sym (rest-entry old text left inside_old)) in
-      subst (λ (t : List ℕ). Closing seen old t ok new) whole (Closing-then a.part f)
+  closing_after_entry {mid} a f =
+      let whole : rest_of old (λ i. text i ∷ left i) ≡ framed (frame_of old) (inner old) old.place (text (inner old)) ++ rest_of mid left =
+      rw (a.part.same.outer, a.part.same.kind, a.part.after.0) (rest-entry old text left inside_old) in
+      rw whole (Closing-then a.part f)
 
   pub closing_failed : Entry seen old text false new → Closing seen old (rest_of old (λ i. text i ∷ left i)) false new
-  closing_failed a = subst (λ (t : List ℕ). Closing seen old t false new) (sym (rest-entry old text left inside_old)) (Closing-fails _ a.part)
+  closing_failed a = rw (rest-entry old text left inside_old) (Closing-fails _ a.part)

@@ -1,4 +1,5 @@
 -- The layouts of some documents, computed.
+use Prim.Native.String.{String as Text}
 use Rattle.std.proofs.Common.{◌≡◌, codes, refl}
 use Rattle.ufmt_core.specs.Document.{Document, leaf, joined, list_of, set_of, map_of, struct_of, tuple_of, pretty_part, Documents, no_documents, document, no_pairs, pair, no_fields, field, nest}
 use Rattle.ufmt_core.specs.Layout.{plain_text, pretty_text}
@@ -12,15 +13,16 @@ two = leaf (codes "2")
 abbrev lone : Document → Documents
 lone d = document d no_documents
 
+-- the document has these texts, the plain one first
+abbrev HasTexts : Document → Text → Text → Type 0
+HasTexts d plain pretty = (plain_text d ≡ codes plain) × (pretty_text d ≡ codes pretty)
+
 -- a list of an empty list and a list of one number
 abbrev lists : Document
 lists = list_of (document (list_of no_documents) (lone (list_of (lone one))))
 
-lists-plain : plain_text lists ≡ codes "[[], [1]]"
-lists-plain = refl
-
-lists-pretty : pretty_text lists ≡ codes "[\n    [],\n    [\n        1,\n    ],\n]"
-lists-pretty = refl
+lists-texts : HasTexts lists "[[], [1]]" "[\n    [],\n    [\n        1,\n    ],\n]"
+lists-texts = (refl, refl)
 
 lists-nest : nest lists ≡ 2
 lists-nest = refl
@@ -29,30 +31,18 @@ lists-nest = refl
 abbrev settings : Document
 settings = struct_of (codes "S") (field (codes "m") (map_of (pair one two no_pairs)) (field (codes "n") (leaf (codes "3")) no_fields))
 
-settings-plain : plain_text settings ≡ codes "S { m: {1: 2}, n: 3 }"
-settings-plain = refl
-
-settings-pretty : pretty_text settings ≡ codes "S {\n    m: {\n        1: 2,\n    },\n    n: 3,\n}"
-settings-pretty = refl
+settings-texts : HasTexts settings "S { m: {1: 2}, n: 3 }" "S {\n    m: {\n        1: 2,\n    },\n    n: 3,\n}"
+settings-texts = (refl, refl)
 
 -- tuples with and without a name, of one field and of two
-single-plain : plain_text (tuple_of (codes "") (lone one)) ≡ codes "(1,)"
-single-plain = refl
+single-texts : HasTexts (tuple_of (codes "") (lone one)) "(1,)" "(\n    1,\n)"
+single-texts = (refl, refl)
 
-single-pretty : pretty_text (tuple_of (codes "") (lone one)) ≡ codes "(\n    1,\n)"
-single-pretty = refl
+some-texts : HasTexts (tuple_of (codes "Some") (lone one)) "Some(1)" "Some(\n    1,\n)"
+some-texts = (refl, refl)
 
-some-plain : plain_text (tuple_of (codes "Some") (lone one)) ≡ codes "Some(1)"
-some-plain = refl
-
-some-pretty : pretty_text (tuple_of (codes "Some") (lone one)) ≡ codes "Some(\n    1,\n)"
-some-pretty = refl
-
-couple-plain : plain_text (tuple_of (codes "") (document one (lone two))) ≡ codes "(1, 2)"
-couple-plain = refl
-
-couple-pretty : pretty_text (tuple_of (codes "") (document one (lone two))) ≡ codes "(\n    1,\n    2,\n)"
-couple-pretty = refl
+couple-texts : HasTexts (tuple_of (codes "") (document one (lone two))) "(1, 2)" "(\n    1,\n    2,\n)"
+couple-texts = (refl, refl)
 
 -- a set, and a map of maps
 sets-pretty : pretty_text (list_of (document (set_of no_documents) (lone (set_of (lone one))))) ≡ codes "[\n    {},\n    {\n        1,\n    },\n]"

@@ -2,11 +2,10 @@
 use Rattle.std.proofs.Common.{◌≡◌, ℕ, ◌+◌, ◌-◌, ◌≤◌, List, [], ◌++◌, length, drop, Bool, true, false, is_ok, Result, Ok, Err, refl, ap, sym, ◌∙◌, subst, append_assoc, append-nil, length-append, arith}
 use Rattle.std.proofs.lemmas.List.{drop-drop}
 use Rattle.std.specs.Prelude.{IsErr}
-use Rattle.ufmt_core.specs.declared.formatter.Setting.{Setting}
-use Rattle.ufmt_core.specs.declared.formatter.Formatter.{Formatter}
 use Rattle.ufmt_core.specs.Document.{Document}
+use Rattle.ufmt_core.specs.Layout.{Setting}
 use Rattle.ufmt_core.specs.Writes.{Seen, Appended, Writes}
-use Rattle.ufmt_core.specs.Formatter.{Prints, LaysOut, setting_of}
+use Rattle.ufmt_core.specs.Formatter.{Formatter, Prints, LaysOut, setting_of}
 
 -- an answer that is no `Ok`
 pub is_ok-err : {X E : Type 0} (r : Result X E) → IsErr r → is_ok r ≡ false
@@ -82,9 +81,6 @@ module _ {W : Type 0} {seen : Seen W} where
 
   pub Prints-fails : {old new : Formatter W} {p : List ℕ} (q : List ℕ) → Prints seen old p false new → Prints seen old (p ++ q) false new
   Prints-fails q a = record { wrote = Writes-fails q a.wrote; same_setting = a.same_setting }
-
-  pub Prints-nothing : (f : Formatter W) → Prints seen f [] true f
-  Prints-nothing f = record { wrote = Writes-nothing _; same_setting = refl }
 
   -- at the exit of a `?`
   pub Prints-err : {X E : Type 0} {old new : Formatter W} {p : List ℕ} (r : Result X E) → IsErr r → Prints seen old p false new → Prints seen old p (is_ok r) new

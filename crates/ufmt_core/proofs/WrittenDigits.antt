@@ -1,7 +1,6 @@
 -- Digits that are written from the last to the first, before one another.
-use Rattle.std.proofs.Common.{true, ℤ, nat_abs, ◌≡◌, ◌≢◌, ℕ, ◌+◌, ◌-◌, ◌/◌, ◌%◌, ◌<◌, ◌≤◌, List, [], ◌∷◌, ◌++◌, length, drop, set, pos, ap, ◌∙◌, arith, length-append, length-drop, length-set, append_assoc, sym, ⊎_elim}
-use Rattle.std.proofs.Math.Nat.{div-eq_of_lt, le-div_iff_mul-le, mod-eq_of_lt}
-use Rattle.std.proofs.lemmas.Bool.{cases_lt}
+use Rattle.std.proofs.Common.{true, ℤ, nat_abs, ◌≡◌, ◌≢◌, ℕ, ◌+◌, ◌-◌, ◌/◌, ◌%◌, ◌<◌, ◌≤◌, List, [], ◌∷◌, ◌++◌, length, drop, set, pos, ap, ◌∙◌, refl, arith, length-append, length-drop, length-set, append_assoc}
+use Rattle.std.proofs.Math.Nat.{div-lt_iff_lt-mul, le-div_iff_mul-le, mod-eq_of_lt}
 use Rattle.std.proofs.lemmas.List.{drop-set}
 use Rattle.std.specs.Int.{is_negative}
 use Rattle.ufmt_core.specs.Decimal.{decimal}
@@ -19,12 +18,6 @@ put_before front buffer start byte room within =
     let next : start - 1 + 1 ≡ start = omega arith in
     rw (drop-set buffer (start - 1) byte (omega arith), next, append_assoc)
 
--- no quotient is left where a number is below the base
-below_base : (base left : ℕ) → 2 ≤ base → left / base ≡ 0 → left < base
-below_base base left two none =
-    let high : base ≤ left → ⊥ = λ more. omega (arith, (le-div_iff_mul-le {k = base} {x = 1} {y = left} (omega arith)).1 (omega arith)) in
-    ⊎_elim (λ low. low) (λ more. absurd (high more)) (cases_lt left base)
-
 module _ {base : ℕ} {byte_of : ℕ → ℕ} {text : ℕ → List ℕ} (t : IsTextInBase base byte_of text) (n left start : ℕ) (buffer : List ℕ) (fits : length (text n) ≤ length buffer) (written : IsWrittenFrom text n left start buffer) where
   -- there is room for a digit
   pub digit_fits : 0 < start
@@ -34,7 +27,7 @@ module _ {base : ℕ} {byte_of : ℕ → ℕ} {text : ℕ → List ℕ} (t : IsT
     -- the step of the loop where digits are left
     pub IsWrittenFrom-more : rest ≢ 0 → IsWrittenFrom text n rest (start - 1) (set buffer (start - 1) byte)
     IsWrittenFrom-more more =
-        let high : base ≤ left = ⊎_elim (λ low. absurd (more (is_rest ∙ div-eq_of_lt low))) (λ high. high) (cases_lt left base) in record {
+        let high : base ≤ left = omega (arith, (le-div_iff_mul-le {k = base} {x = 1} {y = left} (omega arith)).0 (omega arith)) in record {
           within = omega (arith, written.within, length-set buffer (start - 1) byte);
           joined = rw (put_before (text rest) buffer start byte digit_fits written.within, is_byte, is_rest, is_digit, ← text-step t left high) written.joined;
         }
@@ -42,27 +35,19 @@ module _ {base : ℕ} {byte_of : ℕ → ℕ} {text : ℕ → List ℕ} (t : IsT
     -- the last step
     pub IsWrittenFrom-all : rest ≡ 0 → drop (start - 1) (set buffer (start - 1) byte) ≡ text n
     IsWrittenFrom-all none =
-        let low = below_base base left t.two (sym is_rest ∙ none) in
+        let low : left < base = omega (arith, (div-lt_iff_lt-mul {k = base} {x = left} {y = 1} (omega arith)).0 (omega arith)) in
         let same : digit ≡ left = is_digit ∙ mod-eq_of_lt low in
         put_before [] buffer start byte digit_fits written.within ∙ rw (is_byte, same) (rw (text-digit t left low) at written.joined)
 
--- where a text starts that ends a buffer
-pub start_of_end : (text buffer : List ℕ) (start : ℕ) → 0 < length text → drop start buffer ≡ text → start + length text ≡ length buffer
-start_of_end text buffer start some end = omega (arith, length-drop start buffer, ap length end)
+-- a negative number, where the digits of its magnitude end the buffer from start on: a sign before them completes its text
+pub record IsSigned (z : ℤ) (start : ℕ) (buffer : List ℕ) : Type 0 where
+  pub room : 0 < start
+  pub starts : start - 1 + length (decimal z) ≡ length buffer
+  pub written : drop (start - 1) (set buffer (start - 1) 45) ≡ decimal z
 
-module _ (z : ℤ) (magnitude start : ℕ) (buffer : List ℕ) (negative : is_negative z ≡ true) (is_magnitude : magnitude ≡ nat_abs z) (starts : start + length (decimal (pos magnitude)) ≡ length buffer) (fits : length (decimal z) ≤ length buffer) where
-  -- a sign makes a text longer by a byte
-  length-decimal-negative : length (decimal z) ≡ length (decimal (pos magnitude)) + 1
-  length-decimal-negative = rw (decimal-negative z negative, is_magnitude) (omega arith)
-
-  -- there is room for the sign
-  pub sign_fits : 0 < start
-  sign_fits = omega (arith, length-decimal-negative)
-
-  -- the text starts at the sign
-  pub start_of_sign : start - 1 + length (decimal z) ≡ length buffer
-  start_of_sign = omega (arith, length-decimal-negative, sign_fits)
-
-  -- the sign and the digits are the text
-  pub drop-sign : drop start buffer ≡ decimal (pos magnitude) → drop (start - 1) (set buffer (start - 1) 45) ≡ decimal z
-  drop-sign written = put_before [] buffer start 45 sign_fits (omega arith) ∙ rw (decimal-negative z negative, ← is_magnitude) (ap (λ digits. 45 ∷ digits) written)
+pub put_sign : (z : ℤ) {magnitude : ℕ} (start : ℕ) (buffer : List ℕ) → is_negative z ≡ true → magnitude ≡ nat_abs z → length (decimal z) ≤ length buffer →
+    start + length (decimal (pos magnitude)) ≡ length buffer → drop start buffer ≡ decimal (pos magnitude) → IsSigned z start buffer
+put_sign z {magnitude} start buffer negative is_magnitude fits starts digits =
+    let whole : decimal z ≡ 45 ∷ decimal (pos magnitude) = rw is_magnitude (decimal-negative z negative) in
+    let longer = ap length whole in
+    record { room = omega arith; starts = omega arith; written = put_before [] buffer start 45 (omega arith) (omega arith) ∙ rw (whole, digits) refl }

@@ -1,17 +1,12 @@
 -- What the calls of a builder do to the block that it writes.
 use Rattle.std.specs.Prelude.{◌≡◌, ℕ, List, [], ◌∷◌, ◌++◌, map, codes, Bool, true, false, Option, Result, Err, IfErr, OnOk}
 use Rattle.std.specs.Iterator.{DrainsIf}
-use Rattle.ufmt_core.specs.declared.formatter.Setting.{Setting}
-use Rattle.ufmt_core.specs.declared.formatter.Formatter.{Formatter}
-use Rattle.ufmt_core.specs.declared.formatter.block.Kind.{Kind}
-use Rattle.ufmt_core.specs.declared.formatter.block.Place.{Place}
-use Rattle.ufmt_core.specs.declared.formatter.block.Place.TheVariants.{First}
-use Rattle.ufmt_core.specs.declared.formatter.builder.Status.{Status}
-use Rattle.ufmt_core.specs.declared.formatter.builder.Status.TheVariants.{Open, Lent, LentValue, Closed}
+pub use Rattle.ufmt_core.specs.declared.formatter.builder.Status.{Status}
+pub use Rattle.ufmt_core.specs.declared.formatter.builder.Status.TheVariants.{Open, Lent, LentValue, Closed}
 use Rattle.ufmt_core.specs.Document.{Document, Documents, Fields, Pairs}
-use Rattle.ufmt_core.specs.Layout.{Frame, frame, inside, layout, lead, trail, ending, next, rest, texts, pair_texts, field_texts}
+use Rattle.ufmt_core.specs.Layout.{Setting, Kind, Place, First, Frame, frame, inside, layout, lead, trail, ending, next, rest, texts, pair_texts, field_texts}
 use Rattle.ufmt_core.specs.Writes.{Seen, Writes}
-use Rattle.ufmt_core.specs.Formatter.{writer_of, setting_of}
+use Rattle.ufmt_core.specs.Formatter.{Formatter, writer_of, setting_of}
 
 -- a builder as contracts see it
 pub record Block (W : Type 0) : Type 0 where

@@ -2,25 +2,21 @@
 use Rattle.std.specs.Prelude.{◌≡◌, ℕ, List, [], Result, false, if◌then◌else◌}
 use Rattle.std.specs.Borrow.{Fml, LendsSoOk, MutBor, RattleType, RestsIfErr}
 use mir.Syntax.{named}
-use Rattle.ufmt_core.specs.declared.formatter.Formatter.{Formatter}
-use Rattle.ufmt_core.specs.declared.formatter.block.Kind.{Kind}
-use Rattle.ufmt_core.specs.declared.formatter.block.Kind.TheVariants.{Brackets, Braces, Struct, Tuple, Unnamed}
-use Rattle.ufmt_core.specs.declared.formatter.builder.Status.{Status}
-use Rattle.ufmt_core.specs.declared.formatter.builder.Status.TheVariants.{Closed}
-use Rattle.ufmt_core.specs.declared.formatter.builder.Builder.{Builder}
-use Rattle.ufmt_core.specs.declared.list.ListBlock.{ListBlock}
-use Rattle.ufmt_core.specs.declared.set.SetBlock.{SetBlock}
-use Rattle.ufmt_core.specs.declared.map.MapBlock.{MapBlock}
-use Rattle.ufmt_core.specs.declared.structs.StructBlock.{StructBlock}
-use Rattle.ufmt_core.specs.declared.tuple.TupleBlock.{TupleBlock}
+pub use Rattle.ufmt_core.specs.declared.formatter.builder.Builder.{Builder}
+pub use Rattle.ufmt_core.specs.declared.list.ListBlock.{ListBlock}
+pub use Rattle.ufmt_core.specs.declared.set.SetBlock.{SetBlock}
+pub use Rattle.ufmt_core.specs.declared.map.MapBlock.{MapBlock}
+pub use Rattle.ufmt_core.specs.declared.structs.StructBlock.{StructBlock}
+pub use Rattle.ufmt_core.specs.declared.tuple.TupleBlock.{TupleBlock}
 use Rattle.ufmt_core.specs.contracts.formatter.Formatter as formatter
 use Rattle.ufmt_core.specs.contracts.formatter.builder.Builder as builder
 use Rattle.ufmt_core.specs.contracts.map.MapBlock as map_marker
 use Rattle.ufmt_core.specs.contracts.structs.StructBlock as struct_marker
 use Rattle.ufmt_core.specs.contracts.tuple.TupleBlock as tuple_marker
+use Rattle.ufmt_core.specs.Layout.{Kind, Brackets, Braces, Struct, Tuple, Unnamed}
 use Rattle.ufmt_core.specs.Writes.{Seen}
-use Rattle.ufmt_core.specs.Formatter.{Prints, at_setting}
-use Rattle.ufmt_core.specs.Block.{Block}
+use Rattle.ufmt_core.specs.Formatter.{Formatter, Prints, at_setting}
+use Rattle.ufmt_core.specs.Block.{Status, Closed, Block}
 
 -- a builder whose marker tells the kind of its block
 abbrev pub block : {W K : Type 0} → (K → Kind) → Builder W K → Block W

@@ -1,11 +1,8 @@
 -- What contracts say of a formatter: its writer, its mode and depth, and what a call prints.
 use Rattle.std.specs.Prelude.{◌≡◌, ℕ, List, Bool}
-use Rattle.ufmt_core.specs.declared.formatter.Mode.{Mode}
-use Rattle.ufmt_core.specs.declared.formatter.Mode.TheVariants.{Plain, Pretty}
-use Rattle.ufmt_core.specs.declared.formatter.Setting.{Setting}
-use Rattle.ufmt_core.specs.declared.formatter.Formatter.{Formatter}
+pub use Rattle.ufmt_core.specs.declared.formatter.Formatter.{Formatter}
 use Rattle.ufmt_core.specs.Document.{Document}
-use Rattle.ufmt_core.specs.Layout.{layout, setting}
+use Rattle.ufmt_core.specs.Layout.{Mode, Plain, Pretty, Setting, layout, setting}
 use Rattle.ufmt_core.specs.Writes.{Seen, Writes}
 
 module _ {W : Type 0} where

@@ -5,8 +5,8 @@ use Rattle.ufmt_core.specs.Decimal.{decimal_byte}
 use Rattle.ufmt_core.proofs.unsigned.digit_pair.Goals as goal
 
 -- the check computes these tests over the whole table
-pub returns-clause-tens : goal.returns-clause-tens
-returns-clause-tens c = eqb-true _ _ (agree_below_at (λ i. eqb (slice_index_or DIGIT_PAIRS (2 * i) 0) (decimal_byte (i / 10))) (λ _. true) 100 c.args.i refl c.requires)
-
-pub returns-clause-ones : goal.returns-clause-ones
-returns-clause-ones c = eqb-true _ _ (agree_below_at (λ i. eqb (slice_index_or DIGIT_PAIRS (2 * i + 1) 0) (decimal_byte (i % 10))) (λ _. true) 100 c.args.i refl c.requires)
+pub returns : goal.returns
+returns c = record {
+  tens = eqb-true _ _ (agree_below_at (λ i. eqb (slice_index_or DIGIT_PAIRS (2 * i) 0) (decimal_byte (i / 10))) (λ _. true) 100 c.args.i refl c.requires);
+  ones = eqb-true _ _ (agree_below_at (λ i. eqb (slice_index_or DIGIT_PAIRS (2 * i + 1) 0) (decimal_byte (i % 10))) (λ _. true) 100 c.args.i refl c.requires);
+}

@@ -1,17 +1,20 @@
-use Rattle.std.proofs.Common.{◌≡◌, ◌+◌, ◌-◌, ◌++◌, codes, false, ap, ◌∙◌, arith}
+use Rattle.std.proofs.Common.{◌≡◌, ℕ, zero, suc, ◌+◌, ◌-◌, ◌∷◌, ◌++◌, codes, false, ap, ◌∙◌, arith, zero-add, suc-add}
 use Rattle.ufmt_core.specs.Layout.{indentation}
 use Rattle.ufmt_core.specs.Formatter.{depth_of}
 use Rattle.ufmt_core.proofs.Writing.{Prints-then, Prints-fails, Prints-err}
-use Rattle.ufmt_core.proofs.Indentation.{indentation-add, indentation-front}
 use Rattle.ufmt_core.proofs.formatter.Formatter.indent.Goals as goal
+
+indentation-add : (m n : ℕ) → indentation (m + n) ≡ indentation m ++ indentation n
+indentation-add zero n = ap indentation (zero-add n)
+indentation-add (suc m) n = ap indentation (suc-add m n) ∙ ap (λ t. 32 ∷ 32 ∷ 32 ∷ 32 ∷ t) (indentation-add m n)
 
 pub returns-in_err-write_str : goal.returns-in_err-write_str
 returns-in_err-write_str g c =
-    let depth = depth_of c.args.self.now in
-    let done = c.loop-unit._unit + 1 in
-    let front : indentation depth ≡ (indentation c.loop-unit._unit ++ codes "    ") ++ indentation (depth - done) =
-    indentation-front done depth (omega arith) ∙ ap (λ t. t ++ indentation (depth - done)) (indentation-add c.loop-unit._unit 1) in
-    rw front (Prints-err _ c.from_residual.ensures.0 (Prints-fails _ (Prints-then {ok = false} c.loop-unit.invariant c.in_err-write_str.ensures)))
+    let units = c.loop-unit._unit in
+    let left = depth_of c.args.self.now - (units + 1) in
+    let whole : indentation (depth_of c.args.self.now) ≡ (indentation units ++ codes "    ") ++ indentation left =
+    ap indentation (omega arith) ∙ indentation-add (units + 1) left ∙ ap (λ t. t ++ indentation left) (indentation-add units 1) in
+    rw whole (Prints-err _ c.from_residual.ensures.0 (Prints-fails _ (Prints-then {ok = false} c.loop-unit.invariant c.in_err-write_str.ensures)))
 
 pub loop-unit-preserved : goal.loop-unit-preserved
 loop-unit-preserved g c = rw indentation-add (Prints-then c.loop-unit.invariant c.in_ok-write_str.ensures)

@@ -1,5 +1,4 @@
-use Rattle.ufmt_core.proofs.Printing.{list_not_opened, list_opened, items_written, items_failed, finished}
-use Rattle.ufmt_core.proofs.Writing.{LaysOut-err}
+use Rattle.ufmt_core.proofs.Printing.{LaysOut-err, list_not_opened, list_opened, items_written, items_failed, finished}
 use Rattle.ufmt_core.proofs.formatter.Formatter.list_of.Goals as goal
 
 pub returns-in_err-list : goal.returns-in_err-list

@@ -1,32 +1,24 @@
 use Rattle.std.proofs.Common.{true}
-use Rattle.ufmt_core.specs.Block.{pair_text}
-use Rattle.ufmt_core.proofs.Blocks.{Row-next, Row-none}
-use Rattle.ufmt_core.proofs.Printing.{map_not_opened, map_opened, loop_written, loop_failed, pair_texts-of, finished}
-use Rattle.ufmt_core.proofs.Writing.{LaysOut-err}
+use Rattle.ufmt_core.proofs.Printing.{LaysOut-err, Row-next, Row-none, map_not_opened, map_opened, loop_written, loop_failed, pair_texts-of, finished}
 use Rattle.ufmt_core.proofs.formatter.Formatter.map_of.Goals as goal
 
 pub returns-in_err-map : goal.returns-in_err-map
 returns-in_err-map g c = map_not_opened _ c.from_residual.ensures.0 c.in_err-map.was c.debug_map.follows.holds-at-none
 
 pub loop-pair-init : goal.loop-pair-init
-loop-pair-init g c = record { is_open = c.in_ok-map.ensures.is_open; row = Row-none (λ p. pair_text (g.K.uDebug.document p.0) (g.V.uDebug.document p.1)) _ c.in_ok-map.ensures.is_open }
+loop-pair-init g c = Row-none _ _ c.in_ok-map.ensures.is_open
 
 pub returns-in_err-entry : goal.returns-in_err-entry
 returns-in_err-entry g c =
     LaysOut-err _ c.from_residual-in_err-entry.ensures.0
     (map_opened c.in_ok-map.ensures.opening
-    (loop_failed (λ p. pair_text (g.K.uDebug.document p.0) (g.V.uDebug.document p.1)) _ (pair_texts-of (λ p. g.K.uDebug.document p.0) (λ p. g.V.uDebug.document p.1) c.args.pairs.now) c.loop-pair.pair-index
-    c.loop-pair-test.true c.pair-item.is c.loop-pair.invariant.row c.in_err-entry.ensures.entry (search)))
+    (loop_failed _ _ (pair_texts-of (λ p. g.K.uDebug.document p.0) (λ p. g.V.uDebug.document p.1) _) c.loop-pair.pair-index c.loop-pair-test.true
+    c.pair-item.is c.loop-pair.invariant c.in_err-entry.ensures.entry (search)))
 
 pub loop-pair-preserved : goal.loop-pair-preserved
-loop-pair-preserved g c = record {
-  is_open = c.in_ok-entry.ensures.is_open;
-  row = Row-next (λ p. pair_text (g.K.uDebug.document p.0) (g.V.uDebug.document p.1)) c.args.pairs.now c.loop-pair.pair-index c.pair-item.result true c.loop-pair-test.true c.pair-item.is c.loop-pair.invariant.row c.in_ok-entry.ensures.entry;
-}
+loop-pair-preserved g c = Row-next _ _ c.loop-pair.pair-index _ true c.loop-pair-test.true c.pair-item.is c.loop-pair.invariant c.in_ok-entry.ensures.entry
 
 pub returns : goal.returns
 returns g c =
-    let pairs = c.args.pairs.now in
     map_opened c.in_ok-map.ensures.opening
-    (loop_written (λ p. pair_text (g.K.uDebug.document p.0) (g.V.uDebug.document p.1)) pairs (pair_texts-of (λ p. g.K.uDebug.document p.0) (λ p. g.V.uDebug.document p.1) pairs) c.loop-pair.pair-index c.loop-pair-test.false
-    c.loop-pair.invariant.row (finished c.finish.ensures (search)))
+    (loop_written _ _ (pair_texts-of (λ p. g.K.uDebug.document p.0) (λ p. g.V.uDebug.document p.1) _) c.loop-pair.pair-index c.loop-pair-test.false c.loop-pair.invariant (finished c.finish.ensures (search)))

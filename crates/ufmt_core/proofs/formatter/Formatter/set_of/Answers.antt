@@ -1,5 +1,4 @@
-use Rattle.ufmt_core.proofs.Printing.{set_not_opened, set_opened, items_written, items_failed, finished}
-use Rattle.ufmt_core.proofs.Writing.{LaysOut-err}
+use Rattle.ufmt_core.proofs.Printing.{LaysOut-err, set_not_opened, set_opened, items_written, items_failed, finished}
 use Rattle.ufmt_core.proofs.formatter.Formatter.set_of.Goals as goal
 
 pub returns-in_err-set : goal.returns-in_err-set

@@ -1,8 +1,5 @@
 use Rattle.std.proofs.Common.{ap, sym, ◌∙◌}
-use Rattle.ufmt_core.specs.declared.formatter.Mode.{Mode}
-use Rattle.ufmt_core.specs.declared.formatter.Mode.TheVariants.{Plain, Pretty}
-use Rattle.ufmt_core.specs.declared.formatter.block.Kind.{Kind}
-use Rattle.ufmt_core.specs.Layout.{frame}
+use Rattle.ufmt_core.specs.Layout.{Mode, Plain, Pretty, Kind, frame}
 use Rattle.ufmt_core.proofs.Writing.{Prints-then, Prints-same}
 use Rattle.ufmt_core.proofs.formatter.Formatter.write_alone.Goals as goal
 

@@ -1,7 +1,5 @@
 use Rattle.std.proofs.Common.{ap, ◌∙◌}
-use Rattle.ufmt_core.specs.declared.formatter.Mode.TheVariants.{Pretty}
-use Rattle.ufmt_core.specs.declared.formatter.block.Kind.{Kind}
-use Rattle.ufmt_core.specs.Layout.{frame}
+use Rattle.ufmt_core.specs.Layout.{Pretty, Kind, frame}
 use Rattle.ufmt_core.proofs.Writing.{Prints-then, Prints-same}
 use Rattle.ufmt_core.proofs.formatter.Formatter.write_end.Goals as goal
 

@@ -1,6 +1,5 @@
 use Rattle.std.proofs.Common.{ap, sym}
-use Rattle.ufmt_core.specs.declared.formatter.Mode.{Mode}
-use Rattle.ufmt_core.specs.Layout.{indentation, new_line}
+use Rattle.ufmt_core.specs.Layout.{Mode, indentation, new_line}
 use Rattle.ufmt_core.specs.Formatter.{depth_of}
 use Rattle.ufmt_core.proofs.Writing.{Prints-then_at, Prints-same, Prints-fails, Prints-err}
 use Rattle.ufmt_core.proofs.formatter.Formatter.write_new_line.Goals as goal

@@ -1,25 +1,16 @@
-use Rattle.std.proofs.Common.{rules, true, false, ◌∷◌, [], ◌++◌}
-use Rattle.std.proofs.iter.Next.{Yields-more}
-use Rattle.ufmt_core.specs.Block.{pair_text}
-use Rattle.ufmt_core.proofs.Blocks.{Row-more}
-use Rattle.ufmt_core.proofs.Writing.{is_ok-err}
+use Rattle.std.proofs.Common.{rules, true}
+use Rattle.ufmt_core.proofs.Blocks.{Entries-stopped, Row-more}
 use Rattle.ufmt_core.proofs.map.DebugMap+W.entries.Goals as goal
 
 pub returns-in_err-entry-clause-entries : goal.returns-in_err-entry-clause-entries
 returns-in_err-entry-clause-entries g c =
-    let failed = is_ok-err _ c.from_residual.ensures.0 in
-    rw failed record {
-      iterator = c.into_iter-key-iterator.result;
-      begins = c.into_iter-key-iterator.ensures.into_iter_gives;
-      items = c.loop-key.yielded ++ (c.in-Some.key, c.in-Some.value) ∷ [];
-      drains = (c.next.new.self, Yields-more g.I.IntoIter.Iterator.next_gives c.into_iter-key-iterator.result _ c.loop-key.key-iterator _ c.next.new.self c.loop-key.yielded_by c.in-Some.ensures.steps, λ e. absurd (cc));
-      row = Row-more (λ x. pair_text (g.K.uDebug.document x.0) (g.V.uDebug.document x.1)) _ _ false c.loop-key.invariant.row c.in_err-entry.ensures.entry;
-    }
+    let begun = c.into_iter-key-iterator in
+    Entries-stopped g.I.IntoIter.Iterator.next_gives _ begun.result c.loop-key.key-iterator c.next.new.self _
+    c.from_residual.ensures.0 begun.ensures.into_iter_gives c.loop-key.yielded_by c.in-Some.ensures.steps c.loop-key.invariant.row c.in_err-entry.ensures.entry
 
 pub loop-key-preserved : goal.loop-key-preserved
 loop-key-preserved g c = record {
   can = search rules;
   ends = search rules;
-  is_open = search rules;
-  row = Row-more (λ x. pair_text (g.K.uDebug.document x.0) (g.V.uDebug.document x.1)) _ _ true c.loop-key.invariant.row c.in_ok-entry.ensures.entry;
+  row = Row-more _ _ _ true c.loop-key.invariant.row c.in_ok-entry.ensures.entry;
 }

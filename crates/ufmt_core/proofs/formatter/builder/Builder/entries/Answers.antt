@@ -1,25 +1,16 @@
-use Rattle.std.proofs.Common.{rules, true, false, ◌∷◌, [], ◌++◌}
-use Rattle.std.proofs.iter.Next.{Yields-more}
-use Rattle.ufmt_core.specs.Block.{entry_text}
-use Rattle.ufmt_core.proofs.Blocks.{Row-more}
-use Rattle.ufmt_core.proofs.Writing.{is_ok-err}
+use Rattle.std.proofs.Common.{rules, true}
+use Rattle.ufmt_core.proofs.Blocks.{Entries-stopped, Row-more}
 use Rattle.ufmt_core.proofs.formatter.builder.Builder.entries.Goals as goal
 
 pub returns-in_err-entry-clause-entries : goal.returns-in_err-entry-clause-entries
 returns-in_err-entry-clause-entries g c =
-    let failed = is_ok-err _ c.from_residual.ensures.0 in
-    rw failed record {
-      iterator = c.into_iter-entry-iterator.result;
-      begins = c.into_iter-entry-iterator.ensures.into_iter_gives;
-      items = c.loop-entry.yielded ++ c.in-Some.entry ∷ [];
-      drains = (c.next.new.self, Yields-more g.I.IntoIter.Iterator.next_gives c.into_iter-entry-iterator.result _ c.loop-entry.entry-iterator _ c.next.new.self c.loop-entry.yielded_by c.in-Some.ensures.steps, λ e. absurd (cc));
-      row = Row-more (λ x. entry_text (g.D.uDebug.document x)) _ _ false c.loop-entry.invariant.row c.in_err-entry.ensures.entry;
-    }
+    let begun = c.into_iter-entry-iterator in
+    Entries-stopped g.I.IntoIter.Iterator.next_gives _ begun.result c.loop-entry.entry-iterator c.next.new.self _
+    c.from_residual.ensures.0 begun.ensures.into_iter_gives c.loop-entry.yielded_by c.in-Some.ensures.steps c.loop-entry.invariant.row c.in_err-entry.ensures.entry
 
 pub loop-entry-preserved : goal.loop-entry-preserved
 loop-entry-preserved g c = record {
   can = search rules;
   ends = search rules;
-  is_open = search rules;
-  row = Row-more (λ x. entry_text (g.D.uDebug.document x)) _ _ true c.loop-entry.invariant.row c.in_ok-entry.ensures.entry;
+  row = Row-more _ _ _ true c.loop-entry.invariant.row c.in_ok-entry.ensures.entry;
 }
