@@ -36,8 +36,9 @@ pub fn write_display<T: uDisplay, W: uWrite>(writer: &mut W, value: &T) -> Resul
 /// Writes pieces to a formatter, one after another, and answers the first failure.
 ///
 /// A piece is `text e` for a `&str`, `display e`, `debug e` or `pretty e` for a value, or
-/// `hex e with options`, whose value is a name, a literal or stands in parentheses. The formatter is
-/// evaluated once, then each piece once, in order; after a failure nothing more is evaluated.
+/// `hex e with options`, whose value is a name, a literal or stands in parentheses. First the
+/// formatter is evaluated, and only once, then the pieces, also once each and in their order; behind
+/// a failure nothing is.
 #[macro_export]
 macro_rules! uwrite {
     ($f:expr, $($pieces:tt)+) => {{

@@ -91,9 +91,9 @@ impl Doc {
         self.has_words(DEEPEST)
     }
 
-    /// Makes it its normal form, which has the same texts: a struct or a tuple without fields
-    /// becomes the leaf of its name, and an empty set the empty map, at each depth. It takes no
-    /// memory: `alloc` serves empty vectors and texts alone.
+    /// Makes it its normal form, which has the same texts: at each depth a struct or a tuple that
+    /// has no fields turns into a leaf, its name, and a set that has no entries into a map. It takes
+    /// no memory: `alloc` serves empty vectors and texts alone.
     #[cycle(normalize)]
     pub fn normalize(&mut self, alloc: Global)
         ensures { doc_document self.new ≡ normal (doc_document self.old) }

@@ -4,8 +4,8 @@ ghost use Rattle.ufmt_conv.specs.Answer.{line_lengths};
 
 use std::alloc::{AllocError, Global};
 
-/// How many bytes each line of the input has, in order. A line ends before its line feed, and a rest
-/// after the last line feed counts if it isn't empty. The only refusal is want of memory.
+/// How many bytes each line of the input has, in order. A line ends before its line feed; bytes
+/// behind the last line feed are a line too, where there are any. The only refusal is want of memory.
 #[tactic(auto, using(crate::proofs::Lines::longer_first_zero))]
 pub fn line_lengths(alloc: Global, input: &[u8]) -> Result<Vec<u64>, AllocError>
     ensures { IfOk result (λ lengths. lengths.items ≡ line_lengths input.now) }
