@@ -42,7 +42,8 @@ fn begin_named<'a>(
 ) -> Result<(Option<TextBlock>, &'a [u8]), ReadError>
     requires { IsWord word.now }
     ensures { BeginsText from to (suc (length input.now)) result (string_bytes output.old)
-        (string_bytes output.new) (read_named (setting_of from) (entry_of from) word.now input.now) }
+        (string_bytes output.new)
+        (read_named (setting_of from) (entry_of from) word.now input.now) }
 {
     write_piece(text_from(word, 0), output)?;
     if let Some(rest) = from.strip_lead(Kind::Tuple, input) {

@@ -8,7 +8,7 @@ use crate::reader::level::{Kind, Level, expect, strip};
 use crate::reader::word::split_word;
 use ufmt::unsigned::text_from;
 
-/// A block in which an entry begins, and whether that is the first.
+/// A block in which an entry begins, and whether that is its first.
 #[derive(Clone, Copy)]
 pub(super) enum TextBlock {
     /// A list, a set or a tuple.
@@ -24,8 +24,8 @@ pub(super) enum TextBlock {
 }
 
 impl TextBlock {
-    /// Goes on behind the entry, key or value that began: the block in which the next one begins, or
-    /// none where the block ended.
+    /// Goes on behind the entry, key or value that began: the block in which the next one begins,
+    /// or none where the block ended.
     pub(super) fn put<'a>(
         self,
         from: Level,
