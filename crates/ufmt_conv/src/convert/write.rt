@@ -1,5 +1,5 @@
 //! Writing what stands round the entries of blocks, at each level of the text that is written.
-ghost use Rattle.std.specs.Prelude.{◌≡◌, ◌++◌, codes, string_bytes};
+ghost use Rattle.std.specs.Prelude.{◌++◌, ◌*◌, string_bytes};
 ghost use Rattle.ufmt.specs.Layout.{ending, indentation, inside, lead, line_start, new_line, separator, trail};
 ghost use Rattle.ufmt_core.specs.declared.formatter.block.Place.TheVariants.{First};
 ghost use Rattle.ufmt_conv.specs.Converting.{Appends};
@@ -17,15 +17,51 @@ pub(super) fn write_piece(piece: &str, output: &mut String) -> Result<(), ReadEr
     Ok(())
 }
 
-/// Writes `depth` times four spaces.
+// Writes `count` times four spaces.
+#[inline(always)]
+fn write_units(count: u8, output: &mut String) -> Result<(), ReadError>
+    ensures { Appends result (string_bytes output.old) (string_bytes output.new)
+        (indentation count) }
+{
+    for _unit in 0..count {
+        write_piece("    ", output)?;
+    }
+    Ok(())
+}
+
+// Writes `count` times eight times four spaces.
+#[inline(always)]
+fn write_eights(count: u8, output: &mut String) -> Result<(), ReadError>
+    ensures { Appends result (string_bytes output.old) (string_bytes output.new)
+        (indentation (count * 8)) }
+{
+    for _eight in 0..count {
+        write_piece("                                ", output)?;
+    }
+    Ok(())
+}
+
+// Writes `depth` times four spaces, in as few pieces as they take.
+#[inline(never)]
+fn write_deep_indentation(depth: u8, output: &mut String) -> Result<(), ReadError>
+    ensures { Appends result (string_bytes output.old) (string_bytes output.new)
+        (indentation depth) }
+{
+    write_eights(depth / 8, output)?;
+    write_units(depth % 8, output)
+}
+
+// Writes `depth` times four spaces.
+#[inline(always)]
 fn write_indentation(depth: u8, output: &mut String) -> Result<(), ReadError>
     ensures { Appends result (string_bytes output.old) (string_bytes output.new)
         (indentation depth) }
 {
-    for _unit in 0..depth {
-        write_piece("    ", output)?;
+    if depth < 8 {
+        write_units(depth, output)
+    } else {
+        write_deep_indentation(depth, output)
     }
-    Ok(())
 }
 
 impl Level {

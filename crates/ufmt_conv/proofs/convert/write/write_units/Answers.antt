@@ -1,7 +1,7 @@
 use Rattle.std.proofs.Common.{◌∙◌, ap, sym, ◌++◌, append_assoc, string_bytes, codes}
 use Rattle.ufmt.specs.Layout.{indentation}
 use Rattle.ufmt_core.proofs.Indentation.{indentation-add}
-use Rattle.ufmt_conv.proofs.convert.write.write_indentation.Goals as goal
+use Rattle.ufmt_conv.proofs.convert.write.write_units.Goals as goal
 
 pub loop-unit-preserved : goal.loop-unit-preserved
 loop-unit-preserved c =
