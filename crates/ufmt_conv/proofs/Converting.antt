@@ -13,16 +13,7 @@ use Rattle.ufmt_conv.specs.declared.reader.level.Level.{Level}
 use Rattle.ufmt_conv.specs.Converting.{convert_block, convert_on, prefixed, rest_text}
 use Rattle.ufmt_conv.specs.Entries.{behind_entry, read_more, read_on}
 use Rattle.ufmt_conv.specs.Level.{frame_of, place_of, setting_of}
-
--- a text in front of another, which is in front of what is read
-pub prefixed_twice : (a b : List ℕ) (o : Option (List ℕ × List ℕ)) → prefixed a (prefixed b o) ≡ prefixed (a ++ b) o
-prefixed_twice a b None = refl
-prefixed_twice a b (Some x) = ap (λ text. Some (text, x.1)) (sym (append_assoc a b x.0))
-
--- an empty text in front changes nothing
-pub prefixed_empty : (o : Option (List ℕ × List ℕ)) → prefixed [] o ≡ o
-prefixed_empty None = refl
-prefixed_empty (Some x) = refl
+use Rattle.ufmt_conv.proofs.EntrySteps.{lead_is, next_is}
 
 -- the texts of entries that are read, where the entries behind them are read so
 mapped_turn : {A : Type 0} (q : Parse A) (v : A → List ℕ) (f : Frame) (s : Setting) (place : Place) (n : ℕ) (t : List ℕ) → ((u : List ℕ) → read_rest (λ w. parse_map v (q w)) f s (next place) n u ≡ parse_map (map v) (read_rest q f s (next place) n u))
@@ -64,7 +55,7 @@ pub mapped_takes : {A : Type 0} (q : Parse A) (v : A → List ℕ) → Takes q �
 mapped_takes q v takes = record { takes = mapped_takes_byte q v takes }
 
 -- brackets of texts in a row
-assoc_three : (a b c d : List ℕ) → a ++ (b ++ (c ++ d)) ≡ ((a ++ b) ++ c) ++ d
+pub assoc_three : (a b c d : List ℕ) → a ++ (b ++ (c ++ d)) ≡ ((a ++ b) ++ c) ++ d
 assoc_three a b c d = simp append_assoc refl
 
 assoc_four : (a b c d e : List ℕ) → a ++ (b ++ (c ++ (d ++ e))) ≡ ((a ++ (b ++ c)) ++ d) ++ e
@@ -85,22 +76,12 @@ block_begins {A} q v f s g i make front shape out (Some x) = behind (strip (trai
     behind None = refl
     behind (Some u) = made (read_others q f s Second u) ∙ ap (λ o. prefixed ((out ++ front) ++ v x.0) (parse_map (λ texts. trail i.mode ++ rest g i Second texts) o)) (sym (mapped_rest q v f s Second (suc (length u)) u))
 
--- what stands before a later entry is one text at each place
-lead_is : (f : Frame) (s : Setting) (alone : Bool) → lead f (inside s) (place_of alone) ≡ separator (inside s).mode (inside s).depth
-lead_is f s true = refl
-lead_is f s false = refl
-
--- the place after a later entry
-next_is : (alone : Bool) → next (place_of alone) ≡ Later
-next_is true = refl
-next_is false = refl
-
 -- another entry behind this text, or the end of the block
 abbrev go_on : Parse (List ℕ) → Frame → Setting → Frame → Setting → Bool → List ℕ → Bool × List ℕ → Option (List ℕ × List ℕ)
 go_on q f s g i alone out x = cond x.0 (convert_on q f s g i Later (prefixed (out ++ (trail i.mode ++ separator (inside i).mode (inside i).depth)) (q x.1))) (Some (out ++ (trail i.mode ++ ending g i (place_of alone)), x.1))
 
 -- what stands behind an entry decides: the next one is converted, or the block ends, or nothing is read
-pub behind_converts : {q : Parse (List ℕ)} (f : Frame) (s : Setting) (g : Frame) (i : Setting) (alone : Bool) (out t : List ℕ) → Takes q →
+behind_converts : {q : Parse (List ℕ)} (f : Frame) (s : Setting) (g : Frame) (i : Setting) (alone : Bool) (out t : List ℕ) → Takes q →
     convert_on q f s g i (place_of alone) (Some (out, t)) ≡ option_and_then (go_on q f s g i alone out) (behind_entry f s alone t)
 unfolding rest_text behind_entry
 behind_converts {q} f s g i alone out t takes = behind (strip (trail s.mode) t)

@@ -12,11 +12,10 @@ use Rattle.ufmt_conv.specs.declared.convert.text_block.TextBlock.TheVariants as 
 use Rattle.ufmt_conv.specs.declared.reader.level.Kind.TheVariants.{Brackets, Braces, Struct, Tuple, Unnamed}
 use Rattle.ufmt_conv.specs.declared.reader.level.Level.{Level}
 use Rattle.ufmt_conv.specs.Converting.{convert_block, convert_colon, convert_value, entry_text, field_text, field_of, finish_text, pair_of, pair_text, prefixed, stepped_text}
-use Rattle.ufmt_conv.specs.Entries.{read_on}
 use Rattle.ufmt_conv.specs.Level.{entry_of, frame_of, setting_of}
 use Rattle.ufmt_conv.specs.Steps.{read_label}
 use Rattle.ufmt.proofs.ReadingTurns.{Takes}
-use Rattle.ufmt_conv.proofs.Converting.{block_begins, mapped_takes}
+use Rattle.ufmt_conv.proofs.Converting.{assoc_three, block_begins, mapped_takes}
 use Rattle.ufmt_conv.proofs.EntrySteps.{entry_of_takes, field_takes, pair_takes}
 use Rattle.ufmt_conv.proofs.DocumentParts.{braces_begin, field_from, field_without, list_begins, map_begins, set_begins, struct_begins, tuple_begins, unnamed_begins}
 
@@ -36,9 +35,6 @@ fields_are i (f ∷ fs) = ap (λ xs. field_text i f ∷ xs) (fields_are i fs)
 -- brackets of texts in a row
 assoc_front : (a b c d : List ℕ) → a ++ (b ++ (c ++ d)) ≡ (a ++ (b ++ c)) ++ d
 assoc_front a b c d = simp append_assoc refl
-
-assoc_value : (a b c d : List ℕ) → a ++ (b ++ (c ++ d)) ≡ ((a ++ b) ++ c) ++ d
-assoc_value a b c d = simp append_assoc refl
 
 -- what stands before the first entry of a block
 abbrev front : Kind → Setting → List ℕ → List ℕ
@@ -73,12 +69,12 @@ unnamed_converts from to out t r bracket brace unit opening =
     ∙ block_begins (entry_of from) (layout (inside i)) (frame_of from Unnamed) (setting_of from) (frame_of to Unnamed) i (λ ds. tuple_of [] (documents ds)) (front layouts.Unnamed i []) (λ d ds. shape layouts.Unnamed i [] (layout (inside i) d) (texts (inside i) (documents ds)) (map (layout (inside i)) ds) (texts_are (inside i) ds)) out (entry_of from r)
 
 -- the value of a pair, behind its key and a colon
-pub value_converts : (i : Setting) (out : List ℕ) (key : Document) (o : Option (Document × List ℕ)) → prefixed out (parse_map (pair_text i) (parse_map (λ value. (key, value)) o)) ≡ prefixed ((out ++ layout i key) ++ codes ": ") (parse_map (layout i) o)
+value_converts : (i : Setting) (out : List ℕ) (key : Document) (o : Option (Document × List ℕ)) → prefixed out (parse_map (pair_text i) (parse_map (λ value. (key, value)) o)) ≡ prefixed ((out ++ layout i key) ++ codes ": ") (parse_map (layout i) o)
 value_converts i out key None = refl
-value_converts i out key (Some x) = ap (λ text. Some (text, x.1)) (assoc_value out (layout i key) (codes ": ") (layout i x.0))
+value_converts i out key (Some x) = ap (λ text. Some (text, x.1)) (assoc_three out (layout i key) (codes ": ") (layout i x.0))
 
 -- the value of a field, behind its name and a colon
-pub field_converts : (i : Setting) (out label : List ℕ) (o : Option (Document × List ℕ)) → prefixed out (parse_map (field_text i) (parse_map (λ value. (label, value)) o)) ≡ prefixed (out ++ (label ++ codes ": ")) (parse_map (layout i) o)
+field_converts : (i : Setting) (out label : List ℕ) (o : Option (Document × List ℕ)) → prefixed out (parse_map (field_text i) (parse_map (λ value. (label, value)) o)) ≡ prefixed (out ++ (label ++ codes ": ")) (parse_map (layout i) o)
 field_converts i out label None = refl
 field_converts i out label (Some x) = ap (λ text. Some (text, x.1)) (assoc_front out label (codes ": ") (layout i x.0))
 
@@ -140,12 +136,6 @@ later_field_converts from to out t label u named =
 pub no_field_converts : (from to : Level) (out t : List ℕ) → read_label t ≡ None → convert_block (field_of from to) from to Struct false (prefixed out (field_of from to t)) ≡ None
 no_field_converts from to out t named =
     ap (λ o. convert_block (field_of from to) from to Struct false (prefixed out (parse_map (field_text (inside (setting_of to))) o))) (field_without (entry_of from) t named)
-
--- nor is a struct whose first field has no name
-pub no_struct_converts : (from to : Level) (out w t r : List ℕ) → IsWord w → strip (lead (frame_of from Tuple) (inside (setting_of from)) First) t ≡ None → strip (lead (frame_of from Struct) (inside (setting_of from)) First) t ≡ Some r → read_label r ≡ None → read_named (setting_of from) (entry_of from) w t ≡ None
-no_struct_converts from to out w t r word tuple opening named =
-    struct_begins (setting_of from) (entry_of from) w t r word tuple opening
-    ∙ ap (λ o. read_on (read_pair read_word (entry_of from)) (frame_of from Struct) (setting_of from) (λ fs. struct_of w (fields_of fs)) [] o) (field_without (entry_of from) r named)
 
 -- an entry, a pair or a field that is converted takes a byte
 pub entry_text_takes : (from to : Level) → Takes (entry_text from to)

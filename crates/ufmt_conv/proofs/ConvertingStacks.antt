@@ -58,7 +58,7 @@ setting_first Plain = refl
 setting_first Pretty = refl
 
 -- up to 255 blocks round it, a document is converted from its level to its level
-pub document_text_is : (from to : Mode) (k : ℕ) (t : List ℕ) → k < 256 → document_text from to k t ≡ parse_map (layout (setting_of (level_at to k))) (read (setting_of (level_at from k)) (budget_of (level_at from k)) t)
+document_text_is : (from to : Mode) (k : ℕ) (t : List ℕ) → k < 256 → document_text from to k t ≡ parse_map (layout (setting_of (level_at to k))) (read (setting_of (level_at from k)) (budget_of (level_at from k)) t)
 document_text_is from to zero t few = ap (λ o. parse_map (layout (setting (mode_of to) 0)) o) (document_is from zero t few) ∙ ap (λ i. parse_map (layout i) (read (setting_of (level_at from 0)) (budget_of (level_at from 0)) t)) (setting_first to)
 document_text_is from to (suc k) t few = ap (λ o. parse_map (layout (inside (setting_of (level_at to k)))) o) (document_is from (suc k) t few) ∙ ap (λ i. parse_map (layout i) (read (setting_of (level_at from (suc k))) (budget_of (level_at from (suc k))) t)) (setting_inside to k (omega arith))
 
