@@ -24,8 +24,8 @@ abbrev pub prefixed : List ℕ → Option (List ℕ × List ℕ) → Option (Lis
 prefixed out o = parse_map (λ text. out ++ text) o
 
 -- this piece was written behind what stood there, unless memory ran out
-abbrev pub Appends : {A : Type 0} → Result A ReadError → List ℕ → List ℕ → List ℕ → Type 0
-Appends answer old new piece = MatchResult answer (λ a. new ≡ old ++ piece) (λ e. e ≡ OutOfMemory)
+abbrev pub WritesPiece : {A : Type 0} → Result A ReadError → List ℕ → List ℕ → List ℕ → Type 0
+WritesPiece answer old new piece = MatchResult answer (λ a. new ≡ old ++ piece) (λ e. e ≡ OutOfMemory)
 
 -- the texts of a pair and of a field
 abbrev pub pair_text : Setting → Document × Document → List ℕ

@@ -2,7 +2,7 @@
 ghost use Rattle.std.specs.Prelude.{◌++◌, ◌*◌, string_bytes};
 ghost use Rattle.ufmt.specs.Layout.{ending, indentation, inside, lead, line_start, new_line, separator, trail};
 ghost use Rattle.ufmt_core.specs.declared.formatter.block.Place.TheVariants.{First};
-ghost use Rattle.ufmt_conv.specs.Converting.{Appends};
+ghost use Rattle.ufmt_conv.specs.Converting.{WritesPiece};
 ghost use Rattle.ufmt_conv.specs.Level.{closing, frame_of, mode_of, place_of, setting_of};
 
 use crate::reader::ReadError;
@@ -11,7 +11,7 @@ use crate::reader::level::{Kind, Level, Mode};
 /// Writes a piece of text.
 #[inline(always)]
 pub(super) fn write_piece(piece: &str, output: &mut String) -> Result<(), ReadError>
-    ensures { Appends result (string_bytes output.old) (string_bytes output.new) piece.now }
+    ensures { WritesPiece result (string_bytes output.old) (string_bytes output.new) piece.now }
 {
     output.push_str(piece)?;
     Ok(())
@@ -20,7 +20,7 @@ pub(super) fn write_piece(piece: &str, output: &mut String) -> Result<(), ReadEr
 // Writes `count` times four spaces.
 #[inline(always)]
 fn write_units(count: u8, output: &mut String) -> Result<(), ReadError>
-    ensures { Appends result (string_bytes output.old) (string_bytes output.new)
+    ensures { WritesPiece result (string_bytes output.old) (string_bytes output.new)
         (indentation count) }
 {
     for _unit in 0..count {
@@ -32,7 +32,7 @@ fn write_units(count: u8, output: &mut String) -> Result<(), ReadError>
 // Writes `count` times eight times four spaces.
 #[inline(always)]
 fn write_eights(count: u8, output: &mut String) -> Result<(), ReadError>
-    ensures { Appends result (string_bytes output.old) (string_bytes output.new)
+    ensures { WritesPiece result (string_bytes output.old) (string_bytes output.new)
         (indentation (count * 8)) }
 {
     for _eight in 0..count {
@@ -44,7 +44,7 @@ fn write_eights(count: u8, output: &mut String) -> Result<(), ReadError>
 // Writes `depth` times four spaces, in as few pieces as they take.
 #[inline(never)]
 fn write_deep_indentation(depth: u8, output: &mut String) -> Result<(), ReadError>
-    ensures { Appends result (string_bytes output.old) (string_bytes output.new)
+    ensures { WritesPiece result (string_bytes output.old) (string_bytes output.new)
         (indentation depth) }
 {
     write_eights(depth / 8, output)?;
@@ -54,7 +54,7 @@ fn write_deep_indentation(depth: u8, output: &mut String) -> Result<(), ReadErro
 // Writes `depth` times four spaces.
 #[inline(always)]
 fn write_indentation(depth: u8, output: &mut String) -> Result<(), ReadError>
-    ensures { Appends result (string_bytes output.old) (string_bytes output.new)
+    ensures { WritesPiece result (string_bytes output.old) (string_bytes output.new)
         (indentation depth) }
 {
     if depth < 8 {
@@ -68,7 +68,7 @@ impl Level {
     // What stands between the name of a block and its first entry, on the same line.
     #[inline(always)]
     fn write_start(self, kind: Kind, output: &mut String) -> Result<(), ReadError>
-        ensures { Appends result (string_bytes output.old) (string_bytes output.new)
+        ensures { WritesPiece result (string_bytes output.old) (string_bytes output.new)
             ((frame_of self kind).opening ++ (frame_of self kind).start) }
     {
         match (kind, self.mode) {
@@ -83,7 +83,7 @@ impl Level {
     // A new line and its indentation, where entries stand on lines of their own.
     #[inline(always)]
     fn write_new_line(self, output: &mut String) -> Result<(), ReadError>
-        ensures { Appends result (string_bytes output.old) (string_bytes output.new)
+        ensures { WritesPiece result (string_bytes output.old) (string_bytes output.new)
             (new_line (mode_of self.mode) (inside (setting_of self)).depth) }
     {
         match self.mode {
@@ -98,7 +98,7 @@ impl Level {
     /// Writes what stands between the name of a block and its first entry.
     #[inline(always)]
     pub(super) fn write_opening(self, kind: Kind, output: &mut String) -> Result<(), ReadError>
-        ensures { Appends result (string_bytes output.old) (string_bytes output.new)
+        ensures { WritesPiece result (string_bytes output.old) (string_bytes output.new)
             ((frame_of self kind).opening
             ++ lead (frame_of self kind) (inside (setting_of self)) First) }
     {
@@ -109,7 +109,7 @@ impl Level {
     /// Writes what stands after an entry.
     #[inline(always)]
     pub(super) fn write_trail(self, output: &mut String) -> Result<(), ReadError>
-        ensures { Appends result (string_bytes output.old) (string_bytes output.new)
+        ensures { WritesPiece result (string_bytes output.old) (string_bytes output.new)
             (trail (mode_of self.mode)) }
     {
         match self.mode {
@@ -121,7 +121,7 @@ impl Level {
     /// Writes what stands before a later entry of a block.
     #[inline(always)]
     pub(super) fn write_separator(self, output: &mut String) -> Result<(), ReadError>
-        ensures { Appends result (string_bytes output.old) (string_bytes output.new)
+        ensures { WritesPiece result (string_bytes output.old) (string_bytes output.new)
             (separator (mode_of self.mode) (inside (setting_of self)).depth) }
     {
         match self.mode {
@@ -133,7 +133,7 @@ impl Level {
     // The start of the line on which a block ends.
     #[inline(always)]
     fn write_line_start(self, output: &mut String) -> Result<(), ReadError>
-        ensures { Appends result (string_bytes output.old) (string_bytes output.new)
+        ensures { WritesPiece result (string_bytes output.old) (string_bytes output.new)
             (line_start (mode_of self.mode) (setting_of self).depth) }
     {
         match self.mode {
@@ -145,7 +145,7 @@ impl Level {
     // What ends a block with entries, on the line on which it ends.
     #[inline(always)]
     fn write_closing(self, kind: Kind, alone: bool, output: &mut String) -> Result<(), ReadError>
-        ensures { Appends result (string_bytes output.old) (string_bytes output.new)
+        ensures { WritesPiece result (string_bytes output.old) (string_bytes output.new)
             (closing (frame_of self kind) alone) }
     {
         match (kind, self.mode, alone) {
@@ -165,7 +165,7 @@ impl Level {
         alone: bool,
         output: &mut String,
     ) -> Result<(), ReadError>
-        ensures { Appends result (string_bytes output.old) (string_bytes output.new)
+        ensures { WritesPiece result (string_bytes output.old) (string_bytes output.new)
             (ending (frame_of self kind) (setting_of self) (place_of alone)) }
     {
         self.write_line_start(output)?;
