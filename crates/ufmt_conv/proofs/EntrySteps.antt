@@ -21,12 +21,12 @@ pub map_one_more : {A B : Type 0} (f : A → B) (old new : List A) (x : A) → n
 map_one_more f old new x h = rw (h, map-append f old (x ∷ [])) refl
 
 -- what stands before a later entry is one text at each place
-lead_is : (f : Frame) (s : Setting) (alone : Bool) → lead f (inside s) (place_of alone) ≡ separator (inside s).mode (inside s).depth
+pub lead_is : (f : Frame) (s : Setting) (alone : Bool) → lead f (inside s) (place_of alone) ≡ separator (inside s).mode (inside s).depth
 lead_is f s true = refl
 lead_is f s false = refl
 
 -- the place after a later entry
-next_is : (alone : Bool) → next (place_of alone) ≡ place_of false
+pub next_is : (alone : Bool) → next (place_of alone) ≡ place_of false
 next_is true = refl
 next_is false = refl
 

@@ -1,4 +1,7 @@
 pub mod Conversions
+pub mod Converting
+pub mod ConvertingParts
+pub mod ConvertingStacks
 pub mod Docs
 pub mod DocumentParts
 pub mod EntrySteps

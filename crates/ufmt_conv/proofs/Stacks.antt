@@ -57,12 +57,12 @@ resume_last mode k (first ∷ more) block o =
     ap (finish (level_at mode k) first) (resume_last mode (suc k) more block o ∙ ap (λ n. resume mode (suc k) more (finish (level_at mode n) block o)) same)
 
 -- entries are laid out one block deeper
-setting_inside : (mode : Mode) (k : ℕ) → k < 255 → inside (setting_of (level_at mode k)) ≡ setting_of (level_at mode (suc k))
+pub setting_inside : (mode : Mode) (k : ℕ) → k < 255 → inside (setting_of (level_at mode k)) ≡ setting_of (level_at mode (suc k))
 setting_inside Plain k few = refl
 setting_inside Pretty k few = let same : min (k + 1) 255 ≡ suc k = grind arith in ap (λ n. setting (mode_of Pretty) n) same
 
 -- up to 255 blocks round it, a document is read at its level
-document_is : (mode : Mode) (k : ℕ) (t : List ℕ) → k < 256 → document_at mode k t ≡ read (setting_of (level_at mode k)) (budget_of (level_at mode k)) t
+pub document_is : (mode : Mode) (k : ℕ) (t : List ℕ) → k < 256 → document_at mode k t ≡ read (setting_of (level_at mode k)) (budget_of (level_at mode k)) t
 document_is Plain zero t few = refl
 document_is Pretty zero t few = refl
 document_is mode (suc k) t few =
@@ -78,7 +78,7 @@ pub document_is_none : (mode : Mode) (k : ℕ) (t : List ℕ) → k ≡ 256 → 
 document_is_none mode k t all = ap (λ n. document_at mode n t) all
 
 -- none and more are more
-zero_more : (n : ℕ) → 0 + n ≡ n
+pub zero_more : (n : ℕ) → 0 + n ≡ n
 zero_more n = omega arith
 
 -- what the innermost block makes of its entry goes on to the next one out

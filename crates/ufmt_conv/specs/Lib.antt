@@ -1,5 +1,6 @@
 pub mod Answer
 pub mod Command
+pub mod Converting
 pub mod Doc
 pub mod DocViews
 pub mod Entries

@@ -5,11 +5,17 @@ ghost use Rattle.ufmt.specs.Layout.{plain_text, pretty_text};
 ghost use Rattle.ufmt.specs.Shift.{HasNoLineFeed, shifted};
 ghost use Rattle.ufmt_conv.specs.Texts.{IsConverted, IsNoText, IsUnconverted, Undoes};
 
+mod begin;
+mod converted;
 #[cfg(test)]
 mod tests;
+mod text_block;
+mod text_blocks;
+mod write;
 
-use crate::plain_reader::{ReadError, read_plain};
-use crate::pretty_reader::read_pretty;
+use crate::plain_reader::ReadError;
+use crate::reader::Mode;
+use converted::converted;
 use std::alloc::{AllocError, Global};
 use ufmt::{Formatter, uDebug};
 
@@ -51,9 +57,7 @@ pub fn to_pretty(alloc: Global, input: &[u8]) -> Result<String, ReadError>
     ensures unconverted { IsErrOf result ReadError.NotText
         → IsUnconverted plain_text pretty_text input.now }
 {
-    let doc = read_plain(alloc, input)?;
-    let text = pretty_text(alloc, &doc)?;
-    Ok(text)
+    converted(alloc, Mode::Plain, Mode::Pretty, input)
 }
 
 /// The plain text of the token documents with this pretty text. Of a text that `to_pretty` answered
@@ -67,7 +71,5 @@ pub fn to_plain(alloc: Global, input: &[u8]) -> Result<String, ReadError>
     ensures unconverted { IsErrOf result ReadError.NotText
         → IsUnconverted pretty_text plain_text input.now }
 {
-    let doc = read_pretty(alloc, input)?;
-    let text = plain_text(alloc, &doc)?;
-    Ok(text)
+    converted(alloc, Mode::Pretty, Mode::Plain, input)
 }

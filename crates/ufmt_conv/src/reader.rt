@@ -6,7 +6,7 @@ ghost use Rattle.ufmt_conv.specs.Read.{Gives};
 
 mod begin;
 mod error;
-mod level;
+pub(crate) mod level;
 mod open_block;
 mod open_blocks;
 #[cfg(test)]

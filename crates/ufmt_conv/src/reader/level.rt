@@ -18,7 +18,7 @@ pub(crate) enum Mode {
 
 /// The kinds of blocks, by the brackets that frame their entries.
 #[derive(Clone, Copy)]
-pub(super) enum Kind {
+pub(crate) enum Kind {
     /// A list.
     Brackets,
     /// A set or a map.
@@ -31,20 +31,20 @@ pub(super) enum Kind {
 
 /// Where a document stands: the mode that it is laid out in, and how many blocks are open round it.
 #[derive(Clone, Copy)]
-pub(super) struct Level {
-    pub(super) mode: Mode,
-    pub(super) depth: u8,
+pub(crate) struct Level {
+    pub(crate) mode: Mode,
+    pub(crate) depth: u8,
 }
 
 /// What follows `text`, where the input begins with it.
-pub(super) fn strip<'a>(text: &[u8], input: &'a [u8]) -> Option<&'a [u8]>
+pub(crate) fn strip<'a>(text: &[u8], input: &'a [u8]) -> Option<&'a [u8]>
     ensures { now_of result ≡ strip text.now input.now }
 {
     input.strip_prefix(text)
 }
 
 /// What follows `text`, with which the input is to begin.
-pub(super) fn expect<'a>(text: &[u8], input: &'a [u8]) -> Result<&'a [u8], ReadError>
+pub(crate) fn expect<'a>(text: &[u8], input: &'a [u8]) -> Result<&'a [u8], ReadError>
     ensures { Strips result (strip text.now input.now) }
 {
     strip(text, input).ok_or(ReadError::NotText)
@@ -62,8 +62,8 @@ fn strip_indentation(depth: u8, input: &[u8]) -> Option<&[u8]>
 }
 
 impl Level {
-    // The depth that entries of a block are laid out at, where they stand on lines of their own.
-    fn entry_depth(self) -> u8
+    /// The depth that entries of a block are laid out at, where they stand on lines of their own.
+    pub(crate) fn entry_depth(self) -> u8
         ensures { self.mode ≡ Mode.Pretty → result ≡ (inside (setting_of self)).depth }
     {
         self.depth.saturating_add(1)
@@ -93,7 +93,7 @@ impl Level {
     }
 
     /// What follows what stands before the first entry of a block.
-    pub(super) fn strip_lead(self, kind: Kind, input: &[u8]) -> Option<&[u8]>
+    pub(crate) fn strip_lead(self, kind: Kind, input: &[u8]) -> Option<&[u8]>
         ensures { now_of result
             ≡ strip (lead (frame_of self kind) (inside (setting_of self)) First) input.now }
     {
@@ -160,7 +160,7 @@ impl Level {
     /// next entry begins, or false, and what follows the block's end.
     #[inline(always)]
     #[tactic(auto, unfolding(crate::specs::Entries::behind_entry))]
-    pub(super) fn pass_entry(
+    pub(crate) fn pass_entry(
         self,
         kind: Kind,
         alone: bool,

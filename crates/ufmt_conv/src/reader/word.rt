@@ -40,7 +40,7 @@ pub(crate) fn is_word_byte(byte: u8) -> bool
 }
 
 /// The word bytes at the front, and what follows them.
-pub(super) fn split_word(input: &[u8]) -> (&[u8], &[u8])
+pub(crate) fn split_word(input: &[u8]) -> (&[u8], &[u8])
     ensures word { result.0.now ≡ word_of input.now }
     ensures rest { result.1.now ≡ after_word input.now }
 {

@@ -1,10 +1,16 @@
+use Rattle.ufmt_core.specs.declared.formatter.Mode.TheVariants.{Pretty}
 use Rattle.ufmt.specs.Layout.{plain_text, pretty_text}
-use Rattle.ufmt_conv.specs.Doc.{doc_document}
-use Rattle.ufmt_conv.proofs.Conversions.{pretty_converted, undoes}
+use Rattle.ufmt_conv.proofs.Conversions.{no_text_converted, pretty_text_converted, text_undoes, unconverted}
 use Rattle.ufmt_conv.proofs.convert.to_plain.Goals as goal
 
 pub returns-clause-ok : goal.returns-clause-ok
-returns-clause-ok c = pretty_converted c.args.input.now _ (doc_document c.in_ok-doc.doc) c.in_ok-doc.ensures.ok c.in_ok-text.ensures
+returns-clause-ok c = pretty_text_converted c.args.input.now c.converted.result c.converted.ensures
+
+pub returns-clause-not_text : goal.returns-clause-not_text
+returns-clause-not_text c = no_text_converted Pretty plain_text c.args.input.now c.converted.result c.converted.ensures
 
 pub returns-clause-undoes : goal.returns-clause-undoes
-returns-clause-undoes c = undoes pretty_text plain_text c.args.input.now _ (pretty_converted c.args.input.now _ (doc_document c.in_ok-doc.doc) c.in_ok-doc.ensures.ok c.in_ok-text.ensures)
+returns-clause-undoes c = text_undoes pretty_text plain_text c.args.input.now c.converted.result (pretty_text_converted c.args.input.now c.converted.result c.converted.ensures)
+
+pub returns-clause-unconverted : goal.returns-clause-unconverted
+returns-clause-unconverted c = λ is. unconverted pretty_text plain_text c.args.input.now (no_text_converted Pretty plain_text c.args.input.now c.converted.result c.converted.ensures is)
