@@ -1,5 +1,6 @@
 pub mod Blocks
 pub mod DecimalTexts
+pub mod Indentation
 pub mod Items
 pub mod LastDigits
 pub mod Loops

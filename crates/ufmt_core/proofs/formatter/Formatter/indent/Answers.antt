@@ -1,12 +1,9 @@
-use Rattle.std.proofs.Common.{◌≡◌, ℕ, zero, suc, ◌+◌, ◌-◌, ◌∷◌, ◌++◌, codes, false, ap, ◌∙◌, arith, zero-add, suc-add}
+use Rattle.std.proofs.Common.{◌≡◌, ◌+◌, ◌-◌, ◌++◌, codes, false, ap, ◌∙◌, arith}
 use Rattle.ufmt_core.specs.Layout.{indentation}
 use Rattle.ufmt_core.specs.Formatter.{depth_of}
 use Rattle.ufmt_core.proofs.Writing.{Prints-then, Prints-fails, Prints-err}
+use Rattle.ufmt_core.proofs.Indentation.{indentation-add}
 use Rattle.ufmt_core.proofs.formatter.Formatter.indent.Goals as goal
-
-indentation-add : (m n : ℕ) → indentation (m + n) ≡ indentation m ++ indentation n
-indentation-add zero n = ap indentation (zero-add n)
-indentation-add (suc m) n = ap indentation (suc-add m n) ∙ ap (λ t. 32 ∷ 32 ∷ 32 ∷ 32 ∷ t) (indentation-add m n)
 
 pub returns-in_err-write_str : goal.returns-in_err-write_str
 returns-in_err-write_str g c =
