@@ -1,5 +1,5 @@
 -- Blocks that are open one in another, and what is written with their innermost entry.
-use Rattle.std.proofs.Common.{◌≡◌, refl, ap, ◌∙◌, sym, ℕ, zero, suc, ◌+◌, ◌<◌, List, [], ◌∷◌, ◌++◌, length, length-append, take, Option, Some, None, option_map, option_and_then, arith}
+use Rattle.std.proofs.Common.{◌≡◌, refl, ap, ◌∙◌, sym, ℕ, zero, suc, ◌+◌, ◌<◌, List, [], ◌∷◌, ◌++◌, length, take, Option, Some, None, option_map, option_and_then, arith}
 use Rattle.std.proofs.lemmas.List.{length-take-le}
 use Rattle.ufmt.specs.Document.{Document}
 use Rattle.ufmt.specs.Layout.{inside, layout, setting}
@@ -12,7 +12,7 @@ use Rattle.ufmt_conv.specs.declared.reader.level.Mode.TheVariants.{Plain, Pretty
 use Rattle.ufmt_conv.specs.Converting.{all_text, document_text, entry_text, finish_text, prefixed, resume_text}
 use Rattle.ufmt_conv.specs.Level.{budget_of, mode_of, setting_of}
 use Rattle.ufmt_conv.specs.Stack.{level_at}
-use Rattle.ufmt_conv.proofs.Stacks.{document_is, setting_inside, zero_more}
+use Rattle.ufmt_conv.proofs.Stacks.{document_is, resumed_in, resumed_none, resumed_out, setting_inside}
 
 -- a block whose entry isn't read is none
 finish_text_none : (from to : Level) (block : TextBlock) → finish_text from to block None ≡ None
@@ -24,33 +24,15 @@ finish_text_none from to (blocks.Field alone) = refl
 
 -- likewise several blocks
 pub resume_text_none : (from to : Mode) (k : ℕ) (open_blocks : List TextBlock) → resume_text from to k open_blocks None ≡ None
-resume_text_none from to k [] = refl
-resume_text_none from to k (block ∷ more) = rw (resume_text_none from to (suc k) more) (finish_text_none (level_at from k) (level_at to k) block)
-
--- the innermost block is finished first
-resume_text_last : (from to : Mode) (k : ℕ) (open_blocks : List TextBlock) (block : TextBlock) (o : Option (List ℕ × List ℕ)) → resume_text from to k (open_blocks ++ block ∷ []) o ≡ resume_text from to k open_blocks (finish_text (level_at from (k + length open_blocks)) (level_at to (k + length open_blocks)) block o)
-resume_text_last from to k [] block o = let same : k ≡ k + 0 = omega arith in ap (λ n. finish_text (level_at from n) (level_at to n) block o) same
-resume_text_last from to k (first ∷ more) block o =
-    let same : suc k + length more ≡ k + suc (length more) = omega arith in
-    ap (finish_text (level_at from k) (level_at to k) first) (resume_text_last from to (suc k) more block o ∙ ap (λ n. resume_text from to (suc k) more (finish_text (level_at from n) (level_at to n) block o)) same)
+resume_text_none from to k open_blocks = resumed_none (λ n. finish_text (level_at from n) (level_at to n)) (λ n block. finish_text_none (level_at from n) (level_at to n) block) k open_blocks
 
 -- what the innermost block makes of its entry goes on to the next one out
 pub finishes_text : (from to : Mode) (old new : List TextBlock) (block : TextBlock) (depth : ℕ) (o there : Option (List ℕ × List ℕ)) → old ≡ new ++ block ∷ [] → depth ≡ length new → finish_text (level_at from depth) (level_at to depth) block o ≡ there → resume_text from to 0 old o ≡ resume_text from to 0 new there
-finishes_text from to old new block depth o there popped same step =
-    ap (λ open_blocks. resume_text from to 0 open_blocks o) popped
-    ∙ resume_text_last from to 0 new block o
-    ∙ ap (λ n. resume_text from to 0 new (finish_text (level_at from n) (level_at to n) block o)) (zero_more (length new) ∙ sym same)
-    ∙ ap (λ p. resume_text from to 0 new p) step
+finishes_text from to = resumed_out (λ n. finish_text (level_at from n) (level_at to n))
 
 -- an entry begins in a block that is opened
 pub opens_text : (from to : Mode) (old new : List TextBlock) (block : TextBlock) (depth : ℕ) (out t : List ℕ) → new ≡ old ++ block ∷ [] → depth ≡ length old → resume_text from to 0 old (finish_text (level_at from depth) (level_at to depth) block (prefixed out (entry_text (level_at from depth) (level_at to depth) t))) ≡ resume_text from to 0 new (prefixed out (document_text from to (length new) t))
-opens_text from to old new block depth out t pushed same =
-    let one_more : length new ≡ suc (length old) = ap (λ open_blocks. length open_blocks) pushed ∙ length-append old (block ∷ []) ∙ omega arith in
-    ap (λ n. resume_text from to 0 old (finish_text (level_at from n) (level_at to n) block (prefixed out (entry_text (level_at from n) (level_at to n) t)))) same
-    ∙ sym (ap (λ open_blocks. resume_text from to 0 open_blocks (prefixed out (document_text from to (length new) t))) pushed
-    ∙ resume_text_last from to 0 old block (prefixed out (document_text from to (length new) t))
-    ∙ ap (λ n. resume_text from to 0 old (finish_text (level_at from n) (level_at to n) block (prefixed out (document_text from to (length new) t)))) (zero_more (length old))
-    ∙ ap (λ n. resume_text from to 0 old (finish_text (level_at from (length old)) (level_at to (length old)) block (prefixed out (document_text from to n t)))) one_more)
+opens_text from to old new block depth out t = resumed_in (λ n. finish_text (level_at from n) (level_at to n)) (λ n. prefixed out (document_text from to n t)) old new block depth
 
 -- the outermost document is laid out from depth 0
 setting_first : (mode : Mode) → setting (mode_of mode) 0 ≡ setting_of (level_at mode 0)

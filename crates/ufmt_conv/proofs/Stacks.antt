@@ -14,7 +14,7 @@ use Rattle.ufmt_conv.specs.declared.reader.open_block.OpenBlock.{OpenBlock}
 use Rattle.ufmt_conv.specs.declared.reader.open_block.OpenBlock.TheVariants as blocks
 use Rattle.ufmt_conv.specs.Doc.{doc_document}
 use Rattle.ufmt_conv.specs.Level.{budget_of, entry_at, entry_of, mode_of, setting_of}
-use Rattle.ufmt_conv.specs.Stack.{document_at, level_at, resume}
+use Rattle.ufmt_conv.specs.Stack.{document_at, level_at, resume, resumed}
 use Rattle.ufmt_conv.specs.Steps.{Opens, Steps, finish, innermost, stepped}
 
 -- a step that leaves fewer bytes than one number leaves fewer than a larger one
@@ -44,17 +44,37 @@ finish_none level (blocks.Map pairs (Some key)) = refl
 finish_none level (blocks.Struct name fields label) = refl
 finish_none level (blocks.Tuple name entries) = refl
 
--- likewise several blocks
-pub resume_none : (mode : Mode) (k : ℕ) (open_blocks : List OpenBlock) → resume mode k open_blocks None ≡ None
-resume_none mode k [] = refl
-resume_none mode k (block ∷ more) = rw (resume_none mode (suc k) more) (finish_none (level_at mode k) block)
+-- nor are several blocks anything, where none of them is
+pub resumed_none : {B X : Type 0} (finish : ℕ → B → Option X → Option X) → ((n : ℕ) (block : B) → finish n block None ≡ None) → (k : ℕ) (open_blocks : List B) → resumed finish k open_blocks None ≡ None
+resumed_none finish none k [] = refl
+resumed_none finish none k (block ∷ more) = rw (resumed_none finish none (suc k) more) (none k block)
 
 -- the innermost block is finished first
-pub resume_last : (mode : Mode) (k : ℕ) (open_blocks : List OpenBlock) (block : OpenBlock) (o : Option (Document × List ℕ)) → resume mode k (open_blocks ++ block ∷ []) o ≡ resume mode k open_blocks (finish (level_at mode (k + length open_blocks)) block o)
-resume_last mode k [] block o = let same : k ≡ k + 0 = omega arith in ap (λ n. finish (level_at mode n) block o) same
-resume_last mode k (first ∷ more) block o =
+resumed_last : {B X : Type 0} (finish : ℕ → B → Option X → Option X) (k : ℕ) (open_blocks : List B) (block : B) (o : Option X) → resumed finish k (open_blocks ++ block ∷ []) o ≡ resumed finish k open_blocks (finish (k + length open_blocks) block o)
+resumed_last finish k [] block o = let same : k ≡ k + 0 = omega arith in ap (λ n. finish n block o) same
+resumed_last finish k (first ∷ more) block o =
     let same : suc k + length more ≡ k + suc (length more) = omega arith in
-    ap (finish (level_at mode k) first) (resume_last mode (suc k) more block o ∙ ap (λ n. resume mode (suc k) more (finish (level_at mode n) block o)) same)
+    ap (finish k first) (resumed_last finish (suc k) more block o ∙ ap (λ n. resumed finish (suc k) more (finish n block o)) same)
+
+-- what it makes of its entry goes on to the next one out
+pub resumed_out : {B X : Type 0} (finish : ℕ → B → Option X → Option X) (old new : List B) (block : B) (depth : ℕ) (o there : Option X) → old ≡ new ++ block ∷ [] → depth ≡ length new → finish depth block o ≡ there → resumed finish 0 old o ≡ resumed finish 0 new there
+resumed_out finish old new block depth o there popped same step =
+    let within : 0 + length new ≡ depth = omega (arith, same) in
+    ap (λ open_blocks. resumed finish 0 open_blocks o) popped
+    ∙ resumed_last finish 0 new block o
+    ∙ ap (λ n. resumed finish 0 new (finish n block o)) within
+    ∙ ap (λ p. resumed finish 0 new p) step
+
+-- an entry begins in a block that is opened, where `begin` says what begins with so many blocks round it
+pub resumed_in : {B X : Type 0} (finish : ℕ → B → Option X → Option X) (begin : ℕ → Option X) (old new : List B) (block : B) (depth : ℕ) → new ≡ old ++ block ∷ [] → depth ≡ length old → resumed finish 0 old (finish depth block (begin (suc depth))) ≡ resumed finish 0 new (begin (length new))
+resumed_in finish begin old new block depth pushed same =
+    let one_more : suc depth ≡ length new = omega (arith, same, ap (λ open_blocks. length open_blocks) pushed, length-append old (block ∷ [])) in
+    ap (λ n. resumed finish 0 old (finish depth block (begin n))) one_more
+    ∙ sym (resumed_out finish new old block depth (begin (length new)) (finish depth block (begin (length new))) pushed same refl)
+
+-- several blocks whose innermost entry isn't read are none
+pub resume_none : (mode : Mode) (k : ℕ) (open_blocks : List OpenBlock) → resume mode k open_blocks None ≡ None
+resume_none mode k open_blocks = resumed_none (λ n. finish (level_at mode n)) (λ n block. finish_none (level_at mode n) block) k open_blocks
 
 -- entries are laid out one block deeper
 pub setting_inside : (mode : Mode) (k : ℕ) → k < 255 → inside (setting_of (level_at mode k)) ≡ setting_of (level_at mode (suc k))
@@ -77,28 +97,14 @@ begins mode k level t same few = document_is mode k t few ∙ ap (λ l. read (se
 pub document_is_none : (mode : Mode) (k : ℕ) (t : List ℕ) → k ≡ 256 → document_at mode k t ≡ None
 document_is_none mode k t all = ap (λ n. document_at mode n t) all
 
--- none and more are more
-pub zero_more : (n : ℕ) → 0 + n ≡ n
-zero_more n = omega arith
-
 -- what the innermost block makes of its entry goes on to the next one out
 pub finishes : (mode : Mode) (old new : List OpenBlock) (block : OpenBlock) (level : Level) (o there : Option (Document × List ℕ)) → old ≡ new ++ block ∷ [] → level ≡ level_at mode (length new) → finish level block o ≡ there → resume mode 0 old o ≡ resume mode 0 new there
-finishes mode old new block level o there popped same step =
-    ap (λ open_blocks. resume mode 0 open_blocks o) popped
-    ∙ resume_last mode 0 new block o
-    ∙ ap (λ n. resume mode 0 new (finish (level_at mode n) block o)) (zero_more (length new))
-    ∙ ap (λ l. resume mode 0 new (finish l block o)) (sym same)
-    ∙ ap (λ p. resume mode 0 new p) step
+finishes mode old new block level o there popped same step = resumed_out (λ n. finish (level_at mode n)) old new block (length new) o there popped refl (ap (λ l. finish l block o) (sym same) ∙ step)
 
 -- an entry begins in a block that is opened
 pub opens : (mode : Mode) (old new : List OpenBlock) (block : OpenBlock) (level : Level) (t : List ℕ) → new ≡ old ++ block ∷ [] → level ≡ level_at mode (length old) → resume mode 0 old (finish level block (entry_of level t)) ≡ resume mode 0 new (document_at mode (length new) t)
 opens mode old new block level t pushed same =
-    let one_more : length new ≡ suc (length old) = ap (λ open_blocks. length open_blocks) pushed ∙ length-append old (block ∷ []) ∙ omega arith in
-    ap (λ l. resume mode 0 old (finish l block (entry_of l t))) same
-    ∙ sym (ap (λ open_blocks. resume mode 0 open_blocks (document_at mode (length new) t)) pushed
-    ∙ resume_last mode 0 old block (document_at mode (length new) t)
-    ∙ ap (λ n. resume mode 0 old (finish (level_at mode n) block (document_at mode (length new) t))) (zero_more (length old))
-    ∙ ap (λ n. resume mode 0 old (finish (level_at mode (length old)) block (document_at mode n t))) one_more)
+    ap (λ l. resume mode 0 old (finish l block (entry_of l t))) same ∙ resumed_in (λ n. finish (level_at mode n)) (λ n. document_at mode n t) old new block (length old) pushed refl
 
 -- a list is what stands before its last item, and that item
 pub last_apart : {X : Type 0} (xs : List X) (k : ℕ) (x : X) → k + 1 ≡ length xs → x ≡ get_or xs k x → xs ≡ take k xs ++ x ∷ []

@@ -16,7 +16,7 @@ use Rattle.ufmt_conv.specs.declared.reader.level.Level.{Level}
 use Rattle.ufmt_conv.specs.declared.reader.level.Mode.{Mode}
 use Rattle.ufmt_conv.specs.Entries.{behind_entry}
 use Rattle.ufmt_conv.specs.Level.{entry_of, frame_of, mode_of, place_of, setting_of}
-use Rattle.ufmt_conv.specs.Stack.{document_at, level_at}
+use Rattle.ufmt_conv.specs.Stack.{document_at, level_at, resumed}
 use Rattle.ufmt_conv.specs.Steps.{read_label}
 
 -- what is written and what is left to read, with this text in front
@@ -95,10 +95,9 @@ Passes from to kind alone answer old new t = MatchResult answer
     (λ x. (behind_entry (frame_of from kind) (setting_of from) alone t ≡ Some (x.0, x.1.now)) × (new ≡ old ++ (trail (mode_of to.mode) ++ cond x.0 (separator (mode_of to.mode) (inside (setting_of to)).depth) (ending (frame_of to kind) (setting_of to) (place_of alone)))))
     (λ e. e ≡ NotText → behind_entry (frame_of from kind) (setting_of from) alone t ≡ None)
 
--- blocks that lie one in another, the outermost first and with this many round it, where this was written with the entry that began in the innermost
+-- what is written in all by blocks that lie one in another, where this was written with the entry that began in the innermost
 abbrev pub resume_text : Mode → Mode → ℕ → List TextBlock → Option (List ℕ × List ℕ) → Option (List ℕ × List ℕ)
-resume_text from to k [] o = o
-resume_text from to k (block ∷ more) o = finish_text (level_at from k) (level_at to k) block (resume_text from to (suc k) more o)
+resume_text from to k blocks o = resumed (λ n. finish_text (level_at from n) (level_at to n)) k blocks o
 
 -- what a document with this many blocks round it is converted to
 abbrev pub document_text : Mode → Mode → ℕ → Parse (List ℕ)

@@ -18,10 +18,14 @@ use Rattle.ufmt_conv.specs.Steps.{finish}
 abbrev pub level_at : Mode → ℕ → Level
 level_at mode k = record { mode = mode; depth = k }
 
--- blocks that lie one in another, the outermost first and with this many round it, where this is what is read in the innermost
+-- blocks that lie one in another, the outermost first and with this many round it, where `finish` says what each at its depth makes of its entry, and this is the entry of the innermost
+abbrev pub resumed : {B X : Type 0} → (ℕ → B → Option X → Option X) → ℕ → List B → Option X → Option X
+resumed finish k [] o = o
+resumed finish k (block ∷ more) o = finish k block (resumed finish (suc k) more o)
+
+-- what is read in all, where this is what is read in the innermost
 abbrev pub resume : Mode → ℕ → List OpenBlock → Option (Document × List ℕ) → Option (Document × List ℕ)
-resume mode k [] o = o
-resume mode k (block ∷ blocks) o = finish (level_at mode k) block (resume mode (suc k) blocks o)
+resume mode k blocks o = resumed (λ n. finish (level_at mode n)) k blocks o
 
 -- what reads a document with this many blocks round it: no entry begins in the 256th
 abbrev pub document_at : Mode → ℕ → Parse Document
