@@ -47,7 +47,8 @@ pub fn pretty_text<T: uDebug>(alloc: Global, value: &T) -> Result<String, AllocE
 }
 
 /// The pretty text of the token documents with this plain text. Of a text that `to_plain` answered
-/// that is the text from which it was made.
+/// that is the text from which it was made. No document is made on the way: memory goes to the
+/// answer, and a few bytes to each block that is open.
 pub fn to_pretty(alloc: Global, input: &[u8]) -> Result<String, ReadError>
     ensures ok { IfOk result (λ text.
         IsConverted plain_text pretty_text input.now (string_bytes text)) }
@@ -61,7 +62,7 @@ pub fn to_pretty(alloc: Global, input: &[u8]) -> Result<String, ReadError>
 }
 
 /// The plain text of the token documents with this pretty text. Of a text that `to_pretty` answered
-/// that is the text from which it was made.
+/// that is the text from which it was made. It takes memory as `to_pretty` does.
 pub fn to_plain(alloc: Global, input: &[u8]) -> Result<String, ReadError>
     ensures ok { IfOk result (λ text.
         IsConverted pretty_text plain_text input.now (string_bytes text)) }
