@@ -17,7 +17,7 @@ use Rattle.ufmt_conv.specs.Steps.{read_label}
 use Rattle.ufmt.proofs.ReadingTurns.{Takes}
 use Rattle.ufmt_conv.proofs.Converting.{assoc_three, block_begins, mapped_takes}
 use Rattle.ufmt_conv.proofs.EntrySteps.{entry_of_takes, field_takes, pair_takes}
-use Rattle.ufmt_conv.proofs.DocumentParts.{braces_begin, field_from, field_without, list_begins, map_begins, set_begins, struct_begins, tuple_begins, unnamed_begins}
+use Rattle.ufmt_conv.proofs.DocumentParts.{braces_begin, list_begins, map_begins, pair_from, pair_without, set_begins, struct_begins, tuple_begins, unnamed_begins}
 
 -- the texts of documents, of pairs and of fields in a row
 texts_are : (i : Setting) (ds : List Document) → texts i (documents ds) ≡ map (layout i) ds
@@ -111,7 +111,7 @@ struct_converts from to out w t r label u word tuple opening named =
     let p = entry_of from in
     ap (λ o. prefixed out (parse_map (layout i) o)) (struct_begins (setting_of from) p w t r word tuple opening)
     ∙ block_begins (read_pair read_word p) (field_text (inside i)) (frame_of from Struct) (setting_of from) (frame_of to Struct) i (λ fs. struct_of w (fields_of fs)) (front layouts.Struct i w) (λ d ds. shape layouts.Struct i w (field_text (inside i) d) (field_texts (inside i) (fields_of ds)) (map (field_text (inside i)) ds) (fields_are (inside i) ds)) out (read_pair read_word p r)
-    ∙ ap (λ o. convert_block (λ v. parse_map (field_text (inside i)) (read_pair read_word p v)) from to Struct true (prefixed (out ++ front layouts.Struct i w) (parse_map (field_text (inside i)) o))) (field_from p r label u named)
+    ∙ ap (λ o. convert_block (λ v. parse_map (field_text (inside i)) (read_pair read_word p v)) from to Struct true (prefixed (out ++ front layouts.Struct i w) (parse_map (field_text (inside i)) o))) (pair_from read_word p r label u named)
     ∙ ap (λ o. convert_block (λ v. parse_map (field_text (inside i)) (read_pair read_word p v)) from to Struct true o) (field_converts (inside i) (out ++ front layouts.Struct i w) label (p u))
 
 -- a later pair is a key, and then a value
@@ -129,13 +129,13 @@ pair_converts from to out t = by_key (entry_of from t)
 -- a later field is a name, and then a value
 pub later_field_converts : (from to : Level) (out t label u : List ℕ) → read_label t ≡ Some (label, u) → convert_block (field_of from to) from to Struct false (prefixed out (field_of from to t)) ≡ stepped_text from to (Some (blocks.Field false)) (out ++ (label ++ codes ": ")) u
 later_field_converts from to out t label u named =
-    ap (λ o. convert_block (field_of from to) from to Struct false (prefixed out (parse_map (field_text (inside (setting_of to))) o))) (field_from (entry_of from) t label u named)
+    ap (λ o. convert_block (field_of from to) from to Struct false (prefixed out (parse_map (field_text (inside (setting_of to))) o))) (pair_from read_word (entry_of from) t label u named)
     ∙ ap (λ o. convert_block (field_of from to) from to Struct false o) (field_converts (inside (setting_of to)) out label (entry_of from u))
 
 -- and nothing where no name stands
 pub no_field_converts : (from to : Level) (out t : List ℕ) → read_label t ≡ None → convert_block (field_of from to) from to Struct false (prefixed out (field_of from to t)) ≡ None
 no_field_converts from to out t named =
-    ap (λ o. convert_block (field_of from to) from to Struct false (prefixed out (parse_map (field_text (inside (setting_of to))) o))) (field_without (entry_of from) t named)
+    ap (λ o. convert_block (field_of from to) from to Struct false (prefixed out (parse_map (field_text (inside (setting_of to))) o))) (pair_without read_word (entry_of from) t named)
 
 -- an entry, a pair or a field that is converted takes a byte
 pub entry_text_takes : (from to : Level) → Takes (entry_text from to)

@@ -1,60 +1,73 @@
 -- Where documents, pairs and fields begin, in terms of what their entries are read as.
-use Rattle.std.proofs.Common.{◌≡◌, refl, ap, ◌∙◌, ℕ, zero, suc, ◌<◌, ◌≤◌, ◌==◌, Bool, true, false, cond, Result, Ok, Err, MatchResult, Bor, List, [], ◌∷◌, length, eqb-true, Option, Some, None, option_map, option_and_then, codes, arith}
-use Rattle.ufmt.specs.Document.{Document, list_of, set_of, map_of, struct_of, tuple_of, documents, pairs_of, fields_of}
+use Rattle.std.proofs.Common.{◌≡◌, refl, ap, ◌∙◌, ℕ, zero, suc, ◌-◌, ◌<◌, ◌≤◌, ◌==◌, ◌⊎◌, inl, inr, Bool, true, false, cond, Result, Ok, Err, MatchResult, Bor, List, [], ◌∷◌, ◌++◌, length, eqb-true, Option, Some, None, option_map, option_and_then, codes, arith}
+use Rattle.std.proofs.lemmas.Bool.Decides.{nat_tests}
+use Rattle.ufmt.specs.Document.{Document, leaf, list_of, set_of, map_of, struct_of, tuple_of, documents, pairs_of, fields_of}
 use Rattle.ufmt_core.specs.declared.formatter.Setting.{Setting}
 use Rattle.ufmt_core.specs.declared.formatter.block.Kind.TheVariants.{Brackets, Braces, Struct, Tuple, Unnamed}
 use Rattle.ufmt_core.specs.declared.formatter.block.Place.TheVariants.{First}
-use Rattle.ufmt.specs.Layout.{Frame, frame, tuple_kind, inside, lead}
+use Rattle.ufmt.specs.Layout.{Frame, frame, gap, tuple_kind, inside, lead, new_line}
 use Rattle.ufmt.specs.Token.{AreWordBytes, IsWord}
-use Rattle.ufmt.specs.Reading.{Parse, parse_map, strip, word_of, after_word, read_word, read_value, read_pair, read_list, read_braces, read_map_or_set, read_named, read_without_name, read_with, read}
+use Rattle.ufmt.specs.Reading.{Parse, parse_map, strip, word_of, after_word, read_word, read_value, read_pair, read_list, read_braces, read_map_or_set, read_named, read_tuple, read_without_name, read_with, read}
 use Rattle.ufmt.proofs.Parsing.{led_from, beside_from}
-use Rattle.ufmt.proofs.ReadingTurns.{read_word_takes, strip_within}
+use Rattle.ufmt.proofs.ReadingTurns.{Takes, read_word_takes, strip_within}
 use Rattle.ufmt.proofs.Words.{word_of_bytes}
 use Rattle.ufmt_conv.specs.declared.reader.error.ReadError.{ReadError}
 use Rattle.ufmt_conv.specs.declared.reader.error.ReadError.TheVariants.{NotText}
 use Rattle.ufmt_conv.specs.Entries.{read_on}
-use Rattle.ufmt_conv.specs.Level.{entry_at}
-use Rattle.ufmt_conv.specs.Steps.{read_label}
+use Rattle.ufmt_conv.specs.declared.reader.level.Level.{Level}
+use Rattle.ufmt_conv.specs.Level.{entry_at, entry_of, setting_of}
+use Rattle.ufmt_conv.specs.Steps.{before_colon}
+use Rattle.ufmt_conv.specs.Words.{may_open}
 use Rattle.ufmt_conv.proofs.EntrySteps.{first_is_read_on}
 
 -- a named tuple behind what stands before its first field
+pub tuple_opens : (s : Setting) (p : Parse Document) (w t r : List ℕ) → IsWord w → strip (lead (frame s.mode Tuple) (inside s) First) t ≡ Some r → read_named s p w t ≡ read_tuple s p w r
+tuple_opens s p [] t r word opening = absurd word
+tuple_opens s p (c ∷ w) t r word opening = rw opening refl
+
+-- from that field
 pub tuple_begins : (s : Setting) (p : Parse Document) (w t r : List ℕ) → IsWord w → strip (lead (frame s.mode Tuple) (inside s) First) t ≡ Some r → read_named s p w t ≡ read_on p (frame s.mode (tuple_kind w)) s (λ ds. tuple_of w (documents ds)) [] (p r)
-tuple_begins s p [] t r word opening = absurd word
-tuple_begins s p (c ∷ w) t r word opening = rw opening (first_is_read_on p (frame s.mode Tuple) s (λ ds. tuple_of (c ∷ w) (documents ds)) (p r))
+tuple_begins s p w t r word opening = tuple_opens s p w t r word opening ∙ first_is_read_on p (frame s.mode (tuple_kind w)) s (λ ds. tuple_of w (documents ds)) (p r)
 
 -- a struct behind what stands before its first field, from that field
 pub struct_begins : (s : Setting) (p : Parse Document) (w t r : List ℕ) → IsWord w → strip (lead (frame s.mode Tuple) (inside s) First) t ≡ None → strip (lead (frame s.mode Struct) (inside s) First) t ≡ Some r → read_named s p w t ≡ read_on (read_pair read_word p) (frame s.mode Struct) s (λ fs. struct_of w (fields_of fs)) [] (read_pair read_word p r)
 struct_begins s p [] t r word tuple opening = absurd word
 struct_begins s p (c ∷ w) t r word tuple opening = rw (tuple, opening) (first_is_read_on (read_pair read_word p) (frame s.mode Struct) s (λ fs. struct_of (c ∷ w) (fields_of fs)) (read_pair read_word p r))
 
--- a field from its name and colon
-pub field_is : (p : Parse Document) (t : List ℕ) → read_pair read_word p t ≡ option_and_then (λ x. parse_map {A = Document} {B = List ℕ × Document} (λ value. (x.0, value)) (p x.1)) (read_label t)
-field_is p t = by_word (read_word t)
+-- a pair or a field from what stands before its colon
+pub pair_is_beside : {A : Type 0} (q : Parse A) (p : Parse Document) (t : List ℕ) → read_pair q p t ≡ option_and_then (λ x. parse_map {A = Document} {B = A × Document} (λ value. (x.0, value)) (p x.1)) (before_colon q t)
+pair_is_beside {A} q p t = by_key (q t)
   where
-    colon : (label : List ℕ) (o : Option (List ℕ)) → option_and_then (λ u. parse_map (λ value. (label, value)) (p u)) o ≡ option_and_then (λ x. parse_map {A = Document} {B = List ℕ × Document} (λ value. (x.0, value)) (p x.1)) (option_map {U = List ℕ × List ℕ} (λ u. (label, u)) o)
-    colon label None = refl
-    colon label (Some u) = refl
+    colon : (key : A) (o : Option (List ℕ)) → option_and_then (λ u. parse_map (λ value. (key, value)) (p u)) o ≡ option_and_then (λ x. parse_map {A = Document} {B = A × Document} (λ value. (x.0, value)) (p x.1)) (option_map {U = A × List ℕ} (λ u. (key, u)) o)
+    colon key None = refl
+    colon key (Some u) = refl
 
-    by_word : (o : Option (List ℕ × List ℕ)) → option_and_then (λ x. read_value p x.0 x.1) o ≡ option_and_then (λ x. parse_map {A = Document} {B = List ℕ × Document} (λ value. (x.0, value)) (p x.1)) (option_and_then (λ x. option_map {U = List ℕ × List ℕ} (λ u. (x.0, u)) (strip (codes ": ") x.1)) o)
-    by_word None = refl
-    by_word (Some x) = colon x.0 (strip (codes ": ") x.1)
+    by_key : (o : Option (A × List ℕ)) → option_and_then (λ x. read_value p x.0 x.1) o ≡ option_and_then (λ x. parse_map {A = Document} {B = A × Document} (λ value. (x.0, value)) (p x.1)) (option_and_then (λ x. option_map {U = A × List ℕ} (λ u. (x.0, u)) (strip (codes ": ") x.1)) o)
+    by_key None = refl
+    by_key (Some x) = colon x.0 (strip (codes ": ") x.1)
 
--- where a name and a colon stand, the field is that and its value
-pub field_from : (p : Parse Document) (t label u : List ℕ) → read_label t ≡ Some (label, u) → read_pair read_word p t ≡ parse_map (λ value. (label, value)) (p u)
-field_from p t label u h = field_is p t ∙ ap (λ o. option_and_then (λ x. parse_map {A = Document} {B = List ℕ × Document} (λ value. (x.0, value)) (p x.1)) o) h
+-- where that and a colon stand, the pair is that and its value
+pub pair_from : {A : Type 0} (q : Parse A) (p : Parse Document) (t : List ℕ) (key : A) (u : List ℕ) → before_colon q t ≡ Some (key, u) → read_pair q p t ≡ parse_map (λ value. (key, value)) (p u)
+pair_from {A} q p t key u h = pair_is_beside q p t ∙ ap (λ o. option_and_then (λ x. parse_map {A = Document} {B = A × Document} (λ value. (x.0, value)) (p x.1)) o) h
 
 -- and else there is none
-pub field_without : (p : Parse Document) (t : List ℕ) → read_label t ≡ None → read_pair read_word p t ≡ None
-field_without p t h = field_is p t ∙ ap (λ o. option_and_then (λ x. parse_map {A = Document} {B = List ℕ × Document} (λ value. (x.0, value)) (p x.1)) o) h
+pub pair_without : {A : Type 0} (q : Parse A) (p : Parse Document) (t : List ℕ) → before_colon q t ≡ None → read_pair q p t ≡ None
+pair_without {A} q p t h = pair_is_beside q p t ∙ ap (λ o. option_and_then (λ x. parse_map {A = Document} {B = A × Document} (λ value. (x.0, value)) (p x.1)) o) h
 
--- what follows a name and a colon is shorter
-pub label_within : (t label u : List ℕ) → read_label t ≡ Some (label, u) → length u < length t
-label_within t label u h =
-    let word = led_from _ (read_word t) (label, u) h in
-    let colon = beside_from word.0.0 (strip (codes ": ") word.0.1) label u word.2 in
-    let a = read_word_takes.takes t word.0.0 word.0.1 word.1 in
-    let b = strip_within (codes ": ") word.0.1 u colon.0 in
-    omega arith
+-- what stands before a colon and a space was read, and they follow it
+pub colon_follows : {A : Type 0} (q : Parse A) (t : List ℕ) (key : A) (u : List ℕ) → before_colon q t ≡ Some (key, u) → (v : List ℕ) × (q t ≡ Some (key, v)) × (strip (codes ": ") v ≡ Some u)
+colon_follows q t key u h =
+    let read = led_from _ (q t) (key, u) h in
+    let colon = beside_from read.0.0 (strip (codes ": ") read.0.1) key u read.2 in
+    (read.0.1, read.1 ∙ ap (λ k. Some (k, read.0.1)) colon.1, colon.0)
+
+-- and what follows them is shorter
+pub colon_within : {A : Type 0} {q : Parse A} (t : List ℕ) (key : A) (u : List ℕ) → Takes q → before_colon q t ≡ Some (key, u) → length u < length t
+colon_within {q = q} t key u takes h =
+    let read = colon_follows q t key u h in
+    let a = takes.takes t key read.0 read.1 in
+    let b = strip_within (codes ": ") read.0 u read.2 in
+    omega (arith, a, b)
 
 -- a list behind what stands before its first entry
 pub list_begins : (s : Setting) (p : Parse Document) (t r : List ℕ) → strip (codes "]") t ≡ None → strip (lead (frame s.mode Brackets) (inside s) First) t ≡ Some r → read_list s p t ≡ read_on p (frame s.mode Brackets) s (λ ds. list_of (documents ds)) [] (p r)
@@ -65,12 +78,22 @@ pub braces_begin : (s : Setting) (p : Parse Document) (t r : List ℕ) → strip
 braces_begin s p t r empty opening = rw (empty, opening) refl
 
 -- a tuple without a name behind what stands before its first field
+pub unnamed_opens : (s : Setting) (p : Parse Document) (t r : List ℕ) → strip (codes "[") t ≡ None → strip (codes "{") t ≡ None → strip (codes "()") t ≡ None → strip (lead (frame s.mode Unnamed) (inside s) First) t ≡ Some r → read_without_name s p t ≡ read_tuple s p [] r
+unnamed_opens s p t r bracket brace unit opening = rw (bracket, brace, unit, opening) refl
+
+-- from that field
 pub unnamed_begins : (s : Setting) (p : Parse Document) (t r : List ℕ) → strip (codes "[") t ≡ None → strip (codes "{") t ≡ None → strip (codes "()") t ≡ None → strip (lead (frame s.mode Unnamed) (inside s) First) t ≡ Some r → read_without_name s p t ≡ read_on p (frame s.mode Unnamed) s (λ ds. tuple_of [] (documents ds)) [] (p r)
-unnamed_begins s p t r bracket brace unit opening = rw (bracket, brace, unit, opening) (first_is_read_on p (frame s.mode Unnamed) s (λ ds. tuple_of [] (documents ds)) (p r))
+unnamed_begins s p t r bracket brace unit opening = unnamed_opens s p t r bracket brace unit opening ∙ first_is_read_on p (frame s.mode Unnamed) s (λ ds. tuple_of [] (documents ds)) (p r)
 
 -- a map where a colon follows its first key
 pub map_begins : (s : Setting) (p : Parse Document) (d : Document) (t u : List ℕ) → strip (codes ": ") t ≡ Some u → read_map_or_set s p d t ≡ read_on (read_pair p p) (frame s.mode Braces) s (λ ps. map_of (pairs_of ps)) [] (parse_map (λ value. (d, value)) (p u))
 map_begins s p d t u colon = rw colon (first_is_read_on (read_pair p p) (frame s.mode Braces) s (λ ps. map_of (pairs_of ps)) (parse_map (λ value. (d, value)) (p u)))
+
+-- so does a map whose first key and its colon were read
+pub map_begins_with : (s : Setting) (p : Parse Document) (key : Document) (t u : List ℕ) → before_colon p t ≡ Some (key, u) → option_and_then (λ x. read_map_or_set s p x.0 x.1) (p t) ≡ read_on (read_pair p p) (frame s.mode Braces) s (λ ps. map_of (pairs_of ps)) [] (parse_map (λ value. (key, value)) (p u))
+map_begins_with s p key t u h =
+    let read = colon_follows p t key u h in
+    rw read.1 (map_begins s p key read.0 u read.2)
 
 -- and else a set
 pub set_begins : (s : Setting) (p : Parse Document) (d : Document) (t : List ℕ) → strip (codes ": ") t ≡ None → read_map_or_set s p d t ≡ read_on p (frame s.mode Braces) s (λ ds. set_of (documents ds)) [] (Some (d, t))
@@ -83,6 +106,10 @@ pair_is p f s make xs t = by_key (p t)
     by_key : (o : Option (Document × List ℕ)) → read_on (read_pair p p) f s make xs (option_and_then (λ x. read_value p x.0 x.1) o) ≡ option_and_then (λ x. read_on (read_pair p p) f s make xs (read_value p x.0 x.1)) o
     by_key None = refl
     by_key (Some x) = refl
+
+-- and where the key and its colon were read, its value
+pub value_is : (p : Parse Document) (f : Frame) (s : Setting) (make : List (Document × Document) → Document) (xs : List (Document × Document)) (key : Document) (t u : List ℕ) → before_colon p t ≡ Some (key, u) → read_on (read_pair p p) f s make xs (read_pair p p t) ≡ read_on (read_pair p p) f s make xs (parse_map (λ value. (key, value)) (p u))
+value_is p f s make xs key t u h = ap (λ o. read_on (read_pair p p) f s make xs o) (pair_from p p t key u h)
 
 -- so where the next pair begins, its key decides
 pub pairs_pass : (p : Parse Document) (f : Frame) (s : Setting) (make : List (Document × Document) → Document) (xs : List (Document × Document)) (ended : Document) (n : ℕ) (there : Option (Document × List ℕ)) (answer : Result (Bool × Bor (List ℕ)) ReadError)
@@ -129,3 +156,26 @@ word_is_read t (c ∷ w) u word rest some = rw (← word, ← rest) refl
 -- what follows them is shorter
 pub word_within : (t w u : List ℕ) → w ≡ word_of t → u ≡ after_word t → (length w == 0) ≡ false → suc (length u) ≤ length t
 word_within t w u word rest some = let shorter = read_word_takes.takes t w u (word_is_read t w u word rest some) in omega (arith, shorter)
+
+-- with neither a bracket nor a space begins nothing that may stand between a name and the first entry of its block
+opens_nothing : (c : ℕ) (text t : List ℕ) → (c == 40) ≡ true ⊎ (c == 32) ≡ true → may_open t ≡ false → strip (c ∷ text) t ≡ None
+opens_nothing c text [] which none = refl
+opens_nothing c text (b ∷ t) which none = rw (differs which) refl
+  where
+    differs : (c == 40) ≡ true ⊎ (c == 32) ≡ true → (c == b) ≡ false
+    differs (inl is) = grind (arith, nat_tests)
+    differs (inr is) = grind (arith, nat_tests)
+
+-- a word that nothing of the kind follows is a leaf
+word_alone : (s : Setting) (p : Parse Document) (w u : List ℕ) → (length w == 0) ≡ false → may_open u ≡ false → read_named s p w u ≡ Some (leaf w, u)
+word_alone s p [] u some none = absurd (cc)
+word_alone s p (c ∷ w) u some none = rw (opens_nothing 40 (new_line (inside s).mode (inside s).depth) u (inl refl) none, opens_nothing 32 (123 ∷ (gap s.mode ++ new_line (inside s).mode (inside s).depth)) u (inr refl) none) refl
+
+-- so it is an entry of a block, where any may lie in it
+pub word_is_entry : (level : Level) (t w u : List ℕ) → level.depth < 255 → w ≡ word_of t → u ≡ after_word t → (length w == 0) ≡ false → may_open u ≡ false → entry_of level t ≡ Some (leaf w, u)
+word_is_entry level t w u few word rest some none =
+    let left : 255 - level.depth ≡ suc (254 - level.depth) = omega (arith, few) in
+    let s = inside (setting_of level) in
+    ap (λ n. entry_at (setting_of level) n t) left
+    ∙ reads_named s (254 - level.depth) t w u word rest some
+    ∙ word_alone s (entry_at s (254 - level.depth)) w u some none

@@ -22,6 +22,10 @@ pub steps_longer : (level : Level) (m n : ℕ) (answer : Result (Option Doc × B
 steps_longer level m n (Ok x) old new there longer h = (h.0, let less = h.1 in omega (arith, less), h.2)
 steps_longer level m n (Err e) old new there longer h = h
 
+-- likewise where more is read, as this
+pub steps_are : (level : Level) (m n : ℕ) (answer : Result (Option Doc × Bor (List ℕ)) ReadError) (old new : List OpenBlock) (there all : Option (Document × List ℕ)) → all ≡ there → m ≤ n → Steps level m answer old new there → Steps level n answer old new all
+steps_are level m n answer old new there all same longer h = subst (λ o. Steps level n answer old new o) (sym same) (steps_longer level m n answer old new there longer h)
+
 -- the innermost block is the one that was opened
 innermost_is : (old : List OpenBlock) (block : OpenBlock) → innermost (old ++ block ∷ []) ≡ block
 innermost_is [] block = refl

@@ -5,11 +5,7 @@ use Rattle.std.proofs.lemmas.List.{drop_more, take_more}
 use Rattle.std.proofs.lemmas.Bool.Decides.{nat_tests}
 use Rattle.ufmt.specs.Token.{is_word_byte, AreWordBytes}
 use Rattle.ufmt.specs.Reading.{word_of, after_word}
-
--- the first bytes of a text, up to an index, are word bytes
-pub record Passed (t : List ℕ) (i : ℕ) : Type 0 where
-  pub word : word_of t ≡ take i t ++ word_of (drop i t)
-  pub rest : after_word t ≡ after_word (drop i t)
+use Rattle.ufmt_conv.specs.Words.{Passed}
 
 -- none was passed yet
 pub none_passed : (t : List ℕ) → Passed t 0

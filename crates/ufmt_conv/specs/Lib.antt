@@ -14,4 +14,5 @@ pub mod Steps
 pub mod Texts
 pub mod Watched
 pub mod Within
+pub mod Words
 pub mod Written

@@ -17,9 +17,13 @@ use Rattle.ufmt_conv.specs.DocViews.{docs_view, pairs_view, fields_view}
 use Rattle.ufmt_conv.specs.Entries.{read_on}
 use Rattle.ufmt_conv.specs.Level.{entry_of, frame_of, mode_of, setting_of}
 
+-- what stands before a colon and a space
+abbrev pub before_colon : {A : Type 0} → Parse A → Parse A
+before_colon {A} q t = option_and_then (λ x. option_map {U = A × List ℕ} (λ u. (x.0, u)) (strip (codes ": ") x.1)) (q t)
+
 -- a field's name before its colon
 abbrev pub read_label : Parse (List ℕ)
-read_label t = option_and_then (λ x. option_map (λ u. (x.0, u)) (strip (codes ": ") x.1)) (read_word t)
+read_label t = before_colon read_word t
 
 -- an open block at its level, where this is what the entry, key or value that begins in it is read as
 abbrev pub finish : Level → OpenBlock → Option (Document × List ℕ) → Option (Document × List ℕ)
@@ -48,12 +52,12 @@ left level block goes_on t = cond goes_on (finish level block (entry_of level t)
 abbrev pub Puts : Level → ℕ → Result (Bool × Bor (List ℕ)) ReadError → OpenBlock → Option (Document × List ℕ) → Type 0
 Puts level bytes answer block there = MatchResult answer (λ x. (there ≡ left level block x.0 x.1.now) × (length x.1.now ≤ bytes)) (λ e. e ≡ NotText → there ≡ None)
 
--- the same of an entry of a block of this kind, whatever the document that its entries make
-abbrev pub PutsEntry : Level → Kind → ℕ → Result (Bool × Bor (List ℕ)) ReadError → List Document → List Document → Document → List ℕ → Type 0
-PutsEntry level kind bytes answer new old d t = (make : List Document → Document) →
+-- the same of a block of this kind with these entries before and behind, whatever document they make, where its next entry is read as this
+abbrev pub PutsEntries : Level → Kind → ℕ → Result (Bool × Bor (List ℕ)) ReadError → List Document → List Document → Option (Document × List ℕ) → Type 0
+PutsEntries level kind bytes answer old new o = (make : List Document → Document) →
     MatchResult answer
-    (λ x. (read_on (entry_of level) (frame_of level kind) (setting_of level) make old (Some (d, t)) ≡ cond x.0 (read_on (entry_of level) (frame_of level kind) (setting_of level) make new (entry_of level x.1.now)) (Some (make new, x.1.now))) × (length x.1.now ≤ bytes))
-    (λ e. e ≡ NotText → read_on (entry_of level) (frame_of level kind) (setting_of level) make old (Some (d, t)) ≡ None)
+    (λ x. (read_on (entry_of level) (frame_of level kind) (setting_of level) make old o ≡ cond x.0 (read_on (entry_of level) (frame_of level kind) (setting_of level) make new (entry_of level x.1.now)) (Some (make new, x.1.now))) × (length x.1.now ≤ bytes))
+    (λ e. e ≡ NotText → read_on (entry_of level) (frame_of level kind) (setting_of level) make old o ≡ None)
 
 -- the innermost of the blocks that are open, where any is
 abbrev pub innermost : List OpenBlock → OpenBlock

@@ -12,6 +12,7 @@ mod open_blocks;
 #[cfg(test)]
 mod tests;
 pub(crate) mod word;
+mod words;
 
 use crate::doc::Doc;
 use begin::begin;

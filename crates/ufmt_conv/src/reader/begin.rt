@@ -1,6 +1,6 @@
 //! Where a document begins: leaves, and the openings of blocks.
-ghost use Rattle.std.specs.Prelude.{◌<◌, length, suc};
-ghost use Rattle.ufmt.specs.Reading.{read, read_braces, read_list, read_named, read_without_name};
+ghost use Rattle.std.specs.Prelude.{◌<◌, length, string_bytes, suc};
+ghost use Rattle.ufmt.specs.Reading.{read, read_braces, read_list, read_named, read_tuple, read_without_name};
 ghost use Rattle.ufmt.specs.Token.{IsWord};
 ghost use Rattle.ufmt_conv.specs.Level.{budget_of, entry_of, setting_of};
 ghost use Rattle.ufmt_conv.specs.Steps.{Steps};
@@ -8,13 +8,17 @@ ghost use Rattle.ufmt_conv.specs.Steps.{Steps};
 use crate::doc::Doc;
 use crate::reader::error::ReadError;
 use crate::reader::level::{Kind, Level, strip};
-use crate::reader::open_block::{OpenBlock, read_label};
+use crate::reader::open_block::{OpenBlock, read_label, tuple_kind};
 use crate::reader::open_blocks::OpenBlocks;
 use crate::reader::word::{split_word, word_text};
+use crate::reader::words::{read_key, read_words};
 use std::alloc::Global;
 
-/// Reads a leaf or an empty block, or opens a block up to its first entry: then the answer has no
-/// document.
+// How many entries a block has room for at first: as many as a vector's first growth makes.
+const FIRST_ENTRIES: usize = 4;
+
+/// Reads a leaf, an empty block or one whose entries are all words, or opens a block up to an entry
+/// that is no word: then the answer has no document.
 pub(super) fn begin<'a>(
     alloc: Global,
     level: Level,
@@ -50,17 +54,33 @@ fn begin_named<'a>(
 {
     let name = word_text(alloc, word)?;
     if let Some(rest) = level.strip_lead(Kind::Tuple, input) {
-        let tuple = OpenBlock::Tuple(name, Vec::new(alloc));
-        blocks.push(tuple)?;
-        Ok((None, rest))
+        begin_tuple(alloc, level, blocks, name, rest)
     } else if let Some(rest) = level.strip_lead(Kind::Struct, input) {
         let (label, rest) = read_label(alloc, rest)?;
-        let block = OpenBlock::Struct(name, Vec::new(alloc), label);
-        blocks.push(block)?;
-        Ok((None, rest))
+        let fields = Vec::with_capacity(alloc, FIRST_ENTRIES)?;
+        blocks.open(alloc, OpenBlock::Struct(name, fields, label), true, rest)
     } else {
         Ok((Some(Doc::Leaf(name)), input))
     }
+}
+
+// A tuple with this name, from its first field on.
+#[inline(always)]
+fn begin_tuple<'a>(
+    alloc: Global,
+    level: Level,
+    blocks: &mut OpenBlocks,
+    name: String,
+    input: &'a [u8],
+) -> Result<(Option<Doc>, &'a [u8]), ReadError>
+    requires { length blocks.old.blocks.items < 256 }
+    ensures { Steps level (suc (length input.now)) result
+        blocks.old.blocks.items blocks.new.blocks.items
+        (read_tuple (setting_of level) (entry_of level) (string_bytes name) input.now) }
+{
+    let mut entries = Vec::with_capacity(alloc, FIRST_ENTRIES)?;
+    let (goes_on, rest) = read_words(alloc, level, tuple_kind(&name), &mut entries, input)?;
+    blocks.open(alloc, OpenBlock::Tuple(name, entries), goes_on, rest)
 }
 
 // What begins with no word.
@@ -82,9 +102,7 @@ fn begin_without_name<'a>(
     } else if let Some(rest) = strip(b"()", input) {
         Ok((Some(Doc::Leaf(String::from_str(alloc, "()")?)), rest))
     } else if let Some(rest) = level.strip_lead(Kind::Unnamed, input) {
-        let tuple = OpenBlock::Tuple(String::new(alloc), Vec::new(alloc));
-        blocks.push(tuple)?;
-        Ok((None, rest))
+        begin_tuple(alloc, level, blocks, String::new(alloc), rest)
     } else {
         Err(ReadError::NotText)
     }
@@ -105,8 +123,9 @@ fn begin_list<'a>(
     if let Some(rest) = strip(b"]", input) {
         Ok((Some(Doc::Listed(Vec::new(alloc))), rest))
     } else if let Some(rest) = level.strip_lead(Kind::Brackets, input) {
-        blocks.push(OpenBlock::List(Vec::new(alloc)))?;
-        Ok((None, rest))
+        let mut entries = Vec::with_capacity(alloc, FIRST_ENTRIES)?;
+        let (goes_on, rest) = read_words(alloc, level, Kind::Brackets, &mut entries, rest)?;
+        blocks.open(alloc, OpenBlock::List(entries), goes_on, rest)
     } else {
         Err(ReadError::NotText)
     }
@@ -127,8 +146,13 @@ fn begin_braces<'a>(
     if let Some(rest) = strip(b"}", input) {
         Ok((Some(Doc::MapOf(Vec::new(alloc))), rest))
     } else if let Some(rest) = level.strip_lead(Kind::Braces, input) {
-        blocks.push(OpenBlock::Braces)?;
-        Ok((None, rest))
+        match read_key(alloc, level, rest)? {
+            Some((key, rest)) => {
+                let pairs = Vec::with_capacity(alloc, FIRST_ENTRIES)?;
+                blocks.open(alloc, OpenBlock::Map(pairs, Some(key)), true, rest)
+            }
+            None => blocks.open(alloc, OpenBlock::Braces, true, rest),
+        }
     } else {
         Err(ReadError::NotText)
     }

@@ -6,12 +6,13 @@ ghost use Rattle.ufmt_conv.specs.Doc.{doc_document};
 ghost use Rattle.ufmt_conv.specs.DocViews.{docs_view};
 ghost use Rattle.ufmt_conv.specs.Level.{kind_of};
 ghost use Rattle.ufmt_conv.specs.Read.{Reads};
-ghost use Rattle.ufmt_conv.specs.Steps.{Puts, PutsEntry, block_document, finish, read_label};
+ghost use Rattle.ufmt_conv.specs.Steps.{Puts, PutsEntries, block_document, finish, read_label};
 
 use crate::doc::Doc;
 use crate::reader::error::ReadError;
 use crate::reader::level::{Kind, Level, expect, strip};
 use crate::reader::word::{split_word, word_text};
+use crate::reader::words::read_key;
 use std::alloc::Global;
 use std::mem;
 
@@ -46,7 +47,7 @@ impl OpenBlock {
             OpenBlock::List(entries) => put_entry(level, Kind::Brackets, entries, doc, input),
             OpenBlock::Braces => decide(alloc, level, self, doc, input),
             OpenBlock::Set(entries) => put_entry(level, Kind::Braces, entries, doc, input),
-            OpenBlock::Map(pairs, key) => put_in_map(level, pairs, key, doc, input),
+            OpenBlock::Map(pairs, key) => put_in_map(alloc, level, pairs, key, doc, input),
             OpenBlock::Struct(_name, fields, label) => {
                 put_field(alloc, level, fields, label, doc, input)
             }
@@ -57,6 +58,7 @@ impl OpenBlock {
     }
 
     /// The document of a block that ended, with its entries.
+    #[inline(always)]
     pub(super) fn close(self, alloc: Global) -> Doc
         ensures { doc_document result ≡ block_document self }
     {
@@ -71,17 +73,17 @@ impl OpenBlock {
     }
 }
 
-// Puts an entry into a list, a set or a tuple, whose entries a block of this kind frames.
+/// Puts an entry into a list, a set or a tuple, whose entries a block of this kind frames.
 #[inline(always)]
-fn put_entry<'a>(
+pub(super) fn put_entry<'a>(
     level: Level,
     kind: Kind,
     entries: &mut Vec<Doc>,
     doc: Doc,
     input: &'a [u8],
 ) -> Result<(bool, &'a [u8]), ReadError>
-    ensures { PutsEntry level kind (length input.now) result
-        (docs_view entries.new) (docs_view entries.old) (doc_document doc) input.now }
+    ensures { PutsEntries level kind (length input.now) result
+        (docs_view entries.old) (docs_view entries.new) (Some (doc_document doc, input.now)) }
 {
     entries.push(doc)?;
     level.pass_entry(kind, entries.len() == 1, input)
@@ -112,8 +114,10 @@ fn decide<'a>(
     }
 }
 
-// Puts a key into a map, or a value beside the key that waits.
+// Puts a key into a map, or a value beside the key that waits, and reads the next key if it is a
+// word.
 fn put_in_map<'a>(
+    alloc: Global,
     level: Level,
     pairs: &mut Vec<(Doc, Doc)>,
     key: &mut Option<Doc>,
@@ -126,7 +130,17 @@ fn put_in_map<'a>(
     match key.take() {
         Some(first) => {
             pairs.push((first, doc))?;
-            level.pass_entry(Kind::Braces, pairs.len() == 1, input)
+            let (goes_on, rest) = level.pass_entry(Kind::Braces, pairs.len() == 1, input)?;
+            if !goes_on {
+                return Ok((false, rest));
+            }
+            match read_key(alloc, level, rest)? {
+                Some((next, behind)) => {
+                    *key = Some(next);
+                    Ok((true, behind))
+                }
+                None => Ok((true, rest)),
+            }
         }
         None => {
             let rest = expect(b": ", input)?;
@@ -161,8 +175,8 @@ fn put_field<'a>(
     }
 }
 
-// The kind of a tuple with this name.
-fn tuple_kind(name: &str) -> Kind
+/// The kind of a tuple with this name.
+pub(super) fn tuple_kind(name: &str) -> Kind
     ensures { kind_of result ≡ tuple_kind name.now }
 {
     if name.is_empty() {

@@ -1,7 +1,8 @@
 //! The blocks that are open, one in another.
-ghost use Rattle.std.specs.Prelude.{◌≡◌, ◌<◌, ◌≤◌, [], ◌∷◌, ◌++◌, length, Some, IfErr, MatchOption, OnOk};
+ghost use Rattle.std.specs.Prelude.{◌≡◌, ◌<◌, ◌≤◌, suc, [], length, Some, MatchOption};
 ghost use Rattle.ufmt_conv.specs.Doc.{doc_document};
 ghost use Rattle.ufmt_conv.specs.Stack.{Hands, level_at, resume};
+ghost use Rattle.ufmt_conv.specs.Steps.{Steps, left};
 
 use crate::doc::Doc;
 use crate::reader::error::ReadError;
@@ -35,14 +36,25 @@ impl OpenBlocks {
         Some(Level { mode, depth })
     }
 
-    /// Opens a block in the innermost one.
-    pub(super) fn push(&mut self, block: OpenBlock) -> Result<(), ReadError>
+    /// Opens a block in the innermost one where an entry begins in it, or closes it where it ended.
+    #[inline(always)]
+    pub(super) fn open<'a>(
+        &mut self,
+        alloc: Global,
+        block: OpenBlock,
+        goes_on: bool,
+        rest: &'a [u8],
+    ) -> Result<(Option<Doc>, &'a [u8]), ReadError>
         requires { length self.old.blocks.items < 256 }
-        ensures ok { OnOk result (self.new.blocks.items ≡ self.old.blocks.items ++ block ∷ []) }
-        ensures memory { IfErr result (λ e. e ≡ ReadError.OutOfMemory) }
+        ensures { (level : Level) → Steps level (suc (length rest.now)) result
+            self.old.blocks.items self.new.blocks.items (left level block goes_on rest.now) }
     {
-        self.blocks.push(block)?;
-        Ok(())
+        if goes_on {
+            self.blocks.push(block)?;
+            Ok((None, rest))
+        } else {
+            Ok((Some(block.close(alloc)), rest))
+        }
     }
 
     /// Takes what was read in the innermost block, and closes each block that ends behind it. The

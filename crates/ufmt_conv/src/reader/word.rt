@@ -1,7 +1,8 @@
 //! Words at the front of a text.
-ghost use Rattle.std.specs.Prelude.{◌≡◌, MatchResult, string_bytes};
+ghost use Rattle.std.specs.Prelude.{◌≡◌, ◌≤◌, MatchResult, length, string_bytes};
 ghost use Rattle.ufmt.specs.Token.{is_word_byte, AreWordBytes};
 ghost use Rattle.ufmt.specs.Reading.{word_of, after_word};
+ghost use Rattle.ufmt_conv.specs.Words.{Passed};
 ghost use Rattle.ufmt_conv.specs.declared.reader.error.ReadError.TheVariants.{OutOfMemory};
 
 use crate::reader::error::ReadError;
@@ -44,12 +45,41 @@ pub(crate) fn split_word(input: &[u8]) -> (&[u8], &[u8])
     ensures word { result.0.now ≡ word_of input.now }
     ensures rest { result.1.now ≡ after_word input.now }
 {
-    for (i, byte) in input.iter().enumerate() {
-        if !is_word_byte(*byte) {
-            return input.split_at(i);
+    // Four bytes a turn, so that the input's end is looked for once in four.
+    let mut end = 0;
+    'fours: while input.len() - end >= 4 {
+        if !is_word_byte(input[end]) {
+            return input.split_at(end);
         }
+        if !is_word_byte(input[end + 1]) {
+            return input.split_at(end + 1);
+        }
+        if !is_word_byte(input[end + 2]) {
+            return input.split_at(end + 2);
+        }
+        if !is_word_byte(input[end + 3]) {
+            return input.split_at(end + 3);
+        }
+        end += 4;
     }
-    input.split_at(input.len())
+    split_word_from(input, end)
+}
+
+// The same where word bytes stand before `start`.
+fn split_word_from(input: &[u8], start: usize) -> (&[u8], &[u8])
+    requires within { start ≤ length input.now }
+    requires passed { Passed input.now start }
+    ensures word { result.0.now ≡ word_of input.now }
+    ensures rest { result.1.now ≡ after_word input.now }
+{
+    let mut end = start;
+    'bytes: while end < input.len() {
+        if !is_word_byte(input[end]) {
+            return input.split_at(end);
+        }
+        end += 1;
+    }
+    input.split_at(end)
 }
 
 /// A text of word bytes.

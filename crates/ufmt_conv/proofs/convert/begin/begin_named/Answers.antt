@@ -7,9 +7,9 @@ use Rattle.ufmt_conv.specs.declared.convert.text_block.TextBlock.TheVariants.{En
 use Rattle.ufmt_conv.specs.declared.reader.level.Kind.TheVariants.{Struct, Tuple}
 use Rattle.ufmt_conv.specs.Converting.{stepped_text}
 use Rattle.ufmt_conv.specs.Level.{frame_of, setting_of}
-use Rattle.ufmt.proofs.ReadingTurns.{strip_within}
+use Rattle.ufmt.proofs.ReadingTurns.{read_word_takes, strip_within}
 use Rattle.ufmt_conv.proofs.ConvertingParts.{struct_converts, tuple_converts}
-use Rattle.ufmt_conv.proofs.DocumentParts.{label_within}
+use Rattle.ufmt_conv.proofs.DocumentParts.{colon_within}
 use Rattle.ufmt_conv.proofs.WordBytes.{word_bytes_are_ascii}
 use Rattle.ufmt_conv.proofs.convert.begin.begin_named.Goals as goal
 
@@ -41,7 +41,7 @@ returns-in_ok-rest c =
     let start = c.in-Some-strip_lead.rest.now in
     let label = c.in_ok-rest.ensures in
     let a : length start ≤ length c.args.input.now = strip_within (lead (frame_of from Struct) (inside (setting_of from)) First) c.args.input.now start (sym c.in-Some-strip_lead.ensures) in
-    let b : length c.in_ok-rest.rest.now < length start = label_within _ _ _ label.1 in
+    let b : length c.in_ok-rest.rest.now < length start = colon_within _ _ _ read_word_takes label.1 in
     let before = written (string_bytes c.args.output.now) c.args.word.now _ _ _ (c.in_ok-write_piece.ensures ∙ ap (λ text. string_bytes c.args.output.now ++ text) c.text_from.ensures) c.in_ok-write_opening-2.ensures in (
       struct_converts from c.args.to (string_bytes c.args.output.now) c.args.word.now c.args.input.now start label.0 c.in_ok-rest.rest.now c.requires (sym c.in_default.ensures) (sym c.in-Some-strip_lead.ensures) label.1
           ∙ ap (λ out. stepped_text from c.args.to (Some (Field true)) (out ++ (label.0 ++ codes ": ")) c.in_ok-rest.rest.now) (sym before)

@@ -4,7 +4,8 @@ use Rattle.ufmt_conv.specs.declared.reader.level.Kind.TheVariants.{Struct}
 use Rattle.std.proofs.Common.{false}
 use Rattle.ufmt_conv.proofs.Converting.{pass_ends, pass_goes_on, pass_refused}
 use Rattle.ufmt_conv.proofs.ConvertingParts.{field_of_takes, later_field_converts, no_field_converts}
-use Rattle.ufmt_conv.proofs.DocumentParts.{label_within}
+use Rattle.ufmt.proofs.ReadingTurns.{read_word_takes}
+use Rattle.ufmt_conv.proofs.DocumentParts.{colon_within}
 use Rattle.ufmt_conv.specs.Converting.{field_of, stepped_text}
 use Rattle.ufmt_conv.proofs.EntrySteps.{behind_within}
 use Rattle.ufmt_conv.proofs.Given.{passes_on}
@@ -25,7 +26,7 @@ pub returns-in_ok-rest : goal.returns-in_ok-rest
 returns-in_ok-rest c =
     let label = c.in_ok-rest.ensures in
     let a : length c.in_ok-goes_on.rest.now ≤ length c.args.input.now = behind_within _ _ _ _ _ _ c.in_ok-goes_on.ensures.0 in
-    let b : length c.in_ok-rest.rest.now < length c.in_ok-goes_on.rest.now = label_within _ _ _ label.1 in (
+    let b : length c.in_ok-rest.rest.now < length c.in_ok-goes_on.rest.now = colon_within _ _ _ read_word_takes label.1 in (
       pass_goes_on (field_of c.args.from c.args.to) c.args.from c.args.to Struct c.args.alone _ _ c.args.input.now _ _ (field_of_takes c.args.from c.args.to) c.in_ok-goes_on.ensures.0 c.in_ok-goes_on.ensures.1 c.if-goes_on.true
           ∙ later_field_converts c.args.from c.args.to _ c.in_ok-goes_on.rest.now _ _ label.1
           ∙ ap (λ out. stepped_text c.args.from c.args.to (Some (Field false)) out c.in_ok-rest.rest.now) (sym label.2),

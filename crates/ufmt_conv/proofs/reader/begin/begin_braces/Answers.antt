@@ -1,14 +1,41 @@
-use Rattle.std.proofs.Common.{sym, ◌≤◌, length, arith}
+use Rattle.std.proofs.Common.{◌≡◌, ◌∙◌, ap, sym, subst, ◌≤◌, ◌<◌, Some, suc, length, arith}
+use Rattle.std.specs.Prelude.{IfSome}
+use Rattle.ufmt.specs.Document.{map_of, pairs_of}
 use Rattle.ufmt.specs.Layout.{inside, lead}
+use Rattle.ufmt.specs.Reading.{parse_map, read_pair}
 use Rattle.ufmt_core.specs.declared.formatter.block.Place.TheVariants.{First}
 use Rattle.ufmt_conv.specs.declared.reader.level.Kind.TheVariants.{Braces}
+use Rattle.ufmt_conv.specs.Doc.{doc_document}
+use Rattle.ufmt_conv.specs.DocViews.{pair_view}
+use Rattle.ufmt_conv.specs.Entries.{read_on}
 use Rattle.ufmt_conv.specs.Level.{entry_of, frame_of, setting_of}
-use Rattle.ufmt_conv.proofs.DocumentParts.{braces_begin}
+use Rattle.ufmt_conv.specs.Steps.{before_colon}
+use Rattle.ufmt_conv.proofs.DocumentParts.{braces_begin, colon_within, map_begins_with}
+use Rattle.ufmt_conv.proofs.EntrySteps.{entry_of_takes}
 use Rattle.ufmt.proofs.ReadingTurns.{strip_within}
-use Rattle.ufmt_conv.proofs.Stacks.{opened}
+use Rattle.ufmt_conv.proofs.Stacks.{steps_are}
 use Rattle.ufmt_conv.proofs.reader.begin.begin_braces.Goals as goal
 
-pub returns-in_ok-push : goal.returns-in_ok-push
-returns-in_ok-push c =
-    let within : length c.in-Some-strip_lead.rest.now ≤ length c.args.input.now = strip_within (lead (frame_of c.args.level Braces) (inside (setting_of c.args.level)) First) c.args.input.now c.in-Some-strip_lead.rest.now (sym c.in-Some-strip_lead.ensures) in
-    opened c.args.level _ _ _ _ c.in-Some-strip_lead.rest.now _ c.in_ok-push.ensures.ok (braces_begin (setting_of c.args.level) (entry_of c.args.level) c.args.input.now c.in-Some-strip_lead.rest.now (sym c.in_default.ensures) (sym c.in-Some-strip_lead.ensures)) (omega (arith, within))
+pub returns-in_ok-pairs-in-Some-2 : goal.returns-in_ok-pairs-in-Some-2
+returns-in_ok-pairs-in-Some-2 c =
+    let level = c.args.level in
+    let start = c.in-Some-strip_lead.rest.now in
+    let rest = c.in-Some-2.rest.now in
+    let key : before_colon (entry_of level) start ≡ Some (doc_document c.in-Some-2.key, rest) = subst (λ o. IfSome o (λ x. before_colon (entry_of level) start ≡ Some (doc_document x.0, x.1.now))) c.in-Some-2.is c.in_ok-key.ensures in
+    let a : length start ≤ length c.args.input.now = strip_within (lead (frame_of level Braces) (inside (setting_of level)) First) c.args.input.now start (sym c.in-Some-strip_lead.ensures) in
+    let b : length rest < length start = colon_within _ _ _ (entry_of_takes level) key in
+    let longer : suc (length rest) ≤ suc (length c.args.input.now) = omega (arith, a, b) in
+    steps_are level _ _ c.open.result c.args.blocks.now.blocks.items c.open.new.self.blocks.items _ _
+    (braces_begin (setting_of level) (entry_of level) c.args.input.now start (sym c.in_default.ensures) (sym c.in-Some-strip_lead.ensures)
+    ∙ rw c.in_ok-pairs-in-Some-2.ensures.items (map_begins_with (setting_of level) (entry_of level) (doc_document c.in-Some-2.key) start rest key))
+    longer (c.open.ensures level)
+
+pub returns-in-None : goal.returns-in-None
+returns-in-None c =
+    let level = c.args.level in
+    let start = c.in-Some-strip_lead.rest.now in
+    let a : length start ≤ length c.args.input.now = strip_within (lead (frame_of level Braces) (inside (setting_of level)) First) c.args.input.now start (sym c.in-Some-strip_lead.ensures) in
+    let longer : suc (length start) ≤ suc (length c.args.input.now) = omega (arith, a) in
+    steps_are level _ _ c.open-in-None.result c.args.blocks.now.blocks.items c.open-in-None.new.self.blocks.items _ _
+    (braces_begin (setting_of level) (entry_of level) c.args.input.now start (sym c.in_default.ensures) (sym c.in-Some-strip_lead.ensures))
+    longer (c.open-in-None.ensures level)

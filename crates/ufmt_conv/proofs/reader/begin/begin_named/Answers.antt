@@ -1,20 +1,34 @@
-use Rattle.std.proofs.Common.{sym, ◌≤◌, ◌<◌, length, arith}
-use Rattle.ufmt_conv.specs.Level.{entry_of, frame_of, setting_of}
+use Rattle.std.proofs.Common.{◌≡◌, ◌∙◌, ap, sym, ◌≤◌, ◌<◌, suc, length, arith}
 use Rattle.ufmt.specs.Layout.{inside, lead}
+use Rattle.ufmt.specs.Reading.{read_tuple}
 use Rattle.ufmt_core.specs.declared.formatter.block.Place.TheVariants.{First}
 use Rattle.ufmt_conv.specs.declared.reader.level.Kind.TheVariants.{Struct, Tuple}
-use Rattle.ufmt_conv.proofs.DocumentParts.{tuple_begins, struct_begins, field_from, label_within}
-use Rattle.ufmt.proofs.ReadingTurns.{strip_within}
-use Rattle.ufmt_conv.proofs.Stacks.{opened}
+use Rattle.ufmt_conv.specs.Level.{entry_of, frame_of, setting_of}
+use Rattle.ufmt_conv.proofs.DocumentParts.{colon_within, pair_from, struct_begins, tuple_opens}
+use Rattle.ufmt.proofs.ReadingTurns.{read_word_takes, strip_within}
+use Rattle.ufmt.specs.Reading.{read_word}
+use Rattle.ufmt_conv.proofs.Stacks.{steps_are}
 use Rattle.ufmt_conv.proofs.reader.begin.begin_named.Goals as goal
 
-pub returns-in_ok-push : goal.returns-in_ok-push
-returns-in_ok-push c =
-    let within : length c.in-Some.rest.now ≤ length c.args.input.now = strip_within (lead (frame_of c.args.level Tuple) (inside (setting_of c.args.level)) First) _ _ (sym c.in-Some.ensures) in
-    opened c.args.level _ _ _ _ c.in-Some.rest.now _ c.in_ok-push.ensures.ok (rw (c.in_ok-name.ensures, c.new.ensures.items) (tuple_begins (setting_of c.args.level) (entry_of c.args.level) c.args.word.now c.args.input.now c.in-Some.rest.now c.requires.word (sym c.in-Some.ensures))) (omega (arith, within))
+pub returns-in-Some : goal.returns-in-Some
+returns-in-Some c =
+    let level = c.args.level in
+    let start = c.in-Some.rest.now in
+    let within : length start ≤ length c.args.input.now = strip_within (lead (frame_of level Tuple) (inside (setting_of level)) First) _ _ (sym c.in-Some.ensures) in
+    let longer : suc (length start) ≤ suc (length c.args.input.now) = omega (arith, within) in
+    steps_are level _ _ c.begin_tuple.result c.args.blocks.now.blocks.items c.begin_tuple.new.blocks.blocks.items _ _
+    (tuple_opens (setting_of level) (entry_of level) c.args.word.now c.args.input.now start c.requires.word (sym c.in-Some.ensures)
+    ∙ ap (λ name. read_tuple (setting_of level) (entry_of level) name start) (sym c.in_ok-name.ensures))
+    longer c.begin_tuple.ensures
 
-pub returns-in_ok-push-2 : goal.returns-in_ok-push-2
-returns-in_ok-push-2 c =
-    let a : length c.in-Some-strip_lead.rest.now ≤ length c.args.input.now = strip_within (lead (frame_of c.args.level Struct) (inside (setting_of c.args.level)) First) _ _ (sym c.in-Some-strip_lead.ensures) in
-    let b : length c.in_ok-label.rest.now < length c.in-Some-strip_lead.rest.now = label_within _ _ _ c.in_ok-label.ensures in
-    opened c.args.level _ _ _ _ c.in_ok-label.rest.now _ c.in_ok-push-2.ensures.ok (rw (c.in_ok-name.ensures, c.new-in-Some-strip_lead.ensures.items, ← field_from (entry_of c.args.level) c.in-Some-strip_lead.rest.now _ _ c.in_ok-label.ensures) (struct_begins (setting_of c.args.level) (entry_of c.args.level) c.args.word.now c.args.input.now c.in-Some-strip_lead.rest.now c.requires.word (sym c.in_default.ensures) (sym c.in-Some-strip_lead.ensures))) (omega (arith, a, b))
+pub returns-in_ok-fields : goal.returns-in_ok-fields
+returns-in_ok-fields c =
+    let level = c.args.level in
+    let start = c.in-Some-strip_lead.rest.now in
+    let rest = c.in_ok-label.rest.now in
+    let a : length start ≤ length c.args.input.now = strip_within (lead (frame_of level Struct) (inside (setting_of level)) First) _ _ (sym c.in-Some-strip_lead.ensures) in
+    let b : length rest < length start = colon_within _ _ _ read_word_takes c.in_ok-label.ensures in
+    let longer : suc (length rest) ≤ suc (length c.args.input.now) = omega (arith, a, b) in
+    steps_are level _ _ c.open.result c.args.blocks.now.blocks.items c.open.new.self.blocks.items _ _
+    (rw (c.in_ok-name.ensures, c.in_ok-fields.ensures.items, ← pair_from read_word (entry_of level) start _ _ c.in_ok-label.ensures) (struct_begins (setting_of level) (entry_of level) c.args.word.now c.args.input.now start c.requires.word (sym c.in_default.ensures) (sym c.in-Some-strip_lead.ensures)))
+    longer (c.open.ensures level)

@@ -5,7 +5,8 @@ use Rattle.ufmt_conv.specs.declared.reader.level.Kind.TheVariants.{Struct}
 use Rattle.ufmt_conv.specs.DocViews.{field_view, fields_view}
 use Rattle.ufmt_conv.specs.Entries.{read_on}
 use Rattle.ufmt_conv.specs.Level.{entry_of, frame_of, setting_of}
-use Rattle.ufmt_conv.proofs.DocumentParts.{field_from, field_without, label_within}
+use Rattle.ufmt_conv.proofs.DocumentParts.{colon_within, pair_from, pair_without}
+use Rattle.ufmt.proofs.ReadingTurns.{read_word_takes}
 use Rattle.ufmt_conv.proofs.EntrySteps.{behind_within, field_takes, put_decides}
 use Rattle.ufmt_conv.proofs.Given.{passes_on}
 use Rattle.ufmt_conv.proofs.reader.open_block.put_field.Goals as goal
@@ -22,16 +23,16 @@ returns-in_err-next c = λ name.
     let pushed = c.in_ok-push.ensures.items ∙ ap (λ waiting. c.args.fields.now.items ++ (waiting, c.args.doc) ∷ []) c.replace-waiting.ensures.value in
     passes_on _ c.from_residual-in_err-next.result _ c.in_err-next.field-0.0 _ c.from_residual-in_err-next.ensures.1 (λ y p. p) λ refused.
     put_decides _ _ _ field_view _ _ _ _ _ (field_takes level) pushed (c.len.ensures ∙ c.push.new.self.ok.0) (c.in_ok-goes_on.ensures ∙ ap (λ b. Some (b, c.in_ok-goes_on.rest.now)) c.if-goes_on.true)
-    ∙ ap (λ o. read_on (read_pair read_word (entry_of level)) (frame_of level Struct) (setting_of level) (λ fs. struct_of (string_bytes name) (fields_of fs)) (fields_view c.push.new.self) o) (field_without (entry_of level) c.in_ok-goes_on.rest.now (c.in_err-next.ensures refused))
+    ∙ ap (λ o. read_on (read_pair read_word (entry_of level)) (frame_of level Struct) (setting_of level) (λ fs. struct_of (string_bytes name) (fields_of fs)) (fields_view c.push.new.self) o) (pair_without read_word (entry_of level) c.in_ok-goes_on.rest.now (c.in_err-next.ensures refused))
 
 pub returns-in_ok-next : goal.returns-in_ok-next
 returns-in_ok-next c = λ name.
     let level = c.args.level in
     let pushed = c.in_ok-push.ensures.items ∙ ap (λ waiting. c.args.fields.now.items ++ (waiting, c.args.doc) ∷ []) c.replace-waiting.ensures.value in
     let a : length c.in_ok-goes_on.rest.now ≤ length c.args.input.now = behind_within _ _ _ _ _ _ c.in_ok-goes_on.ensures in
-    let b : length c.in_ok-next.rest.now < length c.in_ok-goes_on.rest.now = label_within _ _ _ c.in_ok-next.ensures in (
+    let b : length c.in_ok-next.rest.now < length c.in_ok-goes_on.rest.now = colon_within _ _ _ read_word_takes c.in_ok-next.ensures in (
       put_decides _ _ _ field_view _ _ _ _ _ (field_takes level) pushed (c.len.ensures ∙ c.push.new.self.ok.0) (c.in_ok-goes_on.ensures ∙ ap (λ b. Some (b, c.in_ok-goes_on.rest.now)) c.if-goes_on.true)
-          ∙ ap (λ o. read_on (read_pair read_word (entry_of level)) (frame_of level Struct) (setting_of level) (λ fs. struct_of (string_bytes name) (fields_of fs)) (fields_view c.push.new.self) o) (field_from (entry_of level) c.in_ok-goes_on.rest.now _ _ c.in_ok-next.ensures),
+          ∙ ap (λ o. read_on (read_pair read_word (entry_of level)) (frame_of level Struct) (setting_of level) (λ fs. struct_of (string_bytes name) (fields_of fs)) (fields_view c.push.new.self) o) (pair_from read_word (entry_of level) c.in_ok-goes_on.rest.now _ _ c.in_ok-next.ensures),
       omega (arith, a, b),
     )
 

@@ -1,15 +1,38 @@
-use Rattle.std.proofs.Common.{◌∙◌}
+use Rattle.std.proofs.Common.{◌≡◌, ◌∙◌, ap, sym, subst, ◌≤◌, ◌<◌, Some, length, arith}
+use Rattle.std.specs.Prelude.{IfSome}
 use Rattle.ufmt.specs.Document.{map_of, pairs_of}
 use Rattle.ufmt_conv.specs.declared.reader.level.Kind.TheVariants.{Braces}
+use Rattle.ufmt_conv.specs.Doc.{doc_document}
 use Rattle.ufmt_conv.specs.DocViews.{pair_view, pairs_view}
 use Rattle.ufmt_conv.specs.Level.{entry_of, frame_of, setting_of}
-use Rattle.ufmt_conv.proofs.DocumentParts.{pairs_pass}
-use Rattle.ufmt_conv.proofs.EntrySteps.{pair_takes, put_passes}
+use Rattle.ufmt_conv.specs.Steps.{before_colon}
+use Rattle.ufmt_conv.proofs.DocumentParts.{colon_within, pair_is, value_is}
+use Rattle.ufmt_conv.proofs.EntrySteps.{behind_within, entry_of_takes, pair_takes, put_decides}
+use Rattle.ufmt_conv.proofs.Given.{passes_on}
 use Rattle.ufmt_conv.proofs.reader.open_block.put_in_map.Goals as goal
 
-pub returns-in_ok-push-in-Some : goal.returns-in_ok-push-in-Some
-returns-in_ok-push-in-Some c =
+pub returns-in_err-goes_on-in-Some : goal.returns-in_err-goes_on-in-Some
+returns-in_err-goes_on-in-Some c =
+    passes_on _ c.from_residual-in_err-goes_on-in-Some.result _ c.in_err-goes_on-in-Some.field-0.0 _ c.from_residual-in_err-goes_on-in-Some.ensures.1 (λ y p. p) λ refused.
+    rw (← c.in-Some.ensures.value) (put_decides _ _ (λ ps. map_of (pairs_of ps)) pair_view _ _ _ _ _ (pair_takes c.args.level) c.in_ok-push-in-Some.ensures.items (c.len.ensures ∙ c.push.new.self.ok.0) (c.in_err-goes_on-in-Some.ensures refused))
+
+pub returns-then-not-goes_on : goal.returns-then-not-goes_on
+returns-then-not-goes_on c =
+    (rw (← c.in-Some.ensures.value) (put_decides _ _ (λ ps. map_of (pairs_of ps)) pair_view _ _ _ _ _ (pair_takes c.args.level) c.in_ok-push-in-Some.ensures.items (c.len.ensures ∙ c.push.new.self.ok.0) (c.in_ok-goes_on-in-Some.ensures ∙ ap (λ b. Some (b, c.in_ok-goes_on-in-Some.rest.now)) c.if-not-goes_on.true)), behind_within _ _ _ _ _ _ c.in_ok-goes_on-in-Some.ensures)
+
+pub returns-in-Some-2 : goal.returns-in-Some-2
+returns-in-Some-2 c =
     let level = c.args.level in
-    rw (← c.in-Some.ensures.value, c.in-Some.ensures.after)
-    (pairs_pass (entry_of level) (frame_of level Braces) (setting_of level) (λ ps. map_of (pairs_of ps)) (pairs_view c.push.new.self) _ _ _ c.pass_entry.result
-    (put_passes (frame_of level Braces) (setting_of level) (λ ps. map_of (pairs_of ps)) pair_view _ _ _ _ _ c.pass_entry.result (pair_takes level) c.in_ok-push-in-Some.ensures.items (c.len.ensures ∙ c.push.new.self.ok.0) c.pass_entry.ensures))
+    let rest = c.in_ok-goes_on-in-Some.rest.now in
+    let key : before_colon (entry_of level) rest ≡ Some (doc_document c.in-Some-2.next, c.in-Some-2.behind.now) = subst (λ o. IfSome o (λ x. before_colon (entry_of level) rest ≡ Some (doc_document x.0, x.1.now))) c.in-Some-2.is c.in_ok-next-in-Some.ensures in
+    let a : length rest ≤ length c.args.input.now = behind_within _ _ _ _ _ _ c.in_ok-goes_on-in-Some.ensures in
+    let b : length c.in-Some-2.behind.now < length rest = colon_within _ _ _ (entry_of_takes level) key in
+    (rw (← c.in-Some.ensures.value) (put_decides _ _ (λ ps. map_of (pairs_of ps)) pair_view _ _ _ _ _ (pair_takes level) c.in_ok-push-in-Some.ensures.items (c.len.ensures ∙ c.push.new.self.ok.0) (c.in_ok-goes_on-in-Some.ensures ∙ ap (λ b. Some (b, rest)) c.if-not-goes_on.false)
+    ∙ value_is (entry_of level) (frame_of level Braces) (setting_of level) (λ ps. map_of (pairs_of ps)) (pairs_view c.push.new.self) (doc_document c.in-Some-2.next) rest c.in-Some-2.behind.now key), omega (arith, a, b))
+
+pub returns-in-None-2 : goal.returns-in-None-2
+returns-in-None-2 c =
+    let level = c.args.level in
+    let rest = c.in_ok-goes_on-in-Some.rest.now in
+    (rw (← c.in-Some.ensures.value, c.in-Some.ensures.after) (put_decides _ _ (λ ps. map_of (pairs_of ps)) pair_view _ _ _ _ _ (pair_takes level) c.in_ok-push-in-Some.ensures.items (c.len.ensures ∙ c.push.new.self.ok.0) (c.in_ok-goes_on-in-Some.ensures ∙ ap (λ b. Some (b, rest)) c.if-not-goes_on.false)
+    ∙ pair_is (entry_of level) (frame_of level Braces) (setting_of level) (λ ps. map_of (pairs_of ps)) (pairs_view c.push.new.self) rest), behind_within _ _ _ _ _ _ c.in_ok-goes_on-in-Some.ensures)
