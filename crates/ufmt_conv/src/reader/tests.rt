@@ -50,7 +50,7 @@ fn pretty_lists(alloc: Global, depth: usize, inner: &[u8]) -> Result<Vec<u8>, Fa
 
 #[test]
 fn plain_texts_are_read(rt: HostRuntime) {
-    let texts: [&[u8]; 14] = [
+    let texts: [&[u8]; 17] = [
         b"x",
         b"-",
         b"_",
@@ -65,6 +65,9 @@ fn plain_texts_are_read(rt: HostRuntime) {
         b"{S { a: b }}",
         b"S { a: b, c: [] }",
         b"{a: b, c: d}",
+        b"[a, [b], c]",
+        b"{a: b, (c,): d, e: f}",
+        b"n(a, {b}, c)",
     ];
     for text in texts {
         same(

@@ -73,8 +73,9 @@ fn split_entry(level: Level, input: &[u8]) -> Option<(&[u8], &[u8])>
     }
     let (word, rest) = split_word(input);
     if word.is_empty() {
-        None
-    } else if may_open(rest) {
+        return None;
+    }
+    if may_open(rest) {
         None
     } else {
         Some((word, rest))

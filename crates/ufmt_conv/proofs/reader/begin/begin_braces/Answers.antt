@@ -1,13 +1,9 @@
-use Rattle.std.proofs.Common.{◌≡◌, ◌∙◌, ap, sym, subst, ◌≤◌, ◌<◌, Some, suc, length, arith}
+use Rattle.std.proofs.Common.{◌≡◌, ◌∙◌, sym, subst, ◌≤◌, ◌<◌, Some, suc, length, arith}
 use Rattle.std.specs.Prelude.{IfSome}
-use Rattle.ufmt.specs.Document.{map_of, pairs_of}
 use Rattle.ufmt.specs.Layout.{inside, lead}
-use Rattle.ufmt.specs.Reading.{parse_map, read_pair}
 use Rattle.ufmt_core.specs.declared.formatter.block.Place.TheVariants.{First}
 use Rattle.ufmt_conv.specs.declared.reader.level.Kind.TheVariants.{Braces}
 use Rattle.ufmt_conv.specs.Doc.{doc_document}
-use Rattle.ufmt_conv.specs.DocViews.{pair_view}
-use Rattle.ufmt_conv.specs.Entries.{read_on}
 use Rattle.ufmt_conv.specs.Level.{entry_of, frame_of, setting_of}
 use Rattle.ufmt_conv.specs.Steps.{before_colon}
 use Rattle.ufmt_conv.proofs.DocumentParts.{braces_begin, colon_within, map_begins_with}

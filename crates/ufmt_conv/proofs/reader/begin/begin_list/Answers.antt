@@ -1,4 +1,4 @@
-use Rattle.std.proofs.Common.{◌≡◌, ◌∙◌, ap, sym, ◌≤◌, suc, length, map, arith}
+use Rattle.std.proofs.Common.{◌∙◌, ap, sym, ◌≤◌, suc, length, map, arith}
 use Rattle.ufmt.specs.Document.{documents, list_of}
 use Rattle.ufmt.specs.Layout.{inside, lead}
 use Rattle.ufmt_core.specs.declared.formatter.block.Place.TheVariants.{First}

@@ -1,4 +1,4 @@
-use Rattle.std.proofs.Common.{◌≡◌, ◌∙◌, ap, sym, ◌≤◌, ◌<◌, suc, length, arith}
+use Rattle.std.proofs.Common.{◌∙◌, ap, sym, ◌≤◌, ◌<◌, suc, length, arith}
 use Rattle.ufmt.specs.Layout.{inside, lead}
 use Rattle.ufmt.specs.Reading.{read_tuple}
 use Rattle.ufmt_core.specs.declared.formatter.block.Place.TheVariants.{First}

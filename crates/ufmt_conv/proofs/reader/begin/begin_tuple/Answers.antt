@@ -1,4 +1,4 @@
-use Rattle.std.proofs.Common.{◌≡◌, ◌∙◌, ap, sym, ◌≤◌, List, [], ℕ, suc, length, map, string_bytes, String, Vec, Global, arith}
+use Rattle.std.proofs.Common.{◌≡◌, ◌∙◌, ap, sym, ◌≤◌, List, [], ℕ, suc, length, map, string_bytes, arith}
 use Rattle.ufmt.specs.Document.{Document, documents, tuple_of}
 use Rattle.ufmt.specs.Layout.{frame, tuple_kind}
 use Rattle.ufmt.specs.Reading.{read_tuple}

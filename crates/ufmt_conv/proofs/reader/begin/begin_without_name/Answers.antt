@@ -1,4 +1,4 @@
-use Rattle.std.proofs.Common.{◌≡◌, ◌∙◌, ap, sym, ◌≤◌, ◌<◌, suc, length, arith}
+use Rattle.std.proofs.Common.{◌∙◌, ap, sym, ◌≤◌, ◌<◌, suc, length, arith}
 use Rattle.ufmt.specs.Layout.{inside, new_line}
 use Rattle.ufmt.specs.Reading.{read_tuple}
 use Rattle.ufmt_conv.specs.Level.{entry_of, mode_of, setting_of}

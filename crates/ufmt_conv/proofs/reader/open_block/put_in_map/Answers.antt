@@ -1,4 +1,4 @@
-use Rattle.std.proofs.Common.{◌≡◌, ◌∙◌, ap, sym, subst, ◌≤◌, ◌<◌, Some, length, arith}
+use Rattle.std.proofs.Common.{◌≡◌, ◌∙◌, ap, subst, ◌≤◌, ◌<◌, Some, length, arith}
 use Rattle.std.specs.Prelude.{IfSome}
 use Rattle.ufmt.specs.Document.{map_of, pairs_of}
 use Rattle.ufmt_conv.specs.declared.reader.level.Kind.TheVariants.{Braces}
@@ -26,13 +26,17 @@ returns-in-Some-2 c =
     let rest = c.in_ok-goes_on-in-Some.rest.now in
     let key : before_colon (entry_of level) rest ≡ Some (doc_document c.in-Some-2.next, c.in-Some-2.behind.now) = subst (λ o. IfSome o (λ x. before_colon (entry_of level) rest ≡ Some (doc_document x.0, x.1.now))) c.in-Some-2.is c.in_ok-next-in-Some.ensures in
     let a : length rest ≤ length c.args.input.now = behind_within _ _ _ _ _ _ c.in_ok-goes_on-in-Some.ensures in
-    let b : length c.in-Some-2.behind.now < length rest = colon_within _ _ _ (entry_of_takes level) key in
-    (rw (← c.in-Some.ensures.value) (put_decides _ _ (λ ps. map_of (pairs_of ps)) pair_view _ _ _ _ _ (pair_takes level) c.in_ok-push-in-Some.ensures.items (c.len.ensures ∙ c.push.new.self.ok.0) (c.in_ok-goes_on-in-Some.ensures ∙ ap (λ b. Some (b, rest)) c.if-not-goes_on.false)
-    ∙ value_is (entry_of level) (frame_of level Braces) (setting_of level) (λ ps. map_of (pairs_of ps)) (pairs_view c.push.new.self) (doc_document c.in-Some-2.next) rest c.in-Some-2.behind.now key), omega (arith, a, b))
+    let b : length c.in-Some-2.behind.now < length rest = colon_within _ _ _ (entry_of_takes level) key in (
+      rw (← c.in-Some.ensures.value) (put_decides _ _ (λ ps. map_of (pairs_of ps)) pair_view _ _ _ _ _ (pair_takes level) c.in_ok-push-in-Some.ensures.items (c.len.ensures ∙ c.push.new.self.ok.0) (c.in_ok-goes_on-in-Some.ensures ∙ ap (λ b. Some (b, rest)) c.if-not-goes_on.false)
+          ∙ value_is (entry_of level) (frame_of level Braces) (setting_of level) (λ ps. map_of (pairs_of ps)) (pairs_view c.push.new.self) (doc_document c.in-Some-2.next) rest c.in-Some-2.behind.now key),
+      omega (arith, a, b),
+    )
 
 pub returns-in-None-2 : goal.returns-in-None-2
 returns-in-None-2 c =
     let level = c.args.level in
-    let rest = c.in_ok-goes_on-in-Some.rest.now in
-    (rw (← c.in-Some.ensures.value, c.in-Some.ensures.after) (put_decides _ _ (λ ps. map_of (pairs_of ps)) pair_view _ _ _ _ _ (pair_takes level) c.in_ok-push-in-Some.ensures.items (c.len.ensures ∙ c.push.new.self.ok.0) (c.in_ok-goes_on-in-Some.ensures ∙ ap (λ b. Some (b, rest)) c.if-not-goes_on.false)
-    ∙ pair_is (entry_of level) (frame_of level Braces) (setting_of level) (λ ps. map_of (pairs_of ps)) (pairs_view c.push.new.self) rest), behind_within _ _ _ _ _ _ c.in_ok-goes_on-in-Some.ensures)
+    let rest = c.in_ok-goes_on-in-Some.rest.now in (
+      rw (← c.in-Some.ensures.value, c.in-Some.ensures.after) (put_decides _ _ (λ ps. map_of (pairs_of ps)) pair_view _ _ _ _ _ (pair_takes level) c.in_ok-push-in-Some.ensures.items (c.len.ensures ∙ c.push.new.self.ok.0) (c.in_ok-goes_on-in-Some.ensures ∙ ap (λ b. Some (b, rest)) c.if-not-goes_on.false)
+          ∙ pair_is (entry_of level) (frame_of level Braces) (setting_of level) (λ ps. map_of (pairs_of ps)) (pairs_view c.push.new.self) rest),
+      behind_within _ _ _ _ _ _ c.in_ok-goes_on-in-Some.ensures,
+    )

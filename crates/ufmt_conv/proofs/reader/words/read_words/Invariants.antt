@@ -1,4 +1,4 @@
-use Rattle.std.proofs.Common.{◌≡◌, ◌≤◌, List, Option, length}
+use Rattle.std.proofs.Common.{◌≡◌, ◌≤◌, List, length}
 use Rattle.ufmt.specs.Document.{Document}
 use Rattle.ufmt_conv.specs.DocViews.{docs_view}
 use Rattle.ufmt_conv.specs.Entries.{read_on}
