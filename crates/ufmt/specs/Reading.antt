@@ -156,10 +156,10 @@ unfoldable pub read : Setting → ℕ → Parse Document
 read s zero t = read_with s (λ u. None) t
 read s (suc n) t = read_with s (read (inside s) n) t
 
--- a document after which nothing is left
-abbrev pub if_all : Document → List ℕ → Option Document
-if_all d [] = Some d
-if_all d (c ∷ t) = None
+-- what was made of a text after which nothing is left
+abbrev pub if_all : {A : Type 0} → A → List ℕ → Option A
+if_all x [] = Some x
+if_all x (c ∷ t) = None
 
 -- the normal form of the token document that has this text in this mode; None where there is none
 abbrev pub read_text : Mode → List ℕ → Option Document

@@ -9,7 +9,7 @@ use Rattle.ufmt_conv.specs.declared.convert.text_block.TextBlock.TheVariants as 
 use Rattle.ufmt_conv.specs.declared.reader.level.Level.{Level}
 use Rattle.ufmt_conv.specs.declared.reader.level.Mode.{Mode}
 use Rattle.ufmt_conv.specs.declared.reader.level.Mode.TheVariants.{Plain, Pretty}
-use Rattle.ufmt_conv.specs.Converting.{all_text, document_text, entry_text, finish_text, prefixed, resume_text}
+use Rattle.ufmt_conv.specs.Converting.{document_text, entry_text, finish_text, prefixed, resume_text}
 use Rattle.ufmt_conv.specs.Level.{budget_of, mode_of, setting_of}
 use Rattle.ufmt_conv.specs.Stack.{level_at}
 use Rattle.ufmt_conv.proofs.Stacks.{document_is, resumed_in, resumed_none, resumed_out, setting_inside}
@@ -49,14 +49,14 @@ pub document_text_none : (from to : Mode) (k : ℕ) (t : List ℕ) → k ≡ 256
 document_text_none from to k t all = ap (λ n. document_text from to n t) all
 
 -- a whole text is converted where nothing is left behind it
-pub whole_text : (f : Document → List ℕ) (o : Option (Document × List ℕ)) (out t : List ℕ) → parse_map f o ≡ Some (out, t) → option_map f (option_and_then (λ x. if_all x.0 x.1) o) ≡ all_text out t
-whole_text f o out t h = left f o ∙ ap (λ p. option_and_then (λ x. all_text x.0 x.1) p) h
+pub whole_text : (f : Document → List ℕ) (o : Option (Document × List ℕ)) (out t : List ℕ) → parse_map f o ≡ Some (out, t) → option_map f (option_and_then (λ x. if_all x.0 x.1) o) ≡ if_all out t
+whole_text f o out t h = left f o ∙ ap (λ p. option_and_then (λ x. if_all x.0 x.1) p) h
   where
-    ended : (f : Document → List ℕ) (d : Document) (u : List ℕ) → option_map f (if_all d u) ≡ all_text (f d) u
+    ended : (f : Document → List ℕ) (d : Document) (u : List ℕ) → option_map f (if_all d u) ≡ if_all (f d) u
     ended f d [] = refl
     ended f d (c ∷ u) = refl
 
-    left : (f : Document → List ℕ) (p : Option (Document × List ℕ)) → option_map f (option_and_then (λ x. if_all x.0 x.1) p) ≡ option_and_then (λ x. all_text x.0 x.1) (parse_map f p)
+    left : (f : Document → List ℕ) (p : Option (Document × List ℕ)) → option_map f (option_and_then (λ x. if_all x.0 x.1) p) ≡ option_and_then (λ x. if_all x.0 x.1) (parse_map f p)
     left f None = refl
     left f (Some x) = ended f x.0 x.1
 

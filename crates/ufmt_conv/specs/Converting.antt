@@ -112,8 +112,3 @@ handed_text from to open_blocks false out t = resume_text from to 0 open_blocks 
 -- these blocks, this text and this rest were come to in converting this
 abbrev pub HandsText : Mode → Mode → ℕ → Result (Bool × Bor (List ℕ)) ReadError → List TextBlock → List ℕ → Option (List ℕ × List ℕ) → Type 0
 HandsText from to bytes answer open_blocks out there = MatchResult answer (λ x. (there ≡ handed_text from to open_blocks x.0 out x.1.now) × (length x.1.now ≤ bytes)) (λ e. e ≡ NotText → there ≡ None)
-
--- the text of a document after which nothing is left
-abbrev pub all_text : List ℕ → List ℕ → Option (List ℕ)
-all_text out [] = Some out
-all_text out (c ∷ t) = None

@@ -1,8 +1,7 @@
 //! Converting a text from one mode to another entry by entry: a loop over the blocks that are open.
 ghost use Rattle.std.specs.Prelude.{option_map, string_bytes};
 ghost use Rattle.ufmt.specs.Layout.{layout, setting};
-ghost use Rattle.ufmt.specs.Reading.{read_text};
-ghost use Rattle.ufmt_conv.specs.Converting.{all_text};
+ghost use Rattle.ufmt.specs.Reading.{if_all, read_text};
 ghost use Rattle.ufmt_conv.specs.Level.{mode_of};
 ghost use Rattle.ufmt_conv.specs.Read.{Gives};
 
@@ -44,7 +43,7 @@ pub(super) fn converted(
 
 // The text, unless something is left behind it.
 fn if_all(output: String, rest: &[u8]) -> Result<String, ReadError>
-    ensures { Gives string_bytes result (all_text (string_bytes output) rest.now) }
+    ensures { Gives string_bytes result (if_all (string_bytes output) rest.now) }
 {
     if rest.is_empty() {
         Ok(output)
