@@ -1,5 +1,5 @@
 -- Where documents, pairs and fields begin, in terms of what their entries are read as.
-use Rattle.std.proofs.Common.{◌≡◌, refl, ap, ◌∙◌, ℕ, zero, suc, ◌-◌, ◌<◌, ◌≤◌, ◌==◌, ◌⊎◌, inl, inr, Bool, true, false, cond, Result, Ok, Err, MatchResult, Bor, List, [], ◌∷◌, ◌++◌, length, eqb-true, Option, Some, None, option_map, option_and_then, codes, arith}
+use Rattle.std.proofs.Common.{◌≡◌, refl, ap, ◌∙◌, ℕ, zero, suc, ◌-◌, ◌<◌, ◌≤◌, ◌==◌, ◌⊎◌, inl, inr, true, false, List, [], ◌∷◌, ◌++◌, length, eqb-true, Option, Some, None, option_map, option_and_then, codes, arith}
 use Rattle.std.proofs.lemmas.Bool.Decides.{nat_tests}
 use Rattle.ufmt.specs.Document.{Document, leaf, list_of, set_of, map_of, struct_of, tuple_of, documents, pairs_of, fields_of}
 use Rattle.ufmt_core.specs.declared.formatter.Setting.{Setting}
@@ -11,8 +11,6 @@ use Rattle.ufmt.specs.Reading.{Parse, parse_map, strip, word_of, after_word, rea
 use Rattle.ufmt.proofs.Parsing.{led_from, beside_from}
 use Rattle.ufmt.proofs.ReadingTurns.{Takes, read_word_takes, strip_within}
 use Rattle.ufmt.proofs.Words.{word_of_bytes}
-use Rattle.ufmt_conv.specs.declared.reader.error.ReadError.{ReadError}
-use Rattle.ufmt_conv.specs.declared.reader.error.ReadError.TheVariants.{NotText}
 use Rattle.ufmt_conv.specs.Entries.{read_on}
 use Rattle.ufmt_conv.specs.declared.reader.level.Level.{Level}
 use Rattle.ufmt_conv.specs.Level.{entry_at, entry_of, setting_of}
@@ -35,7 +33,7 @@ struct_begins s p [] t r word tuple opening = absurd word
 struct_begins s p (c ∷ w) t r word tuple opening = rw (tuple, opening) (first_is_read_on (read_pair read_word p) (frame s.mode Struct) s (λ fs. struct_of (c ∷ w) (fields_of fs)) (read_pair read_word p r))
 
 -- a pair or a field from what stands before its colon
-pub pair_is_beside : {A : Type 0} (q : Parse A) (p : Parse Document) (t : List ℕ) → read_pair q p t ≡ option_and_then (λ x. parse_map {A = Document} {B = A × Document} (λ value. (x.0, value)) (p x.1)) (before_colon q t)
+pair_is_beside : {A : Type 0} (q : Parse A) (p : Parse Document) (t : List ℕ) → read_pair q p t ≡ option_and_then (λ x. parse_map {A = Document} {B = A × Document} (λ value. (x.0, value)) (p x.1)) (before_colon q t)
 pair_is_beside {A} q p t = by_key (q t)
   where
     colon : (key : A) (o : Option (List ℕ)) → option_and_then (λ u. parse_map (λ value. (key, value)) (p u)) o ≡ option_and_then (λ x. parse_map {A = Document} {B = A × Document} (λ value. (x.0, value)) (p x.1)) (option_map {U = A × List ℕ} (λ u. (key, u)) o)
@@ -55,7 +53,7 @@ pub pair_without : {A : Type 0} (q : Parse A) (p : Parse Document) (t : List ℕ
 pair_without {A} q p t h = pair_is_beside q p t ∙ ap (λ o. option_and_then (λ x. parse_map {A = Document} {B = A × Document} (λ value. (x.0, value)) (p x.1)) o) h
 
 -- what stands before a colon and a space was read, and they follow it
-pub colon_follows : {A : Type 0} (q : Parse A) (t : List ℕ) (key : A) (u : List ℕ) → before_colon q t ≡ Some (key, u) → (v : List ℕ) × (q t ≡ Some (key, v)) × (strip (codes ": ") v ≡ Some u)
+colon_follows : {A : Type 0} (q : Parse A) (t : List ℕ) (key : A) (u : List ℕ) → before_colon q t ≡ Some (key, u) → (v : List ℕ) × (q t ≡ Some (key, v)) × (strip (codes ": ") v ≡ Some u)
 colon_follows q t key u h =
     let read = led_from _ (q t) (key, u) h in
     let colon = beside_from read.0.0 (strip (codes ": ") read.0.1) key u read.2 in
@@ -89,15 +87,15 @@ unnamed_begins s p t r bracket brace unit opening = unnamed_opens s p t r bracke
 pub map_begins : (s : Setting) (p : Parse Document) (d : Document) (t u : List ℕ) → strip (codes ": ") t ≡ Some u → read_map_or_set s p d t ≡ read_on (read_pair p p) (frame s.mode Braces) s (λ ps. map_of (pairs_of ps)) [] (parse_map (λ value. (d, value)) (p u))
 map_begins s p d t u colon = rw colon (first_is_read_on (read_pair p p) (frame s.mode Braces) s (λ ps. map_of (pairs_of ps)) (parse_map (λ value. (d, value)) (p u)))
 
--- so does a map whose first key and its colon were read
+-- and else a set
+pub set_begins : (s : Setting) (p : Parse Document) (d : Document) (t : List ℕ) → strip (codes ": ") t ≡ None → read_map_or_set s p d t ≡ read_on p (frame s.mode Braces) s (λ ds. set_of (documents ds)) [] (Some (d, t))
+set_begins s p d t colon = rw colon (first_is_read_on p (frame s.mode Braces) s (λ ds. set_of (documents ds)) (Some (d, t)))
+
+-- a map whose first key was read with its colon
 pub map_begins_with : (s : Setting) (p : Parse Document) (key : Document) (t u : List ℕ) → before_colon p t ≡ Some (key, u) → option_and_then (λ x. read_map_or_set s p x.0 x.1) (p t) ≡ read_on (read_pair p p) (frame s.mode Braces) s (λ ps. map_of (pairs_of ps)) [] (parse_map (λ value. (key, value)) (p u))
 map_begins_with s p key t u h =
     let read = colon_follows p t key u h in
     rw read.1 (map_begins s p key read.0 u read.2)
-
--- and else a set
-pub set_begins : (s : Setting) (p : Parse Document) (d : Document) (t : List ℕ) → strip (codes ": ") t ≡ None → read_map_or_set s p d t ≡ read_on p (frame s.mode Braces) s (λ ds. set_of (documents ds)) [] (Some (d, t))
-set_begins s p d t colon = rw colon (first_is_read_on p (frame s.mode Braces) s (λ ds. set_of (documents ds)) (Some (d, t)))
 
 -- a pair of a map is a key, and then a value
 pub pair_is : (p : Parse Document) (f : Frame) (s : Setting) (make : List (Document × Document) → Document) (xs : List (Document × Document)) (t : List ℕ) → read_on (read_pair p p) f s make xs (read_pair p p t) ≡ option_and_then (λ x. read_on (read_pair p p) f s make xs (read_value p x.0 x.1)) (p t)
@@ -107,17 +105,9 @@ pair_is p f s make xs t = by_key (p t)
     by_key None = refl
     by_key (Some x) = refl
 
--- and where the key and its colon were read, its value
-pub value_is : (p : Parse Document) (f : Frame) (s : Setting) (make : List (Document × Document) → Document) (xs : List (Document × Document)) (key : Document) (t u : List ℕ) → before_colon p t ≡ Some (key, u) → read_on (read_pair p p) f s make xs (read_pair p p t) ≡ read_on (read_pair p p) f s make xs (parse_map (λ value. (key, value)) (p u))
-value_is p f s make xs key t u h = ap (λ o. read_on (read_pair p p) f s make xs o) (pair_from p p t key u h)
-
--- so where the next pair begins, its key decides
-pub pairs_pass : (p : Parse Document) (f : Frame) (s : Setting) (make : List (Document × Document) → Document) (xs : List (Document × Document)) (ended : Document) (n : ℕ) (there : Option (Document × List ℕ)) (answer : Result (Bool × Bor (List ℕ)) ReadError)
-    → MatchResult answer (λ a. (there ≡ cond a.0 (read_on (read_pair p p) f s make xs (read_pair p p a.1.now)) (Some (ended, a.1.now))) × (length a.1.now ≤ n)) (λ e. e ≡ NotText → there ≡ None)
-    → MatchResult answer (λ a. (there ≡ cond a.0 (option_and_then (λ x. read_on (read_pair p p) f s make xs (read_value p x.0 x.1)) (p a.1.now)) (Some (ended, a.1.now))) × (length a.1.now ≤ n)) (λ e. e ≡ NotText → there ≡ None)
-pairs_pass p f s make xs ended n there (Err e) h = h
-pairs_pass p f s make xs ended n there (Ok (true, v)) h = (h.0 ∙ pair_is p f s make xs v.now, h.1)
-pairs_pass p f s make xs ended n there (Ok (false, v)) h = h
+-- a pair or a field whose key or name was read with its colon is that, and then a value
+pub value_is : {A : Type 0} (q : Parse A) (p : Parse Document) (f : Frame) (s : Setting) (make : List (A × Document) → Document) (xs : List (A × Document)) (key : A) (t u : List ℕ) → before_colon q t ≡ Some (key, u) → read_on (read_pair q p) f s make xs (read_pair q p t) ≡ read_on (read_pair q p) f s make xs (parse_map (λ value. (key, value)) (p u))
+value_is q p f s make xs key t u h = ap (λ o. read_on (read_pair q p) f s make xs o) (pair_from q p t key u h)
 
 -- a document is read in terms of what reads its entries
 read_is : (s : Setting) (n : ℕ) (t : List ℕ) → read s n t ≡ read_with s (entry_at s n) t
@@ -157,7 +147,7 @@ word_is_read t (c ∷ w) u word rest some = rw (← word, ← rest) refl
 pub word_within : (t w u : List ℕ) → w ≡ word_of t → u ≡ after_word t → (length w == 0) ≡ false → suc (length u) ≤ length t
 word_within t w u word rest some = let shorter = read_word_takes.takes t w u (word_is_read t w u word rest some) in omega (arith, shorter)
 
--- with neither a bracket nor a space begins nothing that may stand between a name and the first entry of its block
+-- where neither an opening parenthesis nor a space stands, nothing is stripped that begins with one
 opens_nothing : (c : ℕ) (text t : List ℕ) → (c == 40) ≡ true ⊎ (c == 32) ≡ true → may_open t ≡ false → strip (c ∷ text) t ≡ None
 opens_nothing c text [] which none = refl
 opens_nothing c text (b ∷ t) which none = rw (differs which) refl

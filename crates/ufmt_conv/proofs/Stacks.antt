@@ -22,7 +22,7 @@ pub steps_longer : (level : Level) (m n : ℕ) (answer : Result (Option Doc × B
 steps_longer level m n (Ok x) old new there longer h = (h.0, let less = h.1 in omega (arith, less), h.2)
 steps_longer level m n (Err e) old new there longer h = h
 
--- likewise where more is read, as this
+-- likewise where what is read is what the step was made in reading
 pub steps_are : (level : Level) (m n : ℕ) (answer : Result (Option Doc × Bor (List ℕ)) ReadError) (old new : List OpenBlock) (there all : Option (Document × List ℕ)) → all ≡ there → m ≤ n → Steps level m answer old new there → Steps level n answer old new all
 steps_are level m n answer old new there all same longer h = subst (λ o. Steps level n answer old new o) (sym same) (steps_longer level m n answer old new there longer h)
 

@@ -1,5 +1,5 @@
 -- Converting a text entry by entry: what is written behind an entry of a block that is open, without the documents before it.
-use Rattle.std.specs.Prelude.{◌≡◌, ℕ, zero, suc, ◌<◌, ◌≤◌, Bool, true, false, cond, length, List, [], ◌∷◌, ◌++◌, codes, Option, Some, None, option_and_then, Result, MatchResult}
+use Rattle.std.specs.Prelude.{◌≡◌, ℕ, zero, suc, ◌<◌, ◌≤◌, Bool, true, false, cond, length, List, ◌++◌, codes, Option, Some, None, option_and_then, Result, MatchResult}
 use Rattle.std.specs.Borrow.{Bor}
 use Rattle.ufmt_core.specs.declared.formatter.Setting.{Setting}
 use Rattle.ufmt_core.specs.declared.formatter.block.Place.{Place}

@@ -52,12 +52,16 @@ left level block goes_on t = cond goes_on (finish level block (entry_of level t)
 abbrev pub Puts : Level → ℕ → Result (Bool × Bor (List ℕ)) ReadError → OpenBlock → Option (Document × List ℕ) → Type 0
 Puts level bytes answer block there = MatchResult answer (λ x. (there ≡ left level block x.0 x.1.now) × (length x.1.now ≤ bytes)) (λ e. e ≡ NotText → there ≡ None)
 
--- the same of a block of this kind with these entries before and behind, whatever document they make, where its next entry is read as this
+-- a block of this kind with these entries before, whatever document they make, where its next entry is read as this
+abbrev pub entries_on : Level → Kind → (List Document → Document) → List Document → Option (Document × List ℕ) → Option (Document × List ℕ)
+entries_on level kind make before o = read_on (entry_of level) (frame_of level kind) (setting_of level) make before o
+
+-- it goes on as the same block with those entries behind, or ended with them
 abbrev pub PutsEntries : Level → Kind → ℕ → Result (Bool × Bor (List ℕ)) ReadError → List Document → List Document → Option (Document × List ℕ) → Type 0
 PutsEntries level kind bytes answer old new o = (make : List Document → Document) →
     MatchResult answer
-    (λ x. (read_on (entry_of level) (frame_of level kind) (setting_of level) make old o ≡ cond x.0 (read_on (entry_of level) (frame_of level kind) (setting_of level) make new (entry_of level x.1.now)) (Some (make new, x.1.now))) × (length x.1.now ≤ bytes))
-    (λ e. e ≡ NotText → read_on (entry_of level) (frame_of level kind) (setting_of level) make old o ≡ None)
+    (λ x. (entries_on level kind make old o ≡ cond x.0 (entries_on level kind make new (entry_of level x.1.now)) (Some (make new, x.1.now))) × (length x.1.now ≤ bytes))
+    (λ e. e ≡ NotText → entries_on level kind make old o ≡ None)
 
 -- the innermost of the blocks that are open, where any is
 abbrev pub innermost : List OpenBlock → OpenBlock

@@ -7,7 +7,7 @@ pub record Passed (t : List ℕ) (i : ℕ) : Type 0 where
   pub word : word_of t ≡ take i t ++ word_of (drop i t)
   pub rest : after_word t ≡ after_word (drop i t)
 
--- a bracket or a space: with one of them begins what stands between a name and the first entry of its block
+-- whether a text begins with an opening parenthesis or a space, as all does that stands between a name and its block's first entry
 abbrev pub may_open : List ℕ → Bool
 may_open [] = false
 may_open (c ∷ t) = (40 == c) || (32 == c)

@@ -12,7 +12,7 @@ mod open_blocks;
 #[cfg(test)]
 mod tests;
 pub(crate) mod word;
-mod words;
+mod word_entries;
 
 use crate::doc::Doc;
 use begin::begin;

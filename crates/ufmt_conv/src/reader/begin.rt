@@ -11,14 +11,14 @@ use crate::reader::level::{Kind, Level, strip};
 use crate::reader::open_block::{OpenBlock, read_label, tuple_kind};
 use crate::reader::open_blocks::OpenBlocks;
 use crate::reader::word::{split_word, word_text};
-use crate::reader::words::{read_key, read_words};
+use crate::reader::word_entries::{read_key, read_words};
 use std::alloc::Global;
 
 // How many entries a block has room for at first: as many as a vector's first growth makes.
 const FIRST_ENTRIES: usize = 4;
 
-/// Reads a leaf, an empty block or one whose entries are all words, or opens a block up to an entry
-/// that is no word: then the answer has no document.
+/// Reads a leaf, an empty block, or a list or tuple of words alone, or opens a block up to what is
+/// read next in it: then the answer has no document.
 pub(super) fn begin<'a>(
     alloc: Global,
     level: Level,
@@ -58,7 +58,7 @@ fn begin_named<'a>(
     } else if let Some(rest) = level.strip_lead(Kind::Struct, input) {
         let (label, rest) = read_label(alloc, rest)?;
         let fields = Vec::with_capacity(alloc, FIRST_ENTRIES)?;
-        blocks.open(alloc, OpenBlock::Struct(name, fields, label), true, rest)
+        blocks.open_or_close(alloc, OpenBlock::Struct(name, fields, label), true, rest)
     } else {
         Ok((Some(Doc::Leaf(name)), input))
     }
@@ -80,7 +80,7 @@ fn begin_tuple<'a>(
 {
     let mut entries = Vec::with_capacity(alloc, FIRST_ENTRIES)?;
     let (goes_on, rest) = read_words(alloc, level, tuple_kind(&name), &mut entries, input)?;
-    blocks.open(alloc, OpenBlock::Tuple(name, entries), goes_on, rest)
+    blocks.open_or_close(alloc, OpenBlock::Tuple(name, entries), goes_on, rest)
 }
 
 // What begins with no word.
@@ -125,7 +125,7 @@ fn begin_list<'a>(
     } else if let Some(rest) = level.strip_lead(Kind::Brackets, input) {
         let mut entries = Vec::with_capacity(alloc, FIRST_ENTRIES)?;
         let (goes_on, rest) = read_words(alloc, level, Kind::Brackets, &mut entries, rest)?;
-        blocks.open(alloc, OpenBlock::List(entries), goes_on, rest)
+        blocks.open_or_close(alloc, OpenBlock::List(entries), goes_on, rest)
     } else {
         Err(ReadError::NotText)
     }
@@ -149,9 +149,9 @@ fn begin_braces<'a>(
         match read_key(alloc, level, rest)? {
             Some((key, rest)) => {
                 let pairs = Vec::with_capacity(alloc, FIRST_ENTRIES)?;
-                blocks.open(alloc, OpenBlock::Map(pairs, Some(key)), true, rest)
+                blocks.open_or_close(alloc, OpenBlock::Map(pairs, Some(key)), true, rest)
             }
-            None => blocks.open(alloc, OpenBlock::Braces, true, rest),
+            None => blocks.open_or_close(alloc, OpenBlock::Braces, true, rest),
         }
     } else {
         Err(ReadError::NotText)

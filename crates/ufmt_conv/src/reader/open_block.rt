@@ -12,7 +12,7 @@ use crate::doc::Doc;
 use crate::reader::error::ReadError;
 use crate::reader::level::{Kind, Level, expect, strip};
 use crate::reader::word::{split_word, word_text};
-use crate::reader::words::read_key;
+use crate::reader::word_entries::read_key;
 use std::alloc::Global;
 use std::mem;
 
@@ -114,8 +114,8 @@ fn decide<'a>(
     }
 }
 
-// Puts a key into a map, or a value beside the key that waits, and reads the next key if it is a
-// word.
+// Puts a key into a map; or puts a value beside the key that waits, and reads the next key if it is
+// a word.
 fn put_in_map<'a>(
     alloc: Global,
     level: Level,

@@ -36,9 +36,9 @@ impl OpenBlocks {
         Some(Level { mode, depth })
     }
 
-    /// Opens a block in the innermost one where an entry begins in it, or closes it where it ended.
+    /// Pushes a block in which an entry begins, or answers the document of one that ended.
     #[inline(always)]
-    pub(super) fn open<'a>(
+    pub(super) fn open_or_close<'a>(
         &mut self,
         alloc: Global,
         block: OpenBlock,

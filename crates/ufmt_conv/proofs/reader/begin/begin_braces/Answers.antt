@@ -21,10 +21,10 @@ returns-in_ok-pairs-in-Some-2 c =
     let a : length start ≤ length c.args.input.now = strip_within (lead (frame_of level Braces) (inside (setting_of level)) First) c.args.input.now start (sym c.in-Some-strip_lead.ensures) in
     let b : length rest < length start = colon_within _ _ _ (entry_of_takes level) key in
     let longer : suc (length rest) ≤ suc (length c.args.input.now) = omega (arith, a, b) in
-    steps_are level _ _ c.open.result c.args.blocks.now.blocks.items c.open.new.self.blocks.items _ _
+    steps_are level _ _ c.open_or_close.result c.args.blocks.now.blocks.items c.open_or_close.new.self.blocks.items _ _
     (braces_begin (setting_of level) (entry_of level) c.args.input.now start (sym c.in_default.ensures) (sym c.in-Some-strip_lead.ensures)
     ∙ rw c.in_ok-pairs-in-Some-2.ensures.items (map_begins_with (setting_of level) (entry_of level) (doc_document c.in-Some-2.key) start rest key))
-    longer (c.open.ensures level)
+    longer (c.open_or_close.ensures level)
 
 pub returns-in-None : goal.returns-in-None
 returns-in-None c =
@@ -32,6 +32,6 @@ returns-in-None c =
     let start = c.in-Some-strip_lead.rest.now in
     let a : length start ≤ length c.args.input.now = strip_within (lead (frame_of level Braces) (inside (setting_of level)) First) c.args.input.now start (sym c.in-Some-strip_lead.ensures) in
     let longer : suc (length start) ≤ suc (length c.args.input.now) = omega (arith, a) in
-    steps_are level _ _ c.open-in-None.result c.args.blocks.now.blocks.items c.open-in-None.new.self.blocks.items _ _
+    steps_are level _ _ c.open_or_close-in-None.result c.args.blocks.now.blocks.items c.open_or_close-in-None.new.self.blocks.items _ _
     (braces_begin (setting_of level) (entry_of level) c.args.input.now start (sym c.in_default.ensures) (sym c.in-Some-strip_lead.ensures))
-    longer (c.open-in-None.ensures level)
+    longer (c.open_or_close-in-None.ensures level)

@@ -5,7 +5,7 @@ use Rattle.ufmt_conv.specs.declared.reader.level.Kind.TheVariants.{Struct}
 use Rattle.ufmt_conv.specs.DocViews.{field_view, fields_view}
 use Rattle.ufmt_conv.specs.Entries.{read_on}
 use Rattle.ufmt_conv.specs.Level.{entry_of, frame_of, setting_of}
-use Rattle.ufmt_conv.proofs.DocumentParts.{colon_within, pair_from, pair_without}
+use Rattle.ufmt_conv.proofs.DocumentParts.{colon_within, pair_without, value_is}
 use Rattle.ufmt.proofs.ReadingTurns.{read_word_takes}
 use Rattle.ufmt_conv.proofs.EntrySteps.{behind_within, field_takes, put_decides}
 use Rattle.ufmt_conv.proofs.Given.{passes_on}
@@ -32,7 +32,7 @@ returns-in_ok-next c = λ name.
     let a : length c.in_ok-goes_on.rest.now ≤ length c.args.input.now = behind_within _ _ _ _ _ _ c.in_ok-goes_on.ensures in
     let b : length c.in_ok-next.rest.now < length c.in_ok-goes_on.rest.now = colon_within _ _ _ read_word_takes c.in_ok-next.ensures in (
       put_decides _ _ _ field_view _ _ _ _ _ (field_takes level) pushed (c.len.ensures ∙ c.push.new.self.ok.0) (c.in_ok-goes_on.ensures ∙ ap (λ b. Some (b, c.in_ok-goes_on.rest.now)) c.if-goes_on.true)
-          ∙ ap (λ o. read_on (read_pair read_word (entry_of level)) (frame_of level Struct) (setting_of level) (λ fs. struct_of (string_bytes name) (fields_of fs)) (fields_view c.push.new.self) o) (pair_from read_word (entry_of level) c.in_ok-goes_on.rest.now _ _ c.in_ok-next.ensures),
+          ∙ value_is read_word (entry_of level) (frame_of level Struct) (setting_of level) (λ fs. struct_of (string_bytes name) (fields_of fs)) (fields_view c.push.new.self) _ c.in_ok-goes_on.rest.now _ c.in_ok-next.ensures,
       omega (arith, a, b),
     )
 

@@ -28,7 +28,7 @@ returns-in-Some-2 c =
     let a : length rest ≤ length c.args.input.now = behind_within _ _ _ _ _ _ c.in_ok-goes_on-in-Some.ensures in
     let b : length c.in-Some-2.behind.now < length rest = colon_within _ _ _ (entry_of_takes level) key in (
       rw (← c.in-Some.ensures.value) (put_decides _ _ (λ ps. map_of (pairs_of ps)) pair_view _ _ _ _ _ (pair_takes level) c.in_ok-push-in-Some.ensures.items (c.len.ensures ∙ c.push.new.self.ok.0) (c.in_ok-goes_on-in-Some.ensures ∙ ap (λ b. Some (b, rest)) c.if-not-goes_on.false)
-          ∙ value_is (entry_of level) (frame_of level Braces) (setting_of level) (λ ps. map_of (pairs_of ps)) (pairs_view c.push.new.self) (doc_document c.in-Some-2.next) rest c.in-Some-2.behind.now key),
+          ∙ value_is (entry_of level) (entry_of level) (frame_of level Braces) (setting_of level) (λ ps. map_of (pairs_of ps)) (pairs_view c.push.new.self) (doc_document c.in-Some-2.next) rest c.in-Some-2.behind.now key),
       omega (arith, a, b),
     )
 

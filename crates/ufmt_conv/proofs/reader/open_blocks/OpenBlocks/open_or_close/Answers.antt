@@ -1,7 +1,7 @@
 use Rattle.std.proofs.Common.{ap, length, ◌<◌, suc, arith}
 use Rattle.ufmt_conv.specs.Steps.{left}
 use Rattle.ufmt_conv.proofs.Stacks.{opened}
-use Rattle.ufmt_conv.proofs.reader.open_blocks.OpenBlocks.open.Goals as goal
+use Rattle.ufmt_conv.proofs.reader.open_blocks.OpenBlocks.open_or_close.Goals as goal
 
 pub returns-in_ok-push : goal.returns-in_ok-push
 returns-in_ok-push c = λ level.

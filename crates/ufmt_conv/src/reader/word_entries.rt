@@ -1,5 +1,5 @@
-//! Entries that are words, which are read as they stand, with no block opened.
-ghost use Rattle.std.specs.Prelude.{◌≡◌, length, codes, IfOk, IfSome, MatchResult, Some};
+//! Entries and keys that are words, which are read without a turn of the reader's loop.
+ghost use Rattle.std.specs.Prelude.{◌≡◌, length, IfSome, MatchResult, Some};
 ghost use Rattle.ufmt.specs.Document.{leaf};
 ghost use Rattle.ufmt.specs.Token.{AreWordBytes};
 ghost use Rattle.ufmt_conv.specs.Doc.{doc_document};
@@ -15,8 +15,8 @@ use crate::reader::open_block::put_entry;
 use crate::reader::word::{split_word, word_text};
 use std::alloc::Global;
 
-/// Reads the entries of a block that are words, up to one that is none: true, and where that
-/// begins, or false, and what follows the block's end.
+/// Puts in the entries of a block up to the first that is no word: true, and where that begins, or
+/// false, and what follows the block's end.
 #[inline(always)]
 pub(super) fn read_words<'a>(
     alloc: Global,
@@ -68,6 +68,7 @@ fn split_entry(level: Level, input: &[u8]) -> Option<(&[u8], &[u8])>
     ensures entry { IfSome result (λ x.
         entry_of level input.now ≡ Some (leaf x.0.now, x.1.now)) }
 {
+    // No entry begins in the 256th block.
     if level.depth == u8::MAX {
         return None;
     }

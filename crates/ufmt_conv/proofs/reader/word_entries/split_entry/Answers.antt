@@ -1,6 +1,6 @@
 use Rattle.std.proofs.Common.{◌∙◌, sym, ◌<◌, arith}
 use Rattle.ufmt_conv.proofs.DocumentParts.{front_is_bytes, word_is_entry}
-use Rattle.ufmt_conv.proofs.reader.words.split_entry.Goals as goal
+use Rattle.ufmt_conv.proofs.reader.word_entries.split_entry.Goals as goal
 
 pub returns-else-may_open-clause-word : goal.returns-else-may_open-clause-word
 returns-else-may_open-clause-word c = front_is_bytes c.args.input.now c.split_word.result.0.now c.split_word.ensures.word
