@@ -1,5 +1,5 @@
 -- Where documents, pairs and fields begin, in terms of what their entries are read as.
-use Rattle.std.proofs.Common.{◌≡◌, refl, ap, ◌∙◌, ℕ, zero, suc, ◌-◌, ◌<◌, ◌≤◌, ◌==◌, ◌⊎◌, inl, inr, true, false, List, [], ◌∷◌, ◌++◌, length, eqb-true, Option, Some, None, option_map, option_and_then, codes, arith}
+use Rattle.std.proofs.Common.{◌≡◌, refl, ap, ◌∙◌, sym, ℕ, zero, suc, ◌-◌, ◌<◌, ◌≤◌, ◌==◌, ◌||◌, Bool, cond, ◌⊎◌, inl, inr, true, false, List, [], ◌∷◌, ◌++◌, length, eqb-true, Option, Some, None, option_map, option_and_then, codes, arith}
 use Rattle.std.proofs.lemmas.Bool.Decides.{nat_tests}
 use Rattle.ufmt.specs.Document.{Document, leaf, list_of, set_of, map_of, struct_of, tuple_of, documents, pairs_of, fields_of}
 use Rattle.ufmt_core.specs.declared.formatter.Setting.{Setting}
@@ -7,15 +7,15 @@ use Rattle.ufmt_core.specs.declared.formatter.block.Kind.TheVariants.{Brackets, 
 use Rattle.ufmt_core.specs.declared.formatter.block.Place.TheVariants.{First}
 use Rattle.ufmt.specs.Layout.{Frame, frame, gap, tuple_kind, inside, lead, new_line}
 use Rattle.ufmt.specs.Token.{AreWordBytes, IsWord}
-use Rattle.ufmt.specs.Reading.{Parse, parse_map, strip, word_of, after_word, read_word, read_value, read_pair, read_list, read_braces, read_map_or_set, read_named, read_tuple, read_without_name, read_with, read}
-use Rattle.ufmt.proofs.Parsing.{led_from, beside_from}
+use Rattle.ufmt.specs.Reading.{Parse, parse_map, strip, word_of, after_word, if_word, read_word, read_value, read_pair, read_list, read_braces, read_map_or_set, read_named, read_tuple, read_without_name, read_with, read}
+use Rattle.ufmt.proofs.Parsing.{led_from, beside_from, mapped_from, same_parts}
 use Rattle.ufmt.proofs.ReadingTurns.{Takes, read_word_takes, strip_within}
 use Rattle.ufmt.proofs.Words.{word_of_bytes}
 use Rattle.ufmt_conv.specs.Entries.{read_on}
 use Rattle.ufmt_conv.specs.declared.reader.level.Level.{Level}
 use Rattle.ufmt_conv.specs.Level.{entry_at, entry_of, setting_of}
 use Rattle.ufmt_conv.specs.Steps.{before_colon}
-use Rattle.ufmt_conv.specs.Words.{may_open}
+use Rattle.ufmt_conv.specs.Words.{may_open, read_entry_word, read_key}
 use Rattle.ufmt_conv.proofs.EntrySteps.{first_is_read_on}
 
 -- a named tuple behind what stands before its first field
@@ -162,10 +162,60 @@ word_alone s p [] u some none = absurd (cc)
 word_alone s p (c ∷ w) u some none = rw (opens_nothing 40 (new_line (inside s).mode (inside s).depth) u (inl refl) none, opens_nothing 32 (123 ∷ (gap s.mode ++ new_line (inside s).mode (inside s).depth)) u (inr refl) none) refl
 
 -- so it is an entry of a block, where any may lie in it
-pub word_is_entry : (level : Level) (t w u : List ℕ) → level.depth < 255 → w ≡ word_of t → u ≡ after_word t → (length w == 0) ≡ false → may_open u ≡ false → entry_of level t ≡ Some (leaf w, u)
+word_is_entry : (level : Level) (t w u : List ℕ) → level.depth < 255 → w ≡ word_of t → u ≡ after_word t → (length w == 0) ≡ false → may_open u ≡ false → entry_of level t ≡ Some (leaf w, u)
 word_is_entry level t w u few word rest some none =
     let left : 255 - level.depth ≡ suc (254 - level.depth) = omega (arith, few) in
     let s = inside (setting_of level) in
     ap (λ n. entry_at (setting_of level) n t) left
     ∙ reads_named s (254 - level.depth) t w u word rest some
     ∙ word_alone s (entry_at s (254 - level.depth)) w u some none
+
+-- a word that was read is that in front, and isn't empty
+word_parts : (x v w u : List ℕ) → if_word x v ≡ Some (w, u) → (w ≡ x) × (u ≡ v) × ((length w == 0) ≡ false)
+word_parts [] v w u h = absurd (cc)
+word_parts (c ∷ x) v w u h =
+    let parts = same_parts {A = List ℕ} {B = List ℕ} (c ∷ x, v) (w, u) h in
+    let some : (length (c ∷ x) == 0) ≡ false = grind (arith, nat_tests) in
+    (sym parts.0, sym parts.1, ap (λ y. length y == 0) (sym parts.0) ∙ some)
+
+-- a word that is an entry is one as the definition of reading has it
+pub entry_word_is : (level : Level) (t w u : List ℕ) → level.depth < 256 → read_entry_word level.depth t ≡ Some (w, u) → (AreWordBytes w) × (entry_of level t ≡ Some (leaf w, u))
+entry_word_is level t w u bound h = by_tests (level.depth == 255) (may_open (after_word t)) refl refl h
+  where
+    by_tests : (last opens : Bool) → (level.depth == 255) ≡ last → may_open (after_word t) ≡ opens → cond (last || opens) None (read_word t) ≡ Some (w, u) → (AreWordBytes w) × (entry_of level t ≡ Some (leaf w, u))
+    by_tests true opens last none found = absurd (cc)
+    by_tests false true last none found = absurd (cc)
+    by_tests false false last none found =
+        let parts = word_parts (word_of t) (after_word t) w u found in
+        let few : level.depth < 255 = grind (arith, nat_tests) in
+        (front_is_bytes t w parts.0, word_is_entry level t w u few parts.0 parts.1 parts.2 (ap may_open parts.1 ∙ none))
+
+-- so is a key that is such a word
+pub key_is : (level : Level) (t : List ℕ) (d : Document) (u : List ℕ) → level.depth < 256 → read_key level.depth t ≡ Some (d, u) → before_colon (entry_of level) t ≡ Some (d, u)
+key_is level t d u bound h =
+    let colon = colon_follows (λ v. parse_map leaf (read_entry_word level.depth v)) t d u h in
+    let word = mapped_from leaf (read_entry_word level.depth t) d colon.0 colon.1 in
+    let entry = (entry_word_is level t word.0 colon.0 bound word.1).1 ∙ ap (λ e. Some (e, colon.0)) word.2 in
+    rw (entry, colon.2) refl
+
+-- nothing is read where a test holds, or nothing stands there
+tested : (last opens : Bool) (o : Option (List ℕ × List ℕ)) → (opens ≡ true) ⊎ (o ≡ None) → None ≡ cond (last || opens) None o
+tested true opens o none = refl
+tested false true o none = refl
+tested false false o (inl opens) = absurd (cc)
+tested false false o (inr none) = sym none
+
+-- where no word stands in front, none is an entry
+pub no_entry_word : (depth : ℕ) (t w : List ℕ) → w ≡ word_of t → (length w == 0) ≡ true → None ≡ read_entry_word depth t
+no_entry_word depth t [] word empty = tested (depth == 255) (may_open (after_word t)) (read_word t) (inr (ap (λ x. if_word x (after_word t)) (sym word)))
+no_entry_word depth t (c ∷ w) word empty = let none = eqb-true (length (c ∷ w)) 0 empty in absurd (omega arith)
+
+-- nor where a block may open behind it
+pub no_entry_name : (depth : ℕ) (t u : List ℕ) → u ≡ after_word t → may_open u ≡ true → None ≡ read_entry_word depth t
+no_entry_name depth t u rest opens = tested (depth == 255) (may_open (after_word t)) (read_word t) (inl (ap may_open (sym rest) ∙ opens))
+
+-- and else it is, where any may lie in the block
+pub entry_word_stands : (depth : ℕ) (t w u : List ℕ) → (depth == 255) ≡ false → w ≡ word_of t → u ≡ after_word t → (length w == 0) ≡ false → may_open u ≡ false → Some (w, u) ≡ read_entry_word depth t
+entry_word_stands depth t w u last word rest some none =
+    let shut : may_open (after_word t) ≡ false = ap may_open (sym rest) ∙ none in
+    sym (word_is_read t w u word rest some) ∙ rw (last, shut) refl

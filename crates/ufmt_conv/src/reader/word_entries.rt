@@ -1,12 +1,10 @@
 //! Entries and keys that are words, which are read without a turn of the reader's loop.
-ghost use Rattle.std.specs.Prelude.{◌≡◌, length, IfSome, MatchResult, Some};
-ghost use Rattle.ufmt.specs.Document.{leaf};
-ghost use Rattle.ufmt.specs.Token.{AreWordBytes};
+ghost use Rattle.std.specs.Prelude.{◌≡◌, length, MatchResult, option_map};
 ghost use Rattle.ufmt_conv.specs.Doc.{doc_document};
 ghost use Rattle.ufmt_conv.specs.DocViews.{docs_view};
 ghost use Rattle.ufmt_conv.specs.Level.{entry_of};
-ghost use Rattle.ufmt_conv.specs.Steps.{PutsEntries, before_colon};
-ghost use Rattle.ufmt_conv.specs.Words.{may_open};
+ghost use Rattle.ufmt_conv.specs.Steps.{PutsEntries};
+ghost use Rattle.ufmt_conv.specs.Words.{may_open, read_entry_word, read_key};
 
 use crate::doc::Doc;
 use crate::reader::error::ReadError;
@@ -48,8 +46,7 @@ pub(super) fn read_key(
     input: &[u8],
 ) -> Result<Option<(Doc, &[u8])>, ReadError>
     ensures { MatchResult result
-        (λ key. IfSome key (λ x.
-        before_colon (entry_of level) input.now ≡ Some (doc_document x.0, x.1.now)))
+        (λ key. option_map (λ x. (doc_document x.0, x.1.now)) key ≡ read_key level.depth input.now)
         (λ e. e ≡ ReadError.OutOfMemory) }
 {
     let Some((word, behind)) = split_entry(level, input) else {
@@ -64,9 +61,8 @@ pub(super) fn read_key(
 // A word that is an entry of a block at this level, and what follows it, where one stands there.
 #[inline(always)]
 fn split_entry(level: Level, input: &[u8]) -> Option<(&[u8], &[u8])>
-    ensures word { IfSome result (λ x. AreWordBytes x.0.now) }
-    ensures entry { IfSome result (λ x.
-        entry_of level input.now ≡ Some (leaf x.0.now, x.1.now)) }
+    ensures { option_map (λ x. (x.0.now, x.1.now)) result
+        ≡ read_entry_word level.depth input.now }
 {
     // No entry begins in the 256th block.
     if level.depth == u8::MAX {

@@ -1,12 +1,10 @@
-use Rattle.std.proofs.Common.{◌≡◌, ◌∙◌, sym, subst, ◌≤◌, ◌<◌, Some, suc, length, arith}
-use Rattle.std.specs.Prelude.{IfSome}
+use Rattle.std.proofs.Common.{◌∙◌, sym, ◌≤◌, ◌<◌, suc, length, arith, ap, option_map}
 use Rattle.ufmt.specs.Layout.{inside, lead}
 use Rattle.ufmt_core.specs.declared.formatter.block.Place.TheVariants.{First}
 use Rattle.ufmt_conv.specs.declared.reader.level.Kind.TheVariants.{Braces}
 use Rattle.ufmt_conv.specs.Doc.{doc_document}
 use Rattle.ufmt_conv.specs.Level.{entry_of, frame_of, setting_of}
-use Rattle.ufmt_conv.specs.Steps.{before_colon}
-use Rattle.ufmt_conv.proofs.DocumentParts.{braces_begin, colon_within, map_begins_with}
+use Rattle.ufmt_conv.proofs.DocumentParts.{braces_begin, colon_within, key_is, map_begins_with}
 use Rattle.ufmt_conv.proofs.EntrySteps.{entry_of_takes}
 use Rattle.ufmt.proofs.ReadingTurns.{strip_within}
 use Rattle.ufmt_conv.proofs.Stacks.{steps_are}
@@ -17,7 +15,8 @@ returns-in_ok-pairs-in-Some-2 c =
     let level = c.args.level in
     let start = c.in-Some-strip_lead.rest.now in
     let rest = c.in-Some-2.rest.now in
-    let key : before_colon (entry_of level) start ≡ Some (doc_document c.in-Some-2.key, rest) = subst (λ o. IfSome o (λ x. before_colon (entry_of level) start ≡ Some (doc_document x.0, x.1.now))) c.in-Some-2.is c.in_ok-key.ensures in
+    let bound : level.depth < 256 = omega arith in
+    let key = key_is level start (doc_document c.in-Some-2.key) rest bound (sym c.in_ok-key.ensures ∙ ap (λ o. option_map (λ x. (doc_document x.0, x.1.now)) o) c.in-Some-2.is) in
     let a : length start ≤ length c.args.input.now = strip_within (lead (frame_of level Braces) (inside (setting_of level)) First) c.args.input.now start (sym c.in-Some-strip_lead.ensures) in
     let b : length rest < length start = colon_within _ _ _ (entry_of_takes level) key in
     let longer : suc (length rest) ≤ suc (length c.args.input.now) = omega (arith, a, b) in

@@ -1,12 +1,10 @@
-use Rattle.std.proofs.Common.{◌≡◌, ◌∙◌, ap, subst, ◌≤◌, ◌<◌, Some, length, arith}
-use Rattle.std.specs.Prelude.{IfSome}
+use Rattle.std.proofs.Common.{◌∙◌, ap, ◌≤◌, ◌<◌, Some, length, arith, option_map, sym}
 use Rattle.ufmt.specs.Document.{map_of, pairs_of}
 use Rattle.ufmt_conv.specs.declared.reader.level.Kind.TheVariants.{Braces}
 use Rattle.ufmt_conv.specs.Doc.{doc_document}
 use Rattle.ufmt_conv.specs.DocViews.{pair_view, pairs_view}
 use Rattle.ufmt_conv.specs.Level.{entry_of, frame_of, setting_of}
-use Rattle.ufmt_conv.specs.Steps.{before_colon}
-use Rattle.ufmt_conv.proofs.DocumentParts.{colon_within, pair_is, value_is}
+use Rattle.ufmt_conv.proofs.DocumentParts.{colon_within, key_is, pair_is, value_is}
 use Rattle.ufmt_conv.proofs.EntrySteps.{behind_within, entry_of_takes, pair_takes, put_decides}
 use Rattle.ufmt_conv.proofs.Given.{passes_on}
 use Rattle.ufmt_conv.proofs.reader.open_block.put_in_map.Goals as goal
@@ -24,7 +22,8 @@ pub returns-in-Some-2 : goal.returns-in-Some-2
 returns-in-Some-2 c =
     let level = c.args.level in
     let rest = c.in_ok-goes_on-in-Some.rest.now in
-    let key : before_colon (entry_of level) rest ≡ Some (doc_document c.in-Some-2.next, c.in-Some-2.behind.now) = subst (λ o. IfSome o (λ x. before_colon (entry_of level) rest ≡ Some (doc_document x.0, x.1.now))) c.in-Some-2.is c.in_ok-next-in-Some.ensures in
+    let bound : level.depth < 256 = omega arith in
+    let key = key_is level rest (doc_document c.in-Some-2.next) c.in-Some-2.behind.now bound (sym c.in_ok-next-in-Some.ensures ∙ ap (λ o. option_map (λ x. (doc_document x.0, x.1.now)) o) c.in-Some-2.is) in
     let a : length rest ≤ length c.args.input.now = behind_within _ _ _ _ _ _ c.in_ok-goes_on-in-Some.ensures in
     let b : length c.in-Some-2.behind.now < length rest = colon_within _ _ _ (entry_of_takes level) key in (
       rw (← c.in-Some.ensures.value) (put_decides _ _ (λ ps. map_of (pairs_of ps)) pair_view _ _ _ _ _ (pair_takes level) c.in_ok-push-in-Some.ensures.items (c.len.ensures ∙ c.push.new.self.ok.0) (c.in_ok-goes_on-in-Some.ensures ∙ ap (λ b. Some (b, rest)) c.if-not-goes_on.false)
