@@ -1,11 +1,11 @@
 //! A writer over a buffer of a fixed size.
 ghost use Rattle.std.specs.Prelude.{◌≡◌, ◌+◌, ◌++◌, ◌≤◌, [], length, take, drop, is_ok, encode_utf8};
-ghost use Rattle.ufmt_core.specs.Layout.{plain_text};
+ghost use Rattle.ufmt_core.specs.Layout.{plain_text, pretty_text};
 ghost use Rattle.ufmt_core.specs.Writes.{Writes};
 ghost use Rattle.ufmt.specs.Buffer.{Fronts};
 
 use crate::display::uDisplay;
-use crate::pieces::{write_debug, write_display};
+use crate::pieces::{write_debug, write_display, write_pretty};
 use ufmt_core::{uDebug, uWrite};
 
 /// A piece has more bytes than remain in a `Cursor`.
@@ -105,7 +105,16 @@ pub fn debug_into<T: uDebug>(buffer: &mut [u8], value: &T) -> Result<usize, Full
     Ok(cursor.written().len())
 }
 
-/// The same of `uDisplay`.
+/// The same in pretty mode, at depth 0.
+pub fn pretty_into<T: uDebug>(buffer: &mut [u8], value: &T) -> Result<usize, Full>
+    ensures { Fronts buffer.old (pretty_text (T.document value.now)) result buffer.new }
+{
+    let mut cursor = Cursor::new(buffer);
+    write_pretty(&mut cursor, value)?;
+    Ok(cursor.written().len())
+}
+
+/// The same of `uDisplay`, in plain mode.
 pub fn display_into<T: uDisplay>(buffer: &mut [u8], value: &T) -> Result<usize, Full>
     ensures { Fronts buffer.old (plain_text (T.display value.now)) result buffer.new }
 {

@@ -11,10 +11,10 @@ mod pieces;
 #[cfg(test)]
 mod tests;
 
-pub use cursor::{Cursor, Full, debug_into, display_into};
+pub use cursor::{Cursor, Full, debug_into, display_into, pretty_into};
 pub use display::uDisplay;
 pub use hex::{HexOptions, uDisplayHex};
-pub use pieces::{fmt_pretty, write_debug, write_display};
+pub use pieces::{fmt_pretty, write_debug, write_display, write_pretty};
 pub use ufmt_core::{
     DebugList, DebugMap, DebugSet, DebugStruct, DebugTuple, Formatter, NamedFields, UnnamedFields,
     uDebug, uWrite, unsigned,

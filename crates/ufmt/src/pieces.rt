@@ -2,7 +2,7 @@
 ghost use Rattle.std.specs.Prelude.{is_ok};
 ghost use Rattle.ufmt_core.specs.Document.{pretty_part};
 ghost use Rattle.ufmt_core.specs.Formatter.{LaysOut};
-ghost use Rattle.ufmt_core.specs.Layout.{plain_text};
+ghost use Rattle.ufmt_core.specs.Layout.{plain_text, pretty_text};
 ghost use Rattle.ufmt_core.specs.Writes.{Writes};
 
 use crate::display::uDisplay;
@@ -31,6 +31,15 @@ pub fn write_display<T: uDisplay, W: uWrite>(writer: &mut W, value: &T) -> Resul
 {
     let mut f = Formatter::new(writer);
     value.fmt(&mut f)
+}
+
+/// Prints the value to the writer, as `uDebug` does in pretty mode at depth 0.
+pub fn write_pretty<T: uDebug, W: uWrite>(writer: &mut W, value: &T) -> Result<(), W::Error>
+    ensures { Writes W.seen writer.old (pretty_text (T.document value.now)) (is_ok result)
+        writer.new }
+{
+    let mut f = Formatter::new(writer);
+    fmt_pretty(value, &mut f)
 }
 
 /// Writes pieces to a formatter, one after another, and answers the first failure.

@@ -5,7 +5,7 @@ use Rattle.ufmt_conv.specs.declared.run.command.Command.TheVariants.{Lengths, Pr
 use Rattle.ufmt.specs.Decimal.{decimal}
 use Rattle.ufmt.specs.Document.{documents, leaf, list_of}
 use Rattle.ufmt.specs.Layout.{plain_text, pretty_text}
-use Rattle.ufmt_conv.specs.Texts.{IsConverted}
+use Rattle.ufmt_doc.specs.Texts.{IsConverted}
 
 -- a byte before the first line, which it begins where there is none
 abbrev pub onto_first_line : ℕ → List (List ℕ) → List (List ℕ)

@@ -6,19 +6,12 @@ ghost use Rattle.std.specs.Prelude.{◌≡◌};
 ghost use Rattle.std.specs.Process.{exit_status};
 ghost use Rattle.ufmt_conv.specs.Fault.{status_of};
 
-pub mod convert;
-pub mod doc;
-pub mod laws;
-pub mod plain_reader;
-pub mod pretty_reader;
-mod reader;
 pub mod run;
-#[cfg(test)]
-mod tests;
 
 use run::{Command, Fault, Watched};
 use std::process::ExitCode;
 use std::{env, io};
+pub use ufmt_doc::{convert, doc, laws, plain_reader, pretty_reader};
 
 // The status where the words are no command.
 const USAGE_STATUS: u8 = 2;

@@ -3,7 +3,7 @@ ghost use Rattle.std.specs.Prelude.{◌≡◌, ◌≢◌, ◌↔◌, List, ℕ, 
 ghost use Rattle.std.specs.Io.KnownBytes.{Appends, IsAtEnd};
 ghost use Rattle.ufmt.specs.Layout.{plain_text, pretty_text};
 ghost use Rattle.ufmt_conv.specs.Answer.{IsAnswerLine, without_line_feed};
-ghost use Rattle.ufmt_conv.specs.Texts.{IsNoText};
+ghost use Rattle.ufmt_doc.specs.Texts.{IsNoText};
 ghost use Rattle.ufmt_conv.specs.Watched.{device_of, has_failed};
 ghost use Rattle.ufmt_conv.specs.Written.{AppendsBeginning};
 

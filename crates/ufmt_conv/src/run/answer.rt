@@ -2,7 +2,7 @@
 ghost use Rattle.std.specs.Prelude.{◌≡◌, ◌≢◌, string_bytes, IfErr, IfOk, IsErrOf};
 ghost use Rattle.ufmt.specs.Layout.{plain_text, pretty_text};
 ghost use Rattle.ufmt_conv.specs.Answer.{IsAnswerLine, without_line_feed};
-ghost use Rattle.ufmt_conv.specs.Texts.{IsNoText};
+ghost use Rattle.ufmt_doc.specs.Texts.{IsNoText};
 
 use super::command::Command;
 use super::fault::Fault;

@@ -1,10 +1,18 @@
 use super::*;
-use crate::tests::{holds, same};
-use std::io;
 use std::io::ErrorKind;
 use std::process::Abort;
 use std::test::Fail;
+use std::{fmt, io};
 use ufmt::{Cursor, Formatter, uDebug};
+
+// Asserts are calls of these two: one that is written out takes the check as long as a score of calls.
+fn same<T: PartialEq + fmt::Debug + Drop>(rt: &impl Abort, given: T, wanted: T, case: &str) {
+    assert_eq!(rt; given, wanted, "{case}");
+}
+
+fn holds(rt: &impl Abort, condition: bool, case: &str) {
+    assert!(rt; condition, "{case}");
+}
 
 // Gives `left`, at most `most` bytes a call, and fails at call number `fails_at`, counted from one.
 #[derive(Drop)]

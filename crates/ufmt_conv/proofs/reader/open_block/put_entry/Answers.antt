@@ -1,7 +1,0 @@
-use Rattle.std.proofs.Common.{◌∙◌}
-use Rattle.ufmt_conv.specs.Doc.{doc_document}
-use Rattle.ufmt_conv.proofs.EntrySteps.{entry_of_takes, put_passes}
-use Rattle.ufmt_conv.proofs.reader.open_block.put_entry.Goals as goal
-
-pub returns : goal.returns
-returns c = λ make. put_passes _ _ make doc_document _ _ _ _ _ c.pass_entry.result (entry_of_takes c.args.level) c.in_ok-push.ensures.items (c.len.ensures ∙ c.push.new.self.ok.0) c.pass_entry.ensures

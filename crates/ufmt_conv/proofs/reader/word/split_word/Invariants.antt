@@ -1,9 +1,0 @@
-use Rattle.std.proofs.Common.{◌≤◌, ◌-◌, length}
-use Rattle.ufmt_conv.specs.Words.{Passed}
-use Rattle.ufmt_conv.proofs.reader.word.split_word.Given as goal
-
-abbrev pub invariant-fours : goal.invariant-fours
-invariant-fours l = Passed l.input l.end × (l.end ≤ length l.input)
-
-abbrev pub decreases-fours : goal.decreases-fours
-decreases-fours l = length l.input - l.end

@@ -1,0 +1,16 @@
+pub mod Conversions
+pub mod Converting
+pub mod ConvertingParts
+pub mod ConvertingStacks
+pub mod Docs
+pub mod DocumentParts
+pub mod EntrySteps
+pub mod Given
+pub mod NormalDocs
+pub mod Normals
+pub mod Same
+pub mod Stacks
+pub mod Strips
+pub mod WholeTexts
+pub mod Within
+pub mod WordBytes

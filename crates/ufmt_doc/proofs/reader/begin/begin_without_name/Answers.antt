@@ -1,0 +1,20 @@
+use Rattle.std.proofs.Common.{◌∙◌, ap, sym, ◌≤◌, ◌<◌, suc, length, arith}
+use Rattle.ufmt.specs.Layout.{inside, new_line}
+use Rattle.ufmt.specs.Reading.{read_tuple}
+use Rattle.ufmt_doc.specs.Level.{entry_of, mode_of, setting_of}
+use Rattle.ufmt_doc.proofs.DocumentParts.{unnamed_opens}
+use Rattle.ufmt_doc.proofs.EntrySteps.{strip_shortens}
+use Rattle.ufmt_doc.proofs.Stacks.{steps_are}
+use Rattle.ufmt_doc.proofs.reader.begin.begin_without_name.Goals as goal
+
+pub returns-in-Some-strip_lead : goal.returns-in-Some-strip_lead
+returns-in-Some-strip_lead c =
+    let level = c.args.level in
+    let start = c.in-Some-strip_lead.rest.now in
+    let lead = sym c.in-Some-strip_lead.ensures in
+    let fewer : length start < length c.args.input.now = strip_shortens 40 (new_line (mode_of level.mode) (inside (setting_of level)).depth) c.args.input.now start lead in
+    let longer : suc (length start) ≤ length c.args.input.now = omega (arith, fewer) in
+    steps_are level _ _ c.begin_tuple.result c.args.blocks.now.blocks.items c.begin_tuple.new.blocks.blocks.items _ _
+    (unnamed_opens (setting_of level) (entry_of level) c.args.input.now start (sym c.in_default.ensures) (sym c.in_default-strip.ensures) (sym c.in_default-strip-2.ensures) lead
+    ∙ ap (λ name. read_tuple (setting_of level) (entry_of level) name start) (sym c.new.ensures.bytes))
+    longer c.begin_tuple.ensures

@@ -1,0 +1,14 @@
+pub mod Converting
+pub mod Doc
+pub mod DocViews
+pub mod Entries
+pub mod Level
+pub mod Parts
+pub mod Read
+pub mod ReadError
+pub mod Same
+pub mod Stack
+pub mod Steps
+pub mod Texts
+pub mod Within
+pub mod Words

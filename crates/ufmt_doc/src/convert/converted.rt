@@ -1,0 +1,53 @@
+//! Converting a text from one mode to another entry by entry: a loop over the blocks that are open.
+ghost use Rattle.std.specs.Prelude.{option_map, string_bytes};
+ghost use Rattle.ufmt.specs.Layout.{layout, setting};
+ghost use Rattle.ufmt.specs.Reading.{if_all, read_text};
+ghost use Rattle.ufmt_doc.specs.Level.{mode_of};
+ghost use Rattle.ufmt_doc.specs.Read.{Gives};
+
+use super::begin::begin;
+use super::text_blocks::TextBlocks;
+use crate::reader::ReadError;
+use crate::reader::level::{Level, Mode};
+use std::alloc::Global;
+
+/// The text in mode `to` of the document that the whole text is of in mode `from`.
+pub(super) fn converted(
+    alloc: Global,
+    from: Mode,
+    to: Mode,
+    input: &[u8],
+) -> Result<String, ReadError>
+    ensures { Gives string_bytes result
+        (option_map (layout (setting (mode_of to) 0)) (read_text (mode_of from) input.now)) }
+{
+    let mut output = String::new(alloc);
+    let mut blocks = TextBlocks::new(alloc);
+    let mut rest = input;
+    'entries: while let Some(depth) = blocks.entry_depth() {
+        let outer = Level { mode: from, depth };
+        let (opened, after) = begin(outer, Level { mode: to, depth }, &mut output, rest)?;
+        rest = after;
+        if let Some(block) = opened {
+            blocks.push(block)?;
+        } else {
+            let (whole, after) = blocks.take(from, to, &mut output, rest)?;
+            rest = after;
+            if whole {
+                return if_all(output, rest);
+            }
+        }
+    }
+    Err(ReadError::NotText)
+}
+
+// The text, unless something is left behind it.
+fn if_all(output: String, rest: &[u8]) -> Result<String, ReadError>
+    ensures { Gives string_bytes result (if_all (string_bytes output) rest.now) }
+{
+    if rest.is_empty() {
+        Ok(output)
+    } else {
+        Err(ReadError::NotText)
+    }
+}

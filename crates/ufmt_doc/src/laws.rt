@@ -1,0 +1,73 @@
+//! Laws of reading and writing, each as the contract of a function.
+ghost use Rattle.std.specs.Prelude.{◌≡◌, string_bytes, IfOk, IsErrOf};
+ghost use Rattle.ufmt.specs.Layout.{plain_text, pretty_text};
+ghost use Rattle.ufmt.specs.Token.{IsToken, normal};
+ghost use Rattle.ufmt_doc.specs.Doc.{doc_document};
+ghost use Rattle.ufmt_doc.specs.Texts.{IsNoText};
+
+#[cfg(test)]
+mod tests;
+
+use crate::convert::{plain_text, pretty_text, to_plain, to_pretty};
+use crate::doc::Doc;
+use crate::plain_reader::{ReadError, read_plain};
+use crate::pretty_reader::read_pretty;
+use std::alloc::Global;
+
+/// A plain text that is read and written plainly is itself again.
+pub fn plain_again(alloc: Global, input: &[u8]) -> Result<String, ReadError>
+    ensures ok { IfOk result (λ text. string_bytes text ≡ input.now) }
+    ensures not_text { IsErrOf result ReadError.NotText → IsNoText plain_text input.now }
+{
+    let doc = read_plain(alloc, input)?;
+    let text = plain_text(alloc, &doc)?;
+    Ok(text)
+}
+
+/// A pretty text that is read and written prettily is itself again.
+pub fn pretty_again(alloc: Global, input: &[u8]) -> Result<String, ReadError>
+    ensures ok { IfOk result (λ text. string_bytes text ≡ input.now) }
+    ensures not_text { IsErrOf result ReadError.NotText → IsNoText pretty_text input.now }
+{
+    let doc = read_pretty(alloc, input)?;
+    let text = pretty_text(alloc, &doc)?;
+    Ok(text)
+}
+
+/// The plain text of the pretty text of a plain one is that again.
+pub fn plain_by_way_of_pretty(alloc: Global, input: &[u8]) -> Result<String, ReadError>
+    ensures ok { IfOk result (λ text. string_bytes text ≡ input.now) }
+    ensures not_text { IsErrOf result ReadError.NotText → IsNoText plain_text input.now }
+{
+    let pretty = to_pretty(alloc, input)?;
+    to_plain(alloc, pretty.as_bytes())
+}
+
+/// The pretty text of the plain text of a pretty one is that again.
+pub fn pretty_by_way_of_plain(alloc: Global, input: &[u8]) -> Result<String, ReadError>
+    ensures ok { IfOk result (λ text. string_bytes text ≡ input.now) }
+    ensures not_text { IsErrOf result ReadError.NotText → IsNoText pretty_text input.now }
+{
+    let plain = to_plain(alloc, input)?;
+    to_pretty(alloc, plain.as_bytes())
+}
+
+/// A token document that is written plainly and read again is its normal form.
+pub fn normal_by_way_of_plain(alloc: Global, doc: &Doc) -> Result<Doc, ReadError>
+    requires { IsToken (doc_document doc.now) }
+    ensures ok { IfOk result (λ again. doc_document again ≡ normal (doc_document doc.now)) }
+    ensures is_text { IsErrOf result ReadError.NotText → ⊥ }
+{
+    let text = plain_text(alloc, doc)?;
+    read_plain(alloc, text.as_bytes())
+}
+
+/// Likewise by its pretty text.
+pub fn normal_by_way_of_pretty(alloc: Global, doc: &Doc) -> Result<Doc, ReadError>
+    requires { IsToken (doc_document doc.now) }
+    ensures ok { IfOk result (λ again. doc_document again ≡ normal (doc_document doc.now)) }
+    ensures is_text { IsErrOf result ReadError.NotText → ⊥ }
+{
+    let text = pretty_text(alloc, doc)?;
+    read_pretty(alloc, text.as_bytes())
+}

@@ -1,0 +1,19 @@
+//! Reading plain texts.
+ghost use Rattle.std.specs.Prelude.{IfOk, IsErrOf};
+ghost use Rattle.ufmt.specs.Layout.{plain_text};
+ghost use Rattle.ufmt_doc.specs.Doc.{doc_document};
+ghost use Rattle.ufmt_doc.specs.Texts.{IsNormalForm, IsNoText};
+
+use crate::doc::Doc;
+pub use crate::reader::ReadError;
+use crate::reader::{Mode, read_text};
+use std::alloc::Global;
+
+/// The document with this plain text, in normal form. Empty braces are an empty map, and a name
+/// alone is a leaf.
+pub fn read_plain(alloc: Global, input: &[u8]) -> Result<Doc, ReadError>
+    ensures ok { IfOk result (λ doc. IsNormalForm plain_text input.now (doc_document doc)) }
+    ensures not_text { IsErrOf result ReadError.NotText → IsNoText plain_text input.now }
+{
+    read_text(alloc, Mode::Plain, input)
+}

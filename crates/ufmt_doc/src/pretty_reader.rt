@@ -1,0 +1,18 @@
+//! Reading pretty texts.
+ghost use Rattle.std.specs.Prelude.{IfOk, IsErrOf};
+ghost use Rattle.ufmt.specs.Layout.{pretty_text};
+ghost use Rattle.ufmt_doc.specs.Doc.{doc_document};
+ghost use Rattle.ufmt_doc.specs.Texts.{IsNormalForm, IsNoText};
+
+use crate::doc::Doc;
+use crate::reader::{Mode, ReadError, read_text};
+use std::alloc::Global;
+
+/// The document with this pretty text, in normal form. Empty braces are an empty map, and a name
+/// alone is a leaf.
+pub fn read_pretty(alloc: Global, input: &[u8]) -> Result<Doc, ReadError>
+    ensures ok { IfOk result (λ doc. IsNormalForm pretty_text input.now (doc_document doc)) }
+    ensures not_text { IsErrOf result ReadError.NotText → IsNoText pretty_text input.now }
+{
+    read_text(alloc, Mode::Pretty, input)
+}

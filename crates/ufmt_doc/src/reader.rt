@@ -1,0 +1,53 @@
+//! Reading a token document from a text, in either mode: a loop over the blocks that are open.
+ghost use Rattle.ufmt.specs.Reading.{if_all, read_text};
+ghost use Rattle.ufmt_doc.specs.Doc.{doc_document};
+ghost use Rattle.ufmt_doc.specs.Level.{mode_of};
+ghost use Rattle.ufmt_doc.specs.Read.{Gives};
+
+mod begin;
+mod error;
+pub(crate) mod level;
+mod open_block;
+mod open_blocks;
+#[cfg(test)]
+mod tests;
+pub(crate) mod word;
+mod word_entries;
+
+use crate::doc::Doc;
+use begin::begin;
+pub use error::ReadError;
+pub(crate) use level::Mode;
+use open_blocks::OpenBlocks;
+use std::alloc::Global;
+
+/// The document that the whole text is of.
+pub(crate) fn read_text(alloc: Global, mode: Mode, input: &[u8]) -> Result<Doc, ReadError>
+    ensures { Gives doc_document result (read_text (mode_of mode) input.now) }
+{
+    let mut blocks = OpenBlocks::new(alloc);
+    let mut rest = input;
+    'entries: while let Some(level) = blocks.entry_level(mode) {
+        let (read, after) = begin(alloc, level, &mut blocks, rest)?;
+        rest = after;
+        if let Some(doc) = read {
+            let (whole, after) = blocks.take(alloc, mode, doc, rest)?;
+            rest = after;
+            if let Some(doc) = whole {
+                return if_all(doc, rest);
+            }
+        }
+    }
+    Err(ReadError::NotText)
+}
+
+// The document, unless something is left behind it.
+fn if_all(doc: Doc, rest: &[u8]) -> Result<Doc, ReadError>
+    ensures { Gives doc_document result (if_all (doc_document doc) rest.now) }
+{
+    if rest.is_empty() {
+        Ok(doc)
+    } else {
+        Err(ReadError::NotText)
+    }
+}
