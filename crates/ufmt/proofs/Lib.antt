@@ -6,6 +6,7 @@ pub mod HexadecimalTexts
 pub mod ListedDocuments
 pub mod NormalForms
 pub mod NormalRows
+pub mod NumbersAreWords
 pub mod OneWay
 pub mod Padding
 pub mod Parsing

@@ -1,5 +1,6 @@
 //! Laws, each as the contract of a function.
 ghost use Rattle.std.specs.Prelude.{[], ◌∷◌, is_ok, ◌≡◌, ◌<◌, ◌≤◌, ◌↔◌, ◌++◌, ℕ, ℤ, List, length, drop, map, true, false, IsOk, OnOk, OnErr, None, Some, Ok, Err};
+ghost use Rattle.ufmt_core.specs.Decimal.{decimal};
 ghost use Rattle.ufmt_core.specs.Document.{documents, list_of, map_of, pairs_of, set_of};
 ghost use Rattle.ufmt_core.specs.Words.{integer, named, named_tuple, number};
 ghost use Rattle.std.specs.Borrow.{Bor, MutBor};
@@ -10,6 +11,7 @@ ghost use Rattle.ufmt.specs.Pieces.{hex, pieces_text, pretty, shown, text};
 ghost use Rattle.ufmt.specs.declared.hex.HexOptions.{HexOptions};
 ghost use Rattle.ufmt.specs.Hex.{EachNumberIsTold, OneTextTells, OneNumberIsTold, IsPadded, PrintsHexadecimal, PrintsBits, padded};
 ghost use Rattle.ufmt.specs.NormalForm.{NormalFormsAreNormal, NormalFormsKeepTexts, NormalFormsKeepTokens};
+ghost use Rattle.ufmt.specs.Token.{IsWord};
 ghost use Rattle.ufmt.specs.Shifting.{ShiftMovesEachLine, ShiftedAtDepth, ShiftedIsPretty, TokensHaveNoLineFeed};
 ghost use Rattle.ufmt.specs.ReadsExactly.{ReadsEachText, ReadsOnlyTexts, RefusesNoText};
 ghost use Rattle.ufmt.specs.ReadsOneWay.{PlainReadsOneWay, PlainTextTells, PrettyReadsOneWay, PrettyTextTells, TextsAgree};
@@ -47,6 +49,11 @@ pub fn hexadecimal_is_one_text()
 pub fn padding_reaches_length()
     ensures { (options : HexOptions) (payload : List ℕ) → IsPadded options payload
         (padded options payload) }
+{}
+
+/// The decimal text of a whole number is a word, so it can be read again.
+pub fn numbers_are_words()
+    ensures { (z : ℤ) → IsWord (decimal z) }
 {}
 
 /// An unsigned number prints its hexadecimal text, padded.

@@ -14,6 +14,7 @@ mod rows;
 #[test]
 fn laws_of_numbers_and_types_can_be_called() {
     decimal_is_one_text();
+    laws::numbers_are_words();
     laws::hexadecimal_is_one_text();
     laws::unsigned_prints_hexadecimal();
     laws::signed_prints_as_unsigned();

@@ -65,9 +65,16 @@ text_undoes from to input (Err e) is = tt
 pub unconverted : (from to : Document → List ℕ) (input : List ℕ) → IsNoText from input → IsUnconverted from to input
 unconverted from to input none earlier was = none was.some.0 was.some.1 (was.each was.some.0 was.some.1 was.some.2)
 
--- where a text tells the normal form, that is what is read again
+-- what a text is read as is the normal form of each document with that text, where the text tells the normal form
+form_is : (text_of : Document → List ℕ) → ((d e : Document) → IsToken d → IsToken e → text_of d ≡ text_of e → normal d ≡ normal e) → (input : List ℕ) (e d : Document) → IsNormalForm text_of input e → IsToken d → text_of d ≡ input → e ≡ normal d
+form_is text_of tells input e d read token same = sym read.1 ∙ tells e d read.0 token (read.2 ∙ sym same)
+
+pub plain_form_is : (input : List ℕ) (e d : Document) → IsNormalForm plain_text input e → IsToken d → plain_text d ≡ input → e ≡ normal d
+plain_form_is = form_is plain_text (λ d e hd he same. (plain_text_tells d e hd he).0 same)
+
+-- and so it is where such a document's text is read again
 read_again : (text_of : Document → List ℕ) → ((d e : Document) → IsToken d → IsToken e → text_of d ≡ text_of e → normal d ≡ normal e) → (answer : Result Doc ReadError) (input : List ℕ) (d : Document) → IsToken d → input ≡ text_of d → IfOk answer (λ doc. IsNormalForm text_of input (doc_document doc)) → IfOk answer (λ doc. doc_document doc ≡ normal d)
-read_again text_of tells (Ok doc) input d token is read = sym read.1 ∙ tells (doc_document doc) d read.0 token (read.2 ∙ is)
+read_again text_of tells (Ok doc) input d token is read = form_is text_of tells input (doc_document doc) d read token (sym is)
 read_again text_of tells (Err e) input d token is read = tt
 
 pub plain_read_again : (answer : Result Doc ReadError) (input : List ℕ) (d : Document) → IsToken d → input ≡ plain_text d → IfOk answer (λ doc. IsNormalForm plain_text input (doc_document doc)) → IfOk answer (λ doc. doc_document doc ≡ normal d)

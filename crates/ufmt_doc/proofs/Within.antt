@@ -27,7 +27,7 @@ AreWordBytes-to : (text : List ℕ) → AreWordBytes text → are_word_bytes tex
 AreWordBytes-to [] h = refl
 AreWordBytes-to (c ∷ text) h = and_true (is_word_byte c) (are_word_bytes text) h.0 (AreWordBytes-to text h.1)
 
-IsWord-from : (text : List ℕ) → is_word text ≡ true → IsWord text
+pub IsWord-from : (text : List ℕ) → is_word text ≡ true → IsWord text
 IsWord-from [] h = absurd (cc)
 IsWord-from (c ∷ text) h = let b = both (is_word_byte c) (are_word_bytes text) h in (b.0, AreWordBytes-from text b.1)
 

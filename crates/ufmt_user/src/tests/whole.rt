@@ -1,7 +1,10 @@
 use super::rows::Rows;
 use crate::{Port, Ports, Tree, Users};
 use std::test::Fail;
-use ufmt::{Formatter, Full, debug_into, display_into, fields, uWrite, write_debug, write_display};
+use ufmt::{
+    Formatter, Full, debug_into, display_into, fields, pretty_into, uWrite, write_debug,
+    write_display, write_pretty,
+};
 
 // Rust prints these as its derives and `debug_map` and `debug_list` would.
 #[test]
@@ -92,7 +95,8 @@ fn whole_values_in_one_call(rt: HostRuntime) -> Result<(), Fail> {
     let mut text = String::new(rt.alloc());
     write_debug(&mut text, &7u8)?;
     write_display(&mut text, &"7")?;
-    rows.same(text.as_str(), "77", "over a writer");
+    write_pretty(&mut text, &[7u8])?;
+    rows.same(text.as_str(), "77[\n    7,\n]", "over a writer");
     Ok(())
 }
 
@@ -112,5 +116,21 @@ fn values_into_a_buffer(rt: HostRuntime) {
         let given = display_into(&mut buffer[..length], &"123");
         rows.same((length, given), (length, answer), "display");
         rows.same(buffer.as_slice(), left.as_bytes(), "display");
+    }
+}
+
+#[test]
+fn pretty_values_into_a_buffer(rt: HostRuntime) {
+    let rows = Rows::of("pretty into a buffer", &rt);
+    for (length, answer, left) in [
+        (11, Ok(10), "[\n    7,\n]."),
+        (10, Ok(10), "[\n    7,\n]."),
+        (9, Err(Full), "[\n    7,\n.."),
+        (0, Err(Full), "..........."),
+    ] {
+        let mut buffer = [b'.'; 11];
+        let given = pretty_into(&mut buffer[..length], &[7u8]);
+        rows.same((length, given), (length, answer), "pretty");
+        rows.same(buffer.as_slice(), left.as_bytes(), "pretty");
     }
 }

@@ -1,0 +1,44 @@
+-- The decimal text of a whole number is a word, so a leaf of it can be read again.
+use Rattle.std.proofs.Common.{◌≡◌, ℕ, ◌+◌, ◌<◌, ◌≤◌, List, [], ◌∷◌, ◌++◌, map, length, true, refl, sym, subst, inl, arith, ℤ, pos, negsuc}
+use Rattle.std.specs.List.{All}
+use Rattle.std.proofs.lemmas.Bool.{le-leb}
+use Rattle.std.proofs.lemmas.List.Elements.{All-head, All-tail}
+use Rattle.ufmt_core.specs.Decimal.{decimal, decimal_byte, sign_of, TellsDecimal, TellsMagnitude}
+use Rattle.ufmt_core.specs.Words.{integer}
+use Rattle.ufmt_core.proofs.DecimalTexts.{decimal-tells}
+use Rattle.ufmt.specs.Token.{is_word_byte, AreWordBytes, IsWord, HasWords}
+
+-- a digit's byte is a word's
+digit_byte : (digit : ℕ) → digit < 10 → is_word_byte (decimal_byte digit) ≡ true
+digit_byte digit below = rw (le-leb 48 (48 + digit) (omega arith), le-leb (48 + digit) 57 (omega arith)) refl
+
+-- and so are those of several
+digit_bytes : (digits : List ℕ) → All (λ digit. digit < 10) digits → AreWordBytes (map decimal_byte digits)
+digit_bytes [] below = tt
+digit_bytes (digit ∷ digits) below = (digit_byte digit (All-head (λ d. d < 10) digit digits below), digit_bytes digits (All-tail (λ d. d < 10) digit digits below))
+
+-- at least one of them is a word
+digits_are_word : (digits : List ℕ) → 0 < length digits → All (λ digit. digit < 10) digits → IsWord (map decimal_byte digits)
+digits_are_word [] some below = absurd (omega arith)
+digits_are_word (digit ∷ digits) some below = digit_bytes (digit ∷ digits) below
+
+-- the text that tells a magnitude is a word
+magnitude_is_word : (text : List ℕ) (n : ℕ) → TellsMagnitude text n → IsWord text
+magnitude_is_word text n told = subst IsWord (sym told.bytes) (digits_are_word told.digits told.told.some_digit told.told.below_base)
+
+-- a word with a `-` before it is a word
+IsWord-minus : (text : List ℕ) → IsWord text → IsWord (45 ∷ text)
+IsWord-minus [] word = absurd word
+IsWord-minus (c ∷ text) word = (refl, word)
+
+-- the text that tells a number is a word
+told_is_word : (z : ℤ) (text : List ℕ) → TellsDecimal text z → IsWord text
+told_is_word (pos n) text told = subst IsWord (sym told.signed) (magnitude_is_word told.magnitude n told.told)
+told_is_word (negsuc n) text told = subst IsWord (sym told.signed) (IsWord-minus told.magnitude (magnitude_is_word told.magnitude _ told.told))
+
+pub decimal_is_word : (z : ℤ) → IsWord (decimal z)
+decimal_is_word z = told_is_word z (decimal z) (decimal-tells z)
+
+-- a number's document is a leaf that can be read again
+pub HasWords-integer : (z : ℤ) → HasWords (integer z)
+HasWords-integer z = record { shape = inl (decimal_is_word z) }

@@ -1,0 +1,55 @@
+//! A value that was logged, read back from its line.
+ghost use Rattle.std.specs.Prelude.{◌≡◌, ◌≢◌, Some, option_and_then, option_map, string_bytes, IfOk, IsErrOf};
+ghost use Rattle.std.specs.Option.{option_copied};
+ghost use Rattle.ufmt.specs.Decimal.{decimal};
+ghost use Rattle.ufmt.specs.Document.{Document};
+ghost use Rattle.ufmt.specs.Layout.{plain_text};
+ghost use Rattle.ufmt.specs.Token.{IsToken, normal};
+ghost use Rattle.ufmt_doc.specs.Doc.{doc_document};
+ghost use Rattle.ufmt_doc.specs.Parts.{field_part, leaf_part};
+ghost use Rattle.ufmt_doc.specs.Texts.{IsNoText};
+ghost use Rattle.ufmt_user.specs.Logger.{reading_document};
+ghost use Rattle.ufmt_user.specs.declared.logger.Reading.{Reading};
+
+#[cfg(test)]
+mod tests;
+
+use std::alloc::Global;
+use ufmt_doc::doc::Doc;
+use ufmt_doc::plain_reader::{ReadError, read_plain};
+
+/// The text of a field of the struct that was printed to a line. `None` where the line is no struct,
+/// has no such field, or has a block there.
+pub fn field_text(alloc: Global, line: &[u8], label: &str) -> Result<Option<String>, ReadError>
+    ensures found { IfOk result (λ text.
+        (d : Document) → IsToken d → plain_text d ≡ line.now
+        → option_map string_bytes text
+        ≡ option_and_then leaf_part (field_part label.now (normal d))) }
+    ensures not_text { IsErrOf result ReadError.NotText → IsNoText plain_text line.now }
+{
+    let doc = read_plain(alloc, line)?;
+    match leaf_field(&doc, label) {
+        Some(text) => Ok(Some(String::from_str(alloc, text)?)),
+        None => Ok(None),
+    }
+}
+
+// The text of a struct's field that is a leaf.
+fn leaf_field<'a>(doc: &'a Doc, label: &str) -> Option<&'a str>
+    ensures { option_copied result
+        ≡ option_and_then leaf_part (field_part label.now (doc_document doc.now)) }
+{
+    doc.field(label)?.as_leaf()
+}
+
+/// What a reading's line says of the temperature: of every reading that is printed, the decimal text
+/// of its field. That a line is refused, as `NotText`, is said of other lines alone.
+pub fn celsius(alloc: Global, line: &[u8]) -> Result<Option<String>, ReadError>
+    ensures logged { IfOk result (λ text.
+        (reading : Reading) → line.now ≡ plain_text (reading_document reading)
+        → option_map string_bytes text ≡ Some (decimal reading.celsius)) }
+    ensures is_read { IsErrOf result ReadError.NotText
+        → (reading : Reading) → line.now ≢ plain_text (reading_document reading) }
+{
+    field_text(alloc, line, "celsius")
+}
