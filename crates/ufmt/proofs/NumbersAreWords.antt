@@ -1,9 +1,9 @@
 -- The decimal text of a whole number is a word, so a leaf of it can be read again.
-use Rattle.std.proofs.Common.{◌≡◌, ℕ, ◌+◌, ◌<◌, ◌≤◌, List, [], ◌∷◌, ◌++◌, map, length, true, refl, sym, subst, inl, arith, ℤ, pos, negsuc}
+use Rattle.std.proofs.Common.{◌≡◌, ℕ, ◌+◌, ◌<◌, List, [], ◌∷◌, map, length, true, refl, sym, subst, inl, arith, ℤ, pos, negsuc}
 use Rattle.std.specs.List.{All}
 use Rattle.std.proofs.lemmas.Bool.{le-leb}
 use Rattle.std.proofs.lemmas.List.Elements.{All-head, All-tail}
-use Rattle.ufmt_core.specs.Decimal.{decimal, decimal_byte, sign_of, TellsDecimal, TellsMagnitude}
+use Rattle.ufmt_core.specs.Decimal.{decimal, decimal_byte, TellsDecimal, TellsMagnitude}
 use Rattle.ufmt_core.specs.Words.{integer}
 use Rattle.ufmt_core.proofs.DecimalTexts.{decimal-tells}
 use Rattle.ufmt.specs.Token.{is_word_byte, AreWordBytes, IsWord, HasWords}

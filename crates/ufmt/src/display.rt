@@ -3,6 +3,7 @@ ghost use Rattle.std.specs.Prelude.{encode_utf8, is_ok, string_bytes};
 ghost use Rattle.ufmt_core.specs.Document.{Document, leaf};
 ghost use Rattle.ufmt_core.specs.Formatter.{LaysOut};
 
+use std::alloc::Allocator;
 use std::num::{
     NonZeroI8, NonZeroI16, NonZeroI32, NonZeroI64, NonZeroIsize, NonZeroU8, NonZeroU16, NonZeroU32,
     NonZeroU64, NonZeroUsize,
@@ -48,7 +49,7 @@ impl<T: uDisplay> uDisplay for &mut T {
 }
 
 /// Prints what the box holds.
-impl<T: uDisplay> uDisplay for Box<T> {
+impl<T: uDisplay, A: Allocator> uDisplay for Box<T, A> {
     ghost display = { λ x. T.display x.value };
 
     fn fmt<W>(&self, f: &mut Formatter<W>) -> Result<(), W::Error>
@@ -84,7 +85,7 @@ impl uDisplay for &str {
 }
 
 /// Prints the text.
-impl uDisplay for String {
+impl<A: Allocator> uDisplay for String<A> {
     ghost display = { λ s. leaf (string_bytes s) };
 
     fn fmt<W>(&self, f: &mut Formatter<W>) -> Result<(), W::Error>

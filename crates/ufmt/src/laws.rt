@@ -1,10 +1,8 @@
 //! Laws, each as the contract of a function.
-ghost use Rattle.std.specs.Prelude.{[], ◌∷◌, is_ok, ◌≡◌, ◌<◌, ◌≤◌, ◌↔◌, ◌++◌, ℕ, ℤ, List, length, drop, map, true, false, IsOk, OnOk, OnErr, None, Some, Ok, Err};
+ghost use Rattle.std.specs.Prelude.{[], ◌∷◌, is_ok, ◌≡◌, ◌<◌, ◌≤◌, ◌↔◌, ◌++◌, ℕ, ℤ, List, String, Box, length, drop, encode_utf8, string_bytes, IsOk, OnOk, OnErr};
 ghost use Rattle.ufmt_core.specs.Decimal.{decimal};
-ghost use Rattle.ufmt_core.specs.Document.{documents, list_of, map_of, pairs_of, set_of};
-ghost use Rattle.ufmt_core.specs.Words.{integer, named, named_tuple, number};
+ghost use Rattle.ufmt_core.specs.Document.{leaf};
 ghost use Rattle.std.specs.Borrow.{Bor, MutBor};
-ghost use Rattle.std.specs.Global.{Box};
 ghost use Rattle.std.specs.Int.{w8, w16, w32, w64, w128};
 ghost use Rattle.ufmt_core.specs.Formatter.{Prints, setting_of};
 ghost use Rattle.ufmt.specs.Pieces.{hex, pieces_text, pretty, shown, text};
@@ -20,10 +18,14 @@ use crate::cursor::{Cursor, Full};
 use crate::display::uDisplay;
 use crate::hex::{HexOptions, uDisplayHex};
 use crate::uwrite;
-use std::collections::{BTreeMap, BTreeSet};
+use std::alloc::Allocator;
 use std::num::{
     NonZeroI8, NonZeroI16, NonZeroI32, NonZeroI64, NonZeroIsize, NonZeroU8, NonZeroU16, NonZeroU32,
     NonZeroU64, NonZeroUsize,
+};
+pub use ufmt_core::laws::{
+    documents_of_collections, documents_of_leaves, documents_of_tuples,
+    references_print_what_they_refer_to,
 };
 use ufmt_core::{Formatter, uDebug, uWrite};
 
@@ -116,20 +118,20 @@ pub fn both_traits_print_one_text()
     ensures of_bool { ⟦<bool as uDisplay>⟧.display ≡ ⟦<bool as uDebug>⟧.document }
 {}
 
-/// A reference prints as what it refers to.
-pub fn references_print_what_they_refer_to<T: uDebug>()
-    ensures debug { (x : Bor T) → ⟦<&'static T as uDebug>⟧.document x ≡ T.document x.now }
-    ensures debug_mut { (x : MutBor T) → ⟦<&'static mut T as uDebug>⟧.document x ≡ T.document
-        x.now }
-    ensures debug_box { (x : Box T) → ⟦<Box<T> as uDebug>⟧.document x ≡ T.document x.value }
-{}
-
 /// A reference is displayed as what it refers to.
-pub fn references_display_what_they_refer_to<T: uDisplay>()
+pub fn references_display_what_they_refer_to<T: uDisplay, A: Allocator>()
     ensures display { (x : Bor T) → ⟦<&'static T as uDisplay>⟧.display x ≡ T.display x.now }
     ensures display_mut { (x : MutBor T) → ⟦<&'static mut T as uDisplay>⟧.display x ≡ T.display
         x.now }
-    ensures display_box { (x : Box T) → ⟦<Box<T> as uDisplay>⟧.display x ≡ T.display x.value }
+    ensures display_box { (x : Box T A) → ⟦<Box<T, A> as uDisplay>⟧.display x ≡ T.display x.value }
+{}
+
+/// A character and a text are displayed as they are: as the leaf of their bytes.
+pub fn texts_display_as_they_are<A: Allocator>()
+    ensures of_char { (c : ℕ) → ⟦<char as uDisplay>⟧.display c ≡ leaf (encode_utf8 c) }
+    ensures of_str { (s : Bor (List ℕ)) → ⟦<&'static str as uDisplay>⟧.display s ≡ leaf s.now }
+    ensures of_string { (s : String A) → ⟦<String<A> as uDisplay>⟧.display s ≡
+        leaf (string_bytes s) }
 {}
 
 /// `uwrite!(f, text t, display a, debug b, pretty c, hex n with options)`: the pattern of that macro.
@@ -195,74 +197,4 @@ pub fn texts_are_read_exactly()
     ensures only { ReadsOnlyTexts }
     ensures each { ReadsEachText }
     ensures refused { RefusesNoText }
-{}
-
-/// The document of a number is the leaf of its decimal text, and that of a truth value, of `()` and
-/// of `None` the leaf of its name.
-pub fn documents_of_leaves<T: uDebug>()
-    ensures of_u8 { (n : ℕ) → ⟦<u8 as uDebug>⟧.document n ≡ number n }
-    ensures of_u16 { (n : ℕ) → ⟦<u16 as uDebug>⟧.document n ≡ number n }
-    ensures of_u32 { (n : ℕ) → ⟦<u32 as uDebug>⟧.document n ≡ number n }
-    ensures of_u64 { (n : ℕ) → ⟦<u64 as uDebug>⟧.document n ≡ number n }
-    ensures of_u128 { (n : ℕ) → ⟦<u128 as uDebug>⟧.document n ≡ number n }
-    ensures of_usize { (n : ℕ) → ⟦<usize as uDebug>⟧.document n ≡ number n }
-    ensures of_i8 { (z : ℤ) → ⟦<i8 as uDebug>⟧.document z ≡ integer z }
-    ensures of_i16 { (z : ℤ) → ⟦<i16 as uDebug>⟧.document z ≡ integer z }
-    ensures of_i32 { (z : ℤ) → ⟦<i32 as uDebug>⟧.document z ≡ integer z }
-    ensures of_i64 { (z : ℤ) → ⟦<i64 as uDebug>⟧.document z ≡ integer z }
-    ensures of_i128 { (z : ℤ) → ⟦<i128 as uDebug>⟧.document z ≡ integer z }
-    ensures of_isize { (z : ℤ) → ⟦<isize as uDebug>⟧.document z ≡ integer z }
-    ensures of_true { ⟦<bool as uDebug>⟧.document true ≡ named "true" }
-    ensures of_false { ⟦<bool as uDebug>⟧.document false ≡ named "false" }
-    ensures of_unit { (u : Unit {0}) → ⟦<() as uDebug>⟧.document u ≡ named "()" }
-    ensures of_none { ⟦<Option<T> as uDebug>⟧.document None ≡ named "None" }
-{}
-
-/// The document of a variant is the tuple of its name, that of a sequence the list of its items, that
-/// of a set the set of its items and that of a map the map of its entries, each in order.
-pub fn documents_of_collections<T: uDebug + Ord, U: uDebug, const N: usize>()
-    ensures of_some { (x : T) → ⟦<Option<T> as uDebug>⟧.document (Some x) ≡
-        named_tuple "Some" (T.document x ∷ []) }
-    ensures of_ok { (x : T) → ⟦<Result<T, U> as uDebug>⟧.document (Ok x) ≡
-        named_tuple "Ok" (T.document x ∷ []) }
-    ensures of_err { (x : U) → ⟦<Result<T, U> as uDebug>⟧.document (Err x) ≡
-        named_tuple "Err" (U.document x ∷ []) }
-    ensures of_slice { ⟦<&'static [T] as uDebug>⟧.document ≡
-        (λ xs. list_of (documents (map T.document xs.now))) }
-    ensures of_array { ⟦<[T; N] as uDebug>⟧.document ≡
-        (λ xs. list_of (documents (map T.document xs))) }
-    ensures of_vec { ⟦<Vec<T> as uDebug>⟧.document ≡
-        (λ xs. list_of (documents (map T.document xs.items))) }
-    ensures of_set { ⟦<BTreeSet<T> as uDebug>⟧.document ≡
-        (λ xs. set_of (documents (map T.document xs.keys))) }
-    ensures of_map { ⟦<BTreeMap<T, U> as uDebug>⟧.document ≡
-        (λ es. map_of (pairs_of (map (λ e. (T.document e.0, U.document e.1)) es.entries))) }
-{}
-
-/// The document of a tuple is the tuple without a name of its fields, in order: of one to three types,
-/// and of one type as often as it has fields.
-pub fn documents_of_tuples<T: uDebug, U: uDebug, V: uDebug>()
-    ensures of_one { ⟦<(T,) as uDebug>⟧.document ≡ (λ t. named_tuple "" (T.document t.0 ∷ [])) }
-    ensures of_two { ⟦<(T, U) as uDebug>⟧.document ≡
-        (λ t. named_tuple "" (T.document t.0 ∷ U.document t.1 ∷ [])) }
-    ensures of_three { ⟦<(T, U, V) as uDebug>⟧.document ≡
-        (λ t. named_tuple "" (T.document t.0 ∷ U.document t.1 ∷ V.document t.2 ∷ [])) }
-    ensures of_four { ⟦<(T, T, T, T) as uDebug>⟧.document ≡
-        (λ t. named_tuple "" (map T.document (t.0 ∷ t.1 ∷ t.2 ∷ t.3 ∷ []))) }
-    ensures of_five { ⟦<(T, T, T, T, T) as uDebug>⟧.document ≡
-        (λ t. named_tuple "" (map T.document (t.0 ∷ t.1 ∷ t.2 ∷ t.3 ∷ t.4 ∷ []))) }
-    ensures of_six { ⟦<(T, T, T, T, T, T) as uDebug>⟧.document ≡
-        (λ t. named_tuple "" (map T.document (t.0 ∷ t.1 ∷ t.2 ∷ t.3 ∷ t.4 ∷ t.5 ∷ []))) }
-    ensures of_seven { ⟦<(T, T, T, T, T, T, T) as uDebug>⟧.document ≡
-        (λ t. named_tuple "" (map T.document (t.0 ∷ t.1 ∷ t.2 ∷ t.3 ∷ t.4 ∷ t.5 ∷ t.6 ∷ []))) }
-    ensures of_eight { ⟦<(T, T, T, T, T, T, T, T) as uDebug>⟧.document ≡
-        (λ t. named_tuple "" (map T.document (t.0 ∷ t.1 ∷ t.2 ∷ t.3 ∷ t.4 ∷ t.5 ∷ t.6 ∷ t.7 ∷ []))) }
-    ensures of_nine { ⟦<(T, T, T, T, T, T, T, T, T) as uDebug>⟧.document ≡
-        (λ t. named_tuple "" (map T.document (t.0 ∷ t.1 ∷ t.2 ∷ t.3 ∷ t.4 ∷ t.5 ∷ t.6 ∷ t.7 ∷ t.8 ∷ []))) }
-    ensures of_ten { ⟦<(T, T, T, T, T, T, T, T, T, T) as uDebug>⟧.document ≡
-        (λ t. named_tuple "" (map T.document (t.0 ∷ t.1 ∷ t.2 ∷ t.3 ∷ t.4 ∷ t.5 ∷ t.6 ∷ t.7 ∷ t.8 ∷ t.9 ∷ []))) }
-    ensures of_eleven { ⟦<(T, T, T, T, T, T, T, T, T, T, T) as uDebug>⟧.document ≡
-        (λ t. named_tuple "" (map T.document (t.0 ∷ t.1 ∷ t.2 ∷ t.3 ∷ t.4 ∷ t.5 ∷ t.6 ∷ t.7 ∷ t.8 ∷ t.9 ∷ t.10 ∷ []))) }
-    ensures of_twelve { ⟦<(T, T, T, T, T, T, T, T, T, T, T, T) as uDebug>⟧.document ≡
-        (λ t. named_tuple "" (map T.document (t.0 ∷ t.1 ∷ t.2 ∷ t.3 ∷ t.4 ∷ t.5 ∷ t.6 ∷ t.7 ∷ t.8 ∷ t.9 ∷ t.10 ∷ t.11 ∷ []))) }
 {}

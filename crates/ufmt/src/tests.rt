@@ -2,6 +2,7 @@
 //! the macros evaluate, and that each call can succeed.
 use crate::laws;
 use crate::unsigned::decimal_is_one_text;
+use std::alloc::Global;
 
 mod cursors;
 mod display;
@@ -20,10 +21,11 @@ fn laws_of_numbers_and_types_can_be_called() {
     laws::signed_prints_as_unsigned();
     laws::padding_reaches_length();
     laws::both_traits_print_one_text();
-    laws::references_print_what_they_refer_to::<u8>();
-    laws::references_display_what_they_refer_to::<u8>();
+    laws::references_print_what_they_refer_to::<u8, Global>();
+    laws::references_display_what_they_refer_to::<u8, Global>();
+    laws::texts_display_as_they_are::<Global>();
     laws::documents_of_leaves::<u8>();
-    laws::documents_of_collections::<u8, u16, 3>();
+    laws::documents_of_collections::<u8, u16, Global, 3>();
     laws::documents_of_tuples::<u8, u16, u32>();
 }
 

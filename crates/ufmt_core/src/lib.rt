@@ -7,6 +7,7 @@ ghost use Rattle.ufmt_core.specs.Formatter.{LaysOut};
 
 mod core_impls;
 mod formatter;
+pub mod laws;
 mod list;
 mod map;
 mod nonzero;

@@ -6,10 +6,11 @@ use crate::map::fmt_map;
 use crate::set::fmt_set;
 use crate::uDebug;
 use crate::write::uWrite;
+use std::alloc::Allocator;
 use std::collections::{BTreeMap, BTreeSet};
 
 /// Prints the items as a list.
-impl<T: uDebug> uDebug for Vec<T> {
+impl<T: uDebug, A: Allocator> uDebug for Vec<T, A> {
     ghost document = { λ v. list_of (documents (map T.document v.items)) };
 
     fn fmt<W>(&self, f: &mut Formatter<W>) -> Result<(), W::Error>
@@ -21,7 +22,7 @@ impl<T: uDebug> uDebug for Vec<T> {
 }
 
 /// Prints the items in order as a set.
-impl<T: uDebug + Ord> uDebug for BTreeSet<T> {
+impl<T: uDebug + Ord, A: Allocator> uDebug for BTreeSet<T, A> {
     ghost document = { λ s. set_of (documents (map T.document s.keys)) };
 
     fn fmt<W>(&self, f: &mut Formatter<W>) -> Result<(), W::Error>
@@ -33,7 +34,7 @@ impl<T: uDebug + Ord> uDebug for BTreeSet<T> {
 }
 
 /// Prints the entries in key order as a map.
-impl<K: uDebug + Ord, V: uDebug> uDebug for BTreeMap<K, V> {
+impl<K: uDebug + Ord, V: uDebug, A: Allocator> uDebug for BTreeMap<K, V, A> {
     ghost document = { λ m. map_of
         (pairs_of (map (λ e. (K.document e.0, V.document e.1)) m.entries)) };
 
@@ -46,7 +47,7 @@ impl<K: uDebug + Ord, V: uDebug> uDebug for BTreeMap<K, V> {
 }
 
 /// Prints what the box holds.
-impl<T: uDebug> uDebug for Box<T> {
+impl<T: uDebug, A: Allocator> uDebug for Box<T, A> {
     ghost document = { λ b. T.document b.value };
 
     fn fmt<W>(&self, f: &mut Formatter<W>) -> Result<(), W::Error>

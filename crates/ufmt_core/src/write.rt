@@ -1,7 +1,7 @@
 ghost use Rattle.std.specs.Prelude.{◌≡◌, ◌∷◌, is_ok, encode_utf8, string_bytes, OnErr};
 ghost use Rattle.ufmt_core.specs.Writes.{Writes, Seen, string_seen};
 
-use std::alloc::AllocError;
+use std::alloc::{AllocError, Allocator};
 
 /// A destination for text, with an error type of its own.
 ///
@@ -28,7 +28,7 @@ pub trait uWrite {
 }
 
 /// On `Err` the text is unchanged. An empty piece is `Ok` before any growth.
-impl uWrite for String {
+impl<A: Allocator> uWrite for String<A> {
     type Error = AllocError;
 
     ghost seen = { string_seen };
