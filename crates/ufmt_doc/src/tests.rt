@@ -1,4 +1,8 @@
 //! What no clause says: that calls on documents can succeed, and what they give on rows written by hand.
+mod levels;
+mod malformed;
+mod texts;
+
 use crate::convert::{plain_text, pretty_text};
 use crate::doc::Doc;
 use std::alloc::{AllocError, Global};

@@ -1,3 +1,5 @@
+mod devices;
+
 use super::*;
 use std::io::ErrorKind;
 use std::process::Abort;
@@ -283,51 +285,6 @@ fn lists_are_converted_to_255_deep(rt: HostRuntime) -> Result<(), Fail> {
     let too_deep = nested_lists(rt.alloc(), 256, "x")?;
     command_row(&rt, Command::Pretty, &too_deep, Err(Fault::NotPlain), b"");
     Ok(())
-}
-
-#[test]
-fn runs_whose_input_fails(rt: HostRuntime) {
-    let outcome = Err(Fault::CannotRead);
-    for command in [Command::Lengths, Command::Pretty, Command::Plain] {
-        for fails_at in [1, 2, 4] {
-            let source = Source::new(b"ab\n", 1, fails_at);
-            let sink = Sink::new(rt.alloc(), WHOLE, NEVER, false);
-            row(&rt, command, source, sink, outcome, b"");
-        }
-    }
-}
-
-// An output that takes two bytes a call is flushed after all calls.
-#[test]
-fn runs_whose_output_fails(rt: HostRuntime) {
-    let outcome = Err(Fault::CannotWrite);
-    let rows: [(Command, &[u8], usize, &[u8]); 9] = [
-        (Command::Lengths, b"ab\n\nxyz", 1, b""),
-        (Command::Lengths, b"ab\n\nxyz", 2, b"[2"),
-        (Command::Lengths, b"ab\n\nxyz", 3, b"[2, "),
-        (Command::Lengths, b"ab\n\nxyz", 5, b"[2, 0, 3"),
-        (Command::Lengths, b"ab\n\nxyz", 6, b"[2, 0, 3]\n"),
-        (Command::Pretty, b"[1]", 4, b"[\n    "),
-        (Command::Pretty, b"[1]", 7, b"[\n    1,\n]\n"),
-        (Command::Plain, b"[\n    1,\n]", 1, b""),
-        (Command::Plain, b"[\n    1,\n]", 2, b"[1"),
-    ];
-    for (command, input, fails_at, written) in rows {
-        let source = Source::new(input, WHOLE, NEVER);
-        let sink = Sink::new(rt.alloc(), 2, fails_at, false);
-        row(&rt, command, source, sink, outcome, written);
-    }
-}
-
-#[test]
-fn runs_whose_output_takes_nothing_or_fails_to_flush(rt: HostRuntime) {
-    let outcome = Err(Fault::CannotWrite);
-    let rows: [(usize, bool, &[u8]); 2] = [(0, false, b""), (WHOLE, true, b"[2]\n")];
-    for (most, fails_flush, written) in rows {
-        let source = Source::new(b"ab", WHOLE, NEVER);
-        let sink = Sink::new(rt.alloc(), most, NEVER, fails_flush);
-        row(&rt, Command::Lengths, source, sink, outcome, written);
-    }
 }
 
 #[test]

@@ -22,6 +22,15 @@ fn texts_are_converted(rt: HostRuntime) {
         ("{}", "{}"),
         ("(x,)", "(\n    x,\n)"),
         ("n(x)", "n(\n    x,\n)"),
+        ("[a, b]", "[\n    a,\n    b,\n]"),
+        ("(a, b)", "(\n    a,\n    b,\n)"),
+        ("n(a, b)", "n(\n    a,\n    b,\n)"),
+        ("{a, b}", "{\n    a,\n    b,\n}"),
+        ("{a: b, c: d}", "{\n    a: b,\n    c: d,\n}"),
+        (
+            "{a: S { b: -1 }, c: ()}",
+            "{\n    a: S {\n        b: -1,\n    },\n    c: (),\n}",
+        ),
         (
             "S { a: [b], c: {d: ()} }",
             "S {\n    a: [\n        b,\n    ],\n    c: {\n        d: (),\n    },\n}",
