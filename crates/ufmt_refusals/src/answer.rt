@@ -1,0 +1,91 @@
+//! What a call answered, beside what it answers with ample memory.
+ghost use Rattle.std.specs.Prelude.{◌≡◌, ◌≢◌, ◌↔◌, string_bytes, IfOk, IsErr, IsErrOf};
+
+use std::alloc::AllocError;
+use ufmt_doc::doc::Doc;
+use ufmt_doc::plain_reader::ReadError;
+
+/// What a call answered.
+#[derive(Clone, Copy, PartialEq, Eq, Debug)]
+pub enum Answer {
+    /// What it answers with ample memory.
+    Ample,
+    WantOfMemory,
+    Other,
+}
+
+impl Answer {
+    pub fn words(&self) -> &'static str {
+        match self {
+            Answer::Ample => "as with ample memory",
+            Answer::WantOfMemory => "want of memory",
+            Answer::Other => "another answer",
+        }
+    }
+
+    /// Of a call that gives nothing but memory.
+    pub fn of_memory(answer: Result<(), AllocError>) -> Answer
+        ensures memory { IsErr answer ↔ (result ≡ Answer.WantOfMemory) }
+        ensures ample { result ≢ Answer.Other }
+    {
+        match answer {
+            Ok(()) => Answer::Ample,
+            Err(_) => Answer::WantOfMemory,
+        }
+    }
+
+    /// Of a value's text, which is `ample` with ample memory.
+    pub fn of_text(answer: Result<String, AllocError>, ample: &str) -> Answer
+        ensures memory { IsErr answer ↔ (result ≡ Answer.WantOfMemory) }
+        ensures ample { (result ≡ Answer.Ample) → IfOk answer (λ text. string_bytes text ≡ ample.now) }
+    {
+        match answer {
+            Ok(text) if text.as_str() == ample => Answer::Ample,
+            Ok(_) => Answer::Other,
+            Err(_) => Answer::WantOfMemory,
+        }
+    }
+
+    /// Of a text that is converted: with ample memory to `ample`, and refused where that is `None`.
+    pub fn of_conversion(answer: Result<String, ReadError>, ample: Option<&str>) -> Answer
+        ensures memory { IsErrOf answer ReadError.OutOfMemory ↔ (result ≡ Answer.WantOfMemory) }
+    {
+        match answer {
+            Ok(text) if ample == Some(text.as_str()) => Answer::Ample,
+            Ok(_) => Answer::Other,
+            Err(error) => Answer::of_refusal(error, ample),
+        }
+    }
+
+    /// Of a text that is read: with ample memory as the document whose plain text is `ample`, and
+    /// refused where that is `None`.
+    pub fn of_reading(answer: Result<Doc, ReadError>, ample: Option<&str>) -> Answer
+        ensures memory { IsErrOf answer ReadError.OutOfMemory ↔ (result ≡ Answer.WantOfMemory) }
+    {
+        match answer {
+            Ok(doc) if has_plain_text(&doc, ample) => Answer::Ample,
+            Ok(_) => Answer::Other,
+            Err(error) => Answer::of_refusal(error, ample),
+        }
+    }
+
+    // Of a text that is refused, as it should be where `ample` is `None`.
+    fn of_refusal(error: ReadError, ample: Option<&str>) -> Answer
+        ensures memory { (error ≡ ReadError.OutOfMemory) ↔ (result ≡ Answer.WantOfMemory) }
+    {
+        match error {
+            ReadError::NotText if ample.is_none() => Answer::Ample,
+            ReadError::NotText => Answer::Other,
+            ReadError::OutOfMemory => Answer::WantOfMemory,
+        }
+    }
+}
+
+// It takes no memory, so that it is never refused any.
+fn has_plain_text(doc: &Doc, text: Option<&str>) -> bool {
+    let mut buffer = [0; 128];
+    match (ufmt::debug_into(&mut buffer, doc), text) {
+        (Ok(count), Some(text)) => buffer.get(..count) == Some(text.as_bytes()),
+        _ => false,
+    }
+}
