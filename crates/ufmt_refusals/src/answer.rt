@@ -1,5 +1,5 @@
 //! What a call answered, beside what it answers with ample memory.
-ghost use Rattle.std.specs.Prelude.{◌≡◌, ◌≢◌, ◌↔◌, string_bytes, IfOk, IsErr, IsErrOf};
+ghost use Rattle.std.specs.Prelude.{◌≡◌, ◌≢◌, ◌↔◌, string_bytes, IfErr, IfOk, IfSome, IsErr, IsErrOf, IsNone};
 
 use std::alloc::AllocError;
 use ufmt_doc::doc::Doc;
@@ -49,6 +49,9 @@ impl Answer {
     /// Of a text that is converted: with ample memory to `ample`, and refused where that is `None`.
     pub fn of_conversion(answer: Result<String, ReadError>, ample: Option<&str>) -> Answer
         ensures memory { IsErrOf answer ReadError.OutOfMemory ↔ (result ≡ Answer.WantOfMemory) }
+        ensures text { (result ≡ Answer.Ample) → IfOk answer (λ text.
+            IfSome ample.entry (λ wanted. string_bytes text ≡ wanted.now)) }
+        ensures refusal { (result ≡ Answer.Ample) → IfErr answer (λ _. IsNone ample.entry) }
     {
         match answer {
             Ok(text) if ample == Some(text.as_str()) => Answer::Ample,
@@ -61,6 +64,7 @@ impl Answer {
     /// refused where that is `None`.
     pub fn of_reading(answer: Result<Doc, ReadError>, ample: Option<&str>) -> Answer
         ensures memory { IsErrOf answer ReadError.OutOfMemory ↔ (result ≡ Answer.WantOfMemory) }
+        ensures refusal { (result ≡ Answer.Ample) → IfErr answer (λ _. IsNone ample.entry) }
     {
         match answer {
             Ok(doc) if has_plain_text(&doc, ample) => Answer::Ample,
@@ -72,6 +76,7 @@ impl Answer {
     // Of a text that is refused, as it should be where `ample` is `None`.
     fn of_refusal(error: ReadError, ample: Option<&str>) -> Answer
         ensures memory { (error ≡ ReadError.OutOfMemory) ↔ (result ≡ Answer.WantOfMemory) }
+        ensures refusal { (result ≡ Answer.Ample) → IsNone ample.entry }
     {
         match error {
             ReadError::NotText if ample.is_none() => Answer::Ample,
