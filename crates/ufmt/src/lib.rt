@@ -8,8 +8,6 @@ mod fields;
 mod hex;
 pub mod laws;
 mod pieces;
-#[cfg(test)]
-mod tests;
 
 pub use cursor::{Cursor, Full, debug_into, display_into, pretty_into};
 pub use display::uDisplay;

@@ -9,8 +9,6 @@ mod nested;
 mod node;
 mod pair;
 mod scores;
-#[cfg(test)]
-mod tests;
 mod wrappers;
 
 pub use by_hand::{Port, Ports, Users};

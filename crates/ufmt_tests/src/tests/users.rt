@@ -1,17 +1,13 @@
 //! What no clause says: the texts that core::fmt prints of the same values, and that each call can succeed.
-use crate::{
-    Braces, I32, InPrettyMode, Kind, Nested, Node, Pair, Parens, Reading, Scores, Tuple, X, Y, log,
-};
-use rows::Rows;
+use super::forwarded;
+use super::rows::Rows;
 use std::alloc::AllocError;
 use std::process::Abort;
 use std::test::Fail;
 use ufmt::{Cursor, Formatter, Full, uDebug, uwriteln};
-
-mod forwarded;
-mod library;
-mod rows;
-mod whole;
+use ufmt_user::{
+    Braces, I32, InPrettyMode, Kind, Nested, Node, Pair, Parens, Reading, Scores, Tuple, X, Y, log,
+};
 
 impl<R: Abort + AllocGlobal> Rows<'_, R> {
     fn structs<N: uDebug + Copy>(&self, zero: N) -> Result<(), AllocError> {
@@ -140,8 +136,8 @@ fn pieces_of_a_log(rt: HostRuntime) {
 }
 
 mod foreign {
-    use crate::Pair;
     use ufmt::{Cursor, Formatter, Full, uwrite, uwriteln};
+    use ufmt_user::Pair;
 
     #[derive(Drop)]
     pub struct Result;

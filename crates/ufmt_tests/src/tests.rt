@@ -1,16 +1,20 @@
 //! What no clause says: the texts that core::fmt prints of the same values, where pieces end, what
 //! the macros evaluate, and that each call can succeed.
-use crate::laws;
-use crate::unsigned::decimal_is_one_text;
 use std::alloc::Global;
+use ufmt::laws;
+use ufmt::unsigned::decimal_is_one_text;
 
 mod cursors;
 mod display;
+mod forwarded;
 mod hexadecimal;
+mod library;
 mod macros;
 mod numbers;
 mod pieces;
 mod rows;
+mod users;
+mod whole;
 
 #[test]
 fn laws_of_numbers_and_types_can_be_called() {

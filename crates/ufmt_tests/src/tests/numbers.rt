@@ -1,5 +1,4 @@
 use super::rows::Rows;
-use crate::{Formatter, uDebug};
 use std::alloc::AllocError;
 use std::fmt::Display;
 use std::num::{
@@ -8,6 +7,7 @@ use std::num::{
 };
 use std::process::Abort;
 use std::test::Fail;
+use ufmt::{Formatter, uDebug};
 
 impl<R: Abort + AllocGlobal> Rows<'_, R> {
     // Numbers of one type, each with one text in both modes.

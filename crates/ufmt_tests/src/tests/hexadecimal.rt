@@ -1,7 +1,7 @@
 use super::rows::Rows;
-use crate::{Cursor, Formatter, Full, HexOptions, uDisplayHex};
 use std::process::Abort;
 use std::test::Fail;
+use ufmt::{Cursor, Formatter, Full, HexOptions, uDisplayHex};
 
 fn lower_case(ox_prefix: bool, pad_char: u8, pad_length: usize) -> HexOptions {
     HexOptions {

@@ -1,6 +1,6 @@
 use super::rows::Rows;
-use crate::{Cursor, Formatter, Full, HexOptions, laws, uWrite, uwrite, uwriteln};
 use std::test::Fail;
+use ufmt::{Cursor, Formatter, Full, HexOptions, laws, uWrite, uwrite, uwriteln};
 
 const PREFIXED: HexOptions = HexOptions {
     upper_case: false,

@@ -2,14 +2,14 @@
 ghost use Rattle.std.specs.Prelude.{[]};
 
 use super::rows::Rows;
-use crate::{
-    Cursor, Formatter, Full, HexOptions, uDebug, uDisplay, uDisplayHex, uWrite, uwrite, uwriteln,
-};
 use std::alloc::{AllocError, Global};
 use std::collections::{BTreeMap, BTreeSet};
 use std::num::NonZeroI8;
 use std::process::Abort;
 use std::test::Fail;
+use ufmt::{
+    Cursor, Formatter, Full, HexOptions, uDebug, uDisplay, uDisplayHex, uWrite, uwrite, uwriteln,
+};
 
 // A writer that ends each piece by a bar, and counts those that came as characters. What it holds is
 // not told to contracts.

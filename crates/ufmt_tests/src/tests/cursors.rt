@@ -1,6 +1,6 @@
 use super::rows::Rows;
-use crate::{Cursor, Formatter, Full, laws, uDebug, uWrite};
 use std::process::Abort;
+use ufmt::{Cursor, Formatter, Full, laws, uDebug, uWrite};
 
 impl<R: Abort + AllocGlobal> Rows<'_, R> {
     // What a call on the cursor answered, and what is then written and remains.

@@ -1,10 +1,10 @@
 use super::rows::Rows;
-use crate::{Port, Ports, Tree, Users};
 use std::test::Fail;
 use ufmt::{
     Formatter, Full, debug_into, display_into, fields, pretty_into, uWrite, write_debug,
     write_display, write_pretty,
 };
+use ufmt_user::{Port, Ports, Tree, Users};
 
 // Rust prints these as its derives and `debug_map` and `debug_list` would.
 #[test]

@@ -1,11 +1,11 @@
 use super::rows::Rows;
-use crate::{Cursor, Formatter, Full, uDisplay};
 use std::num::{
     NonZeroI8, NonZeroI16, NonZeroI32, NonZeroI64, NonZeroIsize, NonZeroU8, NonZeroU16, NonZeroU32,
     NonZeroU64, NonZeroUsize,
 };
 use std::process::Abort;
 use std::test::Fail;
+use ufmt::{Cursor, Formatter, Full, uDisplay};
 
 impl<R: Abort + AllocGlobal> Rows<'_, R> {
     // Prints the value into a text, into a buffer of just its length, and into one that is a byte too
