@@ -8,6 +8,7 @@ mod cursors;
 mod display;
 mod forwarded;
 mod hexadecimal;
+mod hostile;
 mod library;
 mod macros;
 mod numbers;

@@ -7,7 +7,7 @@ mod formatters;
 mod structs;
 
 // The text with `part` as often as `count` says between its beginning and its end.
-fn repeated(
+pub fn repeated(
     alloc: Global,
     beginning: &str,
     part: &str,

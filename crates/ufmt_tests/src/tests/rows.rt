@@ -10,8 +10,8 @@ use ufmt::{Cursor, Formatter, fmt_pretty, uDebug};
 // out takes the check as long as a score of calls.
 #[derive(Clone, Copy)]
 pub struct Rows<'a, R> {
-    rt: &'a R,
-    table: &'a str,
+    pub(super) rt: &'a R,
+    pub(super) table: &'a str,
 }
 
 impl<'a, R: Abort + AllocGlobal> Rows<'a, R> {

@@ -1,0 +1,10 @@
+//! Writers that fail at every place, and what is left behind them.
+use super::library::repeated;
+use super::rows::Rows;
+
+mod blocks;
+mod each_piece;
+mod leaves;
+mod macros;
+mod printed;
+mod writers;
