@@ -3,6 +3,8 @@ use super::library::repeated;
 use super::rows::Rows;
 
 mod blocks;
+mod builder_calls;
+mod builders;
 mod each_piece;
 mod leaves;
 mod macros;

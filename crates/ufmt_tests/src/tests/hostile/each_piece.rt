@@ -169,7 +169,7 @@ impl<R: Abort + AllocGlobal> Rows<'_, R> {
     }
 
     // The case, the mode, the writer and its number or size stand in the message.
-    fn same_at<T: PartialEq + Debug + Drop>(
+    pub fn same_at<T: PartialEq + Debug + Drop>(
         &self,
         given: T,
         wanted: T,
