@@ -6,6 +6,7 @@ use ufmt::unsigned::decimal_is_one_text;
 
 mod cursors;
 mod display;
+mod fields;
 mod forwarded;
 mod hexadecimal;
 mod hostile;

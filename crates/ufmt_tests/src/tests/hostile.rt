@@ -13,4 +13,5 @@ mod long_values;
 mod macros;
 mod printed;
 mod settings;
+mod stopped_calls;
 mod writers;

@@ -13,8 +13,10 @@ pub struct Pieces<'a> {
     mode: &'a str,
     is_pretty: bool,
     text: String,
-    /// 0, and the length of the text after each piece that isn't empty.
+    /// The length of the text after each piece.
     ends: Vec<usize>,
+    /// 0, and those where the text has grown.
+    stops: Vec<usize>,
 }
 
 impl<'a> Pieces<'a> {
@@ -25,11 +27,13 @@ impl<'a> Pieces<'a> {
         barred: &str,
     ) -> Result<Self, AllocError> {
         let mut text = String::new(alloc);
-        let mut ends = vec![in alloc; 0]?;
-        for piece in barred.split('|') {
+        let mut ends = Vec::new(alloc);
+        let mut stops = vec![in alloc; 0]?;
+        for piece in barred.strip_suffix('|').unwrap_or(barred).split('|') {
+            text.push_str(piece)?;
+            ends.push(text.len())?;
             if !piece.is_empty() {
-                text.push_str(piece)?;
-                ends.push(text.len())?;
+                stops.push(text.len())?;
             }
         }
         Ok(Pieces {
@@ -37,15 +41,16 @@ impl<'a> Pieces<'a> {
             is_pretty,
             text,
             ends,
+            stops,
         })
     }
 
-    // The greatest end that is at most `size`.
-    fn end_within(&self, size: usize) -> usize {
+    // The greatest stop that is at most `size`.
+    fn stop_within(&self, size: usize) -> usize {
         let mut greatest = 0;
-        for end in &self.ends {
-            if *end <= size {
-                greatest = *end;
+        for stop in &self.stops {
+            if *stop <= size {
+                greatest = *stop;
             }
         }
         greatest
@@ -82,12 +87,12 @@ fn print_in<T: Printed, W: uWrite>(
 }
 
 impl Pieces<'_> {
-    // What is left where the writer took the text up to `end`.
-    fn left_at(&self, end: usize) -> Left<'_> {
-        let is_whole = end == self.text.len();
+    // What is left where the writer took the text up to here.
+    fn left_at(&self, stop: usize) -> Left<'_> {
+        let is_whole = stop == self.text.len();
         Left {
             answer: if is_whole { Ok(()) } else { Err(Full) },
-            written: self.text.as_bytes().get(..end),
+            written: self.text.as_bytes().get(..stop),
             inside: (self.is_pretty, 0),
             outside: (false, 0),
         }
@@ -95,7 +100,7 @@ impl Pieces<'_> {
 }
 
 impl<R: Abort + AllocGlobal> Rows<'_, R> {
-    // The value has these pieces, and no others that aren't empty.
+    // The value has these pieces.
     fn has_pieces<T: Printed>(
         &self,
         case: &str,
@@ -107,11 +112,7 @@ impl<R: Abort + AllocGlobal> Rows<'_, R> {
         answer?;
         let measured = f.into_inner();
         self.same(measured.text(), pieces.text.as_str(), case);
-        self.same(
-            measured.ends.as_slice(),
-            pieces.ends.get(1..).unwrap_or(&[]),
-            case,
-        );
+        self.same(measured.ends(), pieces.ends.as_slice(), case);
         Ok(())
     }
 
@@ -122,7 +123,7 @@ impl<R: Abort + AllocGlobal> Rows<'_, R> {
         value: &T,
         pieces: &Pieces<'_>,
     ) -> Result<(), AllocError> {
-        for (taken, end) in pieces.ends.iter().enumerate() {
+        for (taken, stop) in pieces.stops.iter().enumerate() {
             let number = taken.saturating_add(1);
             let mut bytes = vec![in self.alloc(); 0u8; pieces.text.len()]?;
             let mut f = Formatter::new(FailAt::new(bytes.as_mut_slice(), number));
@@ -137,7 +138,7 @@ impl<R: Abort + AllocGlobal> Rows<'_, R> {
                 outside,
             };
             let at = (case, pieces.mode, "FailAt", number);
-            self.same_at(left, pieces.left_at(*end), at);
+            self.same_at(left, pieces.left_at(*stop), at);
         }
         Ok(())
     }
@@ -163,7 +164,7 @@ impl<R: Abort + AllocGlobal> Rows<'_, R> {
                 outside,
             };
             let at = (case, pieces.mode, "Cursor", size);
-            self.same_at(left, pieces.left_at(pieces.end_within(size)), at);
+            self.same_at(left, pieces.left_at(pieces.stop_within(size)), at);
         }
         Ok(())
     }

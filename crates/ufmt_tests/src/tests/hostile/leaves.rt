@@ -101,8 +101,8 @@ fn payloads(rt: HostRuntime) -> Result<(), Fail> {
     for (payload, options, text, pieces) in [
         ("é", padded_to(4, false, b'0'), "00é", "0|0|é|"),
         ("é", padded_to(6, true, b'-'), "0x--é", "0x|-|-|é|"),
-        ("", padded_to(4, true, b' '), "  0x", " | |0x|"),
-        ("", padded_to(2, false, b'0'), "00", "0|0|"),
+        ("", padded_to(4, true, b' '), "  0x", " | |0x||"),
+        ("", padded_to(2, false, b'0'), "00", "0|0||"),
     ] {
         rows.holds(options.has_ascii_pad(), text);
         let printed = Payload { payload, options };

@@ -64,11 +64,11 @@ impl uWrite for FailAt<'_> {
     }
 }
 
-/// Notes the length of its text after each piece that isn't empty.
+/// Notes the length of its text after each piece. It has no `write_char` of its own.
 #[derive(Drop)]
 pub struct Measured {
     text: String,
-    pub ends: Vec<usize>,
+    ends: Vec<usize>,
 }
 
 impl Measured {
@@ -82,6 +82,10 @@ impl Measured {
     pub fn text(&self) -> &str {
         self.text.as_str()
     }
+
+    pub fn ends(&self) -> &[usize] {
+        self.ends.as_slice()
+    }
 }
 
 impl uWrite for Measured {
@@ -91,6 +95,8 @@ impl uWrite for Measured {
 
     fn write_str(&mut self, s: &str) -> Result<(), AllocError> {
         if s.is_empty() {
+            // An empty piece is `Ok`, whether there was room to note it or not.
+            let _noted = self.ends.push(self.text.len());
             return Ok(());
         }
         self.text.push_str(s)?;
