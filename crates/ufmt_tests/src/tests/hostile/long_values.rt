@@ -8,13 +8,17 @@ use std::test::Fail;
 use ufmt::{Cursor, Formatter, Full, HexOptions, uDebug, uDisplayHex, uWrite};
 use ufmt_doc::doc::Doc;
 
-// A tuple without a name, of so many zeros.
-fn write_zeros<W: uWrite>(f: &mut Formatter<W>, count: u16) -> Result<(), W::Error> {
-    let mut tuple = f.debug_tuple("")?;
-    for _ in 0..count {
-        tuple.field(&0u8)?;
+impl<R: Abort + AllocGlobal> Rows<'_, R> {
+    // A tuple without a name, of so many zeros.
+    fn write_zeros<W: uWrite>(&self, f: &mut Formatter<W>, count: u16) -> Result<(), W::Error> {
+        let mut tuple = f.debug_tuple("")?;
+        for _ in 0..count {
+            self.holds(tuple.is_open(), "before a field");
+            tuple.field(&0u8)?;
+        }
+        self.holds(tuple.is_open(), "after the fields");
+        tuple.finish()
     }
-    tuple.finish()
 }
 
 // More fields than a byte counts.
@@ -23,14 +27,14 @@ fn wide_tuples(rt: HostRuntime) -> Result<(), Fail> {
     let rows = Rows::of("a tuple of zeros", &rt);
     for (count, length) in [(256u16, 768), (300, 900)] {
         let mut text = String::new(rt.alloc());
-        write_zeros(&mut Formatter::new(&mut text), count)?;
+        rows.write_zeros(&mut Formatter::new(&mut text), count)?;
         rows.same((count, text.len()), (count, length), "plain");
         let later = usize::from(count).saturating_sub(1);
         let expected = repeated(rt.alloc(), "(0", ", 0", later, ")")?;
         rows.same(text.as_str(), expected.as_str(), "plain");
     }
     let mut text = String::new(rt.alloc());
-    Formatter::new(&mut text).pretty(|f| write_zeros(f, 300))?;
+    Formatter::new(&mut text).pretty(|f| rows.write_zeros(f, 300))?;
     let expected = repeated(rt.alloc(), "(\n", "    0,\n", 300, ")")?;
     rows.same(text.len(), 2103, "pretty");
     rows.same(text.as_str(), expected.as_str(), "pretty");
