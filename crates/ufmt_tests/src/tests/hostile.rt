@@ -7,7 +7,6 @@ mod builder_calls;
 mod builders;
 mod each_piece;
 mod entries;
-mod handed_errors;
 mod leaves;
 mod long_values;
 mod macros;

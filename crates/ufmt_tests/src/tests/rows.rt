@@ -10,8 +10,8 @@ use ufmt::{Cursor, Formatter, fmt_pretty, uDebug};
 // out takes the check as long as a score of calls.
 #[derive(Clone, Copy)]
 pub struct Rows<'a, R> {
-    pub(super) rt: &'a R,
-    pub(super) table: &'a str,
+    rt: &'a R,
+    table: &'a str,
 }
 
 impl<'a, R: Abort + AllocGlobal> Rows<'a, R> {
@@ -31,6 +31,22 @@ impl<'a, R: Abort + AllocGlobal> Rows<'a, R> {
         ensures { IsTrue condition }
     {
         assert!(self.rt; condition, "{}: {case}", self.table);
+    }
+
+    /// Of a row that is tried at many places: its case, the mode, and the writer with its number or
+    /// size stand in the message.
+    pub fn same_at<T: PartialEq + Debug + Drop>(
+        &self,
+        given: T,
+        wanted: T,
+        (case, mode, writer, number): (&str, &str, &str, usize),
+    ) {
+        assert_eq!(self.rt;
+            given,
+            wanted,
+            "{}: {case}, {mode}, {writer} {number}",
+            self.table
+        );
     }
 
     pub fn plain_row<T: uDebug>(

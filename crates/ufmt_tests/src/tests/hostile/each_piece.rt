@@ -169,21 +169,6 @@ impl<R: Abort + AllocGlobal> Rows<'_, R> {
         Ok(())
     }
 
-    // The case, the mode, the writer and its number or size stand in the message.
-    pub fn same_at<T: PartialEq + Debug + Drop>(
-        &self,
-        given: T,
-        wanted: T,
-        (case, mode, writer, number): (&str, &str, &str, usize),
-    ) {
-        assert_eq!(self.rt;
-            given,
-            wanted,
-            "{}: {case}, {mode}, {writer} {number}",
-            self.table
-        );
-    }
-
     fn fails_in<T: Printed>(
         &self,
         case: &str,
