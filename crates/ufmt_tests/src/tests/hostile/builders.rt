@@ -13,10 +13,9 @@ fn lists(rt: HostRuntime) -> Result<(), Fail> {
         &[
             ("debug_list", "[|"),
             ("entry", "1|"),
-            ("later entry", ", |2|"),
-            ("entries", ", |3|, |4|"),
+            ("entries", ", |2|, |3|"),
             ("begin_entry", ", |"),
-            ("end_entry", "5|"),
+            ("end_entry", "4|"),
             ("finish", "]|"),
         ],
     )?;
@@ -26,10 +25,9 @@ fn lists(rt: HostRuntime) -> Result<(), Fail> {
         &[
             ("debug_list", "[|"),
             ("entry", "\n|    |    |1|,\n|"),
-            ("later entry", "    |    |2|,\n|"),
-            ("entries", "    |    |3|,\n|    |    |4|,\n|"),
+            ("entries", "    |    |2|,\n|    |    |3|,\n|"),
             ("begin_entry", "    |    |"),
-            ("end_entry", "5|,\n|"),
+            ("end_entry", "4|,\n|"),
             ("finish", "    |]|"),
         ],
     )?;
@@ -46,8 +44,6 @@ fn sets(rt: HostRuntime) -> Result<(), Fail> {
             ("debug_set", "{|"),
             ("entry", "1|"),
             ("entries", ", |2|, |3|"),
-            ("begin_entry", ", |"),
-            ("end_entry", "4|"),
             ("finish", "}|"),
         ],
     )?;
@@ -58,8 +54,6 @@ fn sets(rt: HostRuntime) -> Result<(), Fail> {
             ("debug_set", "{|"),
             ("entry", "\n|    |    |1|,\n|"),
             ("entries", "    |    |2|,\n|    |    |3|,\n|"),
-            ("begin_entry", "    |    |"),
-            ("end_entry", "4|,\n|"),
             ("finish", "    |}|"),
         ],
     )?;
@@ -106,10 +100,9 @@ fn structs(rt: HostRuntime) -> Result<(), Fail> {
         PLAIN,
         &[
             ("debug_struct", "S|"),
-            ("field", " {| |a|: |1|"),
-            ("begin_field", ", |b|: |"),
-            ("end_field", "2|"),
-            ("later field", ", |c|: |3|"),
+            ("begin_field", " {| |a|: |"),
+            ("end_field", "1|"),
+            ("field", ", |b|: |2|"),
             ("finish", " |}|"),
         ],
     )?;
@@ -118,10 +111,9 @@ fn structs(rt: HostRuntime) -> Result<(), Fail> {
         PRETTY,
         &[
             ("debug_struct", "S|"),
-            ("field", " {|\n|    |    |a|: |1|,\n|"),
-            ("begin_field", "    |    |b|: |"),
-            ("end_field", "2|,\n|"),
-            ("later field", "    |    |c|: |3|,\n|"),
+            ("begin_field", " {|\n|    |    |a|: |"),
+            ("end_field", "1|,\n|"),
+            ("field", "    |    |b|: |2|,\n|"),
             ("finish", "    |}|"),
         ],
     )?;
