@@ -7,6 +7,9 @@ pub mod Loops
 pub mod NumeralTexts
 pub mod Numerals
 pub mod Printing
+pub mod QuotedBytes
+pub mod QuotedCharacters
 pub mod WorkedLayouts
+pub mod WorkedQuotes
 pub mod Writing
 pub mod WrittenDigits

@@ -4,5 +4,6 @@ pub mod Decimal
 pub mod Document
 pub mod Formatter
 pub mod Layout
+pub mod Quoted
 pub mod Words
 pub mod Writes

@@ -1,8 +1,11 @@
 -- Words for the documents of types: quoted names in place of bytes, and lists in place of chains.
 use Prim.Native.String.{String as Text}
-use Rattle.std.specs.Prelude.{ℕ, ℤ, pos, List, [], ◌∷◌, codes, Option, Some, None, Result, Ok, Err}
+use Rattle.std.specs.Prelude.{ℕ, ℤ, pos, List, [], ◌∷◌, codes, Option, Some, None, Result, Ok, Err, String, string_bytes}
+use Rattle.std.specs.Borrow.{Bor}
+use Rattle.std.specs.Str.{chars}
 use Rattle.ufmt_core.specs.Document.{Document, leaf, struct_of, tuple_of, documents, Fields, no_fields, field}
 use Rattle.ufmt_core.specs.Decimal.{decimal}
+use Rattle.ufmt_core.specs.Quoted.{quoted_char, quoted_text}
 
 -- fields with quoted names
 abbrev pub named_fields : List (Text × Document) → Fields
@@ -27,6 +30,18 @@ number n = leaf (decimal (pos n))
 
 abbrev pub integer : ℤ → Document
 integer z = leaf (decimal z)
+
+-- a `String`, in quotation marks
+abbrev pub string : {A : Type 0} → String A → Document
+string s = leaf (quoted_text (chars (string_bytes s)))
+
+-- a `&str`, likewise
+abbrev pub str : Bor (List ℕ) → Document
+str s = leaf (quoted_text (chars s.now))
+
+-- a character, in apostrophes
+abbrev pub character : ℕ → Document
+character c = leaf (quoted_char c)
 
 abbrev pub option_document : {T : Type 0} → (T → Document) → Option T → Document
 option_document f None = named "None"

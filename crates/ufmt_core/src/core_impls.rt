@@ -1,8 +1,11 @@
 ghost use Rattle.std.specs.Prelude.{codes, if◌then◌else◌, map};
+ghost use Rattle.std.specs.Str.{chars};
 ghost use Rattle.ufmt_core.specs.Document.{documents, leaf, list_of};
+ghost use Rattle.ufmt_core.specs.Quoted.{quoted_char, quoted_text};
 ghost use Rattle.ufmt_core.specs.Words.{option_document, result_document};
 
 use crate::formatter::Formatter;
+use crate::quoted::{write_quoted_char, write_quoted_text};
 use crate::uDebug;
 use crate::write::uWrite;
 
@@ -63,6 +66,30 @@ impl uDebug for bool {
         W: uWrite,
     {
         f.write_str(if *self { "true" } else { "false" })
+    }
+}
+
+/// Prints the text in quotation marks, with escapes. It takes no memory.
+impl uDebug for &str {
+    ghost document = { λ s. leaf (quoted_text (chars s.now)) };
+
+    fn fmt<W>(&self, f: &mut Formatter<W>) -> Result<(), W::Error>
+    where
+        W: uWrite,
+    {
+        write_quoted_text(f, self)
+    }
+}
+
+/// Prints the character in apostrophes, or its escape. It takes no memory.
+impl uDebug for char {
+    ghost document = { λ c. leaf (quoted_char c) };
+
+    fn fmt<W>(&self, f: &mut Formatter<W>) -> Result<(), W::Error>
+    where
+        W: uWrite,
+    {
+        write_quoted_char(f, *self)
     }
 }
 

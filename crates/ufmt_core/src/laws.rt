@@ -1,8 +1,10 @@
 //! Which document each type has, as the contracts of functions.
-ghost use Rattle.std.specs.Prelude.{[], ◌∷◌, ◌≡◌, ℕ, ℤ, Box, map, true, false, None, Some, Ok, Err};
+ghost use Rattle.std.specs.Prelude.{[], ◌∷◌, ◌≡◌, ℕ, ℤ, List, Box, String, string_bytes, map, true, false, None, Some, Ok, Err};
 ghost use Rattle.std.specs.Borrow.{Bor, MutBor};
 ghost use Rattle.std.specs.Int.NonZero.{non_zero_u8_get, non_zero_u16_get, non_zero_u32_get, non_zero_u64_get, non_zero_usize_get, non_zero_i8_get, non_zero_i16_get, non_zero_i32_get, non_zero_i64_get, non_zero_isize_get};
-ghost use Rattle.ufmt_core.specs.Document.{documents, list_of, map_of, pairs_of, set_of};
+ghost use Rattle.std.specs.Str.{chars};
+ghost use Rattle.ufmt_core.specs.Document.{documents, leaf, list_of, map_of, pairs_of, set_of};
+ghost use Rattle.ufmt_core.specs.Quoted.{quoted_char, quoted_text};
 ghost use Rattle.ufmt_core.specs.Words.{integer, named, named_tuple, number};
 
 use crate::uDebug;
@@ -52,6 +54,16 @@ pub fn documents_of_leaves<T: uDebug>()
     ensures of_false { ⟦<bool as uDebug>⟧.document false ≡ named "false" }
     ensures of_unit { (u : Unit {0}) → ⟦<() as uDebug>⟧.document u ≡ named "()" }
     ensures of_none { ⟦<Option<T> as uDebug>⟧.document None ≡ named "None" }
+{}
+
+/// The document of a text is the leaf of the text in quotation marks, and that of a character the leaf of
+/// the character in apostrophes, with escapes for some of ASCII.
+pub fn documents_of_texts<A: Allocator>()
+    ensures of_str { (s : Bor (List ℕ)) → ⟦<&'static str as uDebug>⟧.document s ≡
+        leaf (quoted_text (chars s.now)) }
+    ensures of_string { (s : String A) → ⟦<String<A> as uDebug>⟧.document s ≡
+        leaf (quoted_text (chars (string_bytes s))) }
+    ensures of_char { (c : ℕ) → ⟦<char as uDebug>⟧.document c ≡ leaf (quoted_char c) }
 {}
 
 /// The document of a variant is the tuple of its name, that of a sequence the list of its items, that

@@ -11,6 +11,7 @@ pub mod laws;
 mod list;
 mod map;
 mod nonzero;
+mod quoted;
 mod set;
 mod signed;
 mod std_impls;

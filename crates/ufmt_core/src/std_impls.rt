@@ -1,8 +1,11 @@
-ghost use Rattle.std.specs.Prelude.{map};
-ghost use Rattle.ufmt_core.specs.Document.{documents, list_of, map_of, pairs_of, set_of};
+ghost use Rattle.std.specs.Prelude.{map, string_bytes};
+ghost use Rattle.std.specs.Str.{chars};
+ghost use Rattle.ufmt_core.specs.Document.{documents, leaf, list_of, map_of, pairs_of, set_of};
+ghost use Rattle.ufmt_core.specs.Quoted.{quoted_text};
 
 use crate::formatter::Formatter;
 use crate::map::fmt_map;
+use crate::quoted::write_quoted_text;
 use crate::set::fmt_set;
 use crate::uDebug;
 use crate::write::uWrite;
@@ -55,5 +58,17 @@ impl<T: uDebug, A: Allocator> uDebug for Box<T, A> {
         W: uWrite,
     {
         (**self).fmt(f)
+    }
+}
+
+/// Prints the text as a `&str` is printed.
+impl<A: Allocator> uDebug for String<A> {
+    ghost document = { λ s. leaf (quoted_text (chars (string_bytes s))) };
+
+    fn fmt<W>(&self, f: &mut Formatter<W>) -> Result<(), W::Error>
+    where
+        W: uWrite,
+    {
+        write_quoted_text(f, self.as_str())
     }
 }

@@ -1,0 +1,212 @@
+//! Texts and characters in quotes.
+ghost use Rattle.std.specs.Prelude.{◌≡◌, ◌<◌, ◌≤◌, ◌+◌, ◌++◌, [], drop, length, is_none, is_ok, MatchOption};
+ghost use Rattle.std.specs.Option.{option_copied};
+ghost use Rattle.std.specs.Str.{chars};
+ghost use Rattle.ufmt_core.specs.Formatter.{Prints};
+ghost use Rattle.ufmt_core.specs.Quoted.{IsQuote, escape, escaped, escaped_bytes, plain_len, quoted_char, quoted_text};
+
+use crate::formatter::Formatter;
+use crate::write::uWrite;
+
+// Of each byte, whether it stands for itself in a quoted text.
+static STAND_FOR_THEMSELVES: [bool; 256] = [
+    false, false, false, false, false, false, false, false, false, false, false, false, false,
+    false, false, false, false, false, false, false, false, false, false, false, false, false,
+    false, false, false, false, false, false, true, true, false, true, true, true, true, true,
+    true, true, true, true, true, true, true, true, true, true, true, true, true, true, true, true,
+    true, true, true, true, true, true, true, true, true, true, true, true, true, true, true, true,
+    true, true, true, true, true, true, true, true, true, true, true, true, true, true, true, true,
+    true, true, true, true, false, true, true, true, true, true, true, true, true, true, true,
+    true, true, true, true, true, true, true, true, true, true, true, true, true, true, true, true,
+    true, true, true, true, true, true, true, true, false, true, true, true, true, true, true,
+    true, true, true, true, true, true, true, true, true, true, true, true, true, true, true, true,
+    true, true, true, true, true, true, true, true, true, true, true, true, true, true, true, true,
+    true, true, true, true, true, true, true, true, true, true, true, true, true, true, true, true,
+    true, true, true, true, true, true, true, true, true, true, true, true, true, true, true, true,
+    true, true, true, true, true, true, true, true, true, true, true, true, true, true, true, true,
+    true, true, true, true, true, true, true, true, true, true, true, true, true, true, true, true,
+    true, true, true, true, true, true, true, true, true, true, true, true, true, true, true, true,
+    true, true, true, true, true, true, true, true, true, true,
+];
+
+// How a byte is written between these quotes; `None` where it stands for itself.
+fn escape(byte: u8, quote: u8) -> Option<&'static str>
+    requires { IsQuote quote }
+    ensures { option_copied result ≡ escape quote byte }
+{
+    match byte {
+        b'"' if quote == b'"' => Some("\\\""),
+        b'\'' if quote == b'\'' => Some("\\'"),
+        b'\0' => Some("\\0"),
+        0x01 => Some("\\u{1}"),
+        0x02 => Some("\\u{2}"),
+        0x03 => Some("\\u{3}"),
+        0x04 => Some("\\u{4}"),
+        0x05 => Some("\\u{5}"),
+        0x06 => Some("\\u{6}"),
+        0x07 => Some("\\u{7}"),
+        0x08 => Some("\\u{8}"),
+        b'\t' => Some("\\t"),
+        b'\n' => Some("\\n"),
+        0x0b => Some("\\u{b}"),
+        0x0c => Some("\\u{c}"),
+        b'\r' => Some("\\r"),
+        0x0e => Some("\\u{e}"),
+        0x0f => Some("\\u{f}"),
+        0x10 => Some("\\u{10}"),
+        0x11 => Some("\\u{11}"),
+        0x12 => Some("\\u{12}"),
+        0x13 => Some("\\u{13}"),
+        0x14 => Some("\\u{14}"),
+        0x15 => Some("\\u{15}"),
+        0x16 => Some("\\u{16}"),
+        0x17 => Some("\\u{17}"),
+        0x18 => Some("\\u{18}"),
+        0x19 => Some("\\u{19}"),
+        0x1a => Some("\\u{1a}"),
+        0x1b => Some("\\u{1b}"),
+        0x1c => Some("\\u{1c}"),
+        0x1d => Some("\\u{1d}"),
+        0x1e => Some("\\u{1e}"),
+        0x1f => Some("\\u{1f}"),
+        b'\\' => Some("\\\\"),
+        0x7f => Some("\\u{7f}"),
+        _ => None,
+    }
+}
+
+/// Writes the text with its escapes and a quotation mark on either side.
+pub(crate) fn write_quoted_text<W: uWrite>(f: &mut Formatter<W>, text: &str) -> Result<(), W::Error>
+    ensures { Prints W.seen f.old (quoted_text (chars text.now)) (is_ok result) f.new }
+{
+    f.write_str("\"")?;
+    write_escaped(f, text)?;
+    f.write_str("\"")
+}
+
+/// Writes the character, or its escape, with an apostrophe on either side.
+pub(crate) fn write_quoted_char<W: uWrite>(
+    f: &mut Formatter<W>,
+    character: char,
+) -> Result<(), W::Error>
+    ensures { Prints W.seen f.old (quoted_char character) (is_ok result) f.new }
+{
+    f.write_str("'")?;
+    write_escaped_char(f, character)?;
+    f.write_str("'")
+}
+
+// The character, or its escape.
+fn write_escaped_char<W: uWrite>(f: &mut Formatter<W>, character: char) -> Result<(), W::Error>
+    ensures { Prints W.seen f.old (escaped 39 character) (is_ok result) f.new }
+{
+    match escape_char(character) {
+        Some(escape) => f.write_str(escape),
+        None => f.write_char(character),
+    }
+}
+
+// How a character is written between apostrophes; `None` where it stands for itself.
+fn escape_char(character: char) -> Option<&'static str>
+    ensures { option_copied result ≡ escape 39 character }
+{
+    match u8::try_from(character) {
+        Ok(byte) => escape(byte, b'\''),
+        Err(_) => None,
+    }
+}
+
+// Writes stretches that stand for themselves and escapes, in turn.
+fn write_escaped<W: uWrite>(f: &mut Formatter<W>, text: &str) -> Result<(), W::Error>
+    ensures { Prints W.seen f.old (escaped_bytes 34 text.now) (is_ok result) f.new }
+{
+    let (stretch, behind) = split_stretch(text);
+    write_stretch(f, stretch)?;
+    let mut rest = behind;
+    'escapes: while let Some((escape, after)) = split_escape(rest) {
+        f.write_str(escape)?;
+        let (stretch, behind) = split_stretch(after);
+        write_stretch(f, stretch)?;
+        rest = behind;
+    }
+    Ok(())
+}
+
+// A stretch without escapes as one piece, if it isn't empty.
+fn write_stretch<W: uWrite>(f: &mut Formatter<W>, stretch: &str) -> Result<(), W::Error>
+    ensures { Prints W.seen f.old stretch.now (is_ok result) f.new }
+{
+    if stretch.is_empty() {
+        return Ok(());
+    }
+    f.write_str(stretch)
+}
+
+// The bytes at the front that stand for themselves, and what follows them.
+fn split_stretch(text: &str) -> (&str, &str)
+    ensures stretch { escaped_bytes 34 text.now ≡ result.0.now ++ escaped_bytes 34 result.1.now }
+    ensures shorter { length result.1.now ≤ length text.now }
+    ensures at_escape { plain_len result.1.now ≡ 0 }
+{
+    text.split_at(plain_len(text.as_bytes()))
+}
+
+// The escape of the byte at the front, and what follows that byte.
+fn split_escape(text: &str) -> Option<(&'static str, &str)>
+    requires { plain_len text.now ≡ 0 }
+    ensures { MatchOption result (text.now ≡ []) (λ x.
+        (escaped_bytes 34 text.now ≡ x.0.now ++ escaped_bytes 34 x.1.now)
+        × (length x.1.now < length text.now)) }
+{
+    let byte = *text.as_bytes().first()?;
+    let escape = escape(byte, b'"')?;
+    Some((escape, &text[1..]))
+}
+
+// How many bytes at the front stand for themselves.
+fn plain_len(bytes: &[u8]) -> usize
+    ensures { result ≡ plain_len bytes.now }
+{
+    // Four bytes a turn, so that the end is looked for once in four.
+    let mut end = 0;
+    'fours: while bytes.len() - end >= 4 {
+        if !stands(bytes[end]) {
+            return end;
+        }
+        if !stands(bytes[end + 1]) {
+            return end + 1;
+        }
+        if !stands(bytes[end + 2]) {
+            return end + 2;
+        }
+        if !stands(bytes[end + 3]) {
+            return end + 3;
+        }
+        end += 4;
+    }
+    plain_len_from(bytes, end)
+}
+
+// The same where such bytes stand before `start`.
+fn plain_len_from(bytes: &[u8], start: usize) -> usize
+    requires within { start ≤ length bytes.now }
+    requires stand { plain_len bytes.now ≡ start + plain_len (drop start bytes.now) }
+    ensures { result ≡ plain_len bytes.now }
+{
+    let mut end = start;
+    'bytes: while end < bytes.len() {
+        if !stands(bytes[end]) {
+            return end;
+        }
+        end += 1;
+    }
+    end
+}
+
+// Whether a byte stands for itself in a quoted text.
+#[inline(always)]
+fn stands(byte: u8) -> bool
+    ensures { result ≡ is_none (escape 34 byte) }
+{
+    STAND_FOR_THEMSELVES[byte as usize]
+}
