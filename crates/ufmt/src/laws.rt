@@ -24,7 +24,7 @@ use std::num::{
     NonZeroU64, NonZeroUsize,
 };
 pub use ufmt_core::laws::{
-    documents_of_collections, documents_of_leaves, documents_of_tuples,
+    documents_of_collections, documents_of_leaves, documents_of_texts, documents_of_tuples,
     references_print_what_they_refer_to,
 };
 use ufmt_core::{Formatter, uDebug, uWrite};

@@ -4,6 +4,7 @@ use std::alloc::Global;
 use ufmt::laws;
 use ufmt::unsigned::decimal_is_one_text;
 
+mod allocators;
 mod cursors;
 mod display;
 mod fields;
@@ -14,6 +15,7 @@ mod library;
 mod macros;
 mod numbers;
 mod pieces;
+mod quoted;
 mod rows;
 mod users;
 mod whole;
@@ -32,6 +34,7 @@ fn laws_of_numbers_and_types_can_be_called() {
     laws::texts_display_as_they_are::<Global>();
     laws::documents_of_leaves::<u8>();
     laws::documents_of_collections::<u8, u16, Global, 3>();
+    laws::documents_of_texts::<Global>();
     laws::documents_of_tuples::<u8, u16, u32>();
 }
 

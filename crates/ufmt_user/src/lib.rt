@@ -5,6 +5,7 @@
 mod by_hand;
 mod kind;
 mod logger;
+mod message;
 mod nested;
 mod node;
 mod pair;
@@ -14,6 +15,7 @@ mod wrappers;
 pub use by_hand::{Port, Ports, Users};
 pub use kind::Kind;
 pub use logger::{Reading, log};
+pub use message::Message;
 pub use nested::Nested;
 pub use node::{Node, Tree};
 pub use pair::Pair;

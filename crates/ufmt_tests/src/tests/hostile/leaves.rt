@@ -52,6 +52,20 @@ fn other_leaves(rt: HostRuntime) -> Result<(), Fail> {
     Ok(())
 }
 
+// Each escape is a piece, and each stretch between escapes.
+#[test]
+fn quoted_leaves(rt: HostRuntime) -> Result<(), Fail> {
+    let rows = Rows::of("quoted", &rt);
+    rows.fails_in_both_modes("empty", &"", ("\"\"", "\"|\"|"))?;
+    let pieces = ("\"a\\\"é b\\n\"", "\"|a|\\\"|é b|\\n|\"|");
+    rows.fails_in_both_modes("a text", &"a\"é b\n", pieces)?;
+    let pieces = ("\"\\n\\n\"", "\"|\\n|\\n|\"|");
+    rows.fails_in_both_modes("two escapes", &"\n\n", pieces)?;
+    rows.fails_in_both_modes("a character", &'é', ("'é'", "'|é|'|"))?;
+    rows.fails_in_both_modes("an escape", &'\'', ("'\\''", "'|\\'|'|"))?;
+    Ok(())
+}
+
 #[test]
 fn displayed_leaves(rt: HostRuntime) -> Result<(), Fail> {
     let rows = Rows::of("displayed", &rt);
