@@ -1,5 +1,7 @@
 //! What a call answered, beside what it answers with ample memory.
-ghost use Rattle.std.specs.Prelude.{◌≡◌, ◌≢◌, ◌↔◌, string_bytes, IfErr, IfOk, IfSome, IsErr, IsErrOf, IsNone};
+ghost use Rattle.std.specs.Prelude.{◌≡◌, ◌≢◌, ◌↔◌, string_bytes, IfErr, IfOk, IfSome, IsErr, IsErrOf, IsNone, IsTrue};
+ghost use Rattle.ufmt.specs.Layout.{plain_text};
+ghost use Rattle.ufmt_doc.specs.Doc.{doc_document};
 
 use std::alloc::AllocError;
 use ufmt_doc::doc::Doc;
@@ -64,6 +66,8 @@ impl Answer {
     /// refused where that is `None`.
     pub fn of_reading(answer: Result<Doc, ReadError>, ample: Option<&str>) -> Answer
         ensures memory { IsErrOf answer ReadError.OutOfMemory ↔ (result ≡ Answer.WantOfMemory) }
+        ensures text { (result ≡ Answer.Ample) → IfOk answer (λ doc.
+            IfSome ample.entry (λ wanted. plain_text (doc_document doc) ≡ wanted.now)) }
         ensures refusal { (result ≡ Answer.Ample) → IfErr answer (λ _. IsNone ample.entry) }
     {
         match answer {
@@ -87,7 +91,10 @@ impl Answer {
 }
 
 // It takes no memory, so that it is never refused any.
-fn has_plain_text(doc: &Doc, text: Option<&str>) -> bool {
+fn has_plain_text(doc: &Doc, text: Option<&str>) -> bool
+    ensures { IsTrue result → IfSome text.entry (λ wanted.
+        plain_text (doc_document doc.now) ≡ wanted.now) }
+{
     let mut buffer = [0; 128];
     match (ufmt::debug_into(&mut buffer, doc), text) {
         (Ok(count), Some(text)) => buffer.get(..count) == Some(text.as_bytes()),
