@@ -5,7 +5,7 @@ use super::rows::Rows;
 use std::test::Fail;
 use ufmt::{Formatter, fields, uWrite};
 
-fn few_named<W: uWrite>(f: &mut Formatter<W>) -> Result<(), W::Error> {
+fn one_to_five_named<W: uWrite>(f: &mut Formatter<W>) -> Result<(), W::Error> {
     fields!(f, S1 { a: 1u8 })?;
     fields!(
         f,
@@ -33,7 +33,10 @@ fn few_named<W: uWrite>(f: &mut Formatter<W>) -> Result<(), W::Error> {
             d: 4u8,
             e: 5u8
         }
-    )?;
+    )
+}
+
+fn six_and_seven_named<W: uWrite>(f: &mut Formatter<W>) -> Result<(), W::Error> {
     fields!(
         f,
         S6 {
@@ -59,7 +62,7 @@ fn few_named<W: uWrite>(f: &mut Formatter<W>) -> Result<(), W::Error> {
     )
 }
 
-fn many_named<W: uWrite>(f: &mut Formatter<W>) -> Result<(), W::Error> {
+fn eight_and_nine_named<W: uWrite>(f: &mut Formatter<W>) -> Result<(), W::Error> {
     fields!(
         f,
         S8 {
@@ -86,7 +89,10 @@ fn many_named<W: uWrite>(f: &mut Formatter<W>) -> Result<(), W::Error> {
             h: 8u8,
             i: 9u8
         }
-    )?;
+    )
+}
+
+fn ten_and_eleven_named<W: uWrite>(f: &mut Formatter<W>) -> Result<(), W::Error> {
     fields!(
         f,
         S10 {
@@ -117,7 +123,10 @@ fn many_named<W: uWrite>(f: &mut Formatter<W>) -> Result<(), W::Error> {
             j: 10u8,
             k: 11u8
         }
-    )?;
+    )
+}
+
+fn twelve_named<W: uWrite>(f: &mut Formatter<W>) -> Result<(), W::Error> {
     fields!(
         f,
         S12 {
@@ -166,8 +175,11 @@ fn named_and_unnamed_fields(rt: HostRuntime) -> Result<(), Fail> {
     let rows = Rows::of("fields", &rt);
     let mut text = String::new(rt.alloc());
     let mut f = Formatter::new(&mut text);
-    few_named(&mut f)?;
-    many_named(&mut f)?;
+    one_to_five_named(&mut f)?;
+    six_and_seven_named(&mut f)?;
+    eight_and_nine_named(&mut f)?;
+    ten_and_eleven_named(&mut f)?;
+    twelve_named(&mut f)?;
     let named = "S1 { a: 1 }\
         S3 { a: 1, b: 2, c: 3 }\
         S4 { a: 1, b: 2, c: 3, d: 4 }\

@@ -196,6 +196,7 @@ impl<R: Abort + AllocGlobal> Rows<'_, R> {
         let pieces = Pieces::of(self.alloc(), ("pretty", true), pretty_pieces)?;
         self.fails_in(case, value, pretty, &pieces)
     }
+
     /// The same, where both texts and their pieces are one.
     pub fn fails_in_both_modes<T: Printed>(
         &self,

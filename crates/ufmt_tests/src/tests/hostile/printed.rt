@@ -3,6 +3,7 @@ ghost use Rattle.std.specs.Prelude.{◌<◌};
 
 use ufmt::{Formatter, HexOptions, uDebug, uDisplay, uDisplayHex, uWrite};
 
+/// A value with a `print` over every writer. It has no contract: the rows say what it writes.
 pub trait Printed {
     fn print<W: uWrite>(&self, f: &mut Formatter<W>) -> Result<(), W::Error>;
 }
