@@ -12,6 +12,11 @@ pub mod Padding
 pub mod Parsing
 pub mod PiecesInARow
 pub mod ReadingComplete
+pub mod QuotedComplete
+pub mod QuotedLines
+pub mod QuotedOneWay
+pub mod QuotedSound
+pub mod QuotedTold
 pub mod ReadingSound
 pub mod ReadingTurns
 pub mod ReadingWhole

@@ -3,7 +3,9 @@ pub mod Cursor
 pub mod Hex
 pub mod NormalForm
 pub mod Pieces
+pub mod QuotedOneWay
 pub mod Reading
+pub mod ReadingQuoted
 pub mod ReadsExactly
 pub mod ReadsOneWay
 pub mod Shift

@@ -10,6 +10,7 @@ ghost use Rattle.ufmt.specs.declared.hex.HexOptions.{HexOptions};
 ghost use Rattle.ufmt.specs.Hex.{EachNumberIsTold, OneTextTells, OneNumberIsTold, IsPadded, PrintsHexadecimal, PrintsBits, padded};
 ghost use Rattle.ufmt.specs.NormalForm.{NormalFormsAreNormal, NormalFormsKeepTexts, NormalFormsKeepTokens};
 ghost use Rattle.ufmt.specs.Token.{IsWord};
+ghost use Rattle.ufmt.specs.QuotedOneWay.{QuotedCharTells, QuotedEndsItself, QuotedIsNoOtherLeaf, QuotedIsOneLine, QuotedTextIsNoChar, QuotedTextTells, ReadsEachQuoted, ReadsOnlyQuoted};
 ghost use Rattle.ufmt.specs.Shifting.{ShiftMovesEachLine, ShiftedAtDepth, ShiftedIsPretty, TokensHaveNoLineFeed};
 ghost use Rattle.ufmt.specs.ReadsExactly.{ReadsEachText, ReadsOnlyTexts, RefusesNoText};
 ghost use Rattle.ufmt.specs.ReadsOneWay.{PlainReadsOneWay, PlainTextTells, PrettyReadsOneWay, PrettyTextTells, TextsAgree};
@@ -197,4 +198,22 @@ pub fn texts_are_read_exactly()
     ensures only { ReadsOnlyTexts }
     ensures each { ReadsEachText }
     ensures refused { RefusesNoText }
+{}
+
+/// Quoting is one-to-one on texts and on characters, also with what may follow in a larger text; a
+/// quoted text is no quoted character, and neither is a word or `()`; a quoted leaf ends itself, and
+/// has no line feed.
+pub fn quoted_one_way()
+    ensures text { QuotedTextTells }
+    ensures character { QuotedCharTells }
+    ensures apart { QuotedTextIsNoChar }
+    ensures ends { QuotedEndsItself }
+    ensures no_other_leaf { QuotedIsNoOtherLeaf }
+    ensures one_line { QuotedIsOneLine }
+{}
+
+/// Just the quoted leaves are read at the front of a text, each in its one spelling.
+pub fn quoted_leaves_are_read_exactly()
+    ensures only { ReadsOnlyQuoted }
+    ensures each { ReadsEachQuoted }
 {}

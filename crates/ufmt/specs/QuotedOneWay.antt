@@ -1,0 +1,40 @@
+-- That quoting is one-to-one, and that a quoted leaf ends itself: what of a larger text it is follows from the text.
+use Rattle.std.specs.Prelude.{◌≡◌, ◌≢◌, ◌⊎◌, ℕ, List, ◌++◌, Some, codes, true}
+use Rattle.std.specs.Char.{IsScalar}
+use Rattle.std.specs.Str.{all_scalars}
+use Rattle.ufmt_core.specs.Quoted.{IsQuoted, quoted_char, quoted_text}
+use Rattle.ufmt.specs.ReadingQuoted.{read_quoted}
+use Rattle.ufmt.specs.Shift.{IsOneLine}
+use Rattle.ufmt.specs.Token.{IsWord}
+
+-- where quoted texts are equal, with what follows them, so are their characters and what follows
+abbrev pub QuotedTextTells : Type 0
+QuotedTextTells = (cs ds u v : List ℕ) → all_scalars cs ≡ true → all_scalars ds ≡ true → quoted_text cs ++ u ≡ quoted_text ds ++ v → (cs ≡ ds) × (u ≡ v)
+
+-- likewise of quoted characters
+abbrev pub QuotedCharTells : Type 0
+QuotedCharTells = (c d : ℕ) (u v : List ℕ) → IsScalar c → IsScalar d → quoted_char c ++ u ≡ quoted_char d ++ v → (c ≡ d) × (u ≡ v)
+
+-- no quoted text is a quoted character
+abbrev pub QuotedTextIsNoChar : Type 0
+QuotedTextIsNoChar = (cs : List ℕ) (c : ℕ) (u v : List ℕ) → quoted_text cs ++ u ≢ quoted_char c ++ v
+
+-- two quoted leaves at the front of equal texts are the same leaf
+abbrev pub QuotedEndsItself : Type 0
+QuotedEndsItself = (x y u v : List ℕ) → IsQuoted x → IsQuoted y → x ++ u ≡ y ++ v → (x ≡ y) × (u ≡ v)
+
+-- a quoted leaf is no word and not `()`
+abbrev pub QuotedIsNoOtherLeaf : Type 0
+QuotedIsNoOtherLeaf = (text : List ℕ) → IsQuoted text → ¬ (IsWord text ⊎ (text ≡ codes "()"))
+
+-- a quoted leaf has no line feed
+abbrev pub QuotedIsOneLine : Type 0
+QuotedIsOneLine = (text : List ℕ) → IsQuoted text → IsOneLine text
+
+-- each quoted leaf is read, whatever follows it
+abbrev pub ReadsEachQuoted : Type 0
+ReadsEachQuoted = (text u : List ℕ) → IsQuoted text → read_quoted (text ++ u) ≡ Some (text, u)
+
+-- and nothing else is
+abbrev pub ReadsOnlyQuoted : Type 0
+ReadsOnlyQuoted = (t text u : List ℕ) → read_quoted t ≡ Some (text, u) → IsQuoted text × (t ≡ text ++ u)
