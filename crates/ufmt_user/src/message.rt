@@ -1,19 +1,20 @@
+//! A message with texts in it, which print in quotes.
 ghost use Rattle.std.specs.Prelude.{[], ◌∷◌};
 ghost use Rattle.ufmt.specs.Words.{character, named_struct, str, string};
 
 use ufmt::{Formatter, fields, uDebug, uWrite};
 
-/// A struct with texts and a character, which print in quotes.
+/// What a device says, and how urgent it is.
 #[derive(Drop)]
 pub struct Message<'a> {
-    pub name: String,
+    pub device: String,
     pub text: &'a str,
-    pub mark: char,
+    pub level: char,
 }
 
 impl uDebug for Message<'_> {
     ghost document = { λ m. named_struct "Message"
-        (("name", string m.name) ∷ ("text", str m.text) ∷ ("mark", character m.mark) ∷ []) };
+        (("device", string m.device) ∷ ("text", str m.text) ∷ ("level", character m.level) ∷ []) };
 
     fn fmt<W>(&self, f: &mut Formatter<W>) -> Result<(), W::Error>
     where
@@ -22,9 +23,9 @@ impl uDebug for Message<'_> {
         fields!(
             f,
             Message {
-                name: self.name,
+                device: self.device,
                 text: self.text,
-                mark: self.mark
+                level: self.level
             }
         )
     }

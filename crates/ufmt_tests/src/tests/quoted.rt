@@ -121,13 +121,13 @@ fn values_with_texts_print(rt: HostRuntime) -> Result<(), Fail> {
     let pretty = "{\n    \"k\": Some(\n        'c',\n    ),\n}";
     rows.row("map", &map, "{\"k\": Some('c')}", pretty)?;
     let message = Message {
-        name: String::from_str(rt.alloc(), "pump \"2\"")?,
-        text: "on\n",
-        mark: '\'',
+        device: String::from_str(rt.alloc(), "pump 2")?,
+        text: "valve is \"open\"",
+        level: '!',
     };
-    let plain = r#"Message { name: "pump \"2\"", text: "on\n", mark: '\'' }"#;
+    let plain = r#"Message { device: "pump 2", text: "valve is \"open\"", level: '!' }"#;
     let pretty =
-        "Message {\n    name: \"pump \\\"2\\\"\",\n    text: \"on\\n\",\n    mark: '\\'',\n}";
+        "Message {\n    device: \"pump 2\",\n    text: \"valve is \\\"open\\\"\",\n    level: '!',\n}";
     rows.row("struct", &message, plain, pretty)?;
     Ok(())
 }
