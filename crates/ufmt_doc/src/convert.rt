@@ -7,8 +7,6 @@ ghost use Rattle.ufmt_doc.specs.Texts.{IsConverted, IsNoText, IsUnconverted, Und
 
 mod begin;
 mod converted;
-#[cfg(test)]
-mod tests;
 mod text_block;
 mod text_blocks;
 mod write;

@@ -5,9 +5,6 @@ ghost use Rattle.ufmt.specs.Token.{IsToken, normal};
 ghost use Rattle.ufmt_doc.specs.Doc.{doc_document};
 ghost use Rattle.ufmt_doc.specs.Texts.{IsNoText};
 
-#[cfg(test)]
-mod tests;
-
 use crate::convert::{plain_text, pretty_text, to_plain, to_pretty};
 use crate::doc::Doc;
 use crate::plain_reader::{ReadError, read_plain};

@@ -8,5 +8,3 @@ pub mod laws;
 pub mod plain_reader;
 pub mod pretty_reader;
 mod reader;
-#[cfg(test)]
-mod tests;

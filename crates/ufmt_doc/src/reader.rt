@@ -9,8 +9,6 @@ mod error;
 pub(crate) mod level;
 mod open_block;
 mod open_blocks;
-#[cfg(test)]
-mod tests;
 pub(crate) mod word;
 mod word_entries;
 

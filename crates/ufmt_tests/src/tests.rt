@@ -4,21 +4,12 @@ use std::alloc::Global;
 use ufmt::laws;
 use ufmt::unsigned::decimal_is_one_text;
 
-mod allocators;
 mod cursors;
 mod display;
-mod fields;
-mod forwarded;
 mod hexadecimal;
-mod hostile;
-mod library;
 mod macros;
-mod numbers;
 mod pieces;
-mod quoted;
 mod rows;
-mod users;
-mod whole;
 
 #[test]
 fn laws_of_numbers_and_types_can_be_called() {

@@ -7,9 +7,6 @@ ghost use Rattle.ufmt_doc.specs.DocViews.{field_view, pair_view};
 ghost use Rattle.ufmt_doc.specs.Parts.{entries_part, field_part, fields_part, first_value};
 ghost use Rattle.ufmt_doc.specs.Parts.{leaf_part, name_part, pairs_part};
 
-#[cfg(test)]
-mod tests;
-
 use super::Doc;
 
 impl Doc {

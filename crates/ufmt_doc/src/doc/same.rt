@@ -7,9 +7,6 @@ ghost use Rattle.ufmt_doc.specs.Parts.{leaf_part};
 ghost use Rattle.ufmt_doc.specs.Read.{now_of};
 ghost use Rattle.ufmt_doc.specs.Same.{normal_doc, normal_field, normal_pair};
 
-#[cfg(test)]
-mod tests;
-
 use super::Doc;
 
 /// Whether two token documents have the same text. It compares their trees, and makes no text.

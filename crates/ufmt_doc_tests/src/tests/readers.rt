@@ -1,7 +1,8 @@
-use super::*;
-use crate::plain_reader::read_plain;
-use crate::pretty_reader::read_pretty;
-use crate::tests::same;
+use super::same;
+use std::alloc::Global;
+use ufmt_doc::doc::Doc;
+use ufmt_doc::plain_reader::{ReadError, read_plain};
+use ufmt_doc::pretty_reader::read_pretty;
 
 // The kind of the document, and how many entries a set or a map has.
 fn shape(answer: Result<Doc, ReadError>) -> (&'static str, usize) {

@@ -1,9 +1,9 @@
-use super::*;
-use crate::plain_reader::{ReadError, read_plain};
-use crate::tests::{leaf, one, same, text};
+use super::{leaf, one, same, text};
 use std::alloc::Global;
 use std::process::Abort;
 use std::test::Fail;
+use ufmt_doc::doc::{Doc, same_text};
+use ufmt_doc::plain_reader::{ReadError, read_plain};
 
 // What `same_text` tells of token documents.
 fn told(a: &Doc, b: &Doc) -> Option<bool> {

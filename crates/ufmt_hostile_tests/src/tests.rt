@@ -1,7 +1,4 @@
 //! Writers that fail at every place, and what is left behind them.
-use super::library::repeated;
-use super::rows::Rows;
-
 mod blocks;
 mod builder_calls;
 mod builders;
@@ -11,6 +8,11 @@ mod leaves;
 mod long_values;
 mod macros;
 mod printed;
+mod repeated;
+mod rows;
 mod settings;
 mod stopped_calls;
 mod writers;
+
+use repeated::repeated;
+use rows::Rows;

@@ -1,7 +1,12 @@
-use super::*;
-use crate::tests::same;
+use super::same;
+use std::alloc::Global;
 use std::process::Abort;
 use std::test::Fail;
+use ufmt_doc::convert::{plain_text, pretty_text, to_plain, to_pretty};
+use ufmt_doc::doc::Doc;
+use ufmt_doc::laws::*;
+use ufmt_doc::plain_reader::{ReadError, read_plain};
+use ufmt_doc::pretty_reader::read_pretty;
 
 const PLAIN: &str = "S { a: [x], b: {} }";
 

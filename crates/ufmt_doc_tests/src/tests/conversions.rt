@@ -1,6 +1,8 @@
-use super::*;
-use crate::tests::{holds, same};
+use super::{holds, same};
+use std::alloc::Global;
 use std::process::Abort;
+use ufmt_doc::convert::{to_plain, to_pretty};
+use ufmt_doc::plain_reader::ReadError;
 
 // The pretty text of a plain one, and the plain text of that again.
 fn expect_converted(

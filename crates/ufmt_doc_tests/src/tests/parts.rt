@@ -1,8 +1,8 @@
-use crate::doc::Doc;
-use crate::plain_reader::read_plain;
-use crate::tests::same;
+use super::same;
 use std::alloc::{AllocError, Global};
 use std::test::Fail;
+use ufmt_doc::doc::Doc;
+use ufmt_doc::plain_reader::read_plain;
 
 // How many entries, pairs and fields a document has.
 type Counts = (Option<usize>, Option<usize>, Option<usize>);

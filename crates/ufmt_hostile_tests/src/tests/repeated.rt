@@ -1,10 +1,5 @@
-//! Builders, and the values of std's own types.
-use super::rows::Rows;
+//! Long texts of one part.
 use std::alloc::{AllocError, Global};
-
-mod collections;
-mod formatters;
-mod structs;
 
 // The text with `part` as often as `count` says between its beginning and its end.
 pub fn repeated(

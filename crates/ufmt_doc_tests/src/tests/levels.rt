@@ -1,7 +1,7 @@
 //! Blocks one in another: to how many levels they are read.
 use super::malformed::{refused, taken};
+use super::mode::Mode;
 use super::same;
-use crate::reader::Mode;
 use std::alloc::Global;
 use std::test::Fail;
 

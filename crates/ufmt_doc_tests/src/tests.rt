@@ -1,14 +1,20 @@
 //! What no clause says: that calls on documents can succeed, and what they give on rows written by hand.
+mod conversions;
+mod laws;
 mod levels;
 mod malformed;
+mod mode;
+mod parts;
+mod readers;
+mod same_texts;
 mod texts;
 
-use crate::convert::{plain_text, pretty_text};
-use crate::doc::Doc;
 use std::alloc::{AllocError, Global};
 use std::fmt::Debug;
 use std::process::Abort;
 use std::test::Fail;
+use ufmt_doc::convert::{plain_text, pretty_text};
+use ufmt_doc::doc::Doc;
 
 // Asserts are calls of these two: one that is written out takes the check as long as a score of calls.
 pub fn same<T: PartialEq + Debug + Drop>(rt: &impl Abort, given: T, wanted: T, case: &str) {

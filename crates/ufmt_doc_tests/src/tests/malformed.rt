@@ -1,16 +1,16 @@
 //! Texts and what is no text: the readers and the conversions say the same of each.
 ghost use Rattle.std.specs.Prelude.{◌≤◌, length};
 
+use super::mode::Mode;
 use super::texts::{NODE_PLAIN, NODE_PRETTY, NOT_PLAIN, NOT_PRETTY, PLAIN, PRETTY};
 use super::{holds, same};
-use crate::convert::{plain_text, pretty_text, to_plain, to_pretty};
-use crate::doc::Doc;
-use crate::plain_reader::read_plain;
-use crate::pretty_reader::read_pretty;
-use crate::reader::{Mode, ReadError};
 use std::alloc::{AllocError, Global};
 use std::process::Abort;
 use std::test::Fail;
+use ufmt_doc::convert::{plain_text, pretty_text, to_plain, to_pretty};
+use ufmt_doc::doc::Doc;
+use ufmt_doc::plain_reader::{ReadError, read_plain};
+use ufmt_doc::pretty_reader::read_pretty;
 
 // What the reader of a mode and the conversion from it answer.
 fn answers(

@@ -1,0 +1,6 @@
+/// Which of its two texts a document is read from.
+#[derive(Clone, Copy)]
+pub enum Mode {
+    Plain,
+    Pretty,
+}
