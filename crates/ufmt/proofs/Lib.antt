@@ -17,6 +17,7 @@ pub mod QuotedLines
 pub mod QuotedOneWay
 pub mod QuotedSound
 pub mod QuotedTold
+pub mod QuotedUtf8
 pub mod ReadingSound
 pub mod ReadingTurns
 pub mod ReadingWhole
@@ -24,6 +25,7 @@ pub mod Shifting
 pub mod TextsBegin
 pub mod TokenLeaves
 pub mod TokenLines
+pub mod Unquoted
 pub mod Words
 pub mod WorkedReadings
 pub mod WorkedShifts

@@ -48,10 +48,10 @@ read_inside-complete q (b ∷ bs) u (suc n) quote few =
     rw (append_assoc (escaped_byte q b) (escaped_bytes q bs) (q ∷ u), escaped-no_quote q b rest quote, read_escaped-complete q b rest quote, read_inside-complete q bs u n quote (omega arith)) refl
 
 -- a spelling has at least one byte
-length-escaped : (q b : ℕ) → 1 ≤ length (escaped_byte q b)
+pub length-escaped : (q b : ℕ) → 1 ≤ length (escaped_byte q b)
 length-escaped q b = each_row q b (λ n e. 1 ≤ length e) (omega arith) (omega arith) (omega arith) (omega arith) (λ itself. omega arith) (λ low. omega arith) (λ no_line itself. omega arith)
 
-length-escaped_bytes : (q : ℕ) (bs : List ℕ) → length bs ≤ length (escaped_bytes q bs)
+pub length-escaped_bytes : (q : ℕ) (bs : List ℕ) → length bs ≤ length (escaped_bytes q bs)
 length-escaped_bytes q [] = omega arith
 length-escaped_bytes q (b ∷ bs) = omega (arith, length-escaped q b, length-escaped_bytes q bs, length-append (escaped_byte q b) (escaped_bytes q bs))
 

@@ -32,7 +32,7 @@ at_byte q n t bs u sound h =
     ∙ ap (λ cs. escaped_bytes q cs ++ (q ∷ u)) rest.2
 
 -- bytes that are read up to a closing quote are spelled before it
-read_inside-sound : (q n : ℕ) (t bs u : List ℕ) → read_inside q n t ≡ Some (bs, u) → t ≡ escaped_bytes q bs ++ (q ∷ u)
+pub read_inside-sound : (q n : ℕ) (t bs u : List ℕ) → read_inside q n t ≡ Some (bs, u) → t ≡ escaped_bytes q bs ++ (q ∷ u)
 unfolding read_inside
 read_inside-sound q zero t bs u h = absurd (cc)
 read_inside-sound q (suc n) t bs u h =
@@ -42,7 +42,7 @@ read_inside-sound q (suc n) t bs u h =
     ]
 
 -- the test of bytes, and what they are between quotes
-right_from : (test : List ℕ → Bool) (q : ℕ) (bs u text v : List ℕ) → if_right test q bs u ≡ Some (text, v) → (test bs ≡ true) × (quoted q (chars bs) ≡ text) × (u ≡ v)
+pub right_from : (test : List ℕ → Bool) (q : ℕ) (bs u text v : List ℕ) → if_right test q bs u ≡ Some (text, v) → (test bs ≡ true) × (quoted q (chars bs) ≡ text) × (u ≡ v)
 right_from test q bs u text v h = go (test bs) refl
   where
     go : (right : Bool) → test bs ≡ right → (test bs ≡ true) × (quoted q (chars bs) ≡ text) × (u ≡ v)

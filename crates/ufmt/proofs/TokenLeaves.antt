@@ -1,11 +1,15 @@
 -- All that is known of a leaf that can be read again: how it begins, that it is read, and that what is read as one is one.
-use Rattle.std.proofs.Common.{◌≡◌, ◌⊎◌, inl, inr, refl, ap, sym, ◌∙◌, ℕ, List, [], ◌∷◌, ◌++◌, Some, None, codes, append_assoc}
+use Rattle.std.proofs.Common.{◌≡◌, ◌⊎◌, inl, inr, refl, ap, sym, ◌∙◌, ℕ, List, [], ◌∷◌, ◌++◌, Option, Some, None, codes, append_assoc}
 use Rattle.ufmt_core.specs.Document.{Document, leaf}
 use Rattle.ufmt_core.specs.Layout.{inside, gap, new_line}
+use Rattle.ufmt_core.specs.Quoted.{IsQuoted, escaped_all}
 use Rattle.ufmt_core.specs.declared.formatter.Setting.{Setting}
 use Rattle.ufmt.specs.Token.{IsWord, IsTokenLeaf, IsFollower}
 use Rattle.ufmt.specs.Reading.{Parse, strip, read_word, read_symbol, read_named, read_with}
-use Rattle.ufmt.proofs.Parsing.{beside_from, strip_found}
+use Rattle.ufmt.specs.ReadingQuoted.{read_quoted}
+use Rattle.ufmt.proofs.Parsing.{chosen_from, same_parts, strip_found}
+use Rattle.ufmt.proofs.QuotedComplete.{read_quoted-complete}
+use Rattle.ufmt.proofs.QuotedSound.{read_quoted-sound}
 use Rattle.ufmt.proofs.Words.{StopsWord, follower_stops, is_word_byte-is_closer, word_of-append, after_word-append, read_word_complete}
 use Rattle.ufmt.proofs.BlocksComplete.{Begins, IsRead}
 use Rattle.ufmt.proofs.FramesClose.{closer_begins_none, follower_no_tuple, follower_no_struct}
@@ -19,9 +23,11 @@ word_begins (c ∷ w) h = record { first = c; tail = w; is = refl; no_closer = i
 pub leaf_begins : (text : List ℕ) → IsTokenLeaf text → Begins text
 leaf_begins text h = go h.shape
   where
-    go : IsWord text ⊎ (text ≡ codes "()") → Begins text
+    go : IsWord text ⊎ ((text ≡ codes "()") ⊎ IsQuoted text) → Begins text
     go (inl w) = word_begins text w
-    go (inr e) = record { first = 40; tail = codes ")"; is = e; no_closer = refl }
+    go (inr (inl e)) = record { first = 40; tail = codes ")"; is = e; no_closer = refl }
+    go (inr (inr (inl of_text))) = record { first = 34; tail = escaped_all 34 of_text.0 ++ (34 ∷ []); is = of_text.2; no_closer = refl }
+    go (inr (inr (inr of_char))) = record { first = 39; tail = escaped_all 39 (of_char.0 ∷ []) ++ (39 ∷ []); is = of_char.2; no_closer = refl }
 
 -- a word is a leaf
 pub word_leaf : (w : List ℕ) → IsWord w → IsTokenLeaf w
@@ -45,20 +51,39 @@ name_alone : (s : Setting) (p : Parse Document) (w u : List ℕ) → IsWord w �
 name_alone s p [] u h follows = absurd h
 name_alone s p (c ∷ w) u h follows = rw (follower_no_tuple u (new_line (inside s).mode (inside s).depth) follows, follower_no_struct u (gap s.mode ++ new_line (inside s).mode (inside s).depth) follows) refl
 
+-- a quoted leaf is read, whatever follows it
+quoted_complete : (s : Setting) (p : Parse Document) (text u : List ℕ) → IsQuoted text → read_with s p (text ++ u) ≡ Some (leaf text, u)
+quoted_complete s p text u h = go h (read_quoted-complete text u h)
+  where
+    go : IsQuoted text → read_quoted (text ++ u) ≡ Some (text, u) → read_with s p (text ++ u) ≡ Some (leaf text, u)
+    go (inl of_text) reads = rw of_text.2 (rw (ap (λ t. read_quoted (t ++ u)) (sym of_text.2) ∙ reads) (ap (λ t. Some (leaf t, u)) of_text.2))
+    go (inr of_char) reads = rw of_char.2 (rw (ap (λ t. read_quoted (t ++ u)) (sym of_char.2) ∙ reads) (ap (λ t. Some (leaf t, u)) of_char.2))
+
 -- a leaf before a follower is read
 pub leaf_complete : (s : Setting) (p : Parse Document) (text u : List ℕ) → IsTokenLeaf text → IsFollower u → read_with s p (text ++ u) ≡ Some (leaf text, u)
 leaf_complete s p text u h follows = go h.shape
   where
-    go : IsWord text ⊎ (text ≡ codes "()") → read_with s p (text ++ u) ≡ Some (leaf text, u)
+    go : IsWord text ⊎ ((text ≡ codes "()") ⊎ IsQuoted text) → read_with s p (text ++ u) ≡ Some (leaf text, u)
     go (inl w) = at_word s p text u w (follower_stops u follows) ∙ name_alone s p text u w follows
-    go (inr e) = rw e refl
+    go (inr (inl e)) = rw e refl
+    go (inr (inr quoted)) = quoted_complete s p text u quoted
 
 -- a leaf that is no word isn't an opening parenthesis before an entry
 pub no_symbol : {t : List ℕ} → Begins t → read_symbol (40 ∷ t) ≡ None
+unfolding read_quoted
 no_symbol b = rw (closer_begins_none 41 [] refl b) refl
 
 -- what is read as a leaf that is no word is a leaf
 pub read_symbol_sound : (t text u : List ℕ) → read_symbol t ≡ Some (text, u) → IsTokenLeaf text × (t ≡ text ++ u)
-read_symbol_sound t text u h =
-    let from = beside_from (codes "()") (strip (codes "()") t) text u h in
-    (record { shape = inr (sym from.1) }, strip_found (codes "()") t u from.0 ∙ ap (λ w. w ++ u) from.1)
+read_symbol_sound t text u h = elim (chosen_from {B = Option (List ℕ × List ℕ)} (strip (codes "()") t) (λ v. Some (codes "()", v)) (read_quoted t) (Some (text, u)) h) [
+  | inl unit ↦ at_unit unit.0 unit.1 unit.2
+  | inr quoted ↦ at_quote (read_quoted-sound t text u quoted.1)
+]
+  where
+    at_unit : (v : List ℕ) → strip (codes "()") t ≡ Some v → ◌≡◌ {A = Option (List ℕ × List ℕ)} (Some (codes "()", v)) (Some (text, u)) → IsTokenLeaf text × (t ≡ text ++ u)
+    at_unit v stripped is =
+        let parts = same_parts {A = List ℕ} {B = List ℕ} (codes "()", v) (text, u) is in
+        (record { shape = inr (inl (sym parts.0)) }, strip_found (codes "()") t v stripped ∙ ap (λ w. codes "()" ++ w) parts.1 ∙ ap (λ w. w ++ u) parts.0)
+
+    at_quote : IsQuoted text × (t ≡ text ++ u) → IsTokenLeaf text × (t ≡ text ++ u)
+    at_quote quoted = (record { shape = inr (inr quoted.0) }, quoted.1)

@@ -4,6 +4,7 @@ use Rattle.std.proofs.lemmas.Bool.{false≢true}
 use Rattle.ufmt_core.specs.Document.{Document, leaf, joined, list_of, set_of, map_of, struct_of, tuple_of, pretty_part, Documents, no_documents, document, Pairs, no_pairs, pair, Fields, no_fields, field}
 use Rattle.ufmt.specs.Shift.{IsOneLine, HasNoLineFeed, HaveNoLineFeed, PairsHaveNoLineFeed, FieldsHaveNoLineFeed}
 use Rattle.ufmt.specs.Token.{is_word_byte, AreWordBytes, IsWord, IsTokenLeaf, HasWords, HaveWords, PairsHaveWords, FieldsHaveWords}
+use Rattle.ufmt.proofs.QuotedLines.{quoted_is_one_line}
 
 is_word_byte-line_feed : (c : ℕ) → is_word_byte c ≡ true → c ≢ 10
 is_word_byte-line_feed c h = λ e. false≢true (subst (λ b. is_word_byte b ≡ true) e h)
@@ -20,7 +21,7 @@ IsWord-IsOneLine (c ∷ text) h = AreWordBytes-IsOneLine (c ∷ text) h
 IsTokenLeaf-IsOneLine : (text : List ℕ) → IsTokenLeaf text → IsOneLine text
 IsTokenLeaf-IsOneLine text h =
     let unit : IsOneLine (codes "()") = (λ e. omega (arith, e), (λ e. omega (arith, e), tt))
-    in elim h.shape [ inl w ↦ IsWord-IsOneLine text w | inr e ↦ subst IsOneLine (sym e) unit ]
+    in elim h.shape [ inl w ↦ IsWord-IsOneLine text w | inr symbol ↦ elim symbol [ inl e ↦ subst IsOneLine (sym e) unit | inr quoted ↦ quoted_is_one_line text quoted ] ]
 
 mutual
   pub HasWords-HasNoLineFeed : (d : Document) → HasWords d → HasNoLineFeed d

@@ -1,8 +1,10 @@
 -- The readings of some texts, computed.
-use Rattle.std.proofs.Common.{◌≡◌, [], codes, Some, None, refl}
+use Rattle.std.proofs.Common.{◌≡◌, [], ◌∷◌, codes, map, replicate, Some, None, refl}
+use Rattle.std.specs.Str.{chars, is_utf8}
 use Rattle.ufmt_core.specs.Document.{Document, leaf, list_of, set_of, map_of, struct_of, tuple_of, Documents, no_documents, document, no_pairs, pair, no_fields, field}
 use Rattle.ufmt_core.specs.declared.formatter.Mode.TheVariants.{Plain, Pretty}
 use Rattle.ufmt.specs.Reading.{read, read_rest, read_text}
+use Rattle.ufmt.specs.ReadingQuoted.{read_inside, read_quoted}
 
 abbrev one : Document
 one = leaf (codes "1")
@@ -41,16 +43,16 @@ unfolding read read_rest
 struct-plain = refl
 
 struct-pretty : read_text Pretty (codes "S {\n    x: (\n        1,\n    ),\n}") ≡ Some (struct_of (codes "S") (field (codes "x") (tuple_of [] (lone one)) no_fields))
-unfolding read read_rest
+unfolding read read_rest read_quoted
 struct-pretty = refl
 
 -- the only field of a tuple without a name has a comma, and that of one with a name has none
 tuples-plain : read_text Plain (codes "P((1,))") ≡ Some (tuple_of (codes "P") (lone (tuple_of [] (lone one))))
-unfolding read read_rest
+unfolding read read_rest read_quoted
 tuples-plain = refl
 
 no_comma : read_text Plain (codes "(1)") ≡ None
-unfolding read read_rest
+unfolding read read_rest read_quoted
 no_comma = refl
 
 no_space : read_text Plain (codes "[1,1]") ≡ None
@@ -62,10 +64,29 @@ unfolding read read_rest
 more_space = refl
 
 no_text : read_text Plain [] ≡ None
-unfolding read read_rest
+unfolding read read_rest read_quoted
 no_text = refl
 
 -- a pretty text is no plain one
 not_plain : read_text Plain (codes "[\n    1,\n]") ≡ None
-unfolding read read_rest
+unfolding read read_rest read_quoted
 not_plain = refl
+
+-- what stands in quotes is told apart from what it stands in
+quotes-plain : read_text Plain (codes "{\"a\": \"b: c, d\"}") ≡ Some (map_of (pair (leaf (codes "\"a\"")) (leaf (codes "\"b: c, d\"")) no_pairs))
+unfolding read read_rest read_quoted read_inside is_utf8 chars lib.Utf8.encode
+quotes-plain = refl
+
+quotes-list : read_text Plain (codes "[\"]\", '}']") ≡ Some (list_of (document (leaf (codes "\"]\"")) (lone (leaf (codes "'}'")))))
+unfolding read read_rest read_quoted read_inside is_utf8 chars lib.Utf8.encode
+quotes-list = refl
+
+-- another spelling of a character is refused
+respelled : map (read_text Plain) (codes "\"\\u{07f}\"" ∷ codes "\"\\u{41}\"" ∷ codes "\"\\u{1B}\"" ∷ codes "\"\\u{a}\"" ∷ codes "\"\\x\"" ∷ codes "\"\\'\"" ∷ codes "'\\\"'" ∷ codes "\"\t\"" ∷ []) ≡ replicate 8 None
+unfolding read read_rest read_quoted read_inside
+respelled = refl
+
+-- and what is no text or character in quotes, or stands where a name or an end is to stand
+misquoted : map (read_text Plain) (codes "'''" ∷ codes "\"\"\"" ∷ codes "\"a" ∷ codes "''" ∷ codes "'ab'" ∷ codes "S { \"a\": b }" ∷ codes "\"S\"(x)" ∷ []) ≡ replicate 7 None
+unfolding read read_rest read_quoted read_inside is_utf8 chars lib.Utf8.encode
+misquoted = refl

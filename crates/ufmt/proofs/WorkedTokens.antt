@@ -3,6 +3,7 @@ use Rattle.std.proofs.Common.{◌≡◌, ℕ, zero, suc, map, true, false, codes
 use Rattle.std.proofs.lemmas.Bool.{false≢true}
 use Rattle.ufmt_core.specs.Document.{Document, leaf, joined, list_of, set_of, map_of, struct_of, tuple_of, pretty_part, Documents, no_documents, document, no_pairs, pair, no_fields, field, nest}
 use Rattle.ufmt.specs.Token.{is_word_byte, IsWord, HasWords, IsToken, normal, is_closer, IsFollower}
+use Rattle.ufmt.proofs.TokenLines.{HasWords-HasNoLineFeed}
 
 -- ---- words
 
@@ -41,13 +42,13 @@ HasWords-one : HasWords one
 HasWords-one = record { shape = inl (refl, tt) }
 
 IsToken-unit : IsToken (leaf (codes "()"))
-IsToken-unit = (record { shape = inr refl }, omega arith)
+IsToken-unit = (record { shape = inr (inl refl) }, omega arith)
 
 IsToken-not-empty_leaf : IsToken (leaf (codes "")) → ⊥
-IsToken-not-empty_leaf h = elim h.0.shape [ inl w ↦ w | inr e ↦ cc ]
+IsToken-not-empty_leaf h = elim h.0.shape [ inl w ↦ w | inr symbol ↦ elim symbol [ inl e ↦ cc | inr quoted ↦ elim quoted [ inl of_text ↦ let e = of_text.2 in cc | inr of_char ↦ let e = of_char.2 in cc ] ] ]
 
 IsToken-not-line_feed : IsToken (leaf (codes "\n")) → ⊥
-IsToken-not-line_feed h = elim h.0.shape [ inl w ↦ false≢true w.0 | inr e ↦ cc ]
+IsToken-not-line_feed h = let line = HasWords-HasNoLineFeed (leaf (codes "\n")) h.0 in line.0 refl
 
 -- a struct of an empty set and a tuple without a name
 IsToken-settings : IsToken (struct_of (codes "S") (field (codes "m") (set_of no_documents) (field (codes "n") (tuple_of (codes "") (lone one)) no_fields)))

@@ -2,6 +2,7 @@ pub mod Buffer
 pub mod Cursor
 pub mod Hex
 pub mod NormalForm
+pub mod Parse
 pub mod Pieces
 pub mod QuotedOneWay
 pub mod Reading
@@ -11,6 +12,7 @@ pub mod ReadsOneWay
 pub mod Shift
 pub mod Shifting
 pub mod Token
+pub mod Unquoted
 pub use Rattle.ufmt_core.specs.Block
 pub use Rattle.ufmt_core.specs.Builder
 pub use Rattle.ufmt_core.specs.Decimal

@@ -1,5 +1,5 @@
 -- Reading a token document from the front of a text: what the readers of plain and of pretty texts compute.
-use Rattle.std.specs.Prelude.{ℕ, zero, suc, length, cond, ◌==◌, List, [], ◌∷◌, codes, Option, Some, None, option_map, option_and_then}
+use Rattle.std.specs.Prelude.{ℕ, zero, suc, length, cond, List, [], ◌∷◌, codes, Option, Some, None, option_map, option_and_then}
 use Rattle.ufmt_core.specs.Document.{Document, leaf, list_of, set_of, map_of, struct_of, tuple_of, no_documents, no_pairs, documents, pairs_of, fields_of}
 use Rattle.ufmt_core.specs.Layout.{Frame, frame, tuple_kind, setting, inside, lead, ending, trail, next}
 use Rattle.ufmt_core.specs.declared.formatter.Mode.{Mode}
@@ -7,26 +7,9 @@ use Rattle.ufmt_core.specs.declared.formatter.Setting.{Setting}
 use Rattle.ufmt_core.specs.declared.formatter.block.Kind.TheVariants.{Brackets, Braces, Struct, Unnamed}
 use Rattle.ufmt_core.specs.declared.formatter.block.Place.{Place}
 use Rattle.ufmt_core.specs.declared.formatter.block.Place.TheVariants.{First, Second}
+use Rattle.ufmt.specs.ReadingQuoted.{read_quoted}
 use Rattle.ufmt.specs.Token.{is_word_byte}
-
--- a value that stands at the front of a text, with what follows it; None where none stands there
-abbrev pub Parse : Type 0 → Type 0
-Parse A = List ℕ → Option (A × List ℕ)
-
--- a case on an option
-abbrev pub choose : {A B : Type 0} → Option A → (A → B) → B → B
-choose None f b = b
-choose (Some x) f b = f x
-
--- a function of the value that was read
-abbrev pub parse_map : {A B : Type 0} → (A → B) → Option (A × List ℕ) → Option (B × List ℕ)
-parse_map f o = option_map (λ x. (f x.0, x.1)) o
-
--- what follows the first text where the second begins with it
-abbrev pub strip : List ℕ → List ℕ → Option (List ℕ)
-strip [] t = Some t
-strip (c ∷ text) [] = None
-strip (c ∷ text) (b ∷ t) = cond (c == b) (strip text t) None
+pub use Rattle.ufmt.specs.Parse.{Parse, choose, parse_map, strip}
 
 -- the word bytes at the front
 abbrev pub word_of : List ℕ → List ℕ
@@ -47,9 +30,9 @@ if_word (c ∷ word) t = Some (c ∷ word, t)
 abbrev pub read_word : Parse (List ℕ)
 read_word t = if_word (word_of t) (after_word t)
 
--- a leaf that is no word
+-- a leaf that is no word: `()`, or a quoted text or character
 abbrev pub read_symbol : Parse (List ℕ)
-read_symbol t = option_map (λ u. (codes "()", u)) (strip (codes "()") t)
+read_symbol t = choose (strip (codes "()") t) (λ u. Some (codes "()", u)) (read_quoted t)
 
 -- a value behind a colon and a space, beside this key
 abbrev pub read_value : {A : Type 0} → Parse Document → A → Parse (A × Document)

@@ -4,7 +4,7 @@ use Rattle.std.specs.Char.{digit_value}
 use Rattle.std.specs.Option.{option_or}
 use Rattle.std.specs.Str.{chars, is_utf8}
 use Rattle.ufmt_core.specs.Quoted.{escaped_byte, quoted}
-use Rattle.ufmt.specs.Reading.{Parse, choose, parse_map, strip}
+use Rattle.ufmt.specs.Parse.{Parse, choose, parse_map, strip}
 
 -- the number in the braces at the front, if one is there
 abbrev pub told_number : List ℕ → ℕ

@@ -1,6 +1,7 @@
 -- Token documents, whose texts can be read again: words, token documents, normal form and followers.
 use Rattle.std.specs.Prelude.{◌≡◌, ◌⊎◌, ℕ, ◌≤◌, ◌&&◌, ◌||◌, ◌==◌, nat_le, List, [], ◌∷◌, Bool, true, codes, ⊤}
 use Rattle.ufmt_core.specs.Document.{Document, leaf, joined, list_of, set_of, map_of, struct_of, tuple_of, pretty_part, Documents, no_documents, document, Pairs, no_pairs, pair, Fields, no_fields, field, nest}
+use Rattle.ufmt_core.specs.Quoted.{IsQuoted}
 
 abbrev pub is_within : ℕ → ℕ → ℕ → Bool
 is_within low high c = nat_le low c && nat_le c high
@@ -18,34 +19,52 @@ abbrev pub IsWord : List ℕ → Type 0
 IsWord [] = ⊥
 IsWord (c ∷ text) = (is_word_byte c ≡ true) × AreWordBytes text
 
--- the text of a leaf that can be read again: a word or `()`
+-- a word or `()`
+abbrev pub IsUnquotedLeaf : List ℕ → Type 0
+IsUnquotedLeaf text = IsWord text ⊎ (text ≡ codes "()")
+
+-- the text of a leaf that can be read again: a word, `()`, or a quoted text or character
 pub record IsTokenLeaf (text : List ℕ) : Type 0 where
-  pub shape : IsWord text ⊎ (text ≡ codes "()")
+  pub shape : IsWord text ⊎ ((text ≡ codes "()") ⊎ IsQuoted text)
 
--- every leaf can be read again, and names are words, but that of a tuple with fields may be empty
-abbrev mutual
-  pub HasWords : Document → Type 0
-  HasWords (leaf text) = IsTokenLeaf text
-  HasWords (joined ds) = ⊥
-  HasWords (list_of ds) = HaveWords ds
-  HasWords (set_of ds) = HaveWords ds
-  HasWords (map_of ps) = PairsHaveWords ps
-  HasWords (struct_of name fs) = IsWord name × FieldsHaveWords fs
-  HasWords (tuple_of name no_documents) = IsWord name
-  HasWords (tuple_of name (document d ds)) = AreWordBytes name × HasWords d × HaveWords ds
-  HasWords (pretty_part d) = ⊥
+-- a document with such leaves alone, whose names are words, but that of a tuple with fields may be empty
+module _ (IsLeaf : List ℕ → Type 0) where
+  abbrev mutual
+    pub HasLeaves : Document → Type 0
+    HasLeaves (leaf text) = IsLeaf text
+    HasLeaves (joined ds) = ⊥
+    HasLeaves (list_of ds) = HaveLeaves ds
+    HasLeaves (set_of ds) = HaveLeaves ds
+    HasLeaves (map_of ps) = PairsHaveLeaves ps
+    HasLeaves (struct_of name fs) = IsWord name × FieldsHaveLeaves fs
+    HasLeaves (tuple_of name no_documents) = IsWord name
+    HasLeaves (tuple_of name (document d ds)) = AreWordBytes name × HasLeaves d × HaveLeaves ds
+    HasLeaves (pretty_part d) = ⊥
 
-  pub HaveWords : Documents → Type 0
-  HaveWords no_documents = ⊤
-  HaveWords (document d ds) = HasWords d × HaveWords ds
+    pub HaveLeaves : Documents → Type 0
+    HaveLeaves no_documents = ⊤
+    HaveLeaves (document d ds) = HasLeaves d × HaveLeaves ds
 
-  pub PairsHaveWords : Pairs → Type 0
-  PairsHaveWords no_pairs = ⊤
-  PairsHaveWords (pair key value ps) = HasWords key × HasWords value × PairsHaveWords ps
+    pub PairsHaveLeaves : Pairs → Type 0
+    PairsHaveLeaves no_pairs = ⊤
+    PairsHaveLeaves (pair key value ps) = HasLeaves key × HasLeaves value × PairsHaveLeaves ps
 
-  pub FieldsHaveWords : Fields → Type 0
-  FieldsHaveWords no_fields = ⊤
-  FieldsHaveWords (field label value fs) = IsWord label × HasWords value × FieldsHaveWords fs
+    pub FieldsHaveLeaves : Fields → Type 0
+    FieldsHaveLeaves no_fields = ⊤
+    FieldsHaveLeaves (field label value fs) = IsWord label × HasLeaves value × FieldsHaveLeaves fs
+
+-- every leaf can be read again, and names are words
+abbrev pub HasWords : Document → Type 0
+HasWords d = HasLeaves IsTokenLeaf d
+
+abbrev pub HaveWords : Documents → Type 0
+HaveWords ds = HaveLeaves IsTokenLeaf ds
+
+abbrev pub PairsHaveWords : Pairs → Type 0
+PairsHaveWords ps = PairsHaveLeaves IsTokenLeaf ps
+
+abbrev pub FieldsHaveWords : Fields → Type 0
+FieldsHaveWords fs = FieldsHaveLeaves IsTokenLeaf fs
 
 -- a document of words whose blocks with entries lie at most 255 deep
 abbrev pub IsToken : Document → Type 0

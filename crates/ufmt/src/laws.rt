@@ -14,6 +14,7 @@ ghost use Rattle.ufmt.specs.QuotedOneWay.{QuotedCharTells, QuotedEndsItself, Quo
 ghost use Rattle.ufmt.specs.Shifting.{ShiftMovesEachLine, ShiftedAtDepth, ShiftedIsPretty, TokensHaveNoLineFeed};
 ghost use Rattle.ufmt.specs.ReadsExactly.{ReadsEachText, ReadsOnlyTexts, RefusesNoText};
 ghost use Rattle.ufmt.specs.ReadsOneWay.{PlainReadsOneWay, PlainTextTells, PrettyReadsOneWay, PrettyTextTells, TextsAgree};
+ghost use Rattle.ufmt.specs.Unquoted.{UnquotedAsBefore};
 
 use crate::cursor::{Cursor, Full};
 use crate::display::uDisplay;
@@ -216,4 +217,10 @@ pub fn quoted_one_way()
 pub fn quoted_leaves_are_read_exactly()
     ensures only { ReadsOnlyQuoted }
     ensures each { ReadsEachQuoted }
+{}
+
+/// A document without quoted leaves is a token document exactly if its leaves are words or `()`, its
+/// names are words, and blocks with entries lie at most 255 deep.
+pub fn unquoted_as_before()
+    ensures { UnquotedAsBefore }
 {}

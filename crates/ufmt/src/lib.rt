@@ -15,5 +15,5 @@ pub use hex::{HexOptions, uDisplayHex};
 pub use pieces::{fmt_pretty, write_debug, write_display, write_pretty};
 pub use ufmt_core::{
     DebugList, DebugMap, DebugSet, DebugStruct, DebugTuple, Formatter, NamedFields, UnnamedFields,
-    uDebug, uWrite, unsigned,
+    quoted, uDebug, uWrite, unsigned,
 };

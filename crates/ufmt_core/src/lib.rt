@@ -11,7 +11,7 @@ pub mod laws;
 mod list;
 mod map;
 mod nonzero;
-mod quoted;
+pub mod quoted;
 mod set;
 mod signed;
 mod std_impls;

@@ -29,8 +29,9 @@ static STAND_FOR_THEMSELVES: [bool; 256] = [
     true, true, true, true, true, true, true, true, true, true,
 ];
 
-// How a byte is written between these quotes; `None` where it stands for itself.
-fn escape(byte: u8, quote: u8) -> Option<&'static str>
+/// How a byte is written between these quotes, and `None` where it stands for itself, as every byte
+/// past ASCII does. `quote` is a quotation mark or an apostrophe.
+pub fn escape(byte: u8, quote: u8) -> Option<&'static str>
     requires { IsQuote quote }
     ensures { option_copied result ≡ escape quote byte }
 {
@@ -163,8 +164,8 @@ fn split_escape(text: &str) -> Option<(&'static str, &str)>
     Some((escape, &text[1..]))
 }
 
-// How many bytes at the front stand for themselves.
-fn plain_len(bytes: &[u8]) -> usize
+/// How many bytes at the front stand for themselves between quotation marks.
+pub fn plain_len(bytes: &[u8]) -> usize
     ensures { result ≡ plain_len bytes.now }
 {
     // Four bytes a turn, so that the end is looked for once in four.

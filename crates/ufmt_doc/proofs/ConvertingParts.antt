@@ -6,7 +6,7 @@ use Rattle.ufmt_core.specs.declared.formatter.block.Kind.TheVariants as layouts
 use Rattle.ufmt_core.specs.declared.formatter.block.Place.TheVariants.{First, Second}
 use Rattle.ufmt.specs.Document.{Document, list_of, set_of, map_of, struct_of, tuple_of, documents, pairs_of, fields_of}
 use Rattle.ufmt.specs.Layout.{block, field_texts, frame, inside, layout, lead, pair_texts, rest, texts, trail}
-use Rattle.ufmt.specs.Reading.{choose, parse_map, strip, read_braces, read_list, read_map_or_set, read_named, read_pair, read_value, read_word, read_without_name}
+use Rattle.ufmt.specs.Reading.{choose, parse_map, strip, read_symbol, read_braces, read_list, read_map_or_set, read_named, read_pair, read_value, read_word, read_without_name}
 use Rattle.ufmt.specs.Token.{IsWord}
 use Rattle.ufmt_doc.specs.declared.convert.text_block.TextBlock.TheVariants as blocks
 use Rattle.ufmt_doc.specs.declared.reader.level.Kind.TheVariants.{Brackets, Braces, Struct, Tuple, Unnamed}
@@ -62,10 +62,10 @@ tuple_converts from to out (c ∷ w) t r word opening =
     ∙ block_begins (entry_of from) (layout (inside i)) (frame_of from Tuple) (setting_of from) (frame_of to Tuple) i (λ ds. tuple_of (c ∷ w) (documents ds)) (front layouts.Tuple i (c ∷ w)) (λ d ds. shape layouts.Tuple i (c ∷ w) (layout (inside i) d) (texts (inside i) (documents ds)) (map (layout (inside i)) ds) (texts_are (inside i) ds)) out (entry_of from r)
 
 -- a tuple without a name behind what stands before its first field
-pub unnamed_converts : (from to : Level) (out t r : List ℕ) → strip (codes "[") t ≡ None → strip (codes "{") t ≡ None → strip (codes "()") t ≡ None → strip (lead (frame_of from Unnamed) (inside (setting_of from)) First) t ≡ Some r → prefixed out (parse_map (layout (setting_of to)) (read_without_name (setting_of from) (entry_of from) t)) ≡ stepped_text from to (Some (blocks.Entry Unnamed true)) (out ++ front layouts.Unnamed (setting_of to) []) r
-unnamed_converts from to out t r bracket brace unit opening =
+pub unnamed_converts : (from to : Level) (out t r : List ℕ) → strip (codes "[") t ≡ None → strip (codes "{") t ≡ None → read_symbol t ≡ None → strip (lead (frame_of from Unnamed) (inside (setting_of from)) First) t ≡ Some r → prefixed out (parse_map (layout (setting_of to)) (read_without_name (setting_of from) (entry_of from) t)) ≡ stepped_text from to (Some (blocks.Entry Unnamed true)) (out ++ front layouts.Unnamed (setting_of to) []) r
+unnamed_converts from to out t r bracket brace symbol opening =
     let i = setting_of to in
-    ap (λ o. prefixed out (parse_map (layout i) o)) (unnamed_begins (setting_of from) (entry_of from) t r bracket brace unit opening)
+    ap (λ o. prefixed out (parse_map (layout i) o)) (unnamed_begins (setting_of from) (entry_of from) t r bracket brace symbol opening)
     ∙ block_begins (entry_of from) (layout (inside i)) (frame_of from Unnamed) (setting_of from) (frame_of to Unnamed) i (λ ds. tuple_of [] (documents ds)) (front layouts.Unnamed i []) (λ d ds. shape layouts.Unnamed i [] (layout (inside i) d) (texts (inside i) (documents ds)) (map (layout (inside i)) ds) (texts_are (inside i) ds)) out (entry_of from r)
 
 -- the value of a pair, behind its key and a colon

@@ -1,5 +1,5 @@
 -- Where documents, pairs and fields begin, in terms of what their entries are read as.
-use Rattle.std.proofs.Common.{◌≡◌, refl, ap, ◌∙◌, sym, ℕ, zero, suc, ◌-◌, ◌<◌, ◌≤◌, ◌==◌, ◌||◌, Bool, cond, ◌⊎◌, inl, inr, true, false, List, [], ◌∷◌, ◌++◌, length, eqb-true, Option, Some, None, option_map, option_and_then, codes, arith}
+use Rattle.std.proofs.Common.{◌≡◌, refl, ap, ◌∙◌, sym, ℕ, zero, suc, ◌-◌, ◌<◌, ◌≤◌, ◌==◌, ◌||◌, Bool, cond, ◌⊎◌, inl, inr, true, false, List, [], ◌∷◌, ◌++◌, length, length-append, eqb-true, Option, Some, None, option_map, option_and_then, codes, arith}
 use Rattle.std.proofs.lemmas.Bool.Decides.{nat_tests}
 use Rattle.ufmt.specs.Document.{Document, leaf, list_of, set_of, map_of, struct_of, tuple_of, documents, pairs_of, fields_of}
 use Rattle.ufmt_core.specs.declared.formatter.Setting.{Setting}
@@ -7,9 +7,10 @@ use Rattle.ufmt_core.specs.declared.formatter.block.Kind.TheVariants.{Brackets, 
 use Rattle.ufmt_core.specs.declared.formatter.block.Place.TheVariants.{First}
 use Rattle.ufmt.specs.Layout.{Frame, frame, gap, tuple_kind, inside, lead, new_line}
 use Rattle.ufmt.specs.Token.{AreWordBytes, IsWord}
-use Rattle.ufmt.specs.Reading.{Parse, parse_map, strip, word_of, after_word, if_word, read_word, read_value, read_pair, read_list, read_braces, read_map_or_set, read_named, read_tuple, read_without_name, read_with, read}
+use Rattle.ufmt.specs.Reading.{Parse, parse_map, strip, word_of, after_word, if_word, read_symbol, read_word, read_value, read_pair, read_list, read_braces, read_map_or_set, read_named, read_tuple, read_without_name, read_with, read}
 use Rattle.ufmt.proofs.Parsing.{led_from, beside_from, mapped_from, same_parts}
 use Rattle.ufmt.proofs.ReadingTurns.{Takes, read_word_takes, strip_within}
+use Rattle.ufmt.proofs.TokenLeaves.{leaf_begins, read_symbol_sound}
 use Rattle.ufmt.proofs.Words.{word_of_bytes}
 use Rattle.ufmt_doc.specs.Entries.{read_on}
 use Rattle.ufmt_doc.specs.declared.reader.level.Level.{Level}
@@ -75,13 +76,20 @@ list_begins s p t r empty opening = rw (empty, opening) (first_is_read_on p (fra
 pub braces_begin : (s : Setting) (p : Parse Document) (t r : List ℕ) → strip (codes "}") t ≡ None → strip (lead (frame s.mode Braces) (inside s) First) t ≡ Some r → read_braces s p t ≡ option_and_then (λ x. read_map_or_set s p x.0 x.1) (p r)
 braces_begin s p t r empty opening = rw (empty, opening) refl
 
+-- a leaf that is no word
+pub symbol_begins : (s : Setting) (p : Parse Document) (t text r : List ℕ) → strip (codes "[") t ≡ None → strip (codes "{") t ≡ None → read_symbol t ≡ Some (text, r) → (read_without_name s p t ≡ Some (leaf text, r)) × (length r < length t)
+symbol_begins s p t text r bracket brace symbol =
+    let sound = read_symbol_sound t text r symbol in
+    let begins = leaf_begins text sound.0 in
+    (rw (bracket, brace, symbol) refl, omega (arith, ap length sound.1, length-append text r, ap length begins.is))
+
 -- a tuple without a name behind what stands before its first field
-pub unnamed_opens : (s : Setting) (p : Parse Document) (t r : List ℕ) → strip (codes "[") t ≡ None → strip (codes "{") t ≡ None → strip (codes "()") t ≡ None → strip (lead (frame s.mode Unnamed) (inside s) First) t ≡ Some r → read_without_name s p t ≡ read_tuple s p [] r
-unnamed_opens s p t r bracket brace unit opening = rw (bracket, brace, unit, opening) refl
+pub unnamed_opens : (s : Setting) (p : Parse Document) (t r : List ℕ) → strip (codes "[") t ≡ None → strip (codes "{") t ≡ None → read_symbol t ≡ None → strip (lead (frame s.mode Unnamed) (inside s) First) t ≡ Some r → read_without_name s p t ≡ read_tuple s p [] r
+unnamed_opens s p t r bracket brace symbol opening = rw (bracket, brace, symbol, opening) refl
 
 -- from that field
-pub unnamed_begins : (s : Setting) (p : Parse Document) (t r : List ℕ) → strip (codes "[") t ≡ None → strip (codes "{") t ≡ None → strip (codes "()") t ≡ None → strip (lead (frame s.mode Unnamed) (inside s) First) t ≡ Some r → read_without_name s p t ≡ read_on p (frame s.mode Unnamed) s (λ ds. tuple_of [] (documents ds)) [] (p r)
-unnamed_begins s p t r bracket brace unit opening = unnamed_opens s p t r bracket brace unit opening ∙ first_is_read_on p (frame s.mode Unnamed) s (λ ds. tuple_of [] (documents ds)) (p r)
+pub unnamed_begins : (s : Setting) (p : Parse Document) (t r : List ℕ) → strip (codes "[") t ≡ None → strip (codes "{") t ≡ None → read_symbol t ≡ None → strip (lead (frame s.mode Unnamed) (inside s) First) t ≡ Some r → read_without_name s p t ≡ read_on p (frame s.mode Unnamed) s (λ ds. tuple_of [] (documents ds)) [] (p r)
+unnamed_begins s p t r bracket brace symbol opening = unnamed_opens s p t r bracket brace symbol opening ∙ first_is_read_on p (frame s.mode Unnamed) s (λ ds. tuple_of [] (documents ds)) (p r)
 
 -- a map where a colon follows its first key
 pub map_begins : (s : Setting) (p : Parse Document) (d : Document) (t u : List ℕ) → strip (codes ": ") t ≡ Some u → read_map_or_set s p d t ≡ read_on (read_pair p p) (frame s.mode Braces) s (λ ps. map_of (pairs_of ps)) [] (parse_map (λ value. (d, value)) (p u))

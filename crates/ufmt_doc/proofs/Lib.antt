@@ -8,9 +8,13 @@ pub mod EntrySteps
 pub mod Given
 pub mod NormalDocs
 pub mod Normals
+pub mod QuotedCharacter
+pub mod QuotedLeaves
 pub mod Same
+pub mod Spelled
 pub mod Stacks
 pub mod Strips
+pub mod Symbols
 pub mod WholeTexts
 pub mod Within
 pub mod WordBytes

@@ -1,10 +1,11 @@
 -- A document passes the test with the depth 255 exactly if its text can be read again.
 use Rattle.std.proofs.Common.{◌≡◌, length, map, ◌⊎◌, inl, inr, ℕ, zero, suc, ◌≤◌, ◌&&◌, ◌||◌, List, [], ◌∷◌, Bool, true, false, codes, refl, sym, arith}
-use Rattle.std.specs.Prelude.{IsTrue, ◌↔◌, bytes_eq}
-use Rattle.std.proofs.lemmas.Slice.Eq.{bytes_eq-Decides}
+use Rattle.std.specs.Prelude.{IsTrue, ◌↔◌}
 use Rattle.ufmt.specs.Document.{Document, leaf, joined, list_of, set_of, map_of, struct_of, tuple_of, pretty_part, Documents, no_documents, document, documents, Pairs, no_pairs, pair, Fields, no_fields, field, nest, nest_all, nest_pairs, nest_fields}
-use Rattle.ufmt.specs.Token.{AreWordBytes, IsWord, HasWords, HaveWords, PairsHaveWords, FieldsHaveWords, IsToken, is_word_byte}
-use Rattle.ufmt_doc.specs.Within.{are_word_bytes, is_word, is_token_leaf, is_tuple_name, words_within, all_within, pairs_within, fields_within}
+use Rattle.ufmt.specs.Token.{AreWordBytes, IsWord, HasWords, HaveWords, PairsHaveWords, FieldsHaveWords, IsToken, IsTokenLeaf, is_word_byte}
+use Rattle.ufmt.specs.Quoted.{IsQuoted}
+use Rattle.ufmt_doc.specs.Within.{are_word_bytes, is_word, is_symbol, is_token_leaf, is_tuple_name, words_within, all_within, pairs_within, fields_within}
+use Rattle.ufmt_doc.proofs.Symbols.{is_symbol-complete, is_symbol-sound}
 
 -- both tests, and one of two
 both : (a b : Bool) → a && b ≡ true → (a ≡ true) × (b ≡ true)
@@ -35,21 +36,24 @@ IsWord-to : (text : List ℕ) → IsWord text → is_word text ≡ true
 IsWord-to [] h = absurd h
 IsWord-to (c ∷ text) h = and_true (is_word_byte c) (are_word_bytes text) h.0 (AreWordBytes-to text h.1)
 
-shape_from : (text : List ℕ) → (is_word text ≡ true) ⊎ (bytes_eq text (codes "()") ≡ true) → IsWord text ⊎ (text ≡ codes "()")
-shape_from text (inl h) = inl (IsWord-from text h)
-shape_from text (inr h) = inr ((bytes_eq-Decides text (codes "()")).0 h)
+leaf_from : (text : List ℕ) → (is_word text ≡ true) ⊎ (is_symbol text ≡ true) → IsTokenLeaf text
+leaf_from text (inl h) = record { shape = inl (IsWord-from text h) }
+leaf_from text (inr h) = is_symbol-sound text h
 
 or_true : (a b : Bool) → b ≡ true → a || b ≡ true
 or_true true b h = refl
 or_true false b h = h
 
-shape_to : (text : List ℕ) → IsWord text ⊎ (text ≡ codes "()") → is_token_leaf text ≡ true
-shape_to text (inl h) = rw (IsWord-to text h) refl
-shape_to text (inr h) = or_true (is_word text) (bytes_eq text (codes "()")) ((bytes_eq-Decides text (codes "()")).1 h)
+leaf_to : (text : List ℕ) → IsTokenLeaf text → is_token_leaf text ≡ true
+leaf_to text h = go h.shape
+  where
+    go : IsWord text ⊎ ((text ≡ codes "()") ⊎ IsQuoted text) → is_token_leaf text ≡ true
+    go (inl word) = rw (IsWord-to text word) refl
+    go (inr symbol) = or_true (is_word text) (is_symbol text) (is_symbol-complete text symbol)
 
 mutual
   words_within-HasWords : (d : Document) (n : ℕ) → words_within n d ≡ true → HasWords d × (nest d ≤ n)
-  words_within-HasWords (leaf text) n h = (record { shape = shape_from text (one_of (is_word text) (bytes_eq text (codes "()")) h) }, omega arith)
+  words_within-HasWords (leaf text) n h = (leaf_from text (one_of (is_word text) (is_symbol text) h), omega arith)
   words_within-HasWords (joined ds) n h = absurd (cc)
   words_within-HasWords (list_of no_documents) n h = (tt, omega arith)
   words_within-HasWords (list_of (document d ds)) zero h = absurd (cc)
@@ -122,7 +126,7 @@ mutual
 
 mutual
   HasWords-words_within : (d : Document) (n : ℕ) → HasWords d → nest d ≤ n → words_within n d ≡ true
-  HasWords-words_within (leaf text) n h k = shape_to text h.shape
+  HasWords-words_within (leaf text) n h k = leaf_to text h
   HasWords-words_within (joined ds) n h k = absurd h
   HasWords-words_within (list_of no_documents) n h k = refl
   HasWords-words_within (list_of (document d ds)) zero h k = absurd (omega arith)

@@ -7,6 +7,7 @@ pub mod Parts
 pub mod Read
 pub mod ReadError
 pub mod Same
+pub mod Spelled
 pub mod Stack
 pub mod Steps
 pub mod Texts

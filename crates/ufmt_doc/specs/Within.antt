@@ -1,6 +1,7 @@
 -- A device of the proof of `is_token`: whether a document's text can be read again, tested with the depth that is left.
-use Rattle.std.specs.Prelude.{ℕ, zero, suc, ◌&&◌, ◌||◌, List, [], ◌∷◌, Bool, true, false, codes, bytes_eq}
+use Rattle.std.specs.Prelude.{ℕ, zero, suc, ◌&&◌, ◌||◌, List, [], ◌∷◌, Bool, true, false}
 use Rattle.ufmt.specs.Document.{Document, leaf, joined, list_of, set_of, map_of, struct_of, tuple_of, pretty_part, Documents, no_documents, document, Pairs, no_pairs, pair, Fields, no_fields, field}
+use Rattle.ufmt.specs.Reading.{choose, read_symbol}
 use Rattle.ufmt.specs.Token.{is_word_byte}
 
 -- bytes of words alone
@@ -13,9 +14,18 @@ abbrev pub is_word : List ℕ → Bool
 is_word [] = false
 is_word (c ∷ text) = are_word_bytes (c ∷ text)
 
--- a word or `()`
+-- no byte
+abbrev pub is_nothing : List ℕ → Bool
+is_nothing [] = true
+is_nothing (c ∷ text) = false
+
+-- `()`, or a quoted text or character
+abbrev pub is_symbol : List ℕ → Bool
+is_symbol text = choose (read_symbol text) (λ x. is_nothing x.1) false
+
+-- the text of a leaf that can be read again
 abbrev pub is_token_leaf : List ℕ → Bool
-is_token_leaf text = is_word text || bytes_eq text (codes "()")
+is_token_leaf text = is_word text || is_symbol text
 
 -- a word, or of a tuple with fields nothing
 abbrev pub is_tuple_name : List ℕ → Documents → Bool

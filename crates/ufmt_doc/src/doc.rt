@@ -10,6 +10,7 @@ ghost use Rattle.ufmt_doc.specs.Within.{are_word_bytes, is_token_leaf, is_word, 
 mod parts;
 mod same;
 
+use crate::reader::symbol::is_symbol;
 use crate::reader::word::is_word_byte;
 pub use same::same_text;
 use std::alloc::Global;
@@ -208,11 +209,11 @@ fn normalize_fields(alloc: Global, fields: &mut [(String, Doc)])
     }
 }
 
-// A word, or `()`.
+// A word, `()`, or a quoted text or character.
 fn is_token_leaf(text: &str) -> bool
     ensures { result ≡ is_token_leaf text.now }
 {
-    is_word(text) || text == "()"
+    is_word(text) || is_symbol(text)
 }
 
 // One or more bytes of words.

@@ -6,9 +6,12 @@ ghost use Rattle.ufmt_doc.specs.Read.{Gives};
 
 mod begin;
 mod error;
+mod escape;
 pub(crate) mod level;
 mod open_block;
 mod open_blocks;
+mod quoted;
+pub(crate) mod symbol;
 pub(crate) mod word;
 mod word_entries;
 

@@ -10,6 +10,7 @@ use super::text_block::{TextBlock, convert_label};
 use super::write::write_piece;
 use crate::reader::ReadError;
 use crate::reader::level::{Kind, Level, strip};
+use crate::reader::symbol::split_symbol;
 use crate::reader::word::split_word;
 use ufmt::unsigned::text_from;
 
@@ -72,8 +73,8 @@ fn begin_without_name<'a>(
         begin_list(from, to, output, rest)
     } else if let Some(rest) = strip(b"{", input) {
         begin_braces(from, to, output, rest)
-    } else if let Some(rest) = strip(b"()", input) {
-        write_piece("()", output)?;
+    } else if let Some((text, rest)) = split_symbol(input) {
+        write_piece(text, output)?;
         Ok((None, rest))
     } else if let Some(rest) = from.strip_lead(Kind::Unnamed, input) {
         to.write_opening(Kind::Unnamed, output)?;

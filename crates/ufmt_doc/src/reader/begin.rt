@@ -10,6 +10,7 @@ use crate::reader::error::ReadError;
 use crate::reader::level::{Kind, Level, strip};
 use crate::reader::open_block::{OpenBlock, read_label, tuple_kind};
 use crate::reader::open_blocks::OpenBlocks;
+use crate::reader::symbol::split_symbol;
 use crate::reader::word::{split_word, word_text};
 use crate::reader::word_entries::{read_key, read_words};
 use std::alloc::Global;
@@ -99,8 +100,8 @@ fn begin_without_name<'a>(
         begin_list(alloc, level, blocks, rest)
     } else if let Some(rest) = strip(b"{", input) {
         begin_braces(alloc, level, blocks, rest)
-    } else if let Some(rest) = strip(b"()", input) {
-        Ok((Some(Doc::Leaf(String::from_str(alloc, "()")?)), rest))
+    } else if let Some((text, rest)) = split_symbol(input) {
+        Ok((Some(Doc::Leaf(String::from_str(alloc, text)?)), rest))
     } else if let Some(rest) = level.strip_lead(Kind::Unnamed, input) {
         begin_tuple(alloc, level, blocks, String::new(alloc), rest)
     } else {

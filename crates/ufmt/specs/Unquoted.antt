@@ -1,0 +1,42 @@
+-- That a document without quoted leaves is a token document exactly if its leaves are words or `()`.
+use Rattle.std.specs.Prelude.{◌↔◌, ℕ, ◌≤◌, List, ⊤}
+use Rattle.ufmt_core.specs.Document.{Document, leaf, joined, list_of, set_of, map_of, struct_of, tuple_of, pretty_part, Documents, no_documents, document, Pairs, no_pairs, pair, Fields, no_fields, field, nest}
+use Rattle.ufmt_core.specs.Quoted.{IsQuoted}
+use Rattle.ufmt.specs.Token.{HasLeaves, IsUnquotedLeaf, IsToken}
+
+-- a document each of whose leaves is such a text, whatever its names are
+module _ (IsLeaf : List ℕ → Type 0) where
+  abbrev mutual
+    pub EachLeaf : Document → Type 0
+    EachLeaf (leaf text) = IsLeaf text
+    EachLeaf (joined ds) = AllLeaves ds
+    EachLeaf (list_of ds) = AllLeaves ds
+    EachLeaf (set_of ds) = AllLeaves ds
+    EachLeaf (map_of ps) = LeavesOfPairs ps
+    EachLeaf (struct_of name fs) = LeavesOfFields fs
+    EachLeaf (tuple_of name ds) = AllLeaves ds
+    EachLeaf (pretty_part d) = EachLeaf d
+
+    pub AllLeaves : Documents → Type 0
+    AllLeaves no_documents = ⊤
+    AllLeaves (document d ds) = EachLeaf d × AllLeaves ds
+
+    pub LeavesOfPairs : Pairs → Type 0
+    LeavesOfPairs no_pairs = ⊤
+    LeavesOfPairs (pair key value ps) = EachLeaf key × EachLeaf value × LeavesOfPairs ps
+
+    pub LeavesOfFields : Fields → Type 0
+    LeavesOfFields no_fields = ⊤
+    LeavesOfFields (field label value fs) = EachLeaf value × LeavesOfFields fs
+
+-- none of its leaves is quoted
+abbrev pub IsUnquoted : Document → Type 0
+IsUnquoted d = EachLeaf (λ text. ¬ (IsQuoted text)) d
+
+-- with words and `()` for its only leaves: a token document, had it no quoted leaves
+abbrev pub IsUnquotedToken : Document → Type 0
+IsUnquotedToken d = HasLeaves IsUnquotedLeaf d × (nest d ≤ 255)
+
+-- where no leaf is quoted the two are one
+abbrev pub UnquotedAsBefore : Type 0
+UnquotedAsBefore = (d : Document) → IsUnquoted d → IsToken d ↔ IsUnquotedToken d
