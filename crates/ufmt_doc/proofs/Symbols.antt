@@ -1,6 +1,9 @@
 -- Leaves that are no words: which is read at the front, and which texts are such leaves.
-use Rattle.std.proofs.Common.{◌≡◌, ◌⊎◌, inl, inr, refl, sym, ap, subst, ◌∙◌, ℕ, true, false, List, [], ◌∷◌, codes, Option, Some, None, append-nil}
+use Rattle.std.proofs.Common.{List, None, Option, Some, [], ap, append-nil, arith, codes, false, inl, inr, refl, subst, sym, true, ℕ, ◌==◌, ◌∙◌, ◌∷◌, ◌≡◌, ◌≢◌, ◌⊎◌}
+use Rattle.std.specs.List.{slice_get}
+use Rattle.std.specs.Option.{option_or}
 use Rattle.std.specs.Str.{is_utf8}
+use Rattle.std.proofs.lemmas.Bool.Decides.{nat_tests}
 use Rattle.ufmt.specs.Quoted.{IsQuoted}
 use Rattle.ufmt.specs.Reading.{choose, read_symbol, strip}
 use Rattle.ufmt.specs.ReadingQuoted.{is_char, read_between, read_quoted}
@@ -9,15 +12,44 @@ use Rattle.ufmt.proofs.QuotedComplete.{read_quoted-complete}
 use Rattle.ufmt.proofs.TokenLeaves.{read_symbol_sound}
 use Rattle.ufmt_doc.specs.Within.{is_nothing, is_symbol}
 
--- where `()` doesn't stand, a text in quotes is read, or else a character
-module _ (t : List ℕ) (no_unit : strip (codes "()") t ≡ None) where
-  pub text_symbol : (x : List ℕ × List ℕ) → read_between 34 is_utf8 t ≡ Some x → read_symbol t ≡ Some x
-  unfolding read_quoted
-  text_symbol x h = rw (no_unit, h) refl
+-- which leaf stands at the front is told by the first byte
+pub no_symbol_first : (t : List ℕ) → None ≡ slice_get t 0 → read_symbol t ≡ None
+unfolding read_quoted
+no_symbol_first [] h = refl
+no_symbol_first (b ∷ t) h = absurd (cc)
 
-  pub character_symbol : read_between 34 is_utf8 t ≡ None → read_symbol t ≡ read_between 39 is_char t
+module _ (t : List ℕ) (b : ℕ) (first : Some b ≡ slice_get t 0) where
+  -- what begins so
+  begins : (u : List ℕ) → Some b ≡ slice_get u 0 → (v : List ℕ) × (u ≡ b ∷ v)
+  begins [] h = absurd (cc)
+  begins (d ∷ v) h = (v, cc)
+
+  option_or-none : {A : Type 0} (o : Option A) → option_or o None ≡ o
+  option_or-none None = refl
+  option_or-none (Some x) = refl
+
+  at_text : (v : List ℕ) → t ≡ 34 ∷ v → read_symbol t ≡ read_between 34 is_utf8 t
   unfolding read_quoted
-  character_symbol h = rw (no_unit, h) refl
+  at_text v e = rw e (option_or-none (read_between 34 is_utf8 (34 ∷ v)))
+
+  pub text_symbol : b ≡ 34 → read_symbol t ≡ read_between 34 is_utf8 t
+  text_symbol is = let u = begins t first in at_text u.0 (u.1 ∙ ap (λ c. c ∷ u.0) is)
+
+  at_character : (v : List ℕ) → t ≡ 39 ∷ v → read_symbol t ≡ read_between 39 is_char t
+  unfolding read_quoted
+  at_character v e = rw e refl
+
+  pub character_symbol : b ≡ 39 → read_symbol t ≡ read_between 39 is_char t
+  character_symbol is = let u = begins t first in at_character u.0 (u.1 ∙ ap (λ c. c ∷ u.0) is)
+
+  pub no_symbol_here : b ≢ 34 → b ≢ 39 → strip (codes "()") t ≡ None → read_symbol t ≡ None
+  unfolding read_quoted
+  no_symbol_here text character unit =
+      let u = begins t first in
+      let text_differs : (34 == b) ≡ false = grind (arith, nat_tests) in
+      let character_differs : (39 == b) ≡ false = grind (arith, nat_tests) in
+      let is_no_unit : strip (codes "()") (b ∷ u.0) ≡ None = ap (strip (codes "()")) (sym u.1) ∙ unit in
+      ap read_symbol u.1 ∙ rw (is_no_unit, text_differs, character_differs) refl
 
 -- what is such a leaf from end to end can be read again
 pub is_symbol-sound : (text : List ℕ) → is_symbol text ≡ true → IsTokenLeaf text

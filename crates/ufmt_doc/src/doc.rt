@@ -8,6 +8,7 @@ ghost use Rattle.ufmt_doc.specs.DocViews.{pair_view, field_view};
 ghost use Rattle.ufmt_doc.specs.Within.{are_word_bytes, is_token_leaf, is_word, words_within};
 
 mod parts;
+mod quoted;
 mod same;
 
 use crate::reader::symbol::is_symbol;

@@ -9,7 +9,7 @@ ghost use Rattle.ufmt_doc.specs.Level.{budget_of, entry_of, setting_of};
 use super::text_block::{TextBlock, convert_label};
 use super::write::write_piece;
 use crate::reader::ReadError;
-use crate::reader::level::{Kind, Level, strip};
+use crate::reader::level::{Kind, Level, strip_byte};
 use crate::reader::symbol::split_symbol;
 use crate::reader::word::split_word;
 use ufmt::unsigned::text_from;
@@ -69,9 +69,9 @@ fn begin_without_name<'a>(
     ensures { BeginsText from to (length input.now) result (string_bytes output.old)
         (string_bytes output.new) (read_without_name (setting_of from) (entry_of from) input.now) }
 {
-    if let Some(rest) = strip(b"[", input) {
+    if let Some(rest) = strip_byte(b'[', input) {
         begin_list(from, to, output, rest)
-    } else if let Some(rest) = strip(b"{", input) {
+    } else if let Some(rest) = strip_byte(b'{', input) {
         begin_braces(from, to, output, rest)
     } else if let Some((text, rest)) = split_symbol(input) {
         write_piece(text, output)?;
@@ -94,7 +94,7 @@ fn begin_list<'a>(
     ensures { BeginsText from to (suc (length input.now)) result (string_bytes output.old)
         (string_bytes output.new) (read_list (setting_of from) (entry_of from) input.now) }
 {
-    if let Some(rest) = strip(b"]", input) {
+    if let Some(rest) = strip_byte(b']', input) {
         write_piece("[]", output)?;
         Ok((None, rest))
     } else if let Some(rest) = from.strip_lead(Kind::Brackets, input) {
@@ -115,7 +115,7 @@ fn begin_braces<'a>(
     ensures { BeginsText from to (suc (length input.now)) result (string_bytes output.old)
         (string_bytes output.new) (read_braces (setting_of from) (entry_of from) input.now) }
 {
-    if let Some(rest) = strip(b"}", input) {
+    if let Some(rest) = strip_byte(b'}', input) {
         write_piece("{}", output)?;
         Ok((None, rest))
     } else if let Some(rest) = from.strip_lead(Kind::Braces, input) {

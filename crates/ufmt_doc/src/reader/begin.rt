@@ -7,7 +7,7 @@ ghost use Rattle.ufmt_doc.specs.Steps.{Steps};
 
 use crate::doc::Doc;
 use crate::reader::error::ReadError;
-use crate::reader::level::{Kind, Level, strip};
+use crate::reader::level::{Kind, Level, strip_byte};
 use crate::reader::open_block::{OpenBlock, read_label, tuple_kind};
 use crate::reader::open_blocks::OpenBlocks;
 use crate::reader::symbol::split_symbol;
@@ -96,9 +96,9 @@ fn begin_without_name<'a>(
         blocks.old.blocks.items blocks.new.blocks.items
         (read_without_name (setting_of level) (entry_of level) input.now) }
 {
-    if let Some(rest) = strip(b"[", input) {
+    if let Some(rest) = strip_byte(b'[', input) {
         begin_list(alloc, level, blocks, rest)
-    } else if let Some(rest) = strip(b"{", input) {
+    } else if let Some(rest) = strip_byte(b'{', input) {
         begin_braces(alloc, level, blocks, rest)
     } else if let Some((text, rest)) = split_symbol(input) {
         Ok((Some(Doc::Leaf(String::from_str(alloc, text)?)), rest))
@@ -121,7 +121,7 @@ fn begin_list<'a>(
         blocks.old.blocks.items blocks.new.blocks.items
         (read_list (setting_of level) (entry_of level) input.now) }
 {
-    if let Some(rest) = strip(b"]", input) {
+    if let Some(rest) = strip_byte(b']', input) {
         Ok((Some(Doc::Listed(Vec::new(alloc))), rest))
     } else if let Some(rest) = level.strip_lead(Kind::Brackets, input) {
         let mut entries = Vec::with_capacity(alloc, FIRST_ENTRIES)?;
@@ -144,7 +144,7 @@ fn begin_braces<'a>(
         blocks.old.blocks.items blocks.new.blocks.items
         (read_braces (setting_of level) (entry_of level) input.now) }
 {
-    if let Some(rest) = strip(b"}", input) {
+    if let Some(rest) = strip_byte(b'}', input) {
         Ok((Some(Doc::MapOf(Vec::new(alloc))), rest))
     } else if let Some(rest) = level.strip_lead(Kind::Braces, input) {
         match read_key(alloc, level, rest)? {

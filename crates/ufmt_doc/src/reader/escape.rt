@@ -7,7 +7,7 @@ ghost use Rattle.ufmt.specs.Reading.{strip};
 ghost use Rattle.ufmt.specs.ReadingQuoted.{told, told_escape, told_number};
 ghost use Rattle.ufmt_doc.specs.Read.{now_of};
 
-use crate::reader::level::strip;
+use crate::reader::level::{strip, strip_byte};
 use ufmt::quoted::escape;
 
 /// What follows the byte that is written at the front, between these quotes.
@@ -18,7 +18,7 @@ pub(super) fn strip_escaped(quote: u8, input: &[u8]) -> Option<&[u8]>
     let byte = u8::try_from(told(input)).ok()?;
     match escape(byte, quote) {
         Some(spelling) => strip(spelling.as_bytes(), input),
-        None => strip(&[byte], input),
+        None => strip_byte(byte, input),
     }
 }
 

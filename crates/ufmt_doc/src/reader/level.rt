@@ -1,5 +1,5 @@
 //! What stands round the entries of blocks, at each level of a text that is read.
-ghost use Rattle.std.specs.Prelude.{◌≡◌, ℕ, suc, codes, Option, Some, None, option_and_then, MatchOption};
+ghost use Rattle.std.specs.Prelude.{◌≡◌, ◌∷◌, [], ℕ, suc, codes, Option, Some, None, option_and_then, MatchOption};
 ghost use Rattle.ufmt.specs.Layout.{Frame, ending, gap, indentation, inside, lead, line_start, new_line, separator, trail};
 ghost use Rattle.ufmt_core.specs.declared.formatter.block.Place.TheVariants.{First};
 ghost use Rattle.ufmt.specs.Reading.{strip};
@@ -37,10 +37,20 @@ pub(crate) struct Level {
 }
 
 /// What follows `text`, where the input begins with it.
+#[inline(always)]
 pub(crate) fn strip<'a>(text: &[u8], input: &'a [u8]) -> Option<&'a [u8]>
     ensures { now_of result ≡ strip text.now input.now }
 {
     input.strip_prefix(text)
+}
+
+/// What follows this byte, where the input begins with it.
+#[inline(always)]
+pub(crate) fn strip_byte(byte: u8, input: &[u8]) -> Option<&[u8]>
+    ensures { now_of result ≡ strip (byte ∷ []) input.now }
+{
+    let (first, rest) = input.split_first()?;
+    if *first == byte { Some(rest) } else { None }
 }
 
 /// What follows `text`, with which the input is to begin.
@@ -77,7 +87,7 @@ impl Level {
             (Kind::Brackets | Kind::Braces, _) => Some(input),
             (Kind::Struct, Mode::Plain) => strip(b" { ", input),
             (Kind::Struct, Mode::Pretty) => strip(b" {", input),
-            (Kind::Tuple | Kind::Unnamed, _) => strip(b"(", input),
+            (Kind::Tuple | Kind::Unnamed, _) => strip_byte(b'(', input),
         }
     }
 
@@ -88,7 +98,7 @@ impl Level {
     {
         match self.mode {
             Mode::Plain => Some(input),
-            Mode::Pretty => strip_indentation(self.entry_depth(), strip(b"\n", input)?),
+            Mode::Pretty => strip_indentation(self.entry_depth(), strip_byte(b'\n', input)?),
         }
     }
 

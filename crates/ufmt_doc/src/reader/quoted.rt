@@ -7,7 +7,7 @@ ghost use Rattle.ufmt_doc.specs.Read.{now_of};
 ghost use Rattle.ufmt_doc.specs.Spelled.{IsOneCharacter, PassesCharacter, SpelledBefore, behind_quote};
 
 use crate::reader::escape::strip_escaped;
-use crate::reader::level::strip;
+use crate::reader::level::strip_byte;
 use ufmt::quoted::plain_len;
 
 /// A character between apostrophes, with them, and what follows it.
@@ -27,7 +27,7 @@ pub(super) fn split_quoted(quote: u8, input: &[u8]) -> Option<(&str, &[u8])>
     requires { IsQuote quote }
     ensures { option_map (λ x. (x.0.now, x.1.now)) result ≡ read_between quote is_utf8 input.now }
 {
-    let rest = behind_quote(quote, strip(&[quote], input)?)?;
+    let rest = behind_quote(quote, strip_byte(quote, input)?)?;
     let (leaf, _) = input.split_at(input.len() - rest.len());
     // Tested once for all of it: escapes are ASCII.
     match str::from_utf8(leaf) {
@@ -43,7 +43,7 @@ fn behind_quote(quote: u8, input: &[u8]) -> Option<&[u8]>
 {
     let mut rest = behind_stretch(quote, input);
     'escapes: loop {
-        if let Some(behind) = strip(&[quote], rest) {
+        if let Some(behind) = strip_byte(quote, rest) {
             return Some(behind);
         }
         rest = behind_stretch(quote, strip_escaped(quote, rest)?);

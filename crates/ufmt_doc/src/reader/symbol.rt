@@ -10,12 +10,13 @@ use crate::reader::quoted::{split_character, split_quoted};
 pub(crate) fn split_symbol(input: &[u8]) -> Option<(&str, &[u8])>
     ensures { option_map (λ x. (x.0.now, x.1.now)) result ≡ read_symbol input.now }
 {
-    if let Some(rest) = strip(b"()", input) {
-        return Some(("()", rest));
-    }
-    match split_quoted(b'"', input) {
-        Some((text, rest)) => Some((text, rest)),
-        None => split_character(input),
+    let first = *input.first()?;
+    if first == b'"' {
+        split_quoted(b'"', input)
+    } else if first == b'\'' {
+        split_character(input)
+    } else {
+        Some(("()", strip(b"()", input)?))
     }
 }
 

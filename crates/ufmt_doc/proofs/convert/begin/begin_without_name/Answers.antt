@@ -15,7 +15,7 @@ returns-in_ok-write_opening c =
     let from = c.args.from in
     let rest = c.in-Some-strip_lead.rest.now in
     let lead = sym c.in-Some-strip_lead.ensures in (
-      unnamed_converts from c.args.to (string_bytes c.args.output.now) c.args.input.now rest (sym c.in_default.ensures) (sym c.in_default-strip.ensures) (sym c.in_default-split_symbol.ensures) lead
+      unnamed_converts from c.args.to (string_bytes c.args.output.now) c.args.input.now rest (sym c.in_default.ensures) (sym c.in_default-strip_byte.ensures) (sym c.in_default-split_symbol.ensures) lead
           ∙ ap (λ out. stepped_text from c.args.to (Some (Entry Unnamed true)) out rest) (sym c.in_ok-write_opening.ensures),
       strip_shortens 40 (new_line (mode_of from.mode) (inside (setting_of from)).depth) c.args.input.now rest lead,
     )
@@ -25,5 +25,5 @@ returns-in_ok-write_piece c =
     let out = string_bytes c.args.output.now in
     let text = c.in-Some-split_symbol.text.now in
     let rest = c.in-Some-split_symbol.rest.now in
-    let read = symbol_begins (setting_of c.args.from) (entry_of c.args.from) c.args.input.now text rest (sym c.in_default.ensures) (sym c.in_default-strip.ensures) (sym c.in-Some-split_symbol.ensures) in
+    let read = symbol_begins (setting_of c.args.from) (entry_of c.args.from) c.args.input.now text rest (sym c.in_default.ensures) (sym c.in_default-strip_byte.ensures) (sym c.in-Some-split_symbol.ensures) in
     (ap (λ o. prefixed out (parse_map (layout (setting_of c.args.to)) o)) read.0 ∙ ap (λ t. Some (t, rest)) (sym c.in_ok-write_piece.ensures), read.1)

@@ -1,12 +1,16 @@
-use Rattle.std.proofs.Common.{rules, refl, sym}
-use Rattle.ufmt_doc.proofs.Symbols.{character_symbol, text_symbol}
+use Rattle.std.proofs.Common.{sym, ◌∙◌}
+use Rattle.ufmt_doc.proofs.Symbols.{character_symbol, no_symbol_first, no_symbol_here, text_symbol}
 use Rattle.ufmt_doc.proofs.reader.symbol.split_symbol.Goals as goal
 
-pub returns-in-Some : goal.returns-in-Some
-returns-in-Some c = rw (sym c.in-Some.ensures) refl
+pub returns-in_err-first : goal.returns-in_err-first
+returns-in_err-first c = rw c.from_residual.ensures (sym (no_symbol_first c.args.input.now c.in_err-first.ensures.value))
 
-pub returns-in-Some-split_quoted : goal.returns-in-Some-split_quoted
-returns-in-Some-split_quoted c = search (rules, text_symbol)
+pub returns-in_err-strip : goal.returns-in_err-strip
+returns-in_err-strip c =
+    rw c.from_residual-in_err-strip.ensures (sym (no_symbol_here c.args.input.now c.in_ok-first.field-0.now c.in_ok-first.ensures.value c.if-first-eq34.false c.if-first-eq39.false (sym c.in_err-strip.ensures)))
 
-pub returns-in-None : goal.returns-in-None
-returns-in-None c = search (rules, character_symbol)
+pub returns-then-first-eq34 : goal.returns-then-first-eq34
+returns-then-first-eq34 c = c.split_quoted.ensures ∙ sym (text_symbol c.args.input.now c.in_ok-first.field-0.now c.in_ok-first.ensures.value c.if-first-eq34.true)
+
+pub returns-then-first-eq39 : goal.returns-then-first-eq39
+returns-then-first-eq39 c = c.split_character.ensures ∙ sym (character_symbol c.args.input.now c.in_ok-first.field-0.now c.in_ok-first.ensures.value c.if-first-eq39.true)
