@@ -1,6 +1,6 @@
 #![tactic(auto)]
 
-//! Tests of `ufmt` and of the types of `ufmt_user`, by their public calls alone.
+//! Tests of the libraries that print, by public calls alone.
 
 #[cfg(test)]
 mod tests;

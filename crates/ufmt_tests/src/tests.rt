@@ -1,42 +1,32 @@
-//! What no clause says: the texts that core::fmt prints of the same values, where pieces end, what
-//! the macros evaluate, and that each call can succeed.
-use std::alloc::Global;
-use ufmt::laws;
-use ufmt::unsigned::decimal_is_one_text;
-
+//! What no clause says: the texts that the real ufmt and core::fmt print of the same values, where
+//! pieces end, what is left where a writer fails, what the macros evaluate, and that each call can
+//! succeed. `rows` has what asserts a row, `each_piece` and `texts` the two kinds of rows.
+mod allocators;
+mod blocks;
+mod builder_calls;
+mod builders;
+mod by_builders;
+mod collections;
 mod cursors;
-mod display;
+mod each_piece;
+mod entries;
+mod fields;
+mod foreign;
+mod formatters;
+mod forwarded;
 mod hexadecimal;
+mod laws;
+mod leaves;
+mod long_values;
 mod macros;
-mod pieces;
+mod numbers;
+mod printed;
+mod quoted;
+mod repeated;
 mod rows;
-
-#[test]
-fn laws_of_numbers_and_types_can_be_called() {
-    decimal_is_one_text();
-    laws::numbers_are_words();
-    laws::hexadecimal_is_one_text();
-    laws::unsigned_prints_hexadecimal();
-    laws::signed_prints_as_unsigned();
-    laws::padding_reaches_length();
-    laws::both_traits_print_one_text();
-    laws::references_print_what_they_refer_to::<u8, Global>();
-    laws::references_display_what_they_refer_to::<u8, Global>();
-    laws::texts_display_as_they_are::<Global>();
-    laws::documents_of_leaves::<u8>();
-    laws::documents_of_collections::<u8, u16, Global, 3>();
-    laws::documents_of_texts::<Global>();
-    laws::documents_of_tuples::<u8, u16, u32>();
-}
-
-#[test]
-fn laws_of_documents_can_be_called() {
-    laws::normal_forms();
-    laws::shifted_at_depth();
-    laws::plain_reads_one_way();
-    laws::pretty_reads_one_way();
-    laws::texts_tell_normal_forms();
-    laws::texts_are_read_exactly();
-    laws::quoted_one_way();
-    laws::quoted_leaves_are_read_exactly();
-}
+mod stopped_calls;
+mod texts;
+mod tuples;
+mod users;
+mod whole;
+mod writers;

@@ -1,6 +1,7 @@
+//! A cursor and the buffer behind it, and a formatter over one, which goes on where a part has failed.
 use super::rows::Rows;
 use std::process::Abort;
-use ufmt::{Cursor, Formatter, Full, laws, uDebug, uWrite};
+use ufmt::{Cursor, Formatter, Full, laws, uWrite};
 
 impl<R: Abort + AllocGlobal> Rows<'_, R> {
     // What a call on the cursor answered, and what is then written and remains.
@@ -53,58 +54,39 @@ fn a_buffer_keeps_what_it_is_not_given(rt: HostRuntime) {
     }
 }
 
-// What an entry of a list answers, whether the list is then open, and the depth that is left.
-fn write_list<N: uDebug>(
-    f: &mut Formatter<Cursor<'_>>,
-    one: &N,
-) -> Result<(Result<(), Full>, bool, u8), Full> {
+// Begins a list, whose first entry fails, and goes on with a text: `x` where the builder then is closed
+// and the depth that from before it.
+fn entry_then_text(f: &mut Formatter<Cursor<'_>>) -> Result<(), Full> {
     let mut list = f.debug_list()?;
-    let answer = list.entry(one);
-    let is_open = list.is_open();
-    Ok((answer, is_open, f.depth()))
+    let answer = list.entry(&1u64);
+    let is_closed = answer == Err(Full) && !list.is_open();
+    let is_as_before = is_closed && f.depth() == 0;
+    f.write_str(if is_as_before { "x" } else { "" })
 }
 
-impl<R: Abort + AllocGlobal> Rows<'_, R> {
-    // A buffer of one byte takes the bracket of a list and no entry.
-    fn failed_entry<N: uDebug>(&self, one: &N) {
-        let mut buffer = [0; 1];
-        let mut f = Formatter::new(Cursor::new(&mut buffer));
-        let left = write_list(&mut f, one);
-        self.same(left, Ok((Err(Full), false, 0)), "plain");
-        self.same(f.into_inner().written(), b"[".as_slice(), "plain");
-
-        let mut f = Formatter::new(Cursor::new(&mut buffer));
-        let mut left = None;
-        let answer = f.pretty(|f| {
-            left = Some(write_list(f, one)?);
-            Ok(())
-        });
-        self.same(
-            (answer, left),
-            (Ok(()), Some((Err(Full), false, 0))),
-            "pretty",
-        );
-        self.same(f.into_inner().written(), b"[".as_slice(), "pretty");
+fn entry_then_text_in(is_pretty: bool, f: &mut Formatter<Cursor<'_>>) -> Result<(), Full> {
+    if is_pretty {
+        f.pretty(|f| entry_then_text(f))
+    } else {
+        entry_then_text(f)
     }
 }
 
+// A buffer of one byte takes the bracket alone. One of three takes a line feed too, and then no entry
+// of four spaces, but the text.
 #[test]
-fn failures_leave_mode_and_depth_as_before(rt: HostRuntime) {
-    Rows::of("u64", &rt).failed_entry(&1u64);
-    Rows::of("i32", &rt).failed_entry(&1i32);
-
-    let rows = Rows::of("a pretty part", &rt);
-    let mut buffer = [0; 1];
-    let mut f = Formatter::new(Cursor::new(&mut buffer));
-    rows.same(
-        f.pretty(|f| f.write_str("ab")),
-        Err(Full),
-        "two bytes into one",
-    );
-    rows.same((f.is_pretty(), f.depth()), (false, 0), "two bytes into one");
-    rows.same(
-        f.into_inner().written(),
-        b"".as_slice(),
-        "two bytes into one",
-    );
+fn a_text_behind_an_entry_that_failed(rt: HostRuntime) {
+    let rows = Rows::of("an entry that fails", &rt);
+    for (size, is_pretty, answer, written) in [
+        (1, false, Err(Full), "["),
+        (1, true, Err(Full), "["),
+        (3, true, Ok(()), "[\nx"),
+    ] {
+        let mut buffer = [0; 3];
+        let mut f = Formatter::new(Cursor::new(&mut buffer[..size]));
+        let given = entry_then_text_in(is_pretty, &mut f);
+        let left = (given, f.is_pretty(), f.depth());
+        rows.same(left, (answer, false, 0), written);
+        rows.same(f.into_inner().written(), written.as_bytes(), written);
+    }
 }

@@ -1,11 +1,10 @@
 //! Deep and wide values, and lengths that no buffer holds.
+use super::repeated::repeated;
+use super::rows::Rows;
 use super::writers::FailAt;
-use super::{Rows, repeated};
 use std::alloc::{AllocError, Global};
-use std::collections::BTreeMap;
 use std::process::Abort;
-use std::test::Fail;
-use ufmt::{Cursor, Formatter, Full, HexOptions, uDebug, uDisplayHex, uWrite};
+use ufmt::{Formatter, Full, fmt_pretty, uDebug, uWrite};
 use ufmt_doc::doc::Doc;
 
 impl<R: Abort + AllocGlobal> Rows<'_, R> {
@@ -23,64 +22,38 @@ impl<R: Abort + AllocGlobal> Rows<'_, R> {
 
 // More fields than a byte counts.
 #[test]
-fn wide_tuples(rt: HostRuntime) -> Result<(), Fail> {
+fn wide_tuples(rt: HostRuntime) {
     let rows = Rows::of("a tuple of zeros", &rt);
-    for (count, length) in [(256u16, 768), (300, 900)] {
+    for (count, length) in [(256u16, 768), (257, 771), (300, 900)] {
         let mut text = String::new(rt.alloc());
-        rows.write_zeros(&mut Formatter::new(&mut text), count)?;
+        rows.made(rows.write_zeros(&mut Formatter::new(&mut text), count));
         rows.same((count, text.len()), (count, length), "plain");
         let later = usize::from(count).saturating_sub(1);
-        let expected = repeated(rt.alloc(), "(0", ", 0", later, ")")?;
+        let expected = rows.made(repeated(rt.alloc(), "(0", ", 0", later, ")"));
         rows.same(text.as_str(), expected.as_str(), "plain");
     }
     let mut text = String::new(rt.alloc());
-    Formatter::new(&mut text).pretty(|f| rows.write_zeros(f, 300))?;
-    let expected = repeated(rt.alloc(), "(\n", "    0,\n", 300, ")")?;
+    rows.made(Formatter::new(&mut text).pretty(|f| rows.write_zeros(f, 300)));
+    let expected = rows.made(repeated(rt.alloc(), "(\n", "    0,\n", 300, ")"));
     rows.same(text.len(), 2103, "pretty");
     rows.same(text.as_str(), expected.as_str(), "pretty");
-    Ok(())
 }
 
 #[test]
-fn a_wide_list_of_maps(rt: HostRuntime) -> Result<(), Fail> {
+fn a_wide_list_of_maps(rt: HostRuntime) {
     let rows = Rows::of("a list of maps", &rt);
     let mut maps = Vec::new(rt.alloc());
     for _ in 0..300u16 {
-        let mut map = BTreeMap::new(rt.alloc());
-        map.insert(1u8, 2u8)?;
-        maps.push(map)?;
+        rows.made(maps.push(rows.map(&[(1u8, 2u8)])));
     }
     let mut text = String::new(rt.alloc());
     let mut f = Formatter::new(&mut text);
-    f.pretty(|f| maps.fmt(f))?;
+    rows.made(fmt_pretty(&maps, &mut f));
     rows.same((f.is_pretty(), f.depth()), (false, 0), "what is left");
     let map = "    {\n        1: 2,\n    },\n";
-    let expected = repeated(rt.alloc(), "[\n", map, 300, "]")?;
+    let expected = rows.made(repeated(rt.alloc(), "[\n", map, 300, "]"));
     rows.same(text.len(), 8103, "its length");
     rows.same(text.as_str(), expected.as_str(), "its text");
-    Ok(())
-}
-
-#[test]
-fn padding_past_every_buffer(rt: HostRuntime) {
-    let rows = Rows::of("padding", &rt);
-    for (ox_prefix, pad_char, pad_length, written) in [
-        (false, b'0', 9_223_372_036_854_775_808, "00000000"),
-        (true, b'0', usize::MAX, "0x000000"),
-        (true, b' ', usize::MAX, "        "),
-    ] {
-        let options = HexOptions {
-            upper_case: false,
-            pad_char,
-            pad_length,
-            ox_prefix,
-        };
-        rows.holds(options.has_ascii_pad(), written);
-        let mut buffer = [0; 8];
-        let mut f = Formatter::new(Cursor::new(&mut buffer));
-        rows.same(33i32.fmt_hex(&mut f, options), Err(Full), written);
-        rows.same(f.into_inner().written(), written.as_bytes(), written);
-    }
 }
 
 // So many lists, one in another, round `x`.
@@ -96,11 +69,11 @@ fn lists_round_x(alloc: Global, count: u16) -> Result<Doc, AllocError> {
 // before the 23rd list, with 44 bytes of the former and 253 indentations, and 987 before the 43rd,
 // with 84 bytes and 903 indentations.
 #[test]
-fn a_deep_document(rt: HostRuntime) -> Result<(), Fail> {
+fn a_deep_document(rt: HostRuntime) {
     let rows = Rows::of("300 lists", &rt);
-    let doc = lists_round_x(rt.alloc(), 300)?;
+    let doc = rows.made(lists_round_x(rt.alloc(), 300));
     for (number, length) in [(1, 0), (300, 1058), (1000, 3738)] {
-        let mut bytes = vec![in rt.alloc(); 0u8; 400_000]?;
+        let mut bytes = rows.made(vec![in rt.alloc(); 0u8; 400_000]);
         let mut f = Formatter::new(FailAt::new(bytes.as_mut_slice(), number));
         let mut inside = (false, 0);
         let answer = f.pretty(|f| {
@@ -113,5 +86,4 @@ fn a_deep_document(rt: HostRuntime) -> Result<(), Fail> {
         rows.same_at(left, (Err(Full), (true, 0), (false, 0)), at);
         rows.same_at(f.into_inner().written().len(), length, at);
     }
-    Ok(())
 }

@@ -2,7 +2,7 @@
 ghost use Rattle.std.specs.Prelude.{◌-◌};
 ghost use Rattle.std.specs.Iterator.{at_most};
 
-use super::Rows;
+use super::rows::Rows;
 use super::writers::FailAt;
 use std::process::Abort;
 use ufmt::{Cursor, Formatter, Full, uWrite};

@@ -1,6 +1,6 @@
 //! What each writer is handed of a value, where it fails at each place.
-use super::Rows;
 use super::printed::Printed;
+use super::rows::Rows;
 use super::writers::{FailAt, Measured};
 use std::alloc::{AllocError, Global};
 use std::fmt::Debug;
@@ -67,8 +67,8 @@ struct Left<'a> {
     outside: (bool, u8),
 }
 
-// Prints the value in this mode, and gives the answer and the mode and depth before it ends.
-fn print_in<T: Printed, W: uWrite>(
+/// Prints the value in this mode, and gives the answer and the mode and depth before it ends.
+pub fn print_in<T: Printed, W: uWrite>(
     is_pretty: bool,
     value: &T,
     f: &mut Formatter<W>,
@@ -100,32 +100,26 @@ impl Pieces<'_> {
 }
 
 impl<R: Abort + AllocGlobal> Rows<'_, R> {
-    // The value has these pieces.
-    fn has_pieces<T: Printed>(
-        &self,
-        case: &str,
-        value: &T,
-        pieces: &Pieces<'_>,
-    ) -> Result<(), AllocError> {
+    // The value has these pieces, and leaves the formatter as it was.
+    fn has_pieces<T: Printed>(&self, value: &T, pieces: &Pieces<'_>, case: &str) {
         let mut f = Formatter::new(Measured::new(self.alloc()));
-        let (answer, _) = print_in(pieces.is_pretty, value, &mut f);
-        answer?;
+        let (answer, inside) = print_in(pieces.is_pretty, value, &mut f);
+        self.same(
+            (answer.is_ok(), inside),
+            (true, (pieces.is_pretty, 0)),
+            case,
+        );
+        self.same((f.is_pretty(), f.depth()), (false, 0), case);
         let measured = f.into_inner();
         self.same(measured.text(), pieces.text.as_str(), case);
         self.same(measured.ends(), pieces.ends.as_slice(), case);
-        Ok(())
     }
 
     // A writer that refuses the piece of each number, up to one past the last.
-    fn fails_at_each_number<T: Printed>(
-        &self,
-        case: &str,
-        value: &T,
-        pieces: &Pieces<'_>,
-    ) -> Result<(), AllocError> {
+    fn fails_at_each_number<T: Printed>(&self, value: &T, pieces: &Pieces<'_>, case: &str) {
         for (taken, stop) in pieces.stops.iter().enumerate() {
             let number = taken.saturating_add(1);
-            let mut bytes = vec![in self.alloc(); 0u8; pieces.text.len()]?;
+            let mut bytes = self.made(vec![in self.alloc(); 0u8; pieces.text.len()]);
             let mut f = Formatter::new(FailAt::new(bytes.as_mut_slice(), number));
             let (answer, inside) = print_in(pieces.is_pretty, value, &mut f);
             let outside = (f.is_pretty(), f.depth());
@@ -140,18 +134,12 @@ impl<R: Abort + AllocGlobal> Rows<'_, R> {
             let at = (case, pieces.mode, "FailAt", number);
             self.same_at(left, pieces.left_at(*stop), at);
         }
-        Ok(())
     }
 
     // A cursor of each size up to the text's length.
-    fn fails_at_each_size<T: Printed>(
-        &self,
-        case: &str,
-        value: &T,
-        pieces: &Pieces<'_>,
-    ) -> Result<(), AllocError> {
+    fn fails_at_each_size<T: Printed>(&self, value: &T, pieces: &Pieces<'_>, case: &str) {
         for size in 0..=pieces.text.len() {
-            let mut bytes = vec![in self.alloc(); 0u8; size]?;
+            let mut bytes = self.made(vec![in self.alloc(); 0u8; size]);
             let mut f = Formatter::new(Cursor::new(bytes.as_mut_slice()));
             let (answer, inside) = print_in(pieces.is_pretty, value, &mut f);
             let outside = (f.is_pretty(), f.depth());
@@ -166,44 +154,24 @@ impl<R: Abort + AllocGlobal> Rows<'_, R> {
             let at = (case, pieces.mode, "Cursor", size);
             self.same_at(left, pieces.left_at(pieces.stop_within(size)), at);
         }
-        Ok(())
     }
 
-    fn fails_in<T: Printed>(
-        &self,
-        case: &str,
-        value: &T,
-        text: &str,
-        pieces: &Pieces<'_>,
-    ) -> Result<(), AllocError> {
-        self.same(pieces.text.as_str(), text, case);
-        self.has_pieces(case, value, pieces)?;
-        self.fails_at_each_number(case, value, pieces)?;
-        self.fails_at_each_size(case, value, pieces)
+    fn fails_in<T: Printed>(&self, value: &T, mode: (&str, bool), barred: &str) {
+        let pieces = self.made(Pieces::of(self.alloc(), mode, barred));
+        self.has_pieces(value, &pieces, barred);
+        self.fails_at_each_number(value, &pieces, barred);
+        self.fails_at_each_size(value, &pieces, barred);
     }
 
-    /// The value has each text, with a bar behind each piece in the second form of it, and stops at a
-    /// piece's end where a writer fails, at every place.
-    pub fn fails_at_each_piece<T: Printed>(
-        &self,
-        case: &str,
-        value: &T,
-        (plain, plain_pieces): (&str, &str),
-        (pretty, pretty_pieces): (&str, &str),
-    ) -> Result<(), AllocError> {
-        let pieces = Pieces::of(self.alloc(), ("plain", false), plain_pieces)?;
-        self.fails_in(case, value, plain, &pieces)?;
-        let pieces = Pieces::of(self.alloc(), ("pretty", true), pretty_pieces)?;
-        self.fails_in(case, value, pretty, &pieces)
+    /// The value has these pieces in each mode, with a bar behind each, and stops at a piece's end where
+    /// a writer fails, at every place.
+    pub fn pieces<T: Printed>(&self, value: &T, plain: &str, pretty: &str) {
+        self.fails_in(value, ("plain", false), plain);
+        self.fails_in(value, ("pretty", true), pretty);
     }
 
-    /// The same, where both texts and their pieces are one.
-    pub fn fails_in_both_modes<T: Printed>(
-        &self,
-        case: &str,
-        value: &T,
-        both: (&str, &str),
-    ) -> Result<(), AllocError> {
-        self.fails_at_each_piece(case, value, both, both)
+    /// The same, where the pieces in both modes are one.
+    pub fn both<T: Printed>(&self, value: &T, pieces: &str) {
+        self.pieces(value, pieces, pieces);
     }
 }

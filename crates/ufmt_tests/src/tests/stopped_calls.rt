@@ -1,6 +1,6 @@
 //! A builder's calls over a writer that refuses one piece, and what is left behind the call that failed.
-use super::Rows;
 use super::builder_calls::{Block, LastCall, Sink};
+use super::rows::Rows;
 use super::writers::FailAt;
 use std::alloc::{AllocError, Global};
 use std::process::Abort;
@@ -82,7 +82,7 @@ struct Left<'a> {
 
 // What the calls leave. The formatter goes on with a list, which the writer doesn't refuse.
 fn call_and_go_on<'a>(block: Block, f: &mut Sink<'_>) -> Result<Left<'a>, Full> {
-    let mut last = LastCall::closed("none");
+    let mut last = LastCall::opening();
     let answer = block.call_in_turn(f, &mut last);
     let is_pretty = f.is_pretty();
     let depth = f.depth();
@@ -120,8 +120,8 @@ impl<R: Abort + AllocGlobal> Rows<'_, R> {
         place: Place<'_>,
         calls: &Calls<'_>,
         (number, length, last, answer): (usize, usize, LastCall<'_>, Result<(), Full>),
-    ) -> Result<(), AllocError> {
-        let mut bytes = vec![in self.alloc(); 0u8; 1000]?;
+    ) {
+        let mut bytes = self.made(vec![in self.alloc(); 0u8; 1000]);
         let mut f = Formatter::new(FailAt::once(bytes.as_mut_slice(), number));
         let left = call_at(place, block, &mut f);
         let is_as_before = (f.is_pretty(), f.depth()) == (false, 0);
@@ -138,28 +138,26 @@ impl<R: Abort + AllocGlobal> Rows<'_, R> {
         let given = (written.get(..length), written.get(length..));
         let text = calls.text.as_bytes().get(..length);
         self.same_at(given, (text, Some(place.list.as_bytes())), at);
-        Ok(())
     }
 
     /// Of each call its pieces, with a bar behind each: where the writer refuses one, that call fails,
     /// the builder is closed, and the formatter is as before and goes on to work.
-    pub fn stops_at_each_piece(
-        &self,
-        block: Block,
-        place: Place<'_>,
-        calls: &[(&str, &str)],
-    ) -> Result<(), AllocError> {
-        let calls = Calls::of(self.alloc(), place, calls)?;
+    pub fn stops_at_each_piece(&self, block: Block, place: Place<'_>, calls: &[(&str, &str)]) {
+        let calls = self.made(Calls::of(self.alloc(), place, calls));
         let mut number = 0usize;
         for (name, length) in &calls.pieces {
             number = number.saturating_add(1);
             if *name != place.mode {
-                let last = LastCall::closed(name);
-                self.stops_at(block, place, &calls, (number, *length, last, Err(Full)))?;
+                let last = if *name == "opening" {
+                    LastCall::opening()
+                } else {
+                    LastCall::closing(name)
+                };
+                self.stops_at(block, place, &calls, (number, *length, last, Err(Full)));
             }
         }
-        let last = LastCall::closed("finish");
+        let last = LastCall::closing("finish");
         let whole = (0, calls.text.len(), last, Ok(()));
-        self.stops_at(block, place, &calls, whole)
+        self.stops_at(block, place, &calls, whole);
     }
 }

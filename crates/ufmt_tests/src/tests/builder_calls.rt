@@ -5,24 +5,36 @@ use ufmt::{Formatter, Full, uDebug};
 
 pub type Sink<'a> = Formatter<FailAt<'a>>;
 
-/// The call that came last, and whether the builder was open behind it.
+/// The call that came last, and whether the builder was open before it and behind it.
 #[derive(Clone, Copy, PartialEq, Debug)]
 pub struct LastCall<'a> {
     pub name: &'a str,
+    was_open: bool,
     is_open: bool,
 }
 
 impl<'a> LastCall<'a> {
-    /// A call behind which the builder is closed, or there is none.
-    pub fn closed(name: &'a str) -> Self {
+    /// The call that makes the builder, which isn't there before it, nor behind it where it fails.
+    pub fn opening() -> Self {
+        LastCall {
+            name: "opening",
+            was_open: false,
+            is_open: false,
+        }
+    }
+
+    /// A call on an open builder, which is closed behind it.
+    pub fn closing(name: &'a str) -> Self {
         LastCall {
             name,
+            was_open: true,
             is_open: false,
         }
     }
 
     fn note(&mut self, name: &'a str, is_open: bool) {
         self.name = name;
+        self.was_open = self.is_open;
         self.is_open = is_open;
     }
 }
@@ -51,8 +63,8 @@ impl Block {
 }
 
 fn list(f: &mut Sink<'_>, last: &mut LastCall<'_>) -> Result<(), Full> {
-    last.note("debug_list", false);
     let mut list = f.debug_list()?;
+    last.note("opening", list.is_open());
     let answer = list.entry(&1u8);
     last.note("entry", list.is_open());
     answer?;
@@ -74,15 +86,24 @@ fn list(f: &mut Sink<'_>, last: &mut LastCall<'_>) -> Result<(), Full> {
     answer
 }
 
-// The halves of an entry are those of a list.
 fn set(f: &mut Sink<'_>, last: &mut LastCall<'_>) -> Result<(), Full> {
-    last.note("debug_set", false);
     let mut set = f.debug_set()?;
+    last.note("opening", set.is_open());
     let answer = set.entry(&1u8);
     last.note("entry", set.is_open());
     answer?;
     let answer = set.entries(&[2u8, 3]);
     last.note("entries", set.is_open());
+    answer?;
+    let answer = match set.begin_entry() {
+        Ok(f) => 4u8.fmt(f),
+        Err(error) => {
+            last.note("begin_entry", set.is_open());
+            return Err(error);
+        }
+    };
+    let answer = set.end_entry(answer);
+    last.note("end_entry", set.is_open());
     answer?;
     let answer = set.finish();
     last.note("finish", set.is_open());
@@ -90,8 +111,8 @@ fn set(f: &mut Sink<'_>, last: &mut LastCall<'_>) -> Result<(), Full> {
 }
 
 fn map(f: &mut Sink<'_>, last: &mut LastCall<'_>) -> Result<(), Full> {
-    last.note("debug_map", false);
     let mut map = f.debug_map()?;
+    last.note("opening", map.is_open());
     let answer = map.entry(&1u8, &2u8);
     last.note("entry", map.is_open());
     answer?;
@@ -121,8 +142,8 @@ fn map(f: &mut Sink<'_>, last: &mut LastCall<'_>) -> Result<(), Full> {
 }
 
 fn fields(f: &mut Sink<'_>, last: &mut LastCall<'_>) -> Result<(), Full> {
-    last.note("debug_struct", false);
     let mut block = f.debug_struct("S")?;
+    last.note("opening", block.is_open());
     let answer = match block.begin_field("a") {
         Ok(f) => 1u8.fmt(f),
         Err(error) => {
@@ -142,8 +163,8 @@ fn fields(f: &mut Sink<'_>, last: &mut LastCall<'_>) -> Result<(), Full> {
 }
 
 fn tuple(f: &mut Sink<'_>, last: &mut LastCall<'_>) -> Result<(), Full> {
-    last.note("debug_tuple", false);
     let mut tuple = f.debug_tuple("T")?;
+    last.note("opening", tuple.is_open());
     let answer = match tuple.begin_field() {
         Ok(f) => 1u8.fmt(f),
         Err(error) => {

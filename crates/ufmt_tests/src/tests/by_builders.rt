@@ -1,0 +1,81 @@
+//! Structs and tuples that are written by builders, with each way to write a field.
+use super::printed::Printed;
+use super::rows::Rows;
+use std::collections::BTreeMap;
+use ufmt::{Formatter, uDebug, uWrite};
+
+// Tuples of this name: without fields, with 1, and with 1 and 2, the second by a begin and an end call.
+struct NoField<'a>(&'a str);
+
+struct OneField<'a>(&'a str);
+
+struct TwoFields<'a>(&'a str);
+
+impl Printed for NoField<'_> {
+    fn print<W: uWrite>(&self, f: &mut Formatter<W>) -> Result<(), W::Error> {
+        let mut tuple = f.debug_tuple(self.0)?;
+        tuple.finish()
+    }
+}
+
+impl Printed for OneField<'_> {
+    fn print<W: uWrite>(&self, f: &mut Formatter<W>) -> Result<(), W::Error> {
+        let mut tuple = f.debug_tuple(self.0)?;
+        tuple.field(&1u64)?;
+        tuple.finish()
+    }
+}
+
+impl Printed for TwoFields<'_> {
+    fn print<W: uWrite>(&self, f: &mut Formatter<W>) -> Result<(), W::Error> {
+        let mut tuple = f.debug_tuple(self.0)?;
+        tuple.field(&1u64)?;
+        let answer = 2i32.fmt(tuple.begin_field()?);
+        tuple.end_field(answer)?;
+        tuple.finish()
+    }
+}
+
+#[derive(Drop)]
+struct Settings {
+    map: BTreeMap<u64, u64>,
+}
+
+impl Printed for Settings {
+    fn print<W: uWrite>(&self, f: &mut Formatter<W>) -> Result<(), W::Error> {
+        let mut settings = f.debug_struct("S")?;
+        settings.field("m", &self.map)?;
+        let answer = 3i32.fmt(settings.begin_field("n")?);
+        settings.end_field(answer)?;
+        settings.finish()
+    }
+}
+
+struct Unit;
+
+impl Printed for Unit {
+    fn print<W: uWrite>(&self, f: &mut Formatter<W>) -> Result<(), W::Error> {
+        let mut unit = f.debug_struct("A")?;
+        unit.finish()
+    }
+}
+
+#[test]
+fn structs_and_tuples(rt: HostRuntime) {
+    let rows = Rows::of("by builders", &rt);
+    let map = rows.map(&[(1u64, 2u64)]);
+    rows.pieces(
+        &Settings { map },
+        "S| {| |m|: |{|1|: |2|}|, |n|: |3| |}|",
+        "S| {|\n|    |m|: |{|\n|    |    |1|: |2|,\n|    |}|,\n|    |n|: |3|,\n|}|",
+    );
+    rows.both(&Unit, "A|");
+    rows.both(&NoField(""), "|");
+    rows.both(&NoField("T"), "T|");
+    rows.pieces(&OneField(""), "|(|1|,|)|", "|(|\n|    |1|,\n|)|");
+    rows.pieces(&OneField("T"), "T|(|1|)|", "T|(|\n|    |1|,\n|)|");
+    let pretty = "|(|\n|    |1|,\n|    |2|,\n|)|";
+    rows.pieces(&TwoFields(""), "|(|1|, |2|)|", pretty);
+    let pretty = "T|(|\n|    |1|,\n|    |2|,\n|)|";
+    rows.pieces(&TwoFields("T"), "T|(|1|, |2|)|", pretty);
+}

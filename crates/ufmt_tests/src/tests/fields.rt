@@ -1,0 +1,246 @@
+//! `fields!` with each number of fields that no type of `ufmt_user` has: those print none, one without
+//! a name and two. More than 12 make a chain. No two fields of a block have one name or one
+//! value, so that one in another's place shows. Its answers stand in an array, since the check takes twice
+//! as long for a `?`.
+use super::rows::Rows;
+use ufmt::{Formatter, fields, uWrite};
+
+fn one_to_five_named<W: uWrite>(f: &mut Formatter<W>) -> [Result<(), W::Error>; 4] {
+    [
+        fields!(f, S1 { a: 1u8 }),
+        fields!(
+            f,
+            S3 {
+                a: 1u8,
+                b: 2u8,
+                c: 3u8
+            }
+        ),
+        fields!(
+            f,
+            S4 {
+                a: 1u8,
+                b: 2u8,
+                c: 3u8,
+                d: 4u8
+            }
+        ),
+        fields!(
+            f,
+            S5 {
+                a: 1u8,
+                b: 2u8,
+                c: 3u8,
+                d: 4u8,
+                e: 5u8
+            }
+        ),
+    ]
+}
+
+fn six_to_eight_named<W: uWrite>(f: &mut Formatter<W>) -> [Result<(), W::Error>; 3] {
+    [
+        fields!(
+            f,
+            S6 {
+                a: 1u8,
+                b: 2u8,
+                c: 3u8,
+                d: 4u8,
+                e: 5u8,
+                f: 6u8
+            }
+        ),
+        fields!(
+            f,
+            S7 {
+                a: 1u8,
+                b: 2u8,
+                c: 3u8,
+                d: 4u8,
+                e: 5u8,
+                f: 6u8,
+                g: 7u8
+            }
+        ),
+        fields!(
+            f,
+            S8 {
+                a: 1u8,
+                b: 2u8,
+                c: 3u8,
+                d: 4u8,
+                e: 5u8,
+                f: 6u8,
+                g: 7u8,
+                h: 8u8
+            }
+        ),
+    ]
+}
+
+fn nine_and_ten_named<W: uWrite>(f: &mut Formatter<W>) -> [Result<(), W::Error>; 2] {
+    [
+        fields!(
+            f,
+            S9 {
+                a: 1u8,
+                b: 2u8,
+                c: 3u8,
+                d: 4u8,
+                e: 5u8,
+                f: 6u8,
+                g: 7u8,
+                h: 8u8,
+                i: 9u8
+            }
+        ),
+        fields!(
+            f,
+            S10 {
+                a: 1u8,
+                b: 2u8,
+                c: 3u8,
+                d: 4u8,
+                e: 5u8,
+                f: 6u8,
+                g: 7u8,
+                h: 8u8,
+                i: 9u8,
+                j: 10u8
+            }
+        ),
+    ]
+}
+
+fn eleven_and_twelve_named<W: uWrite>(f: &mut Formatter<W>) -> [Result<(), W::Error>; 2] {
+    [
+        fields!(
+            f,
+            S11 {
+                a: 1u8,
+                b: 2u8,
+                c: 3u8,
+                d: 4u8,
+                e: 5u8,
+                f: 6u8,
+                g: 7u8,
+                h: 8u8,
+                i: 9u8,
+                j: 10u8,
+                k: 11u8
+            }
+        ),
+        fields!(
+            f,
+            S12 {
+                a: 1u8,
+                b: 2u8,
+                c: 3u8,
+                d: 4u8,
+                e: 5u8,
+                f: 6u8,
+                g: 7u8,
+                h: 8u8,
+                i: 9u8,
+                j: 10u8,
+                k: 11u8,
+                l: 12u8
+            }
+        ),
+    ]
+}
+
+fn many_named<W: uWrite>(f: &mut Formatter<W>) -> [Result<(), W::Error>; 1] {
+    [fields!(
+        f,
+        Long {
+            a: 1u8,
+            b: 2u8,
+            c: 3u8,
+            d: 4u8,
+            e: 5u8,
+            f: 6u8,
+            g: 7u8,
+            h: 8u8,
+            i: 9u8,
+            j: 10u8,
+            k: 11u8,
+            l: 12u8,
+            m: 13u8
+        }
+    )]
+}
+
+fn unnamed<W: uWrite>(f: &mut Formatter<W>) -> [Result<(), W::Error>; 11] {
+    [
+        fields!(f, T3(1u8, 2u8, 3u8)),
+        fields!(f, T4(1u8, 2u8, 3u8, 4u8)),
+        fields!(f, T5(1u8, 2u8, 3u8, 4u8, 5u8)),
+        fields!(f, T6(1u8, 2u8, 3u8, 4u8, 5u8, 6u8)),
+        fields!(f, T7(1u8, 2u8, 3u8, 4u8, 5u8, 6u8, 7u8)),
+        fields!(f, T8(1u8, 2u8, 3u8, 4u8, 5u8, 6u8, 7u8, 8u8)),
+        fields!(f, T9(1u8, 2u8, 3u8, 4u8, 5u8, 6u8, 7u8, 8u8, 9u8)),
+        fields!(f, T10(1u8, 2u8, 3u8, 4u8, 5u8, 6u8, 7u8, 8u8, 9u8, 10u8)),
+        fields!(
+            f,
+            T11(1u8, 2u8, 3u8, 4u8, 5u8, 6u8, 7u8, 8u8, 9u8, 10u8, 11u8)
+        ),
+        fields!(
+            f,
+            T12(
+                1u8, 2u8, 3u8, 4u8, 5u8, 6u8, 7u8, 8u8, 9u8, 10u8, 11u8, 12u8
+            )
+        ),
+        fields!(
+            f,
+            Long(
+                1u8, 2u8, 3u8, 4u8, 5u8, 6u8, 7u8, 8u8, 9u8, 10u8, 11u8, 12u8, 13u8
+            )
+        ),
+    ]
+}
+
+#[test]
+fn named_fields(rt: HostRuntime) {
+    let rows = Rows::of("named", &rt);
+    let mut text = String::new(rt.alloc());
+    let mut f = Formatter::new(&mut text);
+    rows.all_ok(&one_to_five_named(&mut f));
+    rows.all_ok(&six_to_eight_named(&mut f));
+    rows.all_ok(&nine_and_ten_named(&mut f));
+    rows.all_ok(&eleven_and_twelve_named(&mut f));
+    rows.all_ok(&many_named(&mut f));
+    let named = "S1 { a: 1 }\
+        S3 { a: 1, b: 2, c: 3 }\
+        S4 { a: 1, b: 2, c: 3, d: 4 }\
+        S5 { a: 1, b: 2, c: 3, d: 4, e: 5 }\
+        S6 { a: 1, b: 2, c: 3, d: 4, e: 5, f: 6 }\
+        S7 { a: 1, b: 2, c: 3, d: 4, e: 5, f: 6, g: 7 }\
+        S8 { a: 1, b: 2, c: 3, d: 4, e: 5, f: 6, g: 7, h: 8 }\
+        S9 { a: 1, b: 2, c: 3, d: 4, e: 5, f: 6, g: 7, h: 8, i: 9 }\
+        S10 { a: 1, b: 2, c: 3, d: 4, e: 5, f: 6, g: 7, h: 8, i: 9, j: 10 }\
+        S11 { a: 1, b: 2, c: 3, d: 4, e: 5, f: 6, g: 7, h: 8, i: 9, j: 10, k: 11 }\
+        S12 { a: 1, b: 2, c: 3, d: 4, e: 5, f: 6, g: 7, h: 8, i: 9, j: 10, k: 11, l: 12 }\
+        Long { a: 1, b: 2, c: 3, d: 4, e: 5, f: 6, g: 7, h: 8, i: 9, j: 10, k: 11, l: 12, m: 13 }";
+    rows.same(text.as_str(), named, "each number");
+}
+
+#[test]
+fn unnamed_fields(rt: HostRuntime) {
+    let rows = Rows::of("unnamed", &rt);
+    let mut text = String::new(rt.alloc());
+    rows.all_ok(&unnamed(&mut Formatter::new(&mut text)));
+    let expected = "T3(1, 2, 3)\
+        T4(1, 2, 3, 4)\
+        T5(1, 2, 3, 4, 5)\
+        T6(1, 2, 3, 4, 5, 6)\
+        T7(1, 2, 3, 4, 5, 6, 7)\
+        T8(1, 2, 3, 4, 5, 6, 7, 8)\
+        T9(1, 2, 3, 4, 5, 6, 7, 8, 9)\
+        T10(1, 2, 3, 4, 5, 6, 7, 8, 9, 10)\
+        T11(1, 2, 3, 4, 5, 6, 7, 8, 9, 10, 11)\
+        T12(1, 2, 3, 4, 5, 6, 7, 8, 9, 10, 11, 12)\
+        Long(1, 2, 3, 4, 5, 6, 7, 8, 9, 10, 11, 12, 13)";
+    rows.same(text.as_str(), expected, "each number");
+}

@@ -1,0 +1,46 @@
+//! The macros stand where `Result`, `Ok` and `Err` name other things.
+use super::forwarded;
+use super::rows::Rows;
+use ufmt::{Cursor, Formatter, uwriteln};
+
+mod names {
+    use ufmt::{Cursor, Formatter, Full, uwrite, uwriteln};
+    use ufmt_user::Pair;
+
+    #[derive(Drop)]
+    pub struct Result;
+
+    #[derive(Drop)]
+    pub enum Answer {
+        Ok,
+        Err,
+    }
+
+    use Answer::{Err, Ok};
+
+    pub fn write(f: &mut Formatter<Cursor<'_>>) -> [std::result::Result<(), Full>; 4] {
+        let _names = (Ok, Err, Result);
+        let of_u64 = Pair { x: 1u64, y: 2u64 };
+        let of_i32 = Pair { x: 1i32, y: 2i32 };
+        [
+            uwrite!(f, debug of_u64),
+            uwriteln!(f, debug of_i32),
+            uwrite!(f, text "Hello, world!"),
+            uwriteln!(f, text "The answer is ", display 42i32),
+        ]
+    }
+}
+
+#[test]
+fn macros_where_names_are_foreign(rt: HostRuntime) {
+    let rows = Rows::of("foreign names", &rt);
+    let mut buffer = [0; 96];
+    let mut f = Formatter::new(Cursor::new(&mut buffer));
+    rows.same(names::write(&mut f), [Ok(()); 4], "the answers");
+    let lines = "Pair { x: 1, y: 2 }Pair { x: 1, y: 2 }\nHello, world!The answer is 42\n";
+    rows.same(f.into_inner().written(), lines.as_bytes(), "the lines");
+
+    let mut text = String::new(rt.alloc());
+    rows.made(uwriteln!(&mut Formatter::new(&mut text), debug forwarded::Y));
+    rows.same(text.as_str(), "X\n", "a value that prints by a piece");
+}
