@@ -1,12 +1,12 @@
 //! Blocks one in another: to how many levels they are read.
-use super::malformed::{refused, taken};
 use super::mode::Mode;
 use super::same;
-use std::alloc::Global;
+use super::verdict::{Verdict, told};
+use std::alloc::{AllocError, Global};
 use std::test::Fail;
 
 // `depth` lists with one entry, one in another, round what has the text `inner`, plain.
-fn plain_lists(alloc: Global, depth: usize, inner: &[u8]) -> Result<Vec<u8>, Fail> {
+fn plain_lists(alloc: Global, depth: usize, inner: &[u8]) -> Result<Vec<u8>, AllocError> {
     let mut text = Vec::new(alloc);
     for _ in 0..depth {
         text.push(b'[')?;
@@ -18,7 +18,7 @@ fn plain_lists(alloc: Global, depth: usize, inner: &[u8]) -> Result<Vec<u8>, Fai
     Ok(text)
 }
 
-fn indent(text: &mut Vec<u8>, depth: usize) -> Result<(), Fail> {
+fn indent(text: &mut Vec<u8>, depth: usize) -> Result<(), AllocError> {
     for _ in 0..depth {
         text.extend_from_slice(b"    ")?;
     }
@@ -26,7 +26,7 @@ fn indent(text: &mut Vec<u8>, depth: usize) -> Result<(), Fail> {
 }
 
 // The same, pretty.
-fn pretty_lists(alloc: Global, depth: usize, inner: &[u8]) -> Result<Vec<u8>, Fail> {
+fn pretty_lists(alloc: Global, depth: usize, inner: &[u8]) -> Result<Vec<u8>, AllocError> {
     let mut text = Vec::new(alloc);
     for k in 0..depth {
         text.extend_from_slice(b"[\n")?;
@@ -41,23 +41,45 @@ fn pretty_lists(alloc: Global, depth: usize, inner: &[u8]) -> Result<Vec<u8>, Fa
     Ok(text)
 }
 
+// What is told of such lists in a mode.
+fn told_of_lists(
+    alloc: Global,
+    mode: Mode,
+    depth: usize,
+    inner: &str,
+) -> Result<Verdict, AllocError> {
+    let text = match mode {
+        Mode::Plain => plain_lists(alloc, depth, inner.as_bytes())?,
+        Mode::Pretty => pretty_lists(alloc, depth, inner.as_bytes())?,
+    };
+    Ok(told(alloc, mode, &text))
+}
+
 #[test]
 fn blocks_with_entries_lie_at_most_255_deep(rt: HostRuntime) -> Result<(), Fail> {
-    for inner in ["x", "[]"] {
-        let plain = plain_lists(rt.alloc(), 255, inner.as_bytes())?;
-        same(&rt, taken(&rt, Mode::Plain, &plain), Ok(()), inner);
-        let pretty = pretty_lists(rt.alloc(), 255, inner.as_bytes())?;
-        same(&rt, taken(&rt, Mode::Pretty, &pretty), Ok(()), inner);
-        let too_deep = plain_lists(rt.alloc(), 256, inner.as_bytes())?;
-        refused(&rt, Mode::Plain, &too_deep);
-        let too_deep = pretty_lists(rt.alloc(), 256, inner.as_bytes())?;
-        refused(&rt, Mode::Pretty, &too_deep);
+    let rows = [
+        (Mode::Plain, 255, "x", Verdict::Taken),
+        (Mode::Plain, 255, "[]", Verdict::Taken),
+        (Mode::Plain, 256, "x", Verdict::Refused),
+        (Mode::Plain, 256, "[]", Verdict::Refused),
+        (Mode::Pretty, 255, "x", Verdict::Taken),
+        (Mode::Pretty, 255, "[]", Verdict::Taken),
+        (Mode::Pretty, 256, "x", Verdict::Refused),
+        (Mode::Pretty, 256, "[]", Verdict::Refused),
+    ];
+    for (mode, depth, inner, wanted) in rows {
+        same(
+            &rt,
+            told_of_lists(rt.alloc(), mode, depth, inner)?,
+            wanted,
+            inner,
+        );
     }
     Ok(())
 }
 
 // So many opening lines of lists, each with four more spaces before it than the line above.
-fn opening_lines(alloc: Global, count: usize) -> Result<Vec<u8>, Fail> {
+fn opening_lines(alloc: Global, count: usize) -> Result<Vec<u8>, AllocError> {
     let mut text = Vec::new(alloc);
     for k in 0..count {
         indent(&mut text, k)?;
@@ -68,10 +90,11 @@ fn opening_lines(alloc: Global, count: usize) -> Result<Vec<u8>, Fail> {
 
 #[test]
 fn blocks_that_never_end_are_refused(rt: HostRuntime) -> Result<(), Fail> {
-    let mut brackets = Vec::new(rt.alloc());
-    brackets.resize(1_000_000, b'[')?;
-    refused(&rt, Mode::Plain, &brackets);
+    let brackets = vec![in rt.alloc(); b'['; 1_000_000]?;
+    let verdict = told(rt.alloc(), Mode::Plain, &brackets);
+    same(&rt, verdict, Verdict::Refused, "brackets");
     let lines = opening_lines(rt.alloc(), 1000)?;
-    refused(&rt, Mode::Pretty, &lines);
+    let verdict = told(rt.alloc(), Mode::Pretty, &lines);
+    same(&rt, verdict, Verdict::Refused, "lines");
     Ok(())
 }

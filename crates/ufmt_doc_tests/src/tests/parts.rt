@@ -1,8 +1,10 @@
-use super::same;
-use std::alloc::{AllocError, Global};
+use super::holds;
+use super::mode::Mode;
+use super::verdict::read;
+use std::alloc::Global;
 use std::test::Fail;
 use ufmt_doc::doc::Doc;
-use ufmt_doc::plain_reader::read_plain;
+use ufmt_doc::plain_reader::{ReadError, read_plain};
 
 // How many entries, pairs and fields a document has.
 type Counts = (Option<usize>, Option<usize>, Option<usize>);
@@ -15,26 +17,98 @@ fn counts(doc: &Doc) -> Counts {
     )
 }
 
+// Whether a document is a set, its text as a leaf, its name, and how many parts it has.
+type Row<'a> = (bool, Option<&'a str>, Option<&'a str>, Counts);
+
+fn is_alike(doc: &Doc, row: Row<'_>) -> bool {
+    let (is_set, leaf, name, parts) = row;
+    matches!(doc, Doc::SetOf(_)) == is_set
+        && doc.as_leaf() == leaf
+        && doc.name() == name
+        && counts(doc) == parts
+}
+
+fn is_read(alloc: Global, mode: Mode, text: &str, row: Row<'_>) -> Result<bool, ReadError> {
+    let doc = read(alloc, mode, text.as_bytes())?;
+    Ok(is_alike(&doc, row))
+}
+
 #[test]
 fn each_shape_has_its_parts(rt: HostRuntime) -> Result<(), Fail> {
-    let rows: [(&str, Option<&str>, Option<&str>, Counts); 11] = [
-        ("x", Some("x"), None, (None, None, None)),
-        ("()", Some("()"), None, (None, None, None)),
-        ("[]", None, None, (Some(0), None, None)),
-        ("[a, b]", None, None, (Some(2), None, None)),
-        ("{}", None, None, (None, Some(0), None)),
-        ("{a}", None, None, (Some(1), None, None)),
-        ("{a: b, c: d}", None, None, (None, Some(2), None)),
-        ("S { a: b }", None, Some("S"), (None, None, Some(1))),
-        ("n(x)", None, Some("n"), (Some(1), None, None)),
-        ("(x,)", None, Some(""), (Some(1), None, None)),
-        ("(x, y, z)", None, Some(""), (Some(3), None, None)),
+    let rows: [(Mode, &str, Row<'_>); 14] = [
+        (
+            Mode::Plain,
+            "x",
+            (false, Some("x"), None, (None, None, None)),
+        ),
+        (
+            Mode::Plain,
+            "n",
+            (false, Some("n"), None, (None, None, None)),
+        ),
+        (
+            Mode::Plain,
+            "()",
+            (false, Some("()"), None, (None, None, None)),
+        ),
+        (
+            Mode::Plain,
+            "[]",
+            (false, None, None, (Some(0), None, None)),
+        ),
+        (
+            Mode::Plain,
+            "[a, b]",
+            (false, None, None, (Some(2), None, None)),
+        ),
+        (
+            Mode::Plain,
+            "{}",
+            (false, None, None, (None, Some(0), None)),
+        ),
+        (
+            Mode::Pretty,
+            "{}",
+            (false, None, None, (None, Some(0), None)),
+        ),
+        (
+            Mode::Plain,
+            "{a}",
+            (true, None, None, (Some(1), None, None)),
+        ),
+        (
+            Mode::Plain,
+            "{x}",
+            (true, None, None, (Some(1), None, None)),
+        ),
+        (
+            Mode::Plain,
+            "{a: b, c: d}",
+            (false, None, None, (None, Some(2), None)),
+        ),
+        (
+            Mode::Plain,
+            "S { a: b }",
+            (false, None, Some("S"), (None, None, Some(1))),
+        ),
+        (
+            Mode::Plain,
+            "n(x)",
+            (false, None, Some("n"), (Some(1), None, None)),
+        ),
+        (
+            Mode::Plain,
+            "(x,)",
+            (false, None, Some(""), (Some(1), None, None)),
+        ),
+        (
+            Mode::Plain,
+            "(x, y, z)",
+            (false, None, Some(""), (Some(3), None, None)),
+        ),
     ];
-    for (text, leaf, name, parts) in rows {
-        let doc = read_plain(rt.alloc(), text.as_bytes())?;
-        same(&rt, doc.as_leaf(), leaf, text);
-        same(&rt, doc.name(), name, text);
-        same(&rt, counts(&doc), parts, text);
+    for (mode, text, row) in rows {
+        holds(&rt, is_read(rt.alloc(), mode, text, row)?, text);
     }
     Ok(())
 }
@@ -42,6 +116,11 @@ fn each_shape_has_its_parts(rt: HostRuntime) -> Result<(), Fail> {
 // The text of a field that is a leaf.
 fn leaf_of_field<'a>(doc: &'a Doc, label: &str) -> Option<&'a str> {
     doc.field(label)?.as_leaf()
+}
+
+fn is_found(alloc: Global, text: &str, label: &str, leaf: Option<&str>) -> Result<bool, ReadError> {
+    let doc = read_plain(alloc, text.as_bytes())?;
+    Ok(leaf_of_field(&doc, label) == leaf)
 }
 
 #[test]
@@ -56,51 +135,51 @@ fn fields_are_found_by_their_labels(rt: HostRuntime) -> Result<(), Fail> {
         ("{a: b}", "a", None),
         ("a", "a", None),
     ];
-    for (text, label, value) in rows {
-        let doc = read_plain(rt.alloc(), text.as_bytes())?;
-        same(&rt, leaf_of_field(&doc, label), value, text);
+    for (text, label, leaf) in rows {
+        holds(&rt, is_found(rt.alloc(), text, label, leaf)?, text);
     }
     Ok(())
 }
 
-// A label or a key and the leaf behind it, without what stands between them.
-fn joined(alloc: Global, front: &str, value: &Doc) -> Result<String, AllocError> {
-    let mut text = String::from_str(alloc, front)?;
-    text.push_str(value.as_leaf().unwrap_or("?"))?;
-    Ok(text)
+// The part at this place, where it is a leaf, with the leaf or the label before it.
+fn part(doc: &Doc, place: usize) -> Option<(&str, &str)> {
+    if let Some(entries) = doc.entries() {
+        return Some(("", entries.get(place)?.as_leaf()?));
+    }
+    if let Some(pairs) = doc.pairs() {
+        let (key, value) = pairs.get(place)?;
+        return Some((key.as_leaf()?, value.as_leaf()?));
+    }
+    let (label, value) = doc.fields()?.get(place)?;
+    Some((label.as_str(), value.as_leaf()?))
 }
 
-// The leaves of entries, pairs and fields, in their order.
-fn leaves(alloc: Global, doc: &Doc) -> Result<Vec<String>, AllocError> {
-    let mut leaves = Vec::new(alloc);
-    for entry in doc.entries().unwrap_or(&[]) {
-        leaves.push(joined(alloc, "", entry)?)?;
-    }
-    for (key, value) in doc.pairs().unwrap_or(&[]) {
-        leaves.push(joined(alloc, key.as_leaf().unwrap_or("?"), value)?)?;
-    }
-    for (label, value) in doc.fields().unwrap_or(&[]) {
-        leaves.push(joined(alloc, label, value)?)?;
-    }
-    Ok(leaves)
+// Whether these are the parts, and there is no third.
+fn are_parts(doc: &Doc, first: (&str, &str), second: (&str, &str)) -> bool {
+    part(doc, 0) == Some(first) && part(doc, 1) == Some(second) && part(doc, 2).is_none()
+}
+
+fn has_two_parts(
+    alloc: Global,
+    text: &str,
+    first: (&str, &str),
+    second: (&str, &str),
+) -> Result<bool, ReadError> {
+    let doc = read_plain(alloc, text.as_bytes())?;
+    Ok(are_parts(&doc, first, second))
 }
 
 #[test]
 fn parts_come_in_the_order_of_the_text(rt: HostRuntime) -> Result<(), Fail> {
     let rows = [
-        ("[a, b]", ["a", "b"]),
-        ("{a, b}", ["a", "b"]),
-        ("n(a, b)", ["a", "b"]),
-        ("{a: 1, b: 2}", ["a1", "b2"]),
-        ("S { a: 1, b: 2 }", ["a1", "b2"]),
+        ("[a, b]", ("", "a"), ("", "b")),
+        ("{a, b}", ("", "a"), ("", "b")),
+        ("n(a, b)", ("", "a"), ("", "b")),
+        ("{a: 1, b: 2}", ("a", "1"), ("b", "2")),
+        ("S { a: 1, b: 2 }", ("a", "1"), ("b", "2")),
     ];
-    for (text, parts) in rows {
-        let doc = read_plain(rt.alloc(), text.as_bytes())?;
-        let leaves = leaves(rt.alloc(), &doc)?;
-        same(&rt, leaves.len(), parts.len(), text);
-        for (leaf, part) in leaves.iter().zip(parts) {
-            same(&rt, leaf.as_str(), part, text);
-        }
+    for (text, first, second) in rows {
+        holds(&rt, has_two_parts(rt.alloc(), text, first, second)?, text);
     }
     Ok(())
 }

@@ -1,6 +1,7 @@
-use super::{leaf, one, same, text};
-use std::alloc::Global;
-use std::process::Abort;
+use super::shape::Shape::{self, Leaf, Listed, MapOf, SetOf, StructOf, TupleOf};
+use super::shape::made;
+use super::{holds, same};
+use std::alloc::{AllocError, Global};
 use std::test::Fail;
 use ufmt_doc::doc::{Doc, same_text};
 use ufmt_doc::plain_reader::{ReadError, read_plain};
@@ -14,72 +15,82 @@ fn told(a: &Doc, b: &Doc) -> Option<bool> {
     }
 }
 
+fn told_of_made(alloc: Global, a: &Doc, b: &Shape<'_>) -> Result<Option<bool>, AllocError> {
+    let b = made(alloc, b)?;
+    Ok(told(a, &b))
+}
+
+// Two documents, and whether they have one text.
+const MADE: [(&str, Shape<'static>, Shape<'static>, bool); 6] = [
+    ("a struct and a leaf", StructOf("A", &[]), Leaf("A"), true),
+    (
+        "a tuple and a struct",
+        TupleOf("A", &[]),
+        StructOf("A", &[]),
+        true,
+    ),
+    ("a set and a map", SetOf(&[]), MapOf(&[]), true),
+    ("a map and a set", MapOf(&[]), SetOf(&[]), true),
+    ("a set and a list", SetOf(&[]), Listed(&[]), false),
+    (
+        "a tuple and a list",
+        TupleOf("", &[Leaf("1")]),
+        Listed(&[Leaf("1")]),
+        false,
+    ),
+];
+
 #[test]
 fn documents_with_one_text_are_told_apart_from_others(rt: HostRuntime) -> Result<(), Fail> {
-    let alloc = rt.alloc();
-    let name = leaf(alloc, "A")?;
-    let named_struct = Doc::StructOf(text(alloc, "A")?, Vec::new(alloc));
-    let named_tuple = Doc::TupleOf(text(alloc, "A")?, Vec::new(alloc));
-    same(
-        &rt,
-        told(&named_struct, &name),
-        Some(true),
-        "a struct and a leaf",
-    );
-    same(
-        &rt,
-        told(&named_tuple, &named_struct),
-        Some(true),
-        "a tuple and a struct",
-    );
-    let set = Doc::SetOf(Vec::new(alloc));
-    let map = Doc::MapOf(Vec::new(alloc));
-    same(&rt, told(&set, &map), Some(true), "a set and a map");
-    same(&rt, told(&map, &set), Some(true), "a map and a set");
-    same(
-        &rt,
-        told(&set, &Doc::Listed(Vec::new(alloc))),
-        Some(false),
-        "a set and a list",
-    );
-    let tuple = Doc::TupleOf(text(alloc, "")?, one(alloc, leaf(alloc, "1")?)?);
-    let list = Doc::Listed(one(alloc, leaf(alloc, "1")?)?);
-    same(&rt, told(&tuple, &list), Some(false), "a tuple and a list");
+    for (case, a, b, is_same) in MADE {
+        let a = made(rt.alloc(), &a)?;
+        same(&rt, told_of_made(rt.alloc(), &a, &b)?, Some(is_same), case);
+    }
     Ok(())
 }
 
-fn same_when_read(alloc: Global, a: &str, b: &str) -> Result<bool, ReadError> {
-    let a = read_plain(alloc, a.as_bytes())?;
+const READ: [&str; 19] = [
+    "x",
+    "[]",
+    "{}",
+    "[x]",
+    "[x, y]",
+    "[y, x]",
+    "[[x], y]",
+    "{x}",
+    "{x, y}",
+    "{x: y}",
+    "{x: y, y: x}",
+    "(x,)",
+    "(x, y)",
+    "n(x)",
+    "S { a: x }",
+    "S { b: x }",
+    "S { a: x, b: y }",
+    "T { a: x }",
+    "T { a: {x: ()} }",
+];
+
+fn told_of_read(alloc: Global, a: &Doc, b: &str) -> Result<Option<bool>, ReadError> {
     let b = read_plain(alloc, b.as_bytes())?;
-    Ok(same_text(&a, &b))
+    Ok(told(a, &b))
+}
+
+// Whether the document of this text has the text of none of `READ` but its own.
+fn is_told_apart(alloc: Global, text: &str) -> Result<bool, ReadError> {
+    let doc = read_plain(alloc, text.as_bytes())?;
+    for other in READ {
+        if told_of_read(alloc, &doc, other)? != Some(text == other) {
+            return Ok(false);
+        }
+    }
+    Ok(true)
 }
 
 #[test]
-fn texts_that_are_read_are_the_same_where_they_are_equal(rt: HostRuntime) {
-    let texts = [
-        "x",
-        "[]",
-        "{}",
-        "[x]",
-        "[x, y]",
-        "[y, x]",
-        "[[x], y]",
-        "{x}",
-        "{x, y}",
-        "{x: y}",
-        "{x: y, y: x}",
-        "(x,)",
-        "(x, y)",
-        "n(x)",
-        "S { a: x }",
-        "S { b: x }",
-        "S { a: x, b: y }",
-        "T { a: x }",
-        "T { a: {x: ()} }",
-    ];
-    for a in texts {
-        for b in texts {
-            same(&rt, same_when_read(rt.alloc(), a, b), Ok(a == b), a);
-        }
+fn texts_that_are_read_are_the_same_where_they_are_equal(rt: HostRuntime) -> Result<(), Fail> {
+    for text in READ {
+        holds(&rt, is_told_apart(rt.alloc(), text)?, text);
     }
+    Ok(())
 }

@@ -1,32 +1,192 @@
 //! Texts that are read, and texts that are refused, as the layouts of documents have it.
 
-pub const PLAIN: [&str; 23] = [
-    "x",
-    "-",
-    "_",
-    "()",
-    "[]",
-    "{}",
-    "[a, b]",
-    "[a, [b], c]",
-    "(x,)",
-    "(x, y)",
-    "n(x)",
-    "n(a, {b}, c)",
-    "{x}",
-    "{a, b}",
-    "{a: b, c: d}",
-    "{a: b, (c,): d, e: f}",
-    "{(x,): ()}",
-    "{[x]: y}",
-    "{S { a: b }}",
-    "{S { a: b }: c}",
-    "S { a: b, c: [] }",
-    "{a: S { b: -1 }, c: ()}",
-    "Node { value: 1, next: Some(Node { value: 0, next: None }) }",
-];
+/// Of 30 documents the plain text, a line, and the pretty text below it, with an empty line between
+/// two documents. They are one literal, since an array of pairs takes the check four times as long.
+pub const TEXTS: &str = "\
+x
+x
 
-pub const NOT_PLAIN: [&[u8]; 40] = [
+-
+-
+
+_
+_
+
+()
+()
+
+[]
+[]
+
+{}
+{}
+
+[a, b]
+[
+    a,
+    b,
+]
+
+[a, [b], c]
+[
+    a,
+    [
+        b,
+    ],
+    c,
+]
+
+(x,)
+(
+    x,
+)
+
+(x, y)
+(
+    x,
+    y,
+)
+
+(a, b)
+(
+    a,
+    b,
+)
+
+n(x)
+n(
+    x,
+)
+
+n(x, y)
+n(
+    x,
+    y,
+)
+
+n(a, b)
+n(
+    a,
+    b,
+)
+
+n(a, {b}, c)
+n(
+    a,
+    {
+        b,
+    },
+    c,
+)
+
+{x}
+{
+    x,
+}
+
+{a, b}
+{
+    a,
+    b,
+}
+
+{a, {}}
+{
+    a,
+    {},
+}
+
+{a: b, c: d}
+{
+    a: b,
+    c: d,
+}
+
+{a: b, (c,): d, e: f}
+{
+    a: b,
+    (
+        c,
+    ): d,
+    e: f,
+}
+
+{(x,): ()}
+{
+    (
+        x,
+    ): (),
+}
+
+{[x]: y}
+{
+    [
+        x,
+    ]: y,
+}
+
+{S { a: b }}
+{
+    S {
+        a: b,
+    },
+}
+
+{S { a: b }: c}
+{
+    S {
+        a: b,
+    }: c,
+}
+
+S { x: y }
+S {
+    x: y,
+}
+
+S { a: [b] }
+S {
+    a: [
+        b,
+    ],
+}
+
+S { a: b, c: [] }
+S {
+    a: b,
+    c: [],
+}
+
+S { a: [b], c: {d: ()} }
+S {
+    a: [
+        b,
+    ],
+    c: {
+        d: (),
+    },
+}
+
+{a: S { b: -1 }, c: ()}
+{
+    a: S {
+        b: -1,
+    },
+    c: (),
+}
+
+Node { value: 1, next: Some(Node { value: 0, next: None }) }
+Node {
+    value: 1,
+    next: Some(
+        Node {
+            value: 0,
+            next: None,
+        },
+    ),
+}";
+
+pub const NOT_PLAIN: [&[u8]; 44] = [
     b"",
     b"\n",
     b" x",
@@ -67,27 +227,13 @@ pub const NOT_PLAIN: [&[u8]; 40] = [
     b"\xc3\xa9",
     b"\xff",
     b"[\n    x,\n]",
+    b"n(1,)",
+    b"[1, ]",
+    b"[1",
+    b"[\n    1,\n]",
 ];
 
-pub const PRETTY: [&str; 15] = [
-    "x",
-    "-",
-    "()",
-    "[]",
-    "{}",
-    "[\n    a,\n    b,\n]",
-    "(\n    x,\n)",
-    "n(\n    x,\n    y,\n)",
-    "{\n    a,\n    {},\n}",
-    "{\n    a: b,\n    c: d,\n}",
-    "{\n    S {\n        a: b,\n    }: c,\n}",
-    "{\n    a: S {\n        b: -1,\n    },\n    c: (),\n}",
-    "S {\n    x: y,\n}",
-    "S {\n    a: [\n        b,\n    ],\n}",
-    "Node {\n    value: 1,\n    next: Some(\n        Node {\n            value: 0,\n            next: None,\n        },\n    ),\n}",
-];
-
-pub const NOT_PRETTY: [&[u8]; 24] = [
+pub const NOT_PRETTY: [&[u8]; 30] = [
     b"",
     b"\n",
     b"x\n",
@@ -112,6 +258,12 @@ pub const NOT_PRETTY: [&[u8]; 24] = [
     b"[\n    [\n        x,\n],\n]",
     b"\xff",
     b"[x]",
+    b"[\n   1,\n]",
+    b"[\n\t1,\n]",
+    b"[\n    1\n]",
+    b"[\n    1,\n]\n\n",
+    b"[\n    [\n        1,\n],\n]",
+    b"[1]",
 ];
 
 pub const NODE_PLAIN: &str = "Node { value: 1, next: Some(Node { value: 0, next: None }) }";

@@ -1,0 +1,73 @@
+//! The texts of documents that are made by hand.
+use super::shape::Shape::{self, Leaf, Listed, MapOf, SetOf, StructOf, TupleOf};
+use super::shape::made;
+use super::{has_plain_text, has_pretty_text, holds, same};
+use std::alloc::{AllocError, Global};
+use std::test::Fail;
+use ufmt_doc::convert::{plain_text, pretty_text};
+
+#[test]
+fn plain_text_and_pretty_text_are_not_always_refused(rt: HostRuntime) -> Result<(), Fail> {
+    let alloc = rt.alloc();
+    same(&rt, plain_text(alloc, &7u64)?.as_str(), "7", "plain");
+    same(&rt, pretty_text(alloc, &7u64)?.as_str(), "7", "pretty");
+    Ok(())
+}
+
+// A document with its plain text and its pretty one.
+const PRINTED: [(Shape<'static>, &str, &str); 4] = [
+    (
+        StructOf(
+            "Node",
+            &[
+                ("value", Leaf("1")),
+                (
+                    "next",
+                    TupleOf(
+                        "Some",
+                        &[StructOf("Node", &[("value", Leaf("0")), ("next", Leaf("None"))])],
+                    ),
+                ),
+            ],
+        ),
+        "Node { value: 1, next: Some(Node { value: 0, next: None }) }",
+        "Node {\n    value: 1,\n    next: Some(\n        Node {\n            value: 0,\n            next: None,\n        },\n    ),\n}",
+    ),
+    (
+        MapOf(&[(SetOf(&[SetOf(&[])]), MapOf(&[])), (Leaf("k"), Leaf("v"))]),
+        "{{{}}: {}, k: v}",
+        "{\n    {\n        {},\n    }: {},\n    k: v,\n}",
+    ),
+    (
+        Listed(&[Listed(&[]), Listed(&[Leaf("1")])]),
+        "[[], [1]]",
+        "[\n    [],\n    [\n        1,\n    ],\n]",
+    ),
+    (
+        StructOf(
+            "S",
+            &[("m", MapOf(&[(Leaf("1"), Leaf("2"))])), ("n", Leaf("3"))],
+        ),
+        "S { m: {1: 2}, n: 3 }",
+        "S {\n    m: {\n        1: 2,\n    },\n    n: 3,\n}",
+    ),
+];
+
+fn has_texts(
+    alloc: Global,
+    shape: &Shape<'_>,
+    plain: &str,
+    pretty: &str,
+) -> Result<bool, AllocError> {
+    let doc = made(alloc, shape)?;
+    let has_plain = has_plain_text(alloc, &doc, plain.as_bytes());
+    Ok(has_plain && has_pretty_text(alloc, &doc, pretty.as_bytes()))
+}
+
+#[test]
+fn documents_print_their_parts(rt: HostRuntime) -> Result<(), Fail> {
+    for (shape, plain, pretty) in PRINTED {
+        holds(&rt, has_texts(rt.alloc(), &shape, plain, pretty)?, plain);
+    }
+    Ok(())
+}

@@ -1,0 +1,36 @@
+use super::same;
+use super::shape::Shape::{self, Leaf, StructOf, TupleOf};
+use super::shape::made;
+use std::alloc::{AllocError, Global};
+use std::test::Fail;
+
+fn is_token(alloc: Global, shape: &Shape<'_>) -> Result<bool, AllocError> {
+    Ok(made(alloc, shape)?.is_token())
+}
+
+const ROWS: [(&str, Shape<'static>, bool); 8] = [
+    ("a leaf of no byte", Leaf(""), false),
+    ("a leaf with a space", Leaf("a b"), false),
+    ("a leaf of brackets", Leaf("()"), true),
+    ("a leaf of a sign", Leaf("-"), true),
+    ("a tuple of nothing", TupleOf("", &[]), false),
+    ("a tuple of nothing by name", TupleOf("()", &[]), false),
+    (
+        "a struct of no name",
+        StructOf("", &[("a", Leaf("x"))]),
+        false,
+    ),
+    (
+        "a label of brackets",
+        StructOf("S", &[("()", Leaf("x"))]),
+        false,
+    ),
+];
+
+#[test]
+fn is_token_tells_leaves_and_names_apart(rt: HostRuntime) -> Result<(), Fail> {
+    for (case, shape, wanted) in ROWS {
+        same(&rt, is_token(rt.alloc(), &shape)?, wanted, case);
+    }
+    Ok(())
+}

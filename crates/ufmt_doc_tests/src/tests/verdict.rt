@@ -1,0 +1,65 @@
+//! What a reader and the conversion from its mode say of a text.
+use super::mode::Mode;
+use super::{has_plain_text, has_pretty_text};
+use std::alloc::Global;
+use ufmt_doc::convert::{to_plain, to_pretty};
+use ufmt_doc::doc::Doc;
+use ufmt_doc::plain_reader::{ReadError, read_plain};
+use ufmt_doc::pretty_reader::read_pretty;
+
+#[derive(Clone, Copy, PartialEq, Debug)]
+pub enum Verdict {
+    /// Both say that no document has it.
+    Refused,
+    /// Both take it, and what they make of it leads back to it.
+    Taken,
+    /// What they make of it doesn't lead back to it, or wants memory.
+    TakenForAnother,
+    /// One takes it and the other doesn't, or one wants memory.
+    Torn,
+}
+
+pub fn read(alloc: Global, mode: Mode, text: &[u8]) -> Result<Doc, ReadError> {
+    match mode {
+        Mode::Plain => read_plain(alloc, text),
+        Mode::Pretty => read_pretty(alloc, text),
+    }
+}
+
+fn converted(alloc: Global, mode: Mode, text: &[u8]) -> Result<String, ReadError> {
+    match mode {
+        Mode::Plain => to_pretty(alloc, text),
+        Mode::Pretty => to_plain(alloc, text),
+    }
+}
+
+// Whether the conversion of the text is this one. Want of memory is no.
+pub fn converts_to(alloc: Global, mode: Mode, text: &[u8], other: &[u8]) -> bool {
+    match converted(alloc, mode, text) {
+        Ok(given) => given.as_bytes() == other,
+        Err(_) => false,
+    }
+}
+
+pub fn told(alloc: Global, mode: Mode, text: &[u8]) -> Verdict {
+    let doc = read(alloc, mode, text);
+    match (doc, converted(alloc, mode, text)) {
+        (Ok(doc), Ok(other)) => told_of_taken(alloc, mode, text, &doc, other.as_bytes()),
+        (Err(ReadError::NotText), Err(ReadError::NotText)) => Verdict::Refused,
+        _ => Verdict::Torn,
+    }
+}
+
+// Whether the document has the text in its mode and the converted one in the other, which converts back.
+fn told_of_taken(alloc: Global, mode: Mode, text: &[u8], doc: &Doc, other: &[u8]) -> Verdict {
+    let (plain, pretty, back) = match mode {
+        Mode::Plain => (text, other, Mode::Pretty),
+        Mode::Pretty => (other, text, Mode::Plain),
+    };
+    let has_texts = has_plain_text(alloc, doc, plain) && has_pretty_text(alloc, doc, pretty);
+    if has_texts && converts_to(alloc, back, other, text) {
+        Verdict::Taken
+    } else {
+        Verdict::TakenForAnother
+    }
+}
