@@ -1,6 +1,7 @@
 mod devices;
 
 use super::*;
+use std::alloc::AllocError;
 use std::io::ErrorKind;
 use std::process::Abort;
 use std::test::Fail;
@@ -8,6 +9,7 @@ use std::{fmt, io};
 use ufmt::{Cursor, Formatter, uDebug};
 
 // Asserts are calls of these two: one that is written out takes the check as long as a score of calls.
+// No other function is generic over the handle, which takes it as long again.
 fn same<T: PartialEq + fmt::Debug + Drop>(rt: &impl Abort, given: T, wanted: T, case: &str) {
     assert_eq!(rt; given, wanted, "{case}");
 }
@@ -96,43 +98,30 @@ const WHOLE: usize = 4096;
 
 const NEVER: usize = 0;
 
-// Runs a command and asserts the outcome and what was written.
-fn row(
-    rt: &(impl Abort + AllocGlobal),
-    command: Command,
-    source: Source<'_>,
-    sink: Sink,
-    outcome: Result<(), Fault>,
-    written: &[u8],
-) {
-    let text = source.left;
+// What a run answers, whether the output took just the bytes that it should, and which device failed.
+type Ran = (Result<(), Fault>, bool, (bool, bool));
+
+fn ran(alloc: Global, command: Command, source: Source<'_>, sink: Sink, written: &[u8]) -> Ran {
     let mut input = Watched::new(source);
     let mut output = Watched::new(sink);
-    let result = run(rt.alloc(), command, &mut input, &mut output);
-    same(
-        rt,
-        (command, text, result),
-        (command, text, outcome),
-        "the outcome",
-    );
-    same(rt, output.device().taken.as_slice(), written, "the output");
-    let unread = outcome == Err(Fault::CannotRead);
-    let unwritten = outcome == Err(Fault::CannotWrite);
+    let outcome = run(alloc, command, &mut input, &mut output);
+    let is_written = output.device().taken.as_slice() == written;
     let failures = (input.has_failed(), output.has_failed());
-    same(rt, failures, (unread, unwritten), "which device failed");
+    (outcome, is_written, failures)
 }
 
-// The same over devices that never fail.
-fn command_row(
-    rt: &(impl Abort + AllocGlobal),
-    command: Command,
-    input: &[u8],
-    outcome: Result<(), Fault>,
-    written: &[u8],
-) {
-    let source = Source::new(input, WHOLE, NEVER);
-    let sink = Sink::new(rt.alloc(), WHOLE, NEVER, false);
-    row(rt, command, source, sink, outcome, written);
+// The same over devices that never fail and take `most` bytes a call.
+fn ran_by(alloc: Global, command: Command, input: &[u8], most: usize, written: &[u8]) -> Ran {
+    let source = Source::new(input, most, NEVER);
+    let sink = Sink::new(alloc, most, NEVER, false);
+    ran(alloc, command, source, sink, written)
+}
+
+// What `ran` should answer. A device failed where the outcome says so.
+fn wanted(outcome: Result<(), Fault>) -> Ran {
+    let unread = outcome == Err(Fault::CannotRead);
+    let unwritten = outcome == Err(Fault::CannotWrite);
+    (outcome, true, (unread, unwritten))
 }
 
 #[test]
@@ -143,34 +132,45 @@ fn no_command_is_always_refused(rt: HostRuntime) {
         (Command::Plain, b"[\n    ab,\n]", b"[ab]\n"),
     ];
     for (command, input, written) in rows {
-        command_row(&rt, command, input, Ok(()), written);
+        let given = ran_by(rt.alloc(), command, input, WHOLE, written);
+        same(
+            &rt,
+            (command, given),
+            (command, wanted(Ok(()))),
+            "a command",
+        );
     }
+}
+
+// A run by one byte a call, by two and by all.
+fn rans_by_any(alloc: Global, command: Command, input: &[u8], written: &[u8]) -> [Ran; 3] {
+    [
+        ran_by(alloc, command, input, 1, written),
+        ran_by(alloc, command, input, 2, written),
+        ran_by(alloc, command, input, WHOLE, written),
+    ]
 }
 
 #[test]
 fn lengths_are_answered(rt: HostRuntime) {
-    let rows: [(&[u8], &[u8]); 5] = [
-        (b"", b"[]\n"),
-        (b"\n", b"[0]\n"),
-        (b"ab\n\nxyz", b"[2, 0, 3]\n"),
-        (b"ab\r\n", b"[3]\n"),
-        (b"\xff\xfe\n\x80", b"[2, 1]\n"),
+    let rows: [(&[u8], &str); 5] = [
+        (b"", "[]\n"),
+        (b"\n", "[0]\n"),
+        (b"ab\n\nxyz", "[2, 0, 3]\n"),
+        (b"ab\r\n", "[3]\n"),
+        (b"\xff\xfe\n\x80", "[2, 1]\n"),
     ];
     for (input, written) in rows {
-        for most in [1, 2, WHOLE] {
-            let source = Source::new(input, most, NEVER);
-            let sink = Sink::new(rt.alloc(), most, NEVER, false);
-            row(&rt, Command::Lengths, source, sink, Ok(()), written);
-        }
+        let given = rans_by_any(rt.alloc(), Command::Lengths, input, written.as_bytes());
+        same(&rt, given, [wanted(Ok(())); 3], written);
     }
 }
 
 #[test]
 fn a_long_line_is_answered(rt: HostRuntime) -> Result<(), Fail> {
     let line = vec![in rt.alloc(); b'a'; 200_000]?;
-    let source = Source::new(&line, 70_000, NEVER);
-    let sink = Sink::new(rt.alloc(), WHOLE, NEVER, false);
-    row(&rt, Command::Lengths, source, sink, Ok(()), b"[200000]\n");
+    let given = ran_by(rt.alloc(), Command::Lengths, &line, 70_000, b"[200000]\n");
+    same(&rt, given, wanted(Ok(())), "a line of 200000 bytes");
     Ok(())
 }
 
@@ -189,76 +189,59 @@ Node {
 }
 ";
 
-// Each row is a plain text and the pretty text of the same document, with a line feed.
+// A text with a line feed and without one is the same text. `ufmt_doc_tests` has more texts.
 #[test]
 fn pretty_and_plain_lead_to_each_other(rt: HostRuntime) {
     let rows = [
-        (README_PLAIN, README_PRETTY),
-        ("x\n", "x\n"),
-        ("(x,)\n", "(\n    x,\n)\n"),
-        ("n(x)\n", "n(\n    x,\n)\n"),
-        ("S { x: y }\n", "S {\n    x: y,\n}\n"),
-        (
-            "{S { a: b }: c}\n",
-            "{\n    S {\n        a: b,\n    }: c,\n}\n",
-        ),
-        (
-            "{a: S { b: -1 }, c: ()}\n",
-            "{\n    a: S {\n        b: -1,\n    },\n    c: (),\n}\n",
-        ),
+        (Command::Pretty, README_PLAIN, README_PRETTY),
+        (Command::Plain, README_PRETTY, README_PLAIN),
+        (Command::Pretty, "x\n", "x\n"),
+        (Command::Plain, "x\n", "x\n"),
     ];
-    for (plain, pretty) in rows {
-        for input in [plain, plain.trim_end()] {
-            let answer = pretty.as_bytes();
-            command_row(&rt, Command::Pretty, input.as_bytes(), Ok(()), answer);
-        }
-        for input in [pretty, pretty.trim_end()] {
-            let answer = plain.as_bytes();
-            command_row(&rt, Command::Plain, input.as_bytes(), Ok(()), answer);
-        }
+    for (command, input, written) in rows {
+        let given = ran_by(
+            rt.alloc(),
+            command,
+            input.as_bytes(),
+            WHOLE,
+            written.as_bytes(),
+        );
+        same(&rt, given, wanted(Ok(())), input);
+        let input = input.trim_end();
+        let given = ran_by(
+            rt.alloc(),
+            command,
+            input.as_bytes(),
+            WHOLE,
+            written.as_bytes(),
+        );
+        same(&rt, given, wanted(Ok(())), input);
     }
 }
 
+// A text that is refused by one byte a call and as a whole. `ufmt_doc_tests` has more such texts.
 #[test]
-fn pretty_refuses_what_is_no_plain_text(rt: HostRuntime) {
-    let inputs: [&[u8]; 12] = [
-        b"",
-        b"\n",
-        b"[1,2]",
-        b"S { }",
-        b"n(1,)",
-        b"(1)",
-        b"{a: b, c}",
-        b"[1, ]",
-        b"[1",
-        b"a b",
-        b"[]\n\n",
-        b"[\n    1,\n]",
+fn what_is_no_text_is_refused(rt: HostRuntime) {
+    let rows = [
+        (Command::Pretty, "", Fault::NotPlain),
+        (Command::Pretty, "\n", Fault::NotPlain),
+        (Command::Pretty, "[]\n\n", Fault::NotPlain),
+        (Command::Pretty, "[\n1]", Fault::NotPlain),
+        (Command::Pretty, "[\n    1,\n]", Fault::NotPlain),
+        (Command::Plain, "", Fault::NotPretty),
+        (Command::Plain, "\n", Fault::NotPretty),
+        (Command::Plain, "[\n    1,\n]\n\n", Fault::NotPretty),
+        (Command::Plain, "[\n1]", Fault::NotPretty),
+        (Command::Plain, "[1]", Fault::NotPretty),
     ];
-    for input in inputs {
-        command_row(&rt, Command::Pretty, input, Err(Fault::NotPlain), b"");
-    }
-}
-
-#[test]
-fn plain_refuses_what_is_no_pretty_text(rt: HostRuntime) {
-    let inputs: [&[u8]; 8] = [
-        b"",
-        b"\n",
-        b"[\n   1,\n]",
-        b"[\n\t1,\n]",
-        b"[\n    1\n]",
-        b"[\n    1,\n]\n\n",
-        b"[\n    [\n        1,\n],\n]",
-        b"[1]",
-    ];
-    for input in inputs {
-        command_row(&rt, Command::Plain, input, Err(Fault::NotPretty), b"");
+    for (command, input, fault) in rows {
+        let given = rans_by_any(rt.alloc(), command, input.as_bytes(), b"");
+        same(&rt, given, [wanted(Err(fault)); 3], input);
     }
 }
 
 // The plain text of `count` lists, one in another, round what has the text `inner`, and a line feed.
-fn nested_lists(alloc: Global, count: usize, inner: &str) -> Result<Vec<u8>, Fail> {
+fn nested_lists(alloc: Global, count: usize, inner: &str) -> Result<Vec<u8>, AllocError> {
     let mut text = Vec::new(alloc);
     for _ in 0..count {
         text.push(b'[')?;
@@ -280,10 +263,12 @@ fn lists_are_converted_to_255_deep(rt: HostRuntime) -> Result<(), Fail> {
         let result = run(rt.alloc(), Command::Pretty, &mut input, &mut output);
         let pretty = output.device().taken.as_slice();
         same(&rt, (result, pretty.len()), (Ok(()), size + 1), inner);
-        command_row(&rt, Command::Plain, pretty, Ok(()), &plain);
+        let given = ran_by(rt.alloc(), Command::Plain, pretty, WHOLE, &plain);
+        same(&rt, given, wanted(Ok(())), inner);
     }
     let too_deep = nested_lists(rt.alloc(), 256, "x")?;
-    command_row(&rt, Command::Pretty, &too_deep, Err(Fault::NotPlain), b"");
+    let given = ran_by(rt.alloc(), Command::Pretty, &too_deep, WHOLE, b"");
+    same(&rt, given, wanted(Err(Fault::NotPlain)), "256 lists");
     Ok(())
 }
 

@@ -18,111 +18,139 @@ fn commands() -> [(Command, &'static [u8], &'static [u8]); 3] {
     ]
 }
 
-// Asserts that the input failed, and that nothing was written.
-fn unread(rt: &(impl Abort + AllocGlobal), command: Command, source: Source<'_>) {
-    let fault = Fault::CannotRead;
-    let sink = Sink::new(rt.alloc(), WHOLE, NEVER, false);
-    row(rt, command, source, sink, Err(fault), b"");
-    let told = (fault.status(), fault.line());
-    same(rt, told, (3, "ufmt_conv: cannot read"), "cannot read");
+// Runs a command over devices of which one, or both, move one byte a call.
+fn ran_in_bytes(alloc: Global, command: Command, input: &[u8], output: &[u8]) -> [Ran; 3] {
+    [
+        ran_over(alloc, command, input, 1, 1, output),
+        ran_over(alloc, command, input, 1, WHOLE, output),
+        ran_over(alloc, command, input, WHOLE, 1, output),
+    ]
 }
 
-// Asserts that the output failed, and what it took.
-fn unwritten(
-    rt: &(impl Abort + AllocGlobal),
+fn ran_over(
+    alloc: Global,
     command: Command,
     input: &[u8],
-    sink: Sink,
-    written: &[u8],
-) {
-    let fault = Fault::CannotWrite;
-    let source = Source::new(input, WHOLE, NEVER);
-    row(rt, command, source, sink, Err(fault), written);
-    let told = (fault.status(), fault.line());
-    same(rt, told, (4, "ufmt_conv: cannot write"), "cannot write");
+    read: usize,
+    written: usize,
+    output: &[u8],
+) -> Ran {
+    let source = Source::new(input, read, NEVER);
+    let sink = Sink::new(alloc, written, NEVER, false);
+    ran(alloc, command, source, sink, output)
 }
 
 #[test]
 fn one_byte_a_call_changes_no_answer(rt: HostRuntime) {
     for (command, input, output) in commands() {
-        for (read, written) in [(1, 1), (1, WHOLE), (WHOLE, 1)] {
-            let source = Source::new(input, read, NEVER);
-            let sink = Sink::new(rt.alloc(), written, NEVER, false);
-            row(&rt, command, source, sink, Ok(()), output);
-        }
+        let given = ran_in_bytes(rt.alloc(), command, input, output);
+        same(
+            &rt,
+            (command, given),
+            (command, [wanted(Ok(())); 3]),
+            "a command",
+        );
     }
 }
 
-#[test]
-fn one_byte_a_call_changes_no_refusal(rt: HostRuntime) {
-    let rows = [
-        (Command::Pretty, Fault::NotPlain, "not a plain text"),
-        (Command::Plain, Fault::NotPretty, "not a pretty text"),
-    ];
-    for (command, fault, line) in rows {
-        let source = Source::new(b"[\n1]", 1, NEVER);
-        let sink = Sink::new(rt.alloc(), 1, NEVER, false);
-        row(&rt, command, source, sink, Err(fault), b"");
-        let told = (fault.status(), fault.line().strip_prefix("ufmt_conv: "));
-        same(&rt, told, (1, Some(line)), line);
+// Over a reader that fails at this call. Nothing is written.
+fn is_unread(alloc: Global, command: Command, input: &[u8], most: usize, fails_at: usize) -> bool {
+    let sink = Sink::new(alloc, WHOLE, NEVER, false);
+    let given = ran(
+        alloc,
+        command,
+        Source::new(input, most, fails_at),
+        sink,
+        b"",
+    );
+    given == wanted(Err(Fault::CannotRead))
+}
+
+// Over readers that give so many bytes, one a call, and then fail: at first nothing, at last all.
+fn is_unread_behind_any_byte(alloc: Global, command: Command, input: &[u8]) -> bool {
+    for count in 0..input.len() + 1 {
+        if !is_unread(alloc, command, input, 1, count + 1) {
+            return false;
+        }
     }
+    true
 }
 
 // A whole input takes two calls, since the last of them gives nothing.
 #[test]
 fn readers_that_fail_at_any_call(rt: HostRuntime) {
+    let alloc = rt.alloc();
     for (command, input, _output) in commands() {
-        for fails_at in [1, 2] {
-            unread(&rt, command, Source::new(input, WHOLE, fails_at));
-        }
-        fail_after_each_byte(&rt, command, input);
+        let first = is_unread(alloc, command, input, WHOLE, 1);
+        let second = is_unread(alloc, command, input, WHOLE, 2);
+        same(
+            &rt,
+            (command, first, second),
+            (command, true, true),
+            "whole",
+        );
+        let by_bytes = is_unread_behind_any_byte(alloc, command, input);
+        same(&rt, (command, by_bytes), (command, true), "byte by byte");
     }
 }
 
-// At first nothing was read, and at last everything.
-fn fail_after_each_byte(rt: &(impl Abort + AllocGlobal), command: Command, input: &[u8]) {
-    for count in 0..input.len() + 1 {
-        unread(rt, command, Source::new(input, 1, count + 1));
+// Over a writer that fails, having taken these bytes.
+fn is_unwritten(alloc: Global, command: Command, input: &[u8], sink: Sink, taken: &[u8]) -> bool {
+    let given = ran(
+        alloc,
+        command,
+        Source::new(input, WHOLE, NEVER),
+        sink,
+        taken,
+    );
+    given == wanted(Err(Fault::CannotWrite))
+}
+
+// Over writers that take so many bytes, one a call, and then fail.
+fn is_unwritten_behind_any_byte(
+    alloc: Global,
+    command: Command,
+    input: &[u8],
+    output: &[u8],
+) -> bool {
+    for count in 0..output.len() {
+        let sink = Sink::new(alloc, 1, count + 1, false);
+        if !is_unwritten(alloc, command, input, sink, &output[..count]) {
+            return false;
+        }
     }
+    true
 }
 
 #[test]
 fn writers_that_fail_at_any_call(rt: HostRuntime) {
+    let alloc = rt.alloc();
     for (command, input, output) in commands() {
-        let sink = Sink::new(rt.alloc(), WHOLE, 1, false);
-        unwritten(&rt, command, input, sink, b"");
-        fail_behind_each_byte(&rt, command, input, output);
+        let sink = Sink::new(alloc, WHOLE, 1, false);
+        let first = is_unwritten(alloc, command, input, sink, b"");
+        same(&rt, (command, first), (command, true), "whole");
+        let by_bytes = is_unwritten_behind_any_byte(alloc, command, input, output);
+        same(&rt, (command, by_bytes), (command, true), "byte by byte");
     }
 }
 
-// The writer takes so many bytes, one a call, and then fails.
-fn fail_behind_each_byte(
-    rt: &(impl Abort + AllocGlobal),
-    command: Command,
-    input: &[u8],
-    output: &[u8],
-) {
-    for count in 0..output.len() {
-        let sink = Sink::new(rt.alloc(), 1, count + 1, false);
-        unwritten(rt, command, input, sink, &output[..count]);
-    }
+// Whether a run tells of a writer that takes nothing, and of writers that take everything, a byte a
+// call or all, where the flush behind it fails.
+fn are_unwritten(alloc: Global, command: Command, input: &[u8], output: &[u8]) -> [bool; 3] {
+    let nothing = Sink::new(alloc, 0, NEVER, false);
+    let bytes = Sink::new(alloc, 1, NEVER, true);
+    let whole = Sink::new(alloc, WHOLE, NEVER, true);
+    [
+        is_unwritten(alloc, command, input, nothing, b""),
+        is_unwritten(alloc, command, input, bytes, output),
+        is_unwritten(alloc, command, input, whole, output),
+    ]
 }
 
 #[test]
-fn writers_that_take_nothing(rt: HostRuntime) {
-    for (command, input, _output) in commands() {
-        let sink = Sink::new(rt.alloc(), 0, NEVER, false);
-        unwritten(&rt, command, input, sink, b"");
-    }
-}
-
-// Everything was taken, and the flush behind it fails.
-#[test]
-fn writers_that_fail_at_the_flush(rt: HostRuntime) {
+fn writers_that_take_nothing_or_fail_at_the_flush(rt: HostRuntime) {
     for (command, input, output) in commands() {
-        for most in [1, WHOLE] {
-            let sink = Sink::new(rt.alloc(), most, NEVER, true);
-            unwritten(&rt, command, input, sink, output);
-        }
+        let are_told = are_unwritten(rt.alloc(), command, input, output);
+        same(&rt, (command, are_told), (command, [true; 3]), "writers");
     }
 }
