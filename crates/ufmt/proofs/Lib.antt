@@ -3,6 +3,7 @@ pub mod BlocksSound
 pub mod Cursors
 pub mod FramesClose
 pub mod HexadecimalTexts
+pub mod Lines
 pub mod ListedDocuments
 pub mod NormalForms
 pub mod NormalRows

@@ -1,6 +1,6 @@
--- The text of pieces, as `uwrite!` takes them.
+-- The text of pieces, as `uwrite!` and `pieces!` take them.
 use Rattle.std.specs.Prelude.{ℕ, List, [], ◌∷◌, ◌++◌}
-use Rattle.ufmt_core.specs.declared.formatter.Mode.TheVariants.{Pretty}
+use Rattle.ufmt_core.specs.declared.formatter.Mode.TheVariants.{Plain, Pretty}
 use Rattle.ufmt_core.specs.declared.formatter.Setting.{Setting}
 use Rattle.ufmt_core.specs.Document.{Document}
 use Rattle.ufmt_core.specs.Layout.{layout, setting}
@@ -23,3 +23,17 @@ piece_text s (hex bytes) = bytes
 abbrev pub pieces_text : Setting → List Piece → List ℕ
 pieces_text s [] = []
 pieces_text s (p ∷ ps) = piece_text s p ++ pieces_text s ps
+
+-- what pieces in a row print in plain mode, outside of every block
+abbrev pub line_text : List Piece → List ℕ
+line_text ps = pieces_text (setting Plain 0) ps
+
+-- the pieces of several items, with a text before each
+abbrev pub preceded : List ℕ → List (List Piece) → List Piece
+preceded between [] = []
+preceded between (ps ∷ rest) = text between ∷ (ps ++ preceded between rest)
+
+-- the pieces of several items, with a text between them
+abbrev pub separated : List ℕ → List (List Piece) → List Piece
+separated between [] = []
+separated between (ps ∷ rest) = ps ++ preceded between rest

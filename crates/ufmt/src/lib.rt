@@ -7,11 +7,13 @@ mod display;
 mod fields;
 mod hex;
 pub mod laws;
+pub mod line;
 mod pieces;
 
 pub use cursor::{Cursor, Full, debug_into, display_into, pretty_into};
 pub use display::uDisplay;
 pub use hex::{HexOptions, uDisplayHex};
+pub use line::{Line, line_into, write_line};
 pub use pieces::{fmt_pretty, write_debug, write_display, write_pretty};
 pub use ufmt_core::{
     DebugList, DebugMap, DebugSet, DebugStruct, DebugTuple, Formatter, NamedFields, UnnamedFields,

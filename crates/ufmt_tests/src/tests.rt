@@ -17,6 +17,7 @@ mod forwarded;
 mod hexadecimal;
 mod laws;
 mod leaves;
+mod lines;
 mod long_values;
 mod macros;
 mod numbers;

@@ -15,5 +15,5 @@ abbrev pub register : HexOptions
 register = record { upper_case = false; pad_char = 48; pad_length = 10; ox_prefix = true }
 
 -- the reading, the register and a line feed
-unfoldable pub line : Reading → ℕ → List ℕ
+abbrev pub line : Reading → ℕ → List ℕ
 line reading control = plain_text (reading_document reading) ++ (codes " control " ++ (padded_hexadecimal register control ++ codes "\n"))

@@ -3,6 +3,7 @@
 //! A user's own types, each printed in one call, and two by the builders.
 
 mod by_hand;
+mod dump;
 mod kind;
 mod logger;
 mod message;
@@ -13,6 +14,7 @@ mod scores;
 mod wrappers;
 
 pub use by_hand::{Port, Ports, Users};
+pub use dump::dump_packet;
 pub use kind::Kind;
 pub use logger::{Reading, log};
 pub use message::Message;

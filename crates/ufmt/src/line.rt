@@ -1,0 +1,129 @@
+//! A line of pieces as one value, which prints in one call: what stands under `pieces!`.
+ghost use Rattle.std.specs.Prelude.{[], ◌∷◌, ◌++◌, List, is_ok};
+ghost use Rattle.ufmt_core.specs.Formatter.{Prints, setting_of};
+ghost use Rattle.ufmt_core.specs.Writes.{Writes};
+ghost use Rattle.ufmt.specs.Buffer.{Fronts};
+ghost use Rattle.ufmt.specs.Pieces.{Piece, line_text, pieces_text, text};
+
+mod each;
+mod marks;
+
+use crate::cursor::{Cursor, Full};
+pub use each::Each;
+pub use marks::{Debug, Display, Hex, Mark, Marked, Pretty};
+use ufmt_core::{Formatter, uWrite};
+
+/// Pieces in a row, whose values are taken already: a text, a value with its mark, the items of a
+/// slice, nothing, or two lines, one after the other.
+pub trait Line {
+    /// The pieces.
+    ghost pieces: { Self → List Piece };
+
+    /// Writes the pieces one after another in the formatter's mode and from its depth, up to the first
+    /// failure. Where the writer fails a beginning of their text stands there. The formatter has the
+    /// same writer then, at the same mode and depth.
+    fn print<W: uWrite>(&self, f: &mut Formatter<W>) -> Result<(), W::Error>
+        ensures { Prints W.seen f.old (pieces_text (setting_of f.old) (pieces self.now))
+            (is_ok result) f.new };
+}
+
+/// No piece.
+impl Line for () {
+    ghost pieces = { λ _. [] };
+
+    fn print<W: uWrite>(&self, _f: &mut Formatter<W>) -> Result<(), W::Error> {
+        Ok(())
+    }
+}
+
+/// The first line, and the second behind it.
+impl<A: Line, B: Line> Line for (A, B) {
+    ghost pieces = { λ c. A.pieces c.0 ++ B.pieces c.1 };
+
+    #[inline(always)]
+    fn print<W: uWrite>(&self, f: &mut Formatter<W>) -> Result<(), W::Error> {
+        self.0.print(f)?;
+        self.1.print(f)
+    }
+}
+
+/// A text as it stands: one piece.
+#[derive(Clone, Copy, Drop)]
+pub struct Text<'a>(pub &'a str);
+
+impl Line for Text<'_> {
+    ghost pieces = { λ t. text t.0.now ∷ [] };
+
+    #[inline(always)]
+    fn print<W: uWrite>(&self, f: &mut Formatter<W>) -> Result<(), W::Error> {
+        f.write_str(self.0)
+    }
+}
+
+/// Prints the line to the writer, in plain mode.
+pub fn write_line<L: Line, W: uWrite>(writer: &mut W, line: &L) -> Result<(), W::Error>
+    ensures { Writes W.seen writer.old (line_text (L.pieces line.now)) (is_ok result) writer.new }
+{
+    let mut f = Formatter::new(writer);
+    line.print(&mut f)
+}
+
+/// Prints the line, in plain mode, to the front of the buffer, and answers how many bytes it has. On
+/// `Full` the buffer begins with the pieces that did fit. The other bytes stay.
+pub fn line_into<L: Line>(buffer: &mut [u8], line: &L) -> Result<usize, Full>
+    ensures { Fronts buffer.old (line_text (L.pieces line.now)) result buffer.new }
+{
+    let mut cursor = Cursor::new(buffer);
+    write_line(&mut cursor, line)?;
+    Ok(cursor.written().len())
+}
+
+/// A line of these pieces, as one value: `line_into(buffer, &pieces!(text "n = ", debug n))?`.
+///
+/// A piece is `text e` for a `&str`, `display e`, `debug e` or `pretty e` for a value, `hex e with
+/// options`, or all items of a slice by one of these, `each debug e between s`, `each hex e with
+/// options between s`, where `s` is a `&str` that stands between them. What stands before `with` or
+/// `between` is a name, a literal or stands in parentheses. Each value is evaluated once and in its
+/// order, before the first piece is written, where `uwrite!` evaluates a piece once the one before is
+/// written.
+#[macro_export]
+macro_rules! pieces {
+    () => { () };
+    (text $text:expr $(, $($rest:tt)*)?) => {
+        $crate::piece_chain!($crate::line::Text($text); $($($rest)*)?)
+    };
+    (hex $value:tt with $options:expr $(, $($rest:tt)*)?) => {
+        $crate::piece_chain!($crate::line::Marked { value: &$value, mark: $crate::mark!(hex $options) }; $($($rest)*)?)
+    };
+    (each hex $items:tt with $options:tt between $between:expr $(, $($rest:tt)*)?) => {
+        $crate::piece_chain!($crate::line::Each { items: &$items, mark: $crate::mark!(hex $options), between: $between }; $($($rest)*)?)
+    };
+    (each $kind:ident $items:tt between $between:expr $(, $($rest:tt)*)?) => {
+        $crate::piece_chain!($crate::line::Each { items: &$items, mark: $crate::mark!($kind), between: $between }; $($($rest)*)?)
+    };
+    ($kind:ident $value:expr $(, $($rest:tt)*)?) => {
+        $crate::piece_chain!($crate::line::Marked { value: &$value, mark: $crate::mark!($kind) }; $($($rest)*)?)
+    };
+    ($($other:tt)*) => {
+        compile_error!("expected pieces: `text e`, `display e`, `debug e`, `pretty e`, `hex e with options`, `each debug e between s` or `each hex e with options between s`, with commas between them")
+    };
+}
+
+/// A piece, and the chain of those after it.
+#[macro_export]
+macro_rules! piece_chain {
+    ($piece:expr;) => { $piece };
+    ($piece:expr; $($rest:tt)+) => { ($piece, $crate::pieces!($($rest)+)) };
+}
+
+/// How a value is written.
+#[macro_export]
+macro_rules! mark {
+    (display) => { $crate::line::Display };
+    (debug) => { $crate::line::Debug };
+    (pretty) => { $crate::line::Pretty };
+    (hex $options:expr) => { $crate::line::Hex { options: $options } };
+    ($($other:tt)*) => {
+        compile_error!("expected a piece: `text e`, `display e`, `debug e`, `pretty e`, `hex e with options`, `each debug e between s` or `each hex e with options between s`")
+    };
+}

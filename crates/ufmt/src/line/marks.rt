@@ -1,0 +1,92 @@
+//! How a value is written into a line.
+ghost use Rattle.std.specs.Prelude.{[], ◌∷◌, ◌<◌, List, is_ok};
+ghost use Rattle.ufmt_core.specs.Formatter.{Prints, setting_of};
+ghost use Rattle.ufmt.specs.Pieces.{Piece, hex, pieces_text, pretty, shown};
+
+use super::Line;
+use crate::display::uDisplay;
+use crate::hex::{HexOptions, uDisplayHex};
+use crate::pieces::fmt_pretty;
+use ufmt_core::{Formatter, uDebug, uWrite};
+
+/// One way to write a value into a line.
+pub trait Mark<T> {
+    /// The pieces that a value becomes.
+    ghost pieces: { Self → T → List Piece };
+
+    /// Writes the value's pieces, as `Line::print` does.
+    fn print_value<W: uWrite>(&self, value: &T, f: &mut Formatter<W>) -> Result<(), W::Error>
+        ensures { Prints W.seen f.old
+            (pieces_text (setting_of f.old) (pieces self.now value.now)) (is_ok result) f.new };
+}
+
+/// As `uDebug` prints it, in the formatter's mode.
+#[derive(Clone, Copy, Drop)]
+pub struct Debug;
+
+impl<T: uDebug> Mark<T> for Debug {
+    ghost pieces = { λ _ x. shown (T.document x) ∷ [] };
+
+    #[inline(always)]
+    fn print_value<W: uWrite>(&self, value: &T, f: &mut Formatter<W>) -> Result<(), W::Error> {
+        value.fmt(f)
+    }
+}
+
+/// As `uDisplay` prints it.
+#[derive(Clone, Copy, Drop)]
+pub struct Display;
+
+impl<T: uDisplay> Mark<T> for Display {
+    ghost pieces = { λ _ x. shown (T.display x) ∷ [] };
+
+    #[inline(always)]
+    fn print_value<W: uWrite>(&self, value: &T, f: &mut Formatter<W>) -> Result<(), W::Error> {
+        value.fmt(f)
+    }
+}
+
+/// As `uDebug` prints it in pretty mode, at the formatter's depth.
+#[derive(Clone, Copy, Drop)]
+pub struct Pretty;
+
+impl<T: uDebug> Mark<T> for Pretty {
+    ghost pieces = { λ _ x. pretty (T.document x) ∷ [] };
+
+    #[inline(always)]
+    fn print_value<W: uWrite>(&self, value: &T, f: &mut Formatter<W>) -> Result<(), W::Error> {
+        fmt_pretty(value, f)
+    }
+}
+
+/// In hexadecimal digits, with these options, whose pad byte is ASCII.
+#[derive(Clone, Copy, Drop)]
+pub struct Hex {
+    pub options: HexOptions,
+    ghost ascii: { options.pad_char < 128 },
+}
+
+impl<T: uDisplayHex> Mark<T> for Hex {
+    ghost pieces = { λ h x. hex (T.hex_text x h.options) ∷ [] };
+
+    #[inline(always)]
+    fn print_value<W: uWrite>(&self, value: &T, f: &mut Formatter<W>) -> Result<(), W::Error> {
+        value.fmt_hex(f, self.options)
+    }
+}
+
+/// A value with its mark.
+#[derive(Clone, Copy, Drop)]
+pub struct Marked<'a, T, M> {
+    pub value: &'a T,
+    pub mark: M,
+}
+
+impl<T, M: Mark<T>> Line for Marked<'_, T, M> {
+    ghost pieces = { λ p. M.pieces p.mark p.value.now };
+
+    #[inline(always)]
+    fn print<W: uWrite>(&self, f: &mut Formatter<W>) -> Result<(), W::Error> {
+        self.mark.print_value(self.value, f)
+    }
+}
