@@ -8,6 +8,23 @@
 /// itself.
 #[macro_export]
 macro_rules! fields {
+    ($formatter:expr, $value:ident, $name:ident { $($field:ident),* $(,)? } $(,)?) => {{
+        let formatter: &mut $crate::Formatter<_> = $formatter;
+        let $name { $($field),* } = $value;
+        $crate::fields!(formatter, $name { $($field: $field),* })
+    }};
+    ($formatter:expr, $value:ident, $name:ident ( $($field:ident),* $(,)? ) $(,)?) => {{
+        let formatter: &mut $crate::Formatter<_> = $formatter;
+        let $name($($field),*) = $value;
+        $crate::fields!(formatter, $name($($field),*))
+    }};
+    ($formatter:expr, $value:ident, $name:ident $(,)?) => {{
+        let $name = $value;
+        $crate::fields!($formatter, $name)
+    }};
+    ($formatter:expr, $name:ident { $($field:ident),+ $(,)? } $(,)?) => {
+        $crate::fields!($formatter, $name { $($field: $field),+ })
+    };
     ($formatter:expr, $name:ident) => { $crate::Formatter::write_str($formatter, stringify!($name)) };
     ($formatter:expr, $name:ident {} $(,)?) => { $crate::Formatter::struct_0($formatter, stringify!($name)) };
     ($formatter:expr, $name:ident () $(,)?) => { $crate::Formatter::tuple_0($formatter, stringify!($name)) };

@@ -26,7 +26,7 @@ impl<T: uDebug> uDebug for Kind<T> {
         match self {
             Kind::A => fields!(f, A),
             Kind::B(x, y) => fields!(f, B(x, y)),
-            Kind::C { x, y } => fields!(f, C { x: x, y: y }),
+            Kind::C { x, y } => fields!(f, C { x, y }),
         }
     }
 }

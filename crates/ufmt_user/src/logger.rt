@@ -18,13 +18,7 @@ impl uDebug for Reading {
     where
         W: uWrite,
     {
-        fields!(
-            f,
-            Reading {
-                channel: self.channel,
-                celsius: self.celsius
-            }
-        )
+        fields!(f, self, Reading { channel, celsius })
     }
 }
 

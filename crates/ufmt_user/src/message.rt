@@ -22,10 +22,11 @@ impl uDebug for Message<'_> {
     {
         fields!(
             f,
+            self,
             Message {
-                device: self.device,
-                text: self.text,
-                level: self.level
+                device,
+                text,
+                level
             }
         )
     }

@@ -18,12 +18,6 @@ impl<T: uDebug> uDebug for Nested<T> {
     where
         W: uWrite,
     {
-        fields!(
-            f,
-            Nested {
-                first: self.first,
-                second: self.second
-            }
-        )
+        fields!(f, self, Nested { first, second })
     }
 }

@@ -23,13 +23,7 @@ impl uDebug for Node {
     where
         W: uWrite,
     {
-        fields!(
-            f,
-            Node {
-                value: self.value,
-                next: self.next
-            }
-        )
+        fields!(f, self, Node { value, next })
     }
 }
 
@@ -49,12 +43,6 @@ impl uDebug for Tree {
     where
         W: uWrite,
     {
-        fields!(
-            f,
-            Tree {
-                size: self.size,
-                children: self.children
-            }
-        )
+        fields!(f, self, Tree { size, children })
     }
 }

@@ -18,12 +18,6 @@ impl<T: uDebug, U: uDebug> uDebug for Pair<T, U> {
     where
         W: uWrite,
     {
-        fields!(
-            f,
-            Pair {
-                x: self.x,
-                y: self.y
-            }
-        )
+        fields!(f, self, Pair { x, y })
     }
 }

@@ -17,7 +17,7 @@ impl uDebug for Braces {
     where
         W: uWrite,
     {
-        fields!(f, Braces {})
+        fields!(f, self, Braces {})
     }
 }
 
@@ -32,7 +32,7 @@ impl uDebug for Parens {
     where
         W: uWrite,
     {
-        fields!(f, Parens())
+        fields!(f, self, Parens())
     }
 }
 
@@ -47,7 +47,7 @@ impl<T: uDebug, U: uDebug> uDebug for Tuple<T, U> {
     where
         W: uWrite,
     {
-        fields!(f, Tuple(self.0, self.1))
+        fields!(f, self, Tuple(first, second))
     }
 }
 
@@ -62,7 +62,7 @@ impl<T: uDebug> uDebug for X<T> {
     where
         W: uWrite,
     {
-        fields!(f, X(self.0))
+        fields!(f, self, X(value))
     }
 }
 
@@ -77,7 +77,7 @@ impl<T: uDebug> uDebug for I32<T> {
     where
         W: uWrite,
     {
-        fields!(f, I32(self.0))
+        fields!(f, self, I32(value))
     }
 }
 

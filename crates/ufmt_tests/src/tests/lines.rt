@@ -1,4 +1,5 @@
 use super::rows::Rows;
+use std::alloc::{AllocError, Global};
 use std::test::Fail;
 use ufmt::{Formatter, Full, HexOptions, Line, line_into, pieces, write_line};
 use ufmt_user::dump_packet;
@@ -10,31 +11,43 @@ const PREFIXED: HexOptions = HexOptions {
     ox_prefix: true,
 };
 
-const WHOLE: &str = "a=7 (1,)[\n    2,\n]0x00ff1-2.";
-
-// Where the last piece that a buffer of each length takes ends.
-const ENDS: [usize; 29] = [
-    0, 0, 2, 3, 4, 5, 6, 7, 8, 9, 10, 10, 10, 10, 14, 15, 15, 17, 18, 18, 20, 21, 22, 22, 24, 25,
-    26, 27, 28,
+// The pieces of a line with each mark, and of a tuple, a pretty list and a padded number in it.
+const PIECES: [&str; 21] = [
+    "a=", "7", " ", "(", "1", ",", ")", "[", "\n", "    ", "2", ",\n", "]", "0x", "0", "0", "ff",
+    "1", "-", "2", ".",
 ];
+
+// What a buffer of this length holds: the first pieces, up to the one that doesn't fit.
+fn first_pieces(alloc: Global, length: usize) -> Result<String, AllocError> {
+    let mut held = String::new(alloc);
+    for piece in PIECES {
+        if held.len().saturating_add(piece.len()) > length {
+            break;
+        }
+        held.push_str(piece)?;
+    }
+    for _byte in held.len()..length {
+        held.push('~')?;
+    }
+    Ok(held)
+}
 
 #[test]
 fn a_short_buffer_takes_the_first_pieces(rt: HostRuntime) -> Result<(), Fail> {
     let rows = Rows::of("a line into a buffer", &rt);
-    for (length, end) in ENDS.iter().enumerate() {
-        let mut bytes = [b'~'; 30];
-        let line = &mut bytes[..length];
+    for length in 0..30usize {
+        let mut bytes = vec![in rt.alloc(); b'~'; length]?;
         let answer = line_into(
-            line,
+            bytes.as_mut_slice(),
             &pieces!(
                 text "a=", display 7i32, text " ", debug (1u8,), pretty [2u8],
                 hex 255u8 with PREFIXED, each debug [1i8, 2] between "-", text "."
             ),
         );
         let expected = if length < 28 { Err(Full) } else { Ok(28) };
-        rows.same((length, answer), (length, expected), WHOLE);
-        rows.same(&bytes[..*end], &WHOLE.as_bytes()[..*end], "what is written");
-        rows.same(&bytes[*end..], &[b'~'; 30][*end..], "what stays");
+        let held = first_pieces(rt.alloc(), length)?;
+        rows.same((length, answer), (length, expected), held.as_str());
+        rows.same(bytes.as_slice(), held.as_str().as_bytes(), "the buffer");
     }
     Ok(())
 }
