@@ -2,10 +2,13 @@
 
 /// Prints a struct, a tuple struct or a variant whole: in place of `#[derive(uDebug)]`.
 ///
-/// `fields!(f, Pair { x: self.x, y: self.y })`, `fields!(f, Tuple(self.0, self.1))` and
-/// `fields!(f, None)` write the name and the fields in the order given, as the builders would. The
-/// values are taken by reference. More than twelve fields are possible where the type doesn't hold
-/// itself.
+/// `fields!(f, self, Pair { x, y })` and `fields!(f, self, Tuple(x, y))` take the value apart, and write
+/// its name and its fields in the order given, as the builders would. A field that is left out is an
+/// error of the compiler, which names it. In an arm that has taken a variant apart already, write
+/// `fields!(f, Variant { x, y })`, `fields!(f, Variant(x, y))` or `fields!(f, None)`, and of other
+/// values `fields!(f, Pair { x: a.x, y: b.y })`: these print the fields that they name, and no one
+/// counts them. Values are taken by reference. More than twelve fields are possible where the type
+/// doesn't hold itself.
 #[macro_export]
 macro_rules! fields {
     ($formatter:expr, $value:ident, $name:ident { $($field:ident),* $(,)? } $(,)?) => {{
@@ -105,6 +108,9 @@ macro_rules! fields {
     };
     ($formatter:expr, $name:ident ( $($value:expr),+ $(,)? ) $(,)?) => {
         $crate::Formatter::tuple_of($formatter, stringify!($name), &$crate::value_chain!($($value,)+))
+    };
+    ($($other:tt)*) => {
+        compile_error!("expected a formatter and what it prints: `self, Name { x, y }` or `self, Name(x, y)`, which take the value apart, `Name { x, y }`, `Name { x: e, y: e }`, `Name(e, e)` or `Name`")
     };
 }
 
