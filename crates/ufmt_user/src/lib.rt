@@ -4,6 +4,7 @@
 
 mod by_hand;
 mod dump;
+mod json;
 mod kind;
 mod logger;
 mod message;
@@ -15,6 +16,7 @@ mod wrappers;
 
 pub use by_hand::{Port, Ports, Users};
 pub use dump::dump_packet;
+pub use json::Json;
 pub use kind::Kind;
 pub use logger::{Reading, log};
 pub use message::Message;

@@ -1,0 +1,44 @@
+//! A type that holds itself in a list of pairs and in a map.
+ghost use Rattle.std.specs.Prelude.{[], ◌∷◌, map};
+ghost use Rattle.ufmt.specs.Document.{Document, documents, list_of, map_of, pairs_of};
+ghost use Rattle.ufmt.specs.Words.{integer, named, named_tuple, number, string};
+ghost use Rattle.ufmt_user.specs.declared.json.Json.TheFolds.{fold-Json};
+ghost use Rattle.ufmt_user.specs.declared.json.Json.TheOpen.{Null, Number, Array, Object, Table};
+
+use std::collections::BTreeMap;
+use ufmt::{Formatter, fields, uDebug, uWrite};
+
+/// A value with others in it: in a list, by names, or by numbers.
+#[derive(Drop)]
+pub enum Json {
+    Null,
+    Number(i64),
+    Array(Vec<Json>),
+    Object(Vec<(String, Json)>),
+    Table(BTreeMap<u8, Json>),
+}
+
+impl uDebug for Json {
+    ghost document = { fold-Json Document (elim [
+      | Null ↦ named "Null"
+      | Number n ↦ named_tuple "Number" (integer n ∷ [])
+      | Array values ↦ named_tuple "Array" (list_of (documents values.items) ∷ [])
+      | Object pairs ↦ named_tuple "Object"
+          (list_of (documents (map (λ p. named_tuple "" (string p.0 ∷ p.1 ∷ [])) pairs.items)) ∷ [])
+      | Table values ↦ named_tuple "Table"
+          (map_of (pairs_of (map (λ p. (number p.0, p.1)) values.entries)) ∷ [])
+    ]) };
+
+    fn fmt<W>(&self, f: &mut Formatter<W>) -> Result<(), W::Error>
+    where
+        W: uWrite,
+    {
+        match self {
+            Json::Null => fields!(f, Null),
+            Json::Number(n) => fields!(f, Number(n)),
+            Json::Array(values) => fields!(f, Array(values)),
+            Json::Object(pairs) => fields!(f, Object(pairs)),
+            Json::Table(values) => fields!(f, Table(values)),
+        }
+    }
+}
