@@ -1,11 +1,11 @@
 //! Laws, each as the contract of a function.
-ghost use Rattle.std.specs.Prelude.{[], ◌∷◌, is_ok, ◌≡◌, ◌<◌, ◌≤◌, ◌↔◌, ◌++◌, ℕ, ℤ, List, String, Box, length, drop, encode_utf8, string_bytes, IsOk, OnOk, OnErr};
+ghost use Rattle.std.specs.Prelude.{[], ◌∷◌, is_ok, ◌≡◌, ◌<◌, ◌≤◌, ◌↔◌, ◌++◌, ℕ, ℤ, List, String, Box, length, drop, map, encode_utf8, string_bytes, IsOk, OnOk, OnErr};
 ghost use Rattle.ufmt_core.specs.Decimal.{decimal};
 ghost use Rattle.ufmt_core.specs.Document.{leaf};
 ghost use Rattle.std.specs.Borrow.{Bor, MutBor};
 ghost use Rattle.std.specs.Int.{w8, w16, w32, w64, w128};
 ghost use Rattle.ufmt_core.specs.Formatter.{Prints, setting_of};
-ghost use Rattle.ufmt.specs.Pieces.{hex, pieces_text, pretty, shown, text};
+ghost use Rattle.ufmt.specs.Pieces.{hex, pieces_text, pretty, separated, shown, text};
 ghost use Rattle.ufmt.specs.declared.hex.HexOptions.{HexOptions};
 ghost use Rattle.ufmt.specs.Hex.{EachNumberIsTold, OneTextTells, OneNumberIsTold, IsPadded, PrintsHexadecimal, PrintsBits, padded};
 ghost use Rattle.ufmt.specs.NormalForm.{NormalFormsAreNormal, NormalFormsKeepTexts, NormalFormsKeepTokens};
@@ -19,7 +19,8 @@ ghost use Rattle.ufmt.specs.Unquoted.{UnquotedAsBefore};
 use crate::cursor::{Cursor, Full};
 use crate::display::uDisplay;
 use crate::hex::{HexOptions, uDisplayHex};
-use crate::uwrite;
+use crate::line::Line;
+use crate::{pieces, uwrite};
 use std::alloc::Allocator;
 use std::num::{
     NonZeroI8, NonZeroI16, NonZeroI32, NonZeroI64, NonZeroIsize, NonZeroU8, NonZeroU16, NonZeroU32,
@@ -152,6 +153,32 @@ pub fn all_pieces<W: uWrite, A: uDisplay, B: uDebug, C: uDebug, N: uDisplayHex>(
         (is_ok result) f.new }
 {
     uwrite!(f, text t, display a, debug b, pretty c, hex n with options)
+}
+
+/// `pieces!(text t, display a, debug b, pretty c, hex n with options, each debug bs between t, each hex
+/// ns with options between t)`: the pattern of that macro, and of all that `uwrite!` takes too.
+pub fn line_of_all_pieces<W: uWrite, A: uDisplay, B: uDebug, C: uDebug, N: uDisplayHex>(
+    f: &mut Formatter<W>,
+    t: &str,
+    a: &A,
+    b: &B,
+    c: &C,
+    n: &N,
+    bs: &[B],
+    ns: &[N],
+    options: HexOptions,
+) -> Result<(), W::Error>
+    requires { options.pad_char < 128 }
+    ensures { Prints W.seen f.old
+        (pieces_text (setting_of f.old) (text t.now ∷ shown (A.display a.now) ∷ shown (B.document b.now) ∷ pretty (C.document c.now) ∷ hex (N.hex_text n.now options)
+        ∷ (separated t.now (map (λ x. shown (B.document x) ∷ []) bs.now) ++ separated t.now (map (λ x. hex (N.hex_text x options) ∷ []) ns.now))))
+        (is_ok result) f.new }
+{
+    pieces!(
+        text t, display a, debug b, pretty c, hex n with options,
+        each debug bs between t, each hex ns with options between t
+    )
+    .print(f)
 }
 
 /// The normal form of a document is in normal form, has the document's text in either mode and from
