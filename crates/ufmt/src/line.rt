@@ -81,11 +81,11 @@ pub fn line_into<L: Line>(buffer: &mut [u8], line: &L) -> Result<usize, Full>
 /// A line of these pieces, as one value: `line_into(buffer, &pieces!(text "n = ", debug n))?`.
 ///
 /// A piece is `text e` for a `&str`, `display e`, `debug e` or `pretty e` for a value, `hex e with
-/// options`, or all items of a slice by one of these, `each debug e between s`, `each hex e with
-/// options between s`, where `s` is a `&str` that stands between them. What stands before `with` or
-/// `between` is a name, a literal or stands in parentheses. Each value is evaluated once and in its
-/// order, before the first piece is written, where `uwrite!` evaluates a piece once the one before is
-/// written.
+/// options`; or the items of a slice, `each debug e between s`, `each hex e with options between s` or
+/// `each e by mark between s`, where `mark` is a `Mark` of one's own and `s` a `&str`, which stands
+/// between them. What stands before `with`, `by` or `between` is a name, a literal or stands in
+/// parentheses. Each value is evaluated once and in its order, before the first piece is written, where
+/// `uwrite!` evaluates a piece once the one before is written.
 #[macro_export]
 macro_rules! pieces {
     () => { () };
@@ -101,11 +101,14 @@ macro_rules! pieces {
     (each $kind:ident $items:tt between $between:expr $(, $($rest:tt)*)?) => {
         $crate::piece_chain!($crate::line::Each { items: &$items, mark: $crate::mark!($kind), between: $between }; $($($rest)*)?)
     };
+    (each $items:tt by $mark:tt between $between:expr $(, $($rest:tt)*)?) => {
+        $crate::piece_chain!($crate::line::Each { items: &$items, mark: $mark, between: $between }; $($($rest)*)?)
+    };
     ($kind:ident $value:expr $(, $($rest:tt)*)?) => {
         $crate::piece_chain!($crate::line::Marked { value: &$value, mark: $crate::mark!($kind) }; $($($rest)*)?)
     };
     ($($other:tt)*) => {
-        compile_error!("expected pieces: `text e`, `display e`, `debug e`, `pretty e`, `hex e with options`, `each debug e between s` or `each hex e with options between s`, with commas between them")
+        compile_error!("expected pieces: `text e`, `display e`, `debug e`, `pretty e`, `hex e with options`, `each debug e between s`, `each hex e with options between s` or `each e by mark between s`, with commas between them")
     };
 }
 
@@ -124,6 +127,6 @@ macro_rules! mark {
     (pretty) => { $crate::line::Pretty };
     (hex $options:expr) => { $crate::line::Hex { options: $options } };
     ($($other:tt)*) => {
-        compile_error!("expected a piece: `text e`, `display e`, `debug e`, `pretty e`, `hex e with options`, `each debug e between s` or `each hex e with options between s`")
+        compile_error!("expected a piece: `text e`, `display e`, `debug e`, `pretty e`, `hex e with options`, `each debug e between s`, `each hex e with options between s` or `each e by mark between s`")
     };
 }

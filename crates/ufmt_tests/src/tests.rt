@@ -26,6 +26,7 @@ mod quoted;
 mod repeated;
 mod rows;
 mod stopped_calls;
+mod taken_apart;
 mod texts;
 mod tuples;
 mod users;

@@ -1,2 +1,3 @@
 pub mod Dump
 pub mod Logger
+pub mod Readings

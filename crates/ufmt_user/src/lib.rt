@@ -11,6 +11,7 @@ mod message;
 mod nested;
 mod node;
 mod pair;
+mod readings;
 mod scores;
 mod wrappers;
 
@@ -23,5 +24,6 @@ pub use message::Message;
 pub use nested::Nested;
 pub use node::{Node, Tree};
 pub use pair::Pair;
+pub use readings::{ByChannel, list_readings};
 pub use scores::Scores;
 pub use wrappers::{Braces, I32, InPrettyMode, Parens, Tuple, X, Y};
