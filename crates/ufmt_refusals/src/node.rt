@@ -19,13 +19,7 @@ impl<T: uDebug> uDebug for Node<T> {
     where
         W: uWrite,
     {
-        fields!(
-            f,
-            Node {
-                value: self.value,
-                next: self.next
-            }
-        )
+        fields!(f, self, Node { value, next })
     }
 }
 

@@ -2,7 +2,7 @@ use super::rows::Rows;
 use std::alloc::{AllocError, Global};
 use std::test::Fail;
 use ufmt::{Formatter, Full, HexOptions, Line, line_into, pieces, write_line};
-use ufmt_user::dump_packet;
+use ufmt_user::{Reading, dump_packet, list_readings};
 
 const PREFIXED: HexOptions = HexOptions {
     upper_case: false,
@@ -124,4 +124,21 @@ fn a_packet_is_dumped(rt: HostRuntime) -> Result<(), Fail> {
         rows.same(bytes.as_slice(), left.as_bytes(), left);
     }
     Ok(())
+}
+
+#[test]
+fn readings_are_listed(rt: HostRuntime) {
+    let rows = Rows::of("readings", &rt);
+    let readings = [(3, -4), (5, 20)].map(|(channel, celsius)| Reading { channel, celsius });
+    for (count, length, answer, left) in [
+        (2, 24, Ok(20), "readings: 3=-4, 5=20~~~~"),
+        (1, 24, Ok(14), "readings: 3=-4~~~~~~~~~~"),
+        (0, 24, Ok(10), "readings: ~~~~~~~~~~~~~~"),
+        (2, 19, Err(Full), "readings: 3=-4, 5=~~~~~~"),
+    ] {
+        let mut bytes = [b'~'; 24];
+        let given = list_readings(&mut bytes[..length], &readings[..count]);
+        rows.same(given, answer, left);
+        rows.same(bytes.as_slice(), left.as_bytes(), left);
+    }
 }
