@@ -25,6 +25,7 @@ macro_rules! fields {
         let $name = $value;
         $crate::fields!($formatter, $name)
     }};
+    ($formatter:expr, self $(,)?) => { $crate::fields!() };
     ($formatter:expr, $name:ident { $($field:ident),+ $(,)? } $(,)?) => {
         $crate::fields!($formatter, $name { $($field: $field),+ })
     };

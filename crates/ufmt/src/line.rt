@@ -14,7 +14,7 @@ pub use marks::{Debug, Display, Hex, Mark, Marked, Pretty};
 use ufmt_core::{Formatter, uWrite};
 
 /// Pieces in a row, whose values are taken already: a text, a value with its mark, the items of a
-/// slice, nothing, or two lines, one after the other.
+/// slice, nothing, or two lines, one after the other. `ufmt` 0.2.0 has no such values.
 pub trait Line {
     /// The pieces.
     ghost pieces: { Self → List Piece };
@@ -93,19 +93,19 @@ macro_rules! pieces {
         $crate::piece_chain!($crate::line::Text($text); $($($rest)*)?)
     };
     (hex $value:tt with $options:expr $(, $($rest:tt)*)?) => {
-        $crate::piece_chain!($crate::line::Marked { value: &$value, mark: $crate::mark!(hex $options) }; $($($rest)*)?)
+        $crate::piece_chain!($crate::line::Marked { value: &$value, mark: $crate::piece_mark!(hex $options) }; $($($rest)*)?)
     };
     (each hex $items:tt with $options:tt between $between:expr $(, $($rest:tt)*)?) => {
-        $crate::piece_chain!($crate::line::Each { items: &$items, mark: $crate::mark!(hex $options), between: $between }; $($($rest)*)?)
+        $crate::piece_chain!($crate::line::Each { items: &$items, mark: $crate::piece_mark!(hex $options), between: $between }; $($($rest)*)?)
     };
     (each $kind:ident $items:tt between $between:expr $(, $($rest:tt)*)?) => {
-        $crate::piece_chain!($crate::line::Each { items: &$items, mark: $crate::mark!($kind), between: $between }; $($($rest)*)?)
+        $crate::piece_chain!($crate::line::Each { items: &$items, mark: $crate::piece_mark!($kind), between: $between }; $($($rest)*)?)
     };
     (each $items:tt by $mark:tt between $between:expr $(, $($rest:tt)*)?) => {
         $crate::piece_chain!($crate::line::Each { items: &$items, mark: $mark, between: $between }; $($($rest)*)?)
     };
     ($kind:ident $value:expr $(, $($rest:tt)*)?) => {
-        $crate::piece_chain!($crate::line::Marked { value: &$value, mark: $crate::mark!($kind) }; $($($rest)*)?)
+        $crate::piece_chain!($crate::line::Marked { value: &$value, mark: $crate::piece_mark!($kind) }; $($($rest)*)?)
     };
     ($($other:tt)*) => {
         compile_error!("expected pieces: `text e`, `display e`, `debug e`, `pretty e`, `hex e with options`, `each debug e between s`, `each hex e with options between s` or `each e by mark between s`, with commas between them")
@@ -121,7 +121,7 @@ macro_rules! piece_chain {
 
 /// How a value is written.
 #[macro_export]
-macro_rules! mark {
+macro_rules! piece_mark {
     (display) => { $crate::line::Display };
     (debug) => { $crate::line::Debug };
     (pretty) => { $crate::line::Pretty };
