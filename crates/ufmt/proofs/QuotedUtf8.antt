@@ -69,30 +69,30 @@ module _ (q : ℕ) (quote : IsQuote q) where
   utf8-told : (bs xs : List ℕ) → IsUtf8 (xs ++ escaped_bytes q bs) → IsUtf8 (xs ++ bs)
   utf8-told [] xs u = u
   utf8-told (b ∷ bs) xs u = elim (spelling q b quote) [
-        | inl plain ↦ subst IsUtf8 (sym (goes_on xs bs b)) (utf8-told bs (xs ++ (b ∷ [])) (subst IsUtf8 (ap (λ e. xs ++ (e ++ escaped_bytes q bs)) plain ∙ goes_on xs (escaped_bytes q bs) b) u))
-        | inr escape ↦
-            let parts = IsUtf8-cut xs (escape.0 ++ escaped_bytes q bs) 92 (omega arith) (subst IsUtf8 (ap (λ e. xs ++ (e ++ escaped_bytes q bs)) escape.1) u) in
-            let rest = utf8-told bs [] (IsUtf8-past escape.0 (escaped_bytes q bs) escape.2 parts.1) in
-            IsUtf8-append xs (b ∷ bs) parts.0 (IsUtf8-append (b ∷ []) bs (IsUtf8-from_ascii (b ∷ []) (one_ascii b escape.3)) rest)
-      ]
+    | inl plain ↦ subst IsUtf8 (sym (goes_on xs bs b)) (utf8-told bs (xs ++ (b ∷ [])) (subst IsUtf8 (ap (λ e. xs ++ (e ++ escaped_bytes q bs)) plain ∙ goes_on xs (escaped_bytes q bs) b) u))
+    | inr escape ↦
+        let parts = IsUtf8-cut xs (escape.0 ++ escaped_bytes q bs) 92 (omega arith) (subst IsUtf8 (ap (λ e. xs ++ (e ++ escaped_bytes q bs)) escape.1) u) in
+        let rest = utf8-told bs [] (IsUtf8-past escape.0 (escaped_bytes q bs) escape.2 parts.1) in
+        IsUtf8-append xs (b ∷ bs) parts.0 (IsUtf8-append (b ∷ []) bs (IsUtf8-from_ascii (b ∷ []) (one_ascii b escape.3)) rest)
+  ]
 
   -- and the other way round
   utf8-escaped : (bs xs : List ℕ) → IsUtf8 (xs ++ bs) → IsUtf8 (xs ++ escaped_bytes q bs)
   utf8-escaped [] xs u = u
   utf8-escaped (b ∷ bs) xs u = elim (spelling q b quote) [
-        | inl plain ↦ subst IsUtf8 (sym (ap (λ e. xs ++ (e ++ escaped_bytes q bs)) plain ∙ goes_on xs (escaped_bytes q bs) b)) (utf8-escaped bs (xs ++ (b ∷ [])) (subst IsUtf8 (goes_on xs bs b) u))
-        | inr escape ↦
-            let parts = IsUtf8-cut xs bs b escape.3 u in
-            let front : IsUtf8 (92 ∷ escape.0) = IsUtf8-from_ascii (92 ∷ escape.0) (IsAscii-cons 92 escape.0 (omega arith) escape.2) in
-            subst IsUtf8 (sym (ap (λ e. xs ++ (e ++ escaped_bytes q bs)) escape.1)) (IsUtf8-append xs ((92 ∷ escape.0) ++ escaped_bytes q bs) parts.0 (IsUtf8-append (92 ∷ escape.0) (escaped_bytes q bs) front (utf8-escaped bs [] parts.1)))
-      ]
+    | inl plain ↦ subst IsUtf8 (sym (ap (λ e. xs ++ (e ++ escaped_bytes q bs)) plain ∙ goes_on xs (escaped_bytes q bs) b)) (utf8-escaped bs (xs ++ (b ∷ [])) (subst IsUtf8 (goes_on xs bs b) u))
+    | inr escape ↦
+        let parts = IsUtf8-cut xs bs b escape.3 u in
+        let front : IsUtf8 (92 ∷ escape.0) = IsUtf8-from_ascii (92 ∷ escape.0) (IsAscii-cons 92 escape.0 (omega arith) escape.2) in
+        subst IsUtf8 (sym (ap (λ e. xs ++ (e ++ escaped_bytes q bs)) escape.1)) (IsUtf8-append xs ((92 ∷ escape.0) ++ escaped_bytes q bs) parts.0 (IsUtf8-append (92 ∷ escape.0) (escaped_bytes q bs) front (utf8-escaped bs [] parts.1)))
+  ]
 
   -- with their quotes too
   pub quoted-utf8 : (bs : List ℕ) → IsUtf8 (q ∷ (escaped_bytes q bs ++ (q ∷ []))) ↔ IsUtf8 bs
   quoted-utf8 bs = (
-      λ u. utf8-told bs [] (IsUtf8-cut (escaped_bytes q bs) [] q ascii (IsUtf8-cut [] (escaped_bytes q bs ++ (q ∷ [])) q ascii u).1).0,
-      λ u. IsUtf8-append (q ∷ []) (escaped_bytes q bs ++ (q ∷ [])) one (IsUtf8-append (escaped_bytes q bs) (q ∷ []) (utf8-escaped bs [] u) one),
-    )
+    λ u. utf8-told bs [] (IsUtf8-cut (escaped_bytes q bs) [] q ascii (IsUtf8-cut [] (escaped_bytes q bs ++ (q ∷ [])) q ascii u).1).0,
+    λ u. IsUtf8-append (q ∷ []) (escaped_bytes q bs ++ (q ∷ [])) one (IsUtf8-append (escaped_bytes q bs) (q ∷ []) (utf8-escaped bs [] u) one),
+  )
     where
       ascii : q < 128
       ascii = itself_ascii q q quote (inr refl)
