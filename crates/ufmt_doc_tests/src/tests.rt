@@ -7,6 +7,7 @@ mod mode;
 mod normal;
 mod parts;
 mod printed;
+mod quoted;
 mod same_texts;
 mod shape;
 mod texts;

@@ -197,6 +197,27 @@ fn pretty_and_plain_lead_to_each_other(rt: HostRuntime) {
         (Command::Plain, README_PRETTY, README_PLAIN),
         (Command::Pretty, "x\n", "x\n"),
         (Command::Plain, "x\n", "x\n"),
+        (
+            Command::Pretty,
+            "{\"a\": \"b: c, d\"}\n",
+            "{\n    \"a\": \"b: c, d\",\n}\n",
+        ),
+        (
+            Command::Plain,
+            "{\n    \"a\": \"b: c, d\",\n}\n",
+            "{\"a\": \"b: c, d\"}\n",
+        ),
+        (
+            Command::Pretty,
+            "[\"]\", '}']\n",
+            "[\n    \"]\",\n    '}',\n]\n",
+        ),
+        (
+            Command::Plain,
+            "[\n    \"]\",\n    '}',\n]\n",
+            "[\"]\", '}']\n",
+        ),
+        (Command::Pretty, "\"\\u{1b}\"\n", "\"\\u{1b}\"\n"),
     ];
     for (command, input, written) in rows {
         let given = ran_by(
@@ -227,6 +248,8 @@ fn what_is_no_text_is_refused(rt: HostRuntime) {
         (Command::Pretty, "\n", Fault::NotPlain),
         (Command::Pretty, "[]\n\n", Fault::NotPlain),
         (Command::Pretty, "[\n1]", Fault::NotPlain),
+        (Command::Pretty, "\"\\u{07f}\"", Fault::NotPlain),
+        (Command::Pretty, "''", Fault::NotPlain),
         (Command::Pretty, "[\n    1,\n]", Fault::NotPlain),
         (Command::Plain, "", Fault::NotPretty),
         (Command::Plain, "\n", Fault::NotPretty),

@@ -34,7 +34,7 @@ fn texts_are_taken_and_converted(rt: HostRuntime) {
         holds(&rt, are_converted(alloc, plain, pretty), row);
         count = count.saturating_add(1);
     }
-    same(&rt, count, 30, "documents");
+    same(&rt, count, 43, "documents");
 }
 
 // The text as what a failed row shows.
@@ -165,6 +165,9 @@ fn readers_and_conversions_agree_on_changed_texts(rt: HostRuntime) -> Result<(),
         (Mode::Plain, "S { a: b, c: d }", 270),
         (Mode::Plain, "n(a, [b])", 158),
         (Mode::Plain, "(a,)", 78),
+        (Mode::Plain, "[\"a\", 'b']", 174),
+        (Mode::Plain, "\"\\u{1b}\\\\\"", 174),
+        (Mode::Plain, "'\\n'", 78),
         (Mode::Pretty, "[\n    a,\n    b,\n]", 286),
         (Mode::Pretty, "{\n    a,\n    {\n        b,\n    },\n}", 558),
         (Mode::Pretty, "{\n    a: b,\n    c: d,\n}", 382),

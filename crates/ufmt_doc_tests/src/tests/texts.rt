@@ -1,6 +1,6 @@
 //! Texts that are read, and texts that are refused, as the layouts of documents have it.
 
-/// Of 30 documents the plain text, a line, and the pretty text below it, with an empty line between
+/// Of 43 documents the plain text, a line, and the pretty text below it, with an empty line between
 /// two documents. They are one literal, since an array of pairs takes the check four times as long.
 pub const TEXTS: &str = "\
 x
@@ -184,9 +184,63 @@ Node {
             next: None,
         },
     ),
-}";
+}
 
-pub const NOT_PLAIN: [&[u8]; 44] = [
+\"\"
+\"\"
+
+\"\\u{1b}\"
+\"\\u{1b}\"
+
+\"é\"
+\"é\"
+
+\"'\"
+\"'\"
+
+'\"'
+'\"'
+
+'\\''
+'\\''
+
+'€'
+'€'
+
+[\"a, b\", 'c']
+[
+    \"a, b\",
+    'c',
+]
+
+[\"]\", '}']
+[
+    \"]\",
+    '}',
+]
+
+{\"a\": \"b: c, d\"}
+{
+    \"a\": \"b: c, d\",
+}
+
+{\"k\": ()}
+{
+    \"k\": (),
+}
+
+S { text: \"\\0\\t\\n\\r\\\\\\\"\\u{1}\\u{7f}{(\", quote: '\\\\' }
+S {
+    text: \"\\0\\t\\n\\r\\\\\\\"\\u{1}\\u{7f}{(\",
+    quote: '\\\\',
+}
+
+Some(\"x\")
+Some(
+    \"x\",
+)";
+
+pub const NOT_PLAIN: [&[u8]; 76] = [
     b"",
     b"\n",
     b" x",
@@ -226,6 +280,38 @@ pub const NOT_PLAIN: [&[u8]; 44] = [
     b"S { a b }",
     b"\xc3\xa9",
     b"\xff",
+    b"'''",
+    b"\"\"\"",
+    b"\"a",
+    b"'ab'",
+    b"''",
+    b"\"\\x\"",
+    b"\"\\u{41}\"",
+    b"\"\\u{1B}\"",
+    b"\"\\u{07f}\"",
+    b"\"\\u{7F}\"",
+    b"\"\\u{a}\"",
+    b"\"\\u{1b\"",
+    b"\"\\u1b\"",
+    b"\"\\u{}\"",
+    b"\"\\u{80}\"",
+    b"\"\\",
+    b"\"\\\"",
+    b"'\\\"'",
+    b"\"\\'\"",
+    b"S { \"a\": b }",
+    b"\"S\"(x)",
+    b"\"S\" { a: b }",
+    b"\"\xff\"",
+    b"'\xff'",
+    b"\"\t\"",
+    b"\"\n\"",
+    b"\"\x7f\"",
+    b"\"\xc0\xaf\"",
+    b"\"\xed\xa0\x80\"",
+    b"'\xc3\xa9\xc3\xa9'",
+    b"'e\xcc\x81'",
+    b"\"a\"b",
     b"[\n    x,\n]",
     b"n(1,)",
     b"[1, ]",

@@ -8,11 +8,16 @@ fn is_token(alloc: Global, shape: &Shape<'_>) -> Result<bool, AllocError> {
     Ok(made(alloc, shape)?.is_token())
 }
 
-const ROWS: [(&str, Shape<'static>, bool); 8] = [
+const ROWS: [(&str, Shape<'static>, bool); 13] = [
     ("a leaf of no byte", Leaf(""), false),
     ("a leaf with a space", Leaf("a b"), false),
     ("a leaf of brackets", Leaf("()"), true),
     ("a leaf of a sign", Leaf("-"), true),
+    ("a text in quotes", Leaf("\"a\""), true),
+    ("a text without its last quotation mark", Leaf("\"a"), false),
+    ("a text in quotes and more", Leaf("\"a\"b"), false),
+    ("a character in quotes", Leaf("'a'"), true),
+    ("two characters in quotes", Leaf("'ab'"), false),
     ("a tuple of nothing", TupleOf("", &[]), false),
     ("a tuple of nothing by name", TupleOf("()", &[]), false),
     (
