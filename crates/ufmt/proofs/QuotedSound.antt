@@ -10,7 +10,7 @@ use Rattle.ufmt.proofs.Parsing.{beside_from, chosen_from, led_from, mapped_from,
 use Rattle.ufmt.proofs.QuotedComplete.{quoted-bytes}
 
 -- a byte that is read is spelled at the front
-read_escaped-sound : (q : ℕ) (t : List ℕ) (b : ℕ) (u : List ℕ) → read_escaped q t ≡ Some (b, u) → t ≡ escaped_byte q b ++ u
+pub read_escaped-sound : (q : ℕ) (t : List ℕ) (b : ℕ) (u : List ℕ) → read_escaped q t ≡ Some (b, u) → t ≡ escaped_byte q b ++ u
 read_escaped-sound q t b u h =
     let from = beside_from (told t) (strip (escaped_byte q (told t)) t) b u h in
     strip_found (escaped_byte q (told t)) t u from.0 ∙ ap (λ n. escaped_byte q n ++ u) from.1

@@ -15,6 +15,7 @@ pub mod Spelled
 pub mod Stacks
 pub mod Strips
 pub mod Symbols
+pub mod Unquoted
 pub mod WholeTexts
 pub mod Within
 pub mod WordBytes

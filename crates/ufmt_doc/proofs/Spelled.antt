@@ -6,7 +6,7 @@ use Rattle.std.proofs.lemmas.Bool.Decides.{nat_tests}
 use Rattle.std.proofs.lemmas.List.{take-append-drop}
 use Rattle.ufmt.specs.Quoted.{IsQuote, escape, escaped_byte, escaped_bytes, plain_len}
 use Rattle.ufmt.specs.Reading.{strip}
-use Rattle.ufmt.specs.ReadingQuoted.{read_inside, told}
+use Rattle.ufmt.specs.ReadingQuoted.{read_escaped, read_inside, told}
 use Rattle.ufmt_core.proofs.QuotedBytes.{escape-past_ascii}
 use Rattle.ufmt.proofs.Parsing.{strip_found}
 use Rattle.ufmt.proofs.QuotedComplete.{escaped-no_quote, length-escaped, length-escaped_bytes, quote_ascii, read_escaped-complete, read_inside-complete}
@@ -31,7 +31,7 @@ pub spelled_shorter : (q b : ℕ) (t u : List ℕ) → strip (escaped_byte q b) 
 spelled_shorter q b t u h = omega (arith, ap length (strip_found (escaped_byte q b) t u h), length-append (escaped_byte q b) u, length-escaped q b)
 
 -- bytes in a row are written in a row
-escaped_bytes-append : (q : ℕ) (bs cs : List ℕ) → escaped_bytes q (bs ++ cs) ≡ escaped_bytes q bs ++ escaped_bytes q cs
+pub escaped_bytes-append : (q : ℕ) (bs cs : List ℕ) → escaped_bytes q (bs ++ cs) ≡ escaped_bytes q bs ++ escaped_bytes q cs
 escaped_bytes-append q [] cs = refl
 escaped_bytes-append q (b ∷ bs) cs = ap (λ t. escaped_byte q b ++ t) (escaped_bytes-append q bs cs) ∙ sym (append_assoc (escaped_byte q b) (escaped_bytes q bs) (escaped_bytes q cs))
 
@@ -92,3 +92,7 @@ module _ (q : ℕ) where
       let n = length t - length h.0 in
       let enough : suc (length t) ≡ length h.0 + suc n = omega (arith, ap length h.1, length-append (escaped_bytes q h.0) u, length-escaped_bytes q h.0) in
       ap (λ o. option_map (λ x. x.1) o) (ap (read_inside q (suc (length t))) h.1 ∙ read_inside-past quote h.0 u (suc n) (suc (length t)) enough (read_inside-stops u n no_quote no_byte))
+
+-- so none is read there
+pub unspelled_past : (q : ℕ) (t : List ℕ) → IsQuote q → 255 < told t → slice_index t 0 ≡ 92 → read_escaped q t ≡ None
+unspelled_past q t quote past first = rw (spelled_past q t quote past first) refl

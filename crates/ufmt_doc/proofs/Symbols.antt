@@ -1,5 +1,5 @@
 -- Leaves that are no words: which is read at the front, and which texts are such leaves.
-use Rattle.std.proofs.Common.{List, None, Option, Some, [], ap, append-nil, arith, codes, false, inl, inr, refl, subst, sym, true, ℕ, ◌==◌, ◌∙◌, ◌∷◌, ◌≡◌, ◌≢◌, ◌⊎◌}
+use Rattle.std.proofs.Common.{List, None, Option, Some, [], ap, append-nil, arith, codes, false, inl, inr, refl, subst, sym, true, ℕ, ◌==◌, ◌∙◌, ◌∷◌, ◌≡◌, ◌≢◌, ◌⊎◌, ◌++◌}
 use Rattle.std.specs.List.{slice_get}
 use Rattle.std.specs.Option.{option_or}
 use Rattle.std.specs.Str.{is_utf8}
@@ -9,7 +9,8 @@ use Rattle.ufmt.specs.Reading.{choose, read_symbol, strip}
 use Rattle.ufmt.specs.ReadingQuoted.{is_char, read_between, read_quoted}
 use Rattle.ufmt.specs.Token.{IsTokenLeaf}
 use Rattle.ufmt.proofs.QuotedComplete.{read_quoted-complete}
-use Rattle.ufmt.proofs.TokenLeaves.{read_symbol_sound}
+use Rattle.ufmt.proofs.Parsing.{strip_found}
+use Rattle.ufmt.proofs.QuotedSound.{read_quoted-sound}
 use Rattle.ufmt_doc.specs.Within.{is_nothing, is_symbol}
 
 -- which leaf stands at the front is told by the first byte
@@ -51,17 +52,27 @@ module _ (t : List ℕ) (b : ℕ) (first : Some b ≡ slice_get t 0) where
       let is_no_unit : strip (codes "()") (b ∷ u.0) ≡ None = ap (strip (codes "()")) (sym u.1) ∙ unit in
       ap read_symbol u.1 ∙ rw (is_no_unit, text_differs, character_differs) refl
 
--- what is such a leaf from end to end can be read again
-pub is_symbol-sound : (text : List ℕ) → is_symbol text ≡ true → IsTokenLeaf text
-is_symbol-sound text h = go (read_symbol text) refl h
+-- what is such a leaf from end to end is `()` or quoted
+pub is_symbol-told : (text : List ℕ) → is_symbol text ≡ true → (text ≡ codes "()") ⊎ IsQuoted text
+is_symbol-told text h = go (strip (codes "()") text) refl h
   where
-    all : (x : List ℕ × List ℕ) → read_symbol text ≡ Some x → is_nothing x.1 ≡ true → IsTokenLeaf text
-    all (leaf, []) e k = let sound = read_symbol_sound text leaf [] e in subst IsTokenLeaf (sym (sound.1 ∙ append-nil leaf)) sound.0
-    all (leaf, c ∷ t) e k = absurd (cc)
+    nothing : (t : List ℕ) → is_nothing t ≡ true → t ≡ []
+    nothing [] k = refl
+    nothing (c ∷ t) k = absurd (cc)
 
-    go : (o : Option (List ℕ × List ℕ)) → read_symbol text ≡ o → choose o (λ x. is_nothing x.1) false ≡ true → IsTokenLeaf text
-    go None e k = absurd (cc)
-    go (Some x) e k = all x e k
+    quoted : (o : Option (List ℕ × List ℕ)) → read_quoted text ≡ o → choose o (λ x. is_nothing x.1) false ≡ true → IsQuoted text
+    quoted None e k = absurd (cc)
+    quoted (Some x) e k =
+        let sound = read_quoted-sound text x.0 x.1 e in
+        subst IsQuoted (sym (sound.1 ∙ ap (λ t. x.0 ++ t) (nothing x.1 k) ∙ append-nil x.0)) sound.0
+
+    go : (o : Option (List ℕ)) → strip (codes "()") text ≡ o → choose (choose o (λ u. Some (codes "()", u)) (read_quoted text)) (λ x. is_nothing x.1) false ≡ true → (text ≡ codes "()") ⊎ IsQuoted text
+    go None e k = inr (quoted (read_quoted text) refl k)
+    go (Some u) e k = inl (strip_found (codes "()") text u e ∙ ap (λ t. codes "()" ++ t) (nothing u k))
+
+-- so it can be read again
+pub is_symbol-sound : (text : List ℕ) → is_symbol text ≡ true → IsTokenLeaf text
+is_symbol-sound text h = record { shape = inr (is_symbol-told text h) }
 
 -- and `()`, and each quoted leaf, is one
 pub is_symbol-complete : (text : List ℕ) → (text ≡ codes "()") ⊎ IsQuoted text → is_symbol text ≡ true

@@ -11,5 +11,6 @@ pub mod Spelled
 pub mod Stack
 pub mod Steps
 pub mod Texts
+pub mod Unquoted
 pub mod Within
 pub mod Words

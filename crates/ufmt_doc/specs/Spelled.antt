@@ -1,5 +1,5 @@
 -- What stands in quotes, on the way to the closing quote.
-use Rattle.std.specs.Prelude.{◌≡◌, ℕ, suc, ◌<◌, ◌==◌, Bool, true, List, ◌++◌, length, Option, Some, option_map, IfSome}
+use Rattle.std.specs.Prelude.{◌≡◌, ℕ, suc, ◌<◌, ◌==◌, Bool, true, List, [], ◌∷◌, ◌++◌, length, Option, Some, option_map, IfSome}
 use Rattle.std.specs.Borrow.{Bor}
 use Rattle.std.specs.Char.{IsScalar}
 use Rattle.std.specs.Str.{all_scalars}
@@ -10,6 +10,10 @@ use Rattle.ufmt_doc.specs.Read.{now_of}
 -- what is left of a text behind bytes as they are written between two of these quotes
 abbrev pub SpelledBefore : ℕ → List ℕ → List ℕ → Type 0
 SpelledBefore quote whole left = (bs : List ℕ) × (whole ≡ escaped_bytes quote bs ++ left)
+
+-- these are the bytes that are written up to the closing quote, if one ends the text
+abbrev pub Tells : ℕ → List ℕ → List ℕ → Type 0
+Tells quote inside bytes = (bs : List ℕ) → inside ≡ escaped_bytes quote bs ++ (quote ∷ []) → bytes ≡ bs
 
 -- what follows the closing quote, behind the opening one
 abbrev pub behind_quote : ℕ → List ℕ → Option (List ℕ)

@@ -6,7 +6,7 @@ ghost use Rattle.ufmt_doc.specs.Read.{Gives};
 
 mod begin;
 mod error;
-mod escape;
+pub(crate) mod escape;
 pub(crate) mod level;
 mod open_block;
 mod open_blocks;

@@ -2,11 +2,15 @@
 ghost use Rattle.std.specs.Prelude.{◌≡◌, IfOk};
 ghost use Rattle.std.specs.Str.{chars};
 ghost use Rattle.ufmt.specs.Document.{leaf};
-ghost use Rattle.ufmt.specs.Quoted.{quoted_char, quoted_text};
+ghost use Rattle.ufmt.specs.Quoted.{IsQuote, quoted_char, quoted_text};
 ghost use Rattle.ufmt_doc.specs.Doc.{doc_document};
+ghost use Rattle.ufmt_doc.specs.Spelled.{Tells};
+ghost use Rattle.ufmt_doc.specs.Unquoted.{Unquotes};
 
 use super::Doc;
 use crate::convert::plain_text;
+use crate::reader::escape::split_escaped;
+use crate::reader::symbol::is_symbol;
 use std::alloc::{AllocError, Global};
 
 impl Doc {
@@ -25,4 +29,49 @@ impl Doc {
     {
         Ok(Doc::Leaf(plain_text(alloc, &character)?))
     }
+
+    /// The text of a leaf in quotation marks, or the one character of a leaf in apostrophes, without
+    /// its quotes and escapes, and `None` for anything else. It takes memory for that text.
+    pub fn unquoted(&self, alloc: Global) -> Result<Option<String>, AllocError>
+        ensures { IfOk result (λ answer. Unquotes (doc_document self.now) answer) }
+    {
+        match self.as_leaf() {
+            Some(leaf) => unquoted_leaf(alloc, leaf),
+            None => Ok(None),
+        }
+    }
+}
+
+// What stands between the quotes of a leaf that has them.
+fn unquoted_leaf(alloc: Global, text: &str) -> Result<Option<String>, AllocError>
+    ensures { IfOk result (λ answer. Unquotes (leaf text.now) answer) }
+{
+    let Some((first, inside)) = text.as_bytes().split_first() else {
+        return Ok(None);
+    };
+    let quote = *first;
+    if !is_symbol(text) {
+        return Ok(None);
+    }
+    if quote == b'(' {
+        return Ok(None);
+    }
+    match String::from_utf8(told_bytes(alloc, quote, inside)?) {
+        Ok(text) => Ok(Some(text)),
+        Err(_) => Ok(None),
+    }
+}
+
+// The bytes that are written up to the closing quote.
+fn told_bytes(alloc: Global, quote: u8, inside: &[u8]) -> Result<Vec<u8>, AllocError>
+    requires { IsQuote quote }
+    ensures { IfOk result (λ bytes. Tells quote inside.now bytes.items) }
+{
+    let mut bytes = Vec::new(alloc);
+    let mut rest = inside;
+    'bytes: while let Some((byte, behind)) = split_escaped(quote, rest) {
+        bytes.push(byte)?;
+        rest = behind;
+    }
+    Ok(bytes)
 }

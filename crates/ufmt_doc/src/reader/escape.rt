@@ -1,21 +1,40 @@
 //! Bytes as they are written between quotes, each in its one spelling.
-ghost use Rattle.std.specs.Prelude.{◌≡◌, ◌<◌, ◌≤◌};
+ghost use Rattle.std.specs.Prelude.{◌≡◌, ◌<◌, ◌≤◌, option_map};
 ghost use Rattle.std.specs.Char.{digit_value};
 ghost use Rattle.std.specs.List.{slice_index};
 ghost use Rattle.ufmt.specs.Quoted.{IsQuote, escaped_byte};
 ghost use Rattle.ufmt.specs.Reading.{strip};
-ghost use Rattle.ufmt.specs.ReadingQuoted.{told, told_escape, told_number};
+ghost use Rattle.ufmt.specs.ReadingQuoted.{read_escaped, told, told_escape, told_number};
 ghost use Rattle.ufmt_doc.specs.Read.{now_of};
 
 use crate::reader::level::{strip, strip_byte};
 use ufmt::quoted::escape;
 
 /// What follows the byte that is written at the front, between these quotes.
+#[inline(always)]
 pub(super) fn strip_escaped(quote: u8, input: &[u8]) -> Option<&[u8]>
     requires { IsQuote quote }
     ensures { now_of result ≡ strip (escaped_byte quote (told input.now)) input.now }
 {
+    let (_, rest) = split_escaped(quote, input)?;
+    Some(rest)
+}
+
+/// The byte that is written at the front, between these quotes, and what follows it.
+pub(crate) fn split_escaped(quote: u8, input: &[u8]) -> Option<(u8, &[u8])>
+    requires { IsQuote quote }
+    ensures { option_map (λ x. (x.0, x.1.now)) result ≡ read_escaped quote input.now }
+{
     let byte = u8::try_from(told(input)).ok()?;
+    Some((byte, strip_spelling(quote, byte, input)?))
+}
+
+// What follows this byte, as it is written between these quotes.
+#[inline(always)]
+fn strip_spelling(quote: u8, byte: u8, input: &[u8]) -> Option<&[u8]>
+    requires { IsQuote quote }
+    ensures { now_of result ≡ strip (escaped_byte quote byte) input.now }
+{
     match escape(byte, quote) {
         Some(spelling) => strip(spelling.as_bytes(), input),
         None => strip_byte(byte, input),

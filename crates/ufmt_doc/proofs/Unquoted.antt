@@ -1,0 +1,115 @@
+-- What stands between the quotes of a leaf is told byte by byte.
+use Rattle.std.proofs.Common.{◌≡◌, ◌≢◌, inl, inr, refl, sym, ap, ◌∙◌, ℕ, true, false, List, [], ◌∷◌, ◌++◌, drop, length, Option, Some, None, get_or, append_assoc, append-nil, length-append, ◌<◌, arith}
+use Rattle.std.specs.Str.{IsUtf8, all_scalars, chars, encode_utf8_all}
+use Rattle.std.proofs.lemmas.Str.{chars-encodes}
+use Rattle.ufmt.specs.Document.{leaf}
+use Rattle.ufmt.specs.Quoted.{IsQuote, IsQuoted, escaped_byte, escaped_bytes, quoted, quoted_text}
+use Rattle.ufmt.specs.ReadingQuoted.{read_escaped}
+use Rattle.ufmt.specs.Reading.{strip}
+use Rattle.ufmt.proofs.Parsing.{same_parts, strip_stands}
+use Rattle.ufmt.proofs.QuotedComplete.{escaped-no_quote, length-escaped, quoted-bytes, read_escaped-complete}
+use Rattle.ufmt.proofs.QuotedSound.{read_escaped-sound}
+use Rattle.ufmt_doc.specs.Spelled.{Tells}
+use Rattle.ufmt_doc.specs.Unquoted.{IsInQuotes}
+use Rattle.ufmt_doc.specs.Within.{is_symbol}
+use Rattle.ufmt_doc.proofs.Symbols.{is_symbol-complete, is_symbol-told}
+use Rattle.ufmt_doc.proofs.Spelled.{escaped_bytes-append}
+
+-- where no byte is read any more, all were
+module _ (q : ℕ) (quote : IsQuote q) where
+  pub told_all : (bytes rest bs : List ℕ) → read_escaped q rest ≡ None → escaped_bytes q bytes ++ rest ≡ escaped_bytes q bs ++ (q ∷ []) → bytes ≡ bs
+  told_all [] rest [] stops is = refl
+  told_all [] rest (b ∷ bs) stops is =
+      let more = escaped_bytes q bs ++ (q ∷ []) in
+      let read : read_escaped q rest ≡ Some (b, more) = ap (read_escaped q) (is ∙ append_assoc (escaped_byte q b) (escaped_bytes q bs) (q ∷ [])) ∙ read_escaped-complete q b more quote in
+      let none : ◌≡◌ {A = Option (ℕ × List ℕ)} None (Some (b, more)) = sym stops ∙ read in
+      absurd (cc)
+  told_all (b ∷ bytes) rest [] stops is =
+      let more = escaped_bytes q bytes ++ rest in
+      let no_quote = escaped-no_quote q b more quote in
+      let at_quote : strip (q ∷ []) (escaped_byte q b ++ more) ≡ strip (q ∷ []) (q ∷ []) = ap (strip (q ∷ [])) (sym (append_assoc (escaped_byte q b) (escaped_bytes q bytes) rest) ∙ is) in
+      let none : ◌≡◌ {A = Option (List ℕ)} None (Some []) = sym no_quote ∙ at_quote ∙ strip_stands (q ∷ []) [] in
+      absurd (cc)
+  told_all (b ∷ bytes) rest (d ∷ bs) stops is =
+      let more = escaped_bytes q bytes ++ rest in
+      let others = escaped_bytes q bs ++ (q ∷ []) in
+      let same : escaped_byte q b ++ more ≡ escaped_byte q d ++ others = sym (append_assoc (escaped_byte q b) (escaped_bytes q bytes) rest) ∙ is ∙ append_assoc (escaped_byte q d) (escaped_bytes q bs) (q ∷ []) in
+      let read = sym (read_escaped-complete q b more quote) ∙ ap (read_escaped q) same ∙ read_escaped-complete q d others quote in
+      let parts = same_parts {A = ℕ} {B = List ℕ} (b, more) (d, others) read in
+      let rest_is = told_all bytes rest bs stops parts.1 in
+      cc
+
+-- a byte that is read leaves less
+pub read_shorter : (q : ℕ) (t : List ℕ) (b : ℕ) (u : List ℕ) → read_escaped q t ≡ Some (b, u) → length u < length t
+read_shorter q t b u h = omega (arith, ap length (read_escaped-sound q t b u h), length-append (escaped_byte q b) u, length-escaped q b)
+
+-- and stands behind those before it
+pub told_more : (q : ℕ) (inside bytes rest items : List ℕ) (b : ℕ) (u : List ℕ) → inside ≡ escaped_bytes q bytes ++ rest → read_escaped q rest ≡ Some (b, u) → items ≡ bytes ++ (b ∷ []) → inside ≡ escaped_bytes q items ++ u
+told_more q inside bytes rest items b u before h is =
+    before ∙ ap (λ t. escaped_bytes q bytes ++ t) (read_escaped-sound q rest b u h ∙ ap (λ t. t ++ u) (sym (append-nil (escaped_byte q b)))) ∙ sym (append_assoc (escaped_bytes q bytes) (escaped_bytes q (b ∷ [])) u)
+    ∙ ap (λ t. t ++ u) (sym (escaped_bytes-append q bytes (b ∷ []))) ∙ ap (λ bs. escaped_bytes q bs ++ u) (sym is)
+
+-- a leaf is quoted where its text is
+leaf_text : (t text : List ℕ) → leaf t ≡ leaf text → t ≡ text
+leaf_text t text h = cc
+
+-- what is no leaf but a word and `()` has no quotes
+pub no_symbol_unquoted : (t : List ℕ) → is_symbol t ≡ false → (text : List ℕ) → IsQuoted text → leaf t ≢ leaf text
+no_symbol_unquoted t h text quoted e =
+    let same = leaf_text t text e in
+    let symbol : is_symbol t ≡ true = ap is_symbol same ∙ is_symbol-complete text (inr quoted) in
+    absurd (cc)
+
+-- nor has what begins with a parenthesis
+pub unit_unquoted : (t inside : List ℕ) → t ≡ 40 ∷ inside → (text : List ℕ) → IsQuoted text → leaf t ≢ leaf text
+unit_unquoted t inside is text (inl of_text) e = omega (arith, ap (λ (u : List ℕ). get_or u 0 0) (sym is ∙ leaf_text t text e ∙ of_text.2))
+unit_unquoted t inside is text (inr of_char) e = omega (arith, ap (λ (u : List ℕ). get_or u 0 0) (sym is ∙ leaf_text t text e ∙ of_char.2))
+
+-- nothing is no quoted leaf
+pub nothing_unquoted : (t : List ℕ) → t ≡ [] → (text : List ℕ) → IsQuoted text → leaf t ≢ leaf text
+nothing_unquoted t is text (inl of_text) e = let u = sym is ∙ leaf_text t text e ∙ of_text.2 in absurd (cc)
+nothing_unquoted t is text (inr of_char) e = let u = sym is ∙ leaf_text t text e ∙ of_char.2 in absurd (cc)
+
+module _ (t inside : List ℕ) (q : ℕ) (front : t ≡ q ∷ inside) (symbol : is_symbol t ≡ true) (other : q ≢ 40) where
+  is_quoted : IsQuoted t
+  is_quoted = elim (is_symbol-told t symbol) [ inl unit ↦ absurd (other (ap (λ (u : List ℕ). get_or u 0 0) (sym front ∙ unit))) | inr quoted ↦ quoted ]
+
+  pub first_is_quote : IsQuote q
+  first_is_quote = elim is_quoted [ inl of_text ↦ inl (ap (λ (u : List ℕ). get_or u 0 0) (sym front ∙ of_text.2)) | inr of_char ↦ inr (ap (λ (u : List ℕ). get_or u 0 0) (sym front ∙ of_char.2)) ]
+
+  -- the characters between the quotes, whose bytes were told
+  pub record Told (bytes : List ℕ) : Type 0 where
+    pub characters : List ℕ
+    pub scalars : all_scalars characters ≡ true
+    pub are : encode_utf8_all characters ≡ bytes
+    pub in_quotes : (text : List ℕ) → chars text ≡ characters → IsInQuotes (leaf t) text
+
+  -- between two quotes the bytes of these characters are told
+  between : (k : ℕ) (cs : List ℕ) → IsQuote k → t ≡ quoted k cs → inside ≡ escaped_bytes q (encode_utf8_all cs) ++ (q ∷ [])
+  between k cs quote is =
+      let whole = sym front ∙ is ∙ quoted-bytes k cs quote in
+      let same : q ≡ k = ap (λ (u : List ℕ). get_or u 0 0) whole in
+      ap (drop 1) whole ∙ ap (λ n. escaped_bytes n (encode_utf8_all cs) ++ (n ∷ [])) (sym same)
+
+  pub told_between : (bytes : List ℕ) → Tells q inside bytes → Told bytes
+  told_between bytes tells = go is_quoted
+    where
+      go : IsQuoted t → Told bytes
+      go (inl of_text) = record {
+        characters = of_text.0;
+        scalars = of_text.1;
+        are = sym (tells (encode_utf8_all of_text.0) (between 34 of_text.0 (inl refl) of_text.2));
+        in_quotes = λ text same. inl (ap leaf (of_text.2 ∙ ap quoted_text (sym same)));
+      }
+      go (inr of_char) = record {
+        characters = of_char.0 ∷ [];
+        scalars = rw of_char.1 refl;
+        are = sym (tells (encode_utf8_all (of_char.0 ∷ [])) (between 39 (of_char.0 ∷ []) (inr refl) of_char.2));
+        in_quotes = λ text same. inr (of_char.0, same, ap leaf of_char.2);
+      }
+
+  pub told_text : (bytes text : List ℕ) → Tells q inside bytes → text ≡ bytes → IsInQuotes (leaf t) text
+  told_text bytes text tells is = let told = told_between bytes tells in told.in_quotes text (ap chars (is ∙ sym told.are) ∙ chars-encodes told.characters told.scalars)
+
+  pub told_utf8 : (bytes : List ℕ) → Tells q inside bytes → IsUtf8 bytes
+  told_utf8 bytes tells = let told = told_between bytes tells in (told.characters, (told.scalars, told.are))
