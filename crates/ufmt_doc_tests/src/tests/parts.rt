@@ -20,12 +20,14 @@ fn counts(doc: &Doc) -> Counts {
 // Whether a document is a set, its text as a leaf, its name, and how many parts it has.
 type Row<'a> = (bool, Option<&'a str>, Option<&'a str>, Counts);
 
+fn is_set(doc: &Doc) -> bool {
+    matches!(doc, Doc::SetOf(_))
+}
+
 fn is_alike(doc: &Doc, row: Row<'_>) -> bool {
-    let (is_set, leaf, name, parts) = row;
-    matches!(doc, Doc::SetOf(_)) == is_set
-        && doc.as_leaf() == leaf
-        && doc.name() == name
-        && counts(doc) == parts
+    let (wanted, leaf, name, parts) = row;
+    let has_words = doc.as_leaf() == leaf && doc.name() == name;
+    has_words && is_set(doc) == wanted && counts(doc) == parts
 }
 
 fn is_read(alloc: Global, mode: Mode, text: &str, row: Row<'_>) -> Result<bool, ReadError> {
@@ -141,17 +143,21 @@ fn fields_are_found_by_their_labels(rt: HostRuntime) -> Result<(), Fail> {
     Ok(())
 }
 
-// The part at this place, where it is a leaf, with the leaf or the label before it.
+fn leaf_or_mark(doc: &Doc) -> &str {
+    doc.as_leaf().unwrap_or("?")
+}
+
+// The leaf at this place, with the leaf or the label before it.
 fn part(doc: &Doc, place: usize) -> Option<(&str, &str)> {
     if let Some(entries) = doc.entries() {
-        return Some(("", entries.get(place)?.as_leaf()?));
+        return Some(("", leaf_or_mark(entries.get(place)?)));
     }
     if let Some(pairs) = doc.pairs() {
         let (key, value) = pairs.get(place)?;
-        return Some((key.as_leaf()?, value.as_leaf()?));
+        return Some((leaf_or_mark(key), leaf_or_mark(value)));
     }
     let (label, value) = doc.fields()?.get(place)?;
-    Some((label.as_str(), value.as_leaf()?))
+    Some((label.as_str(), leaf_or_mark(value)))
 }
 
 // Whether these are the parts, and there is no third.
