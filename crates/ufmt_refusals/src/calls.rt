@@ -2,8 +2,10 @@
 use crate::answer::Answer;
 use crate::node::two_nodes;
 use crate::samples::{NODE_PLAIN, NODE_PRETTY, Sample};
+use std::alloc::{AllocError, Global};
 use std::io;
 use ufmt_doc::convert::{plain_text, pretty_text, to_plain, to_pretty};
+use ufmt_doc::doc::Doc;
 use ufmt_doc::plain_reader::read_plain;
 use ufmt_doc::pretty_reader::read_pretty;
 
@@ -35,7 +37,18 @@ pub fn report_values(rt: &HostRuntime) -> io::Result<()> {
     report(rt, "plain_text", "three lengths", answer)?;
     let pretty = "[\n    2,\n    0,\n    3,\n]";
     let answer = Answer::of_text(pretty_text(rt.alloc(), &lengths), pretty);
-    report(rt, "pretty_text", "three lengths", answer)
+    report(rt, "pretty_text", "three lengths", answer)?;
+    let answer = Answer::of_text(text_again(rt.alloc()), "a\"b");
+    report(rt, "text and unquoted", "a text", answer)
+}
+
+// A text that was put in quotes and taken out of them.
+fn text_again(alloc: Global) -> Result<String, AllocError> {
+    let doc = Doc::text(alloc, "a\"b")?;
+    match doc.unquoted(alloc)? {
+        Some(text) => Ok(text),
+        None => Ok(String::new(alloc)),
+    }
 }
 
 fn report(rt: &HostRuntime, call: &str, case: &str, answer: Answer) -> io::Result<()> {

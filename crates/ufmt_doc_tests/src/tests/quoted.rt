@@ -27,6 +27,14 @@ fn each_ascii_character_is_printed_and_read_back(rt: HostRuntime) -> Result<(), 
     Ok(())
 }
 
+// Whether this is what the leaf has between its quotes.
+fn comes_back(alloc: Global, doc: &Doc, text: &str) -> Result<bool, AllocError> {
+    match doc.unquoted(alloc)? {
+        Some(told) => Ok(told.as_str() == text),
+        None => Ok(false),
+    }
+}
+
 // A text as it is, and as it stands in a leaf.
 const LEAVES: [(&str, &str); 5] = [
     ("", "\"\""),
@@ -42,11 +50,26 @@ fn documents_are_made_of_texts_and_characters(rt: HostRuntime) -> Result<(), Fai
         let doc = Doc::text(rt.alloc(), text)?;
         holds(&rt, doc.is_token(), leaf);
         holds(&rt, has_plain_text(rt.alloc(), &doc, leaf.as_bytes()), leaf);
+        holds(&rt, comes_back(rt.alloc(), &doc, text)?, leaf);
     }
     for (character, leaf) in [('a', "'a'"), ('\'', "'\\''"), ('\u{7f}', "'\\u{7f}'")] {
         let doc = Doc::character(rt.alloc(), character)?;
         holds(&rt, doc.is_token(), leaf);
         holds(&rt, has_plain_text(rt.alloc(), &doc, leaf.as_bytes()), leaf);
+        let mut text = String::new(rt.alloc());
+        text.push(character)?;
+        holds(&rt, comes_back(rt.alloc(), &doc, &text)?, leaf);
     }
+    Ok(())
+}
+
+#[test]
+fn what_is_no_leaf_in_quotes_has_no_text(rt: HostRuntime) -> Result<(), Fail> {
+    for leaf in ["", "x", "()", "\"a", "'ab'", "\"\\u{41}\""] {
+        let doc = Doc::Leaf(String::from_str(rt.alloc(), leaf)?);
+        holds(&rt, doc.unquoted(rt.alloc())?.is_none(), leaf);
+    }
+    let doc = Doc::Listed(Vec::new(rt.alloc()));
+    holds(&rt, doc.unquoted(rt.alloc())?.is_none(), "a list");
     Ok(())
 }
