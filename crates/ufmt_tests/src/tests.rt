@@ -23,6 +23,7 @@ mod macros;
 mod numbers;
 mod printed;
 mod quoted;
+mod read_back;
 mod repeated;
 mod rows;
 mod stopped_calls;

@@ -217,7 +217,6 @@ fn pretty_and_plain_lead_to_each_other(rt: HostRuntime) {
             "[\n    \"]\",\n    '}',\n]\n",
             "[\"]\", '}']\n",
         ),
-        (Command::Pretty, "\"\\u{1b}\"\n", "\"\\u{1b}\"\n"),
     ];
     for (command, input, written) in rows {
         let given = ran_by(
@@ -240,6 +239,57 @@ fn pretty_and_plain_lead_to_each_other(rt: HostRuntime) {
     }
 }
 
+// Leaves in quotes, each of which has one text in both modes.
+#[test]
+fn leaves_in_quotes_are_answered(rt: HostRuntime) {
+    for line in [
+        "\"\\u{1b}\"\n",
+        "\"é\"\n",
+        "'\"'\n",
+        "\"'\"\n",
+        "'\\''\n",
+        "\"\"\n",
+    ] {
+        for command in [Command::Pretty, Command::Plain] {
+            let input = line.trim_end().as_bytes();
+            let given = ran_by(rt.alloc(), command, input, WHOLE, line.as_bytes());
+            same(&rt, given, wanted(Ok(())), line);
+        }
+    }
+}
+
+// What stands in no quotes, in wrong ones, or where a name is to stand.
+const MISQUOTED: [&[u8]; 20] = [
+    b"'''",
+    b"\"\"\"",
+    b"\"a",
+    b"'ab'",
+    b"''",
+    b"\"\\x\"",
+    b"\"\\u{41}\"",
+    b"\"\\u{1B}\"",
+    b"\"\\u{07f}\"",
+    b"\"\\u{7F}\"",
+    b"\"\\u{a}\"",
+    b"'\\\"'",
+    b"\"\\'\"",
+    b"S { \"a\": b }",
+    b"\"S\"(x)",
+    b"\"\xff\"",
+    b"\xc3\xa9",
+    b"\"\t\"",
+    b"\"\n\"",
+    b"\"\x7f\"",
+];
+
+#[test]
+fn what_is_quoted_otherwise_is_refused(rt: HostRuntime) {
+    for input in MISQUOTED {
+        let given = ran_by(rt.alloc(), Command::Pretty, input, WHOLE, b"");
+        same(&rt, given, wanted(Err(Fault::NotPlain)), "a leaf");
+    }
+}
+
 // A text that is refused by one byte a call and as a whole. `ufmt_doc_tests` has more such texts.
 #[test]
 fn what_is_no_text_is_refused(rt: HostRuntime) {
@@ -248,8 +298,6 @@ fn what_is_no_text_is_refused(rt: HostRuntime) {
         (Command::Pretty, "\n", Fault::NotPlain),
         (Command::Pretty, "[]\n\n", Fault::NotPlain),
         (Command::Pretty, "[\n1]", Fault::NotPlain),
-        (Command::Pretty, "\"\\u{07f}\"", Fault::NotPlain),
-        (Command::Pretty, "''", Fault::NotPlain),
         (Command::Pretty, "[\n    1,\n]", Fault::NotPlain),
         (Command::Plain, "", Fault::NotPretty),
         (Command::Plain, "\n", Fault::NotPretty),
