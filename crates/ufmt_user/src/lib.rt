@@ -20,7 +20,7 @@ pub use dump::dump_packet;
 pub use json::Json;
 pub use kind::Kind;
 pub use logger::{Reading, log};
-pub use message::Message;
+pub use message::{Message, print};
 pub use nested::Nested;
 pub use node::{Node, Tree};
 pub use pair::Pair;

@@ -1,33 +1,36 @@
-//! A message with texts in it, which print in quotes.
+//! A message with a text in it, which prints in quotes, in a buffer of a fixed size.
 ghost use Rattle.std.specs.Prelude.{[], ◌∷◌};
-ghost use Rattle.ufmt.specs.Words.{character, named_struct, str, string};
+ghost use Rattle.ufmt.specs.Buffer.{Fronts};
+ghost use Rattle.ufmt.specs.Layout.{plain_text};
+ghost use Rattle.ufmt.specs.Words.{character, named_struct, number, str};
 
-use ufmt::{Formatter, fields, uDebug, uWrite};
+use ufmt::{Formatter, Full, debug_into, fields, uDebug, uWrite};
 
-/// What a device says, and how urgent it is.
+/// What a node of a network says, and how urgent it is.
 #[derive(Drop)]
 pub struct Message<'a> {
-    pub device: String,
-    pub text: &'a str,
+    pub node: u16,
     pub level: char,
+    pub text: &'a str,
 }
 
 impl uDebug for Message<'_> {
     ghost document = { λ m. named_struct "Message"
-        (("device", string m.device) ∷ ("text", str m.text) ∷ ("level", character m.level) ∷ []) };
+        (("node", number m.node) ∷ ("level", character m.level) ∷ ("text", str m.text) ∷ []) };
 
     fn fmt<W>(&self, f: &mut Formatter<W>) -> Result<(), W::Error>
     where
         W: uWrite,
     {
-        fields!(
-            f,
-            self,
-            Message {
-                device,
-                text,
-                level
-            }
-        )
+        fields!(f, self, Message { node, level, text })
     }
+}
+
+/// Puts the message at the front of the buffer, and answers how many bytes it has. Where it doesn't
+/// fit the answer is `Full`, and the buffer begins with the pieces of the message that did.
+pub fn print(buffer: &mut [u8], message: &Message) -> Result<usize, Full>
+    ensures { Fronts buffer.old (plain_text (⟦<Message as uDebug>⟧.document message.now)) result
+        buffer.new }
+{
+    debug_into(buffer, message)
 }

@@ -91,13 +91,13 @@ fn values_with_texts_print(rt: HostRuntime) {
         "{\n    \"k\": Some(\n        'c',\n    ),\n}",
     );
     let message = Message {
-        device: rows.made(String::from_str(rt.alloc(), "pump 2")),
-        text: "valve is \"open\"",
+        node: 2,
         level: '!',
+        text: "valve is \"open\"",
     };
     rows.row(
         &message,
-        r#"Message { device: "pump 2", text: "valve is \"open\"", level: '!' }"#,
-        "Message {\n    device: \"pump 2\",\n    text: \"valve is \\\"open\\\"\",\n    level: '!',\n}",
+        r#"Message { node: 2, level: '!', text: "valve is \"open\"" }"#,
+        "Message {\n    node: 2,\n    level: '!',\n    text: \"valve is \\\"open\\\"\",\n}",
     );
 }

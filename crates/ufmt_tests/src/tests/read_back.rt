@@ -7,13 +7,12 @@ use ufmt_user::Message;
 
 // Whether a message of this character is itself again, read and printed, and converted both ways.
 fn comes_back(alloc: Global, character: char) -> Result<bool, AllocError> {
-    let mut device = String::new(alloc);
-    device.push(character)?;
-    let text = String::from_str(alloc, device.as_str())?;
+    let mut text = String::new(alloc);
+    text.push(character)?;
     let message = Message {
-        device,
-        text: text.as_str(),
+        node: 2,
         level: character,
+        text: text.as_str(),
     };
     let plain = plain_text(alloc, &message)?;
     let Ok(doc) = read_plain(alloc, plain.as_bytes()) else {

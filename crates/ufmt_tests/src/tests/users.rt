@@ -2,7 +2,9 @@
 use super::forwarded;
 use super::rows::Rows;
 use ufmt::Full;
-use ufmt_user::{I32, Kind, Nested, Node, Pair, Port, Ports, Reading, Scores, Tree, Users, Y, log};
+use ufmt_user::{
+    I32, Kind, Message, Nested, Node, Pair, Port, Ports, Reading, Scores, Tree, Users, Y, log, print,
+};
 
 #[test]
 fn structs_and_enums(rt: HostRuntime) {
@@ -105,6 +107,30 @@ fn pieces_of_a_log(rt: HostRuntime) {
     ] {
         let mut buffer = [b'.'; 64];
         let result = log(&mut buffer[..length], &reading, 0xbeef);
+        rows.same((length, result), (length, answer), left);
+        rows.same(buffer.as_slice(), left.as_bytes(), left);
+    }
+}
+
+#[test]
+fn a_message_in_a_buffer(rt: HostRuntime) {
+    let rows = Rows::of("a message", &rt);
+    let message = Message {
+        node: 2,
+        level: '!',
+        text: "valve is \"open\"",
+    };
+    let line = r#"Message { node: 2, level: '!', text: "valve is \"open\"" }......"#;
+    let without_end = r#"Message { node: 2, level: '!', text: "valve is \"open\"" ......."#;
+    let beginning = "Message { node: 2...............................................";
+    for (length, answer, left) in [
+        (64, Ok(58), line),
+        (58, Ok(58), line),
+        (57, Err(Full), without_end),
+        (18, Err(Full), beginning),
+    ] {
+        let mut buffer = [b'.'; 64];
+        let result = print(&mut buffer[..length], &message);
         rows.same((length, result), (length, answer), left);
         rows.same(buffer.as_slice(), left.as_bytes(), left);
     }
