@@ -175,18 +175,15 @@ fn a_long_line_is_answered(rt: HostRuntime) -> Result<(), Fail> {
 }
 
 // The README shows these two lines; `.ci/run` compares the second.
-const README_PLAIN: &str = "Node { value: 1, next: Some(Node { value: 0, next: None }) }\n";
+const README_PLAIN: &str = "[Reading { channel: 3, celsius: -4 }]\n";
 
 const README_PRETTY: &str = "\
-Node {
-    value: 1,
-    next: Some(
-        Node {
-            value: 0,
-            next: None,
-        },
-    ),
-}
+[
+    Reading {
+        channel: 3,
+        celsius: -4,
+    },
+]
 ";
 
 // A text with a line feed and without one is the same text. `ufmt_doc_tests` has more texts.
