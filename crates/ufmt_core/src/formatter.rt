@@ -1,3 +1,4 @@
+//! The formatter: a writer, a mode and a depth.
 ghost use Rattle.std.specs.Prelude.{◌≡◌, ◌↔◌, ℕ, is_ok, encode_utf8, IsTrue};
 ghost use Rattle.ufmt_core.specs.declared.formatter.Mode.TheVariants.{Pretty};
 ghost use Rattle.std.specs.Borrow.{MutBor};

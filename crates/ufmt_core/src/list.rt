@@ -1,3 +1,4 @@
+//! The builder of lists, and the calls that it shares with that of sets.
 ghost use Rattle.std.specs.Prelude.{codes, is_ok, map, true, IfOk, OnOk};
 ghost use Rattle.std.specs.Borrow.{sem};
 ghost use Rattle.std.specs.Iterator.{IsFiniteIterable};

@@ -1,3 +1,4 @@
+//! The builder of maps.
 ghost use Rattle.std.specs.Prelude.{◌≡◌, List, codes, is_ok, map, true, Err, IfErr, IfOk, OnErr, OnOk};
 ghost use Rattle.std.specs.Borrow.{sem};
 ghost use Rattle.std.specs.Iterator.{AlwaysYields, IsFiniteIterable};

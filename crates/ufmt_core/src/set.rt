@@ -1,3 +1,4 @@
+//! The builder of sets.
 ghost use Rattle.std.specs.Prelude.{List, codes, is_ok, map, IfOk};
 ghost use Rattle.std.specs.Borrow.{sem};
 ghost use Rattle.std.specs.Iterator.{AlwaysYields, IsFiniteIterable};

@@ -1,3 +1,4 @@
+//! The builder of tuples.
 ghost use Rattle.std.specs.Prelude.{◌≡◌, is_ok, true, IfOk, OnOk};
 ghost use Rattle.std.specs.Borrow.{sem};
 ghost use Rattle.ufmt_core.specs.declared.formatter.builder.Status.TheVariants.{Lent};

@@ -1,3 +1,4 @@
+//! A call of each law.
 use super::{has_plain_text, holds};
 use std::alloc::Global;
 use std::test::Fail;

@@ -1,3 +1,4 @@
+//! The parts of documents that were read.
 use super::holds;
 use super::mode::Mode;
 use super::verdict::read;

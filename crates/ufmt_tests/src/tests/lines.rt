@@ -1,3 +1,4 @@
+//! Lines of several pieces, to writers and into buffers.
 use super::rows::Rows;
 use std::alloc::{AllocError, Global};
 use std::test::Fail;

@@ -3,7 +3,8 @@ use super::forwarded;
 use super::rows::Rows;
 use ufmt::Full;
 use ufmt_user::{
-    I32, Kind, Message, Nested, Node, Pair, Port, Ports, Reading, Scores, Tree, Users, Y, log, print,
+    I32, Kind, Message, Nested, Node, Pair, Port, Ports, Reading, Scores, Tree, Users, Y, log,
+    print,
 };
 
 #[test]
