@@ -2,7 +2,7 @@
 use Rattle.std.proofs.Common.{◌≡◌, ◌⊎◌, inl, inr, ap, sym, ◌∙◌, subst, ℕ, zero, suc, List, [], ◌∷◌, ◌++◌, map, length, Some, None, codes, append_assoc}
 use Rattle.std.specs.Prelude.{⊤}
 use Rattle.ufmt_core.specs.Document.{Document}
-use Rattle.ufmt_core.specs.Layout.{Frame, inside, lead, ending, trail, next, rest}
+use Rattle.ufmt_core.specs.Layout.{Frame, inside, lead, ending, trail, next, block_tail}
 use Rattle.ufmt_core.specs.declared.formatter.Mode.{Mode}
 use Rattle.ufmt_core.specs.declared.formatter.Setting.{Setting}
 use Rattle.ufmt_core.specs.declared.formatter.block.Place.{Place}
@@ -40,18 +40,18 @@ entry_whole : (t v w start text after left u : List ℕ) → t ≡ start ++ v �
 entry_whole t v w start text after left u a b c = rw (a, b, c) (sym (entry_assoc start text after left u))
 
 -- what is read in one turn, or as the end, is the rest of a block, where what is read in the next turns is
-read_rest_step : {A : Type 0} (q : Parse A) (Good : A → Type 0) (text : A → List ℕ) (f : Frame) (s : Setting) → Finds q Good text → (place : Place) (more : Parse (List A)) (t : List ℕ) (xs : List A) (u : List ℕ) → ((v : List ℕ) (ys : List A) → more v ≡ Some (ys, u) → AreGood Good ys × (v ≡ rest f s (next place) (map text ys) ++ u)) → ((v : List ℕ) × (strip (lead f (inside s) place) t ≡ Some v) × (read_turn q s.mode more v ≡ Some (xs, u))) ⊎ ((strip (lead f (inside s) place) t ≡ None) × (read_end f s place t ≡ Some (xs, u))) → AreGood Good xs × (t ≡ rest f s place (map text xs) ++ u)
+read_rest_step : {A : Type 0} (q : Parse A) (Good : A → Type 0) (text : A → List ℕ) (f : Frame) (s : Setting) → Finds q Good text → (place : Place) (more : Parse (List A)) (t : List ℕ) (xs : List A) (u : List ℕ) → ((v : List ℕ) (ys : List A) → more v ≡ Some (ys, u) → AreGood Good ys × (v ≡ block_tail f s (next place) (map text ys) ++ u)) → ((v : List ℕ) × (strip (lead f (inside s) place) t ≡ Some v) × (read_turn q s.mode more v ≡ Some (xs, u))) ⊎ ((strip (lead f (inside s) place) t ≡ None) × (read_end f s place t ≡ Some (xs, u))) → AreGood Good xs × (t ≡ block_tail f s place (map text xs) ++ u)
 read_rest_step q Good text f s finds place more t xs u later (inl h) =
     let found = read_turn_sound q Good text s.mode more finds h.0 xs u h.2 in
     let left = later found.1 found.2 found.5 in
-    subst (λ ys. AreGood Good ys × (t ≡ rest f s place (map text ys) ++ u)) found.6
-    ((found.3, left.0), entry_whole t h.0 found.1 (lead f (inside s) place) (text found.0) (trail s.mode) (rest f s (next place) (map text found.2)) u (strip_found (lead f (inside s) place) t h.0 h.1) found.4 left.1)
+    subst (λ ys. AreGood Good ys × (t ≡ block_tail f s place (map text ys) ++ u)) found.6
+    ((found.3, left.0), entry_whole t h.0 found.1 (lead f (inside s) place) (text found.0) (trail s.mode) (block_tail f s (next place) (map text found.2)) u (strip_found (lead f (inside s) place) t h.0 h.1) found.4 left.1)
 read_rest_step q Good text f s finds place more t xs u later (inr h) =
     let end = beside_from [] (strip (ending f s place) t) xs u h.1 in
-    subst (λ ys. AreGood Good ys × (t ≡ rest f s place (map text ys) ++ u)) end.1 (tt, strip_found (ending f s place) t u end.0)
+    subst (λ ys. AreGood Good ys × (t ≡ block_tail f s place (map text ys) ++ u)) end.1 (tt, strip_found (ending f s place) t u end.0)
 
 -- what is read of the rest of a block is the rest of one
-pub read_rest_sound : {A : Type 0} (q : Parse A) (Good : A → Type 0) (text : A → List ℕ) (f : Frame) (s : Setting) → Finds q Good text → (n : ℕ) (place : Place) (t : List ℕ) (xs : List A) (u : List ℕ) → read_rest q f s place n t ≡ Some (xs, u) → AreGood Good xs × (t ≡ rest f s place (map text xs) ++ u)
+pub read_rest_sound : {A : Type 0} (q : Parse A) (Good : A → Type 0) (text : A → List ℕ) (f : Frame) (s : Setting) → Finds q Good text → (n : ℕ) (place : Place) (t : List ℕ) (xs : List A) (u : List ℕ) → read_rest q f s place n t ≡ Some (xs, u) → AreGood Good xs × (t ≡ block_tail f s place (map text xs) ++ u)
 unfolding read_rest
 read_rest_sound q Good text f s finds zero place t xs u h = absurd (cc)
 read_rest_sound q Good text f s finds (suc n) place t xs u h =
@@ -64,7 +64,7 @@ pub record FoundBehind {A : Type 0} (Good : A → Type 0) (text : A → List ℕ
   pub others : List A
   pub made : make (x ∷ others) ≡ d
   pub good : AreGood Good others
-  pub whole : t ≡ trail s.mode ++ (rest f s Second (map text others) ++ u)
+  pub whole : t ≡ trail s.mode ++ (block_tail f s Second (map text others) ++ u)
 
 -- what is read as a block behind its first entry is the rest of one
 pub read_after_first_sound : {A : Type 0} (q : Parse A) (Good : A → Type 0) (text : A → List ℕ) (f : Frame) (s : Setting) (make : List A → Document) → Finds q Good text → (x : A) (t : List ℕ) (d : Document) (u : List ℕ) → read_after_first q f s make x t ≡ Some (d, u) → FoundBehind Good text f s make x t d u
@@ -80,7 +80,7 @@ pub record FoundEntries {A : Type 0} (Good : A → Type 0) (text : A → List �
   pub others : List A
   pub made : make (first ∷ others) ≡ d
   pub good : AreGood Good (first ∷ others)
-  pub whole : lead f (inside s) First ++ t ≡ rest f s First (map text (first ∷ others)) ++ u
+  pub whole : lead f (inside s) First ++ t ≡ block_tail f s First (map text (first ∷ others)) ++ u
 
 -- the whole of a block from its first entry on
 first_whole : (start t v text after left u : List ℕ) → t ≡ text ++ v → v ≡ after ++ (left ++ u) → start ++ t ≡ (start ++ (text ++ (after ++ left))) ++ u
@@ -93,7 +93,7 @@ with_first {A} {Good} {text} {f} {s} {make} x t v {d} {u} good whole h = record 
   others = h.others;
   made = h.made;
   good = (good, h.good);
-  whole = first_whole (lead f (inside s) First) t v (text x) (trail s.mode) (rest f s Second (map text h.others)) u whole h.whole;
+  whole = first_whole (lead f (inside s) First) t v (text x) (trail s.mode) (block_tail f s Second (map text h.others)) u whole h.whole;
 }
 
 -- what is read as a block behind what stands before its first entry is one

@@ -1,7 +1,7 @@
 -- The frames of the five kinds: their ends can be told from entries, and their empty forms from what begins an entry.
 use Rattle.std.proofs.Common.{◌≡◌, inl, inr, refl, ℕ, zero, suc, ◌≤◌, ◌+◌, min, ◌==◌, Bool, true, false, List, [], ◌∷◌, ◌++◌, None, codes, eqb-true, arith}
 use Rattle.std.specs.Prelude.{⊤}
-use Rattle.ufmt_core.specs.Layout.{frame, setting, inside, entry_depth, indentation, new_line, lead, ending, trail, next, rest}
+use Rattle.ufmt_core.specs.Layout.{frame, setting, inside, entry_depth, indentation, new_line, lead, ending, trail, next, block_tail}
 use Rattle.ufmt_core.specs.declared.formatter.Mode.{Mode}
 use Rattle.ufmt_core.specs.declared.formatter.Mode.TheVariants.{Plain, Pretty}
 use Rattle.ufmt_core.specs.declared.formatter.Setting.{Setting}
@@ -11,7 +11,7 @@ use Rattle.ufmt_core.specs.declared.formatter.block.Place.{Place}
 use Rattle.ufmt_core.specs.declared.formatter.block.Place.TheVariants.{First, Second, Later}
 use Rattle.ufmt.specs.Token.{is_closer, IsFollower}
 use Rattle.ufmt.specs.Reading.{strip}
-use Rattle.ufmt.proofs.Words.{each_closer}
+use Rattle.ufmt.proofs.ReadingWords.{each_closer}
 use Rattle.ufmt.proofs.BlocksComplete.{Begins, Closes}
 
 -- so many blocks fit into one another here: deeper than 255 the indentation grows no more
@@ -131,11 +131,11 @@ pub closes : (s : Setting) (kind : Kind) → Fits s 1 → Closes (frame s.mode k
 closes s kind h = closes_at s.mode s.depth kind h
 
 -- behind an entry in braces stands no colon
-no_colon_at : (mode : Mode) (k : ℕ) (texts : List (List ℕ)) (u : List ℕ) → strip (codes ": ") (trail mode ++ (rest (frame mode Braces) (setting mode k) Second texts ++ u)) ≡ None
+no_colon_at : (mode : Mode) (k : ℕ) (texts : List (List ℕ)) (u : List ℕ) → strip (codes ": ") (trail mode ++ (block_tail (frame mode Braces) (setting mode k) Second texts ++ u)) ≡ None
 no_colon_at Plain k [] u = refl
 no_colon_at Plain k (text ∷ texts) u = refl
 no_colon_at Pretty k texts u = refl
 
 -- the same of a mode and depth
-pub no_colon : (s : Setting) (texts : List (List ℕ)) (u : List ℕ) → strip (codes ": ") (trail s.mode ++ (rest (frame s.mode Braces) s Second texts ++ u)) ≡ None
+pub no_colon : (s : Setting) (texts : List (List ℕ)) (u : List ℕ) → strip (codes ": ") (trail s.mode ++ (block_tail (frame s.mode Braces) s Second texts ++ u)) ≡ None
 no_colon s texts u = no_colon_at s.mode s.depth texts u

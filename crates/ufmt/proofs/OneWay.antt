@@ -6,7 +6,7 @@ use Rattle.ufmt_core.specs.declared.formatter.Mode.TheVariants.{Plain, Pretty}
 use Rattle.ufmt_core.specs.declared.formatter.Setting.{Setting}
 use Rattle.ufmt.specs.Token.{HasWords, IsToken, normal, IsFollower}
 use Rattle.ufmt.specs.Reading.{read}
-use Rattle.ufmt.specs.ReadsOneWay.{PlainReadsOneWay, PrettyReadsOneWay, PlainTextTells, PrettyTextTells, TextsAgree}
+use Rattle.ufmt.specs.ReadingLaws.{PlainReadsOneWay, PrettyReadsOneWay, PlainTextTells, PrettyTextTells, TextsAgree}
 use Rattle.ufmt.proofs.Parsing.{same_parts}
 use Rattle.ufmt.proofs.FramesClose.{Fits}
 use Rattle.ufmt.proofs.ReadingComplete.{read_complete}

@@ -1,14 +1,14 @@
 -- Reading is sound: what is read is a token document in normal form, and its text with what is left is the text that was read.
 use Rattle.std.proofs.Common.{◌≡◌, ◌⊎◌, inl, inr, refl, ap, sym, ◌∙◌, subst, subst₂, ℕ, zero, suc, ◌<◌, ◌≤◌, List, [], ◌∷◌, ◌++◌, map, Option, Some, None, codes, append_assoc, arith}
 use Rattle.ufmt_core.specs.Document.{Document, leaf, list_of, set_of, map_of, struct_of, tuple_of, no_documents, no_pairs, documents, pairs_of, fields_of, nest}
-use Rattle.ufmt_core.specs.Layout.{frame, tuple_kind, inside, lead, rest, layout, texts, field_texts}
+use Rattle.ufmt_core.specs.Layout.{frame, tuple_kind, inside, lead, block_tail, layout, texts, field_texts}
 use Rattle.ufmt_core.specs.declared.formatter.Setting.{Setting}
 use Rattle.ufmt_core.specs.declared.formatter.block.Kind.TheVariants.{Brackets, Braces, Struct, Tuple, Unnamed}
 use Rattle.ufmt_core.specs.declared.formatter.block.Place.TheVariants.{First}
 use Rattle.ufmt.specs.Token.{AreWordBytes, IsWord, IsTokenLeaf, HasWords, normal}
 use Rattle.ufmt.specs.Reading.{Parse, choose, strip, word_of, after_word, read_word, read_symbol, read_value, read_pair, read_block, read_list, read_map, read_set, read_map_or_set, read_braced_entries, read_braces, read_tuple, read_struct, read_unnamed, read_without_name, read_named, read_by_word, read_with, read}
 use Rattle.ufmt.proofs.Parsing.{same_parts, strip_found, led_from, chosen_from}
-use Rattle.ufmt.proofs.Words.{words_whole, word_of_bytes, read_word_sound}
+use Rattle.ufmt.proofs.ReadingWords.{words_whole, word_of_bytes, read_word_sound}
 use Rattle.ufmt.proofs.TokenLeaves.{word_leaf, read_symbol_sound}
 use Rattle.ufmt.proofs.NormalRows.{IsNormalBelow, documents_words, documents_normal, documents_nest, documents_texts, pairs_words, pairs_normal, pairs_nest, pairs_texts, fields_words, fields_normal, fields_nest, fields_texts}
 use Rattle.ufmt.proofs.BlocksSound.{Finds, FoundEntries, IsGoodPair, pair_text, read_pair_finds, read_entries_sound, read_after_first_sound, with_first, read_value_sound}
@@ -43,7 +43,7 @@ list_found s n t v d u front h =
       words = documents_words n (h.first ∷ h.others) h.good;
       nests = omega arith;
       is_normal = ap list_of (documents_normal n (h.first ∷ h.others) h.good);
-      whole = front ∙ ap (λ w. codes "[" ++ w) (h.whole ∙ ap (λ ts. rest (frame s.mode Brackets) s First ts ++ u) (sym (documents_texts (inside s) (h.first ∷ h.others))));
+      whole = front ∙ ap (λ w. codes "[" ++ w) (h.whole ∙ ap (λ ts. block_tail (frame s.mode Brackets) s First ts ++ u) (sym (documents_texts (inside s) (h.first ∷ h.others))));
     })
 
 -- a set of entries that were found was found
@@ -55,7 +55,7 @@ set_found s n t v d u front h =
       words = documents_words n (h.first ∷ h.others) h.good;
       nests = omega arith;
       is_normal = ap set_of (documents_normal n (h.first ∷ h.others) h.good);
-      whole = front ∙ ap (λ w. codes "{" ++ w) (h.whole ∙ ap (λ ts. rest (frame s.mode Braces) s First ts ++ u) (sym (documents_texts (inside s) (h.first ∷ h.others))));
+      whole = front ∙ ap (λ w. codes "{" ++ w) (h.whole ∙ ap (λ ts. block_tail (frame s.mode Braces) s First ts ++ u) (sym (documents_texts (inside s) (h.first ∷ h.others))));
     })
 
 -- a map of pairs that were found was found
@@ -67,7 +67,7 @@ map_found s n t v d u front h =
       words = pairs_words n (h.first ∷ h.others) h.good;
       nests = omega arith;
       is_normal = ap map_of (pairs_normal n (h.first ∷ h.others) h.good);
-      whole = front ∙ ap (λ w. codes "{" ++ w) (h.whole ∙ ap (λ ts. rest (frame s.mode Braces) s First ts ++ u) (sym (pairs_texts (inside s) (h.first ∷ h.others))));
+      whole = front ∙ ap (λ w. codes "{" ++ w) (h.whole ∙ ap (λ ts. block_tail (frame s.mode Braces) s First ts ++ u) (sym (pairs_texts (inside s) (h.first ∷ h.others))));
     })
 
 -- a struct of fields that were found was found
@@ -79,15 +79,15 @@ struct_found s n name t v d u word front h =
       words = (word, fields_words n (h.first ∷ h.others) h.good);
       nests = omega arith;
       is_normal = ap (struct_of name) (fields_normal n (h.first ∷ h.others) h.good);
-      whole = front ∙ ap (λ w. name ++ w) (h.whole ∙ ap (λ ts. rest (frame s.mode Struct) s First ts ++ u) (sym (fields_texts (inside s) (h.first ∷ h.others)))) ∙ sym (append_assoc name (rest (frame s.mode Struct) s First (field_texts (inside s) (fields_of (h.first ∷ h.others)))) u);
+      whole = front ∙ ap (λ w. name ++ w) (h.whole ∙ ap (λ ts. block_tail (frame s.mode Struct) s First ts ++ u) (sym (fields_texts (inside s) (h.first ∷ h.others)))) ∙ sym (append_assoc name (block_tail (frame s.mode Struct) s First (field_texts (inside s) (fields_of (h.first ∷ h.others)))) u);
     })
 
 -- the text of a tuple with fields
-tuple_text : (s : Setting) (name : List ℕ) (d : Document) (ds : List Document) (u : List ℕ) → name ++ (rest (frame s.mode (tuple_kind name)) s First (map (layout (inside s)) (d ∷ ds)) ++ u) ≡ layout s (tuple_of name (documents (d ∷ ds))) ++ u
-tuple_text s [] d ds u = ap (λ ts. rest (frame s.mode Unnamed) s First ts ++ u) (sym (documents_texts (inside s) (d ∷ ds)))
+tuple_text : (s : Setting) (name : List ℕ) (d : Document) (ds : List Document) (u : List ℕ) → name ++ (block_tail (frame s.mode (tuple_kind name)) s First (map (layout (inside s)) (d ∷ ds)) ++ u) ≡ layout s (tuple_of name (documents (d ∷ ds))) ++ u
+tuple_text s [] d ds u = ap (λ ts. block_tail (frame s.mode Unnamed) s First ts ++ u) (sym (documents_texts (inside s) (d ∷ ds)))
 tuple_text s (c ∷ name) d ds u =
-    ap (λ ts. (c ∷ name) ++ (rest (frame s.mode Tuple) s First ts ++ u)) (sym (documents_texts (inside s) (d ∷ ds)))
-    ∙ sym (append_assoc (c ∷ name) (rest (frame s.mode Tuple) s First (texts (inside s) (documents (d ∷ ds)))) u)
+    ap (λ ts. (c ∷ name) ++ (block_tail (frame s.mode Tuple) s First ts ++ u)) (sym (documents_texts (inside s) (d ∷ ds)))
+    ∙ sym (append_assoc (c ∷ name) (block_tail (frame s.mode Tuple) s First (texts (inside s) (documents (d ∷ ds)))) u)
 
 -- a tuple of fields that were found was found
 tuple_found : (s : Setting) (n : ℕ) (name t v : List ℕ) (d : Document) (u : List ℕ) → AreWordBytes name → t ≡ name ++ (lead (frame s.mode (tuple_kind name)) (inside s) First ++ v) → FoundEntries (IsNormalBelow n) (layout (inside s)) (frame s.mode (tuple_kind name)) s (λ ds. tuple_of name (documents ds)) v d u → Found s n t d u

@@ -6,7 +6,7 @@ use Rattle.ufmt_core.specs.declared.formatter.Setting.{Setting}
 use Rattle.ufmt_core.specs.declared.formatter.block.Place.{Place}
 use Rattle.ufmt.specs.Reading.{Parse, choose, parse_map, strip, read_word, read_pair, read_turn, read_end, read_rest, read_others, read}
 use Rattle.ufmt.proofs.Parsing.{strip_found, led_from, mapped_from}
-use Rattle.ufmt.proofs.Words.{read_word_sound}
+use Rattle.ufmt.proofs.ReadingWords.{read_word_sound}
 use Rattle.ufmt.proofs.TokenLeaves.{word_begins}
 use Rattle.ufmt.proofs.BlocksComplete.{Begins}
 use Rattle.ufmt.proofs.TextsBegin.{document_begins}

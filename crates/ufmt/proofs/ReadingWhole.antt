@@ -6,7 +6,7 @@ use Rattle.ufmt_core.specs.declared.formatter.Mode.{Mode}
 use Rattle.ufmt_core.specs.declared.formatter.Mode.TheVariants.{Plain, Pretty}
 use Rattle.ufmt.specs.Token.{IsToken, normal}
 use Rattle.ufmt.specs.Reading.{if_all, read, read_text}
-use Rattle.ufmt.specs.ReadsExactly.{ReadsOnlyTexts, ReadsEachText, RefusesNoText}
+use Rattle.ufmt.specs.ReadingLaws.{ReadsOnlyTexts, ReadsEachText, RefusesNoText}
 use Rattle.ufmt.proofs.Parsing.{led_from}
 use Rattle.ufmt.proofs.FramesClose.{Fits}
 use Rattle.ufmt.proofs.ReadingComplete.{read_complete}

@@ -2,14 +2,14 @@
 use Rattle.std.proofs.Common.{◌≡◌, ℕ, zero, suc, ◌+◌, ◌≤◌, ◌==◌, List, [], ◌∷◌, ◌++◌, map, Bool, true, false, codes, refl, sym, ap, ap₂, ◌∙◌, append_assoc, ne_eqb, arith}
 use Rattle.std.specs.Prelude.{⊤}
 use Rattle.ufmt_core.specs.Document.{Document, leaf, joined, list_of, set_of, map_of, struct_of, tuple_of, pretty_part, Documents, no_documents, document, Pairs, no_pairs, pair, Fields, no_fields, field, nest, nest_all, nest_pairs, nest_fields}
-use Rattle.ufmt_core.specs.Layout.{Frame, frame, tuple_kind, setting, inside, entry_depth, indentation, separator, lead, ending, next, rest, block, layout, layouts, texts, pair_texts, field_texts, pretty_text}
+use Rattle.ufmt_core.specs.Layout.{Frame, frame, tuple_kind, setting, inside, entry_depth, indentation, separator, lead, ending, next, block_tail, block, layout, layouts, texts, pair_texts, field_texts, pretty_text}
 use Rattle.ufmt_core.specs.declared.formatter.Mode.TheVariants.{Pretty}
 use Rattle.ufmt_core.specs.declared.formatter.Setting.{Setting}
 use Rattle.ufmt_core.specs.declared.formatter.block.Kind.{Kind}
 use Rattle.ufmt_core.specs.declared.formatter.block.Kind.TheVariants.{Brackets, Braces, Struct, Tuple, Unnamed}
 use Rattle.ufmt_core.specs.declared.formatter.block.Place.{Place}
 use Rattle.ufmt_core.specs.declared.formatter.block.Place.TheVariants.{First, Second, Later}
-use Rattle.ufmt.specs.Shift.{margin, shift_from, shift, shift_times, entry_lines, shifted_rest, shifted_block, shifted, shifted_joined, shifted_texts, shifted_pairs, shifted_fields, IsOneLine, HasNoLineFeed, HaveNoLineFeed, PairsHaveNoLineFeed, FieldsHaveNoLineFeed}
+use Rattle.ufmt.specs.Shift.{margin, shift_from, shift, shift_times, entry_lines, shifted_tail, shifted_block, shifted, shifted_joined, shifted_texts, shifted_pairs, shifted_fields, IsOneLine, HasNoLineFeed, HaveNoLineFeed, PairsHaveNoLineFeed, FieldsHaveNoLineFeed}
 
 -- ---- texts
 
@@ -113,11 +113,11 @@ ending-next f k Second p = refl
 ending-next f k Later p = refl
 
 -- what is left of a block after an entry: the other entries' lines, shifted, and the end
-rest-next : (f : Frame) (k : ℕ) (place : Place) → IsSteady f → entry_depth Pretty k ≡ suc k → (ss : List (List ℕ)) →
-    rest f (setting Pretty k) (next place) (map (hanging (suc k)) ss) ≡ indentation k ++ (hanging k (shift (entry_lines ss)) ++ f.end)
-rest-next f k place p e [] = ending-next f k place p
-rest-next f k place p e (s ∷ ss) =
-    ap₂ (λ before after. before ++ (hanging (suc k) s ++ (codes ",\n" ++ after))) (lead-next f (inside (setting Pretty k)) place ∙ ap indentation e) (rest-next f k (next place) p e ss)
+block_tail-next : (f : Frame) (k : ℕ) (place : Place) → IsSteady f → entry_depth Pretty k ≡ suc k → (ss : List (List ℕ)) →
+    block_tail f (setting Pretty k) (next place) (map (hanging (suc k)) ss) ≡ indentation k ++ (hanging k (shift (entry_lines ss)) ++ f.end)
+block_tail-next f k place p e [] = ending-next f k place p
+block_tail-next f k place p e (s ∷ ss) =
+    ap₂ (λ before after. before ++ (hanging (suc k) s ++ (codes ",\n" ++ after))) (lead-next f (inside (setting Pretty k)) place ∙ ap indentation e) (block_tail-next f k (next place) p e ss)
     ∙ sym (shift-entry k s (entry_lines ss) f.end)
 
 -- where a block at depth k has entries, these are one deeper
@@ -126,17 +126,17 @@ OneDeeper k [] = ⊤
 OneDeeper k (s ∷ ss) = entry_depth Pretty k ≡ suc k
 
 -- what follows a block's opening hangs
-rest-first : (f : Frame) (k : ℕ) → IsSteady f → (ss : List (List ℕ)) → OneDeeper k ss → rest f (setting Pretty k) First (map (hanging (entry_depth Pretty k)) ss) ≡ hanging k (shifted_rest f ss)
-rest-first f k p [] e = sym (p.empty k)
-rest-first f k p (s ∷ ss) e =
-    rw (ap (λ n. map (hanging n) ss) e, e, rest-next f k First p e ss, append_assoc, hanging-append k f.start _, p.start k, hanging-append k (shift (entry_lines (s ∷ ss))) f.end, p.end k)
+block_tail-first : (f : Frame) (k : ℕ) → IsSteady f → (ss : List (List ℕ)) → OneDeeper k ss → block_tail f (setting Pretty k) First (map (hanging (entry_depth Pretty k)) ss) ≡ hanging k (shifted_tail f ss)
+block_tail-first f k p [] e = sym (p.empty k)
+block_tail-first f k p (s ∷ ss) e =
+    rw (ap (λ n. map (hanging n) ss) e, e, block_tail-next f k First p e ss, append_assoc, hanging-append k f.start _, p.start k, hanging-append k (shift (entry_lines (s ∷ ss))) f.end, p.end k)
     (ap (λ u. f.start ++ (codes "\n" ++ u)) (sym (shift-entry k s (entry_lines ss) f.end)))
 
 -- a block in any such frame hangs where its entries do
 framed : (f : Frame) (k : ℕ) (name : List ℕ) (ss : List (List ℕ)) → IsSteady f → IsOneLine name → OneDeeper k ss →
-    name ++ (f.opening ++ rest f (setting Pretty k) First (map (hanging (entry_depth Pretty k)) ss)) ≡ hanging k (name ++ (f.opening ++ shifted_rest f ss))
+    name ++ (f.opening ++ block_tail f (setting Pretty k) First (map (hanging (entry_depth Pretty k)) ss)) ≡ hanging k (name ++ (f.opening ++ shifted_tail f ss))
 framed f k name ss p h e =
-    rw (hanging-append k name _, hanging-one_line k name h, hanging-append k f.opening _, p.opening k) (ap (λ u. name ++ (f.opening ++ u)) (rest-first f k p ss e))
+    rw (hanging-append k name _, hanging-one_line k name h, hanging-append k f.opening _, p.opening k) (ap (λ u. name ++ (f.opening ++ u)) (block_tail-first f k p ss e))
 
 -- ---- documents
 

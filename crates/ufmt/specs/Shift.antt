@@ -31,13 +31,13 @@ entry_lines [] = []
 entry_lines (text ∷ texts) = text ++ (codes ",\n" ++ entry_lines texts)
 
 -- what follows the opening of a block in this frame: its entries' lines, shifted, and the closing
-abbrev pub shifted_rest : Frame → List (List ℕ) → List ℕ
-shifted_rest f [] = f.empty
-shifted_rest f (text ∷ texts) = f.start ++ (codes "\n" ++ (shift (entry_lines (text ∷ texts)) ++ f.end))
+abbrev pub shifted_tail : Frame → List (List ℕ) → List ℕ
+shifted_tail f [] = f.empty
+shifted_tail f (text ∷ texts) = f.start ++ (codes "\n" ++ (shift (entry_lines (text ∷ texts)) ++ f.end))
 
 -- a block of this kind and name, whose entries have these texts
 abbrev pub shifted_block : Kind → List ℕ → List (List ℕ) → List ℕ
-shifted_block kind name texts = name ++ ((frame Pretty kind).opening ++ shifted_rest (frame Pretty kind) texts)
+shifted_block kind name texts = name ++ ((frame Pretty kind).opening ++ shifted_tail (frame Pretty kind) texts)
 
 abbrev mutual
   -- the shifted text of a document

@@ -4,7 +4,7 @@ use Rattle.std.specs.Iterator.{DrainsIf}
 pub use Rattle.ufmt_core.specs.declared.formatter.builder.Status.{Status}
 pub use Rattle.ufmt_core.specs.declared.formatter.builder.Status.TheVariants.{Open, Lent, LentValue, Closed}
 use Rattle.ufmt_core.specs.Document.{Document, Documents, Fields, Pairs}
-use Rattle.ufmt_core.specs.Layout.{Setting, Kind, Place, First, Frame, frame, inside, layout, lead, trail, ending, next, rest, texts, pair_texts, field_texts}
+use Rattle.ufmt_core.specs.Layout.{Setting, Kind, Place, First, Frame, frame, inside, layout, lead, trail, ending, next, block_tail, texts, pair_texts, field_texts}
 use Rattle.ufmt_core.specs.Writes.{Seen, Writes}
 use Rattle.ufmt_core.specs.Formatter.{Formatter, writer_of, setting_of}
 
@@ -34,14 +34,14 @@ abbrev pub field_text : List ℕ → Document → Setting → List ℕ
 field_text label value i = label ++ (codes ": " ++ layout i value)
 
 -- the texts of the entries that are left to a list, a set or a tuple, to a map, and to a struct
-abbrev pub entries_left : Documents → Setting → List (List ℕ)
-entries_left ds i = texts i ds
+abbrev pub remaining_entries : Documents → Setting → List (List ℕ)
+remaining_entries ds i = texts i ds
 
-abbrev pub pairs_left : Pairs → Setting → List (List ℕ)
-pairs_left ps i = pair_texts i ps
+abbrev pub remaining_pairs : Pairs → Setting → List (List ℕ)
+remaining_pairs ps i = pair_texts i ps
 
-abbrev pub fields_left : Fields → Setting → List (List ℕ)
-fields_left fs i = field_texts i fs
+abbrev pub remaining_fields : Fields → Setting → List (List ℕ)
+remaining_fields fs i = field_texts i fs
 
 -- an entry with this text: what stands before it, the text, and what follows
 abbrev pub framed : Frame → Setting → Place → List ℕ → List ℕ
@@ -80,8 +80,8 @@ module _ {W : Type 0} where
   ending_of b = ending (frame b.outer.mode b.kind) b.outer b.place
 
   -- what is left of the block: entries with these texts, and the end
-  abbrev pub rest_of : Block W → (Setting → List (List ℕ)) → List ℕ
-  rest_of b texts = rest (frame b.outer.mode b.kind) b.outer b.place (texts (inside b.outer))
+  abbrev pub tail_of : Block W → (Setting → List (List ℕ)) → List ℕ
+  tail_of b texts = block_tail (frame b.outer.mode b.kind) b.outer b.place (texts (inside b.outer))
 
   -- the formatter is at the mode and depth of the entries
   abbrev pub IsInside : Block W → Type 0
@@ -111,7 +111,7 @@ module _ {W : Type 0} where
     pub outer : new.outer ≡ old.outer
 
   -- a new builder, over the reference with this name, has written the opening of a block of this kind
-  pub record Opening (seen : Seen W) (start : Formatter W) (reference : ℕ) (kind : Kind) (text : List ℕ) (new : Block W) : Type 0 where
+  pub record WritesOpening (seen : Seen W) (start : Formatter W) (reference : ℕ) (kind : Kind) (text : List ℕ) (new : Block W) : Type 0 where
     pub wrote : Writes seen (writer_of start) text true (writer_of new.formatter)
     pub same : Same (record { formatter = start; reference = reference; kind = kind; outer = setting_of start; place = First; status = Open }) new
     pub inner : setting_of new.formatter ≡ inside (setting_of start)
@@ -119,33 +119,33 @@ module _ {W : Type 0} where
     pub status : new.status ≡ Open
 
   -- a call has written this part of the block, or a beginning of it
-  pub record Part (seen : Seen W) (old : Block W) (text : List ℕ) (ok : Bool) (place : Place) (new : Block W) : Type 0 where
+  pub record WritesPart (seen : Seen W) (old : Block W) (text : List ℕ) (ok : Bool) (place : Place) (new : Block W) : Type 0 where
     pub wrote : Writes seen (writer_of old.formatter) text ok (writer_of new.formatter)
     pub same : Same old new
     pub after : After ok place old new
 
   -- a call has failed: a beginning of this part is written, and the builder is closed
-  abbrev pub Stop : Seen W → Block W → List ℕ → Block W → Type 0
-  Stop seen old text new = Part seen old text false old.place new
+  abbrev pub StopsIn : Seen W → Block W → List ℕ → Block W → Type 0
+  StopsIn seen old text new = WritesPart seen old text false old.place new
 
   -- one entry with this text was written, or a beginning of it
-  pub record Entry (seen : Seen W) (old : Block W) (text : Setting → List ℕ) (ok : Bool) (new : Block W) : Type 0 where
-    pub part : Part seen old (framed (frame_of old) (inner old) old.place (text (inner old))) ok (next old.place) new
+  pub record WritesEntry (seen : Seen W) (old : Block W) (text : Setting → List ℕ) (ok : Bool) (new : Block W) : Type 0 where
+    pub part : WritesPart seen old (framed (frame_of old) (inner old) old.place (text (inner old))) ok (next old.place) new
 
   -- a call was handed an error: nothing is written, and the builder is closed
-  pub record Abandonment (old new : Block W) : Type 0 where
+  pub record Abandons (old new : Block W) : Type 0 where
     pub same_writer : writer_of new.formatter ≡ writer_of old.formatter
     pub same : Same old new
     pub after : After false old.place old new
 
   -- what the second half of an entry answers and does, where the value's `fmt` answered `answer`
-  pub record EntryEnd {E : Type 0} (seen : Seen W) (answer : Result (Unit {0}) E) (old : Block W) (result : Result (Unit {0}) E) (ok : Bool) (new : Block W) : Type 0 where
+  pub record EndsEntry {E : Type 0} (seen : Seen W) (answer : Result (Unit {0}) E) (old : Block W) (result : Result (Unit {0}) E) (ok : Bool) (new : Block W) : Type 0 where
     -- what follows an entry was written, or a beginning of it
-    pub trail : OnOk answer (Part seen old (trail_of old) ok (next old.place) new)
-    pub error : IfErr answer (λ e. (result ≡ Err e) × Abandonment old new)
+    pub trail : OnOk answer (WritesPart seen old (trail_of old) ok (next old.place) new)
+    pub error : IfErr answer (λ e. (result ≡ Err e) × Abandons old new)
 
   -- the end of the block was written, or a beginning of it; the builder is closed, and mode and depth are those from before it
-  pub record Closing (seen : Seen W) (old : Block W) (text : List ℕ) (ok : Bool) (new : Block W) : Type 0 where
+  pub record WritesEnding (seen : Seen W) (old : Block W) (text : List ℕ) (ok : Bool) (new : Block W) : Type 0 where
     pub wrote : Writes seen (writer_of old.formatter) text ok (writer_of new.formatter)
     pub same : Same old new
     pub closed : new.status ≡ Closed
@@ -153,14 +153,14 @@ module _ {W : Type 0} where
 
 module _ {W D : Type 0} where
   -- entries of these items were written in a row, each with the text that `text_of` tells, or a beginning of them
-  pub record Row (seen : Seen W) (old : Block W) (text_of : D → Setting → List ℕ) (items : List D) (ok : Bool) (new : Block W) : Type 0 where
-    pub part : Part seen old (framed_all (frame_of old) (inner old) old.place (map (λ x. text_of x (inner old)) items)) ok (place_after old.place items) new
+  pub record WritesRow (seen : Seen W) (old : Block W) (text_of : D → Setting → List ℕ) (items : List D) (ok : Bool) (new : Block W) : Type 0 where
+    pub part : WritesPart seen old (framed_all (frame_of old) (inner old) old.place (map (λ x. text_of x (inner old)) items)) ok (place_after old.place items) new
 
 module _ {W U T D : Type 0} where
   -- an entry was written for each item that the iterator gave, and on `Ok` it had no more
-  pub record Entries (seen : Seen W) (becomes : U → T → Type 0) (steps : T → Option D → T → Type 0) (text_of : D → Setting → List ℕ) (entries : U) (old : Block W) (ok : Bool) (new : Block W) : Type 0 where
+  pub record WritesEntries (seen : Seen W) (becomes : U → T → Type 0) (steps : T → Option D → T → Type 0) (text_of : D → Setting → List ℕ) (entries : U) (old : Block W) (ok : Bool) (new : Block W) : Type 0 where
     pub iterator : T
     pub begins : becomes entries iterator
     pub items : List D
     pub drains : DrainsIf steps (ok ≡ true) iterator items
-    pub row : Row seen old text_of items ok new
+    pub row : WritesRow seen old text_of items ok new

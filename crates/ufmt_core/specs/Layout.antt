@@ -23,9 +23,9 @@ pub record Frame : Type 0 where
   pub end : List ℕ
 
 -- what stands inside the braces of a struct
-abbrev pub gap : Mode → List ℕ
-gap Plain = codes " "
-gap Pretty = []
+abbrev pub brace_space : Mode → List ℕ
+brace_space Plain = codes " "
+brace_space Pretty = []
 
 -- the comma after the only entry of a tuple without a name
 abbrev pub lone_comma : Mode → List ℕ
@@ -36,7 +36,7 @@ lone_comma Pretty = []
 abbrev pub frame : Mode → Kind → Frame
 frame mode Brackets = record { opening = codes "["; start = []; empty = codes "]"; alone = codes "]"; end = codes "]" }
 frame mode Braces = record { opening = codes "{"; start = []; empty = codes "}"; alone = codes "}"; end = codes "}" }
-frame mode Struct = record { opening = []; start = codes " {" ++ gap mode; empty = []; alone = gap mode ++ codes "}"; end = gap mode ++ codes "}" }
+frame mode Struct = record { opening = []; start = codes " {" ++ brace_space mode; empty = []; alone = brace_space mode ++ codes "}"; end = brace_space mode ++ codes "}" }
 frame mode Tuple = record { opening = []; start = codes "("; empty = []; alone = codes ")"; end = codes ")" }
 frame mode Unnamed = record { opening = []; start = codes "("; empty = []; alone = lone_comma mode ++ codes ")"; end = codes ")" }
 
@@ -101,13 +101,13 @@ next Second = Later
 next Later = Later
 
 -- what is left of a block from this place on: entries with these texts, and the end
-abbrev pub rest : Frame → Setting → Place → List (List ℕ) → List ℕ
-rest f s place [] = ending f s place
-rest f s place (text ∷ texts) = lead f (inside s) place ++ (text ++ (trail s.mode ++ rest f s (next place) texts))
+abbrev pub block_tail : Frame → Setting → Place → List (List ℕ) → List ℕ
+block_tail f s place [] = ending f s place
+block_tail f s place (text ∷ texts) = lead f (inside s) place ++ (text ++ (trail s.mode ++ block_tail f s (next place) texts))
 
 -- a block with this name and entries with these texts
 abbrev pub block : Kind → Setting → List ℕ → List (List ℕ) → List ℕ
-block kind s name texts = name ++ ((frame s.mode kind).opening ++ rest (frame s.mode kind) s First texts)
+block kind s name texts = name ++ ((frame s.mode kind).opening ++ block_tail (frame s.mode kind) s First texts)
 
 abbrev mutual
   -- the text of a document at this mode and depth

@@ -5,7 +5,7 @@ ghost use Rattle.std.specs.Iterator.{AlwaysYields, IsFiniteIterable};
 ghost use Rattle.ufmt_core.specs.declared.formatter.block.Kind.TheVariants.{Braces};
 ghost use Rattle.ufmt_core.specs.Document.{Document, documents, set_of};
 ghost use Rattle.ufmt_core.specs.Formatter.{LaysOut};
-ghost use Rattle.ufmt_core.specs.Block.{IsOpen, Opening};
+ghost use Rattle.ufmt_core.specs.Block.{IsOpen, WritesOpening};
 ghost use Rattle.ufmt_core.specs.Builder.{OpeningLoan, set_block};
 
 use crate::formatter::Formatter;
@@ -37,7 +37,7 @@ impl<W: uWrite> Formatter<W> {
     pub fn debug_set<'f>(&'f mut self) -> Result<DebugSet<'f, W>, W::Error>
         ensures* loan { sem 𝓛 (OpeningLoan W.row W.seen self.entry result (codes "{")) }
         ensures opening { IfOk result
-            (λ b. Opening W.seen self.old self.entry.ghost_name Braces (codes "{") (set_block b)) }
+            (λ b. WritesOpening W.seen self.old self.entry.ghost_name Braces (codes "{") (set_block b)) }
         ensures is_open { IfOk result (λ b. IsOpen (set_block b)) }
     {
         self.open(OPENING_BRACE, SetBlock)

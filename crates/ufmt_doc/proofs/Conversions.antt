@@ -12,7 +12,7 @@ use Rattle.ufmt_doc.specs.declared.doc.Doc.{Doc}
 use Rattle.ufmt_doc.specs.declared.reader.error.ReadError.{ReadError}
 use Rattle.ufmt_doc.specs.declared.reader.error.ReadError.TheVariants.{NotText}
 use Rattle.ufmt_doc.specs.Doc.{doc_document}
-use Rattle.ufmt_doc.specs.Read.{Gives}
+use Rattle.ufmt_doc.specs.Private.Read.{Gives}
 use Rattle.ufmt_doc.specs.Texts.{IsConverted, IsNormalForm, IsNoText, IsUnconverted, Undoes}
 
 -- where each text tells the other, the other text of what was read is what the text is converted to

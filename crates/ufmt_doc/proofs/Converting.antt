@@ -4,15 +4,15 @@ use Rattle.ufmt_core.specs.declared.formatter.Setting.{Setting}
 use Rattle.ufmt_core.specs.declared.formatter.block.Place.{Place}
 use Rattle.ufmt_core.specs.declared.formatter.block.Place.TheVariants.{Second, Later}
 use Rattle.ufmt.specs.Document.{Document}
-use Rattle.ufmt.specs.Layout.{Frame, ending, inside, layout, lead, next, rest, separator, trail}
+use Rattle.ufmt.specs.Layout.{Frame, ending, inside, layout, lead, next, block_tail, separator, trail}
 use Rattle.ufmt.specs.Reading.{Parse, choose, parse_map, strip, read_after_entry, read_end, read_others, read_rest, read_turn}
 use Rattle.ufmt.proofs.Parsing.{mapped_from}
 use Rattle.ufmt.proofs.ReadingTurns.{Takes, read_others-read_turn}
 use Rattle.ufmt_doc.specs.declared.reader.level.Kind.{Kind}
 use Rattle.ufmt_doc.specs.declared.reader.level.Level.{Level}
-use Rattle.ufmt_doc.specs.Converting.{convert_block, convert_on, prefixed, rest_text}
-use Rattle.ufmt_doc.specs.Entries.{behind_entry, read_more, read_on}
-use Rattle.ufmt_doc.specs.Level.{frame_of, place_of, setting_of}
+use Rattle.ufmt_doc.specs.Private.Converting.{convert_block, convert_on, prefixed, rest_text}
+use Rattle.ufmt_doc.specs.Private.Entries.{behind_entry, read_more, read_on}
+use Rattle.ufmt_doc.specs.Private.Level.{frame_of, place_of, setting_of}
 use Rattle.ufmt_doc.proofs.EntrySteps.{lead_is, next_is}
 
 -- the texts of entries that are read, where the entries behind them are read so
@@ -62,19 +62,19 @@ assoc_four : (a b c d e : List ℕ) → a ++ (b ++ (c ++ (d ++ e))) ≡ ((a ++ (
 assoc_four a b c d e = simp append_assoc refl
 
 -- a block is converted from its first entry on, where its text is that entry's and what stands round it
-pub block_begins : {A : Type 0} (q : Parse A) (v : A → List ℕ) (f : Frame) (s : Setting) (g : Frame) (i : Setting) (make : List A → Document) (front : List ℕ) → ((x : A) (xs : List A) → layout i (make (x ∷ xs)) ≡ front ++ (v x ++ (trail i.mode ++ rest g i Second (map v xs)))) → (out : List ℕ) (o : Option (A × List ℕ))
+pub block_begins : {A : Type 0} (q : Parse A) (v : A → List ℕ) (f : Frame) (s : Setting) (g : Frame) (i : Setting) (make : List A → Document) (front : List ℕ) → ((x : A) (xs : List A) → layout i (make (x ∷ xs)) ≡ front ++ (v x ++ (trail i.mode ++ block_tail g i Second (map v xs)))) → (out : List ℕ) (o : Option (A × List ℕ))
     → prefixed out (parse_map (layout i) (read_on q f s make [] o)) ≡ convert_on (λ t. parse_map v (q t)) f s g i Second (prefixed (out ++ front) (parse_map v o))
 unfolding read_more rest_text
 block_begins {A} q v f s g i make front shape out None = refl
 block_begins {A} q v f s g i make front shape out (Some x) = behind (strip (trail s.mode) x.1)
   where
-    made : (o : Option (List A × List ℕ)) → prefixed out (parse_map (layout i) (parse_map (λ ys. make (x.0 ∷ ys)) o)) ≡ prefixed ((out ++ front) ++ v x.0) (parse_map (λ texts. trail i.mode ++ rest g i Second texts) (parse_map (map v) o))
+    made : (o : Option (List A × List ℕ)) → prefixed out (parse_map (layout i) (parse_map (λ ys. make (x.0 ∷ ys)) o)) ≡ prefixed ((out ++ front) ++ v x.0) (parse_map (λ texts. trail i.mode ++ block_tail g i Second texts) (parse_map (map v) o))
     made None = refl
-    made (Some p) = ap (λ text. Some (text, p.1)) (ap (λ text. out ++ text) (shape x.0 p.0) ∙ assoc_three out front (v x.0) (trail i.mode ++ rest g i Second (map v p.0)))
+    made (Some p) = ap (λ text. Some (text, p.1)) (ap (λ text. out ++ text) (shape x.0 p.0) ∙ assoc_three out front (v x.0) (trail i.mode ++ block_tail g i Second (map v p.0)))
 
-    behind : (o : Option (List ℕ)) → prefixed out (parse_map (layout i) (option_and_then (λ u. parse_map (λ ys. make (x.0 ∷ ys)) (read_others q f s Second u)) o)) ≡ prefixed ((out ++ front) ++ v x.0) (option_and_then (λ u. parse_map (λ texts. trail i.mode ++ rest g i Second texts) (read_others (λ t. parse_map v (q t)) f s Second u)) o)
+    behind : (o : Option (List ℕ)) → prefixed out (parse_map (layout i) (option_and_then (λ u. parse_map (λ ys. make (x.0 ∷ ys)) (read_others q f s Second u)) o)) ≡ prefixed ((out ++ front) ++ v x.0) (option_and_then (λ u. parse_map (λ texts. trail i.mode ++ block_tail g i Second texts) (read_others (λ t. parse_map v (q t)) f s Second u)) o)
     behind None = refl
-    behind (Some u) = made (read_others q f s Second u) ∙ ap (λ o. prefixed ((out ++ front) ++ v x.0) (parse_map (λ texts. trail i.mode ++ rest g i Second texts) o)) (sym (mapped_rest q v f s Second (suc (length u)) u))
+    behind (Some u) = made (read_others q f s Second u) ∙ ap (λ o. prefixed ((out ++ front) ++ v x.0) (parse_map (λ texts. trail i.mode ++ block_tail g i Second texts) o)) (sym (mapped_rest q v f s Second (suc (length u)) u))
 
 -- another entry behind this text, or the end of the block
 abbrev go_on : Parse (List ℕ) → Frame → Setting → Frame → Setting → Bool → List ℕ → Bool × List ℕ → Option (List ℕ × List ℕ)
@@ -86,35 +86,35 @@ behind_converts : {q : Parse (List ℕ)} (f : Frame) (s : Setting) (g : Frame) (
 unfolding rest_text behind_entry
 behind_converts {q} f s g i alone out t takes = behind (strip (trail s.mode) t)
   where
-    ended : (e : Option (List ℕ)) → prefixed out (parse_map (λ texts. trail i.mode ++ rest g i (place_of alone) texts) (option_map {U = List (List ℕ) × List ℕ} (λ v. ([], v)) e)) ≡ option_and_then (go_on q f s g i alone out) (option_map {U = Bool × List ℕ} (λ v. (false, v)) e)
+    ended : (e : Option (List ℕ)) → prefixed out (parse_map (λ texts. trail i.mode ++ block_tail g i (place_of alone) texts) (option_map {U = List (List ℕ) × List ℕ} (λ v. ([], v)) e)) ≡ option_and_then (go_on q f s g i alone out) (option_map {U = Bool × List ℕ} (λ v. (false, v)) e)
     ended None = refl
     ended (Some v) = refl
 
-    texts_are : (x : List ℕ) (xs : List (List ℕ)) → out ++ (trail i.mode ++ rest g i (place_of alone) (x ∷ xs)) ≡ ((out ++ (trail i.mode ++ separator (inside i).mode (inside i).depth)) ++ x) ++ (trail i.mode ++ rest g i Later xs)
-    texts_are x xs = rw (lead_is g i alone, next_is alone) (assoc_four out (trail i.mode) (separator (inside i).mode (inside i).depth) x (trail i.mode ++ rest g i Later xs))
+    texts_are : (x : List ℕ) (xs : List (List ℕ)) → out ++ (trail i.mode ++ block_tail g i (place_of alone) (x ∷ xs)) ≡ ((out ++ (trail i.mode ++ separator (inside i).mode (inside i).depth)) ++ x) ++ (trail i.mode ++ block_tail g i Later xs)
+    texts_are x xs = rw (lead_is g i alone, next_is alone) (assoc_four out (trail i.mode) (separator (inside i).mode (inside i).depth) x (trail i.mode ++ block_tail g i Later xs))
 
-    others : (x : List ℕ) (o : Option (List (List ℕ) × List ℕ)) → prefixed out (parse_map (λ texts. trail i.mode ++ rest g i (place_of alone) texts) (parse_map (λ xs. x ∷ xs) o)) ≡ prefixed ((out ++ (trail i.mode ++ separator (inside i).mode (inside i).depth)) ++ x) (parse_map (λ texts. trail i.mode ++ rest g i Later texts) o)
+    others : (x : List ℕ) (o : Option (List (List ℕ) × List ℕ)) → prefixed out (parse_map (λ texts. trail i.mode ++ block_tail g i (place_of alone) texts) (parse_map (λ xs. x ∷ xs) o)) ≡ prefixed ((out ++ (trail i.mode ++ separator (inside i).mode (inside i).depth)) ++ x) (parse_map (λ texts. trail i.mode ++ block_tail g i Later texts) o)
     others x None = refl
     others x (Some p) = ap (λ text. Some (text, p.1)) (texts_are x p.0)
 
-    after : (x : List ℕ) (o : Option (List ℕ)) → prefixed out (parse_map (λ texts. trail i.mode ++ rest g i (place_of alone) texts) (option_and_then (λ w. parse_map (λ xs. x ∷ xs) (read_others q f s (next (place_of alone)) w)) o)) ≡ prefixed ((out ++ (trail i.mode ++ separator (inside i).mode (inside i).depth)) ++ x) (option_and_then (λ w. parse_map (λ texts. trail i.mode ++ rest g i Later texts) (read_others q f s Later w)) o)
+    after : (x : List ℕ) (o : Option (List ℕ)) → prefixed out (parse_map (λ texts. trail i.mode ++ block_tail g i (place_of alone) texts) (option_and_then (λ w. parse_map (λ xs. x ∷ xs) (read_others q f s (next (place_of alone)) w)) o)) ≡ prefixed ((out ++ (trail i.mode ++ separator (inside i).mode (inside i).depth)) ++ x) (option_and_then (λ w. parse_map (λ texts. trail i.mode ++ block_tail g i Later texts) (read_others q f s Later w)) o)
     after x None = refl
     after x (Some w) = rw (next_is alone) (others x (read_others q f s Later w))
 
-    entry : (o : Option (List ℕ × List ℕ)) → prefixed out (parse_map (λ texts. trail i.mode ++ rest g i (place_of alone) texts) (option_and_then (λ x. read_after_entry s.mode (read_others q f s (next (place_of alone))) x.0 x.1) o)) ≡ convert_on q f s g i Later (prefixed (out ++ (trail i.mode ++ separator (inside i).mode (inside i).depth)) o)
+    entry : (o : Option (List ℕ × List ℕ)) → prefixed out (parse_map (λ texts. trail i.mode ++ block_tail g i (place_of alone) texts) (option_and_then (λ x. read_after_entry s.mode (read_others q f s (next (place_of alone))) x.0 x.1) o)) ≡ convert_on q f s g i Later (prefixed (out ++ (trail i.mode ++ separator (inside i).mode (inside i).depth)) o)
     entry None = refl
     entry (Some x) = after x.0 (strip (trail s.mode) x.1)
 
-    by_separator : (u : List ℕ) (o : Option (List ℕ)) → prefixed out (parse_map (λ texts. trail i.mode ++ rest g i (place_of alone) texts) (choose o (read_turn q s.mode (read_others q f s (next (place_of alone)))) (read_end f s (place_of alone) u)))
+    by_separator : (u : List ℕ) (o : Option (List ℕ)) → prefixed out (parse_map (λ texts. trail i.mode ++ block_tail g i (place_of alone) texts) (choose o (read_turn q s.mode (read_others q f s (next (place_of alone)))) (read_end f s (place_of alone) u)))
         ≡ option_and_then (go_on q f s g i alone out) (choose o (λ v. Some (true, v)) (option_map {U = Bool × List ℕ} (λ v. (false, v)) (strip (ending f s (place_of alone)) u)))
     by_separator u None = ended (strip (ending f s (place_of alone)) u)
     by_separator u (Some v) = entry (q v)
 
-    behind : (o : Option (List ℕ)) → prefixed out (option_and_then (λ u. parse_map (λ texts. trail i.mode ++ rest g i (place_of alone) texts) (read_others q f s (place_of alone) u)) o)
+    behind : (o : Option (List ℕ)) → prefixed out (option_and_then (λ u. parse_map (λ texts. trail i.mode ++ block_tail g i (place_of alone) texts) (read_others q f s (place_of alone) u)) o)
         ≡ option_and_then (go_on q f s g i alone out) (option_and_then (λ u. choose (strip (separator (inside s).mode (inside s).depth) u) (λ v. Some (true, v)) (option_map {U = Bool × List ℕ} (λ v. (false, v)) (strip (ending f s (place_of alone)) u))) o)
     behind None = refl
     behind (Some u) =
-        ap (λ o. prefixed out (parse_map (λ texts. trail i.mode ++ rest g i (place_of alone) texts) o)) (read_others-read_turn q takes f s (place_of alone) u)
+        ap (λ o. prefixed out (parse_map (λ texts. trail i.mode ++ block_tail g i (place_of alone) texts) o)) (read_others-read_turn q takes f s (place_of alone) u)
         ∙ rw (lead_is f s alone) (by_separator u (strip (separator (inside s).mode (inside s).depth) u))
 
 -- so another entry begins behind what was written

@@ -5,18 +5,18 @@ use Rattle.ufmt.specs.Document.{Document, leaf, list_of, set_of, map_of, struct_
 use Rattle.ufmt_core.specs.declared.formatter.Setting.{Setting}
 use Rattle.ufmt_core.specs.declared.formatter.block.Kind.TheVariants.{Brackets, Braces, Struct, Tuple, Unnamed}
 use Rattle.ufmt_core.specs.declared.formatter.block.Place.TheVariants.{First}
-use Rattle.ufmt.specs.Layout.{Frame, frame, gap, tuple_kind, inside, lead, new_line}
+use Rattle.ufmt.specs.Layout.{Frame, frame, brace_space, tuple_kind, inside, lead, new_line}
 use Rattle.ufmt.specs.Token.{AreWordBytes, IsWord}
 use Rattle.ufmt.specs.Reading.{Parse, parse_map, strip, word_of, after_word, if_word, read_symbol, read_word, read_value, read_pair, read_list, read_braces, read_map_or_set, read_named, read_tuple, read_without_name, read_with, read}
 use Rattle.ufmt.proofs.Parsing.{led_from, beside_from, mapped_from, same_parts}
 use Rattle.ufmt.proofs.ReadingTurns.{Takes, read_word_takes, strip_within}
 use Rattle.ufmt.proofs.TokenLeaves.{leaf_begins, read_symbol_sound}
-use Rattle.ufmt.proofs.Words.{word_of_bytes}
-use Rattle.ufmt_doc.specs.Entries.{read_on}
+use Rattle.ufmt.proofs.ReadingWords.{word_of_bytes}
+use Rattle.ufmt_doc.specs.Private.Entries.{read_on}
 use Rattle.ufmt_doc.specs.declared.reader.level.Level.{Level}
-use Rattle.ufmt_doc.specs.Level.{entry_at, entry_of, setting_of}
-use Rattle.ufmt_doc.specs.Steps.{before_colon}
-use Rattle.ufmt_doc.specs.Words.{may_open, read_entry_word, read_key}
+use Rattle.ufmt_doc.specs.Private.Level.{entry_at, entry_of, setting_of}
+use Rattle.ufmt_doc.specs.Private.Steps.{before_colon}
+use Rattle.ufmt_doc.specs.Private.FrontWords.{may_open, read_entry_word, read_key}
 use Rattle.ufmt_doc.proofs.EntrySteps.{first_is_read_on}
 
 -- a named tuple behind what stands before its first field
@@ -167,7 +167,7 @@ opens_nothing c text (b ∷ t) which none = rw (differs which) refl
 -- a word that nothing of the kind follows is a leaf
 word_alone : (s : Setting) (p : Parse Document) (w u : List ℕ) → (length w == 0) ≡ false → may_open u ≡ false → read_named s p w u ≡ Some (leaf w, u)
 word_alone s p [] u some none = absurd (cc)
-word_alone s p (c ∷ w) u some none = rw (opens_nothing 40 (new_line (inside s).mode (inside s).depth) u (inl refl) none, opens_nothing 32 (123 ∷ (gap s.mode ++ new_line (inside s).mode (inside s).depth)) u (inr refl) none) refl
+word_alone s p (c ∷ w) u some none = rw (opens_nothing 40 (new_line (inside s).mode (inside s).depth) u (inl refl) none, opens_nothing 32 (123 ∷ (brace_space s.mode ++ new_line (inside s).mode (inside s).depth)) u (inr refl) none) refl
 
 -- so it is an entry of a block, where any may lie in it
 word_is_entry : (level : Level) (t w u : List ℕ) → level.depth < 255 → w ≡ word_of t → u ≡ after_word t → (length w == 0) ≡ false → may_open u ≡ false → entry_of level t ≡ Some (leaf w, u)

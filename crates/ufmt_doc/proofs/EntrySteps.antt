@@ -11,10 +11,10 @@ use Rattle.ufmt.proofs.Parsing.{strip_found, same_parts}
 use Rattle.ufmt.proofs.ReadingTurns.{Takes, strip_within, read_takes, read_pair_takes, read_word_takes, read_others-read_turn}
 use Rattle.ufmt_doc.specs.declared.reader.error.ReadError.{ReadError}
 use Rattle.ufmt_doc.specs.declared.reader.error.ReadError.TheVariants.{NotText}
-use Rattle.ufmt_doc.specs.Read.{Reads}
-use Rattle.ufmt_doc.specs.Entries.{behind_entry, read_more, read_on}
+use Rattle.ufmt_doc.specs.Private.Read.{Reads}
+use Rattle.ufmt_doc.specs.Private.Entries.{behind_entry, read_more, read_on}
 use Rattle.ufmt_doc.specs.declared.reader.level.Level.{Level}
-use Rattle.ufmt_doc.specs.Level.{budget_of, entry_at, entry_of, place_of, setting_of}
+use Rattle.ufmt_doc.specs.Private.Level.{budget_of, entry_at, entry_of, place_of, setting_of}
 
 -- one more at the end of a list, seen through f
 pub map_one_more : {A B : Type 0} (f : A → B) (old new : List A) (x : A) → new ≡ old ++ x ∷ [] → map f new ≡ map f old ++ f x ∷ []

@@ -7,8 +7,8 @@ use Rattle.ufmt.specs.Layout.{Frame, ending, indentation, line_start}
 use Rattle.ufmt_core.specs.declared.formatter.Setting.{Setting}
 use Rattle.ufmt.specs.Reading.{strip}
 use Rattle.ufmt.proofs.Parsing.{strip_of_front, strip_of_none, strip-append}
-use Rattle.ufmt_doc.specs.Level.{closing, place_of}
-use Rattle.ufmt_doc.specs.Read.{now_of}
+use Rattle.ufmt_doc.specs.Private.Level.{closing, place_of}
+use Rattle.ufmt_doc.specs.Private.Read.{now_of}
 
 -- a slice's own call strips what the reading function strips
 stripped : (text t : List ℕ) (r : Option (Bor (List ℕ))) → MatchOption r ((rest : List ℕ) → t ≢ text ++ rest) (λ x. t ≡ text ++ x.now) → now_of r ≡ strip text t

@@ -8,7 +8,7 @@ use Rattle.ufmt_doc.specs.declared.doc.Doc.{Doc}
 use Rattle.ufmt_doc.specs.declared.reader.error.ReadError.{ReadError}
 use Rattle.ufmt_doc.specs.declared.reader.error.ReadError.TheVariants.{NotText}
 use Rattle.ufmt_doc.specs.Doc.{doc_document}
-use Rattle.ufmt_doc.specs.Read.{Gives}
+use Rattle.ufmt_doc.specs.Private.Read.{Gives}
 use Rattle.ufmt_doc.specs.Texts.{IsNormalForm, IsNoText}
 
 -- a document that was read is a token document in normal form that has the text

@@ -1,8 +1,8 @@
 //! Reading a token document from a text, in either mode: a loop over the blocks that are open.
 ghost use Rattle.ufmt.specs.Reading.{if_all, read_text};
 ghost use Rattle.ufmt_doc.specs.Doc.{doc_document};
-ghost use Rattle.ufmt_doc.specs.Level.{mode_of};
-ghost use Rattle.ufmt_doc.specs.Read.{Gives};
+ghost use Rattle.ufmt_doc.specs.Private.Level.{mode_of};
+ghost use Rattle.ufmt_doc.specs.Private.Read.{Gives};
 
 mod begin;
 mod error;

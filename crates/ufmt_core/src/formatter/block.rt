@@ -2,7 +2,7 @@
 //! mode and depth. The brackets stand here alone.
 ghost use Rattle.std.specs.Prelude.{◌≡◌, ◌++◌, codes, is_ok};
 ghost use Rattle.ufmt_core.specs.declared.formatter.Mode.TheVariants.{Pretty};
-ghost use Rattle.ufmt_core.specs.Layout.{ending, frame, gap, indentation, inside, lead, line_start, new_line, next, separator, trail};
+ghost use Rattle.ufmt_core.specs.Layout.{ending, frame, brace_space, indentation, inside, lead, line_start, new_line, next, separator, trail};
 ghost use Rattle.ufmt_core.specs.Formatter.{Prints, depth_of, mode_of, setting_of};
 
 use crate::formatter::{Formatter, Mode, Setting};
@@ -204,7 +204,7 @@ impl<W: uWrite> Formatter<W> {
     // What stands inside the braces of a struct.
     #[inline(always)]
     fn write_gap(&mut self) -> Result<(), W::Error>
-        ensures { Prints W.seen self.old (gap (mode_of self.old)) (is_ok result) self.new }
+        ensures { Prints W.seen self.old (brace_space (mode_of self.old)) (is_ok result) self.new }
     {
         match self.setting.mode {
             Mode::Plain => self.write_str(" "),

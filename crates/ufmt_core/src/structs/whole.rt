@@ -2,7 +2,7 @@
 ghost use Rattle.std.specs.Prelude.{is_ok, [], ◌∷◌};
 ghost use Rattle.ufmt_core.specs.Document.{Fields, field, fields_of, no_fields, struct_of};
 ghost use Rattle.ufmt_core.specs.Formatter.{LaysOut};
-ghost use Rattle.ufmt_core.specs.Block.{Closing, IsInside, IsOpen, fields_left, rest_of};
+ghost use Rattle.ufmt_core.specs.Block.{WritesEnding, IsInside, IsOpen, remaining_fields, tail_of};
 ghost use Rattle.ufmt_core.specs.Builder.{struct_block};
 
 use crate::formatter::Formatter;
@@ -20,8 +20,8 @@ pub trait NamedFields<'a> {
     fn finish<W: uWrite>(&self, block: &mut DebugStruct<W>) -> Result<(), W::Error>
         requires is_open { IsOpen (struct_block block.old) }
         requires is_inside { IsInside (struct_block block.old) }
-        ensures { Closing W.seen (struct_block block.old)
-            (rest_of (struct_block block.old) (fields_left (fields self.now))) (is_ok result)
+        ensures { WritesEnding W.seen (struct_block block.old)
+            (tail_of (struct_block block.old) (remaining_fields (fields self.now))) (is_ok result)
             (struct_block block.new) };
 }
 

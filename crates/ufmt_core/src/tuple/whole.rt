@@ -2,7 +2,7 @@
 ghost use Rattle.std.specs.Prelude.{is_ok, [], ◌∷◌};
 ghost use Rattle.ufmt_core.specs.Document.{Documents, document, documents, no_documents, tuple_of};
 ghost use Rattle.ufmt_core.specs.Formatter.{LaysOut};
-ghost use Rattle.ufmt_core.specs.Block.{Closing, IsInside, IsOpen, entries_left, rest_of};
+ghost use Rattle.ufmt_core.specs.Block.{WritesEnding, IsInside, IsOpen, remaining_entries, tail_of};
 ghost use Rattle.ufmt_core.specs.Builder.{tuple_block};
 
 use crate::formatter::Formatter;
@@ -19,8 +19,8 @@ pub trait UnnamedFields<'a> {
     fn finish<W: uWrite>(&self, block: &mut DebugTuple<W>) -> Result<(), W::Error>
         requires is_open { IsOpen (tuple_block block.old) }
         requires is_inside { IsInside (tuple_block block.old) }
-        ensures { Closing W.seen (tuple_block block.old)
-            (rest_of (tuple_block block.old) (entries_left (documents self.now))) (is_ok result)
+        ensures { WritesEnding W.seen (tuple_block block.old)
+            (tail_of (tuple_block block.old) (remaining_entries (documents self.now))) (is_ok result)
             (tuple_block block.new) };
 }
 

@@ -3,8 +3,8 @@ ghost use Rattle.std.specs.Prelude.{◌≡◌, ◌<◌, length, suc, string_byte
 ghost use Rattle.ufmt.specs.Layout.{layout};
 ghost use Rattle.ufmt.specs.Reading.{parse_map, read, read_braces, read_list, read_named, read_without_name};
 ghost use Rattle.ufmt.specs.Token.{IsWord};
-ghost use Rattle.ufmt_doc.specs.Converting.{BeginsText, prefixed};
-ghost use Rattle.ufmt_doc.specs.Level.{budget_of, entry_of, setting_of};
+ghost use Rattle.ufmt_doc.specs.Private.Converting.{ConvertsBeginning, prefixed};
+ghost use Rattle.ufmt_doc.specs.Private.Level.{budget_of, entry_of, setting_of};
 
 use super::text_block::{TextBlock, convert_label};
 use super::write::write_piece;
@@ -22,7 +22,7 @@ pub(super) fn begin<'a>(
     output: &mut String,
     input: &'a [u8],
 ) -> Result<(Option<TextBlock>, &'a [u8]), ReadError>
-    ensures { BeginsText from to (length input.now) result (string_bytes output.old)
+    ensures { ConvertsBeginning from to (length input.now) result (string_bytes output.old)
         (string_bytes output.new) (read (setting_of from) (budget_of from) input.now) }
 {
     let (word, rest) = split_word(input);
@@ -42,7 +42,7 @@ fn begin_named<'a>(
     input: &'a [u8],
 ) -> Result<(Option<TextBlock>, &'a [u8]), ReadError>
     requires { IsWord word.now }
-    ensures { BeginsText from to (suc (length input.now)) result (string_bytes output.old)
+    ensures { ConvertsBeginning from to (suc (length input.now)) result (string_bytes output.old)
         (string_bytes output.new)
         (read_named (setting_of from) (entry_of from) word.now input.now) }
 {
@@ -66,7 +66,7 @@ fn begin_without_name<'a>(
     output: &mut String,
     input: &'a [u8],
 ) -> Result<(Option<TextBlock>, &'a [u8]), ReadError>
-    ensures { BeginsText from to (length input.now) result (string_bytes output.old)
+    ensures { ConvertsBeginning from to (length input.now) result (string_bytes output.old)
         (string_bytes output.new) (read_without_name (setting_of from) (entry_of from) input.now) }
 {
     if let Some(rest) = strip_byte(b'[', input) {
@@ -91,7 +91,7 @@ fn begin_list<'a>(
     output: &mut String,
     input: &'a [u8],
 ) -> Result<(Option<TextBlock>, &'a [u8]), ReadError>
-    ensures { BeginsText from to (suc (length input.now)) result (string_bytes output.old)
+    ensures { ConvertsBeginning from to (suc (length input.now)) result (string_bytes output.old)
         (string_bytes output.new) (read_list (setting_of from) (entry_of from) input.now) }
 {
     if let Some(rest) = strip_byte(b']', input) {
@@ -112,7 +112,7 @@ fn begin_braces<'a>(
     output: &mut String,
     input: &'a [u8],
 ) -> Result<(Option<TextBlock>, &'a [u8]), ReadError>
-    ensures { BeginsText from to (suc (length input.now)) result (string_bytes output.old)
+    ensures { ConvertsBeginning from to (suc (length input.now)) result (string_bytes output.old)
         (string_bytes output.new) (read_braces (setting_of from) (entry_of from) input.now) }
 {
     if let Some(rest) = strip_byte(b'}', input) {

@@ -2,8 +2,8 @@
 ghost use Rattle.std.specs.Prelude.{option_map, string_bytes};
 ghost use Rattle.ufmt.specs.Layout.{layout, setting};
 ghost use Rattle.ufmt.specs.Reading.{if_all, read_text};
-ghost use Rattle.ufmt_doc.specs.Level.{mode_of};
-ghost use Rattle.ufmt_doc.specs.Read.{Gives};
+ghost use Rattle.ufmt_doc.specs.Private.Level.{mode_of};
+ghost use Rattle.ufmt_doc.specs.Private.Read.{Gives};
 
 use super::begin::begin;
 use super::text_blocks::TextBlocks;

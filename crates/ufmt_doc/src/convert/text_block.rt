@@ -1,6 +1,6 @@
 //! Blocks that are converted, up to an entry that begins in them.
 ghost use Rattle.std.specs.Prelude.{length, string_bytes, Some};
-ghost use Rattle.ufmt_doc.specs.Converting.{Passes, StepsText, WritesLabel, convert_block, convert_value, entry_text, field_of, finish_text};
+ghost use Rattle.ufmt_doc.specs.Private.Converting.{ConvertsBehindEntry, ConvertsStep, WritesLabel, convert_block, convert_value, entry_text, field_of, block_conversion};
 
 use super::write::write_piece;
 use crate::reader::ReadError;
@@ -33,8 +33,8 @@ impl TextBlock {
         output: &mut String,
         input: &'a [u8],
     ) -> Result<(Option<TextBlock>, &'a [u8]), ReadError>
-        ensures { StepsText from to (length input.now) result (string_bytes output.new)
-            (finish_text from to self (Some (string_bytes output.old, input.now))) }
+        ensures { ConvertsStep from to (length input.now) result (string_bytes output.new)
+            (block_conversion from to self (Some (string_bytes output.old, input.now))) }
     {
         match self {
             TextBlock::Entry(kind, alone) => put_entry(from, to, kind, alone, output, input),
@@ -61,7 +61,7 @@ fn pass<'a>(
     output: &mut String,
     input: &'a [u8],
 ) -> Result<(bool, &'a [u8]), ReadError>
-    ensures { Passes from to kind alone result (string_bytes output.old) (string_bytes output.new)
+    ensures { ConvertsBehindEntry from to kind alone result (string_bytes output.old) (string_bytes output.new)
         input.now }
 {
     let (goes_on, rest) = from.pass_entry(kind, alone, input)?;
@@ -83,7 +83,7 @@ fn put_entry<'a>(
     output: &mut String,
     input: &'a [u8],
 ) -> Result<(Option<TextBlock>, &'a [u8]), ReadError>
-    ensures { StepsText from to (length input.now) result (string_bytes output.new)
+    ensures { ConvertsStep from to (length input.now) result (string_bytes output.new)
         (convert_block (entry_text from to) from to kind alone
         (Some (string_bytes output.old, input.now))) }
 {
@@ -102,8 +102,8 @@ fn decide<'a>(
     output: &mut String,
     input: &'a [u8],
 ) -> Result<(Option<TextBlock>, &'a [u8]), ReadError>
-    ensures { StepsText from to (length input.now) result (string_bytes output.new)
-        (finish_text from to TextBlock.Braces (Some (string_bytes output.old, input.now))) }
+    ensures { ConvertsStep from to (length input.now) result (string_bytes output.new)
+        (block_conversion from to TextBlock.Braces (Some (string_bytes output.old, input.now))) }
 {
     match strip(b": ", input) {
         Some(rest) => {
@@ -122,7 +122,7 @@ fn put_value<'a>(
     output: &mut String,
     input: &'a [u8],
 ) -> Result<(Option<TextBlock>, &'a [u8]), ReadError>
-    ensures { StepsText from to (length input.now) result (string_bytes output.new)
+    ensures { ConvertsStep from to (length input.now) result (string_bytes output.new)
         (convert_value from to alone (Some (string_bytes output.old, input.now))) }
 {
     let (goes_on, rest) = pass(from, to, Kind::Braces, alone, output, input)?;
@@ -141,7 +141,7 @@ fn put_field<'a>(
     output: &mut String,
     input: &'a [u8],
 ) -> Result<(Option<TextBlock>, &'a [u8]), ReadError>
-    ensures { StepsText from to (length input.now) result (string_bytes output.new)
+    ensures { ConvertsStep from to (length input.now) result (string_bytes output.new)
         (convert_block (field_of from to) from to Kind.Struct alone
         (Some (string_bytes output.old, input.now))) }
 {

@@ -2,8 +2,8 @@
 ghost use Rattle.std.specs.Prelude.{◌++◌, ◌*◌, string_bytes};
 ghost use Rattle.ufmt.specs.Layout.{ending, indentation, inside, lead, line_start, new_line, separator, trail};
 ghost use Rattle.ufmt_core.specs.declared.formatter.block.Place.TheVariants.{First};
-ghost use Rattle.ufmt_doc.specs.Converting.{WritesPiece};
-ghost use Rattle.ufmt_doc.specs.Level.{closing, frame_of, mode_of, place_of, setting_of};
+ghost use Rattle.ufmt_doc.specs.Private.Converting.{WritesPiece};
+ghost use Rattle.ufmt_doc.specs.Private.Level.{closing, frame_of, mode_of, place_of, setting_of};
 
 use crate::reader::ReadError;
 use crate::reader::level::{Kind, Level, Mode};

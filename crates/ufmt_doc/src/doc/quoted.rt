@@ -4,7 +4,7 @@ ghost use Rattle.std.specs.Str.{chars};
 ghost use Rattle.ufmt.specs.Document.{leaf};
 ghost use Rattle.ufmt.specs.Quoted.{IsQuote, quoted_char, quoted_text};
 ghost use Rattle.ufmt_doc.specs.Doc.{doc_document};
-ghost use Rattle.ufmt_doc.specs.Spelled.{Tells};
+ghost use Rattle.ufmt_doc.specs.Private.Spelled.{Tells};
 ghost use Rattle.ufmt_doc.specs.Unquoted.{Unquotes};
 
 use super::Doc;

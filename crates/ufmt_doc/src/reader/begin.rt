@@ -2,8 +2,8 @@
 ghost use Rattle.std.specs.Prelude.{◌<◌, length, string_bytes, suc};
 ghost use Rattle.ufmt.specs.Reading.{read, read_braces, read_list, read_named, read_tuple, read_without_name};
 ghost use Rattle.ufmt.specs.Token.{IsWord};
-ghost use Rattle.ufmt_doc.specs.Level.{budget_of, entry_of, setting_of};
-ghost use Rattle.ufmt_doc.specs.Steps.{Steps};
+ghost use Rattle.ufmt_doc.specs.Private.Level.{budget_of, entry_of, setting_of};
+ghost use Rattle.ufmt_doc.specs.Private.Steps.{ReadsStep};
 
 use crate::doc::Doc;
 use crate::reader::error::ReadError;
@@ -27,7 +27,7 @@ pub(super) fn begin<'a>(
     input: &'a [u8],
 ) -> Result<(Option<Doc>, &'a [u8]), ReadError>
     requires { length blocks.old.blocks.items < 256 }
-    ensures { Steps level (length input.now) result
+    ensures { ReadsStep level (length input.now) result
         blocks.old.blocks.items blocks.new.blocks.items
         (read (setting_of level) (budget_of level) input.now) }
 {
@@ -49,7 +49,7 @@ fn begin_named<'a>(
 ) -> Result<(Option<Doc>, &'a [u8]), ReadError>
     requires few { length blocks.old.blocks.items < 256 }
     requires word { IsWord word.now }
-    ensures { Steps level (suc (length input.now)) result
+    ensures { ReadsStep level (suc (length input.now)) result
         blocks.old.blocks.items blocks.new.blocks.items
         (read_named (setting_of level) (entry_of level) word.now input.now) }
 {
@@ -75,7 +75,7 @@ fn begin_tuple<'a>(
     input: &'a [u8],
 ) -> Result<(Option<Doc>, &'a [u8]), ReadError>
     requires { length blocks.old.blocks.items < 256 }
-    ensures { Steps level (suc (length input.now)) result
+    ensures { ReadsStep level (suc (length input.now)) result
         blocks.old.blocks.items blocks.new.blocks.items
         (read_tuple (setting_of level) (entry_of level) (string_bytes name) input.now) }
 {
@@ -92,7 +92,7 @@ fn begin_without_name<'a>(
     input: &'a [u8],
 ) -> Result<(Option<Doc>, &'a [u8]), ReadError>
     requires { length blocks.old.blocks.items < 256 }
-    ensures { Steps level (length input.now) result
+    ensures { ReadsStep level (length input.now) result
         blocks.old.blocks.items blocks.new.blocks.items
         (read_without_name (setting_of level) (entry_of level) input.now) }
 {
@@ -117,7 +117,7 @@ fn begin_list<'a>(
     input: &'a [u8],
 ) -> Result<(Option<Doc>, &'a [u8]), ReadError>
     requires { length blocks.old.blocks.items < 256 }
-    ensures { Steps level (suc (length input.now)) result
+    ensures { ReadsStep level (suc (length input.now)) result
         blocks.old.blocks.items blocks.new.blocks.items
         (read_list (setting_of level) (entry_of level) input.now) }
 {
@@ -140,7 +140,7 @@ fn begin_braces<'a>(
     input: &'a [u8],
 ) -> Result<(Option<Doc>, &'a [u8]), ReadError>
     requires { length blocks.old.blocks.items < 256 }
-    ensures { Steps level (suc (length input.now)) result
+    ensures { ReadsStep level (suc (length input.now)) result
         blocks.old.blocks.items blocks.new.blocks.items
         (read_braces (setting_of level) (entry_of level) input.now) }
 {

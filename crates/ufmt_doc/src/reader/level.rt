@@ -1,11 +1,11 @@
 //! What stands round the entries of blocks, at each level of a text that is read.
 ghost use Rattle.std.specs.Prelude.{◌≡◌, ◌∷◌, [], ℕ, suc, codes, Option, Some, None, option_and_then, MatchOption};
-ghost use Rattle.ufmt.specs.Layout.{Frame, ending, gap, indentation, inside, lead, line_start, new_line, separator, trail};
+ghost use Rattle.ufmt.specs.Layout.{Frame, ending, brace_space, indentation, inside, lead, line_start, new_line, separator, trail};
 ghost use Rattle.ufmt_core.specs.declared.formatter.block.Place.TheVariants.{First};
 ghost use Rattle.ufmt.specs.Reading.{strip};
-ghost use Rattle.ufmt_doc.specs.Level.{closing, frame_of, kind_of, mode_of, place_of, setting_of};
-ghost use Rattle.ufmt_doc.specs.Entries.{behind_entry};
-ghost use Rattle.ufmt_doc.specs.Read.{Reads, Strips, now_of};
+ghost use Rattle.ufmt_doc.specs.Private.Level.{closing, frame_of, kind_of, mode_of, place_of, setting_of};
+ghost use Rattle.ufmt_doc.specs.Private.Entries.{behind_entry};
+ghost use Rattle.ufmt_doc.specs.Private.Read.{Reads, Strips, now_of};
 
 use crate::reader::error::ReadError;
 
@@ -169,7 +169,7 @@ impl Level {
     /// What follows an entry of a block, the only one so far or one of more: true, and where the
     /// next entry begins, or false, and what follows the block's end.
     #[inline(always)]
-    #[tactic(auto, unfolding(crate::specs::Entries::behind_entry))]
+    #[tactic(auto, unfolding(crate::specs::Private::Entries::behind_entry))]
     pub(crate) fn pass_entry(
         self,
         kind: Kind,

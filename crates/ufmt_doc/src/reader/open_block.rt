@@ -4,9 +4,9 @@ ghost use Rattle.std.specs.declared.alloc.Global.{Global};
 ghost use Rattle.ufmt.specs.Layout.{tuple_kind};
 ghost use Rattle.ufmt_doc.specs.Doc.{doc_document};
 ghost use Rattle.ufmt_doc.specs.DocViews.{docs_view};
-ghost use Rattle.ufmt_doc.specs.Level.{kind_of};
-ghost use Rattle.ufmt_doc.specs.Read.{Reads};
-ghost use Rattle.ufmt_doc.specs.Steps.{Puts, PutsEntries, block_document, finish, read_label};
+ghost use Rattle.ufmt_doc.specs.Private.Level.{kind_of};
+ghost use Rattle.ufmt_doc.specs.Private.Read.{Reads};
+ghost use Rattle.ufmt_doc.specs.Private.Steps.{TakesEntry, TakesWords, block_document, block_reading, read_label};
 
 use crate::doc::Doc;
 use crate::reader::error::ReadError;
@@ -40,8 +40,8 @@ impl OpenBlock {
         doc: Doc,
         input: &'a [u8],
     ) -> Result<(bool, &'a [u8]), ReadError>
-        ensures { Puts level (length input.now) result self.new
-            (finish level self.old (Some (doc_document doc, input.now))) }
+        ensures { TakesEntry level (length input.now) result self.new
+            (block_reading level self.old (Some (doc_document doc, input.now))) }
     {
         match self {
             OpenBlock::List(entries) => put_entry(level, Kind::Brackets, entries, doc, input),
@@ -82,7 +82,7 @@ pub(super) fn put_entry<'a>(
     doc: Doc,
     input: &'a [u8],
 ) -> Result<(bool, &'a [u8]), ReadError>
-    ensures { PutsEntries level kind (length input.now) result
+    ensures { TakesWords level kind (length input.now) result
         (docs_view entries.old) (docs_view entries.new) (Some (doc_document doc, input.now)) }
 {
     entries.push(doc)?;
@@ -97,8 +97,8 @@ fn decide<'a>(
     doc: Doc,
     input: &'a [u8],
 ) -> Result<(bool, &'a [u8]), ReadError>
-    ensures { Puts level (length input.now) result braces.new
-        (finish level OpenBlock.Braces (Some (doc_document doc, input.now))) }
+    ensures { TakesEntry level (length input.now) result braces.new
+        (block_reading level OpenBlock.Braces (Some (doc_document doc, input.now))) }
 {
     match strip(b": ", input) {
         Some(rest) => {
@@ -124,8 +124,8 @@ fn put_in_map<'a>(
     doc: Doc,
     input: &'a [u8],
 ) -> Result<(bool, &'a [u8]), ReadError>
-    ensures { Puts level (length input.now) result (OpenBlock.Map pairs.new key.new)
-        (finish level (OpenBlock.Map pairs.old key.old) (Some (doc_document doc, input.now))) }
+    ensures { TakesEntry level (length input.now) result (OpenBlock.Map pairs.new key.new)
+        (block_reading level (OpenBlock.Map pairs.old key.old) (Some (doc_document doc, input.now))) }
 {
     match key.take() {
         Some(first) => {
@@ -160,8 +160,8 @@ fn put_field<'a>(
     input: &'a [u8],
 ) -> Result<(bool, &'a [u8]), ReadError>
     ensures { (name : String Global)
-        → Puts level (length input.now) result (OpenBlock.Struct name fields.new label.new)
-        (finish level (OpenBlock.Struct name fields.old label.old) (Some (doc_document doc, input.now))) }
+        → TakesEntry level (length input.now) result (OpenBlock.Struct name fields.new label.new)
+        (block_reading level (OpenBlock.Struct name fields.old label.old) (Some (doc_document doc, input.now))) }
 {
     let waiting = mem::replace(label, String::new(alloc));
     fields.push((waiting, doc))?;

@@ -2,9 +2,9 @@
 ghost use Rattle.std.specs.Prelude.{◌≡◌, length, MatchResult, option_map};
 ghost use Rattle.ufmt_doc.specs.Doc.{doc_document};
 ghost use Rattle.ufmt_doc.specs.DocViews.{docs_view};
-ghost use Rattle.ufmt_doc.specs.Level.{entry_of};
-ghost use Rattle.ufmt_doc.specs.Steps.{PutsEntries};
-ghost use Rattle.ufmt_doc.specs.Words.{may_open, read_entry_word, read_key};
+ghost use Rattle.ufmt_doc.specs.Private.Level.{entry_of};
+ghost use Rattle.ufmt_doc.specs.Private.Steps.{TakesWords};
+ghost use Rattle.ufmt_doc.specs.Private.FrontWords.{may_open, read_entry_word, read_key};
 
 use crate::doc::Doc;
 use crate::reader::error::ReadError;
@@ -23,7 +23,7 @@ pub(super) fn read_words<'a>(
     entries: &mut Vec<Doc>,
     input: &'a [u8],
 ) -> Result<(bool, &'a [u8]), ReadError>
-    ensures { PutsEntries level kind (length input.now) result
+    ensures { TakesWords level kind (length input.now) result
         (docs_view entries.old) (docs_view entries.new) (entry_of level input.now) }
 {
     let mut rest = input;

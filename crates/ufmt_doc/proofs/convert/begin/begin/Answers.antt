@@ -3,13 +3,13 @@ use Rattle.ufmt.specs.Document.{Document}
 use Rattle.ufmt_doc.specs.declared.convert.text_block.TextBlock.{TextBlock}
 use Rattle.ufmt_doc.specs.declared.reader.error.ReadError.{ReadError}
 use Rattle.ufmt_doc.specs.declared.reader.level.Level.{Level}
-use Rattle.ufmt_doc.specs.Converting.{BeginsText}
-use Rattle.ufmt_doc.specs.Level.{budget_of, setting_of}
+use Rattle.ufmt_doc.specs.Private.Converting.{ConvertsBeginning}
+use Rattle.ufmt_doc.specs.Private.Level.{budget_of, setting_of}
 use Rattle.ufmt_doc.proofs.DocumentParts.{reads_without_name, reads_named, front_is_word, word_within}
 use Rattle.ufmt_doc.proofs.convert.begin.begin.Goals as goal
 
 -- what leaves fewer bytes than one number leaves fewer than a larger one
-begins_longer : (from to : Level) (m n : ℕ) (answer : Result (Option TextBlock × Bor (List ℕ)) ReadError) (old new : List ℕ) (there : Option (Document × List ℕ)) → m ≤ n → BeginsText from to m answer old new there → BeginsText from to n answer old new there
+begins_longer : (from to : Level) (m n : ℕ) (answer : Result (Option TextBlock × Bor (List ℕ)) ReadError) (old new : List ℕ) (there : Option (Document × List ℕ)) → m ≤ n → ConvertsBeginning from to m answer old new there → ConvertsBeginning from to n answer old new there
 begins_longer from to m n (Ok x) old new there longer h = (h.0, let less = h.1 in omega (arith, less))
 begins_longer from to m n (Err e) old new there longer h = h
 

@@ -5,8 +5,8 @@ use Rattle.ufmt.specs.Token.{IsWord}
 use Rattle.ufmt_core.specs.declared.formatter.block.Place.TheVariants.{First}
 use Rattle.ufmt_doc.specs.declared.convert.text_block.TextBlock.TheVariants.{Entry, Field}
 use Rattle.ufmt_doc.specs.declared.reader.level.Kind.TheVariants.{Struct, Tuple}
-use Rattle.ufmt_doc.specs.Converting.{stepped_text}
-use Rattle.ufmt_doc.specs.Level.{frame_of, setting_of}
+use Rattle.ufmt_doc.specs.Private.Converting.{text_after_step}
+use Rattle.ufmt_doc.specs.Private.Level.{frame_of, setting_of}
 use Rattle.ufmt.proofs.ReadingTurns.{read_word_takes, strip_within}
 use Rattle.ufmt_doc.proofs.ConvertingParts.{struct_converts, tuple_converts}
 use Rattle.ufmt_doc.proofs.DocumentParts.{colon_within}
@@ -31,7 +31,7 @@ returns-in_ok-write_opening c =
     let rest = c.in-Some.rest.now in
     let within : length rest ≤ length c.args.input.now = strip_within (lead (frame_of from Tuple) (inside (setting_of from)) First) c.args.input.now rest (sym c.in-Some.ensures) in (
       tuple_converts from c.args.to (string_bytes c.args.output.now) c.args.word.now c.args.input.now rest c.requires (sym c.in-Some.ensures)
-          ∙ ap (λ out. stepped_text from c.args.to (Some (Entry Tuple true)) out rest) (sym (written (string_bytes c.args.output.now) c.args.word.now _ _ _ (c.in_ok-write_piece.ensures ∙ ap (λ text. string_bytes c.args.output.now ++ text) c.text_from.ensures) c.in_ok-write_opening.ensures)),
+          ∙ ap (λ out. text_after_step from c.args.to (Some (Entry Tuple true)) out rest) (sym (written (string_bytes c.args.output.now) c.args.word.now _ _ _ (c.in_ok-write_piece.ensures ∙ ap (λ text. string_bytes c.args.output.now ++ text) c.text_from.ensures) c.in_ok-write_opening.ensures)),
       omega (arith, within),
     )
 
@@ -44,7 +44,7 @@ returns-in_ok-rest c =
     let b : length c.in_ok-rest.rest.now < length start = colon_within _ _ _ read_word_takes label.1 in
     let before = written (string_bytes c.args.output.now) c.args.word.now _ _ _ (c.in_ok-write_piece.ensures ∙ ap (λ text. string_bytes c.args.output.now ++ text) c.text_from.ensures) c.in_ok-write_opening-2.ensures in (
       struct_converts from c.args.to (string_bytes c.args.output.now) c.args.word.now c.args.input.now start label.0 c.in_ok-rest.rest.now c.requires (sym c.in_default.ensures) (sym c.in-Some-strip_lead.ensures) label.1
-          ∙ ap (λ out. stepped_text from c.args.to (Some (Field true)) (out ++ (label.0 ++ codes ": ")) c.in_ok-rest.rest.now) (sym before)
-          ∙ ap (λ out. stepped_text from c.args.to (Some (Field true)) out c.in_ok-rest.rest.now) (sym label.2),
+          ∙ ap (λ out. text_after_step from c.args.to (Some (Field true)) (out ++ (label.0 ++ codes ": ")) c.in_ok-rest.rest.now) (sym before)
+          ∙ ap (λ out. text_after_step from c.args.to (Some (Field true)) out c.in_ok-rest.rest.now) (sym label.2),
       omega (arith, a, b),
     )

@@ -3,8 +3,8 @@ use Rattle.ufmt.specs.Layout.{inside, layout, new_line}
 use Rattle.ufmt.specs.Reading.{parse_map}
 use Rattle.ufmt_doc.specs.declared.convert.text_block.TextBlock.TheVariants.{Entry}
 use Rattle.ufmt_doc.specs.declared.reader.level.Kind.TheVariants.{Unnamed}
-use Rattle.ufmt_doc.specs.Converting.{prefixed, stepped_text}
-use Rattle.ufmt_doc.specs.Level.{entry_of, mode_of, setting_of}
+use Rattle.ufmt_doc.specs.Private.Converting.{prefixed, text_after_step}
+use Rattle.ufmt_doc.specs.Private.Level.{entry_of, mode_of, setting_of}
 use Rattle.ufmt_doc.proofs.ConvertingParts.{unnamed_converts}
 use Rattle.ufmt_doc.proofs.DocumentParts.{symbol_begins}
 use Rattle.ufmt_doc.proofs.EntrySteps.{strip_shortens}
@@ -16,7 +16,7 @@ returns-in_ok-write_opening c =
     let rest = c.in-Some-strip_lead.rest.now in
     let lead = sym c.in-Some-strip_lead.ensures in (
       unnamed_converts from c.args.to (string_bytes c.args.output.now) c.args.input.now rest (sym c.in_default.ensures) (sym c.in_default-strip_byte.ensures) (sym c.in_default-split_symbol.ensures) lead
-          ∙ ap (λ out. stepped_text from c.args.to (Some (Entry Unnamed true)) out rest) (sym c.in_ok-write_opening.ensures),
+          ∙ ap (λ out. text_after_step from c.args.to (Some (Entry Unnamed true)) out rest) (sym c.in_ok-write_opening.ensures),
       strip_shortens 40 (new_line (mode_of from.mode) (inside (setting_of from)).depth) c.args.input.now rest lead,
     )
 

@@ -1,6 +1,6 @@
 use Rattle.ufmt_doc.proofs.Converting.{pass_ends, pass_goes_on, pass_refused}
 use Rattle.ufmt_doc.proofs.ConvertingParts.{entry_text_takes}
-use Rattle.ufmt_doc.specs.Converting.{entry_text}
+use Rattle.ufmt_doc.specs.Private.Converting.{entry_text}
 use Rattle.ufmt_doc.proofs.EntrySteps.{behind_within}
 use Rattle.ufmt_doc.proofs.Given.{passes_on}
 use Rattle.ufmt_doc.proofs.convert.text_block.put_entry.Goals as goal

@@ -6,7 +6,7 @@ use Rattle.ufmt_doc.proofs.Converting.{pass_ends, pass_goes_on, pass_refused}
 use Rattle.ufmt_doc.proofs.ConvertingParts.{field_of_takes, later_field_converts, no_field_converts}
 use Rattle.ufmt.proofs.ReadingTurns.{read_word_takes}
 use Rattle.ufmt_doc.proofs.DocumentParts.{colon_within}
-use Rattle.ufmt_doc.specs.Converting.{field_of, stepped_text}
+use Rattle.ufmt_doc.specs.Private.Converting.{field_of, text_after_step}
 use Rattle.ufmt_doc.proofs.EntrySteps.{behind_within}
 use Rattle.ufmt_doc.proofs.Given.{passes_on}
 use Rattle.ufmt_doc.proofs.convert.text_block.put_field.Goals as goal
@@ -29,7 +29,7 @@ returns-in_ok-rest c =
     let b : length c.in_ok-rest.rest.now < length c.in_ok-goes_on.rest.now = colon_within _ _ _ read_word_takes label.1 in (
       pass_goes_on (field_of c.args.from c.args.to) c.args.from c.args.to Struct c.args.alone _ _ c.args.input.now _ _ (field_of_takes c.args.from c.args.to) c.in_ok-goes_on.ensures.0 c.in_ok-goes_on.ensures.1 c.if-goes_on.true
           ∙ later_field_converts c.args.from c.args.to _ c.in_ok-goes_on.rest.now _ _ label.1
-          ∙ ap (λ out. stepped_text c.args.from c.args.to (Some (Field false)) out c.in_ok-rest.rest.now) (sym label.2),
+          ∙ ap (λ out. text_after_step c.args.from c.args.to (Some (Field false)) out c.in_ok-rest.rest.now) (sym label.2),
       omega (arith, a, b),
     )
 

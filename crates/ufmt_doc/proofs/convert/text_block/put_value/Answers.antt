@@ -2,7 +2,7 @@ use Rattle.std.proofs.Common.{◌∙◌}
 use Rattle.ufmt_doc.specs.declared.reader.level.Kind.TheVariants.{Braces}
 use Rattle.ufmt_doc.proofs.Converting.{pass_ends, pass_goes_on, pass_refused}
 use Rattle.ufmt_doc.proofs.ConvertingParts.{pair_converts, pair_of_takes}
-use Rattle.ufmt_doc.specs.Converting.{pair_of}
+use Rattle.ufmt_doc.specs.Private.Converting.{pair_of}
 use Rattle.ufmt_doc.proofs.EntrySteps.{behind_within}
 use Rattle.ufmt_doc.proofs.Given.{passes_on}
 use Rattle.ufmt_doc.proofs.convert.text_block.put_value.Goals as goal

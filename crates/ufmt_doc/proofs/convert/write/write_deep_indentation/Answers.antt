@@ -3,7 +3,7 @@ use Rattle.std.proofs.lemmas.Nat.{div-add-mod'}
 use Rattle.ufmt.specs.Layout.{indentation}
 use Rattle.ufmt_core.proofs.Indentation.{indentation-add}
 use Rattle.ufmt_doc.specs.declared.reader.error.ReadError.{ReadError}
-use Rattle.ufmt_doc.specs.Converting.{WritesPiece}
+use Rattle.ufmt_doc.specs.Private.Converting.{WritesPiece}
 use Rattle.ufmt_doc.proofs.convert.write.write_deep_indentation.Goals as goal
 
 -- two pieces that make up a text

@@ -1,5 +1,5 @@
 use Rattle.std.proofs.Common.{◌∙◌, sym}
-use Rattle.ufmt_doc.specs.Level.{budget_of, setting_of}
+use Rattle.ufmt_doc.specs.Private.Level.{budget_of, setting_of}
 use Rattle.ufmt_doc.proofs.DocumentParts.{reads_without_name, reads_named, front_is_word, word_within}
 use Rattle.ufmt_doc.proofs.Stacks.{steps_longer}
 use Rattle.ufmt_doc.proofs.reader.begin.begin.Goals as goal

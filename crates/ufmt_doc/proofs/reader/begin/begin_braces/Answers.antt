@@ -3,7 +3,7 @@ use Rattle.ufmt.specs.Layout.{inside, lead}
 use Rattle.ufmt_core.specs.declared.formatter.block.Place.TheVariants.{First}
 use Rattle.ufmt_doc.specs.declared.reader.level.Kind.TheVariants.{Braces}
 use Rattle.ufmt_doc.specs.Doc.{doc_document}
-use Rattle.ufmt_doc.specs.Level.{entry_of, frame_of, setting_of}
+use Rattle.ufmt_doc.specs.Private.Level.{entry_of, frame_of, setting_of}
 use Rattle.ufmt_doc.proofs.DocumentParts.{braces_begin, colon_within, key_is, map_begins_with}
 use Rattle.ufmt_doc.proofs.EntrySteps.{entry_of_takes}
 use Rattle.ufmt.proofs.ReadingTurns.{strip_within}

@@ -7,8 +7,8 @@ use Rattle.ufmt_doc.specs.declared.doc.Doc.{Doc}
 use Rattle.ufmt_doc.specs.declared.reader.level.Kind.TheVariants.{Brackets}
 use Rattle.ufmt_doc.specs.declared.reader.level.Level.{Level}
 use Rattle.ufmt_doc.specs.Doc.{doc_document}
-use Rattle.ufmt_doc.specs.Level.{entry_of, frame_of, setting_of}
-use Rattle.ufmt_doc.specs.Steps.{entries_on}
+use Rattle.ufmt_doc.specs.Private.Level.{entry_of, frame_of, setting_of}
+use Rattle.ufmt_doc.specs.Private.Steps.{entries_on}
 use Rattle.ufmt_doc.proofs.DocumentParts.{list_begins}
 use Rattle.ufmt.proofs.ReadingTurns.{strip_within}
 use Rattle.ufmt_doc.proofs.Given.{passes_on}

@@ -3,7 +3,7 @@ use Rattle.ufmt.specs.Layout.{inside, lead}
 use Rattle.ufmt.specs.Reading.{read_tuple, read_word}
 use Rattle.ufmt_core.specs.declared.formatter.block.Place.TheVariants.{First}
 use Rattle.ufmt_doc.specs.declared.reader.level.Kind.TheVariants.{Struct, Tuple}
-use Rattle.ufmt_doc.specs.Level.{entry_of, frame_of, setting_of}
+use Rattle.ufmt_doc.specs.Private.Level.{entry_of, frame_of, setting_of}
 use Rattle.ufmt_doc.proofs.DocumentParts.{colon_within, pair_from, struct_begins, tuple_opens}
 use Rattle.ufmt.proofs.ReadingTurns.{read_word_takes, strip_within}
 use Rattle.ufmt_doc.proofs.Stacks.{steps_are}

@@ -6,9 +6,9 @@ use Rattle.ufmt_doc.specs.declared.doc.Doc.{Doc}
 use Rattle.ufmt_doc.specs.declared.reader.level.Kind.{Kind}
 use Rattle.ufmt_doc.specs.declared.reader.level.Level.{Level}
 use Rattle.ufmt_doc.specs.Doc.{doc_document}
-use Rattle.ufmt_doc.specs.Entries.{read_on}
-use Rattle.ufmt_doc.specs.Level.{entry_of, kind_of, mode_of, setting_of}
-use Rattle.ufmt_doc.specs.Steps.{entries_on}
+use Rattle.ufmt_doc.specs.Private.Entries.{read_on}
+use Rattle.ufmt_doc.specs.Private.Level.{entry_of, kind_of, mode_of, setting_of}
+use Rattle.ufmt_doc.specs.Private.Steps.{entries_on}
 use Rattle.ufmt_doc.proofs.EntrySteps.{first_is_read_on}
 use Rattle.ufmt_doc.proofs.Given.{passes_on}
 use Rattle.ufmt_doc.proofs.Stacks.{steps_are}

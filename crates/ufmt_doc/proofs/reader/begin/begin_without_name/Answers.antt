@@ -2,7 +2,7 @@ use Rattle.std.proofs.Common.{refl, Some, ◌∙◌, ap, sym, ◌≤◌, ◌<◌
 use Rattle.ufmt.specs.Document.{leaf}
 use Rattle.ufmt.specs.Layout.{inside, new_line}
 use Rattle.ufmt.specs.Reading.{read_tuple}
-use Rattle.ufmt_doc.specs.Level.{entry_of, mode_of, setting_of}
+use Rattle.ufmt_doc.specs.Private.Level.{entry_of, mode_of, setting_of}
 use Rattle.ufmt_doc.proofs.Docs.{doc_document-Leaf}
 use Rattle.ufmt_doc.proofs.DocumentParts.{symbol_begins, unnamed_opens}
 use Rattle.ufmt_doc.proofs.EntrySteps.{strip_shortens}

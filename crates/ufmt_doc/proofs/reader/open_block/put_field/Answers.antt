@@ -3,8 +3,8 @@ use Rattle.ufmt.specs.Document.{struct_of, fields_of}
 use Rattle.ufmt.specs.Reading.{read_pair, read_word}
 use Rattle.ufmt_doc.specs.declared.reader.level.Kind.TheVariants.{Struct}
 use Rattle.ufmt_doc.specs.DocViews.{field_view, fields_view}
-use Rattle.ufmt_doc.specs.Entries.{read_on}
-use Rattle.ufmt_doc.specs.Level.{entry_of, frame_of, setting_of}
+use Rattle.ufmt_doc.specs.Private.Entries.{read_on}
+use Rattle.ufmt_doc.specs.Private.Level.{entry_of, frame_of, setting_of}
 use Rattle.ufmt_doc.proofs.DocumentParts.{colon_within, pair_without, value_is}
 use Rattle.ufmt.proofs.ReadingTurns.{read_word_takes}
 use Rattle.ufmt_doc.proofs.EntrySteps.{behind_within, field_takes, put_decides}

@@ -3,7 +3,7 @@ use Rattle.ufmt.specs.Document.{map_of, pairs_of}
 use Rattle.ufmt_doc.specs.declared.reader.level.Kind.TheVariants.{Braces}
 use Rattle.ufmt_doc.specs.Doc.{doc_document}
 use Rattle.ufmt_doc.specs.DocViews.{pair_view, pairs_view}
-use Rattle.ufmt_doc.specs.Level.{entry_of, frame_of, setting_of}
+use Rattle.ufmt_doc.specs.Private.Level.{entry_of, frame_of, setting_of}
 use Rattle.ufmt_doc.proofs.DocumentParts.{colon_within, key_is, pair_is, value_is}
 use Rattle.ufmt_doc.proofs.EntrySteps.{behind_within, entry_of_takes, pair_takes, put_decides}
 use Rattle.ufmt_doc.proofs.Given.{passes_on}

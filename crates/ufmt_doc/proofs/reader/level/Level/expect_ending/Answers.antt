@@ -1,5 +1,5 @@
 use Rattle.std.proofs.Common.{refl}
-use Rattle.ufmt_doc.specs.Level.{frame_of, setting_of}
+use Rattle.ufmt_doc.specs.Private.Level.{frame_of, setting_of}
 use Rattle.ufmt_doc.proofs.Strips.{ending_strips}
 use Rattle.ufmt_doc.proofs.reader.level.Level.expect_ending.Goals as goal
 

@@ -4,7 +4,7 @@ use Rattle.std.specs.Borrow.{Bor}
 use Rattle.ufmt_core.specs.declared.formatter.Setting.{Setting}
 use Rattle.ufmt_core.specs.declared.formatter.block.Place.{Place}
 use Rattle.ufmt.specs.Document.{Document}
-use Rattle.ufmt.specs.Layout.{Frame, ending, inside, layout, rest, separator, setting, trail}
+use Rattle.ufmt.specs.Layout.{Frame, ending, inside, layout, block_tail, separator, setting, trail}
 use Rattle.ufmt.specs.Reading.{Parse, choose, parse_map, strip, read_word, read_pair, read_others}
 use Rattle.ufmt_doc.specs.declared.convert.text_block.TextBlock.{TextBlock}
 use Rattle.ufmt_doc.specs.declared.convert.text_block.TextBlock.TheVariants as blocks
@@ -14,10 +14,10 @@ use Rattle.ufmt_doc.specs.declared.reader.level.Kind.{Kind}
 use Rattle.ufmt_doc.specs.declared.reader.level.Kind.TheVariants as kinds
 use Rattle.ufmt_doc.specs.declared.reader.level.Level.{Level}
 use Rattle.ufmt_doc.specs.declared.reader.level.Mode.{Mode}
-use Rattle.ufmt_doc.specs.Entries.{behind_entry}
-use Rattle.ufmt_doc.specs.Level.{entry_of, frame_of, mode_of, place_of, setting_of}
-use Rattle.ufmt_doc.specs.Stack.{document_at, level_at, resumed}
-use Rattle.ufmt_doc.specs.Steps.{read_label}
+use Rattle.ufmt_doc.specs.Private.Entries.{behind_entry}
+use Rattle.ufmt_doc.specs.Private.Level.{entry_of, frame_of, mode_of, place_of, setting_of}
+use Rattle.ufmt_doc.specs.Private.Stack.{document_at, level_at, from_innermost}
+use Rattle.ufmt_doc.specs.Private.Steps.{read_label}
 
 -- what is written and what is left to read, with this text in front
 abbrev pub prefixed : List ℕ → Option (List ℕ × List ℕ) → Option (List ℕ × List ℕ)
@@ -46,7 +46,7 @@ field_of from to t = parse_map (field_text (inside (setting_of to))) (read_pair 
 
 -- what is written behind an entry, where the next one would have this place and `q` converts it
 unfoldable pub rest_text : Parse (List ℕ) → Frame → Setting → Frame → Setting → Place → Parse (List ℕ)
-rest_text q f s g i place t = option_and_then (λ u. parse_map (λ texts. trail i.mode ++ rest g i place texts) (read_others q f s place u)) (strip (trail s.mode) t)
+rest_text q f s g i place t = option_and_then (λ u. parse_map (λ texts. trail i.mode ++ block_tail g i place texts) (read_others q f s place u)) (strip (trail s.mode) t)
 
 -- a block to its end, where this was written with an entry that was converted
 abbrev pub convert_on : Parse (List ℕ) → Frame → Setting → Frame → Setting → Place → Option (List ℕ × List ℕ) → Option (List ℕ × List ℕ)
@@ -65,39 +65,39 @@ abbrev pub convert_colon : Level → Level → Bool → List ℕ → List ℕ �
 convert_colon from to alone out t = convert_value from to alone (prefixed (out ++ codes ": ") (entry_text from to t))
 
 -- an open block to its end, where this was written with the entry, key or value that began in it
-abbrev pub finish_text : Level → Level → TextBlock → Option (List ℕ × List ℕ) → Option (List ℕ × List ℕ)
-finish_text from to (blocks.Entry kind alone) o = convert_block (entry_text from to) from to kind alone o
-finish_text from to blocks.Braces o = option_and_then (λ x. choose (strip (codes ": ") x.1) (λ u. convert_colon from to true x.0 u) (convert_block (entry_text from to) from to kinds.Braces true (Some (x.0, x.1)))) o
-finish_text from to blocks.Key o = option_and_then (λ x. option_and_then (λ u. convert_colon from to false x.0 u) (strip (codes ": ") x.1)) o
-finish_text from to (blocks.Value alone) o = convert_value from to alone o
-finish_text from to (blocks.Field alone) o = convert_block (field_of from to) from to kinds.Struct alone o
+abbrev pub block_conversion : Level → Level → TextBlock → Option (List ℕ × List ℕ) → Option (List ℕ × List ℕ)
+block_conversion from to (blocks.Entry kind alone) o = convert_block (entry_text from to) from to kind alone o
+block_conversion from to blocks.Braces o = option_and_then (λ x. choose (strip (codes ": ") x.1) (λ u. convert_colon from to true x.0 u) (convert_block (entry_text from to) from to kinds.Braces true (Some (x.0, x.1)))) o
+block_conversion from to blocks.Key o = option_and_then (λ x. option_and_then (λ u. convert_colon from to false x.0 u) (strip (codes ": ") x.1)) o
+block_conversion from to (blocks.Value alone) o = convert_value from to alone o
+block_conversion from to (blocks.Field alone) o = convert_block (field_of from to) from to kinds.Struct alone o
 
 -- what a step makes of what was written and what is left: an entry begins in a block, or a document or a block has ended
-abbrev pub stepped_text : Level → Level → Option TextBlock → List ℕ → List ℕ → Option (List ℕ × List ℕ)
-stepped_text from to None out t = Some (out, t)
-stepped_text from to (Some block) out t = finish_text from to block (prefixed out (entry_text from to t))
+abbrev pub text_after_step : Level → Level → Option TextBlock → List ℕ → List ℕ → Option (List ℕ × List ℕ)
+text_after_step from to None out t = Some (out, t)
+text_after_step from to (Some block) out t = block_conversion from to block (prefixed out (entry_text from to t))
 
 -- the step was made in converting this, and leaves at most so many bytes
-abbrev pub StepsText : Level → Level → ℕ → Result (Option TextBlock × Bor (List ℕ)) ReadError → List ℕ → Option (List ℕ × List ℕ) → Type 0
-StepsText from to bytes answer out there = MatchResult answer (λ x. (there ≡ stepped_text from to x.0 out x.1.now) × (length x.1.now ≤ bytes)) (λ e. e ≡ NotText → there ≡ None)
+abbrev pub ConvertsStep : Level → Level → ℕ → Result (Option TextBlock × Bor (List ℕ)) ReadError → List ℕ → Option (List ℕ × List ℕ) → Type 0
+ConvertsStep from to bytes answer out there = MatchResult answer (λ x. (there ≡ text_after_step from to x.0 out x.1.now) × (length x.1.now ≤ bytes)) (λ e. e ≡ NotText → there ≡ None)
 
 -- the same where the document is there that is converted, and leaves fewer bytes than the number
-abbrev pub BeginsText : Level → Level → ℕ → Result (Option TextBlock × Bor (List ℕ)) ReadError → List ℕ → List ℕ → Option (Document × List ℕ) → Type 0
-BeginsText from to bytes answer old new there = MatchResult answer (λ x. (prefixed old (parse_map (layout (setting_of to)) there) ≡ stepped_text from to x.0 new x.1.now) × (length x.1.now < bytes)) (λ e. e ≡ NotText → there ≡ None)
+abbrev pub ConvertsBeginning : Level → Level → ℕ → Result (Option TextBlock × Bor (List ℕ)) ReadError → List ℕ → List ℕ → Option (Document × List ℕ) → Type 0
+ConvertsBeginning from to bytes answer old new there = MatchResult answer (λ x. (prefixed old (parse_map (layout (setting_of to)) there) ≡ text_after_step from to x.0 new x.1.now) × (length x.1.now < bytes)) (λ e. e ≡ NotText → there ≡ None)
 
 -- a field's name and colon were read and written
 abbrev pub WritesLabel : Result (Bor (List ℕ)) ReadError → List ℕ → List ℕ → List ℕ → Type 0
 WritesLabel answer old new t = MatchResult answer (λ r. (label : List ℕ) × (read_label t ≡ Some (label, r.now)) × (new ≡ old ++ (label ++ codes ": "))) (λ e. e ≡ NotText → read_label t ≡ None)
 
 -- what stood behind an entry, and what was written there
-abbrev pub Passes : Level → Level → Kind → Bool → Result (Bool × Bor (List ℕ)) ReadError → List ℕ → List ℕ → List ℕ → Type 0
-Passes from to kind alone answer old new t = MatchResult answer
+abbrev pub ConvertsBehindEntry : Level → Level → Kind → Bool → Result (Bool × Bor (List ℕ)) ReadError → List ℕ → List ℕ → List ℕ → Type 0
+ConvertsBehindEntry from to kind alone answer old new t = MatchResult answer
     (λ x. (behind_entry (frame_of from kind) (setting_of from) alone t ≡ Some (x.0, x.1.now)) × (new ≡ old ++ (trail (mode_of to.mode) ++ cond x.0 (separator (mode_of to.mode) (inside (setting_of to)).depth) (ending (frame_of to kind) (setting_of to) (place_of alone)))))
     (λ e. e ≡ NotText → behind_entry (frame_of from kind) (setting_of from) alone t ≡ None)
 
 -- what is written in all by blocks that lie one in another, where this was written with the entry that began in the innermost
-abbrev pub resume_text : Mode → Mode → ℕ → List TextBlock → Option (List ℕ × List ℕ) → Option (List ℕ × List ℕ)
-resume_text from to k blocks o = resumed (λ n. finish_text (level_at from n) (level_at to n)) k blocks o
+abbrev pub blocks_conversion : Mode → Mode → ℕ → List TextBlock → Option (List ℕ × List ℕ) → Option (List ℕ × List ℕ)
+blocks_conversion from to k blocks o = from_innermost (λ n. block_conversion (level_at from n) (level_at to n)) k blocks o
 
 -- what a document with this many blocks round it is converted to
 abbrev pub document_text : Mode → Mode → ℕ → Parse (List ℕ)
@@ -105,10 +105,10 @@ document_text from to zero t = parse_map (layout (setting (mode_of to) 0)) (docu
 document_text from to (suc k) t = entry_text (level_at from k) (level_at to k) t
 
 -- what is written in all where blocks are open and an entry begins, or where the whole document has ended
-abbrev pub handed_text : Mode → Mode → List TextBlock → Bool → List ℕ → List ℕ → Option (List ℕ × List ℕ)
-handed_text from to open_blocks true out t = Some (out, t)
-handed_text from to open_blocks false out t = resume_text from to 0 open_blocks (prefixed out (document_text from to (length open_blocks) t))
+abbrev pub conversion_from : Mode → Mode → List TextBlock → Bool → List ℕ → List ℕ → Option (List ℕ × List ℕ)
+conversion_from from to open_blocks true out t = Some (out, t)
+conversion_from from to open_blocks false out t = blocks_conversion from to 0 open_blocks (prefixed out (document_text from to (length open_blocks) t))
 
 -- these blocks, this text and this rest were come to in converting this
-abbrev pub HandsText : Mode → Mode → ℕ → Result (Bool × Bor (List ℕ)) ReadError → List TextBlock → List ℕ → Option (List ℕ × List ℕ) → Type 0
-HandsText from to bytes answer open_blocks out there = MatchResult answer (λ x. (there ≡ handed_text from to open_blocks x.0 out x.1.now) × (length x.1.now ≤ bytes)) (λ e. e ≡ NotText → there ≡ None)
+abbrev pub ConvertsOn : Mode → Mode → ℕ → Result (Bool × Bor (List ℕ)) ReadError → List TextBlock → List ℕ → Option (List ℕ × List ℕ) → Type 0
+ConvertsOn from to bytes answer open_blocks out there = MatchResult answer (λ x. (there ≡ conversion_from from to open_blocks x.0 out x.1.now) × (length x.1.now ≤ bytes)) (λ e. e ≡ NotText → there ≡ None)

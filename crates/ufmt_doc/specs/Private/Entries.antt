@@ -4,7 +4,7 @@ use Rattle.ufmt_core.specs.declared.formatter.Setting.{Setting}
 use Rattle.ufmt.specs.Document.{Document}
 use Rattle.ufmt.specs.Layout.{Frame, ending, inside, separator, trail}
 use Rattle.ufmt.specs.Reading.{Parse, choose, parse_map, strip, read_others}
-use Rattle.ufmt_doc.specs.Level.{place_of}
+use Rattle.ufmt_doc.specs.Private.Level.{place_of}
 
 -- behind an entry, alone so far or not: true and the start of the next one, or false and what follows the block's end
 unfoldable pub behind_entry : Frame → Setting → Bool → Parse Bool

@@ -14,8 +14,8 @@ use Rattle.ufmt_doc.specs.declared.reader.open_block.OpenBlock.{OpenBlock}
 use Rattle.ufmt_doc.specs.declared.reader.open_block.OpenBlock.TheVariants as blocks
 use Rattle.ufmt_doc.specs.Doc.{doc_document}
 use Rattle.ufmt_doc.specs.DocViews.{docs_view, pairs_view, fields_view}
-use Rattle.ufmt_doc.specs.Entries.{read_on}
-use Rattle.ufmt_doc.specs.Level.{entry_of, frame_of, mode_of, setting_of}
+use Rattle.ufmt_doc.specs.Private.Entries.{read_on}
+use Rattle.ufmt_doc.specs.Private.Level.{entry_of, frame_of, mode_of, setting_of}
 
 -- what stands before a colon and a space
 abbrev pub before_colon : {A : Type 0} → Parse A → Parse A
@@ -26,14 +26,14 @@ abbrev pub read_label : Parse (List ℕ)
 read_label t = before_colon read_word t
 
 -- an open block at its level, where this is what the entry, key or value that begins in it is read as
-abbrev pub finish : Level → OpenBlock → Option (Document × List ℕ) → Option (Document × List ℕ)
-finish level (blocks.List entries) o = read_on (entry_of level) (frame_of level kinds.Brackets) (setting_of level) (λ ds. list_of (documents ds)) (docs_view entries) o
-finish level blocks.Braces o = option_and_then (λ x. read_map_or_set (setting_of level) (entry_of level) x.0 x.1) o
-finish level (blocks.Set entries) o = read_on (entry_of level) (frame_of level kinds.Braces) (setting_of level) (λ ds. set_of (documents ds)) (docs_view entries) o
-finish level (blocks.Map pairs None) o = option_and_then (λ x. read_on (read_pair (entry_of level) (entry_of level)) (frame_of level kinds.Braces) (setting_of level) (λ ps. map_of (pairs_of ps)) (pairs_view pairs) (read_value (entry_of level) x.0 x.1)) o
-finish level (blocks.Map pairs (Some key)) o = read_on (read_pair (entry_of level) (entry_of level)) (frame_of level kinds.Braces) (setting_of level) (λ ps. map_of (pairs_of ps)) (pairs_view pairs) (parse_map (λ value. (doc_document key, value)) o)
-finish level (blocks.Struct name fields label) o = read_on (read_pair read_word (entry_of level)) (frame_of level kinds.Struct) (setting_of level) (λ fs. struct_of (string_bytes name) (fields_of fs)) (fields_view fields) (parse_map (λ value. (string_bytes label, value)) o)
-finish level (blocks.Tuple name entries) o = read_on (entry_of level) (frame (mode_of level.mode) (tuple_kind (string_bytes name))) (setting_of level) (λ ds. tuple_of (string_bytes name) (documents ds)) (docs_view entries) o
+abbrev pub block_reading : Level → OpenBlock → Option (Document × List ℕ) → Option (Document × List ℕ)
+block_reading level (blocks.List entries) o = read_on (entry_of level) (frame_of level kinds.Brackets) (setting_of level) (λ ds. list_of (documents ds)) (docs_view entries) o
+block_reading level blocks.Braces o = option_and_then (λ x. read_map_or_set (setting_of level) (entry_of level) x.0 x.1) o
+block_reading level (blocks.Set entries) o = read_on (entry_of level) (frame_of level kinds.Braces) (setting_of level) (λ ds. set_of (documents ds)) (docs_view entries) o
+block_reading level (blocks.Map pairs None) o = option_and_then (λ x. read_on (read_pair (entry_of level) (entry_of level)) (frame_of level kinds.Braces) (setting_of level) (λ ps. map_of (pairs_of ps)) (pairs_view pairs) (read_value (entry_of level) x.0 x.1)) o
+block_reading level (blocks.Map pairs (Some key)) o = read_on (read_pair (entry_of level) (entry_of level)) (frame_of level kinds.Braces) (setting_of level) (λ ps. map_of (pairs_of ps)) (pairs_view pairs) (parse_map (λ value. (doc_document key, value)) o)
+block_reading level (blocks.Struct name fields label) o = read_on (read_pair read_word (entry_of level)) (frame_of level kinds.Struct) (setting_of level) (λ fs. struct_of (string_bytes name) (fields_of fs)) (fields_view fields) (parse_map (λ value. (string_bytes label, value)) o)
+block_reading level (blocks.Tuple name entries) o = read_on (entry_of level) (frame (mode_of level.mode) (tuple_kind (string_bytes name))) (setting_of level) (λ ds. tuple_of (string_bytes name) (documents ds)) (docs_view entries) o
 
 -- the document of a block with its entries so far
 abbrev pub block_document : OpenBlock → Document
@@ -45,20 +45,20 @@ block_document (blocks.Struct name fields label) = struct_of (string_bytes name)
 block_document (blocks.Tuple name entries) = tuple_of (string_bytes name) (documents (docs_view entries))
 
 -- what a block makes of the rest of the text where an entry begins in it, or where it ended
-abbrev pub left : Level → OpenBlock → Bool → List ℕ → Option (Document × List ℕ)
-left level block goes_on t = cond goes_on (finish level block (entry_of level t)) (Some (block_document block, t))
+abbrev pub goes_on_with : Level → OpenBlock → Bool → List ℕ → Option (Document × List ℕ)
+goes_on_with level block goes_on t = cond goes_on (block_reading level block (entry_of level t)) (Some (block_document block, t))
 
 -- this block, and no more bytes than the number, were come to in reading this
-abbrev pub Puts : Level → ℕ → Result (Bool × Bor (List ℕ)) ReadError → OpenBlock → Option (Document × List ℕ) → Type 0
-Puts level bytes answer block there = MatchResult answer (λ x. (there ≡ left level block x.0 x.1.now) × (length x.1.now ≤ bytes)) (λ e. e ≡ NotText → there ≡ None)
+abbrev pub TakesEntry : Level → ℕ → Result (Bool × Bor (List ℕ)) ReadError → OpenBlock → Option (Document × List ℕ) → Type 0
+TakesEntry level bytes answer block there = MatchResult answer (λ x. (there ≡ goes_on_with level block x.0 x.1.now) × (length x.1.now ≤ bytes)) (λ e. e ≡ NotText → there ≡ None)
 
 -- a block of this kind with these entries before, whatever document they make, where its next entry is read as this
 abbrev pub entries_on : Level → Kind → (List Document → Document) → List Document → Option (Document × List ℕ) → Option (Document × List ℕ)
 entries_on level kind make before o = read_on (entry_of level) (frame_of level kind) (setting_of level) make before o
 
 -- it goes on as the same block with those entries behind, or ended with them
-abbrev pub PutsEntries : Level → Kind → ℕ → Result (Bool × Bor (List ℕ)) ReadError → List Document → List Document → Option (Document × List ℕ) → Type 0
-PutsEntries level kind bytes answer old new o = (make : List Document → Document) →
+abbrev pub TakesWords : Level → Kind → ℕ → Result (Bool × Bor (List ℕ)) ReadError → List Document → List Document → Option (Document × List ℕ) → Type 0
+TakesWords level kind bytes answer old new o = (make : List Document → Document) →
     MatchResult answer
     (λ x. (entries_on level kind make old o ≡ cond x.0 (entries_on level kind make new (entry_of level x.1.now)) (Some (make new, x.1.now))) × (length x.1.now ≤ bytes))
     (λ e. e ≡ NotText → entries_on level kind make old o ≡ None)
@@ -70,15 +70,15 @@ innermost (block ∷ []) = block
 innermost (block ∷ next ∷ more) = innermost (next ∷ more)
 
 -- what a step makes of the rest of the text where it read a document whole, or opened the innermost block
-abbrev pub stepped : Level → List OpenBlock → Option Doc → List ℕ → Option (Document × List ℕ)
-stepped level open_blocks None t = finish level (innermost open_blocks) (entry_of level t)
-stepped level open_blocks (Some doc) t = Some (doc_document doc, t)
+abbrev pub after_step : Level → List OpenBlock → Option Doc → List ℕ → Option (Document × List ℕ)
+after_step level open_blocks None t = block_reading level (innermost open_blocks) (entry_of level t)
+after_step level open_blocks (Some doc) t = Some (doc_document doc, t)
 
 -- the blocks that are open before and behind a step
-abbrev pub Opens : List OpenBlock → List OpenBlock → Option Doc → Type 0
-Opens old new None = new ≡ old ++ innermost new ∷ []
-Opens old new (Some doc) = new ≡ old
+abbrev pub OpensAtMostOne : List OpenBlock → List OpenBlock → Option Doc → Type 0
+OpensAtMostOne old new None = new ≡ old ++ innermost new ∷ []
+OpensAtMostOne old new (Some doc) = new ≡ old
 
 -- the step was made in reading this, and leaves fewer bytes than the number
-abbrev pub Steps : Level → ℕ → Result (Option Doc × Bor (List ℕ)) ReadError → List OpenBlock → List OpenBlock → Option (Document × List ℕ) → Type 0
-Steps level bytes answer old new there = MatchResult answer (λ x. (there ≡ stepped level new x.0 x.1.now) × (length x.1.now < bytes) × Opens old new x.0) (λ e. e ≡ NotText → there ≡ None)
+abbrev pub ReadsStep : Level → ℕ → Result (Option Doc × Bor (List ℕ)) ReadError → List OpenBlock → List OpenBlock → Option (Document × List ℕ) → Type 0
+ReadsStep level bytes answer old new there = MatchResult answer (λ x. (there ≡ after_step level new x.0 x.1.now) × (length x.1.now < bytes) × OpensAtMostOne old new x.0) (λ e. e ≡ NotText → there ≡ None)
