@@ -13,7 +13,7 @@ use Rattle.ufmt_doc.specs.declared.reader.error.ReadError.{ReadError}
 use Rattle.ufmt_doc.specs.declared.reader.error.ReadError.TheVariants.{NotText}
 use Rattle.ufmt_doc.specs.Doc.{doc_document}
 use Rattle.ufmt_doc.specs.Private.Read.{Gives}
-use Rattle.ufmt_doc.specs.Texts.{IsConverted, IsNormalForm, IsNoText, IsUnconverted, Undoes}
+use Rattle.ufmt_doc.specs.Texts.{Converts, IsConverted, IsNormalForm, IsNoText, IsUnconverted, Undoes}
 
 -- where each text tells the other, the other text of what was read is what the text is converted to
 converted : (from to : Document → List ℕ) → ((d e : Document) → IsToken d → IsToken e → from d ≡ from e → to d ≡ to e) → (input answer : List ℕ) (e : Document) → IsNormalForm from input e → answer ≡ to e → IsConverted from to input answer
@@ -50,20 +50,20 @@ no_text_converted mode to input (Ok text) h is = absurd (cc)
 no_text_converted mode to input (Err e) h is = refuses_no_text mode input (from_no_option to (read_text mode input) (h (cc)))
 
 -- a conversion undoes the one in the other direction
-pub undoes : (from to : Document → List ℕ) (input answer : List ℕ) → IsConverted from to input answer → Undoes from to input answer
+undoes : (from to : Document → List ℕ) (input answer : List ℕ) → IsConverted from to input answer → Undoes from to input answer
 undoes from to input answer is earlier was =
     let d = was.some.0 in
     let input_of : from d ≡ input = was.each d was.some.1 was.some.2 in
     sym (is.each d was.some.1 input_of) ∙ was.some.2
 
--- the answer undoes the conversion in the other direction
-pub text_undoes : (from to : Document → List ℕ) (input : List ℕ) (answer : Result (String Global) ReadError) → IfOk answer (λ text. IsConverted from to input (string_bytes text)) → IfOk answer (λ text. Undoes from to input (string_bytes text))
-text_undoes from to input (Ok text) is = undoes from to input (string_bytes text) is
-text_undoes from to input (Err e) is = tt
-
 -- and what is no text was converted from none
-pub unconverted : (from to : Document → List ℕ) (input : List ℕ) → IsNoText from input → IsUnconverted from to input
+unconverted : (from to : Document → List ℕ) (input : List ℕ) → IsNoText from input → IsUnconverted from to input
 unconverted from to input none earlier was = none was.some.0 was.some.1 (was.each was.some.0 was.some.1 was.some.2)
+
+-- what a conversion answers undoes that in the other direction
+pub converts : (from to : Document → List ℕ) (input : List ℕ) (answer : Result (String Global) ReadError) → IfOk answer (λ text. IsConverted from to input (string_bytes text)) → (IsErrOf answer NotText → IsNoText from input) → Converts from to input answer
+converts from to input (Ok text) is none = record { ok = is; not_text = none; undoes = undoes from to input (string_bytes text) is; unconverted = λ refused. unconverted from to input (none refused) }
+converts from to input (Err e) is none = record { ok = is; not_text = none; undoes = tt; unconverted = λ refused. unconverted from to input (none refused) }
 
 -- what a text is read as is the normal form of each document with that text, where the text tells the normal form
 form_is : (text_of : Document → List ℕ) → ((d e : Document) → IsToken d → IsToken e → text_of d ≡ text_of e → normal d ≡ normal e) → (input : List ℕ) (e d : Document) → IsNormalForm text_of input e → IsToken d → text_of d ≡ input → e ≡ normal d
