@@ -54,7 +54,7 @@ impl<W: uWrite> Formatter<W> {
         self.writer
     }
 
-    /// Hands the text on to the writer as one piece.
+    /// Hands the text on to the writer as one piece. On `Err` it took a beginning of it.
     #[inline(always)]
     pub fn write_str(&mut self, s: &str) -> Result<(), W::Error>
         ensures { Prints W.seen self.old s.now (is_ok result) self.new }
@@ -62,15 +62,16 @@ impl<W: uWrite> Formatter<W> {
         self.writer.write_str(s)
     }
 
-    /// Hands the character on to the writer as one piece.
+    /// Hands the character on to the writer as one piece. On `Err` it took a beginning of its
+    /// bytes.
     pub fn write_char(&mut self, c: char) -> Result<(), W::Error>
         ensures { Prints W.seen self.old (encode_utf8 c) (is_ok result) self.new }
     {
         self.writer.write_char(c)
     }
 
-    /// Runs `f` once in pretty mode, and answers what it answered. Mode and depth are then those from
-    /// before, whatever `f` left.
+    /// Runs `f` once in pretty mode, and answers what it answered. Mode and depth are then those
+    /// from before, whatever `f` left. An `Err` of `f` is handed on.
     pub fn pretty<F: FnOnce(&mut Formatter<W>) -> Result<(), W::Error>>(
         &mut self,
         f: F,

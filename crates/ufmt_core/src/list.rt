@@ -49,7 +49,8 @@ impl<W: uWrite> Formatter<W> {
         self.open(OPENING_BRACKET, ListBlock)
     }
 
-    /// Writes a whole list of these items.
+    /// Writes a whole list of these items. On `Err` a beginning of that is written, and mode and
+    /// depth are as before.
     pub fn list_of<T: uDebug>(&mut self, items: &[T]) -> Result<(), W::Error>
         ensures { LaysOut W.seen self.old (list_of (documents (map T.document items.now)))
             (is_ok result) self.new }
@@ -95,7 +96,8 @@ impl<W: uWrite, K: BlockKind + Items> Builder<'_, W, K> {
         Ok(())
     }
 
-    /// Writes what stands before an entry, and lends the formatter for it.
+    /// Writes what stands before an entry, and lends the formatter for it. On `Err` the builder is
+    /// closed.
     #[inline(always)]
     pub fn begin_entry(&mut self) -> Result<&mut Formatter<W>, W::Error>
         requires { IsOpen (block K.kind self.old) }

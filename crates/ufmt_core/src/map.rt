@@ -41,7 +41,8 @@ impl<W: uWrite> Formatter<W> {
         self.open(OPENING_BRACE, MapBlock)
     }
 
-    /// Writes a whole map of these keys and values.
+    /// Writes a whole map of these keys and values. On `Err` a beginning of that is written, and
+    /// mode and depth are as before.
     pub fn map_of<K: uDebug, V: uDebug>(&mut self, pairs: &[(K, V)]) -> Result<(), W::Error>
         ensures { LaysOut W.seen self.old
             (map_of (pairs_of (map (λ p. (K.document p.0, V.document p.1)) pairs.now)))
@@ -90,7 +91,8 @@ impl<W: uWrite> DebugMap<'_, W> {
         Ok(())
     }
 
-    /// Writes what stands before an entry, and lends the formatter for its key.
+    /// Writes what stands before an entry, and lends the formatter for its key. On `Err` the
+    /// builder is closed.
     pub fn begin_entry(&mut self) -> Result<&mut Formatter<W>, W::Error>
         requires { IsOpen (map_block self.old) }
         ensures* loan { sem 𝓛 (LendsForKey W.row W.seen self.entry result) }

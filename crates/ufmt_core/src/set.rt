@@ -43,7 +43,8 @@ impl<W: uWrite> Formatter<W> {
         self.open(OPENING_BRACE, SetBlock)
     }
 
-    /// Writes a whole set of these items.
+    /// Writes a whole set of these items. On `Err` a beginning of that is written, and mode and
+    /// depth are as before.
     pub fn set_of<T: uDebug>(&mut self, items: &[T]) -> Result<(), W::Error>
         ensures { LaysOut W.seen self.old (set_of (documents (map T.document items.now)))
             (is_ok result) self.new }

@@ -59,7 +59,8 @@ impl<W: uWrite> DebugStruct<'_, W> {
         self.end_field(answer)
     }
 
-    /// Writes what stands before a field's value, and lends the formatter for the value.
+    /// Writes what stands before a field's value, and lends the formatter for the value. On `Err`
+    /// the builder is closed.
     #[inline(always)]
     pub fn begin_field(&mut self, name: &str) -> Result<&mut Formatter<W>, W::Error>
         requires { IsOpen (struct_block self.old) }

@@ -73,7 +73,8 @@ impl<W: uWrite> DebugTuple<'_, W> {
         self.end_field(answer)
     }
 
-    /// Writes what stands before a field, and lends the formatter for it.
+    /// Writes what stands before a field, and lends the formatter for it. On `Err` the builder is
+    /// closed.
     pub fn begin_field(&mut self) -> Result<&mut Formatter<W>, W::Error>
         requires { IsOpen (tuple_block self.old) }
         ensures* loan { sem 𝓛 (LendsForUnnamedField W.row W.seen self.entry result) }

@@ -46,7 +46,8 @@ pub fn pretty_text<T: uDebug>(alloc: Global, value: &T) -> Result<String, AllocE
 
 /// The pretty text of the token documents with this plain text. Of a text that `to_plain` answered
 /// that is the text from which it was made. No document is made on the way: memory goes to the
-/// answer, and a few bytes to each block that is open.
+/// answer, and a few bytes to each block that is open. `NotText` is answered of no such text, and
+/// else `OutOfMemory` alone; nothing of the answer is left then.
 pub fn to_pretty(alloc: Global, input: &[u8]) -> Result<String, ReadError>
     ensures { Converts plain_text pretty_text input.now result }
 {
@@ -54,7 +55,8 @@ pub fn to_pretty(alloc: Global, input: &[u8]) -> Result<String, ReadError>
 }
 
 /// The plain text of the token documents with this pretty text. Of a text that `to_pretty` answered
-/// that is the text from which it was made. It takes memory as `to_pretty` does.
+/// that is the text from which it was made. It takes memory as `to_pretty` does. Its refusals are
+/// those of `to_pretty`.
 pub fn to_plain(alloc: Global, input: &[u8]) -> Result<String, ReadError>
     ensures { Converts pretty_text plain_text input.now result }
 {
