@@ -12,7 +12,7 @@ use Rattle.ufmt_doc.specs.declared.doc.Doc.{Doc}
 use Rattle.ufmt_doc.specs.declared.reader.error.ReadError.{ReadError}
 use Rattle.ufmt_doc.specs.declared.reader.error.ReadError.TheVariants.{NotText}
 use Rattle.ufmt_doc.specs.Doc.{doc_document}
-use Rattle.ufmt_doc.specs.Private.Read.{Gives}
+use Rattle.ufmt_doc.specs.Private.Read.{AnswersAs}
 use Rattle.ufmt_doc.specs.Texts.{Converts, IsConverted, IsNormalForm, IsNoText, IsUnconverted, Undoes}
 
 -- where each text tells the other, the other text of what was read is what the text is converted to
@@ -32,20 +32,20 @@ from_no_option f None h = refl
 from_no_option f (Some d) h = absurd (cc)
 
 -- the other text of the document that a text is read as is what it is converted to
-text_converted : (mode : Mode) (to : Document → List ℕ) → ((d e : Document) → IsToken d → IsToken e → layout (setting mode 0) d ≡ layout (setting mode 0) e → to d ≡ to e) → (input : List ℕ) (answer : Result (String Global) ReadError) → Gives string_bytes answer (option_map to (read_text mode input)) → IfOk answer (λ text. IsConverted (layout (setting mode 0)) to input (string_bytes text))
+text_converted : (mode : Mode) (to : Document → List ℕ) → ((d e : Document) → IsToken d → IsToken e → layout (setting mode 0) d ≡ layout (setting mode 0) e → to d ≡ to e) → (input : List ℕ) (answer : Result (String Global) ReadError) → AnswersAs string_bytes answer (option_map to (read_text mode input)) → IfOk answer (λ text. IsConverted (layout (setting mode 0)) to input (string_bytes text))
 text_converted mode to tells input (Err e) h = tt
 text_converted mode to tells input (Ok text) h =
     let found = from_option to (read_text mode input) (string_bytes text) h in
     converted (layout (setting mode 0)) to tells input (string_bytes text) found.0 (reads_only_texts mode input found.0 found.1) (sym found.2)
 
-pub plain_text_converted : (input : List ℕ) (answer : Result (String Global) ReadError) → Gives string_bytes answer (option_map pretty_text (read_text Plain input)) → IfOk answer (λ text. IsConverted plain_text pretty_text input (string_bytes text))
+pub plain_text_converted : (input : List ℕ) (answer : Result (String Global) ReadError) → AnswersAs string_bytes answer (option_map pretty_text (read_text Plain input)) → IfOk answer (λ text. IsConverted plain_text pretty_text input (string_bytes text))
 plain_text_converted = text_converted Plain pretty_text (λ d e hd he same. (texts_agree d e hd he).0 same)
 
-pub pretty_text_converted : (input : List ℕ) (answer : Result (String Global) ReadError) → Gives string_bytes answer (option_map plain_text (read_text Pretty input)) → IfOk answer (λ text. IsConverted pretty_text plain_text input (string_bytes text))
+pub pretty_text_converted : (input : List ℕ) (answer : Result (String Global) ReadError) → AnswersAs string_bytes answer (option_map plain_text (read_text Pretty input)) → IfOk answer (λ text. IsConverted pretty_text plain_text input (string_bytes text))
 pretty_text_converted = text_converted Pretty plain_text (λ d e hd he same. (texts_agree d e hd he).1 same)
 
 -- where the answer is `NotText` there is no such document
-pub no_text_converted : (mode : Mode) (to : Document → List ℕ) (input : List ℕ) (answer : Result (String Global) ReadError) → Gives string_bytes answer (option_map to (read_text mode input)) → IsErrOf answer NotText → IsNoText (layout (setting mode 0)) input
+pub no_text_converted : (mode : Mode) (to : Document → List ℕ) (input : List ℕ) (answer : Result (String Global) ReadError) → AnswersAs string_bytes answer (option_map to (read_text mode input)) → IsErrOf answer NotText → IsNoText (layout (setting mode 0)) input
 no_text_converted mode to input (Ok text) h is = absurd (cc)
 no_text_converted mode to input (Err e) h is = refuses_no_text mode input (from_no_option to (read_text mode input) (h (cc)))
 

@@ -11,7 +11,7 @@ use Rattle.ufmt.proofs.Parsing.{strip_found, same_parts}
 use Rattle.ufmt.proofs.ReadingTurns.{Takes, strip_within, read_takes, read_pair_takes, read_word_takes, read_others-read_turn}
 use Rattle.ufmt_doc.specs.declared.reader.error.ReadError.{ReadError}
 use Rattle.ufmt_doc.specs.declared.reader.error.ReadError.TheVariants.{NotText}
-use Rattle.ufmt_doc.specs.Private.Read.{Reads}
+use Rattle.ufmt_doc.specs.Private.Read.{ReadsAs}
 use Rattle.ufmt_doc.specs.Private.Entries.{behind_entry, read_more, read_on}
 use Rattle.ufmt_doc.specs.declared.reader.level.Level.{Level}
 use Rattle.ufmt_doc.specs.Private.Level.{budget_of, entry_at, entry_of, place_of, setting_of}
@@ -150,7 +150,7 @@ put_decides {q = q} f s make view old new x count t takes pushed counted h =
     rw (← h, ← p.0, p.1) (behind_decides f s make (map view new) t takes p.2)
 
 -- so it says what is read, and no more bytes are left
-pub put_passes : {A B : Type 0} {q : Parse B} (f : Frame) (s : Setting) (make : List B → Document) (view : A → B) (old new : List A) (x : A) (count : ℕ) (t : List ℕ) (answer : Result (Bool × Bor (List ℕ)) ReadError) → Takes q → new ≡ old ++ x ∷ [] → count ≡ length new → Reads (λ goes. goes) answer (behind_entry f s (count == 1) t)
+pub put_passes : {A B : Type 0} {q : Parse B} (f : Frame) (s : Setting) (make : List B → Document) (view : A → B) (old new : List A) (x : A) (count : ℕ) (t : List ℕ) (answer : Result (Bool × Bor (List ℕ)) ReadError) → Takes q → new ≡ old ++ x ∷ [] → count ≡ length new → ReadsAs (λ goes. goes) answer (behind_entry f s (count == 1) t)
     → MatchResult answer (λ a. (read_more q f s make (map view old ++ view x ∷ []) t ≡ cond a.0 (read_on q f s make (map view new) (q a.1.now)) (Some (make (map view new), a.1.now))) × (length a.1.now ≤ length t)) (λ e. e ≡ NotText → read_more q f s make (map view old ++ view x ∷ []) t ≡ None)
 put_passes f s make view old new x count t (Err e) takes pushed counted h = λ is. put_decides f s make view old new x count t takes pushed counted (h is)
 put_passes f s make view old new x count t (Ok (goes, v)) takes pushed counted h = (put_decides f s make view old new x count t takes pushed counted h, behind_within f s (count == 1) t goes v.now h)

@@ -2,7 +2,7 @@
 ghost use Rattle.ufmt.specs.Reading.{if_all, read_text};
 ghost use Rattle.ufmt_doc.specs.Doc.{doc_document};
 ghost use Rattle.ufmt_doc.specs.Private.Level.{mode_of};
-ghost use Rattle.ufmt_doc.specs.Private.Read.{Gives};
+ghost use Rattle.ufmt_doc.specs.Private.Read.{AnswersAs};
 
 mod begin;
 mod error;
@@ -24,7 +24,7 @@ use std::alloc::Global;
 
 /// The document that the whole text is of.
 pub(crate) fn read_text(alloc: Global, mode: Mode, input: &[u8]) -> Result<Doc, ReadError>
-    ensures { Gives doc_document result (read_text (mode_of mode) input.now) }
+    ensures { AnswersAs doc_document result (read_text (mode_of mode) input.now) }
 {
     let mut blocks = OpenBlocks::new(alloc);
     let mut rest = input;
@@ -44,7 +44,7 @@ pub(crate) fn read_text(alloc: Global, mode: Mode, input: &[u8]) -> Result<Doc, 
 
 // The document, unless something is left behind it.
 fn if_all(doc: Doc, rest: &[u8]) -> Result<Doc, ReadError>
-    ensures { Gives doc_document result (if_all (doc_document doc) rest.now) }
+    ensures { AnswersAs doc_document result (if_all (doc_document doc) rest.now) }
 {
     if rest.is_empty() {
         Ok(doc)

@@ -5,7 +5,7 @@ ghost use Rattle.ufmt_core.specs.declared.formatter.block.Place.TheVariants.{Fir
 ghost use Rattle.ufmt.specs.Reading.{strip};
 ghost use Rattle.ufmt_doc.specs.Private.Level.{closing, frame_of, kind_of, mode_of, place_of, setting_of};
 ghost use Rattle.ufmt_doc.specs.Private.Entries.{behind_entry};
-ghost use Rattle.ufmt_doc.specs.Private.Read.{Reads, Strips, now_of};
+ghost use Rattle.ufmt_doc.specs.Private.Read.{ReadsAs, StripsAs, now_of};
 
 use crate::reader::error::ReadError;
 
@@ -55,7 +55,7 @@ pub(crate) fn strip_byte(byte: u8, input: &[u8]) -> Option<&[u8]>
 
 /// What follows `text`, with which the input is to begin.
 pub(crate) fn expect<'a>(text: &[u8], input: &'a [u8]) -> Result<&'a [u8], ReadError>
-    ensures { Strips result (strip text.now input.now) }
+    ensures { StripsAs result (strip text.now input.now) }
 {
     strip(text, input).ok_or(ReadError::NotText)
 }
@@ -123,7 +123,7 @@ impl Level {
 
     // What follows what is to stand after an entry.
     fn expect_trail(self, input: &[u8]) -> Result<&[u8], ReadError>
-        ensures { Strips result (strip (trail (mode_of self.mode)) input.now) }
+        ensures { StripsAs result (strip (trail (mode_of self.mode)) input.now) }
     {
         match self.mode {
             Mode::Plain => Ok(input),
@@ -157,7 +157,7 @@ impl Level {
 
     // What follows the end of a block with one entry alone, or with more.
     fn expect_ending(self, kind: Kind, alone: bool, input: &[u8]) -> Result<&[u8], ReadError>
-        ensures { Strips result
+        ensures { StripsAs result
             (strip (ending (frame_of self kind) (setting_of self) (place_of alone)) input.now) }
     {
         let Some(rest) = self.strip_line_start(input) else {
@@ -176,7 +176,7 @@ impl Level {
         alone: bool,
         input: &[u8],
     ) -> Result<(bool, &[u8]), ReadError>
-        ensures { Reads (λ goes_on. goes_on) result
+        ensures { ReadsAs (λ goes_on. goes_on) result
             (behind_entry (frame_of self kind) (setting_of self) alone input.now) }
     {
         let rest = self.expect_trail(input)?;

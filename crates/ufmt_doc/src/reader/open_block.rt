@@ -5,7 +5,7 @@ ghost use Rattle.ufmt.specs.Layout.{tuple_kind};
 ghost use Rattle.ufmt_doc.specs.Doc.{doc_document};
 ghost use Rattle.ufmt_doc.specs.DocViews.{docs_view};
 ghost use Rattle.ufmt_doc.specs.Private.Level.{kind_of};
-ghost use Rattle.ufmt_doc.specs.Private.Read.{Reads};
+ghost use Rattle.ufmt_doc.specs.Private.Read.{ReadsAs};
 ghost use Rattle.ufmt_doc.specs.Private.Steps.{TakesEntry, TakesWords, block_document, block_reading, read_label};
 
 use crate::doc::Doc;
@@ -188,7 +188,7 @@ pub(super) fn tuple_kind(name: &str) -> Kind
 
 /// A field's name, and the colon behind it.
 pub(super) fn read_label(alloc: Global, input: &[u8]) -> Result<(String, &[u8]), ReadError>
-    ensures { Reads string_bytes result (read_label input.now) }
+    ensures { ReadsAs string_bytes result (read_label input.now) }
 {
     let (word, rest) = split_word(input);
     if word.is_empty() {

@@ -1,7 +1,7 @@
 use Rattle.std.proofs.Common.{◌∙◌, ap, sym, subst, length, option_and_then}
 use Rattle.ufmt.specs.Reading.{if_all}
 use Rattle.ufmt_doc.specs.Doc.{doc_document}
-use Rattle.ufmt_doc.specs.Private.Read.{Gives}
+use Rattle.ufmt_doc.specs.Private.Read.{AnswersAs}
 use Rattle.ufmt_doc.specs.Private.Stack.{reading_from, blocks_reading}
 use Rattle.ufmt_doc.proofs.Given.{passes_on}
 use Rattle.ufmt_doc.proofs.Stacks.{begins, document_is_none, resume_none, step_opens, step_reads}
@@ -55,7 +55,7 @@ returns-in-Some-whole c =
     ∙ ap (λ o. blocks_reading c.args.mode 0 blocks o) (begins c.args.mode (length blocks) c.in-Some.level c.entries.rest.now level.0 level.1 ∙ c.in_ok-read.ensures.0)
     ∙ step_reads c.args.mode c.in-Some.level blocks now c.in_ok-read.read c.in-Some-read.doc c.in_ok-read.after.now c.in-Some-read.is c.in_ok-read.ensures.2
     ∙ c.in_ok-whole.ensures.0 ∙ ap (λ o. reading_from c.args.mode c.take.new.self.blocks.items o c.in_ok-whole.after.now) c.in-Some-whole.is in
-    subst (λ there. Gives doc_document c.if_all.result there) (sym (ap (λ o. option_and_then (λ x. if_all x.0 x.1) o) read_is)) c.if_all.ensures
+    subst (λ there. AnswersAs doc_document c.if_all.result there) (sym (ap (λ o. option_and_then (λ x. if_all x.0 x.1) o) read_is)) c.if_all.ensures
 
 pub returns : goal.returns
 returns c =

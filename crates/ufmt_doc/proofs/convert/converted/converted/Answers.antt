@@ -3,7 +3,7 @@ use Rattle.ufmt.specs.Layout.{layout, setting}
 use Rattle.ufmt.specs.Reading.{parse_map, read}
 use Rattle.ufmt_doc.specs.Private.Converting.{conversion_from, prefixed, blocks_conversion, text_after_step}
 use Rattle.ufmt_doc.specs.Private.Level.{mode_of, setting_of}
-use Rattle.ufmt_doc.specs.Private.Read.{Gives}
+use Rattle.ufmt_doc.specs.Private.Read.{AnswersAs}
 use Rattle.ufmt_doc.specs.Private.Stack.{level_at}
 use Rattle.ufmt_doc.proofs.Given.{passes_on}
 use Rattle.ufmt_doc.proofs.ConvertingStacks.{begins_text, document_text_none, no_whole_text, opens_text, resume_text_none, whole_text}
@@ -75,7 +75,7 @@ returns-then-whole c =
     ∙ ap (λ o. blocks_conversion from to 0 blocks (prefixed out o)) (begins_text from to (length blocks) depth c.entries.rest.now c.in-Some.ensures.0 c.in-Some.ensures.1)
     ∙ ap (λ o. blocks_conversion from to 0 blocks o) (c.in_ok-opened.ensures.0 ∙ ap (λ opened. text_after_step (level_at from depth) (level_at to depth) opened (string_bytes c.begin.new.output) rest) c.in_default-opened.is)
     ∙ c.in_ok-whole.ensures.0 ∙ ap (λ whole. conversion_from from to c.take.new.self.blocks.items whole (string_bytes c.take.new.output) c.in_ok-whole.after.now) c.if-whole.true in
-    subst (λ there. Gives string_bytes c.if_all.result there) (sym (whole_text text (read (setting (mode_of from) 0) 255 c.args.input.now) (string_bytes c.take.new.output) c.in_ok-whole.after.now converts)) c.if_all.ensures
+    subst (λ there. AnswersAs string_bytes c.if_all.result there) (sym (whole_text text (read (setting (mode_of from) 0) 255 c.args.input.now) (string_bytes c.take.new.output) c.in_ok-whole.after.now converts)) c.if_all.ensures
 
 pub returns : goal.returns
 returns c =
