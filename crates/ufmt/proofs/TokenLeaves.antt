@@ -3,7 +3,7 @@ use Rattle.std.proofs.Common.{◌≡◌, ◌⊎◌, inl, inr, refl, ap, sym, ◌
 use Rattle.ufmt_core.specs.Document.{Document, leaf}
 use Rattle.ufmt_core.specs.Layout.{inside, brace_space, new_line}
 use Rattle.ufmt_core.specs.Quoted.{IsQuoted, escaped_all}
-use Rattle.ufmt_core.specs.declared.formatter.Setting.{Setting}
+use Rattle.ufmt_core.specs.declared.layout.Setting.{Setting}
 use Rattle.ufmt.specs.Token.{IsWord, IsTokenLeaf, IsFollower}
 use Rattle.ufmt.specs.Reading.{Parse, strip, read_word, read_symbol, read_named, read_with}
 use Rattle.ufmt.specs.ReadingQuoted.{read_quoted}

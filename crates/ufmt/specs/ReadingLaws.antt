@@ -2,8 +2,8 @@
 use Rattle.std.specs.Prelude.{◌≡◌, ◌≢◌, List, ℕ, Some, None, ◌↔◌, ◌+◌, ◌≤◌, ◌++◌}
 use Rattle.ufmt_core.specs.Document.{Document, nest}
 use Rattle.ufmt_core.specs.Layout.{setting, layout, plain_text, pretty_text}
-use Rattle.ufmt_core.specs.declared.formatter.Mode.{Mode}
-use Rattle.ufmt_core.specs.declared.formatter.Mode.TheVariants.{Pretty}
+use Rattle.ufmt_core.specs.declared.layout.Mode.{Mode}
+use Rattle.ufmt_core.specs.declared.layout.Mode.TheVariants.{Pretty}
 use Rattle.ufmt.specs.Token.{IsToken, normal, IsFollower}
 use Rattle.ufmt.specs.Reading.{read_text}
 

@@ -7,12 +7,12 @@ use Rattle.std.proofs.lemmas.Simd.{map-map}
 use Rattle.std.proofs.lemmas.Result.{IfErr-at_err}
 use Rattle.std.specs.Slice.Iter.{iter_rest, iter_steps}
 use Rattle.ufmt_core.specs.Document.{Document, list_of, set_of, map_of, struct_of, tuple_of, Documents, Pairs, Fields, documents, pairs_of}
-use Rattle.ufmt_core.specs.Layout.{Setting, Kind, Brackets, Braces, Struct, Place, First, frame, inside, layout, next, block_tail, texts, pair_texts, tuple_kind}
+use Rattle.ufmt_core.specs.Layout.{Setting, Kind, Brackets, Braces, Struct, Count, Zero, frame, inside, layout, next, block_tail, texts, pair_texts, tuple_kind}
 use Rattle.ufmt_core.specs.Writes.{Seen, Writes}
 use Rattle.ufmt_core.specs.Formatter.{Formatter, Prints, LaysOut, setting_of, writer_of}
-use Rattle.ufmt_core.specs.Block.{Lent, Block, WritesEnding, WritesEntries, WritesEntry, EndsEntry, IsInside, WritesOpening, WritesPart, WritesRow, StopsIn, ending_of, remaining_entries, entry_text, field_lead_of, field_text, remaining_fields, framed, framed_all, frame_of, inner, lead_of, pair_text, remaining_pairs, place_after, tail_of, trail_of}
+use Rattle.ufmt_core.specs.Block.{Lent, Block, WritesEnding, WritesEntries, WritesEntry, EndsEntry, IsInside, WritesOpening, WritesPart, WritesRow, StopsIn, ending_of, remaining_entries, entry_text, field_lead_of, field_text, remaining_fields, framed, framed_all, frame_of, inner, lead_of, pair_text, remaining_pairs, count_after, tail_of, trail_of}
 use Rattle.ufmt_core.specs.Builder.{Builder, ListBlock, SetBlock, StructBlock, TupleBlock, block, kind_of_tuple, lent, list_block, set_block, struct_block, tuple_block}
-use Rattle.ufmt_core.proofs.Blocks.{WritesEnding-fails, WritesEnding-then, WritesPart-between, WritesPart-fails, WritesRow-from_entries, WritesRow-next, place_after-map, block_tail-append}
+use Rattle.ufmt_core.proofs.Blocks.{WritesEnding-fails, WritesEnding-then, WritesPart-between, WritesPart-fails, WritesRow-from_entries, WritesRow-next, count_after-map, block_tail-append}
 use Rattle.ufmt_core.proofs.Items.{AlwaysYields-items}
 use Rattle.ufmt_core.proofs.Writing.{Writes-then, Writes-fails}
 pub use Rattle.ufmt_core.proofs.Blocks.{WritesRow-more, WritesRow-next, WritesRow-none}
@@ -30,7 +30,7 @@ module _ {W : Type 0} where
 
 -- the layout of this document is an opening, and what is left of a block of this kind
 pub record IsBlock (d : Document) (kind : Kind) (opening : List ℕ) (left : Setting → List (List ℕ)) : Type 0 where
-  pub joined : (s : Setting) → layout s d ≡ opening ++ block_tail (frame s.mode kind) s First (left (inside s))
+  pub joined : (s : Setting) → layout s d ≡ opening ++ block_tail (frame s.mode kind) s Zero (left (inside s))
 
 pub list-is_block : (ds : Documents) → IsBlock (list_of ds) Brackets (codes "[") (remaining_entries ds)
 list-is_block ds = record { joined = λ s. refl }
@@ -59,7 +59,7 @@ module _ {W : Type 0} {seen : Seen W} {start last : Formatter W} {d : Document} 
   pub LaysOut-opened : {reference : ℕ} {b : Block W} {ok : Bool} → WritesOpening seen start reference kind opening b → Completes seen reference b left ok last → LaysOut seen start d ok last
   LaysOut-opened {b = b} o c =
       let more = c.continues (sym o.same.reference) (o.inner ∙ ap inside (sym o.same.outer)) in
-      let text : layout (setting_of start) d ≡ opening ++ tail_of b left = rw (o.same.outer, o.same.kind, o.place) (is_block.joined (setting_of start)) in
+      let text : layout (setting_of start) d ≡ opening ++ tail_of b left = rw (o.same.outer, o.same.kind, o.count) (is_block.joined (setting_of start)) in
       record { prints = record { wrote = rw text (Writes-then o.wrote more.wrote); same_setting = more.restored ∙ o.same.outer } }
 
 -- where a `debug_` call failed, or began
@@ -108,10 +108,10 @@ pair_texts-pairs_of i (p ∷ ps) = ap (λ ts. pair_text p.0 p.1 i ∷ ts) (pair_
 -- where a call of a builder went on, failed, or closed it
 module _ {W : Type 0} {seen : Seen W} {reference : ℕ} {b b' : Block W} {last : Formatter W} where
   -- a call that went on wrote this part, and this is left
-  Completes-then : {part : List ℕ} {place : Place} {left more : Setting → List (List ℕ)} {ok : Bool} →
-      (IsInside b → tail_of b left ≡ part ++ block_tail (frame b.outer.mode b.kind) b.outer place (more (inside b.outer))) →
-      WritesPart seen b part true place b' → Completes seen reference b' more ok last → Completes seen reference b left ok last
-  Completes-then {part} {place} {left} {more} text a c = record {
+  Completes-then : {part : List ℕ} {count : Count} {left more : Setting → List (List ℕ)} {ok : Bool} →
+      (IsInside b → tail_of b left ≡ part ++ block_tail (frame b.outer.mode b.kind) b.outer count (more (inside b.outer))) →
+      WritesPart seen b part true count b' → Completes seen reference b' more ok last → Completes seen reference b left ok last
+  Completes-then {part} {count} {left} {more} text a c = record {
     continues = λ h inside_b.
         let then = c.continues (h ∙ sym a.same.reference) (a.after.2 ∙ inside_b ∙ ap inside (sym a.same.outer)) in
         let whole : tail_of b left ≡ part ++ tail_of b' more = rw (a.same.outer, a.same.kind, a.after.0) (text inside_b) in
@@ -128,8 +128,8 @@ module _ {W : Type 0} {seen : Seen W} {reference : ℕ} {b b' : Block W} {last :
   }
 
   -- as a call that failed does, which wrote a beginning of this part
-  Completes-stops : {part : List ℕ} (more : List ℕ) {place : Place} {left : Setting → List (List ℕ)} →
-      (IsInside b → tail_of b left ≡ part ++ more) → WritesPart seen b part false place b' → (reference ≡ b'.reference → last ≡ b'.formatter) → Completes seen reference b left false last
+  Completes-stops : {part : List ℕ} (more : List ℕ) {count : Count} {left : Setting → List (List ℕ)} →
+      (IsInside b → tail_of b left ≡ part ++ more) → WritesPart seen b part false count b' → (reference ≡ b'.reference → last ≡ b'.formatter) → Completes seen reference b left false last
   Completes-stops more text a = Completes-closed (λ inside_b. rw (text inside_b) (WritesEnding-fails more a))
 
   pub completed : {left : Setting → List (List ℕ)} {ok : Bool} → WritesEnding seen b (tail_of b left) ok b' → (reference ≡ b'.reference → last ≡ b'.formatter) → Completes seen reference b left ok last
@@ -141,18 +141,18 @@ module _ {W : Type 0} {seen : Seen W} {reference : ℕ} {b b' : Block W} {last :
 module _ {W : Type 0} (b : Block W) where
   -- an entry is the first part of what is left
   block_tail-entry : (text : Setting → List ℕ) (left : Setting → List (List ℕ)) → IsInside b →
-      tail_of b (λ i. text i ∷ left i) ≡ framed (frame_of b) (inner b) b.place (text (inner b)) ++ block_tail (frame b.outer.mode b.kind) b.outer (next b.place) (left (inside b.outer))
+      tail_of b (λ i. text i ∷ left i) ≡ framed (frame_of b) (inner b) b.count (text (inner b)) ++ block_tail (frame b.outer.mode b.kind) b.outer (next b.count) (left (inside b.outer))
   block_tail-entry text left inside_b = rw inside_b (simp append_assoc)
 
   -- entries in a row are the first of what is left
   block_tail-row : {D : Type 0} (text_of : D → Setting → List ℕ) (items : List D) (left more : Setting → List (List ℕ)) → ((i : Setting) → left i ≡ map (λ x. text_of x i) items ++ more i) → IsInside b →
-      tail_of b left ≡ framed_all (frame_of b) (inner b) b.place (map (λ x. text_of x (inner b)) items) ++ block_tail (frame b.outer.mode b.kind) b.outer (place_after b.place items) (more (inside b.outer))
+      tail_of b left ≡ framed_all (frame_of b) (inner b) b.count (map (λ x. text_of x (inner b)) items) ++ block_tail (frame b.outer.mode b.kind) b.outer (count_after b.count items) (more (inside b.outer))
   block_tail-row text_of items left more all inside_b =
       let texts = map (λ x. text_of x (inside b.outer)) items in
       let f = frame b.outer.mode b.kind in
-      let split : tail_of b left ≡ framed_all f (inside b.outer) b.place texts ++ block_tail f b.outer (place_after b.place texts) (more (inside b.outer)) =
-      ap (λ ts. block_tail f b.outer b.place ts) (all (inside b.outer)) ∙ block_tail-append f b.outer b.place texts (more (inside b.outer)) in
-      rw (inside_b, sym (place_after-map (λ x. text_of x (inside b.outer)) b.place items)) split
+      let split : tail_of b left ≡ framed_all f (inside b.outer) b.count texts ++ block_tail f b.outer (count_after b.count texts) (more (inside b.outer)) =
+      ap (λ ts. block_tail f b.outer b.count ts) (all (inside b.outer)) ∙ block_tail-append f b.outer b.count texts (more (inside b.outer)) in
+      rw (inside_b, sym (count_after-map (λ x. text_of x (inside b.outer)) b.count items)) split
 
 module _ {W : Type 0} {seen : Seen W} {reference : ℕ} {b b' : Block W} {last : Formatter W} where
   pub entry_written : {text : Setting → List ℕ} {left : Setting → List (List ℕ)} {ok : Bool} → WritesEntry seen b text true b' → Completes seen reference b' left ok last → Completes seen reference b (λ i. text i ∷ left i) ok last
@@ -235,7 +235,7 @@ module _ {W E : Type 0} {seen : Seen W} {d : Document} {begun ended : Formatter 
   pub field_between : (old : Builder W StructBlock) {mid : Builder W StructBlock} (label : List ℕ) → mid ≡ lent Lent old ended → Prints seen old.formatter.now (field_lead_of label (struct_block old)) true begun →
       LaysOut seen begun d (is_ok answer) ended → EndsEntry seen answer (struct_block mid) result (is_ok result) new → WritesEntry seen (struct_block old) (field_text label d) (is_ok result) new
   field_between old label m p l e =
-      let whole : framed (frame_of (struct_block old)) (inner (struct_block old)) old.place (field_text label d (inner (struct_block old)))
+      let whole : framed (frame_of (struct_block old)) (inner (struct_block old)) old.count (field_text label d (inner (struct_block old)))
       ≡ field_lead_of label (struct_block old) ++ (entry_text d (inner (struct_block old)) ++ trail_of (struct_block old)) = simp append_assoc in
       record { part = rw whole (WritesPart-between Lent (struct_block old) ended _ (entry_text d) answer result (ap struct_block m) p l.prints e) }
 
@@ -249,14 +249,14 @@ module _ {W X E : Type 0} {seen : Seen W} {b : Block W} (d : Document) {r : Resu
 
   pub field_not_begun : (label : List ℕ) → r ≡ Err e → OnErr r (StopsIn seen b (field_lead_of label b) b') → WritesEntry seen b (field_text label d) false b'
   field_not_begun label was stop =
-      let whole : framed (frame_of b) (inner b) b.place (field_text label d (inner b)) ≡ field_lead_of label b ++ (entry_text d (inner b) ++ trail_of b) = simp append_assoc in
+      let whole : framed (frame_of b) (inner b) b.count (field_text label d (inner b)) ≡ field_lead_of label b ++ (entry_text d (inner b) ++ trail_of b) = simp append_assoc in
       record { part = rw whole (WritesPart-fails _ (IfErr-at_err _ was stop)) }
 
 -- an entry, and then a call that writes all that are left and the end
 module _ {W : Type 0} {seen : Seen W} {old new : Block W} {text : Setting → List ℕ} (left : Setting → List (List ℕ)) (inside_old : IsInside old) where
   pub closing_after_entry : {mid : Block W} {ok : Bool} → WritesEntry seen old text true mid → WritesEnding seen mid (tail_of mid left) ok new → WritesEnding seen old (tail_of old (λ i. text i ∷ left i)) ok new
   closing_after_entry {mid} a f =
-      let whole : tail_of old (λ i. text i ∷ left i) ≡ framed (frame_of old) (inner old) old.place (text (inner old)) ++ tail_of mid left =
+      let whole : tail_of old (λ i. text i ∷ left i) ≡ framed (frame_of old) (inner old) old.count (text (inner old)) ++ tail_of mid left =
       rw (a.part.same.outer, a.part.same.kind, a.part.after.0) (block_tail-entry old text left inside_old) in
       rw whole (WritesEnding-then a.part f)
 

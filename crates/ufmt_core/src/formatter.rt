@@ -1,29 +1,16 @@
 //! The formatter: a writer, a mode and a depth.
 ghost use Rattle.std.specs.Prelude.{◌≡◌, ◌↔◌, ℕ, is_ok, encode_utf8, IsTrue};
-ghost use Rattle.ufmt_core.specs.declared.formatter.Mode.TheVariants.{Pretty};
+ghost use Rattle.ufmt_core.specs.declared.layout.Mode.TheVariants.{Pretty};
 ghost use Rattle.std.specs.Borrow.{MutBor};
 ghost use Rattle.std.specs.Fn.{FnOnceReturnsAtMut};
 ghost use Rattle.ufmt_core.specs.declared.formatter.Formatter.{Formatter};
 ghost use Rattle.ufmt_core.specs.Formatter.{IsNew, Prints, at_setting, depth_of, in_pretty_mode, mode_of, setting_of, writer_of};
 
-pub(crate) mod block;
+mod block;
 pub(crate) mod builder;
 
+use crate::layout::{Mode, Setting};
 use crate::write::uWrite;
-
-/// How blocks are laid out: on one line, or an entry a line.
-#[derive(Clone, Copy)]
-pub(crate) enum Mode {
-    Plain,
-    Pretty,
-}
-
-/// The mode and depth that a document is laid out in.
-#[derive(Clone, Copy)]
-pub(crate) struct Setting {
-    pub(crate) mode: Mode,
-    pub(crate) depth: u8,
-}
 
 /// A writer, and the mode and depth that values are printed in.
 #[derive(Drop)]

@@ -8,6 +8,7 @@ ghost use Rattle.ufmt_core.specs.Formatter.{LaysOut};
 mod core_impls;
 mod formatter;
 pub mod laws;
+pub mod layout;
 mod list;
 mod map;
 mod nonzero;

@@ -2,7 +2,7 @@
 ghost use Rattle.std.specs.Prelude.{codes, is_ok, map, true, IfOk, OnOk};
 ghost use Rattle.std.specs.Borrow.{sem};
 ghost use Rattle.std.specs.Iterator.{IsFiniteIterable};
-ghost use Rattle.ufmt_core.specs.declared.formatter.block.Kind.TheVariants.{Brackets};
+ghost use Rattle.ufmt_core.specs.declared.layout.Kind.TheVariants.{Brackets};
 ghost use Rattle.ufmt_core.specs.declared.formatter.builder.Status.TheVariants.{Lent};
 ghost use Rattle.ufmt_core.specs.Document.{documents, list_of};
 ghost use Rattle.ufmt_core.specs.Formatter.{LaysOut, Prints};
@@ -10,8 +10,8 @@ ghost use Rattle.ufmt_core.specs.Block.{WritesEntries, WritesEntry, EndsEntry, I
 ghost use Rattle.ufmt_core.specs.Builder.{LendsForEntry, OpeningLoan, block, list_block};
 
 use crate::formatter::Formatter;
-use crate::formatter::block::{Kind, OPENING_BRACKET};
 use crate::formatter::builder::{BlockKind, Builder};
+use crate::layout::{Kind, OPENING_BRACKET};
 use crate::uDebug;
 use crate::write::uWrite;
 

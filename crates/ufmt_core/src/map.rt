@@ -2,7 +2,7 @@
 ghost use Rattle.std.specs.Prelude.{◌≡◌, List, codes, is_ok, map, true, Err, IfErr, IfOk, OnErr, OnOk};
 ghost use Rattle.std.specs.Borrow.{sem};
 ghost use Rattle.std.specs.Iterator.{AlwaysYields, IsFiniteIterable};
-ghost use Rattle.ufmt_core.specs.declared.formatter.block.Kind.TheVariants.{Braces};
+ghost use Rattle.ufmt_core.specs.declared.layout.Kind.TheVariants.{Braces};
 ghost use Rattle.ufmt_core.specs.declared.formatter.builder.Status.TheVariants.{Lent, LentValue};
 ghost use Rattle.ufmt_core.specs.Document.{Document, map_of, pairs_of};
 ghost use Rattle.ufmt_core.specs.Formatter.{LaysOut, Prints};
@@ -10,8 +10,8 @@ ghost use Rattle.ufmt_core.specs.Block.{WritesEntries, WritesEntry, EndsEntry, I
 ghost use Rattle.ufmt_core.specs.Builder.{LendsForKey, LendsForValue, OpeningLoan, map_block};
 
 use crate::formatter::Formatter;
-use crate::formatter::block::{Kind, OPENING_BRACE};
 use crate::formatter::builder::{BlockKind, Builder, Status};
+use crate::layout::{COLON, Kind, OPENING_BRACE};
 use crate::uDebug;
 use crate::write::uWrite;
 
@@ -115,7 +115,7 @@ impl<W: uWrite> DebugMap<'_, W> {
         ensures error { IfErr answer (λ e. result ≡ Err e) }
     {
         let written = match answer {
-            Ok(()) => self.formatter.write_str(": "),
+            Ok(()) => self.formatter.write_str(COLON),
             Err(error) => Err(error),
         };
         self.lend_if(written, Status::LentValue)

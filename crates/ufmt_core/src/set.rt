@@ -2,15 +2,15 @@
 ghost use Rattle.std.specs.Prelude.{List, codes, is_ok, map, IfOk};
 ghost use Rattle.std.specs.Borrow.{sem};
 ghost use Rattle.std.specs.Iterator.{AlwaysYields, IsFiniteIterable};
-ghost use Rattle.ufmt_core.specs.declared.formatter.block.Kind.TheVariants.{Braces};
+ghost use Rattle.ufmt_core.specs.declared.layout.Kind.TheVariants.{Braces};
 ghost use Rattle.ufmt_core.specs.Document.{Document, documents, set_of};
 ghost use Rattle.ufmt_core.specs.Formatter.{LaysOut};
 ghost use Rattle.ufmt_core.specs.Block.{IsOpen, WritesOpening};
 ghost use Rattle.ufmt_core.specs.Builder.{OpeningLoan, set_block};
 
 use crate::formatter::Formatter;
-use crate::formatter::block::{Kind, OPENING_BRACE};
 use crate::formatter::builder::{BlockKind, Builder};
+use crate::layout::{Kind, OPENING_BRACE};
 use crate::list::Items;
 use crate::uDebug;
 use crate::write::uWrite;

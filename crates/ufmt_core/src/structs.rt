@@ -1,7 +1,7 @@
 //! The builder of structs.
 ghost use Rattle.std.specs.Prelude.{is_ok, true, IfOk, OnOk};
 ghost use Rattle.std.specs.Borrow.{sem};
-ghost use Rattle.ufmt_core.specs.declared.formatter.block.Kind.TheVariants.{Struct};
+ghost use Rattle.ufmt_core.specs.declared.layout.Kind.TheVariants.{Struct};
 ghost use Rattle.ufmt_core.specs.declared.formatter.builder.Status.TheVariants.{Lent};
 ghost use Rattle.ufmt_core.specs.Formatter.{Prints};
 ghost use Rattle.ufmt_core.specs.Block.{WritesEntry, EndsEntry, IsLent, IsOpen, WritesOpening, field_lead_of, field_text};
@@ -10,8 +10,8 @@ ghost use Rattle.ufmt_core.specs.Builder.{LendsForField, OpeningLoan, struct_blo
 mod whole;
 
 use crate::formatter::Formatter;
-use crate::formatter::block::Kind;
 use crate::formatter::builder::{BlockKind, Builder};
+use crate::layout::Kind;
 use crate::uDebug;
 use crate::write::uWrite;
 pub use whole::NamedFields;

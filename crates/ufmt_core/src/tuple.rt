@@ -10,8 +10,8 @@ ghost use Rattle.ufmt_core.specs.Builder.{LendsForUnnamedField, OpeningLoan, kin
 mod whole;
 
 use crate::formatter::Formatter;
-use crate::formatter::block::Kind;
 use crate::formatter::builder::{BlockKind, Builder};
+use crate::layout::Kind;
 use crate::uDebug;
 use crate::write::uWrite;
 pub use whole::UnnamedFields;

@@ -1,7 +1,7 @@
 -- Texts converted by way of the document that they are read as.
 use Rattle.std.proofs.Common.{◌≡◌, refl, ◌∙◌, sym, List, ℕ, Option, Some, None, option_map, Result, Ok, Err, IfOk, IsErrOf, Global, String, string_bytes}
-use Rattle.ufmt_core.specs.declared.formatter.Mode.{Mode}
-use Rattle.ufmt_core.specs.declared.formatter.Mode.TheVariants.{Plain, Pretty}
+use Rattle.ufmt_core.specs.declared.layout.Mode.{Mode}
+use Rattle.ufmt_core.specs.declared.layout.Mode.TheVariants.{Plain, Pretty}
 use Rattle.ufmt.specs.Document.{Document}
 use Rattle.ufmt.specs.Layout.{layout, plain_text, pretty_text, setting}
 use Rattle.ufmt.specs.Reading.{read_text}

@@ -8,12 +8,12 @@ use Rattle.ufmt.specs.Reading.{read}
 use Rattle.ufmt_doc.specs.declared.doc.Doc.{Doc}
 use Rattle.ufmt_doc.specs.declared.reader.error.ReadError.{ReadError}
 use Rattle.ufmt_doc.specs.declared.reader.level.Level.{Level}
-use Rattle.ufmt_doc.specs.declared.reader.level.Mode.{Mode}
-use Rattle.ufmt_doc.specs.declared.reader.level.Mode.TheVariants.{Plain, Pretty}
+use Rattle.ufmt_core.specs.declared.layout.Mode.{Mode}
+use Rattle.ufmt_core.specs.declared.layout.Mode.TheVariants.{Plain, Pretty}
 use Rattle.ufmt_doc.specs.declared.reader.open_block.OpenBlock.{OpenBlock}
 use Rattle.ufmt_doc.specs.declared.reader.open_block.OpenBlock.TheVariants as blocks
 use Rattle.ufmt_doc.specs.Doc.{doc_document}
-use Rattle.ufmt_doc.specs.Private.Level.{budget_of, entry_at, entry_of, mode_of, setting_of}
+use Rattle.ufmt_doc.specs.Private.Level.{budget_of, entry_at, entry_of, setting_at}
 use Rattle.ufmt_doc.specs.Private.Stack.{document_at, level_at, blocks_reading, from_innermost}
 use Rattle.ufmt_doc.specs.Private.Steps.{OpensAtMostOne, ReadsStep, block_reading, innermost, after_step}
 
@@ -81,21 +81,21 @@ pub resume_none : (mode : Mode) (k : ℕ) (open_blocks : List OpenBlock) → blo
 resume_none mode k open_blocks = resumed_none (λ n. block_reading (level_at mode n)) (λ n block. finish_none (level_at mode n) block) k open_blocks
 
 -- entries are laid out one block deeper
-pub setting_inside : (mode : Mode) (k : ℕ) → k < 255 → inside (setting_of (level_at mode k)) ≡ setting_of (level_at mode (suc k))
+pub setting_inside : (mode : Mode) (k : ℕ) → k < 255 → inside (setting_at (level_at mode k)) ≡ setting_at (level_at mode (suc k))
 setting_inside Plain k few = refl
-setting_inside Pretty k few = let same : min (k + 1) 255 ≡ suc k = grind arith in ap (λ n. setting (mode_of Pretty) n) same
+setting_inside Pretty k few = let same : min (k + 1) 255 ≡ suc k = grind arith in ap (λ n. setting Pretty n) same
 
 -- up to 255 blocks round it, a document is read at its level
-pub document_is : (mode : Mode) (k : ℕ) (t : List ℕ) → k < 256 → document_at mode k t ≡ read (setting_of (level_at mode k)) (budget_of (level_at mode k)) t
+pub document_is : (mode : Mode) (k : ℕ) (t : List ℕ) → k < 256 → document_at mode k t ≡ read (setting_at (level_at mode k)) (budget_of (level_at mode k)) t
 document_is Plain zero t few = refl
 document_is Pretty zero t few = refl
 document_is mode (suc k) t few =
     let left : 255 - k ≡ suc (255 - suc k) = omega arith in
-    ap (λ n. entry_at (setting_of (level_at mode k)) n t) left ∙ ap (λ s. read s (255 - suc k) t) (setting_inside mode k (omega arith))
+    ap (λ n. entry_at (setting_at (level_at mode k)) n t) left ∙ ap (λ s. read s (255 - suc k) t) (setting_inside mode k (omega arith))
 
 -- likewise at a level that is told
-pub begins : (mode : Mode) (k : ℕ) (level : Level) (t : List ℕ) → level ≡ level_at mode k → k < 256 → document_at mode k t ≡ read (setting_of level) (budget_of level) t
-begins mode k level t same few = document_is mode k t few ∙ ap (λ l. read (setting_of l) (budget_of l) t) (sym same)
+pub begins : (mode : Mode) (k : ℕ) (level : Level) (t : List ℕ) → level ≡ level_at mode k → k < 256 → document_at mode k t ≡ read (setting_at level) (budget_of level) t
+begins mode k level t same few = document_is mode k t few ∙ ap (λ l. read (setting_at l) (budget_of l) t) (sym same)
 
 -- in the 256th block no entry is read
 pub document_is_none : (mode : Mode) (k : ℕ) (t : List ℕ) → k ≡ 256 → document_at mode k t ≡ None

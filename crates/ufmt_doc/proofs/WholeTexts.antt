@@ -1,6 +1,6 @@
 -- What the answer for a whole text tells of the documents that have it.
 use Rattle.std.proofs.Common.{List, ℕ, Result, Ok, Err, IfOk, IsErrOf}
-use Rattle.ufmt_core.specs.declared.formatter.Mode.{Mode}
+use Rattle.ufmt_core.specs.declared.layout.Mode.{Mode}
 use Rattle.ufmt.specs.Layout.{layout, setting}
 use Rattle.ufmt.specs.Reading.{read_text}
 use Rattle.ufmt.proofs.ReadingWhole.{reads_only_texts, refuses_no_text}

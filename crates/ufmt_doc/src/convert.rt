@@ -12,9 +12,9 @@ mod text_blocks;
 mod write;
 
 use crate::plain_reader::ReadError;
-use crate::reader::Mode;
 use converted::converted;
 use std::alloc::{AllocError, Global};
+use ufmt::layout::Mode;
 use ufmt::{Formatter, uDebug};
 
 /// The value's plain text. The only refusal is want of memory.

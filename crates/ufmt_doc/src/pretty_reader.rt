@@ -5,8 +5,9 @@ ghost use Rattle.ufmt_doc.specs.Doc.{doc_document};
 ghost use Rattle.ufmt_doc.specs.Texts.{IsNormalForm, IsNoText};
 
 use crate::doc::Doc;
-use crate::reader::{Mode, ReadError, read_text};
+use crate::reader::{ReadError, read_text};
 use std::alloc::Global;
+use ufmt::layout::Mode;
 
 /// The document with this pretty text, in normal form. Empty braces are an empty map, and a name
 /// alone is a leaf. `NotText` is answered of what is no token document's pretty text, and else

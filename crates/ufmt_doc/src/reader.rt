@@ -1,7 +1,6 @@
 //! Reading a token document from a text, in either mode: a loop over the blocks that are open.
 ghost use Rattle.ufmt.specs.Reading.{if_all, read_text};
 ghost use Rattle.ufmt_doc.specs.Doc.{doc_document};
-ghost use Rattle.ufmt_doc.specs.Private.Level.{mode_of};
 ghost use Rattle.ufmt_doc.specs.Private.Read.{AnswersAs};
 
 mod begin;
@@ -18,13 +17,13 @@ mod word_entries;
 use crate::doc::Doc;
 use begin::begin;
 pub use error::ReadError;
-pub(crate) use level::Mode;
 use open_blocks::OpenBlocks;
 use std::alloc::Global;
+use ufmt::layout::Mode;
 
 /// The document that the whole text is of.
 pub(crate) fn read_text(alloc: Global, mode: Mode, input: &[u8]) -> Result<Doc, ReadError>
-    ensures { AnswersAs doc_document result (read_text (mode_of mode) input.now) }
+    ensures { AnswersAs doc_document result (read_text mode input.now) }
 {
     let mut blocks = OpenBlocks::new(alloc);
     let mut rest = input;

@@ -4,14 +4,14 @@ ghost use Rattle.std.specs.Borrow.{sem, follows};
 ghost use mir.Syntax.{named};
 ghost use Rattle.ufmt_core.specs.contracts.formatter.Formatter as formatter;
 ghost use Rattle.ufmt_core.specs.contracts.formatter.builder.Builder as builder;
-ghost use Rattle.ufmt_core.specs.declared.formatter.block.Kind.{Kind};
+ghost use Rattle.ufmt_core.specs.declared.layout.Kind.{Kind};
 ghost use Rattle.ufmt_core.specs.declared.formatter.builder.Status.TheVariants.{Lent};
 ghost use Rattle.ufmt_core.specs.Formatter.{Prints};
 ghost use Rattle.ufmt_core.specs.Block.{WritesEnding, EndsEntry, IsOpen, WritesOpening, ending_of, field_lead_of, lead_of};
 ghost use Rattle.ufmt_core.specs.Builder.{EntryLoan, LendsBehind, LendsForEntry, OpeningLoan, block, abandoned, lent};
 
-use crate::formatter::block::{Kind, Place};
-use crate::formatter::{Formatter, Setting};
+use crate::formatter::Formatter;
+use crate::layout::{Count, Kind, Setting};
 use crate::write::uWrite;
 
 /// Which calls of a builder may follow.
@@ -43,7 +43,7 @@ pub struct Builder<'f, W, K> {
     pub(crate) formatter: &'f mut Formatter<W>,
     marker: K,
     outer: Setting,
-    place: Place,
+    count: Count,
     status: Status,
 }
 
@@ -67,7 +67,7 @@ impl<W: uWrite> Formatter<W> {
             formatter: self,
             marker,
             outer,
-            place: Place::First,
+            count: Count::Zero,
             status: Status::Open,
         })
     }
@@ -84,7 +84,7 @@ impl<W: uWrite, K: BlockKind> Builder<'_, W, K> {
     {
         let kind = self.marker.kind();
         self.leave();
-        self.formatter.write_ending(kind, self.place)
+        self.formatter.write_ending(kind, self.count)
     }
 
     /// Whether entries may follow: until `finish`, or a call that fails, and not between the halves of
@@ -103,7 +103,7 @@ impl<W: uWrite, K: BlockKind> Builder<'_, W, K> {
             (λ f. Prints W.seen self.old.formatter.now (lead_of (block K.kind self.old)) true
             f.now) }
     {
-        let written = self.formatter.write_lead(self.marker.kind(), self.place);
+        let written = self.formatter.write_lead(self.marker.kind(), self.count);
         self.lend_if(written, Status::Lent)
     }
 
@@ -117,7 +117,7 @@ impl<W: uWrite, K: BlockKind> Builder<'_, W, K> {
             (field_lead_of name.now (block K.kind self.old)) true f.now) }
     {
         let kind = self.marker.kind();
-        let written = self.formatter.write_field_lead(kind, self.place, name);
+        let written = self.formatter.write_field_lead(kind, self.count, name);
         self.lend_if(written, Status::Lent)
     }
 
@@ -133,7 +133,7 @@ impl<W: uWrite, K: BlockKind> Builder<'_, W, K> {
         ensures lent { IfOk result (λ f. (f.now ≡ self.old.formatter.now) × IsOk answer) }
         ensures error { IfErr result (λ e. answer ≡ Err e) }
     {
-        self.settle(answer, status, self.place)?;
+        self.settle(answer, status, self.count)?;
         Ok(self.lend())
     }
 
@@ -159,24 +159,24 @@ impl<W: uWrite, K: BlockKind> Builder<'_, W, K> {
             Ok(()) => self.formatter.write_trail(),
             Err(error) => Err(error),
         };
-        self.settle(ended, Status::Open, self.place.next())
+        self.settle(ended, Status::Open, self.count.next())
     }
 
-    // Goes on to this status and place where the answer is `Ok`, and else leaves the block.
+    // Goes on to this status and count where the answer is `Ok`, and else leaves the block.
     #[inline(always)]
     fn settle(
         &mut self,
         answer: Result<(), W::Error>,
         status: Status,
-        place: Place,
+        count: Count,
     ) -> Result<(), W::Error>
         ensures answer { result ≡ answer }
         ensures settled { MatchBool (is_ok answer)
-            (self.new ≡ record self.old { place = place; status = status })
+            (self.new ≡ record self.old { count = count; status = status })
             (self.new ≡ abandoned self.old) }
     {
         if answer.is_ok() {
-            self.place = place;
+            self.count = count;
             self.status = status;
         } else {
             self.leave();

@@ -8,10 +8,10 @@ use Rattle.ufmt_doc.specs.declared.doc.Doc.{Doc}
 use Rattle.ufmt_doc.specs.declared.reader.error.ReadError.{ReadError}
 use Rattle.ufmt_doc.specs.declared.reader.error.ReadError.TheVariants.{NotText}
 use Rattle.ufmt_doc.specs.declared.reader.level.Level.{Level}
-use Rattle.ufmt_doc.specs.declared.reader.level.Mode.{Mode}
+use Rattle.ufmt_core.specs.declared.layout.Mode.{Mode}
 use Rattle.ufmt_doc.specs.declared.reader.open_block.OpenBlock.{OpenBlock}
 use Rattle.ufmt_doc.specs.Doc.{doc_document}
-use Rattle.ufmt_doc.specs.Private.Level.{entry_of, mode_of}
+use Rattle.ufmt_doc.specs.Private.Level.{entry_of}
 use Rattle.ufmt_doc.specs.Private.Steps.{block_reading}
 
 -- the level with this many blocks round it
@@ -29,7 +29,7 @@ blocks_reading mode k blocks o = from_innermost (λ n. block_reading (level_at m
 
 -- what reads a document with this many blocks round it: no entry begins in the 256th
 abbrev pub document_at : Mode → ℕ → Parse Document
-document_at mode zero = read (setting (mode_of mode) 0) 255
+document_at mode zero = read (setting mode 0) 255
 document_at mode (suc k) = entry_of (level_at mode k)
 
 -- what is read in all where the blocks are open and an entry begins, or where a document was read whole

@@ -8,14 +8,14 @@ use Rattle.ufmt_doc.specs.declared.doc.Doc.{Doc}
 use Rattle.ufmt_doc.specs.declared.reader.error.ReadError.{ReadError}
 use Rattle.ufmt_doc.specs.declared.reader.error.ReadError.TheVariants.{NotText}
 use Rattle.ufmt_doc.specs.declared.reader.level.Level.{Level}
-use Rattle.ufmt_doc.specs.declared.reader.level.Kind.{Kind}
-use Rattle.ufmt_doc.specs.declared.reader.level.Kind.TheVariants as kinds
+use Rattle.ufmt_core.specs.declared.layout.Kind.{Kind}
+use Rattle.ufmt_core.specs.declared.layout.Kind.TheVariants as kinds
 use Rattle.ufmt_doc.specs.declared.reader.open_block.OpenBlock.{OpenBlock}
 use Rattle.ufmt_doc.specs.declared.reader.open_block.OpenBlock.TheVariants as blocks
 use Rattle.ufmt_doc.specs.Doc.{doc_document}
 use Rattle.ufmt_doc.specs.DocViews.{docs_view, pairs_view, fields_view}
 use Rattle.ufmt_doc.specs.Private.Entries.{read_on}
-use Rattle.ufmt_doc.specs.Private.Level.{entry_of, frame_of, mode_of, setting_of}
+use Rattle.ufmt_doc.specs.Private.Level.{entry_of, setting_at}
 
 -- what stands before a colon and a space
 abbrev pub before_colon : {A : Type 0} → Parse A → Parse A
@@ -27,13 +27,13 @@ read_label t = before_colon read_word t
 
 -- an open block at its level, where this is what the entry, key or value that begins in it is read as
 abbrev pub block_reading : Level → OpenBlock → Option (Document × List ℕ) → Option (Document × List ℕ)
-block_reading level (blocks.List entries) o = read_on (entry_of level) (frame_of level kinds.Brackets) (setting_of level) (λ ds. list_of (documents ds)) (docs_view entries) o
-block_reading level blocks.Braces o = option_and_then (λ x. read_map_or_set (setting_of level) (entry_of level) x.0 x.1) o
-block_reading level (blocks.Set entries) o = read_on (entry_of level) (frame_of level kinds.Braces) (setting_of level) (λ ds. set_of (documents ds)) (docs_view entries) o
-block_reading level (blocks.Map pairs None) o = option_and_then (λ x. read_on (read_pair (entry_of level) (entry_of level)) (frame_of level kinds.Braces) (setting_of level) (λ ps. map_of (pairs_of ps)) (pairs_view pairs) (read_value (entry_of level) x.0 x.1)) o
-block_reading level (blocks.Map pairs (Some key)) o = read_on (read_pair (entry_of level) (entry_of level)) (frame_of level kinds.Braces) (setting_of level) (λ ps. map_of (pairs_of ps)) (pairs_view pairs) (parse_map (λ value. (doc_document key, value)) o)
-block_reading level (blocks.Struct name fields label) o = read_on (read_pair read_word (entry_of level)) (frame_of level kinds.Struct) (setting_of level) (λ fs. struct_of (string_bytes name) (fields_of fs)) (fields_view fields) (parse_map (λ value. (string_bytes label, value)) o)
-block_reading level (blocks.Tuple name entries) o = read_on (entry_of level) (frame (mode_of level.mode) (tuple_kind (string_bytes name))) (setting_of level) (λ ds. tuple_of (string_bytes name) (documents ds)) (docs_view entries) o
+block_reading level (blocks.List entries) o = read_on (entry_of level) (frame level.mode kinds.Brackets) (setting_at level) (λ ds. list_of (documents ds)) (docs_view entries) o
+block_reading level blocks.Braces o = option_and_then (λ x. read_map_or_set (setting_at level) (entry_of level) x.0 x.1) o
+block_reading level (blocks.Set entries) o = read_on (entry_of level) (frame level.mode kinds.Braces) (setting_at level) (λ ds. set_of (documents ds)) (docs_view entries) o
+block_reading level (blocks.Map pairs None) o = option_and_then (λ x. read_on (read_pair (entry_of level) (entry_of level)) (frame level.mode kinds.Braces) (setting_at level) (λ ps. map_of (pairs_of ps)) (pairs_view pairs) (read_value (entry_of level) x.0 x.1)) o
+block_reading level (blocks.Map pairs (Some key)) o = read_on (read_pair (entry_of level) (entry_of level)) (frame level.mode kinds.Braces) (setting_at level) (λ ps. map_of (pairs_of ps)) (pairs_view pairs) (parse_map (λ value. (doc_document key, value)) o)
+block_reading level (blocks.Struct name fields label) o = read_on (read_pair read_word (entry_of level)) (frame level.mode kinds.Struct) (setting_at level) (λ fs. struct_of (string_bytes name) (fields_of fs)) (fields_view fields) (parse_map (λ value. (string_bytes label, value)) o)
+block_reading level (blocks.Tuple name entries) o = read_on (entry_of level) (frame level.mode (tuple_kind (string_bytes name))) (setting_at level) (λ ds. tuple_of (string_bytes name) (documents ds)) (docs_view entries) o
 
 -- the document of a block with its entries so far
 abbrev pub block_document : OpenBlock → Document
@@ -54,7 +54,7 @@ TakesEntry level bytes answer block there = MatchResult answer (λ x. (there ≡
 
 -- a block of this kind with these entries before, whatever document they make, where its next entry is read as this
 abbrev pub entries_on : Level → Kind → (List Document → Document) → List Document → Option (Document × List ℕ) → Option (Document × List ℕ)
-entries_on level kind make before o = read_on (entry_of level) (frame_of level kind) (setting_of level) make before o
+entries_on level kind make before o = read_on (entry_of level) (frame level.mode kind) (setting_at level) make before o
 
 -- it goes on as the same block with those entries behind, or ended with them
 abbrev pub TakesWords : Level → Kind → ℕ → Result (Bool × Bor (List ℕ)) ReadError → List Document → List Document → Option (Document × List ℕ) → Type 0

@@ -2,14 +2,14 @@
 ghost use Rattle.std.specs.Prelude.{option_map, string_bytes};
 ghost use Rattle.ufmt.specs.Layout.{layout, setting};
 ghost use Rattle.ufmt.specs.Reading.{if_all, read_text};
-ghost use Rattle.ufmt_doc.specs.Private.Level.{mode_of};
 ghost use Rattle.ufmt_doc.specs.Private.Read.{AnswersAs};
 
 use super::begin::begin;
 use super::text_blocks::TextBlocks;
 use crate::reader::ReadError;
-use crate::reader::level::{Level, Mode};
+use crate::reader::level::Level;
 use std::alloc::Global;
+use ufmt::layout::Mode;
 
 /// The text in mode `to` of the document that the whole text is of in mode `from`.
 pub(super) fn converted(
@@ -19,7 +19,7 @@ pub(super) fn converted(
     input: &[u8],
 ) -> Result<String, ReadError>
     ensures { AnswersAs string_bytes result
-        (option_map (layout (setting (mode_of to) 0)) (read_text (mode_of from) input.now)) }
+        (option_map (layout (setting to 0)) (read_text from input.now)) }
 {
     let mut output = String::new(alloc);
     let mut blocks = TextBlocks::new(alloc);

@@ -5,8 +5,9 @@ ghost use Rattle.ufmt_doc.specs.Private.Stack.{level_at};
 
 use super::text_block::TextBlock;
 use crate::reader::ReadError;
-use crate::reader::level::{Level, Mode};
+use crate::reader::level::Level;
 use std::alloc::Global;
+use ufmt::layout::Mode;
 
 /// The open blocks, the outermost first, each but the last with an entry that is open too.
 #[derive(Drop)]

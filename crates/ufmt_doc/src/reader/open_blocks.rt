@@ -6,9 +6,10 @@ ghost use Rattle.ufmt_doc.specs.Private.Steps.{ReadsStep, goes_on_with};
 
 use crate::doc::Doc;
 use crate::reader::error::ReadError;
-use crate::reader::level::{Level, Mode};
+use crate::reader::level::Level;
 use crate::reader::open_block::OpenBlock;
 use std::alloc::Global;
+use ufmt::layout::Mode;
 
 /// The open blocks, the outermost first, each but the last with an entry that is open too.
 #[derive(Drop)]

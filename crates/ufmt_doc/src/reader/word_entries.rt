@@ -8,10 +8,11 @@ ghost use Rattle.ufmt_doc.specs.Private.FrontWords.{may_open, read_entry_word, r
 
 use crate::doc::Doc;
 use crate::reader::error::ReadError;
-use crate::reader::level::{Kind, Level, strip};
+use crate::reader::level::{Level, strip_colon};
 use crate::reader::open_block::put_entry;
 use crate::reader::word::{split_word, word_text};
 use std::alloc::Global;
+use ufmt::layout::Kind;
 
 /// Puts in the entries of a block up to the first that is no word: true, and where that begins, or
 /// false, and what follows the block's end.
@@ -52,7 +53,7 @@ pub(super) fn read_key(
     let Some((word, behind)) = split_entry(level, input) else {
         return Ok(None);
     };
-    let Some(rest) = strip(b": ", behind) else {
+    let Some(rest) = strip_colon(behind) else {
         return Ok(None);
     };
     Ok(Some((Doc::Leaf(word_text(alloc, word)?), rest)))

@@ -1,4 +1,4 @@
-use Rattle.ufmt_core.specs.declared.formatter.Mode.TheVariants.{Pretty}
+use Rattle.ufmt_core.specs.declared.layout.Mode.TheVariants.{Pretty}
 use Rattle.ufmt.specs.Layout.{plain_text, pretty_text}
 use Rattle.ufmt_doc.proofs.Conversions.{converts, no_text_converted, pretty_text_converted}
 use Rattle.ufmt_doc.proofs.convert.to_plain.Goals as goal

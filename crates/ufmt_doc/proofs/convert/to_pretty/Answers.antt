@@ -1,4 +1,4 @@
-use Rattle.ufmt_core.specs.declared.formatter.Mode.TheVariants.{Plain}
+use Rattle.ufmt_core.specs.declared.layout.Mode.TheVariants.{Plain}
 use Rattle.ufmt.specs.Layout.{plain_text, pretty_text}
 use Rattle.ufmt_doc.proofs.Conversions.{converts, no_text_converted, plain_text_converted}
 use Rattle.ufmt_doc.proofs.convert.to_pretty.Goals as goal

@@ -1,7 +1,7 @@
 use Rattle.std.proofs.Common.{◌≡◌, ◌∙◌, ap, sym, ◌≤◌, ◌<◌, Bool, List, ℕ, Option, Some, String, Global, string_bytes, cond, length, arith}
 use Rattle.ufmt.specs.Document.{Document, documents, leaf, list_of}
 use Rattle.ufmt_doc.specs.declared.doc.Doc.TheVariants.{Leaf}
-use Rattle.ufmt_doc.specs.declared.reader.level.Kind.{Kind}
+use Rattle.ufmt_core.specs.declared.layout.Kind.{Kind}
 use Rattle.ufmt_doc.specs.declared.reader.level.Level.{Level}
 use Rattle.ufmt_doc.specs.Doc.{doc_document}
 use Rattle.ufmt_doc.specs.DocViews.{docs_view}
