@@ -57,6 +57,10 @@ fn strip_piece<'a>(piece: &str, input: &'a [u8]) -> Option<&'a [u8]>
 {
     if piece.is_empty() {
         Some(input)
+    } else if piece.len() == 1 {
+        strip_byte(piece.as_bytes()[0], input)
+    } else if piece.len() == 2 {
+        strip_byte(piece.as_bytes()[1], strip_byte(piece.as_bytes()[0], input)?)
     } else {
         strip(piece.as_bytes(), input)
     }
@@ -193,10 +197,34 @@ impl Level {
     }
 
     // What follows an entry of a block behind so many others: true, and where the next entry begins,
-    // or false, and what follows the block's end.
+    // or false, and what follows the block's end. Each mode has an arm, in which its pieces are
+    // constants.
+    #[inline(always)]
+    fn behind_entry(self, kind: Kind, before: Count, input: &[u8]) -> Option<(bool, &[u8])>
+        ensures { option_map (λ x. (x.0, x.1.now)) result
+            ≡ behind_entry (frame self.mode kind) (setting_at self) before input.now }
+    {
+        match self.mode {
+            Mode::Plain => self.at(Mode::Plain).strip_behind(kind, before, input),
+            Mode::Pretty => self.at(Mode::Pretty).strip_behind(kind, before, input),
+        }
+    }
+
+    // As many blocks are open, in this mode.
+    #[inline(always)]
+    fn at(self, mode: Mode) -> Level
+        ensures mode { result.mode ≡ mode }
+        ensures depth { result.depth ≡ self.depth }
+    {
+        Level {
+            mode,
+            depth: self.depth,
+        }
+    }
+
     #[inline(always)]
     #[tactic(auto, unfolding(crate::specs::Private::Entries::behind_entry))]
-    fn behind_entry(self, kind: Kind, before: Count, input: &[u8]) -> Option<(bool, &[u8])>
+    fn strip_behind(self, kind: Kind, before: Count, input: &[u8]) -> Option<(bool, &[u8])>
         ensures { option_map (λ x. (x.0, x.1.now)) result
             ≡ behind_entry (frame self.mode kind) (setting_at self) before input.now }
     {
