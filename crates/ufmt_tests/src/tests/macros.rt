@@ -1,6 +1,6 @@
 //! What `uwrite!` and `uwriteln!` hand on, and what they evaluate.
 use super::printed::Printed;
-use super::rows::Rows;
+use super::rows::{Table, are_ok, has_rows, same};
 use ufmt::{Cursor, Formatter, Full, HexOptions, laws, uWrite, uwrite, uwriteln};
 
 const PREFIXED: HexOptions = HexOptions {
@@ -44,32 +44,39 @@ impl Printed for Line {
     }
 }
 
+const PIECES: &str = "\
+n=|7||(|1|,|)|Some|(|\n|    |2|,\n|)|0x|0|0|ff|~
+n=|7||(|\n|    |1|,\n|)|Some|(|\n|    |2|,\n|)|0x|0|0|ff|;
+0x|0|0|0|1|ab|0x|0|0|0|2|3|0x|0|0|0|4|5|0x|0|0|0|6|7|0x|0|0|0|8|0x|0|0|0|9|;
+a|0x|0|0|0|1|b|\n|;
+a b|7|[|1|]|[|\n|    |2|,\n|]|\n|~
+a b|7|[|\n|    |1|,\n|]|[|\n|    |2|,\n|]|\n|;
+";
+
 #[test]
 fn pieces_are_handed_on(rt: HostRuntime) {
-    let rows = Rows::of("pieces", &rt);
-    rows.pieces(
-        &AllPieces,
-        "n=|7||(|1|,|)|Some|(|\n|    |2|,\n|)|0x|0|0|ff|",
-        "n=|7||(|\n|    |1|,\n|)|Some|(|\n|    |2|,\n|)|0x|0|0|ff|",
-    );
-    rows.both(
-        &HexadecimalFirst,
-        "0x|0|0|0|1|ab|0x|0|0|0|2|3|0x|0|0|0|4|5|0x|0|0|0|6|7|0x|0|0|0|8|0x|0|0|0|9|",
-    );
-    rows.both(&HexadecimalInALine, "a|0x|0|0|0|1|b|\n|");
-    rows.pieces(
-        &Line,
-        "a b|7|[|1|]|[|\n|    |2|,\n|]|\n|",
-        "a b|7|[|\n|    |1|,\n|]|[|\n|    |2|,\n|]|\n|",
-    );
+    let mut table = Table::new(rt.alloc());
+    table.pieces(&AllPieces);
+    table.pieces(&HexadecimalFirst);
+    table.pieces(&HexadecimalInALine);
+    table.pieces(&Line);
+    has_rows(&rt, &table, PIECES);
 }
+
+const IN_ORDER: &str = "\
+ab42[1, 2][
+    3,
+]0x00ffThe answer is 42
+0x0022
+Hello, world!The answer is 42Hello
+World
+";
 
 #[test]
 fn pieces_come_in_order(rt: HostRuntime) {
-    let rows = Rows::of("in order", &rt);
     let mut text = String::new(rt.alloc());
     let mut f = Formatter::new(&mut text);
-    rows.all_ok(&[
+    let answers = [
         uwrite!(&mut f, text "a",),
         uwrite!(&mut f, text "b", display 42i32, debug &[1u8, 2].as_slice(), pretty &[3u8].as_slice(), hex 255u8 with PREFIXED),
         uwriteln!(&mut f, text "The answer is ", display 42i32),
@@ -78,11 +85,10 @@ fn pieces_come_in_order(rt: HostRuntime) {
         uwrite!(&mut f, text "The answer is ", display 42i32),
         uwriteln!(&mut f, text "Hello"),
         uwriteln!(&mut f, text "World"),
-    ]);
-    rows.same((f.is_pretty(), f.depth()), (false, 0), "what is left");
-    let expected =
-        "ab42[1, 2][\n    3,\n]0x00ffThe answer is 42\n0x0022\nHello, world!The answer is 42Hello\nWorld\n";
-    rows.same(text.as_str(), expected, "the text");
+    ];
+    let left = (are_ok(&answers), f.is_pretty(), f.depth());
+    same(&rt, left, (true, false, 0), "what is left");
+    same(&rt, text.as_str(), IN_ORDER, "in order");
 }
 
 // One more than the calls so far.
@@ -93,7 +99,6 @@ fn noted(calls: &mut u32) -> u32 {
 
 #[test]
 fn each_part_is_evaluated_once(rt: HostRuntime) {
-    let rows = Rows::of("evaluations", &rt);
     let mut text = String::new(rt.alloc());
     let mut f = Formatter::new(&mut text);
     let (mut formatters, mut texts, mut values, mut options) = (0, 0, 0, 0);
@@ -115,7 +120,7 @@ fn each_part_is_evaluated_once(rt: HostRuntime) {
         },
     );
     let calls = (formatters, texts, values, options);
-    rows.same((answer.is_ok(), calls), (true, (1, 1, 4, 1)), "by uwrite");
+    same(&rt, (answer.is_ok(), calls), (true, (1, 1, 4, 1)), "uwrite");
     let answer = uwriteln!(
         {
             noted(&mut formatters);
@@ -124,8 +129,8 @@ fn each_part_is_evaluated_once(rt: HostRuntime) {
         display noted(&mut values)
     );
     let left = (answer.is_ok(), formatters, values);
-    rows.same(left, (true, 2, 5), "by uwriteln");
-    rows.same(text.as_str(), "n=1230x00045\n", "by both");
+    same(&rt, left, (true, 2, 5), "uwriteln");
+    same(&rt, text.as_str(), "n=1230x00045\n", "both");
 }
 
 // The answer, and how often the value behind the text was evaluated.
@@ -137,10 +142,10 @@ fn write_noted(f: &mut Formatter<Cursor<'_>>, text: &str) -> (Result<(), Full>, 
 
 #[test]
 fn nothing_is_evaluated_after_a_failure(rt: HostRuntime) {
-    let rows = Rows::of("evaluations", &rt);
     let mut buffer = [0; 1];
     let mut f = Formatter::new(Cursor::new(&mut buffer));
-    rows.same(write_noted(&mut f, "ab"), (Err(Full), 0), "a failure");
-    rows.same(write_noted(&mut f, ""), (Ok(()), 1), "no failure");
-    rows.same(f.into_inner().written(), b"1".as_slice(), "of both");
+    let answers = (write_noted(&mut f, "ab"), write_noted(&mut f, ""));
+    let wanted = ((Err(Full), 0), (Ok(()), 1));
+    same(&rt, answers, wanted, "a failure, and none");
+    same(&rt, f.into_inner().written(), b"1".as_slice(), "of both");
 }
