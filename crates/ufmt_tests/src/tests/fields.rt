@@ -172,16 +172,26 @@ fn many_named<W: uWrite>(f: &mut Formatter<W>) -> [Result<(), W::Error>; 1] {
     )]
 }
 
-fn unnamed<W: uWrite>(f: &mut Formatter<W>) -> [Result<(), W::Error>; 11] {
+fn three_to_seven_unnamed<W: uWrite>(f: &mut Formatter<W>) -> [Result<(), W::Error>; 5] {
     [
         fields!(f, T3(1u8, 2u8, 3u8)),
         fields!(f, T4(1u8, 2u8, 3u8, 4u8)),
         fields!(f, T5(1u8, 2u8, 3u8, 4u8, 5u8)),
         fields!(f, T6(1u8, 2u8, 3u8, 4u8, 5u8, 6u8)),
         fields!(f, T7(1u8, 2u8, 3u8, 4u8, 5u8, 6u8, 7u8)),
+    ]
+}
+
+fn eight_to_ten_unnamed<W: uWrite>(f: &mut Formatter<W>) -> [Result<(), W::Error>; 3] {
+    [
         fields!(f, T8(1u8, 2u8, 3u8, 4u8, 5u8, 6u8, 7u8, 8u8)),
         fields!(f, T9(1u8, 2u8, 3u8, 4u8, 5u8, 6u8, 7u8, 8u8, 9u8)),
         fields!(f, T10(1u8, 2u8, 3u8, 4u8, 5u8, 6u8, 7u8, 8u8, 9u8, 10u8)),
+    ]
+}
+
+fn many_unnamed<W: uWrite>(f: &mut Formatter<W>) -> [Result<(), W::Error>; 3] {
+    [
         fields!(
             f,
             T11(1u8, 2u8, 3u8, 4u8, 5u8, 6u8, 7u8, 8u8, 9u8, 10u8, 11u8)
@@ -217,13 +227,13 @@ Long { a: 1, b: 2, c: 3, d: 4, e: 5, f: 6, g: 7, h: 8, i: 9, j: 10, k: 11, l: 12
 
 #[test]
 fn named_fields(rt: HostRuntime) {
-    let mut text = String::new(rt.alloc());
-    let mut f = Formatter::new(&mut text);
+    let mut f = Formatter::new(String::new(rt.alloc()));
     let are_ok = are_ok(&one_to_five_named(&mut f))
         && are_ok(&six_to_eight_named(&mut f))
         && are_ok(&nine_and_ten_named(&mut f))
         && are_ok(&eleven_and_twelve_named(&mut f))
         && are_ok(&many_named(&mut f));
+    let text = f.into_inner();
     same(&rt, (are_ok, text.as_str()), (true, NAMED), "each number");
 }
 
@@ -242,12 +252,10 @@ Long(1, 2, 3, 4, 5, 6, 7, 8, 9, 10, 11, 12, 13)";
 
 #[test]
 fn unnamed_fields(rt: HostRuntime) {
-    let mut text = String::new(rt.alloc());
-    let answers = unnamed(&mut Formatter::new(&mut text));
-    same(
-        &rt,
-        (are_ok(&answers), text.as_str()),
-        (true, UNNAMED),
-        "each number",
-    );
+    let mut f = Formatter::new(String::new(rt.alloc()));
+    let are_ok = are_ok(&three_to_seven_unnamed(&mut f))
+        && are_ok(&eight_to_ten_unnamed(&mut f))
+        && are_ok(&many_unnamed(&mut f));
+    let text = f.into_inner();
+    same(&rt, (are_ok, text.as_str()), (true, UNNAMED), "each number");
 }

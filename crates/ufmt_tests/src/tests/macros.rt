@@ -72,23 +72,26 @@ Hello, world!The answer is 42Hello
 World
 ";
 
+fn write_in_order<W: uWrite>(f: &mut Formatter<W>) -> [Result<(), W::Error>; 8] {
+    [
+        uwrite!(f, text "a",),
+        uwrite!(f, text "b", display 42i32, debug &[1u8, 2].as_slice(), pretty &[3u8].as_slice(), hex 255u8 with PREFIXED),
+        uwriteln!(f, text "The answer is ", display 42i32),
+        uwriteln!(f, hex (33u8 + 1) with PREFIXED,),
+        uwrite!(f, text "Hello, world!"),
+        uwrite!(f, text "The answer is ", display 42i32),
+        uwriteln!(f, text "Hello"),
+        uwriteln!(f, text "World"),
+    ]
+}
+
 #[test]
 fn pieces_come_in_order(rt: HostRuntime) {
-    let mut text = String::new(rt.alloc());
-    let mut f = Formatter::new(&mut text);
-    let answers = [
-        uwrite!(&mut f, text "a",),
-        uwrite!(&mut f, text "b", display 42i32, debug &[1u8, 2].as_slice(), pretty &[3u8].as_slice(), hex 255u8 with PREFIXED),
-        uwriteln!(&mut f, text "The answer is ", display 42i32),
-        uwriteln!(&mut f, hex (33u8 + 1) with PREFIXED,),
-        uwrite!(&mut f, text "Hello, world!"),
-        uwrite!(&mut f, text "The answer is ", display 42i32),
-        uwriteln!(&mut f, text "Hello"),
-        uwriteln!(&mut f, text "World"),
-    ];
+    let mut f = Formatter::new(String::new(rt.alloc()));
+    let answers = write_in_order(&mut f);
     let left = (are_ok(&answers), f.is_pretty(), f.depth());
     same(&rt, left, (true, false, 0), "what is left");
-    same(&rt, text.as_str(), IN_ORDER, "in order");
+    same(&rt, f.into_inner().as_str(), IN_ORDER, "in order");
 }
 
 // One more than the calls so far.
@@ -97,15 +100,13 @@ fn noted(calls: &mut u32) -> u32 {
     *calls
 }
 
-#[test]
-fn each_part_is_evaluated_once(rt: HostRuntime) {
-    let mut text = String::new(rt.alloc());
-    let mut f = Formatter::new(&mut text);
+// The answer, and how often the formatter, texts, values and options were evaluated.
+fn write_counted<W: uWrite>(f: &mut Formatter<W>) -> (Result<(), W::Error>, [u32; 4]) {
     let (mut formatters, mut texts, mut values, mut options) = (0, 0, 0, 0);
     let answer = uwrite!(
         {
             noted(&mut formatters);
-            &mut f
+            &mut *f
         },
         text {
             noted(&mut texts);
@@ -119,18 +120,30 @@ fn each_part_is_evaluated_once(rt: HostRuntime) {
             PREFIXED
         },
     );
-    let calls = (formatters, texts, values, options);
-    same(&rt, (answer.is_ok(), calls), (true, (1, 1, 4, 1)), "uwrite");
+    (answer, [formatters, texts, values, options])
+}
+
+// Likewise of a line, with the formatter and one value.
+fn write_counted_line<W: uWrite>(f: &mut Formatter<W>) -> (Result<(), W::Error>, [u32; 2]) {
+    let (mut formatters, mut values) = (0, 4);
     let answer = uwriteln!(
         {
             noted(&mut formatters);
-            &mut f
+            &mut *f
         },
         display noted(&mut values)
     );
-    let left = (answer.is_ok(), formatters, values);
-    same(&rt, left, (true, 2, 5), "uwriteln");
-    same(&rt, text.as_str(), "n=1230x00045\n", "both");
+    (answer, [formatters, values])
+}
+
+#[test]
+fn each_part_is_evaluated_once(rt: HostRuntime) {
+    let mut f = Formatter::new(String::new(rt.alloc()));
+    let (answer, calls) = write_counted(&mut f);
+    same(&rt, (answer, calls), (Ok(()), [1, 1, 4, 1]), "uwrite");
+    let (answer, calls) = write_counted_line(&mut f);
+    same(&rt, (answer, calls), (Ok(()), [1, 5]), "uwriteln");
+    same(&rt, f.into_inner().as_str(), "n=1230x00045\n", "both");
 }
 
 // The answer, and how often the value behind the text was evaluated.

@@ -133,14 +133,13 @@ fn call_over<'a, W: uWrite<Error = Full>>(
 // Whether this is left where the writer refuses the piece of this number alone, before which the text
 // has this length.
 fn is_left(
-    alloc: Global,
     block: Block,
     place: Place<'_>,
     calls: &Calls<'_>,
     (number, length, last, answer): (usize, usize, LastCall<'_>, Result<(), Full>),
-) -> Result<bool, AllocError> {
-    let mut bytes = vec![in alloc; 0u8; 1000]?;
-    let writer = FailAt::once(bytes.as_mut_slice(), number);
+) -> bool {
+    let mut bytes = [0u8; 100];
+    let writer = FailAt::once(&mut bytes, number);
     let (left, is_as_before, writer) = call_over(place, block, writer);
     let wanted = Left {
         last,
@@ -151,7 +150,20 @@ fn is_left(
     let written = writer.written();
     let is_written = written.get(..length) == calls.text.as_bytes().get(..length)
         && written.get(length..) == Some(place.list.as_bytes());
-    Ok(is_as_before && is_written && left == Ok(wanted))
+    is_as_before && is_written && left == Ok(wanted)
+}
+
+// The number of the first piece behind whose refusal something else is left.
+fn wrong_number(block: Block, place: Place<'_>, calls: &Calls<'_>) -> Option<usize> {
+    let mut number = 0usize;
+    for (name, length) in &calls.pieces {
+        number = number.saturating_add(1);
+        let stopped = (number, *length, LastCall::failed(name), Err(Full));
+        if *name != place.mode && !is_left(block, place, calls, stopped) {
+            return Some(number);
+        }
+    }
+    None
 }
 
 /// Of each call its pieces, with a bar behind each: where the writer refuses one, that call fails,
@@ -166,16 +178,8 @@ pub fn wrong_piece(
     let place = if is_pretty { PRETTY } else { PLAIN };
     let calls = Calls::of(alloc, place, rows)?;
     let whole = (0, calls.text.len(), LastCall::closing("finish"), Ok(()));
-    if !is_left(alloc, block, place, &calls, whole)? {
+    if !is_left(block, place, &calls, whole) {
         return Ok(Some(0));
     }
-    let mut number = 0usize;
-    for (name, length) in &calls.pieces {
-        number = number.saturating_add(1);
-        let stopped = (number, *length, LastCall::failed(name), Err(Full));
-        if *name != place.mode && !is_left(alloc, block, place, &calls, stopped)? {
-            return Ok(Some(number));
-        }
-    }
-    Ok(None)
+    Ok(wrong_number(block, place, &calls))
 }
