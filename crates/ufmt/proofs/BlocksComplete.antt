@@ -2,12 +2,12 @@
 use Rattle.std.proofs.Common.{◌≡◌, inl, refl, ap, ℕ, zero, suc, ◌<◌, ◌≤◌, List, [], ◌∷◌, ◌++◌, length, Some, None, codes, append_assoc, arith, length-append, false}
 use Rattle.std.specs.Prelude.{⊤}
 use Rattle.ufmt_core.specs.Document.{Document}
-use Rattle.ufmt_core.specs.Layout.{Frame, setting, inside, entry_depth, lead, ending, trail, next, rest}
-use Rattle.ufmt_core.specs.declared.formatter.Mode.{Mode}
-use Rattle.ufmt_core.specs.declared.formatter.Mode.TheVariants.{Plain, Pretty}
-use Rattle.ufmt_core.specs.declared.formatter.Setting.{Setting}
-use Rattle.ufmt_core.specs.declared.formatter.block.Place.{Place}
-use Rattle.ufmt_core.specs.declared.formatter.block.Place.TheVariants.{First, Second, Later}
+use Rattle.ufmt_core.specs.Layout.{Frame, setting, inside, entry_depth, lead, ending, trail, next, block_tail}
+use Rattle.ufmt_core.specs.declared.layout.Mode.{Mode}
+use Rattle.ufmt_core.specs.declared.layout.Mode.TheVariants.{Plain, Pretty}
+use Rattle.ufmt_core.specs.declared.layout.Setting.{Setting}
+use Rattle.ufmt_core.specs.declared.layout.Count.{Count}
+use Rattle.ufmt_core.specs.declared.layout.Count.TheVariants.{Zero, One, Several}
 use Rattle.ufmt.specs.Token.{is_closer, IsFollower}
 use Rattle.ufmt.specs.Reading.{Parse, strip, read_value, read_pair, read_after_entry, read_turn, read_rest, read_others, read_after_first, read_entries, read_block}
 use Rattle.ufmt.proofs.Parsing.{strip_stands}
@@ -37,26 +37,26 @@ AreRead q (x ∷ xs) (text ∷ texts) = IsRead q x text × AreRead q xs texts
 
 -- the ends of a block with entries can be told from another entry, and may follow an entry
 pub record Closes (f : Frame) (s : Setting) : Type 0 where
-  pub follows : (place : Place) (u : List ℕ) → IsFollower (trail s.mode ++ (ending f s (next place) ++ u))
-  pub differs : (place : Place) (u : List ℕ) → strip (lead f (inside s) (next place)) (ending f s (next place) ++ u) ≡ None
+  pub follows : (count : Count) (u : List ℕ) → IsFollower (trail s.mode ++ (ending f s (next count) ++ u))
+  pub differs : (count : Count) (u : List ℕ) → strip (lead f (inside s) (next count)) (ending f s (next count) ++ u) ≡ None
 
 -- an entry with what stands round it, and what follows it
 pub entry_assoc : (a b c d u : List ℕ) → (a ++ (b ++ (c ++ d))) ++ u ≡ a ++ (b ++ (c ++ (d ++ u)))
 entry_assoc a b c d u = simp append_assoc
 
 -- what stands before another entry may follow an entry
-entry_follows : (mode : Mode) (k : ℕ) (f : Frame) (place : Place) (u : List ℕ) → IsFollower (trail mode ++ (lead f (setting mode k) (next place) ++ u))
-entry_follows Plain k f First u = inl refl
-entry_follows Plain k f Second u = inl refl
-entry_follows Plain k f Later u = inl refl
-entry_follows Pretty k f place u = inl refl
+entry_follows : (mode : Mode) (k : ℕ) (f : Frame) (count : Count) (u : List ℕ) → IsFollower (trail mode ++ (lead f (setting mode k) (next count) ++ u))
+entry_follows Plain k f Zero u = inl refl
+entry_follows Plain k f One u = inl refl
+entry_follows Plain k f Several u = inl refl
+entry_follows Pretty k f count u = inl refl
 
 -- what is left of a block may follow an entry
-pub rest_follows : (f : Frame) (s : Setting) → Closes f s → (place : Place) (texts : List (List ℕ)) (u : List ℕ) → IsFollower (trail s.mode ++ (rest f s (next place) texts ++ u))
-rest_follows f s closes place [] u = closes.follows place u
-rest_follows f s closes place (text ∷ texts) u =
-    rw (entry_assoc (lead f (inside s) (next place)) text (trail s.mode) (rest f s (next (next place)) texts) u)
-    (entry_follows s.mode (entry_depth s.mode s.depth) f place (text ++ (trail s.mode ++ (rest f s (next (next place)) texts ++ u))))
+pub rest_follows : (f : Frame) (s : Setting) → Closes f s → (count : Count) (texts : List (List ℕ)) (u : List ℕ) → IsFollower (trail s.mode ++ (block_tail f s (next count) texts ++ u))
+rest_follows f s closes count [] u = closes.follows count u
+rest_follows f s closes count (text ∷ texts) u =
+    rw (entry_assoc (lead f (inside s) (next count)) text (trail s.mode) (block_tail f s (next (next count)) texts) u)
+    (entry_follows s.mode (entry_depth s.mode s.depth) f count (text ++ (trail s.mode ++ (block_tail f s (next (next count)) texts ++ u))))
 
 -- behind an entry
 read_after_entry_complete : {A : Type 0} (mode : Mode) (more : Parse (List A)) (x : A) (xs : List A) (t u : List ℕ) → more t ≡ Some (xs, u) → read_after_entry mode more x (trail mode ++ t) ≡ Some (x ∷ xs, u)
@@ -67,44 +67,44 @@ read_turn_complete : {A : Type 0} (q : Parse A) (mode : Mode) (more : Parse (Lis
 read_turn_complete q mode more x xs text t u h follows e = rw (h.reads (trail mode ++ t) follows) (read_after_entry_complete mode more x xs t u e)
 
 -- what is left of a block is read, in more turns than it has entries
-pub read_rest_complete : {A : Type 0} (q : Parse A) (f : Frame) (s : Setting) → Closes f s → (place : Place) (n : ℕ) (xs : List A) (texts : List (List ℕ)) (u : List ℕ) → AreRead q xs texts → length texts < n → read_rest q f s (next place) n (rest f s (next place) texts ++ u) ≡ Some (xs, u)
+pub read_rest_complete : {A : Type 0} (q : Parse A) (f : Frame) (s : Setting) → Closes f s → (count : Count) (n : ℕ) (xs : List A) (texts : List (List ℕ)) (u : List ℕ) → AreRead q xs texts → length texts < n → read_rest q f s (next count) n (block_tail f s (next count) texts ++ u) ≡ Some (xs, u)
 unfolding read_rest
-read_rest_complete q f s closes place zero xs texts u h less = absurd (omega arith)
-read_rest_complete q f s closes place (suc n) [] [] u h less = rw (closes.differs place u, strip_stands (ending f s (next place)) u) refl
-read_rest_complete q f s closes place (suc n) [] (text ∷ texts) u h less = absurd h
-read_rest_complete q f s closes place (suc n) (x ∷ xs) [] u h less = absurd h
-read_rest_complete q f s closes place (suc n) (x ∷ xs) (text ∷ texts) u h less =
-    let left : List ℕ = rest f s (next (next place)) texts ++ u in
-    rw (entry_assoc (lead f (inside s) (next place)) text (trail s.mode) (rest f s (next (next place)) texts) u, strip_stands (lead f (inside s) (next place)) (text ++ (trail s.mode ++ left)))
-    (read_turn_complete q s.mode (read_rest q f s (next (next place)) n) x xs text left u h.0 (rest_follows f s closes (next place) texts u) (read_rest_complete q f s closes (next place) n xs texts u h.1 (omega arith)))
+read_rest_complete q f s closes count zero xs texts u h less = absurd (omega arith)
+read_rest_complete q f s closes count (suc n) [] [] u h less = rw (closes.differs count u, strip_stands (ending f s (next count)) u) refl
+read_rest_complete q f s closes count (suc n) [] (text ∷ texts) u h less = absurd h
+read_rest_complete q f s closes count (suc n) (x ∷ xs) [] u h less = absurd h
+read_rest_complete q f s closes count (suc n) (x ∷ xs) (text ∷ texts) u h less =
+    let left : List ℕ = block_tail f s (next (next count)) texts ++ u in
+    rw (entry_assoc (lead f (inside s) (next count)) text (trail s.mode) (block_tail f s (next (next count)) texts) u, strip_stands (lead f (inside s) (next count)) (text ++ (trail s.mode ++ left)))
+    (read_turn_complete q s.mode (read_rest q f s (next (next count)) n) x xs text left u h.0 (rest_follows f s closes (next count) texts u) (read_rest_complete q f s closes (next count) n xs texts u h.1 (omega arith)))
 
 -- no more entries than bytes are left of a block
-entries_within : {A : Type 0} (q : Parse A) (f : Frame) (s : Setting) (place : Place) (xs : List A) (texts : List (List ℕ)) → AreRead q xs texts → length texts ≤ length (rest f s place texts)
-entries_within q f s place [] [] h = omega arith
-entries_within q f s place [] (text ∷ texts) h = absurd h
-entries_within q f s place (x ∷ xs) [] h = absurd h
-entries_within q f s place (x ∷ xs) (text ∷ texts) h =
+entries_within : {A : Type 0} (q : Parse A) (f : Frame) (s : Setting) (count : Count) (xs : List A) (texts : List (List ℕ)) → AreRead q xs texts → length texts ≤ length (block_tail f s count texts)
+entries_within q f s count [] [] h = omega arith
+entries_within q f s count [] (text ∷ texts) h = absurd h
+entries_within q f s count (x ∷ xs) [] h = absurd h
+entries_within q f s count (x ∷ xs) (text ∷ texts) h =
     let some : length text ≡ suc (length h.0.begins.tail) = ap length h.0.begins.is in
-    let below : length texts ≤ length (rest f s (next place) texts) = entries_within q f s (next place) xs texts h.1 in
-    rw (length-append (lead f (inside s) place) (text ++ (trail s.mode ++ rest f s (next place) texts)), length-append text (trail s.mode ++ rest f s (next place) texts), length-append (trail s.mode) (rest f s (next place) texts))
+    let below : length texts ≤ length (block_tail f s (next count) texts) = entries_within q f s (next count) xs texts h.1 in
+    rw (length-append (lead f (inside s) count) (text ++ (trail s.mode ++ block_tail f s (next count) texts)), length-append text (trail s.mode ++ block_tail f s (next count) texts), length-append (trail s.mode) (block_tail f s (next count) texts))
     (omega arith)
 
 -- the same in as many turns as it takes
-pub read_others_complete : {A : Type 0} (q : Parse A) (f : Frame) (s : Setting) → Closes f s → (xs : List A) (texts : List (List ℕ)) (u : List ℕ) → AreRead q xs texts → read_others q f s Second (rest f s Second texts ++ u) ≡ Some (xs, u)
-read_others_complete q f s closes xs texts u h = read_rest_complete q f s closes First (suc (length (rest f s Second texts ++ u))) xs texts u h (rw (length-append (rest f s Second texts) u) (let below = entries_within q f s Second xs texts h in omega arith))
+pub read_others_complete : {A : Type 0} (q : Parse A) (f : Frame) (s : Setting) → Closes f s → (xs : List A) (texts : List (List ℕ)) (u : List ℕ) → AreRead q xs texts → read_others q f s One (block_tail f s One texts ++ u) ≡ Some (xs, u)
+read_others_complete q f s closes xs texts u h = read_rest_complete q f s closes Zero (suc (length (block_tail f s One texts ++ u))) xs texts u h (rw (length-append (block_tail f s One texts) u) (let below = entries_within q f s One xs texts h in omega arith))
 
 -- a block behind its first entry is read
-pub read_after_first_complete : {A : Type 0} (q : Parse A) (f : Frame) (s : Setting) (make : List A → Document) → Closes f s → (x : A) (xs : List A) (texts : List (List ℕ)) (u : List ℕ) → AreRead q xs texts → read_after_first q f s make x (trail s.mode ++ (rest f s Second texts ++ u)) ≡ Some (make (x ∷ xs), u)
-read_after_first_complete q f s make closes x xs texts u h = rw (read_after_entry_complete s.mode (read_others q f s Second) x xs (rest f s Second texts ++ u) u (read_others_complete q f s closes xs texts u h)) refl
+pub read_after_first_complete : {A : Type 0} (q : Parse A) (f : Frame) (s : Setting) (make : List A → Document) → Closes f s → (x : A) (xs : List A) (texts : List (List ℕ)) (u : List ℕ) → AreRead q xs texts → read_after_first q f s make x (trail s.mode ++ (block_tail f s One texts ++ u)) ≡ Some (make (x ∷ xs), u)
+read_after_first_complete q f s make closes x xs texts u h = rw (read_after_entry_complete s.mode (read_others q f s One) x xs (block_tail f s One texts ++ u) u (read_others_complete q f s closes xs texts u h)) refl
 
 -- a block behind what stands before its first entry is read
-pub read_entries_complete : {A : Type 0} (q : Parse A) (f : Frame) (s : Setting) (make : List A → Document) → Closes f s → (x : A) (xs : List A) (text : List ℕ) (texts : List (List ℕ)) (u : List ℕ) → IsRead q x text → AreRead q xs texts → read_entries q f s make (text ++ (trail s.mode ++ (rest f s Second texts ++ u))) ≡ Some (make (x ∷ xs), u)
-read_entries_complete q f s make closes x xs text texts u h hs = rw (h.reads (trail s.mode ++ (rest f s Second texts ++ u)) (rest_follows f s closes First texts u)) (read_after_first_complete q f s make closes x xs texts u hs)
+pub read_entries_complete : {A : Type 0} (q : Parse A) (f : Frame) (s : Setting) (make : List A → Document) → Closes f s → (x : A) (xs : List A) (text : List ℕ) (texts : List (List ℕ)) (u : List ℕ) → IsRead q x text → AreRead q xs texts → read_entries q f s make (text ++ (trail s.mode ++ (block_tail f s One texts ++ u))) ≡ Some (make (x ∷ xs), u)
+read_entries_complete q f s make closes x xs text texts u h hs = rw (h.reads (trail s.mode ++ (block_tail f s One texts ++ u)) (rest_follows f s closes Zero texts u)) (read_after_first_complete q f s make closes x xs texts u hs)
 
 -- a block with entries behind its opening is read
-pub read_block_complete : {A : Type 0} (q : Parse A) (f : Frame) (s : Setting) (make : List A → Document) → Closes f s → (x : A) (xs : List A) (text : List ℕ) (texts : List (List ℕ)) (u : List ℕ) → IsRead q x text → AreRead q xs texts → read_block q f s make (rest f s First (text ∷ texts) ++ u) ≡ Some (make (x ∷ xs), u)
+pub read_block_complete : {A : Type 0} (q : Parse A) (f : Frame) (s : Setting) (make : List A → Document) → Closes f s → (x : A) (xs : List A) (text : List ℕ) (texts : List (List ℕ)) (u : List ℕ) → IsRead q x text → AreRead q xs texts → read_block q f s make (block_tail f s Zero (text ∷ texts) ++ u) ≡ Some (make (x ∷ xs), u)
 read_block_complete q f s make closes x xs text texts u h hs =
-    rw (entry_assoc (lead f (inside s) First) text (trail s.mode) (rest f s Second texts) u, strip_stands (lead f (inside s) First) (text ++ (trail s.mode ++ (rest f s Second texts ++ u))))
+    rw (entry_assoc (lead f (inside s) Zero) text (trail s.mode) (block_tail f s One texts) u, strip_stands (lead f (inside s) Zero) (text ++ (trail s.mode ++ (block_tail f s One texts ++ u))))
     (read_entries_complete q f s make closes x xs text texts u h hs)
 
 -- a value behind its key's colon is read

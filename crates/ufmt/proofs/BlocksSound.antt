@@ -2,11 +2,11 @@
 use Rattle.std.proofs.Common.{◌≡◌, ◌⊎◌, inl, inr, ap, sym, ◌∙◌, subst, ℕ, zero, suc, List, [], ◌∷◌, ◌++◌, map, length, Some, None, codes, append_assoc}
 use Rattle.std.specs.Prelude.{⊤}
 use Rattle.ufmt_core.specs.Document.{Document}
-use Rattle.ufmt_core.specs.Layout.{Frame, inside, lead, ending, trail, next, rest}
-use Rattle.ufmt_core.specs.declared.formatter.Mode.{Mode}
-use Rattle.ufmt_core.specs.declared.formatter.Setting.{Setting}
-use Rattle.ufmt_core.specs.declared.formatter.block.Place.{Place}
-use Rattle.ufmt_core.specs.declared.formatter.block.Place.TheVariants.{First, Second}
+use Rattle.ufmt_core.specs.Layout.{Frame, inside, lead, ending, trail, next, block_tail}
+use Rattle.ufmt_core.specs.declared.layout.Mode.{Mode}
+use Rattle.ufmt_core.specs.declared.layout.Setting.{Setting}
+use Rattle.ufmt_core.specs.declared.layout.Count.{Count}
+use Rattle.ufmt_core.specs.declared.layout.Count.TheVariants.{Zero, One}
 use Rattle.ufmt.specs.Reading.{Parse, strip, read_value, read_pair, read_after_entry, read_turn, read_end, read_rest, read_others, read_after_first, read_entries}
 use Rattle.ufmt.proofs.Parsing.{strip_found, led_from, chosen_from, mapped_from, beside_from}
 use Rattle.ufmt.proofs.BlocksComplete.{entry_assoc}
@@ -40,38 +40,38 @@ entry_whole : (t v w start text after left u : List ℕ) → t ≡ start ++ v �
 entry_whole t v w start text after left u a b c = rw (a, b, c) (sym (entry_assoc start text after left u))
 
 -- what is read in one turn, or as the end, is the rest of a block, where what is read in the next turns is
-read_rest_step : {A : Type 0} (q : Parse A) (Good : A → Type 0) (text : A → List ℕ) (f : Frame) (s : Setting) → Finds q Good text → (place : Place) (more : Parse (List A)) (t : List ℕ) (xs : List A) (u : List ℕ) → ((v : List ℕ) (ys : List A) → more v ≡ Some (ys, u) → AreGood Good ys × (v ≡ rest f s (next place) (map text ys) ++ u)) → ((v : List ℕ) × (strip (lead f (inside s) place) t ≡ Some v) × (read_turn q s.mode more v ≡ Some (xs, u))) ⊎ ((strip (lead f (inside s) place) t ≡ None) × (read_end f s place t ≡ Some (xs, u))) → AreGood Good xs × (t ≡ rest f s place (map text xs) ++ u)
-read_rest_step q Good text f s finds place more t xs u later (inl h) =
+read_rest_step : {A : Type 0} (q : Parse A) (Good : A → Type 0) (text : A → List ℕ) (f : Frame) (s : Setting) → Finds q Good text → (count : Count) (more : Parse (List A)) (t : List ℕ) (xs : List A) (u : List ℕ) → ((v : List ℕ) (ys : List A) → more v ≡ Some (ys, u) → AreGood Good ys × (v ≡ block_tail f s (next count) (map text ys) ++ u)) → ((v : List ℕ) × (strip (lead f (inside s) count) t ≡ Some v) × (read_turn q s.mode more v ≡ Some (xs, u))) ⊎ ((strip (lead f (inside s) count) t ≡ None) × (read_end f s count t ≡ Some (xs, u))) → AreGood Good xs × (t ≡ block_tail f s count (map text xs) ++ u)
+read_rest_step q Good text f s finds count more t xs u later (inl h) =
     let found = read_turn_sound q Good text s.mode more finds h.0 xs u h.2 in
     let left = later found.1 found.2 found.5 in
-    subst (λ ys. AreGood Good ys × (t ≡ rest f s place (map text ys) ++ u)) found.6
-    ((found.3, left.0), entry_whole t h.0 found.1 (lead f (inside s) place) (text found.0) (trail s.mode) (rest f s (next place) (map text found.2)) u (strip_found (lead f (inside s) place) t h.0 h.1) found.4 left.1)
-read_rest_step q Good text f s finds place more t xs u later (inr h) =
-    let end = beside_from [] (strip (ending f s place) t) xs u h.1 in
-    subst (λ ys. AreGood Good ys × (t ≡ rest f s place (map text ys) ++ u)) end.1 (tt, strip_found (ending f s place) t u end.0)
+    subst (λ ys. AreGood Good ys × (t ≡ block_tail f s count (map text ys) ++ u)) found.6
+    ((found.3, left.0), entry_whole t h.0 found.1 (lead f (inside s) count) (text found.0) (trail s.mode) (block_tail f s (next count) (map text found.2)) u (strip_found (lead f (inside s) count) t h.0 h.1) found.4 left.1)
+read_rest_step q Good text f s finds count more t xs u later (inr h) =
+    let end = beside_from [] (strip (ending f s count) t) xs u h.1 in
+    subst (λ ys. AreGood Good ys × (t ≡ block_tail f s count (map text ys) ++ u)) end.1 (tt, strip_found (ending f s count) t u end.0)
 
 -- what is read of the rest of a block is the rest of one
-pub read_rest_sound : {A : Type 0} (q : Parse A) (Good : A → Type 0) (text : A → List ℕ) (f : Frame) (s : Setting) → Finds q Good text → (n : ℕ) (place : Place) (t : List ℕ) (xs : List A) (u : List ℕ) → read_rest q f s place n t ≡ Some (xs, u) → AreGood Good xs × (t ≡ rest f s place (map text xs) ++ u)
+pub read_rest_sound : {A : Type 0} (q : Parse A) (Good : A → Type 0) (text : A → List ℕ) (f : Frame) (s : Setting) → Finds q Good text → (n : ℕ) (count : Count) (t : List ℕ) (xs : List A) (u : List ℕ) → read_rest q f s count n t ≡ Some (xs, u) → AreGood Good xs × (t ≡ block_tail f s count (map text xs) ++ u)
 unfolding read_rest
-read_rest_sound q Good text f s finds zero place t xs u h = absurd (cc)
-read_rest_sound q Good text f s finds (suc n) place t xs u h =
-    read_rest_step q Good text f s finds place (read_rest q f s (next place) n) t xs u
-    (λ v ys e. read_rest_sound q Good text f s finds n (next place) v ys u e)
-    (chosen_from (strip (lead f (inside s) place) t) (read_turn q s.mode (read_rest q f s (next place) n)) (read_end f s place t) (Some (xs, u)) h)
+read_rest_sound q Good text f s finds zero count t xs u h = absurd (cc)
+read_rest_sound q Good text f s finds (suc n) count t xs u h =
+    read_rest_step q Good text f s finds count (read_rest q f s (next count) n) t xs u
+    (λ v ys e. read_rest_sound q Good text f s finds n (next count) v ys u e)
+    (chosen_from (strip (lead f (inside s) count) t) (read_turn q s.mode (read_rest q f s (next count) n)) (read_end f s count t) (Some (xs, u)) h)
 
 -- a block that was found behind its first entry, this one: its other entries, and what it was made into
 pub record FoundBehind {A : Type 0} (Good : A → Type 0) (text : A → List ℕ) (f : Frame) (s : Setting) (make : List A → Document) (x : A) (t : List ℕ) (d : Document) (u : List ℕ) : Type 0 where
   pub others : List A
   pub made : make (x ∷ others) ≡ d
   pub good : AreGood Good others
-  pub whole : t ≡ trail s.mode ++ (rest f s Second (map text others) ++ u)
+  pub whole : t ≡ trail s.mode ++ (block_tail f s One (map text others) ++ u)
 
 -- what is read as a block behind its first entry is the rest of one
 pub read_after_first_sound : {A : Type 0} (q : Parse A) (Good : A → Type 0) (text : A → List ℕ) (f : Frame) (s : Setting) (make : List A → Document) → Finds q Good text → (x : A) (t : List ℕ) (d : Document) (u : List ℕ) → read_after_first q f s make x t ≡ Some (d, u) → FoundBehind Good text f s make x t d u
 read_after_first_sound q Good text f s make finds x t d u h =
-    let mapped = mapped_from make (read_after_entry s.mode (read_others q f s Second) x t) d u h in
-    let behind = read_after_entry_sound s.mode (read_others q f s Second) x t mapped.0 u mapped.1 in
-    let left = read_rest_sound q Good text f s finds (suc (length behind.0)) Second behind.0 behind.1 u behind.3 in
+    let mapped = mapped_from make (read_after_entry s.mode (read_others q f s One) x t) d u h in
+    let behind = read_after_entry_sound s.mode (read_others q f s One) x t mapped.0 u mapped.1 in
+    let left = read_rest_sound q Good text f s finds (suc (length behind.0)) One behind.0 behind.1 u behind.3 in
     record { others = behind.1; made = ap make behind.4 ∙ mapped.2; good = left.0; whole = behind.2 ∙ ap (λ w. trail s.mode ++ w) left.1 }
 
 -- a block that was found behind what stands before its first entry
@@ -80,7 +80,7 @@ pub record FoundEntries {A : Type 0} (Good : A → Type 0) (text : A → List �
   pub others : List A
   pub made : make (first ∷ others) ≡ d
   pub good : AreGood Good (first ∷ others)
-  pub whole : lead f (inside s) First ++ t ≡ rest f s First (map text (first ∷ others)) ++ u
+  pub whole : lead f (inside s) Zero ++ t ≡ block_tail f s Zero (map text (first ∷ others)) ++ u
 
 -- the whole of a block from its first entry on
 first_whole : (start t v text after left u : List ℕ) → t ≡ text ++ v → v ≡ after ++ (left ++ u) → start ++ t ≡ (start ++ (text ++ (after ++ left))) ++ u
@@ -93,7 +93,7 @@ with_first {A} {Good} {text} {f} {s} {make} x t v {d} {u} good whole h = record 
   others = h.others;
   made = h.made;
   good = (good, h.good);
-  whole = first_whole (lead f (inside s) First) t v (text x) (trail s.mode) (rest f s Second (map text h.others)) u whole h.whole;
+  whole = first_whole (lead f (inside s) Zero) t v (text x) (trail s.mode) (block_tail f s One (map text h.others)) u whole h.whole;
 }
 
 -- what is read as a block behind what stands before its first entry is one

@@ -1,17 +1,17 @@
 -- The frames of the five kinds: their ends can be told from entries, and their empty forms from what begins an entry.
 use Rattle.std.proofs.Common.{◌≡◌, inl, inr, refl, ℕ, zero, suc, ◌≤◌, ◌+◌, min, ◌==◌, Bool, true, false, List, [], ◌∷◌, ◌++◌, None, codes, eqb-true, arith}
 use Rattle.std.specs.Prelude.{⊤}
-use Rattle.ufmt_core.specs.Layout.{frame, setting, inside, entry_depth, indentation, new_line, lead, ending, trail, next, rest}
-use Rattle.ufmt_core.specs.declared.formatter.Mode.{Mode}
-use Rattle.ufmt_core.specs.declared.formatter.Mode.TheVariants.{Plain, Pretty}
-use Rattle.ufmt_core.specs.declared.formatter.Setting.{Setting}
-use Rattle.ufmt_core.specs.declared.formatter.block.Kind.{Kind}
-use Rattle.ufmt_core.specs.declared.formatter.block.Kind.TheVariants.{Brackets, Braces, Struct, Tuple, Unnamed}
-use Rattle.ufmt_core.specs.declared.formatter.block.Place.{Place}
-use Rattle.ufmt_core.specs.declared.formatter.block.Place.TheVariants.{First, Second, Later}
+use Rattle.ufmt_core.specs.Layout.{frame, setting, inside, entry_depth, indentation, new_line, lead, ending, trail, next, block_tail}
+use Rattle.ufmt_core.specs.declared.layout.Mode.{Mode}
+use Rattle.ufmt_core.specs.declared.layout.Mode.TheVariants.{Plain, Pretty}
+use Rattle.ufmt_core.specs.declared.layout.Setting.{Setting}
+use Rattle.ufmt_core.specs.declared.layout.Kind.{Kind}
+use Rattle.ufmt_core.specs.declared.layout.Kind.TheVariants.{Brackets, Braces, Struct, Tuple, Unnamed}
+use Rattle.ufmt_core.specs.declared.layout.Count.{Count}
+use Rattle.ufmt_core.specs.declared.layout.Count.TheVariants.{Zero, One, Several}
 use Rattle.ufmt.specs.Token.{is_closer, IsFollower}
 use Rattle.ufmt.specs.Reading.{strip}
-use Rattle.ufmt.proofs.Words.{each_closer}
+use Rattle.ufmt.proofs.ReadingWords.{each_closer}
 use Rattle.ufmt.proofs.BlocksComplete.{Begins, Closes}
 
 -- so many blocks fit into one another here: deeper than 255 the indentation grows no more
@@ -75,11 +75,11 @@ follower_no_struct (c ∷ []) w h = each_closer (λ c. strip (32 ∷ 123 ∷ w) 
 follower_no_struct (c ∷ b ∷ u) w (inl h) = each_closer (λ c. strip (32 ∷ 123 ∷ w) (c ∷ b ∷ u) ≡ None) refl refl refl refl refl c h
 follower_no_struct (c ∷ b ∷ u) w (inr h) = rw (h.0, h.1) refl
 
--- what holds of the second place and of later ones holds of the next
-after_place : (P : Place → Type 0) → P Second → P Later → (place : Place) → P (next place)
-after_place P second later First = second
-after_place P second later Second = later
-after_place P second later Later = later
+-- what holds of one entry and of several holds of any with one more
+after_next : (P : Count → Type 0) → P One → P Several → (count : Count) → P (next count)
+after_next P second later Zero = second
+after_next P second later One = later
+after_next P second later Several = later
 
 -- what begins with no space isn't indented deeper
 deeper : (k c : ℕ) (w u : List ℕ) → (32 == c) ≡ false → strip (indentation (suc k)) ((indentation k ++ (c ∷ w)) ++ u) ≡ None
@@ -87,55 +87,55 @@ deeper zero c w u e = rw e refl
 deeper (suc k) c w u e = deeper k c w u e
 
 -- the end of a block on one line may follow an entry
-plain_follows : (kind : Kind) (k : ℕ) (place : Place) (u : List ℕ) → IsFollower (ending (frame Plain kind) (setting Plain k) (next place) ++ u)
-plain_follows Brackets k place u = after_place (λ p. IsFollower (ending (frame Plain Brackets) (setting Plain k) p ++ u)) (closer_follows 93 u refl) (closer_follows 93 u refl) place
-plain_follows Braces k place u = after_place (λ p. IsFollower (ending (frame Plain Braces) (setting Plain k) p ++ u)) (closer_follows 125 u refl) (closer_follows 125 u refl) place
-plain_follows Struct k place u = after_place (λ p. IsFollower (ending (frame Plain Struct) (setting Plain k) p ++ u)) (inr (refl, refl)) (inr (refl, refl)) place
-plain_follows Tuple k place u = after_place (λ p. IsFollower (ending (frame Plain Tuple) (setting Plain k) p ++ u)) (closer_follows 41 u refl) (closer_follows 41 u refl) place
-plain_follows Unnamed k place u = after_place (λ p. IsFollower (ending (frame Plain Unnamed) (setting Plain k) p ++ u)) (inl refl) (closer_follows 41 u refl) place
+plain_follows : (kind : Kind) (k : ℕ) (count : Count) (u : List ℕ) → IsFollower (ending (frame Plain kind) (setting Plain k) (next count) ++ u)
+plain_follows Brackets k count u = after_next (λ p. IsFollower (ending (frame Plain Brackets) (setting Plain k) p ++ u)) (closer_follows 93 u refl) (closer_follows 93 u refl) count
+plain_follows Braces k count u = after_next (λ p. IsFollower (ending (frame Plain Braces) (setting Plain k) p ++ u)) (closer_follows 125 u refl) (closer_follows 125 u refl) count
+plain_follows Struct k count u = after_next (λ p. IsFollower (ending (frame Plain Struct) (setting Plain k) p ++ u)) (inr (refl, refl)) (inr (refl, refl)) count
+plain_follows Tuple k count u = after_next (λ p. IsFollower (ending (frame Plain Tuple) (setting Plain k) p ++ u)) (closer_follows 41 u refl) (closer_follows 41 u refl) count
+plain_follows Unnamed k count u = after_next (λ p. IsFollower (ending (frame Plain Unnamed) (setting Plain k) p ++ u)) (inl refl) (closer_follows 41 u refl) count
 
 -- where the end of a block is no other entry, with the parts of its frame
-Differs : Mode → ℕ → Kind → List ℕ → Place → Type 0
-Differs mode k kind u place = strip (lead (frame mode kind) (inside (setting mode k)) place) (ending (frame mode kind) (setting mode k) place ++ u) ≡ None
+Differs : Mode → ℕ → Kind → List ℕ → Count → Type 0
+Differs mode k kind u count = strip (lead (frame mode kind) (inside (setting mode k)) count) (ending (frame mode kind) (setting mode k) count ++ u) ≡ None
 
 -- the end of a block on one line isn't another entry
-plain_differs : (kind : Kind) (k : ℕ) (u : List ℕ) (place : Place) → Differs Plain k kind u (next place)
+plain_differs : (kind : Kind) (k : ℕ) (u : List ℕ) (count : Count) → Differs Plain k kind u (next count)
 unfolding Differs
-plain_differs Brackets k u place = after_place (Differs Plain k Brackets u) refl refl place
-plain_differs Braces k u place = after_place (Differs Plain k Braces u) refl refl place
-plain_differs Struct k u place = after_place (Differs Plain k Struct u) refl refl place
-plain_differs Tuple k u place = after_place (Differs Plain k Tuple u) refl refl place
-plain_differs Unnamed k u place = after_place (Differs Plain k Unnamed u) refl refl place
+plain_differs Brackets k u count = after_next (Differs Plain k Brackets u) refl refl count
+plain_differs Braces k u count = after_next (Differs Plain k Braces u) refl refl count
+plain_differs Struct k u count = after_next (Differs Plain k Struct u) refl refl count
+plain_differs Tuple k u count = after_next (Differs Plain k Tuple u) refl refl count
+plain_differs Unnamed k u count = after_next (Differs Plain k Unnamed u) refl refl count
 
 -- the end of a block with an entry a line isn't another entry
 end_differs : (c k : ℕ) (u : List ℕ) → k + 1 ≤ 255 → (32 == c) ≡ false → strip (indentation (min (k + 1) 255)) ((indentation k ++ (c ∷ [])) ++ u) ≡ None
 end_differs c k u h e = let depth : min (k + 1) 255 ≡ suc k = omega arith in rw depth (deeper k c [] u e)
 
 -- so for each kind of block
-pretty_differs : (kind : Kind) (k : ℕ) (u : List ℕ) → k + 1 ≤ 255 → (place : Place) → Differs Pretty k kind u (next place)
+pretty_differs : (kind : Kind) (k : ℕ) (u : List ℕ) → k + 1 ≤ 255 → (count : Count) → Differs Pretty k kind u (next count)
 unfolding Differs
-pretty_differs Brackets k u h place = after_place (Differs Pretty k Brackets u) (end_differs 93 k u h refl) (end_differs 93 k u h refl) place
-pretty_differs Braces k u h place = after_place (Differs Pretty k Braces u) (end_differs 125 k u h refl) (end_differs 125 k u h refl) place
-pretty_differs Struct k u h place = after_place (Differs Pretty k Struct u) (end_differs 125 k u h refl) (end_differs 125 k u h refl) place
-pretty_differs Tuple k u h place = after_place (Differs Pretty k Tuple u) (end_differs 41 k u h refl) (end_differs 41 k u h refl) place
-pretty_differs Unnamed k u h place = after_place (Differs Pretty k Unnamed u) (end_differs 41 k u h refl) (end_differs 41 k u h refl) place
+pretty_differs Brackets k u h count = after_next (Differs Pretty k Brackets u) (end_differs 93 k u h refl) (end_differs 93 k u h refl) count
+pretty_differs Braces k u h count = after_next (Differs Pretty k Braces u) (end_differs 125 k u h refl) (end_differs 125 k u h refl) count
+pretty_differs Struct k u h count = after_next (Differs Pretty k Struct u) (end_differs 125 k u h refl) (end_differs 125 k u h refl) count
+pretty_differs Tuple k u h count = after_next (Differs Pretty k Tuple u) (end_differs 41 k u h refl) (end_differs 41 k u h refl) count
+pretty_differs Unnamed k u h count = after_next (Differs Pretty k Unnamed u) (end_differs 41 k u h refl) (end_differs 41 k u h refl) count
 
 -- each kind's ends can be told from another entry, and may follow an entry
 closes_at : (mode : Mode) (k : ℕ) (kind : Kind) → FitsAt mode k 1 → Closes (frame mode kind) (setting mode k)
 unfolding Differs
-closes_at Plain k kind h = record { follows = plain_follows kind k; differs = λ place u. plain_differs kind k u place }
-closes_at Pretty k kind h = record { follows = λ place u. inl refl; differs = λ place u. pretty_differs kind k u h place }
+closes_at Plain k kind h = record { follows = plain_follows kind k; differs = λ count u. plain_differs kind k u count }
+closes_at Pretty k kind h = record { follows = λ count u. inl refl; differs = λ count u. pretty_differs kind k u h count }
 
 -- the same of a mode and depth
 pub closes : (s : Setting) (kind : Kind) → Fits s 1 → Closes (frame s.mode kind) s
 closes s kind h = closes_at s.mode s.depth kind h
 
 -- behind an entry in braces stands no colon
-no_colon_at : (mode : Mode) (k : ℕ) (texts : List (List ℕ)) (u : List ℕ) → strip (codes ": ") (trail mode ++ (rest (frame mode Braces) (setting mode k) Second texts ++ u)) ≡ None
+no_colon_at : (mode : Mode) (k : ℕ) (texts : List (List ℕ)) (u : List ℕ) → strip (codes ": ") (trail mode ++ (block_tail (frame mode Braces) (setting mode k) One texts ++ u)) ≡ None
 no_colon_at Plain k [] u = refl
 no_colon_at Plain k (text ∷ texts) u = refl
 no_colon_at Pretty k texts u = refl
 
 -- the same of a mode and depth
-pub no_colon : (s : Setting) (texts : List (List ℕ)) (u : List ℕ) → strip (codes ": ") (trail s.mode ++ (rest (frame s.mode Braces) s Second texts ++ u)) ≡ None
+pub no_colon : (s : Setting) (texts : List (List ℕ)) (u : List ℕ) → strip (codes ": ") (trail s.mode ++ (block_tail (frame s.mode Braces) s One texts ++ u)) ≡ None
 no_colon s texts u = no_colon_at s.mode s.depth texts u

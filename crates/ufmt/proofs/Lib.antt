@@ -27,7 +27,7 @@ pub mod TextsBegin
 pub mod TokenLeaves
 pub mod TokenLines
 pub mod Unquoted
-pub mod Words
+pub mod ReadingWords
 pub mod WorkedReadings
 pub mod WorkedShifts
 pub mod WorkedTokens

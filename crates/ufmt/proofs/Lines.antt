@@ -3,7 +3,7 @@ use Rattle.std.proofs.Common.{◌≡◌, List, [], ◌∷◌, ◌++◌, ℕ, ◌
 use Rattle.std.proofs.lemmas.List.{drop_more}
 use Rattle.std.proofs.Math.ListN.{drop_of_length-le}
 use Rattle.ufmt.proofs.PiecesInARow.{Prints-nothing}
-use Rattle.ufmt_core.specs.declared.formatter.Setting.{Setting}
+use Rattle.ufmt_core.specs.declared.layout.Setting.{Setting}
 use Rattle.ufmt_core.specs.declared.formatter.Formatter.{Formatter}
 use Rattle.ufmt_core.specs.Writes.{Seen}
 use Rattle.ufmt_core.specs.Formatter.{Prints, setting_of}

@@ -2,7 +2,7 @@
 use Rattle.std.proofs.Common.{◌≡◌, refl, ap, ap₂, ℕ, ◌<◌, List, [], ◌∷◌, map, arith}
 use Rattle.ufmt_core.specs.Document.{Document, document, documents, pairs_of, fields_of, nest, nest_all, nest_pairs, nest_fields}
 use Rattle.ufmt_core.specs.Layout.{layout, texts, pair_texts, field_texts}
-use Rattle.ufmt_core.specs.declared.formatter.Setting.{Setting}
+use Rattle.ufmt_core.specs.declared.layout.Setting.{Setting}
 use Rattle.ufmt.specs.Token.{IsWord, HasWords, HaveWords, PairsHaveWords, FieldsHaveWords, normal, normal_all, normal_pairs, normal_fields}
 use Rattle.ufmt.proofs.BlocksSound.{AreGood, IsGoodPair, pair_text}
 

@@ -2,11 +2,11 @@
 use Rattle.std.proofs.Common.{◌≡◌, ◌↔◌, sym, ap, ◌∙◌, ℕ, ◌-◌, ◌≤◌, List, [], ◌++◌, arith}
 use Rattle.ufmt_core.specs.Document.{Document, nest}
 use Rattle.ufmt_core.specs.Layout.{setting, layout}
-use Rattle.ufmt_core.specs.declared.formatter.Mode.TheVariants.{Plain, Pretty}
-use Rattle.ufmt_core.specs.declared.formatter.Setting.{Setting}
+use Rattle.ufmt_core.specs.declared.layout.Mode.TheVariants.{Plain, Pretty}
+use Rattle.ufmt_core.specs.declared.layout.Setting.{Setting}
 use Rattle.ufmt.specs.Token.{HasWords, IsToken, normal, IsFollower}
 use Rattle.ufmt.specs.Reading.{read}
-use Rattle.ufmt.specs.ReadsOneWay.{PlainReadsOneWay, PrettyReadsOneWay, PlainTextTells, PrettyTextTells, TextsAgree}
+use Rattle.ufmt.specs.ReadingLaws.{PlainReadsOneWay, PrettyReadsOneWay, PlainTextTells, PrettyTextTells, TextsAgree}
 use Rattle.ufmt.proofs.Parsing.{same_parts}
 use Rattle.ufmt.proofs.FramesClose.{Fits}
 use Rattle.ufmt.proofs.ReadingComplete.{read_complete}

@@ -5,7 +5,7 @@ use Rattle.std.specs.Char.{digit_char}
 use Rattle.std.specs.Str.{encode_utf8_all}
 use Rattle.std.proofs.lemmas.Bool.Decides.{nat_tests}
 use Rattle.ufmt_core.specs.Quoted.{IsQuote, escaped_byte, escaped_bytes, hex_digits, quoted}
-use Rattle.ufmt.specs.QuotedOneWay.{QuotedIsOneLine}
+use Rattle.ufmt.specs.QuotedLaws.{QuotedIsOneLine}
 use Rattle.ufmt.specs.Shift.{IsOneLine}
 use Rattle.ufmt.proofs.QuotedComplete.{quoted-bytes}
 use Rattle.ufmt.proofs.QuotedTold.{each_row}

@@ -4,7 +4,7 @@ use Rattle.std.specs.Str.{encode_utf8_all}
 use Rattle.std.proofs.lemmas.Bool.{false≢true}
 use Rattle.std.proofs.lemmas.Str.{encodes_same}
 use Rattle.ufmt_core.specs.Quoted.{IsQuote, escaped_bytes, quoted, quoted_char, quoted_text}
-use Rattle.ufmt.specs.QuotedOneWay.{QuotedTextTells, QuotedCharTells, QuotedTextIsNoChar, QuotedEndsItself, QuotedIsNoOtherLeaf}
+use Rattle.ufmt.specs.QuotedLaws.{QuotedTextTells, QuotedCharTells, QuotedTextIsNoChar, QuotedEndsItself, QuotedIsNoOtherLeaf}
 use Rattle.ufmt.specs.ReadingQuoted.{read_quoted, read_inside}
 use Rattle.ufmt.specs.Token.{IsWord}
 use Rattle.ufmt.proofs.Parsing.{same_parts}

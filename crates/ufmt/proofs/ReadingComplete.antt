@@ -1,10 +1,10 @@
 -- Reading is complete: the text of a token document, before a follower, is read as its normal form.
 use Rattle.std.proofs.Common.{◌≡◌, ◌∙◌, inl, refl, ap, ℕ, zero, suc, ◌<◌, ◌≤◌, List, [], ◌∷◌, ◌++◌, Some, None, codes, append_assoc, append-nil, arith}
 use Rattle.ufmt_core.specs.Document.{Document, leaf, joined, list_of, set_of, map_of, struct_of, tuple_of, pretty_part, Documents, no_documents, document, Pairs, no_pairs, pair, Fields, no_fields, field, documents, pairs_of, fields_of, nest, nest_all, nest_pairs, nest_fields}
-use Rattle.ufmt_core.specs.Layout.{frame, inside, new_line, lead, trail, rest, layout, texts, pair_texts, field_texts}
-use Rattle.ufmt_core.specs.declared.formatter.Setting.{Setting}
-use Rattle.ufmt_core.specs.declared.formatter.block.Kind.TheVariants.{Brackets, Braces, Struct, Tuple, Unnamed}
-use Rattle.ufmt_core.specs.declared.formatter.block.Place.TheVariants.{First, Second}
+use Rattle.ufmt_core.specs.Layout.{frame, inside, new_line, lead, trail, block_tail, layout, texts, pair_texts, field_texts}
+use Rattle.ufmt_core.specs.declared.layout.Setting.{Setting}
+use Rattle.ufmt_core.specs.declared.layout.Kind.TheVariants.{Brackets, Braces, Struct, Tuple, Unnamed}
+use Rattle.ufmt_core.specs.declared.layout.Count.TheVariants.{Zero, One}
 use Rattle.ufmt.specs.Token.{AreWordBytes, IsWord, HasWords, HaveWords, PairsHaveWords, FieldsHaveWords, normal, normal_all, normal_pairs, normal_fields, IsFollower}
 use Rattle.ufmt.specs.Reading.{Parse, choose, strip, read_word, read_pair, read_tuple, read_struct, read_with, read}
 use Rattle.ufmt.proofs.Parsing.{strip_stands}
@@ -50,7 +50,7 @@ list_complete s p n below fits d ds u h hs less =
     let first : IsRead p (normal d) (layout (inside s) d) = below.reads d h (omega arith) in
     let more : AreRead p (listed (normal_all ds)) (texts (inside s) ds) = documents_complete p (inside s) n below ds hs (omega arith) in
     let close = closes s Brackets (fits_less s 1 n (omega arith) fits) in
-    rw (closer_begins_none 93 [] refl (entries_begin s first.begins (trail s.mode ++ rest (frame s.mode Brackets) s Second (texts (inside s) ds)) u))
+    rw (closer_begins_none 93 [] refl (entries_begin s first.begins (trail s.mode ++ block_tail (frame s.mode Brackets) s One (texts (inside s) ds)) u))
     (rw (read_block_complete p (frame s.mode Brackets) s (λ es. list_of (documents es)) close (normal d) (listed (normal_all ds)) (layout (inside s) d) (texts (inside s) ds) u first more)
     (ap (λ es. Some (list_of (document (normal d) es), u)) (documents-listed (normal_all ds))))
 
@@ -60,10 +60,10 @@ set_complete s p n below fits d ds u h hs less =
     let first : IsRead p (normal d) (layout (inside s) d) = below.reads d h (omega arith) in
     let more : AreRead p (listed (normal_all ds)) (texts (inside s) ds) = documents_complete p (inside s) n below ds hs (omega arith) in
     let close = closes s Braces (fits_less s 1 n (omega arith) fits) in
-    let left : List ℕ = rest (frame s.mode Braces) s Second (texts (inside s) ds) in
+    let left : List ℕ = block_tail (frame s.mode Braces) s One (texts (inside s) ds) in
     rw (closer_begins_none 125 [] refl (entries_begin s first.begins (trail s.mode ++ left) u))
-    (rw (entry_assoc (lead (frame s.mode Braces) (inside s) First) (layout (inside s) d) (trail s.mode) left u, strip_stands (lead (frame s.mode Braces) (inside s) First) (layout (inside s) d ++ (trail s.mode ++ (left ++ u))))
-    (rw (first.reads (trail s.mode ++ (left ++ u)) (rest_follows (frame s.mode Braces) s close First (texts (inside s) ds) u), no_colon s (texts (inside s) ds) u)
+    (rw (entry_assoc (lead (frame s.mode Braces) (inside s) Zero) (layout (inside s) d) (trail s.mode) left u, strip_stands (lead (frame s.mode Braces) (inside s) Zero) (layout (inside s) d ++ (trail s.mode ++ (left ++ u))))
+    (rw (first.reads (trail s.mode ++ (left ++ u)) (rest_follows (frame s.mode Braces) s close Zero (texts (inside s) ds) u), no_colon s (texts (inside s) ds) u)
     (rw (read_after_first_complete p (frame s.mode Braces) s (λ es. set_of (documents es)) close (normal d) (listed (normal_all ds)) (texts (inside s) ds) u more)
     (ap (λ es. Some (set_of (document (normal d) es), u)) (documents-listed (normal_all ds))))))
 
@@ -74,12 +74,12 @@ map_complete s p n below fits key value ps u hk hv hs less =
     let second : IsRead p (normal value) (layout (inside s) value) = below.reads value hv (omega arith) in
     let more : AreRead (read_pair p p) (listed_pairs (normal_pairs ps)) (pair_texts (inside s) ps) = pairs_complete p (inside s) n below ps hs (omega arith) in
     let close = closes s Braces (fits_less s 1 n (omega arith) fits) in
-    let left : List ℕ = rest (frame s.mode Braces) s Second (pair_texts (inside s) ps) in
+    let left : List ℕ = block_tail (frame s.mode Braces) s One (pair_texts (inside s) ps) in
     let entry : List ℕ = layout (inside s) key ++ (codes ": " ++ layout (inside s) value) in
     rw (closer_begins_none 125 [] refl (entries_begin s (Begins-append first.begins (codes ": " ++ layout (inside s) value)) (trail s.mode ++ left) u))
-    (rw (entry_assoc (lead (frame s.mode Braces) (inside s) First) entry (trail s.mode) left u, strip_stands (lead (frame s.mode Braces) (inside s) First) (entry ++ (trail s.mode ++ (left ++ u))))
+    (rw (entry_assoc (lead (frame s.mode Braces) (inside s) Zero) entry (trail s.mode) left u, strip_stands (lead (frame s.mode Braces) (inside s) Zero) (entry ++ (trail s.mode ++ (left ++ u))))
     (rw (append_assoc (layout (inside s) key) (codes ": " ++ layout (inside s) value) (trail s.mode ++ (left ++ u)), first.reads (codes ": " ++ (layout (inside s) value ++ (trail s.mode ++ (left ++ u)))) (inl refl))
-    (rw (read_value_complete p (normal key) (normal value) (layout (inside s) value) (trail s.mode ++ (left ++ u)) second (rest_follows (frame s.mode Braces) s close First (pair_texts (inside s) ps) u))
+    (rw (read_value_complete p (normal key) (normal value) (layout (inside s) value) (trail s.mode ++ (left ++ u)) second (rest_follows (frame s.mode Braces) s close Zero (pair_texts (inside s) ps) u))
     (rw (read_after_first_complete (read_pair p p) (frame s.mode Braces) s (λ es. map_of (pairs_of es)) close (normal key, normal value) (listed_pairs (normal_pairs ps)) (pair_texts (inside s) ps) u more)
     (ap (λ es. Some (map_of (pair (normal key) (normal value) es), u)) (pairs_of-listed_pairs (normal_pairs ps)))))))
 
@@ -91,8 +91,8 @@ struct_complete s p n below fits (c ∷ name) label value fs u hn hl hv hs less 
     let first : IsRead (read_pair read_word p) (label, normal value) entry = read_pair_complete read_word p label (normal value) label (layout (inside s) value) (label_complete label hl) (below.reads value hv (omega arith)) in
     let more : AreRead (read_pair read_word p) (listed_fields (normal_fields fs)) (field_texts (inside s) fs) = fields_complete p (inside s) n below fs hs (omega arith) in
     let close = closes s Struct (fits_less s 1 n (omega arith) fits) in
-    let left : List ℕ = rest (frame s.mode Struct) s Second (field_texts (inside s) fs) in
-    let start : List ℕ = lead (frame s.mode Struct) (inside s) First in
+    let left : List ℕ = block_tail (frame s.mode Struct) s One (field_texts (inside s) fs) in
+    let start : List ℕ = lead (frame s.mode Struct) (inside s) Zero in
     word_leads s p (c ∷ name) (start ++ (entry ++ (trail s.mode ++ left))) u hn refl
     ∙ (lead_chosen start entry (trail s.mode) left u (read_struct s p (c ∷ name)) (Some (leaf (c ∷ name), (start ++ (entry ++ (trail s.mode ++ left))) ++ u))
     ∙ (read_entries_complete (read_pair read_word p) (frame s.mode Struct) s (λ es. struct_of (c ∷ name) (fields_of es)) close (label, normal value) (listed_fields (normal_fields fs)) entry (field_texts (inside s) fs) u first more
@@ -104,17 +104,17 @@ tuple_complete s p n below fits [] d ds u hn h hs less =
     let first : IsRead p (normal d) (layout (inside s) d) = below.reads d h (omega arith) in
     let more : AreRead p (listed (normal_all ds)) (texts (inside s) ds) = documents_complete p (inside s) n below ds hs (omega arith) in
     let close = closes s Unnamed (fits_less s 1 n (omega arith) fits) in
-    rw (no_symbol (entries_begin s first.begins (trail s.mode ++ rest (frame s.mode Unnamed) s Second (texts (inside s) ds)) u))
+    rw (no_symbol (entries_begin s first.begins (trail s.mode ++ block_tail (frame s.mode Unnamed) s One (texts (inside s) ds)) u))
     (rw (read_block_complete p (frame s.mode Unnamed) s (λ es. tuple_of [] (documents es)) close (normal d) (listed (normal_all ds)) (layout (inside s) d) (texts (inside s) ds) u first more)
     (ap (λ es. Some (tuple_of [] (document (normal d) es), u)) (documents-listed (normal_all ds))))
 tuple_complete s p n below fits (c ∷ name) d ds u hn h hs less =
     let first : IsRead p (normal d) (layout (inside s) d) = below.reads d h (omega arith) in
     let more : AreRead p (listed (normal_all ds)) (texts (inside s) ds) = documents_complete p (inside s) n below ds hs (omega arith) in
     let close = closes s Tuple (fits_less s 1 n (omega arith) fits) in
-    let left : List ℕ = rest (frame s.mode Tuple) s Second (texts (inside s) ds) in
-    let start : List ℕ = lead (frame s.mode Tuple) (inside s) First in
+    let left : List ℕ = block_tail (frame s.mode Tuple) s One (texts (inside s) ds) in
+    let start : List ℕ = lead (frame s.mode Tuple) (inside s) Zero in
     word_leads s p (c ∷ name) (start ++ (layout (inside s) d ++ (trail s.mode ++ left))) u hn refl
-    ∙ (lead_chosen start (layout (inside s) d) (trail s.mode) left u (read_tuple s p (c ∷ name)) (choose (strip (lead (frame s.mode Struct) (inside s) First) ((start ++ (layout (inside s) d ++ (trail s.mode ++ left))) ++ u)) (read_struct s p (c ∷ name)) (Some (leaf (c ∷ name), (start ++ (layout (inside s) d ++ (trail s.mode ++ left))) ++ u)))
+    ∙ (lead_chosen start (layout (inside s) d) (trail s.mode) left u (read_tuple s p (c ∷ name)) (choose (strip (lead (frame s.mode Struct) (inside s) Zero) ((start ++ (layout (inside s) d ++ (trail s.mode ++ left))) ++ u)) (read_struct s p (c ∷ name)) (Some (leaf (c ∷ name), (start ++ (layout (inside s) d ++ (trail s.mode ++ left))) ++ u)))
     ∙ (read_entries_complete p (frame s.mode Tuple) s (λ es. tuple_of (c ∷ name) (documents es)) close (normal d) (listed (normal_all ds)) (layout (inside s) d) (texts (inside s) ds) u first more
     ∙ (ap (λ es. Some (tuple_of (c ∷ name) (document (normal d) es), u)) (documents-listed (normal_all ds)))))
 

@@ -1,14 +1,14 @@
 -- Reading is sound: what is read is a token document in normal form, and its text with what is left is the text that was read.
 use Rattle.std.proofs.Common.{◌≡◌, ◌⊎◌, inl, inr, refl, ap, sym, ◌∙◌, subst, subst₂, ℕ, zero, suc, ◌<◌, ◌≤◌, List, [], ◌∷◌, ◌++◌, map, Option, Some, None, codes, append_assoc, arith}
 use Rattle.ufmt_core.specs.Document.{Document, leaf, list_of, set_of, map_of, struct_of, tuple_of, no_documents, no_pairs, documents, pairs_of, fields_of, nest}
-use Rattle.ufmt_core.specs.Layout.{frame, tuple_kind, inside, lead, rest, layout, texts, field_texts}
-use Rattle.ufmt_core.specs.declared.formatter.Setting.{Setting}
-use Rattle.ufmt_core.specs.declared.formatter.block.Kind.TheVariants.{Brackets, Braces, Struct, Tuple, Unnamed}
-use Rattle.ufmt_core.specs.declared.formatter.block.Place.TheVariants.{First}
+use Rattle.ufmt_core.specs.Layout.{frame, tuple_kind, inside, lead, block_tail, layout, texts, field_texts}
+use Rattle.ufmt_core.specs.declared.layout.Setting.{Setting}
+use Rattle.ufmt_core.specs.declared.layout.Kind.TheVariants.{Brackets, Braces, Struct, Tuple, Unnamed}
+use Rattle.ufmt_core.specs.declared.layout.Count.TheVariants.{Zero}
 use Rattle.ufmt.specs.Token.{AreWordBytes, IsWord, IsTokenLeaf, HasWords, normal}
 use Rattle.ufmt.specs.Reading.{Parse, choose, strip, word_of, after_word, read_word, read_symbol, read_value, read_pair, read_block, read_list, read_map, read_set, read_map_or_set, read_braced_entries, read_braces, read_tuple, read_struct, read_unnamed, read_without_name, read_named, read_by_word, read_with, read}
 use Rattle.ufmt.proofs.Parsing.{same_parts, strip_found, led_from, chosen_from}
-use Rattle.ufmt.proofs.Words.{words_whole, word_of_bytes, read_word_sound}
+use Rattle.ufmt.proofs.ReadingWords.{words_whole, word_of_bytes, read_word_sound}
 use Rattle.ufmt.proofs.TokenLeaves.{word_leaf, read_symbol_sound}
 use Rattle.ufmt.proofs.NormalRows.{IsNormalBelow, documents_words, documents_normal, documents_nest, documents_texts, pairs_words, pairs_normal, pairs_nest, pairs_texts, fields_words, fields_normal, fields_nest, fields_texts}
 use Rattle.ufmt.proofs.BlocksSound.{Finds, FoundEntries, IsGoodPair, pair_text, read_pair_finds, read_entries_sound, read_after_first_sound, with_first, read_value_sound}
@@ -35,7 +35,7 @@ found_same {s} {n} {t} e d v u found same =
     subst₂ (λ a b. Found s n t a b) parts.0 parts.1 found
 
 -- a list of entries that were found was found
-list_found : (s : Setting) (n : ℕ) (t v : List ℕ) (d : Document) (u : List ℕ) → t ≡ codes "[" ++ (lead (frame s.mode Brackets) (inside s) First ++ v) → FoundEntries (IsNormalBelow n) (layout (inside s)) (frame s.mode Brackets) s (λ ds. list_of (documents ds)) v d u → Found s n t d u
+list_found : (s : Setting) (n : ℕ) (t v : List ℕ) (d : Document) (u : List ℕ) → t ≡ codes "[" ++ (lead (frame s.mode Brackets) (inside s) Zero ++ v) → FoundEntries (IsNormalBelow n) (layout (inside s)) (frame s.mode Brackets) s (λ ds. list_of (documents ds)) v d u → Found s n t d u
 list_found s n t v d u front h =
     let some : 0 < n = (let first = h.good.0.nests in omega arith) in
     let nests = documents_nest n (h.first ∷ h.others) h.good some in
@@ -43,11 +43,11 @@ list_found s n t v d u front h =
       words = documents_words n (h.first ∷ h.others) h.good;
       nests = omega arith;
       is_normal = ap list_of (documents_normal n (h.first ∷ h.others) h.good);
-      whole = front ∙ ap (λ w. codes "[" ++ w) (h.whole ∙ ap (λ ts. rest (frame s.mode Brackets) s First ts ++ u) (sym (documents_texts (inside s) (h.first ∷ h.others))));
+      whole = front ∙ ap (λ w. codes "[" ++ w) (h.whole ∙ ap (λ ts. block_tail (frame s.mode Brackets) s Zero ts ++ u) (sym (documents_texts (inside s) (h.first ∷ h.others))));
     })
 
 -- a set of entries that were found was found
-set_found : (s : Setting) (n : ℕ) (t v : List ℕ) (d : Document) (u : List ℕ) → t ≡ codes "{" ++ (lead (frame s.mode Braces) (inside s) First ++ v) → FoundEntries (IsNormalBelow n) (layout (inside s)) (frame s.mode Braces) s (λ ds. set_of (documents ds)) v d u → Found s n t d u
+set_found : (s : Setting) (n : ℕ) (t v : List ℕ) (d : Document) (u : List ℕ) → t ≡ codes "{" ++ (lead (frame s.mode Braces) (inside s) Zero ++ v) → FoundEntries (IsNormalBelow n) (layout (inside s)) (frame s.mode Braces) s (λ ds. set_of (documents ds)) v d u → Found s n t d u
 set_found s n t v d u front h =
     let some : 0 < n = (let first = h.good.0.nests in omega arith) in
     let nests = documents_nest n (h.first ∷ h.others) h.good some in
@@ -55,11 +55,11 @@ set_found s n t v d u front h =
       words = documents_words n (h.first ∷ h.others) h.good;
       nests = omega arith;
       is_normal = ap set_of (documents_normal n (h.first ∷ h.others) h.good);
-      whole = front ∙ ap (λ w. codes "{" ++ w) (h.whole ∙ ap (λ ts. rest (frame s.mode Braces) s First ts ++ u) (sym (documents_texts (inside s) (h.first ∷ h.others))));
+      whole = front ∙ ap (λ w. codes "{" ++ w) (h.whole ∙ ap (λ ts. block_tail (frame s.mode Braces) s Zero ts ++ u) (sym (documents_texts (inside s) (h.first ∷ h.others))));
     })
 
 -- a map of pairs that were found was found
-map_found : (s : Setting) (n : ℕ) (t v : List ℕ) (d : Document) (u : List ℕ) → t ≡ codes "{" ++ (lead (frame s.mode Braces) (inside s) First ++ v) → FoundEntries (IsGoodPair (IsNormalBelow n) (IsNormalBelow n)) (pair_text (layout (inside s)) (layout (inside s))) (frame s.mode Braces) s (λ ps. map_of (pairs_of ps)) v d u → Found s n t d u
+map_found : (s : Setting) (n : ℕ) (t v : List ℕ) (d : Document) (u : List ℕ) → t ≡ codes "{" ++ (lead (frame s.mode Braces) (inside s) Zero ++ v) → FoundEntries (IsGoodPair (IsNormalBelow n) (IsNormalBelow n)) (pair_text (layout (inside s)) (layout (inside s))) (frame s.mode Braces) s (λ ps. map_of (pairs_of ps)) v d u → Found s n t d u
 map_found s n t v d u front h =
     let some : 0 < n = (let first = h.good.0.0.nests in omega arith) in
     let nests = pairs_nest n (h.first ∷ h.others) h.good some in
@@ -67,11 +67,11 @@ map_found s n t v d u front h =
       words = pairs_words n (h.first ∷ h.others) h.good;
       nests = omega arith;
       is_normal = ap map_of (pairs_normal n (h.first ∷ h.others) h.good);
-      whole = front ∙ ap (λ w. codes "{" ++ w) (h.whole ∙ ap (λ ts. rest (frame s.mode Braces) s First ts ++ u) (sym (pairs_texts (inside s) (h.first ∷ h.others))));
+      whole = front ∙ ap (λ w. codes "{" ++ w) (h.whole ∙ ap (λ ts. block_tail (frame s.mode Braces) s Zero ts ++ u) (sym (pairs_texts (inside s) (h.first ∷ h.others))));
     })
 
 -- a struct of fields that were found was found
-struct_found : (s : Setting) (n : ℕ) (name t v : List ℕ) (d : Document) (u : List ℕ) → IsWord name → t ≡ name ++ (lead (frame s.mode Struct) (inside s) First ++ v) → FoundEntries (IsGoodPair IsWord (IsNormalBelow n)) (pair_text (λ w. w) (layout (inside s))) (frame s.mode Struct) s (λ fs. struct_of name (fields_of fs)) v d u → Found s n t d u
+struct_found : (s : Setting) (n : ℕ) (name t v : List ℕ) (d : Document) (u : List ℕ) → IsWord name → t ≡ name ++ (lead (frame s.mode Struct) (inside s) Zero ++ v) → FoundEntries (IsGoodPair IsWord (IsNormalBelow n)) (pair_text (λ w. w) (layout (inside s))) (frame s.mode Struct) s (λ fs. struct_of name (fields_of fs)) v d u → Found s n t d u
 struct_found s n name t v d u word front h =
     let some : 0 < n = (let first = h.good.0.1.nests in omega arith) in
     let nests = fields_nest n (h.first ∷ h.others) h.good some in
@@ -79,18 +79,18 @@ struct_found s n name t v d u word front h =
       words = (word, fields_words n (h.first ∷ h.others) h.good);
       nests = omega arith;
       is_normal = ap (struct_of name) (fields_normal n (h.first ∷ h.others) h.good);
-      whole = front ∙ ap (λ w. name ++ w) (h.whole ∙ ap (λ ts. rest (frame s.mode Struct) s First ts ++ u) (sym (fields_texts (inside s) (h.first ∷ h.others)))) ∙ sym (append_assoc name (rest (frame s.mode Struct) s First (field_texts (inside s) (fields_of (h.first ∷ h.others)))) u);
+      whole = front ∙ ap (λ w. name ++ w) (h.whole ∙ ap (λ ts. block_tail (frame s.mode Struct) s Zero ts ++ u) (sym (fields_texts (inside s) (h.first ∷ h.others)))) ∙ sym (append_assoc name (block_tail (frame s.mode Struct) s Zero (field_texts (inside s) (fields_of (h.first ∷ h.others)))) u);
     })
 
 -- the text of a tuple with fields
-tuple_text : (s : Setting) (name : List ℕ) (d : Document) (ds : List Document) (u : List ℕ) → name ++ (rest (frame s.mode (tuple_kind name)) s First (map (layout (inside s)) (d ∷ ds)) ++ u) ≡ layout s (tuple_of name (documents (d ∷ ds))) ++ u
-tuple_text s [] d ds u = ap (λ ts. rest (frame s.mode Unnamed) s First ts ++ u) (sym (documents_texts (inside s) (d ∷ ds)))
+tuple_text : (s : Setting) (name : List ℕ) (d : Document) (ds : List Document) (u : List ℕ) → name ++ (block_tail (frame s.mode (tuple_kind name)) s Zero (map (layout (inside s)) (d ∷ ds)) ++ u) ≡ layout s (tuple_of name (documents (d ∷ ds))) ++ u
+tuple_text s [] d ds u = ap (λ ts. block_tail (frame s.mode Unnamed) s Zero ts ++ u) (sym (documents_texts (inside s) (d ∷ ds)))
 tuple_text s (c ∷ name) d ds u =
-    ap (λ ts. (c ∷ name) ++ (rest (frame s.mode Tuple) s First ts ++ u)) (sym (documents_texts (inside s) (d ∷ ds)))
-    ∙ sym (append_assoc (c ∷ name) (rest (frame s.mode Tuple) s First (texts (inside s) (documents (d ∷ ds)))) u)
+    ap (λ ts. (c ∷ name) ++ (block_tail (frame s.mode Tuple) s Zero ts ++ u)) (sym (documents_texts (inside s) (d ∷ ds)))
+    ∙ sym (append_assoc (c ∷ name) (block_tail (frame s.mode Tuple) s Zero (texts (inside s) (documents (d ∷ ds)))) u)
 
 -- a tuple of fields that were found was found
-tuple_found : (s : Setting) (n : ℕ) (name t v : List ℕ) (d : Document) (u : List ℕ) → AreWordBytes name → t ≡ name ++ (lead (frame s.mode (tuple_kind name)) (inside s) First ++ v) → FoundEntries (IsNormalBelow n) (layout (inside s)) (frame s.mode (tuple_kind name)) s (λ ds. tuple_of name (documents ds)) v d u → Found s n t d u
+tuple_found : (s : Setting) (n : ℕ) (name t v : List ℕ) (d : Document) (u : List ℕ) → AreWordBytes name → t ≡ name ++ (lead (frame s.mode (tuple_kind name)) (inside s) Zero ++ v) → FoundEntries (IsNormalBelow n) (layout (inside s)) (frame s.mode (tuple_kind name)) s (λ ds. tuple_of name (documents ds)) v d u → Found s n t d u
 tuple_found s n name t v d u word front h =
     let some : 0 < n = (let first = h.good.0.nests in omega arith) in
     let nests = documents_nest n (h.first ∷ h.others) h.good some in
@@ -104,17 +104,17 @@ tuple_found s n name t v d u word front h =
 
 -- what is read as a list is one
 read_list_sound : (s : Setting) (p : Parse Document) (n : ℕ) → Finds p (IsNormalBelow n) (layout (inside s)) → (t v : List ℕ) (d : Document) (u : List ℕ) → t ≡ codes "[" ++ v → read_list s p v ≡ Some (d, u) → Found s n t d u
-read_list_sound s p n finds t v d u front h = go (chosen_from (strip (frame s.mode Brackets).empty v) _ _ (Some (d, u)) h)
+read_list_sound s p n finds t v d u front h = go (chosen_from (strip ((frame s.mode Brackets).closing Zero) v) _ _ (Some (d, u)) h)
   where
-    go : ((w : List ℕ) × (strip (frame s.mode Brackets).empty v ≡ Some w) × (given (list_of no_documents) w ≡ given d u)) ⊎ ((strip (frame s.mode Brackets).empty v ≡ None) × (read_block p (frame s.mode Brackets) s (λ ds. list_of (documents ds)) v ≡ Some (d, u))) → Found s n t d u
-    go (inl k) = found_same (list_of no_documents) d k.0 u (record { words = tt; nests = omega arith; is_normal = refl; whole = front ∙ ap (λ w. codes "[" ++ w) (strip_found (frame s.mode Brackets).empty v k.0 k.1) }) k.2
+    go : ((w : List ℕ) × (strip ((frame s.mode Brackets).closing Zero) v ≡ Some w) × (given (list_of no_documents) w ≡ given d u)) ⊎ ((strip ((frame s.mode Brackets).closing Zero) v ≡ None) × (read_block p (frame s.mode Brackets) s (λ ds. list_of (documents ds)) v ≡ Some (d, u))) → Found s n t d u
+    go (inl k) = found_same (list_of no_documents) d k.0 u (record { words = tt; nests = omega arith; is_normal = refl; whole = front ∙ ap (λ w. codes "[" ++ w) (strip_found ((frame s.mode Brackets).closing Zero) v k.0 k.1) }) k.2
     go (inr k) =
-        let behind = led_from _ (strip (lead (frame s.mode Brackets) (inside s) First) v) (d, u) k.1 in
-        list_found s n t behind.0 d u (front ∙ ap (λ w. codes "[" ++ w) (strip_found (lead (frame s.mode Brackets) (inside s) First) v behind.0 behind.1))
+        let behind = led_from _ (strip (lead (frame s.mode Brackets) (inside s) Zero) v) (d, u) k.1 in
+        list_found s n t behind.0 d u (front ∙ ap (λ w. codes "[" ++ w) (strip_found (lead (frame s.mode Brackets) (inside s) Zero) v behind.0 behind.1))
         (read_entries_sound p (IsNormalBelow n) (layout (inside s)) (frame s.mode Brackets) s (λ ds. list_of (documents ds)) finds behind.0 d u behind.2)
 
 -- what is read in braces behind a first document is a map or a set with it
-read_map_or_set_sound : (s : Setting) (p : Parse Document) (n : ℕ) → Finds p (IsNormalBelow n) (layout (inside s)) → (t v w : List ℕ) (first d : Document) (u : List ℕ) → t ≡ codes "{" ++ (lead (frame s.mode Braces) (inside s) First ++ v) → IsNormalBelow n first → v ≡ layout (inside s) first ++ w → read_map_or_set s p first w ≡ Some (d, u) → Found s n t d u
+read_map_or_set_sound : (s : Setting) (p : Parse Document) (n : ℕ) → Finds p (IsNormalBelow n) (layout (inside s)) → (t v w : List ℕ) (first d : Document) (u : List ℕ) → t ≡ codes "{" ++ (lead (frame s.mode Braces) (inside s) Zero ++ v) → IsNormalBelow n first → v ≡ layout (inside s) first ++ w → read_map_or_set s p first w ≡ Some (d, u) → Found s n t d u
 read_map_or_set_sound s p n finds t v w first d u front good whole h = go (chosen_from (strip (codes ": ") w) _ _ (Some (d, u)) h)
   where
     go : ((x : List ℕ) × (strip (codes ": ") w ≡ Some x) × (read_map s p first w ≡ Some (d, u))) ⊎ ((strip (codes ": ") w ≡ None) × (read_set s p first w ≡ Some (d, u))) → Found s n t d u
@@ -129,25 +129,25 @@ read_map_or_set_sound s p n finds t v w first d u front good whole h = go (chose
 
 -- what is read as a map or a set is one
 read_braces_sound : (s : Setting) (p : Parse Document) (n : ℕ) → Finds p (IsNormalBelow n) (layout (inside s)) → (t v : List ℕ) (d : Document) (u : List ℕ) → t ≡ codes "{" ++ v → read_braces s p v ≡ Some (d, u) → Found s n t d u
-read_braces_sound s p n finds t v d u front h = go (chosen_from (strip (frame s.mode Braces).empty v) _ _ (Some (d, u)) h)
+read_braces_sound s p n finds t v d u front h = go (chosen_from (strip ((frame s.mode Braces).closing Zero) v) _ _ (Some (d, u)) h)
   where
-    go : ((w : List ℕ) × (strip (frame s.mode Braces).empty v ≡ Some w) × (given (map_of no_pairs) w ≡ given d u)) ⊎ ((strip (frame s.mode Braces).empty v ≡ None) × (read_braced_entries s p v ≡ Some (d, u))) → Found s n t d u
-    go (inl k) = found_same (map_of no_pairs) d k.0 u (record { words = tt; nests = omega arith; is_normal = refl; whole = front ∙ ap (λ w. codes "{" ++ w) (strip_found (frame s.mode Braces).empty v k.0 k.1) }) k.2
+    go : ((w : List ℕ) × (strip ((frame s.mode Braces).closing Zero) v ≡ Some w) × (given (map_of no_pairs) w ≡ given d u)) ⊎ ((strip ((frame s.mode Braces).closing Zero) v ≡ None) × (read_braced_entries s p v ≡ Some (d, u))) → Found s n t d u
+    go (inl k) = found_same (map_of no_pairs) d k.0 u (record { words = tt; nests = omega arith; is_normal = refl; whole = front ∙ ap (λ w. codes "{" ++ w) (strip_found ((frame s.mode Braces).closing Zero) v k.0 k.1) }) k.2
     go (inr k) =
-        let behind = led_from _ (strip (lead (frame s.mode Braces) (inside s) First) v) (d, u) k.1 in
+        let behind = led_from _ (strip (lead (frame s.mode Braces) (inside s) Zero) v) (d, u) k.1 in
         let first = led_from _ (p behind.0) (d, u) behind.2 in
-        read_map_or_set_sound s p n finds t behind.0 first.0.1 first.0.0 d u (front ∙ ap (λ w. codes "{" ++ w) (strip_found (lead (frame s.mode Braces) (inside s) First) v behind.0 behind.1)) (finds.good behind.0 first.0.0 first.0.1 first.1) (finds.whole behind.0 first.0.0 first.0.1 first.1) first.2
+        read_map_or_set_sound s p n finds t behind.0 first.0.1 first.0.0 d u (front ∙ ap (λ w. codes "{" ++ w) (strip_found (lead (frame s.mode Braces) (inside s) Zero) v behind.0 behind.1)) (finds.good behind.0 first.0.0 first.0.1 first.1) (finds.whole behind.0 first.0.0 first.0.1 first.1) first.2
 
 -- what is read as a tuple is one
-read_tuple_sound : (s : Setting) (p : Parse Document) (n : ℕ) → Finds p (IsNormalBelow n) (layout (inside s)) → (name t v w : List ℕ) (d : Document) (u : List ℕ) → AreWordBytes name → t ≡ name ++ v → strip (lead (frame s.mode (tuple_kind name)) (inside s) First) v ≡ Some w → read_tuple s p name w ≡ Some (d, u) → Found s n t d u
+read_tuple_sound : (s : Setting) (p : Parse Document) (n : ℕ) → Finds p (IsNormalBelow n) (layout (inside s)) → (name t v w : List ℕ) (d : Document) (u : List ℕ) → AreWordBytes name → t ≡ name ++ v → strip (lead (frame s.mode (tuple_kind name)) (inside s) Zero) v ≡ Some w → read_tuple s p name w ≡ Some (d, u) → Found s n t d u
 read_tuple_sound s p n finds name t v w d u word front behind h =
-    tuple_found s n name t w d u word (front ∙ ap (λ x. name ++ x) (strip_found (lead (frame s.mode (tuple_kind name)) (inside s) First) v w behind))
+    tuple_found s n name t w d u word (front ∙ ap (λ x. name ++ x) (strip_found (lead (frame s.mode (tuple_kind name)) (inside s) Zero) v w behind))
     (read_entries_sound p (IsNormalBelow n) (layout (inside s)) (frame s.mode (tuple_kind name)) s (λ ds. tuple_of name (documents ds)) finds w d u h)
 
 -- what is read as a struct is one
-read_struct_sound : (s : Setting) (p : Parse Document) (n : ℕ) → Finds p (IsNormalBelow n) (layout (inside s)) → (name t v w : List ℕ) (d : Document) (u : List ℕ) → IsWord name → t ≡ name ++ v → strip (lead (frame s.mode Struct) (inside s) First) v ≡ Some w → read_struct s p name w ≡ Some (d, u) → Found s n t d u
+read_struct_sound : (s : Setting) (p : Parse Document) (n : ℕ) → Finds p (IsNormalBelow n) (layout (inside s)) → (name t v w : List ℕ) (d : Document) (u : List ℕ) → IsWord name → t ≡ name ++ v → strip (lead (frame s.mode Struct) (inside s) Zero) v ≡ Some w → read_struct s p name w ≡ Some (d, u) → Found s n t d u
 read_struct_sound s p n finds name t v w d u word front behind h =
-    struct_found s n name t w d u word (front ∙ ap (λ x. name ++ x) (strip_found (lead (frame s.mode Struct) (inside s) First) v w behind))
+    struct_found s n name t w d u word (front ∙ ap (λ x. name ++ x) (strip_found (lead (frame s.mode Struct) (inside s) Zero) v w behind))
     (read_entries_sound (read_pair read_word p) (IsGoodPair IsWord (IsNormalBelow n)) (pair_text (λ x. x) (layout (inside s))) (frame s.mode Struct) s (λ fs. struct_of name (fields_of fs)) (read_pair_finds read_word p IsWord (IsNormalBelow n) (λ x. x) (layout (inside s)) read_word_finds finds) w d u h)
 
 -- a leaf that was found
@@ -156,15 +156,15 @@ leaf_found text u h whole = record { words = h; nests = omega arith; is_normal =
 
 -- what is read behind a word is a tuple, a struct or a leaf
 read_named_sound : (s : Setting) (p : Parse Document) (n : ℕ) → Finds p (IsNormalBelow n) (layout (inside s)) → (name t v : List ℕ) (d : Document) (u : List ℕ) → IsWord name → AreWordBytes name → t ≡ name ++ v → read_named s p name v ≡ Some (d, u) → Found s n t d u
-read_named_sound s p n finds name t v d u word bytes front h = go (chosen_from (strip (lead (frame s.mode (tuple_kind name)) (inside s) First) v) _ _ (Some (d, u)) h)
+read_named_sound s p n finds name t v d u word bytes front h = go (chosen_from (strip (lead (frame s.mode (tuple_kind name)) (inside s) Zero) v) _ _ (Some (d, u)) h)
   where
-    without_tuple : ((w : List ℕ) × (strip (lead (frame s.mode Struct) (inside s) First) v ≡ Some w) × (read_struct s p name w ≡ Some (d, u))) ⊎ ((strip (lead (frame s.mode Struct) (inside s) First) v ≡ None) × (given (leaf name) v ≡ given d u)) → Found s n t d u
+    without_tuple : ((w : List ℕ) × (strip (lead (frame s.mode Struct) (inside s) Zero) v ≡ Some w) × (read_struct s p name w ≡ Some (d, u))) ⊎ ((strip (lead (frame s.mode Struct) (inside s) Zero) v ≡ None) × (given (leaf name) v ≡ given d u)) → Found s n t d u
     without_tuple (inl k) = read_struct_sound s p n finds name t v k.0 d u word front k.1 k.2
     without_tuple (inr k) = found_same (leaf name) d v u (leaf_found name v (word_leaf name word) front) k.1
 
-    go : ((w : List ℕ) × (strip (lead (frame s.mode (tuple_kind name)) (inside s) First) v ≡ Some w) × (read_tuple s p name w ≡ Some (d, u))) ⊎ ((strip (lead (frame s.mode (tuple_kind name)) (inside s) First) v ≡ None) × (choose (strip (lead (frame s.mode Struct) (inside s) First) v) (read_struct s p name) (given (leaf name) v) ≡ Some (d, u))) → Found s n t d u
+    go : ((w : List ℕ) × (strip (lead (frame s.mode (tuple_kind name)) (inside s) Zero) v ≡ Some w) × (read_tuple s p name w ≡ Some (d, u))) ⊎ ((strip (lead (frame s.mode (tuple_kind name)) (inside s) Zero) v ≡ None) × (choose (strip (lead (frame s.mode Struct) (inside s) Zero) v) (read_struct s p name) (given (leaf name) v) ≡ Some (d, u))) → Found s n t d u
     go (inl k) = read_tuple_sound s p n finds name t v k.0 d u bytes front k.1 k.2
-    go (inr k) = without_tuple (chosen_from (strip (lead (frame s.mode Struct) (inside s) First) v) (read_struct s p name) (given (leaf name) v) (Some (d, u)) k.1)
+    go (inr k) = without_tuple (chosen_from (strip (lead (frame s.mode Struct) (inside s) Zero) v) (read_struct s p name) (given (leaf name) v) (Some (d, u)) k.1)
 
 -- what is read where no word stands is a list, a set, a map, a leaf or a tuple without a name
 read_without_name_sound : (s : Setting) (p : Parse Document) (n : ℕ) → Finds p (IsNormalBelow n) (layout (inside s)) → (t : List ℕ) (d : Document) (u : List ℕ) → read_without_name s p t ≡ Some (d, u) → Found s n t d u
@@ -175,7 +175,7 @@ read_without_name_sound s p n finds t d u h = in_brackets (chosen_from (strip (c
         let found = read_symbol_sound t k.0.0 k.0.1 k.1 in
         found_same (leaf k.0.0) d k.0.1 u (leaf_found k.0.0 k.0.1 found.0 found.1) k.2
     in_parentheses (inr k) =
-        let behind = led_from _ (strip (lead (frame s.mode Unnamed) (inside s) First) t) (d, u) k.1 in
+        let behind = led_from _ (strip (lead (frame s.mode Unnamed) (inside s) Zero) t) (d, u) k.1 in
         read_tuple_sound s p n finds [] t t behind.0 d u tt refl behind.1 behind.2
 
     braces : ((v : List ℕ) × (strip (codes "{") t ≡ Some v) × (read_braces s p v ≡ Some (d, u))) ⊎ ((strip (codes "{") t ≡ None) × (choose (read_symbol t) (λ x. given (leaf x.0) x.1) (read_unnamed s p t) ≡ Some (d, u))) → Found s n t d u

@@ -2,11 +2,11 @@
 use Rattle.std.proofs.Common.{◌≡◌, refl, ap, ◌∙◌, ℕ, zero, suc, ◌<◌, ◌≤◌, List, ◌∷◌, ◌++◌, length, length-append, Option, Some, None, option_and_then, codes, arith}
 use Rattle.ufmt_core.specs.Document.{Document}
 use Rattle.ufmt_core.specs.Layout.{Frame, inside, lead, trail, next, layout}
-use Rattle.ufmt_core.specs.declared.formatter.Setting.{Setting}
-use Rattle.ufmt_core.specs.declared.formatter.block.Place.{Place}
+use Rattle.ufmt_core.specs.declared.layout.Setting.{Setting}
+use Rattle.ufmt_core.specs.declared.layout.Count.{Count}
 use Rattle.ufmt.specs.Reading.{Parse, choose, parse_map, strip, read_word, read_pair, read_turn, read_end, read_rest, read_others, read}
 use Rattle.ufmt.proofs.Parsing.{strip_found, led_from, mapped_from}
-use Rattle.ufmt.proofs.Words.{read_word_sound}
+use Rattle.ufmt.proofs.ReadingWords.{read_word_sound}
 use Rattle.ufmt.proofs.TokenLeaves.{word_begins}
 use Rattle.ufmt.proofs.BlocksComplete.{Begins}
 use Rattle.ufmt.proofs.TextsBegin.{document_begins}
@@ -60,42 +60,42 @@ same_next None f g h = refl
 same_next (Some x) f g h = h x refl
 
 -- a turn does the same with what agrees on shorter texts
-turn_same : {A : Type 0} (q : Parse A) → Takes q → (f : Frame) (s : Setting) (place : Place) (more other : Parse (List A)) (t : List ℕ) → ((w : List ℕ) → length w < length t → more w ≡ other w) → choose (strip (lead f (inside s) place) t) (read_turn q s.mode more) (read_end f s place t) ≡ choose (strip (lead f (inside s) place) t) (read_turn q s.mode other) (read_end f s place t)
-turn_same q takes f s place more other t agree =
-    same_choice (strip (lead f (inside s) place) t) (read_turn q s.mode more) (read_turn q s.mode other) (read_end f s place t)
+turn_same : {A : Type 0} (q : Parse A) → Takes q → (f : Frame) (s : Setting) (count : Count) (more other : Parse (List A)) (t : List ℕ) → ((w : List ℕ) → length w < length t → more w ≡ other w) → choose (strip (lead f (inside s) count) t) (read_turn q s.mode more) (read_end f s count t) ≡ choose (strip (lead f (inside s) count) t) (read_turn q s.mode other) (read_end f s count t)
+turn_same q takes f s count more other t agree =
+    same_choice (strip (lead f (inside s) count) t) (read_turn q s.mode more) (read_turn q s.mode other) (read_end f s count t)
     (λ v e. same_next (q v) _ _ (λ x r. same_next (strip (trail s.mode) x.1) _ _ (λ w k. ap (parse_map (λ xs. x.0 ∷ xs)) (agree w (shorter v e x r w k)))))
   where
-    shorter : (v : List ℕ) → strip (lead f (inside s) place) t ≡ Some v → (x : _ × List ℕ) → q v ≡ Some x → (w : List ℕ) → strip (trail s.mode) x.1 ≡ Some w → length w < length t
+    shorter : (v : List ℕ) → strip (lead f (inside s) count) t ≡ Some v → (x : _ × List ℕ) → q v ≡ Some x → (w : List ℕ) → strip (trail s.mode) x.1 ≡ Some w → length w < length t
     shorter v e x r w k =
-        let a = strip_within (lead f (inside s) place) t v e in
+        let a = strip_within (lead f (inside s) count) t v e in
         let b = takes.takes v x.0 x.1 r in
         let c = strip_within (trail s.mode) x.1 w k in
         omega arith
 
 -- more turns than the text has bytes are as good as any such number
-turns_enough : {A : Type 0} (q : Parse A) → Takes q → (f : Frame) (s : Setting) (m n : ℕ) (place : Place) (t : List ℕ) → length t < m → length t < n → read_rest q f s place m t ≡ read_rest q f s place n t
+turns_enough : {A : Type 0} (q : Parse A) → Takes q → (f : Frame) (s : Setting) (m n : ℕ) (count : Count) (t : List ℕ) → length t < m → length t < n → read_rest q f s count m t ≡ read_rest q f s count n t
 unfolding read_rest
-turns_enough q takes f s zero n place t lm ln = absurd (omega arith)
-turns_enough q takes f s (suc m) zero place t lm ln = absurd (omega arith)
-turns_enough q takes f s (suc m) (suc n) place t lm ln = turn_same q takes f s place (read_rest q f s (next place) m) (read_rest q f s (next place) n) t (λ w less. turns_enough q takes f s m n (next place) w (omega (arith, less)) (omega (arith, less)))
+turns_enough q takes f s zero n count t lm ln = absurd (omega arith)
+turns_enough q takes f s (suc m) zero count t lm ln = absurd (omega arith)
+turns_enough q takes f s (suc m) (suc n) count t lm ln = turn_same q takes f s count (read_rest q f s (next count) m) (read_rest q f s (next count) n) t (λ w less. turns_enough q takes f s m n (next count) w (omega (arith, less)) (omega (arith, less)))
 
 -- so what is left of a block is an entry and what is left behind it, or the end
-pub read_others-read_turn : {A : Type 0} (q : Parse A) → Takes q → (f : Frame) (s : Setting) (place : Place) (t : List ℕ) → read_others q f s place t ≡ choose (strip (lead f (inside s) place) t) (read_turn q s.mode (read_others q f s (next place))) (read_end f s place t)
+pub read_others-read_turn : {A : Type 0} (q : Parse A) → Takes q → (f : Frame) (s : Setting) (count : Count) (t : List ℕ) → read_others q f s count t ≡ choose (strip (lead f (inside s) count) t) (read_turn q s.mode (read_others q f s (next count))) (read_end f s count t)
 unfolding read_rest
-read_others-read_turn q takes f s place t = turn_same q takes f s place (read_rest q f s (next place) (length t)) (read_others q f s (next place)) t (λ w less. turns_enough q takes f s (length t) (suc (length w)) (next place) w less (omega arith))
+read_others-read_turn q takes f s count t = turn_same q takes f s count (read_rest q f s (next count) (length t)) (read_others q f s (next count)) t (λ w less. turns_enough q takes f s (length t) (suc (length w)) (next count) w less (omega arith))
 
 -- an entry that was read, with what stands round it, goes in front of what is left behind it
-pub read_others-entry : {A : Type 0} (q : Parse A) → Takes q → (f : Frame) (s : Setting) (place : Place) (t v w : List ℕ) (x : A) (u : List ℕ) → strip (lead f (inside s) place) t ≡ Some v → q v ≡ Some (x, w) → strip (trail s.mode) w ≡ Some u → read_others q f s place t ≡ parse_map (λ xs. x ∷ xs) (read_others q f s (next place) u)
-read_others-entry q takes f s place t v w x u before entry after = read_others-read_turn q takes f s place t ∙ rw (before, entry, after) refl
+pub read_others-entry : {A : Type 0} (q : Parse A) → Takes q → (f : Frame) (s : Setting) (count : Count) (t v w : List ℕ) (x : A) (u : List ℕ) → strip (lead f (inside s) count) t ≡ Some v → q v ≡ Some (x, w) → strip (trail s.mode) w ≡ Some u → read_others q f s count t ≡ parse_map (λ xs. x ∷ xs) (read_others q f s (next count) u)
+read_others-entry q takes f s count t v w x u before entry after = read_others-read_turn q takes f s count t ∙ rw (before, entry, after) refl
 
 -- where no entry stands there is the end
-pub read_others-read_end : {A : Type 0} (q : Parse A) → Takes q → (f : Frame) (s : Setting) (place : Place) (t : List ℕ) → strip (lead f (inside s) place) t ≡ None → read_others q f s place t ≡ read_end f s place t
-read_others-read_end q takes f s place t before = read_others-read_turn q takes f s place t ∙ rw before refl
+pub read_others-read_end : {A : Type 0} (q : Parse A) → Takes q → (f : Frame) (s : Setting) (count : Count) (t : List ℕ) → strip (lead f (inside s) count) t ≡ None → read_others q f s count t ≡ read_end f s count t
+read_others-read_end q takes f s count t before = read_others-read_turn q takes f s count t ∙ rw before refl
 
 -- where what should be an entry is none, nothing is read
-pub read_others-no_entry : {A : Type 0} (q : Parse A) → Takes q → (f : Frame) (s : Setting) (place : Place) (t v : List ℕ) → strip (lead f (inside s) place) t ≡ Some v → q v ≡ None → read_others q f s place t ≡ None
-read_others-no_entry q takes f s place t v before entry = read_others-read_turn q takes f s place t ∙ rw (before, entry) refl
+pub read_others-no_entry : {A : Type 0} (q : Parse A) → Takes q → (f : Frame) (s : Setting) (count : Count) (t v : List ℕ) → strip (lead f (inside s) count) t ≡ Some v → q v ≡ None → read_others q f s count t ≡ None
+read_others-no_entry q takes f s count t v before entry = read_others-read_turn q takes f s count t ∙ rw (before, entry) refl
 
 -- likewise where what should stand after an entry doesn't
-pub read_others-no_trail : {A : Type 0} (q : Parse A) → Takes q → (f : Frame) (s : Setting) (place : Place) (t v w : List ℕ) (x : A) → strip (lead f (inside s) place) t ≡ Some v → q v ≡ Some (x, w) → strip (trail s.mode) w ≡ None → read_others q f s place t ≡ None
-read_others-no_trail q takes f s place t v w x before entry after = read_others-read_turn q takes f s place t ∙ rw (before, entry, after) refl
+pub read_others-no_trail : {A : Type 0} (q : Parse A) → Takes q → (f : Frame) (s : Setting) (count : Count) (t v w : List ℕ) (x : A) → strip (lead f (inside s) count) t ≡ Some v → q v ≡ Some (x, w) → strip (trail s.mode) w ≡ None → read_others q f s count t ≡ None
+read_others-no_trail q takes f s count t v w x before entry after = read_others-read_turn q takes f s count t ∙ rw (before, entry, after) refl

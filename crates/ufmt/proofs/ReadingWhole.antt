@@ -2,11 +2,11 @@
 use Rattle.std.proofs.Common.{◌≡◌, refl, ap, sym, ◌∙◌, ℕ, List, [], ◌∷◌, append-nil, Some, arith}
 use Rattle.ufmt_core.specs.Document.{Document}
 use Rattle.ufmt_core.specs.Layout.{setting, layout}
-use Rattle.ufmt_core.specs.declared.formatter.Mode.{Mode}
-use Rattle.ufmt_core.specs.declared.formatter.Mode.TheVariants.{Plain, Pretty}
+use Rattle.ufmt_core.specs.declared.layout.Mode.{Mode}
+use Rattle.ufmt_core.specs.declared.layout.Mode.TheVariants.{Plain, Pretty}
 use Rattle.ufmt.specs.Token.{IsToken, normal}
 use Rattle.ufmt.specs.Reading.{if_all, read, read_text}
-use Rattle.ufmt.specs.ReadsExactly.{ReadsOnlyTexts, ReadsEachText, RefusesNoText}
+use Rattle.ufmt.specs.ReadingLaws.{ReadsOnlyTexts, ReadsEachText, RefusesNoText}
 use Rattle.ufmt.proofs.Parsing.{led_from}
 use Rattle.ufmt.proofs.FramesClose.{Fits}
 use Rattle.ufmt.proofs.ReadingComplete.{read_complete}

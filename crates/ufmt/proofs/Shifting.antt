@@ -2,14 +2,14 @@
 use Rattle.std.proofs.Common.{◌≡◌, ℕ, zero, suc, ◌+◌, ◌≤◌, ◌==◌, List, [], ◌∷◌, ◌++◌, map, Bool, true, false, codes, refl, sym, ap, ap₂, ◌∙◌, append_assoc, ne_eqb, arith}
 use Rattle.std.specs.Prelude.{⊤}
 use Rattle.ufmt_core.specs.Document.{Document, leaf, joined, list_of, set_of, map_of, struct_of, tuple_of, pretty_part, Documents, no_documents, document, Pairs, no_pairs, pair, Fields, no_fields, field, nest, nest_all, nest_pairs, nest_fields}
-use Rattle.ufmt_core.specs.Layout.{Frame, frame, tuple_kind, setting, inside, entry_depth, indentation, separator, lead, ending, next, rest, block, layout, layouts, texts, pair_texts, field_texts, pretty_text}
-use Rattle.ufmt_core.specs.declared.formatter.Mode.TheVariants.{Pretty}
-use Rattle.ufmt_core.specs.declared.formatter.Setting.{Setting}
-use Rattle.ufmt_core.specs.declared.formatter.block.Kind.{Kind}
-use Rattle.ufmt_core.specs.declared.formatter.block.Kind.TheVariants.{Brackets, Braces, Struct, Tuple, Unnamed}
-use Rattle.ufmt_core.specs.declared.formatter.block.Place.{Place}
-use Rattle.ufmt_core.specs.declared.formatter.block.Place.TheVariants.{First, Second, Later}
-use Rattle.ufmt.specs.Shift.{margin, shift_from, shift, shift_times, entry_lines, shifted_rest, shifted_block, shifted, shifted_joined, shifted_texts, shifted_pairs, shifted_fields, IsOneLine, HasNoLineFeed, HaveNoLineFeed, PairsHaveNoLineFeed, FieldsHaveNoLineFeed}
+use Rattle.ufmt_core.specs.Layout.{Frame, frame, tuple_kind, setting, inside, entry_depth, indentation, separator, lead, ending, next, block_tail, block, layout, layouts, texts, pair_texts, field_texts, pretty_text}
+use Rattle.ufmt_core.specs.declared.layout.Mode.TheVariants.{Pretty}
+use Rattle.ufmt_core.specs.declared.layout.Setting.{Setting}
+use Rattle.ufmt_core.specs.declared.layout.Kind.{Kind}
+use Rattle.ufmt_core.specs.declared.layout.Kind.TheVariants.{Brackets, Braces, Struct, Tuple, Unnamed}
+use Rattle.ufmt_core.specs.declared.layout.Count.{Count}
+use Rattle.ufmt_core.specs.declared.layout.Count.TheVariants.{Zero, One, Several}
+use Rattle.ufmt.specs.Shift.{margin, shift_from, shift, shift_times, entry_lines, shifted_tail, shifted_block, shifted, shifted_joined, shifted_texts, shifted_pairs, shifted_fields, IsOneLine, HasNoLineFeed, HaveNoLineFeed, PairsHaveNoLineFeed, FieldsHaveNoLineFeed}
 
 -- ---- texts
 
@@ -88,37 +88,37 @@ shift-entry k text lines end = rw (shift_from-append true text 44 (10 ∷ lines)
 record IsSteady (f : Frame) : Type 0 where
   opening : (k : ℕ) → hanging k f.opening ≡ f.opening
   start : (k : ℕ) → hanging k f.start ≡ f.start
-  empty : (k : ℕ) → hanging k f.empty ≡ f.empty
-  end : (k : ℕ) → hanging k f.end ≡ f.end
-  alone : f.alone ≡ f.end
+  zero : (k : ℕ) → hanging k (f.closing Zero) ≡ f.closing Zero
+  several : (k : ℕ) → hanging k (f.closing Several) ≡ f.closing Several
+  one : f.closing One ≡ f.closing Several
 
 -- in pretty mode every kind of block has such a frame
 IsSteady-frame : (kind : Kind) → IsSteady (frame Pretty kind)
-IsSteady-frame Brackets = record { opening = λ k. refl; start = λ k. refl; empty = λ k. refl; end = λ k. refl; alone = refl }
-IsSteady-frame Braces = record { opening = λ k. refl; start = λ k. refl; empty = λ k. refl; end = λ k. refl; alone = refl }
-IsSteady-frame Struct = record { opening = λ k. refl; start = λ k. refl; empty = λ k. refl; end = λ k. refl; alone = refl }
-IsSteady-frame Tuple = record { opening = λ k. refl; start = λ k. refl; empty = λ k. refl; end = λ k. refl; alone = refl }
-IsSteady-frame Unnamed = record { opening = λ k. refl; start = λ k. refl; empty = λ k. refl; end = λ k. refl; alone = refl }
+IsSteady-frame Brackets = record { opening = λ k. refl; start = λ k. refl; zero = λ k. refl; several = λ k. refl; one = refl }
+IsSteady-frame Braces = record { opening = λ k. refl; start = λ k. refl; zero = λ k. refl; several = λ k. refl; one = refl }
+IsSteady-frame Struct = record { opening = λ k. refl; start = λ k. refl; zero = λ k. refl; several = λ k. refl; one = refl }
+IsSteady-frame Tuple = record { opening = λ k. refl; start = λ k. refl; zero = λ k. refl; several = λ k. refl; one = refl }
+IsSteady-frame Unnamed = record { opening = λ k. refl; start = λ k. refl; zero = λ k. refl; several = λ k. refl; one = refl }
 
 -- after an entry only the indentation stands before another one
-lead-next : (f : Frame) (i : Setting) (place : Place) → lead f i (next place) ≡ separator i.mode i.depth
-lead-next f i First = refl
-lead-next f i Second = refl
-lead-next f i Later = refl
+pub lead-next : (f : Frame) (i : Setting) (count : Count) → lead f i (next count) ≡ separator i.mode i.depth
+lead-next f i Zero = refl
+lead-next f i One = refl
+lead-next f i Several = refl
 
 -- after an entry the block ends on a line of its own
-ending-next : (f : Frame) (k : ℕ) (place : Place) → IsSteady f → ending f (setting Pretty k) (next place) ≡ indentation k ++ f.end
-ending-next f k First p = ap (λ u. indentation k ++ u) p.alone
-ending-next f k Second p = refl
-ending-next f k Later p = refl
+ending-next : (f : Frame) (k : ℕ) (count : Count) → IsSteady f → ending f (setting Pretty k) (next count) ≡ indentation k ++ f.closing Several
+ending-next f k Zero p = ap (λ u. indentation k ++ u) p.one
+ending-next f k One p = refl
+ending-next f k Several p = refl
 
 -- what is left of a block after an entry: the other entries' lines, shifted, and the end
-rest-next : (f : Frame) (k : ℕ) (place : Place) → IsSteady f → entry_depth Pretty k ≡ suc k → (ss : List (List ℕ)) →
-    rest f (setting Pretty k) (next place) (map (hanging (suc k)) ss) ≡ indentation k ++ (hanging k (shift (entry_lines ss)) ++ f.end)
-rest-next f k place p e [] = ending-next f k place p
-rest-next f k place p e (s ∷ ss) =
-    ap₂ (λ before after. before ++ (hanging (suc k) s ++ (codes ",\n" ++ after))) (lead-next f (inside (setting Pretty k)) place ∙ ap indentation e) (rest-next f k (next place) p e ss)
-    ∙ sym (shift-entry k s (entry_lines ss) f.end)
+block_tail-next : (f : Frame) (k : ℕ) (count : Count) → IsSteady f → entry_depth Pretty k ≡ suc k → (ss : List (List ℕ)) →
+    block_tail f (setting Pretty k) (next count) (map (hanging (suc k)) ss) ≡ indentation k ++ (hanging k (shift (entry_lines ss)) ++ f.closing Several)
+block_tail-next f k count p e [] = ending-next f k count p
+block_tail-next f k count p e (s ∷ ss) =
+    ap₂ (λ before after. before ++ (hanging (suc k) s ++ (codes ",\n" ++ after))) (lead-next f (inside (setting Pretty k)) count ∙ ap indentation e) (block_tail-next f k (next count) p e ss)
+    ∙ sym (shift-entry k s (entry_lines ss) (f.closing Several))
 
 -- where a block at depth k has entries, these are one deeper
 abbrev OneDeeper : ℕ → List (List ℕ) → Type 0
@@ -126,17 +126,17 @@ OneDeeper k [] = ⊤
 OneDeeper k (s ∷ ss) = entry_depth Pretty k ≡ suc k
 
 -- what follows a block's opening hangs
-rest-first : (f : Frame) (k : ℕ) → IsSteady f → (ss : List (List ℕ)) → OneDeeper k ss → rest f (setting Pretty k) First (map (hanging (entry_depth Pretty k)) ss) ≡ hanging k (shifted_rest f ss)
-rest-first f k p [] e = sym (p.empty k)
-rest-first f k p (s ∷ ss) e =
-    rw (ap (λ n. map (hanging n) ss) e, e, rest-next f k First p e ss, append_assoc, hanging-append k f.start _, p.start k, hanging-append k (shift (entry_lines (s ∷ ss))) f.end, p.end k)
-    (ap (λ u. f.start ++ (codes "\n" ++ u)) (sym (shift-entry k s (entry_lines ss) f.end)))
+block_tail-first : (f : Frame) (k : ℕ) → IsSteady f → (ss : List (List ℕ)) → OneDeeper k ss → block_tail f (setting Pretty k) Zero (map (hanging (entry_depth Pretty k)) ss) ≡ hanging k (shifted_tail f ss)
+block_tail-first f k p [] e = sym (p.zero k)
+block_tail-first f k p (s ∷ ss) e =
+    rw (ap (λ n. map (hanging n) ss) e, e, block_tail-next f k Zero p e ss, append_assoc, hanging-append k f.start _, p.start k, hanging-append k (shift (entry_lines (s ∷ ss))) (f.closing Several), p.several k)
+    (ap (λ u. f.start ++ (codes "\n" ++ u)) (sym (shift-entry k s (entry_lines ss) (f.closing Several))))
 
 -- a block in any such frame hangs where its entries do
 framed : (f : Frame) (k : ℕ) (name : List ℕ) (ss : List (List ℕ)) → IsSteady f → IsOneLine name → OneDeeper k ss →
-    name ++ (f.opening ++ rest f (setting Pretty k) First (map (hanging (entry_depth Pretty k)) ss)) ≡ hanging k (name ++ (f.opening ++ shifted_rest f ss))
+    name ++ (f.opening ++ block_tail f (setting Pretty k) Zero (map (hanging (entry_depth Pretty k)) ss)) ≡ hanging k (name ++ (f.opening ++ shifted_tail f ss))
 framed f k name ss p h e =
-    rw (hanging-append k name _, hanging-one_line k name h, hanging-append k f.opening _, p.opening k) (ap (λ u. name ++ (f.opening ++ u)) (rest-first f k p ss e))
+    rw (hanging-append k name _, hanging-one_line k name h, hanging-append k f.opening _, p.opening k) (ap (λ u. name ++ (f.opening ++ u)) (block_tail-first f k p ss e))
 
 -- ---- documents
 

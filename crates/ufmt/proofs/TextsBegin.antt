@@ -2,7 +2,7 @@
 use Rattle.std.proofs.Common.{refl, [], ◌∷◌}
 use Rattle.ufmt_core.specs.Document.{Document, leaf, joined, list_of, set_of, map_of, struct_of, tuple_of, pretty_part, no_documents, document}
 use Rattle.ufmt_core.specs.Layout.{layout}
-use Rattle.ufmt_core.specs.declared.formatter.Setting.{Setting}
+use Rattle.ufmt_core.specs.declared.layout.Setting.{Setting}
 use Rattle.ufmt.specs.Token.{HasWords}
 use Rattle.ufmt.proofs.BlocksComplete.{Begins, Begins-append}
 use Rattle.ufmt.proofs.TokenLeaves.{leaf_begins, word_begins}

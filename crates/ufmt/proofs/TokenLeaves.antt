@@ -1,16 +1,16 @@
 -- All that is known of a leaf that can be read again: how it begins, that it is read, and that what is read as one is one.
 use Rattle.std.proofs.Common.{◌≡◌, ◌⊎◌, inl, inr, refl, ap, sym, ◌∙◌, ℕ, List, [], ◌∷◌, ◌++◌, Option, Some, None, codes, append_assoc}
 use Rattle.ufmt_core.specs.Document.{Document, leaf}
-use Rattle.ufmt_core.specs.Layout.{inside, gap, new_line}
+use Rattle.ufmt_core.specs.Layout.{inside, brace_space, new_line}
 use Rattle.ufmt_core.specs.Quoted.{IsQuoted, escaped_all}
-use Rattle.ufmt_core.specs.declared.formatter.Setting.{Setting}
+use Rattle.ufmt_core.specs.declared.layout.Setting.{Setting}
 use Rattle.ufmt.specs.Token.{IsWord, IsTokenLeaf, IsFollower}
 use Rattle.ufmt.specs.Reading.{Parse, strip, read_word, read_symbol, read_named, read_with}
 use Rattle.ufmt.specs.ReadingQuoted.{read_quoted}
 use Rattle.ufmt.proofs.Parsing.{chosen_from, same_parts, strip_found}
 use Rattle.ufmt.proofs.QuotedComplete.{read_quoted-complete}
 use Rattle.ufmt.proofs.QuotedSound.{read_quoted-sound}
-use Rattle.ufmt.proofs.Words.{StopsWord, follower_stops, is_word_byte-is_closer, word_of-append, after_word-append, read_word_complete}
+use Rattle.ufmt.proofs.ReadingWords.{StopsWord, follower_stops, is_word_byte-is_closer, word_of-append, after_word-append, read_word_complete}
 use Rattle.ufmt.proofs.BlocksComplete.{Begins, IsRead}
 use Rattle.ufmt.proofs.FramesClose.{closer_begins_none, follower_no_tuple, follower_no_struct}
 
@@ -49,7 +49,7 @@ word_leads s p w t u h stops = ap (read_with s p) (append_assoc w t u) ∙ at_wo
 -- a name before a follower is a leaf
 name_alone : (s : Setting) (p : Parse Document) (w u : List ℕ) → IsWord w → IsFollower u → read_named s p w u ≡ Some (leaf w, u)
 name_alone s p [] u h follows = absurd h
-name_alone s p (c ∷ w) u h follows = rw (follower_no_tuple u (new_line (inside s).mode (inside s).depth) follows, follower_no_struct u (gap s.mode ++ new_line (inside s).mode (inside s).depth) follows) refl
+name_alone s p (c ∷ w) u h follows = rw (follower_no_tuple u (new_line (inside s).mode (inside s).depth) follows, follower_no_struct u (brace_space s.mode ++ new_line (inside s).mode (inside s).depth) follows) refl
 
 -- a quoted leaf is read, whatever follows it
 quoted_complete : (s : Setting) (p : Parse Document) (text u : List ℕ) → IsQuoted text → read_with s p (text ++ u) ≡ Some (leaf text, u)

@@ -3,7 +3,7 @@ use Rattle.std.proofs.Common.{◌⊎◌, inl, inr, ℕ, List, ◌≡◌, codes}
 use Rattle.ufmt_core.specs.Document.{Document, leaf, joined, list_of, set_of, map_of, struct_of, tuple_of, pretty_part, Documents, no_documents, document, Pairs, no_pairs, pair, Fields, no_fields, field}
 use Rattle.ufmt_core.specs.Quoted.{IsQuoted}
 use Rattle.ufmt.specs.Token.{IsWord, HasLeaves, HaveLeaves, PairsHaveLeaves, FieldsHaveLeaves, IsTokenLeaf, IsUnquotedLeaf}
-use Rattle.ufmt.specs.Unquoted.{EachLeaf, AllLeaves, LeavesOfPairs, LeavesOfFields, UnquotedAsBefore}
+use Rattle.ufmt.specs.UnquotedLaws.{EachLeaf, AllLeaves, LeavesOfPairs, LeavesOfFields, UnquotedAsBefore}
 
 -- leaves that are such texts, and such, are the third kind of texts
 module _ (P Q R : List ℕ → Type 0) (both : (text : List ℕ) → P text → Q text → R text) where

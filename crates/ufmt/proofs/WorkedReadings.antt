@@ -2,7 +2,7 @@
 use Rattle.std.proofs.Common.{◌≡◌, [], ◌∷◌, codes, map, replicate, Some, None, refl}
 use Rattle.std.specs.Str.{chars, is_utf8}
 use Rattle.ufmt_core.specs.Document.{Document, leaf, list_of, set_of, map_of, struct_of, tuple_of, Documents, no_documents, document, no_pairs, pair, no_fields, field}
-use Rattle.ufmt_core.specs.declared.formatter.Mode.TheVariants.{Plain, Pretty}
+use Rattle.ufmt_core.specs.declared.layout.Mode.TheVariants.{Plain, Pretty}
 use Rattle.ufmt.specs.Reading.{read, read_rest, read_text}
 use Rattle.ufmt.specs.ReadingQuoted.{read_inside, read_quoted}
 

@@ -1,7 +1,7 @@
 -- The text of pieces, as `uwrite!` and `pieces!` take them.
 use Rattle.std.specs.Prelude.{ℕ, List, [], ◌∷◌, ◌++◌}
-use Rattle.ufmt_core.specs.declared.formatter.Mode.TheVariants.{Plain, Pretty}
-use Rattle.ufmt_core.specs.declared.formatter.Setting.{Setting}
+use Rattle.ufmt_core.specs.declared.layout.Mode.TheVariants.{Plain, Pretty}
+use Rattle.ufmt_core.specs.declared.layout.Setting.{Setting}
 use Rattle.ufmt_core.specs.Document.{Document}
 use Rattle.ufmt_core.specs.Layout.{layout, setting}
 

@@ -2,11 +2,11 @@
 use Rattle.std.specs.Prelude.{ℕ, zero, suc, length, cond, List, [], ◌∷◌, codes, Option, Some, None, option_map, option_and_then}
 use Rattle.ufmt_core.specs.Document.{Document, leaf, list_of, set_of, map_of, struct_of, tuple_of, no_documents, no_pairs, documents, pairs_of, fields_of}
 use Rattle.ufmt_core.specs.Layout.{Frame, frame, tuple_kind, setting, inside, lead, ending, trail, next}
-use Rattle.ufmt_core.specs.declared.formatter.Mode.{Mode}
-use Rattle.ufmt_core.specs.declared.formatter.Setting.{Setting}
-use Rattle.ufmt_core.specs.declared.formatter.block.Kind.TheVariants.{Brackets, Braces, Struct, Unnamed}
-use Rattle.ufmt_core.specs.declared.formatter.block.Place.{Place}
-use Rattle.ufmt_core.specs.declared.formatter.block.Place.TheVariants.{First, Second}
+use Rattle.ufmt_core.specs.declared.layout.Mode.{Mode}
+use Rattle.ufmt_core.specs.declared.layout.Setting.{Setting}
+use Rattle.ufmt_core.specs.declared.layout.Kind.TheVariants.{Brackets, Braces, Struct, Unnamed}
+use Rattle.ufmt_core.specs.declared.layout.Count.{Count}
+use Rattle.ufmt_core.specs.declared.layout.Count.TheVariants.{Zero, One}
 use Rattle.ufmt.specs.ReadingQuoted.{read_quoted}
 use Rattle.ufmt.specs.Token.{is_word_byte}
 pub use Rattle.ufmt.specs.Parse.{Parse, choose, parse_map, strip}
@@ -51,21 +51,21 @@ abbrev pub read_turn : {A : Type 0} → Parse A → Mode → Parse (List A) → 
 read_turn q mode more t = option_and_then (λ x. read_after_entry mode more x.0 x.1) (q t)
 
 -- the end of a block, and no entry
-abbrev pub read_end : {A : Type 0} → Frame → Setting → Place → Parse (List A)
-read_end f s place t = option_map (λ u. ([], u)) (strip (ending f s place) t)
+abbrev pub read_end : {A : Type 0} → Frame → Setting → Count → Parse (List A)
+read_end f s count t = option_map (λ u. ([], u)) (strip (ending f s count) t)
 
--- what is left of a block whose entries `q` reads, from this place on, with fewer entries than the number
-unfoldable pub read_rest : {A : Type 0} → Parse A → Frame → Setting → Place → ℕ → Parse (List A)
-read_rest q f s place zero t = None
-read_rest q f s place (suc n) t = choose (strip (lead f (inside s) place) t) (read_turn q s.mode (read_rest q f s (next place) n)) (read_end f s place t)
+-- what is left of a block whose entries `q` reads, behind so many entries, with fewer more than the number
+unfoldable pub read_rest : {A : Type 0} → Parse A → Frame → Setting → Count → ℕ → Parse (List A)
+read_rest q f s count zero t = None
+read_rest q f s count (suc n) t = choose (strip (lead f (inside s) count) t) (read_turn q s.mode (read_rest q f s (next count) n)) (read_end f s count t)
 
 -- the same with as many entries as there are
-abbrev pub read_others : {A : Type 0} → Parse A → Frame → Setting → Place → Parse (List A)
-read_others q f s place t = read_rest q f s place (suc (length t)) t
+abbrev pub read_others : {A : Type 0} → Parse A → Frame → Setting → Count → Parse (List A)
+read_others q f s count t = read_rest q f s count (suc (length t)) t
 
 -- a block behind its first entry, this one
 abbrev pub read_after_first : {A : Type 0} → Parse A → Frame → Setting → (List A → Document) → A → Parse Document
-read_after_first q f s make x t = parse_map make (read_after_entry s.mode (read_others q f s Second) x t)
+read_after_first q f s make x t = parse_map make (read_after_entry s.mode (read_others q f s One) x t)
 
 -- a block behind what stands before its first entry
 abbrev pub read_entries : {A : Type 0} → Parse A → Frame → Setting → (List A → Document) → Parse Document
@@ -73,11 +73,11 @@ read_entries q f s make t = option_and_then (λ x. read_after_first q f s make x
 
 -- a block with entries behind its opening
 abbrev pub read_block : {A : Type 0} → Parse A → Frame → Setting → (List A → Document) → Parse Document
-read_block q f s make t = option_and_then (read_entries q f s make) (strip (lead f (inside s) First) t)
+read_block q f s make t = option_and_then (read_entries q f s make) (strip (lead f (inside s) Zero) t)
 
 -- a list behind its opening, where `p` reads its entries
 abbrev pub read_list : Setting → Parse Document → Parse Document
-read_list s p t = choose (strip (frame s.mode Brackets).empty t) (λ u. Some (list_of no_documents, u)) (read_block p (frame s.mode Brackets) s (λ ds. list_of (documents ds)) t)
+read_list s p t = choose (strip ((frame s.mode Brackets).closing Zero) t) (λ u. Some (list_of no_documents, u)) (read_block p (frame s.mode Brackets) s (λ ds. list_of (documents ds)) t)
 
 -- a map behind its first key
 abbrev pub read_map : Setting → Parse Document → Document → Parse Document
@@ -93,11 +93,11 @@ read_map_or_set s p d t = choose (strip (codes ": ") t) (λ u. read_map s p d t)
 
 -- a set or a map with entries behind its opening
 abbrev pub read_braced_entries : Setting → Parse Document → Parse Document
-read_braced_entries s p t = option_and_then (λ u. option_and_then (λ x. read_map_or_set s p x.0 x.1) (p u)) (strip (lead (frame s.mode Braces) (inside s) First) t)
+read_braced_entries s p t = option_and_then (λ u. option_and_then (λ x. read_map_or_set s p x.0 x.1) (p u)) (strip (lead (frame s.mode Braces) (inside s) Zero) t)
 
 -- a set or a map behind its opening
 abbrev pub read_braces : Setting → Parse Document → Parse Document
-read_braces s p t = choose (strip (frame s.mode Braces).empty t) (λ u. Some (map_of no_pairs, u)) (read_braced_entries s p t)
+read_braces s p t = choose (strip ((frame s.mode Braces).closing Zero) t) (λ u. Some (map_of no_pairs, u)) (read_braced_entries s p t)
 
 -- a tuple with this name behind what stands before its first field
 abbrev pub read_tuple : Setting → Parse Document → List ℕ → Parse Document
@@ -109,7 +109,7 @@ read_struct s p name t = read_entries (read_pair read_word p) (frame s.mode Stru
 
 -- a tuple without a name
 abbrev pub read_unnamed : Setting → Parse Document → Parse Document
-read_unnamed s p t = option_and_then (read_tuple s p []) (strip (lead (frame s.mode Unnamed) (inside s) First) t)
+read_unnamed s p t = option_and_then (read_tuple s p []) (strip (lead (frame s.mode Unnamed) (inside s) Zero) t)
 
 -- what begins with no word
 abbrev pub read_without_name : Setting → Parse Document → Parse Document
@@ -121,8 +121,8 @@ read_without_name s p t =
 -- what begins with this word, behind the word
 abbrev pub read_named : Setting → Parse Document → List ℕ → Parse Document
 read_named s p name t =
-    choose (strip (lead (frame s.mode (tuple_kind name)) (inside s) First) t) (read_tuple s p name)
-    (choose (strip (lead (frame s.mode Struct) (inside s) First) t) (read_struct s p name)
+    choose (strip (lead (frame s.mode (tuple_kind name)) (inside s) Zero) t) (read_tuple s p name)
+    (choose (strip (lead (frame s.mode Struct) (inside s) Zero) t) (read_struct s p name)
     (Some (leaf name, t)))
 
 -- the text `t`, whose longest word stands before `u`: by the word, or as what has none

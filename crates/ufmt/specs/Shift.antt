@@ -2,9 +2,10 @@
 use Rattle.std.specs.Prelude.{◌≢◌, ℕ, zero, suc, ◌==◌, List, [], ◌∷◌, ◌++◌, Bool, true, false, codes, ⊤}
 use Rattle.ufmt_core.specs.Document.{Document, leaf, joined, list_of, set_of, map_of, struct_of, tuple_of, pretty_part, Documents, no_documents, document, Pairs, no_pairs, pair, Fields, no_fields, field}
 use Rattle.ufmt_core.specs.Layout.{Frame, frame, tuple_kind}
-use Rattle.ufmt_core.specs.declared.formatter.Mode.TheVariants.{Pretty}
-use Rattle.ufmt_core.specs.declared.formatter.block.Kind.{Kind}
-use Rattle.ufmt_core.specs.declared.formatter.block.Kind.TheVariants.{Brackets, Braces, Struct}
+use Rattle.ufmt_core.specs.declared.layout.Count.TheVariants.{Zero, Several}
+use Rattle.ufmt_core.specs.declared.layout.Mode.TheVariants.{Pretty}
+use Rattle.ufmt_core.specs.declared.layout.Kind.{Kind}
+use Rattle.ufmt_core.specs.declared.layout.Kind.TheVariants.{Brackets, Braces, Struct}
 
 -- what is put before a byte: four spaces where it begins a line
 abbrev pub margin : Bool → List ℕ
@@ -31,13 +32,13 @@ entry_lines [] = []
 entry_lines (text ∷ texts) = text ++ (codes ",\n" ++ entry_lines texts)
 
 -- what follows the opening of a block in this frame: its entries' lines, shifted, and the closing
-abbrev pub shifted_rest : Frame → List (List ℕ) → List ℕ
-shifted_rest f [] = f.empty
-shifted_rest f (text ∷ texts) = f.start ++ (codes "\n" ++ (shift (entry_lines (text ∷ texts)) ++ f.end))
+abbrev pub shifted_tail : Frame → List (List ℕ) → List ℕ
+shifted_tail f [] = f.closing Zero
+shifted_tail f (text ∷ texts) = f.start ++ (codes "\n" ++ (shift (entry_lines (text ∷ texts)) ++ f.closing Several))
 
 -- a block of this kind and name, whose entries have these texts
 abbrev pub shifted_block : Kind → List ℕ → List (List ℕ) → List ℕ
-shifted_block kind name texts = name ++ ((frame Pretty kind).opening ++ shifted_rest (frame Pretty kind) texts)
+shifted_block kind name texts = name ++ ((frame Pretty kind).opening ++ shifted_tail (frame Pretty kind) texts)
 
 abbrev mutual
   -- the shifted text of a document

@@ -16,8 +16,8 @@ pub trait uDisplay {
     ghost display: { Self → Document };
 
     /// Appends the layout of the value's document in the formatter's mode and from its depth, or,
-    /// where the writer fails, a beginning of it. The formatter has the same writer then, which holds
-    /// the text, at the same mode and depth.
+    /// where the writer fails, a beginning of it. Writer, mode and depth are afterwards as before,
+    /// also on failure.
     fn fmt<W>(&self, f: &mut Formatter<W>) -> Result<(), W::Error>
     where
         W: uWrite,

@@ -15,7 +15,7 @@ pub trait uDisplayHex {
     ghost hex_text: { Self → HexOptions → List ℕ };
 
     /// Writes the value's text for these options, or, where the writer fails, a beginning of it.
-    /// The formatter has the same writer then, which holds the text, at the same mode and depth.
+    /// Writer, mode and depth are afterwards as before, also on failure.
     fn fmt_hex<W>(&self, f: &mut Formatter<W>, options: HexOptions) -> Result<(), W::Error>
     where
         W: uWrite,

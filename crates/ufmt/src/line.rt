@@ -20,8 +20,8 @@ pub trait Line {
     ghost pieces: { Self → List Piece };
 
     /// Writes the pieces one after another in the formatter's mode and from its depth, up to the first
-    /// failure. Where the writer fails a beginning of their text stands there. The formatter has the
-    /// same writer then, at the same mode and depth.
+    /// failure. Where the writer fails a beginning of their text stands there. Writer, mode and depth
+    /// are afterwards as before, also on failure.
     fn print<W: uWrite>(&self, f: &mut Formatter<W>) -> Result<(), W::Error>
         ensures { Prints W.seen f.old (pieces_text (setting_of f.old) (pieces self.now))
             (is_ok result) f.new };
@@ -60,7 +60,7 @@ impl Line for Text<'_> {
     }
 }
 
-/// Prints the line to the writer, in plain mode.
+/// Prints the line to the writer, in plain mode. On `Err` the writer took a beginning of it.
 pub fn write_line<L: Line, W: uWrite>(writer: &mut W, line: &L) -> Result<(), W::Error>
     ensures { Writes W.seen writer.old (line_text (L.pieces line.now)) (is_ok result) writer.new }
 {

@@ -8,14 +8,16 @@ ghost use Rattle.ufmt_core.specs.Writes.{Writes};
 use crate::display::uDisplay;
 use ufmt_core::{Formatter, uDebug, uWrite};
 
-/// Prints the value in pretty mode, at the formatter's depth: what a piece `pretty e` does.
+/// Prints the value in pretty mode, at the formatter's depth: what a piece `pretty e` does. On
+/// `Err` a beginning of its text is written. Mode and depth are as before.
 pub fn fmt_pretty<T: uDebug, W: uWrite>(value: &T, f: &mut Formatter<W>) -> Result<(), W::Error>
     ensures { LaysOut W.seen f.old (pretty_part (T.document value.now)) (is_ok result) f.new }
 {
     f.pretty(|f| value.fmt(f))
 }
 
-/// Prints the value to the writer, as `uDebug` does in plain mode.
+/// Prints the value to the writer, as `uDebug` does in plain mode. On `Err` the writer took a
+/// beginning of its text.
 pub fn write_debug<T: uDebug, W: uWrite>(writer: &mut W, value: &T) -> Result<(), W::Error>
     ensures { Writes W.seen writer.old (plain_text (T.document value.now)) (is_ok result)
         writer.new }
@@ -24,7 +26,8 @@ pub fn write_debug<T: uDebug, W: uWrite>(writer: &mut W, value: &T) -> Result<()
     value.fmt(&mut f)
 }
 
-/// Prints the value to the writer, as `uDisplay` does in plain mode.
+/// Prints the value to the writer, as `uDisplay` does in plain mode. On `Err` the writer took a
+/// beginning of its text.
 pub fn write_display<T: uDisplay, W: uWrite>(writer: &mut W, value: &T) -> Result<(), W::Error>
     ensures { Writes W.seen writer.old (plain_text (T.display value.now)) (is_ok result)
         writer.new }
@@ -33,7 +36,8 @@ pub fn write_display<T: uDisplay, W: uWrite>(writer: &mut W, value: &T) -> Resul
     value.fmt(&mut f)
 }
 
-/// Prints the value to the writer, as `uDebug` does in pretty mode at depth 0.
+/// Prints the value to the writer, as `uDebug` does in pretty mode at depth 0. On `Err` the writer
+/// took a beginning of its text.
 pub fn write_pretty<T: uDebug, W: uWrite>(writer: &mut W, value: &T) -> Result<(), W::Error>
     ensures { Writes W.seen writer.old (pretty_text (T.document value.now)) (is_ok result)
         writer.new }

@@ -1,11 +1,13 @@
 -- What the program answers to an input.
-use Rattle.std.specs.Prelude.{◌≡◌, ℕ, ◌-◌, List, [], ◌∷◌, ◌++◌, ◌==◌, if◌then◌else◌, length, map, pos, slice_index, take}
+use Rattle.std.specs.Prelude.{◌≡◌, ℕ, ◌-◌, List, [], ◌∷◌, ◌++◌, ◌==◌, if◌then◌else◌, length, map, pos, slice_index, take, Option, IfSome}
+use Rattle.std.specs.Io.KnownBytes.{Appends}
 use Rattle.ufmt_conv.specs.declared.run.command.Command.{Command}
 use Rattle.ufmt_conv.specs.declared.run.command.Command.TheVariants.{Lengths, Pretty, Plain}
 use Rattle.ufmt.specs.Decimal.{decimal}
-use Rattle.ufmt.specs.Document.{documents, leaf, list_of}
+use Rattle.ufmt.specs.Document.{Document, documents, leaf, list_of}
 use Rattle.ufmt.specs.Layout.{plain_text, pretty_text}
-use Rattle.ufmt_doc.specs.Texts.{IsConverted}
+use Rattle.ufmt_conv.specs.Written.{AppendsBeginning}
+use Rattle.ufmt_doc.specs.Texts.{IsConverted, IsNoText}
 
 -- a byte before the first line, which it begins where there is none
 abbrev pub onto_first_line : ℕ → List (List ℕ) → List (List ℕ)
@@ -41,3 +43,15 @@ IsAnswer Plain input answer = IsConverted pretty_text plain_text (without_line_f
 abbrev pub IsAnswerLine : Command → List ℕ → List ℕ → Type 0
 IsAnswerLine command input line =
     (answer : List ℕ) × IsAnswer command input answer × (line ≡ answer ++ 10 ∷ [])
+
+-- where the input and the output tell their bytes: the answer's line to the whole input was written
+abbrev pub Answered : Command → Option (List ℕ) → Option (List ℕ) → Option (List ℕ) → Type 0
+Answered command input old new = IfSome input (λ bytes. (line : List ℕ) × IsAnswerLine command bytes line × Appends old new line)
+
+-- likewise of a beginning of it
+abbrev pub AnsweredInPart : Command → Option (List ℕ) → Option (List ℕ) → Option (List ℕ) → Type 0
+AnsweredInPart command input old new = IfSome input (λ bytes. (line : List ℕ) × IsAnswerLine command bytes line × AppendsBeginning old new line)
+
+-- where the input tells its bytes: without a final line feed they are no token document's text
+abbrev pub IsNoInput : (Document → List ℕ) → Option (List ℕ) → Type 0
+IsNoInput text_of input = IfSome input (λ bytes. IsNoText text_of (without_line_feed bytes))

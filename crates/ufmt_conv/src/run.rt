@@ -1,11 +1,9 @@
 //! A run of the program: it reads all its input, and writes the answer to it.
-ghost use Rattle.std.specs.Prelude.{◌≡◌, ◌≢◌, ◌↔◌, List, ℕ, false, IsTrue, IfErr, IfSome, IsErrOf, OnOk};
-ghost use Rattle.std.specs.Io.KnownBytes.{Appends, IsAtEnd};
+ghost use Rattle.std.specs.Prelude.{◌≡◌, ◌≢◌, ◌↔◌, false, IsTrue, IfErr, IsErrOf, OnOk};
+ghost use Rattle.std.specs.Io.KnownBytes.{IsAtEnd};
 ghost use Rattle.ufmt.specs.Layout.{plain_text, pretty_text};
-ghost use Rattle.ufmt_conv.specs.Answer.{IsAnswerLine, without_line_feed};
-ghost use Rattle.ufmt_doc.specs.Texts.{IsNoText};
+ghost use Rattle.ufmt_conv.specs.Answer.{Answered, AnsweredInPart, IsNoInput};
 ghost use Rattle.ufmt_conv.specs.Watched.{device_of, has_failed};
-ghost use Rattle.ufmt_conv.specs.Written.{AppendsBeginning};
 
 mod answer;
 mod command;
@@ -42,20 +40,16 @@ pub fn run<R: Read, W: Write>(
     requires output_works { has_failed output.old ≡ false }
 
     // Where reader and writer tell their bytes.
-    ensures ok { OnOk result (IfSome (R.remaining (device_of input.old)) (λ bytes.
-        (line : List ℕ) × IsAnswerLine command bytes line
-        × Appends (W.contents (device_of output.old)) (W.contents (device_of output.new)) line)) }
+    ensures ok { OnOk result (Answered command (R.remaining (device_of input.old))
+        (W.contents (device_of output.old)) (W.contents (device_of output.new))) }
     ensures read_whole { OnOk result (IsAtEnd (R.remaining (device_of input.new))) }
     ensures partly_written { IsErrOf result Fault.CannotWrite
-        → IfSome (R.remaining (device_of input.old)) (λ bytes.
-        (line : List ℕ) × IsAnswerLine command bytes line × AppendsBeginning
-        (W.contents (device_of output.old)) (W.contents (device_of output.new)) line) }
+        → AnsweredInPart command (R.remaining (device_of input.old))
+        (W.contents (device_of output.old)) (W.contents (device_of output.new)) }
     ensures not_plain { IsErrOf result Fault.NotPlain
-        → IfSome (R.remaining (device_of input.old)) (λ bytes.
-        IsNoText plain_text (without_line_feed bytes)) }
+        → IsNoInput plain_text (R.remaining (device_of input.old)) }
     ensures not_pretty { IsErrOf result Fault.NotPretty
-        → IfSome (R.remaining (device_of input.old)) (λ bytes.
-        IsNoText pretty_text (without_line_feed bytes)) }
+        → IsNoInput pretty_text (R.remaining (device_of input.old)) }
 
     // What each fault means.
     ensures only_pretty { IsErrOf result Fault.NotPlain → command ≡ Command.Pretty }

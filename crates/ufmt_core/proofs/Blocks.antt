@@ -8,10 +8,10 @@ use Rattle.std.proofs.lemmas.Iterator.Consumers.{YieldsList-so_far}
 use Rattle.std.proofs.lemmas.List.{map-append, take_more, take-append-drop}
 use Rattle.std.proofs.lemmas.Simd.{map-map}
 use Rattle.ufmt_core.specs.Document.{Document}
-use Rattle.ufmt_core.specs.Layout.{Setting, Place, Frame, inside, layout, next, rest, trail}
+use Rattle.ufmt_core.specs.Layout.{Setting, Count, Frame, inside, layout, next, block_tail, trail}
 use Rattle.ufmt_core.specs.Writes.{Seen, Writes}
 use Rattle.ufmt_core.specs.Formatter.{Formatter, LaysOut, Prints, setting_of, writer_of}
-use Rattle.ufmt_core.specs.Block.{Status, Lent, LentValue, Block, Same, Part, Entry, Row, Entries, Abandonment, EntryEnd, Closing, After, IsOpen, Stop, framed, framed_all, frame_of, inner, lead_of, pair_text, place_after, trail_of}
+use Rattle.ufmt_core.specs.Block.{Status, Lent, LentValue, Block, Same, WritesPart, WritesEntry, WritesRow, WritesEntries, Abandons, EndsEntry, WritesEnding, After, IsOpen, StopsIn, framed, framed_all, frame_of, inner, lead_of, pair_text, count_after, trail_of}
 use Rattle.ufmt_core.proofs.Writing.{is_ok-err, Writes-then, Writes-fails, Writes-nothing, Prints-then, Prints-then_at}
 
 module _ {W : Type 0} where
@@ -19,9 +19,9 @@ module _ {W : Type 0} where
   Same-then a b = record { reference = b.reference ∙ a.reference; kind = b.kind ∙ a.kind; outer = b.outer ∙ a.outer }
 
   -- what a call leaves depends on the entries' mode and depth and on those from before alone
-  After-from : (ok : Bool) (place : Place) (old mid new : Block W) → inner mid ≡ inner old → mid.outer ≡ old.outer → After ok place mid new → After ok place old new
-  After-from true place old mid new i o h = (h.0, h.1, h.2 ∙ i)
-  After-from false place old mid new i o h = (h.0, h.1 ∙ o)
+  After-from : (ok : Bool) (count : Count) (old mid new : Block W) → inner mid ≡ inner old → mid.outer ≡ old.outer → After ok count mid new → After ok count old new
+  After-from true count old mid new i o h = (h.0, h.1, h.2 ∙ i)
+  After-from false count old mid new i o h = (h.0, h.1 ∙ o)
 
   -- the builder with this status, where its formatter has come to this value
   abbrev pub lent_to : Status → Block W → Formatter W → Block W
@@ -29,24 +29,24 @@ module _ {W : Type 0} where
 
 module _ {W : Type 0} {seen : Seen W} where
   -- two calls in a row write their parts joined
-  pub Part-then : {old mid new : Block W} {p q : List ℕ} {ok : Bool} {between place : Place} → Part seen old p true between mid → Part seen mid q ok place new → Part seen old (p ++ q) ok place new
-  Part-then {old} {mid} {new} {ok = ok} {place = place} a b = record {
+  pub WritesPart-then : {old mid new : Block W} {p q : List ℕ} {ok : Bool} {between count : Count} → WritesPart seen old p true between mid → WritesPart seen mid q ok count new → WritesPart seen old (p ++ q) ok count new
+  WritesPart-then {old} {mid} {new} {ok = ok} {count = count} a b = record {
     wrote = Writes-then a.wrote b.wrote;
     same = Same-then a.same b.same;
-    after = After-from ok place old mid new a.after.2 a.same.outer b.after;
+    after = After-from ok count old mid new a.after.2 a.same.outer b.after;
   }
 
   -- a beginning of a part is one of what begins with it
-  pub Part-fails : {old new : Block W} {p : List ℕ} (q : List ℕ) {between place : Place} → Part seen old p false between new → Part seen old (p ++ q) false place new
-  Part-fails q a = record { wrote = Writes-fails q a.wrote; same = a.same; after = a.after }
+  pub WritesPart-fails : {old new : Block W} {p : List ℕ} (q : List ℕ) {between count : Count} → WritesPart seen old p false between new → WritesPart seen old (p ++ q) false count new
+  WritesPart-fails q a = record { wrote = Writes-fails q a.wrote; same = a.same; after = a.after }
 
   -- a call that went on, and then what closes the block
-  pub Closing-then : {old mid new : Block W} {p q : List ℕ} {ok : Bool} {between : Place} → Part seen old p true between mid → Closing seen mid q ok new → Closing seen old (p ++ q) ok new
-  Closing-then a f = record { wrote = Writes-then a.wrote f.wrote; same = Same-then a.same f.same; closed = f.closed; restored = f.restored ∙ a.same.outer }
+  pub WritesEnding-then : {old mid new : Block W} {p q : List ℕ} {ok : Bool} {between : Count} → WritesPart seen old p true between mid → WritesEnding seen mid q ok new → WritesEnding seen old (p ++ q) ok new
+  WritesEnding-then a f = record { wrote = Writes-then a.wrote f.wrote; same = Same-then a.same f.same; closed = f.closed; restored = f.restored ∙ a.same.outer }
 
   -- a call that failed closes the block
-  pub Closing-fails : {old new : Block W} {p : List ℕ} (q : List ℕ) {between : Place} → Part seen old p false between new → Closing seen old (p ++ q) false new
-  Closing-fails q a = record { wrote = Writes-fails q a.wrote; same = a.same; closed = a.after.0; restored = a.after.1 }
+  pub WritesEnding-fails : {old new : Block W} {p : List ℕ} (q : List ℕ) {between : Count} → WritesPart seen old p false between new → WritesEnding seen old (p ++ q) false new
+  WritesEnding-fails q a = record { wrote = Writes-fails q a.wrote; same = a.same; closed = a.after.0; restored = a.after.1 }
 
 -- a call that went on was handed an `Ok`
 handed_ok : {X Y E : Type 0} (answer : Result X E) (result : Result Y E) → IfErr answer (λ e. result ≡ Err e) → IsOk result → is_ok answer ≡ true
@@ -56,118 +56,118 @@ handed_ok (Err x) result h k = cc (ap is_ok h)
 -- the lent formatter has printed a text, and then a call of the builder
 module _ {W : Type 0} {seen : Seen W} (pending : Status) (old : Block W) {new : Block W} {ended : Formatter W} {printed : List ℕ} where
   -- wrote what follows
-  Part-printed : (tail : Setting → List ℕ) {ok : Bool} {place : Place} → Prints seen old.formatter printed true ended → Part seen (lent_to pending old ended) (tail (setting_of ended)) ok place new →
-      Part seen old (printed ++ tail (inner old)) ok place new
-  Part-printed tail {ok} {place} p a = record {
+  WritesPart-printed : (tail : Setting → List ℕ) {ok : Bool} {count : Count} → Prints seen old.formatter printed true ended → WritesPart seen (lent_to pending old ended) (tail (setting_of ended)) ok count new →
+      WritesPart seen old (printed ++ tail (inner old)) ok count new
+  WritesPart-printed tail {ok} {count} p a = record {
     wrote = Writes-then p.wrote (subst (λ (s : Setting). Writes seen (writer_of ended) (tail s) ok (writer_of new.formatter)) p.same_setting a.wrote);
     same = record { reference = a.same.reference; kind = a.same.kind; outer = a.same.outer };
-    after = After-from ok place old (lent_to pending old ended) new p.same_setting refl a.after;
+    after = After-from ok count old (lent_to pending old ended) new p.same_setting refl a.after;
   }
 
   -- was handed its failure
-  Part-abandoned : Prints seen old.formatter printed false ended → Abandonment (lent_to pending old ended) new → Stop seen old printed new
-  Part-abandoned p a = record { wrote = rw a.same_writer p.wrote; same = record { reference = a.same.reference; kind = a.same.kind; outer = a.same.outer }; after = a.after }
+  WritesPart-abandoned : Prints seen old.formatter printed false ended → Abandons (lent_to pending old ended) new → StopsIn seen old printed new
+  WritesPart-abandoned p a = record { wrote = rw a.same_writer p.wrote; same = record { reference = a.same.reference; kind = a.same.kind; outer = a.same.outer }; after = a.after }
 
 -- an entry in halves: what stands before the value was written, the lent formatter has printed the value's text, and the second half has ended the entry
 module _ {W E : Type 0} {seen : Seen W} (pending : Status) (old : Block W) {new : Block W} {begun : Formatter W} (ended : Formatter W) (before : List ℕ) (text : Setting → List ℕ) where
-  pub Part-between : {mid : Block W} (answer result : Result (Unit {0}) E) → mid ≡ lent_to pending old ended → Prints seen old.formatter before true begun →
-      Prints seen begun (text (setting_of begun)) (is_ok answer) ended → EntryEnd seen answer mid result (is_ok result) new →
-      Part seen old (before ++ (text (inner old) ++ trail_of old)) (is_ok result) (next old.place) new
-  Part-between (Ok x) result m p l e =
-      let end = subst (λ (b : Block W). EntryEnd seen (Ok x) b result (is_ok result) new) m e in
-      rw (← append_assoc before (text (inner old)) (trail_of old)) (Part-printed pending old (λ s. trail s.mode) (Prints-then_at text p l) end.trail)
-  Part-between (Err x) result m p l e =
-      let end = subst (λ (b : Block W). EntryEnd seen (Err x) b result (is_ok result) new) m e in
-      rw (ap is_ok end.error.0, ← append_assoc before (text (inner old)) (trail_of old)) (Part-fails _ (Part-abandoned pending old (Prints-then_at text p l) end.error.1))
+  pub WritesPart-between : {mid : Block W} (answer result : Result (Unit {0}) E) → mid ≡ lent_to pending old ended → Prints seen old.formatter before true begun →
+      Prints seen begun (text (setting_of begun)) (is_ok answer) ended → EndsEntry seen answer mid result (is_ok result) new →
+      WritesPart seen old (before ++ (text (inner old) ++ trail_of old)) (is_ok result) (next old.count) new
+  WritesPart-between (Ok x) result m p l e =
+      let end = subst (λ (b : Block W). EndsEntry seen (Ok x) b result (is_ok result) new) m e in
+      rw (← append_assoc before (text (inner old)) (trail_of old)) (WritesPart-printed pending old (λ s. trail s.mode) (Prints-then_at text p l) end.trail)
+  WritesPart-between (Err x) result m p l e =
+      let end = subst (λ (b : Block W). EndsEntry seen (Err x) b result (is_ok result) new) m e in
+      rw (ap is_ok end.error.0, ← append_assoc before (text (inner old)) (trail_of old)) (WritesPart-fails _ (WritesPart-abandoned pending old (Prints-then_at text p l) end.error.1))
 
 -- a map's entry: the key, `: ` and the value, each by the lent formatter
 module _ {W E : Type 0} {seen : Seen W} (old : Block W) {new : Block W} {begun : Formatter W} (ended : Formatter W) (key value : Document) where
   -- the key and then `: `, where that failed, or where the key's answer was an error
-  pub Entry-no_value : {mid : Block W} (answer : Result (Unit {0}) E) → mid ≡ lent_to Lent old ended → Prints seen old.formatter (lead_of old) true begun → LaysOut seen begun key (is_ok answer) ended →
-      OnOk answer (Stop seen mid (codes ": ") new) → OnErr answer (Abandonment mid new) → Entry seen old (pair_text key value) false new
-  Entry-no_value (Ok x) m p l stop error =
-      let whole : framed (frame_of old) (inner old) old.place (pair_text key value (inner old)) ≡ ((lead_of old ++ layout (inner old) key) ++ codes ": ") ++ (layout (inner old) value ++ trail_of old) = simp append_assoc in
-      record { part = rw whole (Part-fails _ (Part-printed Lent old (λ s. codes ": ") (Prints-then_at (λ s. layout s key) p l.prints) (subst (λ (b : Block W). Stop seen b (codes ": ") new) m stop))) }
-  Entry-no_value (Err x) m p l stop error =
-      let whole : framed (frame_of old) (inner old) old.place (pair_text key value (inner old)) ≡ (lead_of old ++ layout (inner old) key) ++ (codes ": " ++ (layout (inner old) value ++ trail_of old)) = simp append_assoc in
-      record { part = rw whole (Part-fails _ (Part-abandoned Lent old (Prints-then_at (λ s. layout s key) p l.prints) (subst (λ (b : Block W). Abandonment b new) m error))) }
+  pub WritesEntry-no_value : {mid : Block W} (answer : Result (Unit {0}) E) → mid ≡ lent_to Lent old ended → Prints seen old.formatter (lead_of old) true begun → LaysOut seen begun key (is_ok answer) ended →
+      OnOk answer (StopsIn seen mid (codes ": ") new) → OnErr answer (Abandons mid new) → WritesEntry seen old (pair_text key value) false new
+  WritesEntry-no_value (Ok x) m p l stop error =
+      let whole : framed (frame_of old) (inner old) old.count (pair_text key value (inner old)) ≡ ((lead_of old ++ layout (inner old) key) ++ codes ": ") ++ (layout (inner old) value ++ trail_of old) = simp append_assoc in
+      record { part = rw whole (WritesPart-fails _ (WritesPart-printed Lent old (λ s. codes ": ") (Prints-then_at (λ s. layout s key) p l.prints) (subst (λ (b : Block W). StopsIn seen b (codes ": ") new) m stop))) }
+  WritesEntry-no_value (Err x) m p l stop error =
+      let whole : framed (frame_of old) (inner old) old.count (pair_text key value (inner old)) ≡ (lead_of old ++ layout (inner old) key) ++ (codes ": " ++ (layout (inner old) value ++ trail_of old)) = simp append_assoc in
+      record { part = rw whole (WritesPart-fails _ (WritesPart-abandoned Lent old (Prints-then_at (λ s. layout s key) p l.prints) (subst (λ (b : Block W). Abandons b new) m error))) }
 
   -- `: ` and the value too
-  pub Entry-pair : {Y : Type 0} {mid last : Block W} {lent : Formatter W} (printed : Formatter W) (key_answer answer result : Result (Unit {0}) E) (lending : Result Y E) →
+  pub WritesEntry-pair : {Y : Type 0} {mid last : Block W} {lent : Formatter W} (printed : Formatter W) (key_answer answer result : Result (Unit {0}) E) (lending : Result Y E) →
       mid ≡ lent_to Lent old ended → Prints seen old.formatter (lead_of old) true begun → LaysOut seen begun key (is_ok key_answer) ended → IfErr key_answer (λ e. lending ≡ Err e) → IsOk lending →
-      last ≡ lent_to LentValue mid printed → Prints seen mid.formatter (codes ": ") true lent → LaysOut seen lent value (is_ok answer) printed → EntryEnd seen answer last result (is_ok result) new →
-      Entry seen old (pair_text key value) (is_ok result) new
-  Entry-pair {last = last} {lent = lent} printed key_answer answer result lending m p k error ok l colon v e =
+      last ≡ lent_to LentValue mid printed → Prints seen mid.formatter (codes ": ") true lent → LaysOut seen lent value (is_ok answer) printed → EndsEntry seen answer last result (is_ok result) new →
+      WritesEntry seen old (pair_text key value) (is_ok result) new
+  WritesEntry-pair {last = last} {lent = lent} printed key_answer answer result lending m p k error ok l colon v e =
       let keyed = subst (λ (o : Bool). Prints seen begun (layout (setting_of begun) key) o ended) (handed_ok key_answer lending error ok) k.prints in
       let front = Prints-then (Prints-then_at (λ s. layout s key) p keyed) (subst (λ (b : Block W). Prints seen b.formatter (codes ": ") true lent) m colon) in
       let lent_value : last ≡ lent_to LentValue old printed = l ∙ ap (λ b. lent_to LentValue b printed) m in
-      let whole : framed (frame_of old) (inner old) old.place (pair_text key value (inner old)) ≡ ((lead_of old ++ layout (inner old) key) ++ codes ": ") ++ (layout (inner old) value ++ trail_of old) = simp append_assoc in
-      record { part = rw whole (Part-between LentValue old printed _ (λ s. layout s value) answer result lent_value front v.prints e) }
+      let whole : framed (frame_of old) (inner old) old.count (pair_text key value (inner old)) ≡ ((lead_of old ++ layout (inner old) key) ++ codes ": ") ++ (layout (inner old) value ++ trail_of old) = simp append_assoc in
+      record { part = rw whole (WritesPart-between LentValue old printed _ (λ s. layout s value) answer result lent_value front v.prints e) }
 
 -- entries in a row
 
 -- entries in a row, and then what is left, are what was left
-pub rest-append : (f : Frame) (s : Setting) (place : Place) (ts us : List (List ℕ)) → rest f s place (ts ++ us) ≡ framed_all f (inside s) place ts ++ rest f s (place_after place ts) us
-rest-append f s place [] us = refl
-rest-append f s place (t ∷ ts) us = rw (rest-append f s (next place) ts us) (simp append_assoc)
+pub block_tail-append : (f : Frame) (s : Setting) (count : Count) (ts us : List (List ℕ)) → block_tail f s count (ts ++ us) ≡ framed_all f (inside s) count ts ++ block_tail f s (count_after count ts) us
+block_tail-append f s count [] us = refl
+block_tail-append f s count (t ∷ ts) us = rw (block_tail-append f s (next count) ts us) (simp append_assoc)
 
-framed_all-append : (f : Frame) (i : Setting) (place : Place) (ts us : List (List ℕ)) → framed_all f i place (ts ++ us) ≡ framed_all f i place ts ++ framed_all f i (place_after place ts) us
-framed_all-append f i place [] us = refl
-framed_all-append f i place (t ∷ ts) us = rw (framed_all-append f i (next place) ts us) (sym (append_assoc (framed f i place t) (framed_all f i (next place) ts) _))
+framed_all-append : (f : Frame) (i : Setting) (count : Count) (ts us : List (List ℕ)) → framed_all f i count (ts ++ us) ≡ framed_all f i count ts ++ framed_all f i (count_after count ts) us
+framed_all-append f i count [] us = refl
+framed_all-append f i count (t ∷ ts) us = rw (framed_all-append f i (next count) ts us) (sym (append_assoc (framed f i count t) (framed_all f i (next count) ts) _))
 
-pub place_after-map : {X Y : Type 0} (f : X → Y) (place : Place) (xs : List X) → place_after place (map f xs) ≡ place_after place xs
-place_after-map f place [] = refl
-place_after-map f place (x ∷ xs) = place_after-map f (next place) xs
+pub count_after-map : {X Y : Type 0} (f : X → Y) (count : Count) (xs : List X) → count_after count (map f xs) ≡ count_after count xs
+count_after-map f count [] = refl
+count_after-map f count (x ∷ xs) = count_after-map f (next count) xs
 
-place_after-append : {X : Type 0} (place : Place) (xs : List X) (x : X) → place_after place (xs ++ x ∷ []) ≡ next (place_after place xs)
-place_after-append place [] x = refl
-place_after-append place (y ∷ xs) x = place_after-append (next place) xs x
+count_after-append : {X : Type 0} (count : Count) (xs : List X) (x : X) → count_after count (xs ++ x ∷ []) ≡ next (count_after count xs)
+count_after-append count [] x = refl
+count_after-append count (y ∷ xs) x = count_after-append (next count) xs x
 
 module _ {W D : Type 0} {seen : Seen W} (text_of : D → Setting → List ℕ) where
   -- no entry yet
-  pub Row-none : (b : Block W) → IsOpen b → Row seen b text_of [] true b
-  Row-none b open_b = record { part = record { wrote = Writes-nothing _; same = record { reference = refl; kind = refl; outer = refl }; after = (refl, open_b, refl) } }
+  pub WritesRow-none : (b : Block W) → IsOpen b → WritesRow seen b text_of [] true b
+  WritesRow-none b open_b = record { part = record { wrote = Writes-nothing _; same = record { reference = refl; kind = refl; outer = refl }; after = (refl, open_b, refl) } }
 
   -- after some entries, one more
-  pub Row-more : {old mid new : Block W} (xs : List D) (y : D) (ok : Bool) → Row seen old text_of xs true mid → Entry seen mid (text_of y) ok new → Row seen old text_of (xs ++ y ∷ []) ok new
-  Row-more {old} {mid} {new} xs y ok a e =
+  pub WritesRow-more : {old mid new : Block W} (xs : List D) (y : D) (ok : Bool) → WritesRow seen old text_of xs true mid → WritesEntry seen mid (text_of y) ok new → WritesRow seen old text_of (xs ++ y ∷ []) ok new
+  WritesRow-more {old} {mid} {new} xs y ok a e =
       let texts = map (λ x. text_of x (inner old)) xs in
-      let part : framed_all (frame_of old) (inner old) old.place (map (λ x. text_of x (inner old)) (xs ++ y ∷ [])) ≡
-      framed_all (frame_of old) (inner old) old.place texts ++ framed (frame_of mid) (inner mid) mid.place (text_of y (inner mid)) =
-      ap (λ ts. framed_all (frame_of old) (inner old) old.place ts) (map-append (λ x. text_of x (inner old)) xs (y ∷ []))
-      ∙ framed_all-append (frame_of old) (inner old) old.place texts (text_of y (inner old) ∷ [])
-      ∙ ap (λ t. framed_all (frame_of old) (inner old) old.place texts ++ t)
-      (append-nil _ ∙ rw (a.part.after.2, a.part.same.kind, a.part.after.0, place_after-map (λ x. text_of x (inner old)) old.place xs) refl) in
-      record { part = rw (part, place_after-append old.place xs y, sym a.part.after.0) (Part-then a.part e.part) }
+      let part : framed_all (frame_of old) (inner old) old.count (map (λ x. text_of x (inner old)) (xs ++ y ∷ [])) ≡
+      framed_all (frame_of old) (inner old) old.count texts ++ framed (frame_of mid) (inner mid) mid.count (text_of y (inner mid)) =
+      ap (λ ts. framed_all (frame_of old) (inner old) old.count ts) (map-append (λ x. text_of x (inner old)) xs (y ∷ []))
+      ∙ framed_all-append (frame_of old) (inner old) old.count texts (text_of y (inner old) ∷ [])
+      ∙ ap (λ t. framed_all (frame_of old) (inner old) old.count texts ++ t)
+      (append-nil _ ∙ rw (a.part.after.2, a.part.same.kind, a.part.after.0, count_after-map (λ x. text_of x (inner old)) old.count xs) refl) in
+      record { part = rw (part, count_after-append old.count xs y, sym a.part.after.0) (WritesPart-then a.part e.part) }
 
   -- after the first entries of a list, the next
-  pub Row-next : {old mid new : Block W} (whole : List D) (k : ℕ) (y : D) (ok : Bool) → k < length whole → y ≡ get_or whole k y → Row seen old text_of (take k whole) true mid → Entry seen mid (text_of y) ok new →
-      Row seen old text_of (take (k + 1) whole) ok new
-  Row-next {old} {mid} {new} whole k y ok within is a e =
-      subst (λ (xs : List D). Row seen old text_of xs ok new) (ap (λ z. take k whole ++ z ∷ []) is ∙ sym (take_more whole k y within)) (Row-more (take k whole) y ok a e)
+  pub WritesRow-next : {old mid new : Block W} (whole : List D) (k : ℕ) (y : D) (ok : Bool) → k < length whole → y ≡ get_or whole k y → WritesRow seen old text_of (take k whole) true mid → WritesEntry seen mid (text_of y) ok new →
+      WritesRow seen old text_of (take (k + 1) whole) ok new
+  WritesRow-next {old} {mid} {new} whole k y ok within is a e =
+      subst (λ (xs : List D). WritesRow seen old text_of xs ok new) (ap (λ z. take k whole ++ z ∷ []) is ∙ sym (take_more whole k y within)) (WritesRow-more (take k whole) y ok a e)
 
 module _ {W U T D X E : Type 0} {seen : Seen W} {becomes : U → T → Type 0} (steps : T → Option D → T → Type 0) (text_of : D → Setting → List ℕ) where
   -- a loop over the items of an iterator, where the entry after the first ones failed
-  pub Entries-stopped : {entries : U} (first here after : T) {xs : List D} {y : D} {old mid new : Block W} (answer : Result X E) → IsErr answer → becomes entries first →
-      Yields steps first xs here → steps here (Some y) after → Row seen old text_of xs true mid → Entry seen mid (text_of y) false new → Entries seen becomes steps text_of entries old (is_ok answer) new
-  Entries-stopped first here after {xs} {y} answer failed begins yields step a e =
+  pub WritesEntries-stopped : {entries : U} (first here after : T) {xs : List D} {y : D} {old mid new : Block W} (answer : Result X E) → IsErr answer → becomes entries first →
+      Yields steps first xs here → steps here (Some y) after → WritesRow seen old text_of xs true mid → WritesEntry seen mid (text_of y) false new → WritesEntries seen becomes steps text_of entries old (is_ok answer) new
+  WritesEntries-stopped first here after {xs} {y} answer failed begins yields step a e =
       rw (is_ok-err answer failed) record {
         iterator = first;
         begins = begins;
         items = xs ++ y ∷ [];
         drains = (after, Yields-more steps first xs here y after yields step, λ ok. absurd (cc));
-        row = Row-more text_of xs y false a e;
+        row = WritesRow-more text_of xs y false a e;
       }
 
 module _ {W U T D Y : Type 0} {seen : Seen W} {becomes : U → T → Type 0} {steps : T → Option D → T → Type 0} (view : D → Y) (text_of : Y → Setting → List ℕ) where
   -- where every run of the iterator gives items that `view` takes to `ys`, their entries were written, or a beginning of them
-  pub Row-from_entries : (entries : U) (ys : List Y) {old new : Block W} (ok : Bool) →
-      ((it : T) → becomes entries it → AlwaysYields steps view it ys) → Entries seen becomes steps (λ x. text_of (view x)) entries old ok new → Row seen old text_of ys ok new
-  Row-from_entries entries ys {old} {new} true yields a =
+  pub WritesRow-from_entries : (entries : U) (ys : List Y) {old new : Block W} (ok : Bool) →
+      ((it : T) → becomes entries it → AlwaysYields steps view it ys) → WritesEntries seen becomes steps (λ x. text_of (view x)) entries old ok new → WritesRow seen old text_of ys ok new
+  WritesRow-from_entries entries ys {old} {new} true yields a =
       let given : YieldsList steps view a.iterator ys = record { runs = yields a.iterator a.begins } in
       let all = items_from_drains a.items (a.drains.0, a.drains.1, λ _. a.drains.2 refl) given in
-      record { part = rw (← all, map-map (λ y. text_of y (inner old)) view a.items, place_after-map view old.place a.items) a.row.part }
-  Row-from_entries entries ys {old} {new} false yields a =
+      record { part = rw (← all, map-map (λ y. text_of y (inner old)) view a.items, count_after-map view old.count a.items) a.row.part }
+  WritesRow-from_entries entries ys {old} {new} false yields a =
       let text : Y → List ℕ = λ y. text_of y (inner old) in
       let texts = map (λ x. text (view x)) a.items in
       let count = length a.items in
@@ -176,4 +176,4 @@ module _ {W U T D Y : Type 0} {seen : Seen W} {becomes : U → T → Type 0} {st
       let all : map text ys ≡ texts ++ map text (drop count ys) =
       ap (map text) (sym (take-append-drop count ys) ∙ ap (λ front. front ++ drop count ys) (sym first))
       ∙ map-append text (map view a.items) (drop count ys) ∙ ap (λ ts. ts ++ map text (drop count ys)) (map-map text view a.items) in
-      record { part = rw (all, framed_all-append) (Part-fails _ a.row.part) }
+      record { part = rw (all, framed_all-append) (WritesPart-fails _ a.row.part) }

@@ -1,4 +1,5 @@
 pub mod Blocks
+pub mod Counts
 pub mod DecimalTexts
 pub mod Indentation
 pub mod Items

@@ -16,12 +16,12 @@ is_ok-err (Err e) h = refl
 Appended-then : (ok : Bool) (old p q mid new : List ℕ) → mid ≡ old ++ p → Appended ok mid q new → Appended ok old (p ++ q) new
 Appended-then true old p q mid new e h = h ∙ ap (λ t. t ++ q) e ∙ append_assoc old p q
 Appended-then false old p q mid new e h =
-    (p ++ h.0, record { rest = h.1.rest; joined = ap (λ t. p ++ t) h.1.joined ∙ sym (append_assoc p h.0 h.1.rest) }, h.2 ∙ ap (λ t. t ++ h.0) e ∙ append_assoc old p h.0)
+    (p ++ h.0, record { remainder = h.1.remainder; joined = ap (λ t. p ++ t) h.1.joined ∙ sym (append_assoc p h.0 h.1.remainder) }, h.2 ∙ ap (λ t. t ++ h.0) e ∙ append_assoc old p h.0)
 
 -- a beginning of `p` is one of `p ++ q`
 Appended-fails : (old p q new : List ℕ) → Appended false old p new → Appended false old (p ++ q) new
 Appended-fails old p q new h =
-    (h.0, record { rest = h.1.rest ++ q; joined = ap (λ t. t ++ q) h.1.joined ∙ append_assoc h.0 h.1.rest q }, h.2)
+    (h.0, record { remainder = h.1.remainder ++ q; joined = ap (λ t. t ++ q) h.1.joined ∙ append_assoc h.0 h.1.remainder q }, h.2)
 
 -- a text doesn't shrink
 Appended-grows : (ok : Bool) (old piece new : List ℕ) → Appended ok old piece new → length old ≤ length new

@@ -4,7 +4,7 @@ use Rattle.std.specs.Iterator.{DrainsIf}
 pub use Rattle.ufmt_core.specs.declared.formatter.builder.Status.{Status}
 pub use Rattle.ufmt_core.specs.declared.formatter.builder.Status.TheVariants.{Open, Lent, LentValue, Closed}
 use Rattle.ufmt_core.specs.Document.{Document, Documents, Fields, Pairs}
-use Rattle.ufmt_core.specs.Layout.{Setting, Kind, Place, First, Frame, frame, inside, layout, lead, trail, ending, next, rest, texts, pair_texts, field_texts}
+use Rattle.ufmt_core.specs.Layout.{Setting, Kind, Count, Zero, Frame, frame, inside, layout, lead, trail, ending, next, block_tail, texts, pair_texts, field_texts}
 use Rattle.ufmt_core.specs.Writes.{Seen, Writes}
 use Rattle.ufmt_core.specs.Formatter.{Formatter, writer_of, setting_of}
 
@@ -18,8 +18,8 @@ pub record Block (W : Type 0) : Type 0 where
   pub kind : Kind
   -- the mode and depth from before the builder
   pub outer : Setting
-  -- where the next entry stands
-  pub place : Place
+  -- how many entries it has
+  pub count : Count
   -- which calls may follow
   pub status : Status
 
@@ -34,28 +34,28 @@ abbrev pub field_text : List ℕ → Document → Setting → List ℕ
 field_text label value i = label ++ (codes ": " ++ layout i value)
 
 -- the texts of the entries that are left to a list, a set or a tuple, to a map, and to a struct
-abbrev pub entries_left : Documents → Setting → List (List ℕ)
-entries_left ds i = texts i ds
+abbrev pub remaining_entries : Documents → Setting → List (List ℕ)
+remaining_entries ds i = texts i ds
 
-abbrev pub pairs_left : Pairs → Setting → List (List ℕ)
-pairs_left ps i = pair_texts i ps
+abbrev pub remaining_pairs : Pairs → Setting → List (List ℕ)
+remaining_pairs ps i = pair_texts i ps
 
-abbrev pub fields_left : Fields → Setting → List (List ℕ)
-fields_left fs i = field_texts i fs
+abbrev pub remaining_fields : Fields → Setting → List (List ℕ)
+remaining_fields fs i = field_texts i fs
 
 -- an entry with this text: what stands before it, the text, and what follows
-abbrev pub framed : Frame → Setting → Place → List ℕ → List ℕ
-framed f i place text = lead f i place ++ (text ++ trail i.mode)
+abbrev pub framed : Frame → Setting → Count → List ℕ → List ℕ
+framed f i count text = lead f i count ++ (text ++ trail i.mode)
 
 -- entries with these texts in a row
-abbrev pub framed_all : Frame → Setting → Place → List (List ℕ) → List ℕ
-framed_all f i place [] = []
-framed_all f i place (text ∷ texts) = framed f i place text ++ framed_all f i (next place) texts
+abbrev pub framed_all : Frame → Setting → Count → List (List ℕ) → List ℕ
+framed_all f i count [] = []
+framed_all f i count (text ∷ texts) = framed f i count text ++ framed_all f i (next count) texts
 
--- the place after as many entries
-abbrev pub place_after : {X : Type 0} → Place → List X → Place
-place_after place [] = place
-place_after place (x ∷ xs) = place_after (next place) xs
+-- the count after as many entries
+abbrev pub count_after : {X : Type 0} → Count → List X → Count
+count_after count [] = count
+count_after count (x ∷ xs) = count_after (next count) xs
 
 module _ {W : Type 0} where
   -- the mode and depth of the entries
@@ -68,7 +68,7 @@ module _ {W : Type 0} where
 
   -- what stands before the next entry and before the value of a struct's field, what follows an entry, and what ends the block
   abbrev pub lead_of : Block W → List ℕ
-  lead_of b = lead (frame_of b) (inner b) b.place
+  lead_of b = lead (frame_of b) (inner b) b.count
 
   abbrev pub field_lead_of : List ℕ → Block W → List ℕ
   field_lead_of label b = lead_of b ++ (label ++ codes ": ")
@@ -77,11 +77,11 @@ module _ {W : Type 0} where
   trail_of b = trail (inner b).mode
 
   abbrev pub ending_of : Block W → List ℕ
-  ending_of b = ending (frame b.outer.mode b.kind) b.outer b.place
+  ending_of b = ending (frame b.outer.mode b.kind) b.outer b.count
 
   -- what is left of the block: entries with these texts, and the end
-  abbrev pub rest_of : Block W → (Setting → List (List ℕ)) → List ℕ
-  rest_of b texts = rest (frame b.outer.mode b.kind) b.outer b.place (texts (inside b.outer))
+  abbrev pub tail_of : Block W → (Setting → List (List ℕ)) → List ℕ
+  tail_of b texts = block_tail (frame b.outer.mode b.kind) b.outer b.count (texts (inside b.outer))
 
   -- the formatter is at the mode and depth of the entries
   abbrev pub IsInside : Block W → Type 0
@@ -99,10 +99,10 @@ module _ {W : Type 0} where
   abbrev pub IsLentForValue : Block W → Type 0
   IsLentForValue b = b.status ≡ LentValue
 
-  -- what a call leaves: on `Ok` an open builder with this place next, on `Err` a closed one and the mode and depth from before it
-  abbrev pub After : Bool → Place → Block W → Block W → Type 0
-  After true place old new = (new.place ≡ place) × (new.status ≡ Open) × (inner new ≡ inner old)
-  After false place old new = (new.status ≡ Closed) × (inner new ≡ old.outer)
+  -- what a call leaves: on `Ok` an open builder with so many entries, on `Err` a closed one and the mode and depth from before it
+  abbrev pub After : Bool → Count → Block W → Block W → Type 0
+  After true count old new = (new.count ≡ count) × (new.status ≡ Open) × (inner new ≡ inner old)
+  After false count old new = (new.status ≡ Closed) × (inner new ≡ old.outer)
 
   -- it is the same builder, over the same reference, of the same kind of block and with the same mode and depth from before it
   pub record Same (old new : Block W) : Type 0 where
@@ -111,41 +111,41 @@ module _ {W : Type 0} where
     pub outer : new.outer ≡ old.outer
 
   -- a new builder, over the reference with this name, has written the opening of a block of this kind
-  pub record Opening (seen : Seen W) (start : Formatter W) (reference : ℕ) (kind : Kind) (text : List ℕ) (new : Block W) : Type 0 where
+  pub record WritesOpening (seen : Seen W) (start : Formatter W) (reference : ℕ) (kind : Kind) (text : List ℕ) (new : Block W) : Type 0 where
     pub wrote : Writes seen (writer_of start) text true (writer_of new.formatter)
-    pub same : Same (record { formatter = start; reference = reference; kind = kind; outer = setting_of start; place = First; status = Open }) new
+    pub same : Same (record { formatter = start; reference = reference; kind = kind; outer = setting_of start; count = Zero; status = Open }) new
     pub inner : setting_of new.formatter ≡ inside (setting_of start)
-    pub place : new.place ≡ First
+    pub count : new.count ≡ Zero
     pub status : new.status ≡ Open
 
   -- a call has written this part of the block, or a beginning of it
-  pub record Part (seen : Seen W) (old : Block W) (text : List ℕ) (ok : Bool) (place : Place) (new : Block W) : Type 0 where
+  pub record WritesPart (seen : Seen W) (old : Block W) (text : List ℕ) (ok : Bool) (count : Count) (new : Block W) : Type 0 where
     pub wrote : Writes seen (writer_of old.formatter) text ok (writer_of new.formatter)
     pub same : Same old new
-    pub after : After ok place old new
+    pub after : After ok count old new
 
   -- a call has failed: a beginning of this part is written, and the builder is closed
-  abbrev pub Stop : Seen W → Block W → List ℕ → Block W → Type 0
-  Stop seen old text new = Part seen old text false old.place new
+  abbrev pub StopsIn : Seen W → Block W → List ℕ → Block W → Type 0
+  StopsIn seen old text new = WritesPart seen old text false old.count new
 
   -- one entry with this text was written, or a beginning of it
-  pub record Entry (seen : Seen W) (old : Block W) (text : Setting → List ℕ) (ok : Bool) (new : Block W) : Type 0 where
-    pub part : Part seen old (framed (frame_of old) (inner old) old.place (text (inner old))) ok (next old.place) new
+  pub record WritesEntry (seen : Seen W) (old : Block W) (text : Setting → List ℕ) (ok : Bool) (new : Block W) : Type 0 where
+    pub part : WritesPart seen old (framed (frame_of old) (inner old) old.count (text (inner old))) ok (next old.count) new
 
   -- a call was handed an error: nothing is written, and the builder is closed
-  pub record Abandonment (old new : Block W) : Type 0 where
+  pub record Abandons (old new : Block W) : Type 0 where
     pub same_writer : writer_of new.formatter ≡ writer_of old.formatter
     pub same : Same old new
-    pub after : After false old.place old new
+    pub after : After false old.count old new
 
   -- what the second half of an entry answers and does, where the value's `fmt` answered `answer`
-  pub record EntryEnd {E : Type 0} (seen : Seen W) (answer : Result (Unit {0}) E) (old : Block W) (result : Result (Unit {0}) E) (ok : Bool) (new : Block W) : Type 0 where
+  pub record EndsEntry {E : Type 0} (seen : Seen W) (answer : Result (Unit {0}) E) (old : Block W) (result : Result (Unit {0}) E) (ok : Bool) (new : Block W) : Type 0 where
     -- what follows an entry was written, or a beginning of it
-    pub trail : OnOk answer (Part seen old (trail_of old) ok (next old.place) new)
-    pub error : IfErr answer (λ e. (result ≡ Err e) × Abandonment old new)
+    pub trail : OnOk answer (WritesPart seen old (trail_of old) ok (next old.count) new)
+    pub error : IfErr answer (λ e. (result ≡ Err e) × Abandons old new)
 
   -- the end of the block was written, or a beginning of it; the builder is closed, and mode and depth are those from before it
-  pub record Closing (seen : Seen W) (old : Block W) (text : List ℕ) (ok : Bool) (new : Block W) : Type 0 where
+  pub record WritesEnding (seen : Seen W) (old : Block W) (text : List ℕ) (ok : Bool) (new : Block W) : Type 0 where
     pub wrote : Writes seen (writer_of old.formatter) text ok (writer_of new.formatter)
     pub same : Same old new
     pub closed : new.status ≡ Closed
@@ -153,14 +153,14 @@ module _ {W : Type 0} where
 
 module _ {W D : Type 0} where
   -- entries of these items were written in a row, each with the text that `text_of` tells, or a beginning of them
-  pub record Row (seen : Seen W) (old : Block W) (text_of : D → Setting → List ℕ) (items : List D) (ok : Bool) (new : Block W) : Type 0 where
-    pub part : Part seen old (framed_all (frame_of old) (inner old) old.place (map (λ x. text_of x (inner old)) items)) ok (place_after old.place items) new
+  pub record WritesRow (seen : Seen W) (old : Block W) (text_of : D → Setting → List ℕ) (items : List D) (ok : Bool) (new : Block W) : Type 0 where
+    pub part : WritesPart seen old (framed_all (frame_of old) (inner old) old.count (map (λ x. text_of x (inner old)) items)) ok (count_after old.count items) new
 
 module _ {W U T D : Type 0} where
   -- an entry was written for each item that the iterator gave, and on `Ok` it had no more
-  pub record Entries (seen : Seen W) (becomes : U → T → Type 0) (steps : T → Option D → T → Type 0) (text_of : D → Setting → List ℕ) (entries : U) (old : Block W) (ok : Bool) (new : Block W) : Type 0 where
+  pub record WritesEntries (seen : Seen W) (becomes : U → T → Type 0) (steps : T → Option D → T → Type 0) (text_of : D → Setting → List ℕ) (entries : U) (old : Block W) (ok : Bool) (new : Block W) : Type 0 where
     pub iterator : T
     pub begins : becomes entries iterator
     pub items : List D
     pub drains : DrainsIf steps (ok ≡ true) iterator items
-    pub row : Row seen old text_of items ok new
+    pub row : WritesRow seen old text_of items ok new

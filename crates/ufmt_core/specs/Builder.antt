@@ -1,5 +1,5 @@
 -- What contracts see of the builders, and the loans of the formatter between them and their callers.
-use Rattle.std.specs.Prelude.{◌≡◌, ℕ, List, [], Result, false, if◌then◌else◌}
+use Rattle.std.specs.Prelude.{◌≡◌, ℕ, List, [], Result, OnOk, OnErr, codes, false, if◌then◌else◌}
 use Rattle.std.specs.Borrow.{Fml, LendsSoOk, MutBor, RattleType, RestsIfErr}
 use mir.Syntax.{named}
 pub use Rattle.ufmt_core.specs.declared.formatter.builder.Builder.{Builder}
@@ -16,11 +16,11 @@ use Rattle.ufmt_core.specs.contracts.tuple.TupleBlock as tuple_marker
 use Rattle.ufmt_core.specs.Layout.{Kind, Brackets, Braces, Struct, Tuple, Unnamed}
 use Rattle.ufmt_core.specs.Writes.{Seen}
 use Rattle.ufmt_core.specs.Formatter.{Formatter, Prints, at_setting}
-use Rattle.ufmt_core.specs.Block.{Status, Closed, Block}
+use Rattle.ufmt_core.specs.Block.{Status, Lent, LentValue, Closed, Block, StopsIn, Abandons, lead_of, field_lead_of}
 
 -- a builder whose marker tells the kind of its block
 abbrev pub block : {W K : Type 0} → (K → Kind) → Builder W K → Block W
-block kind b = record { formatter = b.formatter.now; reference = b.formatter.ghost_name; kind = kind b.marker; outer = b.outer; place = b.place; status = b.status }
+block kind b = record { formatter = b.formatter.now; reference = b.formatter.ghost_name; kind = kind b.marker; outer = b.outer; count = b.count; status = b.status }
 
 -- a tuple's kind, which tells whether it has a name
 abbrev pub kind_of_tuple : TupleBlock → Kind
@@ -49,8 +49,8 @@ module _ {W K : Type 0} where
   lent status b f = record b { formatter = record b.formatter { now = f }; status = status }
 
   -- the closed builder, whose formatter is back at the mode and depth from before it
-  abbrev pub left : Builder W K → Builder W K
-  left b = lent Closed b (at_setting b.formatter.now b.outer)
+  abbrev pub abandoned : Builder W K → Builder W K
+  abandoned b = lent Closed b (at_setting b.formatter.now b.outer)
 
 module _ (W : RattleType) {E : Type 0} where
   -- the builder in the answer holds the formatter; on `Err` the formatter is back, and has printed a beginning of the opening
@@ -62,12 +62,26 @@ module _ (W : RattleType) {E : Type 0} where
   EntryLoan K self result status stop =
       LendsSoOk (builder.the_row (record { mir = named 0; lft = [] }) W K) (formatter.the_row W) self result (λ last f. last ≡ lent status self.now f) stop
 
-  -- the same of a map's, a struct's and a tuple's builder
-  abbrev pub MapLoan : MutBor (Builder W.Denot MapBlock) → Result (MutBor (Formatter W.Denot)) E → Status → (Builder W.Denot MapBlock → Type 0) → Fml
-  MapLoan = EntryLoan map_marker.the_row
+  -- the formatter is lent behind this text; on `Err` a beginning of it is written, and the builder, seen by `view`, is closed
+  abbrev pub LendsBehind : (K : RattleType) → (Builder W.Denot K.Denot → Block W.Denot) → Seen W.Denot → MutBor (Builder W.Denot K.Denot) → Result (MutBor (Formatter W.Denot)) E → List ℕ → Fml
+  LendsBehind K view seen self result text = EntryLoan K self result Lent (λ last. StopsIn seen (view self.now) text (view last))
 
-  abbrev pub StructLoan : MutBor (Builder W.Denot StructBlock) → Result (MutBor (Formatter W.Denot)) E → Status → (Builder W.Denot StructBlock → Type 0) → Fml
-  StructLoan = EntryLoan struct_marker.the_row
+  -- the formatter is lent for an entry, behind what leads to it
+  abbrev pub LendsForEntry : (K : RattleType) → (Builder W.Denot K.Denot → Block W.Denot) → Seen W.Denot → MutBor (Builder W.Denot K.Denot) → Result (MutBor (Formatter W.Denot)) E → Fml
+  LendsForEntry K view seen self result = LendsBehind K view seen self result (lead_of (view self.now))
 
-  abbrev pub TupleLoan : MutBor (Builder W.Denot TupleBlock) → Result (MutBor (Formatter W.Denot)) E → Status → (Builder W.Denot TupleBlock → Type 0) → Fml
-  TupleLoan = EntryLoan tuple_marker.the_row
+  -- of a map for a key, of a tuple for a field, and of a struct for the value of the field with this name
+  abbrev pub LendsForKey : Seen W.Denot → MutBor (Builder W.Denot MapBlock) → Result (MutBor (Formatter W.Denot)) E → Fml
+  LendsForKey = LendsForEntry map_marker.the_row map_block
+
+  abbrev pub LendsForUnnamedField : Seen W.Denot → MutBor (Builder W.Denot TupleBlock) → Result (MutBor (Formatter W.Denot)) E → Fml
+  LendsForUnnamedField = LendsForEntry tuple_marker.the_row tuple_block
+
+  abbrev pub LendsForField : Seen W.Denot → MutBor (Builder W.Denot StructBlock) → Result (MutBor (Formatter W.Denot)) E → List ℕ → Fml
+  LendsForField seen self result name = LendsBehind struct_marker.the_row struct_block seen self result (field_lead_of name (struct_block self.now))
+
+  -- of a map for a value, behind a colon, where the key's `fmt` answered `Ok`; where it answered an error nothing is written, and the builder is closed
+  abbrev pub LendsForValue : Seen W.Denot → MutBor (Builder W.Denot MapBlock) → Result (Unit {0}) E → Result (MutBor (Formatter W.Denot)) E → Fml
+  LendsForValue seen self answer result =
+      EntryLoan map_marker.the_row self result LentValue
+      (λ last. OnOk answer (StopsIn seen (map_block self.now) (codes ": ") (map_block last)) × OnErr answer (Abandons (map_block self.now) (map_block last)))

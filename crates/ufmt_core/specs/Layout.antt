@@ -1,44 +1,48 @@
 -- The text that a document is laid out as, in either mode and from any depth.
 use Rattle.std.specs.Prelude.{ℕ, zero, suc, ◌+◌, min, List, [], ◌∷◌, ◌++◌, codes}
 use Rattle.ufmt_core.specs.Document.{Document, leaf, joined, list_of, set_of, map_of, struct_of, tuple_of, pretty_part, Documents, no_documents, document, Pairs, no_pairs, pair, Fields, no_fields, field}
-pub use Rattle.ufmt_core.specs.declared.formatter.Mode.{Mode}
-pub use Rattle.ufmt_core.specs.declared.formatter.Mode.TheVariants.{Plain, Pretty}
-pub use Rattle.ufmt_core.specs.declared.formatter.Setting.{Setting}
-pub use Rattle.ufmt_core.specs.declared.formatter.block.Kind.{Kind}
-pub use Rattle.ufmt_core.specs.declared.formatter.block.Kind.TheVariants.{Brackets, Braces, Struct, Tuple, Unnamed}
-pub use Rattle.ufmt_core.specs.declared.formatter.block.Place.{Place}
-pub use Rattle.ufmt_core.specs.declared.formatter.block.Place.TheVariants.{First, Second, Later}
+pub use Rattle.ufmt_core.specs.declared.layout.Mode.{Mode}
+pub use Rattle.ufmt_core.specs.declared.layout.Mode.TheVariants.{Plain, Pretty}
+pub use Rattle.ufmt_core.specs.declared.layout.Setting.{Setting}
+pub use Rattle.ufmt_core.specs.declared.layout.Kind.{Kind}
+pub use Rattle.ufmt_core.specs.declared.layout.Kind.TheVariants.{Brackets, Braces, Struct, Tuple, Unnamed}
+pub use Rattle.ufmt_core.specs.declared.layout.Count.{Count}
+pub use Rattle.ufmt_core.specs.declared.layout.Count.TheVariants.{Zero, One, Several}
 
 -- what frames the entries of a block
 pub record Frame : Type 0 where
-  -- what follows the block's name
+  -- what stands behind the block's name, with entries or without
   pub opening : List ℕ
-  -- what stands before the first entry
+  -- what stands before the first entry alone
   pub start : List ℕ
-  -- what ends a block without entries
-  pub empty : List ℕ
-  -- what ends a block with one entry
-  pub alone : List ℕ
-  -- what ends a block with several
-  pub end : List ℕ
+  -- what ends a block with so many entries, on the line on which it ends
+  pub closing : Count → List ℕ
 
--- what stands inside the braces of a struct
-abbrev pub gap : Mode → List ℕ
-gap Plain = codes " "
-gap Pretty = []
+-- this text in a block with entries
+abbrev pub if_any : Count → List ℕ → List ℕ
+if_any Zero text = []
+if_any One text = text
+if_any Several text = text
+
+-- the space inside the braces of a struct
+abbrev pub brace_space : Mode → List ℕ
+brace_space Plain = codes " "
+brace_space Pretty = []
 
 -- the comma after the only entry of a tuple without a name
-abbrev pub lone_comma : Mode → List ℕ
-lone_comma Plain = codes ","
-lone_comma Pretty = []
+abbrev pub lone_comma : Count → Mode → List ℕ
+lone_comma Zero mode = []
+lone_comma One Plain = codes ","
+lone_comma One Pretty = []
+lone_comma Several mode = []
 
 -- the table of blocks: the brackets of each kind stand here alone
 abbrev pub frame : Mode → Kind → Frame
-frame mode Brackets = record { opening = codes "["; start = []; empty = codes "]"; alone = codes "]"; end = codes "]" }
-frame mode Braces = record { opening = codes "{"; start = []; empty = codes "}"; alone = codes "}"; end = codes "}" }
-frame mode Struct = record { opening = []; start = codes " {" ++ gap mode; empty = []; alone = gap mode ++ codes "}"; end = gap mode ++ codes "}" }
-frame mode Tuple = record { opening = []; start = codes "("; empty = []; alone = codes ")"; end = codes ")" }
-frame mode Unnamed = record { opening = []; start = codes "("; empty = []; alone = lone_comma mode ++ codes ")"; end = codes ")" }
+frame mode Brackets = record { opening = codes "["; start = []; closing = λ count. codes "]" }
+frame mode Braces = record { opening = codes "{"; start = []; closing = λ count. codes "}" }
+frame mode Struct = record { opening = []; start = codes " {" ++ brace_space mode; closing = λ count. if_any count (brace_space mode ++ codes "}") }
+frame mode Tuple = record { opening = []; start = codes "("; closing = λ count. if_any count (codes ")") }
+frame mode Unnamed = record { opening = []; start = codes "("; closing = λ count. lone_comma count mode ++ if_any count (codes ")") }
 
 -- the kind of a tuple with this name
 abbrev pub tuple_kind : List ℕ → Kind
@@ -82,32 +86,35 @@ abbrev pub trail : Mode → List ℕ
 trail Plain = []
 trail Pretty = codes ",\n"
 
--- what stands before an entry at this place, where the entries have this mode and depth
-abbrev pub lead : Frame → Setting → Place → List ℕ
-lead f i First = f.start ++ new_line i.mode i.depth
-lead f i Second = separator i.mode i.depth
-lead f i Later = separator i.mode i.depth
+-- what stands before an entry behind so many others, where the entries have this mode and depth
+abbrev pub lead : Frame → Setting → Count → List ℕ
+lead f i Zero = f.start ++ new_line i.mode i.depth
+lead f i One = separator i.mode i.depth
+lead f i Several = separator i.mode i.depth
 
--- what ends a block that stands at this mode and depth, where its next entry would have this place
-abbrev pub ending : Frame → Setting → Place → List ℕ
-ending f s First = f.empty
-ending f s Second = line_start s.mode s.depth ++ f.alone
-ending f s Later = line_start s.mode s.depth ++ f.end
+-- what ends a block with so many entries that stands at this mode and depth
+abbrev pub ending : Frame → Setting → Count → List ℕ
+ending f s count = if_any count (line_start s.mode s.depth) ++ f.closing count
 
--- the place after an entry
-abbrev pub next : Place → Place
-next First = Second
-next Second = Later
-next Later = Later
+-- the count with one entry more
+abbrev pub next : Count → Count
+next Zero = One
+next One = Several
+next Several = Several
 
--- what is left of a block from this place on: entries with these texts, and the end
-abbrev pub rest : Frame → Setting → Place → List (List ℕ) → List ℕ
-rest f s place [] = ending f s place
-rest f s place (text ∷ texts) = lead f (inside s) place ++ (text ++ (trail s.mode ++ rest f s (next place) texts))
+-- the count of so many entries
+abbrev pub count_of : ℕ → Count
+count_of zero = Zero
+count_of (suc n) = next (count_of n)
+
+-- what is left of a block behind so many entries: entries with these texts, and the end
+abbrev pub block_tail : Frame → Setting → Count → List (List ℕ) → List ℕ
+block_tail f s count [] = ending f s count
+block_tail f s count (text ∷ texts) = lead f (inside s) count ++ (text ++ (trail s.mode ++ block_tail f s (next count) texts))
 
 -- a block with this name and entries with these texts
 abbrev pub block : Kind → Setting → List ℕ → List (List ℕ) → List ℕ
-block kind s name texts = name ++ ((frame s.mode kind).opening ++ rest (frame s.mode kind) s First texts)
+block kind s name texts = name ++ ((frame s.mode kind).opening ++ block_tail (frame s.mode kind) s Zero texts)
 
 abbrev mutual
   -- the text of a document at this mode and depth

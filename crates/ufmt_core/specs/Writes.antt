@@ -16,8 +16,8 @@ pub record Seen (W : Type 0) : Type 1 where
 
 -- a text that begins with `part`, which may be empty or the whole
 pub record BeginsWith (whole part : List ℕ) : Type 0 where
-  pub rest : List ℕ
-  pub joined : whole ≡ part ++ rest
+  pub remainder : List ℕ
+  pub joined : whole ≡ part ++ remainder
 
 -- all of the piece was appended, or a beginning of it
 abbrev pub Appended : Bool → List ℕ → List ℕ → List ℕ → Type 0

@@ -1,3 +1,4 @@
+//! `uDebug` of references, slices, arrays, truth values, texts, characters, options and results.
 ghost use Rattle.std.specs.Prelude.{codes, if◌then◌else◌, map};
 ghost use Rattle.std.specs.Str.{chars};
 ghost use Rattle.ufmt_core.specs.Document.{documents, leaf, list_of};

@@ -1,28 +1,16 @@
+//! The formatter: a writer, a mode and a depth.
 ghost use Rattle.std.specs.Prelude.{◌≡◌, ◌↔◌, ℕ, is_ok, encode_utf8, IsTrue};
-ghost use Rattle.ufmt_core.specs.declared.formatter.Mode.TheVariants.{Pretty};
+ghost use Rattle.ufmt_core.specs.declared.layout.Mode.TheVariants.{Pretty};
 ghost use Rattle.std.specs.Borrow.{MutBor};
 ghost use Rattle.std.specs.Fn.{FnOnceReturnsAtMut};
 ghost use Rattle.ufmt_core.specs.declared.formatter.Formatter.{Formatter};
 ghost use Rattle.ufmt_core.specs.Formatter.{IsNew, Prints, at_setting, depth_of, in_pretty_mode, mode_of, setting_of, writer_of};
 
-pub(crate) mod block;
+mod block;
 pub(crate) mod builder;
 
+use crate::layout::{Mode, Setting};
 use crate::write::uWrite;
-
-/// How blocks are laid out: on one line, or an entry a line.
-#[derive(Clone, Copy)]
-pub(crate) enum Mode {
-    Plain,
-    Pretty,
-}
-
-/// The mode and depth that a document is laid out in.
-#[derive(Clone, Copy)]
-pub(crate) struct Setting {
-    pub(crate) mode: Mode,
-    pub(crate) depth: u8,
-}
 
 /// A writer, and the mode and depth that values are printed in.
 #[derive(Drop)]
@@ -53,7 +41,7 @@ impl<W: uWrite> Formatter<W> {
         self.writer
     }
 
-    /// Hands the text on to the writer as one piece.
+    /// Hands the text on to the writer as one piece. On `Err` it took a beginning of it.
     #[inline(always)]
     pub fn write_str(&mut self, s: &str) -> Result<(), W::Error>
         ensures { Prints W.seen self.old s.now (is_ok result) self.new }
@@ -61,15 +49,16 @@ impl<W: uWrite> Formatter<W> {
         self.writer.write_str(s)
     }
 
-    /// Hands the character on to the writer as one piece.
+    /// Hands the character on to the writer as one piece. On `Err` it took a beginning of its
+    /// bytes.
     pub fn write_char(&mut self, c: char) -> Result<(), W::Error>
         ensures { Prints W.seen self.old (encode_utf8 c) (is_ok result) self.new }
     {
         self.writer.write_char(c)
     }
 
-    /// Runs `f` once in pretty mode, and answers what it answered. Mode and depth are then those from
-    /// before, whatever `f` left.
+    /// Runs `f` once in pretty mode, and answers what it answered. Mode and depth are then those
+    /// from before, whatever `f` left. An `Err` of `f` is handed on.
     pub fn pretty<F: FnOnce(&mut Formatter<W>) -> Result<(), W::Error>>(
         &mut self,
         f: F,

@@ -8,6 +8,7 @@ ghost use Rattle.ufmt_core.specs.Formatter.{LaysOut};
 mod core_impls;
 mod formatter;
 pub mod laws;
+pub mod layout;
 mod list;
 mod map;
 mod nonzero;
@@ -35,8 +36,8 @@ pub trait uDebug {
     ghost document: { Self → Document };
 
     /// Appends the layout of the value's document in the formatter's mode and from its depth, or,
-    /// where the writer fails, a beginning of it. The formatter has the same writer then, which holds
-    /// the text, at the same mode and depth.
+    /// where the writer fails, a beginning of it. Writer, mode and depth are afterwards as before,
+    /// also on failure.
     fn fmt<W>(&self, f: &mut Formatter<W>) -> Result<(), W::Error>
     where
         W: uWrite,

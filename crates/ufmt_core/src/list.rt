@@ -1,16 +1,17 @@
+//! The builder of lists, and the calls that it shares with that of sets.
 ghost use Rattle.std.specs.Prelude.{codes, is_ok, map, true, IfOk, OnOk};
 ghost use Rattle.std.specs.Borrow.{sem};
 ghost use Rattle.std.specs.Iterator.{IsFiniteIterable};
-ghost use Rattle.ufmt_core.specs.declared.formatter.block.Kind.TheVariants.{Brackets};
+ghost use Rattle.ufmt_core.specs.declared.layout.Kind.TheVariants.{Brackets};
 ghost use Rattle.ufmt_core.specs.declared.formatter.builder.Status.TheVariants.{Lent};
 ghost use Rattle.ufmt_core.specs.Document.{documents, list_of};
 ghost use Rattle.ufmt_core.specs.Formatter.{LaysOut, Prints};
-ghost use Rattle.ufmt_core.specs.Block.{Entries, Entry, EntryEnd, IsLent, IsOpen, Opening, Stop, entry_text, lead_of};
-ghost use Rattle.ufmt_core.specs.Builder.{EntryLoan, OpeningLoan, block, list_block};
+ghost use Rattle.ufmt_core.specs.Block.{WritesEntries, WritesEntry, EndsEntry, IsLent, IsOpen, WritesOpening, entry_text, lead_of};
+ghost use Rattle.ufmt_core.specs.Builder.{LendsForEntry, OpeningLoan, block, list_block};
 
 use crate::formatter::Formatter;
-use crate::formatter::block::{Kind, OPENING_BRACKET};
 use crate::formatter::builder::{BlockKind, Builder};
+use crate::layout::{Kind, OPENING_BRACKET};
 use crate::uDebug;
 use crate::write::uWrite;
 
@@ -31,7 +32,7 @@ impl BlockKind for ListBlock {
 }
 
 /// A block of items: a list or a set.
-pub trait Items: BlockKind {}
+pub trait Items {}
 
 impl Items for ListBlock {}
 
@@ -41,14 +42,15 @@ impl<W: uWrite> Formatter<W> {
     pub fn debug_list<'f>(&'f mut self) -> Result<DebugList<'f, W>, W::Error>
         ensures* loan { sem 𝓛 (OpeningLoan W.row W.seen self.entry result (codes "[")) }
         ensures opening { IfOk result
-            (λ b. Opening W.seen self.old self.entry.ghost_name Brackets (codes "[")
+            (λ b. WritesOpening W.seen self.old self.entry.ghost_name Brackets (codes "[")
             (list_block b)) }
         ensures is_open { IfOk result (λ b. IsOpen (list_block b)) }
     {
         self.open(OPENING_BRACKET, ListBlock)
     }
 
-    /// Writes a whole list of these items.
+    /// Writes a whole list of these items. On `Err` a beginning of that is written, and mode and
+    /// depth are as before.
     pub fn list_of<T: uDebug>(&mut self, items: &[T]) -> Result<(), W::Error>
         ensures { LaysOut W.seen self.old (list_of (documents (map T.document items.now)))
             (is_ok result) self.new }
@@ -59,14 +61,14 @@ impl<W: uWrite> Formatter<W> {
     }
 }
 
-impl<W: uWrite, K: Items> Builder<'_, W, K> {
+impl<W: uWrite, K: BlockKind + Items> Builder<'_, W, K> {
     /// Writes one entry. On `Err` a beginning of it is written and the builder is closed.
     #[inline(always)]
     pub fn entry<D: uDebug>(&mut self, entry: &D) -> Result<(), W::Error>
-        requires { IsOpen (block K.BlockKind.kind self.old) }
-        ensures entry { Entry W.seen (block K.BlockKind.kind self.old)
-            (entry_text (D.document entry.now)) (is_ok result) (block K.BlockKind.kind self.new) }
-        ensures is_open { OnOk result (IsOpen (block K.BlockKind.kind self.new)) }
+        requires { IsOpen (block K.kind self.old) }
+        ensures entry { WritesEntry W.seen (block K.kind self.old)
+            (entry_text (D.document entry.now)) (is_ok result) (block K.kind self.new) }
+        ensures is_open { OnOk result (IsOpen (block K.kind self.new)) }
     {
         let answer = entry.fmt(self.begin_entry()?);
         self.end_entry(answer)
@@ -80,13 +82,13 @@ impl<W: uWrite, K: Items> Builder<'_, W, K> {
     ) -> Result<(), W::Error>
     where
         I::IntoIter: Drop,
-        requires is_open { IsOpen (block K.BlockKind.kind self.old) }
+        requires is_open { IsOpen (block K.kind self.old) }
         requires ends { IsFiniteIterable I.into_iter_gives I.IntoIter.can_next I.IntoIter.remaining
             entries }
-        ensures entries { Entries W.seen I.into_iter_gives I.IntoIter.next_gives
-            (λ x. entry_text (D.document x)) entries (block K.BlockKind.kind self.old)
-            (is_ok result) (block K.BlockKind.kind self.new) }
-        ensures is_open { OnOk result (IsOpen (block K.BlockKind.kind self.new)) }
+        ensures entries { WritesEntries W.seen I.into_iter_gives I.IntoIter.next_gives
+            (λ x. entry_text (D.document x)) entries (block K.kind self.old)
+            (is_ok result) (block K.kind self.new) }
+        ensures is_open { OnOk result (IsOpen (block K.kind self.new)) }
     {
         for entry in entries {
             self.entry(&entry)?;
@@ -94,15 +96,14 @@ impl<W: uWrite, K: Items> Builder<'_, W, K> {
         Ok(())
     }
 
-    /// Writes what stands before an entry, and lends the formatter for it.
+    /// Writes what stands before an entry, and lends the formatter for it. On `Err` the builder is
+    /// closed.
     #[inline(always)]
     pub fn begin_entry(&mut self) -> Result<&mut Formatter<W>, W::Error>
-        requires { IsOpen (block K.BlockKind.kind self.old) }
-        ensures* loan { sem 𝓛 (EntryLoan W.row K.row self.entry result Lent
-            (λ last. Stop W.seen (block K.BlockKind.kind self.old)
-            (lead_of (block K.BlockKind.kind self.old)) (block K.BlockKind.kind last))) }
+        requires { IsOpen (block K.kind self.old) }
+        ensures* loan { sem 𝓛 (LendsForEntry W.row K.row (block K.kind) W.seen self.entry result) }
         ensures lead { IfOk result
-            (λ f. Prints W.seen self.old.formatter.now (lead_of (block K.BlockKind.kind self.old))
+            (λ f. Prints W.seen self.old.formatter.now (lead_of (block K.kind self.old))
             true f.now) }
     {
         self.begin()
@@ -111,10 +112,10 @@ impl<W: uWrite, K: Items> Builder<'_, W, K> {
     /// Writes what stands after an entry whose `fmt` gave this answer, or passes an `Err` on.
     #[inline(always)]
     pub fn end_entry(&mut self, answer: Result<(), W::Error>) -> Result<(), W::Error>
-        requires { IsLent (block K.BlockKind.kind self.old) }
-        ensures end { EntryEnd W.seen answer (block K.BlockKind.kind self.old) result (is_ok result)
-            (block K.BlockKind.kind self.new) }
-        ensures is_open { OnOk result (IsOpen (block K.BlockKind.kind self.new)) }
+        requires { IsLent (block K.kind self.old) }
+        ensures end { EndsEntry W.seen answer (block K.kind self.old) result (is_ok result)
+            (block K.kind self.new) }
+        ensures is_open { OnOk result (IsOpen (block K.kind self.new)) }
     {
         self.end(answer)
     }

@@ -1,16 +1,17 @@
+//! The builder of maps.
 ghost use Rattle.std.specs.Prelude.{◌≡◌, List, codes, is_ok, map, true, Err, IfErr, IfOk, OnErr, OnOk};
 ghost use Rattle.std.specs.Borrow.{sem};
 ghost use Rattle.std.specs.Iterator.{AlwaysYields, IsFiniteIterable};
-ghost use Rattle.ufmt_core.specs.declared.formatter.block.Kind.TheVariants.{Braces};
+ghost use Rattle.ufmt_core.specs.declared.layout.Kind.TheVariants.{Braces};
 ghost use Rattle.ufmt_core.specs.declared.formatter.builder.Status.TheVariants.{Lent, LentValue};
 ghost use Rattle.ufmt_core.specs.Document.{Document, map_of, pairs_of};
 ghost use Rattle.ufmt_core.specs.Formatter.{LaysOut, Prints};
-ghost use Rattle.ufmt_core.specs.Block.{Abandonment, Entries, Entry, EntryEnd, IsLent, IsLentForValue, IsOpen, Opening, Stop, lead_of, pair_text};
-ghost use Rattle.ufmt_core.specs.Builder.{MapLoan, OpeningLoan, map_block};
+ghost use Rattle.ufmt_core.specs.Block.{WritesEntries, WritesEntry, EndsEntry, IsLent, IsLentForValue, IsOpen, WritesOpening, lead_of, pair_text};
+ghost use Rattle.ufmt_core.specs.Builder.{LendsForKey, LendsForValue, OpeningLoan, map_block};
 
 use crate::formatter::Formatter;
-use crate::formatter::block::{Kind, OPENING_BRACE};
 use crate::formatter::builder::{BlockKind, Builder, Status};
+use crate::layout::{COLON, Kind, OPENING_BRACE};
 use crate::uDebug;
 use crate::write::uWrite;
 
@@ -34,13 +35,14 @@ impl<W: uWrite> Formatter<W> {
     pub fn debug_map<'f>(&'f mut self) -> Result<DebugMap<'f, W>, W::Error>
         ensures* loan { sem 𝓛 (OpeningLoan W.row W.seen self.entry result (codes "{")) }
         ensures opening { IfOk result
-            (λ b. Opening W.seen self.old self.entry.ghost_name Braces (codes "{") (map_block b)) }
+            (λ b. WritesOpening W.seen self.old self.entry.ghost_name Braces (codes "{") (map_block b)) }
         ensures is_open { IfOk result (λ b. IsOpen (map_block b)) }
     {
         self.open(OPENING_BRACE, MapBlock)
     }
 
-    /// Writes a whole map of these keys and values.
+    /// Writes a whole map of these keys and values. On `Err` a beginning of that is written, and
+    /// mode and depth are as before.
     pub fn map_of<K: uDebug, V: uDebug>(&mut self, pairs: &[(K, V)]) -> Result<(), W::Error>
         ensures { LaysOut W.seen self.old
             (map_of (pairs_of (map (λ p. (K.document p.0, V.document p.1)) pairs.now)))
@@ -58,7 +60,7 @@ impl<W: uWrite> DebugMap<'_, W> {
     /// Writes one entry, `key: value`. On `Err` a beginning of it is written and the builder is closed.
     pub fn entry<K: uDebug, V: uDebug>(&mut self, key: &K, value: &V) -> Result<(), W::Error>
         requires { IsOpen (map_block self.old) }
-        ensures entry { Entry W.seen (map_block self.old)
+        ensures entry { WritesEntry W.seen (map_block self.old)
             (pair_text (K.document key.now) (V.document value.now)) (is_ok result)
             (map_block self.new) }
         ensures is_open { OnOk result (IsOpen (map_block self.new)) }
@@ -78,7 +80,7 @@ impl<W: uWrite> DebugMap<'_, W> {
         requires is_open { IsOpen (map_block self.old) }
         requires ends { IsFiniteIterable I.into_iter_gives I.IntoIter.can_next I.IntoIter.remaining
             entries }
-        ensures entries { Entries W.seen I.into_iter_gives I.IntoIter.next_gives
+        ensures entries { WritesEntries W.seen I.into_iter_gives I.IntoIter.next_gives
             (λ x. pair_text (K.document x.0) (V.document x.1)) entries (map_block self.old)
             (is_ok result) (map_block self.new) }
         ensures is_open { OnOk result (IsOpen (map_block self.new)) }
@@ -89,12 +91,11 @@ impl<W: uWrite> DebugMap<'_, W> {
         Ok(())
     }
 
-    /// Writes what stands before an entry, and lends the formatter for its key.
+    /// Writes what stands before an entry, and lends the formatter for its key. On `Err` the
+    /// builder is closed.
     pub fn begin_entry(&mut self) -> Result<&mut Formatter<W>, W::Error>
         requires { IsOpen (map_block self.old) }
-        ensures* loan { sem 𝓛 (MapLoan W.row self.entry result Lent
-            (λ last. Stop W.seen (map_block self.old) (lead_of (map_block self.old))
-            (map_block last))) }
+        ensures* loan { sem 𝓛 (LendsForKey W.row W.seen self.entry result) }
         ensures lead { IfOk result
             (λ f. Prints W.seen self.old.formatter.now (lead_of (map_block self.old)) true f.now) }
     {
@@ -108,15 +109,13 @@ impl<W: uWrite> DebugMap<'_, W> {
         answer: Result<(), W::Error>,
     ) -> Result<&mut Formatter<W>, W::Error>
         requires { IsLent (map_block self.old) }
-        ensures* loan { sem 𝓛 (MapLoan W.row self.entry result LentValue
-            (λ last. OnOk answer (Stop W.seen (map_block self.old) (codes ": ") (map_block last))
-            × OnErr answer (Abandonment (map_block self.old) (map_block last)))) }
+        ensures* loan { sem 𝓛 (LendsForValue W.row W.seen self.entry answer result) }
         ensures colon { IfOk result
             (λ f. Prints W.seen self.old.formatter.now (codes ": ") true f.now) }
         ensures error { IfErr answer (λ e. result ≡ Err e) }
     {
         let written = match answer {
-            Ok(()) => self.formatter.write_str(": "),
+            Ok(()) => self.formatter.write_str(COLON),
             Err(error) => Err(error),
         };
         self.lend_if(written, Status::LentValue)
@@ -125,7 +124,7 @@ impl<W: uWrite> DebugMap<'_, W> {
     /// Writes what stands after an entry whose value's `fmt` gave this answer, or passes an `Err` on.
     pub fn end_entry(&mut self, answer: Result<(), W::Error>) -> Result<(), W::Error>
         requires { IsLentForValue (map_block self.old) }
-        ensures end { EntryEnd W.seen answer (map_block self.old) result (is_ok result)
+        ensures end { EndsEntry W.seen answer (map_block self.old) result (is_ok result)
             (map_block self.new) }
         ensures is_open { OnOk result (IsOpen (map_block self.new)) }
     {

@@ -1,15 +1,16 @@
+//! The builder of sets.
 ghost use Rattle.std.specs.Prelude.{List, codes, is_ok, map, IfOk};
 ghost use Rattle.std.specs.Borrow.{sem};
 ghost use Rattle.std.specs.Iterator.{AlwaysYields, IsFiniteIterable};
-ghost use Rattle.ufmt_core.specs.declared.formatter.block.Kind.TheVariants.{Braces};
+ghost use Rattle.ufmt_core.specs.declared.layout.Kind.TheVariants.{Braces};
 ghost use Rattle.ufmt_core.specs.Document.{Document, documents, set_of};
 ghost use Rattle.ufmt_core.specs.Formatter.{LaysOut};
-ghost use Rattle.ufmt_core.specs.Block.{IsOpen, Opening};
+ghost use Rattle.ufmt_core.specs.Block.{IsOpen, WritesOpening};
 ghost use Rattle.ufmt_core.specs.Builder.{OpeningLoan, set_block};
 
 use crate::formatter::Formatter;
-use crate::formatter::block::{Kind, OPENING_BRACE};
 use crate::formatter::builder::{BlockKind, Builder};
+use crate::layout::{Kind, OPENING_BRACE};
 use crate::list::Items;
 use crate::uDebug;
 use crate::write::uWrite;
@@ -36,13 +37,14 @@ impl<W: uWrite> Formatter<W> {
     pub fn debug_set<'f>(&'f mut self) -> Result<DebugSet<'f, W>, W::Error>
         ensures* loan { sem 𝓛 (OpeningLoan W.row W.seen self.entry result (codes "{")) }
         ensures opening { IfOk result
-            (λ b. Opening W.seen self.old self.entry.ghost_name Braces (codes "{") (set_block b)) }
+            (λ b. WritesOpening W.seen self.old self.entry.ghost_name Braces (codes "{") (set_block b)) }
         ensures is_open { IfOk result (λ b. IsOpen (set_block b)) }
     {
         self.open(OPENING_BRACE, SetBlock)
     }
 
-    /// Writes a whole set of these items.
+    /// Writes a whole set of these items. On `Err` a beginning of that is written, and mode and
+    /// depth are as before.
     pub fn set_of<T: uDebug>(&mut self, items: &[T]) -> Result<(), W::Error>
         ensures { LaysOut W.seen self.old (set_of (documents (map T.document items.now)))
             (is_ok result) self.new }

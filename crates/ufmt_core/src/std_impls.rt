@@ -1,3 +1,4 @@
+//! `uDebug` of the standard library's texts, boxes and collections.
 ghost use Rattle.std.specs.Prelude.{map, string_bytes};
 ghost use Rattle.std.specs.Str.{chars};
 ghost use Rattle.ufmt_core.specs.Document.{documents, leaf, list_of, map_of, pairs_of, set_of};

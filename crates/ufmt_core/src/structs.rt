@@ -1,16 +1,17 @@
+//! The builder of structs.
 ghost use Rattle.std.specs.Prelude.{is_ok, true, IfOk, OnOk};
 ghost use Rattle.std.specs.Borrow.{sem};
-ghost use Rattle.ufmt_core.specs.declared.formatter.block.Kind.TheVariants.{Struct};
+ghost use Rattle.ufmt_core.specs.declared.layout.Kind.TheVariants.{Struct};
 ghost use Rattle.ufmt_core.specs.declared.formatter.builder.Status.TheVariants.{Lent};
 ghost use Rattle.ufmt_core.specs.Formatter.{Prints};
-ghost use Rattle.ufmt_core.specs.Block.{Entry, EntryEnd, IsLent, IsOpen, Opening, Stop, field_lead_of, field_text};
-ghost use Rattle.ufmt_core.specs.Builder.{StructLoan, OpeningLoan, struct_block};
+ghost use Rattle.ufmt_core.specs.Block.{WritesEntry, EndsEntry, IsLent, IsOpen, WritesOpening, field_lead_of, field_text};
+ghost use Rattle.ufmt_core.specs.Builder.{LendsForField, OpeningLoan, struct_block};
 
 mod whole;
 
 use crate::formatter::Formatter;
-use crate::formatter::block::Kind;
 use crate::formatter::builder::{BlockKind, Builder};
+use crate::layout::Kind;
 use crate::uDebug;
 use crate::write::uWrite;
 pub use whole::NamedFields;
@@ -38,7 +39,7 @@ impl<W: uWrite> Formatter<W> {
     pub fn debug_struct<'f>(&'f mut self, name: &str) -> Result<DebugStruct<'f, W>, W::Error>
         ensures* loan { sem 𝓛 (OpeningLoan W.row W.seen self.entry result name.now) }
         ensures opening { IfOk result
-            (λ b. Opening W.seen self.old self.entry.ghost_name Struct name.now (struct_block b)) }
+            (λ b. WritesOpening W.seen self.old self.entry.ghost_name Struct name.now (struct_block b)) }
         ensures is_open { IfOk result (λ b. IsOpen (struct_block b)) }
     {
         self.open(name, StructBlock)
@@ -50,7 +51,7 @@ impl<W: uWrite> DebugStruct<'_, W> {
     #[inline(always)]
     pub fn field<D: uDebug>(&mut self, name: &str, value: &D) -> Result<(), W::Error>
         requires { IsOpen (struct_block self.old) }
-        ensures entry { Entry W.seen (struct_block self.old)
+        ensures entry { WritesEntry W.seen (struct_block self.old)
             (field_text name.now (D.document value.now)) (is_ok result) (struct_block self.new) }
         ensures is_open { OnOk result (IsOpen (struct_block self.new)) }
     {
@@ -58,13 +59,12 @@ impl<W: uWrite> DebugStruct<'_, W> {
         self.end_field(answer)
     }
 
-    /// Writes what stands before a field's value, and lends the formatter for the value.
+    /// Writes what stands before a field's value, and lends the formatter for the value. On `Err`
+    /// the builder is closed.
     #[inline(always)]
     pub fn begin_field(&mut self, name: &str) -> Result<&mut Formatter<W>, W::Error>
         requires { IsOpen (struct_block self.old) }
-        ensures* loan { sem 𝓛 (StructLoan W.row self.entry result Lent
-            (λ last. Stop W.seen (struct_block self.old)
-            (field_lead_of name.now (struct_block self.old)) (struct_block last))) }
+        ensures* loan { sem 𝓛 (LendsForField W.row W.seen self.entry result name.now) }
         ensures lead { IfOk result
             (λ f. Prints W.seen self.old.formatter.now
             (field_lead_of name.now (struct_block self.old)) true f.now) }
@@ -76,7 +76,7 @@ impl<W: uWrite> DebugStruct<'_, W> {
     #[inline(always)]
     pub fn end_field(&mut self, answer: Result<(), W::Error>) -> Result<(), W::Error>
         requires { IsLent (struct_block self.old) }
-        ensures end { EntryEnd W.seen answer (struct_block self.old) result (is_ok result)
+        ensures end { EndsEntry W.seen answer (struct_block self.old) result (is_ok result)
             (struct_block self.new) }
         ensures is_open { OnOk result (IsOpen (struct_block self.new)) }
     {

@@ -1,16 +1,17 @@
+//! The builder of tuples.
 ghost use Rattle.std.specs.Prelude.{◌≡◌, is_ok, true, IfOk, OnOk};
 ghost use Rattle.std.specs.Borrow.{sem};
 ghost use Rattle.ufmt_core.specs.declared.formatter.builder.Status.TheVariants.{Lent};
 ghost use Rattle.ufmt_core.specs.Layout.{tuple_kind};
 ghost use Rattle.ufmt_core.specs.Formatter.{Prints};
-ghost use Rattle.ufmt_core.specs.Block.{Entry, EntryEnd, IsLent, IsOpen, Opening, Stop, entry_text, lead_of};
-ghost use Rattle.ufmt_core.specs.Builder.{TupleLoan, OpeningLoan, kind_of_tuple, tuple_block};
+ghost use Rattle.ufmt_core.specs.Block.{WritesEntry, EndsEntry, IsLent, IsOpen, WritesOpening, entry_text, lead_of};
+ghost use Rattle.ufmt_core.specs.Builder.{LendsForUnnamedField, OpeningLoan, kind_of_tuple, tuple_block};
 
 mod whole;
 
 use crate::formatter::Formatter;
-use crate::formatter::block::Kind;
 use crate::formatter::builder::{BlockKind, Builder};
+use crate::layout::Kind;
 use crate::uDebug;
 use crate::write::uWrite;
 pub use whole::UnnamedFields;
@@ -52,7 +53,7 @@ impl<W: uWrite> Formatter<W> {
     pub fn debug_tuple<'f>(&'f mut self, name: &str) -> Result<DebugTuple<'f, W>, W::Error>
         ensures* loan { sem 𝓛 (OpeningLoan W.row W.seen self.entry result name.now) }
         ensures opening { IfOk result
-            (λ b. Opening W.seen self.old self.entry.ghost_name (tuple_kind name.now) name.now
+            (λ b. WritesOpening W.seen self.old self.entry.ghost_name (tuple_kind name.now) name.now
             (tuple_block b)) }
         ensures is_open { IfOk result (λ b. IsOpen (tuple_block b)) }
     {
@@ -64,7 +65,7 @@ impl<W: uWrite> DebugTuple<'_, W> {
     /// Writes one field. On `Err` a beginning of it is written and the builder is closed.
     pub fn field<D: uDebug>(&mut self, value: &D) -> Result<(), W::Error>
         requires { IsOpen (tuple_block self.old) }
-        ensures entry { Entry W.seen (tuple_block self.old) (entry_text (D.document value.now))
+        ensures entry { WritesEntry W.seen (tuple_block self.old) (entry_text (D.document value.now))
             (is_ok result) (tuple_block self.new) }
         ensures is_open { OnOk result (IsOpen (tuple_block self.new)) }
     {
@@ -72,12 +73,11 @@ impl<W: uWrite> DebugTuple<'_, W> {
         self.end_field(answer)
     }
 
-    /// Writes what stands before a field, and lends the formatter for it.
+    /// Writes what stands before a field, and lends the formatter for it. On `Err` the builder is
+    /// closed.
     pub fn begin_field(&mut self) -> Result<&mut Formatter<W>, W::Error>
         requires { IsOpen (tuple_block self.old) }
-        ensures* loan { sem 𝓛 (TupleLoan W.row self.entry result Lent
-            (λ last. Stop W.seen (tuple_block self.old) (lead_of (tuple_block self.old))
-            (tuple_block last))) }
+        ensures* loan { sem 𝓛 (LendsForUnnamedField W.row W.seen self.entry result) }
         ensures lead { IfOk result
             (λ f. Prints W.seen self.old.formatter.now (lead_of (tuple_block self.old)) true
             f.now) }
@@ -88,7 +88,7 @@ impl<W: uWrite> DebugTuple<'_, W> {
     /// Writes what stands after a field whose `fmt` gave this answer, or passes an `Err` on.
     pub fn end_field(&mut self, answer: Result<(), W::Error>) -> Result<(), W::Error>
         requires { IsLent (tuple_block self.old) }
-        ensures end { EntryEnd W.seen answer (tuple_block self.old) result (is_ok result)
+        ensures end { EndsEntry W.seen answer (tuple_block self.old) result (is_ok result)
             (tuple_block self.new) }
         ensures is_open { OnOk result (IsOpen (tuple_block self.new)) }
     {

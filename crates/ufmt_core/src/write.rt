@@ -1,3 +1,4 @@
+//! Writers: where text goes.
 ghost use Rattle.std.specs.Prelude.{◌≡◌, ◌∷◌, is_ok, encode_utf8, string_bytes, OnErr};
 ghost use Rattle.ufmt_core.specs.Writes.{Writes, Seen, string_seen};
 

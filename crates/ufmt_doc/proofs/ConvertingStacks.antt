@@ -7,42 +7,42 @@ use Rattle.ufmt.specs.Reading.{if_all, parse_map, read}
 use Rattle.ufmt_doc.specs.declared.convert.text_block.TextBlock.{TextBlock}
 use Rattle.ufmt_doc.specs.declared.convert.text_block.TextBlock.TheVariants as blocks
 use Rattle.ufmt_doc.specs.declared.reader.level.Level.{Level}
-use Rattle.ufmt_doc.specs.declared.reader.level.Mode.{Mode}
-use Rattle.ufmt_doc.specs.declared.reader.level.Mode.TheVariants.{Plain, Pretty}
-use Rattle.ufmt_doc.specs.Converting.{document_text, entry_text, finish_text, prefixed, resume_text}
-use Rattle.ufmt_doc.specs.Level.{budget_of, mode_of, setting_of}
-use Rattle.ufmt_doc.specs.Stack.{level_at}
+use Rattle.ufmt_core.specs.declared.layout.Mode.{Mode}
+use Rattle.ufmt_core.specs.declared.layout.Mode.TheVariants.{Plain, Pretty}
+use Rattle.ufmt_doc.specs.Private.Converting.{document_text, entry_text, block_conversion, prefixed, blocks_conversion}
+use Rattle.ufmt_doc.specs.Private.Level.{budget_of, setting_at}
+use Rattle.ufmt_doc.specs.Private.Stack.{level_at}
 use Rattle.ufmt_doc.proofs.Stacks.{document_is, resumed_in, resumed_none, resumed_out, setting_inside}
 
 -- a block whose entry isn't read is none
-finish_text_none : (from to : Level) (block : TextBlock) → finish_text from to block None ≡ None
-finish_text_none from to (blocks.Entry kind alone) = refl
+finish_text_none : (from to : Level) (block : TextBlock) → block_conversion from to block None ≡ None
+finish_text_none from to (blocks.Entry kind before) = refl
 finish_text_none from to blocks.Braces = refl
 finish_text_none from to blocks.Key = refl
-finish_text_none from to (blocks.Value alone) = refl
-finish_text_none from to (blocks.Field alone) = refl
+finish_text_none from to (blocks.Value before) = refl
+finish_text_none from to (blocks.Field before) = refl
 
 -- likewise several blocks
-pub resume_text_none : (from to : Mode) (k : ℕ) (open_blocks : List TextBlock) → resume_text from to k open_blocks None ≡ None
-resume_text_none from to k open_blocks = resumed_none (λ n. finish_text (level_at from n) (level_at to n)) (λ n block. finish_text_none (level_at from n) (level_at to n) block) k open_blocks
+pub resume_text_none : (from to : Mode) (k : ℕ) (open_blocks : List TextBlock) → blocks_conversion from to k open_blocks None ≡ None
+resume_text_none from to k open_blocks = resumed_none (λ n. block_conversion (level_at from n) (level_at to n)) (λ n block. finish_text_none (level_at from n) (level_at to n) block) k open_blocks
 
 -- what the innermost block makes of its entry goes on to the next one out
-pub finishes_text : (from to : Mode) (old new : List TextBlock) (block : TextBlock) (depth : ℕ) (o there : Option (List ℕ × List ℕ)) → old ≡ new ++ block ∷ [] → depth ≡ length new → finish_text (level_at from depth) (level_at to depth) block o ≡ there → resume_text from to 0 old o ≡ resume_text from to 0 new there
-finishes_text from to = resumed_out (λ n. finish_text (level_at from n) (level_at to n))
+pub finishes_text : (from to : Mode) (old new : List TextBlock) (block : TextBlock) (depth : ℕ) (o there : Option (List ℕ × List ℕ)) → old ≡ new ++ block ∷ [] → depth ≡ length new → block_conversion (level_at from depth) (level_at to depth) block o ≡ there → blocks_conversion from to 0 old o ≡ blocks_conversion from to 0 new there
+finishes_text from to = resumed_out (λ n. block_conversion (level_at from n) (level_at to n))
 
 -- an entry begins in a block that is opened
-pub opens_text : (from to : Mode) (old new : List TextBlock) (block : TextBlock) (depth : ℕ) (out t : List ℕ) → new ≡ old ++ block ∷ [] → depth ≡ length old → resume_text from to 0 old (finish_text (level_at from depth) (level_at to depth) block (prefixed out (entry_text (level_at from depth) (level_at to depth) t))) ≡ resume_text from to 0 new (prefixed out (document_text from to (length new) t))
-opens_text from to old new block depth out t = resumed_in (λ n. finish_text (level_at from n) (level_at to n)) (λ n. prefixed out (document_text from to n t)) old new block depth
+pub opens_text : (from to : Mode) (old new : List TextBlock) (block : TextBlock) (depth : ℕ) (out t : List ℕ) → new ≡ old ++ block ∷ [] → depth ≡ length old → blocks_conversion from to 0 old (block_conversion (level_at from depth) (level_at to depth) block (prefixed out (entry_text (level_at from depth) (level_at to depth) t))) ≡ blocks_conversion from to 0 new (prefixed out (document_text from to (length new) t))
+opens_text from to old new block depth out t = resumed_in (λ n. block_conversion (level_at from n) (level_at to n)) (λ n. prefixed out (document_text from to n t)) old new block depth
 
 -- the outermost document is laid out from depth 0
-setting_first : (mode : Mode) → setting (mode_of mode) 0 ≡ setting_of (level_at mode 0)
+setting_first : (mode : Mode) → setting mode 0 ≡ setting_at (level_at mode 0)
 setting_first Plain = refl
 setting_first Pretty = refl
 
 -- up to 255 blocks round it, a document is converted from its level to its level
-document_text_is : (from to : Mode) (k : ℕ) (t : List ℕ) → k < 256 → document_text from to k t ≡ parse_map (layout (setting_of (level_at to k))) (read (setting_of (level_at from k)) (budget_of (level_at from k)) t)
-document_text_is from to zero t few = ap (λ o. parse_map (layout (setting (mode_of to) 0)) o) (document_is from zero t few) ∙ ap (λ i. parse_map (layout i) (read (setting_of (level_at from 0)) (budget_of (level_at from 0)) t)) (setting_first to)
-document_text_is from to (suc k) t few = ap (λ o. parse_map (layout (inside (setting_of (level_at to k)))) o) (document_is from (suc k) t few) ∙ ap (λ i. parse_map (layout i) (read (setting_of (level_at from (suc k))) (budget_of (level_at from (suc k))) t)) (setting_inside to k (omega arith))
+document_text_is : (from to : Mode) (k : ℕ) (t : List ℕ) → k < 256 → document_text from to k t ≡ parse_map (layout (setting_at (level_at to k))) (read (setting_at (level_at from k)) (budget_of (level_at from k)) t)
+document_text_is from to zero t few = ap (λ o. parse_map (layout (setting to 0)) o) (document_is from zero t few) ∙ ap (λ i. parse_map (layout i) (read (setting_at (level_at from 0)) (budget_of (level_at from 0)) t)) (setting_first to)
+document_text_is from to (suc k) t few = ap (λ o. parse_map (layout (inside (setting_at (level_at to k)))) o) (document_is from (suc k) t few) ∙ ap (λ i. parse_map (layout i) (read (setting_at (level_at from (suc k))) (budget_of (level_at from (suc k))) t)) (setting_inside to k (omega arith))
 
 -- in the 256th block no entry is converted
 pub document_text_none : (from to : Mode) (k : ℕ) (t : List ℕ) → k ≡ 256 → document_text from to k t ≡ None
@@ -70,5 +70,5 @@ pub depth_before : (k : ℕ) (xs : List TextBlock) → k + 1 ≡ length xs → k
 depth_before k xs last = sym (length-take-le k xs (omega (arith, last)))
 
 -- likewise at a depth that is told
-pub begins_text : (from to : Mode) (k depth : ℕ) (t : List ℕ) → depth ≡ k → k < 256 → document_text from to k t ≡ parse_map (layout (setting_of (level_at to depth))) (read (setting_of (level_at from depth)) (budget_of (level_at from depth)) t)
-begins_text from to k depth t same few = document_text_is from to k t few ∙ ap (λ n. parse_map (layout (setting_of (level_at to n))) (read (setting_of (level_at from n)) (budget_of (level_at from n)) t)) (sym same)
+pub begins_text : (from to : Mode) (k depth : ℕ) (t : List ℕ) → depth ≡ k → k < 256 → document_text from to k t ≡ parse_map (layout (setting_at (level_at to depth))) (read (setting_at (level_at from depth)) (budget_of (level_at from depth)) t)
+begins_text from to k depth t same few = document_text_is from to k t few ∙ ap (λ n. parse_map (layout (setting_at (level_at to n))) (read (setting_at (level_at from n)) (budget_of (level_at from n)) t)) (sym same)

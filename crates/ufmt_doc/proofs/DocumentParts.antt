@@ -2,34 +2,34 @@
 use Rattle.std.proofs.Common.{◌≡◌, refl, ap, ◌∙◌, sym, ℕ, zero, suc, ◌-◌, ◌<◌, ◌≤◌, ◌==◌, ◌||◌, Bool, cond, ◌⊎◌, inl, inr, true, false, List, [], ◌∷◌, ◌++◌, length, length-append, eqb-true, Option, Some, None, option_map, option_and_then, codes, arith}
 use Rattle.std.proofs.lemmas.Bool.Decides.{nat_tests}
 use Rattle.ufmt.specs.Document.{Document, leaf, list_of, set_of, map_of, struct_of, tuple_of, documents, pairs_of, fields_of}
-use Rattle.ufmt_core.specs.declared.formatter.Setting.{Setting}
-use Rattle.ufmt_core.specs.declared.formatter.block.Kind.TheVariants.{Brackets, Braces, Struct, Tuple, Unnamed}
-use Rattle.ufmt_core.specs.declared.formatter.block.Place.TheVariants.{First}
-use Rattle.ufmt.specs.Layout.{Frame, frame, gap, tuple_kind, inside, lead, new_line}
+use Rattle.ufmt_core.specs.declared.layout.Setting.{Setting}
+use Rattle.ufmt_core.specs.declared.layout.Kind.TheVariants.{Brackets, Braces, Struct, Tuple, Unnamed}
+use Rattle.ufmt_core.specs.declared.layout.Count.TheVariants.{Zero}
+use Rattle.ufmt.specs.Layout.{Frame, frame, brace_space, tuple_kind, inside, lead, new_line}
 use Rattle.ufmt.specs.Token.{AreWordBytes, IsWord}
 use Rattle.ufmt.specs.Reading.{Parse, parse_map, strip, word_of, after_word, if_word, read_symbol, read_word, read_value, read_pair, read_list, read_braces, read_map_or_set, read_named, read_tuple, read_without_name, read_with, read}
 use Rattle.ufmt.proofs.Parsing.{led_from, beside_from, mapped_from, same_parts}
 use Rattle.ufmt.proofs.ReadingTurns.{Takes, read_word_takes, strip_within}
 use Rattle.ufmt.proofs.TokenLeaves.{leaf_begins, read_symbol_sound}
-use Rattle.ufmt.proofs.Words.{word_of_bytes}
-use Rattle.ufmt_doc.specs.Entries.{read_on}
+use Rattle.ufmt.proofs.ReadingWords.{word_of_bytes}
+use Rattle.ufmt_doc.specs.Private.Entries.{read_on}
 use Rattle.ufmt_doc.specs.declared.reader.level.Level.{Level}
-use Rattle.ufmt_doc.specs.Level.{entry_at, entry_of, setting_of}
-use Rattle.ufmt_doc.specs.Steps.{before_colon}
-use Rattle.ufmt_doc.specs.Words.{may_open, read_entry_word, read_key}
+use Rattle.ufmt_doc.specs.Private.Level.{entry_at, entry_of, setting_at}
+use Rattle.ufmt_doc.specs.Private.Steps.{before_colon}
+use Rattle.ufmt_doc.specs.Private.FrontWords.{may_open, read_entry_word, read_key}
 use Rattle.ufmt_doc.proofs.EntrySteps.{first_is_read_on}
 
 -- a named tuple behind what stands before its first field
-pub tuple_opens : (s : Setting) (p : Parse Document) (w t r : List ℕ) → IsWord w → strip (lead (frame s.mode Tuple) (inside s) First) t ≡ Some r → read_named s p w t ≡ read_tuple s p w r
+pub tuple_opens : (s : Setting) (p : Parse Document) (w t r : List ℕ) → IsWord w → strip (lead (frame s.mode Tuple) (inside s) Zero) t ≡ Some r → read_named s p w t ≡ read_tuple s p w r
 tuple_opens s p [] t r word opening = absurd word
 tuple_opens s p (c ∷ w) t r word opening = rw opening refl
 
 -- from that field
-pub tuple_begins : (s : Setting) (p : Parse Document) (w t r : List ℕ) → IsWord w → strip (lead (frame s.mode Tuple) (inside s) First) t ≡ Some r → read_named s p w t ≡ read_on p (frame s.mode (tuple_kind w)) s (λ ds. tuple_of w (documents ds)) [] (p r)
+pub tuple_begins : (s : Setting) (p : Parse Document) (w t r : List ℕ) → IsWord w → strip (lead (frame s.mode Tuple) (inside s) Zero) t ≡ Some r → read_named s p w t ≡ read_on p (frame s.mode (tuple_kind w)) s (λ ds. tuple_of w (documents ds)) [] (p r)
 tuple_begins s p w t r word opening = tuple_opens s p w t r word opening ∙ first_is_read_on p (frame s.mode (tuple_kind w)) s (λ ds. tuple_of w (documents ds)) (p r)
 
 -- a struct behind what stands before its first field, from that field
-pub struct_begins : (s : Setting) (p : Parse Document) (w t r : List ℕ) → IsWord w → strip (lead (frame s.mode Tuple) (inside s) First) t ≡ None → strip (lead (frame s.mode Struct) (inside s) First) t ≡ Some r → read_named s p w t ≡ read_on (read_pair read_word p) (frame s.mode Struct) s (λ fs. struct_of w (fields_of fs)) [] (read_pair read_word p r)
+pub struct_begins : (s : Setting) (p : Parse Document) (w t r : List ℕ) → IsWord w → strip (lead (frame s.mode Tuple) (inside s) Zero) t ≡ None → strip (lead (frame s.mode Struct) (inside s) Zero) t ≡ Some r → read_named s p w t ≡ read_on (read_pair read_word p) (frame s.mode Struct) s (λ fs. struct_of w (fields_of fs)) [] (read_pair read_word p r)
 struct_begins s p [] t r word tuple opening = absurd word
 struct_begins s p (c ∷ w) t r word tuple opening = rw (tuple, opening) (first_is_read_on (read_pair read_word p) (frame s.mode Struct) s (λ fs. struct_of (c ∷ w) (fields_of fs)) (read_pair read_word p r))
 
@@ -69,11 +69,11 @@ colon_within {q = q} t key u takes h =
     omega (arith, a, b)
 
 -- a list behind what stands before its first entry
-pub list_begins : (s : Setting) (p : Parse Document) (t r : List ℕ) → strip (codes "]") t ≡ None → strip (lead (frame s.mode Brackets) (inside s) First) t ≡ Some r → read_list s p t ≡ read_on p (frame s.mode Brackets) s (λ ds. list_of (documents ds)) [] (p r)
+pub list_begins : (s : Setting) (p : Parse Document) (t r : List ℕ) → strip (codes "]") t ≡ None → strip (lead (frame s.mode Brackets) (inside s) Zero) t ≡ Some r → read_list s p t ≡ read_on p (frame s.mode Brackets) s (λ ds. list_of (documents ds)) [] (p r)
 list_begins s p t r empty opening = rw (empty, opening) (first_is_read_on p (frame s.mode Brackets) s (λ ds. list_of (documents ds)) (p r))
 
 -- a set or a map behind what stands before its first entry
-pub braces_begin : (s : Setting) (p : Parse Document) (t r : List ℕ) → strip (codes "}") t ≡ None → strip (lead (frame s.mode Braces) (inside s) First) t ≡ Some r → read_braces s p t ≡ option_and_then (λ x. read_map_or_set s p x.0 x.1) (p r)
+pub braces_begin : (s : Setting) (p : Parse Document) (t r : List ℕ) → strip (codes "}") t ≡ None → strip (lead (frame s.mode Braces) (inside s) Zero) t ≡ Some r → read_braces s p t ≡ option_and_then (λ x. read_map_or_set s p x.0 x.1) (p r)
 braces_begin s p t r empty opening = rw (empty, opening) refl
 
 -- a leaf that is no word
@@ -84,11 +84,11 @@ symbol_begins s p t text r bracket brace symbol =
     (rw (bracket, brace, symbol) refl, omega (arith, ap length sound.1, length-append text r, ap length begins.is))
 
 -- a tuple without a name behind what stands before its first field
-pub unnamed_opens : (s : Setting) (p : Parse Document) (t r : List ℕ) → strip (codes "[") t ≡ None → strip (codes "{") t ≡ None → read_symbol t ≡ None → strip (lead (frame s.mode Unnamed) (inside s) First) t ≡ Some r → read_without_name s p t ≡ read_tuple s p [] r
+pub unnamed_opens : (s : Setting) (p : Parse Document) (t r : List ℕ) → strip (codes "[") t ≡ None → strip (codes "{") t ≡ None → read_symbol t ≡ None → strip (lead (frame s.mode Unnamed) (inside s) Zero) t ≡ Some r → read_without_name s p t ≡ read_tuple s p [] r
 unnamed_opens s p t r bracket brace symbol opening = rw (bracket, brace, symbol, opening) refl
 
 -- from that field
-pub unnamed_begins : (s : Setting) (p : Parse Document) (t r : List ℕ) → strip (codes "[") t ≡ None → strip (codes "{") t ≡ None → read_symbol t ≡ None → strip (lead (frame s.mode Unnamed) (inside s) First) t ≡ Some r → read_without_name s p t ≡ read_on p (frame s.mode Unnamed) s (λ ds. tuple_of [] (documents ds)) [] (p r)
+pub unnamed_begins : (s : Setting) (p : Parse Document) (t r : List ℕ) → strip (codes "[") t ≡ None → strip (codes "{") t ≡ None → read_symbol t ≡ None → strip (lead (frame s.mode Unnamed) (inside s) Zero) t ≡ Some r → read_without_name s p t ≡ read_on p (frame s.mode Unnamed) s (λ ds. tuple_of [] (documents ds)) [] (p r)
 unnamed_begins s p t r bracket brace symbol opening = unnamed_opens s p t r bracket brace symbol opening ∙ first_is_read_on p (frame s.mode Unnamed) s (λ ds. tuple_of [] (documents ds)) (p r)
 
 -- a map where a colon follows its first key
@@ -167,14 +167,14 @@ opens_nothing c text (b ∷ t) which none = rw (differs which) refl
 -- a word that nothing of the kind follows is a leaf
 word_alone : (s : Setting) (p : Parse Document) (w u : List ℕ) → (length w == 0) ≡ false → may_open u ≡ false → read_named s p w u ≡ Some (leaf w, u)
 word_alone s p [] u some none = absurd (cc)
-word_alone s p (c ∷ w) u some none = rw (opens_nothing 40 (new_line (inside s).mode (inside s).depth) u (inl refl) none, opens_nothing 32 (123 ∷ (gap s.mode ++ new_line (inside s).mode (inside s).depth)) u (inr refl) none) refl
+word_alone s p (c ∷ w) u some none = rw (opens_nothing 40 (new_line (inside s).mode (inside s).depth) u (inl refl) none, opens_nothing 32 (123 ∷ (brace_space s.mode ++ new_line (inside s).mode (inside s).depth)) u (inr refl) none) refl
 
 -- so it is an entry of a block, where any may lie in it
 word_is_entry : (level : Level) (t w u : List ℕ) → level.depth < 255 → w ≡ word_of t → u ≡ after_word t → (length w == 0) ≡ false → may_open u ≡ false → entry_of level t ≡ Some (leaf w, u)
 word_is_entry level t w u few word rest some none =
     let left : 255 - level.depth ≡ suc (254 - level.depth) = omega (arith, few) in
-    let s = inside (setting_of level) in
-    ap (λ n. entry_at (setting_of level) n t) left
+    let s = inside (setting_at level) in
+    ap (λ n. entry_at (setting_at level) n t) left
     ∙ reads_named s (254 - level.depth) t w u word rest some
     ∙ word_alone s (entry_at s (254 - level.depth)) w u some none
 

@@ -11,7 +11,7 @@ use Rattle.ufmt_doc.specs.declared.doc.Doc.TheVariants.{Leaf, Listed, SetOf, Map
 use Rattle.ufmt_doc.specs.Doc.{doc_document}
 use Rattle.ufmt_doc.specs.DocViews.{pair_view, field_view}
 use Rattle.ufmt_doc.specs.Parts.{leaf_part}
-use Rattle.ufmt_doc.specs.Same.{normal_doc, normal_pair, normal_field}
+use Rattle.ufmt_doc.specs.Private.Same.{normal_doc, normal_pair, normal_field}
 use Rattle.ufmt_doc.proofs.Normals.{normal_all-map, normal_pairs-map, normal_fields-map}
 use Rattle.ufmt_doc.proofs.Docs.{doc_document-Leaf, doc_document-Listed, doc_document-SetOf, doc_document-MapOf, doc_document-StructOf, doc_document-TupleOf}
 

@@ -15,8 +15,8 @@ use Rattle.ufmt.proofs.QuotedComplete.{length-escaped}
 use Rattle.ufmt.proofs.QuotedSound.{right_from}
 use Rattle.ufmt.proofs.QuotedTold.{told-escaped}
 use Rattle.ufmt.proofs.QuotedUtf8.{spelling}
-use Rattle.ufmt_doc.specs.Read.{now_of}
-use Rattle.ufmt_doc.specs.Spelled.{IsOneCharacter, PassesCharacter}
+use Rattle.ufmt_doc.specs.Private.Read.{now_of}
+use Rattle.ufmt_doc.specs.Private.Spelled.{IsOneCharacter, PassesCharacter}
 use Rattle.ufmt_doc.proofs.Spelled.{spelled_shorter}
 
 -- a character of ASCII is written as its byte is, and any other as itself

@@ -10,7 +10,7 @@ use Rattle.ufmt.proofs.Parsing.{strip_found}
 use Rattle.ufmt.proofs.QuotedComplete.{quoted-bytes}
 use Rattle.ufmt.proofs.QuotedSound.{read_inside-sound}
 use Rattle.ufmt.proofs.QuotedUtf8.{quoted-utf8}
-use Rattle.ufmt_doc.specs.Spelled.{behind_quote}
+use Rattle.ufmt_doc.specs.Private.Spelled.{behind_quote}
 
 -- where a function of an option's value came from
 value_from : {A B : Type 0} (f : A → B) (o : Option A) (y : B) → option_map f o ≡ Some y → (x : A) × (o ≡ Some x) × (f x ≡ y)

@@ -10,7 +10,7 @@ use Rattle.ufmt.specs.Document.{Document, leaf, joined, list_of, set_of, map_of,
 use Rattle.ufmt_doc.specs.declared.doc.Doc.{Doc}
 use Rattle.ufmt_doc.specs.declared.doc.Doc.TheVariants.{Leaf, Listed, SetOf, MapOf, StructOf, TupleOf}
 use Rattle.ufmt_doc.specs.Parts.{leaf_part}
-use Rattle.ufmt_doc.specs.Same.{normal_doc, normal_pair, normal_field}
+use Rattle.ufmt_doc.specs.Private.Same.{normal_doc, normal_pair, normal_field}
 use Rattle.ufmt_doc.proofs.NormalDocs.{Variant, a_leaf, a_list, a_set, a_map, a_struct, a_tuple, variant, set_form, struct_form, tuple_form, normal-Leaf, normal-Listed, normal-SetOf, normal-MapOf, normal-StructOf, normal-TupleOf, len_is}
 
 -- rows are equal where their lists are

@@ -10,7 +10,7 @@ use Rattle.ufmt.specs.ReadingQuoted.{read_escaped, read_inside, told}
 use Rattle.ufmt_core.proofs.QuotedBytes.{escape-past_ascii}
 use Rattle.ufmt.proofs.Parsing.{strip_found}
 use Rattle.ufmt.proofs.QuotedComplete.{escaped-no_quote, length-escaped, length-escaped_bytes, quote_ascii, read_escaped-complete, read_inside-complete}
-use Rattle.ufmt_doc.specs.Spelled.{SpelledBefore, behind_quote}
+use Rattle.ufmt_doc.specs.Private.Spelled.{SpelledBefore, behind_quote}
 
 -- how a byte is written, where it has an escape
 pub escaped_byte-is : (q b : ℕ) (e : List ℕ) → Some e ≡ escape q b → escaped_byte q b ≡ e

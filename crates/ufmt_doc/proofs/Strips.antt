@@ -1,14 +1,12 @@
 -- Texts stripped from slices.
-use Rattle.std.proofs.Common.{◌≡◌, ◌≢◌, refl, ◌∙◌, sym, ℕ, suc, ◌+◌, ◌-◌, ◌<◌, List, ◌++◌, length, take, drop, Bool, true, false, Option, Some, None, option_and_then, codes, Bor, MatchOption, nat_eq, arith}
+use Rattle.std.proofs.Common.{◌≡◌, ◌≢◌, refl, ◌∙◌, sym, ℕ, suc, ◌+◌, ◌-◌, ◌<◌, List, ◌++◌, length, take, drop, true, false, Option, Some, None, option_and_then, codes, Bor, MatchOption, nat_eq, arith}
 use Rattle.std.specs.Cmp.Lexicographic.{pointwise}
 use Rattle.std.proofs.lemmas.Bool.Decides.{Decides-eqb}
 use Rattle.std.proofs.lemmas.Slice.Eq.{strip_prefix_is}
-use Rattle.ufmt.specs.Layout.{Frame, ending, indentation, line_start}
-use Rattle.ufmt_core.specs.declared.formatter.Setting.{Setting}
+use Rattle.ufmt.specs.Layout.{indentation}
 use Rattle.ufmt.specs.Reading.{strip}
 use Rattle.ufmt.proofs.Parsing.{strip_of_front, strip_of_none, strip-append}
-use Rattle.ufmt_doc.specs.Level.{closing, place_of}
-use Rattle.ufmt_doc.specs.Read.{now_of}
+use Rattle.ufmt_doc.specs.Private.Read.{now_of}
 
 -- a slice's own call strips what the reading function strips
 stripped : (text t : List ℕ) (r : Option (Bor (List ℕ))) → MatchOption r ((rest : List ℕ) → t ≢ text ++ rest) (λ x. t ≡ text ++ x.now) → now_of r ≡ strip text t
@@ -35,11 +33,9 @@ indentation_ends depth unit t h spaces =
     let one_more : depth - unit ≡ suc (depth - (unit + 1)) = omega arith in
     rw one_more (indentation_more (depth - (unit + 1)) t ∙ rw spaces refl)
 
--- what ends a block is the start of its line, and a bracket
-ending_parts : (f : Frame) (s : Setting) (alone : Bool) → ending f s (place_of alone) ≡ line_start s.mode s.depth ++ closing f alone
-ending_parts f s true = refl
-ending_parts f s false = refl
+-- two texts are stripped one after the other
+pub strips_both : (a b t u : List ℕ) → strip a t ≡ Some u → strip (a ++ b) t ≡ strip b u
+strips_both a b t u first = rw (strip-append a b t, first) refl
 
--- so it is stripped in two parts
-pub ending_strips : (f : Frame) (s : Setting) (alone : Bool) (t : List ℕ) → strip (ending f s (place_of alone)) t ≡ option_and_then (strip (closing f alone)) (strip (line_start s.mode s.depth) t)
-ending_strips f s alone t = rw (ending_parts f s alone) (strip-append (line_start s.mode s.depth) (closing f alone) t)
+pub strips_neither : (a b t : List ℕ) → strip a t ≡ None → strip (a ++ b) t ≡ None
+strips_neither a b t first = rw (strip-append a b t, first) refl

@@ -11,7 +11,7 @@ use Rattle.ufmt.specs.Token.{IsTokenLeaf}
 use Rattle.ufmt.proofs.QuotedComplete.{read_quoted-complete}
 use Rattle.ufmt.proofs.Parsing.{strip_found}
 use Rattle.ufmt.proofs.QuotedSound.{read_quoted-sound}
-use Rattle.ufmt_doc.specs.Within.{is_nothing, is_symbol}
+use Rattle.ufmt_doc.specs.Private.Within.{is_nothing, is_symbol}
 
 -- which leaf stands at the front is told by the first byte
 pub no_symbol_first : (t : List ℕ) → None ≡ slice_get t 0 → read_symbol t ≡ None

@@ -9,9 +9,9 @@ use Rattle.ufmt.specs.Reading.{strip}
 use Rattle.ufmt.proofs.Parsing.{same_parts, strip_stands}
 use Rattle.ufmt.proofs.QuotedComplete.{escaped-no_quote, length-escaped, quoted-bytes, read_escaped-complete}
 use Rattle.ufmt.proofs.QuotedSound.{read_escaped-sound}
-use Rattle.ufmt_doc.specs.Spelled.{Tells}
+use Rattle.ufmt_doc.specs.Private.Spelled.{Tells}
 use Rattle.ufmt_doc.specs.Unquoted.{IsInQuotes}
-use Rattle.ufmt_doc.specs.Within.{is_symbol}
+use Rattle.ufmt_doc.specs.Private.Within.{is_symbol}
 use Rattle.ufmt_doc.proofs.Symbols.{is_symbol-complete, is_symbol-told}
 use Rattle.ufmt_doc.proofs.Spelled.{escaped_bytes-append}
 

@@ -4,7 +4,7 @@ use Rattle.std.specs.Prelude.{IsTrue, ◌↔◌}
 use Rattle.ufmt.specs.Document.{Document, leaf, joined, list_of, set_of, map_of, struct_of, tuple_of, pretty_part, Documents, no_documents, document, documents, Pairs, no_pairs, pair, Fields, no_fields, field, nest, nest_all, nest_pairs, nest_fields}
 use Rattle.ufmt.specs.Token.{AreWordBytes, IsWord, HasWords, HaveWords, PairsHaveWords, FieldsHaveWords, IsToken, IsTokenLeaf, is_word_byte}
 use Rattle.ufmt.specs.Quoted.{IsQuoted}
-use Rattle.ufmt_doc.specs.Within.{are_word_bytes, is_word, is_symbol, is_token_leaf, is_tuple_name, words_within, all_within, pairs_within, fields_within}
+use Rattle.ufmt_doc.specs.Private.Within.{are_word_bytes, is_word, is_symbol, is_token_leaf, is_tuple_name, words_within, all_within, pairs_within, fields_within}
 use Rattle.ufmt_doc.proofs.Symbols.{is_symbol-complete, is_symbol-sound}
 
 -- both tests, and one of two

@@ -5,25 +5,25 @@ use Rattle.std.proofs.lemmas.List.{drop_more, take_more}
 use Rattle.std.proofs.lemmas.Bool.Decides.{nat_tests}
 use Rattle.ufmt.specs.Token.{is_word_byte, AreWordBytes}
 use Rattle.ufmt.specs.Reading.{word_of, after_word}
-use Rattle.ufmt_doc.specs.Words.{Passed}
+use Rattle.ufmt_doc.specs.Private.FrontWords.{PassesWordBytes}
 
 -- none was passed yet
-pub none_passed : (t : List ℕ) → Passed t 0
+pub none_passed : (t : List ℕ) → PassesWordBytes t 0
 none_passed t = record { word = refl; rest = refl }
 
 -- one more is passed
-pub one_passed : (t : List ℕ) (i : ℕ) → i < length t → is_word_byte (get_or t i 0) ≡ true → Passed t i → Passed t (i + 1)
+pub one_passed : (t : List ℕ) (i : ℕ) → i < length t → is_word_byte (get_or t i 0) ≡ true → PassesWordBytes t i → PassesWordBytes t (i + 1)
 one_passed t i h byte before = record {
   word = before.word ∙ rw (drop_more t i 0 h, byte, take_more t i 0 h) (sym (append_assoc (take i t) (get_or t i 0 ∷ []) (word_of (drop (i + 1) t))));
   rest = before.rest ∙ rw (drop_more t i 0 h, byte) refl;
 }
 
 -- at a byte that is none the word ends
-pub word_ends : (t : List ℕ) (i : ℕ) → i < length t → is_word_byte (get_or t i 0) ≡ false → Passed t i → word_of t ≡ take i t
+pub word_ends : (t : List ℕ) (i : ℕ) → i < length t → is_word_byte (get_or t i 0) ≡ false → PassesWordBytes t i → word_of t ≡ take i t
 word_ends t i h byte before = before.word ∙ rw (drop_more t i 0 h, byte) (append-nil (take i t))
 
 -- and what follows it begins
-pub rest_begins : (t : List ℕ) (i : ℕ) → i < length t → is_word_byte (get_or t i 0) ≡ false → Passed t i → after_word t ≡ drop i t
+pub rest_begins : (t : List ℕ) (i : ℕ) → i < length t → is_word_byte (get_or t i 0) ≡ false → PassesWordBytes t i → after_word t ≡ drop i t
 rest_begins t i h byte before = before.rest ∙ rw (drop_more t i 0 h, byte) refl
 
 -- a byte of a word is one of ASCII

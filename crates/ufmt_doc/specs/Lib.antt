@@ -1,16 +1,7 @@
-pub mod Converting
 pub mod Doc
 pub mod DocViews
-pub mod Entries
-pub mod Level
 pub mod Parts
-pub mod Read
+pub mod Private
 pub mod ReadError
-pub mod Same
-pub mod Spelled
-pub mod Stack
-pub mod Steps
 pub mod Texts
 pub mod Unquoted
-pub mod Within
-pub mod Words

@@ -1,7 +1,9 @@
 -- What readers promise: of the documents with a text, or of a text that no document has.
-use Rattle.std.specs.Prelude.{◌≡◌, ◌≢◌, List, ℕ}
+use Rattle.std.specs.Prelude.{◌≡◌, ◌≢◌, List, ℕ, Result, String, IfOk, IsErrOf, string_bytes}
 use Rattle.ufmt.specs.Document.{Document}
 use Rattle.ufmt.specs.Token.{IsToken, normal}
+use Rattle.ufmt_doc.specs.declared.reader.error.ReadError.{ReadError}
+use Rattle.ufmt_doc.specs.declared.reader.error.ReadError.TheVariants.{NotText}
 
 -- a token document in normal form that has this text
 abbrev pub IsNormalForm : (Document → List ℕ) → List ℕ → Document → Type 0
@@ -23,3 +25,10 @@ Undoes from to input answer = (earlier : List ℕ) → IsConverted to from earli
 -- the input was converted from no text
 abbrev pub IsUnconverted : (Document → List ℕ) → (Document → List ℕ) → List ℕ → Type 0
 IsUnconverted from to input = (earlier : List ℕ) → IsConverted to from earlier input → ⊥
+
+-- what a conversion answers to a text: what it is converted to, which undoes the conversion in the other direction; or `NotText`, of no text
+pub record Converts {A : Type 0} (from to : Document → List ℕ) (input : List ℕ) (answer : Result (String A) ReadError) : Type 0 where
+  pub ok : IfOk answer (λ text. IsConverted from to input (string_bytes text))
+  pub not_text : IsErrOf answer NotText → IsNoText from input
+  pub undoes : IfOk answer (λ text. Undoes from to input (string_bytes text))
+  pub unconverted : IsErrOf answer NotText → IsUnconverted from to input

@@ -1,9 +1,9 @@
 //! Values to texts, and plain texts to pretty ones and back.
-ghost use Rattle.std.specs.Prelude.{◌≡◌, ◌≤◌, string_bytes, IfOk, IsErrOf};
+ghost use Rattle.std.specs.Prelude.{◌≡◌, ◌≤◌, string_bytes, IfOk};
 ghost use Rattle.ufmt.specs.Document.{nest};
 ghost use Rattle.ufmt.specs.Layout.{plain_text, pretty_text};
 ghost use Rattle.ufmt.specs.Shift.{HasNoLineFeed, shifted};
-ghost use Rattle.ufmt_doc.specs.Texts.{IsConverted, IsNoText, IsUnconverted, Undoes};
+ghost use Rattle.ufmt_doc.specs.Texts.{Converts};
 
 mod begin;
 mod converted;
@@ -12,9 +12,9 @@ mod text_blocks;
 mod write;
 
 use crate::plain_reader::ReadError;
-use crate::reader::Mode;
 use converted::converted;
 use std::alloc::{AllocError, Global};
+use ufmt::layout::Mode;
 use ufmt::{Formatter, uDebug};
 
 /// The value's plain text. The only refusal is want of memory.
@@ -46,29 +46,19 @@ pub fn pretty_text<T: uDebug>(alloc: Global, value: &T) -> Result<String, AllocE
 
 /// The pretty text of the token documents with this plain text. Of a text that `to_plain` answered
 /// that is the text from which it was made. No document is made on the way: memory goes to the
-/// answer, and a few bytes to each block that is open.
+/// answer, and a few bytes to each block that is open. `NotText` is answered of no such text, and
+/// else `OutOfMemory` alone; nothing of the answer is left then.
 pub fn to_pretty(alloc: Global, input: &[u8]) -> Result<String, ReadError>
-    ensures ok { IfOk result (λ text.
-        IsConverted plain_text pretty_text input.now (string_bytes text)) }
-    ensures not_text { IsErrOf result ReadError.NotText → IsNoText plain_text input.now }
-    ensures undoes { IfOk result (λ text.
-        Undoes plain_text pretty_text input.now (string_bytes text)) }
-    ensures unconverted { IsErrOf result ReadError.NotText
-        → IsUnconverted plain_text pretty_text input.now }
+    ensures { Converts plain_text pretty_text input.now result }
 {
     converted(alloc, Mode::Plain, Mode::Pretty, input)
 }
 
 /// The plain text of the token documents with this pretty text. Of a text that `to_pretty` answered
-/// that is the text from which it was made. It takes memory as `to_pretty` does.
+/// that is the text from which it was made. It takes memory as `to_pretty` does. Its refusals are
+/// those of `to_pretty`.
 pub fn to_plain(alloc: Global, input: &[u8]) -> Result<String, ReadError>
-    ensures ok { IfOk result (λ text.
-        IsConverted pretty_text plain_text input.now (string_bytes text)) }
-    ensures not_text { IsErrOf result ReadError.NotText → IsNoText pretty_text input.now }
-    ensures undoes { IfOk result (λ text.
-        Undoes pretty_text plain_text input.now (string_bytes text)) }
-    ensures unconverted { IsErrOf result ReadError.NotText
-        → IsUnconverted pretty_text plain_text input.now }
+    ensures { Converts pretty_text plain_text input.now result }
 {
     converted(alloc, Mode::Pretty, Mode::Plain, input)
 }

@@ -5,7 +5,7 @@ ghost use Rattle.ufmt.specs.Token.{IsToken};
 ghost use Rattle.ufmt.specs.Token.{normal, normal_all, normal_fields, normal_pairs};
 ghost use Rattle.ufmt_doc.specs.Doc.{doc_document};
 ghost use Rattle.ufmt_doc.specs.DocViews.{pair_view, field_view};
-ghost use Rattle.ufmt_doc.specs.Within.{are_word_bytes, is_token_leaf, is_word, words_within};
+ghost use Rattle.ufmt_doc.specs.Private.Within.{are_word_bytes, is_token_leaf, is_word, words_within};
 
 mod parts;
 mod quoted;

@@ -6,11 +6,13 @@ ghost use Rattle.ufmt_doc.specs.Texts.{IsNormalForm, IsNoText};
 
 use crate::doc::Doc;
 pub use crate::reader::ReadError;
-use crate::reader::{Mode, read_text};
+use crate::reader::read_text;
 use std::alloc::Global;
+use ufmt::layout::Mode;
 
 /// The document with this plain text, in normal form. Empty braces are an empty map, and a name
-/// alone is a leaf.
+/// alone is a leaf. `NotText` is answered of what is no token document's plain text, and else
+/// `OutOfMemory` alone.
 pub fn read_plain(alloc: Global, input: &[u8]) -> Result<Doc, ReadError>
     ensures ok { IfOk result (λ doc. IsNormalForm plain_text input.now (doc_document doc)) }
     ensures not_text { IsErrOf result ReadError.NotText → IsNoText plain_text input.now }

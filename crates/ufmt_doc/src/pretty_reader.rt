@@ -5,11 +5,13 @@ ghost use Rattle.ufmt_doc.specs.Doc.{doc_document};
 ghost use Rattle.ufmt_doc.specs.Texts.{IsNormalForm, IsNoText};
 
 use crate::doc::Doc;
-use crate::reader::{Mode, ReadError, read_text};
+use crate::reader::{ReadError, read_text};
 use std::alloc::Global;
+use ufmt::layout::Mode;
 
 /// The document with this pretty text, in normal form. Empty braces are an empty map, and a name
-/// alone is a leaf.
+/// alone is a leaf. `NotText` is answered of what is no token document's pretty text, and else
+/// `OutOfMemory` alone.
 pub fn read_pretty(alloc: Global, input: &[u8]) -> Result<Doc, ReadError>
     ensures ok { IfOk result (λ doc. IsNormalForm pretty_text input.now (doc_document doc)) }
     ensures not_text { IsErrOf result ReadError.NotText → IsNoText pretty_text input.now }

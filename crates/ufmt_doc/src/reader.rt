@@ -1,8 +1,7 @@
 //! Reading a token document from a text, in either mode: a loop over the blocks that are open.
 ghost use Rattle.ufmt.specs.Reading.{if_all, read_text};
 ghost use Rattle.ufmt_doc.specs.Doc.{doc_document};
-ghost use Rattle.ufmt_doc.specs.Level.{mode_of};
-ghost use Rattle.ufmt_doc.specs.Read.{Gives};
+ghost use Rattle.ufmt_doc.specs.Private.Read.{AnswersAs};
 
 mod begin;
 mod error;
@@ -18,13 +17,13 @@ mod word_entries;
 use crate::doc::Doc;
 use begin::begin;
 pub use error::ReadError;
-pub(crate) use level::Mode;
 use open_blocks::OpenBlocks;
 use std::alloc::Global;
+use ufmt::layout::Mode;
 
 /// The document that the whole text is of.
 pub(crate) fn read_text(alloc: Global, mode: Mode, input: &[u8]) -> Result<Doc, ReadError>
-    ensures { Gives doc_document result (read_text (mode_of mode) input.now) }
+    ensures { AnswersAs doc_document result (read_text mode input.now) }
 {
     let mut blocks = OpenBlocks::new(alloc);
     let mut rest = input;
@@ -44,7 +43,7 @@ pub(crate) fn read_text(alloc: Global, mode: Mode, input: &[u8]) -> Result<Doc, 
 
 // The document, unless something is left behind it.
 fn if_all(doc: Doc, rest: &[u8]) -> Result<Doc, ReadError>
-    ensures { Gives doc_document result (if_all (doc_document doc) rest.now) }
+    ensures { AnswersAs doc_document result (if_all (doc_document doc) rest.now) }
 {
     if rest.is_empty() {
         Ok(doc)

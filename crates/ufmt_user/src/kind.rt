@@ -1,3 +1,4 @@
+//! An enum: a variant without fields, one with unnamed and one with named fields.
 ghost use Rattle.std.specs.Prelude.{[], ◌∷◌};
 ghost use Rattle.ufmt.specs.Words.{named, named_struct, named_tuple};
 ghost use Rattle.ufmt_user.specs.declared.kind.Kind.TheVariants.{A, B, C};

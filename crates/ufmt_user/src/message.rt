@@ -28,8 +28,8 @@ impl uDebug for Message<'_> {
 
 /// Puts the message at the front of the buffer, and answers how many bytes it has. Where it doesn't
 /// fit the answer is `Full`, and the buffer begins with the pieces of the message that did.
-pub fn print(buffer: &mut [u8], message: &Message) -> Result<usize, Full>
-    ensures { Fronts buffer.old (plain_text (⟦<Message as uDebug>⟧.document message.now)) result
+pub fn print<'a>(buffer: &mut [u8], message: &Message<'a>) -> Result<usize, Full>
+    ensures { Fronts buffer.old (plain_text (⟦<Message<'a> as uDebug>⟧.document message.now)) result
         buffer.new }
 {
     debug_into(buffer, message)

@@ -1,3 +1,4 @@
+//! A struct in a struct.
 ghost use Rattle.std.specs.Prelude.{[], ◌∷◌};
 ghost use Rattle.ufmt.specs.Words.{named_struct};
 

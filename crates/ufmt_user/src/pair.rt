@@ -1,3 +1,4 @@
+//! Two fields of types of any kind.
 ghost use Rattle.std.specs.Prelude.{[], ◌∷◌};
 ghost use Rattle.ufmt.specs.Words.{named_struct};
 

@@ -1,3 +1,4 @@
+//! A type that prints as the list that it holds.
 ghost use Rattle.std.specs.Prelude.{map};
 ghost use Rattle.ufmt.specs.Document.{documents, list_of};
 

@@ -1,3 +1,4 @@
+//! The program's answers, by rows of input and output.
 mod devices;
 
 use super::*;

@@ -4,14 +4,14 @@ ghost use Rattle.std.specs.Borrow.{sem, follows};
 ghost use mir.Syntax.{named};
 ghost use Rattle.ufmt_core.specs.contracts.formatter.Formatter as formatter;
 ghost use Rattle.ufmt_core.specs.contracts.formatter.builder.Builder as builder;
-ghost use Rattle.ufmt_core.specs.declared.formatter.block.Kind.{Kind};
+ghost use Rattle.ufmt_core.specs.declared.layout.Kind.{Kind};
 ghost use Rattle.ufmt_core.specs.declared.formatter.builder.Status.TheVariants.{Lent};
 ghost use Rattle.ufmt_core.specs.Formatter.{Prints};
-ghost use Rattle.ufmt_core.specs.Block.{Closing, EntryEnd, IsOpen, Opening, Stop, ending_of, field_lead_of, lead_of};
-ghost use Rattle.ufmt_core.specs.Builder.{EntryLoan, OpeningLoan, block, left, lent};
+ghost use Rattle.ufmt_core.specs.Block.{WritesEnding, EndsEntry, IsOpen, WritesOpening, ending_of, field_lead_of, lead_of};
+ghost use Rattle.ufmt_core.specs.Builder.{EntryLoan, LendsBehind, LendsForEntry, OpeningLoan, block, abandoned, lent};
 
-use crate::formatter::block::{Kind, Place};
-use crate::formatter::{Formatter, Setting};
+use crate::formatter::Formatter;
+use crate::layout::{Count, Kind, Setting};
 use crate::write::uWrite;
 
 /// Which calls of a builder may follow.
@@ -43,7 +43,7 @@ pub struct Builder<'f, W, K> {
     pub(crate) formatter: &'f mut Formatter<W>,
     marker: K,
     outer: Setting,
-    place: Place,
+    count: Count,
     status: Status,
 }
 
@@ -57,7 +57,7 @@ impl<W: uWrite> Formatter<W> {
     ) -> Result<Builder<'f, W, K>, W::Error>
         ensures* loan { sem 𝓛 (OpeningLoan W.row W.seen self.entry result opening.now) }
         ensures opening { IfOk result
-            (λ b. Opening W.seen self.old self.entry.ghost_name (K.kind marker) opening.now
+            (λ b. WritesOpening W.seen self.old self.entry.ghost_name (K.kind marker) opening.now
             (block K.kind b)) }
     {
         self.write_str(opening)?;
@@ -67,7 +67,7 @@ impl<W: uWrite> Formatter<W> {
             formatter: self,
             marker,
             outer,
-            place: Place::First,
+            count: Count::Zero,
             status: Status::Open,
         })
     }
@@ -79,12 +79,12 @@ impl<W: uWrite, K: BlockKind> Builder<'_, W, K> {
     #[inline(always)]
     pub fn finish(&mut self) -> Result<(), W::Error>
         requires { IsOpen (block K.kind self.old) }
-        ensures { Closing W.seen (block K.kind self.old) (ending_of (block K.kind self.old))
+        ensures { WritesEnding W.seen (block K.kind self.old) (ending_of (block K.kind self.old))
             (is_ok result) (block K.kind self.new) }
     {
         let kind = self.marker.kind();
         self.leave();
-        self.formatter.write_ending(kind, self.place)
+        self.formatter.write_ending(kind, self.count)
     }
 
     /// Whether entries may follow: until `finish`, or a call that fails, and not between the halves of
@@ -98,29 +98,26 @@ impl<W: uWrite, K: BlockKind> Builder<'_, W, K> {
     /// Writes what stands before an entry, and lends the formatter for it.
     #[inline(always)]
     pub(crate) fn begin(&mut self) -> Result<&mut Formatter<W>, W::Error>
-        ensures* loan { sem 𝓛 (EntryLoan W.row K.row self.entry result Lent
-            (λ last. Stop W.seen (block K.kind self.old) (lead_of (block K.kind self.old))
-            (block K.kind last))) }
+        ensures* loan { sem 𝓛 (LendsForEntry W.row K.row (block K.kind) W.seen self.entry result) }
         ensures lead { IfOk result
             (λ f. Prints W.seen self.old.formatter.now (lead_of (block K.kind self.old)) true
             f.now) }
     {
-        let written = self.formatter.write_lead(self.marker.kind(), self.place);
+        let written = self.formatter.write_lead(self.marker.kind(), self.count);
         self.lend_if(written, Status::Lent)
     }
 
     /// Writes what stands before the value of a field with this name, and lends the formatter for it.
     #[inline(always)]
     pub(crate) fn begin_named(&mut self, name: &str) -> Result<&mut Formatter<W>, W::Error>
-        ensures* loan { sem 𝓛 (EntryLoan W.row K.row self.entry result Lent
-            (λ last. Stop W.seen (block K.kind self.old)
-            (field_lead_of name.now (block K.kind self.old)) (block K.kind last))) }
+        ensures* loan { sem 𝓛 (LendsBehind W.row K.row (block K.kind) W.seen self.entry result
+            (field_lead_of name.now (block K.kind self.old))) }
         ensures lead { IfOk result
             (λ f. Prints W.seen self.old.formatter.now
             (field_lead_of name.now (block K.kind self.old)) true f.now) }
     {
         let kind = self.marker.kind();
-        let written = self.formatter.write_field_lead(kind, self.place, name);
+        let written = self.formatter.write_field_lead(kind, self.count, name);
         self.lend_if(written, Status::Lent)
     }
 
@@ -132,11 +129,11 @@ impl<W: uWrite, K: BlockKind> Builder<'_, W, K> {
         status: Status,
     ) -> Result<&mut Formatter<W>, W::Error>
         ensures* loan { sem 𝓛 (EntryLoan W.row K.row self.entry result status
-            (λ last. last ≡ left self.old)) }
+            (λ last. last ≡ abandoned self.old)) }
         ensures lent { IfOk result (λ f. (f.now ≡ self.old.formatter.now) × IsOk answer) }
         ensures error { IfErr result (λ e. answer ≡ Err e) }
     {
-        self.settle(answer, status, self.place)?;
+        self.settle(answer, status, self.count)?;
         Ok(self.lend())
     }
 
@@ -154,7 +151,7 @@ impl<W: uWrite, K: BlockKind> Builder<'_, W, K> {
     /// Writes what stands after an entry whose `fmt` gave this answer, or passes an `Err` on.
     #[inline(always)]
     pub(crate) fn end(&mut self, answer: Result<(), W::Error>) -> Result<(), W::Error>
-        ensures end { EntryEnd W.seen answer (block K.kind self.old) result (is_ok result)
+        ensures end { EndsEntry W.seen answer (block K.kind self.old) result (is_ok result)
             (block K.kind self.new) }
         ensures is_open { OnOk result (IsOpen (block K.kind self.new)) }
     {
@@ -162,24 +159,24 @@ impl<W: uWrite, K: BlockKind> Builder<'_, W, K> {
             Ok(()) => self.formatter.write_trail(),
             Err(error) => Err(error),
         };
-        self.settle(ended, Status::Open, self.place.next())
+        self.settle(ended, Status::Open, self.count.next())
     }
 
-    // Goes on to this status and place where the answer is `Ok`, and else leaves the block.
+    // Goes on to this status and count where the answer is `Ok`, and else leaves the block.
     #[inline(always)]
     fn settle(
         &mut self,
         answer: Result<(), W::Error>,
         status: Status,
-        place: Place,
+        count: Count,
     ) -> Result<(), W::Error>
         ensures answer { result ≡ answer }
         ensures settled { MatchBool (is_ok answer)
-            (self.new ≡ record self.old { place = place; status = status })
-            (self.new ≡ left self.old) }
+            (self.new ≡ record self.old { count = count; status = status })
+            (self.new ≡ abandoned self.old) }
     {
         if answer.is_ok() {
-            self.place = place;
+            self.count = count;
             self.status = status;
         } else {
             self.leave();
@@ -190,7 +187,7 @@ impl<W: uWrite, K: BlockKind> Builder<'_, W, K> {
     // Closes the builder, and goes back to the mode and depth from before it.
     #[inline(always)]
     fn leave(&mut self)
-        ensures { self.new ≡ left self.old }
+        ensures { self.new ≡ abandoned self.old }
     {
         self.formatter.setting = self.outer;
         self.status = Status::Closed;

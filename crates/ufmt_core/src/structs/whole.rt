@@ -2,7 +2,7 @@
 ghost use Rattle.std.specs.Prelude.{is_ok, [], ◌∷◌};
 ghost use Rattle.ufmt_core.specs.Document.{Fields, field, fields_of, no_fields, struct_of};
 ghost use Rattle.ufmt_core.specs.Formatter.{LaysOut};
-ghost use Rattle.ufmt_core.specs.Block.{Closing, IsInside, IsOpen, fields_left, rest_of};
+ghost use Rattle.ufmt_core.specs.Block.{WritesEnding, IsInside, IsOpen, remaining_fields, tail_of};
 ghost use Rattle.ufmt_core.specs.Builder.{struct_block};
 
 use crate::formatter::Formatter;
@@ -20,8 +20,8 @@ pub trait NamedFields<'a> {
     fn finish<W: uWrite>(&self, block: &mut DebugStruct<W>) -> Result<(), W::Error>
         requires is_open { IsOpen (struct_block block.old) }
         requires is_inside { IsInside (struct_block block.old) }
-        ensures { Closing W.seen (struct_block block.old)
-            (rest_of (struct_block block.old) (fields_left (fields self.now))) (is_ok result)
+        ensures { WritesEnding W.seen (struct_block block.old)
+            (tail_of (struct_block block.old) (remaining_fields (fields self.now))) (is_ok result)
             (struct_block block.new) };
 }
 
@@ -46,7 +46,7 @@ impl<'a, D: uDebug, R: NamedFields<'a>> NamedFields<'a> for (&'a str, &'a D, R) 
 
 impl<W: uWrite> Formatter<W> {
     /// Writes a whole struct, whose fields are a chain `(name, value, (name, value, .. ()))` of
-    /// references.
+    /// references. On `Err` a beginning of that is written, and mode and depth are as before.
     #[inline(always)]
     pub fn struct_of<'a, F: NamedFields<'a>>(
         &mut self,
@@ -60,7 +60,7 @@ impl<W: uWrite> Formatter<W> {
         fields.finish(&mut block)
     }
 
-    /// Writes a whole struct with no fields.
+    /// Writes a whole struct with no fields. On `Err` a beginning of it is written.
     #[inline(always)]
     pub fn struct_0(&mut self, name: &str) -> Result<(), W::Error>
         ensures { LaysOut W.seen self.old (struct_of name.now (fields_of ([]))) (is_ok result)
@@ -69,7 +69,7 @@ impl<W: uWrite> Formatter<W> {
         self.struct_of(name, &())
     }
 
-    /// Writes a whole struct with one field.
+    /// Writes a whole struct with one field. On `Err` a beginning of it is written.
     #[inline(always)]
     pub fn struct_1<'a, A: uDebug>(
         &mut self,
@@ -84,7 +84,7 @@ impl<W: uWrite> Formatter<W> {
         self.struct_of(name, &(a, a_value, ()))
     }
 
-    /// Writes a whole struct with 2 fields.
+    /// Writes a whole struct with 2 fields. On `Err` a beginning of it is written.
     #[inline(always)]
     pub fn struct_2<'a, A: uDebug, B: uDebug>(
         &mut self,
@@ -102,7 +102,7 @@ impl<W: uWrite> Formatter<W> {
         self.struct_of(name, &(a, a_value, (b, b_value, ())))
     }
 
-    /// Writes a whole struct with 3 fields.
+    /// Writes a whole struct with 3 fields. On `Err` a beginning of it is written.
     #[inline(always)]
     pub fn struct_3<'a, A: uDebug, B: uDebug, C: uDebug>(
         &mut self,
@@ -122,7 +122,7 @@ impl<W: uWrite> Formatter<W> {
         self.struct_of(name, &(a, a_value, (b, b_value, (c, c_value, ()))))
     }
 
-    /// Writes a whole struct with 4 fields.
+    /// Writes a whole struct with 4 fields. On `Err` a beginning of it is written.
     #[inline(always)]
     pub fn struct_4<'a, A: uDebug, B: uDebug, C: uDebug, D: uDebug>(
         &mut self,
@@ -148,7 +148,7 @@ impl<W: uWrite> Formatter<W> {
         )
     }
 
-    /// Writes a whole struct with 5 fields.
+    /// Writes a whole struct with 5 fields. On `Err` a beginning of it is written.
     #[inline(always)]
     pub fn struct_5<'a, A: uDebug, B: uDebug, C: uDebug, D: uDebug, E: uDebug>(
         &mut self,
@@ -180,7 +180,7 @@ impl<W: uWrite> Formatter<W> {
         )
     }
 
-    /// Writes a whole struct with 6 fields.
+    /// Writes a whole struct with 6 fields. On `Err` a beginning of it is written.
     #[inline(always)]
     pub fn struct_6<'a, A: uDebug, B: uDebug, C: uDebug, D: uDebug, E: uDebug, F: uDebug>(
         &mut self,
@@ -219,7 +219,7 @@ impl<W: uWrite> Formatter<W> {
         )
     }
 
-    /// Writes a whole struct with 7 fields.
+    /// Writes a whole struct with 7 fields. On `Err` a beginning of it is written.
     #[inline(always)]
     pub fn struct_7<
         'a,
@@ -273,7 +273,7 @@ impl<W: uWrite> Formatter<W> {
         )
     }
 
-    /// Writes a whole struct with 8 fields.
+    /// Writes a whole struct with 8 fields. On `Err` a beginning of it is written.
     #[inline(always)]
     pub fn struct_8<
         'a,
@@ -335,7 +335,7 @@ impl<W: uWrite> Formatter<W> {
         )
     }
 
-    /// Writes a whole struct with 9 fields.
+    /// Writes a whole struct with 9 fields. On `Err` a beginning of it is written.
     #[inline(always)]
     pub fn struct_9<
         'a,
@@ -404,7 +404,7 @@ impl<W: uWrite> Formatter<W> {
         )
     }
 
-    /// Writes a whole struct with 10 fields.
+    /// Writes a whole struct with 10 fields. On `Err` a beginning of it is written.
     #[inline(always)]
     pub fn struct_10<
         'a,
@@ -481,7 +481,7 @@ impl<W: uWrite> Formatter<W> {
         )
     }
 
-    /// Writes a whole struct with 11 fields.
+    /// Writes a whole struct with 11 fields. On `Err` a beginning of it is written.
     #[inline(always)]
     pub fn struct_11<
         'a,
@@ -565,7 +565,7 @@ impl<W: uWrite> Formatter<W> {
         )
     }
 
-    /// Writes a whole struct with 12 fields.
+    /// Writes a whole struct with 12 fields. On `Err` a beginning of it is written.
     #[inline(always)]
     pub fn struct_12<
         'a,

@@ -2,7 +2,7 @@
 ghost use Rattle.std.specs.Prelude.{is_ok, [], ◌∷◌};
 ghost use Rattle.ufmt_core.specs.Document.{Documents, document, documents, no_documents, tuple_of};
 ghost use Rattle.ufmt_core.specs.Formatter.{LaysOut};
-ghost use Rattle.ufmt_core.specs.Block.{Closing, IsInside, IsOpen, entries_left, rest_of};
+ghost use Rattle.ufmt_core.specs.Block.{WritesEnding, IsInside, IsOpen, remaining_entries, tail_of};
 ghost use Rattle.ufmt_core.specs.Builder.{tuple_block};
 
 use crate::formatter::Formatter;
@@ -19,8 +19,8 @@ pub trait UnnamedFields<'a> {
     fn finish<W: uWrite>(&self, block: &mut DebugTuple<W>) -> Result<(), W::Error>
         requires is_open { IsOpen (tuple_block block.old) }
         requires is_inside { IsInside (tuple_block block.old) }
-        ensures { Closing W.seen (tuple_block block.old)
-            (rest_of (tuple_block block.old) (entries_left (documents self.now))) (is_ok result)
+        ensures { WritesEnding W.seen (tuple_block block.old)
+            (tail_of (tuple_block block.old) (remaining_entries (documents self.now))) (is_ok result)
             (tuple_block block.new) };
 }
 
@@ -42,7 +42,8 @@ impl<'a, D: uDebug, R: UnnamedFields<'a>> UnnamedFields<'a> for (&'a D, R) {
 }
 
 impl<W: uWrite> Formatter<W> {
-    /// Writes a whole tuple, whose fields are a chain `(value, (value, .. ()))` of references.
+    /// Writes a whole tuple, whose fields are a chain `(value, (value, .. ()))` of references. On
+    /// `Err` a beginning of that is written, and mode and depth are as before.
     pub fn tuple_of<'a, F: UnnamedFields<'a>>(
         &mut self,
         name: &str,
@@ -55,7 +56,7 @@ impl<W: uWrite> Formatter<W> {
         fields.finish(&mut block)
     }
 
-    /// Writes a whole tuple with no fields.
+    /// Writes a whole tuple with no fields. On `Err` a beginning of it is written.
     pub fn tuple_0(&mut self, name: &str) -> Result<(), W::Error>
         ensures { LaysOut W.seen self.old (tuple_of name.now (documents ([]))) (is_ok result)
             self.new }
@@ -63,7 +64,7 @@ impl<W: uWrite> Formatter<W> {
         self.tuple_of(name, &())
     }
 
-    /// Writes a whole tuple with one field.
+    /// Writes a whole tuple with one field. On `Err` a beginning of it is written.
     pub fn tuple_1<'a, A: uDebug>(&mut self, name: &str, a: &'a A) -> Result<(), W::Error>
         ensures { LaysOut W.seen self.old (tuple_of name.now (documents (A.document a.now ∷ [])))
             (is_ok result) self.new }
@@ -71,7 +72,7 @@ impl<W: uWrite> Formatter<W> {
         self.tuple_of(name, &(a, ()))
     }
 
-    /// Writes a whole tuple with 2 fields.
+    /// Writes a whole tuple with 2 fields. On `Err` a beginning of it is written.
     pub fn tuple_2<'a, A: uDebug, B: uDebug>(
         &mut self,
         name: &str,
@@ -85,7 +86,7 @@ impl<W: uWrite> Formatter<W> {
         self.tuple_of(name, &(a, (b, ())))
     }
 
-    /// Writes a whole tuple with 3 fields.
+    /// Writes a whole tuple with 3 fields. On `Err` a beginning of it is written.
     pub fn tuple_3<'a, A: uDebug, B: uDebug, C: uDebug>(
         &mut self,
         name: &str,
@@ -101,7 +102,7 @@ impl<W: uWrite> Formatter<W> {
         self.tuple_of(name, &(a, (b, (c, ()))))
     }
 
-    /// Writes a whole tuple with 4 fields.
+    /// Writes a whole tuple with 4 fields. On `Err` a beginning of it is written.
     pub fn tuple_4<'a, A: uDebug, B: uDebug, C: uDebug, D: uDebug>(
         &mut self,
         name: &str,
@@ -118,7 +119,7 @@ impl<W: uWrite> Formatter<W> {
         self.tuple_of(name, &(a, (b, (c, (d, ())))))
     }
 
-    /// Writes a whole tuple with 5 fields.
+    /// Writes a whole tuple with 5 fields. On `Err` a beginning of it is written.
     pub fn tuple_5<'a, A: uDebug, B: uDebug, C: uDebug, D: uDebug, E: uDebug>(
         &mut self,
         name: &str,
@@ -136,7 +137,7 @@ impl<W: uWrite> Formatter<W> {
         self.tuple_of(name, &(a, (b, (c, (d, (e, ()))))))
     }
 
-    /// Writes a whole tuple with 6 fields.
+    /// Writes a whole tuple with 6 fields. On `Err` a beginning of it is written.
     pub fn tuple_6<'a, A: uDebug, B: uDebug, C: uDebug, D: uDebug, E: uDebug, F: uDebug>(
         &mut self,
         name: &str,
@@ -155,7 +156,7 @@ impl<W: uWrite> Formatter<W> {
         self.tuple_of(name, &(a, (b, (c, (d, (e, (f, ())))))))
     }
 
-    /// Writes a whole tuple with 7 fields.
+    /// Writes a whole tuple with 7 fields. On `Err` a beginning of it is written.
     pub fn tuple_7<'a, A: uDebug, B: uDebug, C: uDebug, D: uDebug, E: uDebug, F: uDebug, G: uDebug>(
         &mut self,
         name: &str,
@@ -175,7 +176,7 @@ impl<W: uWrite> Formatter<W> {
         self.tuple_of(name, &(a, (b, (c, (d, (e, (f, (g, ()))))))))
     }
 
-    /// Writes a whole tuple with 8 fields.
+    /// Writes a whole tuple with 8 fields. On `Err` a beginning of it is written.
     pub fn tuple_8<
         'a,
         A: uDebug,
@@ -207,7 +208,7 @@ impl<W: uWrite> Formatter<W> {
         self.tuple_of(name, &(a, (b, (c, (d, (e, (f, (g, (h, ())))))))))
     }
 
-    /// Writes a whole tuple with 9 fields.
+    /// Writes a whole tuple with 9 fields. On `Err` a beginning of it is written.
     pub fn tuple_9<
         'a,
         A: uDebug,
@@ -241,7 +242,7 @@ impl<W: uWrite> Formatter<W> {
         self.tuple_of(name, &(a, (b, (c, (d, (e, (f, (g, (h, (i, ()))))))))))
     }
 
-    /// Writes a whole tuple with 10 fields.
+    /// Writes a whole tuple with 10 fields. On `Err` a beginning of it is written.
     pub fn tuple_10<
         'a,
         A: uDebug,
@@ -277,7 +278,7 @@ impl<W: uWrite> Formatter<W> {
         self.tuple_of(name, &(a, (b, (c, (d, (e, (f, (g, (h, (i, (j, ())))))))))))
     }
 
-    /// Writes a whole tuple with 11 fields.
+    /// Writes a whole tuple with 11 fields. On `Err` a beginning of it is written.
     pub fn tuple_11<
         'a,
         A: uDebug,
@@ -318,7 +319,7 @@ impl<W: uWrite> Formatter<W> {
         )
     }
 
-    /// Writes a whole tuple with 12 fields.
+    /// Writes a whole tuple with 12 fields. On `Err` a beginning of it is written.
     pub fn tuple_12<
         'a,
         A: uDebug,

@@ -3,15 +3,16 @@ ghost use Rattle.std.specs.Prelude.{◌≡◌, ◌<◌, length, suc, string_byte
 ghost use Rattle.ufmt.specs.Layout.{layout};
 ghost use Rattle.ufmt.specs.Reading.{parse_map, read, read_braces, read_list, read_named, read_without_name};
 ghost use Rattle.ufmt.specs.Token.{IsWord};
-ghost use Rattle.ufmt_doc.specs.Converting.{BeginsText, prefixed};
-ghost use Rattle.ufmt_doc.specs.Level.{budget_of, entry_of, setting_of};
+ghost use Rattle.ufmt_doc.specs.Private.Converting.{ConvertsBeginning, prefixed};
+ghost use Rattle.ufmt_doc.specs.Private.Level.{budget_of, entry_of, setting_at};
 
 use super::text_block::{TextBlock, convert_label};
-use super::write::write_piece;
+use super::write::write_text;
 use crate::reader::ReadError;
-use crate::reader::level::{Kind, Level, strip_byte};
+use crate::reader::level::Level;
 use crate::reader::symbol::split_symbol;
 use crate::reader::word::split_word;
+use ufmt::layout::{Count, Kind};
 use ufmt::unsigned::text_from;
 
 /// Converts a leaf or an empty block, or what opens a block up to its first entry: then the answer
@@ -22,8 +23,8 @@ pub(super) fn begin<'a>(
     output: &mut String,
     input: &'a [u8],
 ) -> Result<(Option<TextBlock>, &'a [u8]), ReadError>
-    ensures { BeginsText from to (length input.now) result (string_bytes output.old)
-        (string_bytes output.new) (read (setting_of from) (budget_of from) input.now) }
+    ensures { ConvertsBeginning from to (length input.now) result (string_bytes output.old)
+        (string_bytes output.new) (read (setting_at from) (budget_of from) input.now) }
 {
     let (word, rest) = split_word(input);
     if word.is_empty() {
@@ -42,18 +43,18 @@ fn begin_named<'a>(
     input: &'a [u8],
 ) -> Result<(Option<TextBlock>, &'a [u8]), ReadError>
     requires { IsWord word.now }
-    ensures { BeginsText from to (suc (length input.now)) result (string_bytes output.old)
+    ensures { ConvertsBeginning from to (suc (length input.now)) result (string_bytes output.old)
         (string_bytes output.new)
-        (read_named (setting_of from) (entry_of from) word.now input.now) }
+        (read_named (setting_at from) (entry_of from) word.now input.now) }
 {
-    write_piece(text_from(word, 0), output)?;
+    write_text(text_from(word, 0), output)?;
     if let Some(rest) = from.strip_lead(Kind::Tuple, input) {
-        to.write_opening(Kind::Tuple, output)?;
-        Ok((Some(TextBlock::Entry(Kind::Tuple, true)), rest))
+        to.write_front(Kind::Tuple, output)?;
+        Ok((Some(TextBlock::Entry(Kind::Tuple, Count::Zero)), rest))
     } else if let Some(rest) = from.strip_lead(Kind::Struct, input) {
-        to.write_opening(Kind::Struct, output)?;
+        to.write_front(Kind::Struct, output)?;
         let rest = convert_label(output, rest)?;
-        Ok((Some(TextBlock::Field(true)), rest))
+        Ok((Some(TextBlock::Field(Count::Zero)), rest))
     } else {
         Ok((None, input))
     }
@@ -66,19 +67,19 @@ fn begin_without_name<'a>(
     output: &mut String,
     input: &'a [u8],
 ) -> Result<(Option<TextBlock>, &'a [u8]), ReadError>
-    ensures { BeginsText from to (length input.now) result (string_bytes output.old)
-        (string_bytes output.new) (read_without_name (setting_of from) (entry_of from) input.now) }
+    ensures { ConvertsBeginning from to (length input.now) result (string_bytes output.old)
+        (string_bytes output.new) (read_without_name (setting_at from) (entry_of from) input.now) }
 {
-    if let Some(rest) = strip_byte(b'[', input) {
+    if let Some(rest) = from.strip_opening(Kind::Brackets, input) {
         begin_list(from, to, output, rest)
-    } else if let Some(rest) = strip_byte(b'{', input) {
+    } else if let Some(rest) = from.strip_opening(Kind::Braces, input) {
         begin_braces(from, to, output, rest)
     } else if let Some((text, rest)) = split_symbol(input) {
-        write_piece(text, output)?;
+        write_text(text, output)?;
         Ok((None, rest))
     } else if let Some(rest) = from.strip_lead(Kind::Unnamed, input) {
-        to.write_opening(Kind::Unnamed, output)?;
-        Ok((Some(TextBlock::Entry(Kind::Unnamed, true)), rest))
+        to.write_front(Kind::Unnamed, output)?;
+        Ok((Some(TextBlock::Entry(Kind::Unnamed, Count::Zero)), rest))
     } else {
         Err(ReadError::NotText)
     }
@@ -91,15 +92,15 @@ fn begin_list<'a>(
     output: &mut String,
     input: &'a [u8],
 ) -> Result<(Option<TextBlock>, &'a [u8]), ReadError>
-    ensures { BeginsText from to (suc (length input.now)) result (string_bytes output.old)
-        (string_bytes output.new) (read_list (setting_of from) (entry_of from) input.now) }
+    ensures { ConvertsBeginning from to (suc (length input.now)) result (string_bytes output.old)
+        (string_bytes output.new) (read_list (setting_at from) (entry_of from) input.now) }
 {
-    if let Some(rest) = strip_byte(b']', input) {
-        write_piece("[]", output)?;
+    if let Some(rest) = from.strip_closing(Kind::Brackets, Count::Zero, input) {
+        to.write_empty(Kind::Brackets, output)?;
         Ok((None, rest))
     } else if let Some(rest) = from.strip_lead(Kind::Brackets, input) {
-        to.write_opening(Kind::Brackets, output)?;
-        Ok((Some(TextBlock::Entry(Kind::Brackets, true)), rest))
+        to.write_front(Kind::Brackets, output)?;
+        Ok((Some(TextBlock::Entry(Kind::Brackets, Count::Zero)), rest))
     } else {
         Err(ReadError::NotText)
     }
@@ -112,14 +113,14 @@ fn begin_braces<'a>(
     output: &mut String,
     input: &'a [u8],
 ) -> Result<(Option<TextBlock>, &'a [u8]), ReadError>
-    ensures { BeginsText from to (suc (length input.now)) result (string_bytes output.old)
-        (string_bytes output.new) (read_braces (setting_of from) (entry_of from) input.now) }
+    ensures { ConvertsBeginning from to (suc (length input.now)) result (string_bytes output.old)
+        (string_bytes output.new) (read_braces (setting_at from) (entry_of from) input.now) }
 {
-    if let Some(rest) = strip_byte(b'}', input) {
-        write_piece("{}", output)?;
+    if let Some(rest) = from.strip_closing(Kind::Braces, Count::Zero, input) {
+        to.write_empty(Kind::Braces, output)?;
         Ok((None, rest))
     } else if let Some(rest) = from.strip_lead(Kind::Braces, input) {
-        to.write_opening(Kind::Braces, output)?;
+        to.write_front(Kind::Braces, output)?;
         Ok((Some(TextBlock::Braces), rest))
     } else {
         Err(ReadError::NotText)

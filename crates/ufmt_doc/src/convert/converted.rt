@@ -2,14 +2,14 @@
 ghost use Rattle.std.specs.Prelude.{option_map, string_bytes};
 ghost use Rattle.ufmt.specs.Layout.{layout, setting};
 ghost use Rattle.ufmt.specs.Reading.{if_all, read_text};
-ghost use Rattle.ufmt_doc.specs.Level.{mode_of};
-ghost use Rattle.ufmt_doc.specs.Read.{Gives};
+ghost use Rattle.ufmt_doc.specs.Private.Read.{AnswersAs};
 
 use super::begin::begin;
 use super::text_blocks::TextBlocks;
 use crate::reader::ReadError;
-use crate::reader::level::{Level, Mode};
+use crate::reader::level::Level;
 use std::alloc::Global;
+use ufmt::layout::Mode;
 
 /// The text in mode `to` of the document that the whole text is of in mode `from`.
 pub(super) fn converted(
@@ -18,8 +18,8 @@ pub(super) fn converted(
     to: Mode,
     input: &[u8],
 ) -> Result<String, ReadError>
-    ensures { Gives string_bytes result
-        (option_map (layout (setting (mode_of to) 0)) (read_text (mode_of from) input.now)) }
+    ensures { AnswersAs string_bytes result
+        (option_map (layout (setting to 0)) (read_text from input.now)) }
 {
     let mut output = String::new(alloc);
     let mut blocks = TextBlocks::new(alloc);
@@ -43,7 +43,7 @@ pub(super) fn converted(
 
 // The text, unless something is left behind it.
 fn if_all(output: String, rest: &[u8]) -> Result<String, ReadError>
-    ensures { Gives string_bytes result (if_all (string_bytes output) rest.now) }
+    ensures { AnswersAs string_bytes result (if_all (string_bytes output) rest.now) }
 {
     if rest.is_empty() {
         Ok(output)

@@ -1,26 +1,28 @@
 //! Blocks that are converted, up to an entry that begins in them.
 ghost use Rattle.std.specs.Prelude.{length, string_bytes, Some};
-ghost use Rattle.ufmt_doc.specs.Converting.{Passes, StepsText, WritesLabel, convert_block, convert_value, entry_text, field_of, finish_text};
+ghost use Rattle.ufmt_doc.specs.Private.Converting.{ConvertsBehindEntry, ConvertsStep, WritesLabel, convert_block, convert_value, entry_text, field_of, block_conversion};
 
-use super::write::write_piece;
+use super::write::write_text;
 use crate::reader::ReadError;
-use crate::reader::level::{Kind, Level, expect, strip};
+use crate::reader::level::{Level, expect_colon, strip_colon};
 use crate::reader::word::split_word;
+use ufmt::layout::{COLON, Count, Kind};
 use ufmt::unsigned::text_from;
 
-/// A block in which an entry begins, and whether that is its first.
+/// A block in which an entry begins, and how many stand before that: none or, behind a first one,
+/// `Several` at once, since then the same follows.
 #[derive(Clone, Copy)]
 pub(super) enum TextBlock {
     /// A list, a set or a tuple.
-    Entry(Kind, bool),
+    Entry(Kind, Count),
     /// A set or a map whose first entry begins.
     Braces,
     /// A map in which a later key begins.
     Key,
     /// A map in which the value of a pair begins.
-    Value(bool),
+    Value(Count),
     /// A struct in which the value of a field begins.
-    Field(bool),
+    Field(Count),
 }
 
 impl TextBlock {
@@ -33,19 +35,19 @@ impl TextBlock {
         output: &mut String,
         input: &'a [u8],
     ) -> Result<(Option<TextBlock>, &'a [u8]), ReadError>
-        ensures { StepsText from to (length input.now) result (string_bytes output.new)
-            (finish_text from to self (Some (string_bytes output.old, input.now))) }
+        ensures { ConvertsStep from to (length input.now) result (string_bytes output.new)
+            (block_conversion from to self (Some (string_bytes output.old, input.now))) }
     {
         match self {
-            TextBlock::Entry(kind, alone) => put_entry(from, to, kind, alone, output, input),
+            TextBlock::Entry(kind, before) => put_entry(from, to, kind, before, output, input),
             TextBlock::Braces => decide(from, to, output, input),
             TextBlock::Key => {
-                let rest = expect(b": ", input)?;
-                write_piece(": ", output)?;
-                Ok((Some(TextBlock::Value(false)), rest))
+                let rest = expect_colon(input)?;
+                write_text(COLON, output)?;
+                Ok((Some(TextBlock::Value(Count::Several)), rest))
             }
-            TextBlock::Value(alone) => put_value(from, to, alone, output, input),
-            TextBlock::Field(alone) => put_field(from, to, alone, output, input),
+            TextBlock::Value(before) => put_value(from, to, before, output, input),
+            TextBlock::Field(before) => put_field(from, to, before, output, input),
         }
     }
 }
@@ -57,19 +59,19 @@ fn pass<'a>(
     from: Level,
     to: Level,
     kind: Kind,
-    alone: bool,
+    before: Count,
     output: &mut String,
     input: &'a [u8],
 ) -> Result<(bool, &'a [u8]), ReadError>
-    ensures { Passes from to kind alone result (string_bytes output.old) (string_bytes output.new)
+    ensures { ConvertsBehindEntry from to kind before result (string_bytes output.old) (string_bytes output.new)
         input.now }
 {
-    let (goes_on, rest) = from.pass_entry(kind, alone, input)?;
+    let (goes_on, rest) = from.pass_entry(kind, before, input)?;
     to.write_trail(output)?;
     if goes_on {
         to.write_separator(output)?;
     } else {
-        to.write_ending(kind, alone, output)?;
+        to.write_ending(kind, before.next(), output)?;
     }
     Ok((goes_on, rest))
 }
@@ -79,17 +81,17 @@ fn put_entry<'a>(
     from: Level,
     to: Level,
     kind: Kind,
-    alone: bool,
+    before: Count,
     output: &mut String,
     input: &'a [u8],
 ) -> Result<(Option<TextBlock>, &'a [u8]), ReadError>
-    ensures { StepsText from to (length input.now) result (string_bytes output.new)
-        (convert_block (entry_text from to) from to kind alone
+    ensures { ConvertsStep from to (length input.now) result (string_bytes output.new)
+        (convert_block (entry_text from to) from to kind before
         (Some (string_bytes output.old, input.now))) }
 {
-    let (goes_on, rest) = pass(from, to, kind, alone, output, input)?;
+    let (goes_on, rest) = pass(from, to, kind, before, output, input)?;
     if goes_on {
-        Ok((Some(TextBlock::Entry(kind, false)), rest))
+        Ok((Some(TextBlock::Entry(kind, Count::Several)), rest))
     } else {
         Ok((None, rest))
     }
@@ -102,15 +104,15 @@ fn decide<'a>(
     output: &mut String,
     input: &'a [u8],
 ) -> Result<(Option<TextBlock>, &'a [u8]), ReadError>
-    ensures { StepsText from to (length input.now) result (string_bytes output.new)
-        (finish_text from to TextBlock.Braces (Some (string_bytes output.old, input.now))) }
+    ensures { ConvertsStep from to (length input.now) result (string_bytes output.new)
+        (block_conversion from to TextBlock.Braces (Some (string_bytes output.old, input.now))) }
 {
-    match strip(b": ", input) {
+    match strip_colon(input) {
         Some(rest) => {
-            write_piece(": ", output)?;
-            Ok((Some(TextBlock::Value(true)), rest))
+            write_text(COLON, output)?;
+            Ok((Some(TextBlock::Value(Count::Zero)), rest))
         }
-        None => put_entry(from, to, Kind::Braces, true, output, input),
+        None => put_entry(from, to, Kind::Braces, Count::Zero, output, input),
     }
 }
 
@@ -118,14 +120,14 @@ fn decide<'a>(
 fn put_value<'a>(
     from: Level,
     to: Level,
-    alone: bool,
+    before: Count,
     output: &mut String,
     input: &'a [u8],
 ) -> Result<(Option<TextBlock>, &'a [u8]), ReadError>
-    ensures { StepsText from to (length input.now) result (string_bytes output.new)
-        (convert_value from to alone (Some (string_bytes output.old, input.now))) }
+    ensures { ConvertsStep from to (length input.now) result (string_bytes output.new)
+        (convert_value from to before (Some (string_bytes output.old, input.now))) }
 {
-    let (goes_on, rest) = pass(from, to, Kind::Braces, alone, output, input)?;
+    let (goes_on, rest) = pass(from, to, Kind::Braces, before, output, input)?;
     if goes_on {
         Ok((Some(TextBlock::Key), rest))
     } else {
@@ -137,18 +139,18 @@ fn put_value<'a>(
 fn put_field<'a>(
     from: Level,
     to: Level,
-    alone: bool,
+    before: Count,
     output: &mut String,
     input: &'a [u8],
 ) -> Result<(Option<TextBlock>, &'a [u8]), ReadError>
-    ensures { StepsText from to (length input.now) result (string_bytes output.new)
-        (convert_block (field_of from to) from to Kind.Struct alone
+    ensures { ConvertsStep from to (length input.now) result (string_bytes output.new)
+        (convert_block (field_of from to) from to Kind.Struct before
         (Some (string_bytes output.old, input.now))) }
 {
-    let (goes_on, rest) = pass(from, to, Kind::Struct, alone, output, input)?;
+    let (goes_on, rest) = pass(from, to, Kind::Struct, before, output, input)?;
     if goes_on {
         let rest = convert_label(output, rest)?;
-        Ok((Some(TextBlock::Field(false)), rest))
+        Ok((Some(TextBlock::Field(Count::Several)), rest))
     } else {
         Ok((None, rest))
     }
@@ -162,8 +164,8 @@ pub(super) fn convert_label<'a>(output: &mut String, input: &'a [u8]) -> Result<
     if word.is_empty() {
         return Err(ReadError::NotText);
     }
-    let rest = expect(b": ", rest)?;
-    write_piece(text_from(word, 0), output)?;
-    write_piece(": ", output)?;
+    let rest = expect_colon(rest)?;
+    write_text(text_from(word, 0), output)?;
+    write_text(COLON, output)?;
     Ok(rest)
 }

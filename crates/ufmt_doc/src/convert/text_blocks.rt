@@ -1,12 +1,13 @@
 //! The blocks that are open in a text that is converted, one in another.
 ghost use Rattle.std.specs.Prelude.{◌≡◌, ◌<◌, ◌≤◌, [], ◌∷◌, ◌++◌, length, string_bytes, Some, IfErr, MatchOption, OnOk};
-ghost use Rattle.ufmt_doc.specs.Converting.{HandsText, resume_text};
-ghost use Rattle.ufmt_doc.specs.Stack.{level_at};
+ghost use Rattle.ufmt_doc.specs.Private.Converting.{ConvertsOn, blocks_conversion};
+ghost use Rattle.ufmt_doc.specs.Private.Stack.{level_at};
 
 use super::text_block::TextBlock;
 use crate::reader::ReadError;
-use crate::reader::level::{Level, Mode};
+use crate::reader::level::Level;
 use std::alloc::Global;
+use ufmt::layout::Mode;
 
 /// The open blocks, the outermost first, each but the last with an entry that is open too.
 #[derive(Drop)]
@@ -52,9 +53,9 @@ impl TextBlocks {
         output: &mut String,
         input: &'a [u8],
     ) -> Result<(bool, &'a [u8]), ReadError>
-        ensures { HandsText from to (length input.now) result self.new.blocks.items
+        ensures { ConvertsOn from to (length input.now) result self.new.blocks.items
             (string_bytes output.new)
-            (resume_text from to 0 self.old.blocks.items
+            (blocks_conversion from to 0 self.old.blocks.items
             (Some (string_bytes output.old, input.now))) }
     {
         let mut rest = input;

@@ -4,7 +4,7 @@ ghost use Rattle.std.specs.Str.{chars};
 ghost use Rattle.ufmt.specs.Document.{leaf};
 ghost use Rattle.ufmt.specs.Quoted.{IsQuote, quoted_char, quoted_text};
 ghost use Rattle.ufmt_doc.specs.Doc.{doc_document};
-ghost use Rattle.ufmt_doc.specs.Spelled.{Tells};
+ghost use Rattle.ufmt_doc.specs.Private.Spelled.{Tells};
 ghost use Rattle.ufmt_doc.specs.Unquoted.{Unquotes};
 
 use super::Doc;
@@ -15,7 +15,8 @@ use std::alloc::{AllocError, Global};
 
 impl Doc {
     /// A leaf of the text, in quotation marks and with its escapes, as `uDebug` prints it. It takes
-    /// memory for that. `Doc::Leaf` of the text as it stands prints it without quotes.
+    /// memory for that. `Doc::Leaf` of the text as it stands prints it without quotes. Want of it
+    /// is the only refusal.
     pub fn text(alloc: Global, text: &str) -> Result<Doc, AllocError>
         ensures { IfOk result (λ doc. doc_document doc ≡ leaf (quoted_text (chars text.now))) }
     {
@@ -23,15 +24,16 @@ impl Doc {
     }
 
     /// A leaf of the character, in apostrophes or as its escape in apostrophes. It takes memory for
-    /// that.
+    /// that. Want of it is the only refusal.
     pub fn character(alloc: Global, character: char) -> Result<Doc, AllocError>
         ensures { IfOk result (λ doc. doc_document doc ≡ leaf (quoted_char character)) }
     {
         Ok(Doc::Leaf(plain_text(alloc, &character)?))
     }
 
-    /// The text of a leaf in quotation marks, or the one character of a leaf in apostrophes, without
-    /// its quotes and escapes, and `None` for anything else. It takes memory for that text.
+    /// The text of a leaf in quotation marks, or the one character of a leaf in apostrophes,
+    /// without its quotes and escapes, and `None` for anything else. It takes memory for that text.
+    /// Want of it is the only refusal.
     pub fn unquoted(&self, alloc: Global) -> Result<Option<String>, AllocError>
         ensures { IfOk result (λ answer. Unquotes (doc_document self.now) answer) }
     {

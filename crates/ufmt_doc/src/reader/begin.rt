@@ -2,18 +2,19 @@
 ghost use Rattle.std.specs.Prelude.{◌<◌, length, string_bytes, suc};
 ghost use Rattle.ufmt.specs.Reading.{read, read_braces, read_list, read_named, read_tuple, read_without_name};
 ghost use Rattle.ufmt.specs.Token.{IsWord};
-ghost use Rattle.ufmt_doc.specs.Level.{budget_of, entry_of, setting_of};
-ghost use Rattle.ufmt_doc.specs.Steps.{Steps};
+ghost use Rattle.ufmt_doc.specs.Private.Level.{budget_of, entry_of, setting_at};
+ghost use Rattle.ufmt_doc.specs.Private.Steps.{ReadsStep};
 
 use crate::doc::Doc;
 use crate::reader::error::ReadError;
-use crate::reader::level::{Kind, Level, strip_byte};
-use crate::reader::open_block::{OpenBlock, read_label, tuple_kind};
+use crate::reader::level::Level;
+use crate::reader::open_block::{OpenBlock, read_label};
 use crate::reader::open_blocks::OpenBlocks;
 use crate::reader::symbol::split_symbol;
 use crate::reader::word::{split_word, word_text};
 use crate::reader::word_entries::{read_key, read_words};
 use std::alloc::Global;
+use ufmt::layout::{Count, Kind};
 
 // How many entries a block has room for at first: as many as a vector's first growth makes.
 const FIRST_ENTRIES: usize = 4;
@@ -27,9 +28,9 @@ pub(super) fn begin<'a>(
     input: &'a [u8],
 ) -> Result<(Option<Doc>, &'a [u8]), ReadError>
     requires { length blocks.old.blocks.items < 256 }
-    ensures { Steps level (length input.now) result
+    ensures { ReadsStep level (length input.now) result
         blocks.old.blocks.items blocks.new.blocks.items
-        (read (setting_of level) (budget_of level) input.now) }
+        (read (setting_at level) (budget_of level) input.now) }
 {
     let (word, rest) = split_word(input);
     if word.is_empty() {
@@ -49,9 +50,9 @@ fn begin_named<'a>(
 ) -> Result<(Option<Doc>, &'a [u8]), ReadError>
     requires few { length blocks.old.blocks.items < 256 }
     requires word { IsWord word.now }
-    ensures { Steps level (suc (length input.now)) result
+    ensures { ReadsStep level (suc (length input.now)) result
         blocks.old.blocks.items blocks.new.blocks.items
-        (read_named (setting_of level) (entry_of level) word.now input.now) }
+        (read_named (setting_at level) (entry_of level) word.now input.now) }
 {
     let name = word_text(alloc, word)?;
     if let Some(rest) = level.strip_lead(Kind::Tuple, input) {
@@ -75,12 +76,12 @@ fn begin_tuple<'a>(
     input: &'a [u8],
 ) -> Result<(Option<Doc>, &'a [u8]), ReadError>
     requires { length blocks.old.blocks.items < 256 }
-    ensures { Steps level (suc (length input.now)) result
+    ensures { ReadsStep level (suc (length input.now)) result
         blocks.old.blocks.items blocks.new.blocks.items
-        (read_tuple (setting_of level) (entry_of level) (string_bytes name) input.now) }
+        (read_tuple (setting_at level) (entry_of level) (string_bytes name) input.now) }
 {
     let mut entries = Vec::with_capacity(alloc, FIRST_ENTRIES)?;
-    let (goes_on, rest) = read_words(alloc, level, tuple_kind(&name), &mut entries, input)?;
+    let (goes_on, rest) = read_words(alloc, level, Kind::tuple(&name), &mut entries, input)?;
     blocks.open_or_close(alloc, OpenBlock::Tuple(name, entries), goes_on, rest)
 }
 
@@ -92,13 +93,13 @@ fn begin_without_name<'a>(
     input: &'a [u8],
 ) -> Result<(Option<Doc>, &'a [u8]), ReadError>
     requires { length blocks.old.blocks.items < 256 }
-    ensures { Steps level (length input.now) result
+    ensures { ReadsStep level (length input.now) result
         blocks.old.blocks.items blocks.new.blocks.items
-        (read_without_name (setting_of level) (entry_of level) input.now) }
+        (read_without_name (setting_at level) (entry_of level) input.now) }
 {
-    if let Some(rest) = strip_byte(b'[', input) {
+    if let Some(rest) = level.strip_opening(Kind::Brackets, input) {
         begin_list(alloc, level, blocks, rest)
-    } else if let Some(rest) = strip_byte(b'{', input) {
+    } else if let Some(rest) = level.strip_opening(Kind::Braces, input) {
         begin_braces(alloc, level, blocks, rest)
     } else if let Some((text, rest)) = split_symbol(input) {
         Ok((Some(Doc::Leaf(String::from_str(alloc, text)?)), rest))
@@ -117,11 +118,11 @@ fn begin_list<'a>(
     input: &'a [u8],
 ) -> Result<(Option<Doc>, &'a [u8]), ReadError>
     requires { length blocks.old.blocks.items < 256 }
-    ensures { Steps level (suc (length input.now)) result
+    ensures { ReadsStep level (suc (length input.now)) result
         blocks.old.blocks.items blocks.new.blocks.items
-        (read_list (setting_of level) (entry_of level) input.now) }
+        (read_list (setting_at level) (entry_of level) input.now) }
 {
-    if let Some(rest) = strip_byte(b']', input) {
+    if let Some(rest) = level.strip_closing(Kind::Brackets, Count::Zero, input) {
         Ok((Some(Doc::Listed(Vec::new(alloc))), rest))
     } else if let Some(rest) = level.strip_lead(Kind::Brackets, input) {
         let mut entries = Vec::with_capacity(alloc, FIRST_ENTRIES)?;
@@ -140,11 +141,11 @@ fn begin_braces<'a>(
     input: &'a [u8],
 ) -> Result<(Option<Doc>, &'a [u8]), ReadError>
     requires { length blocks.old.blocks.items < 256 }
-    ensures { Steps level (suc (length input.now)) result
+    ensures { ReadsStep level (suc (length input.now)) result
         blocks.old.blocks.items blocks.new.blocks.items
-        (read_braces (setting_of level) (entry_of level) input.now) }
+        (read_braces (setting_at level) (entry_of level) input.now) }
 {
-    if let Some(rest) = strip_byte(b'}', input) {
+    if let Some(rest) = level.strip_closing(Kind::Braces, Count::Zero, input) {
         Ok((Some(Doc::MapOf(Vec::new(alloc))), rest))
     } else if let Some(rest) = level.strip_lead(Kind::Braces, input) {
         match read_key(alloc, level, rest)? {

@@ -1,3 +1,4 @@
+//! Why a text gives no document.
 ghost use Rattle.std.specs.Prelude.{◌≡◌};
 ghost use Rattle.ufmt_doc.specs.ReadError.{code_of};
 ghost use Rattle.ufmt_doc.specs.declared.reader.error.ReadError.TheVariants.{OutOfMemory};

@@ -5,7 +5,7 @@ ghost use Rattle.std.specs.List.{slice_index};
 ghost use Rattle.ufmt.specs.Quoted.{IsQuote, escaped_byte};
 ghost use Rattle.ufmt.specs.Reading.{strip};
 ghost use Rattle.ufmt.specs.ReadingQuoted.{read_escaped, told, told_escape, told_number};
-ghost use Rattle.ufmt_doc.specs.Read.{now_of};
+ghost use Rattle.ufmt_doc.specs.Private.Read.{now_of};
 
 use crate::reader::level::{strip, strip_byte};
 use ufmt::quoted::escape;

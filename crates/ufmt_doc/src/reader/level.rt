@@ -1,33 +1,14 @@
-//! What stands round the entries of blocks, at each level of a text that is read.
-ghost use Rattle.std.specs.Prelude.{◌≡◌, ◌∷◌, [], ℕ, suc, codes, Option, Some, None, option_and_then, MatchOption};
-ghost use Rattle.ufmt.specs.Layout.{Frame, ending, gap, indentation, inside, lead, line_start, new_line, separator, trail};
-ghost use Rattle.ufmt_core.specs.declared.formatter.block.Place.TheVariants.{First};
+//! What stands round the entries of blocks, stripped from a text at each of its levels.
+ghost use Rattle.std.specs.Prelude.{◌≡◌, ◌∷◌, ◌++◌, [], codes, Some, option_map};
+ghost use Rattle.ufmt.specs.Layout.{ending, frame, indentation, inside, lead, line_start, new_line, separator, trail};
+ghost use Rattle.ufmt_core.specs.declared.layout.Count.TheVariants.{Zero};
 ghost use Rattle.ufmt.specs.Reading.{strip};
-ghost use Rattle.ufmt_doc.specs.Level.{closing, frame_of, kind_of, mode_of, place_of, setting_of};
-ghost use Rattle.ufmt_doc.specs.Entries.{behind_entry};
-ghost use Rattle.ufmt_doc.specs.Read.{Reads, Strips, now_of};
+ghost use Rattle.ufmt_doc.specs.Private.Level.{setting_at};
+ghost use Rattle.ufmt_doc.specs.Private.Entries.{behind_entry};
+ghost use Rattle.ufmt_doc.specs.Private.Read.{ReadsAs, StripsAs, now_of};
 
 use crate::reader::error::ReadError;
-
-/// How blocks are laid out: on one line, or an entry a line.
-#[derive(Clone, Copy)]
-pub(crate) enum Mode {
-    Plain,
-    Pretty,
-}
-
-/// The kinds of blocks, by the brackets that frame their entries.
-#[derive(Clone, Copy)]
-pub(crate) enum Kind {
-    /// A list.
-    Brackets,
-    /// A set or a map.
-    Braces,
-    Struct,
-    Tuple,
-    /// A tuple whose name is empty.
-    Unnamed,
-}
+use ufmt::layout::{COLON, Count, Kind, Mode, Setting, UNIT};
 
 /// Where a document stands: the mode that it is laid out in, and how many blocks are open round it.
 #[derive(Clone, Copy)]
@@ -53,136 +34,191 @@ pub(crate) fn strip_byte(byte: u8, input: &[u8]) -> Option<&[u8]>
     if *first == byte { Some(rest) } else { None }
 }
 
-/// What follows `text`, with which the input is to begin.
-pub(crate) fn expect<'a>(text: &[u8], input: &'a [u8]) -> Result<&'a [u8], ReadError>
-    ensures { Strips result (strip text.now input.now) }
+/// What follows the colon behind a key or a field's name.
+#[inline(always)]
+pub(crate) fn strip_colon(input: &[u8]) -> Option<&[u8]>
+    ensures { now_of result ≡ strip (codes ": ") input.now }
 {
-    strip(text, input).ok_or(ReadError::NotText)
+    strip_piece(COLON, input)
 }
 
-/// What follows `depth` times four spaces.
-fn strip_indentation(depth: u8, input: &[u8]) -> Option<&[u8]>
-    ensures { now_of result ≡ strip (indentation depth) input.now }
+/// What follows that colon, with which the input is to begin.
+#[inline(always)]
+pub(crate) fn expect_colon(input: &[u8]) -> Result<&[u8], ReadError>
+    ensures { StripsAs result (strip (codes ": ") input.now) }
+{
+    strip_colon(input).ok_or(ReadError::NotText)
+}
+
+// What follows a piece, which may be empty.
+#[inline(always)]
+fn strip_piece<'a>(piece: &str, input: &'a [u8]) -> Option<&'a [u8]>
+    ensures { now_of result ≡ strip piece.now input.now }
+{
+    if piece.is_empty() {
+        Some(input)
+    } else {
+        strip(piece.as_bytes(), input)
+    }
+}
+
+// What follows two pieces.
+#[inline(always)]
+fn strip_pieces<'a>(first: &str, second: &str, input: &'a [u8]) -> Option<&'a [u8]>
+    ensures { now_of result ≡ strip (first.now ++ second.now) input.now }
+{
+    strip_piece(second, strip_piece(first, input)?)
+}
+
+// What follows a piece and the indentation of a line.
+#[inline(always)]
+fn strip_to_line<'a>(piece: &str, line: Setting, input: &'a [u8]) -> Option<&'a [u8]>
+    ensures { now_of result ≡ strip (piece.now ++ line_start line.mode line.depth) input.now }
+{
+    strip_line_start(line, strip_piece(piece, input)?)
+}
+
+// What follows the indentation of a line.
+#[inline(always)]
+fn strip_line_start(line: Setting, input: &[u8]) -> Option<&[u8]>
+    ensures { now_of result ≡ strip (line_start line.mode line.depth) input.now }
+{
+    match line.units() {
+        0 => Some(input),
+        units => strip_indentation(units, input),
+    }
+}
+
+// What follows so many units.
+fn strip_indentation(units: u8, input: &[u8]) -> Option<&[u8]>
+    ensures { now_of result ≡ strip (indentation units) input.now }
 {
     let mut rest = input;
-    for _unit in 0..depth {
-        rest = strip(b"    ", rest)?;
+    for _unit in 0..units {
+        rest = strip_piece(UNIT, rest)?;
     }
     Some(rest)
 }
 
 impl Level {
-    /// The depth that entries of a block are laid out at, where they stand on lines of their own.
-    pub(crate) fn entry_depth(self) -> u8
-        ensures { self.mode ≡ Mode.Pretty → result ≡ (inside (setting_of self)).depth }
+    /// The mode and depth that a document is laid out at.
+    #[inline(always)]
+    pub(crate) fn setting(self) -> Setting
+        ensures { result ≡ setting_at self }
     {
-        self.depth.saturating_add(1)
+        match self.mode {
+            Mode::Plain => Setting {
+                mode: Mode::Plain,
+                depth: 0,
+            },
+            Mode::Pretty => Setting {
+                mode: Mode::Pretty,
+                depth: self.depth,
+            },
+        }
     }
 
-    // What follows what stands between the name of a block and its first entry.
-    fn strip_start(self, kind: Kind, input: &[u8]) -> Option<&[u8]>
-        ensures { now_of result ≡ strip (frame_of self kind).start input.now }
+    /// What follows the opening of a block.
+    #[inline(always)]
+    pub(crate) fn strip_opening(self, kind: Kind, input: &[u8]) -> Option<&[u8]>
+        ensures { now_of result ≡ strip (frame self.mode kind).opening input.now }
     {
-        match (kind, self.mode) {
-            (Kind::Brackets | Kind::Braces, _) => Some(input),
-            (Kind::Struct, Mode::Plain) => strip(b" { ", input),
-            (Kind::Struct, Mode::Pretty) => strip(b" {", input),
-            (Kind::Tuple | Kind::Unnamed, _) => strip_byte(b'(', input),
-        }
+        strip_piece(kind.opening(), input)
+    }
+
+    // What follows what stands before the first entry of a block alone.
+    #[inline(always)]
+    fn strip_start(self, kind: Kind, input: &[u8]) -> Option<&[u8]>
+        ensures { now_of result ≡ strip (frame self.mode kind).start input.now }
+    {
+        let (bracket, space) = kind.start(self.mode);
+        strip_pieces(bracket, space, input)
     }
 
     // What follows a new line and its indentation, where entries stand on lines of their own.
+    #[inline(always)]
     fn strip_new_line(self, input: &[u8]) -> Option<&[u8]>
         ensures { now_of result
-            ≡ strip (new_line (mode_of self.mode) (inside (setting_of self)).depth) input.now }
+            ≡ strip (new_line self.mode (inside (setting_at self)).depth) input.now }
     {
-        match self.mode {
-            Mode::Plain => Some(input),
-            Mode::Pretty => strip_indentation(self.entry_depth(), strip_byte(b'\n', input)?),
-        }
+        strip_to_line(self.mode.line_feed(), self.setting().inside(), input)
     }
 
     /// What follows what stands before the first entry of a block.
+    #[inline(always)]
     pub(crate) fn strip_lead(self, kind: Kind, input: &[u8]) -> Option<&[u8]>
         ensures { now_of result
-            ≡ strip (lead (frame_of self kind) (inside (setting_of self)) First) input.now }
+            ≡ strip (lead (frame self.mode kind) (inside (setting_at self)) Zero) input.now }
     {
         self.strip_new_line(self.strip_start(kind, input)?)
     }
 
     // What follows what stands before a later entry of a block.
+    #[inline(always)]
     fn strip_separator(self, input: &[u8]) -> Option<&[u8]>
         ensures { now_of result
-            ≡ strip (separator (mode_of self.mode) (inside (setting_of self)).depth) input.now }
+            ≡ strip (separator self.mode (inside (setting_at self)).depth) input.now }
     {
-        match self.mode {
-            Mode::Plain => strip(b", ", input),
-            Mode::Pretty => strip_indentation(self.entry_depth(), input),
-        }
+        strip_to_line(self.mode.separator(), self.setting().inside(), input)
     }
 
-    // What follows what is to stand after an entry.
-    fn expect_trail(self, input: &[u8]) -> Result<&[u8], ReadError>
-        ensures { Strips result (strip (trail (mode_of self.mode)) input.now) }
-    {
-        match self.mode {
-            Mode::Plain => Ok(input),
-            Mode::Pretty => expect(b",\n", input),
-        }
-    }
-
-    // What follows the start of the line on which a block ends.
-    fn strip_line_start(self, input: &[u8]) -> Option<&[u8]>
-        ensures { now_of result
-            ≡ strip (line_start (mode_of self.mode) (setting_of self).depth) input.now }
-    {
-        match self.mode {
-            Mode::Plain => Some(input),
-            Mode::Pretty => strip_indentation(self.depth, input),
-        }
-    }
-
-    // What ends a block with entries.
-    fn closing(self, kind: Kind, alone: bool) -> &'static [u8]
-        ensures { result.now ≡ closing (frame_of self kind) alone }
-    {
-        match (kind, self.mode, alone) {
-            (Kind::Brackets, _, _) => b"]",
-            (Kind::Braces, _, _) | (Kind::Struct, Mode::Pretty, _) => b"}",
-            (Kind::Struct, Mode::Plain, _) => b" }",
-            (Kind::Unnamed, Mode::Plain, true) => b",)",
-            (Kind::Tuple | Kind::Unnamed, _, _) => b")",
-        }
-    }
-
-    // What follows the end of a block with one entry alone, or with more.
-    fn expect_ending(self, kind: Kind, alone: bool, input: &[u8]) -> Result<&[u8], ReadError>
-        ensures { Strips result
-            (strip (ending (frame_of self kind) (setting_of self) (place_of alone)) input.now) }
-    {
-        let Some(rest) = self.strip_line_start(input) else {
-            return Err(ReadError::NotText);
-        };
-        expect(self.closing(kind, alone), rest)
-    }
-
-    /// What follows an entry of a block, the only one so far or one of more: true, and where the
-    /// next entry begins, or false, and what follows the block's end.
+    // What follows what stands after an entry.
     #[inline(always)]
-    #[tactic(auto, unfolding(crate::specs::Entries::behind_entry))]
+    fn strip_trail(self, input: &[u8]) -> Option<&[u8]>
+        ensures { now_of result ≡ strip (trail self.mode) input.now }
+    {
+        strip_piece(self.mode.trail(), input)
+    }
+
+    /// What follows the end of a block with so many entries, on the line on which it ends.
+    #[inline(always)]
+    pub(crate) fn strip_closing(self, kind: Kind, count: Count, input: &[u8]) -> Option<&[u8]>
+        ensures { now_of result ≡ strip ((frame self.mode kind).closing count) input.now }
+    {
+        let (before, bracket) = kind.closing(self.mode, count);
+        strip_pieces(before, bracket, input)
+    }
+
+    // What follows the end of a block with so many entries.
+    fn strip_ending(self, kind: Kind, count: Count, input: &[u8]) -> Option<&[u8]>
+        ensures { now_of result
+            ≡ strip (ending (frame self.mode kind) (setting_at self) count) input.now }
+    {
+        match count {
+            Count::Zero => self.strip_closing(kind, count, input),
+            Count::One | Count::Several => {
+                self.strip_closing(kind, count, strip_line_start(self.setting(), input)?)
+            }
+        }
+    }
+
+    // What follows an entry of a block behind so many others: true, and where the next entry begins,
+    // or false, and what follows the block's end.
+    #[inline(always)]
+    #[tactic(auto, unfolding(crate::specs::Private::Entries::behind_entry))]
+    fn behind_entry(self, kind: Kind, before: Count, input: &[u8]) -> Option<(bool, &[u8])>
+        ensures { option_map (λ x. (x.0, x.1.now)) result
+            ≡ behind_entry (frame self.mode kind) (setting_at self) before input.now }
+    {
+        let rest = self.strip_trail(input)?;
+        match self.strip_separator(rest) {
+            Some(start) => Some((true, start)),
+            None => Some((false, self.strip_ending(kind, before.next(), rest)?)),
+        }
+    }
+
+    /// The same where one of them is to stand there.
+    #[inline(always)]
     pub(crate) fn pass_entry(
         self,
         kind: Kind,
-        alone: bool,
+        before: Count,
         input: &[u8],
     ) -> Result<(bool, &[u8]), ReadError>
-        ensures { Reads (λ goes_on. goes_on) result
-            (behind_entry (frame_of self kind) (setting_of self) alone input.now) }
+        ensures { ReadsAs (λ goes_on. goes_on) result
+            (behind_entry (frame self.mode kind) (setting_at self) before input.now) }
     {
-        let rest = self.expect_trail(input)?;
-        match self.strip_separator(rest) {
-            Some(start) => Ok((true, start)),
-            None => Ok((false, self.expect_ending(kind, alone, rest)?)),
-        }
+        self.behind_entry(kind, before, input)
+            .ok_or(ReadError::NotText)
     }
 }

@@ -1,20 +1,19 @@
 //! Blocks that are read, up to an entry that begins in them.
 ghost use Rattle.std.specs.Prelude.{◌≡◌, length, Some, String, string_bytes};
 ghost use Rattle.std.specs.declared.alloc.Global.{Global};
-ghost use Rattle.ufmt.specs.Layout.{tuple_kind};
 ghost use Rattle.ufmt_doc.specs.Doc.{doc_document};
 ghost use Rattle.ufmt_doc.specs.DocViews.{docs_view};
-ghost use Rattle.ufmt_doc.specs.Level.{kind_of};
-ghost use Rattle.ufmt_doc.specs.Read.{Reads};
-ghost use Rattle.ufmt_doc.specs.Steps.{Puts, PutsEntries, block_document, finish, read_label};
+ghost use Rattle.ufmt_doc.specs.Private.Read.{ReadsAs};
+ghost use Rattle.ufmt_doc.specs.Private.Steps.{TakesEntry, TakesWords, block_document, block_reading, read_label};
 
 use crate::doc::Doc;
 use crate::reader::error::ReadError;
-use crate::reader::level::{Kind, Level, expect, strip};
+use crate::reader::level::{Level, expect_colon, strip_colon};
 use crate::reader::word::{split_word, word_text};
 use crate::reader::word_entries::read_key;
 use std::alloc::Global;
 use std::mem;
+use ufmt::layout::{Count, Kind};
 
 /// A block in which an entry begins, or the value of one: its kind and name, the entries before,
 /// and the key or the field's name that waits for the value.
@@ -40,8 +39,8 @@ impl OpenBlock {
         doc: Doc,
         input: &'a [u8],
     ) -> Result<(bool, &'a [u8]), ReadError>
-        ensures { Puts level (length input.now) result self.new
-            (finish level self.old (Some (doc_document doc, input.now))) }
+        ensures { TakesEntry level (length input.now) result self.new
+            (block_reading level self.old (Some (doc_document doc, input.now))) }
     {
         match self {
             OpenBlock::List(entries) => put_entry(level, Kind::Brackets, entries, doc, input),
@@ -52,7 +51,7 @@ impl OpenBlock {
                 put_field(alloc, level, fields, label, doc, input)
             }
             OpenBlock::Tuple(name, entries) => {
-                put_entry(level, tuple_kind(name), entries, doc, input)
+                put_entry(level, Kind::tuple(name), entries, doc, input)
             }
         }
     }
@@ -82,11 +81,12 @@ pub(super) fn put_entry<'a>(
     doc: Doc,
     input: &'a [u8],
 ) -> Result<(bool, &'a [u8]), ReadError>
-    ensures { PutsEntries level kind (length input.now) result
+    ensures { TakesWords level kind (length input.now) result
         (docs_view entries.old) (docs_view entries.new) (Some (doc_document doc, input.now)) }
 {
+    let before = Count::of(entries.len());
     entries.push(doc)?;
-    level.pass_entry(kind, entries.len() == 1, input)
+    level.pass_entry(kind, before, input)
 }
 
 // Makes braces a set or a map with what stands first in them: a colon makes them a map.
@@ -97,10 +97,10 @@ fn decide<'a>(
     doc: Doc,
     input: &'a [u8],
 ) -> Result<(bool, &'a [u8]), ReadError>
-    ensures { Puts level (length input.now) result braces.new
-        (finish level OpenBlock.Braces (Some (doc_document doc, input.now))) }
+    ensures { TakesEntry level (length input.now) result braces.new
+        (block_reading level OpenBlock.Braces (Some (doc_document doc, input.now))) }
 {
-    match strip(b": ", input) {
+    match strip_colon(input) {
         Some(rest) => {
             *braces = OpenBlock::Map(Vec::new(alloc), Some(doc));
             Ok((true, rest))
@@ -124,13 +124,14 @@ fn put_in_map<'a>(
     doc: Doc,
     input: &'a [u8],
 ) -> Result<(bool, &'a [u8]), ReadError>
-    ensures { Puts level (length input.now) result (OpenBlock.Map pairs.new key.new)
-        (finish level (OpenBlock.Map pairs.old key.old) (Some (doc_document doc, input.now))) }
+    ensures { TakesEntry level (length input.now) result (OpenBlock.Map pairs.new key.new)
+        (block_reading level (OpenBlock.Map pairs.old key.old) (Some (doc_document doc, input.now))) }
 {
     match key.take() {
         Some(first) => {
+            let before = Count::of(pairs.len());
             pairs.push((first, doc))?;
-            let (goes_on, rest) = level.pass_entry(Kind::Braces, pairs.len() == 1, input)?;
+            let (goes_on, rest) = level.pass_entry(Kind::Braces, before, input)?;
             if !goes_on {
                 return Ok((false, rest));
             }
@@ -143,7 +144,7 @@ fn put_in_map<'a>(
             }
         }
         None => {
-            let rest = expect(b": ", input)?;
+            let rest = expect_colon(input)?;
             *key = Some(doc);
             Ok((true, rest))
         }
@@ -160,12 +161,13 @@ fn put_field<'a>(
     input: &'a [u8],
 ) -> Result<(bool, &'a [u8]), ReadError>
     ensures { (name : String Global)
-        → Puts level (length input.now) result (OpenBlock.Struct name fields.new label.new)
-        (finish level (OpenBlock.Struct name fields.old label.old) (Some (doc_document doc, input.now))) }
+        → TakesEntry level (length input.now) result (OpenBlock.Struct name fields.new label.new)
+        (block_reading level (OpenBlock.Struct name fields.old label.old) (Some (doc_document doc, input.now))) }
 {
+    let before = Count::of(fields.len());
     let waiting = mem::replace(label, String::new(alloc));
     fields.push((waiting, doc))?;
-    let (goes_on, rest) = level.pass_entry(Kind::Struct, fields.len() == 1, input)?;
+    let (goes_on, rest) = level.pass_entry(Kind::Struct, before, input)?;
     if goes_on {
         let (next, rest) = read_label(alloc, rest)?;
         *label = next;
@@ -175,25 +177,14 @@ fn put_field<'a>(
     }
 }
 
-/// The kind of a tuple with this name.
-pub(super) fn tuple_kind(name: &str) -> Kind
-    ensures { kind_of result ≡ tuple_kind name.now }
-{
-    if name.is_empty() {
-        Kind::Unnamed
-    } else {
-        Kind::Tuple
-    }
-}
-
 /// A field's name, and the colon behind it.
 pub(super) fn read_label(alloc: Global, input: &[u8]) -> Result<(String, &[u8]), ReadError>
-    ensures { Reads string_bytes result (read_label input.now) }
+    ensures { ReadsAs string_bytes result (read_label input.now) }
 {
     let (word, rest) = split_word(input);
     if word.is_empty() {
         return Err(ReadError::NotText);
     }
-    let rest = expect(b": ", rest)?;
+    let rest = expect_colon(rest)?;
     Ok((word_text(alloc, word)?, rest))
 }

@@ -1,14 +1,15 @@
 //! The blocks that are open, one in another.
 ghost use Rattle.std.specs.Prelude.{◌≡◌, ◌<◌, ◌≤◌, suc, [], length, Some, MatchOption};
 ghost use Rattle.ufmt_doc.specs.Doc.{doc_document};
-ghost use Rattle.ufmt_doc.specs.Stack.{Hands, level_at, resume};
-ghost use Rattle.ufmt_doc.specs.Steps.{Steps, left};
+ghost use Rattle.ufmt_doc.specs.Private.Stack.{ReadsOn, level_at, blocks_reading};
+ghost use Rattle.ufmt_doc.specs.Private.Steps.{ReadsStep, goes_on_with};
 
 use crate::doc::Doc;
 use crate::reader::error::ReadError;
-use crate::reader::level::{Level, Mode};
+use crate::reader::level::Level;
 use crate::reader::open_block::OpenBlock;
 use std::alloc::Global;
+use ufmt::layout::Mode;
 
 /// The open blocks, the outermost first, each but the last with an entry that is open too.
 #[derive(Drop)]
@@ -46,8 +47,8 @@ impl OpenBlocks {
         rest: &'a [u8],
     ) -> Result<(Option<Doc>, &'a [u8]), ReadError>
         requires { length self.old.blocks.items < 256 }
-        ensures { (level : Level) → Steps level (suc (length rest.now)) result
-            self.old.blocks.items self.new.blocks.items (left level block goes_on rest.now) }
+        ensures { (level : Level) → ReadsStep level (suc (length rest.now)) result
+            self.old.blocks.items self.new.blocks.items (goes_on_with level block goes_on rest.now) }
     {
         if goes_on {
             self.blocks.push(block)?;
@@ -67,8 +68,8 @@ impl OpenBlocks {
         doc: Doc,
         input: &'a [u8],
     ) -> Result<(Option<Doc>, &'a [u8]), ReadError>
-        ensures { Hands mode (length input.now) result self.new.blocks.items
-            (resume mode 0 self.old.blocks.items (Some (doc_document doc, input.now))) }
+        ensures { ReadsOn mode (length input.now) result self.new.blocks.items
+            (blocks_reading mode 0 self.old.blocks.items (Some (doc_document doc, input.now))) }
     {
         let mut doc = doc;
         let mut rest = input;

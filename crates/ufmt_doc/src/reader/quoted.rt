@@ -3,8 +3,8 @@ ghost use Rattle.std.specs.Prelude.{◌≡◌, option_map};
 ghost use Rattle.std.specs.Str.{is_utf8};
 ghost use Rattle.ufmt.specs.Quoted.{IsQuote};
 ghost use Rattle.ufmt.specs.ReadingQuoted.{is_char, read_between};
-ghost use Rattle.ufmt_doc.specs.Read.{now_of};
-ghost use Rattle.ufmt_doc.specs.Spelled.{IsOneCharacter, PassesCharacter, SpelledBefore, behind_quote};
+ghost use Rattle.ufmt_doc.specs.Private.Read.{now_of};
+ghost use Rattle.ufmt_doc.specs.Private.Spelled.{IsOneCharacter, PassesCharacter, SpelledBefore, behind_quote};
 
 use crate::reader::escape::strip_escaped;
 use crate::reader::level::strip_byte;

@@ -1,7 +1,7 @@
 //! Leaves that are no words: `()`, and what stands in quotes.
 ghost use Rattle.std.specs.Prelude.{◌≡◌, option_map};
 ghost use Rattle.ufmt.specs.Reading.{read_symbol};
-ghost use Rattle.ufmt_doc.specs.Within.{is_symbol};
+ghost use Rattle.ufmt_doc.specs.Private.Within.{is_symbol};
 
 use crate::reader::level::strip;
 use crate::reader::quoted::{split_character, split_quoted};

@@ -2,7 +2,7 @@
 ghost use Rattle.std.specs.Prelude.{◌≡◌, ◌≤◌, MatchResult, length, string_bytes};
 ghost use Rattle.ufmt.specs.Token.{is_word_byte, AreWordBytes};
 ghost use Rattle.ufmt.specs.Reading.{word_of, after_word};
-ghost use Rattle.ufmt_doc.specs.Words.{Passed};
+ghost use Rattle.ufmt_doc.specs.Private.FrontWords.{PassesWordBytes};
 ghost use Rattle.ufmt_doc.specs.declared.reader.error.ReadError.TheVariants.{OutOfMemory};
 
 use crate::reader::error::ReadError;
@@ -68,7 +68,7 @@ pub(crate) fn split_word(input: &[u8]) -> (&[u8], &[u8])
 // The same where word bytes stand before `start`.
 fn split_word_from(input: &[u8], start: usize) -> (&[u8], &[u8])
     requires within { start ≤ length input.now }
-    requires passed { Passed input.now start }
+    requires passed { PassesWordBytes input.now start }
     ensures word { result.0.now ≡ word_of input.now }
     ensures rest { result.1.now ≡ after_word input.now }
 {

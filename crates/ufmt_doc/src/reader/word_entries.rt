@@ -2,16 +2,17 @@
 ghost use Rattle.std.specs.Prelude.{◌≡◌, length, MatchResult, option_map};
 ghost use Rattle.ufmt_doc.specs.Doc.{doc_document};
 ghost use Rattle.ufmt_doc.specs.DocViews.{docs_view};
-ghost use Rattle.ufmt_doc.specs.Level.{entry_of};
-ghost use Rattle.ufmt_doc.specs.Steps.{PutsEntries};
-ghost use Rattle.ufmt_doc.specs.Words.{may_open, read_entry_word, read_key};
+ghost use Rattle.ufmt_doc.specs.Private.Level.{entry_of};
+ghost use Rattle.ufmt_doc.specs.Private.Steps.{TakesWords};
+ghost use Rattle.ufmt_doc.specs.Private.FrontWords.{may_open, read_entry_word, read_key};
 
 use crate::doc::Doc;
 use crate::reader::error::ReadError;
-use crate::reader::level::{Kind, Level, strip};
+use crate::reader::level::{Level, strip_colon};
 use crate::reader::open_block::put_entry;
 use crate::reader::word::{split_word, word_text};
 use std::alloc::Global;
+use ufmt::layout::Kind;
 
 /// Puts in the entries of a block up to the first that is no word: true, and where that begins, or
 /// false, and what follows the block's end.
@@ -23,7 +24,7 @@ pub(super) fn read_words<'a>(
     entries: &mut Vec<Doc>,
     input: &'a [u8],
 ) -> Result<(bool, &'a [u8]), ReadError>
-    ensures { PutsEntries level kind (length input.now) result
+    ensures { TakesWords level kind (length input.now) result
         (docs_view entries.old) (docs_view entries.new) (entry_of level input.now) }
 {
     let mut rest = input;
@@ -52,7 +53,7 @@ pub(super) fn read_key(
     let Some((word, behind)) = split_entry(level, input) else {
         return Ok(None);
     };
-    let Some(rest) = strip(b": ", behind) else {
+    let Some(rest) = strip_colon(behind) else {
         return Ok(None);
     };
     Ok(Some((Doc::Leaf(word_text(alloc, word)?), rest)))

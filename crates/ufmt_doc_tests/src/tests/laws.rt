@@ -1,3 +1,4 @@
+//! A call of each law.
 use super::{has_plain_text, holds, same};
 use std::alloc::Global;
 use ufmt_doc::doc::Doc;

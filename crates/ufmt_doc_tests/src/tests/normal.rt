@@ -1,3 +1,4 @@
+//! Documents and their normal forms.
 use super::shape::Shape::{SetOf, StructOf, TupleOf};
 use super::shape::made;
 use super::{has_plain_text, same};

@@ -1,3 +1,4 @@
+//! The parts of documents that were read.
 use super::mode::Mode;
 use super::same;
 use super::verdict::read;

@@ -1,3 +1,4 @@
+//! Documents with one text, and with two.
 use super::same;
 use super::shape::Shape::{self, Leaf, Listed, MapOf, SetOf, StructOf, TupleOf};
 use super::shape::made;

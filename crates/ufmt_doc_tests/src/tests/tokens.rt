@@ -1,3 +1,4 @@
+//! Which documents are token documents.
 use super::same;
 use super::shape::Shape::{self, Leaf, StructOf, TupleOf};
 use super::shape::made;

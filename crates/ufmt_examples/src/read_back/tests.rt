@@ -1,3 +1,4 @@
+//! Readings that come back from their lines, and lines that are none.
 use super::*;
 use std::process::Abort;
 use std::test::Fail;

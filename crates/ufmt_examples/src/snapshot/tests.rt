@@ -1,3 +1,4 @@
+//! Values that print alike, and values that don't.
 use super::*;
 use std::process::Abort;
 use std::test::Fail;

@@ -1,4 +1,4 @@
-use Rattle.ufmt_core.proofs.Blocks.{Row-from_entries}
+use Rattle.ufmt_core.proofs.Blocks.{WritesRow-from_entries}
 use Rattle.ufmt_core.proofs.Printing.{LaysOut-err, map_not_opened, map_opened, pairs_written, pairs_failed, finished}
 use Rattle.ufmt_core.proofs.map.fmt_map.Goals as goal
 
@@ -9,9 +9,9 @@ pub returns-in_err-entries : goal.returns-in_err-entries
 returns-in_err-entries g c ps yields =
     LaysOut-err _ c.from_residual-in_err-entries.ensures.0
     (map_opened c.in_ok-map.ensures.opening
-    (pairs_failed ps (Row-from_entries _ _ c.args.pairs ps _ yields c.in_err-entries.ensures.entries) (search)))
+    (pairs_failed ps (WritesRow-from_entries _ _ c.args.pairs ps _ yields c.in_err-entries.ensures.entries) (search)))
 
 pub returns : goal.returns
 returns g c ps yields =
     map_opened c.in_ok-map.ensures.opening
-    (pairs_written ps (Row-from_entries _ _ c.args.pairs ps _ yields c.in_ok-entries.ensures.entries) (finished c.finish.ensures (search)))
+    (pairs_written ps (WritesRow-from_entries _ _ c.args.pairs ps _ yields c.in_ok-entries.ensures.entries) (finished c.finish.ensures (search)))

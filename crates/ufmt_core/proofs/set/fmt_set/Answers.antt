@@ -1,4 +1,4 @@
-use Rattle.ufmt_core.proofs.Blocks.{Row-from_entries}
+use Rattle.ufmt_core.proofs.Blocks.{WritesRow-from_entries}
 use Rattle.ufmt_core.proofs.Printing.{LaysOut-err, set_not_opened, set_opened, entries_written, entries_failed, finished}
 use Rattle.ufmt_core.proofs.set.fmt_set.Goals as goal
 
@@ -8,9 +8,9 @@ returns-in_err-set g c ds yields = set_not_opened _ c.from_residual.ensures.0 c.
 pub returns-in_err-entries : goal.returns-in_err-entries
 returns-in_err-entries g c ds yields =
     LaysOut-err _ c.from_residual-in_err-entries.ensures.0
-    (set_opened c.in_ok-set.ensures.opening (entries_failed ds (Row-from_entries _ _ c.args.items ds _ yields c.in_err-entries.ensures.entries) (search)))
+    (set_opened c.in_ok-set.ensures.opening (entries_failed ds (WritesRow-from_entries _ _ c.args.items ds _ yields c.in_err-entries.ensures.entries) (search)))
 
 pub returns : goal.returns
 returns g c ds yields =
     set_opened c.in_ok-set.ensures.opening
-    (entries_written ds (Row-from_entries _ _ c.args.items ds _ yields c.in_ok-entries.ensures.entries) (finished c.finish.ensures (search)))
+    (entries_written ds (WritesRow-from_entries _ _ c.args.items ds _ yields c.in_ok-entries.ensures.entries) (finished c.finish.ensures (search)))

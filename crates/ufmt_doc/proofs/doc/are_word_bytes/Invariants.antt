@@ -1,6 +1,6 @@
 -- Whether the bytes that are left are bytes of words is whether all are.
 use Rattle.std.proofs.Common.{◌≡◌, drop}
-use Rattle.ufmt_doc.specs.Within.{are_word_bytes}
+use Rattle.ufmt_doc.specs.Private.Within.{are_word_bytes}
 use Rattle.ufmt_doc.proofs.doc.are_word_bytes.Given as goal
 
 abbrev pub invariant-loop-byte : goal.invariant-loop-byte

@@ -1,4 +1,4 @@
-use Rattle.ufmt_core.specs.declared.formatter.Mode.TheVariants.{Plain}
+use Rattle.ufmt_core.specs.declared.layout.Mode.TheVariants.{Plain}
 use Rattle.ufmt_doc.proofs.WholeTexts.{is_normal_form, is_no_text}
 use Rattle.ufmt_doc.proofs.plain_reader.read_plain.Goals as goal
 

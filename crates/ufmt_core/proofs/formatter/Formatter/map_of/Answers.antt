@@ -1,12 +1,12 @@
 use Rattle.std.proofs.Common.{true}
-use Rattle.ufmt_core.proofs.Printing.{LaysOut-err, Row-next, Row-none, map_not_opened, map_opened, loop_written, loop_failed, pair_texts-of, finished}
+use Rattle.ufmt_core.proofs.Printing.{LaysOut-err, WritesRow-next, WritesRow-none, map_not_opened, map_opened, loop_written, loop_failed, pair_texts-of, finished}
 use Rattle.ufmt_core.proofs.formatter.Formatter.map_of.Goals as goal
 
 pub returns-in_err-map : goal.returns-in_err-map
 returns-in_err-map g c = map_not_opened _ c.from_residual.ensures.0 c.in_err-map.was c.debug_map.follows.holds-at-none
 
 pub loop-pair-init : goal.loop-pair-init
-loop-pair-init g c = Row-none _ _ c.in_ok-map.ensures.is_open
+loop-pair-init g c = WritesRow-none _ _ c.in_ok-map.ensures.is_open
 
 pub returns-in_err-entry : goal.returns-in_err-entry
 returns-in_err-entry g c =
@@ -16,7 +16,7 @@ returns-in_err-entry g c =
     c.pair-item.is c.loop-pair.invariant c.in_err-entry.ensures.entry (search)))
 
 pub loop-pair-preserved : goal.loop-pair-preserved
-loop-pair-preserved g c = Row-next _ _ c.loop-pair.pair-index _ true c.loop-pair-test.true c.pair-item.is c.loop-pair.invariant c.in_ok-entry.ensures.entry
+loop-pair-preserved g c = WritesRow-next _ _ c.loop-pair.pair-index _ true c.loop-pair-test.true c.pair-item.is c.loop-pair.invariant c.in_ok-entry.ensures.entry
 
 pub returns : goal.returns
 returns g c =

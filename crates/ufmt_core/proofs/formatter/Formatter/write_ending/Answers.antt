@@ -1,11 +1,12 @@
-use Rattle.ufmt_core.specs.Layout.{frame}
-use Rattle.ufmt_core.proofs.Writing.{Prints-then_at}
+use Rattle.std.proofs.Common.{◌++◌, ap, sym}
+use Rattle.ufmt_core.specs.Layout.{frame, line_start}
+use Rattle.ufmt_core.specs.Formatter.{depth_of, mode_of}
+use Rattle.ufmt_core.proofs.Counts.{if_any-is}
+use Rattle.ufmt_core.proofs.Writing.{Prints-same, Prints-then_at}
 use Rattle.ufmt_core.proofs.formatter.Formatter.write_ending.Goals as goal
 
-pub returns-in_ok-write_line_start-in-Second : goal.returns-in_ok-write_line_start-in-Second
-returns-in_ok-write_line_start-in-Second g c =
-    rw c.in-Second.is (Prints-then_at (λ s. (frame s.mode c.args.kind).alone) c.in_ok-write_line_start-in-Second.ensures c.write_alone.ensures)
-
-pub returns-in_ok-write_line_start-in-Later : goal.returns-in_ok-write_line_start-in-Later
-returns-in_ok-write_line_start-in-Later g c =
-    rw c.in-Later.is (Prints-then_at (λ s. (frame s.mode c.args.kind).end) c.in_ok-write_line_start-in-Later.ensures c.write_end.ensures)
+pub returns-in_ok-write_line_start-in-One : goal.returns-in_ok-write_line_start-in-One
+returns-in_ok-write_line_start-in-One g c =
+    let start = if_any-is c.args.count (line_start (mode_of c.args.self.now) (depth_of c.args.self.now)) c.in-One.is in
+    Prints-same (ap (λ t. t ++ (frame (mode_of c.args.self.now) c.args.kind).closing c.args.count) (sym start))
+    (Prints-then_at (λ s. (frame s.mode c.args.kind).closing c.args.count) c.in_ok-write_line_start-in-One.ensures c.write_closing-in-One.ensures)

@@ -1,6 +1,5 @@
-use Rattle.ufmt_core.specs.Layout.{gap}
-use Rattle.ufmt_core.proofs.Writing.{Prints-fails, Prints-err}
+use Rattle.ufmt_core.proofs.Writing.{Prints-then, Prints-same}
 use Rattle.ufmt_core.proofs.formatter.Formatter.write_start.Goals as goal
 
-pub returns-in_err-write_str-in-Struct : goal.returns-in_err-write_str-in-Struct
-returns-in_err-write_str-in-Struct g c = rw c.in-Struct.is (Prints-err _ c.from_residual.ensures.0 (Prints-fails (gap _) c.in_err-write_str-in-Struct.ensures))
+pub returns : goal.returns
+returns g c = Prints-same c.start.ensures (Prints-then c.in_ok-write_piece.ensures c.write_piece-2.ensures)

@@ -1,7 +1,7 @@
 use Rattle.std.proofs.Common.{◌≡◌, ◌-◌, ◌==◌, length, map, true, refl, ap, sym, ◌∙◌, arith}
 use Rattle.std.specs.Prelude.{string_bytes}
 use Rattle.ufmt.specs.Document.{documents}
-use Rattle.ufmt_doc.specs.Within.{is_word, is_tuple_name, are_word_bytes}
+use Rattle.ufmt_doc.specs.Private.Within.{is_word, is_tuple_name, are_word_bytes}
 use Rattle.ufmt_doc.proofs.Docs.{doc_document-StructOf, doc_document-TupleOf, item-first, fields-first}
 use Rattle.ufmt_doc.proofs.Within.{fields_within-zero, fields_within-no_label, fields_within-no_value, fields_within-next, is_tuple_name-fields}
 use Rattle.ufmt_doc.proofs.doc.Doc.+has_words.Goals.{then-deepest-eq0-4-via-then-deepest-eq0-4, then-deepest-eq0-4-via-else-deepest-eq0-4+then-not-is_word-2, then-deepest-eq0-4-via-else-deepest-eq0-4+else-not-is_word-2+then-not-has_words-5}

@@ -3,7 +3,7 @@ use Rattle.std.proofs.Common.{◌≡◌, drop, map}
 use Rattle.std.specs.Prelude.{string_bytes}
 use Rattle.ufmt.specs.Document.{documents, fields_of, pairs_of}
 use Rattle.ufmt_doc.specs.Doc.{doc_document}
-use Rattle.ufmt_doc.specs.Within.{words_within, all_within, pairs_within, fields_within}
+use Rattle.ufmt_doc.specs.Private.Within.{words_within, all_within, pairs_within, fields_within}
 use Rattle.ufmt_doc.proofs.doc.Doc.+has_words.Given as goal
 
 abbrev pub invariant-loop-entry : goal.invariant-loop-entry

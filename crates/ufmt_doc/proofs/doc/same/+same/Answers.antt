@@ -1,6 +1,6 @@
 use Rattle.std.proofs.Common.{◌≡◌, Bool, false, true, not, refl, ap, sym, ◌∙◌, rules}
 use Rattle.std.proofs.lemmas.Slice.Zip.{zip_turn}
-use Rattle.ufmt_doc.specs.Same.{normal_doc, normal_field, normal_pair}
+use Rattle.ufmt_doc.specs.Private.Same.{normal_doc, normal_field, normal_pair}
 use Rattle.ufmt_doc.proofs.Same.{string_eq_tells, string_eq_told, same-Listed, same-SetOf, same-MapOf, same-SetOf-MapOf, same-StructOf, same-TupleOf, in_other_order, differ_at, more_same, differ-Listed, differ-SetOf, differ-MapOf, differ-StructOf, differ-TupleOf, text_is_leaf}
 use Rattle.ufmt_doc.proofs.doc.same.+same.Goals.{are_same_fields-then-ne-via-then-ne, are_same_fields-then-ne-via-else-ne+then-not-is_same, are_same_pairs-then-not-is_same-via-then-not-is_same, are_same_pairs-then-not-is_same-via-else-not-is_same+then-not-is_same-2, is_same-in_default-via-in-Listed+in_default, is_same-in_default-via-in-SetOf+in_default, is_same-in_default-via-in-MapOf+in_default, is_same-in_default-via-in-StructOf+in_default, is_same-in_default-via-in-TupleOf+in_default, is_same-in_default-via-in_default}
 use Rattle.ufmt_doc.proofs.doc.same.+same.Goals as goal

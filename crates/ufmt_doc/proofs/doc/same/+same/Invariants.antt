@@ -1,6 +1,6 @@
 -- The entries so far have the same normal forms.
 use Rattle.std.proofs.Common.{◌≡◌, length, map, take}
-use Rattle.ufmt_doc.specs.Same.{normal_doc, normal_field, normal_pair}
+use Rattle.ufmt_doc.specs.Private.Same.{normal_doc, normal_field, normal_pair}
 use Rattle.ufmt_doc.proofs.doc.same.+same.Given as goal
 
 abbrev pub invariant-are_same-loop-entry : goal.invariant-are_same-loop-entry

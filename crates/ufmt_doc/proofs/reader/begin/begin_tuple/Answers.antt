@@ -3,37 +3,37 @@ use Rattle.ufmt.specs.Document.{Document, documents, tuple_of}
 use Rattle.ufmt.specs.Layout.{frame, tuple_kind}
 use Rattle.ufmt.specs.Reading.{read_tuple}
 use Rattle.ufmt_doc.specs.declared.doc.Doc.{Doc}
-use Rattle.ufmt_doc.specs.declared.reader.level.Kind.{Kind}
+use Rattle.ufmt_core.specs.declared.layout.Kind.{Kind}
 use Rattle.ufmt_doc.specs.declared.reader.level.Level.{Level}
 use Rattle.ufmt_doc.specs.Doc.{doc_document}
-use Rattle.ufmt_doc.specs.Entries.{read_on}
-use Rattle.ufmt_doc.specs.Level.{entry_of, kind_of, mode_of, setting_of}
-use Rattle.ufmt_doc.specs.Steps.{entries_on}
+use Rattle.ufmt_doc.specs.Private.Entries.{read_on}
+use Rattle.ufmt_doc.specs.Private.Level.{entry_of, setting_at}
+use Rattle.ufmt_doc.specs.Private.Steps.{entries_on}
 use Rattle.ufmt_doc.proofs.EntrySteps.{first_is_read_on}
 use Rattle.ufmt_doc.proofs.Given.{passes_on}
 use Rattle.ufmt_doc.proofs.Stacks.{steps_are}
 use Rattle.ufmt_doc.proofs.reader.begin.begin_tuple.Goals as goal
 
 -- a tuple in which no entry was read yet
-none_read : (level : Level) (name : List ℕ) (kind : Kind) (items : List Doc) (t : List ℕ) → kind_of kind ≡ tuple_kind name → items ≡ [] → read_tuple (setting_of level) (entry_of level) name t ≡ entries_on level kind (λ ds. tuple_of name (documents ds)) (map doc_document items) (entry_of level t)
+none_read : (level : Level) (name : List ℕ) (kind : Kind) (items : List Doc) (t : List ℕ) → kind ≡ tuple_kind name → items ≡ [] → read_tuple (setting_at level) (entry_of level) name t ≡ entries_on level kind (λ ds. tuple_of name (documents ds)) (map doc_document items) (entry_of level t)
 none_read level name kind items t same none =
     let make : List Document → Document = λ ds. tuple_of name (documents ds) in
-    first_is_read_on (entry_of level) (frame (mode_of level.mode) (tuple_kind name)) (setting_of level) make (entry_of level t)
-    ∙ ap (λ k. read_on (entry_of level) (frame (mode_of level.mode) k) (setting_of level) make [] (entry_of level t)) (sym same)
+    first_is_read_on (entry_of level) (frame level.mode (tuple_kind name)) (setting_at level) make (entry_of level t)
+    ∙ ap (λ k. read_on (entry_of level) (frame level.mode k) (setting_at level) make [] (entry_of level t)) (sym same)
     ∙ ap (λ xs. entries_on level kind make (map doc_document xs) (entry_of level t)) (sym none)
 
 pub returns-in_err-goes_on : goal.returns-in_err-goes_on
 returns-in_err-goes_on c =
-    let kind = c.tuple_kind.ensures ∙ ap tuple_kind c.deref.ensures in
+    let kind = c.tuple.ensures ∙ ap tuple_kind c.deref.ensures in
     passes_on _ c.from_residual-in_err-goes_on.result _ c.in_err-goes_on.field-0.0 _ c.from_residual-in_err-goes_on.ensures.1 (λ y p. p) λ refused.
-    none_read c.args.level (string_bytes c.args.name) c.tuple_kind.result _ c.args.input.now kind c.in_ok-entries.ensures.items ∙ c.in_err-goes_on.ensures (λ ds. tuple_of (string_bytes c.args.name) (documents ds)) refused
+    none_read c.args.level (string_bytes c.args.name) c.tuple.result _ c.args.input.now kind c.in_ok-entries.ensures.items ∙ c.in_err-goes_on.ensures (λ ds. tuple_of (string_bytes c.args.name) (documents ds)) refused
 
 pub returns : goal.returns
 returns c =
-    let kind = c.tuple_kind.ensures ∙ ap tuple_kind c.deref.ensures in
+    let kind = c.tuple.ensures ∙ ap tuple_kind c.deref.ensures in
     let put = c.in_ok-goes_on.ensures (λ ds. tuple_of (string_bytes c.args.name) (documents ds)) in
     let within : length c.in_ok-goes_on.rest.now ≤ length c.args.input.now = put.1 in
     let longer : suc (length c.in_ok-goes_on.rest.now) ≤ suc (length c.args.input.now) = omega (arith, within) in
     steps_are c.args.level _ _ c.open_or_close.result c.args.blocks.now.blocks.items c.open_or_close.new.self.blocks.items _ _
-    (none_read c.args.level (string_bytes c.args.name) c.tuple_kind.result _ c.args.input.now kind c.in_ok-entries.ensures.items ∙ rw (← kind) put.0)
+    (none_read c.args.level (string_bytes c.args.name) c.tuple.result _ c.args.input.now kind c.in_ok-entries.ensures.items ∙ rw (← kind) put.0)
     longer (c.open_or_close.ensures c.args.level)

@@ -1,5 +1,5 @@
 use Rattle.std.proofs.Common.{length}
-use Rattle.ufmt_doc.specs.Spelled.{SpelledBefore}
+use Rattle.ufmt_doc.specs.Private.Spelled.{SpelledBefore}
 use Rattle.ufmt_doc.proofs.reader.quoted.behind_quote.Given as goal
 
 abbrev pub invariant-escapes : goal.invariant-escapes

@@ -1,12 +1,12 @@
 use Rattle.std.proofs.Common.{◌≡◌, ◌∙◌, ap, sym, ◌≤◌, ◌<◌, Bool, List, ℕ, Option, Some, String, Global, string_bytes, cond, length, arith}
 use Rattle.ufmt.specs.Document.{Document, documents, leaf, list_of}
 use Rattle.ufmt_doc.specs.declared.doc.Doc.TheVariants.{Leaf}
-use Rattle.ufmt_doc.specs.declared.reader.level.Kind.{Kind}
+use Rattle.ufmt_core.specs.declared.layout.Kind.{Kind}
 use Rattle.ufmt_doc.specs.declared.reader.level.Level.{Level}
 use Rattle.ufmt_doc.specs.Doc.{doc_document}
 use Rattle.ufmt_doc.specs.DocViews.{docs_view}
-use Rattle.ufmt_doc.specs.Level.{entry_of}
-use Rattle.ufmt_doc.specs.Steps.{entries_on}
+use Rattle.ufmt_doc.specs.Private.Level.{entry_of}
+use Rattle.ufmt_doc.specs.Private.Steps.{entries_on}
 use Rattle.ufmt_doc.proofs.Docs.{doc_document-Leaf}
 use Rattle.ufmt_doc.proofs.DocumentParts.{entry_word_is}
 use Rattle.ufmt_doc.proofs.EntrySteps.{entry_of_takes}

@@ -1,8 +1,8 @@
 use Rattle.std.proofs.Common.{◌≡◌, ◌≤◌, List, length}
 use Rattle.ufmt.specs.Document.{Document}
 use Rattle.ufmt_doc.specs.DocViews.{docs_view}
-use Rattle.ufmt_doc.specs.Level.{entry_of}
-use Rattle.ufmt_doc.specs.Steps.{entries_on}
+use Rattle.ufmt_doc.specs.Private.Level.{entry_of}
+use Rattle.ufmt_doc.specs.Private.Steps.{entries_on}
 use Rattle.ufmt_doc.proofs.reader.word_entries.read_words.Given as goal
 
 abbrev pub invariant-words : goal.invariant-words

@@ -1,14 +1,14 @@
 use Rattle.std.proofs.Common.{sym, true}
 use Rattle.ufmt.specs.Block.{pair_text}
 use Rattle.ufmt.specs.Words.{number}
-use Rattle.ufmt.proofs.Printing.{LaysOut-err, Row-next, Row-none, finished, loop_failed, loop_written, map_not_opened, map_opened, pair_texts-of}
+use Rattle.ufmt.proofs.Printing.{LaysOut-err, WritesRow-next, WritesRow-none, finished, loop_failed, loop_written, map_not_opened, map_opened, pair_texts-of}
 use Rattle.ufmt_user.proofs.by_hand.PortsuDebug.fmt.Goals as goal
 
 pub returns-in_err-map : goal.returns-in_err-map
 returns-in_err-map g c = map_not_opened _ c.from_residual.ensures.0 c.in_err-map.was c.debug_map.follows.holds-at-none
 
 pub loop-port-init : goal.loop-port-init
-loop-port-init g c = record { is_open = c.in_ok-map.ensures.is_open; row = Row-none (λ p. pair_text (number p.number) (g.T.uDebug.document p.user)) _ c.in_ok-map.ensures.is_open }
+loop-port-init g c = record { is_open = c.in_ok-map.ensures.is_open; row = WritesRow-none (λ p. pair_text (number p.number) (g.T.uDebug.document p.user)) _ c.in_ok-map.ensures.is_open }
 
 pub returns-in_err-entry : goal.returns-in_err-entry
 returns-in_err-entry g c =
@@ -17,7 +17,7 @@ returns-in_err-entry g c =
     c.loop-port.port-index c.loop-port-test.true c.port-item.is c.loop-port.invariant.row c.in_err-entry.ensures.entry (search))))
 
 pub loop-port-preserved : goal.loop-port-preserved
-loop-port-preserved g c = record { is_open = c.in_ok-entry.ensures.is_open; row = Row-next (λ p. pair_text (number p.number) (g.T.uDebug.document p.user)) c.deref-port-items.result.now c.loop-port.port-index c.port-item.result true c.loop-port-test.true c.port-item.is c.loop-port.invariant.row c.in_ok-entry.ensures.entry }
+loop-port-preserved g c = record { is_open = c.in_ok-entry.ensures.is_open; row = WritesRow-next (λ p. pair_text (number p.number) (g.T.uDebug.document p.user)) c.deref-port-items.result.now c.loop-port.port-index c.port-item.result true c.loop-port-test.true c.port-item.is c.loop-port.invariant.row c.in_ok-entry.ensures.entry }
 
 pub returns : goal.returns
 returns g c =

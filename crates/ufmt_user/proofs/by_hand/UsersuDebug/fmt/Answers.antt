@@ -1,13 +1,13 @@
 use Rattle.std.proofs.Common.{ap, is_ok, sym, true}
 use Rattle.ufmt.specs.Block.{entry_text}
-use Rattle.ufmt.proofs.Printing.{LaysOut-err, Row-next, Row-none, entry_not_begun, finished, list_entry_between, list_not_opened, list_opened, loop_failed, loop_written, texts-of}
+use Rattle.ufmt.proofs.Printing.{LaysOut-err, WritesRow-next, WritesRow-none, entry_not_begun, finished, list_entry_between, list_not_opened, list_opened, loop_failed, loop_written, texts-of}
 use Rattle.ufmt_user.proofs.by_hand.UsersuDebug.fmt.Goals as goal
 
 pub returns-in_err-list : goal.returns-in_err-list
 returns-in_err-list g c = list_not_opened _ c.from_residual.ensures.0 c.in_err-list.was c.debug_list.follows.holds-at-none
 
 pub loop-port-init : goal.loop-port-init
-loop-port-init g c = record { is_open = c.in_ok-list.ensures.is_open; row = Row-none (λ p. entry_text (g.T.uDebug.document p.user)) _ c.in_ok-list.ensures.is_open }
+loop-port-init g c = record { is_open = c.in_ok-list.ensures.is_open; row = WritesRow-none (λ p. entry_text (g.T.uDebug.document p.user)) _ c.in_ok-list.ensures.is_open }
 
 pub returns-in_err-begin_entry : goal.returns-in_err-begin_entry
 returns-in_err-begin_entry g c =
@@ -23,7 +23,7 @@ returns-in_err-end_entry g c =
     (list_entry_between _ _ c.loop-port.list (c.begin_entry.follows.holds _ (ap is_ok c.in_ok-begin_entry.was)) c.in_ok-begin_entry.ensures.lead c.fmt-answer.ensures c.in_err-end_entry.ensures.end) (search))))
 
 pub loop-port-preserved : goal.loop-port-preserved
-loop-port-preserved g c = record { is_open = c.in_ok-end_entry.ensures.is_open; row = Row-next (λ p. entry_text (g.T.uDebug.document p.user)) c.deref-port-items.result.now c.loop-port.port-index c.port-item.result true c.loop-port-test.true c.port-item.is c.loop-port.invariant.row (list_entry_between _ _ c.loop-port.list (c.begin_entry.follows.holds _ (ap is_ok c.in_ok-begin_entry.was)) c.in_ok-begin_entry.ensures.lead c.fmt-answer.ensures c.in_ok-end_entry.ensures.end) }
+loop-port-preserved g c = record { is_open = c.in_ok-end_entry.ensures.is_open; row = WritesRow-next (λ p. entry_text (g.T.uDebug.document p.user)) c.deref-port-items.result.now c.loop-port.port-index c.port-item.result true c.loop-port-test.true c.port-item.is c.loop-port.invariant.row (list_entry_between _ _ c.loop-port.list (c.begin_entry.follows.holds _ (ap is_ok c.in_ok-begin_entry.was)) c.in_ok-begin_entry.ensures.lead c.fmt-answer.ensures c.in_ok-end_entry.ensures.end) }
 
 pub returns : goal.returns
 returns g c =

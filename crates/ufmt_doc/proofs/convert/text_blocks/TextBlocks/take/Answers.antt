@@ -1,7 +1,7 @@
 use Rattle.std.proofs.Common.{◌≡◌, ◌∙◌, ap, sym, ◌+◌, ◌-◌, length, take, Some, string_bytes, arith}
 use Rattle.std.specs.Vec.{vec_len}
-use Rattle.ufmt_doc.specs.Converting.{resume_text, stepped_text}
-use Rattle.ufmt_doc.specs.Stack.{level_at}
+use Rattle.ufmt_doc.specs.Private.Converting.{blocks_conversion, text_after_step}
+use Rattle.ufmt_doc.specs.Private.Stack.{level_at}
 use Rattle.ufmt_doc.proofs.Given.{passes_on}
 use Rattle.ufmt_doc.proofs.ConvertingStacks.{depth_before, finishes_text, opens_text, resume_text_none}
 use Rattle.ufmt_doc.proofs.Stacks.{last_apart, last_set}
@@ -32,7 +32,7 @@ returns-in-Some-next c =
     let before = c.ends.invariant.1 in
     let after = put.1 in (
       c.ends.invariant.0
-          ∙ finishes_text from to blocks (take k blocks) c.index.result.now k _ _ (last_apart blocks k c.index.result.now last c.index.ensures) (depth_before k blocks last) (put.0 ∙ ap (λ next. stepped_text (level_at from k) (level_at to k) next out rest) c.in-Some-next.is)
+          ∙ finishes_text from to blocks (take k blocks) c.index.result.now k _ _ (last_apart blocks k c.index.result.now last c.index.ensures) (depth_before k blocks last) (put.0 ∙ ap (λ next. text_after_step (level_at from k) (level_at to k) next out rest) c.in-Some-next.is)
           ∙ opens_text from to (take k blocks) _ c.in-Some-next.block k out rest (last_set blocks k c.in-Some-next.block last) (depth_before k blocks last),
       omega (arith, before, after),
     )
@@ -51,7 +51,7 @@ ends-preserved c =
     let after = put.1 in
     let one_less : vec_len c.ends.self.blocks - 1 ≡ k = omega arith in (
       c.ends.invariant.0
-          ∙ finishes_text from to blocks (take k blocks) c.index.result.now k _ _ (last_apart blocks k c.index.result.now last c.index.ensures) (depth_before k blocks last) (put.0 ∙ ap (λ next. stepped_text (level_at from k) (level_at to k) next out rest) c.in_default-next.is)
-          ∙ ap (λ xs. resume_text from to 0 xs (Some (out, rest))) (sym (c.pop.ensures.rest ∙ ap (λ n. take n blocks) one_less)),
+          ∙ finishes_text from to blocks (take k blocks) c.index.result.now k _ _ (last_apart blocks k c.index.result.now last c.index.ensures) (depth_before k blocks last) (put.0 ∙ ap (λ next. text_after_step (level_at from k) (level_at to k) next out rest) c.in_default-next.is)
+          ∙ ap (λ xs. blocks_conversion from to 0 xs (Some (out, rest))) (sym (c.pop.ensures.rest ∙ ap (λ n. take n blocks) one_less)),
       omega (arith, before, after),
     )

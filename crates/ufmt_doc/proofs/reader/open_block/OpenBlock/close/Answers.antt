@@ -1,5 +1,5 @@
 use Rattle.std.proofs.Common.{◌∙◌, ap, sym}
-use Rattle.ufmt_doc.specs.Steps.{block_document}
+use Rattle.ufmt_doc.specs.Private.Steps.{block_document}
 use Rattle.ufmt_doc.proofs.Docs.{doc_document-StructOf}
 use Rattle.ufmt_doc.proofs.reader.open_block.OpenBlock.close.Goals as goal
 

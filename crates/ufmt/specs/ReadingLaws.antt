@@ -1,9 +1,23 @@
--- That a text can be read in one way: which documents have it is settled up to their normal form.
-use Rattle.std.specs.Prelude.{◌≡◌, ◌↔◌, ℕ, ◌+◌, ◌≤◌, List, ◌++◌}
+-- What is promised of reading: that just the texts of token documents are read, each as their normal form, and that a text can be read in one way.
+use Rattle.std.specs.Prelude.{◌≡◌, ◌≢◌, List, ℕ, Some, None, ◌↔◌, ◌+◌, ◌≤◌, ◌++◌}
 use Rattle.ufmt_core.specs.Document.{Document, nest}
 use Rattle.ufmt_core.specs.Layout.{setting, layout, plain_text, pretty_text}
-use Rattle.ufmt_core.specs.declared.formatter.Mode.TheVariants.{Pretty}
+use Rattle.ufmt_core.specs.declared.layout.Mode.{Mode}
+use Rattle.ufmt_core.specs.declared.layout.Mode.TheVariants.{Pretty}
 use Rattle.ufmt.specs.Token.{IsToken, normal, IsFollower}
+use Rattle.ufmt.specs.Reading.{read_text}
+
+-- what is read is a token document in normal form that has the text
+abbrev pub ReadsOnlyTexts : Type 0
+ReadsOnlyTexts = (mode : Mode) (t : List ℕ) (d : Document) → read_text mode t ≡ Some d → IsToken d × (normal d ≡ d) × (layout (setting mode 0) d ≡ t)
+
+-- the text of a token document is read as its normal form
+abbrev pub ReadsEachText : Type 0
+ReadsEachText = (mode : Mode) (d : Document) → IsToken d → read_text mode (layout (setting mode 0) d) ≡ Some (normal d)
+
+-- where nothing is read no token document has the text
+abbrev pub RefusesNoText : Type 0
+RefusesNoText = (mode : Mode) (t : List ℕ) → read_text mode t ≡ None → (d : Document) → IsToken d → layout (setting mode 0) d ≢ t
 
 -- where plain texts are equal with what follows them, so are normal forms and what follows
 abbrev pub PlainReadsOneWay : Type 0

@@ -1,7 +1,7 @@
 use Rattle.std.proofs.Common.{true}
 use Rattle.ufmt_core.specs.Layout.{indentation}
 use Rattle.ufmt_core.specs.Formatter.{Prints}
-use Rattle.ufmt_core.proofs.formatter.Formatter.indent.Given as goal
+use Rattle.ufmt_core.proofs.formatter.Formatter.write_indentation.Given as goal
 
 abbrev pub invariant-loop-unit : goal.invariant-loop-unit
 invariant-loop-unit g l = Prints g.W.uWrite.seen l.initial.self (indentation l._unit) true l.self

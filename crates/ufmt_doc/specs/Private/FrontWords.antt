@@ -2,10 +2,10 @@
 use Rattle.std.specs.Prelude.{◌≡◌, ℕ, ◌==◌, Bool, false, ◌||◌, cond, List, [], ◌∷◌, ◌++◌, None, drop, take}
 use Rattle.ufmt.specs.Document.{Document, leaf}
 use Rattle.ufmt.specs.Reading.{Parse, after_word, parse_map, read_word, word_of}
-use Rattle.ufmt_doc.specs.Steps.{before_colon}
+use Rattle.ufmt_doc.specs.Private.Steps.{before_colon}
 
 -- the first bytes of a text, up to an index, are word bytes
-pub record Passed (t : List ℕ) (i : ℕ) : Type 0 where
+pub record PassesWordBytes (t : List ℕ) (i : ℕ) : Type 0 where
   pub word : word_of t ≡ take i t ++ word_of (drop i t)
   pub rest : after_word t ≡ after_word (drop i t)
 

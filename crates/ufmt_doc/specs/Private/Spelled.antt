@@ -5,7 +5,7 @@ use Rattle.std.specs.Char.{IsScalar}
 use Rattle.std.specs.Str.{all_scalars}
 use Rattle.ufmt.specs.Quoted.{escaped, escaped_bytes, quoted}
 use Rattle.ufmt.specs.ReadingQuoted.{read_inside}
-use Rattle.ufmt_doc.specs.Read.{now_of}
+use Rattle.ufmt_doc.specs.Private.Read.{now_of}
 
 -- what is left of a text behind bytes as they are written between two of these quotes
 abbrev pub SpelledBefore : ℕ → List ℕ → List ℕ → Type 0

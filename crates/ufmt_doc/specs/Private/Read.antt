@@ -5,16 +5,16 @@ use Rattle.ufmt_doc.specs.declared.reader.error.ReadError.{ReadError}
 use Rattle.ufmt_doc.specs.declared.reader.error.ReadError.TheVariants.{NotText}
 
 -- the answer is what there is, seen through f, and `NotText` only where there is nothing
-abbrev pub Gives : {A B : Type 0} → (A → B) → Result A ReadError → Option B → Type 0
-Gives f answer there = MatchResult answer (λ a. there ≡ Some (f a)) (λ e. e ≡ NotText → there ≡ None)
+abbrev pub AnswersAs : {A B : Type 0} → (A → B) → Result A ReadError → Option B → Type 0
+AnswersAs f answer there = MatchResult answer (λ a. there ≡ Some (f a)) (λ e. e ≡ NotText → there ≡ None)
 
 -- the same of a value and what follows it
-abbrev pub Reads : {A B : Type 0} → (A → B) → Result (A × Bor (List ℕ)) ReadError → Option (B × List ℕ) → Type 0
-Reads f answer there = Gives (λ x. (f x.0, x.1.now)) answer there
+abbrev pub ReadsAs : {A B : Type 0} → (A → B) → Result (A × Bor (List ℕ)) ReadError → Option (B × List ℕ) → Type 0
+ReadsAs f answer there = AnswersAs (λ x. (f x.0, x.1.now)) answer there
 
 -- the same of what follows alone
-abbrev pub Strips : Result (Bor (List ℕ)) ReadError → Option (List ℕ) → Type 0
-Strips answer there = Gives (λ rest. rest.now) answer there
+abbrev pub StripsAs : Result (Bor (List ℕ)) ReadError → Option (List ℕ) → Type 0
+StripsAs answer there = AnswersAs (λ rest. rest.now) answer there
 
 -- what follows, where something does
 abbrev pub now_of : Option (Bor (List ℕ)) → Option (List ℕ)

@@ -1,0 +1,5 @@
+use Rattle.ufmt_core.proofs.Writing.{Prints-then, Prints-same}
+use Rattle.ufmt_core.proofs.formatter.Formatter.write_closing.Goals as goal
+
+pub returns : goal.returns
+returns g c = Prints-same c.closing.ensures (Prints-then c.in_ok-write_piece.ensures c.write_piece-2.ensures)

@@ -1,0 +1,199 @@
+//! How documents are laid out: on one line or an entry a line, and the table of what stands round the
+//! entries of each kind of block. Formatters, readers and conversions take the brackets from here.
+ghost use Rattle.std.specs.Prelude.{◌≡◌, ◌++◌, ℕ};
+ghost use Rattle.ufmt_core.specs.declared.layout.Mode.{Mode};
+ghost use Rattle.ufmt_core.specs.Layout.{count_of, frame, indentation, inside, line_start, new_line, next, separator, trail, tuple_kind};
+
+/// What opens a list.
+pub const OPENING_BRACKET: &str = "[";
+
+/// What opens a set or a map.
+pub const OPENING_BRACE: &str = "{";
+
+/// What stands between a key or a field's name and its value.
+pub const COLON: &str = ": ";
+
+/// What a line is indented by at each depth.
+pub const UNIT: &str = "    ";
+
+/// How blocks are laid out: on one line, or an entry a line.
+#[derive(Clone, Copy)]
+pub enum Mode {
+    Plain,
+    Pretty,
+}
+
+/// The kinds of blocks, by the brackets that frame their entries.
+#[derive(Clone, Copy)]
+pub enum Kind {
+    /// A list.
+    Brackets,
+    /// A set or a map.
+    Braces,
+    Struct,
+    Tuple,
+    /// A tuple whose name is empty.
+    Unnamed,
+}
+
+/// How many entries a block has: none, one or several.
+#[derive(Clone, Copy)]
+pub enum Count {
+    Zero,
+    One,
+    Several,
+}
+
+/// The mode and depth that a document is laid out in.
+#[derive(Clone, Copy)]
+pub struct Setting {
+    pub mode: Mode,
+    pub depth: u8,
+}
+
+impl Count {
+    /// The count of so many entries.
+    #[inline(always)]
+    pub fn of(entries: usize) -> Count
+        ensures { result ≡ count_of entries }
+    {
+        if entries == 0 {
+            Count::Zero
+        } else if entries == 1 {
+            Count::One
+        } else {
+            Count::Several
+        }
+    }
+
+    /// The count with one entry more.
+    #[inline(always)]
+    pub fn next(self) -> Count
+        ensures { result ≡ next self }
+    {
+        match self {
+            Count::Zero => Count::One,
+            Count::One | Count::Several => Count::Several,
+        }
+    }
+}
+
+impl Kind {
+    /// The kind of a tuple with this name.
+    #[inline(always)]
+    pub fn tuple(name: &str) -> Kind
+        ensures { result ≡ tuple_kind name.now }
+    {
+        if name.is_empty() {
+            Kind::Unnamed
+        } else {
+            Kind::Tuple
+        }
+    }
+
+    /// What stands behind a block's name, with entries or without. The bracket of a struct or a tuple
+    /// comes with its first entry.
+    #[inline(always)]
+    pub fn opening(self) -> &'static str
+        ensures { (mode : Mode) → result.now ≡ (frame mode self).opening }
+    {
+        match self {
+            Kind::Brackets => OPENING_BRACKET,
+            Kind::Braces => OPENING_BRACE,
+            Kind::Struct | Kind::Tuple | Kind::Unnamed => "",
+        }
+    }
+
+    /// What stands before the first entry alone: a bracket, and the space behind the brace of a
+    /// struct. Either may be empty.
+    #[inline(always)]
+    pub fn start(self, mode: Mode) -> (&'static str, &'static str)
+        ensures { result.0.now ++ result.1.now ≡ (frame mode self).start }
+    {
+        match (self, mode) {
+            (Kind::Brackets | Kind::Braces, _) => ("", ""),
+            (Kind::Struct, Mode::Plain) => (" {", " "),
+            (Kind::Struct, Mode::Pretty) => (" {", ""),
+            (Kind::Tuple | Kind::Unnamed, _) => ("(", ""),
+        }
+    }
+
+    /// What ends a block with so many entries, on the line on which it ends: a space or a comma, and a
+    /// bracket. Either may be empty.
+    #[inline(always)]
+    pub fn closing(self, mode: Mode, count: Count) -> (&'static str, &'static str)
+        ensures { result.0.now ++ result.1.now ≡ (frame mode self).closing count }
+    {
+        match (self, mode, count) {
+            (Kind::Brackets, _, _) => ("", "]"),
+            (Kind::Braces, _, _) => ("", "}"),
+            (Kind::Struct | Kind::Tuple | Kind::Unnamed, _, Count::Zero) => ("", ""),
+            (Kind::Struct, Mode::Plain, _) => (" ", "}"),
+            (Kind::Struct, Mode::Pretty, _) => ("", "}"),
+            (Kind::Unnamed, Mode::Plain, Count::One) => (",", ")"),
+            (Kind::Tuple | Kind::Unnamed, _, _) => ("", ")"),
+        }
+    }
+}
+
+impl Mode {
+    /// What stands between the start of a block and its first entry's line.
+    #[inline(always)]
+    pub fn line_feed(self) -> &'static str
+        ensures { (k : ℕ) → result.now ++ line_start self k ≡ new_line self k }
+    {
+        match self {
+            Mode::Plain => "",
+            Mode::Pretty => "\n",
+        }
+    }
+
+    /// What stands between two entries on one line.
+    #[inline(always)]
+    pub fn separator(self) -> &'static str
+        ensures { (k : ℕ) → result.now ++ line_start self k ≡ separator self k }
+    {
+        match self {
+            Mode::Plain => ", ",
+            Mode::Pretty => "",
+        }
+    }
+
+    /// What stands after an entry.
+    #[inline(always)]
+    pub fn trail(self) -> &'static str
+        ensures { result.now ≡ trail self }
+    {
+        match self {
+            Mode::Plain => "",
+            Mode::Pretty => ",\n",
+        }
+    }
+}
+
+impl Setting {
+    /// The mode and depth of the entries of a block. The depth saturates.
+    #[inline(always)]
+    pub fn inside(self) -> Setting
+        ensures { result ≡ inside self }
+    {
+        match self.mode {
+            Mode::Plain => self,
+            Mode::Pretty => Setting {
+                mode: Mode::Pretty,
+                depth: self.depth.saturating_add(1),
+            },
+        }
+    }
+
+    /// How many units a line begins with.
+    #[inline(always)]
+    pub fn units(self) -> u8
+        ensures { indentation result ≡ line_start self.mode self.depth }
+    {
+        match self.mode {
+            Mode::Plain => 0,
+            Mode::Pretty => self.depth,
+        }
+    }
+}
