@@ -6,6 +6,7 @@ mod malformed;
 mod mode;
 mod normal;
 mod parts;
+mod pieces;
 mod printed;
 mod quoted;
 mod same_texts;

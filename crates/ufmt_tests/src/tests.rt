@@ -1,6 +1,6 @@
 //! What no clause says: the texts that the real ufmt and core::fmt print of the same values, where
 //! pieces end, what is left where a writer fails, what the macros evaluate, and that each call can
-//! succeed. `rows` has what asserts a row, `each_piece` and `texts` the two kinds of rows.
+//! succeed. `rows` has what asserts a table, `each_piece` and `texts` the two kinds of rows.
 mod allocators;
 mod blocks;
 mod builder_calls;
@@ -23,7 +23,6 @@ mod macros;
 mod numbers;
 mod printed;
 mod quoted;
-mod read_back;
 mod repeated;
 mod rows;
 mod stopped_calls;

@@ -3,12 +3,11 @@ use super::same;
 use super::shape::Shape::{self, Leaf, Listed};
 use super::shape::made;
 use std::alloc::{AllocError, Global};
-use std::test::Fail;
 use ufmt_doc::convert::{plain_text, pretty_text};
 use ufmt_doc::doc::Doc;
 
 // So many lists round a document.
-fn lists_round(alloc: Global, count: usize, inner: &Shape<'_>) -> Result<Doc, AllocError> {
+pub fn lists_round(alloc: Global, count: usize, inner: &Shape<'_>) -> Result<Doc, AllocError> {
     let mut doc = made(alloc, inner)?;
     for _ in 0..count {
         let mut entries = Vec::new(alloc);
@@ -33,9 +32,16 @@ fn lines_and_spaces(text: &str, innermost: &str) -> (usize, usize) {
 // Whether the text can be read again, the lengths of both texts, and the lines of the pretty one.
 type Sizes = (bool, usize, usize, (usize, usize));
 
-fn measured(alloc: Global, doc: &Doc, innermost: &str) -> Result<Sizes, AllocError> {
-    let plain = plain_text(alloc, doc)?.len();
-    let pretty = pretty_text(alloc, doc)?;
+// Those of so many lists.
+fn measured(
+    alloc: Global,
+    count: usize,
+    inner: &Shape<'_>,
+    innermost: &str,
+) -> Result<Sizes, AllocError> {
+    let doc = lists_round(alloc, count, inner)?;
+    let plain = plain_text(alloc, &doc)?.len();
+    let pretty = pretty_text(alloc, &doc)?;
     let lines = lines_and_spaces(&pretty, innermost);
     Ok((doc.is_token(), plain, pretty.len(), lines))
 }
@@ -43,7 +49,7 @@ fn measured(alloc: Global, doc: &Doc, innermost: &str) -> Result<Sizes, AllocErr
 // A list adds two bytes to the plain text, and two lines to the pretty one. The 255th and each within
 // it add 2045 bytes to that: two lines with 1020 spaces, the most that there are, and five bytes more.
 #[test]
-fn lists_lie_255_deep_and_lines_begin_with_1020_spaces(rt: HostRuntime) -> Result<(), Fail> {
+fn lists_lie_255_deep_and_lines_begin_with_1020_spaces(rt: HostRuntime) {
     let rows: [(usize, Shape<'_>, &str, Sizes); 4] = [
         (255, Leaf("x"), "x,", (true, 511, 261_376, (511, 1020))),
         (255, Listed(&[]), "[],", (true, 512, 261_377, (511, 1020))),
@@ -51,13 +57,7 @@ fn lists_lie_255_deep_and_lines_begin_with_1020_spaces(rt: HostRuntime) -> Resul
         (300, Leaf("x"), "x,", (false, 601, 353_401, (601, 1020))),
     ];
     for (count, inner, innermost, wanted) in rows {
-        let doc = lists_round(rt.alloc(), count, &inner)?;
-        same(
-            &rt,
-            measured(rt.alloc(), &doc, innermost)?,
-            wanted,
-            innermost,
-        );
+        let given = measured(rt.alloc(), count, &inner, innermost);
+        same(&rt, given, Ok(wanted), innermost);
     }
-    Ok(())
 }

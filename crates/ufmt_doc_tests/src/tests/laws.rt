@@ -1,7 +1,6 @@
 //! A call of each law.
-use super::{has_plain_text, holds};
+use super::{has_plain_text, holds, same};
 use std::alloc::Global;
-use std::test::Fail;
 use ufmt_doc::doc::Doc;
 use ufmt_doc::laws::*;
 use ufmt_doc::plain_reader::{ReadError, read_plain};
@@ -37,21 +36,18 @@ fn is_document(alloc: Global, answer: Result<Doc, ReadError>, plain: &[u8]) -> b
     }
 }
 
-#[test]
-fn documents_come_back(rt: HostRuntime) -> Result<(), Fail> {
-    let alloc = rt.alloc();
+// Whether a document comes back by its plain text, and by its pretty text.
+fn comes_back(alloc: Global) -> Result<(bool, bool), ReadError> {
     let doc = read_plain(alloc, PLAIN.as_bytes())?;
-    let again = normal_by_way_of_plain(alloc, &doc);
-    holds(
-        &rt,
-        is_document(alloc, again, PLAIN.as_bytes()),
-        "by plain text",
-    );
-    let again = normal_by_way_of_pretty(alloc, &doc);
-    holds(
-        &rt,
-        is_document(alloc, again, PLAIN.as_bytes()),
-        "by pretty text",
-    );
-    Ok(())
+    let plain = normal_by_way_of_plain(alloc, &doc);
+    let pretty = normal_by_way_of_pretty(alloc, &doc);
+    Ok((
+        is_document(alloc, plain, PLAIN.as_bytes()),
+        is_document(alloc, pretty, PLAIN.as_bytes()),
+    ))
+}
+
+#[test]
+fn documents_come_back(rt: HostRuntime) {
+    same(&rt, comes_back(rt.alloc()), Ok((true, true)), "documents");
 }

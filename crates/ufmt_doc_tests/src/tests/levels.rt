@@ -3,7 +3,6 @@ use super::mode::Mode;
 use super::same;
 use super::verdict::{Verdict, told};
 use std::alloc::{AllocError, Global};
-use std::test::Fail;
 
 // `depth` lists with one entry, one in another, round what has the text `inner`, plain.
 fn plain_lists(alloc: Global, depth: usize, inner: &[u8]) -> Result<Vec<u8>, AllocError> {
@@ -56,7 +55,7 @@ fn told_of_lists(
 }
 
 #[test]
-fn blocks_with_entries_lie_at_most_255_deep(rt: HostRuntime) -> Result<(), Fail> {
+fn blocks_with_entries_lie_at_most_255_deep(rt: HostRuntime) {
     let rows = [
         (Mode::Plain, 255, "x", Verdict::Taken),
         (Mode::Plain, 255, "[]", Verdict::Taken),
@@ -68,14 +67,9 @@ fn blocks_with_entries_lie_at_most_255_deep(rt: HostRuntime) -> Result<(), Fail>
         (Mode::Pretty, 256, "[]", Verdict::Refused),
     ];
     for (mode, depth, inner, wanted) in rows {
-        same(
-            &rt,
-            told_of_lists(rt.alloc(), mode, depth, inner)?,
-            wanted,
-            inner,
-        );
+        let given = told_of_lists(rt.alloc(), mode, depth, inner);
+        same(&rt, given, Ok(wanted), inner);
     }
-    Ok(())
 }
 
 // So many opening lines of lists, each with four more spaces before it than the line above.
@@ -88,13 +82,21 @@ fn opening_lines(alloc: Global, count: usize) -> Result<Vec<u8>, AllocError> {
     Ok(text)
 }
 
+// What is told of so many brackets, and of so many lines.
+fn told_of_openings(
+    alloc: Global,
+    brackets: usize,
+    lines: usize,
+) -> Result<(Verdict, Verdict), AllocError> {
+    let brackets = vec![in alloc; b'['; brackets]?;
+    let lines = opening_lines(alloc, lines)?;
+    let plain = told(alloc, Mode::Plain, &brackets);
+    Ok((plain, told(alloc, Mode::Pretty, &lines)))
+}
+
 #[test]
-fn blocks_that_never_end_are_refused(rt: HostRuntime) -> Result<(), Fail> {
-    let brackets = vec![in rt.alloc(); b'['; 1_000_000]?;
-    let verdict = told(rt.alloc(), Mode::Plain, &brackets);
-    same(&rt, verdict, Verdict::Refused, "brackets");
-    let lines = opening_lines(rt.alloc(), 1000)?;
-    let verdict = told(rt.alloc(), Mode::Pretty, &lines);
-    same(&rt, verdict, Verdict::Refused, "lines");
-    Ok(())
+fn blocks_that_never_end_are_refused(rt: HostRuntime) {
+    let given = told_of_openings(rt.alloc(), 1_000_000, 1000);
+    let wanted = (Verdict::Refused, Verdict::Refused);
+    same(&rt, given, Ok(wanted), "brackets, lines");
 }

@@ -6,7 +6,6 @@ use super::texts::{NODE_PLAIN, NODE_PRETTY, NOT_PLAIN, NOT_PRETTY, TEXTS};
 use super::verdict::{Verdict, converts_to, read, told};
 use super::{holds, same};
 use std::alloc::{AllocError, Global};
-use std::test::Fail;
 use ufmt_doc::convert::{to_plain, to_pretty};
 use ufmt_doc::doc::Doc;
 
@@ -157,7 +156,7 @@ fn agreed_on_changes(alloc: Global, mode: Mode, text: &[u8]) -> Result<u64, Allo
 // Each kind of block once, in both modes. A text of so many bytes makes 16 texts for each of them, and
 // 14 with a byte more at its end.
 #[test]
-fn readers_and_conversions_agree_on_changed_texts(rt: HostRuntime) -> Result<(), Fail> {
+fn readers_and_conversions_agree_on_changed_texts(rt: HostRuntime) {
     let rows = [
         (Mode::Plain, "[a, b]", 110),
         (Mode::Plain, "{a, {b}}", 142),
@@ -180,8 +179,7 @@ fn readers_and_conversions_agree_on_changed_texts(rt: HostRuntime) -> Result<(),
         (Mode::Pretty, "(\n    a,\n)", 174),
     ];
     for (mode, text, count) in rows {
-        let agreed = agreed_on_changes(rt.alloc(), mode, text.as_bytes())?;
-        same(&rt, agreed, count, text);
+        let agreed = agreed_on_changes(rt.alloc(), mode, text.as_bytes());
+        same(&rt, agreed, Ok(count), text);
     }
-    Ok(())
 }

@@ -1,9 +1,8 @@
 //! Documents and their normal forms.
 use super::shape::Shape::{SetOf, StructOf, TupleOf};
 use super::shape::made;
-use super::{has_plain_text, holds, same};
-use std::alloc::Global;
-use std::test::Fail;
+use super::{has_plain_text, same};
+use std::alloc::{AllocError, Global};
 use ufmt_doc::doc::Doc;
 
 // Whether it is the tuple without a name of the leaf `A` and the empty map.
@@ -20,15 +19,23 @@ fn is_leaf_and_map(doc: &Doc) -> bool {
     }
 }
 
-// The second call changes nothing.
-#[test]
-fn normalize_gives_the_leaf_of_a_name_and_the_empty_map(rt: HostRuntime) -> Result<(), Fail> {
-    let alloc = rt.alloc();
+// Whether the document is that one before it is made normal, then, and once more, and its text stays.
+fn states(alloc: Global) -> Result<[(bool, bool); 3], AllocError> {
     let mut doc = made(alloc, &TupleOf("", &[StructOf("A", &[]), SetOf(&[])]))?;
-    for (case, is_normal) in [("before", false), ("once", true), ("twice", true)] {
-        same(&rt, is_leaf_and_map(&doc), is_normal, case);
-        holds(&rt, has_plain_text(alloc, &doc, b"(A, {})"), case);
+    let mut states = [(false, false); 3];
+    for state in &mut states {
+        *state = (
+            is_leaf_and_map(&doc),
+            has_plain_text(alloc, &doc, b"(A, {})"),
+        );
         doc.normalize(alloc);
     }
-    Ok(())
+    Ok(states)
+}
+
+// The second call changes nothing.
+#[test]
+fn normalize_gives_the_leaf_of_a_name_and_the_empty_map(rt: HostRuntime) {
+    let wanted = [(false, true), (true, true), (true, true)];
+    same(&rt, states(rt.alloc()), Ok(wanted), "before, once, twice");
 }

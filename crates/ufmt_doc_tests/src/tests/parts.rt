@@ -1,9 +1,8 @@
 //! The parts of documents that were read.
-use super::holds;
 use super::mode::Mode;
+use super::same;
 use super::verdict::read;
 use std::alloc::Global;
-use std::test::Fail;
 use ufmt_doc::doc::Doc;
 use ufmt_doc::plain_reader::{ReadError, read_plain};
 
@@ -37,7 +36,7 @@ fn is_read(alloc: Global, mode: Mode, text: &str, row: Row<'_>) -> Result<bool, 
 }
 
 #[test]
-fn each_shape_has_its_parts(rt: HostRuntime) -> Result<(), Fail> {
+fn each_shape_has_its_parts(rt: HostRuntime) {
     let rows: [(Mode, &str, Row<'_>); 14] = [
         (
             Mode::Plain,
@@ -111,9 +110,8 @@ fn each_shape_has_its_parts(rt: HostRuntime) -> Result<(), Fail> {
         ),
     ];
     for (mode, text, row) in rows {
-        holds(&rt, is_read(rt.alloc(), mode, text, row)?, text);
+        same(&rt, is_read(rt.alloc(), mode, text, row), Ok(true), text);
     }
-    Ok(())
 }
 
 // The text of a field that is a leaf.
@@ -127,7 +125,7 @@ fn is_found(alloc: Global, text: &str, label: &str, leaf: Option<&str>) -> Resul
 }
 
 #[test]
-fn fields_are_found_by_their_labels(rt: HostRuntime) -> Result<(), Fail> {
+fn fields_are_found_by_their_labels(rt: HostRuntime) {
     let rows = [
         ("Reading { channel: 3, celsius: -4 }", "channel", Some("3")),
         ("Reading { channel: 3, celsius: -4 }", "celsius", Some("-4")),
@@ -139,9 +137,9 @@ fn fields_are_found_by_their_labels(rt: HostRuntime) -> Result<(), Fail> {
         ("a", "a", None),
     ];
     for (text, label, leaf) in rows {
-        holds(&rt, is_found(rt.alloc(), text, label, leaf)?, text);
+        let is_found = is_found(rt.alloc(), text, label, leaf);
+        same(&rt, is_found, Ok(true), text);
     }
-    Ok(())
 }
 
 fn leaf_or_mark(doc: &Doc) -> &str {
@@ -177,7 +175,7 @@ fn has_two_parts(
 }
 
 #[test]
-fn parts_come_in_the_order_of_the_text(rt: HostRuntime) -> Result<(), Fail> {
+fn parts_come_in_the_order_of_the_text(rt: HostRuntime) {
     let rows = [
         ("[a, b]", ("", "a"), ("", "b")),
         ("{a, b}", ("", "a"), ("", "b")),
@@ -186,7 +184,7 @@ fn parts_come_in_the_order_of_the_text(rt: HostRuntime) -> Result<(), Fail> {
         ("S { a: 1, b: 2 }", ("a", "1"), ("b", "2")),
     ];
     for (text, first, second) in rows {
-        holds(&rt, has_two_parts(rt.alloc(), text, first, second)?, text);
+        let has_both = has_two_parts(rt.alloc(), text, first, second);
+        same(&rt, has_both, Ok(true), text);
     }
-    Ok(())
 }

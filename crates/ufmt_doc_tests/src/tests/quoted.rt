@@ -1,30 +1,35 @@
 //! Texts and characters in quotes, printed and read back.
 use super::mode::Mode;
 use super::verdict::{Verdict, told};
-use super::{has_plain_text, holds, same};
+use super::{has_plain_text, same};
 use std::alloc::{AllocError, Global};
-use std::test::Fail;
 use ufmt_doc::convert::{plain_text, pretty_text};
 use ufmt_doc::doc::Doc;
+use ufmt_user::Message;
 
-// What is said of the two texts of a value with this character in a text and by itself.
+// What is said of the two texts of a value with this character in a text and by itself, and of a
+// struct with both.
 fn told_of(alloc: Global, character: char) -> Result<(Verdict, Verdict), AllocError> {
     let mut text = String::new(alloc);
     text.push(character)?;
-    let value = Some((text.as_str(), character));
+    let message = Message {
+        node: 2,
+        level: character,
+        text: text.as_str(),
+    };
+    let value = (Some((text.as_str(), character)), message);
     let plain = told(alloc, Mode::Plain, plain_text(alloc, &value)?.as_bytes());
     let pretty = told(alloc, Mode::Pretty, pretty_text(alloc, &value)?.as_bytes());
     Ok((plain, pretty))
 }
 
 #[test]
-fn each_ascii_character_is_printed_and_read_back(rt: HostRuntime) -> Result<(), Fail> {
+fn each_ascii_character_is_printed_and_read_back(rt: HostRuntime) {
     let taken = (Verdict::Taken, Verdict::Taken);
     for byte in 0..=127u8 {
-        let given = told_of(rt.alloc(), char::from(byte))?;
-        same(&rt, (byte, given), (byte, taken), "a character");
+        let given = told_of(rt.alloc(), char::from(byte));
+        same(&rt, (byte, given), (byte, Ok(taken)), "a character");
     }
-    Ok(())
 }
 
 // Whether this is what the leaf has between its quotes.
@@ -44,32 +49,46 @@ const LEAVES: [(&str, &str); 5] = [
     ("é€", "\"é€\""),
 ];
 
-#[test]
-fn documents_are_made_of_texts_and_characters(rt: HostRuntime) -> Result<(), Fail> {
-    for (text, leaf) in LEAVES {
-        let doc = Doc::text(rt.alloc(), text)?;
-        holds(&rt, doc.is_token(), leaf);
-        holds(&rt, has_plain_text(rt.alloc(), &doc, leaf.as_bytes()), leaf);
-        holds(&rt, comes_back(rt.alloc(), &doc, text)?, leaf);
-    }
-    for (character, leaf) in [('a', "'a'"), ('\'', "'\\''"), ('\u{7f}', "'\\u{7f}'")] {
-        let doc = Doc::character(rt.alloc(), character)?;
-        holds(&rt, doc.is_token(), leaf);
-        holds(&rt, has_plain_text(rt.alloc(), &doc, leaf.as_bytes()), leaf);
-        let mut text = String::new(rt.alloc());
-        text.push(character)?;
-        holds(&rt, comes_back(rt.alloc(), &doc, &text)?, leaf);
-    }
-    Ok(())
+// Whether the document is a token document with this leaf as its text, and has this text in quotes.
+fn is_made(alloc: Global, doc: &Doc, text: &str, leaf: &str) -> Result<bool, AllocError> {
+    let is_leaf = doc.is_token() && has_plain_text(alloc, doc, leaf.as_bytes());
+    Ok(is_leaf && comes_back(alloc, doc, text)?)
+}
+
+fn is_made_of_text(alloc: Global, text: &str, leaf: &str) -> Result<bool, AllocError> {
+    let doc = Doc::text(alloc, text)?;
+    is_made(alloc, &doc, text, leaf)
+}
+
+fn is_made_of_character(alloc: Global, character: char, leaf: &str) -> Result<bool, AllocError> {
+    let doc = Doc::character(alloc, character)?;
+    let mut text = String::new(alloc);
+    text.push(character)?;
+    is_made(alloc, &doc, &text, leaf)
 }
 
 #[test]
-fn what_is_no_leaf_in_quotes_has_no_text(rt: HostRuntime) -> Result<(), Fail> {
-    for leaf in ["", "x", "()", "\"a", "'ab'", "\"\\u{41}\""] {
-        let doc = Doc::Leaf(String::from_str(rt.alloc(), leaf)?);
-        holds(&rt, doc.unquoted(rt.alloc())?.is_none(), leaf);
+fn documents_are_made_of_texts_and_characters(rt: HostRuntime) {
+    for (text, leaf) in LEAVES {
+        same(&rt, is_made_of_text(rt.alloc(), text, leaf), Ok(true), leaf);
     }
-    let doc = Doc::Listed(Vec::new(rt.alloc()));
-    holds(&rt, doc.unquoted(rt.alloc())?.is_none(), "a list");
-    Ok(())
+    for (character, leaf) in [('a', "'a'"), ('\'', "'\\''"), ('\u{7f}', "'\\u{7f}'")] {
+        let is_made = is_made_of_character(rt.alloc(), character, leaf);
+        same(&rt, is_made, Ok(true), leaf);
+    }
+}
+
+// Whether a leaf of this name has no text in quotes.
+fn has_no_text(alloc: Global, leaf: &str) -> Result<bool, AllocError> {
+    let doc = Doc::Leaf(String::from_str(alloc, leaf)?);
+    Ok(doc.unquoted(alloc)?.is_none())
+}
+
+#[test]
+fn what_is_no_leaf_in_quotes_has_no_text(rt: HostRuntime) {
+    for leaf in ["", "x", "()", "\"a", "'ab'", "\"\\u{41}\""] {
+        same(&rt, has_no_text(rt.alloc(), leaf), Ok(true), leaf);
+    }
+    let unquoted = Doc::Listed(Vec::new(rt.alloc())).unquoted(rt.alloc());
+    same(&rt, unquoted, Ok(None), "a list");
 }

@@ -17,19 +17,25 @@ pub enum Shape<'a> {
 #[cycle(making)]
 pub fn made(alloc: Global, shape: &Shape<'_>) -> Result<Doc, AllocError> {
     match shape {
-        Shape::Leaf(name) => Ok(Doc::Leaf(String::from_str(alloc, name)?)),
-        Shape::Listed(entries) => Ok(Doc::Listed(all_made(alloc, entries)?)),
-        Shape::SetOf(entries) => Ok(Doc::SetOf(all_made(alloc, entries)?)),
-        Shape::MapOf(pairs) => Ok(Doc::MapOf(pairs_made(alloc, pairs)?)),
-        Shape::StructOf(name, fields) => Ok(Doc::StructOf(
-            String::from_str(alloc, name)?,
-            fields_made(alloc, fields)?,
-        )),
-        Shape::TupleOf(name, fields) => Ok(Doc::TupleOf(
-            String::from_str(alloc, name)?,
-            all_made(alloc, fields)?,
-        )),
+        Shape::Leaf(name) => String::from_str(alloc, name).map(Doc::Leaf),
+        Shape::Listed(entries) => all_made(alloc, entries).map(Doc::Listed),
+        Shape::SetOf(entries) => all_made(alloc, entries).map(Doc::SetOf),
+        Shape::MapOf(pairs) => pairs_made(alloc, pairs).map(Doc::MapOf),
+        Shape::StructOf(name, fields) => struct_made(alloc, name, fields),
+        Shape::TupleOf(name, fields) => tuple_made(alloc, name, fields),
     }
+}
+
+#[cycle(making)]
+fn struct_made(alloc: Global, name: &str, fields: &[(&str, Shape<'_>)]) -> Result<Doc, AllocError> {
+    let name = String::from_str(alloc, name)?;
+    Ok(Doc::StructOf(name, fields_made(alloc, fields)?))
+}
+
+#[cycle(making)]
+fn tuple_made(alloc: Global, name: &str, fields: &[Shape<'_>]) -> Result<Doc, AllocError> {
+    let name = String::from_str(alloc, name)?;
+    Ok(Doc::TupleOf(name, all_made(alloc, fields)?))
 }
 
 #[cycle(making)]

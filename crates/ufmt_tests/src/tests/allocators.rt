@@ -1,37 +1,72 @@
 //! Values over an allocator that isn't `Global`, and a text over one as a writer.
-use super::rows::Rows;
+use super::rows::{Table, are_ok, has_rows, same};
+use std::alloc::{AllocError, Allocator};
 use std::collections::{BTreeMap, BTreeSet};
 use ufmt::{Formatter, write_debug, write_display};
 
-#[test]
-fn values_over_a_lent_allocator_print(rt: HostRuntime) {
-    let rows = Rows::of("a lent allocator", &rt);
-    let global = rt.alloc();
-    let list = rows.made(Vec::from_slice(&global, &[1u8, 2]));
-    rows.row(&list, "[1, 2]", "[\n    1,\n    2,\n]");
-    let mut set = BTreeSet::new(&global);
-    rows.made(set.insert(3u8));
-    rows.row(&set, "{3}", "{\n    3,\n}");
-    let mut map = BTreeMap::new(&global);
-    rows.made(map.insert(4u8, 5u8));
-    rows.row(&map, "{4: 5}", "{\n    4: 5,\n}");
-    let boxed = rows.made(Box::new(&global, 6u8));
-    rows.leaf(&boxed, "6");
+const VALUES: &str = "\
+[1, 2]~
+[
+    1,
+    2,
+];
+{3}~
+{
+    3,
+};
+{4: 5}~
+{
+    4: 5,
+};
+6;
+\"7xé\";
+";
+
+fn set_of_3<A: Allocator + Clone>(alloc: A) -> Result<BTreeSet<u8, A>, AllocError> {
+    let mut set = BTreeSet::new(alloc);
+    set.insert(3u8)?;
+    Ok(set)
+}
+
+fn map_of_4<A: Allocator + Clone>(alloc: A) -> Result<BTreeMap<u8, u8, A>, AllocError> {
+    let mut map = BTreeMap::new(alloc);
+    map.insert(4u8, 5u8)?;
+    Ok(map)
 }
 
 #[test]
-fn texts_over_a_lent_allocator_print_and_are_printed_to(rt: HostRuntime) {
-    let rows = Rows::of("a lent allocator", &rt);
+fn values_over_a_lent_allocator_print(rt: HostRuntime) {
+    let global = rt.alloc();
+    let mut table = Table::new(rt.alloc());
+    table.texts_of_made(Vec::from_slice(&global, &[1u8, 2]));
+    table.texts_of_made(set_of_3(&global));
+    table.texts_of_made(map_of_4(&global));
+    table.texts_of_made(Box::new(&global, 6u8));
+    table.texts_of_made(String::from_str(&global, "7xé"));
+    has_rows(&rt, &table, VALUES);
+}
+
+#[test]
+fn texts_over_a_lent_allocator_are_printed_to(rt: HostRuntime) {
     let global = rt.alloc();
     let mut text = String::new(&global);
-    rows.all_ok(&[
+    let answers = [
         write_debug(&mut text, &7u8),
         write_display(&mut text, &"x"),
         Formatter::new(&mut text).write_char('é'),
-    ]);
-    rows.same(text.as_str(), "7xé", "a writer");
+    ];
+    same(
+        &rt,
+        (are_ok(&answers), text.as_str()),
+        (true, "7xé"),
+        "a writer",
+    );
     let mut copy = String::new(&global);
-    rows.made(write_display(&mut copy, &text));
-    rows.same(copy.as_str(), "7xé", "displayed");
-    rows.leaf(&text, "\"7xé\"");
+    let answer = write_display(&mut copy, &text);
+    same(
+        &rt,
+        (answer.is_ok(), copy.as_str()),
+        (true, "7xé"),
+        "displayed",
+    );
 }

@@ -1,14 +1,11 @@
 //! The calls of each builder in a row, until one fails. Where a value's own piece is refused, the
 //! second half of its entry is handed the `Err`.
-use super::writers::FailAt;
-use ufmt::{Formatter, Full, uDebug};
-
-pub type Sink<'a> = Formatter<FailAt<'a>>;
+use ufmt::{DebugList, DebugMap, DebugSet, DebugStruct, DebugTuple, Formatter, uDebug, uWrite};
 
 /// The call that came last, and whether the builder was open before it and behind it.
 #[derive(Clone, Copy, PartialEq, Debug)]
 pub struct LastCall<'a> {
-    pub name: &'a str,
+    name: &'a str,
     was_open: bool,
     is_open: bool,
 }
@@ -32,11 +29,181 @@ impl<'a> LastCall<'a> {
         }
     }
 
+    /// A call that failed.
+    pub fn failed(name: &'a str) -> Self {
+        if name == "opening" {
+            LastCall::opening()
+        } else {
+            LastCall::closing(name)
+        }
+    }
+
     fn note(&mut self, name: &'a str, is_open: bool) {
         self.name = name;
         self.was_open = self.is_open;
         self.is_open = is_open;
     }
+}
+
+/// The calls of a builder.
+#[derive(Clone, Copy)]
+enum Call {
+    Entry,
+    Entries,
+    /// Those of the halves of an entry.
+    Halves,
+    Finish,
+}
+
+// The calls of lists, sets and maps, and those of structs and tuples.
+const OF_ENTRIES: [Call; 4] = [Call::Entry, Call::Entries, Call::Halves, Call::Finish];
+
+const OF_FIELDS: [Call; 3] = [Call::Halves, Call::Entry, Call::Finish];
+
+/// A builder, one call at a time.
+trait Calls<E> {
+    /// Makes this call, if the builder is open, and gives its name and answer. Of the halves it is the
+    /// last one that was made.
+    fn make(&mut self, call: Call) -> (&'static str, Result<(), E>);
+
+    fn may_go_on(&self) -> bool;
+}
+
+impl<W: uWrite> Calls<W::Error> for DebugList<'_, W> {
+    fn make(&mut self, call: Call) -> (&'static str, Result<(), W::Error>) {
+        if !self.is_open() {
+            return ("none", Ok(()));
+        }
+        match call {
+            Call::Entry => ("entry", self.entry(&1u8)),
+            Call::Entries => ("entries", self.entries(&[2u8, 3])),
+            Call::Halves => {
+                let answer = match self.begin_entry() {
+                    Ok(f) => 4u8.fmt(f),
+                    Err(error) => return ("begin_entry", Err(error)),
+                };
+                ("end_entry", self.end_entry(answer))
+            }
+            Call::Finish => ("finish", self.finish()),
+        }
+    }
+
+    fn may_go_on(&self) -> bool {
+        self.is_open()
+    }
+}
+
+impl<W: uWrite> Calls<W::Error> for DebugSet<'_, W> {
+    fn make(&mut self, call: Call) -> (&'static str, Result<(), W::Error>) {
+        if !self.is_open() {
+            return ("none", Ok(()));
+        }
+        match call {
+            Call::Entry => ("entry", self.entry(&1u8)),
+            Call::Entries => ("entries", self.entries(&[2u8, 3])),
+            Call::Halves => {
+                let answer = match self.begin_entry() {
+                    Ok(f) => 4u8.fmt(f),
+                    Err(error) => return ("begin_entry", Err(error)),
+                };
+                ("end_entry", self.end_entry(answer))
+            }
+            Call::Finish => ("finish", self.finish()),
+        }
+    }
+
+    fn may_go_on(&self) -> bool {
+        self.is_open()
+    }
+}
+
+impl<W: uWrite> Calls<W::Error> for DebugMap<'_, W> {
+    fn make(&mut self, call: Call) -> (&'static str, Result<(), W::Error>) {
+        if !self.is_open() {
+            return ("none", Ok(()));
+        }
+        match call {
+            Call::Entry => ("entry", self.entry(&1u8, &2u8)),
+            Call::Entries => ("entries", self.entries([(3u8, 4u8), (5, 6)])),
+            Call::Halves => {
+                let answer = match self.begin_entry() {
+                    Ok(f) => 7u8.fmt(f),
+                    Err(error) => return ("begin_entry", Err(error)),
+                };
+                let answer = match self.begin_value(answer) {
+                    Ok(f) => 8u8.fmt(f),
+                    Err(error) => return ("begin_value", Err(error)),
+                };
+                ("end_entry", self.end_entry(answer))
+            }
+            Call::Finish => ("finish", self.finish()),
+        }
+    }
+
+    fn may_go_on(&self) -> bool {
+        self.is_open()
+    }
+}
+
+impl<W: uWrite> Calls<W::Error> for DebugStruct<'_, W> {
+    fn make(&mut self, call: Call) -> (&'static str, Result<(), W::Error>) {
+        if !self.is_open() {
+            return ("none", Ok(()));
+        }
+        match call {
+            Call::Halves => {
+                let answer = match self.begin_field("a") {
+                    Ok(f) => 1u8.fmt(f),
+                    Err(error) => return ("begin_field", Err(error)),
+                };
+                ("end_field", self.end_field(answer))
+            }
+            Call::Entry => ("field", self.field("b", &2u8)),
+            Call::Entries | Call::Finish => ("finish", self.finish()),
+        }
+    }
+
+    fn may_go_on(&self) -> bool {
+        self.is_open()
+    }
+}
+
+impl<W: uWrite> Calls<W::Error> for DebugTuple<'_, W> {
+    fn make(&mut self, call: Call) -> (&'static str, Result<(), W::Error>) {
+        if !self.is_open() {
+            return ("none", Ok(()));
+        }
+        match call {
+            Call::Halves => {
+                let answer = match self.begin_field() {
+                    Ok(f) => 1u8.fmt(f),
+                    Err(error) => return ("begin_field", Err(error)),
+                };
+                ("end_field", self.end_field(answer))
+            }
+            Call::Entry => ("field", self.field(&2u8)),
+            Call::Entries | Call::Finish => ("finish", self.finish()),
+        }
+    }
+
+    fn may_go_on(&self) -> bool {
+        self.is_open()
+    }
+}
+
+// Makes a builder's calls, and goes on until one fails.
+fn make_each<E, B: Calls<E>>(
+    builder: &mut B,
+    calls: &[Call],
+    last: &mut LastCall<'_>,
+) -> Result<(), E> {
+    last.note("opening", builder.may_go_on());
+    for call in calls {
+        let (name, answer) = builder.make(*call);
+        last.note(name, builder.may_go_on());
+        answer?;
+    }
+    Ok(())
 }
 
 /// The kinds of blocks, by their builders.
@@ -51,134 +218,17 @@ pub enum Block {
 
 impl Block {
     /// Makes a builder's calls, and goes on until one fails.
-    pub fn call_in_turn(self, f: &mut Sink<'_>, last: &mut LastCall<'_>) -> Result<(), Full> {
+    pub fn call_in_turn<W: uWrite>(
+        self,
+        f: &mut Formatter<W>,
+        last: &mut LastCall<'_>,
+    ) -> Result<(), W::Error> {
         match self {
-            Block::List => list(f, last),
-            Block::Set => set(f, last),
-            Block::Map => map(f, last),
-            Block::Struct => fields(f, last),
-            Block::Tuple => tuple(f, last),
+            Block::List => make_each(&mut f.debug_list()?, &OF_ENTRIES, last),
+            Block::Set => make_each(&mut f.debug_set()?, &OF_ENTRIES, last),
+            Block::Map => make_each(&mut f.debug_map()?, &OF_ENTRIES, last),
+            Block::Struct => make_each(&mut f.debug_struct("S")?, &OF_FIELDS, last),
+            Block::Tuple => make_each(&mut f.debug_tuple("T")?, &OF_FIELDS, last),
         }
     }
-}
-
-fn list(f: &mut Sink<'_>, last: &mut LastCall<'_>) -> Result<(), Full> {
-    let mut list = f.debug_list()?;
-    last.note("opening", list.is_open());
-    let answer = list.entry(&1u8);
-    last.note("entry", list.is_open());
-    answer?;
-    let answer = list.entries(&[2u8, 3]);
-    last.note("entries", list.is_open());
-    answer?;
-    let answer = match list.begin_entry() {
-        Ok(f) => 4u8.fmt(f),
-        Err(error) => {
-            last.note("begin_entry", list.is_open());
-            return Err(error);
-        }
-    };
-    let answer = list.end_entry(answer);
-    last.note("end_entry", list.is_open());
-    answer?;
-    let answer = list.finish();
-    last.note("finish", list.is_open());
-    answer
-}
-
-fn set(f: &mut Sink<'_>, last: &mut LastCall<'_>) -> Result<(), Full> {
-    let mut set = f.debug_set()?;
-    last.note("opening", set.is_open());
-    let answer = set.entry(&1u8);
-    last.note("entry", set.is_open());
-    answer?;
-    let answer = set.entries(&[2u8, 3]);
-    last.note("entries", set.is_open());
-    answer?;
-    let answer = match set.begin_entry() {
-        Ok(f) => 4u8.fmt(f),
-        Err(error) => {
-            last.note("begin_entry", set.is_open());
-            return Err(error);
-        }
-    };
-    let answer = set.end_entry(answer);
-    last.note("end_entry", set.is_open());
-    answer?;
-    let answer = set.finish();
-    last.note("finish", set.is_open());
-    answer
-}
-
-fn map(f: &mut Sink<'_>, last: &mut LastCall<'_>) -> Result<(), Full> {
-    let mut map = f.debug_map()?;
-    last.note("opening", map.is_open());
-    let answer = map.entry(&1u8, &2u8);
-    last.note("entry", map.is_open());
-    answer?;
-    let answer = map.entries([(3u8, 4u8), (5, 6)]);
-    last.note("entries", map.is_open());
-    answer?;
-    let answer = match map.begin_entry() {
-        Ok(f) => 7u8.fmt(f),
-        Err(error) => {
-            last.note("begin_entry", map.is_open());
-            return Err(error);
-        }
-    };
-    let answer = match map.begin_value(answer) {
-        Ok(f) => 8u8.fmt(f),
-        Err(error) => {
-            last.note("begin_value", map.is_open());
-            return Err(error);
-        }
-    };
-    let answer = map.end_entry(answer);
-    last.note("end_entry", map.is_open());
-    answer?;
-    let answer = map.finish();
-    last.note("finish", map.is_open());
-    answer
-}
-
-fn fields(f: &mut Sink<'_>, last: &mut LastCall<'_>) -> Result<(), Full> {
-    let mut block = f.debug_struct("S")?;
-    last.note("opening", block.is_open());
-    let answer = match block.begin_field("a") {
-        Ok(f) => 1u8.fmt(f),
-        Err(error) => {
-            last.note("begin_field", block.is_open());
-            return Err(error);
-        }
-    };
-    let answer = block.end_field(answer);
-    last.note("end_field", block.is_open());
-    answer?;
-    let answer = block.field("b", &2u8);
-    last.note("field", block.is_open());
-    answer?;
-    let answer = block.finish();
-    last.note("finish", block.is_open());
-    answer
-}
-
-fn tuple(f: &mut Sink<'_>, last: &mut LastCall<'_>) -> Result<(), Full> {
-    let mut tuple = f.debug_tuple("T")?;
-    last.note("opening", tuple.is_open());
-    let answer = match tuple.begin_field() {
-        Ok(f) => 1u8.fmt(f),
-        Err(error) => {
-            last.note("begin_field", tuple.is_open());
-            return Err(error);
-        }
-    };
-    let answer = tuple.end_field(answer);
-    last.note("end_field", tuple.is_open());
-    answer?;
-    let answer = tuple.field(&2u8);
-    last.note("field", tuple.is_open());
-    answer?;
-    let answer = tuple.finish();
-    last.note("finish", tuple.is_open());
-    answer
 }

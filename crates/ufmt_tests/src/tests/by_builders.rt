@@ -1,6 +1,6 @@
 //! Structs and tuples that are written by builders, with each way to write a field.
 use super::printed::Printed;
-use super::rows::Rows;
+use super::rows::{Table, has_rows, map};
 use std::collections::BTreeMap;
 use ufmt::{Formatter, uDebug, uWrite};
 
@@ -60,22 +60,32 @@ impl Printed for Unit {
     }
 }
 
+const STRUCTS_AND_TUPLES: &str = "\
+S| {| |m|: |{|1|: |2|}|, |n|: |3| |}|~
+S| {|\n|    |m|: |{|\n|    |    |1|: |2|,\n|    |}|,\n|    |n|: |3|,\n|}|;
+A|;
+|;
+T|;
+|(|1|,|)|~
+|(|\n|    |1|,\n|)|;
+T|(|1|)|~
+T|(|\n|    |1|,\n|)|;
+|(|1|, |2|)|~
+|(|\n|    |1|,\n|    |2|,\n|)|;
+T|(|1|, |2|)|~
+T|(|\n|    |1|,\n|    |2|,\n|)|;
+";
+
 #[test]
 fn structs_and_tuples(rt: HostRuntime) {
-    let rows = Rows::of("by builders", &rt);
-    let map = rows.map(&[(1u64, 2u64)]);
-    rows.pieces(
-        &Settings { map },
-        "S| {| |m|: |{|1|: |2|}|, |n|: |3| |}|",
-        "S| {|\n|    |m|: |{|\n|    |    |1|: |2|,\n|    |}|,\n|    |n|: |3|,\n|}|",
-    );
-    rows.both(&Unit, "A|");
-    rows.both(&NoField(""), "|");
-    rows.both(&NoField("T"), "T|");
-    rows.pieces(&OneField(""), "|(|1|,|)|", "|(|\n|    |1|,\n|)|");
-    rows.pieces(&OneField("T"), "T|(|1|)|", "T|(|\n|    |1|,\n|)|");
-    let pretty = "|(|\n|    |1|,\n|    |2|,\n|)|";
-    rows.pieces(&TwoFields(""), "|(|1|, |2|)|", pretty);
-    let pretty = "T|(|\n|    |1|,\n|    |2|,\n|)|";
-    rows.pieces(&TwoFields("T"), "T|(|1|, |2|)|", pretty);
+    let mut table = Table::new(rt.alloc());
+    table.pieces_of_made(map(rt.alloc(), &[(1u64, 2u64)]).map(|map| Settings { map }));
+    table.pieces(&Unit);
+    table.pieces(&NoField(""));
+    table.pieces(&NoField("T"));
+    table.pieces(&OneField(""));
+    table.pieces(&OneField("T"));
+    table.pieces(&TwoFields(""));
+    table.pieces(&TwoFields("T"));
+    has_rows(&rt, &table, STRUCTS_AND_TUPLES);
 }

@@ -1,95 +1,279 @@
-//! Values of std's own types, one in another.
+//! Values of std's own types, one in another. Their texts are those of core::fmt, and of ufmt 0.2.0
+//! but for those that say so.
 use super::repeated::repeated;
-use super::rows::Rows;
-use std::collections::BTreeMap;
+use super::rows::{Table, has_rows, list, map, same, set};
+use std::alloc::{AllocError, Global};
+use std::collections::{BTreeMap, BTreeSet};
+
+const LISTS: &str = "\
+[];
+[0]~
+[
+    0,
+];
+[];
+[0, 1]~
+[
+    0,
+    1,
+];
+[[1, 1]]~
+[
+    [
+        1,
+        1,
+    ],
+];
+";
 
 #[test]
 fn lists(rt: HostRuntime) {
-    let rows = Rows::of("lists", &rt);
-    rows.leaf(&[0i32; 0].as_slice(), "[]");
-    rows.row(&[0u64].as_slice(), "[0]", "[\n    0,\n]");
-    let none: Vec<u64> = Vec::new(rt.alloc());
-    rows.leaf(&none, "[]");
-    let both = rows.list(&[0i32, 1]);
-    rows.row(&both, "[0, 1]", "[\n    0,\n    1,\n]");
-    rows.row_unlike_ufmt(
-        &[rows.list(&[]), both],
-        "[[], [0, 1]]",
-        "[\n    [],\n    [\n        0,\n        1,\n    ],\n]",
-        "[\n    [    ],\n    [\n        0,\n        1,\n    ],\n]",
-    );
-    rows.row_unlike_ufmt(
-        &rows.made(vec![in rt.alloc(); none, rows.list(&[1u64])]),
-        "[[], [1]]",
-        "[\n    [],\n    [\n        1,\n    ],\n]",
-        "[\n    [    ],\n    [\n        1,\n    ],\n]",
-    );
-    let pretty = "[\n    [\n        1,\n        1,\n    ],\n]";
-    rows.row(&[[1u64; 2]; 1], "[[1, 1]]", pretty);
+    let mut table = Table::new(rt.alloc());
+    table.texts(&[0i32; 0].as_slice());
+    table.texts(&[0u64].as_slice());
+    table.texts(&Vec::<u64>::new(rt.alloc()));
+    table.texts_of_made(list(rt.alloc(), &[0i32, 1]));
+    table.texts(&[[1u64; 2]; 1]);
+    has_rows(&rt, &table, LISTS);
 }
 
 // Its texts are those of core::fmt alone, since ufmt 0.2.0 has arrays of at most 32.
 #[test]
 fn an_array_of_40(rt: HostRuntime) {
-    let rows = Rows::of("an array of 40", &rt);
-    let sevens = rows.made(repeated(rt.alloc(), "[7", ", 7", 39, "]"));
-    let pretty = rows.made(repeated(rt.alloc(), "[\n", "    7,\n", 40, "]"));
-    rows.row(&[7u64; 40], sevens.as_str(), pretty.as_str());
+    let mut table = Table::new(rt.alloc());
+    table.texts(&[7u64; 40]);
+    let mut expected = Table::new(rt.alloc());
+    expected.put_apart(
+        repeated(rt.alloc(), "[7", ", 7", 39, "]"),
+        repeated(rt.alloc(), "[\n", "    7,\n", 40, "]"),
+    );
+    same(&rt, table.text(), expected.text(), "sevens");
+}
+
+const SETS_AND_MAPS: &str = "\
+{1, 3}~
+{
+    1,
+    3,
+};
+{80: [7, 9]}~
+{
+    80: [
+        7,
+        9,
+    ],
+};
+";
+
+// The README's example.
+fn ports(alloc: Global) -> Result<BTreeMap<u64, Vec<u64>>, AllocError> {
+    let mut ports = BTreeMap::new(alloc);
+    ports.insert(80u64, list(alloc, &[7u64, 9])?)?;
+    Ok(ports)
 }
 
 #[test]
 fn sets_and_maps(rt: HostRuntime) {
-    let rows = Rows::of("sets and maps", &rt);
-    rows.row_unlike_ufmt(
-        &rows.made(vec![in rt.alloc(); rows.set(&[]), rows.set(&[1i32])]),
-        "[{}, {1}]",
-        "[\n    {},\n    {\n        1,\n    },\n]",
-        "[\n    {},\n        {\n            1,\n},\n        ]",
-    );
-    rows.row(&rows.set(&[3u64, 1]), "{1, 3}", "{\n    1,\n    3,\n}");
-    rows.row_unlike_ufmt(
-        &rows.made(vec![in rt.alloc(); rows.map(&[(1u64, 2u64)]), rows.map(&[])]),
-        "[{1: 2}, {}]",
-        "[\n    {\n        1: 2,\n    },\n    {},\n]",
-        "[\n    {\n        1: 2,\n},\n        {},\n        ]",
-    );
-    let mut nested = BTreeMap::new(rt.alloc());
-    rows.made(nested.insert(1i32, rows.map(&[(2i32, 3i32)])));
-    rows.row_unlike_ufmt(
-        &nested,
-        "{1: {2: 3}}",
-        "{\n    1: {\n        2: 3,\n    },\n}",
-        "{\n    1: {\n        2: 3,\n},\n}",
-    );
-    // The README's example.
-    let mut ports = BTreeMap::new(rt.alloc());
-    rows.made(ports.insert(80u64, rows.list(&[7u64, 9])));
-    let pretty = "{\n    80: [\n        7,\n        9,\n    ],\n}";
-    rows.row(&ports, "{80: [7, 9]}", pretty);
+    let mut table = Table::new(rt.alloc());
+    table.texts_of_made(set(rt.alloc(), &[3u64, 1]));
+    table.texts_of_made(ports(rt.alloc()));
+    has_rows(&rt, &table, SETS_AND_MAPS);
 }
+
+const OPTIONS_AND_RESULTS: &str = "\
+Some(0)~
+Some(
+    0,
+);
+Ok(1)~
+Ok(
+    1,
+);
+Err(2)~
+Err(
+    2,
+);
+";
 
 #[test]
 fn options_and_results(rt: HostRuntime) {
-    let rows = Rows::of("options and results", &rt);
-    rows.row(&Some(0u64), "Some(0)", "Some(\n    0,\n)");
-    rows.row(&Ok::<u64, i32>(1), "Ok(1)", "Ok(\n    1,\n)");
-    rows.row(&Err::<u64, i32>(2), "Err(2)", "Err(\n    2,\n)");
-    rows.row_unlike_ufmt(
-        &Err::<(), [i32; 0]>([]),
-        "Err([])",
-        "Err(\n    [],\n)",
-        "Err(\n    [    ],\n)",
+    let mut table = Table::new(rt.alloc());
+    table.texts(&Some(0u64));
+    table.texts(&Ok::<u64, i32>(1));
+    table.texts(&Err::<u64, i32>(2));
+    has_rows(&rt, &table, OPTIONS_AND_RESULTS);
+}
+
+const UNLIKE_UFMT: &str = "\
+[[], [0, 1]]~
+[
+    [],
+    [
+        0,
+        1,
+    ],
+];
+[[], [1]]~
+[
+    [],
+    [
+        1,
+    ],
+];
+[{}, {1}]~
+[
+    {},
+    {
+        1,
+    },
+];
+[{1: 2}, {}]~
+[
+    {
+        1: 2,
+    },
+    {},
+];
+{1: {2: 3}}~
+{
+    1: {
+        2: 3,
+    },
+};
+Err([])~
+Err(
+    [],
+);
+Some({1: 2})~
+Some(
+    {
+        1: 2,
+    },
+);
+({}, [[]])~
+(
+    {},
+    [
+        [],
+    ],
+);
+";
+
+// What ufmt 0.2.0 prints of the same values.
+const BY_UFMT: &str = "\
+[[], [0, 1]]~
+[
+    [    ],
+    [
+        0,
+        1,
+    ],
+];
+[[], [1]]~
+[
+    [    ],
+    [
+        1,
+    ],
+];
+[{}, {1}]~
+[
+    {},
+        {
+            1,
+},
+        ];
+[{1: 2}, {}]~
+[
+    {
+        1: 2,
+},
+        {},
+        ];
+{1: {2: 3}}~
+{
+    1: {
+        2: 3,
+},
+};
+Err([])~
+Err(
+    [    ],
+);
+Some({1: 2})~
+Some(
+    {
+        1: 2,
+},
     );
-    rows.row_unlike_ufmt(
-        &Some(rows.map(&[(1u64, 2u64)])),
-        "Some({1: 2})",
-        "Some(\n    {\n        1: 2,\n    },\n)",
-        "Some(\n    {\n        1: 2,\n},\n    )",
+({}, [[]])~
+(
+    {},
+        [
+            [            ],
+        ],
     );
-    rows.row_unlike_ufmt(
-        &(rows.map::<i32, i32>(&[]), [rows.list::<u64>(&[])]),
-        "({}, [[]])",
-        "(\n    {},\n    [\n        [],\n    ],\n)",
-        "(\n    {},\n        [\n            [            ],\n        ],\n    )",
-    );
+";
+
+fn array_of_lists(alloc: Global) -> Result<[Vec<i32>; 2], AllocError> {
+    let both = list(alloc, &[0i32, 1])?;
+    Ok([Vec::new(alloc), both])
+}
+
+fn list_of_lists(alloc: Global) -> Result<Vec<Vec<u64>>, AllocError> {
+    let mut lists = Vec::new(alloc);
+    lists.push(Vec::new(alloc))?;
+    lists.push(list(alloc, &[1u64])?)?;
+    Ok(lists)
+}
+
+fn list_of_sets(alloc: Global) -> Result<Vec<BTreeSet<i32>>, AllocError> {
+    let mut sets = Vec::new(alloc);
+    sets.push(BTreeSet::new(alloc))?;
+    sets.push(set(alloc, &[1i32])?)?;
+    Ok(sets)
+}
+
+fn list_of_maps(alloc: Global) -> Result<Vec<BTreeMap<u64, u64>>, AllocError> {
+    let mut maps = Vec::new(alloc);
+    maps.push(map(alloc, &[(1u64, 2u64)])?)?;
+    maps.push(BTreeMap::new(alloc))?;
+    Ok(maps)
+}
+
+fn map_of_a_map(alloc: Global) -> Result<BTreeMap<i32, BTreeMap<i32, i32>>, AllocError> {
+    let mut maps = BTreeMap::new(alloc);
+    maps.insert(1i32, map(alloc, &[(2i32, 3i32)])?)?;
+    Ok(maps)
+}
+
+// How many rows differ, of how many that have the same plain text.
+fn count_unlike(rows: &str, others: &str) -> (usize, usize) {
+    let (mut unlike, mut alike_in_plain) = (0usize, 0usize);
+    for (row, other) in rows.split(";\n").zip(others.split(";\n")) {
+        if row != other {
+            unlike = unlike.saturating_add(1);
+        }
+        if row.split('~').next() == other.split('~').next() && !row.is_empty() {
+            alike_in_plain = alike_in_plain.saturating_add(1);
+        }
+    }
+    (unlike, alike_in_plain)
+}
+
+#[test]
+fn values_that_ufmt_prints_otherwise(rt: HostRuntime) {
+    let mut table = Table::new(rt.alloc());
+    table.texts_of_made(array_of_lists(rt.alloc()));
+    table.texts_of_made(list_of_lists(rt.alloc()));
+    table.texts_of_made(list_of_sets(rt.alloc()));
+    table.texts_of_made(list_of_maps(rt.alloc()));
+    table.texts_of_made(map_of_a_map(rt.alloc()));
+    table.texts(&Err::<(), [i32; 0]>([]));
+    table.texts_of_made(map(rt.alloc(), &[(1u64, 2u64)]).map(Some));
+    let map: BTreeMap<i32, i32> = BTreeMap::new(rt.alloc());
+    let lists: [Vec<u64>; 1] = [Vec::new(rt.alloc())];
+    table.texts(&(map, lists));
+    has_rows(&rt, &table, UNLIKE_UFMT);
+    same(&rt, count_unlike(UNLIKE_UFMT, BY_UFMT), (8, 8), "by ufmt");
 }

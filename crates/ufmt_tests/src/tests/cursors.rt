@@ -1,62 +1,73 @@
 //! A cursor and the buffer behind it, and a formatter over one, which goes on where a part has failed.
-use super::rows::Rows;
-use std::process::Abort;
+use super::rows::{Table, has_rows, same};
 use ufmt::{Cursor, Formatter, Full, laws, uWrite};
 
-impl<R: Abort + AllocGlobal> Rows<'_, R> {
-    // What a call on the cursor answered, and what is then written and remains.
-    fn state(
-        &self,
-        answer: Result<(), Full>,
-        cursor: &Cursor<'_>,
-        (expected, written, remaining): (Result<(), Full>, &str, usize),
-        case: &str,
-    ) {
-        let given = (answer, cursor.written(), cursor.remaining());
-        self.same(given, (expected, written.as_bytes(), remaining), case);
+impl Table {
+    // A row of what a call on the cursor answered, and what then remains and is written.
+    fn put_cursor(&mut self, answer: Result<(), Full>, cursor: &Cursor<'_>) {
+        let answer = answer.map(|()| cursor.remaining());
+        self.put_answer(answer, cursor.written());
     }
 }
 
+const FILLED: &str = "\
+Ok(6) ;
+Ok(4) ab;
+Err(Full) ab;
+Ok(2) abé;
+Err(Full) abé;
+Ok(2) abé;
+";
+
 #[test]
 fn a_cursor_fills_its_buffer(rt: HostRuntime) {
-    let rows = Rows::of("a cursor", &rt);
+    let mut table = Table::new(rt.alloc());
     let mut buffer = *b"......";
     let mut cursor = Cursor::new(&mut buffer);
-    for (piece, answer, written, remaining) in [
-        ("", Ok(()), "", 6),
-        ("ab", Ok(()), "ab", 4),
-        ("cdefg", Err(Full), "ab", 4),
-    ] {
-        let given = cursor.write_str(piece);
-        rows.state(given, &cursor, (answer, written, remaining), piece);
+    for piece in ["", "ab", "cdefg"] {
+        let answer = cursor.write_str(piece);
+        table.put_cursor(answer, &cursor);
     }
-    for (c, answer) in [('é', Ok(())), ('€', Err(Full))] {
-        let given = cursor.write_char(c);
-        rows.state(given, &cursor, (answer, "abé", 2), "characters");
+    for character in ['é', '€'] {
+        let answer = cursor.write_char(character);
+        table.put_cursor(answer, &cursor);
     }
-    let given = cursor.write_str("");
-    rows.state(given, &cursor, (Ok(()), "abé", 2), "after a refusal");
-    rows.same(buffer.as_slice(), "abé..".as_bytes(), "the whole buffer");
+    let answer = cursor.write_str("");
+    table.put_cursor(answer, &cursor);
+    same(&rt, cursor.remaining(), 2, "what remains");
+    same(
+        &rt,
+        buffer.as_slice(),
+        "abé..".as_bytes(),
+        "the whole buffer",
+    );
+    has_rows(&rt, &table, FILLED);
+}
+
+#[test]
+fn a_cursor_over_nothing(rt: HostRuntime) {
+    let mut table = Table::new(rt.alloc());
+    let mut cursor = Cursor::new(&mut []);
+    for piece in ["", "a"] {
+        let answer = cursor.write_str(piece);
+        table.put_cursor(answer, &cursor);
+    }
+    same(&rt, cursor.remaining(), 0, "what remains");
+    has_rows(&rt, &table, "Ok(0) ;\nErr(Full) ;\n");
 }
 
 #[test]
 fn a_buffer_keeps_what_it_is_not_given(rt: HostRuntime) {
-    let rows = Rows::of("a buffer", &rt);
-    let mut cursor = Cursor::new(&mut []);
-    for (piece, answer) in [("", Ok(())), ("a", Err(Full))] {
-        let given = cursor.write_str(piece);
-        rows.state(given, &cursor, (answer, "", 0), piece);
-    }
     let mut buffer = *b"....";
-    for (piece, answer, left) in [("abcde", Err(Full), "...."), ("ab", Ok(()), "ab..")] {
-        rows.same(laws::write_to_buffer(&mut buffer, piece), answer, piece);
-        rows.same(buffer.as_slice(), left.as_bytes(), piece);
-    }
+    let answer = laws::write_to_buffer(&mut buffer, "abcde");
+    same(&rt, (answer, &buffer), (Err(Full), b"...."), "too long");
+    let answer = laws::write_to_buffer(&mut buffer, "ab");
+    same(&rt, (answer, &buffer), (Ok(()), b"ab.."), "short");
 }
 
 // Begins a list, whose first entry fails, and goes on with a text: `x` where the builder then is closed
 // and the depth that from before it.
-fn entry_then_text(f: &mut Formatter<Cursor<'_>>) -> Result<(), Full> {
+fn entry_then_text<W: uWrite<Error = Full>>(f: &mut Formatter<W>) -> Result<(), Full> {
     let mut list = f.debug_list()?;
     let answer = list.entry(&1u64);
     let is_closed = answer == Err(Full) && !list.is_open();
@@ -64,29 +75,36 @@ fn entry_then_text(f: &mut Formatter<Cursor<'_>>) -> Result<(), Full> {
     f.write_str(if is_as_before { "x" } else { "" })
 }
 
-fn entry_then_text_in(is_pretty: bool, f: &mut Formatter<Cursor<'_>>) -> Result<(), Full> {
-    if is_pretty {
+fn entry_then_text_to<W: uWrite<Error = Full>>(
+    is_pretty: bool,
+    writer: W,
+) -> (Result<(), Full>, (bool, u8), W) {
+    let mut f = Formatter::new(writer);
+    let answer = if is_pretty {
         f.pretty(|f| entry_then_text(f))
     } else {
-        entry_then_text(f)
-    }
+        entry_then_text(&mut f)
+    };
+    (answer, (f.is_pretty(), f.depth()), f.into_inner())
 }
+
+const BEHIND_AN_ENTRY: &str = "\
+Err(Full) [;
+Err(Full) [;
+Ok(0) [\nx;
+";
 
 // A buffer of one byte takes the bracket alone. One of three takes a line feed too, and then no entry
 // of four spaces, but the text.
 #[test]
 fn a_text_behind_an_entry_that_failed(rt: HostRuntime) {
-    let rows = Rows::of("an entry that fails", &rt);
-    for (size, is_pretty, answer, written) in [
-        (1, false, Err(Full), "["),
-        (1, true, Err(Full), "["),
-        (3, true, Ok(()), "[\nx"),
-    ] {
+    let mut table = Table::new(rt.alloc());
+    for (size, is_pretty) in [(1, false), (1, true), (3, true)] {
         let mut buffer = [0; 3];
-        let mut f = Formatter::new(Cursor::new(&mut buffer[..size]));
-        let given = entry_then_text_in(is_pretty, &mut f);
-        let left = (given, f.is_pretty(), f.depth());
-        rows.same(left, (answer, false, 0), written);
-        rows.same(f.into_inner().written(), written.as_bytes(), written);
+        let writer = Cursor::new(&mut buffer[..size]);
+        let (answer, left, cursor) = entry_then_text_to(is_pretty, writer);
+        same(&rt, left, (false, 0), "what is left");
+        table.put_cursor(answer, &cursor);
     }
+    has_rows(&rt, &table, BEHIND_AN_ENTRY);
 }

@@ -1,177 +1,153 @@
 //! What each writer is handed of a value, where it fails at each place.
-use super::printed::Printed;
-use super::rows::Rows;
-use super::writers::{FailAt, Measured};
+use super::printed::{Displayed, Left, Printed, print_to};
+use super::rows::{Table, told_apart};
+use super::writers::{FailAt, Recorded};
 use std::alloc::{AllocError, Global};
-use std::fmt::Debug;
-use std::process::Abort;
-use ufmt::{Cursor, Formatter, Full, uWrite};
+use ufmt::{Cursor, Full, uDebug, uDisplay};
 
 /// What a value prints in one mode.
 #[derive(Drop)]
-pub struct Pieces<'a> {
-    mode: &'a str,
+struct Pieces {
     is_pretty: bool,
+    /// Whether mode and depth were those from before.
+    is_as_before: bool,
     text: String,
-    /// The length of the text after each piece.
-    ends: Vec<usize>,
-    /// 0, and those where the text has grown.
-    stops: Vec<usize>,
+    /// The pieces with a bar behind each.
+    barred: String,
 }
 
-impl<'a> Pieces<'a> {
-    // The pieces stand with a bar behind each.
-    fn of(
-        alloc: Global,
-        (mode, is_pretty): (&'a str, bool),
-        barred: &str,
-    ) -> Result<Self, AllocError> {
-        let mut text = String::new(alloc);
-        let mut ends = Vec::new(alloc);
-        let mut stops = vec![in alloc; 0]?;
-        for piece in barred.strip_suffix('|').unwrap_or(barred).split('|') {
-            text.push_str(piece)?;
-            ends.push(text.len())?;
-            if !piece.is_empty() {
-                stops.push(text.len())?;
-            }
-        }
+impl Pieces {
+    fn of<T: Printed>(alloc: Global, is_pretty: bool, value: &T) -> Result<Self, AllocError> {
+        let (left, recorded) = print_to(is_pretty, value, Recorded::new(alloc));
+        let (answer, inside, outside) = left;
+        answer?;
         Ok(Pieces {
-            mode,
             is_pretty,
-            text,
-            ends,
-            stops,
+            is_as_before: inside == (is_pretty, 0) && outside == (false, 0),
+            text: recorded.text,
+            barred: recorded.barred,
         })
     }
 
-    // The greatest stop that is at most `size`.
-    fn stop_within(&self, size: usize) -> usize {
-        let mut greatest = 0;
-        for stop in &self.stops {
-            if *stop <= size {
-                greatest = *stop;
+    // How many bytes the pieces before the one of this number have. Those that are empty don't count.
+    fn length_before(&self, number: usize) -> usize {
+        let mut length = 0usize;
+        let mut count = 1usize;
+        for piece in self.barred.split('|') {
+            if count < number && !piece.is_empty() {
+                length = length.saturating_add(piece.len());
+                count = count.saturating_add(1);
             }
         }
-        greatest
+        length
+    }
+
+    // How many bytes the pieces have before the first that doesn't fit so many.
+    fn length_within(&self, size: usize) -> usize {
+        let mut length = 0usize;
+        for piece in self.barred.split('|') {
+            if length.saturating_add(piece.len()) > size {
+                return length;
+            }
+            length = length.saturating_add(piece.len());
+        }
+        length
+    }
+
+    // Whether this is left where the writer took the text up to here.
+    fn is_left(&self, left: Left<Full>, written: &[u8], length: usize) -> bool {
+        let (answer, inside, outside) = left;
+        answer.is_ok() == (length == self.text.len())
+            && inside == (self.is_pretty, 0)
+            && outside == (false, 0)
+            && self.text.as_bytes().get(..length) == Some(written)
+    }
+
+    // The number of the first piece behind whose refusal something else is left.
+    fn wrong_number<T: Printed>(
+        &self,
+        alloc: Global,
+        value: &T,
+    ) -> Result<Option<usize>, AllocError> {
+        for number in 1..=self.barred.len() {
+            let length = self.length_before(number);
+            let mut bytes = vec![in alloc; 0u8; self.text.len()]?;
+            let writer = FailAt::new(bytes.as_mut_slice(), number);
+            let (left, writer) = print_to(self.is_pretty, value, writer);
+            if !self.is_left(left, writer.written(), length) {
+                return Ok(Some(number));
+            }
+            if length == self.text.len() {
+                return Ok(None);
+            }
+        }
+        Ok(None)
+    }
+
+    // The first size of a cursor, of those up to the text's length, that leaves something else.
+    fn wrong_size<T: Printed>(
+        &self,
+        alloc: Global,
+        value: &T,
+    ) -> Result<Option<usize>, AllocError> {
+        for size in 0..=self.text.len() {
+            let mut bytes = vec![in alloc; 0u8; size]?;
+            let writer = Cursor::new(bytes.as_mut_slice());
+            let (left, writer) = print_to(self.is_pretty, value, writer);
+            if !self.is_left(left, writer.written(), self.length_within(size)) {
+                return Ok(Some(size));
+            }
+        }
+        Ok(None)
     }
 }
 
-/// What is left behind a call: its answer, the writer's text, and the mode and depth inside and
-/// outside of the pretty part.
-#[derive(PartialEq, Debug, Drop)]
-struct Left<'a> {
-    answer: Result<(), Full>,
-    written: Option<&'a [u8]>,
-    inside: (bool, u8),
-    outside: (bool, u8),
-}
-
-/// Prints the value in this mode, and gives the answer and the mode and depth before it ends.
-pub fn print_in<T: Printed, W: uWrite>(
-    is_pretty: bool,
-    value: &T,
-    f: &mut Formatter<W>,
-) -> (Result<(), W::Error>, (bool, u8)) {
-    if !is_pretty {
-        let answer = value.print(f);
-        return (answer, (f.is_pretty(), f.depth()));
+// The value's pieces in one mode, and what is wrong where a writer fails.
+fn pieces_in<T: Printed>(alloc: Global, is_pretty: bool, value: &T) -> Result<String, AllocError> {
+    let pieces = Pieces::of(alloc, is_pretty, value)?;
+    let number = pieces.wrong_number(alloc, value)?;
+    let size = pieces.wrong_size(alloc, value)?;
+    if pieces.is_as_before && number.is_none() && size.is_none() {
+        return Ok(pieces.barred);
     }
-    let mut inside = (false, 0);
-    let answer = f.pretty(|f| {
-        let answer = value.print(f);
-        inside = (f.is_pretty(), f.depth());
-        answer
-    });
-    (answer, inside)
+    format!(in alloc;
+        "{} wrong at FailAt {number:?}, Cursor {size:?}",
+        pieces.barred
+    )
 }
 
-impl Pieces<'_> {
-    // What is left where the writer took the text up to here.
-    fn left_at(&self, stop: usize) -> Left<'_> {
-        let is_whole = stop == self.text.len();
-        Left {
-            answer: if is_whole { Ok(()) } else { Err(Full) },
-            written: self.text.as_bytes().get(..stop),
-            inside: (self.is_pretty, 0),
-            outside: (false, 0),
+// Those in plain mode, and in pretty mode.
+fn pieces_of<T: Printed>(alloc: Global, value: &T) -> Result<String, AllocError> {
+    let pretty = pieces_in(alloc, true, value)?;
+    told_apart(pieces_in(alloc, false, value)?, pretty.as_str())
+}
+
+// Those by both traits.
+fn pieces_by_both<N: uDebug + uDisplay>(alloc: Global, number: &N) -> Result<String, AllocError> {
+    let displayed = pieces_of(alloc, &Displayed(number))?;
+    told_apart(pieces_of(alloc, number)?, displayed.as_str())
+}
+
+impl Table {
+    /// A row of the value's pieces, with a bar behind each: in plain mode, and behind a tilde in pretty
+    /// mode, where they are others. The value stops at a piece's end where a writer fails, at every
+    /// place, and leaves the formatter as it was.
+    pub fn pieces<T: Printed>(&mut self, value: &T) {
+        let row = pieces_of(self.alloc(), value);
+        self.put_made(row);
+    }
+
+    /// The same of a value that took memory.
+    pub fn pieces_of_made<T: Printed + Drop, E: Drop>(&mut self, value: Result<T, E>) {
+        match value {
+            Ok(value) => self.pieces(&value),
+            Err(_) => self.put_nothing(),
         }
     }
-}
 
-impl<R: Abort + AllocGlobal> Rows<'_, R> {
-    // The value has these pieces, and leaves the formatter as it was.
-    fn has_pieces<T: Printed>(&self, value: &T, pieces: &Pieces<'_>, case: &str) {
-        let mut f = Formatter::new(Measured::new(self.alloc()));
-        let (answer, inside) = print_in(pieces.is_pretty, value, &mut f);
-        self.same(
-            (answer.is_ok(), inside),
-            (true, (pieces.is_pretty, 0)),
-            case,
-        );
-        self.same((f.is_pretty(), f.depth()), (false, 0), case);
-        let measured = f.into_inner();
-        self.same(measured.text(), pieces.text.as_str(), case);
-        self.same(measured.ends(), pieces.ends.as_slice(), case);
-    }
-
-    // A writer that refuses the piece of each number, up to one past the last.
-    fn fails_at_each_number<T: Printed>(&self, value: &T, pieces: &Pieces<'_>, case: &str) {
-        for (taken, stop) in pieces.stops.iter().enumerate() {
-            let number = taken.saturating_add(1);
-            let mut bytes = self.made(vec![in self.alloc(); 0u8; pieces.text.len()]);
-            let mut f = Formatter::new(FailAt::new(bytes.as_mut_slice(), number));
-            let (answer, inside) = print_in(pieces.is_pretty, value, &mut f);
-            let outside = (f.is_pretty(), f.depth());
-            let writer = f.into_inner();
-            let written = Some(writer.written());
-            let left = Left {
-                answer,
-                written,
-                inside,
-                outside,
-            };
-            let at = (case, pieces.mode, "FailAt", number);
-            self.same_at(left, pieces.left_at(*stop), at);
-        }
-    }
-
-    // A cursor of each size up to the text's length.
-    fn fails_at_each_size<T: Printed>(&self, value: &T, pieces: &Pieces<'_>, case: &str) {
-        for size in 0..=pieces.text.len() {
-            let mut bytes = self.made(vec![in self.alloc(); 0u8; size]);
-            let mut f = Formatter::new(Cursor::new(bytes.as_mut_slice()));
-            let (answer, inside) = print_in(pieces.is_pretty, value, &mut f);
-            let outside = (f.is_pretty(), f.depth());
-            let writer = f.into_inner();
-            let written = Some(writer.written());
-            let left = Left {
-                answer,
-                written,
-                inside,
-                outside,
-            };
-            let at = (case, pieces.mode, "Cursor", size);
-            self.same_at(left, pieces.left_at(pieces.stop_within(size)), at);
-        }
-    }
-
-    fn fails_in<T: Printed>(&self, value: &T, mode: (&str, bool), barred: &str) {
-        let pieces = self.made(Pieces::of(self.alloc(), mode, barred));
-        self.has_pieces(value, &pieces, barred);
-        self.fails_at_each_number(value, &pieces, barred);
-        self.fails_at_each_size(value, &pieces, barred);
-    }
-
-    /// The value has these pieces in each mode, with a bar behind each, and stops at a piece's end where
-    /// a writer fails, at every place.
-    pub fn pieces<T: Printed>(&self, value: &T, plain: &str, pretty: &str) {
-        self.fails_in(value, ("plain", false), plain);
-        self.fails_in(value, ("pretty", true), pretty);
-    }
-
-    /// The same, where the pieces in both modes are one.
-    pub fn both<T: Printed>(&self, value: &T, pieces: &str) {
-        self.pieces(value, pieces, pieces);
+    /// The same of a number, by `uDebug`, and behind a tilde by `uDisplay`, where they are others.
+    pub fn number<N: uDebug + uDisplay + Drop>(&mut self, number: N) {
+        let row = pieces_by_both(self.alloc(), &number);
+        self.put_made(row);
     }
 }

@@ -2,9 +2,8 @@
 ghost use Rattle.std.specs.Prelude.{◌-◌};
 ghost use Rattle.std.specs.Iterator.{at_most};
 
-use super::rows::Rows;
+use super::rows::same;
 use super::writers::FailAt;
-use std::process::Abort;
 use ufmt::{Cursor, Formatter, Full, uWrite};
 
 /// The numbers 1 to 9, with how many of them were taken.
@@ -89,53 +88,52 @@ impl Block {
     }
 }
 
-impl<R: Abort + AllocGlobal> Rows<'_, R> {
-    // The number of the one piece that is refused, and how many items were taken then.
-    fn takes_no_more(&self, block: Block, is_pretty: bool, rows: &[(usize, u8)]) {
-        for (number, taken) in rows {
-            let mut buffer = [0; 200];
-            let mut f = Formatter::new(FailAt::once(&mut buffer, *number));
-            let given = block.write_in(is_pretty, &mut f);
-            let mode = if is_pretty { "pretty" } else { "plain" };
-            let at = ("entries", mode, "FailAt once", *number);
-            self.same_at(given, (Err(Full), *taken), at);
+// The number of the first piece behind whose refusal another number of items was taken than the one
+// beside it.
+fn wrong_number(block: Block, is_pretty: bool, rows: &[(usize, u8)]) -> Option<usize> {
+    for (number, taken) in rows {
+        let mut buffer = [0; 200];
+        let mut f = Formatter::new(FailAt::once(&mut buffer, *number));
+        if block.write_in(is_pretty, &mut f) != (Err(Full), *taken) {
+            return Some(*number);
         }
     }
+    None
 }
 
 // Of a plain list the pieces are the bracket, an item, for each further one a comma and the item, and
 // the bracket: 1, 2, 3 and 4, up to 17 and 18, and 19. A pretty one has a line feed as piece 2, and
 // three pieces to an item, from 3 on.
-#[test]
-fn lists_and_sets_take_no_item_after_a_failure(rt: HostRuntime) {
-    let plain = [(1, 0), (2, 1), (3, 2), (4, 2), (5, 3), (18, 9), (19, 9)];
-    let pretty = [(1, 0), (2, 1), (5, 1), (6, 2), (8, 2), (29, 9), (30, 9)];
-    let rows = Rows::of("lists", &rt);
-    rows.takes_no_more(Block::List, false, &plain);
-    rows.takes_no_more(Block::List, true, &pretty);
-    let rows = Rows::of("sets", &rt);
-    rows.takes_no_more(Block::Set, false, &plain);
-    rows.takes_no_more(Block::Set, true, &pretty);
-}
+const PLAIN_ITEMS: [(usize, u8); 7] = [(1, 0), (2, 1), (3, 2), (4, 2), (5, 3), (18, 9), (19, 9)];
+
+const PRETTY_ITEMS: [(usize, u8); 7] = [(1, 0), (2, 1), (5, 1), (6, 2), (8, 2), (29, 9), (30, 9)];
 
 // A pair has a key, a colon and a value in place of an item.
+const PLAIN_PAIRS: [(usize, u8); 7] = [(1, 0), (2, 1), (4, 1), (5, 2), (8, 2), (36, 9), (37, 9)];
+
+const PRETTY_PAIRS: [(usize, u8); 7] = [(1, 0), (2, 1), (7, 1), (8, 2), (12, 2), (47, 9), (48, 9)];
+
 #[test]
-fn maps_take_no_pair_after_a_failure(rt: HostRuntime) {
-    let rows = Rows::of("maps", &rt);
-    let plain = [(1, 0), (2, 1), (4, 1), (5, 2), (8, 2), (36, 9), (37, 9)];
-    rows.takes_no_more(Block::Map, false, &plain);
-    let pretty = [(1, 0), (2, 1), (7, 1), (8, 2), (12, 2), (47, 9), (48, 9)];
-    rows.takes_no_more(Block::Map, true, &pretty);
+fn no_item_is_taken_after_a_failure(rt: HostRuntime) {
+    for (case, block, is_pretty, rows) in [
+        ("a plain list", Block::List, false, PLAIN_ITEMS),
+        ("a pretty list", Block::List, true, PRETTY_ITEMS),
+        ("a plain set", Block::Set, false, PLAIN_ITEMS),
+        ("a pretty set", Block::Set, true, PRETTY_ITEMS),
+        ("a plain map", Block::Map, false, PLAIN_PAIRS),
+        ("a pretty map", Block::Map, true, PRETTY_PAIRS),
+    ] {
+        same(&rt, wrong_number(block, is_pretty, &rows), None, case);
+    }
 }
 
 #[test]
 fn two_numbers_into_three_bytes(rt: HostRuntime) {
-    let rows = Rows::of("a list of nine", &rt);
     let mut buffer = [0; 3];
     let mut f = Formatter::new(Cursor::new(&mut buffer));
     let given = Block::List.write_in(false, &mut f);
-    rows.same(given, (Err(Full), 2), "the second doesn't fit");
+    same(&rt, given, (Err(Full), 2), "the second doesn't fit");
     let cursor = f.into_inner();
     let left = (cursor.written(), cursor.remaining());
-    rows.same(left, (b"[1".as_slice(), 1), "the second doesn't fit");
+    same(&rt, left, (b"[1".as_slice(), 1), "the second doesn't fit");
 }

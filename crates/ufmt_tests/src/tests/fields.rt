@@ -2,7 +2,7 @@
 //! a name and two. More than 12 make a chain. No two fields of a block have one name or one
 //! value, so that one in another's place shows. Its answers stand in an array, since the check takes twice
 //! as long for a `?`.
-use super::rows::Rows;
+use super::rows::{are_ok, same};
 use ufmt::{Formatter, fields, uWrite};
 
 fn one_to_five_named<W: uWrite>(f: &mut Formatter<W>) -> [Result<(), W::Error>; 4] {
@@ -172,16 +172,26 @@ fn many_named<W: uWrite>(f: &mut Formatter<W>) -> [Result<(), W::Error>; 1] {
     )]
 }
 
-fn unnamed<W: uWrite>(f: &mut Formatter<W>) -> [Result<(), W::Error>; 11] {
+fn three_to_seven_unnamed<W: uWrite>(f: &mut Formatter<W>) -> [Result<(), W::Error>; 5] {
     [
         fields!(f, T3(1u8, 2u8, 3u8)),
         fields!(f, T4(1u8, 2u8, 3u8, 4u8)),
         fields!(f, T5(1u8, 2u8, 3u8, 4u8, 5u8)),
         fields!(f, T6(1u8, 2u8, 3u8, 4u8, 5u8, 6u8)),
         fields!(f, T7(1u8, 2u8, 3u8, 4u8, 5u8, 6u8, 7u8)),
+    ]
+}
+
+fn eight_to_ten_unnamed<W: uWrite>(f: &mut Formatter<W>) -> [Result<(), W::Error>; 3] {
+    [
         fields!(f, T8(1u8, 2u8, 3u8, 4u8, 5u8, 6u8, 7u8, 8u8)),
         fields!(f, T9(1u8, 2u8, 3u8, 4u8, 5u8, 6u8, 7u8, 8u8, 9u8)),
         fields!(f, T10(1u8, 2u8, 3u8, 4u8, 5u8, 6u8, 7u8, 8u8, 9u8, 10u8)),
+    ]
+}
+
+fn many_unnamed<W: uWrite>(f: &mut Formatter<W>) -> [Result<(), W::Error>; 3] {
+    [
         fields!(
             f,
             T11(1u8, 2u8, 3u8, 4u8, 5u8, 6u8, 7u8, 8u8, 9u8, 10u8, 11u8)
@@ -201,46 +211,51 @@ fn unnamed<W: uWrite>(f: &mut Formatter<W>) -> [Result<(), W::Error>; 11] {
     ]
 }
 
+const NAMED: &str = "\
+S1 { a: 1 }\
+S3 { a: 1, b: 2, c: 3 }\
+S4 { a: 1, b: 2, c: 3, d: 4 }\
+S5 { a: 1, b: 2, c: 3, d: 4, e: 5 }\
+S6 { a: 1, b: 2, c: 3, d: 4, e: 5, f: 6 }\
+S7 { a: 1, b: 2, c: 3, d: 4, e: 5, f: 6, g: 7 }\
+S8 { a: 1, b: 2, c: 3, d: 4, e: 5, f: 6, g: 7, h: 8 }\
+S9 { a: 1, b: 2, c: 3, d: 4, e: 5, f: 6, g: 7, h: 8, i: 9 }\
+S10 { a: 1, b: 2, c: 3, d: 4, e: 5, f: 6, g: 7, h: 8, i: 9, j: 10 }\
+S11 { a: 1, b: 2, c: 3, d: 4, e: 5, f: 6, g: 7, h: 8, i: 9, j: 10, k: 11 }\
+S12 { a: 1, b: 2, c: 3, d: 4, e: 5, f: 6, g: 7, h: 8, i: 9, j: 10, k: 11, l: 12 }\
+Long { a: 1, b: 2, c: 3, d: 4, e: 5, f: 6, g: 7, h: 8, i: 9, j: 10, k: 11, l: 12, m: 13 }";
+
 #[test]
 fn named_fields(rt: HostRuntime) {
-    let rows = Rows::of("named", &rt);
-    let mut text = String::new(rt.alloc());
-    let mut f = Formatter::new(&mut text);
-    rows.all_ok(&one_to_five_named(&mut f));
-    rows.all_ok(&six_to_eight_named(&mut f));
-    rows.all_ok(&nine_and_ten_named(&mut f));
-    rows.all_ok(&eleven_and_twelve_named(&mut f));
-    rows.all_ok(&many_named(&mut f));
-    let named = "S1 { a: 1 }\
-        S3 { a: 1, b: 2, c: 3 }\
-        S4 { a: 1, b: 2, c: 3, d: 4 }\
-        S5 { a: 1, b: 2, c: 3, d: 4, e: 5 }\
-        S6 { a: 1, b: 2, c: 3, d: 4, e: 5, f: 6 }\
-        S7 { a: 1, b: 2, c: 3, d: 4, e: 5, f: 6, g: 7 }\
-        S8 { a: 1, b: 2, c: 3, d: 4, e: 5, f: 6, g: 7, h: 8 }\
-        S9 { a: 1, b: 2, c: 3, d: 4, e: 5, f: 6, g: 7, h: 8, i: 9 }\
-        S10 { a: 1, b: 2, c: 3, d: 4, e: 5, f: 6, g: 7, h: 8, i: 9, j: 10 }\
-        S11 { a: 1, b: 2, c: 3, d: 4, e: 5, f: 6, g: 7, h: 8, i: 9, j: 10, k: 11 }\
-        S12 { a: 1, b: 2, c: 3, d: 4, e: 5, f: 6, g: 7, h: 8, i: 9, j: 10, k: 11, l: 12 }\
-        Long { a: 1, b: 2, c: 3, d: 4, e: 5, f: 6, g: 7, h: 8, i: 9, j: 10, k: 11, l: 12, m: 13 }";
-    rows.same(text.as_str(), named, "each number");
+    let mut f = Formatter::new(String::new(rt.alloc()));
+    let are_ok = are_ok(&one_to_five_named(&mut f))
+        && are_ok(&six_to_eight_named(&mut f))
+        && are_ok(&nine_and_ten_named(&mut f))
+        && are_ok(&eleven_and_twelve_named(&mut f))
+        && are_ok(&many_named(&mut f));
+    let text = f.into_inner();
+    same(&rt, (are_ok, text.as_str()), (true, NAMED), "each number");
 }
+
+const UNNAMED: &str = "\
+T3(1, 2, 3)\
+T4(1, 2, 3, 4)\
+T5(1, 2, 3, 4, 5)\
+T6(1, 2, 3, 4, 5, 6)\
+T7(1, 2, 3, 4, 5, 6, 7)\
+T8(1, 2, 3, 4, 5, 6, 7, 8)\
+T9(1, 2, 3, 4, 5, 6, 7, 8, 9)\
+T10(1, 2, 3, 4, 5, 6, 7, 8, 9, 10)\
+T11(1, 2, 3, 4, 5, 6, 7, 8, 9, 10, 11)\
+T12(1, 2, 3, 4, 5, 6, 7, 8, 9, 10, 11, 12)\
+Long(1, 2, 3, 4, 5, 6, 7, 8, 9, 10, 11, 12, 13)";
 
 #[test]
 fn unnamed_fields(rt: HostRuntime) {
-    let rows = Rows::of("unnamed", &rt);
-    let mut text = String::new(rt.alloc());
-    rows.all_ok(&unnamed(&mut Formatter::new(&mut text)));
-    let expected = "T3(1, 2, 3)\
-        T4(1, 2, 3, 4)\
-        T5(1, 2, 3, 4, 5)\
-        T6(1, 2, 3, 4, 5, 6)\
-        T7(1, 2, 3, 4, 5, 6, 7)\
-        T8(1, 2, 3, 4, 5, 6, 7, 8)\
-        T9(1, 2, 3, 4, 5, 6, 7, 8, 9)\
-        T10(1, 2, 3, 4, 5, 6, 7, 8, 9, 10)\
-        T11(1, 2, 3, 4, 5, 6, 7, 8, 9, 10, 11)\
-        T12(1, 2, 3, 4, 5, 6, 7, 8, 9, 10, 11, 12)\
-        Long(1, 2, 3, 4, 5, 6, 7, 8, 9, 10, 11, 12, 13)";
-    rows.same(text.as_str(), expected, "each number");
+    let mut f = Formatter::new(String::new(rt.alloc()));
+    let are_ok = are_ok(&three_to_seven_unnamed(&mut f))
+        && are_ok(&eight_to_ten_unnamed(&mut f))
+        && are_ok(&many_unnamed(&mut f));
+    let text = f.into_inner();
+    same(&rt, (are_ok, text.as_str()), (true, UNNAMED), "each number");
 }

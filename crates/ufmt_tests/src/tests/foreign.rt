@@ -1,6 +1,6 @@
 //! The macros stand where `Result`, `Ok` and `Err` name other things.
 use super::forwarded;
-use super::rows::Rows;
+use super::rows::same;
 use ufmt::{Cursor, Formatter, uwriteln};
 
 mod names {
@@ -33,14 +33,18 @@ mod names {
 
 #[test]
 fn macros_where_names_are_foreign(rt: HostRuntime) {
-    let rows = Rows::of("foreign names", &rt);
     let mut buffer = [0; 96];
     let mut f = Formatter::new(Cursor::new(&mut buffer));
-    rows.same(names::write(&mut f), [Ok(()); 4], "the answers");
+    same(&rt, names::write(&mut f), [Ok(()); 4], "the answers");
     let lines = "Pair { x: 1, y: 2 }Pair { x: 1, y: 2 }\nHello, world!The answer is 42\n";
-    rows.same(f.into_inner().written(), lines.as_bytes(), "the lines");
+    same(&rt, f.into_inner().written(), lines.as_bytes(), "the lines");
 
     let mut text = String::new(rt.alloc());
-    rows.made(uwriteln!(&mut Formatter::new(&mut text), debug forwarded::Y));
-    rows.same(text.as_str(), "X\n", "a value that prints by a piece");
+    let answer = uwriteln!(&mut Formatter::new(&mut text), debug forwarded::Y);
+    same(
+        &rt,
+        (answer.is_ok(), text.as_str()),
+        (true, "X\n"),
+        "by a piece",
+    );
 }

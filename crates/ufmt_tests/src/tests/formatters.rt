@@ -1,25 +1,29 @@
 //! The formatter's own calls: texts, characters and pretty parts.
 ghost use Rattle.std.specs.Prelude.{[]};
 
-use super::each_piece::print_in;
-use super::printed::Printed;
-use super::rows::Rows;
+use super::printed::{Printed, print_to};
+use super::rows::{are_ok, same};
 use std::alloc::AllocError;
 use ufmt::{Cursor, Formatter, Full, uWrite};
 
 #[test]
 fn texts_and_characters_go_to_the_writer(rt: HostRuntime) {
-    let rows = Rows::of("texts and characters", &rt);
     let mut text = String::new(rt.alloc());
-    rows.all_ok(&[
+    let by_text = [
         text.write_str("a"),
         text.write_char('é'),
         text.write_str(""),
-    ]);
+    ];
     let mut f = Formatter::new(&mut text);
-    rows.all_ok(&[f.write_str(""), f.write_str("b"), f.write_char('é')]);
-    rows.same((f.is_pretty(), f.depth()), (false, 0), "a new formatter");
-    rows.same(text.as_str(), "aébé", "by both");
+    let by_formatter = [f.write_str(""), f.write_str("b"), f.write_char('é')];
+    let left = (
+        are_ok(&by_text),
+        are_ok(&by_formatter),
+        f.is_pretty(),
+        f.depth(),
+    );
+    same(&rt, left, (true, true, false, 0), "what is left");
+    same(&rt, text.as_str(), "aébé", "by both");
 }
 
 // A writer that counts what came as characters. What it holds is not told to contracts.
@@ -50,21 +54,35 @@ impl uWrite for Noted {
 
 #[test]
 fn characters_reach_the_call_of_the_writer_for_them(rt: HostRuntime) {
-    let rows = Rows::of("characters", &rt);
     let mut noted = Noted {
         text: String::new(rt.alloc()),
         characters: 0,
     };
     let mut reference = &mut noted;
-    rows.made(uWrite::write_char(&mut reference, 'é'));
-    rows.same(noted.characters, 1, "by a reference");
-    rows.made(Formatter::new(&mut noted).write_char('a'));
-    rows.same(noted.characters, 2, "by a formatter over a reference");
+    let answer = uWrite::write_char(&mut reference, 'é');
+    same(
+        &rt,
+        (answer.is_ok(), noted.characters),
+        (true, 1),
+        "by a reference",
+    );
+    let answer = Formatter::new(&mut noted).write_char('a');
+    same(
+        &rt,
+        (answer.is_ok(), noted.characters),
+        (true, 2),
+        "over a reference",
+    );
     let mut f = Formatter::new(noted);
-    rows.all_ok(&[f.write_char('b'), f.write_str("c")]);
+    let answers = [f.write_char('b'), f.write_str("c")];
     let noted = f.into_inner();
-    rows.same(noted.characters, 3, "by a formatter");
-    rows.same(noted.text.as_str(), "éabc", "the text");
+    same(
+        &rt,
+        (are_ok(&answers), noted.characters),
+        (true, 3),
+        "by a formatter",
+    );
+    same(&rt, noted.text.as_str(), "éabc", "the text");
 }
 
 struct Dropped;
@@ -78,21 +96,35 @@ impl Printed for Dropped {
 
 #[test]
 fn a_builder_that_is_dropped(rt: HostRuntime) {
-    let rows = Rows::of("a dropped builder", &rt);
-    let mut text = String::new(rt.alloc());
-    let mut f = Formatter::new(&mut text);
-    let (answer, _) = print_in(true, &Dropped, &mut f);
-    let left = (answer.is_ok(), f.is_pretty(), f.depth());
-    rows.same(left, (true, false, 0), "what is left");
-    rows.same(text.as_str(), "[", "the text");
+    let ((answer, _, outside), text) = print_to(true, &Dropped, String::new(rt.alloc()));
+    same(
+        &rt,
+        (answer.is_ok(), outside),
+        (true, (false, 0)),
+        "what is left",
+    );
+    same(&rt, text.as_str(), "[", "the text");
+}
+
+// A pretty part that answers this error, and the mode and depth behind it.
+fn fail_by_itself<W: uWrite>(writer: W, error: W::Error) -> (Result<(), W::Error>, bool, u8, W)
+where
+    W::Error: Drop,
+{
+    let mut f = Formatter::new(writer);
+    let answer = f.pretty(|_| Err(error));
+    (answer, f.is_pretty(), f.depth(), f.into_inner())
 }
 
 #[test]
 fn a_pretty_part_that_fails_by_itself(rt: HostRuntime) {
-    let rows = Rows::of("a pretty part", &rt);
     let mut buffer = [0; 8];
-    let mut f = Formatter::new(Cursor::new(&mut buffer));
-    rows.same(f.pretty(|_| Err(Full)), Err(Full), "its answer");
-    rows.same((f.is_pretty(), f.depth()), (false, 0), "what is left");
-    rows.same(f.into_inner().written(), b"".as_slice(), "its text");
+    let (answer, is_pretty, depth, cursor) = fail_by_itself(Cursor::new(&mut buffer), Full);
+    same(
+        &rt,
+        (answer, is_pretty, depth),
+        (Err(Full), false, 0),
+        "what is left",
+    );
+    same(&rt, cursor.remaining(), 8, "what remains");
 }

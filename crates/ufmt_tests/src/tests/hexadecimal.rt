@@ -1,8 +1,7 @@
 //! Hexadecimal numbers and padding, whose pieces are a prefix, single bytes, and the digits or the payload.
-use super::printed::{Hexadecimal, Payload};
-use super::rows::Rows;
-use std::process::Abort;
-use ufmt::{Cursor, Formatter, Full, HexOptions, uDisplayHex};
+use super::printed::{Hexadecimal, Payload, print_to};
+use super::rows::{Table, has_rows, same};
+use ufmt::{Cursor, HexOptions, uDisplayHex};
 
 fn lower_case(ox_prefix: bool, pad_char: u8, pad_length: usize) -> HexOptions {
     HexOptions {
@@ -22,103 +21,165 @@ fn upper_case(ox_prefix: bool, pad_char: u8, pad_length: usize) -> HexOptions {
     }
 }
 
-impl<R: Abort + AllocGlobal> Rows<'_, R> {
-    fn padded<N: uDisplayHex + Drop>(&self, number: N, options: HexOptions, pieces: &str) {
-        self.holds(options.has_ascii_pad(), pieces);
-        self.both(&Hexadecimal { number, options }, pieces);
+impl Table {
+    // A row of the padded number's pieces, if the pad byte is ASCII.
+    fn padded<N: uDisplayHex + Drop>(&mut self, number: N, options: HexOptions) {
+        if options.has_ascii_pad() {
+            self.pieces(&Hexadecimal { number, options });
+        } else {
+            self.put_nothing();
+        }
     }
 
-    fn hexadecimal<N: uDisplayHex + Drop>(&self, number: N, piece: &str) {
-        self.padded(number, lower_case(false, b' ', 0), piece);
+    fn hexadecimal<N: uDisplayHex + Drop>(&mut self, number: N) {
+        self.padded(number, lower_case(false, b' ', 0));
+    }
+
+    fn payload(&mut self, payload: &str, options: HexOptions) {
+        if options.has_ascii_pad() {
+            self.pieces(&Payload { payload, options });
+        } else {
+            self.put_nothing();
+        }
     }
 }
+
+const PADDED: &str = "\
+303|;
+0|;
+ffffd8f0|;
+ | |21|;
+15ba9|;
+0|0|21|;
+0x|21|;
+0x|21|;
+0x|0|0|0|0|0|21|;
+ | |0x|21|;
+0x|47|;
+0x|0|0|42|;
+0X|21|;
+0|0|AB|;
+0|0|AB|;
+0|0|AB|;
+";
 
 #[test]
 fn padded_numbers(rt: HostRuntime) {
-    let rows = Rows::of("padded", &rt);
-    for (n, options, pieces) in [
-        (771i32, lower_case(false, b' ', 0), "303|"),
-        (0, lower_case(false, b' ', 0), "0|"),
-        (-10000, lower_case(false, b' ', 0), "ffffd8f0|"),
-        (33, lower_case(false, b' ', 4), " | |21|"),
-        (89001, lower_case(false, b' ', 4), "15ba9|"),
-        (33, lower_case(false, b'0', 4), "0|0|21|"),
-        (33, lower_case(true, b'0', 3), "0x|21|"),
-        (33, lower_case(true, b'0', 4), "0x|21|"),
-        (33, lower_case(true, b'0', 9), "0x|0|0|0|0|0|21|"),
-        (33, lower_case(true, b' ', 6), " | |0x|21|"),
-        (71, lower_case(true, b' ', 0), "0x|47|"),
-        (66, lower_case(true, b'0', 6), "0x|0|0|42|"),
-        (33, upper_case(true, b'0', 0), "0X|21|"),
-        (171, upper_case(false, b'0', 4), "0|0|AB|"),
+    let mut table = Table::new(rt.alloc());
+    for (n, options) in [
+        (771i32, lower_case(false, b' ', 0)),
+        (0, lower_case(false, b' ', 0)),
+        (-10000, lower_case(false, b' ', 0)),
+        (33, lower_case(false, b' ', 4)),
+        (89001, lower_case(false, b' ', 4)),
+        (33, lower_case(false, b'0', 4)),
+        (33, lower_case(true, b'0', 3)),
+        (33, lower_case(true, b'0', 4)),
+        (33, lower_case(true, b'0', 9)),
+        (33, lower_case(true, b' ', 6)),
+        (71, lower_case(true, b' ', 0)),
+        (66, lower_case(true, b'0', 6)),
+        (33, upper_case(true, b'0', 0)),
+        (171, upper_case(false, b'0', 4)),
     ] {
-        rows.padded(n, options, pieces);
+        table.padded(n, options);
     }
-    let upper = upper_case(false, b'0', 4);
-    rows.padded(171u8, upper, "0|0|AB|");
-    rows.padded(&171u8, upper, "0|0|AB|");
+    table.padded(171u8, upper_case(false, b'0', 4));
+    table.padded(&171u8, upper_case(false, b'0', 4));
+    has_rows(&rt, &table, PADDED);
 }
+
+const OF_EACH_WIDTH: &str = "\
+80|;
+7f|;
+8000|;
+7fff|;
+80000000|;
+7fffffff|;
+8000000000000000|;
+7fffffffffffffff|;
+8000000000000000|;
+7fffffffffffffff|;
+80000000000000000000000000000000|;
+7fffffffffffffffffffffffffffffff|;
+ff|;
+ffff|;
+ffffffff|;
+ffffffffffffffff|;
+ffffffffffffffff|;
+ffffffffffffffffffffffffffffffff|;
+";
 
 #[test]
 fn numbers_of_each_width(rt: HostRuntime) {
-    let rows = Rows::of("each width", &rt);
-    rows.hexadecimal(i8::MIN, "80|");
-    rows.hexadecimal(i8::MAX, "7f|");
-    rows.hexadecimal(i16::MIN, "8000|");
-    rows.hexadecimal(i16::MAX, "7fff|");
-    rows.hexadecimal(i32::MIN, "80000000|");
-    rows.hexadecimal(i32::MAX, "7fffffff|");
-    rows.hexadecimal(i64::MIN, "8000000000000000|");
-    rows.hexadecimal(i64::MAX, "7fffffffffffffff|");
-    rows.hexadecimal(isize::MIN, "8000000000000000|");
-    rows.hexadecimal(isize::MAX, "7fffffffffffffff|");
-    rows.hexadecimal(i128::MIN, "80000000000000000000000000000000|");
-    rows.hexadecimal(i128::MAX, "7fffffffffffffffffffffffffffffff|");
-    rows.hexadecimal(u8::MAX, "ff|");
-    rows.hexadecimal(u16::MAX, "ffff|");
-    rows.hexadecimal(u32::MAX, "ffffffff|");
-    rows.hexadecimal(u64::MAX, "ffffffffffffffff|");
-    rows.hexadecimal(usize::MAX, "ffffffffffffffff|");
-    rows.hexadecimal(u128::MAX, "ffffffffffffffffffffffffffffffff|");
+    let mut table = Table::new(rt.alloc());
+    table.hexadecimal(i8::MIN);
+    table.hexadecimal(i8::MAX);
+    table.hexadecimal(i16::MIN);
+    table.hexadecimal(i16::MAX);
+    table.hexadecimal(i32::MIN);
+    table.hexadecimal(i32::MAX);
+    table.hexadecimal(i64::MIN);
+    table.hexadecimal(i64::MAX);
+    table.hexadecimal(isize::MIN);
+    table.hexadecimal(isize::MAX);
+    table.hexadecimal(i128::MIN);
+    table.hexadecimal(i128::MAX);
+    table.hexadecimal(u8::MAX);
+    table.hexadecimal(u16::MAX);
+    table.hexadecimal(u32::MAX);
+    table.hexadecimal(u64::MAX);
+    table.hexadecimal(usize::MAX);
+    table.hexadecimal(u128::MAX);
+    has_rows(&rt, &table, OF_EACH_WIDTH);
 }
 
 #[test]
 fn payloads(rt: HostRuntime) {
-    let rows = Rows::of("payloads", &rt);
-    for (payload, options, pieces) in [
-        ("é", lower_case(false, b'0', 4), "0|0|é|"),
-        ("é", lower_case(true, b'-', 6), "0x|-|-|é|"),
-        ("", lower_case(true, b' ', 4), " | |0x||"),
-        ("", lower_case(true, b'0', 4), "0x|0|0||"),
-        ("", lower_case(false, b'0', 2), "0|0||"),
-    ] {
-        rows.holds(options.has_ascii_pad(), pieces);
-        rows.both(&Payload { payload, options }, pieces);
-    }
+    let mut table = Table::new(rt.alloc());
+    table.payload("é", lower_case(false, b'0', 4));
+    table.payload("é", lower_case(true, b'-', 6));
+    table.payload("", lower_case(true, b' ', 4));
+    table.payload("", lower_case(true, b'0', 4));
+    table.payload("", lower_case(false, b'0', 2));
+    let wanted = "0|0|é|;\n0x|-|-|é|;\n | |0x||;\n0x|0|0||;\n0|0||;\n";
+    has_rows(&rt, &table, wanted);
     for (pad, is_ascii) in [(127, true), (128, false)] {
         let has_ascii_pad = lower_case(false, pad, 0).has_ascii_pad();
-        rows.same((pad, has_ascii_pad), (pad, is_ascii), "a pad byte");
+        same(&rt, (pad, has_ascii_pad), (pad, is_ascii), "a pad byte");
     }
 }
 
-impl<R: Abort + AllocGlobal> Rows<'_, R> {
-    // What such a padded 33 leaves in a buffer of eight bytes.
-    fn past_a_buffer(&self, options: HexOptions, written: &str) {
-        self.holds(options.has_ascii_pad(), written);
+impl Table {
+    // A row of what a padded 33 leaves in a buffer of eight bytes.
+    fn past_a_buffer(&mut self, options: HexOptions) {
+        if !options.has_ascii_pad() {
+            return self.put_nothing();
+        }
         let mut buffer = [0; 8];
-        let mut f = Formatter::new(Cursor::new(&mut buffer));
-        self.same(33i32.fmt_hex(&mut f, options), Err(Full), written);
-        self.same(f.into_inner().written(), written.as_bytes(), written);
+        let number = Hexadecimal {
+            number: 33i32,
+            options,
+        };
+        let ((answer, ..), cursor) = print_to(false, &number, Cursor::new(&mut buffer));
+        self.put_answer(answer.map(|()| cursor.remaining()), cursor.written());
     }
 }
+
+const PAST_A_BUFFER: &str = "\
+Err(Full) 00000000;
+Err(Full) 0x000000;
+Err(Full)         ;
+Err(Full) 00000000;
+";
 
 #[test]
 fn padding_past_every_buffer(rt: HostRuntime) {
-    let rows = Rows::of("padding", &rt);
-    let longest = usize::MAX;
-    rows.past_a_buffer(lower_case(false, b'0', longest), "00000000");
-    rows.past_a_buffer(lower_case(true, b'0', longest), "0x000000");
-    rows.past_a_buffer(lower_case(true, b' ', longest), "        ");
-    let past_each_offset = 9_223_372_036_854_775_808;
-    rows.past_a_buffer(lower_case(false, b'0', past_each_offset), "00000000");
+    let mut table = Table::new(rt.alloc());
+    table.past_a_buffer(lower_case(false, b'0', usize::MAX));
+    table.past_a_buffer(lower_case(true, b'0', usize::MAX));
+    table.past_a_buffer(lower_case(true, b' ', usize::MAX));
+    // Past each offset of a slice.
+    table.past_a_buffer(lower_case(false, b'0', 9_223_372_036_854_775_808));
+    has_rows(&rt, &table, PAST_A_BUFFER);
 }

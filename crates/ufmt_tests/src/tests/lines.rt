@@ -1,8 +1,8 @@
 //! Lines of several pieces, to writers and into buffers.
-use super::rows::Rows;
+use super::printed::{Printed, print_to};
+use super::rows::{Table, are_ok, has_rows, same};
 use std::alloc::{AllocError, Global};
-use std::test::Fail;
-use ufmt::{Formatter, Full, HexOptions, Line, line_into, pieces, write_line};
+use ufmt::{Formatter, Full, HexOptions, Line, line_into, pieces, uWrite, write_line};
 use ufmt_user::{Reading, dump_packet, list_readings};
 
 const PREFIXED: HexOptions = HexOptions {
@@ -12,16 +12,14 @@ const PREFIXED: HexOptions = HexOptions {
     ox_prefix: true,
 };
 
-// The pieces of a line with each mark, and of a tuple, a pretty list and a padded number in it.
-const PIECES: [&str; 21] = [
-    "a=", "7", " ", "(", "1", ",", ")", "[", "\n", "    ", "2", ",\n", "]", "0x", "0", "0", "ff",
-    "1", "-", "2", ".",
-];
+// The pieces of a line with each mark, and of a tuple, a pretty list and a padded number in it, with a
+// bar between each two.
+const PIECES: &str = "a=|7| |(|1|,|)|[|\n|    |2|,\n|]|0x|0|0|ff|1|-|2|.";
 
 // What a buffer of this length holds: the first pieces, up to the one that doesn't fit.
 fn first_pieces(alloc: Global, length: usize) -> Result<String, AllocError> {
     let mut held = String::new(alloc);
-    for piece in PIECES {
+    for piece in PIECES.split('|') {
         if held.len().saturating_add(piece.len()) > length {
             break;
         }
@@ -33,43 +31,51 @@ fn first_pieces(alloc: Global, length: usize) -> Result<String, AllocError> {
     Ok(held)
 }
 
-#[test]
-fn a_short_buffer_takes_the_first_pieces(rt: HostRuntime) -> Result<(), Fail> {
-    let rows = Rows::of("a line into a buffer", &rt);
-    for length in 0..30usize {
-        let mut bytes = vec![in rt.alloc(); b'~'; length]?;
-        let answer = line_into(
-            bytes.as_mut_slice(),
-            &pieces!(
-                text "a=", display 7i32, text " ", debug (1u8,), pretty [2u8],
-                hex 255u8 with PREFIXED, each debug [1i8, 2] between "-", text "."
-            ),
-        );
-        let expected = if length < 28 { Err(Full) } else { Ok(28) };
-        let held = first_pieces(rt.alloc(), length)?;
-        rows.same((length, answer), (length, expected), held.as_str());
-        rows.same(bytes.as_slice(), held.as_str().as_bytes(), "the buffer");
-    }
-    Ok(())
+// Whether a buffer of this length takes them, and the call says so.
+fn takes_first_pieces(alloc: Global, length: usize) -> Result<bool, AllocError> {
+    let mut bytes = vec![in alloc; b'~'; length]?;
+    let answer = line_into(
+        bytes.as_mut_slice(),
+        &pieces!(
+            text "a=", display 7i32, text " ", debug (1u8,), pretty [2u8],
+            hex 255u8 with PREFIXED, each debug [1i8, 2] between "-", text "."
+        ),
+    );
+    let expected = if length < 28 { Err(Full) } else { Ok(28) };
+    let held = first_pieces(alloc, length)?;
+    Ok(answer == expected && bytes.as_slice() == held.as_bytes())
 }
 
 #[test]
-fn items_stand_with_a_text_between_them(rt: HostRuntime) -> Result<(), Fail> {
-    let rows = Rows::of("items", &rt);
+fn a_short_buffer_takes_the_first_pieces(rt: HostRuntime) {
+    for length in 0..30usize {
+        let given = (length, takes_first_pieces(rt.alloc(), length));
+        same(&rt, given, (length, Ok(true)), "a line into a buffer");
+    }
+}
+
+#[test]
+fn items_stand_with_a_text_between_them(rt: HostRuntime) {
     let mut text = String::new(rt.alloc());
-    write_line(
-        &mut text,
-        &pieces!(
-            each display ["a", "b", "c"] between ", ", text ";", each debug ["a"] between ", ",
-            each pretty [(1u8,), (2,)] between "+", each hex [10u8, 255] with PREFIXED between "",
-        ),
-    )?;
     let no_items: [u8; 0] = [];
-    write_line(&mut text, &pieces!(each debug no_items between ","))?;
-    write_line(&mut text, &pieces!())?;
+    let answers = [
+        write_line(
+            &mut text,
+            &pieces!(
+                each display ["a", "b", "c"] between ", ", text ";", each debug ["a"] between ", ",
+                each pretty [(1u8,), (2,)] between "+", each hex [10u8, 255] with PREFIXED between "",
+            ),
+        ),
+        write_line(&mut text, &pieces!(each debug no_items between ",")),
+        write_line(&mut text, &pieces!()),
+    ];
     let expected = "a, b, c;\"a\"(\n    1,\n)+(\n    2,\n)0x000a0x00ff";
-    rows.same(text.as_str(), expected, "in order");
-    Ok(())
+    same(
+        &rt,
+        (are_ok(&answers), text.as_str()),
+        (true, expected),
+        "in order",
+    );
 }
 
 // One more than the calls so far.
@@ -78,68 +84,90 @@ fn noted(calls: &mut u8) -> u8 {
     *calls
 }
 
+// The answer, and how many values were taken.
+fn write_noted(buffer: &mut [u8]) -> (Result<usize, Full>, u8) {
+    let mut calls = 0;
+    let answer = line_into(
+        buffer,
+        &pieces!(
+            text "n=", display noted(&mut calls), debug noted(&mut calls),
+            hex (noted(&mut calls)) with PREFIXED, each debug ([noted(&mut calls)]) between "-",
+            text "+"
+        ),
+    );
+    (answer, calls)
+}
+
 #[test]
 fn values_are_taken_once_and_before_the_first_piece(rt: HostRuntime) {
-    let rows = Rows::of("evaluations", &rt);
-    for (length, expected, written) in [(0, Err(Full), ""), (12, Ok(12), "n=120x00034+")] {
-        let mut calls = 0;
-        let mut bytes = [0; 12];
-        let answer = line_into(
-            &mut bytes[..length],
-            &pieces!(
-                text "n=", display noted(&mut calls), debug noted(&mut calls),
-                hex (noted(&mut calls)) with PREFIXED, each debug ([noted(&mut calls)]) between "-",
-                text "+"
-            ),
-        );
-        rows.same((answer, calls), (expected, 4), written);
-        rows.same(&bytes[..length], written.as_bytes(), "what is written");
+    same(&rt, write_noted(&mut []), (Err(Full), 4), "no room");
+    let mut bytes = [0; 12];
+    same(&rt, write_noted(&mut bytes), (Ok(12), 4), "room");
+    same(
+        &rt,
+        bytes.as_slice(),
+        b"n=120x00034+".as_slice(),
+        "what is written",
+    );
+}
+
+struct ALine;
+
+impl Printed for ALine {
+    fn print<W: uWrite>(&self, f: &mut Formatter<W>) -> Result<(), W::Error> {
+        pieces!(text "a", debug (1u8,)).print(f)
     }
 }
 
 #[test]
-fn a_line_in_pretty_mode(rt: HostRuntime) -> Result<(), Fail> {
-    let mut text = String::new(rt.alloc());
-    let mut f = Formatter::new(&mut text);
-    f.pretty(|f| pieces!(text "a", debug (1u8,)).print(f))?;
-    Rows::of("pretty", &rt).same(text.as_str(), "a(\n    1,\n)", "a line");
-    Ok(())
+fn a_line_in_pretty_mode(rt: HostRuntime) {
+    let ((answer, ..), text) = print_to(true, &ALine, String::new(rt.alloc()));
+    same(
+        &rt,
+        (answer.is_ok(), text.as_str()),
+        (true, "a(\n    1,\n)"),
+        "a line",
+    );
 }
 
+const DUMPS: &str = "\
+Ok(17) len=4 de ad be ef~~~;
+Ok(8) len=1 00~~~~~~~~~~~~;
+Ok(6) len=0 ~~~~~~~~~~~~~~;
+Err(Full) len=2 01 ~~~~~~~~~~~;
+";
+
 #[test]
-fn a_packet_is_dumped(rt: HostRuntime) -> Result<(), Fail> {
-    let rows = Rows::of("dumps", &rt);
-    for (packet, length, answer, left) in [
-        (
-            [0xdeu8, 0xad, 0xbe, 0xef].as_slice(),
-            20,
-            Ok(17),
-            "len=4 de ad be ef~~~",
-        ),
-        ([0].as_slice(), 8, Ok(8), "len=1 00~~~~~~~~~~~~"),
-        ([].as_slice(), 20, Ok(6), "len=0 ~~~~~~~~~~~~~~"),
-        ([1, 2].as_slice(), 9, Err(Full), "len=2 01 ~~~~~~~~~~~"),
+fn a_packet_is_dumped(rt: HostRuntime) {
+    let mut table = Table::new(rt.alloc());
+    for (packet, length) in [
+        ([0xdeu8, 0xad, 0xbe, 0xef].as_slice(), 20),
+        ([0].as_slice(), 8),
+        ([].as_slice(), 20),
+        ([1, 2].as_slice(), 9),
     ] {
         let mut bytes = [b'~'; 20];
-        rows.same(dump_packet(&mut bytes[..length], packet), answer, left);
-        rows.same(bytes.as_slice(), left.as_bytes(), left);
+        let answer = dump_packet(&mut bytes[..length], packet);
+        table.put_answer(answer, &bytes);
     }
-    Ok(())
+    has_rows(&rt, &table, DUMPS);
 }
+
+const READINGS: &str = "\
+Ok(20) readings: 3=-4, 5=20~~~~;
+Ok(14) readings: 3=-4~~~~~~~~~~;
+Ok(10) readings: ~~~~~~~~~~~~~~;
+Err(Full) readings: 3=-4, 5=~~~~~~;
+";
 
 #[test]
 fn readings_are_listed(rt: HostRuntime) {
-    let rows = Rows::of("readings", &rt);
+    let mut table = Table::new(rt.alloc());
     let readings = [(3, -4), (5, 20)].map(|(channel, celsius)| Reading { channel, celsius });
-    for (count, length, answer, left) in [
-        (2, 24, Ok(20), "readings: 3=-4, 5=20~~~~"),
-        (1, 24, Ok(14), "readings: 3=-4~~~~~~~~~~"),
-        (0, 24, Ok(10), "readings: ~~~~~~~~~~~~~~"),
-        (2, 19, Err(Full), "readings: 3=-4, 5=~~~~~~"),
-    ] {
+    for (count, length) in [(2, 24), (1, 24), (0, 24), (2, 19)] {
         let mut bytes = [b'~'; 24];
-        let given = list_readings(&mut bytes[..length], &readings[..count]);
-        rows.same(given, answer, left);
-        rows.same(bytes.as_slice(), left.as_bytes(), left);
+        let answer = list_readings(&mut bytes[..length], &readings[..count]);
+        table.put_answer(answer, &bytes);
     }
+    has_rows(&rt, &table, READINGS);
 }

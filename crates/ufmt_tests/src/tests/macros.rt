@@ -1,6 +1,6 @@
 //! What `uwrite!` and `uwriteln!` hand on, and what they evaluate.
 use super::printed::Printed;
-use super::rows::Rows;
+use super::rows::{Table, are_ok, has_rows, same};
 use ufmt::{Cursor, Formatter, Full, HexOptions, laws, uWrite, uwrite, uwriteln};
 
 const PREFIXED: HexOptions = HexOptions {
@@ -44,45 +44,54 @@ impl Printed for Line {
     }
 }
 
+const PIECES: &str = "\
+n=|7||(|1|,|)|Some|(|\n|    |2|,\n|)|0x|0|0|ff|~
+n=|7||(|\n|    |1|,\n|)|Some|(|\n|    |2|,\n|)|0x|0|0|ff|;
+0x|0|0|0|1|ab|0x|0|0|0|2|3|0x|0|0|0|4|5|0x|0|0|0|6|7|0x|0|0|0|8|0x|0|0|0|9|;
+a|0x|0|0|0|1|b|\n|;
+a b|7|[|1|]|[|\n|    |2|,\n|]|\n|~
+a b|7|[|\n|    |1|,\n|]|[|\n|    |2|,\n|]|\n|;
+";
+
 #[test]
 fn pieces_are_handed_on(rt: HostRuntime) {
-    let rows = Rows::of("pieces", &rt);
-    rows.pieces(
-        &AllPieces,
-        "n=|7||(|1|,|)|Some|(|\n|    |2|,\n|)|0x|0|0|ff|",
-        "n=|7||(|\n|    |1|,\n|)|Some|(|\n|    |2|,\n|)|0x|0|0|ff|",
-    );
-    rows.both(
-        &HexadecimalFirst,
-        "0x|0|0|0|1|ab|0x|0|0|0|2|3|0x|0|0|0|4|5|0x|0|0|0|6|7|0x|0|0|0|8|0x|0|0|0|9|",
-    );
-    rows.both(&HexadecimalInALine, "a|0x|0|0|0|1|b|\n|");
-    rows.pieces(
-        &Line,
-        "a b|7|[|1|]|[|\n|    |2|,\n|]|\n|",
-        "a b|7|[|\n|    |1|,\n|]|[|\n|    |2|,\n|]|\n|",
-    );
+    let mut table = Table::new(rt.alloc());
+    table.pieces(&AllPieces);
+    table.pieces(&HexadecimalFirst);
+    table.pieces(&HexadecimalInALine);
+    table.pieces(&Line);
+    has_rows(&rt, &table, PIECES);
+}
+
+const IN_ORDER: &str = "\
+ab42[1, 2][
+    3,
+]0x00ffThe answer is 42
+0x0022
+Hello, world!The answer is 42Hello
+World
+";
+
+fn write_in_order<W: uWrite>(f: &mut Formatter<W>) -> [Result<(), W::Error>; 8] {
+    [
+        uwrite!(f, text "a",),
+        uwrite!(f, text "b", display 42i32, debug &[1u8, 2].as_slice(), pretty &[3u8].as_slice(), hex 255u8 with PREFIXED),
+        uwriteln!(f, text "The answer is ", display 42i32),
+        uwriteln!(f, hex (33u8 + 1) with PREFIXED,),
+        uwrite!(f, text "Hello, world!"),
+        uwrite!(f, text "The answer is ", display 42i32),
+        uwriteln!(f, text "Hello"),
+        uwriteln!(f, text "World"),
+    ]
 }
 
 #[test]
 fn pieces_come_in_order(rt: HostRuntime) {
-    let rows = Rows::of("in order", &rt);
-    let mut text = String::new(rt.alloc());
-    let mut f = Formatter::new(&mut text);
-    rows.all_ok(&[
-        uwrite!(&mut f, text "a",),
-        uwrite!(&mut f, text "b", display 42i32, debug &[1u8, 2].as_slice(), pretty &[3u8].as_slice(), hex 255u8 with PREFIXED),
-        uwriteln!(&mut f, text "The answer is ", display 42i32),
-        uwriteln!(&mut f, hex (33u8 + 1) with PREFIXED,),
-        uwrite!(&mut f, text "Hello, world!"),
-        uwrite!(&mut f, text "The answer is ", display 42i32),
-        uwriteln!(&mut f, text "Hello"),
-        uwriteln!(&mut f, text "World"),
-    ]);
-    rows.same((f.is_pretty(), f.depth()), (false, 0), "what is left");
-    let expected =
-        "ab42[1, 2][\n    3,\n]0x00ffThe answer is 42\n0x0022\nHello, world!The answer is 42Hello\nWorld\n";
-    rows.same(text.as_str(), expected, "the text");
+    let mut f = Formatter::new(String::new(rt.alloc()));
+    let answers = write_in_order(&mut f);
+    let left = (are_ok(&answers), f.is_pretty(), f.depth());
+    same(&rt, left, (true, false, 0), "what is left");
+    same(&rt, f.into_inner().as_str(), IN_ORDER, "in order");
 }
 
 // One more than the calls so far.
@@ -91,16 +100,13 @@ fn noted(calls: &mut u32) -> u32 {
     *calls
 }
 
-#[test]
-fn each_part_is_evaluated_once(rt: HostRuntime) {
-    let rows = Rows::of("evaluations", &rt);
-    let mut text = String::new(rt.alloc());
-    let mut f = Formatter::new(&mut text);
+// The answer, and how often the formatter, texts, values and options were evaluated.
+fn write_counted<W: uWrite>(f: &mut Formatter<W>) -> (Result<(), W::Error>, [u32; 4]) {
     let (mut formatters, mut texts, mut values, mut options) = (0, 0, 0, 0);
     let answer = uwrite!(
         {
             noted(&mut formatters);
-            &mut f
+            &mut *f
         },
         text {
             noted(&mut texts);
@@ -114,18 +120,30 @@ fn each_part_is_evaluated_once(rt: HostRuntime) {
             PREFIXED
         },
     );
-    let calls = (formatters, texts, values, options);
-    rows.same((answer.is_ok(), calls), (true, (1, 1, 4, 1)), "by uwrite");
+    (answer, [formatters, texts, values, options])
+}
+
+// Likewise of a line, with the formatter and one value.
+fn write_counted_line<W: uWrite>(f: &mut Formatter<W>) -> (Result<(), W::Error>, [u32; 2]) {
+    let (mut formatters, mut values) = (0, 4);
     let answer = uwriteln!(
         {
             noted(&mut formatters);
-            &mut f
+            &mut *f
         },
         display noted(&mut values)
     );
-    let left = (answer.is_ok(), formatters, values);
-    rows.same(left, (true, 2, 5), "by uwriteln");
-    rows.same(text.as_str(), "n=1230x00045\n", "by both");
+    (answer, [formatters, values])
+}
+
+#[test]
+fn each_part_is_evaluated_once(rt: HostRuntime) {
+    let mut f = Formatter::new(String::new(rt.alloc()));
+    let (answer, calls) = write_counted(&mut f);
+    same(&rt, (answer, calls), (Ok(()), [1, 1, 4, 1]), "uwrite");
+    let (answer, calls) = write_counted_line(&mut f);
+    same(&rt, (answer, calls), (Ok(()), [1, 5]), "uwriteln");
+    same(&rt, f.into_inner().as_str(), "n=1230x00045\n", "both");
 }
 
 // The answer, and how often the value behind the text was evaluated.
@@ -137,10 +155,10 @@ fn write_noted(f: &mut Formatter<Cursor<'_>>, text: &str) -> (Result<(), Full>, 
 
 #[test]
 fn nothing_is_evaluated_after_a_failure(rt: HostRuntime) {
-    let rows = Rows::of("evaluations", &rt);
     let mut buffer = [0; 1];
     let mut f = Formatter::new(Cursor::new(&mut buffer));
-    rows.same(write_noted(&mut f, "ab"), (Err(Full), 0), "a failure");
-    rows.same(write_noted(&mut f, ""), (Ok(()), 1), "no failure");
-    rows.same(f.into_inner().written(), b"1".as_slice(), "of both");
+    let answers = (write_noted(&mut f, "ab"), write_noted(&mut f, ""));
+    let wanted = ((Err(Full), 0), (Ok(()), 1));
+    same(&rt, answers, wanted, "a failure, and none");
+    same(&rt, f.into_inner().written(), b"1".as_slice(), "of both");
 }

@@ -1,171 +1,191 @@
 //! Numbers by both traits, each as one piece in both modes, and decimal texts of each length.
-use super::printed::Displayed;
-use super::rows::Rows;
+use super::rows::{Table, has_rows, same};
+use std::alloc::{AllocError, Global};
 use std::fmt::Display;
 use std::num::{
     NonZeroI8, NonZeroI16, NonZeroI32, NonZeroI64, NonZeroIsize, NonZeroU8, NonZeroU16, NonZeroU32,
     NonZeroU64, NonZeroUsize,
 };
-use std::process::Abort;
 use ufmt::{Formatter, uDebug, uDisplay};
 
-impl<R: Abort + AllocGlobal> Rows<'_, R> {
-    fn number<N: uDebug + uDisplay + Drop>(&self, n: N, piece: &str) {
-        self.both(&n, piece);
-        self.both(&Displayed(&n), piece);
-    }
-
-    // A nonzero number, which is there.
-    fn nonzero<N: uDebug + uDisplay + Drop>(&self, n: Option<N>, piece: &str) {
-        self.number(self.made(n.ok_or("zero")), piece);
-    }
-
-    // The text is the library's own decimal text of the number.
-    fn decimal<N: uDebug + Display + Drop>(&self, n: N) {
-        let mut text = String::new(self.alloc());
-        self.made(uDebug::fmt(&n, &mut Formatter::new(&mut text)));
-        let expected = self.made(n.to_string(self.alloc()));
-        self.same(text.as_str(), expected.as_str(), "decimal");
-    }
-
-    // The same at each unsigned width that the number fits.
-    fn unsigned(&self, n: u128) {
-        if let Ok(n) = u8::try_from(n) {
-            self.decimal(n);
-        }
-        if let Ok(n) = u16::try_from(n) {
-            self.decimal(n);
-        }
-        if let Ok(n) = u32::try_from(n) {
-            self.decimal(n);
-        }
-        if let Ok(n) = u64::try_from(n) {
-            self.decimal(n);
-        }
-        if let Ok(n) = usize::try_from(n) {
-            self.decimal(n);
-        }
-        self.decimal(n);
-    }
-
-    // The same at each signed width that the number fits.
-    fn signed(&self, z: i128) {
-        if let Ok(z) = i8::try_from(z) {
-            self.decimal(z);
-        }
-        if let Ok(z) = i16::try_from(z) {
-            self.decimal(z);
-        }
-        if let Ok(z) = i32::try_from(z) {
-            self.decimal(z);
-        }
-        if let Ok(z) = i64::try_from(z) {
-            self.decimal(z);
-        }
-        if let Ok(z) = isize::try_from(z) {
-            self.decimal(z);
-        }
-        self.decimal(z);
-    }
-}
+const UNSIGNED: &str = "\
+0|;
+10|;
+100|;
+255|;
+65535|;
+4294967295|;
+18446744073709551615|;
+18446744073709551615|;
+0|;
+340282366920938463463374607431768211455|;
+";
 
 #[test]
 fn unsigned_numbers(rt: HostRuntime) {
-    let rows = Rows::of("unsigned", &rt);
-    rows.number(0u8, "0|");
-    rows.number(10u8, "10|");
-    rows.number(100u8, "100|");
-    rows.number(255u8, "255|");
-    rows.number(u16::MAX, "65535|");
-    rows.number(u32::MAX, "4294967295|");
-    rows.number(u64::MAX, "18446744073709551615|");
-    rows.number(usize::MAX, "18446744073709551615|");
-    rows.number(0u128, "0|");
-    rows.number(u128::MAX, "340282366920938463463374607431768211455|");
+    let mut table = Table::new(rt.alloc());
+    for n in [0u8, 10, 100, 255] {
+        table.number(n);
+    }
+    table.number(u16::MAX);
+    table.number(u32::MAX);
+    table.number(u64::MAX);
+    table.number(usize::MAX);
+    table.number(0u128);
+    table.number(u128::MAX);
+    has_rows(&rt, &table, UNSIGNED);
 }
+
+const SIGNED: &str = "\
+0|;
+10|;
+100|;
+-128|;
+127|;
+-32768|;
+32767|;
+0|;
+-2147483648|;
+2147483647|;
+-9223372036854775808|;
+9223372036854775807|;
+-9223372036854775808|;
+9223372036854775807|;
+0|;
+-170141183460469231731687303715884105728|;
+170141183460469231731687303715884105727|;
+";
 
 #[test]
 fn signed_numbers(rt: HostRuntime) {
-    let rows = Rows::of("signed", &rt);
-    for (n, piece) in [
-        (0i8, "0|"),
-        (10, "10|"),
-        (100, "100|"),
-        (-128, "-128|"),
-        (127, "127|"),
-    ] {
-        rows.number(n, piece);
+    let mut table = Table::new(rt.alloc());
+    for z in [0i8, 10, 100, -128, 127] {
+        table.number(z);
     }
-    rows.number(i16::MIN, "-32768|");
-    rows.number(i16::MAX, "32767|");
-    rows.number(0i32, "0|");
-    rows.number(i32::MIN, "-2147483648|");
-    rows.number(i32::MAX, "2147483647|");
-    rows.number(i64::MIN, "-9223372036854775808|");
-    rows.number(i64::MAX, "9223372036854775807|");
-    rows.number(isize::MIN, "-9223372036854775808|");
-    rows.number(isize::MAX, "9223372036854775807|");
-    rows.number(0i128, "0|");
-    rows.number(i128::MIN, "-170141183460469231731687303715884105728|");
-    rows.number(i128::MAX, "170141183460469231731687303715884105727|");
+    table.number(i16::MIN);
+    table.number(i16::MAX);
+    for z in [0i32, i32::MIN, i32::MAX] {
+        table.number(z);
+    }
+    table.number(i64::MIN);
+    table.number(i64::MAX);
+    table.number(isize::MIN);
+    table.number(isize::MAX);
+    for z in [0i128, i128::MIN, i128::MAX] {
+        table.number(z);
+    }
+    has_rows(&rt, &table, SIGNED);
+}
+
+// A nonzero number, which is there.
+fn put_nonzero<N: uDebug + uDisplay + Drop>(table: &mut Table, number: Option<N>) {
+    match number {
+        Some(number) => table.number(number),
+        None => table.put_nothing(),
+    }
 }
 
 #[test]
 fn numbers_that_are_not_zero(rt: HostRuntime) {
-    let rows = Rows::of("not zero", &rt);
-    rows.nonzero(NonZeroU8::new(1), "1|");
-    rows.nonzero(NonZeroU16::new(2), "2|");
-    rows.nonzero(NonZeroU32::new(3), "3|");
-    rows.nonzero(NonZeroU64::new(4), "4|");
-    rows.nonzero(NonZeroUsize::new(5), "5|");
-    rows.nonzero(NonZeroI8::new(-128), "-128|");
-    rows.nonzero(NonZeroI16::new(-2), "-2|");
-    rows.nonzero(NonZeroI32::new(-3), "-3|");
-    rows.nonzero(NonZeroI64::new(-4), "-4|");
-    rows.nonzero(NonZeroIsize::new(-5), "-5|");
+    let mut table = Table::new(rt.alloc());
+    put_nonzero(&mut table, NonZeroU8::new(1));
+    put_nonzero(&mut table, NonZeroU16::new(2));
+    put_nonzero(&mut table, NonZeroU32::new(3));
+    put_nonzero(&mut table, NonZeroU64::new(4));
+    put_nonzero(&mut table, NonZeroUsize::new(5));
+    put_nonzero(&mut table, NonZeroI8::new(-128));
+    put_nonzero(&mut table, NonZeroI16::new(-2));
+    put_nonzero(&mut table, NonZeroI32::new(-3));
+    put_nonzero(&mut table, NonZeroI64::new(-4));
+    put_nonzero(&mut table, NonZeroIsize::new(-5));
+    let wanted = "1|;\n2|;\n3|;\n4|;\n5|;\n-128|;\n-2|;\n-3|;\n-4|;\n-5|;\n";
+    has_rows(&rt, &table, wanted);
+}
+
+// Whether the number's text is the library's own. Want of memory is no.
+fn is_decimal<N: uDebug + Display + Drop>(alloc: Global, n: N) -> bool {
+    let mut text = String::new(alloc);
+    let printed = uDebug::fmt(&n, &mut Formatter::new(&mut text));
+    match n.to_string(alloc) {
+        Ok(expected) => printed.is_ok() && text.as_str() == expected.as_str(),
+        Err(_) => false,
+    }
+}
+
+// Whether the number's text is the library's own, if it is one of this width.
+fn is_decimal_if_it_fits<N: uDebug + Display + Drop, E: Drop>(
+    alloc: Global,
+    n: Result<N, E>,
+) -> bool {
+    match n {
+        Ok(n) => is_decimal(alloc, n),
+        Err(_) => true,
+    }
+}
+
+// Whether it is at each unsigned width that the number fits.
+fn is_unsigned(alloc: Global, n: u128) -> bool {
+    is_decimal_if_it_fits(alloc, u8::try_from(n))
+        && is_decimal_if_it_fits(alloc, u16::try_from(n))
+        && is_decimal_if_it_fits(alloc, u32::try_from(n))
+        && is_decimal_if_it_fits(alloc, u64::try_from(n))
+        && is_decimal_if_it_fits(alloc, usize::try_from(n))
+        && is_decimal(alloc, n)
+}
+
+// Whether it is at each signed width that the number fits.
+fn is_signed(alloc: Global, z: i128) -> bool {
+    is_decimal_if_it_fits(alloc, i8::try_from(z))
+        && is_decimal_if_it_fits(alloc, i16::try_from(z))
+        && is_decimal_if_it_fits(alloc, i32::try_from(z))
+        && is_decimal_if_it_fits(alloc, i64::try_from(z))
+        && is_decimal_if_it_fits(alloc, isize::try_from(z))
+        && is_decimal(alloc, z)
 }
 
 #[test]
 fn each_number_of_two_bytes(rt: HostRuntime) {
-    let rows = Rows::of("two bytes", &rt);
+    let alloc = rt.alloc();
     for n in 0..=u16::MAX {
-        rows.decimal(n);
-        rows.decimal(u64::from(n));
-        rows.decimal(u128::from(n));
+        let are_decimal = is_decimal(alloc, n)
+            && is_decimal(alloc, u64::from(n))
+            && is_decimal(alloc, u128::from(n))
+            && is_decimal(alloc, n.cast_signed());
+        same(&rt, (n, are_decimal), (n, true), "two bytes");
     }
-    for z in i16::MIN..=i16::MAX {
-        rows.decimal(z);
-    }
+}
+
+// Whether the texts of the number below this one, of it, and of the number above it are decimal.
+fn are_unsigned_round(alloc: Global, n: u128) -> bool {
+    is_unsigned(alloc, n.saturating_sub(1))
+        && is_unsigned(alloc, n)
+        && is_unsigned(alloc, n.saturating_add(1))
+}
+
+// Whether those of the signed number are, and those with the other sign.
+fn are_signed_round(alloc: Global, z: i128) -> bool {
+    let (below, above) = (z.saturating_sub(1), z.saturating_add(1));
+    is_signed(alloc, below)
+        && is_signed(alloc, z)
+        && is_signed(alloc, above)
+        && is_signed(alloc, below.saturating_neg())
+        && is_signed(alloc, z.saturating_neg())
+        && is_signed(alloc, above.saturating_neg())
 }
 
 #[test]
 fn powers_of_ten(rt: HostRuntime) {
-    let rows = Rows::of("powers of ten", &rt);
-    let mut power = 1u128;
-    for _digits in 1..40 {
-        for n in [power.saturating_sub(1), power, power.saturating_add(1)] {
-            rows.unsigned(n);
-        }
-        power = power.saturating_mul(10);
-    }
-}
-
-#[test]
-fn signed_powers_of_ten(rt: HostRuntime) {
-    let rows = Rows::of("signed powers of ten", &rt);
-    let mut power = 1i128;
-    for _digits in 1..40 {
-        for z in [power.saturating_sub(1), power, power.saturating_add(1)] {
-            rows.signed(z);
-            rows.signed(z.saturating_neg());
-        }
-        power = power.saturating_mul(10);
+    let (mut n, mut z) = (1u128, 1i128);
+    for zeros in 0..39u8 {
+        let are_decimal = are_unsigned_round(rt.alloc(), n) && are_signed_round(rt.alloc(), z);
+        same(&rt, (zeros, are_decimal), (zeros, true), "powers of ten");
+        n = n.saturating_mul(10);
+        z = z.saturating_mul(10);
     }
 }
 
 #[test]
 fn least_and_greatest_numbers(rt: HostRuntime) {
-    let rows = Rows::of("least and greatest", &rt);
     for n in [
         u8::MAX as u128,
         u16::MAX as u128,
@@ -173,7 +193,7 @@ fn least_and_greatest_numbers(rt: HostRuntime) {
         u64::MAX as u128,
         u128::MAX,
     ] {
-        rows.unsigned(n);
+        same(&rt, (n, is_unsigned(rt.alloc(), n)), (n, true), "greatest");
     }
     for z in [
         i8::MIN as i128,
@@ -187,6 +207,6 @@ fn least_and_greatest_numbers(rt: HostRuntime) {
         i64::MAX as i128,
         i128::MAX,
     ] {
-        rows.signed(z);
+        same(&rt, (z, is_signed(rt.alloc(), z)), (z, true), "least");
     }
 }

@@ -1,7 +1,7 @@
 //! What a row prints: a value by `uDebug`, or what another call writes.
 ghost use Rattle.std.specs.Prelude.{◌<◌};
 
-use ufmt::{Formatter, HexOptions, uDebug, uDisplay, uDisplayHex, uWrite};
+use ufmt::{Formatter, HexOptions, fmt_pretty, uDebug, uDisplay, uDisplayHex, uWrite};
 
 /// A value with a `print` over every writer. It has no contract: the rows say what it writes.
 pub trait Printed {
@@ -50,4 +50,49 @@ impl Printed for Payload<'_> {
     fn print<W: uWrite>(&self, f: &mut Formatter<W>) -> Result<(), W::Error> {
         self.options.with_stuff(f, self.payload)
     }
+}
+
+/// A value by `fmt_pretty`.
+#[derive(Drop)]
+pub struct Pretty<'a, T>(pub &'a T);
+
+impl<T: uDebug> Printed for Pretty<'_, T> {
+    fn print<W: uWrite>(&self, f: &mut Formatter<W>) -> Result<(), W::Error> {
+        fmt_pretty(self.0, f)
+    }
+}
+
+/// What a call leaves behind: its answer, and the mode and depth inside and outside of the pretty
+/// part.
+pub type Left<E> = (Result<(), E>, (bool, u8), (bool, u8));
+
+// Prints the value in this mode, and gives the answer and the mode and depth before it ends.
+fn print_in<T: Printed, W: uWrite>(
+    is_pretty: bool,
+    value: &T,
+    f: &mut Formatter<W>,
+) -> (Result<(), W::Error>, (bool, u8)) {
+    if !is_pretty {
+        let answer = value.print(f);
+        return (answer, (f.is_pretty(), f.depth()));
+    }
+    let mut inside = (false, 0);
+    let answer = f.pretty(|f| {
+        let answer = value.print(f);
+        inside = (f.is_pretty(), f.depth());
+        answer
+    });
+    (answer, inside)
+}
+
+/// Prints the value to this writer in this mode, and gives what is left and the writer back.
+pub fn print_to<T: Printed, W: uWrite>(
+    is_pretty: bool,
+    value: &T,
+    writer: W,
+) -> (Left<W::Error>, W) {
+    let mut f = Formatter::new(writer);
+    let (answer, inside) = print_in(is_pretty, value, &mut f);
+    let outside = (f.is_pretty(), f.depth());
+    ((answer, inside, outside), f.into_inner())
 }

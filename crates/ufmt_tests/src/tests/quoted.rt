@@ -1,103 +1,158 @@
 //! Quoted texts and characters: the rows of the table of escapes, and each character of ASCII as
 //! core::fmt prints it.
-use super::rows::Rows;
-use std::process::Abort;
+use super::rows::{Table, has_rows, map, same, told_apart};
+use super::texts::texts_of;
+use std::alloc::{AllocError, Global};
 use ufmt_user::Message;
+
+const TEXTS: &str = "\
+\"\";
+\"\\0\\\\\";
+\"\\t\\n\\r\";
+\"\\u{1}\";
+\"\\u{1b}\";
+\"\\u{1f} ~\\u{7f}\";
+\"a\\\"b\\n\";
+\"'\";
+\"\u{80}é€\u{10ffff}\";
+";
+
+// Its texts as a `&str`, and those as a `String`, where they are others.
+fn texts_by_both(alloc: Global, text: &str) -> Result<String, AllocError> {
+    let owned = String::from_str(alloc, text)?;
+    let owned = texts_of(alloc, &owned)?;
+    told_apart(texts_of(alloc, &text)?, owned.as_str())
+}
 
 #[test]
 fn texts_are_quoted(rt: HostRuntime) {
-    let rows = Rows::of("texts", &rt);
-    for (text, quoted) in [
-        ("", r#""""#),
-        ("\0\\", r#""\0\\""#),
-        ("\t\n\r", r#""\t\n\r""#),
-        ("\u{1}", r#""\u{1}""#),
-        ("\u{1b}", r#""\u{1b}""#),
-        ("\u{1f} ~\u{7f}", r#""\u{1f} ~\u{7f}""#),
-        ("a\"b\n", r#""a\"b\n""#),
-        ("'", r#""'""#),
-        ("\u{80}é€\u{10ffff}", "\"\u{80}é€\u{10ffff}\""),
+    let mut table = Table::new(rt.alloc());
+    for text in [
+        "",
+        "\0\\",
+        "\t\n\r",
+        "\u{1}",
+        "\u{1b}",
+        "\u{1f} ~\u{7f}",
+        "a\"b\n",
+        "'",
+        "\u{80}é€\u{10ffff}",
     ] {
-        rows.leaf(&text, quoted);
-        rows.leaf(&rows.made(String::from_str(rt.alloc(), text)), quoted);
+        table.put_made(texts_by_both(rt.alloc(), text));
     }
+    has_rows(&rt, &table, TEXTS);
 }
+
+const CHARACTERS: &str = "\
+'é';
+'\\n';
+'\"';
+'\\'';
+'\\\\';
+'\\0';
+'\\u{1f}';
+'\\u{7f}';
+'\u{80}';
+'\u{10ffff}';
+";
 
 #[test]
 fn characters_are_quoted(rt: HostRuntime) {
-    let rows = Rows::of("characters", &rt);
-    for (character, quoted) in [
-        ('é', "'é'"),
-        ('\n', r"'\n'"),
-        ('"', "'\"'"),
-        ('\'', r"'\''"),
-        ('\\', r"'\\'"),
-        ('\0', r"'\0'"),
-        ('\u{1f}', r"'\u{1f}'"),
-        ('\u{7f}', r"'\u{7f}'"),
-        ('\u{80}', "'\u{80}'"),
-        ('\u{10ffff}', "'\u{10ffff}'"),
+    let mut table = Table::new(rt.alloc());
+    for character in [
+        'é',
+        '\n',
+        '"',
+        '\'',
+        '\\',
+        '\0',
+        '\u{1f}',
+        '\u{7f}',
+        '\u{80}',
+        '\u{10ffff}',
     ] {
-        rows.leaf(&character, quoted);
+        table.texts(&character);
     }
+    has_rows(&rt, &table, CHARACTERS);
 }
 
-// The library's own formatting gives the expected texts.
+// Whether the library's own formatting gives the texts of this character in a text and by itself.
+fn is_as_by_core_fmt(alloc: Global, character: char) -> Result<bool, AllocError> {
+    let mut text = String::new(alloc);
+    text.push(character)?;
+    let is_text = texts_of(alloc, &text)? == format!(in alloc; "{text:?}")?;
+    Ok(is_text && texts_of(alloc, &character)? == format!(in alloc; "{character:?}")?)
+}
+
 #[test]
 fn ascii_is_quoted_as_by_core_fmt(rt: HostRuntime) {
-    let rows = Rows::of("ASCII", &rt);
     for byte in 0..128u8 {
-        let character = char::from(byte);
-        let mut text = String::new(rt.alloc());
-        rows.made(text.push(character));
-        let quoted = rows.made(format!(in rt.alloc(); "{text:?}"));
-        rows.leaf(&text, &quoted);
-        let quoted = rows.made(format!(in rt.alloc(); "{character:?}"));
-        rows.leaf(&character, &quoted);
+        let given = is_as_by_core_fmt(rt.alloc(), char::from(byte));
+        same(&rt, (byte, given), (byte, Ok(true)), "ASCII");
     }
 }
 
-impl<R: Abort + AllocGlobal> Rows<'_, R> {
-    // So many letters between two texts, with a mark in the place of one of them, if there is one.
-    fn letters(&self, quote: &str, count: usize, marked: usize, mark: &str) -> String {
-        let mut text = self.made(String::from_str(self.alloc(), quote));
-        for place in 0..count {
-            self.made(text.push_str(if place == marked { mark } else { "x" }));
-        }
-        self.made(text.push_str(quote));
-        text
+// So many letters between two texts, with a mark in the place of one of them, if there is one.
+fn letters(
+    alloc: Global,
+    quote: &str,
+    count: usize,
+    marked: usize,
+    mark: &str,
+) -> Result<String, AllocError> {
+    let mut text = String::from_str(alloc, quote)?;
+    for place in 0..count {
+        text.push_str(if place == marked { mark } else { "x" })?;
     }
+    text.push_str(quote)?;
+    Ok(text)
+}
+
+fn is_escaped_at(alloc: Global, count: usize, escaped: usize) -> Result<bool, AllocError> {
+    let text = letters(alloc, "", count, escaped, "\"")?;
+    let quoted = letters(alloc, "\"", count, escaped, "\\\"")?;
+    Ok(texts_of(alloc, &text)? == quoted)
 }
 
 // Stretches are looked through four bytes at a time, so an escape stands at each place of each length.
 #[test]
 fn an_escape_at_each_place(rt: HostRuntime) {
-    let rows = Rows::of("an escape", &rt);
     for count in 0..21 {
         for escaped in 0..count + 1 {
-            let text = rows.letters("", count, escaped, "\"");
-            let quoted = rows.letters("\"", count, escaped, "\\\"");
-            rows.leaf(&text, &quoted);
+            let given = is_escaped_at(rt.alloc(), count, escaped);
+            same(
+                &rt,
+                (count, escaped, given),
+                (count, escaped, Ok(true)),
+                "an escape",
+            );
         }
     }
 }
 
+const WITH_TEXTS: &str = "\
+{\"k\": Some('c')}~
+{
+    \"k\": Some(
+        'c',
+    ),
+};
+Message { node: 2, level: '!', text: \"valve is \\\"open\\\"\" }~
+Message {
+    node: 2,
+    level: '!',
+    text: \"valve is \\\"open\\\"\",
+};
+";
+
 #[test]
 fn values_with_texts_print(rt: HostRuntime) {
-    let rows = Rows::of("with texts", &rt);
-    rows.row(
-        &rows.map(&[("k", Some('c'))]),
-        "{\"k\": Some('c')}",
-        "{\n    \"k\": Some(\n        'c',\n    ),\n}",
-    );
-    let message = Message {
+    let mut table = Table::new(rt.alloc());
+    table.texts_of_made(map(rt.alloc(), &[("k", Some('c'))]));
+    table.texts(&Message {
         node: 2,
         level: '!',
         text: "valve is \"open\"",
-    };
-    rows.row(
-        &message,
-        r#"Message { node: 2, level: '!', text: "valve is \"open\"" }"#,
-        "Message {\n    node: 2,\n    level: '!',\n    text: \"valve is \\\"open\\\"\",\n}",
-    );
+    });
+    has_rows(&rt, &table, WITH_TEXTS);
 }

@@ -1,14 +1,12 @@
 //! A builder's calls over a writer that refuses one piece, and what is left behind the call that failed.
-use super::builder_calls::{Block, LastCall, Sink};
-use super::rows::Rows;
+use super::builder_calls::{Block, LastCall};
 use super::writers::FailAt;
 use std::alloc::{AllocError, Global};
-use std::process::Abort;
-use ufmt::{Formatter, Full};
+use ufmt::{Formatter, Full, uWrite};
 
 /// Where a builder's calls are made: as the first entry of a list, in a mode.
 #[derive(Clone, Copy)]
-pub struct Place<'a> {
+struct Place<'a> {
     mode: &'a str,
     is_pretty: bool,
     depth: u8,
@@ -18,7 +16,7 @@ pub struct Place<'a> {
     list: &'a str,
 }
 
-pub const PLAIN: Place<'static> = Place {
+const PLAIN: Place<'static> = Place {
     mode: "plain",
     is_pretty: false,
     depth: 0,
@@ -26,7 +24,7 @@ pub const PLAIN: Place<'static> = Place {
     list: "[7]",
 };
 
-pub const PRETTY: Place<'static> = Place {
+const PRETTY: Place<'static> = Place {
     mode: "pretty",
     is_pretty: true,
     depth: 1,
@@ -43,13 +41,6 @@ struct Calls<'a> {
 }
 
 impl<'a> Calls<'a> {
-    fn new(alloc: Global) -> Self {
-        Calls {
-            text: String::new(alloc),
-            pieces: Vec::new(alloc),
-        }
-    }
-
     // The pieces of one call, with a bar behind each.
     fn push(&mut self, call: &'a str, barred: &str) -> Result<(), AllocError> {
         for piece in barred.split('|') {
@@ -61,13 +52,18 @@ impl<'a> Calls<'a> {
         Ok(())
     }
 
-    fn of(alloc: Global, place: Place<'a>, calls: &[(&'a str, &str)]) -> Result<Self, AllocError> {
-        let mut all = Calls::new(alloc);
-        all.push(place.mode, place.before)?;
-        for (call, barred) in calls {
-            all.push(call, barred)?;
+    // Those before the builder, and those of its calls.
+    fn of(alloc: Global, place: Place<'a>, rows: &'a str) -> Result<Self, AllocError> {
+        let mut calls = Calls {
+            text: String::new(alloc),
+            pieces: Vec::new(alloc),
+        };
+        calls.push(place.mode, place.before)?;
+        for row in rows.split(";\n") {
+            let (call, barred) = row.split_once(' ').unwrap_or((row, ""));
+            calls.push(call, barred)?;
         }
-        Ok(all)
+        Ok(calls)
     }
 }
 
@@ -81,7 +77,10 @@ struct Left<'a> {
 }
 
 // What the calls leave. The formatter goes on with a list, which the writer doesn't refuse.
-fn call_and_go_on<'a>(block: Block, f: &mut Sink<'_>) -> Result<Left<'a>, Full> {
+fn call_and_go_on<'a, W: uWrite<Error = Full>>(
+    block: Block,
+    f: &mut Formatter<W>,
+) -> Result<Left<'a>, Full> {
     let mut last = LastCall::opening();
     let answer = block.call_in_turn(f, &mut last);
     let is_pretty = f.is_pretty();
@@ -95,12 +94,19 @@ fn call_and_go_on<'a>(block: Block, f: &mut Sink<'_>) -> Result<Left<'a>, Full> 
     })
 }
 
-fn call_in_list<'a>(block: Block, f: &mut Sink<'_>) -> Result<Left<'a>, Full> {
+fn call_in_list<'a, W: uWrite<Error = Full>>(
+    block: Block,
+    f: &mut Formatter<W>,
+) -> Result<Left<'a>, Full> {
     let mut list = f.debug_list()?;
     call_and_go_on(block, list.begin_entry()?)
 }
 
-fn call_at<'a>(place: Place<'_>, block: Block, f: &mut Sink<'_>) -> Result<Left<'a>, Full> {
+fn call_at<'a, W: uWrite<Error = Full>>(
+    place: Place<'_>,
+    block: Block,
+    f: &mut Formatter<W>,
+) -> Result<Left<'a>, Full> {
     if !place.is_pretty {
         return call_in_list(block, f);
     }
@@ -112,52 +118,68 @@ fn call_at<'a>(place: Place<'_>, block: Block, f: &mut Sink<'_>) -> Result<Left<
     left
 }
 
-impl<R: Abort + AllocGlobal> Rows<'_, R> {
-    // The writer refuses the piece of this number alone, before which the text has this length.
-    fn stops_at(
-        &self,
-        block: Block,
-        place: Place<'_>,
-        calls: &Calls<'_>,
-        (number, length, last, answer): (usize, usize, LastCall<'_>, Result<(), Full>),
-    ) {
-        let mut bytes = self.made(vec![in self.alloc(); 0u8; 1000]);
-        let mut f = Formatter::new(FailAt::once(bytes.as_mut_slice(), number));
-        let left = call_at(place, block, &mut f);
-        let is_as_before = (f.is_pretty(), f.depth()) == (false, 0);
-        let at = (last.name, place.mode, "FailAt once", number);
-        let wanted = Left {
-            last,
-            answer,
-            is_pretty: place.is_pretty,
-            depth: place.depth,
-        };
-        self.same_at((left, is_as_before), (Ok(wanted), true), at);
-        let writer = f.into_inner();
-        let written = writer.written();
-        let given = (written.get(..length), written.get(length..));
-        let text = calls.text.as_bytes().get(..length);
-        self.same_at(given, (text, Some(place.list.as_bytes())), at);
-    }
+// Calls over this writer, and whether they leave mode and depth as before.
+fn call_over<'a, W: uWrite<Error = Full>>(
+    place: Place<'_>,
+    block: Block,
+    writer: W,
+) -> (Result<Left<'a>, Full>, bool, W) {
+    let mut f = Formatter::new(writer);
+    let left = call_at(place, block, &mut f);
+    let is_as_before = !f.is_pretty() && f.depth() == 0;
+    (left, is_as_before, f.into_inner())
+}
 
-    /// Of each call its pieces, with a bar behind each: where the writer refuses one, that call fails,
-    /// the builder is closed, and the formatter is as before and goes on to work.
-    pub fn stops_at_each_piece(&self, block: Block, place: Place<'_>, calls: &[(&str, &str)]) {
-        let calls = self.made(Calls::of(self.alloc(), place, calls));
-        let mut number = 0usize;
-        for (name, length) in &calls.pieces {
-            number = number.saturating_add(1);
-            if *name != place.mode {
-                let last = if *name == "opening" {
-                    LastCall::opening()
-                } else {
-                    LastCall::closing(name)
-                };
-                self.stops_at(block, place, &calls, (number, *length, last, Err(Full)));
-            }
+// Whether this is left where the writer refuses the piece of this number alone, before which the text
+// has this length.
+fn is_left(
+    block: Block,
+    place: Place<'_>,
+    calls: &Calls<'_>,
+    (number, length, last, answer): (usize, usize, LastCall<'_>, Result<(), Full>),
+) -> bool {
+    let mut bytes = [0u8; 100];
+    let writer = FailAt::once(&mut bytes, number);
+    let (left, is_as_before, writer) = call_over(place, block, writer);
+    let wanted = Left {
+        last,
+        answer,
+        is_pretty: place.is_pretty,
+        depth: place.depth,
+    };
+    let written = writer.written();
+    let is_written = written.get(..length) == calls.text.as_bytes().get(..length)
+        && written.get(length..) == Some(place.list.as_bytes());
+    is_as_before && is_written && left == Ok(wanted)
+}
+
+// The number of the first piece behind whose refusal something else is left.
+fn wrong_number(block: Block, place: Place<'_>, calls: &Calls<'_>) -> Option<usize> {
+    let mut number = 0usize;
+    for (name, length) in &calls.pieces {
+        number = number.saturating_add(1);
+        let stopped = (number, *length, LastCall::failed(name), Err(Full));
+        if *name != place.mode && !is_left(block, place, calls, stopped) {
+            return Some(number);
         }
-        let last = LastCall::closing("finish");
-        let whole = (0, calls.text.len(), last, Ok(()));
-        self.stops_at(block, place, &calls, whole);
     }
+    None
+}
+
+/// Of each call its pieces, with a bar behind each: where the writer refuses one, that call fails,
+/// the builder is closed, and the formatter is as before and goes on to work. The answer is the number
+/// of the first piece where that isn't so, and 0 for no piece that is refused.
+pub fn wrong_piece(
+    alloc: Global,
+    block: Block,
+    is_pretty: bool,
+    rows: &str,
+) -> Result<Option<usize>, AllocError> {
+    let place = if is_pretty { PRETTY } else { PLAIN };
+    let calls = Calls::of(alloc, place, rows)?;
+    let whole = (0, calls.text.len(), LastCall::closing("finish"), Ok(()));
+    if !is_left(block, place, &calls, whole) {
+        return Ok(Some(0));
+    }
+    Ok(wrong_number(block, place, &calls))
 }

@@ -1,9 +1,9 @@
 //! Values that `fields!` takes apart, where the names of their fields are those that a macro may use,
 //! and a type that holds itself in pairs.
-use super::rows::Rows;
+use super::rows::{Table, are_ok, has_rows, same};
+use std::alloc::{AllocError, Global};
 use std::collections::BTreeMap;
-use std::test::Fail;
-use ufmt::{Formatter, fields, uDebug, uWrite, write_debug};
+use ufmt::{Formatter, fields, uDebug, uWrite};
 use ufmt_user::Json;
 
 #[derive(Drop)]
@@ -35,13 +35,15 @@ struct Thirteen {
     m: u8,
 }
 
-fn write_small<W: uWrite>(f: &mut Formatter<W>) -> Result<(), W::Error> {
+fn write_small<W: uWrite>(f: &mut Formatter<W>) -> [Result<(), W::Error>; 3] {
     let names = Names { f: 1, formatter: 2 };
-    fields!(f, names, Names { formatter, f })?;
     let unit = Unit;
-    fields!(f, unit, Unit)?;
     let three = Three(1, 2, 3);
-    fields!(f, three, Three(f, g, h))
+    [
+        fields!(f, names, Names { formatter, f }),
+        fields!(f, unit, Unit),
+        fields!(f, three, Three(f, g, h)),
+    ]
 }
 
 #[rattlefmt::skip]
@@ -82,42 +84,48 @@ fn write_thirteen<W: uWrite>(f: &mut Formatter<W>) -> Result<(), W::Error> {
     )
 }
 
-#[test]
-fn values_are_taken_apart(rt: HostRuntime) -> Result<(), Fail> {
-    let rows = Rows::of("taken apart", &rt);
-    let mut text = String::new(rt.alloc());
-    write_small(&mut Formatter::new(&mut text))?;
-    let small = "Names { formatter: 2, f: 1 }UnitThree(1, 2, 3)";
-    rows.same(text.as_str(), small, "few fields");
-    let mut text = String::new(rt.alloc());
-    write_thirteen(&mut Formatter::new(&mut text))?;
-    let many =
-        "Thirteen { a: 1, b: 2, c: 3, d: 4, e: 5, f: 6, g: 7, h: 8, i: 9, j: 10, k: 11, l: 12, m: 13 }";
-    rows.same(text.as_str(), many, "many");
-    Ok(())
-}
+const TAKEN_APART: &str = "\
+Names { formatter: 2, f: 1 }UnitThree(1, 2, 3)\
+Thirteen { a: 1, b: 2, c: 3, d: 4, e: 5, f: 6, g: 7, h: 8, i: 9, j: 10, k: 11, l: 12, m: 13 }";
 
 #[test]
-fn a_type_that_holds_itself_in_pairs(rt: HostRuntime) -> Result<(), Fail> {
-    let mut table = BTreeMap::new(rt.alloc());
+fn values_are_taken_apart(rt: HostRuntime) {
+    let mut text = String::new(rt.alloc());
+    let mut f = Formatter::new(&mut text);
+    let are_ok = are_ok(&write_small(&mut f)) && write_thirteen(&mut f).is_ok();
+    same(
+        &rt,
+        (are_ok, text.as_str()),
+        (true, TAKEN_APART),
+        "in a row",
+    );
+}
+
+fn pairs_of_a_list(alloc: Global) -> Result<Json, AllocError> {
+    let mut list = Vec::new(alloc);
+    list.push(Json::Number(-1))?;
+    let mut pairs = Vec::new(alloc);
+    pairs.push((String::from_str(alloc, "a")?, Json::Array(list)))?;
+    Ok(Json::Object(pairs))
+}
+
+fn pairs_of_a_table(alloc: Global) -> Result<Json, AllocError> {
+    let mut table = BTreeMap::new(alloc);
     table.insert(7u8, Json::Null)?;
-    let list = vec![in rt.alloc(); Json::Number(-1)]?;
-    let name = String::from_str(rt.alloc(), "a")?;
-    let one = (name, Json::Array(list));
-    let pairs = Json::Object(vec![in rt.alloc(); one]?);
-    let name = String::from_str(rt.alloc(), "b")?;
-    let other = (name, Json::Table(table));
-    let rows = Rows::of("json", &rt);
-    for (value, expected) in [
-        (pairs, "Object([(\"a\", Array([Number(-1)]))])"),
-        (
-            Json::Object(vec![in rt.alloc(); other]?),
-            "Object([(\"b\", Table({7: Null}))])",
-        ),
-    ] {
-        let mut text = String::new(rt.alloc());
-        write_debug(&mut text, &value)?;
-        rows.same(text.as_str(), expected, "plain");
-    }
-    Ok(())
+    let mut pairs = Vec::new(alloc);
+    pairs.push((String::from_str(alloc, "b")?, Json::Table(table)))?;
+    Ok(Json::Object(pairs))
+}
+
+const PAIRS: &str = "\
+Object([(\"a\", Array([Number(-1)]))]);
+Object([(\"b\", Table({7: Null}))]);
+";
+
+#[test]
+fn a_type_that_holds_itself_in_pairs(rt: HostRuntime) {
+    let mut table = Table::new(rt.alloc());
+    table.plain_of_made(pairs_of_a_list(rt.alloc()));
+    table.plain_of_made(pairs_of_a_table(rt.alloc()));
+    has_rows(&rt, &table, PAIRS);
 }

@@ -1,50 +1,66 @@
 //! The texts of a value, where another row of its shape has the pieces.
-use super::rows::Rows;
-use std::process::Abort;
-use ufmt::{Cursor, Formatter, fmt_pretty, uDebug};
+use super::printed::{Pretty, Printed, print_to};
+use super::rows::{Table, told_apart};
+use std::alloc::{AllocError, Global};
+use ufmt::{Cursor, uDebug};
 
-impl<R: Abort + AllocGlobal> Rows<'_, R> {
-    pub fn plain<T: uDebug>(&self, value: &T, plain: &str) {
-        let mut text = String::new(self.alloc());
-        let mut f = Formatter::new(&mut text);
-        let answer = value.fmt(&mut f);
-        let left = (answer.is_ok(), f.is_pretty(), f.depth());
-        self.same(left, (true, false, 0), plain);
-        self.same(text.as_str(), plain, "plain");
+fn text_by<T: Printed>(alloc: Global, value: &T) -> Result<String, AllocError> {
+    let ((answer, inside, outside), mut text) = print_to(false, value, String::new(alloc));
+    answer?;
+    if (inside, outside) != ((false, 0), (false, 0)) {
+        text.push_str(" in another mode or depth")?;
+    }
+    Ok(text)
+}
+
+// Whether this is what fills a buffer of just its length.
+fn fills_a_buffer<T: Printed>(alloc: Global, value: &T, text: &[u8]) -> Result<bool, AllocError> {
+    let mut bytes = vec![in alloc; 0u8; text.len()]?;
+    let (left, cursor) = print_to(false, value, Cursor::new(bytes.as_mut_slice()));
+    let is_ok = left == (Ok(()), (false, 0), (false, 0));
+    Ok(is_ok && cursor.written() == text && cursor.remaining() == 0)
+}
+
+fn pretty_of<T: uDebug>(alloc: Global, value: &T) -> Result<String, AllocError> {
+    let mut text = text_by(alloc, &Pretty(value))?;
+    if !fills_a_buffer(alloc, &Pretty(value), text.as_bytes())? {
+        text.push_str(" but not in a buffer of its length")?;
+    }
+    Ok(text)
+}
+
+/// The value's plain text, and behind a tilde its pretty text, where it is another.
+pub fn texts_of<T: uDebug>(alloc: Global, value: &T) -> Result<String, AllocError> {
+    let pretty = pretty_of(alloc, value)?;
+    told_apart(text_by(alloc, value)?, pretty.as_str())
+}
+
+impl Table {
+    /// A row of the value's plain text.
+    pub fn plain<T: uDebug>(&mut self, value: &T) {
+        let row = text_by(self.alloc(), value);
+        self.put_made(row);
     }
 
-    // In a buffer of just its length.
-    fn pretty<T: uDebug>(&self, value: &T, pretty: &str) {
-        let mut bytes = self.made(vec![in self.alloc(); 0u8; pretty.len()]);
-        let mut cursor = Cursor::new(bytes.as_mut_slice());
-        let mut f = Formatter::new(&mut cursor);
-        let answer = fmt_pretty(value, &mut f);
-        let left = (answer, f.is_pretty(), f.depth());
-        self.same(left, (Ok(()), false, 0), pretty);
-        self.same(cursor.written(), pretty.as_bytes(), pretty);
-        self.same(cursor.remaining(), 0, pretty);
+    /// The same of a value that took memory.
+    pub fn plain_of_made<T: uDebug + Drop, E: Drop>(&mut self, value: Result<T, E>) {
+        match value {
+            Ok(value) => self.plain(&value),
+            Err(_) => self.put_nothing(),
+        }
     }
 
-    /// Both texts are those of ufmt 0.2.0 and of core::fmt.
-    pub fn row<T: uDebug>(&self, value: &T, plain: &str, pretty: &str) {
-        self.plain(value, plain);
-        self.pretty(value, pretty);
+    /// A row of the value's texts.
+    pub fn texts<T: uDebug>(&mut self, value: &T) {
+        let row = texts_of(self.alloc(), value);
+        self.put_made(row);
     }
 
-    /// A leaf has one text in both modes.
-    pub fn leaf<T: uDebug>(&self, value: &T, text: &str) {
-        self.row(value, text, text);
-    }
-
-    /// The pretty text is that of core::fmt, from which that of ufmt 0.2.0 differs.
-    pub fn row_unlike_ufmt<T: uDebug>(
-        &self,
-        value: &T,
-        plain: &str,
-        pretty: &str,
-        ufmt_pretty: &str,
-    ) {
-        self.holds(pretty != ufmt_pretty, pretty);
-        self.row(value, plain, pretty);
+    /// The same of a value that took memory.
+    pub fn texts_of_made<T: uDebug + Drop, E: Drop>(&mut self, value: Result<T, E>) {
+        match value {
+            Ok(value) => self.texts(&value),
+            Err(_) => self.put_nothing(),
+        }
     }
 }

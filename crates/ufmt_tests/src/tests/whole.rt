@@ -1,71 +1,88 @@
 //! Whole values in one call: onto a formatter, to a writer, and into a buffer.
-use super::rows::Rows;
+use super::rows::{Table, are_ok, has_rows, same};
 use ufmt::{
-    Formatter, Full, debug_into, display_into, pretty_into, write_debug, write_display,
-    write_pretty,
+    Formatter, debug_into, display_into, pretty_into, write_debug, write_display, write_pretty,
 };
 
 #[test]
 fn whole_values_in_one_call(rt: HostRuntime) {
-    let rows = Rows::of("one call", &rt);
     let mut text = String::new(rt.alloc());
     let mut f = Formatter::new(&mut text);
-    rows.all_ok(&[
+    let by_formatter = [
         f.list_of(&[1u8, 2]),
         f.set_of(&[1u8, 2]),
         f.map_of(&[(1u8, 2u8), (3, 4)]),
-    ]);
-    rows.all_ok(&[
+    ];
+    let by_writer = [
         write_debug(&mut text, &7u8),
         write_display(&mut text, &"7"),
         write_pretty(&mut text, &[7u8]),
-    ]);
+    ];
+    let are_ok = are_ok(&by_formatter) && are_ok(&by_writer);
     let expected = "[1, 2]{1, 2}{1: 2, 3: 4}77[\n    7,\n]";
-    rows.same(text.as_str(), expected, "the text");
+    same(&rt, (are_ok, text.as_str()), (true, expected), "one call");
 }
+
+// A number by `debug_into`, and a text by `display_into`.
+const IN_BUFFERS: &str = "\
+Ok(3) 123.;
+Ok(3) 123.;
+Ok(3) 123.;
+Ok(3) 123.;
+Err(Full) ....;
+Err(Full) ....;
+";
 
 #[test]
 fn values_into_a_buffer(rt: HostRuntime) {
-    let rows = Rows::of("into a buffer", &rt);
-    for (length, answer, left) in [
-        (4, Ok(3), "123."),
-        (3, Ok(3), "123."),
-        (2, Err(Full), "...."),
-    ] {
+    let mut table = Table::new(rt.alloc());
+    for length in [4, 3, 2] {
         let mut buffer = [b'.'; 4];
-        let given = debug_into(&mut buffer[..length], &123u8);
-        rows.same((length, given), (length, answer), "debug");
-        rows.same(buffer.as_slice(), left.as_bytes(), "debug");
+        let answer = debug_into(&mut buffer[..length], &123u8);
+        table.put_answer(answer, &buffer);
         let mut buffer = [b'.'; 4];
-        let given = display_into(&mut buffer[..length], &"123");
-        rows.same((length, given), (length, answer), "display");
-        rows.same(buffer.as_slice(), left.as_bytes(), "display");
+        let answer = display_into(&mut buffer[..length], &"123");
+        table.put_answer(answer, &buffer);
     }
+    has_rows(&rt, &table, IN_BUFFERS);
 }
+
+const QUOTED_IN_BUFFERS: &str = "\
+Err(Full) \"a....;
+Ok(6) \"a\\\"b\";
+";
 
 #[test]
 fn quoted_texts_into_a_buffer(rt: HostRuntime) {
-    let rows = Rows::of("quoted into a buffer", &rt);
-    for (length, answer, left) in [(3, Err(Full), "\"a...."), (6, Ok(6), "\"a\\\"b\"")] {
+    let mut table = Table::new(rt.alloc());
+    for length in [3, 6] {
         let mut buffer = [b'.'; 6];
-        let given = debug_into(&mut buffer[..length], &"a\"b");
-        rows.same((length, given), (length, answer), "quoted");
-        rows.same(buffer.as_slice(), left.as_bytes(), "quoted");
+        let answer = debug_into(&mut buffer[..length], &"a\"b");
+        table.put_answer(answer, &buffer);
     }
+    has_rows(&rt, &table, QUOTED_IN_BUFFERS);
 }
+
+const PRETTY_IN_BUFFERS: &str = "\
+Ok(10) [
+    7,
+].;
+Ok(10) [
+    7,
+].;
+Err(Full) [
+    7,
+..;
+Err(Full) ...........;
+";
 
 #[test]
 fn pretty_values_into_a_buffer(rt: HostRuntime) {
-    let rows = Rows::of("pretty into a buffer", &rt);
-    for (length, answer, left) in [
-        (11, Ok(10), "[\n    7,\n]."),
-        (10, Ok(10), "[\n    7,\n]."),
-        (9, Err(Full), "[\n    7,\n.."),
-        (0, Err(Full), "..........."),
-    ] {
+    let mut table = Table::new(rt.alloc());
+    for length in [11, 10, 9, 0] {
         let mut buffer = [b'.'; 11];
-        let given = pretty_into(&mut buffer[..length], &[7u8]);
-        rows.same((length, given), (length, answer), "pretty");
-        rows.same(buffer.as_slice(), left.as_bytes(), "pretty");
+        let answer = pretty_into(&mut buffer[..length], &[7u8]);
+        table.put_answer(answer, &buffer);
     }
+    has_rows(&rt, &table, PRETTY_IN_BUFFERS);
 }

@@ -1,4 +1,4 @@
-//! Writers that show where pieces end: one refuses a piece, the other notes how long its text is.
+//! Writers that show where pieces end: one refuses a piece, the other notes its pieces.
 ghost use Rattle.std.specs.Prelude.{[], ◌∷◌, ⊤, string_bytes};
 ghost use Rattle.ufmt.specs.Cursor.{buffer_length, buffer_name, written_bytes};
 
@@ -64,31 +64,23 @@ impl uWrite for FailAt<'_> {
     }
 }
 
-/// Notes the length of its text after each piece. It has no `write_char` of its own.
+/// Notes its text, and its pieces with a bar behind each. It has no `write_char` of its own.
 #[derive(Drop)]
-pub struct Measured {
-    text: String,
-    ends: Vec<usize>,
+pub struct Recorded {
+    pub text: String,
+    pub barred: String,
 }
 
-impl Measured {
+impl Recorded {
     pub fn new(alloc: Global) -> Self {
-        Measured {
+        Recorded {
             text: String::new(alloc),
-            ends: Vec::new(alloc),
+            barred: String::new(alloc),
         }
     }
-
-    pub fn text(&self) -> &str {
-        self.text.as_str()
-    }
-
-    pub fn ends(&self) -> &[usize] {
-        self.ends.as_slice()
-    }
 }
 
-impl uWrite for Measured {
+impl uWrite for Recorded {
     type Error = AllocError;
 
     ghost seen = { record { told = λ w. ⊤; text = λ w. string_bytes w.text; room = λ w. 0; identity = λ w. []; store = λ w. [] } };
@@ -96,11 +88,11 @@ impl uWrite for Measured {
     fn write_str(&mut self, s: &str) -> Result<(), AllocError> {
         if s.is_empty() {
             // An empty piece is `Ok`, whether there was room to note it or not.
-            let _noted = self.ends.push(self.text.len());
+            let _noted = self.barred.push('|');
             return Ok(());
         }
         self.text.push_str(s)?;
-        self.ends.push(self.text.len())?;
-        Ok(())
+        self.barred.push_str(s)?;
+        self.barred.push('|')
     }
 }

@@ -1,0 +1,205 @@
+//! Which pieces a writer is handed of a document, and what is left where one is refused.
+ghost use Rattle.std.specs.Prelude.{[]};
+
+use super::deep::lists_round;
+use super::same;
+use super::shape::Shape::{self, Leaf, Listed, MapOf, SetOf, StructOf, TupleOf};
+use super::shape::made;
+use std::alloc::{AllocError, Global};
+use ufmt::{Cursor, Formatter, Full, uDebug, uWrite};
+use ufmt_doc::doc::Doc;
+
+/// Notes its text, and its pieces with a bar behind each, and refuses the piece of a number and each
+/// later one. It counts those that aren't empty, from 1 on. What it holds is not told to contracts.
+#[derive(Drop)]
+struct Noted {
+    text: String,
+    barred: String,
+    count: usize,
+    refused: usize,
+}
+
+impl Noted {
+    fn new(alloc: Global, refused: usize) -> Self {
+        Noted {
+            text: String::new(alloc),
+            barred: String::new(alloc),
+            count: 0,
+            refused,
+        }
+    }
+
+    fn note(&mut self, piece: &str) -> Result<(), AllocError> {
+        self.text.push_str(piece)?;
+        self.barred.push_str(piece)?;
+        self.barred.push('|')
+    }
+}
+
+impl uWrite for Noted {
+    type Error = Full;
+
+    ghost seen = { record { told = λ _. ⊥; text = λ _. []; room = λ _. 0; identity = λ _. []; store = λ _. [] } };
+
+    fn write_str(&mut self, s: &str) -> Result<(), Full> {
+        if s.is_empty() {
+            // An empty piece is `Ok`, whether there was room to note it or not.
+            let _noted = self.barred.push('|');
+            return Ok(());
+        }
+        self.count = self.count.saturating_add(1);
+        if self.count >= self.refused || self.note(s).is_err() {
+            return Err(Full);
+        }
+        Ok(())
+    }
+}
+
+// What a call leaves behind: its answer, and the mode and depth inside and outside of the pretty part.
+type Left = (Result<(), Full>, (bool, u8), (bool, u8));
+
+// Prints the document in this mode, and gives what is left and the writer back.
+fn print_to<W: uWrite<Error = Full>>(is_pretty: bool, doc: &Doc, writer: W) -> (Left, W) {
+    let mut f = Formatter::new(writer);
+    let mut inside = (false, 0);
+    let answer = if is_pretty {
+        f.pretty(|f| {
+            let answer = doc.fmt(f);
+            inside = (f.is_pretty(), f.depth());
+            answer
+        })
+    } else {
+        doc.fmt(&mut f)
+    };
+    let outside = (f.is_pretty(), f.depth());
+    ((answer, inside, outside), f.into_inner())
+}
+
+// What is left where the writer took all of the document, or refused a part.
+fn left(is_pretty: bool, answer: Result<(), Full>) -> Left {
+    (answer, (is_pretty, 0), (false, 0))
+}
+
+// Whether a writer that refuses the piece of any one number is left with those before it, and is
+// handed none behind it.
+fn stops_at_each_number(alloc: Global, is_pretty: bool, doc: &Doc, all: &Noted) -> bool {
+    for number in 1..=all.count {
+        let (given, noted) = print_to(is_pretty, doc, Noted::new(alloc, number));
+        let is_beginning = all.barred.starts_with(noted.barred.as_str());
+        if given != left(is_pretty, Err(Full)) || noted.count != number || !is_beginning {
+            return false;
+        }
+    }
+    true
+}
+
+// How many bytes the pieces have before the first that doesn't fit so many.
+fn length_within(barred: &str, size: usize) -> usize {
+    let mut length = 0usize;
+    for piece in barred.split('|') {
+        if length.saturating_add(piece.len()) > size {
+            return length;
+        }
+        length = length.saturating_add(piece.len());
+    }
+    length
+}
+
+// Whether a cursor of each size up to the text's length is left with the pieces that fit.
+fn fits_each_size(
+    alloc: Global,
+    is_pretty: bool,
+    doc: &Doc,
+    all: &Noted,
+) -> Result<bool, AllocError> {
+    for size in 0..=all.text.len() {
+        let mut bytes = vec![in alloc; 0u8; size]?;
+        let (given, cursor) = print_to(is_pretty, doc, Cursor::new(bytes.as_mut_slice()));
+        let length = length_within(all.barred.as_str(), size);
+        let answer = if size < all.text.len() {
+            Err(Full)
+        } else {
+            Ok(())
+        };
+        let is_written = all.text.as_bytes().get(..length) == Some(cursor.written());
+        if given != left(is_pretty, answer) || !is_written {
+            return Ok(false);
+        }
+    }
+    Ok(true)
+}
+
+// The document's pieces in one mode, with a bar behind each, if each refusal leaves what it should.
+fn pieces_in(alloc: Global, is_pretty: bool, doc: &Doc) -> Result<String, AllocError> {
+    let (given, all) = print_to(is_pretty, doc, Noted::new(alloc, usize::MAX));
+    let is_whole = given == left(is_pretty, Ok(()))
+        && stops_at_each_number(alloc, is_pretty, doc, &all)
+        && fits_each_size(alloc, is_pretty, doc, &all)?;
+    if !is_whole {
+        return String::from_str(alloc, "something else is left");
+    }
+    Ok(all.barred)
+}
+
+// Those in plain mode, and behind a tilde those in pretty mode.
+fn pieces_of(alloc: Global, shape: &Shape<'_>) -> Result<String, AllocError> {
+    let doc = made(alloc, shape)?;
+    let mut pieces = pieces_in(alloc, false, &doc)?;
+    pieces.push('~')?;
+    pieces.push_str(pieces_in(alloc, true, &doc)?.as_str())?;
+    Ok(pieces)
+}
+
+const A_LEAF: &str = "a leaf|~a leaf|";
+
+// A block of each kind, whose leaves have two bytes.
+const BLOCKS: Shape<'static> = StructOf(
+    "S",
+    &[
+        ("a", Listed(&[Leaf("xy")])),
+        ("b", SetOf(&[Leaf("yy")])),
+        ("c", MapOf(&[(Leaf("kk"), Leaf("vv"))])),
+        ("d", TupleOf("T", &[Leaf("zz")])),
+        ("e", TupleOf("", &[Leaf("ww")])),
+    ],
+);
+
+const PIECES_OF_BLOCKS: &str = "\
+S| {| |a|: |[|xy|]|, |b|: |{|yy|}|, |c|: |{|kk|: |vv|}|, |d|: |T|(|zz|)|, |e|: ||(|ww|,|)| |}|~\
+S| {|\n|    |a|: |[|\n|    |    |xy|,\n|    |]|,\n\
+|    |b|: |{|\n|    |    |yy|,\n|    |}|,\n\
+|    |c|: |{|\n|    |    |kk|: |vv|,\n|    |}|,\n\
+|    |d|: |T|(|\n|    |    |zz|,\n|    |)|,\n\
+|    |e|: ||(|\n|    |    |ww|,\n|    |)|,\n|}|";
+
+#[test]
+fn documents_are_written_piece_by_piece(rt: HostRuntime) {
+    for (shape, wanted) in [(Leaf("a leaf"), A_LEAF), (BLOCKS, PIECES_OF_BLOCKS)] {
+        let pieces = pieces_of(rt.alloc(), &shape);
+        same(&rt, pieces.as_deref().ok(), Some(wanted), "pieces");
+    }
+}
+
+// What is left of so many lists, how many pieces were handed to a writer that refuses that of this
+// number, and how many bytes it took.
+fn stopped_in_lists(
+    alloc: Global,
+    count: usize,
+    number: usize,
+) -> Result<(Left, usize, usize), AllocError> {
+    let doc = lists_round(alloc, count, &Leaf("x"))?;
+    let (left, noted) = print_to(true, &doc, Noted::new(alloc, number));
+    Ok((left, noted.count, noted.text.len()))
+}
+
+// The list at depth k has a bracket, a line feed and k + 1 indentations before its entry: 297 pieces
+// before the 23rd list, with 44 bytes of the former and 253 indentations, and 987 before the 43rd,
+// with 84 bytes and 903 indentations.
+#[test]
+fn a_deep_document_stops_at_a_piece(rt: HostRuntime) {
+    for (number, length) in [(1, 0), (300, 1058), (1000, 3738)] {
+        let given = stopped_in_lists(rt.alloc(), 300, number);
+        let wanted = (left(true, Err(Full)), number, length);
+        same(&rt, given, Ok(wanted), "300 lists");
+    }
+}
