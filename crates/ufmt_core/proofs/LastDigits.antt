@@ -22,8 +22,8 @@ unfolding last_digits
 last_digits-two n low = let tens : n / 10 % 10 ≡ n / 10 = omega arith in rw tens refl
 
 -- they are the whole text of a number of two digits
-pub decimal-two : (n : ℕ) → 10 ≤ n → n < 100 → decimal (pos n) ≡ decimal_byte (n / 10) ∷ decimal_byte (n % 10) ∷ []
-decimal-two n high low = text-step decimal-in_base n high ∙ rw (text-digit decimal-in_base (n / 10) (omega arith)) refl
+pub decimal-two : (n : ℕ) → 10 ≤ n → n < 100 → decimal (pos n) ≡ last_digits 2 n
+decimal-two n high low = text-step decimal-in_base n high ∙ rw (text-digit decimal-in_base (n / 10) (omega arith), last_digits-two n low) refl
 
 -- two bytes written at `at`, and what was behind them
 pub drop-pair : (buffer : List ℕ) (at next tens ones : ℕ) → next ≡ at + 1 → at + 2 ≤ length buffer → drop at (set (set buffer next ones) at tens) ≡ tens ∷ ones ∷ drop (at + 2) buffer
@@ -56,13 +56,13 @@ last_digits-split front count n =
     cut (λ c m. last_digits (front + c) m) (λ c m. Unit {0}) (λ c m h. (ap (λ k. last_digits k m) {x = front + suc c} {y = suc (front + c)} (omega arith), h)) count n tt ∙ rw none refl
 
 -- and decimal texts
-decimal-cut : (count n : ℕ) → 10 ^ count ≤ n → decimal (pos n) ≡ decimal (pos (n / 10 ^ count)) ++ last_digits count (n % 10 ^ count)
+pub decimal-cut : (count n : ℕ) → 10 ^ count ≤ n → decimal (pos n) ≡ decimal (pos (n / 10 ^ count)) ++ last_digits count (n % 10 ^ count)
 decimal-cut =
     cut (λ c m. decimal (pos m)) (λ c m. 10 ^ c ≤ m)
     (λ c m h. (text-step decimal-in_base m (omega (arith, pow-suc 10 c, positive_power c)), le-div (10 ^ c) m 10 (omega arith) (omega (arith, pow-suc 10 c))))
 
 -- which then are shorter by as many
-length-cut : (count n : ℕ) → 10 ^ count ≤ n → length (decimal (pos n)) ≡ length (decimal (pos (n / 10 ^ count))) + count
+pub length-cut : (count n : ℕ) → 10 ^ count ≤ n → length (decimal (pos n)) ≡ length (decimal (pos (n / 10 ^ count))) + count
 length-cut count n high =
     omega (arith, ap length (decimal-cut count n high), length-append (decimal (pos (n / 10 ^ count))) (last_digits count (n % 10 ^ count)), length-last_digits count (n % 10 ^ count))
 

@@ -45,7 +45,7 @@ pub(crate) trait Magnitude: Copy {
         ensures written { drop result buffer.new ≡ decimal (pos (value self)) };
 }
 
-/// Two digits a turn, from the right.
+/// Four digits a turn, from the right, and then those that are left.
 impl Magnitude for u32 {
     ghost value = { λ n. n };
 
@@ -53,12 +53,12 @@ impl Magnitude for u32 {
     fn write_digits(self, buffer: &mut [u8]) -> usize {
         let mut start = buffer.len();
         let mut left = self;
-        while left >= 100 {
-            start -= 2;
-            write_pair((left % 100) as u8, buffer, start);
-            left /= 100;
+        while left >= 10_000 {
+            start -= 4;
+            write_four(left % 10_000, buffer, start);
+            left /= 10_000;
         }
-        write_first(left as u8, buffer, start)
+        write_short(left, buffer, start)
     }
 }
 
@@ -129,37 +129,66 @@ fn write_four(n: u32, buffer: &mut [u8], start: usize)
     requires room { start + 4 ≤ length buffer.old }
     ensures { drop start buffer.new ≡ last_digits 4 n ++ drop (start + 4) buffer.old }
 {
-    write_pair((n % 100) as u8, buffer, start + 2);
-    write_pair((n / 100) as u8, buffer, start);
+    let (front, pair) = split_pair(n);
+    write_pair(pair, buffer, start + 2);
+    write_pair(front, buffer, start);
+}
+
+// What stands before the last two digits of a number of four, and these two. The code generator does
+// `n / 100` in 16 bits, with extensions and shifts round it, and leaves this product as it is.
+#[inline(always)]
+fn split_pair(n: u32) -> (u32, u32)
+    requires four_digits { n < 10 ^ 4 }
+    ensures front { result.0 ≡ n / 100 }
+    ensures pair { result.1 ≡ n % 100 }
+{
+    let front = n * 5243 / 524_288;
+    (front, n - 100 * front)
 }
 
 // Writes two digits.
 #[inline(always)]
-fn write_pair(pair: u8, buffer: &mut [u8], start: usize)
+fn write_pair(pair: u32, buffer: &mut [u8], start: usize)
     requires two_digits { pair < 100 }
     requires room { start + 2 ≤ length buffer.old }
     ensures { drop start buffer.new ≡ last_digits 2 pair ++ drop (start + 2) buffer.old }
 {
-    let (tens, ones) = digit_pair(pair);
+    let (tens, ones) = digit_pair(pair as u8);
     buffer[start] = tens;
     buffer[start + 1] = ones;
 }
 
+// Writes a number of one digit to four before `end`, and gives the index of the first.
+#[inline(always)]
+fn write_short(n: u32, buffer: &mut [u8], end: usize) -> usize
+    requires four_digits { n < 10 ^ 4 }
+    requires room { length (decimal (pos n)) ≤ end }
+    requires within { end ≤ length buffer.old }
+    ensures start { result + length (decimal (pos n)) ≡ end }
+    ensures written { drop result buffer.new ≡ decimal (pos n) ++ drop end buffer.old }
+{
+    if n < 100 {
+        return write_first(n, buffer, end);
+    }
+    let (front, pair) = split_pair(n);
+    write_pair(pair, buffer, end - 2);
+    write_first(front, buffer, end - 2)
+}
+
 // Writes a number of one digit or two before `end`, and gives the index of the first.
 #[inline(always)]
-fn write_first(n: u8, buffer: &mut [u8], end: usize) -> usize
+fn write_first(n: u32, buffer: &mut [u8], end: usize) -> usize
     requires two_digits { n < 100 }
     requires room { length (decimal (pos n)) ≤ end }
     requires within { end ≤ length buffer.old }
     ensures start { result + length (decimal (pos n)) ≡ end }
     ensures written { drop result buffer.new ≡ decimal (pos n) ++ drop end buffer.old }
 {
-    let (tens, ones) = digit_pair(n);
-    buffer[end - 1] = ones;
     if n < 10 {
+        buffer[end - 1] = b'0' + n as u8;
         return end - 1;
     }
-    buffer[end - 2] = tens;
+    write_pair(n, buffer, end - 2);
     end - 2
 }
 

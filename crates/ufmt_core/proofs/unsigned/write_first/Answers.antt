@@ -1,8 +1,8 @@
-use Rattle.std.proofs.Common.{◌≡◌, ◌+◌, ◌-◌, ◌/◌, ◌%◌, [], ◌∷◌, pos, length, refl, ap, arith, length-set}
-use Rattle.ufmt_core.specs.Decimal.{decimal, decimal_byte}
+use Rattle.std.proofs.Common.{◌≡◌, ℕ, ◌+◌, ◌-◌, ◌<◌, ◌≤◌, [], pos, length, ap, ◌∙◌, arith}
+use Rattle.ufmt_core.specs.Decimal.{decimal}
 use Rattle.ufmt_core.proofs.DecimalTexts.{decimal-in_base}
 use Rattle.ufmt_core.proofs.NumeralTexts.{text-digit, text-nonempty}
-use Rattle.ufmt_core.proofs.LastDigits.{decimal-two, drop-pair}
+use Rattle.ufmt_core.proofs.LastDigits.{decimal-two, length-last_digits}
 use Rattle.ufmt_core.proofs.WrittenDigits.{put_before}
 use Rattle.ufmt_core.proofs.unsigned.write_first.Goals as goal
 
@@ -17,30 +17,28 @@ overflow_sub-result c = omega (arith, text-nonempty decimal-in_base c.args.n)
 
 pub returns-then-n-lt10 : goal.returns-then-n-lt10
 returns-then-n-lt10 c =
-    let one = text-digit decimal-in_base c.args.n c.if-n-lt10.true in
-    let digit : 48 + c.args.n ≡ c.digit_pair-tens.result.1 = omega arith in record {
+    let one = text-digit decimal-in_base c.args.n c.if-n-lt10.true in record {
       start = omega (arith, ap length one);
-      written = rw (one, digit) (put_before [] c.args.buffer.now c.args.end c.digit_pair-tens.result.1 (omega (arith, ap length one)) c.requires.within);
+      written = rw one (put_before [] c.args.buffer.now c.args.end (48 + c.args.n) (omega (arith, ap length one)) c.requires.within);
     }
 
--- the text of a number that is not below 10
-two : (c : goal.Else-n-lt10) → decimal (pos c.args.n) ≡ decimal_byte (c.args.n / 10) ∷ decimal_byte (c.args.n % 10) ∷ []
-two c = decimal-two c.args.n c.if-n-lt10.false c.requires.two_digits
+-- a number that is not below 10 has two digits
+two : (n : ℕ) → 10 ≤ n → n < 100 → length (decimal (pos n)) ≡ 2
+two n high low = ap length (decimal-two n high low) ∙ length-last_digits 2 n
 
-pub overflow_sub-buffer-2 : goal.overflow_sub-buffer-2
-overflow_sub-buffer-2 c = omega (arith, ap length (two c))
+pub overflow_sub-end : goal.overflow_sub-end
+overflow_sub-end c = omega (arith, two c.args.n c.if-n-lt10.false c.requires.two_digits)
 
-pub bounds-buffer-end-2 : goal.bounds-buffer-end-2
-bounds-buffer-end-2 c = omega (arith, length-set c.args.buffer.now (c.args.end - 1) c.digit_pair-tens.result.1, ap length (two c))
+pub write_pair-requires-clause-room : goal.write_pair-requires-clause-room
+write_pair-requires-clause-room c = omega (arith, two c.args.n c.if-n-lt10.false c.requires.two_digits)
 
 pub overflow_sub-result-2 : goal.overflow_sub-result-2
-overflow_sub-result-2 c = omega (arith, ap length (two c))
+overflow_sub-result-2 c = omega (arith, two c.args.n c.if-n-lt10.false c.requires.two_digits)
 
 pub returns : goal.returns
 returns c =
-    let end = c.args.end in
-    let pair = c.digit_pair-tens in
-    let whole : end - 2 + 2 ≡ end = omega (arith, ap length (two c)) in record {
-      start = omega (arith, ap length (two c));
-      written = rw (two c, ← pair.ensures.tens, ← pair.ensures.ones, drop-pair c.args.buffer.now (end - 2) (end - 1) pair.result.0 pair.result.1 (omega arith) (omega arith), whole) refl;
+    let digits = two c.args.n c.if-n-lt10.false c.requires.two_digits in
+    let whole : c.args.end - 2 + 2 ≡ c.args.end = omega arith in record {
+      start = omega arith;
+      written = rw (decimal-two c.args.n c.if-n-lt10.false c.requires.two_digits) (rw whole at c.write_pair.ensures);
     }
