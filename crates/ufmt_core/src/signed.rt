@@ -81,6 +81,7 @@ fn write_decimal<S: Signed>(z: S, buffer: &mut [u8]) -> usize
 impl uDebug for i8 {
     ghost document = { λ z. leaf (decimal z) };
 
+    #[inline(always)]
     fn fmt<W>(&self, f: &mut Formatter<W>) -> Result<(), W::Error>
     where
         W: uWrite,
@@ -92,6 +93,7 @@ impl uDebug for i8 {
 impl uDebug for i16 {
     ghost document = { λ z. leaf (decimal z) };
 
+    #[inline(always)]
     fn fmt<W>(&self, f: &mut Formatter<W>) -> Result<(), W::Error>
     where
         W: uWrite,
@@ -103,6 +105,7 @@ impl uDebug for i16 {
 impl uDebug for i32 {
     ghost document = { λ z. leaf (decimal z) };
 
+    #[inline(always)]
     fn fmt<W>(&self, f: &mut Formatter<W>) -> Result<(), W::Error>
     where
         W: uWrite,
@@ -114,6 +117,7 @@ impl uDebug for i32 {
 impl uDebug for i64 {
     ghost document = { λ z. leaf (decimal z) };
 
+    #[inline(always)]
     fn fmt<W>(&self, f: &mut Formatter<W>) -> Result<(), W::Error>
     where
         W: uWrite,
@@ -136,6 +140,7 @@ impl uDebug for i128 {
 impl uDebug for isize {
     ghost document = { λ z. leaf (decimal z) };
 
+    #[inline(always)]
     fn fmt<W>(&self, f: &mut Formatter<W>) -> Result<(), W::Error>
     where
         W: uWrite,

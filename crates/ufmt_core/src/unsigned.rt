@@ -218,6 +218,7 @@ pub fn text_from(buffer: &[u8], start: usize) -> &str
 impl uDebug for u8 {
     ghost document = { λ n. leaf (decimal (pos n)) };
 
+    #[inline(always)]
     fn fmt<W>(&self, f: &mut Formatter<W>) -> Result<(), W::Error>
     where
         W: uWrite,
@@ -229,6 +230,7 @@ impl uDebug for u8 {
 impl uDebug for u16 {
     ghost document = { λ n. leaf (decimal (pos n)) };
 
+    #[inline(always)]
     fn fmt<W>(&self, f: &mut Formatter<W>) -> Result<(), W::Error>
     where
         W: uWrite,
@@ -240,6 +242,7 @@ impl uDebug for u16 {
 impl uDebug for u32 {
     ghost document = { λ n. leaf (decimal (pos n)) };
 
+    #[inline(always)]
     fn fmt<W>(&self, f: &mut Formatter<W>) -> Result<(), W::Error>
     where
         W: uWrite,
@@ -251,6 +254,7 @@ impl uDebug for u32 {
 impl uDebug for u64 {
     ghost document = { λ n. leaf (decimal (pos n)) };
 
+    #[inline(always)]
     fn fmt<W>(&self, f: &mut Formatter<W>) -> Result<(), W::Error>
     where
         W: uWrite,
@@ -273,6 +277,7 @@ impl uDebug for u128 {
 impl uDebug for usize {
     ghost document = { λ n. leaf (decimal (pos n)) };
 
+    #[inline(always)]
     fn fmt<W>(&self, f: &mut Formatter<W>) -> Result<(), W::Error>
     where
         W: uWrite,
