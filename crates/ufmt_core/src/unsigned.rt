@@ -62,7 +62,7 @@ impl Magnitude for u32 {
     }
 }
 
-/// Parts of eight digits, from the right, and then what fits 32 bits.
+/// Parts of sixteen digits, from the right, of which there is at most one, and then parts of eight.
 impl Magnitude for u64 {
     ghost value = { λ n. n };
 
@@ -70,12 +70,12 @@ impl Magnitude for u64 {
     fn write_digits(self, buffer: &mut [u8]) -> usize {
         let mut start = buffer.len();
         let mut left = self;
-        while left > u32::MAX as u64 {
-            start -= 8;
-            write_eight((left % EIGHT_DIGITS) as u32, buffer, start);
-            left /= EIGHT_DIGITS;
+        while left >= SIXTEEN_DIGITS {
+            start -= 16;
+            write_sixteen(left % SIXTEEN_DIGITS, buffer, start);
+            left /= SIXTEEN_DIGITS;
         }
-        (left as u32).write_digits(&mut buffer[..start])
+        write_by_eight(left, &mut buffer[..start])
     }
 }
 
@@ -88,17 +88,34 @@ impl Magnitude for u128 {
         let mut left = self;
         while left > u64::MAX as u128 {
             start -= 16;
-            write_sixteen((left % SIXTEEN_DIGITS) as u64, buffer, start);
-            left /= SIXTEEN_DIGITS;
+            write_sixteen((left % SIXTEEN_DIGITS as u128) as u64, buffer, start);
+            left /= SIXTEEN_DIGITS as u128;
         }
-        (left as u64).write_digits(&mut buffer[..start])
+        write_by_eight(left as u64, &mut buffer[..start])
     }
 }
 
 // One more than the greatest number with so many digits.
 const EIGHT_DIGITS: u64 = 100_000_000;
 
-const SIXTEEN_DIGITS: u128 = 10_000_000_000_000_000;
+const SIXTEEN_DIGITS: u64 = 10_000_000_000_000_000;
+
+// Writes a text as `write_digits` does: parts of eight digits, from the right, and then what is left.
+#[inline(always)]
+fn write_by_eight(n: u64, buffer: &mut [u8]) -> usize
+    requires { length (decimal (pos n)) ≤ length buffer.old }
+    ensures start { result + length (decimal (pos n)) ≡ length buffer.old }
+    ensures written { drop result buffer.new ≡ decimal (pos n) }
+{
+    let mut start = buffer.len();
+    let mut left = n;
+    while left >= EIGHT_DIGITS {
+        start -= 8;
+        write_eight((left % EIGHT_DIGITS) as u32, buffer, start);
+        left /= EIGHT_DIGITS;
+    }
+    (left as u32).write_digits(&mut buffer[..start])
+}
 
 // Writes sixteen digits, with zeros before those of a short number.
 #[inline]
@@ -134,8 +151,8 @@ fn write_four(n: u32, buffer: &mut [u8], start: usize)
     write_pair(front, buffer, start);
 }
 
-// What stands before the last two digits of a number of four, and these two. The code generator does
-// `n / 100` in 16 bits, with extensions and shifts round it, and leaves this product as it is.
+// A number of four digits without its last two, and those. The code generator does `n / 100` in 16
+// bits, with extensions and shifts round it, and leaves this product as it is.
 #[inline(always)]
 fn split_pair(n: u32) -> (u32, u32)
     requires four_digits { n < 10 ^ 4 }
