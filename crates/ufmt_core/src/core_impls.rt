@@ -14,6 +14,7 @@ use crate::write::uWrite;
 impl<T: uDebug> uDebug for &T {
     ghost document = { λ x. T.document x.now };
 
+    #[inline(always)]
     fn fmt<W>(&self, f: &mut Formatter<W>) -> Result<(), W::Error>
     where
         W: uWrite,
@@ -26,6 +27,7 @@ impl<T: uDebug> uDebug for &T {
 impl<T: uDebug> uDebug for &mut T {
     ghost document = { λ x. T.document x.now };
 
+    #[inline(always)]
     fn fmt<W>(&self, f: &mut Formatter<W>) -> Result<(), W::Error>
     where
         W: uWrite,

@@ -11,7 +11,7 @@ ghost use Rattle.ufmt_core.specs.Block.{WritesEnding, EndsEntry, IsOpen, WritesO
 ghost use Rattle.ufmt_core.specs.Builder.{EntryLoan, LendsBehind, LendsForEntry, OpeningLoan, block, abandoned, lent};
 
 use crate::formatter::Formatter;
-use crate::layout::{Count, Kind, Setting};
+use crate::layout::{Count, Kind, Mode, Setting};
 use crate::write::uWrite;
 
 /// Which calls of a builder may follow.
@@ -62,7 +62,9 @@ impl<W: uWrite> Formatter<W> {
     {
         self.write_str(opening)?;
         let outer = self.setting;
-        self.setting = outer.inside();
+        if matches!(outer.mode, Mode::Pretty) {
+            self.setting = outer.inside();
+        }
         Ok(Builder {
             formatter: self,
             marker,
