@@ -1,5 +1,5 @@
 //! A writer over a buffer of a fixed size.
-ghost use Rattle.std.specs.Prelude.{◌≡◌, ◌+◌, ◌++◌, ◌≤◌, [], length, take, drop, is_ok, encode_utf8};
+ghost use Rattle.std.specs.Prelude.{◌≡◌, ◌+◌, ◌++◌, ◌*◌, ◌<◌, ◌≤◌, [], length, take, drop, is_ok, encode_utf8};
 ghost use Rattle.ufmt_core.specs.Layout.{plain_text, pretty_text};
 ghost use Rattle.ufmt_core.specs.Writes.{Writes};
 ghost use Rattle.ufmt.specs.Buffer.{Fronts};
@@ -62,11 +62,12 @@ impl uWrite for Cursor<'_> {
         ensures writes { Writes cursor_seen self.old s.now (is_ok result) self.new }
         ensures fills { Fills self.old s.now (is_ok result) self.new }
     {
-        if s.len() > self.remaining() {
+        let end = self.count + s.len();
+        if end > self.buffer.len() {
             return Err(Full);
         }
         put(s.as_bytes(), self.buffer, self.count);
-        self.count += s.len();
+        self.count = end;
         Ok(())
     }
 
@@ -79,7 +80,7 @@ impl uWrite for Cursor<'_> {
     }
 }
 
-// Writes the bytes over those of the buffer from `start` on. A byte alone needs no call of a copy.
+// Writes the bytes over those of the buffer from `start` on.
 #[inline(always)]
 fn put(bytes: &[u8], buffer: &mut [u8], start: usize)
     requires { start + length bytes.now ≤ length buffer.old }
@@ -88,11 +89,69 @@ fn put(bytes: &[u8], buffer: &mut [u8], start: usize)
     ensures unwritten { drop (start + length bytes.now) buffer.new
         ≡ drop (start + length bytes.now) buffer.old }
 {
-    if let [byte] = bytes {
-        buffer[start] = *byte;
-        return;
+    copy(bytes, &mut buffer[start..start + bytes.len()]);
+}
+
+// Writes the bytes over those of the target, which has as many: up to 64 by their two ends, which needs
+// neither a loop nor a test whether source and target overlap.
+#[inline(always)]
+fn copy(bytes: &[u8], target: &mut [u8])
+    requires { length bytes.now ≡ length target.old }
+    ensures { target.new ≡ bytes.now }
+{
+    let count = bytes.len();
+    if count == 1 {
+        target[0] = bytes[0];
+    } else if count > 16 {
+        copy_long(bytes, target);
+    } else if count >= 8 {
+        copy_ends::<8>(bytes, target);
+    } else if count >= 4 {
+        copy_ends::<4>(bytes, target);
+    } else if count >= 2 {
+        copy_ends::<2>(bytes, target);
     }
-    buffer[start..start + bytes.len()].copy_from_slice(bytes);
+}
+
+// Writes more than 16 bytes.
+#[inline(always)]
+fn copy_long(bytes: &[u8], target: &mut [u8])
+    requires same_length { length bytes.now ≡ length target.old }
+    requires long { 16 < length bytes.now }
+    ensures { target.new ≡ bytes.now }
+{
+    if bytes.len() <= 32 {
+        copy_ends::<16>(bytes, target);
+    } else {
+        copy_longer(bytes, target);
+    }
+}
+
+// Writes more than 32 bytes.
+#[inline(never)]
+fn copy_longer(bytes: &[u8], target: &mut [u8])
+    requires same_length { length bytes.now ≡ length target.old }
+    requires longer { 32 < length bytes.now }
+    ensures { target.new ≡ bytes.now }
+{
+    if target.len() <= 64 {
+        // The two lengths are one, and naming one saves the code generator a test.
+        copy_ends::<32>(bytes, &mut target[..bytes.len()]);
+    } else {
+        target.copy_from_slice(bytes);
+    }
+}
+
+// Writes the first N of the bytes and the last N, which are all of them and may overlap.
+#[inline]
+fn copy_ends<const N: usize>(bytes: &[u8], target: &mut [u8])
+    requires same_length { length bytes.now ≡ length target.old }
+    requires each_end { N ≤ length bytes.now }
+    requires no_middle { length bytes.now ≤ 2 * N }
+    ensures { target.new ≡ bytes.now }
+{
+    *target.first_chunk_mut::<N>().unwrap() = *bytes.first_chunk::<N>().unwrap();
+    *target.last_chunk_mut::<N>().unwrap() = *bytes.last_chunk::<N>().unwrap();
 }
 
 /// Prints the value, as `uDebug` does in plain mode, to the front of the buffer, and answers how many
