@@ -52,22 +52,27 @@ entry_follows Plain k f Several u = inl refl
 entry_follows Pretty k f count u = inl refl
 
 -- what is left of a block may follow an entry
-pub rest_follows : (f : Frame) (s : Setting) → Closes f s → (count : Count) (texts : List (List ℕ)) (u : List ℕ) → IsFollower (trail s.mode ++ (block_tail f s (next count) texts ++ u))
+pub rest_follows : (f : Frame) (s : Setting) → Closes f s → (count : Count) (texts : List (List ℕ)) (u : List ℕ)
+    → IsFollower (trail s.mode ++ (block_tail f s (next count) texts ++ u))
 rest_follows f s closes count [] u = closes.follows count u
 rest_follows f s closes count (text ∷ texts) u =
     rw (entry_assoc (lead f (inside s) (next count)) text (trail s.mode) (block_tail f s (next (next count)) texts) u)
     (entry_follows s.mode (entry_depth s.mode s.depth) f count (text ++ (trail s.mode ++ (block_tail f s (next (next count)) texts ++ u))))
 
 -- behind an entry
-read_after_entry_complete : {A : Type 0} (mode : Mode) (more : Parse (List A)) (x : A) (xs : List A) (t u : List ℕ) → more t ≡ Some (xs, u) → read_after_entry mode more x (trail mode ++ t) ≡ Some (x ∷ xs, u)
+read_after_entry_complete : {A : Type 0} (mode : Mode) (more : Parse (List A)) (x : A) (xs : List A) (t u : List ℕ) → more t ≡ Some (xs, u)
+    → read_after_entry mode more x (trail mode ++ t) ≡ Some (x ∷ xs, u)
 read_after_entry_complete mode more x xs t u e = rw (strip_stands (trail mode) t, e) refl
 
 -- an entry and what follows it
-read_turn_complete : {A : Type 0} (q : Parse A) (mode : Mode) (more : Parse (List A)) (x : A) (xs : List A) (text t u : List ℕ) → IsRead q x text → IsFollower (trail mode ++ t) → more t ≡ Some (xs, u) → read_turn q mode more (text ++ (trail mode ++ t)) ≡ Some (x ∷ xs, u)
+read_turn_complete : {A : Type 0} (q : Parse A) (mode : Mode) (more : Parse (List A)) (x : A) (xs : List A) (text t u : List ℕ)
+    → IsRead q x text → IsFollower (trail mode ++ t) → more t ≡ Some (xs, u) → read_turn q mode more (text ++ (trail mode ++ t)) ≡ Some (x ∷ xs, u)
 read_turn_complete q mode more x xs text t u h follows e = rw (h.reads (trail mode ++ t) follows) (read_after_entry_complete mode more x xs t u e)
 
 -- what is left of a block is read, in more turns than it has entries
-pub read_rest_complete : {A : Type 0} (q : Parse A) (f : Frame) (s : Setting) → Closes f s → (count : Count) (n : ℕ) (xs : List A) (texts : List (List ℕ)) (u : List ℕ) → AreRead q xs texts → length texts < n → read_rest q f s (next count) n (block_tail f s (next count) texts ++ u) ≡ Some (xs, u)
+pub read_rest_complete : {A : Type 0} (q : Parse A) (f : Frame) (s : Setting) → Closes f s
+    → (count : Count) (n : ℕ) (xs : List A) (texts : List (List ℕ)) (u : List ℕ) → AreRead q xs texts → length texts < n
+    → read_rest q f s (next count) n (block_tail f s (next count) texts ++ u) ≡ Some (xs, u)
 unfolding read_rest
 read_rest_complete q f s closes count zero xs texts u h less = absurd (omega arith)
 read_rest_complete q f s closes count (suc n) [] [] u h less = rw (closes.differs count u, strip_stands (ending f s (next count)) u) refl
@@ -75,45 +80,63 @@ read_rest_complete q f s closes count (suc n) [] (text ∷ texts) u h less = abs
 read_rest_complete q f s closes count (suc n) (x ∷ xs) [] u h less = absurd h
 read_rest_complete q f s closes count (suc n) (x ∷ xs) (text ∷ texts) u h less =
     let left : List ℕ = block_tail f s (next (next count)) texts ++ u in
-    rw (entry_assoc (lead f (inside s) (next count)) text (trail s.mode) (block_tail f s (next (next count)) texts) u, strip_stands (lead f (inside s) (next count)) (text ++ (trail s.mode ++ left)))
-    (read_turn_complete q s.mode (read_rest q f s (next (next count)) n) x xs text left u h.0 (rest_follows f s closes (next count) texts u) (read_rest_complete q f s closes (next count) n xs texts u h.1 (omega arith)))
+    rw (entry_assoc (lead f (inside s) (next count)) text (trail s.mode) (block_tail f s (next (next count)) texts) u,
+      strip_stands (lead f (inside s) (next count)) (text ++ (trail s.mode ++ left)))
+    (read_turn_complete q s.mode (read_rest q f s (next (next count)) n) x xs text left u h.0 (rest_follows f s closes (next count) texts u)
+      (read_rest_complete q f s closes (next count) n xs texts u h.1 (omega arith)))
 
 -- no more entries than bytes are left of a block
-entries_within : {A : Type 0} (q : Parse A) (f : Frame) (s : Setting) (count : Count) (xs : List A) (texts : List (List ℕ)) → AreRead q xs texts → length texts ≤ length (block_tail f s count texts)
+entries_within : {A : Type 0} (q : Parse A) (f : Frame) (s : Setting) (count : Count) (xs : List A) (texts : List (List ℕ))
+    → AreRead q xs texts → length texts ≤ length (block_tail f s count texts)
 entries_within q f s count [] [] h = omega arith
 entries_within q f s count [] (text ∷ texts) h = absurd h
 entries_within q f s count (x ∷ xs) [] h = absurd h
 entries_within q f s count (x ∷ xs) (text ∷ texts) h =
     let some : length text ≡ suc (length h.0.begins.tail) = ap length h.0.begins.is in
     let below : length texts ≤ length (block_tail f s (next count) texts) = entries_within q f s (next count) xs texts h.1 in
-    rw (length-append (lead f (inside s) count) (text ++ (trail s.mode ++ block_tail f s (next count) texts)), length-append text (trail s.mode ++ block_tail f s (next count) texts), length-append (trail s.mode) (block_tail f s (next count) texts))
+    rw (length-append (lead f (inside s) count) (text ++ (trail s.mode ++ block_tail f s (next count) texts)),
+      length-append text (trail s.mode ++ block_tail f s (next count) texts), length-append (trail s.mode) (block_tail f s (next count) texts))
     (omega arith)
 
 -- the same in as many turns as it takes
-pub read_others_complete : {A : Type 0} (q : Parse A) (f : Frame) (s : Setting) → Closes f s → (xs : List A) (texts : List (List ℕ)) (u : List ℕ) → AreRead q xs texts → read_others q f s One (block_tail f s One texts ++ u) ≡ Some (xs, u)
+pub read_others_complete : {A : Type 0} (q : Parse A) (f : Frame) (s : Setting) → Closes f s
+    → (xs : List A) (texts : List (List ℕ)) (u : List ℕ) → AreRead q xs texts → read_others q f s One (block_tail f s One texts ++ u) ≡ Some (xs, u)
 read_others_complete q f s closes xs texts u h = read_rest_complete q f s closes Zero (suc (length (block_tail f s One texts ++ u))) xs texts u h (rw (length-append (block_tail f s One texts) u) (let below = entries_within q f s One xs texts h in omega arith))
 
 -- a block behind its first entry is read
-pub read_after_first_complete : {A : Type 0} (q : Parse A) (f : Frame) (s : Setting) (make : List A → Document) → Closes f s → (x : A) (xs : List A) (texts : List (List ℕ)) (u : List ℕ) → AreRead q xs texts → read_after_first q f s make x (trail s.mode ++ (block_tail f s One texts ++ u)) ≡ Some (make (x ∷ xs), u)
-read_after_first_complete q f s make closes x xs texts u h = rw (read_after_entry_complete s.mode (read_others q f s One) x xs (block_tail f s One texts ++ u) u (read_others_complete q f s closes xs texts u h)) refl
+pub read_after_first_complete : {A : Type 0} (q : Parse A) (f : Frame) (s : Setting) (make : List A → Document) → Closes f s
+    → (x : A) (xs : List A) (texts : List (List ℕ)) (u : List ℕ) → AreRead q xs texts
+    → read_after_first q f s make x (trail s.mode ++ (block_tail f s One texts ++ u)) ≡ Some (make (x ∷ xs), u)
+read_after_first_complete q f s make closes x xs texts u h =
+    rw (read_after_entry_complete s.mode (read_others q f s One) x xs (block_tail f s One texts ++ u) u (read_others_complete q f s closes xs texts u h)) refl
 
 -- a block behind what stands before its first entry is read
-pub read_entries_complete : {A : Type 0} (q : Parse A) (f : Frame) (s : Setting) (make : List A → Document) → Closes f s → (x : A) (xs : List A) (text : List ℕ) (texts : List (List ℕ)) (u : List ℕ) → IsRead q x text → AreRead q xs texts → read_entries q f s make (text ++ (trail s.mode ++ (block_tail f s One texts ++ u))) ≡ Some (make (x ∷ xs), u)
-read_entries_complete q f s make closes x xs text texts u h hs = rw (h.reads (trail s.mode ++ (block_tail f s One texts ++ u)) (rest_follows f s closes Zero texts u)) (read_after_first_complete q f s make closes x xs texts u hs)
+pub read_entries_complete : {A : Type 0} (q : Parse A) (f : Frame) (s : Setting) (make : List A → Document) → Closes f s
+    → (x : A) (xs : List A) (text : List ℕ) (texts : List (List ℕ)) (u : List ℕ) → IsRead q x text → AreRead q xs texts
+    → read_entries q f s make (text ++ (trail s.mode ++ (block_tail f s One texts ++ u))) ≡ Some (make (x ∷ xs), u)
+read_entries_complete q f s make closes x xs text texts u h hs =
+    rw (h.reads (trail s.mode ++ (block_tail f s One texts ++ u)) (rest_follows f s closes Zero texts u))
+    (read_after_first_complete q f s make closes x xs texts u hs)
 
 -- a block with entries behind its opening is read
-pub read_block_complete : {A : Type 0} (q : Parse A) (f : Frame) (s : Setting) (make : List A → Document) → Closes f s → (x : A) (xs : List A) (text : List ℕ) (texts : List (List ℕ)) (u : List ℕ) → IsRead q x text → AreRead q xs texts → read_block q f s make (block_tail f s Zero (text ∷ texts) ++ u) ≡ Some (make (x ∷ xs), u)
+pub read_block_complete : {A : Type 0} (q : Parse A) (f : Frame) (s : Setting) (make : List A → Document) → Closes f s
+    → (x : A) (xs : List A) (text : List ℕ) (texts : List (List ℕ)) (u : List ℕ) → IsRead q x text → AreRead q xs texts
+    → read_block q f s make (block_tail f s Zero (text ∷ texts) ++ u) ≡ Some (make (x ∷ xs), u)
 read_block_complete q f s make closes x xs text texts u h hs =
-    rw (entry_assoc (lead f (inside s) Zero) text (trail s.mode) (block_tail f s One texts) u, strip_stands (lead f (inside s) Zero) (text ++ (trail s.mode ++ (block_tail f s One texts ++ u))))
+    rw (entry_assoc (lead f (inside s) Zero) text (trail s.mode) (block_tail f s One texts) u,
+      strip_stands (lead f (inside s) Zero) (text ++ (trail s.mode ++ (block_tail f s One texts ++ u))))
     (read_entries_complete q f s make closes x xs text texts u h hs)
 
 -- a value behind its key's colon is read
-pub read_value_complete : {A : Type 0} (p : Parse Document) (key : A) (value : Document) (text u : List ℕ) → IsRead p value text → IsFollower u → read_value p key (codes ": " ++ (text ++ u)) ≡ Some ((key, value), u)
+pub read_value_complete : {A : Type 0} (p : Parse Document) (key : A) (value : Document) (text u : List ℕ) → IsRead p value text
+    → IsFollower u → read_value p key (codes ": " ++ (text ++ u)) ≡ Some ((key, value), u)
 read_value_complete p key value text u h follows = rw (h.reads u follows) refl
 
 -- a key and its value are read
-pub read_pair_complete : {A : Type 0} (key : Parse A) (p : Parse Document) (a : A) (value : Document) (name text : List ℕ) → IsRead key a name → IsRead p value text → IsRead (read_pair key p) (a, value) (name ++ (codes ": " ++ text))
+pub read_pair_complete : {A : Type 0} (key : Parse A) (p : Parse Document) (a : A) (value : Document) (name text : List ℕ)
+    → IsRead key a name → IsRead p value text → IsRead (read_pair key p) (a, value) (name ++ (codes ": " ++ text))
 read_pair_complete key p a value name text h hv = record {
   begins = Begins-append h.begins (codes ": " ++ text);
-  reads = λ u follows. rw (append_assoc name (codes ": " ++ text) u, h.reads (codes ": " ++ (text ++ u)) (inl refl)) (read_value_complete p a value text u hv follows);
+  reads = λ u follows. rw (append_assoc name (codes ": " ++ text) u, h.reads (codes ": " ++ (text ++ u)) (inl refl))
+      (read_value_complete p a value text u hv follows);
 }

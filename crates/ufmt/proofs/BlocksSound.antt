@@ -22,36 +22,48 @@ AreGood Good [] = ⊤
 AreGood Good (x ∷ xs) = Good x × AreGood Good xs
 
 -- what was read behind an entry
-read_after_entry_sound : {A : Type 0} (mode : Mode) (more : Parse (List A)) (x : A) (t : List ℕ) (ys : List A) (u : List ℕ) → read_after_entry mode more x t ≡ Some (ys, u) → (v : List ℕ) × (xs : List A) × (t ≡ trail mode ++ v) × (more v ≡ Some (xs, u)) × (x ∷ xs ≡ ys)
+read_after_entry_sound : {A : Type 0} (mode : Mode) (more : Parse (List A)) (x : A) (t : List ℕ) (ys : List A) (u : List ℕ)
+    → read_after_entry mode more x t ≡ Some (ys, u) → (v : List ℕ) × (xs : List A) × (t ≡ trail mode ++ v) × (more v ≡ Some (xs, u)) × (x ∷ xs ≡ ys)
 read_after_entry_sound mode more x t ys u h =
     let behind = led_from _ (strip (trail mode) t) (ys, u) h in
     let mapped = mapped_from (λ xs. x ∷ xs) (more behind.0) ys u behind.2 in
     (behind.0, mapped.0, strip_found (trail mode) t behind.0 behind.1, mapped.1, mapped.2)
 
 -- an entry and what was read behind it
-read_turn_sound : {A : Type 0} (q : Parse A) (Good : A → Type 0) (text : A → List ℕ) (mode : Mode) (more : Parse (List A)) → Finds q Good text → (t : List ℕ) (ys : List A) (u : List ℕ) → read_turn q mode more t ≡ Some (ys, u) → (x : A) × (v : List ℕ) × (xs : List A) × Good x × (t ≡ text x ++ (trail mode ++ v)) × (more v ≡ Some (xs, u)) × (x ∷ xs ≡ ys)
+read_turn_sound : {A : Type 0} (q : Parse A) (Good : A → Type 0) (text : A → List ℕ) (mode : Mode) (more : Parse (List A))
+    → Finds q Good text → (t : List ℕ) (ys : List A) (u : List ℕ) → read_turn q mode more t ≡ Some (ys, u) → (x : A) × (v : List ℕ)
+    × (xs : List A) × Good x × (t ≡ text x ++ (trail mode ++ v)) × (more v ≡ Some (xs, u)) × (x ∷ xs ≡ ys)
 read_turn_sound q Good text mode more finds t ys u h =
     let first = led_from _ (q t) (ys, u) h in
     let behind = read_after_entry_sound mode more first.0.0 first.0.1 ys u first.2 in
-    (first.0.0, behind.0, behind.1, finds.good t first.0.0 first.0.1 first.1, finds.whole t first.0.0 first.0.1 first.1 ∙ ap (λ w. text first.0.0 ++ w) behind.2, behind.3, behind.4)
+    (first.0.0, behind.0, behind.1, finds.good t first.0.0 first.0.1 first.1, finds.whole t first.0.0 first.0.1 first.1
+      ∙ ap (λ w. text first.0.0 ++ w) behind.2, behind.3, behind.4)
 
 -- the whole of what is left of a block from an entry on
-entry_whole : (t v w start text after left u : List ℕ) → t ≡ start ++ v → v ≡ text ++ (after ++ w) → w ≡ left ++ u → t ≡ (start ++ (text ++ (after ++ left))) ++ u
+entry_whole : (t v w start text after left u : List ℕ) → t ≡ start ++ v → v ≡ text ++ (after ++ w) → w ≡ left ++ u
+    → t ≡ (start ++ (text ++ (after ++ left))) ++ u
 entry_whole t v w start text after left u a b c = rw (a, b, c) (sym (entry_assoc start text after left u))
 
 -- what is read in one turn, or as the end, is the rest of a block, where what is read in the next turns is
-read_rest_step : {A : Type 0} (q : Parse A) (Good : A → Type 0) (text : A → List ℕ) (f : Frame) (s : Setting) → Finds q Good text → (count : Count) (more : Parse (List A)) (t : List ℕ) (xs : List A) (u : List ℕ) → ((v : List ℕ) (ys : List A) → more v ≡ Some (ys, u) → AreGood Good ys × (v ≡ block_tail f s (next count) (map text ys) ++ u)) → ((v : List ℕ) × (strip (lead f (inside s) count) t ≡ Some v) × (read_turn q s.mode more v ≡ Some (xs, u))) ⊎ ((strip (lead f (inside s) count) t ≡ None) × (read_end f s count t ≡ Some (xs, u))) → AreGood Good xs × (t ≡ block_tail f s count (map text xs) ++ u)
+read_rest_step : {A : Type 0} (q : Parse A) (Good : A → Type 0) (text : A → List ℕ) (f : Frame) (s : Setting) → Finds q Good text
+    → (count : Count) (more : Parse (List A)) (t : List ℕ) (xs : List A) (u : List ℕ)
+    → ((v : List ℕ) (ys : List A) → more v ≡ Some (ys, u) → AreGood Good ys × (v ≡ block_tail f s (next count) (map text ys) ++ u))
+    → ((v : List ℕ) × (strip (lead f (inside s) count) t ≡ Some v) × (read_turn q s.mode more v ≡ Some (xs, u)))
+    ⊎ ((strip (lead f (inside s) count) t ≡ None) × (read_end f s count t ≡ Some (xs, u))) → AreGood Good xs × (t ≡ block_tail f s count (map text xs) ++ u)
 read_rest_step q Good text f s finds count more t xs u later (inl h) =
     let found = read_turn_sound q Good text s.mode more finds h.0 xs u h.2 in
     let left = later found.1 found.2 found.5 in
     subst (λ ys. AreGood Good ys × (t ≡ block_tail f s count (map text ys) ++ u)) found.6
-    ((found.3, left.0), entry_whole t h.0 found.1 (lead f (inside s) count) (text found.0) (trail s.mode) (block_tail f s (next count) (map text found.2)) u (strip_found (lead f (inside s) count) t h.0 h.1) found.4 left.1)
+    ((found.3, left.0), entry_whole t h.0 found.1 (lead f (inside s) count) (text found.0) (trail s.mode)
+      (block_tail f s (next count) (map text found.2)) u (strip_found (lead f (inside s) count) t h.0 h.1) found.4 left.1)
 read_rest_step q Good text f s finds count more t xs u later (inr h) =
     let end = beside_from [] (strip (ending f s count) t) xs u h.1 in
     subst (λ ys. AreGood Good ys × (t ≡ block_tail f s count (map text ys) ++ u)) end.1 (tt, strip_found (ending f s count) t u end.0)
 
 -- what is read of the rest of a block is the rest of one
-pub read_rest_sound : {A : Type 0} (q : Parse A) (Good : A → Type 0) (text : A → List ℕ) (f : Frame) (s : Setting) → Finds q Good text → (n : ℕ) (count : Count) (t : List ℕ) (xs : List A) (u : List ℕ) → read_rest q f s count n t ≡ Some (xs, u) → AreGood Good xs × (t ≡ block_tail f s count (map text xs) ++ u)
+pub read_rest_sound : {A : Type 0} (q : Parse A) (Good : A → Type 0) (text : A → List ℕ) (f : Frame) (s : Setting) → Finds q Good text
+    → (n : ℕ) (count : Count) (t : List ℕ) (xs : List A) (u : List ℕ) → read_rest q f s count n t ≡ Some (xs, u) → AreGood Good xs
+    × (t ≡ block_tail f s count (map text xs) ++ u)
 unfolding read_rest
 read_rest_sound q Good text f s finds zero count t xs u h = absurd (cc)
 read_rest_sound q Good text f s finds (suc n) count t xs u h =
@@ -60,14 +72,17 @@ read_rest_sound q Good text f s finds (suc n) count t xs u h =
     (chosen_from (strip (lead f (inside s) count) t) (read_turn q s.mode (read_rest q f s (next count) n)) (read_end f s count t) (Some (xs, u)) h)
 
 -- a block that was found behind its first entry, this one: its other entries, and what it was made into
-pub record FoundBehind {A : Type 0} (Good : A → Type 0) (text : A → List ℕ) (f : Frame) (s : Setting) (make : List A → Document) (x : A) (t : List ℕ) (d : Document) (u : List ℕ) : Type 0 where
+pub record FoundBehind {A : Type 0} (Good : A → Type 0) (text : A → List ℕ) (f : Frame) (s : Setting) (make : List A → Document) (x : A)
+    (t : List ℕ) (d : Document) (u : List ℕ) : Type 0 where
   pub others : List A
   pub made : make (x ∷ others) ≡ d
   pub good : AreGood Good others
   pub whole : t ≡ trail s.mode ++ (block_tail f s One (map text others) ++ u)
 
 -- what is read as a block behind its first entry is the rest of one
-pub read_after_first_sound : {A : Type 0} (q : Parse A) (Good : A → Type 0) (text : A → List ℕ) (f : Frame) (s : Setting) (make : List A → Document) → Finds q Good text → (x : A) (t : List ℕ) (d : Document) (u : List ℕ) → read_after_first q f s make x t ≡ Some (d, u) → FoundBehind Good text f s make x t d u
+pub read_after_first_sound : {A : Type 0} (q : Parse A) (Good : A → Type 0) (text : A → List ℕ) (f : Frame) (s : Setting)
+    (make : List A → Document) → Finds q Good text → (x : A) (t : List ℕ) (d : Document) (u : List ℕ)
+    → read_after_first q f s make x t ≡ Some (d, u) → FoundBehind Good text f s make x t d u
 read_after_first_sound q Good text f s make finds x t d u h =
     let mapped = mapped_from make (read_after_entry s.mode (read_others q f s One) x t) d u h in
     let behind = read_after_entry_sound s.mode (read_others q f s One) x t mapped.0 u mapped.1 in
@@ -75,7 +90,8 @@ read_after_first_sound q Good text f s make finds x t d u h =
     record { others = behind.1; made = ap make behind.4 ∙ mapped.2; good = left.0; whole = behind.2 ∙ ap (λ w. trail s.mode ++ w) left.1 }
 
 -- a block that was found behind what stands before its first entry
-pub record FoundEntries {A : Type 0} (Good : A → Type 0) (text : A → List ℕ) (f : Frame) (s : Setting) (make : List A → Document) (t : List ℕ) (d : Document) (u : List ℕ) : Type 0 where
+pub record FoundEntries {A : Type 0} (Good : A → Type 0) (text : A → List ℕ) (f : Frame) (s : Setting) (make : List A → Document)
+    (t : List ℕ) (d : Document) (u : List ℕ) : Type 0 where
   pub first : A
   pub others : List A
   pub made : make (first ∷ others) ≡ d
@@ -87,7 +103,8 @@ first_whole : (start t v text after left u : List ℕ) → t ≡ text ++ v → v
 first_whole start t v text after left u a b = rw (a, b) (sym (entry_assoc start text after left u))
 
 -- a block behind its first entry is one from that entry on
-pub with_first : {A : Type 0} {Good : A → Type 0} {text : A → List ℕ} {f : Frame} {s : Setting} {make : List A → Document} (x : A) (t v : List ℕ) {d : Document} {u : List ℕ} → Good x → t ≡ text x ++ v → FoundBehind Good text f s make x v d u → FoundEntries Good text f s make t d u
+pub with_first : {A : Type 0} {Good : A → Type 0} {text : A → List ℕ} {f : Frame} {s : Setting} {make : List A → Document} (x : A)
+    (t v : List ℕ) {d : Document} {u : List ℕ} → Good x → t ≡ text x ++ v → FoundBehind Good text f s make x v d u → FoundEntries Good text f s make t d u
 with_first {A} {Good} {text} {f} {s} {make} x t v {d} {u} good whole h = record {
   first = x;
   others = h.others;
@@ -97,18 +114,23 @@ with_first {A} {Good} {text} {f} {s} {make} x t v {d} {u} good whole h = record 
 }
 
 -- what is read as a block behind what stands before its first entry is one
-pub read_entries_sound : {A : Type 0} (q : Parse A) (Good : A → Type 0) (text : A → List ℕ) (f : Frame) (s : Setting) (make : List A → Document) → Finds q Good text → (t : List ℕ) (d : Document) (u : List ℕ) → read_entries q f s make t ≡ Some (d, u) → FoundEntries Good text f s make t d u
+pub read_entries_sound : {A : Type 0} (q : Parse A) (Good : A → Type 0) (text : A → List ℕ) (f : Frame) (s : Setting)
+    (make : List A → Document) → Finds q Good text → (t : List ℕ) (d : Document) (u : List ℕ) → read_entries q f s make t ≡ Some (d, u)
+    → FoundEntries Good text f s make t d u
 read_entries_sound q Good text f s make finds t d u h =
     let first = led_from _ (q t) (d, u) h in
     with_first first.0.0 t first.0.1 (finds.good t first.0.0 first.0.1 first.1) (finds.whole t first.0.0 first.0.1 first.1)
     (read_after_first_sound q Good text f s make finds first.0.0 first.0.1 d u first.2)
 
 -- what was read as a value behind a colon
-pub read_value_sound : {A : Type 0} (p : Parse Document) (Good : Document → Type 0) (text : Document → List ℕ) → Finds p Good text → (key : A) (t : List ℕ) (x : A × Document) (u : List ℕ) → read_value p key t ≡ Some (x, u) → (value : Document) × ((key, value) ≡ x) × Good value × (t ≡ codes ": " ++ (text value ++ u))
+pub read_value_sound : {A : Type 0} (p : Parse Document) (Good : Document → Type 0) (text : Document → List ℕ) → Finds p Good text
+    → (key : A) (t : List ℕ) (x : A × Document) (u : List ℕ) → read_value p key t ≡ Some (x, u) → (value : Document) × ((key, value) ≡ x)
+    × Good value × (t ≡ codes ": " ++ (text value ++ u))
 read_value_sound {A} p Good text finds key t x u h =
     let behind = led_from _ (strip (codes ": ") t) (x, u) h in
     let mapped = mapped_from _ (p behind.0) x u behind.2 in
-    (mapped.0, mapped.2, finds.good behind.0 mapped.0 u mapped.1, strip_found (codes ": ") t behind.0 behind.1 ∙ ap (λ w. codes ": " ++ w) (finds.whole behind.0 mapped.0 u mapped.1))
+    (mapped.0, mapped.2, finds.good behind.0 mapped.0 u mapped.1, strip_found (codes ": ") t behind.0 behind.1
+      ∙ ap (λ w. codes ": " ++ w) (finds.whole behind.0 mapped.0 u mapped.1))
 
 -- a key and a value with these properties
 abbrev pub IsGoodPair : {A : Type 0} → (A → Type 0) → (Document → Type 0) → A × Document → Type 0
@@ -119,17 +141,22 @@ abbrev pub pair_text : {A : Type 0} → (A → List ℕ) → (Document → List 
 pair_text key_text text x = key_text x.0 ++ (codes ": " ++ text x.1)
 
 -- what is read as a key and a value is a key and a value
-read_pair_sound : {A : Type 0} (key : Parse A) (p : Parse Document) (GoodKey : A → Type 0) (Good : Document → Type 0) (key_text : A → List ℕ) (text : Document → List ℕ) → Finds key GoodKey key_text → Finds p Good text → (t : List ℕ) (x : A × Document) (u : List ℕ) → read_pair key p t ≡ Some (x, u) → IsGoodPair GoodKey Good x × (t ≡ pair_text key_text text x ++ u)
+read_pair_sound : {A : Type 0} (key : Parse A) (p : Parse Document) (GoodKey : A → Type 0) (Good : Document → Type 0)
+    (key_text : A → List ℕ) (text : Document → List ℕ) → Finds key GoodKey key_text → Finds p Good text
+    → (t : List ℕ) (x : A × Document) (u : List ℕ) → read_pair key p t ≡ Some (x, u) → IsGoodPair GoodKey Good x × (t ≡ pair_text key_text text x ++ u)
 read_pair_sound key p GoodKey Good key_text text finds_key finds t x u h =
     let first = led_from _ (key t) (x, u) h in
     let second = read_value_sound p Good text finds first.0.0 first.0.1 x u first.2 in
     subst (λ y. IsGoodPair GoodKey Good y × (t ≡ pair_text key_text text y ++ u)) second.1 (
       (finds_key.good t first.0.0 first.0.1 first.1, second.2),
-      finds_key.whole t first.0.0 first.0.1 first.1 ∙ ap (λ w. key_text first.0.0 ++ w) second.3 ∙ sym (append_assoc (key_text first.0.0) (codes ": " ++ text second.0) u),
+      finds_key.whole t first.0.0 first.0.1 first.1 ∙ ap (λ w. key_text first.0.0 ++ w) second.3
+        ∙ sym (append_assoc (key_text first.0.0) (codes ": " ++ text second.0) u),
     )
 
 -- so keys and values are found where keys and values are
-pub read_pair_finds : {A : Type 0} (key : Parse A) (p : Parse Document) (GoodKey : A → Type 0) (Good : Document → Type 0) (key_text : A → List ℕ) (text : Document → List ℕ) → Finds key GoodKey key_text → Finds p Good text → Finds (read_pair key p) (IsGoodPair GoodKey Good) (pair_text key_text text)
+pub read_pair_finds : {A : Type 0} (key : Parse A) (p : Parse Document) (GoodKey : A → Type 0) (Good : Document → Type 0)
+    (key_text : A → List ℕ) (text : Document → List ℕ) → Finds key GoodKey key_text → Finds p Good text
+    → Finds (read_pair key p) (IsGoodPair GoodKey Good) (pair_text key_text text)
 read_pair_finds key p GoodKey Good key_text text finds_key finds = record {
   good = λ t x u h. (read_pair_sound key p GoodKey Good key_text text finds_key finds t x u h).0;
   whole = λ t x u h. (read_pair_sound key p GoodKey Good key_text text finds_key finds t x u h).1;

@@ -20,5 +20,6 @@ Writes-filled old new piece f name =
       fits = λ _. refl;
       room_left = λ _. omega (arith, ap length unwritten, length-drop (length piece) (unwritten_bytes old));
       same_identity = ap₂ (λ n l. n ∷ l ∷ []) name f.same_length;
-      untouched = λ _. rw (length-written_bytes new) (unwritten ∙ drop-drop (length piece) old.count old.buffer.now ∙ ap (λ k. drop k old.buffer.now) (sym count));
+      untouched = λ _. rw (length-written_bytes new)
+          (unwritten ∙ drop-drop (length piece) old.count old.buffer.now ∙ ap (λ k. drop k old.buffer.now) (sym count));
     }

@@ -88,11 +88,15 @@ deeper (suc k) c w u e = deeper k c w u e
 
 -- the end of a block on one line may follow an entry
 plain_follows : (kind : Kind) (k : ℕ) (count : Count) (u : List ℕ) → IsFollower (ending (frame Plain kind) (setting Plain k) (next count) ++ u)
-plain_follows Brackets k count u = after_next (λ p. IsFollower (ending (frame Plain Brackets) (setting Plain k) p ++ u)) (closer_follows 93 u refl) (closer_follows 93 u refl) count
-plain_follows Braces k count u = after_next (λ p. IsFollower (ending (frame Plain Braces) (setting Plain k) p ++ u)) (closer_follows 125 u refl) (closer_follows 125 u refl) count
+plain_follows Brackets k count u = after_next (λ p. IsFollower (ending (frame Plain Brackets) (setting Plain k) p ++ u))
+    (closer_follows 93 u refl) (closer_follows 93 u refl) count
+plain_follows Braces k count u = after_next (λ p. IsFollower (ending (frame Plain Braces) (setting Plain k) p ++ u))
+    (closer_follows 125 u refl) (closer_follows 125 u refl) count
 plain_follows Struct k count u = after_next (λ p. IsFollower (ending (frame Plain Struct) (setting Plain k) p ++ u)) (inr (refl, refl)) (inr (refl, refl)) count
-plain_follows Tuple k count u = after_next (λ p. IsFollower (ending (frame Plain Tuple) (setting Plain k) p ++ u)) (closer_follows 41 u refl) (closer_follows 41 u refl) count
-plain_follows Unnamed k count u = after_next (λ p. IsFollower (ending (frame Plain Unnamed) (setting Plain k) p ++ u)) (inl refl) (closer_follows 41 u refl) count
+plain_follows Tuple k count u = after_next (λ p. IsFollower (ending (frame Plain Tuple) (setting Plain k) p ++ u))
+    (closer_follows 41 u refl) (closer_follows 41 u refl) count
+plain_follows Unnamed k count u = after_next (λ p. IsFollower (ending (frame Plain Unnamed) (setting Plain k) p ++ u)) (inl refl)
+    (closer_follows 41 u refl) count
 
 -- where the end of a block is no other entry, with the parts of its frame
 Differs : Mode → ℕ → Kind → List ℕ → Count → Type 0
@@ -131,11 +135,13 @@ pub closes : (s : Setting) (kind : Kind) → Fits s 1 → Closes (frame s.mode k
 closes s kind h = closes_at s.mode s.depth kind h
 
 -- behind an entry in braces stands no colon
-no_colon_at : (mode : Mode) (k : ℕ) (texts : List (List ℕ)) (u : List ℕ) → strip (codes ": ") (trail mode ++ (block_tail (frame mode Braces) (setting mode k) One texts ++ u)) ≡ None
+no_colon_at : (mode : Mode) (k : ℕ) (texts : List (List ℕ)) (u : List ℕ)
+    → strip (codes ": ") (trail mode ++ (block_tail (frame mode Braces) (setting mode k) One texts ++ u)) ≡ None
 no_colon_at Plain k [] u = refl
 no_colon_at Plain k (text ∷ texts) u = refl
 no_colon_at Pretty k texts u = refl
 
 -- the same of a mode and depth
-pub no_colon : (s : Setting) (texts : List (List ℕ)) (u : List ℕ) → strip (codes ": ") (trail s.mode ++ (block_tail (frame s.mode Braces) s One texts ++ u)) ≡ None
+pub no_colon : (s : Setting) (texts : List (List ℕ)) (u : List ℕ)
+    → strip (codes ": ") (trail s.mode ++ (block_tail (frame s.mode Braces) s One texts ++ u)) ≡ None
 no_colon s texts u = no_colon_at s.mode s.depth texts u

@@ -18,7 +18,8 @@ byte-ascii false digit low = grind (arith, nat_tests)
 
 -- a number has one hexadecimal text in a case
 pub TellsHexadecimal-one : (upper_case : Bool) (n : ℕ) (s t : List ℕ) → TellsHexadecimal upper_case s n → TellsHexadecimal upper_case t n → s ≡ t
-TellsHexadecimal-one upper_case n s t told_s told_t = one_text 16 (hexadecimal_byte upper_case) n (omega arith) told_s.bytes told_s.told told_t.bytes told_t.told
+TellsHexadecimal-one upper_case n s t told_s told_t =
+    one_text 16 (hexadecimal_byte upper_case) n (omega arith) told_s.bytes told_s.told told_t.bytes told_t.told
 
 -- a hexadecimal text tells one number
 pub TellsHexadecimal-number : (upper_case : Bool) (text : List ℕ) (m n : ℕ) → TellsHexadecimal upper_case text m → TellsHexadecimal upper_case text n → m ≡ n

@@ -13,8 +13,11 @@ use Rattle.ufmt.proofs.ReadingComplete.{read_complete}
 use Rattle.ufmt.proofs.NormalForms.{layout-normal}
 
 -- at any mode and depth where both fit, equal texts have one normal form and one rest
-reads_one_way : (s : Setting) (n : ℕ) → Fits s n → (d e : Document) (u v : List ℕ) → HasWords d → HasWords e → nest d ≤ n → nest e ≤ n → IsFollower u → IsFollower v → layout s d ++ u ≡ layout s e ++ v → (normal d ≡ normal e) × (u ≡ v)
-reads_one_way s n fits d e u v hd he nd ne hu hv same = same_parts {A = Document} {B = List ℕ} (normal d, u) (normal e, v) (sym (read_complete n s d u hd nd fits hu) ∙ ap (read s n) same ∙ read_complete n s e v he ne fits hv)
+reads_one_way : (s : Setting) (n : ℕ) → Fits s n → (d e : Document) (u v : List ℕ) → HasWords d → HasWords e → nest d ≤ n → nest e ≤ n
+    → IsFollower u → IsFollower v → layout s d ++ u ≡ layout s e ++ v → (normal d ≡ normal e) × (u ≡ v)
+reads_one_way s n fits d e u v hd he nd ne hu hv same =
+    same_parts {A = Document} {B = List ℕ} (normal d, u) (normal e, v)
+    (sym (read_complete n s d u hd nd fits hu) ∙ ap (read s n) same ∙ read_complete n s e v he ne fits hv)
 
 -- at depth 0 of plain mode
 pub plain_reads_one_way : PlainReadsOneWay
@@ -22,11 +25,13 @@ plain_reads_one_way = λ d e u v hd he hu hv same. reads_one_way (setting Plain 
 
 -- at any depth of pretty mode from which both fit
 pub pretty_reads_one_way : PrettyReadsOneWay
-pretty_reads_one_way = λ k d e u v hd he nd ne hu hv same. reads_one_way (setting Pretty k) (255 - k) (omega (arith, nd)) d e u v hd.0 he.0 (omega (arith, nd)) (omega (arith, ne)) hu hv same
+pretty_reads_one_way = λ k d e u v hd he nd ne hu hv same. reads_one_way (setting Pretty k) (255 - k) (omega (arith, nd)) d e u v hd.0 he.0
+    (omega (arith, nd)) (omega (arith, ne)) hu hv same
 
 -- at depth 0 of any mode one text has one normal form, and one normal form one text
 text_tells : (s : Setting) → Fits s 255 → (d e : Document) → IsToken d → IsToken e → (layout s d ≡ layout s e) ↔ (normal d ≡ normal e)
-text_tells s fits d e hd he = (λ same. (reads_one_way s 255 fits d e [] [] hd.0 he.0 hd.1 he.1 tt tt (ap (λ t. t ++ []) same)).0, λ same. sym (layout-normal s d) ∙ ap (layout s) same ∙ layout-normal s e)
+text_tells s fits d e hd he = (λ same. (reads_one_way s 255 fits d e [] [] hd.0 he.0 hd.1 he.1 tt tt (ap (λ t. t ++ []) same)).0,
+    λ same. sym (layout-normal s d) ∙ ap (layout s) same ∙ layout-normal s e)
 
 -- so plain texts tell normal forms apart
 pub plain_text_tells : PlainTextTells
@@ -38,4 +43,5 @@ pretty_text_tells = text_tells (setting Pretty 0) (omega arith)
 
 -- so each tells what the other does
 pub texts_agree : TextsAgree
-texts_agree = λ d e hd he. (λ same. (pretty_text_tells d e hd he).1 ((plain_text_tells d e hd he).0 same), λ same. (plain_text_tells d e hd he).1 ((pretty_text_tells d e hd he).0 same))
+texts_agree = λ d e hd he. (λ same. (pretty_text_tells d e hd he).1 ((plain_text_tells d e hd he).0 same),
+    λ same. (plain_text_tells d e hd he).1 ((pretty_text_tells d e hd he).0 same))

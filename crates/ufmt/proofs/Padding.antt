@@ -9,7 +9,8 @@ pub replicate-front : (m n x : ℕ) → m + 1 ≤ n → replicate n x ≡ (repli
 replicate-front m n x some =
     rw replicate_more (ap (λ count. replicate count x) (omega arith) ∙ sym (replicate-append-replicate (m + 1) (n - (m + 1)) x))
 
-module _ (options : HexOptions) (payload : List ℕ) (missing : ℕ) (is_missing : missing ≡ options.pad_length - (length (prefix_of options) + length payload)) where
+module _ (options : HexOptions) (payload : List ℕ) (missing : ℕ)
+    (is_missing : missing ≡ options.pad_length - (length (prefix_of options) + length payload)) where
   -- the padding stands first
   pub padded-first : pads_first options ≡ true → padded options payload ≡ replicate missing options.pad_char ++ (prefix_of options ++ payload)
   padded-first first = rw (first, is_missing) refl

@@ -20,7 +20,8 @@ pub same_parts : {A B : Type 0} (p q : A × B) → Some p ≡ Some q → (p.0 �
 same_parts p q h = let e = same_value p q h in (ap (λ r. r.0) e, ap (λ r. r.1) e)
 
 -- what is stripped of a byte began with it
-stripped_byte : (same : Bool) (c b : ℕ) (text t u : List ℕ) → (c == b) ≡ same → (strip text t ≡ Some u → t ≡ text ++ u) → cond same (strip text t) None ≡ Some u → b ∷ t ≡ c ∷ (text ++ u)
+stripped_byte : (same : Bool) (c b : ℕ) (text t u : List ℕ) → (c == b) ≡ same → (strip text t ≡ Some u → t ≡ text ++ u)
+    → cond same (strip text t) None ≡ Some u → b ∷ t ≡ c ∷ (text ++ u)
 stripped_byte true c b text t u e rest h = let first = eqb-true c b e in let tail = rest h in cc
 stripped_byte false c b text t u e rest h = absurd (cc)
 
@@ -43,7 +44,8 @@ strip_of_none text t differs = go (strip text t) refl
     go (Some u) e = absurd (differs u (strip_found text t u e))
 
 -- the same of a text in two parts, where their first byte was compared
-strip_two : (same : Bool) (a b t : List ℕ) → strip (a ++ b) t ≡ option_and_then (strip b) (strip a t) → cond same (strip (a ++ b) t) None ≡ option_and_then (strip b) (cond same (strip a t) None)
+strip_two : (same : Bool) (a b t : List ℕ) → strip (a ++ b) t ≡ option_and_then (strip b) (strip a t)
+    → cond same (strip (a ++ b) t) None ≡ option_and_then (strip b) (cond same (strip a t) None)
 strip_two true a b t rest = rest
 strip_two false a b t rest = refl
 
@@ -64,14 +66,16 @@ chosen_from None f b y h = inr (refl, h)
 chosen_from (Some x) f b y h = inl (x, refl, h)
 
 -- where what goes with a rest came from
-pub beside_from : {A : Type 0} (a : A) (o : Option (List ℕ)) (x : A) (u : List ℕ) → option_map {U = A × List ℕ} (λ v. (a, v)) o ≡ Some (x, u) → (o ≡ Some u) × (a ≡ x)
+pub beside_from : {A : Type 0} (a : A) (o : Option (List ℕ)) (x : A) (u : List ℕ)
+    → option_map {U = A × List ℕ} (λ v. (a, v)) o ≡ Some (x, u) → (o ≡ Some u) × (a ≡ x)
 beside_from a None x u h = absurd (cc)
 beside_from {A} a (Some v) x u h =
     let parts = same_parts {A = A} {B = List ℕ} (a, v) (x, u) h in
     (ap (λ w. Some w) parts.1, parts.0)
 
 -- where the function of a value that was read came from
-pub mapped_from : {A B : Type 0} (f : A → B) (o : Option (A × List ℕ)) (y : B) (u : List ℕ) → parse_map f o ≡ Some (y, u) → (x : A) × (o ≡ Some (x, u)) × (f x ≡ y)
+pub mapped_from : {A B : Type 0} (f : A → B) (o : Option (A × List ℕ)) (y : B) (u : List ℕ) → parse_map f o ≡ Some (y, u) → (x : A)
+    × (o ≡ Some (x, u)) × (f x ≡ y)
 mapped_from f None y u h = absurd (cc)
 mapped_from {A} {B} f (Some x) y u h =
     let parts = same_parts {A = B} {B = List ℕ} (f x.0, x.1) (y, u) h in

@@ -11,7 +11,8 @@ use Rattle.ufmt_core.specs.Formatter.{LaysOut, Prints, setting_of}
 
 module _ {W : Type 0} {seen : Seen W} where
   -- a document that is laid out where mode and depth are those from before
-  pub Prints-shown : {f new : Formatter W} {d : Document} {ok : Bool} (s : Setting) → setting_of f ≡ s → LaysOut seen f d ok new → Prints seen f (layout s d) ok new
+  pub Prints-shown : {f new : Formatter W} {d : Document} {ok : Bool} (s : Setting) → setting_of f ≡ s → LaysOut seen f d ok new
+      → Prints seen f (layout s d) ok new
   Prints-shown {f} {new} {d} {ok} s e l = subst (λ (at : Setting). Prints seen f (layout at d) ok new) e l.prints
 
   -- no call prints nothing

@@ -45,18 +45,21 @@ read_inside-complete q bs u zero quote few = absurd (omega arith)
 read_inside-complete q [] u (suc n) quote few = rw (eq-eqb q q refl) refl
 read_inside-complete q (b ∷ bs) u (suc n) quote few =
     let rest = escaped_bytes q bs ++ (q ∷ u) in
-    rw (append_assoc (escaped_byte q b) (escaped_bytes q bs) (q ∷ u), escaped-no_quote q b rest quote, read_escaped-complete q b rest quote, read_inside-complete q bs u n quote (omega arith)) refl
+    rw (append_assoc (escaped_byte q b) (escaped_bytes q bs) (q ∷ u), escaped-no_quote q b rest quote, read_escaped-complete q b rest quote,
+      read_inside-complete q bs u n quote (omega arith)) refl
 
 -- a spelling has at least one byte
 pub length-escaped : (q b : ℕ) → 1 ≤ length (escaped_byte q b)
-length-escaped q b = each_row q b (λ n e. 1 ≤ length e) (omega arith) (omega arith) (omega arith) (omega arith) (λ itself. omega arith) (λ low. omega arith) (λ no_line itself. omega arith)
+length-escaped q b = each_row q b (λ n e. 1 ≤ length e) (omega arith) (omega arith) (omega arith) (omega arith) (λ itself. omega arith)
+    (λ low. omega arith) (λ no_line itself. omega arith)
 
 pub length-escaped_bytes : (q : ℕ) (bs : List ℕ) → length bs ≤ length (escaped_bytes q bs)
 length-escaped_bytes q [] = omega arith
 length-escaped_bytes q (b ∷ bs) = omega (arith, length-escaped q b, length-escaped_bytes q bs, length-append (escaped_byte q b) (escaped_bytes q bs))
 
 -- bytes between two of these quotes are read where they are such as the test wants
-pub read_between-complete : (q : ℕ) (test : List ℕ → Bool) (bs u : List ℕ) → IsQuote q → test bs ≡ true → read_between q test ((q ∷ (escaped_bytes q bs ++ (q ∷ []))) ++ u) ≡ Some (quoted q (chars bs), u)
+pub read_between-complete : (q : ℕ) (test : List ℕ → Bool) (bs u : List ℕ) → IsQuote q → test bs ≡ true
+    → read_between q test ((q ∷ (escaped_bytes q bs ++ (q ∷ []))) ++ u) ≡ Some (quoted q (chars bs), u)
 read_between-complete q test bs u quote right =
     let inside = escaped_bytes q bs ++ (q ∷ u) in
     let few : length bs < suc (length inside) = omega (arith, length-escaped_bytes q bs, length-append (escaped_bytes q bs) (q ∷ u)) in
@@ -71,7 +74,8 @@ pub quoted-bytes : (q : ℕ) (cs : List ℕ) → IsQuote q → quoted q cs ≡ q
 quoted-bytes q cs quote = ap (λ t. q ∷ (t ++ (q ∷ []))) (escaped_all-bytes q (quote_ascii q quote) cs)
 
 -- characters between two quotes are read where their bytes are such as the test wants
-read_characters : (q : ℕ) (test : List ℕ → Bool) (cs u : List ℕ) → IsQuote q → all_scalars cs ≡ true → test (encode_utf8_all cs) ≡ true → read_between q test (quoted q cs ++ u) ≡ Some (quoted q cs, u)
+read_characters : (q : ℕ) (test : List ℕ → Bool) (cs u : List ℕ) → IsQuote q → all_scalars cs ≡ true → test (encode_utf8_all cs) ≡ true
+    → read_between q test (quoted q cs ++ u) ≡ Some (quoted q cs, u)
 read_characters q test cs u quote scalars right =
     ap (λ t. read_between q test (t ++ u)) (quoted-bytes q cs quote) ∙ read_between-complete q test (encode_utf8_all cs) u quote right
     ∙ ap (λ ds. Some (quoted q ds, u)) (chars-encodes cs scalars)
@@ -87,4 +91,5 @@ one_char c scalar = rw (utf8_encodes (c ∷ []) (one_scalar c scalar), chars-enc
 pub read_quoted-complete : (text u : List ℕ) → IsQuoted text → read_quoted (text ++ u) ≡ Some (text, u)
 unfolding read_quoted
 read_quoted-complete text u (inl of_text) = rw (of_text.2, read_characters 34 is_utf8 of_text.0 u (inl refl) of_text.1 (utf8_encodes of_text.0 of_text.1)) refl
-read_quoted-complete text u (inr of_char) = rw (of_char.2, read_characters 39 is_char (of_char.0 ∷ []) u (inr refl) (one_scalar of_char.0 of_char.1) (one_char of_char.0 of_char.1)) refl
+read_quoted-complete text u (inr of_char) =
+    rw (of_char.2, read_characters 39 is_char (of_char.0 ∷ []) u (inr refl) (one_scalar of_char.0 of_char.1) (one_char of_char.0 of_char.1)) refl

@@ -43,7 +43,8 @@ module _ (q b : ℕ) where
   module _ (P : ℕ → List ℕ → Type 0) (p0 : P 0 (codes "\\0")) (p9 : P 9 (codes "\\t")) (p10 : P 10 (codes "\\n")) (p13 : P 13 (codes "\\r"))
       (itself : (b ≡ 92) ⊎ (b ≡ q) → P b (92 ∷ b ∷ [])) (control : b < 128 → P b (codes "\\u{" ++ (hex_digits b ++ codes "}")))
       (plain : (b == 10) ≡ false → (b == 92 || b == q) ≡ false → P b (b ∷ [])) where
-    rows : (r0 r9 r10 r13 ritself rcontrol : Bool) → (b == 0) ≡ r0 → (b == 9) ≡ r9 → (b == 10) ≡ r10 → (b == 13) ≡ r13 → (b == 92 || b == q) ≡ ritself → (nat_lt b 32 || b == 127) ≡ rcontrol → P b (escaped_byte q b)
+    rows : (r0 r9 r10 r13 ritself rcontrol : Bool) → (b == 0) ≡ r0 → (b == 9) ≡ r9 → (b == 10) ≡ r10 → (b == 13) ≡ r13
+        → (b == 92 || b == q) ≡ ritself → (nat_lt b 32 || b == 127) ≡ rcontrol → P b (escaped_byte q b)
     rows true r9 r10 r13 ritself rcontrol h0 h9 h10 h13 hi hc = at_row P 0 (eqb-true b 0 h0) p0
     rows false true r10 r13 ritself rcontrol h0 h9 h10 h13 hi hc = at_row P 9 (eqb-true b 9 h9) p9
     rows false false true r13 ritself rcontrol h0 h9 h10 h13 hi hc = at_row P 10 (eqb-true b 10 h10) p10
@@ -72,4 +73,5 @@ module _ (q b : ℕ) (t : List ℕ) (quote : IsQuote q) where
 
   -- the spelling of a byte names it
   pub told-escaped : told (escaped_byte q b ++ t) ≡ b
-  told-escaped = each_row q b (λ n e. told (e ++ t) ≡ n) refl refl refl refl told-itself (told-braces (nat_lt b 16) refl) (λ no_line itself. rw (no_backslash q b itself) refl)
+  told-escaped = each_row q b (λ n e. told (e ++ t) ≡ n) refl refl refl refl told-itself (told-braces (nat_lt b 16) refl)
+      (λ no_line itself. rw (no_backslash q b itself) refl)

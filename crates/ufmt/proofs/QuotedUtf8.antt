@@ -39,11 +39,15 @@ digit_ascii d low = grind (arith, nat_tests)
 
 digits_ascii : (b : ℕ) (short : Bool) → nat_lt b 16 ≡ short → b < 128 → IsAscii (hex_digits b)
 digits_ascii b true short low = rw short (one_ascii (digit_char b) (digit_ascii b (ltb-true b 16 short)))
-digits_ascii b false short low = rw short (IsAscii-cons (digit_char (b / 16)) (digit_char (b % 16) ∷ []) (digit_ascii (b / 16) (omega arith)) (one_ascii (digit_char (b % 16)) (digit_ascii (b % 16) (omega arith))))
+digits_ascii b false short low = rw short
+    (IsAscii-cons (digit_char (b / 16)) (digit_char (b % 16) ∷ []) (digit_ascii (b / 16) (omega arith))
+    (one_ascii (digit_char (b % 16)) (digit_ascii (b % 16) (omega arith))))
 
 braces_ascii : (b : ℕ) → b < 128 → IsAscii (codes "u{" ++ (hex_digits b ++ codes "}"))
 braces_ascii b low =
-    IsAscii-cons 117 (codes "{" ++ (hex_digits b ++ codes "}")) (omega arith) (IsAscii-cons 123 (hex_digits b ++ codes "}") (omega arith) (IsAscii-append (hex_digits b) (codes "}") (digits_ascii b (nat_lt b 16) refl low) (one_ascii 125 (omega arith))))
+    IsAscii-cons 117 (codes "{" ++ (hex_digits b ++ codes "}")) (omega arith)
+      (IsAscii-cons 123 (hex_digits b ++ codes "}") (omega arith)
+      (IsAscii-append (hex_digits b) (codes "}") (digits_ascii b (nat_lt b 16) refl low) (one_ascii 125 (omega arith))))
 
 itself_ascii : (q b : ℕ) → IsQuote q → (b ≡ 92) ⊎ (b ≡ q) → b < 128
 itself_ascii q b quote (inl e) = omega (arith, e)
@@ -52,7 +56,8 @@ itself_ascii q b (inr h) (inr e) = omega (arith, e, h)
 
 pub spelling : (q b : ℕ) → IsQuote q → Spelling b (escaped_byte q b)
 spelling q b quote =
-    each_row q b Spelling (letter 0 48 (omega arith) (omega arith)) (letter 9 116 (omega arith) (omega arith)) (letter 10 110 (omega arith) (omega arith)) (letter 13 114 (omega arith) (omega arith))
+    each_row q b Spelling (letter 0 48 (omega arith) (omega arith)) (letter 9 116 (omega arith) (omega arith))
+      (letter 10 110 (omega arith) (omega arith)) (letter 13 114 (omega arith) (omega arith))
     (λ itself. letter b b (itself_ascii q b quote itself) (itself_ascii q b quote itself))
     (λ low. inr (codes "u{" ++ (hex_digits b ++ codes "}"), refl, braces_ascii b low, low))
     (λ no_line itself. inl refl)
@@ -69,7 +74,8 @@ module _ (q : ℕ) (quote : IsQuote q) where
   utf8-told : (bs xs : List ℕ) → IsUtf8 (xs ++ escaped_bytes q bs) → IsUtf8 (xs ++ bs)
   utf8-told [] xs u = u
   utf8-told (b ∷ bs) xs u = elim (spelling q b quote) [
-    | inl plain ↦ subst IsUtf8 (sym (goes_on xs bs b)) (utf8-told bs (xs ++ (b ∷ [])) (subst IsUtf8 (ap (λ e. xs ++ (e ++ escaped_bytes q bs)) plain ∙ goes_on xs (escaped_bytes q bs) b) u))
+    | inl plain ↦ subst IsUtf8 (sym (goes_on xs bs b))
+      (utf8-told bs (xs ++ (b ∷ [])) (subst IsUtf8 (ap (λ e. xs ++ (e ++ escaped_bytes q bs)) plain ∙ goes_on xs (escaped_bytes q bs) b) u))
     | inr escape ↦
         let parts = IsUtf8-cut xs (escape.0 ++ escaped_bytes q bs) 92 (omega arith) (subst IsUtf8 (ap (λ e. xs ++ (e ++ escaped_bytes q bs)) escape.1) u) in
         let rest = utf8-told bs [] (IsUtf8-past escape.0 (escaped_bytes q bs) escape.2 parts.1) in
@@ -80,11 +86,14 @@ module _ (q : ℕ) (quote : IsQuote q) where
   utf8-escaped : (bs xs : List ℕ) → IsUtf8 (xs ++ bs) → IsUtf8 (xs ++ escaped_bytes q bs)
   utf8-escaped [] xs u = u
   utf8-escaped (b ∷ bs) xs u = elim (spelling q b quote) [
-    | inl plain ↦ subst IsUtf8 (sym (ap (λ e. xs ++ (e ++ escaped_bytes q bs)) plain ∙ goes_on xs (escaped_bytes q bs) b)) (utf8-escaped bs (xs ++ (b ∷ [])) (subst IsUtf8 (goes_on xs bs b) u))
+    | inl plain ↦ subst IsUtf8 (sym (ap (λ e. xs ++ (e ++ escaped_bytes q bs)) plain ∙ goes_on xs (escaped_bytes q bs) b))
+      (utf8-escaped bs (xs ++ (b ∷ [])) (subst IsUtf8 (goes_on xs bs b) u))
     | inr escape ↦
         let parts = IsUtf8-cut xs bs b escape.3 u in
         let front : IsUtf8 (92 ∷ escape.0) = IsUtf8-from_ascii (92 ∷ escape.0) (IsAscii-cons 92 escape.0 (omega arith) escape.2) in
-        subst IsUtf8 (sym (ap (λ e. xs ++ (e ++ escaped_bytes q bs)) escape.1)) (IsUtf8-append xs ((92 ∷ escape.0) ++ escaped_bytes q bs) parts.0 (IsUtf8-append (92 ∷ escape.0) (escaped_bytes q bs) front (utf8-escaped bs [] parts.1)))
+        subst IsUtf8 (sym (ap (λ e. xs ++ (e ++ escaped_bytes q bs)) escape.1))
+          (IsUtf8-append xs ((92 ∷ escape.0) ++ escaped_bytes q bs) parts.0
+          (IsUtf8-append (92 ∷ escape.0) (escaped_bytes q bs) front (utf8-escaped bs [] parts.1)))
   ]
 
   -- with their quotes too

@@ -19,56 +19,74 @@ pub record ReadsBelow (p : Parse Document) (i : Setting) (n : ℕ) : Type 0 wher
   pub reads : (d : Document) → HasWords d → nest d < n → IsRead p (normal d) (layout i d)
 
 -- so it reads documents in a row
-documents_complete : (p : Parse Document) (i : Setting) (n : ℕ) → ReadsBelow p i n → (ds : Documents) → HaveWords ds → nest_all ds < n → AreRead p (listed (normal_all ds)) (texts i ds)
+documents_complete : (p : Parse Document) (i : Setting) (n : ℕ) → ReadsBelow p i n → (ds : Documents) → HaveWords ds → nest_all ds < n
+    → AreRead p (listed (normal_all ds)) (texts i ds)
 unfolding listed
 documents_complete p i n below no_documents h less = tt
 documents_complete p i n below (document d ds) h less = (below.reads d h.0 (omega arith), documents_complete p i n below ds h.1 (omega arith))
 
 -- so it reads pairs in a row
-pairs_complete : (p : Parse Document) (i : Setting) (n : ℕ) → ReadsBelow p i n → (ps : Pairs) → PairsHaveWords ps → nest_pairs ps < n → AreRead (read_pair p p) (listed_pairs (normal_pairs ps)) (pair_texts i ps)
+pairs_complete : (p : Parse Document) (i : Setting) (n : ℕ) → ReadsBelow p i n → (ps : Pairs) → PairsHaveWords ps → nest_pairs ps < n
+    → AreRead (read_pair p p) (listed_pairs (normal_pairs ps)) (pair_texts i ps)
 unfolding listed_pairs
 pairs_complete p i n below no_pairs h less = tt
-pairs_complete p i n below (pair key value ps) h less = (read_pair_complete p p (normal key) (normal value) (layout i key) (layout i value) (below.reads key h.0 (omega arith)) (below.reads value h.1 (omega arith)), pairs_complete p i n below ps h.2 (omega arith))
+pairs_complete p i n below (pair key value ps) h less =
+    (read_pair_complete p p (normal key) (normal value) (layout i key) (layout i value) (below.reads key h.0 (omega arith))
+    (below.reads value h.1 (omega arith)), pairs_complete p i n below ps h.2 (omega arith))
 
 -- so it reads fields in a row
-fields_complete : (p : Parse Document) (i : Setting) (n : ℕ) → ReadsBelow p i n → (fs : Fields) → FieldsHaveWords fs → nest_fields fs < n → AreRead (read_pair read_word p) (listed_fields (normal_fields fs)) (field_texts i fs)
+fields_complete : (p : Parse Document) (i : Setting) (n : ℕ) → ReadsBelow p i n → (fs : Fields) → FieldsHaveWords fs → nest_fields fs < n
+    → AreRead (read_pair read_word p) (listed_fields (normal_fields fs)) (field_texts i fs)
 unfolding listed_fields
 fields_complete p i n below no_fields h less = tt
-fields_complete p i n below (field label value fs) h less = (read_pair_complete read_word p label (normal value) label (layout i value) (label_complete label h.0) (below.reads value h.1 (omega arith)), fields_complete p i n below fs h.2 (omega arith))
+fields_complete p i n below (field label value fs) h less =
+    (read_pair_complete read_word p label (normal value) label (layout i value) (label_complete label h.0)
+    (below.reads value h.1 (omega arith)), fields_complete p i n below fs h.2 (omega arith))
 
 -- what begins the entries of a list, a set, a map or a tuple without a name, behind the bracket
 entries_begin : (s : Setting) {text : List ℕ} → Begins text → (t u : List ℕ) → Begins ((new_line (inside s).mode (inside s).depth ++ (text ++ t)) ++ u)
 entries_begin s b t u = Begins-append (begins_behind (inside s).mode (inside s).depth (Begins-append b t)) u
 
 -- what stands before the first entry decides for a block
-lead_chosen : {A : Type 0} (start text after left u : List ℕ) (f : List ℕ → A) (b : A) → choose (strip start ((start ++ (text ++ (after ++ left))) ++ u)) f b ≡ f (text ++ (after ++ (left ++ u)))
+lead_chosen : {A : Type 0} (start text after left u : List ℕ) (f : List ℕ → A) (b : A)
+    → choose (strip start ((start ++ (text ++ (after ++ left))) ++ u)) f b ≡ f (text ++ (after ++ (left ++ u)))
 lead_chosen start text after left u f b = rw (entry_assoc start text after left u, strip_stands start (text ++ (after ++ (left ++ u)))) refl
 
 -- a list with entries is read
-list_complete : (s : Setting) (p : Parse Document) (n : ℕ) → ReadsBelow p (inside s) n → Fits s n → (d : Document) (ds : Documents) (u : List ℕ) → HasWords d → HaveWords ds → nest (list_of (document d ds)) ≤ n → read_with s p (layout s (list_of (document d ds)) ++ u) ≡ Some (normal (list_of (document d ds)), u)
+list_complete : (s : Setting) (p : Parse Document) (n : ℕ) → ReadsBelow p (inside s) n → Fits s n
+    → (d : Document) (ds : Documents) (u : List ℕ) → HasWords d → HaveWords ds → nest (list_of (document d ds)) ≤ n
+    → read_with s p (layout s (list_of (document d ds)) ++ u) ≡ Some (normal (list_of (document d ds)), u)
 list_complete s p n below fits d ds u h hs less =
     let first : IsRead p (normal d) (layout (inside s) d) = below.reads d h (omega arith) in
     let more : AreRead p (listed (normal_all ds)) (texts (inside s) ds) = documents_complete p (inside s) n below ds hs (omega arith) in
     let close = closes s Brackets (fits_less s 1 n (omega arith) fits) in
     rw (closer_begins_none 93 [] refl (entries_begin s first.begins (trail s.mode ++ block_tail (frame s.mode Brackets) s One (texts (inside s) ds)) u))
-    (rw (read_block_complete p (frame s.mode Brackets) s (λ es. list_of (documents es)) close (normal d) (listed (normal_all ds)) (layout (inside s) d) (texts (inside s) ds) u first more)
+    (rw (read_block_complete p (frame s.mode Brackets) s (λ es. list_of (documents es)) close (normal d) (listed (normal_all ds))
+      (layout (inside s) d) (texts (inside s) ds) u first more)
     (ap (λ es. Some (list_of (document (normal d) es), u)) (documents-listed (normal_all ds))))
 
 -- a set with entries is read
-set_complete : (s : Setting) (p : Parse Document) (n : ℕ) → ReadsBelow p (inside s) n → Fits s n → (d : Document) (ds : Documents) (u : List ℕ) → HasWords d → HaveWords ds → nest (set_of (document d ds)) ≤ n → read_with s p (layout s (set_of (document d ds)) ++ u) ≡ Some (normal (set_of (document d ds)), u)
+set_complete : (s : Setting) (p : Parse Document) (n : ℕ) → ReadsBelow p (inside s) n → Fits s n
+    → (d : Document) (ds : Documents) (u : List ℕ) → HasWords d → HaveWords ds → nest (set_of (document d ds)) ≤ n
+    → read_with s p (layout s (set_of (document d ds)) ++ u) ≡ Some (normal (set_of (document d ds)), u)
 set_complete s p n below fits d ds u h hs less =
     let first : IsRead p (normal d) (layout (inside s) d) = below.reads d h (omega arith) in
     let more : AreRead p (listed (normal_all ds)) (texts (inside s) ds) = documents_complete p (inside s) n below ds hs (omega arith) in
     let close = closes s Braces (fits_less s 1 n (omega arith) fits) in
     let left : List ℕ = block_tail (frame s.mode Braces) s One (texts (inside s) ds) in
     rw (closer_begins_none 125 [] refl (entries_begin s first.begins (trail s.mode ++ left) u))
-    (rw (entry_assoc (lead (frame s.mode Braces) (inside s) Zero) (layout (inside s) d) (trail s.mode) left u, strip_stands (lead (frame s.mode Braces) (inside s) Zero) (layout (inside s) d ++ (trail s.mode ++ (left ++ u))))
-    (rw (first.reads (trail s.mode ++ (left ++ u)) (rest_follows (frame s.mode Braces) s close Zero (texts (inside s) ds) u), no_colon s (texts (inside s) ds) u)
-    (rw (read_after_first_complete p (frame s.mode Braces) s (λ es. set_of (documents es)) close (normal d) (listed (normal_all ds)) (texts (inside s) ds) u more)
+    (rw (entry_assoc (lead (frame s.mode Braces) (inside s) Zero) (layout (inside s) d) (trail s.mode) left u,
+      strip_stands (lead (frame s.mode Braces) (inside s) Zero) (layout (inside s) d ++ (trail s.mode ++ (left ++ u))))
+    (rw (first.reads (trail s.mode ++ (left ++ u)) (rest_follows (frame s.mode Braces) s close Zero (texts (inside s) ds) u),
+      no_colon s (texts (inside s) ds) u)
+    (rw (read_after_first_complete p (frame s.mode Braces) s (λ es. set_of (documents es)) close (normal d) (listed (normal_all ds))
+      (texts (inside s) ds) u more)
     (ap (λ es. Some (set_of (document (normal d) es), u)) (documents-listed (normal_all ds))))))
 
 -- a map with entries is read
-map_complete : (s : Setting) (p : Parse Document) (n : ℕ) → ReadsBelow p (inside s) n → Fits s n → (key value : Document) (ps : Pairs) (u : List ℕ) → HasWords key → HasWords value → PairsHaveWords ps → nest (map_of (pair key value ps)) ≤ n → read_with s p (layout s (map_of (pair key value ps)) ++ u) ≡ Some (normal (map_of (pair key value ps)), u)
+map_complete : (s : Setting) (p : Parse Document) (n : ℕ) → ReadsBelow p (inside s) n → Fits s n
+    → (key value : Document) (ps : Pairs) (u : List ℕ) → HasWords key → HasWords value → PairsHaveWords ps
+    → nest (map_of (pair key value ps)) ≤ n → read_with s p (layout s (map_of (pair key value ps)) ++ u) ≡ Some (normal (map_of (pair key value ps)), u)
 map_complete s p n below fits key value ps u hk hv hs less =
     let first : IsRead p (normal key) (layout (inside s) key) = below.reads key hk (omega arith) in
     let second : IsRead p (normal value) (layout (inside s) value) = below.reads value hv (omega arith) in
@@ -77,14 +95,21 @@ map_complete s p n below fits key value ps u hk hv hs less =
     let left : List ℕ = block_tail (frame s.mode Braces) s One (pair_texts (inside s) ps) in
     let entry : List ℕ = layout (inside s) key ++ (codes ": " ++ layout (inside s) value) in
     rw (closer_begins_none 125 [] refl (entries_begin s (Begins-append first.begins (codes ": " ++ layout (inside s) value)) (trail s.mode ++ left) u))
-    (rw (entry_assoc (lead (frame s.mode Braces) (inside s) Zero) entry (trail s.mode) left u, strip_stands (lead (frame s.mode Braces) (inside s) Zero) (entry ++ (trail s.mode ++ (left ++ u))))
-    (rw (append_assoc (layout (inside s) key) (codes ": " ++ layout (inside s) value) (trail s.mode ++ (left ++ u)), first.reads (codes ": " ++ (layout (inside s) value ++ (trail s.mode ++ (left ++ u)))) (inl refl))
-    (rw (read_value_complete p (normal key) (normal value) (layout (inside s) value) (trail s.mode ++ (left ++ u)) second (rest_follows (frame s.mode Braces) s close Zero (pair_texts (inside s) ps) u))
-    (rw (read_after_first_complete (read_pair p p) (frame s.mode Braces) s (λ es. map_of (pairs_of es)) close (normal key, normal value) (listed_pairs (normal_pairs ps)) (pair_texts (inside s) ps) u more)
+    (rw (entry_assoc (lead (frame s.mode Braces) (inside s) Zero) entry (trail s.mode) left u,
+      strip_stands (lead (frame s.mode Braces) (inside s) Zero) (entry ++ (trail s.mode ++ (left ++ u))))
+    (rw (append_assoc (layout (inside s) key) (codes ": " ++ layout (inside s) value) (trail s.mode ++ (left ++ u)),
+      first.reads (codes ": " ++ (layout (inside s) value ++ (trail s.mode ++ (left ++ u)))) (inl refl))
+    (rw (read_value_complete p (normal key) (normal value) (layout (inside s) value) (trail s.mode ++ (left ++ u)) second
+      (rest_follows (frame s.mode Braces) s close Zero (pair_texts (inside s) ps) u))
+    (rw (read_after_first_complete (read_pair p p) (frame s.mode Braces) s (λ es. map_of (pairs_of es)) close (normal key, normal value)
+      (listed_pairs (normal_pairs ps)) (pair_texts (inside s) ps) u more)
     (ap (λ es. Some (map_of (pair (normal key) (normal value) es), u)) (pairs_of-listed_pairs (normal_pairs ps)))))))
 
 -- a struct with fields is read
-struct_complete : (s : Setting) (p : Parse Document) (n : ℕ) → ReadsBelow p (inside s) n → Fits s n → (name label : List ℕ) (value : Document) (fs : Fields) (u : List ℕ) → IsWord name → IsWord label → HasWords value → FieldsHaveWords fs → nest (struct_of name (field label value fs)) ≤ n → read_with s p (layout s (struct_of name (field label value fs)) ++ u) ≡ Some (normal (struct_of name (field label value fs)), u)
+struct_complete : (s : Setting) (p : Parse Document) (n : ℕ) → ReadsBelow p (inside s) n → Fits s n
+    → (name label : List ℕ) (value : Document) (fs : Fields) (u : List ℕ) → IsWord name → IsWord label → HasWords value → FieldsHaveWords fs
+    → nest (struct_of name (field label value fs)) ≤ n
+    → read_with s p (layout s (struct_of name (field label value fs)) ++ u) ≡ Some (normal (struct_of name (field label value fs)), u)
 struct_complete s p n below fits [] label value fs u hn hl hv hs less = absurd hn
 struct_complete s p n below fits (c ∷ name) label value fs u hn hl hv hs less =
     let entry : List ℕ = label ++ (codes ": " ++ layout (inside s) value) in
@@ -95,17 +120,22 @@ struct_complete s p n below fits (c ∷ name) label value fs u hn hl hv hs less 
     let start : List ℕ = lead (frame s.mode Struct) (inside s) Zero in
     word_leads s p (c ∷ name) (start ++ (entry ++ (trail s.mode ++ left))) u hn refl
     ∙ (lead_chosen start entry (trail s.mode) left u (read_struct s p (c ∷ name)) (Some (leaf (c ∷ name), (start ++ (entry ++ (trail s.mode ++ left))) ++ u))
-    ∙ (read_entries_complete (read_pair read_word p) (frame s.mode Struct) s (λ es. struct_of (c ∷ name) (fields_of es)) close (label, normal value) (listed_fields (normal_fields fs)) entry (field_texts (inside s) fs) u first more
+    ∙ (read_entries_complete (read_pair read_word p) (frame s.mode Struct) s (λ es. struct_of (c ∷ name) (fields_of es)) close
+      (label, normal value) (listed_fields (normal_fields fs)) entry (field_texts (inside s) fs) u first more
     ∙ (ap (λ es. Some (struct_of (c ∷ name) (field label (normal value) es), u)) (fields_of-listed_fields (normal_fields fs)))))
 
 -- a tuple with fields is read
-tuple_complete : (s : Setting) (p : Parse Document) (n : ℕ) → ReadsBelow p (inside s) n → Fits s n → (name : List ℕ) (d : Document) (ds : Documents) (u : List ℕ) → AreWordBytes name → HasWords d → HaveWords ds → nest (tuple_of name (document d ds)) ≤ n → read_with s p (layout s (tuple_of name (document d ds)) ++ u) ≡ Some (normal (tuple_of name (document d ds)), u)
+tuple_complete : (s : Setting) (p : Parse Document) (n : ℕ) → ReadsBelow p (inside s) n → Fits s n
+    → (name : List ℕ) (d : Document) (ds : Documents) (u : List ℕ) → AreWordBytes name → HasWords d → HaveWords ds
+    → nest (tuple_of name (document d ds)) ≤ n
+    → read_with s p (layout s (tuple_of name (document d ds)) ++ u) ≡ Some (normal (tuple_of name (document d ds)), u)
 tuple_complete s p n below fits [] d ds u hn h hs less =
     let first : IsRead p (normal d) (layout (inside s) d) = below.reads d h (omega arith) in
     let more : AreRead p (listed (normal_all ds)) (texts (inside s) ds) = documents_complete p (inside s) n below ds hs (omega arith) in
     let close = closes s Unnamed (fits_less s 1 n (omega arith) fits) in
     rw (no_symbol (entries_begin s first.begins (trail s.mode ++ block_tail (frame s.mode Unnamed) s One (texts (inside s) ds)) u))
-    (rw (read_block_complete p (frame s.mode Unnamed) s (λ es. tuple_of [] (documents es)) close (normal d) (listed (normal_all ds)) (layout (inside s) d) (texts (inside s) ds) u first more)
+    (rw (read_block_complete p (frame s.mode Unnamed) s (λ es. tuple_of [] (documents es)) close (normal d) (listed (normal_all ds))
+      (layout (inside s) d) (texts (inside s) ds) u first more)
     (ap (λ es. Some (tuple_of [] (document (normal d) es), u)) (documents-listed (normal_all ds))))
 tuple_complete s p n below fits (c ∷ name) d ds u hn h hs less =
     let first : IsRead p (normal d) (layout (inside s) d) = below.reads d h (omega arith) in
@@ -114,8 +144,11 @@ tuple_complete s p n below fits (c ∷ name) d ds u hn h hs less =
     let left : List ℕ = block_tail (frame s.mode Tuple) s One (texts (inside s) ds) in
     let start : List ℕ = lead (frame s.mode Tuple) (inside s) Zero in
     word_leads s p (c ∷ name) (start ++ (layout (inside s) d ++ (trail s.mode ++ left))) u hn refl
-    ∙ (lead_chosen start (layout (inside s) d) (trail s.mode) left u (read_tuple s p (c ∷ name)) (choose (strip (lead (frame s.mode Struct) (inside s) Zero) ((start ++ (layout (inside s) d ++ (trail s.mode ++ left))) ++ u)) (read_struct s p (c ∷ name)) (Some (leaf (c ∷ name), (start ++ (layout (inside s) d ++ (trail s.mode ++ left))) ++ u)))
-    ∙ (read_entries_complete p (frame s.mode Tuple) s (λ es. tuple_of (c ∷ name) (documents es)) close (normal d) (listed (normal_all ds)) (layout (inside s) d) (texts (inside s) ds) u first more
+    ∙ (lead_chosen start (layout (inside s) d) (trail s.mode) left u (read_tuple s p (c ∷ name))
+      (choose (strip (lead (frame s.mode Struct) (inside s) Zero) ((start ++ (layout (inside s) d ++ (trail s.mode ++ left))) ++ u))
+      (read_struct s p (c ∷ name)) (Some (leaf (c ∷ name), (start ++ (layout (inside s) d ++ (trail s.mode ++ left))) ++ u)))
+    ∙ (read_entries_complete p (frame s.mode Tuple) s (λ es. tuple_of (c ∷ name) (documents es)) close (normal d) (listed (normal_all ds))
+      (layout (inside s) d) (texts (inside s) ds) u first more
     ∙ (ap (λ es. Some (tuple_of (c ∷ name) (document (normal d) es), u)) (documents-listed (normal_all ds)))))
 
 -- a struct or tuple without fields is read as the leaf of its name
@@ -123,7 +156,8 @@ name_complete : (s : Setting) (p : Parse Document) (name u : List ℕ) → IsWor
 name_complete s p name u h follows = rw (append-nil name) (leaf_complete s p name u (word_leaf name h) follows)
 
 -- a document is read, where those of its entries are
-read_with_complete : (s : Setting) (p : Parse Document) (n : ℕ) → ReadsBelow p (inside s) n → Fits s n → (d : Document) (u : List ℕ) → HasWords d → nest d ≤ n → IsFollower u → read_with s p (layout s d ++ u) ≡ Some (normal d, u)
+read_with_complete : (s : Setting) (p : Parse Document) (n : ℕ) → ReadsBelow p (inside s) n → Fits s n → (d : Document) (u : List ℕ)
+    → HasWords d → nest d ≤ n → IsFollower u → read_with s p (layout s d ++ u) ≡ Some (normal d, u)
 read_with_complete s p n below fits (leaf text) u h less follows = leaf_complete s p text u h follows
 read_with_complete s p n below fits (joined ds) u h less follows = absurd h
 read_with_complete s p n below fits (list_of no_documents) u h less follows = refl
@@ -133,14 +167,20 @@ read_with_complete s p n below fits (set_of (document d ds)) u h less follows = 
 read_with_complete s p n below fits (map_of no_pairs) u h less follows = refl
 read_with_complete s p n below fits (map_of (pair key value ps)) u h less follows = map_complete s p n below fits key value ps u h.0 h.1 h.2 less
 read_with_complete s p n below fits (struct_of name no_fields) u h less follows = name_complete s p name u h.0 follows
-read_with_complete s p n below fits (struct_of name (field label value fs)) u h less follows = struct_complete s p n below fits name label value fs u h.0 h.1.0 h.1.1 h.1.2 less
+read_with_complete s p n below fits (struct_of name (field label value fs)) u h less follows =
+    struct_complete s p n below fits name label value fs u h.0 h.1.0 h.1.1 h.1.2 less
 read_with_complete s p n below fits (tuple_of [] no_documents) u h less follows = absurd h
 read_with_complete s p n below fits (tuple_of (c ∷ name) no_documents) u h less follows = name_complete s p (c ∷ name) u h follows
 read_with_complete s p n below fits (tuple_of name (document d ds)) u h less follows = tuple_complete s p n below fits name d ds u h.0 h.1 h.2 less
 read_with_complete s p n below fits (pretty_part d) u h less follows = absurd h
 
 -- the text of a token document, before a follower, is read as its normal form
-pub read_complete : (n : ℕ) (s : Setting) (d : Document) (u : List ℕ) → HasWords d → nest d ≤ n → Fits s n → IsFollower u → read s n (layout s d ++ u) ≡ Some (normal d, u)
+pub read_complete : (n : ℕ) (s : Setting) (d : Document) (u : List ℕ) → HasWords d → nest d ≤ n → Fits s n → IsFollower u
+    → read s n (layout s d ++ u) ≡ Some (normal d, u)
 unfolding read
-read_complete zero s d u h less fits follows = read_with_complete s (λ t. None) zero (record { reads = λ e w below. absurd (omega arith) }) fits d u h less follows
-read_complete (suc n) s d u h less fits follows = read_with_complete s (read (inside s) n) (suc n) (record { reads = λ e w under. record { begins = document_begins (inside s) e w; reads = λ v after. read_complete n (inside s) e v w (omega arith) (fits_inside s n fits) after } }) fits d u h less follows
+read_complete zero s d u h less fits follows =
+    read_with_complete s (λ t. None) zero (record { reads = λ e w below. absurd (omega arith) }) fits d u h less follows
+read_complete (suc n) s d u h less fits follows =
+    read_with_complete s (read (inside s) n) (suc n)
+    (record { reads = λ e w under. record { begins = document_begins (inside s) e w;
+    reads = λ v after. read_complete n (inside s) e v w (omega arith) (fits_inside s n fits) after } }) fits d u h less follows

@@ -35,7 +35,9 @@ found_same {s} {n} {t} e d v u found same =
     subst₂ (λ a b. Found s n t a b) parts.0 parts.1 found
 
 -- a list of entries that were found was found
-list_found : (s : Setting) (n : ℕ) (t v : List ℕ) (d : Document) (u : List ℕ) → t ≡ codes "[" ++ (lead (frame s.mode Brackets) (inside s) Zero ++ v) → FoundEntries (IsNormalBelow n) (layout (inside s)) (frame s.mode Brackets) s (λ ds. list_of (documents ds)) v d u → Found s n t d u
+list_found : (s : Setting) (n : ℕ) (t v : List ℕ) (d : Document) (u : List ℕ)
+    → t ≡ codes "[" ++ (lead (frame s.mode Brackets) (inside s) Zero ++ v)
+    → FoundEntries (IsNormalBelow n) (layout (inside s)) (frame s.mode Brackets) s (λ ds. list_of (documents ds)) v d u → Found s n t d u
 list_found s n t v d u front h =
     let some : 0 < n = (let first = h.good.0.nests in omega arith) in
     let nests = documents_nest n (h.first ∷ h.others) h.good some in
@@ -43,11 +45,14 @@ list_found s n t v d u front h =
       words = documents_words n (h.first ∷ h.others) h.good;
       nests = omega arith;
       is_normal = ap list_of (documents_normal n (h.first ∷ h.others) h.good);
-      whole = front ∙ ap (λ w. codes "[" ++ w) (h.whole ∙ ap (λ ts. block_tail (frame s.mode Brackets) s Zero ts ++ u) (sym (documents_texts (inside s) (h.first ∷ h.others))));
+      whole = front ∙ ap (λ w. codes "[" ++ w) (h.whole
+          ∙ ap (λ ts. block_tail (frame s.mode Brackets) s Zero ts ++ u) (sym (documents_texts (inside s) (h.first ∷ h.others))));
     })
 
 -- a set of entries that were found was found
-set_found : (s : Setting) (n : ℕ) (t v : List ℕ) (d : Document) (u : List ℕ) → t ≡ codes "{" ++ (lead (frame s.mode Braces) (inside s) Zero ++ v) → FoundEntries (IsNormalBelow n) (layout (inside s)) (frame s.mode Braces) s (λ ds. set_of (documents ds)) v d u → Found s n t d u
+set_found : (s : Setting) (n : ℕ) (t v : List ℕ) (d : Document) (u : List ℕ)
+    → t ≡ codes "{" ++ (lead (frame s.mode Braces) (inside s) Zero ++ v)
+    → FoundEntries (IsNormalBelow n) (layout (inside s)) (frame s.mode Braces) s (λ ds. set_of (documents ds)) v d u → Found s n t d u
 set_found s n t v d u front h =
     let some : 0 < n = (let first = h.good.0.nests in omega arith) in
     let nests = documents_nest n (h.first ∷ h.others) h.good some in
@@ -55,11 +60,15 @@ set_found s n t v d u front h =
       words = documents_words n (h.first ∷ h.others) h.good;
       nests = omega arith;
       is_normal = ap set_of (documents_normal n (h.first ∷ h.others) h.good);
-      whole = front ∙ ap (λ w. codes "{" ++ w) (h.whole ∙ ap (λ ts. block_tail (frame s.mode Braces) s Zero ts ++ u) (sym (documents_texts (inside s) (h.first ∷ h.others))));
+      whole = front ∙ ap (λ w. codes "{" ++ w) (h.whole
+          ∙ ap (λ ts. block_tail (frame s.mode Braces) s Zero ts ++ u) (sym (documents_texts (inside s) (h.first ∷ h.others))));
     })
 
 -- a map of pairs that were found was found
-map_found : (s : Setting) (n : ℕ) (t v : List ℕ) (d : Document) (u : List ℕ) → t ≡ codes "{" ++ (lead (frame s.mode Braces) (inside s) Zero ++ v) → FoundEntries (IsGoodPair (IsNormalBelow n) (IsNormalBelow n)) (pair_text (layout (inside s)) (layout (inside s))) (frame s.mode Braces) s (λ ps. map_of (pairs_of ps)) v d u → Found s n t d u
+map_found : (s : Setting) (n : ℕ) (t v : List ℕ) (d : Document) (u : List ℕ)
+    → t ≡ codes "{" ++ (lead (frame s.mode Braces) (inside s) Zero ++ v)
+    → FoundEntries (IsGoodPair (IsNormalBelow n) (IsNormalBelow n)) (pair_text (layout (inside s)) (layout (inside s)))
+    (frame s.mode Braces) s (λ ps. map_of (pairs_of ps)) v d u → Found s n t d u
 map_found s n t v d u front h =
     let some : 0 < n = (let first = h.good.0.0.nests in omega arith) in
     let nests = pairs_nest n (h.first ∷ h.others) h.good some in
@@ -67,11 +76,15 @@ map_found s n t v d u front h =
       words = pairs_words n (h.first ∷ h.others) h.good;
       nests = omega arith;
       is_normal = ap map_of (pairs_normal n (h.first ∷ h.others) h.good);
-      whole = front ∙ ap (λ w. codes "{" ++ w) (h.whole ∙ ap (λ ts. block_tail (frame s.mode Braces) s Zero ts ++ u) (sym (pairs_texts (inside s) (h.first ∷ h.others))));
+      whole = front ∙ ap (λ w. codes "{" ++ w) (h.whole
+          ∙ ap (λ ts. block_tail (frame s.mode Braces) s Zero ts ++ u) (sym (pairs_texts (inside s) (h.first ∷ h.others))));
     })
 
 -- a struct of fields that were found was found
-struct_found : (s : Setting) (n : ℕ) (name t v : List ℕ) (d : Document) (u : List ℕ) → IsWord name → t ≡ name ++ (lead (frame s.mode Struct) (inside s) Zero ++ v) → FoundEntries (IsGoodPair IsWord (IsNormalBelow n)) (pair_text (λ w. w) (layout (inside s))) (frame s.mode Struct) s (λ fs. struct_of name (fields_of fs)) v d u → Found s n t d u
+struct_found : (s : Setting) (n : ℕ) (name t v : List ℕ) (d : Document) (u : List ℕ) → IsWord name
+    → t ≡ name ++ (lead (frame s.mode Struct) (inside s) Zero ++ v)
+    → FoundEntries (IsGoodPair IsWord (IsNormalBelow n)) (pair_text (λ w. w) (layout (inside s))) (frame s.mode Struct) s
+    (λ fs. struct_of name (fields_of fs)) v d u → Found s n t d u
 struct_found s n name t v d u word front h =
     let some : 0 < n = (let first = h.good.0.1.nests in omega arith) in
     let nests = fields_nest n (h.first ∷ h.others) h.good some in
@@ -79,18 +92,23 @@ struct_found s n name t v d u word front h =
       words = (word, fields_words n (h.first ∷ h.others) h.good);
       nests = omega arith;
       is_normal = ap (struct_of name) (fields_normal n (h.first ∷ h.others) h.good);
-      whole = front ∙ ap (λ w. name ++ w) (h.whole ∙ ap (λ ts. block_tail (frame s.mode Struct) s Zero ts ++ u) (sym (fields_texts (inside s) (h.first ∷ h.others)))) ∙ sym (append_assoc name (block_tail (frame s.mode Struct) s Zero (field_texts (inside s) (fields_of (h.first ∷ h.others)))) u);
+      whole = front ∙ ap (λ w. name ++ w) (h.whole
+          ∙ ap (λ ts. block_tail (frame s.mode Struct) s Zero ts ++ u) (sym (fields_texts (inside s) (h.first ∷ h.others))))
+          ∙ sym (append_assoc name (block_tail (frame s.mode Struct) s Zero (field_texts (inside s) (fields_of (h.first ∷ h.others)))) u);
     })
 
 -- the text of a tuple with fields
-tuple_text : (s : Setting) (name : List ℕ) (d : Document) (ds : List Document) (u : List ℕ) → name ++ (block_tail (frame s.mode (tuple_kind name)) s Zero (map (layout (inside s)) (d ∷ ds)) ++ u) ≡ layout s (tuple_of name (documents (d ∷ ds))) ++ u
+tuple_text : (s : Setting) (name : List ℕ) (d : Document) (ds : List Document) (u : List ℕ)
+    → name ++ (block_tail (frame s.mode (tuple_kind name)) s Zero (map (layout (inside s)) (d ∷ ds)) ++ u) ≡ layout s (tuple_of name (documents (d ∷ ds))) ++ u
 tuple_text s [] d ds u = ap (λ ts. block_tail (frame s.mode Unnamed) s Zero ts ++ u) (sym (documents_texts (inside s) (d ∷ ds)))
 tuple_text s (c ∷ name) d ds u =
     ap (λ ts. (c ∷ name) ++ (block_tail (frame s.mode Tuple) s Zero ts ++ u)) (sym (documents_texts (inside s) (d ∷ ds)))
     ∙ sym (append_assoc (c ∷ name) (block_tail (frame s.mode Tuple) s Zero (texts (inside s) (documents (d ∷ ds)))) u)
 
 -- a tuple of fields that were found was found
-tuple_found : (s : Setting) (n : ℕ) (name t v : List ℕ) (d : Document) (u : List ℕ) → AreWordBytes name → t ≡ name ++ (lead (frame s.mode (tuple_kind name)) (inside s) Zero ++ v) → FoundEntries (IsNormalBelow n) (layout (inside s)) (frame s.mode (tuple_kind name)) s (λ ds. tuple_of name (documents ds)) v d u → Found s n t d u
+tuple_found : (s : Setting) (n : ℕ) (name t v : List ℕ) (d : Document) (u : List ℕ) → AreWordBytes name
+    → t ≡ name ++ (lead (frame s.mode (tuple_kind name)) (inside s) Zero ++ v)
+    → FoundEntries (IsNormalBelow n) (layout (inside s)) (frame s.mode (tuple_kind name)) s (λ ds. tuple_of name (documents ds)) v d u → Found s n t d u
 tuple_found s n name t v d u word front h =
     let some : 0 < n = (let first = h.good.0.nests in omega arith) in
     let nests = documents_nest n (h.first ∷ h.others) h.good some in
@@ -103,74 +121,107 @@ tuple_found s n name t v d u word front h =
     })
 
 -- what is read as a list is one
-read_list_sound : (s : Setting) (p : Parse Document) (n : ℕ) → Finds p (IsNormalBelow n) (layout (inside s)) → (t v : List ℕ) (d : Document) (u : List ℕ) → t ≡ codes "[" ++ v → read_list s p v ≡ Some (d, u) → Found s n t d u
+read_list_sound : (s : Setting) (p : Parse Document) (n : ℕ) → Finds p (IsNormalBelow n) (layout (inside s))
+    → (t v : List ℕ) (d : Document) (u : List ℕ) → t ≡ codes "[" ++ v → read_list s p v ≡ Some (d, u) → Found s n t d u
 read_list_sound s p n finds t v d u front h = go (chosen_from (strip ((frame s.mode Brackets).closing Zero) v) _ _ (Some (d, u)) h)
   where
-    go : ((w : List ℕ) × (strip ((frame s.mode Brackets).closing Zero) v ≡ Some w) × (given (list_of no_documents) w ≡ given d u)) ⊎ ((strip ((frame s.mode Brackets).closing Zero) v ≡ None) × (read_block p (frame s.mode Brackets) s (λ ds. list_of (documents ds)) v ≡ Some (d, u))) → Found s n t d u
-    go (inl k) = found_same (list_of no_documents) d k.0 u (record { words = tt; nests = omega arith; is_normal = refl; whole = front ∙ ap (λ w. codes "[" ++ w) (strip_found ((frame s.mode Brackets).closing Zero) v k.0 k.1) }) k.2
+    go : ((w : List ℕ) × (strip ((frame s.mode Brackets).closing Zero) v ≡ Some w) × (given (list_of no_documents) w ≡ given d u))
+        ⊎ ((strip ((frame s.mode Brackets).closing Zero) v ≡ None)
+        × (read_block p (frame s.mode Brackets) s (λ ds. list_of (documents ds)) v ≡ Some (d, u))) → Found s n t d u
+    go (inl k) = found_same (list_of no_documents) d k.0 u
+        (record { words = tt; nests = omega arith; is_normal = refl; whole = front
+        ∙ ap (λ w. codes "[" ++ w) (strip_found ((frame s.mode Brackets).closing Zero) v k.0 k.1) }) k.2
     go (inr k) =
         let behind = led_from _ (strip (lead (frame s.mode Brackets) (inside s) Zero) v) (d, u) k.1 in
         list_found s n t behind.0 d u (front ∙ ap (λ w. codes "[" ++ w) (strip_found (lead (frame s.mode Brackets) (inside s) Zero) v behind.0 behind.1))
         (read_entries_sound p (IsNormalBelow n) (layout (inside s)) (frame s.mode Brackets) s (λ ds. list_of (documents ds)) finds behind.0 d u behind.2)
 
 -- what is read in braces behind a first document is a map or a set with it
-read_map_or_set_sound : (s : Setting) (p : Parse Document) (n : ℕ) → Finds p (IsNormalBelow n) (layout (inside s)) → (t v w : List ℕ) (first d : Document) (u : List ℕ) → t ≡ codes "{" ++ (lead (frame s.mode Braces) (inside s) Zero ++ v) → IsNormalBelow n first → v ≡ layout (inside s) first ++ w → read_map_or_set s p first w ≡ Some (d, u) → Found s n t d u
+read_map_or_set_sound : (s : Setting) (p : Parse Document) (n : ℕ) → Finds p (IsNormalBelow n) (layout (inside s))
+    → (t v w : List ℕ) (first d : Document) (u : List ℕ) → t ≡ codes "{" ++ (lead (frame s.mode Braces) (inside s) Zero ++ v)
+    → IsNormalBelow n first → v ≡ layout (inside s) first ++ w → read_map_or_set s p first w ≡ Some (d, u) → Found s n t d u
 read_map_or_set_sound s p n finds t v w first d u front good whole h = go (chosen_from (strip (codes ": ") w) _ _ (Some (d, u)) h)
   where
-    go : ((x : List ℕ) × (strip (codes ": ") w ≡ Some x) × (read_map s p first w ≡ Some (d, u))) ⊎ ((strip (codes ": ") w ≡ None) × (read_set s p first w ≡ Some (d, u))) → Found s n t d u
+    go : ((x : List ℕ) × (strip (codes ": ") w ≡ Some x) × (read_map s p first w ≡ Some (d, u)))
+        ⊎ ((strip (codes ": ") w ≡ None) × (read_set s p first w ≡ Some (d, u))) → Found s n t d u
     go (inl k) =
         let pair_read = led_from _ (read_value p first w) (d, u) k.2 in
         let value = read_value_sound p (IsNormalBelow n) (layout (inside s)) finds first w pair_read.0.0 pair_read.0.1 pair_read.1 in
         let pair_good : IsGoodPair (IsNormalBelow n) (IsNormalBelow n) pair_read.0.0 = subst (IsGoodPair (IsNormalBelow n) (IsNormalBelow n)) value.1 (good, value.2) in
         let pair_whole : v ≡ pair_text (layout (inside s)) (layout (inside s)) pair_read.0.0 ++ pair_read.0.1 = subst (λ y. v ≡ pair_text (layout (inside s)) (layout (inside s)) y ++ pair_read.0.1) value.1 (whole ∙ ap (λ z. layout (inside s) first ++ z) value.3 ∙ sym (append_assoc (layout (inside s) first) (codes ": " ++ layout (inside s) value.0) pair_read.0.1)) in
         map_found s n t v d u front (with_first pair_read.0.0 v pair_read.0.1 pair_good pair_whole
-        (read_after_first_sound (read_pair p p) (IsGoodPair (IsNormalBelow n) (IsNormalBelow n)) (pair_text (layout (inside s)) (layout (inside s))) (frame s.mode Braces) s (λ ps. map_of (pairs_of ps)) (read_pair_finds p p (IsNormalBelow n) (IsNormalBelow n) (layout (inside s)) (layout (inside s)) finds finds) pair_read.0.0 pair_read.0.1 d u pair_read.2))
-    go (inr k) = set_found s n t v d u front (with_first first v w good whole (read_after_first_sound p (IsNormalBelow n) (layout (inside s)) (frame s.mode Braces) s (λ ds. set_of (documents ds)) finds first w d u k.1))
+        (read_after_first_sound (read_pair p p) (IsGoodPair (IsNormalBelow n) (IsNormalBelow n))
+          (pair_text (layout (inside s)) (layout (inside s))) (frame s.mode Braces) s (λ ps. map_of (pairs_of ps))
+          (read_pair_finds p p (IsNormalBelow n) (IsNormalBelow n) (layout (inside s))
+          (layout (inside s)) finds finds) pair_read.0.0 pair_read.0.1 d u pair_read.2))
+    go (inr k) = set_found s n t v d u front (with_first first v w good whole
+        (read_after_first_sound p (IsNormalBelow n) (layout (inside s)) (frame s.mode Braces) s (λ ds. set_of (documents ds)) finds first w d u k.1))
 
 -- what is read as a map or a set is one
-read_braces_sound : (s : Setting) (p : Parse Document) (n : ℕ) → Finds p (IsNormalBelow n) (layout (inside s)) → (t v : List ℕ) (d : Document) (u : List ℕ) → t ≡ codes "{" ++ v → read_braces s p v ≡ Some (d, u) → Found s n t d u
+read_braces_sound : (s : Setting) (p : Parse Document) (n : ℕ) → Finds p (IsNormalBelow n) (layout (inside s))
+    → (t v : List ℕ) (d : Document) (u : List ℕ) → t ≡ codes "{" ++ v → read_braces s p v ≡ Some (d, u) → Found s n t d u
 read_braces_sound s p n finds t v d u front h = go (chosen_from (strip ((frame s.mode Braces).closing Zero) v) _ _ (Some (d, u)) h)
   where
-    go : ((w : List ℕ) × (strip ((frame s.mode Braces).closing Zero) v ≡ Some w) × (given (map_of no_pairs) w ≡ given d u)) ⊎ ((strip ((frame s.mode Braces).closing Zero) v ≡ None) × (read_braced_entries s p v ≡ Some (d, u))) → Found s n t d u
-    go (inl k) = found_same (map_of no_pairs) d k.0 u (record { words = tt; nests = omega arith; is_normal = refl; whole = front ∙ ap (λ w. codes "{" ++ w) (strip_found ((frame s.mode Braces).closing Zero) v k.0 k.1) }) k.2
+    go : ((w : List ℕ) × (strip ((frame s.mode Braces).closing Zero) v ≡ Some w) × (given (map_of no_pairs) w ≡ given d u))
+        ⊎ ((strip ((frame s.mode Braces).closing Zero) v ≡ None) × (read_braced_entries s p v ≡ Some (d, u))) → Found s n t d u
+    go (inl k) = found_same (map_of no_pairs) d k.0 u
+        (record { words = tt; nests = omega arith; is_normal = refl; whole = front
+        ∙ ap (λ w. codes "{" ++ w) (strip_found ((frame s.mode Braces).closing Zero) v k.0 k.1) }) k.2
     go (inr k) =
         let behind = led_from _ (strip (lead (frame s.mode Braces) (inside s) Zero) v) (d, u) k.1 in
         let first = led_from _ (p behind.0) (d, u) behind.2 in
-        read_map_or_set_sound s p n finds t behind.0 first.0.1 first.0.0 d u (front ∙ ap (λ w. codes "{" ++ w) (strip_found (lead (frame s.mode Braces) (inside s) Zero) v behind.0 behind.1)) (finds.good behind.0 first.0.0 first.0.1 first.1) (finds.whole behind.0 first.0.0 first.0.1 first.1) first.2
+        read_map_or_set_sound s p n finds t behind.0 first.0.1 first.0.0 d u
+          (front ∙ ap (λ w. codes "{" ++ w) (strip_found (lead (frame s.mode Braces) (inside s) Zero) v behind.0 behind.1))
+          (finds.good behind.0 first.0.0 first.0.1 first.1) (finds.whole behind.0 first.0.0 first.0.1 first.1) first.2
 
 -- what is read as a tuple is one
-read_tuple_sound : (s : Setting) (p : Parse Document) (n : ℕ) → Finds p (IsNormalBelow n) (layout (inside s)) → (name t v w : List ℕ) (d : Document) (u : List ℕ) → AreWordBytes name → t ≡ name ++ v → strip (lead (frame s.mode (tuple_kind name)) (inside s) Zero) v ≡ Some w → read_tuple s p name w ≡ Some (d, u) → Found s n t d u
+read_tuple_sound : (s : Setting) (p : Parse Document) (n : ℕ) → Finds p (IsNormalBelow n) (layout (inside s))
+    → (name t v w : List ℕ) (d : Document) (u : List ℕ) → AreWordBytes name → t ≡ name ++ v
+    → strip (lead (frame s.mode (tuple_kind name)) (inside s) Zero) v ≡ Some w → read_tuple s p name w ≡ Some (d, u) → Found s n t d u
 read_tuple_sound s p n finds name t v w d u word front behind h =
     tuple_found s n name t w d u word (front ∙ ap (λ x. name ++ x) (strip_found (lead (frame s.mode (tuple_kind name)) (inside s) Zero) v w behind))
     (read_entries_sound p (IsNormalBelow n) (layout (inside s)) (frame s.mode (tuple_kind name)) s (λ ds. tuple_of name (documents ds)) finds w d u h)
 
 -- what is read as a struct is one
-read_struct_sound : (s : Setting) (p : Parse Document) (n : ℕ) → Finds p (IsNormalBelow n) (layout (inside s)) → (name t v w : List ℕ) (d : Document) (u : List ℕ) → IsWord name → t ≡ name ++ v → strip (lead (frame s.mode Struct) (inside s) Zero) v ≡ Some w → read_struct s p name w ≡ Some (d, u) → Found s n t d u
+read_struct_sound : (s : Setting) (p : Parse Document) (n : ℕ) → Finds p (IsNormalBelow n) (layout (inside s))
+    → (name t v w : List ℕ) (d : Document) (u : List ℕ) → IsWord name → t ≡ name ++ v
+    → strip (lead (frame s.mode Struct) (inside s) Zero) v ≡ Some w → read_struct s p name w ≡ Some (d, u) → Found s n t d u
 read_struct_sound s p n finds name t v w d u word front behind h =
     struct_found s n name t w d u word (front ∙ ap (λ x. name ++ x) (strip_found (lead (frame s.mode Struct) (inside s) Zero) v w behind))
-    (read_entries_sound (read_pair read_word p) (IsGoodPair IsWord (IsNormalBelow n)) (pair_text (λ x. x) (layout (inside s))) (frame s.mode Struct) s (λ fs. struct_of name (fields_of fs)) (read_pair_finds read_word p IsWord (IsNormalBelow n) (λ x. x) (layout (inside s)) read_word_finds finds) w d u h)
+    (read_entries_sound (read_pair read_word p) (IsGoodPair IsWord (IsNormalBelow n)) (pair_text (λ x. x) (layout (inside s)))
+      (frame s.mode Struct) s (λ fs. struct_of name (fields_of fs))
+      (read_pair_finds read_word p IsWord (IsNormalBelow n) (λ x. x) (layout (inside s)) read_word_finds finds) w d u h)
 
 -- a leaf that was found
 leaf_found : {s : Setting} {n : ℕ} {t : List ℕ} (text u : List ℕ) → IsTokenLeaf text → t ≡ text ++ u → Found s n t (leaf text) u
 leaf_found text u h whole = record { words = h; nests = omega arith; is_normal = refl; whole = whole }
 
 -- what is read behind a word is a tuple, a struct or a leaf
-read_named_sound : (s : Setting) (p : Parse Document) (n : ℕ) → Finds p (IsNormalBelow n) (layout (inside s)) → (name t v : List ℕ) (d : Document) (u : List ℕ) → IsWord name → AreWordBytes name → t ≡ name ++ v → read_named s p name v ≡ Some (d, u) → Found s n t d u
-read_named_sound s p n finds name t v d u word bytes front h = go (chosen_from (strip (lead (frame s.mode (tuple_kind name)) (inside s) Zero) v) _ _ (Some (d, u)) h)
+read_named_sound : (s : Setting) (p : Parse Document) (n : ℕ) → Finds p (IsNormalBelow n) (layout (inside s))
+    → (name t v : List ℕ) (d : Document) (u : List ℕ) → IsWord name → AreWordBytes name → t ≡ name ++ v → read_named s p name v ≡ Some (d, u) → Found s n t d u
+read_named_sound s p n finds name t v d u word bytes front h =
+    go (chosen_from (strip (lead (frame s.mode (tuple_kind name)) (inside s) Zero) v) _ _ (Some (d, u)) h)
   where
-    without_tuple : ((w : List ℕ) × (strip (lead (frame s.mode Struct) (inside s) Zero) v ≡ Some w) × (read_struct s p name w ≡ Some (d, u))) ⊎ ((strip (lead (frame s.mode Struct) (inside s) Zero) v ≡ None) × (given (leaf name) v ≡ given d u)) → Found s n t d u
+    without_tuple : ((w : List ℕ) × (strip (lead (frame s.mode Struct) (inside s) Zero) v ≡ Some w)
+        × (read_struct s p name w ≡ Some (d, u)))
+        ⊎ ((strip (lead (frame s.mode Struct) (inside s) Zero) v ≡ None) × (given (leaf name) v ≡ given d u)) → Found s n t d u
     without_tuple (inl k) = read_struct_sound s p n finds name t v k.0 d u word front k.1 k.2
     without_tuple (inr k) = found_same (leaf name) d v u (leaf_found name v (word_leaf name word) front) k.1
 
-    go : ((w : List ℕ) × (strip (lead (frame s.mode (tuple_kind name)) (inside s) Zero) v ≡ Some w) × (read_tuple s p name w ≡ Some (d, u))) ⊎ ((strip (lead (frame s.mode (tuple_kind name)) (inside s) Zero) v ≡ None) × (choose (strip (lead (frame s.mode Struct) (inside s) Zero) v) (read_struct s p name) (given (leaf name) v) ≡ Some (d, u))) → Found s n t d u
+    go : ((w : List ℕ) × (strip (lead (frame s.mode (tuple_kind name)) (inside s) Zero) v ≡ Some w) × (read_tuple s p name w ≡ Some (d, u)))
+        ⊎ ((strip (lead (frame s.mode (tuple_kind name)) (inside s) Zero) v ≡ None)
+        × (choose (strip (lead (frame s.mode Struct) (inside s) Zero) v) (read_struct s p name) (given (leaf name) v) ≡ Some (d, u))) → Found s n t d u
     go (inl k) = read_tuple_sound s p n finds name t v k.0 d u bytes front k.1 k.2
-    go (inr k) = without_tuple (chosen_from (strip (lead (frame s.mode Struct) (inside s) Zero) v) (read_struct s p name) (given (leaf name) v) (Some (d, u)) k.1)
+    go (inr k) = without_tuple (chosen_from (strip (lead (frame s.mode Struct) (inside s) Zero) v) (read_struct s p name)
+        (given (leaf name) v) (Some (d, u)) k.1)
 
 -- what is read where no word stands is a list, a set, a map, a leaf or a tuple without a name
-read_without_name_sound : (s : Setting) (p : Parse Document) (n : ℕ) → Finds p (IsNormalBelow n) (layout (inside s)) → (t : List ℕ) (d : Document) (u : List ℕ) → read_without_name s p t ≡ Some (d, u) → Found s n t d u
+read_without_name_sound : (s : Setting) (p : Parse Document) (n : ℕ) → Finds p (IsNormalBelow n) (layout (inside s))
+    → (t : List ℕ) (d : Document) (u : List ℕ) → read_without_name s p t ≡ Some (d, u) → Found s n t d u
 read_without_name_sound s p n finds t d u h = in_brackets (chosen_from (strip (codes "[") t) (read_list s p) _ (Some (d, u)) h)
   where
-    in_parentheses : ((x : List ℕ × List ℕ) × (read_symbol t ≡ Some x) × (given (leaf x.0) x.1 ≡ given d u)) ⊎ ((read_symbol t ≡ None) × (read_unnamed s p t ≡ Some (d, u))) → Found s n t d u
+    in_parentheses : ((x : List ℕ × List ℕ) × (read_symbol t ≡ Some x) × (given (leaf x.0) x.1 ≡ given d u))
+        ⊎ ((read_symbol t ≡ None) × (read_unnamed s p t ≡ Some (d, u))) → Found s n t d u
     in_parentheses (inl k) =
         let found = read_symbol_sound t k.0.0 k.0.1 k.1 in
         found_same (leaf k.0.0) d k.0.1 u (leaf_found k.0.0 k.0.1 found.0 found.1) k.2
@@ -178,21 +229,27 @@ read_without_name_sound s p n finds t d u h = in_brackets (chosen_from (strip (c
         let behind = led_from _ (strip (lead (frame s.mode Unnamed) (inside s) Zero) t) (d, u) k.1 in
         read_tuple_sound s p n finds [] t t behind.0 d u tt refl behind.1 behind.2
 
-    braces : ((v : List ℕ) × (strip (codes "{") t ≡ Some v) × (read_braces s p v ≡ Some (d, u))) ⊎ ((strip (codes "{") t ≡ None) × (choose (read_symbol t) (λ x. given (leaf x.0) x.1) (read_unnamed s p t) ≡ Some (d, u))) → Found s n t d u
+    braces : ((v : List ℕ) × (strip (codes "{") t ≡ Some v) × (read_braces s p v ≡ Some (d, u)))
+        ⊎ ((strip (codes "{") t ≡ None) × (choose (read_symbol t) (λ x. given (leaf x.0) x.1) (read_unnamed s p t) ≡ Some (d, u))) → Found s n t d u
     braces (inl k) = read_braces_sound s p n finds t k.0 d u (strip_found (codes "{") t k.0 k.1) k.2
     braces (inr k) = in_parentheses (chosen_from (read_symbol t) (λ x. given (leaf x.0) x.1) (read_unnamed s p t) (Some (d, u)) k.1)
 
-    in_brackets : ((v : List ℕ) × (strip (codes "[") t ≡ Some v) × (read_list s p v ≡ Some (d, u))) ⊎ ((strip (codes "[") t ≡ None) × (choose (strip (codes "{") t) (read_braces s p) (choose (read_symbol t) (λ x. given (leaf x.0) x.1) (read_unnamed s p t)) ≡ Some (d, u))) → Found s n t d u
+    in_brackets : ((v : List ℕ) × (strip (codes "[") t ≡ Some v) × (read_list s p v ≡ Some (d, u)))
+        ⊎ ((strip (codes "[") t ≡ None) × (choose (strip (codes "{") t) (read_braces s p)
+        (choose (read_symbol t) (λ x. given (leaf x.0) x.1) (read_unnamed s p t)) ≡ Some (d, u))) → Found s n t d u
     in_brackets (inl k) = read_list_sound s p n finds t k.0 d u (strip_found (codes "[") t k.0 k.1) k.2
-    in_brackets (inr k) = braces (chosen_from (strip (codes "{") t) (read_braces s p) (choose (read_symbol t) (λ x. given (leaf x.0) x.1) (read_unnamed s p t)) (Some (d, u)) k.1)
+    in_brackets (inr k) = braces (chosen_from (strip (codes "{") t) (read_braces s p)
+        (choose (read_symbol t) (λ x. given (leaf x.0) x.1) (read_unnamed s p t)) (Some (d, u)) k.1)
 
 -- what is read with this word in front
-read_by_word_sound : (s : Setting) (p : Parse Document) (n : ℕ) → Finds p (IsNormalBelow n) (layout (inside s)) → (t word v : List ℕ) (d : Document) (u : List ℕ) → AreWordBytes word → t ≡ word ++ v → read_by_word s p t word v ≡ Some (d, u) → Found s n t d u
+read_by_word_sound : (s : Setting) (p : Parse Document) (n : ℕ) → Finds p (IsNormalBelow n) (layout (inside s))
+    → (t word v : List ℕ) (d : Document) (u : List ℕ) → AreWordBytes word → t ≡ word ++ v → read_by_word s p t word v ≡ Some (d, u) → Found s n t d u
 read_by_word_sound s p n finds t [] v d u bytes front h = read_without_name_sound s p n finds t d u h
 read_by_word_sound s p n finds t (c ∷ word) v d u bytes front h = read_named_sound s p n finds (c ∷ word) t v d u bytes bytes front h
 
 -- what is read is a token document in normal form, where that holds of the entries
-read_with_sound : (s : Setting) (p : Parse Document) (n : ℕ) → Finds p (IsNormalBelow n) (layout (inside s)) → (t : List ℕ) (d : Document) (u : List ℕ) → read_with s p t ≡ Some (d, u) → Found s n t d u
+read_with_sound : (s : Setting) (p : Parse Document) (n : ℕ) → Finds p (IsNormalBelow n) (layout (inside s))
+    → (t : List ℕ) (d : Document) (u : List ℕ) → read_with s p t ≡ Some (d, u) → Found s n t d u
 read_with_sound s p n finds t d u h = read_by_word_sound s p n finds t (word_of t) (after_word t) d u (word_of_bytes t) (words_whole t) h
 
 -- what is read is a token document in normal form, and its text with what is left is the text that was read

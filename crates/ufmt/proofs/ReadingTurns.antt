@@ -35,7 +35,8 @@ pub read_word_takes : Takes read_word
 read_word_takes = record { takes = λ t w u h. let found = read_word_sound t w u h in begins_takes t w u (word_begins w found.0) found.1 }
 
 -- a key and a value leave less than they were read from
-pair_takes : {A : Type 0} (key : Parse A) (p : Parse Document) → Takes key → Takes p → (t : List ℕ) (x : A × Document) (u : List ℕ) → read_pair key p t ≡ Some (x, u) → length u < length t
+pair_takes : {A : Type 0} (key : Parse A) (p : Parse Document) → Takes key → Takes p → (t : List ℕ) (x : A × Document) (u : List ℕ)
+    → read_pair key p t ≡ Some (x, u) → length u < length t
 pair_takes key p takes_key takes t x u h =
     let first = led_from _ (key t) (x, u) h in
     let behind = led_from _ (strip (codes ": ") first.0.1) (x, u) first.2 in
@@ -60,12 +61,16 @@ same_next None f g h = refl
 same_next (Some x) f g h = h x refl
 
 -- a turn does the same with what agrees on shorter texts
-turn_same : {A : Type 0} (q : Parse A) → Takes q → (f : Frame) (s : Setting) (count : Count) (more other : Parse (List A)) (t : List ℕ) → ((w : List ℕ) → length w < length t → more w ≡ other w) → choose (strip (lead f (inside s) count) t) (read_turn q s.mode more) (read_end f s count t) ≡ choose (strip (lead f (inside s) count) t) (read_turn q s.mode other) (read_end f s count t)
+turn_same : {A : Type 0} (q : Parse A) → Takes q → (f : Frame) (s : Setting) (count : Count) (more other : Parse (List A)) (t : List ℕ)
+    → ((w : List ℕ) → length w < length t → more w ≡ other w)
+    → choose (strip (lead f (inside s) count) t) (read_turn q s.mode more) (read_end f s count t)
+    ≡ choose (strip (lead f (inside s) count) t) (read_turn q s.mode other) (read_end f s count t)
 turn_same q takes f s count more other t agree =
     same_choice (strip (lead f (inside s) count) t) (read_turn q s.mode more) (read_turn q s.mode other) (read_end f s count t)
     (λ v e. same_next (q v) _ _ (λ x r. same_next (strip (trail s.mode) x.1) _ _ (λ w k. ap (parse_map (λ xs. x.0 ∷ xs)) (agree w (shorter v e x r w k)))))
   where
-    shorter : (v : List ℕ) → strip (lead f (inside s) count) t ≡ Some v → (x : _ × List ℕ) → q v ≡ Some x → (w : List ℕ) → strip (trail s.mode) x.1 ≡ Some w → length w < length t
+    shorter : (v : List ℕ) → strip (lead f (inside s) count) t ≡ Some v → (x : _ × List ℕ) → q v ≡ Some x → (w : List ℕ)
+        → strip (trail s.mode) x.1 ≡ Some w → length w < length t
     shorter v e x r w k =
         let a = strip_within (lead f (inside s) count) t v e in
         let b = takes.takes v x.0 x.1 r in
@@ -73,29 +78,40 @@ turn_same q takes f s count more other t agree =
         omega arith
 
 -- more turns than the text has bytes are as good as any such number
-turns_enough : {A : Type 0} (q : Parse A) → Takes q → (f : Frame) (s : Setting) (m n : ℕ) (count : Count) (t : List ℕ) → length t < m → length t < n → read_rest q f s count m t ≡ read_rest q f s count n t
+turns_enough : {A : Type 0} (q : Parse A) → Takes q → (f : Frame) (s : Setting) (m n : ℕ) (count : Count) (t : List ℕ) → length t < m
+    → length t < n → read_rest q f s count m t ≡ read_rest q f s count n t
 unfolding read_rest
 turns_enough q takes f s zero n count t lm ln = absurd (omega arith)
 turns_enough q takes f s (suc m) zero count t lm ln = absurd (omega arith)
-turns_enough q takes f s (suc m) (suc n) count t lm ln = turn_same q takes f s count (read_rest q f s (next count) m) (read_rest q f s (next count) n) t (λ w less. turns_enough q takes f s m n (next count) w (omega (arith, less)) (omega (arith, less)))
+turns_enough q takes f s (suc m) (suc n) count t lm ln =
+    turn_same q takes f s count (read_rest q f s (next count) m) (read_rest q f s (next count) n) t
+    (λ w less. turns_enough q takes f s m n (next count) w (omega (arith, less)) (omega (arith, less)))
 
 -- so what is left of a block is an entry and what is left behind it, or the end
-pub read_others-read_turn : {A : Type 0} (q : Parse A) → Takes q → (f : Frame) (s : Setting) (count : Count) (t : List ℕ) → read_others q f s count t ≡ choose (strip (lead f (inside s) count) t) (read_turn q s.mode (read_others q f s (next count))) (read_end f s count t)
+pub read_others-read_turn : {A : Type 0} (q : Parse A) → Takes q → (f : Frame) (s : Setting) (count : Count) (t : List ℕ)
+    → read_others q f s count t ≡ choose (strip (lead f (inside s) count) t) (read_turn q s.mode (read_others q f s (next count))) (read_end f s count t)
 unfolding read_rest
-read_others-read_turn q takes f s count t = turn_same q takes f s count (read_rest q f s (next count) (length t)) (read_others q f s (next count)) t (λ w less. turns_enough q takes f s (length t) (suc (length w)) (next count) w less (omega arith))
+read_others-read_turn q takes f s count t =
+    turn_same q takes f s count (read_rest q f s (next count) (length t)) (read_others q f s (next count)) t
+    (λ w less. turns_enough q takes f s (length t) (suc (length w)) (next count) w less (omega arith))
 
 -- an entry that was read, with what stands round it, goes in front of what is left behind it
-pub read_others-entry : {A : Type 0} (q : Parse A) → Takes q → (f : Frame) (s : Setting) (count : Count) (t v w : List ℕ) (x : A) (u : List ℕ) → strip (lead f (inside s) count) t ≡ Some v → q v ≡ Some (x, w) → strip (trail s.mode) w ≡ Some u → read_others q f s count t ≡ parse_map (λ xs. x ∷ xs) (read_others q f s (next count) u)
+pub read_others-entry : {A : Type 0} (q : Parse A) → Takes q
+    → (f : Frame) (s : Setting) (count : Count) (t v w : List ℕ) (x : A) (u : List ℕ) → strip (lead f (inside s) count) t ≡ Some v
+    → q v ≡ Some (x, w) → strip (trail s.mode) w ≡ Some u → read_others q f s count t ≡ parse_map (λ xs. x ∷ xs) (read_others q f s (next count) u)
 read_others-entry q takes f s count t v w x u before entry after = read_others-read_turn q takes f s count t ∙ rw (before, entry, after) refl
 
 -- where no entry stands there is the end
-pub read_others-read_end : {A : Type 0} (q : Parse A) → Takes q → (f : Frame) (s : Setting) (count : Count) (t : List ℕ) → strip (lead f (inside s) count) t ≡ None → read_others q f s count t ≡ read_end f s count t
+pub read_others-read_end : {A : Type 0} (q : Parse A) → Takes q → (f : Frame) (s : Setting) (count : Count) (t : List ℕ)
+    → strip (lead f (inside s) count) t ≡ None → read_others q f s count t ≡ read_end f s count t
 read_others-read_end q takes f s count t before = read_others-read_turn q takes f s count t ∙ rw before refl
 
 -- where what should be an entry is none, nothing is read
-pub read_others-no_entry : {A : Type 0} (q : Parse A) → Takes q → (f : Frame) (s : Setting) (count : Count) (t v : List ℕ) → strip (lead f (inside s) count) t ≡ Some v → q v ≡ None → read_others q f s count t ≡ None
+pub read_others-no_entry : {A : Type 0} (q : Parse A) → Takes q → (f : Frame) (s : Setting) (count : Count) (t v : List ℕ)
+    → strip (lead f (inside s) count) t ≡ Some v → q v ≡ None → read_others q f s count t ≡ None
 read_others-no_entry q takes f s count t v before entry = read_others-read_turn q takes f s count t ∙ rw (before, entry) refl
 
 -- likewise where what should stand after an entry doesn't
-pub read_others-no_trail : {A : Type 0} (q : Parse A) → Takes q → (f : Frame) (s : Setting) (count : Count) (t v w : List ℕ) (x : A) → strip (lead f (inside s) count) t ≡ Some v → q v ≡ Some (x, w) → strip (trail s.mode) w ≡ None → read_others q f s count t ≡ None
+pub read_others-no_trail : {A : Type 0} (q : Parse A) → Takes q → (f : Frame) (s : Setting) (count : Count) (t v w : List ℕ) (x : A)
+    → strip (lead f (inside s) count) t ≡ Some v → q v ≡ Some (x, w) → strip (trail s.mode) w ≡ None → read_others q f s count t ≡ None
 read_others-no_trail q takes f s count t v w x before entry after = read_others-read_turn q takes f s count t ∙ rw (before, entry, after) refl

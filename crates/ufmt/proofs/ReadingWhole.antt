@@ -18,7 +18,8 @@ fits_at_0 Plain = tt
 fits_at_0 Pretty = omega arith
 
 -- nothing is left behind what is read whole
-all_found : (mode : Mode) (t : List ℕ) (e d : Document) (u : List ℕ) → Found (setting mode 0) 255 t e u → if_all e u ≡ Some d → IsToken d × (normal d ≡ d) × (layout (setting mode 0) d ≡ t)
+all_found : (mode : Mode) (t : List ℕ) (e d : Document) (u : List ℕ) → Found (setting mode 0) 255 t e u → if_all e u ≡ Some d → IsToken d
+    × (normal d ≡ d) × (layout (setting mode 0) d ≡ t)
 all_found mode t e d [] found h =
     let same : e ≡ d = cc in
     rw (← same) ((found.words, found.nests), found.is_normal, sym (found.whole ∙ append-nil (layout (setting mode 0) e)))

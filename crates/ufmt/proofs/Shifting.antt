@@ -64,7 +64,8 @@ hanging-hanging k [] = refl
 hanging-hanging k (c ∷ text) = rw (hanging-margins k (c == 10) (hanging 1 text), hanging-hanging k text)
 
 -- to shift lines is to indent the first and to let the others hang
-shift_from-append : (b : Bool) (text : List ℕ) (c : ℕ) (more : List ℕ) → shift_from b (text ++ (c ∷ more)) ≡ margin b ++ (hanging 1 text ++ (c ∷ shift_from (c == 10) more))
+shift_from-append : (b : Bool) (text : List ℕ) (c : ℕ) (more : List ℕ)
+    → shift_from b (text ++ (c ∷ more)) ≡ margin b ++ (hanging 1 text ++ (c ∷ shift_from (c == 10) more))
 shift_from-append b [] c more = refl
 shift_from-append b (a ∷ text) c more = rw (shift_from-append (a == 10) text c more, margins-one (a == 10), append_assoc (margin (a == 10)) (hanging 1 text) _)
 
@@ -75,14 +76,17 @@ shift-line line lines h = rw (shift_from-append true line 10 lines, hanging-one_
 -- a text with a line feed, shifted k times
 shift_times-line : (k : ℕ) (text : List ℕ) → shift_times k (text ++ codes "\n") ≡ indentation k ++ (hanging k text ++ codes "\n")
 shift_times-line zero text = rw (hanging-zero text)
-shift_times-line (suc k) text = rw (shift_from-append true text 10 [], shift_times-line k (codes "    " ++ hanging 1 text), hanging-hanging k text) (indentation-suc k _)
+shift_times-line (suc k) text = rw (shift_from-append true text 10 [], shift_times-line k (codes "    " ++ hanging 1 text),
+    hanging-hanging k text) (indentation-suc k _)
 
 -- ---- blocks in any frame
 
 -- the lines of an entry and more lines, shifted, inside a block at depth k
 shift-entry : (k : ℕ) (text lines end : List ℕ) →
-    indentation k ++ (hanging k (shift (text ++ (codes ",\n" ++ lines))) ++ end) ≡ indentation (suc k) ++ (hanging (suc k) text ++ (codes ",\n" ++ (indentation k ++ (hanging k (shift lines) ++ end))))
-shift-entry k text lines end = rw (shift_from-append true text 44 (10 ∷ lines), hanging-append k (hanging 1 text) _, hanging-hanging k text, append_assoc (hanging (suc k) text) _ end, append_assoc (indentation k) (hanging k (shift lines)) end) (indentation-suc k _)
+    indentation k ++ (hanging k (shift (text ++ (codes ",\n" ++ lines))) ++ end) ≡ indentation (suc k)
+      ++ (hanging (suc k) text ++ (codes ",\n" ++ (indentation k ++ (hanging k (shift lines) ++ end))))
+shift-entry k text lines end = rw (shift_from-append true text 44 (10 ∷ lines), hanging-append k (hanging 1 text) _, hanging-hanging k text,
+    append_assoc (hanging (suc k) text) _ end, append_assoc (indentation k) (hanging k (shift lines)) end) (indentation-suc k _)
 
 -- a frame whose parts stand on one line each, and which ends one entry as it ends several
 record IsSteady (f : Frame) : Type 0 where
@@ -117,7 +121,8 @@ block_tail-next : (f : Frame) (k : ℕ) (count : Count) → IsSteady f → entry
     block_tail f (setting Pretty k) (next count) (map (hanging (suc k)) ss) ≡ indentation k ++ (hanging k (shift (entry_lines ss)) ++ f.closing Several)
 block_tail-next f k count p e [] = ending-next f k count p
 block_tail-next f k count p e (s ∷ ss) =
-    ap₂ (λ before after. before ++ (hanging (suc k) s ++ (codes ",\n" ++ after))) (lead-next f (inside (setting Pretty k)) count ∙ ap indentation e) (block_tail-next f k (next count) p e ss)
+    ap₂ (λ before after. before ++ (hanging (suc k) s ++ (codes ",\n" ++ after)))
+      (lead-next f (inside (setting Pretty k)) count ∙ ap indentation e) (block_tail-next f k (next count) p e ss)
     ∙ sym (shift-entry k s (entry_lines ss) (f.closing Several))
 
 -- where a block at depth k has entries, these are one deeper
@@ -126,17 +131,20 @@ OneDeeper k [] = ⊤
 OneDeeper k (s ∷ ss) = entry_depth Pretty k ≡ suc k
 
 -- what follows a block's opening hangs
-block_tail-first : (f : Frame) (k : ℕ) → IsSteady f → (ss : List (List ℕ)) → OneDeeper k ss → block_tail f (setting Pretty k) Zero (map (hanging (entry_depth Pretty k)) ss) ≡ hanging k (shifted_tail f ss)
+block_tail-first : (f : Frame) (k : ℕ) → IsSteady f → (ss : List (List ℕ)) → OneDeeper k ss
+    → block_tail f (setting Pretty k) Zero (map (hanging (entry_depth Pretty k)) ss) ≡ hanging k (shifted_tail f ss)
 block_tail-first f k p [] e = sym (p.zero k)
 block_tail-first f k p (s ∷ ss) e =
-    rw (ap (λ n. map (hanging n) ss) e, e, block_tail-next f k Zero p e ss, append_assoc, hanging-append k f.start _, p.start k, hanging-append k (shift (entry_lines (s ∷ ss))) (f.closing Several), p.several k)
+    rw (ap (λ n. map (hanging n) ss) e, e, block_tail-next f k Zero p e ss, append_assoc, hanging-append k f.start _, p.start k,
+      hanging-append k (shift (entry_lines (s ∷ ss))) (f.closing Several), p.several k)
     (ap (λ u. f.start ++ (codes "\n" ++ u)) (sym (shift-entry k s (entry_lines ss) (f.closing Several))))
 
 -- a block in any such frame hangs where its entries do
 framed : (f : Frame) (k : ℕ) (name : List ℕ) (ss : List (List ℕ)) → IsSteady f → IsOneLine name → OneDeeper k ss →
     name ++ (f.opening ++ block_tail f (setting Pretty k) Zero (map (hanging (entry_depth Pretty k)) ss)) ≡ hanging k (name ++ (f.opening ++ shifted_tail f ss))
 framed f k name ss p h e =
-    rw (hanging-append k name _, hanging-one_line k name h, hanging-append k f.opening _, p.opening k) (ap (λ u. name ++ (f.opening ++ u)) (block_tail-first f k p ss e))
+    rw (hanging-append k name _, hanging-one_line k name h, hanging-append k f.opening _, p.opening k)
+      (ap (λ u. name ++ (f.opening ++ u)) (block_tail-first f k p ss e))
 
 -- ---- documents
 
@@ -175,8 +183,10 @@ HasRoom-struct_of k name no_fields h = HasRoom-empty k h
 HasRoom-struct_of k name (field label value fs) h = HasRoom-entries k _ _ _ h
 
 -- a block at depth k, whose entries' texts hang as they should
-block-shifted : (kind : Kind) (k n : ℕ) (name : List ℕ) (ss ts : List (List ℕ)) → IsOneLine name → HasRoom k n ss → ts ≡ map (hanging (entry_depth Pretty k)) ss → block kind (setting Pretty k) name ts ≡ hanging k (shifted_block kind name ss)
-block-shifted kind k n name ss ts h room e = ap (block kind (setting Pretty k) name) e ∙ framed (frame Pretty kind) k name ss (IsSteady-frame kind) h room.deeper
+block-shifted : (kind : Kind) (k n : ℕ) (name : List ℕ) (ss ts : List (List ℕ)) → IsOneLine name → HasRoom k n ss
+    → ts ≡ map (hanging (entry_depth Pretty k)) ss → block kind (setting Pretty k) name ts ≡ hanging k (shifted_block kind name ss)
+block-shifted kind k n name ss ts h room e = ap (block kind (setting Pretty k) name) e
+    ∙ framed (frame Pretty kind) k name ss (IsSteady-frame kind) h room.deeper
 
 mutual
   -- at depth k a document's pretty text is its shifted text, hanging by k
@@ -192,24 +202,29 @@ mutual
 
   layouts-shifted : (k : ℕ) (ds : Documents) → HaveNoLineFeed ds → nest_all ds + k ≤ 255 → layouts (setting Pretty k) ds ≡ hanging k (shifted_joined ds)
   layouts-shifted k no_documents h n = refl
-  layouts-shifted k (document d ds) h n = rw (hanging-append k (shifted d) _) (ap₂ ◌++◌ (layout-shifted k d h.0 (omega arith)) (layouts-shifted k ds h.1 (omega arith)))
+  layouts-shifted k (document d ds) h n = rw (hanging-append k (shifted d) _)
+      (ap₂ ◌++◌ (layout-shifted k d h.0 (omega arith)) (layouts-shifted k ds h.1 (omega arith)))
 
   texts-shifted : (k : ℕ) (ds : Documents) → HaveNoLineFeed ds → nest_all ds + k ≤ 255 → texts (setting Pretty k) ds ≡ map (hanging k) (shifted_texts ds)
   texts-shifted k no_documents h n = refl
   texts-shifted k (document d ds) h n = ap₂ ◌∷◌ (layout-shifted k d h.0 (omega arith)) (texts-shifted k ds h.1 (omega arith))
 
-  pair_texts-shifted : (k : ℕ) (ps : Pairs) → PairsHaveNoLineFeed ps → nest_pairs ps + k ≤ 255 → pair_texts (setting Pretty k) ps ≡ map (hanging k) (shifted_pairs ps)
+  pair_texts-shifted : (k : ℕ) (ps : Pairs) → PairsHaveNoLineFeed ps → nest_pairs ps + k ≤ 255
+      → pair_texts (setting Pretty k) ps ≡ map (hanging k) (shifted_pairs ps)
   pair_texts-shifted k no_pairs h n = refl
   pair_texts-shifted k (pair key value ps) h n =
-      rw (hanging-append k (shifted key) _, layout-shifted k key h.0 (omega arith), layout-shifted k value h.1 (omega arith), pair_texts-shifted k ps h.2 (omega arith))
+      rw (hanging-append k (shifted key) _, layout-shifted k key h.0 (omega arith), layout-shifted k value h.1 (omega arith),
+        pair_texts-shifted k ps h.2 (omega arith))
 
-  field_texts-shifted : (k : ℕ) (fs : Fields) → FieldsHaveNoLineFeed fs → nest_fields fs + k ≤ 255 → field_texts (setting Pretty k) fs ≡ map (hanging k) (shifted_fields fs)
+  field_texts-shifted : (k : ℕ) (fs : Fields) → FieldsHaveNoLineFeed fs → nest_fields fs + k ≤ 255
+      → field_texts (setting Pretty k) fs ≡ map (hanging k) (shifted_fields fs)
   field_texts-shifted k no_fields h n = refl
   field_texts-shifted k (field label value fs) h n =
       rw (hanging-append k label _, hanging-one_line k label h.0, layout-shifted k value h.1 (omega arith), field_texts-shifted k fs h.2 (omega arith))
 
 -- at depth k a document's pretty text is its shifted text, as lines, shifted k times
-pub shift_times-shifted : (d : Document) (k : ℕ) → HasNoLineFeed d → nest d + k ≤ 255 → shift_times k (shifted d ++ codes "\n") ≡ indentation k ++ (layout (setting Pretty k) d ++ codes "\n")
+pub shift_times-shifted : (d : Document) (k : ℕ) → HasNoLineFeed d → nest d + k ≤ 255
+    → shift_times k (shifted d ++ codes "\n") ≡ indentation k ++ (layout (setting Pretty k) d ++ codes "\n")
 shift_times-shifted d k h n = shift_times-line k (shifted d) ∙ ap (λ u. indentation k ++ (u ++ codes "\n")) (sym (layout-shifted k d h n))
 
 -- a document's shifted text is its pretty text

@@ -45,4 +45,5 @@ mutual
 
   FieldsHaveWords-HaveNoLineFeed : (fs : Fields) → FieldsHaveWords fs → FieldsHaveNoLineFeed fs
   FieldsHaveWords-HaveNoLineFeed no_fields h = tt
-  FieldsHaveWords-HaveNoLineFeed (field label value fs) h = (IsWord-IsOneLine label h.0, HasWords-HasNoLineFeed value h.1, FieldsHaveWords-HaveNoLineFeed fs h.2)
+  FieldsHaveWords-HaveNoLineFeed (field label value fs) h =
+      (IsWord-IsOneLine label h.0, HasWords-HasNoLineFeed value h.1, FieldsHaveWords-HaveNoLineFeed fs h.2)

@@ -33,16 +33,19 @@ set-plain : read_text Plain (codes "{a}") ≡ Some (set_of (lone (leaf (codes "a
 unfolding read read_rest
 set-plain = refl
 
-map-plain : read_text Plain (codes "{a: {}, (): [1]}") ≡ Some (map_of (pair (leaf (codes "a")) (map_of no_pairs) (pair (leaf (codes "()")) (list_of (lone one)) no_pairs)))
+map-plain : read_text Plain (codes "{a: {}, (): [1]}")
+    ≡ Some (map_of (pair (leaf (codes "a")) (map_of no_pairs) (pair (leaf (codes "()")) (list_of (lone one)) no_pairs)))
 unfolding read read_rest
 map-plain = refl
 
 -- a struct without fields is read as the leaf of its name
-struct-plain : read_text Plain (codes "S { x: -1, y: N }") ≡ Some (struct_of (codes "S") (field (codes "x") (leaf (codes "-1")) (field (codes "y") (leaf (codes "N")) no_fields)))
+struct-plain : read_text Plain (codes "S { x: -1, y: N }")
+    ≡ Some (struct_of (codes "S") (field (codes "x") (leaf (codes "-1")) (field (codes "y") (leaf (codes "N")) no_fields)))
 unfolding read read_rest
 struct-plain = refl
 
-struct-pretty : read_text Pretty (codes "S {\n    x: (\n        1,\n    ),\n}") ≡ Some (struct_of (codes "S") (field (codes "x") (tuple_of [] (lone one)) no_fields))
+struct-pretty : read_text Pretty (codes "S {\n    x: (\n        1,\n    ),\n}")
+    ≡ Some (struct_of (codes "S") (field (codes "x") (tuple_of [] (lone one)) no_fields))
 unfolding read read_rest read_quoted
 struct-pretty = refl
 
@@ -82,11 +85,13 @@ unfolding read read_rest read_quoted read_inside is_utf8 chars lib.Utf8.encode
 quotes-list = refl
 
 -- another spelling of a character is refused
-respelled : map (read_text Plain) (codes "\"\\u{07f}\"" ∷ codes "\"\\u{41}\"" ∷ codes "\"\\u{1B}\"" ∷ codes "\"\\u{a}\"" ∷ codes "\"\\x\"" ∷ codes "\"\\'\"" ∷ codes "'\\\"'" ∷ codes "\"\t\"" ∷ []) ≡ replicate 8 None
+respelled : map (read_text Plain) (codes "\"\\u{07f}\"" ∷ codes "\"\\u{41}\"" ∷ codes "\"\\u{1B}\"" ∷ codes "\"\\u{a}\"" ∷ codes "\"\\x\""
+    ∷ codes "\"\\'\"" ∷ codes "'\\\"'" ∷ codes "\"\t\"" ∷ []) ≡ replicate 8 None
 unfolding read read_rest read_quoted read_inside
 respelled = refl
 
 -- and what is no text or character in quotes, or stands where a name or an end is to stand
-misquoted : map (read_text Plain) (codes "'''" ∷ codes "\"\"\"" ∷ codes "\"a" ∷ codes "''" ∷ codes "'ab'" ∷ codes "S { \"a\": b }" ∷ codes "\"S\"(x)" ∷ []) ≡ replicate 7 None
+misquoted : map (read_text Plain) (codes "'''" ∷ codes "\"\"\"" ∷ codes "\"a" ∷ codes "''" ∷ codes "'ab'" ∷ codes "S { \"a\": b }"
+    ∷ codes "\"S\"(x)" ∷ []) ≡ replicate 7 None
 unfolding read read_rest read_quoted read_inside is_utf8 chars lib.Utf8.encode
 misquoted = refl

@@ -42,7 +42,9 @@ shifted-lists : shifted (list_of (document (list_of no_documents) (lone (list_of
 shifted-lists = refl
 
 -- a struct of a map and a number
-shifted-settings : shifted (struct_of (codes "S") (field (codes "m") (map_of (pair one two no_pairs)) (field (codes "n") (leaf (codes "3")) no_fields))) ≡ codes "S {\n    m: {\n        1: 2,\n    },\n    n: 3,\n}"
+shifted-settings : shifted (struct_of (codes "S")
+    (field (codes "m") (map_of (pair one two no_pairs)) (field (codes "n") (leaf (codes "3")) no_fields)))
+    ≡ codes "S {\n    m: {\n        1: 2,\n    },\n    n: 3,\n}"
 shifted-settings = refl
 
 -- tuples with and without a name, of one field and of two
@@ -63,7 +65,8 @@ shifted-maps : shifted (map_of (pair one (map_of (pair two (leaf (codes "3")) no
 shifted-maps = refl
 
 -- documents in a row, and blocks without entries
-shifted-empty_blocks : shifted (joined (document (list_of no_documents) (document (map_of no_pairs) (document (struct_of (codes "A") no_fields) (lone (tuple_of (codes "B") no_documents)))))) ≡ codes "[]{}AB"
+shifted-empty_blocks : shifted (joined (document (list_of no_documents)
+    (document (map_of no_pairs) (document (struct_of (codes "A") no_fields) (lone (tuple_of (codes "B") no_documents)))))) ≡ codes "[]{}AB"
 shifted-empty_blocks = refl
 
 -- a pretty part is its document

@@ -77,7 +77,8 @@ read_block q f s make t = option_and_then (read_entries q f s make) (strip (lead
 
 -- a list behind its opening, where `p` reads its entries
 abbrev pub read_list : Setting → Parse Document → Parse Document
-read_list s p t = choose (strip ((frame s.mode Brackets).closing Zero) t) (λ u. Some (list_of no_documents, u)) (read_block p (frame s.mode Brackets) s (λ ds. list_of (documents ds)) t)
+read_list s p t = choose (strip ((frame s.mode Brackets).closing Zero) t) (λ u. Some (list_of no_documents, u))
+    (read_block p (frame s.mode Brackets) s (λ ds. list_of (documents ds)) t)
 
 -- a map behind its first key
 abbrev pub read_map : Setting → Parse Document → Document → Parse Document
@@ -93,7 +94,8 @@ read_map_or_set s p d t = choose (strip (codes ": ") t) (λ u. read_map s p d t)
 
 -- a set or a map with entries behind its opening
 abbrev pub read_braced_entries : Setting → Parse Document → Parse Document
-read_braced_entries s p t = option_and_then (λ u. option_and_then (λ x. read_map_or_set s p x.0 x.1) (p u)) (strip (lead (frame s.mode Braces) (inside s) Zero) t)
+read_braced_entries s p t = option_and_then (λ u. option_and_then (λ x. read_map_or_set s p x.0 x.1) (p u))
+    (strip (lead (frame s.mode Braces) (inside s) Zero) t)
 
 -- a set or a map behind its opening
 abbrev pub read_braces : Setting → Parse Document → Parse Document

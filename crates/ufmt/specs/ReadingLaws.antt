@@ -21,11 +21,13 @@ RefusesNoText = (mode : Mode) (t : List ℕ) → read_text mode t ≡ None → (
 
 -- where plain texts are equal with what follows them, so are normal forms and what follows
 abbrev pub PlainReadsOneWay : Type 0
-PlainReadsOneWay = (d e : Document) (u v : List ℕ) → IsToken d → IsToken e → IsFollower u → IsFollower v → plain_text d ++ u ≡ plain_text e ++ v → (normal d ≡ normal e) × (u ≡ v)
+PlainReadsOneWay = (d e : Document) (u v : List ℕ) → IsToken d → IsToken e → IsFollower u → IsFollower v
+    → plain_text d ++ u ≡ plain_text e ++ v → (normal d ≡ normal e) × (u ≡ v)
 
 -- likewise of pretty layouts at a depth from which the documents' blocks lie at most 255 deep
 abbrev pub PrettyReadsOneWay : Type 0
-PrettyReadsOneWay = (k : ℕ) (d e : Document) (u v : List ℕ) → IsToken d → IsToken e → nest d + k ≤ 255 → nest e + k ≤ 255 → IsFollower u → IsFollower v → layout (setting Pretty k) d ++ u ≡ layout (setting Pretty k) e ++ v → (normal d ≡ normal e) × (u ≡ v)
+PrettyReadsOneWay = (k : ℕ) (d e : Document) (u v : List ℕ) → IsToken d → IsToken e → nest d + k ≤ 255 → nest e + k ≤ 255 → IsFollower u
+    → IsFollower v → layout (setting Pretty k) d ++ u ≡ layout (setting Pretty k) e ++ v → (normal d ≡ normal e) × (u ≡ v)
 
 -- token documents have one plain text exactly if they have one normal form
 abbrev pub PlainTextTells : Type 0

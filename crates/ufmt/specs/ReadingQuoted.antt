@@ -25,7 +25,8 @@ read_escaped quote t = option_map (λ u. (told t, u)) (strip (escaped_byte quote
 -- bytes up to the closing quote, fewer than the number
 unfoldable pub read_inside : ℕ → ℕ → Parse (List ℕ)
 read_inside quote zero t = None
-read_inside quote (suc n) t = choose (strip (quote ∷ []) t) (λ u. Some ([], u)) (option_and_then (λ x. parse_map (λ bs. x.0 ∷ bs) (read_inside quote n x.1)) (read_escaped quote t))
+read_inside quote (suc n) t = choose (strip (quote ∷ []) t) (λ u. Some ([], u))
+    (option_and_then (λ x. parse_map (λ bs. x.0 ∷ bs) (read_inside quote n x.1)) (read_escaped quote t))
 
 -- the quoted form of these bytes, where they are such as the test wants
 abbrev pub if_right : (List ℕ → Bool) → ℕ → List ℕ → List ℕ → Option (List ℕ × List ℕ)
@@ -33,7 +34,8 @@ if_right test quote bs u = cond (test bs) (Some (quoted quote (chars bs), u)) No
 
 -- what such bytes are between two of these quotes
 abbrev pub read_between : ℕ → (List ℕ → Bool) → Parse (List ℕ)
-read_between quote test t = option_and_then (λ u. option_and_then (λ x. if_right test quote x.0 x.1) (read_inside quote (suc (length u)) u)) (strip (quote ∷ []) t)
+read_between quote test t = option_and_then (λ u. option_and_then (λ x. if_right test quote x.0 x.1) (read_inside quote (suc (length u)) u))
+    (strip (quote ∷ []) t)
 
 -- whether the bytes are those of one character
 abbrev pub is_char : List ℕ → Bool

@@ -12,7 +12,8 @@ ShiftMovesEachLine = (line lines : List ℕ) → IsOneLine line → shift (line 
 
 -- at depth k a document's pretty text, as lines, is its shifted text, shifted k times
 abbrev pub ShiftedAtDepth : Type 0
-ShiftedAtDepth = (d : Document) (k : ℕ) → HasNoLineFeed d → nest d + k ≤ 255 → shift_times k (shifted d ++ codes "\n") ≡ indentation k ++ (layout (setting Pretty k) d ++ codes "\n")
+ShiftedAtDepth = (d : Document) (k : ℕ) → HasNoLineFeed d → nest d + k ≤ 255
+    → shift_times k (shifted d ++ codes "\n") ≡ indentation k ++ (layout (setting Pretty k) d ++ codes "\n")
 
 -- a document's shifted text is its pretty text
 abbrev pub ShiftedIsPretty : Type 0

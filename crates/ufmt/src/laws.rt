@@ -149,7 +149,9 @@ pub fn all_pieces<W: uWrite, A: uDisplay, B: uDebug, C: uDebug, N: uDisplayHex>(
 ) -> Result<(), W::Error>
     requires { options.pad_char < 128 }
     ensures { Prints W.seen f.old
-        (pieces_text (setting_of f.old) (text t.now ∷ shown (A.display a.now) ∷ shown (B.document b.now) ∷ pretty (C.document c.now) ∷ hex (N.hex_text n.now options) ∷ []))
+        (pieces_text (setting_of f.old)
+        (text t.now ∷ shown (A.display a.now) ∷ shown (B.document b.now) ∷ pretty (C.document c.now)
+        ∷ hex (N.hex_text n.now options) ∷ []))
         (is_ok result) f.new }
 {
     uwrite!(f, text t, display a, debug b, pretty c, hex n with options)
@@ -170,8 +172,11 @@ pub fn line_of_all_pieces<W: uWrite, A: uDisplay, B: uDebug, C: uDebug, N: uDisp
 ) -> Result<(), W::Error>
     requires { options.pad_char < 128 }
     ensures { Prints W.seen f.old
-        (pieces_text (setting_of f.old) (text t.now ∷ shown (A.display a.now) ∷ shown (B.document b.now) ∷ pretty (C.document c.now) ∷ hex (N.hex_text n.now options)
-        ∷ (separated t.now (map (λ x. shown (B.document x) ∷ []) bs.now) ++ separated t.now (map (λ x. hex (N.hex_text x options) ∷ []) ns.now))))
+        (pieces_text (setting_of f.old)
+        (text t.now ∷ shown (A.display a.now) ∷ shown (B.document b.now) ∷ pretty (C.document c.now)
+        ∷ hex (N.hex_text n.now options)
+        ∷ (separated t.now (map (λ x. shown (B.document x) ∷ []) bs.now)
+        ++ separated t.now (map (λ x. hex (N.hex_text x options) ∷ []) ns.now))))
         (is_ok result) f.new }
 {
     pieces!(

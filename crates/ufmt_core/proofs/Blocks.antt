@@ -19,7 +19,8 @@ module _ {W : Type 0} where
   Same-then a b = record { reference = b.reference ∙ a.reference; kind = b.kind ∙ a.kind; outer = b.outer ∙ a.outer }
 
   -- what a call leaves depends on the entries' mode and depth and on those from before alone
-  After-from : (ok : Bool) (count : Count) (old mid new : Block W) → inner mid ≡ inner old → mid.outer ≡ old.outer → After ok count mid new → After ok count old new
+  After-from : (ok : Bool) (count : Count) (old mid new : Block W) → inner mid ≡ inner old → mid.outer ≡ old.outer → After ok count mid new
+      → After ok count old new
   After-from true count old mid new i o h = (h.0, h.1, h.2 ∙ i)
   After-from false count old mid new i o h = (h.0, h.1 ∙ o)
 
@@ -29,7 +30,8 @@ module _ {W : Type 0} where
 
 module _ {W : Type 0} {seen : Seen W} where
   -- two calls in a row write their parts joined
-  pub WritesPart-then : {old mid new : Block W} {p q : List ℕ} {ok : Bool} {between count : Count} → WritesPart seen old p true between mid → WritesPart seen mid q ok count new → WritesPart seen old (p ++ q) ok count new
+  pub WritesPart-then : {old mid new : Block W} {p q : List ℕ} {ok : Bool} {between count : Count} → WritesPart seen old p true between mid
+      → WritesPart seen mid q ok count new → WritesPart seen old (p ++ q) ok count new
   WritesPart-then {old} {mid} {new} {ok = ok} {count = count} a b = record {
     wrote = Writes-then a.wrote b.wrote;
     same = Same-then a.same b.same;
@@ -37,15 +39,19 @@ module _ {W : Type 0} {seen : Seen W} where
   }
 
   -- a beginning of a part is one of what begins with it
-  pub WritesPart-fails : {old new : Block W} {p : List ℕ} (q : List ℕ) {between count : Count} → WritesPart seen old p false between new → WritesPart seen old (p ++ q) false count new
+  pub WritesPart-fails : {old new : Block W} {p : List ℕ} (q : List ℕ) {between count : Count} → WritesPart seen old p false between new
+      → WritesPart seen old (p ++ q) false count new
   WritesPart-fails q a = record { wrote = Writes-fails q a.wrote; same = a.same; after = a.after }
 
   -- a call that went on, and then what closes the block
-  pub WritesEnding-then : {old mid new : Block W} {p q : List ℕ} {ok : Bool} {between : Count} → WritesPart seen old p true between mid → WritesEnding seen mid q ok new → WritesEnding seen old (p ++ q) ok new
-  WritesEnding-then a f = record { wrote = Writes-then a.wrote f.wrote; same = Same-then a.same f.same; closed = f.closed; restored = f.restored ∙ a.same.outer }
+  pub WritesEnding-then : {old mid new : Block W} {p q : List ℕ} {ok : Bool} {between : Count} → WritesPart seen old p true between mid
+      → WritesEnding seen mid q ok new → WritesEnding seen old (p ++ q) ok new
+  WritesEnding-then a f = record { wrote = Writes-then a.wrote f.wrote; same = Same-then a.same f.same; closed = f.closed;
+      restored = f.restored ∙ a.same.outer }
 
   -- a call that failed closes the block
-  pub WritesEnding-fails : {old new : Block W} {p : List ℕ} (q : List ℕ) {between : Count} → WritesPart seen old p false between new → WritesEnding seen old (p ++ q) false new
+  pub WritesEnding-fails : {old new : Block W} {p : List ℕ} (q : List ℕ) {between : Count} → WritesPart seen old p false between new
+      → WritesEnding seen old (p ++ q) false new
   WritesEnding-fails q a = record { wrote = Writes-fails q a.wrote; same = a.same; closed = a.after.0; restored = a.after.1 }
 
 -- a call that went on was handed an `Ok`
@@ -56,7 +62,8 @@ handed_ok (Err x) result h k = cc (ap is_ok h)
 -- the lent formatter has printed a text, and then a call of the builder
 module _ {W : Type 0} {seen : Seen W} (pending : Status) (old : Block W) {new : Block W} {ended : Formatter W} {printed : List ℕ} where
   -- wrote what follows
-  WritesPart-printed : (tail : Setting → List ℕ) {ok : Bool} {count : Count} → Prints seen old.formatter printed true ended → WritesPart seen (lent_to pending old ended) (tail (setting_of ended)) ok count new →
+  WritesPart-printed : (tail : Setting → List ℕ) {ok : Bool} {count : Count} → Prints seen old.formatter printed true ended
+      → WritesPart seen (lent_to pending old ended) (tail (setting_of ended)) ok count new →
       WritesPart seen old (printed ++ tail (inner old)) ok count new
   WritesPart-printed tail {ok} {count} p a = record {
     wrote = Writes-then p.wrote (subst (λ (s : Setting). Writes seen (writer_of ended) (tail s) ok (writer_of new.formatter)) p.same_setting a.wrote);
@@ -66,11 +73,14 @@ module _ {W : Type 0} {seen : Seen W} (pending : Status) (old : Block W) {new : 
 
   -- was handed its failure
   WritesPart-abandoned : Prints seen old.formatter printed false ended → Abandons (lent_to pending old ended) new → StopsIn seen old printed new
-  WritesPart-abandoned p a = record { wrote = rw a.same_writer p.wrote; same = record { reference = a.same.reference; kind = a.same.kind; outer = a.same.outer }; after = a.after }
+  WritesPart-abandoned p a = record { wrote = rw a.same_writer p.wrote;
+      same = record { reference = a.same.reference; kind = a.same.kind; outer = a.same.outer }; after = a.after }
 
 -- an entry in halves: what stands before the value was written, the lent formatter has printed the value's text, and the second half has ended the entry
-module _ {W E : Type 0} {seen : Seen W} (pending : Status) (old : Block W) {new : Block W} {begun : Formatter W} (ended : Formatter W) (before : List ℕ) (text : Setting → List ℕ) where
-  pub WritesPart-between : {mid : Block W} (answer result : Result (Unit {0}) E) → mid ≡ lent_to pending old ended → Prints seen old.formatter before true begun →
+module _ {W E : Type 0} {seen : Seen W} (pending : Status) (old : Block W) {new : Block W} {begun : Formatter W} (ended : Formatter W)
+    (before : List ℕ) (text : Setting → List ℕ) where
+  pub WritesPart-between : {mid : Block W} (answer result : Result (Unit {0}) E) → mid ≡ lent_to pending old ended
+      → Prints seen old.formatter before true begun →
       Prints seen begun (text (setting_of begun)) (is_ok answer) ended → EndsEntry seen answer mid result (is_ok result) new →
       WritesPart seen old (before ++ (text (inner old) ++ trail_of old)) (is_ok result) (next old.count) new
   WritesPart-between (Ok x) result m p l e =
@@ -78,24 +88,32 @@ module _ {W E : Type 0} {seen : Seen W} (pending : Status) (old : Block W) {new 
       rw (← append_assoc before (text (inner old)) (trail_of old)) (WritesPart-printed pending old (λ s. trail s.mode) (Prints-then_at text p l) end.trail)
   WritesPart-between (Err x) result m p l e =
       let end = subst (λ (b : Block W). EndsEntry seen (Err x) b result (is_ok result) new) m e in
-      rw (ap is_ok end.error.0, ← append_assoc before (text (inner old)) (trail_of old)) (WritesPart-fails _ (WritesPart-abandoned pending old (Prints-then_at text p l) end.error.1))
+      rw (ap is_ok end.error.0, ← append_assoc before (text (inner old)) (trail_of old))
+        (WritesPart-fails _ (WritesPart-abandoned pending old (Prints-then_at text p l) end.error.1))
 
 -- a map's entry: the key, `: ` and the value, each by the lent formatter
 module _ {W E : Type 0} {seen : Seen W} (old : Block W) {new : Block W} {begun : Formatter W} (ended : Formatter W) (key value : Document) where
   -- the key and then `: `, where that failed, or where the key's answer was an error
-  pub WritesEntry-no_value : {mid : Block W} (answer : Result (Unit {0}) E) → mid ≡ lent_to Lent old ended → Prints seen old.formatter (lead_of old) true begun → LaysOut seen begun key (is_ok answer) ended →
+  pub WritesEntry-no_value : {mid : Block W} (answer : Result (Unit {0}) E) → mid ≡ lent_to Lent old ended
+      → Prints seen old.formatter (lead_of old) true begun → LaysOut seen begun key (is_ok answer) ended →
       OnOk answer (StopsIn seen mid (codes ": ") new) → OnErr answer (Abandons mid new) → WritesEntry seen old (pair_text key value) false new
   WritesEntry-no_value (Ok x) m p l stop error =
       let whole : framed (frame_of old) (inner old) old.count (pair_text key value (inner old)) ≡ ((lead_of old ++ layout (inner old) key) ++ codes ": ") ++ (layout (inner old) value ++ trail_of old) = simp append_assoc in
-      record { part = rw whole (WritesPart-fails _ (WritesPart-printed Lent old (λ s. codes ": ") (Prints-then_at (λ s. layout s key) p l.prints) (subst (λ (b : Block W). StopsIn seen b (codes ": ") new) m stop))) }
+      record { part = rw whole (WritesPart-fails _
+          (WritesPart-printed Lent old (λ s. codes ": ") (Prints-then_at (λ s. layout s key) p l.prints)
+          (subst (λ (b : Block W). StopsIn seen b (codes ": ") new) m stop))) }
   WritesEntry-no_value (Err x) m p l stop error =
       let whole : framed (frame_of old) (inner old) old.count (pair_text key value (inner old)) ≡ (lead_of old ++ layout (inner old) key) ++ (codes ": " ++ (layout (inner old) value ++ trail_of old)) = simp append_assoc in
-      record { part = rw whole (WritesPart-fails _ (WritesPart-abandoned Lent old (Prints-then_at (λ s. layout s key) p l.prints) (subst (λ (b : Block W). Abandons b new) m error))) }
+      record { part = rw whole (WritesPart-fails _
+          (WritesPart-abandoned Lent old (Prints-then_at (λ s. layout s key) p l.prints) (subst (λ (b : Block W). Abandons b new) m error))) }
 
   -- `: ` and the value too
-  pub WritesEntry-pair : {Y : Type 0} {mid last : Block W} {lent : Formatter W} (printed : Formatter W) (key_answer answer result : Result (Unit {0}) E) (lending : Result Y E) →
-      mid ≡ lent_to Lent old ended → Prints seen old.formatter (lead_of old) true begun → LaysOut seen begun key (is_ok key_answer) ended → IfErr key_answer (λ e. lending ≡ Err e) → IsOk lending →
-      last ≡ lent_to LentValue mid printed → Prints seen mid.formatter (codes ": ") true lent → LaysOut seen lent value (is_ok answer) printed → EndsEntry seen answer last result (is_ok result) new →
+  pub WritesEntry-pair : {Y : Type 0} {mid last : Block W} {lent : Formatter W} (printed : Formatter W)
+      (key_answer answer result : Result (Unit {0}) E) (lending : Result Y E) →
+      mid ≡ lent_to Lent old ended → Prints seen old.formatter (lead_of old) true begun → LaysOut seen begun key (is_ok key_answer) ended
+        → IfErr key_answer (λ e. lending ≡ Err e) → IsOk lending →
+      last ≡ lent_to LentValue mid printed → Prints seen mid.formatter (codes ": ") true lent
+        → LaysOut seen lent value (is_ok answer) printed → EndsEntry seen answer last result (is_ok result) new →
       WritesEntry seen old (pair_text key value) (is_ok result) new
   WritesEntry-pair {last = last} {lent = lent} printed key_answer answer result lending m p k error ok l colon v e =
       let keyed = subst (λ (o : Bool). Prints seen begun (layout (setting_of begun) key) o ended) (handed_ok key_answer lending error ok) k.prints in
@@ -107,13 +125,16 @@ module _ {W E : Type 0} {seen : Seen W} (old : Block W) {new : Block W} {begun :
 -- entries in a row
 
 -- entries in a row, and then what is left, are what was left
-pub block_tail-append : (f : Frame) (s : Setting) (count : Count) (ts us : List (List ℕ)) → block_tail f s count (ts ++ us) ≡ framed_all f (inside s) count ts ++ block_tail f s (count_after count ts) us
+pub block_tail-append : (f : Frame) (s : Setting) (count : Count) (ts us : List (List ℕ))
+    → block_tail f s count (ts ++ us) ≡ framed_all f (inside s) count ts ++ block_tail f s (count_after count ts) us
 block_tail-append f s count [] us = refl
 block_tail-append f s count (t ∷ ts) us = rw (block_tail-append f s (next count) ts us) (simp append_assoc)
 
-framed_all-append : (f : Frame) (i : Setting) (count : Count) (ts us : List (List ℕ)) → framed_all f i count (ts ++ us) ≡ framed_all f i count ts ++ framed_all f i (count_after count ts) us
+framed_all-append : (f : Frame) (i : Setting) (count : Count) (ts us : List (List ℕ))
+    → framed_all f i count (ts ++ us) ≡ framed_all f i count ts ++ framed_all f i (count_after count ts) us
 framed_all-append f i count [] us = refl
-framed_all-append f i count (t ∷ ts) us = rw (framed_all-append f i (next count) ts us) (sym (append_assoc (framed f i count t) (framed_all f i (next count) ts) _))
+framed_all-append f i count (t ∷ ts) us =
+    rw (framed_all-append f i (next count) ts us) (sym (append_assoc (framed f i count t) (framed_all f i (next count) ts) _))
 
 pub count_after-map : {X Y : Type 0} (f : X → Y) (count : Count) (xs : List X) → count_after count (map f xs) ≡ count_after count xs
 count_after-map f count [] = refl
@@ -126,10 +147,12 @@ count_after-append count (y ∷ xs) x = count_after-append (next count) xs x
 module _ {W D : Type 0} {seen : Seen W} (text_of : D → Setting → List ℕ) where
   -- no entry yet
   pub WritesRow-none : (b : Block W) → IsOpen b → WritesRow seen b text_of [] true b
-  WritesRow-none b open_b = record { part = record { wrote = Writes-nothing _; same = record { reference = refl; kind = refl; outer = refl }; after = (refl, open_b, refl) } }
+  WritesRow-none b open_b = record { part =
+      record { wrote = Writes-nothing _; same = record { reference = refl; kind = refl; outer = refl }; after = (refl, open_b, refl) } }
 
   -- after some entries, one more
-  pub WritesRow-more : {old mid new : Block W} (xs : List D) (y : D) (ok : Bool) → WritesRow seen old text_of xs true mid → WritesEntry seen mid (text_of y) ok new → WritesRow seen old text_of (xs ++ y ∷ []) ok new
+  pub WritesRow-more : {old mid new : Block W} (xs : List D) (y : D) (ok : Bool) → WritesRow seen old text_of xs true mid
+      → WritesEntry seen mid (text_of y) ok new → WritesRow seen old text_of (xs ++ y ∷ []) ok new
   WritesRow-more {old} {mid} {new} xs y ok a e =
       let texts = map (λ x. text_of x (inner old)) xs in
       let part : framed_all (frame_of old) (inner old) old.count (map (λ x. text_of x (inner old)) (xs ++ y ∷ [])) ≡
@@ -141,15 +164,19 @@ module _ {W D : Type 0} {seen : Seen W} (text_of : D → Setting → List ℕ) w
       record { part = rw (part, count_after-append old.count xs y, sym a.part.after.0) (WritesPart-then a.part e.part) }
 
   -- after the first entries of a list, the next
-  pub WritesRow-next : {old mid new : Block W} (whole : List D) (k : ℕ) (y : D) (ok : Bool) → k < length whole → y ≡ get_or whole k y → WritesRow seen old text_of (take k whole) true mid → WritesEntry seen mid (text_of y) ok new →
+  pub WritesRow-next : {old mid new : Block W} (whole : List D) (k : ℕ) (y : D) (ok : Bool) → k < length whole → y ≡ get_or whole k y
+      → WritesRow seen old text_of (take k whole) true mid → WritesEntry seen mid (text_of y) ok new →
       WritesRow seen old text_of (take (k + 1) whole) ok new
   WritesRow-next {old} {mid} {new} whole k y ok within is a e =
-      subst (λ (xs : List D). WritesRow seen old text_of xs ok new) (ap (λ z. take k whole ++ z ∷ []) is ∙ sym (take_more whole k y within)) (WritesRow-more (take k whole) y ok a e)
+      subst (λ (xs : List D). WritesRow seen old text_of xs ok new) (ap (λ z. take k whole ++ z ∷ []) is ∙ sym (take_more whole k y within))
+          (WritesRow-more (take k whole) y ok a e)
 
 module _ {W U T D X E : Type 0} {seen : Seen W} {becomes : U → T → Type 0} (steps : T → Option D → T → Type 0) (text_of : D → Setting → List ℕ) where
   -- a loop over the items of an iterator, where the entry after the first ones failed
-  pub WritesEntries-stopped : {entries : U} (first here after : T) {xs : List D} {y : D} {old mid new : Block W} (answer : Result X E) → IsErr answer → becomes entries first →
-      Yields steps first xs here → steps here (Some y) after → WritesRow seen old text_of xs true mid → WritesEntry seen mid (text_of y) false new → WritesEntries seen becomes steps text_of entries old (is_ok answer) new
+  pub WritesEntries-stopped : {entries : U} (first here after : T) {xs : List D} {y : D} {old mid new : Block W} (answer : Result X E)
+      → IsErr answer → becomes entries first →
+      Yields steps first xs here → steps here (Some y) after → WritesRow seen old text_of xs true mid
+        → WritesEntry seen mid (text_of y) false new → WritesEntries seen becomes steps text_of entries old (is_ok answer) new
   WritesEntries-stopped first here after {xs} {y} answer failed begins yields step a e =
       rw (is_ok-err answer failed) record {
         iterator = first;
@@ -159,10 +186,12 @@ module _ {W U T D X E : Type 0} {seen : Seen W} {becomes : U → T → Type 0} (
         row = WritesRow-more text_of xs y false a e;
       }
 
-module _ {W U T D Y : Type 0} {seen : Seen W} {becomes : U → T → Type 0} {steps : T → Option D → T → Type 0} (view : D → Y) (text_of : Y → Setting → List ℕ) where
+module _ {W U T D Y : Type 0} {seen : Seen W} {becomes : U → T → Type 0} {steps : T → Option D → T → Type 0} (view : D → Y)
+    (text_of : Y → Setting → List ℕ) where
   -- where every run of the iterator gives items that `view` takes to `ys`, their entries were written, or a beginning of them
   pub WritesRow-from_entries : (entries : U) (ys : List Y) {old new : Block W} (ok : Bool) →
-      ((it : T) → becomes entries it → AlwaysYields steps view it ys) → WritesEntries seen becomes steps (λ x. text_of (view x)) entries old ok new → WritesRow seen old text_of ys ok new
+      ((it : T) → becomes entries it → AlwaysYields steps view it ys)
+        → WritesEntries seen becomes steps (λ x. text_of (view x)) entries old ok new → WritesRow seen old text_of ys ok new
   WritesRow-from_entries entries ys {old} {new} true yields a =
       let given : YieldsList steps view a.iterator ys = record { runs = yields a.iterator a.begins } in
       let all = items_from_drains a.items (a.drains.0, a.drains.1, λ _. a.drains.2 refl) given in

@@ -10,7 +10,8 @@ use Rattle.ufmt_core.proofs.NumeralTexts.{one_text, one_number, IsTextInBase, le
 
 -- a text tells one magnitude
 TellsMagnitude-number : (s t : List ℕ) (m n : ℕ) → s ≡ t → TellsMagnitude s m → TellsMagnitude t n → m ≡ n
-TellsMagnitude-number s t m n same told_m told_n = one_number 10 decimal_byte m n (λ x y bytes. omega arith) same told_m.bytes told_m.told told_n.bytes told_n.told
+TellsMagnitude-number s t m n same told_m told_n =
+    one_number 10 decimal_byte m n (λ x y bytes. omega arith) same told_m.bytes told_m.told told_n.bytes told_n.told
 
 -- the first byte of digits is no less than `0`
 first_byte : (digits : List ℕ) → 0 < length digits → 48 ≤ get_or (map decimal_byte digits) 0 0
@@ -81,4 +82,5 @@ length-signed-le k (negsuc n) some low = omega (arith, length-text-le decimal-in
 -- decimal texts are ASCII
 pub IsAscii-decimal : (z : ℤ) → IsAscii (decimal z)
 IsAscii-decimal (pos n) = IsAscii-text decimal-in_base (λ digit low. omega arith) n
-IsAscii-decimal (negsuc n) = rw (decimal-negative (negsuc n) refl) (IsAscii-cons 45 (decimal (pos (suc n))) (omega arith) (IsAscii-text decimal-in_base (λ digit low. omega arith) (suc n)))
+IsAscii-decimal (negsuc n) = rw (decimal-negative (negsuc n) refl)
+    (IsAscii-cons 45 (decimal (pos (suc n))) (omega arith) (IsAscii-text decimal-in_base (λ digit low. omega arith) (suc n)))

@@ -23,7 +23,8 @@ module _ (base : ℕ) (byte_of : ℕ → ℕ) {s t xs ys : List ℕ} where
   one_text n two bytes_s told_s bytes_t told_t = bytes_s ∙ ap (map byte_of) (TellsInBase-one base n xs ys two told_s told_t) ∙ sym bytes_t
 
   -- a text tells one number
-  pub one_number : (m n : ℕ) → ((x y : ℕ) → byte_of x ≡ byte_of y → x ≡ y) → s ≡ t → s ≡ map byte_of xs → TellsInBase base xs m → t ≡ map byte_of ys → TellsInBase base ys n → m ≡ n
+  pub one_number : (m n : ℕ) → ((x y : ℕ) → byte_of x ≡ byte_of y → x ≡ y) → s ≡ t → s ≡ map byte_of xs → TellsInBase base xs m
+      → t ≡ map byte_of ys → TellsInBase base ys n → m ≡ n
   one_number m n tells same bytes_s told_s bytes_t told_t =
       sym told_s.value ∙ ap (value_in_base base) (bytes_same byte_of tells xs ys (sym bytes_s ∙ same ∙ bytes_t)) ∙ told_t.value
 
@@ -55,4 +56,5 @@ module _ {base : ℕ} {byte_of : ℕ → ℕ} {text : ℕ → List ℕ} (t : IsT
   pub IsAscii-text : ((digit : ℕ) → digit < base → byte_of digit < 128) → (n : ℕ) → IsAscii (text n)
   IsAscii-text ascii n =
       let below = (numeral-tells base n t.two).below_base in
-      rw (t.by_digits n) (IsAscii-from_all (map byte_of (numeral base n)) (All-map (λ byte. byte < 128) byte_of (numeral base n) (λ k d within. ascii _ (below k d within))))
+      rw (t.by_digits n) (IsAscii-from_all (map byte_of (numeral base n))
+        (All-map (λ byte. byte < 128) byte_of (numeral base n) (λ k d within. ascii _ (below k d within))))

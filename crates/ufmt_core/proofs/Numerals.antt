@@ -14,13 +14,15 @@ number_after-value base n [] = rw pow-zero (omega arith)
 number_after-value base n (digit ∷ digits) = rw (number_after-value base (n * base + digit) digits, pow-suc) (omega arith)
 
 -- digits behind those of a number above 0 are the digits of the number that all tell
-digits_of-after : (base n : ℕ) (digits : List ℕ) → 2 ≤ base → 0 < n → All (λ digit. digit < base) digits → digits_of base (number_from_digits_after base n digits) ≡ digits_of base n ++ digits
+digits_of-after : (base n : ℕ) (digits : List ℕ) → 2 ≤ base → 0 < n → All (λ digit. digit < base) digits
+    → digits_of base (number_from_digits_after base n digits) ≡ digits_of base n ++ digits
 digits_of-after base n [] two positive below = sym (append-nil _)
 digits_of-after base n (digit ∷ digits) two positive below =
     let low = All-head (λ d. d < base) digit digits below in
     let more : 0 < n * base + digit = omega (arith, mul-le-mul_right base positive) in
     digits_of-after base (n * base + digit) digits two more (All-tail (λ d. d < base) digit digits below)
-    ∙ ap (λ front. front ++ digits) (digits_of_step base (n * base + digit) two more ∙ ap₂ (λ q r. digits_of base q ++ r ∷ []) (div-mul-add n base digit low) (mod-mul-add n base digit low))
+    ∙ ap (λ front. front ++ digits) (digits_of_step base (n * base + digit) two more
+      ∙ ap₂ (λ q r. digits_of base q ++ r ∷ []) (div-mul-add n base digit low) (mod-mul-add n base digit low))
     ∙ append_assoc (digits_of base n) (digit ∷ []) digits
 
 -- a number above 0 and below the base is its own digit

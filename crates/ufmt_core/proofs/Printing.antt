@@ -48,15 +48,19 @@ pub tuple-is_block : (name : List ℕ) (ds : Documents) → IsBlock (tuple_of na
 tuple-is_block [] ds = record { joined = λ s. refl }
 tuple-is_block (c ∷ name) ds = record { joined = λ s. refl }
 
-module _ {W : Type 0} {seen : Seen W} {start last : Formatter W} {d : Document} {kind : Kind} {opening : List ℕ} {left : Setting → List (List ℕ)} (is_block : IsBlock d kind opening left) where
+module _ {W : Type 0} {seen : Seen W} {start last : Formatter W} {d : Document} {kind : Kind} {opening : List ℕ} {left : Setting
+    → List (List ℕ)} (is_block : IsBlock d kind opening left) where
   -- a builder that could not begin
-  LaysOut-not_opened : {B E X F : Type 0} {r : Result B E} {e : E} (answer : Result X F) → IsErr answer → r ≡ Err e → OnErr r (Prints seen start opening false last) → LaysOut seen start d (is_ok answer) last
+  LaysOut-not_opened : {B E X F : Type 0} {r : Result B E} {e : E} (answer : Result X F) → IsErr answer → r ≡ Err e
+      → OnErr r (Prints seen start opening false last) → LaysOut seen start d (is_ok answer) last
   LaysOut-not_opened answer failed was unopened =
       let p = IfErr-at_err _ was unopened in
-      LaysOut-err answer failed (record { prints = record { wrote = rw (is_block.joined (setting_of start)) (Writes-fails _ p.wrote); same_setting = p.same_setting } })
+      LaysOut-err answer failed (record { prints =
+          record { wrote = rw (is_block.joined (setting_of start)) (Writes-fails _ p.wrote); same_setting = p.same_setting } })
 
   -- a builder that began, and what was written from then on
-  pub LaysOut-opened : {reference : ℕ} {b : Block W} {ok : Bool} → WritesOpening seen start reference kind opening b → Completes seen reference b left ok last → LaysOut seen start d ok last
+  pub LaysOut-opened : {reference : ℕ} {b : Block W} {ok : Bool} → WritesOpening seen start reference kind opening b
+      → Completes seen reference b left ok last → LaysOut seen start d ok last
   LaysOut-opened {b = b} o c =
       let more = c.continues (sym o.same.reference) (o.inner ∙ ap inside (sym o.same.outer)) in
       let text : layout (setting_of start) d ≡ opening ++ tail_of b left = rw (o.same.outer, o.same.kind, o.count) (is_block.joined (setting_of start)) in
@@ -74,26 +78,33 @@ module _ {W : Type 0} {seen : Seen W} {start last : Formatter W} where
     pub map_not_opened : {ps : Pairs} → OnErr r (Prints seen start (codes "{") false last) → LaysOut seen start (map_of ps) (is_ok answer) last
     map_not_opened {ps} = LaysOut-not_opened (map-is_block ps) answer failed was
 
-    pub struct_not_opened : {name : List ℕ} {fs : Fields} → OnErr r (Prints seen start name false last) → LaysOut seen start (struct_of name fs) (is_ok answer) last
+    pub struct_not_opened : {name : List ℕ} {fs : Fields} → OnErr r (Prints seen start name false last)
+        → LaysOut seen start (struct_of name fs) (is_ok answer) last
     struct_not_opened {name} {fs} = LaysOut-not_opened (struct-is_block name fs) answer failed was
 
-    pub tuple_not_opened : {name : List ℕ} {ds : Documents} → OnErr r (Prints seen start name false last) → LaysOut seen start (tuple_of name ds) (is_ok answer) last
+    pub tuple_not_opened : {name : List ℕ} {ds : Documents} → OnErr r (Prints seen start name false last)
+        → LaysOut seen start (tuple_of name ds) (is_ok answer) last
     tuple_not_opened {name} {ds} = LaysOut-not_opened (tuple-is_block name ds) answer failed was
 
   module _ {reference : ℕ} {b : Block W} {ok : Bool} where
-    pub list_opened : {ds : Documents} → WritesOpening seen start reference Brackets (codes "[") b → Completes seen reference b (remaining_entries ds) ok last → LaysOut seen start (list_of ds) ok last
+    pub list_opened : {ds : Documents} → WritesOpening seen start reference Brackets (codes "[") b
+        → Completes seen reference b (remaining_entries ds) ok last → LaysOut seen start (list_of ds) ok last
     list_opened {ds} = LaysOut-opened (list-is_block ds)
 
-    pub set_opened : {ds : Documents} → WritesOpening seen start reference Braces (codes "{") b → Completes seen reference b (remaining_entries ds) ok last → LaysOut seen start (set_of ds) ok last
+    pub set_opened : {ds : Documents} → WritesOpening seen start reference Braces (codes "{") b
+        → Completes seen reference b (remaining_entries ds) ok last → LaysOut seen start (set_of ds) ok last
     set_opened {ds} = LaysOut-opened (set-is_block ds)
 
-    pub map_opened : {ps : Pairs} → WritesOpening seen start reference Braces (codes "{") b → Completes seen reference b (remaining_pairs ps) ok last → LaysOut seen start (map_of ps) ok last
+    pub map_opened : {ps : Pairs} → WritesOpening seen start reference Braces (codes "{") b
+        → Completes seen reference b (remaining_pairs ps) ok last → LaysOut seen start (map_of ps) ok last
     map_opened {ps} = LaysOut-opened (map-is_block ps)
 
-    pub struct_opened : {name : List ℕ} {fs : Fields} → WritesOpening seen start reference Struct name b → Completes seen reference b (remaining_fields fs) ok last → LaysOut seen start (struct_of name fs) ok last
+    pub struct_opened : {name : List ℕ} {fs : Fields} → WritesOpening seen start reference Struct name b
+        → Completes seen reference b (remaining_fields fs) ok last → LaysOut seen start (struct_of name fs) ok last
     struct_opened {name} {fs} = LaysOut-opened (struct-is_block name fs)
 
-    pub tuple_opened : {name : List ℕ} {ds : Documents} → WritesOpening seen start reference (tuple_kind name) name b → Completes seen reference b (remaining_entries ds) ok last → LaysOut seen start (tuple_of name ds) ok last
+    pub tuple_opened : {name : List ℕ} {ds : Documents} → WritesOpening seen start reference (tuple_kind name) name b
+        → Completes seen reference b (remaining_entries ds) ok last → LaysOut seen start (tuple_of name ds) ok last
     tuple_opened {name} {ds} = LaysOut-opened (tuple-is_block name ds)
 
 -- the texts of items in a row
@@ -119,7 +130,8 @@ module _ {W : Type 0} {seen : Seen W} {reference : ℕ} {b b' : Block W} {last :
   }
 
   -- what closed the block, where the builder was at the mode and depth of the entries
-  Completes-closed : {left : Setting → List (List ℕ)} {ok : Bool} → (IsInside b → WritesEnding seen b (tail_of b left) ok b') → (reference ≡ b'.reference → last ≡ b'.formatter) → Completes seen reference b left ok last
+  Completes-closed : {left : Setting → List (List ℕ)} {ok : Bool} → (IsInside b → WritesEnding seen b (tail_of b left) ok b')
+      → (reference ≡ b'.reference → last ≡ b'.formatter) → Completes seen reference b left ok last
   Completes-closed closing e = record {
     continues = λ h inside_b.
         let f = closing inside_b in
@@ -129,24 +141,30 @@ module _ {W : Type 0} {seen : Seen W} {reference : ℕ} {b b' : Block W} {last :
 
   -- as a call that failed does, which wrote a beginning of this part
   Completes-stops : {part : List ℕ} (more : List ℕ) {count : Count} {left : Setting → List (List ℕ)} →
-      (IsInside b → tail_of b left ≡ part ++ more) → WritesPart seen b part false count b' → (reference ≡ b'.reference → last ≡ b'.formatter) → Completes seen reference b left false last
+      (IsInside b → tail_of b left ≡ part ++ more) → WritesPart seen b part false count b'
+        → (reference ≡ b'.reference → last ≡ b'.formatter) → Completes seen reference b left false last
   Completes-stops more text a = Completes-closed (λ inside_b. rw (text inside_b) (WritesEnding-fails more a))
 
-  pub completed : {left : Setting → List (List ℕ)} {ok : Bool} → WritesEnding seen b (tail_of b left) ok b' → (reference ≡ b'.reference → last ≡ b'.formatter) → Completes seen reference b left ok last
+  pub completed : {left : Setting → List (List ℕ)} {ok : Bool} → WritesEnding seen b (tail_of b left) ok b'
+      → (reference ≡ b'.reference → last ≡ b'.formatter) → Completes seen reference b left ok last
   completed f = Completes-closed (λ inside_b. f)
 
-  pub finished : {ok : Bool} → WritesEnding seen b (ending_of b) ok b' → (reference ≡ b'.reference → last ≡ b'.formatter) → Completes seen reference b (λ i. []) ok last
+  pub finished : {ok : Bool} → WritesEnding seen b (ending_of b) ok b' → (reference ≡ b'.reference → last ≡ b'.formatter)
+      → Completes seen reference b (λ i. []) ok last
   finished = completed
 
 module _ {W : Type 0} (b : Block W) where
   -- an entry is the first part of what is left
   block_tail-entry : (text : Setting → List ℕ) (left : Setting → List (List ℕ)) → IsInside b →
-      tail_of b (λ i. text i ∷ left i) ≡ framed (frame_of b) (inner b) b.count (text (inner b)) ++ block_tail (frame b.outer.mode b.kind) b.outer (next b.count) (left (inside b.outer))
+      tail_of b (λ i. text i ∷ left i) ≡ framed (frame_of b) (inner b) b.count (text (inner b))
+        ++ block_tail (frame b.outer.mode b.kind) b.outer (next b.count) (left (inside b.outer))
   block_tail-entry text left inside_b = rw inside_b (simp append_assoc)
 
   -- entries in a row are the first of what is left
-  block_tail-row : {D : Type 0} (text_of : D → Setting → List ℕ) (items : List D) (left more : Setting → List (List ℕ)) → ((i : Setting) → left i ≡ map (λ x. text_of x i) items ++ more i) → IsInside b →
-      tail_of b left ≡ framed_all (frame_of b) (inner b) b.count (map (λ x. text_of x (inner b)) items) ++ block_tail (frame b.outer.mode b.kind) b.outer (count_after b.count items) (more (inside b.outer))
+  block_tail-row : {D : Type 0} (text_of : D → Setting → List ℕ) (items : List D) (left more : Setting → List (List ℕ))
+      → ((i : Setting) → left i ≡ map (λ x. text_of x i) items ++ more i) → IsInside b →
+      tail_of b left ≡ framed_all (frame_of b) (inner b) b.count (map (λ x. text_of x (inner b)) items)
+        ++ block_tail (frame b.outer.mode b.kind) b.outer (count_after b.count items) (more (inside b.outer))
   block_tail-row text_of items left more all inside_b =
       let texts = map (λ x. text_of x (inside b.outer)) items in
       let f = frame b.outer.mode b.kind in
@@ -155,14 +173,17 @@ module _ {W : Type 0} (b : Block W) where
       rw (inside_b, sym (count_after-map (λ x. text_of x (inside b.outer)) b.count items)) split
 
 module _ {W : Type 0} {seen : Seen W} {reference : ℕ} {b b' : Block W} {last : Formatter W} where
-  pub entry_written : {text : Setting → List ℕ} {left : Setting → List (List ℕ)} {ok : Bool} → WritesEntry seen b text true b' → Completes seen reference b' left ok last → Completes seen reference b (λ i. text i ∷ left i) ok last
+  pub entry_written : {text : Setting → List ℕ} {left : Setting → List (List ℕ)} {ok : Bool} → WritesEntry seen b text true b'
+      → Completes seen reference b' left ok last → Completes seen reference b (λ i. text i ∷ left i) ok last
   entry_written {text} {left} a = Completes-then (block_tail-entry b text left) a.part
 
-  pub entry_failed : {text : Setting → List ℕ} {left : Setting → List (List ℕ)} → WritesEntry seen b text false b' → (reference ≡ b'.reference → last ≡ b'.formatter) → Completes seen reference b (λ i. text i ∷ left i) false last
+  pub entry_failed : {text : Setting → List ℕ} {left : Setting → List (List ℕ)} → WritesEntry seen b text false b'
+      → (reference ≡ b'.reference → last ≡ b'.formatter) → Completes seen reference b (λ i. text i ∷ left i) false last
   entry_failed {text} {left} a = Completes-stops _ (block_tail-entry b text left) a.part
 
   -- entries in a row, the first of what is left
-  module _ {D : Type 0} {text_of : D → Setting → List ℕ} {items : List D} {left : Setting → List (List ℕ)} (more : Setting → List (List ℕ)) (all : (i : Setting) → left i ≡ map (λ x. text_of x i) items ++ more i) where
+  module _ {D : Type 0} {text_of : D → Setting → List ℕ} {items : List D} {left : Setting → List (List ℕ)} (more : Setting → List (List ℕ))
+      (all : (i : Setting) → left i ≡ map (λ x. text_of x i) items ++ more i) where
     pub row_written : {ok : Bool} → WritesRow seen b text_of items true b' → Completes seen reference b' more ok last → Completes seen reference b left ok last
     row_written a = Completes-then (block_tail-row b text_of items left more all) a.part
 
@@ -170,70 +191,94 @@ module _ {W : Type 0} {seen : Seen W} {reference : ℕ} {b b' : Block W} {last :
     row_failed a = Completes-stops _ (block_tail-row b text_of items left more all) a.part
 
   -- all of these documents, or of these pairs
-  pub entries_written : (ds : List Document) {ok : Bool} → WritesRow seen b entry_text ds true b' → Completes seen reference b' (λ i. []) ok last → Completes seen reference b (remaining_entries (documents ds)) ok last
+  pub entries_written : (ds : List Document) {ok : Bool} → WritesRow seen b entry_text ds true b'
+      → Completes seen reference b' (λ i. []) ok last → Completes seen reference b (remaining_entries (documents ds)) ok last
   entries_written ds = row_written (λ i. []) (λ i. texts-documents i ds ∙ sym (append-nil _))
 
-  pub entries_failed : (ds : List Document) → WritesRow seen b entry_text ds false b' → (reference ≡ b'.reference → last ≡ b'.formatter) → Completes seen reference b (remaining_entries (documents ds)) false last
+  pub entries_failed : (ds : List Document) → WritesRow seen b entry_text ds false b' → (reference ≡ b'.reference → last ≡ b'.formatter)
+      → Completes seen reference b (remaining_entries (documents ds)) false last
   entries_failed ds = row_failed (λ i. []) (λ i. texts-documents i ds ∙ sym (append-nil _))
 
-  pub pairs_written : (ps : List (Document × Document)) {ok : Bool} → WritesRow seen b (λ p. pair_text p.0 p.1) ps true b' → Completes seen reference b' (λ i. []) ok last → Completes seen reference b (remaining_pairs (pairs_of ps)) ok last
+  pub pairs_written : (ps : List (Document × Document)) {ok : Bool} → WritesRow seen b (λ p. pair_text p.0 p.1) ps true b'
+      → Completes seen reference b' (λ i. []) ok last → Completes seen reference b (remaining_pairs (pairs_of ps)) ok last
   pairs_written ps = row_written (λ i. []) (λ i. pair_texts-pairs_of i ps ∙ sym (append-nil _))
 
-  pub pairs_failed : (ps : List (Document × Document)) → WritesRow seen b (λ p. pair_text p.0 p.1) ps false b' → (reference ≡ b'.reference → last ≡ b'.formatter) → Completes seen reference b (remaining_pairs (pairs_of ps)) false last
+  pub pairs_failed : (ps : List (Document × Document)) → WritesRow seen b (λ p. pair_text p.0 p.1) ps false b'
+      → (reference ≡ b'.reference → last ≡ b'.formatter) → Completes seen reference b (remaining_pairs (pairs_of ps)) false last
   pairs_failed ps = row_failed (λ i. []) (λ i. pair_texts-pairs_of i ps ∙ sym (append-nil _))
 
   -- a loop over values, where entries of the first k were written: these were all, or the next entry failed
-  module _ {X : Type 0} (text_of : X → Setting → List ℕ) (whole : List X) {left : Setting → List (List ℕ)} (all : (i : Setting) → left i ≡ map (λ x. text_of x i) whole) where
-    pub loop_written : (k : ℕ) {ok : Bool} → length whole ≤ k → WritesRow seen b text_of (take k whole) true b' → Completes seen reference b' (λ i. []) ok last → Completes seen reference b left ok last
+  module _ {X : Type 0} (text_of : X → Setting → List ℕ) (whole : List X) {left : Setting → List (List ℕ)}
+      (all : (i : Setting) → left i ≡ map (λ x. text_of x i) whole) where
+    pub loop_written : (k : ℕ) {ok : Bool} → length whole ≤ k → WritesRow seen b text_of (take k whole) true b'
+        → Completes seen reference b' (λ i. []) ok last → Completes seen reference b left ok last
     loop_written k all_k = row_written (λ i. []) (λ i. all i ∙ ap (map (λ x. text_of x i)) (sym (take_all k whole all_k)) ∙ sym (append-nil _))
 
-    pub loop_failed : (k : ℕ) {y : X} {mid : Block W} → k < length whole → y ≡ get_or whole k y → WritesRow seen b text_of (take k whole) true mid → WritesEntry seen mid (text_of y) false b' →
+    pub loop_failed : (k : ℕ) {y : X} {mid : Block W} → k < length whole → y ≡ get_or whole k y
+        → WritesRow seen b text_of (take k whole) true mid → WritesEntry seen mid (text_of y) false b' →
         (reference ≡ b'.reference → last ≡ b'.formatter) → Completes seen reference b left false last
     loop_failed k {y} within is written failed =
         let more = λ (i : Setting). map (λ x. text_of x i) (drop (k + 1) whole) in
-        row_failed more (λ i. all i ∙ ap (map (λ x. text_of x i)) (sym (take-append-drop (k + 1) whole)) ∙ map-append (λ x. text_of x i) (take (k + 1) whole) (drop (k + 1) whole)) (WritesRow-next text_of whole k y false within is written failed)
+        row_failed more (λ i. all i ∙ ap (map (λ x. text_of x i)) (sym (take-append-drop (k + 1) whole))
+          ∙ map-append (λ x. text_of x i) (take (k + 1) whole) (drop (k + 1) whole)) (WritesRow-next text_of whole k y false within is written failed)
 
 -- the texts of documents that values have, in the order of the values
 pub texts-of : {X : Type 0} (h : X → Document) (xs : List X) (i : Setting) → remaining_entries (documents (map h xs)) i ≡ map (λ x. entry_text (h x) i) xs
 texts-of h xs i = texts-documents i (map h xs) ∙ map-map (layout i) h xs
 
-pub pair_texts-of : {X : Type 0} (key value : X → Document) (xs : List X) (i : Setting) → remaining_pairs (pairs_of (map (λ x. (key x, value x)) xs)) i ≡ map (λ x. pair_text (key x) (value x) i) xs
+pub pair_texts-of : {X : Type 0} (key value : X → Document) (xs : List X) (i : Setting)
+    → remaining_pairs (pairs_of (map (λ x. (key x, value x)) xs)) i ≡ map (λ x. pair_text (key x) (value x) i) xs
 pair_texts-of key value xs i = pair_texts-pairs_of i (map (λ x. (key x, value x)) xs) ∙ map-map (λ p. pair_text p.0 p.1 i) (λ x. (key x, value x)) xs
 
 -- `entries` over an iterator of a slice, which has these items left
 module _ {W X : Type 0} {seen : Seen W} {b b' : Block W} {items : Iter X} {xs : List X} (h : X → Document) (left : iter_rest items ≡ xs) where
-  items-row : (ok : Bool) → WritesEntries seen (λ items it. it ≡ items) iter_steps (λ x. entry_text (h x.now)) items b ok b' → WritesRow seen b entry_text (map h xs) ok b'
-  items-row ok = WritesRow-from_entries (λ x. h x.now) entry_text items (map h xs) ok (λ it gives. AlwaysYields-items h xs (YieldsList-from_slice xs (ap iter_rest gives ∙ left)))
+  items-row : (ok : Bool) → WritesEntries seen (λ items it. it ≡ items) iter_steps (λ x. entry_text (h x.now)) items b ok b'
+      → WritesRow seen b entry_text (map h xs) ok b'
+  items-row ok = WritesRow-from_entries (λ x. h x.now) entry_text items (map h xs) ok
+      (λ it gives. AlwaysYields-items h xs (YieldsList-from_slice xs (ap iter_rest gives ∙ left)))
 
   module _ {reference : ℕ} {last : Formatter W} where
-    pub items_written : {ok : Bool} → WritesEntries seen (λ items it. it ≡ items) iter_steps (λ x. entry_text (h x.now)) items b true b' → Completes seen reference b' (λ i. []) ok last →
+    pub items_written : {ok : Bool} → WritesEntries seen (λ items it. it ≡ items) iter_steps (λ x. entry_text (h x.now)) items b true b'
+        → Completes seen reference b' (λ i. []) ok last →
         Completes seen reference b (remaining_entries (documents (map h xs))) ok last
     items_written a = entries_written (map h xs) (items-row true a)
 
-    pub items_failed : WritesEntries seen (λ items it. it ≡ items) iter_steps (λ x. entry_text (h x.now)) items b false b' → (reference ≡ b'.reference → last ≡ b'.formatter) →
+    pub items_failed : WritesEntries seen (λ items it. it ≡ items) iter_steps (λ x. entry_text (h x.now)) items b false b'
+        → (reference ≡ b'.reference → last ≡ b'.formatter) →
         Completes seen reference b (remaining_entries (documents (map h xs))) false last
     items_failed a = entries_failed (map h xs) (items-row false a)
 
 -- an entry in halves: the lent formatter has printed the value, and the second half has ended the entry
 module _ {W E : Type 0} {seen : Seen W} {d : Document} {begun ended : Formatter W} {new : Block W} (answer result : Result (Unit {0}) E) where
-  pub entry_between : {K : Type 0} (kind : K → Kind) (old : Builder W K) {mid : Builder W K} → mid ≡ lent Lent old ended → Prints seen old.formatter.now (lead_of (block kind old)) true begun →
-      LaysOut seen begun d (is_ok answer) ended → EndsEntry seen answer (block kind mid) result (is_ok result) new → WritesEntry seen (block kind old) (entry_text d) (is_ok result) new
-  entry_between kind old m p l e = record { part = WritesPart-between Lent (block kind old) ended _ (entry_text d) answer result (ap (block kind) m) p l.prints e }
+  pub entry_between : {K : Type 0} (kind : K → Kind) (old : Builder W K) {mid : Builder W K} → mid ≡ lent Lent old ended
+      → Prints seen old.formatter.now (lead_of (block kind old)) true begun →
+      LaysOut seen begun d (is_ok answer) ended → EndsEntry seen answer (block kind mid) result (is_ok result) new
+        → WritesEntry seen (block kind old) (entry_text d) (is_ok result) new
+  entry_between kind old m p l e = record { part =
+      WritesPart-between Lent (block kind old) ended _ (entry_text d) answer result (ap (block kind) m) p l.prints e }
 
-  pub list_entry_between : (old : Builder W ListBlock) {mid : Builder W ListBlock} → mid ≡ lent Lent old ended → Prints seen old.formatter.now (lead_of (list_block old)) true begun →
-      LaysOut seen begun d (is_ok answer) ended → EndsEntry seen answer (list_block mid) result (is_ok result) new → WritesEntry seen (list_block old) (entry_text d) (is_ok result) new
+  pub list_entry_between : (old : Builder W ListBlock) {mid : Builder W ListBlock} → mid ≡ lent Lent old ended
+      → Prints seen old.formatter.now (lead_of (list_block old)) true begun →
+      LaysOut seen begun d (is_ok answer) ended → EndsEntry seen answer (list_block mid) result (is_ok result) new
+        → WritesEntry seen (list_block old) (entry_text d) (is_ok result) new
   list_entry_between = entry_between (λ _. Brackets)
 
-  pub set_entry_between : (old : Builder W SetBlock) {mid : Builder W SetBlock} → mid ≡ lent Lent old ended → Prints seen old.formatter.now (lead_of (set_block old)) true begun →
-      LaysOut seen begun d (is_ok answer) ended → EndsEntry seen answer (set_block mid) result (is_ok result) new → WritesEntry seen (set_block old) (entry_text d) (is_ok result) new
+  pub set_entry_between : (old : Builder W SetBlock) {mid : Builder W SetBlock} → mid ≡ lent Lent old ended
+      → Prints seen old.formatter.now (lead_of (set_block old)) true begun →
+      LaysOut seen begun d (is_ok answer) ended → EndsEntry seen answer (set_block mid) result (is_ok result) new
+        → WritesEntry seen (set_block old) (entry_text d) (is_ok result) new
   set_entry_between = entry_between (λ _. Braces)
 
-  pub tuple_field_between : (old : Builder W TupleBlock) {mid : Builder W TupleBlock} → mid ≡ lent Lent old ended → Prints seen old.formatter.now (lead_of (tuple_block old)) true begun →
-      LaysOut seen begun d (is_ok answer) ended → EndsEntry seen answer (tuple_block mid) result (is_ok result) new → WritesEntry seen (tuple_block old) (entry_text d) (is_ok result) new
+  pub tuple_field_between : (old : Builder W TupleBlock) {mid : Builder W TupleBlock} → mid ≡ lent Lent old ended
+      → Prints seen old.formatter.now (lead_of (tuple_block old)) true begun →
+      LaysOut seen begun d (is_ok answer) ended → EndsEntry seen answer (tuple_block mid) result (is_ok result) new
+        → WritesEntry seen (tuple_block old) (entry_text d) (is_ok result) new
   tuple_field_between = entry_between kind_of_tuple
 
-  pub field_between : (old : Builder W StructBlock) {mid : Builder W StructBlock} (label : List ℕ) → mid ≡ lent Lent old ended → Prints seen old.formatter.now (field_lead_of label (struct_block old)) true begun →
-      LaysOut seen begun d (is_ok answer) ended → EndsEntry seen answer (struct_block mid) result (is_ok result) new → WritesEntry seen (struct_block old) (field_text label d) (is_ok result) new
+  pub field_between : (old : Builder W StructBlock) {mid : Builder W StructBlock} (label : List ℕ) → mid ≡ lent Lent old ended
+      → Prints seen old.formatter.now (field_lead_of label (struct_block old)) true begun →
+      LaysOut seen begun d (is_ok answer) ended → EndsEntry seen answer (struct_block mid) result (is_ok result) new
+        → WritesEntry seen (struct_block old) (field_text label d) (is_ok result) new
   field_between old label m p l e =
       let whole : framed (frame_of (struct_block old)) (inner (struct_block old)) old.count (field_text label d (inner (struct_block old)))
       ≡ field_lead_of label (struct_block old) ++ (entry_text d (inner (struct_block old)) ++ trail_of (struct_block old)) = simp append_assoc in
@@ -254,7 +299,8 @@ module _ {W X E : Type 0} {seen : Seen W} {b : Block W} (d : Document) {r : Resu
 
 -- an entry, and then a call that writes all that are left and the end
 module _ {W : Type 0} {seen : Seen W} {old new : Block W} {text : Setting → List ℕ} (left : Setting → List (List ℕ)) (inside_old : IsInside old) where
-  pub closing_after_entry : {mid : Block W} {ok : Bool} → WritesEntry seen old text true mid → WritesEnding seen mid (tail_of mid left) ok new → WritesEnding seen old (tail_of old (λ i. text i ∷ left i)) ok new
+  pub closing_after_entry : {mid : Block W} {ok : Bool} → WritesEntry seen old text true mid
+      → WritesEnding seen mid (tail_of mid left) ok new → WritesEnding seen old (tail_of old (λ i. text i ∷ left i)) ok new
   closing_after_entry {mid} a f =
       let whole : tail_of old (λ i. text i ∷ left i) ≡ framed (frame_of old) (inner old) old.count (text (inner old)) ++ tail_of mid left =
       rw (a.part.same.outer, a.part.same.kind, a.part.after.0) (block_tail-entry old text left inside_old) in

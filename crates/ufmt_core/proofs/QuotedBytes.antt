@@ -67,7 +67,8 @@ pub quoted_char-parts : (c : ℕ) → quoted_char c ≡ (39 ∷ []) ++ (escaped 
 quoted_char-parts c = ap (λ t. 39 ∷ (t ++ (39 ∷ []))) (append-nil (escaped 39 c))
 
 -- a text at whose front an escape stands is that, and what follows
-pub escaped_bytes-escape : (text : List ℕ) (b : ℕ) (e rest : List ℕ) → text ≡ b ∷ rest → Some e ≡ escape 34 b → escaped_bytes 34 text ≡ e ++ escaped_bytes 34 rest
+pub escaped_bytes-escape : (text : List ℕ) (b : ℕ) (e rest : List ℕ) → text ≡ b ∷ rest → Some e ≡ escape 34 b
+    → escaped_bytes 34 text ≡ e ++ escaped_bytes 34 rest
 escaped_bytes-escape text b e rest is escaped = ap (escaped_bytes 34) is ∙ ap (λ t. t ++ escaped_bytes 34 rest) (escaped_byte-escaped b e escaped)
 
 -- of a whole text all but what is left was printed
@@ -78,7 +79,8 @@ pub record PrintedBefore {W : Type 0} (seen : Seen W) (old : Formatter W) (whole
 
 module _ {W : Type 0} {seen : Seen W} where
   -- one more part was
-  pub PrintedBefore-then : {old mid new : Formatter W} {whole left : List ℕ} (part more : List ℕ) → PrintedBefore seen old whole left mid → left ≡ part ++ more → Prints seen mid part true new → PrintedBefore seen old whole more new
+  pub PrintedBefore-then : {old mid new : Formatter W} {whole left : List ℕ} (part more : List ℕ) → PrintedBefore seen old whole left mid
+      → left ≡ part ++ more → Prints seen mid part true new → PrintedBefore seen old whole more new
   PrintedBefore-then part more before is printed = record {
     done = before.done ++ part;
     joined = before.joined ∙ ap (λ t. before.done ++ t) is ∙ sym (append_assoc before.done part more);
@@ -86,7 +88,8 @@ module _ {W : Type 0} {seen : Seen W} where
   }
 
   -- or it failed
-  pub PrintedBefore-fails : {old mid new : Formatter W} {whole left : List ℕ} (part more : List ℕ) → PrintedBefore seen old whole left mid → left ≡ part ++ more → Prints seen mid part false new → Prints seen old whole false new
+  pub PrintedBefore-fails : {old mid new : Formatter W} {whole left : List ℕ} (part more : List ℕ) → PrintedBefore seen old whole left mid
+      → left ≡ part ++ more → Prints seen mid part false new → Prints seen old whole false new
   PrintedBefore-fails part more before is printed =
       Prints-same (sym (before.joined ∙ ap (λ t. before.done ++ t) is)) (Prints-then before.prints (Prints-fails more printed))
 

@@ -26,7 +26,8 @@ module _ (q : ℕ) (ascii : q < 128) where
   -- what stands between the quotes is that of each part
   escaped_bytes-append : (bs cs : List ℕ) → escaped_bytes q (bs ++ cs) ≡ escaped_bytes q bs ++ escaped_bytes q cs
   escaped_bytes-append [] cs = refl
-  escaped_bytes-append (b ∷ bs) cs = ap (λ t. escaped_byte q b ++ t) (escaped_bytes-append bs cs) ∙ sym (append_assoc (escaped_byte q b) (escaped_bytes q bs) (escaped_bytes q cs))
+  escaped_bytes-append (b ∷ bs) cs = ap (λ t. escaped_byte q b ++ t) (escaped_bytes-append bs cs)
+      ∙ sym (append_assoc (escaped_byte q b) (escaped_bytes q bs) (escaped_bytes q cs))
 
   -- a character is written as its bytes are
   escaped-encode : (c : ℕ) → escaped q c ≡ escaped_bytes q (encode_utf8 c)

@@ -52,7 +52,8 @@ maps-pretty : pretty_text (map_of (pair one (map_of (pair two (leaf (codes "3"))
 maps-pretty = refl
 
 -- blocks without entries
-empty-pretty : pretty_text (joined (document (list_of no_documents) (document (map_of no_pairs) (document (struct_of (codes "A") no_fields) (lone (tuple_of (codes "B") no_documents)))))) ≡ codes "[]{}AB"
+empty-pretty : pretty_text (joined (document (list_of no_documents)
+    (document (map_of no_pairs) (document (struct_of (codes "A") no_fields) (lone (tuple_of (codes "B") no_documents)))))) ≡ codes "[]{}AB"
 empty-pretty = refl
 
 -- a pretty part inside a plain list

@@ -16,7 +16,8 @@ is_ok-err (Err e) h = refl
 Appended-then : (ok : Bool) (old p q mid new : List ℕ) → mid ≡ old ++ p → Appended ok mid q new → Appended ok old (p ++ q) new
 Appended-then true old p q mid new e h = h ∙ ap (λ t. t ++ q) e ∙ append_assoc old p q
 Appended-then false old p q mid new e h =
-    (p ++ h.0, record { remainder = h.1.remainder; joined = ap (λ t. p ++ t) h.1.joined ∙ sym (append_assoc p h.0 h.1.remainder) }, h.2 ∙ ap (λ t. t ++ h.0) e ∙ append_assoc old p h.0)
+    (p ++ h.0, record { remainder = h.1.remainder; joined = ap (λ t. p ++ t) h.1.joined ∙ sym (append_assoc p h.0 h.1.remainder) }, h.2
+      ∙ ap (λ t. t ++ h.0) e ∙ append_assoc old p h.0)
 
 -- a beginning of `p` is one of `p ++ q`
 Appended-fails : (old p q new : List ℕ) → Appended false old p new → Appended false old (p ++ q) new
@@ -41,7 +42,8 @@ module _ {W : Type 0} {seen : Seen W} where
     stays_told = λ t. b.stays_told (a.stays_told t);
     appended = λ t. Appended-then ok _ p q _ _ (a.appended t) (b.appended (a.stays_told t));
     fits = λ h. b.fits (omega (arith, length-append p q, a.room_left (omega (arith, length-append p q))));
-    room_left = λ h. omega (arith, length-append p q, a.room_left (omega (arith, length-append p q)), b.room_left (omega (arith, length-append p q, a.room_left (omega (arith, length-append p q)))));
+    room_left = λ h. omega (arith, length-append p q, a.room_left (omega (arith, length-append p q)),
+        b.room_left (omega (arith, length-append p q, a.room_left (omega (arith, length-append p q)))));
     same_identity = b.same_identity ∙ a.same_identity;
     untouched = λ t. b.untouched (a.stays_told t) ∙ drop-further _ _ _ _ (Appended-grows ok _ q _ (b.appended (a.stays_told t))) (a.untouched t);
   }
@@ -68,11 +70,13 @@ module _ {W : Type 0} {seen : Seen W} where
     untouched = λ t. refl;
   }
 
-  pub Prints-then : {old mid new : Formatter W} {p q : List ℕ} {ok : Bool} → Prints seen old p true mid → Prints seen mid q ok new → Prints seen old (p ++ q) ok new
+  pub Prints-then : {old mid new : Formatter W} {p q : List ℕ} {ok : Bool} → Prints seen old p true mid → Prints seen mid q ok new
+      → Prints seen old (p ++ q) ok new
   Prints-then a b = record { wrote = Writes-then a.wrote b.wrote; same_setting = b.same_setting ∙ a.same_setting }
 
   -- the second text is said of the mode and depth that are found, which are those from before
-  pub Prints-then_at : {old mid new : Formatter W} {p : List ℕ} {ok : Bool} (text : Setting → List ℕ) → Prints seen old p true mid → Prints seen mid (text (setting_of mid)) ok new → Prints seen old (p ++ text (setting_of old)) ok new
+  pub Prints-then_at : {old mid new : Formatter W} {p : List ℕ} {ok : Bool} (text : Setting → List ℕ) → Prints seen old p true mid
+      → Prints seen mid (text (setting_of mid)) ok new → Prints seen old (p ++ text (setting_of old)) ok new
   Prints-then_at {mid = mid} {new} {p} {ok} text a b = Prints-then a (subst (λ (s : Setting). Prints seen mid (text s) ok new) a.same_setting b)
 
   -- equal texts
@@ -83,8 +87,10 @@ module _ {W : Type 0} {seen : Seen W} where
   Prints-fails q a = record { wrote = Writes-fails q a.wrote; same_setting = a.same_setting }
 
   -- at the exit of a `?`
-  pub Prints-err : {X E : Type 0} {old new : Formatter W} {p : List ℕ} (r : Result X E) → IsErr r → Prints seen old p false new → Prints seen old p (is_ok r) new
+  pub Prints-err : {X E : Type 0} {old new : Formatter W} {p : List ℕ} (r : Result X E) → IsErr r → Prints seen old p false new
+      → Prints seen old p (is_ok r) new
   Prints-err {old = old} {new = new} {p = p} r h a = subst (λ (ok : Bool). Prints seen old p ok new) (sym (is_ok-err r h)) a
 
-  pub LaysOut-err : {X E : Type 0} {old new : Formatter W} {d : Document} (r : Result X E) → IsErr r → LaysOut seen old d false new → LaysOut seen old d (is_ok r) new
+  pub LaysOut-err : {X E : Type 0} {old new : Formatter W} {d : Document} (r : Result X E) → IsErr r → LaysOut seen old d false new
+      → LaysOut seen old d (is_ok r) new
   LaysOut-err r h a = record { prints = Prints-err r h a.prints }

@@ -13,15 +13,18 @@ pub record IsWrittenFrom (text : ℕ → List ℕ) (n left start : ℕ) (buffer 
   pub joined : text left ++ drop start buffer ≡ text n
 
 -- a byte that is put before the written ones
-pub put_before : (front buffer : List ℕ) (start byte : ℕ) → 0 < start → start ≤ length buffer → front ++ drop (start - 1) (set buffer (start - 1) byte) ≡ (front ++ byte ∷ []) ++ drop start buffer
+pub put_before : (front buffer : List ℕ) (start byte : ℕ) → 0 < start → start ≤ length buffer
+    → front ++ drop (start - 1) (set buffer (start - 1) byte) ≡ (front ++ byte ∷ []) ++ drop start buffer
 put_before front buffer start byte room within =
     let next : start - 1 + 1 ≡ start = omega arith in
     rw (drop-set buffer (start - 1) byte (omega arith), next, append_assoc)
 
-module _ {base : ℕ} {byte_of : ℕ → ℕ} {text : ℕ → List ℕ} (t : IsTextInBase base byte_of text) (n left start : ℕ) (buffer : List ℕ) (fits : length (text n) ≤ length buffer) (written : IsWrittenFrom text n left start buffer) where
+module _ {base : ℕ} {byte_of : ℕ → ℕ} {text : ℕ → List ℕ} (t : IsTextInBase base byte_of text) (n left start : ℕ) (buffer : List ℕ)
+    (fits : length (text n) ≤ length buffer) (written : IsWrittenFrom text n left start buffer) where
   -- there is room for a digit
   pub digit_fits : 0 < start
-  digit_fits = omega (arith, written.within, text-nonempty t left, ap length written.joined, length-append (text left) (drop start buffer), length-drop start buffer)
+  digit_fits = omega (arith, written.within, text-nonempty t left, ap length written.joined, length-append (text left) (drop start buffer),
+      length-drop start buffer)
 
   module _ (rest digit byte : ℕ) (is_rest : rest ≡ left / base) (is_digit : digit ≡ left % base) (is_byte : byte ≡ byte_of digit) where
     -- the step of the loop where digits are left

@@ -139,7 +139,8 @@ module _ {W : Type 0} where
     pub after : After false old.count old new
 
   -- what the second half of an entry answers and does, where the value's `fmt` answered `answer`
-  pub record EndsEntry {E : Type 0} (seen : Seen W) (answer : Result (Unit {0}) E) (old : Block W) (result : Result (Unit {0}) E) (ok : Bool) (new : Block W) : Type 0 where
+  pub record EndsEntry {E : Type 0} (seen : Seen W) (answer : Result (Unit {0}) E) (old : Block W) (result : Result (Unit {0}) E)
+      (ok : Bool) (new : Block W) : Type 0 where
     -- what follows an entry was written, or a beginning of it
     pub trail : OnOk answer (WritesPart seen old (trail_of old) ok (next old.count) new)
     pub error : IfErr answer (λ e. (result ≡ Err e) × Abandons old new)
@@ -154,11 +155,13 @@ module _ {W : Type 0} where
 module _ {W D : Type 0} where
   -- entries of these items were written in a row, each with the text that `text_of` tells, or a beginning of them
   pub record WritesRow (seen : Seen W) (old : Block W) (text_of : D → Setting → List ℕ) (items : List D) (ok : Bool) (new : Block W) : Type 0 where
-    pub part : WritesPart seen old (framed_all (frame_of old) (inner old) old.count (map (λ x. text_of x (inner old)) items)) ok (count_after old.count items) new
+    pub part : WritesPart seen old (framed_all (frame_of old) (inner old) old.count (map (λ x. text_of x (inner old)) items)) ok
+        (count_after old.count items) new
 
 module _ {W U T D : Type 0} where
   -- an entry was written for each item that the iterator gave, and on `Ok` it had no more
-  pub record WritesEntries (seen : Seen W) (becomes : U → T → Type 0) (steps : T → Option D → T → Type 0) (text_of : D → Setting → List ℕ) (entries : U) (old : Block W) (ok : Bool) (new : Block W) : Type 0 where
+  pub record WritesEntries (seen : Seen W) (becomes : U → T → Type 0) (steps : T → Option D → T → Type 0) (text_of : D → Setting → List ℕ)
+      (entries : U) (old : Block W) (ok : Bool) (new : Block W) : Type 0 where
     pub iterator : T
     pub begins : becomes entries iterator
     pub items : List D

@@ -20,7 +20,8 @@ use Rattle.ufmt_core.specs.Block.{Status, Lent, LentValue, Closed, Block, StopsI
 
 -- a builder whose marker tells the kind of its block
 abbrev pub block : {W K : Type 0} → (K → Kind) → Builder W K → Block W
-block kind b = record { formatter = b.formatter.now; reference = b.formatter.ghost_name; kind = kind b.marker; outer = b.outer; count = b.count; status = b.status }
+block kind b = record { formatter = b.formatter.now; reference = b.formatter.ghost_name; kind = kind b.marker; outer = b.outer;
+    count = b.count; status = b.status }
 
 -- a tuple's kind, which tells whether it has a name
 abbrev pub kind_of_tuple : TupleBlock → Kind
@@ -58,16 +59,19 @@ module _ (W : RattleType) {E : Type 0} where
   OpeningLoan seen self result text = RestsIfErr (formatter.the_row W) self (λ b. b.formatter.ghost_name) result (λ last. Prints seen self.now text false last)
 
   -- the formatter is lent; when the loan ends the builder has this status, and its formatter is the one lent, as it was left; on `Err` `stop` holds of the builder
-  abbrev pub EntryLoan : (K : RattleType) → MutBor (Builder W.Denot K.Denot) → Result (MutBor (Formatter W.Denot)) E → Status → (Builder W.Denot K.Denot → Type 0) → Fml
+  abbrev pub EntryLoan : (K : RattleType) → MutBor (Builder W.Denot K.Denot) → Result (MutBor (Formatter W.Denot)) E → Status
+      → (Builder W.Denot K.Denot → Type 0) → Fml
   EntryLoan K self result status stop =
       LendsSoOk (builder.the_row (record { mir = named 0; lft = [] }) W K) (formatter.the_row W) self result (λ last f. last ≡ lent status self.now f) stop
 
   -- the formatter is lent behind this text; on `Err` a beginning of it is written, and the builder, seen by `view`, is closed
-  abbrev pub LendsBehind : (K : RattleType) → (Builder W.Denot K.Denot → Block W.Denot) → Seen W.Denot → MutBor (Builder W.Denot K.Denot) → Result (MutBor (Formatter W.Denot)) E → List ℕ → Fml
+  abbrev pub LendsBehind : (K : RattleType) → (Builder W.Denot K.Denot → Block W.Denot) → Seen W.Denot → MutBor (Builder W.Denot K.Denot)
+      → Result (MutBor (Formatter W.Denot)) E → List ℕ → Fml
   LendsBehind K view seen self result text = EntryLoan K self result Lent (λ last. StopsIn seen (view self.now) text (view last))
 
   -- the formatter is lent for an entry, behind what leads to it
-  abbrev pub LendsForEntry : (K : RattleType) → (Builder W.Denot K.Denot → Block W.Denot) → Seen W.Denot → MutBor (Builder W.Denot K.Denot) → Result (MutBor (Formatter W.Denot)) E → Fml
+  abbrev pub LendsForEntry : (K : RattleType) → (Builder W.Denot K.Denot → Block W.Denot) → Seen W.Denot → MutBor (Builder W.Denot K.Denot)
+      → Result (MutBor (Formatter W.Denot)) E → Fml
   LendsForEntry K view seen self result = LendsBehind K view seen self result (lead_of (view self.now))
 
   -- of a map for a key, of a tuple for a field, and of a struct for the value of the field with this name

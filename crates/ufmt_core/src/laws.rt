@@ -104,15 +104,20 @@ pub fn documents_of_tuples<T: uDebug, U: uDebug, V: uDebug>()
     ensures of_seven { ⟦<(T, T, T, T, T, T, T) as uDebug>⟧.document ≡
         (λ t. named_tuple "" (map T.document (t.0 ∷ t.1 ∷ t.2 ∷ t.3 ∷ t.4 ∷ t.5 ∷ t.6 ∷ []))) }
     ensures of_eight { ⟦<(T, T, T, T, T, T, T, T) as uDebug>⟧.document ≡
-        (λ t. named_tuple "" (map T.document (t.0 ∷ t.1 ∷ t.2 ∷ t.3 ∷ t.4 ∷ t.5 ∷ t.6 ∷ t.7 ∷ []))) }
+        (λ t. named_tuple "" (map T.document
+        (t.0 ∷ t.1 ∷ t.2 ∷ t.3 ∷ t.4 ∷ t.5 ∷ t.6 ∷ t.7 ∷ []))) }
     ensures of_nine { ⟦<(T, T, T, T, T, T, T, T, T) as uDebug>⟧.document ≡
-        (λ t. named_tuple "" (map T.document (t.0 ∷ t.1 ∷ t.2 ∷ t.3 ∷ t.4 ∷ t.5 ∷ t.6 ∷ t.7 ∷ t.8 ∷ []))) }
+        (λ t. named_tuple "" (map T.document
+        (t.0 ∷ t.1 ∷ t.2 ∷ t.3 ∷ t.4 ∷ t.5 ∷ t.6 ∷ t.7 ∷ t.8 ∷ []))) }
     ensures of_ten { ⟦<(T, T, T, T, T, T, T, T, T, T) as uDebug>⟧.document ≡
-        (λ t. named_tuple "" (map T.document (t.0 ∷ t.1 ∷ t.2 ∷ t.3 ∷ t.4 ∷ t.5 ∷ t.6 ∷ t.7 ∷ t.8 ∷ t.9 ∷ []))) }
+        (λ t. named_tuple "" (map T.document
+        (t.0 ∷ t.1 ∷ t.2 ∷ t.3 ∷ t.4 ∷ t.5 ∷ t.6 ∷ t.7 ∷ t.8 ∷ t.9 ∷ []))) }
     ensures of_eleven { ⟦<(T, T, T, T, T, T, T, T, T, T, T) as uDebug>⟧.document ≡
-        (λ t. named_tuple "" (map T.document (t.0 ∷ t.1 ∷ t.2 ∷ t.3 ∷ t.4 ∷ t.5 ∷ t.6 ∷ t.7 ∷ t.8 ∷ t.9 ∷ t.10 ∷ []))) }
+        (λ t. named_tuple "" (map T.document
+        (t.0 ∷ t.1 ∷ t.2 ∷ t.3 ∷ t.4 ∷ t.5 ∷ t.6 ∷ t.7 ∷ t.8 ∷ t.9 ∷ t.10 ∷ []))) }
     ensures of_twelve { ⟦<(T, T, T, T, T, T, T, T, T, T, T, T) as uDebug>⟧.document ≡
-        (λ t. named_tuple "" (map T.document (t.0 ∷ t.1 ∷ t.2 ∷ t.3 ∷ t.4 ∷ t.5 ∷ t.6 ∷ t.7 ∷ t.8 ∷ t.9 ∷ t.10 ∷ t.11 ∷ []))) }
+        (λ t. named_tuple "" (map T.document
+        (t.0 ∷ t.1 ∷ t.2 ∷ t.3 ∷ t.4 ∷ t.5 ∷ t.6 ∷ t.7 ∷ t.8 ∷ t.9 ∷ t.10 ∷ t.11 ∷ []))) }
 {}
 
 /// A reference prints as what it refers to.

@@ -35,7 +35,8 @@ impl<W: uWrite> Formatter<W> {
     pub fn debug_map<'f>(&'f mut self) -> Result<DebugMap<'f, W>, W::Error>
         ensures* loan { sem 𝓛 (OpeningLoan W.row W.seen self.entry result (codes "{")) }
         ensures opening { IfOk result
-            (λ b. WritesOpening W.seen self.old self.entry.ghost_name Braces (codes "{") (map_block b)) }
+            (λ b. WritesOpening W.seen self.old self.entry.ghost_name Braces (codes "{")
+            (map_block b)) }
         ensures is_open { IfOk result (λ b. IsOpen (map_block b)) }
     {
         self.open(OPENING_BRACE, MapBlock)
@@ -143,7 +144,8 @@ where
     I::IntoIter: Drop,
     requires { IsFiniteIterable I.into_iter_gives I.IntoIter.can_next I.IntoIter.remaining pairs }
     ensures { (ps : List (Document × Document))
-        → ((it : I.IntoIter) → I.into_iter_gives pairs it → AlwaysYields I.IntoIter.next_gives (λ x. (K.document x.0, V.document x.1)) it ps)
+        → ((it : I.IntoIter) → I.into_iter_gives pairs it
+        → AlwaysYields I.IntoIter.next_gives (λ x. (K.document x.0, V.document x.1)) it ps)
         → LaysOut W.seen f.old (map_of (pairs_of ps)) (is_ok result) f.new }
 {
     let mut map = f.debug_map()?;

@@ -37,7 +37,8 @@ impl<W: uWrite> Formatter<W> {
     pub fn debug_set<'f>(&'f mut self) -> Result<DebugSet<'f, W>, W::Error>
         ensures* loan { sem 𝓛 (OpeningLoan W.row W.seen self.entry result (codes "{")) }
         ensures opening { IfOk result
-            (λ b. WritesOpening W.seen self.old self.entry.ghost_name Braces (codes "{") (set_block b)) }
+            (λ b. WritesOpening W.seen self.old self.entry.ghost_name Braces (codes "{")
+            (set_block b)) }
         ensures is_open { IfOk result (λ b. IsOpen (set_block b)) }
     {
         self.open(OPENING_BRACE, SetBlock)
@@ -64,7 +65,8 @@ where
     I::IntoIter: Drop,
     requires { IsFiniteIterable I.into_iter_gives I.IntoIter.can_next I.IntoIter.remaining items }
     ensures { (ds : List Document)
-        → ((it : I.IntoIter) → I.into_iter_gives items it → AlwaysYields I.IntoIter.next_gives D.document it ds)
+        → ((it : I.IntoIter) → I.into_iter_gives items it
+        → AlwaysYields I.IntoIter.next_gives D.document it ds)
         → LaysOut W.seen f.old (set_of (documents ds)) (is_ok result) f.new }
 {
     let mut set = f.debug_set()?;

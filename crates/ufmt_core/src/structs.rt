@@ -39,7 +39,8 @@ impl<W: uWrite> Formatter<W> {
     pub fn debug_struct<'f>(&'f mut self, name: &str) -> Result<DebugStruct<'f, W>, W::Error>
         ensures* loan { sem 𝓛 (OpeningLoan W.row W.seen self.entry result name.now) }
         ensures opening { IfOk result
-            (λ b. WritesOpening W.seen self.old self.entry.ghost_name Struct name.now (struct_block b)) }
+            (λ b. WritesOpening W.seen self.old self.entry.ghost_name Struct name.now
+            (struct_block b)) }
         ensures is_open { IfOk result (λ b. IsOpen (struct_block b)) }
     {
         self.open(name, StructBlock)

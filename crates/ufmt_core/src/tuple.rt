@@ -65,7 +65,8 @@ impl<W: uWrite> DebugTuple<'_, W> {
     /// Writes one field. On `Err` a beginning of it is written and the builder is closed.
     pub fn field<D: uDebug>(&mut self, value: &D) -> Result<(), W::Error>
         requires { IsOpen (tuple_block self.old) }
-        ensures entry { WritesEntry W.seen (tuple_block self.old) (entry_text (D.document value.now))
+        ensures entry { WritesEntry W.seen (tuple_block self.old)
+            (entry_text (D.document value.now))
             (is_ok result) (tuple_block self.new) }
         ensures is_open { OnOk result (IsOpen (tuple_block self.new)) }
     {

@@ -16,7 +16,8 @@ use Rattle.ufmt_doc.specs.Private.Read.{AnswersAs}
 use Rattle.ufmt_doc.specs.Texts.{Converts, IsConverted, IsNormalForm, IsNoText, IsUnconverted, Undoes}
 
 -- where each text tells the other, the other text of what was read is what the text is converted to
-converted : (from to : Document → List ℕ) → ((d e : Document) → IsToken d → IsToken e → from d ≡ from e → to d ≡ to e) → (input answer : List ℕ) (e : Document) → IsNormalForm from input e → answer ≡ to e → IsConverted from to input answer
+converted : (from to : Document → List ℕ) → ((d e : Document) → IsToken d → IsToken e → from d ≡ from e → to d ≡ to e)
+    → (input answer : List ℕ) (e : Document) → IsNormalForm from input e → answer ≡ to e → IsConverted from to input answer
 converted from to tells input answer e read is = record {
   some = (e, read.0, read.2);
   each = λ d token same. tells d e token read.0 (same ∙ sym read.2) ∙ sym is;
@@ -32,20 +33,28 @@ from_no_option f None h = refl
 from_no_option f (Some d) h = absurd (cc)
 
 -- the other text of the document that a text is read as is what it is converted to
-text_converted : (mode : Mode) (to : Document → List ℕ) → ((d e : Document) → IsToken d → IsToken e → layout (setting mode 0) d ≡ layout (setting mode 0) e → to d ≡ to e) → (input : List ℕ) (answer : Result (String Global) ReadError) → AnswersAs string_bytes answer (option_map to (read_text mode input)) → IfOk answer (λ text. IsConverted (layout (setting mode 0)) to input (string_bytes text))
+text_converted : (mode : Mode) (to : Document → List ℕ)
+    → ((d e : Document) → IsToken d → IsToken e → layout (setting mode 0) d ≡ layout (setting mode 0) e → to d ≡ to e)
+    → (input : List ℕ) (answer : Result (String Global) ReadError) → AnswersAs string_bytes answer (option_map to (read_text mode input))
+    → IfOk answer (λ text. IsConverted (layout (setting mode 0)) to input (string_bytes text))
 text_converted mode to tells input (Err e) h = tt
 text_converted mode to tells input (Ok text) h =
     let found = from_option to (read_text mode input) (string_bytes text) h in
     converted (layout (setting mode 0)) to tells input (string_bytes text) found.0 (reads_only_texts mode input found.0 found.1) (sym found.2)
 
-pub plain_text_converted : (input : List ℕ) (answer : Result (String Global) ReadError) → AnswersAs string_bytes answer (option_map pretty_text (read_text Plain input)) → IfOk answer (λ text. IsConverted plain_text pretty_text input (string_bytes text))
+pub plain_text_converted : (input : List ℕ) (answer : Result (String Global) ReadError)
+    → AnswersAs string_bytes answer (option_map pretty_text (read_text Plain input))
+    → IfOk answer (λ text. IsConverted plain_text pretty_text input (string_bytes text))
 plain_text_converted = text_converted Plain pretty_text (λ d e hd he same. (texts_agree d e hd he).0 same)
 
-pub pretty_text_converted : (input : List ℕ) (answer : Result (String Global) ReadError) → AnswersAs string_bytes answer (option_map plain_text (read_text Pretty input)) → IfOk answer (λ text. IsConverted pretty_text plain_text input (string_bytes text))
+pub pretty_text_converted : (input : List ℕ) (answer : Result (String Global) ReadError)
+    → AnswersAs string_bytes answer (option_map plain_text (read_text Pretty input))
+    → IfOk answer (λ text. IsConverted pretty_text plain_text input (string_bytes text))
 pretty_text_converted = text_converted Pretty plain_text (λ d e hd he same. (texts_agree d e hd he).1 same)
 
 -- where the answer is `NotText` there is no such document
-pub no_text_converted : (mode : Mode) (to : Document → List ℕ) (input : List ℕ) (answer : Result (String Global) ReadError) → AnswersAs string_bytes answer (option_map to (read_text mode input)) → IsErrOf answer NotText → IsNoText (layout (setting mode 0)) input
+pub no_text_converted : (mode : Mode) (to : Document → List ℕ) (input : List ℕ) (answer : Result (String Global) ReadError)
+    → AnswersAs string_bytes answer (option_map to (read_text mode input)) → IsErrOf answer NotText → IsNoText (layout (setting mode 0)) input
 no_text_converted mode to input (Ok text) h is = absurd (cc)
 no_text_converted mode to input (Err e) h is = refuses_no_text mode input (from_no_option to (read_text mode input) (h (cc)))
 
@@ -61,24 +70,31 @@ unconverted : (from to : Document → List ℕ) (input : List ℕ) → IsNoText 
 unconverted from to input none earlier was = none was.some.0 was.some.1 (was.each was.some.0 was.some.1 was.some.2)
 
 -- what a conversion answers undoes that in the other direction
-pub converts : (from to : Document → List ℕ) (input : List ℕ) (answer : Result (String Global) ReadError) → IfOk answer (λ text. IsConverted from to input (string_bytes text)) → (IsErrOf answer NotText → IsNoText from input) → Converts from to input answer
-converts from to input (Ok text) is none = record { ok = is; not_text = none; undoes = undoes from to input (string_bytes text) is; unconverted = λ refused. unconverted from to input (none refused) }
+pub converts : (from to : Document → List ℕ) (input : List ℕ) (answer : Result (String Global) ReadError)
+    → IfOk answer (λ text. IsConverted from to input (string_bytes text)) → (IsErrOf answer NotText → IsNoText from input) → Converts from to input answer
+converts from to input (Ok text) is none =
+    record { ok = is; not_text = none; undoes = undoes from to input (string_bytes text) is; unconverted = λ refused. unconverted from to input (none refused) }
 converts from to input (Err e) is none = record { ok = is; not_text = none; undoes = tt; unconverted = λ refused. unconverted from to input (none refused) }
 
 -- what a text is read as is the normal form of each document with that text, where the text tells the normal form
-form_is : (text_of : Document → List ℕ) → ((d e : Document) → IsToken d → IsToken e → text_of d ≡ text_of e → normal d ≡ normal e) → (input : List ℕ) (e d : Document) → IsNormalForm text_of input e → IsToken d → text_of d ≡ input → e ≡ normal d
+form_is : (text_of : Document → List ℕ) → ((d e : Document) → IsToken d → IsToken e → text_of d ≡ text_of e → normal d ≡ normal e)
+    → (input : List ℕ) (e d : Document) → IsNormalForm text_of input e → IsToken d → text_of d ≡ input → e ≡ normal d
 form_is text_of tells input e d read token same = sym read.1 ∙ tells e d read.0 token (read.2 ∙ sym same)
 
 pub plain_form_is : (input : List ℕ) (e d : Document) → IsNormalForm plain_text input e → IsToken d → plain_text d ≡ input → e ≡ normal d
 plain_form_is = form_is plain_text (λ d e hd he same. (plain_text_tells d e hd he).0 same)
 
 -- and so it is where such a document's text is read again
-read_again : (text_of : Document → List ℕ) → ((d e : Document) → IsToken d → IsToken e → text_of d ≡ text_of e → normal d ≡ normal e) → (answer : Result Doc ReadError) (input : List ℕ) (d : Document) → IsToken d → input ≡ text_of d → IfOk answer (λ doc. IsNormalForm text_of input (doc_document doc)) → IfOk answer (λ doc. doc_document doc ≡ normal d)
+read_again : (text_of : Document → List ℕ) → ((d e : Document) → IsToken d → IsToken e → text_of d ≡ text_of e → normal d ≡ normal e)
+    → (answer : Result Doc ReadError) (input : List ℕ) (d : Document) → IsToken d → input ≡ text_of d
+    → IfOk answer (λ doc. IsNormalForm text_of input (doc_document doc)) → IfOk answer (λ doc. doc_document doc ≡ normal d)
 read_again text_of tells (Ok doc) input d token is read = form_is text_of tells input (doc_document doc) d read token (sym is)
 read_again text_of tells (Err e) input d token is read = tt
 
-pub plain_read_again : (answer : Result Doc ReadError) (input : List ℕ) (d : Document) → IsToken d → input ≡ plain_text d → IfOk answer (λ doc. IsNormalForm plain_text input (doc_document doc)) → IfOk answer (λ doc. doc_document doc ≡ normal d)
+pub plain_read_again : (answer : Result Doc ReadError) (input : List ℕ) (d : Document) → IsToken d → input ≡ plain_text d
+    → IfOk answer (λ doc. IsNormalForm plain_text input (doc_document doc)) → IfOk answer (λ doc. doc_document doc ≡ normal d)
 plain_read_again = read_again plain_text (λ d e hd he same. (plain_text_tells d e hd he).0 same)
 
-pub pretty_read_again : (answer : Result Doc ReadError) (input : List ℕ) (d : Document) → IsToken d → input ≡ pretty_text d → IfOk answer (λ doc. IsNormalForm pretty_text input (doc_document doc)) → IfOk answer (λ doc. doc_document doc ≡ normal d)
+pub pretty_read_again : (answer : Result Doc ReadError) (input : List ℕ) (d : Document) → IsToken d → input ≡ pretty_text d
+    → IfOk answer (λ doc. IsNormalForm pretty_text input (doc_document doc)) → IfOk answer (λ doc. doc_document doc ≡ normal d)
 pretty_read_again = read_again pretty_text (λ d e hd he same. (pretty_text_tells d e hd he).0 same)

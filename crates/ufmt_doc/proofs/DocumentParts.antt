@@ -20,41 +20,56 @@ use Rattle.ufmt_doc.specs.Private.FrontWords.{may_open, read_entry_word, read_ke
 use Rattle.ufmt_doc.proofs.EntrySteps.{first_is_read_on}
 
 -- a named tuple behind what stands before its first field
-pub tuple_opens : (s : Setting) (p : Parse Document) (w t r : List ℕ) → IsWord w → strip (lead (frame s.mode Tuple) (inside s) Zero) t ≡ Some r → read_named s p w t ≡ read_tuple s p w r
+pub tuple_opens : (s : Setting) (p : Parse Document) (w t r : List ℕ) → IsWord w
+    → strip (lead (frame s.mode Tuple) (inside s) Zero) t ≡ Some r → read_named s p w t ≡ read_tuple s p w r
 tuple_opens s p [] t r word opening = absurd word
 tuple_opens s p (c ∷ w) t r word opening = rw opening refl
 
 -- from that field
-pub tuple_begins : (s : Setting) (p : Parse Document) (w t r : List ℕ) → IsWord w → strip (lead (frame s.mode Tuple) (inside s) Zero) t ≡ Some r → read_named s p w t ≡ read_on p (frame s.mode (tuple_kind w)) s (λ ds. tuple_of w (documents ds)) [] (p r)
-tuple_begins s p w t r word opening = tuple_opens s p w t r word opening ∙ first_is_read_on p (frame s.mode (tuple_kind w)) s (λ ds. tuple_of w (documents ds)) (p r)
+pub tuple_begins : (s : Setting) (p : Parse Document) (w t r : List ℕ) → IsWord w
+    → strip (lead (frame s.mode Tuple) (inside s) Zero) t ≡ Some r
+    → read_named s p w t ≡ read_on p (frame s.mode (tuple_kind w)) s (λ ds. tuple_of w (documents ds)) [] (p r)
+tuple_begins s p w t r word opening = tuple_opens s p w t r word opening
+    ∙ first_is_read_on p (frame s.mode (tuple_kind w)) s (λ ds. tuple_of w (documents ds)) (p r)
 
 -- a struct behind what stands before its first field, from that field
-pub struct_begins : (s : Setting) (p : Parse Document) (w t r : List ℕ) → IsWord w → strip (lead (frame s.mode Tuple) (inside s) Zero) t ≡ None → strip (lead (frame s.mode Struct) (inside s) Zero) t ≡ Some r → read_named s p w t ≡ read_on (read_pair read_word p) (frame s.mode Struct) s (λ fs. struct_of w (fields_of fs)) [] (read_pair read_word p r)
+pub struct_begins : (s : Setting) (p : Parse Document) (w t r : List ℕ) → IsWord w
+    → strip (lead (frame s.mode Tuple) (inside s) Zero) t ≡ None → strip (lead (frame s.mode Struct) (inside s) Zero) t ≡ Some r
+    → read_named s p w t ≡ read_on (read_pair read_word p) (frame s.mode Struct) s (λ fs. struct_of w (fields_of fs)) [] (read_pair read_word p r)
 struct_begins s p [] t r word tuple opening = absurd word
-struct_begins s p (c ∷ w) t r word tuple opening = rw (tuple, opening) (first_is_read_on (read_pair read_word p) (frame s.mode Struct) s (λ fs. struct_of (c ∷ w) (fields_of fs)) (read_pair read_word p r))
+struct_begins s p (c ∷ w) t r word tuple opening =
+    rw (tuple, opening) (first_is_read_on (read_pair read_word p) (frame s.mode Struct) s (λ fs. struct_of (c ∷ w) (fields_of fs)) (read_pair read_word p r))
 
 -- a pair or a field from what stands before its colon
-pair_is_beside : {A : Type 0} (q : Parse A) (p : Parse Document) (t : List ℕ) → read_pair q p t ≡ option_and_then (λ x. parse_map {A = Document} {B = A × Document} (λ value. (x.0, value)) (p x.1)) (before_colon q t)
+pair_is_beside : {A : Type 0} (q : Parse A) (p : Parse Document) (t : List ℕ)
+    → read_pair q p t ≡ option_and_then (λ x. parse_map {A = Document} {B = A × Document} (λ value. (x.0, value)) (p x.1)) (before_colon q t)
 pair_is_beside {A} q p t = by_key (q t)
   where
-    colon : (key : A) (o : Option (List ℕ)) → option_and_then (λ u. parse_map (λ value. (key, value)) (p u)) o ≡ option_and_then (λ x. parse_map {A = Document} {B = A × Document} (λ value. (x.0, value)) (p x.1)) (option_map {U = A × List ℕ} (λ u. (key, u)) o)
+    colon : (key : A) (o : Option (List ℕ)) → option_and_then (λ u. parse_map (λ value. (key, value)) (p u)) o
+        ≡ option_and_then (λ x. parse_map {A = Document} {B = A × Document} (λ value. (x.0, value)) (p x.1)) (option_map {U = A × List ℕ} (λ u. (key, u)) o)
     colon key None = refl
     colon key (Some u) = refl
 
-    by_key : (o : Option (A × List ℕ)) → option_and_then (λ x. read_value p x.0 x.1) o ≡ option_and_then (λ x. parse_map {A = Document} {B = A × Document} (λ value. (x.0, value)) (p x.1)) (option_and_then (λ x. option_map {U = A × List ℕ} (λ u. (x.0, u)) (strip (codes ": ") x.1)) o)
+    by_key : (o : Option (A × List ℕ)) → option_and_then (λ x. read_value p x.0 x.1) o
+        ≡ option_and_then (λ x. parse_map {A = Document} {B = A × Document} (λ value. (x.0, value)) (p x.1))
+        (option_and_then (λ x. option_map {U = A × List ℕ} (λ u. (x.0, u)) (strip (codes ": ") x.1)) o)
     by_key None = refl
     by_key (Some x) = colon x.0 (strip (codes ": ") x.1)
 
 -- where that and a colon stand, the pair is that and its value
-pub pair_from : {A : Type 0} (q : Parse A) (p : Parse Document) (t : List ℕ) (key : A) (u : List ℕ) → before_colon q t ≡ Some (key, u) → read_pair q p t ≡ parse_map (λ value. (key, value)) (p u)
-pair_from {A} q p t key u h = pair_is_beside q p t ∙ ap (λ o. option_and_then (λ x. parse_map {A = Document} {B = A × Document} (λ value. (x.0, value)) (p x.1)) o) h
+pub pair_from : {A : Type 0} (q : Parse A) (p : Parse Document) (t : List ℕ) (key : A) (u : List ℕ) → before_colon q t ≡ Some (key, u)
+    → read_pair q p t ≡ parse_map (λ value. (key, value)) (p u)
+pair_from {A} q p t key u h = pair_is_beside q p t
+    ∙ ap (λ o. option_and_then (λ x. parse_map {A = Document} {B = A × Document} (λ value. (x.0, value)) (p x.1)) o) h
 
 -- and else there is none
 pub pair_without : {A : Type 0} (q : Parse A) (p : Parse Document) (t : List ℕ) → before_colon q t ≡ None → read_pair q p t ≡ None
-pair_without {A} q p t h = pair_is_beside q p t ∙ ap (λ o. option_and_then (λ x. parse_map {A = Document} {B = A × Document} (λ value. (x.0, value)) (p x.1)) o) h
+pair_without {A} q p t h = pair_is_beside q p t
+    ∙ ap (λ o. option_and_then (λ x. parse_map {A = Document} {B = A × Document} (λ value. (x.0, value)) (p x.1)) o) h
 
 -- what stands before a colon and a space was read, and they follow it
-colon_follows : {A : Type 0} (q : Parse A) (t : List ℕ) (key : A) (u : List ℕ) → before_colon q t ≡ Some (key, u) → (v : List ℕ) × (q t ≡ Some (key, v)) × (strip (codes ": ") v ≡ Some u)
+colon_follows : {A : Type 0} (q : Parse A) (t : List ℕ) (key : A) (u : List ℕ) → before_colon q t ≡ Some (key, u) → (v : List ℕ)
+    × (q t ≡ Some (key, v)) × (strip (codes ": ") v ≡ Some u)
 colon_follows q t key u h =
     let read = led_from _ (q t) (key, u) h in
     let colon = beside_from read.0.0 (strip (codes ": ") read.0.1) key u read.2 in
@@ -69,52 +84,71 @@ colon_within {q = q} t key u takes h =
     omega (arith, a, b)
 
 -- a list behind what stands before its first entry
-pub list_begins : (s : Setting) (p : Parse Document) (t r : List ℕ) → strip (codes "]") t ≡ None → strip (lead (frame s.mode Brackets) (inside s) Zero) t ≡ Some r → read_list s p t ≡ read_on p (frame s.mode Brackets) s (λ ds. list_of (documents ds)) [] (p r)
+pub list_begins : (s : Setting) (p : Parse Document) (t r : List ℕ) → strip (codes "]") t ≡ None
+    → strip (lead (frame s.mode Brackets) (inside s) Zero) t ≡ Some r
+    → read_list s p t ≡ read_on p (frame s.mode Brackets) s (λ ds. list_of (documents ds)) [] (p r)
 list_begins s p t r empty opening = rw (empty, opening) (first_is_read_on p (frame s.mode Brackets) s (λ ds. list_of (documents ds)) (p r))
 
 -- a set or a map behind what stands before its first entry
-pub braces_begin : (s : Setting) (p : Parse Document) (t r : List ℕ) → strip (codes "}") t ≡ None → strip (lead (frame s.mode Braces) (inside s) Zero) t ≡ Some r → read_braces s p t ≡ option_and_then (λ x. read_map_or_set s p x.0 x.1) (p r)
+pub braces_begin : (s : Setting) (p : Parse Document) (t r : List ℕ) → strip (codes "}") t ≡ None
+    → strip (lead (frame s.mode Braces) (inside s) Zero) t ≡ Some r → read_braces s p t ≡ option_and_then (λ x. read_map_or_set s p x.0 x.1) (p r)
 braces_begin s p t r empty opening = rw (empty, opening) refl
 
 -- a leaf that is no word
-pub symbol_begins : (s : Setting) (p : Parse Document) (t text r : List ℕ) → strip (codes "[") t ≡ None → strip (codes "{") t ≡ None → read_symbol t ≡ Some (text, r) → (read_without_name s p t ≡ Some (leaf text, r)) × (length r < length t)
+pub symbol_begins : (s : Setting) (p : Parse Document) (t text r : List ℕ) → strip (codes "[") t ≡ None → strip (codes "{") t ≡ None
+    → read_symbol t ≡ Some (text, r) → (read_without_name s p t ≡ Some (leaf text, r)) × (length r < length t)
 symbol_begins s p t text r bracket brace symbol =
     let sound = read_symbol_sound t text r symbol in
     let begins = leaf_begins text sound.0 in
     (rw (bracket, brace, symbol) refl, omega (arith, ap length sound.1, length-append text r, ap length begins.is))
 
 -- a tuple without a name behind what stands before its first field
-pub unnamed_opens : (s : Setting) (p : Parse Document) (t r : List ℕ) → strip (codes "[") t ≡ None → strip (codes "{") t ≡ None → read_symbol t ≡ None → strip (lead (frame s.mode Unnamed) (inside s) Zero) t ≡ Some r → read_without_name s p t ≡ read_tuple s p [] r
+pub unnamed_opens : (s : Setting) (p : Parse Document) (t r : List ℕ) → strip (codes "[") t ≡ None → strip (codes "{") t ≡ None
+    → read_symbol t ≡ None → strip (lead (frame s.mode Unnamed) (inside s) Zero) t ≡ Some r → read_without_name s p t ≡ read_tuple s p [] r
 unnamed_opens s p t r bracket brace symbol opening = rw (bracket, brace, symbol, opening) refl
 
 -- from that field
-pub unnamed_begins : (s : Setting) (p : Parse Document) (t r : List ℕ) → strip (codes "[") t ≡ None → strip (codes "{") t ≡ None → read_symbol t ≡ None → strip (lead (frame s.mode Unnamed) (inside s) Zero) t ≡ Some r → read_without_name s p t ≡ read_on p (frame s.mode Unnamed) s (λ ds. tuple_of [] (documents ds)) [] (p r)
-unnamed_begins s p t r bracket brace symbol opening = unnamed_opens s p t r bracket brace symbol opening ∙ first_is_read_on p (frame s.mode Unnamed) s (λ ds. tuple_of [] (documents ds)) (p r)
+pub unnamed_begins : (s : Setting) (p : Parse Document) (t r : List ℕ) → strip (codes "[") t ≡ None → strip (codes "{") t ≡ None
+    → read_symbol t ≡ None → strip (lead (frame s.mode Unnamed) (inside s) Zero) t ≡ Some r
+    → read_without_name s p t ≡ read_on p (frame s.mode Unnamed) s (λ ds. tuple_of [] (documents ds)) [] (p r)
+unnamed_begins s p t r bracket brace symbol opening = unnamed_opens s p t r bracket brace symbol opening
+    ∙ first_is_read_on p (frame s.mode Unnamed) s (λ ds. tuple_of [] (documents ds)) (p r)
 
 -- a map where a colon follows its first key
-pub map_begins : (s : Setting) (p : Parse Document) (d : Document) (t u : List ℕ) → strip (codes ": ") t ≡ Some u → read_map_or_set s p d t ≡ read_on (read_pair p p) (frame s.mode Braces) s (λ ps. map_of (pairs_of ps)) [] (parse_map (λ value. (d, value)) (p u))
-map_begins s p d t u colon = rw colon (first_is_read_on (read_pair p p) (frame s.mode Braces) s (λ ps. map_of (pairs_of ps)) (parse_map (λ value. (d, value)) (p u)))
+pub map_begins : (s : Setting) (p : Parse Document) (d : Document) (t u : List ℕ) → strip (codes ": ") t ≡ Some u
+    → read_map_or_set s p d t ≡ read_on (read_pair p p) (frame s.mode Braces) s (λ ps. map_of (pairs_of ps)) [] (parse_map (λ value. (d, value)) (p u))
+map_begins s p d t u colon = rw colon (first_is_read_on (read_pair p p) (frame s.mode Braces) s (λ ps. map_of (pairs_of ps))
+    (parse_map (λ value. (d, value)) (p u)))
 
 -- and else a set
-pub set_begins : (s : Setting) (p : Parse Document) (d : Document) (t : List ℕ) → strip (codes ": ") t ≡ None → read_map_or_set s p d t ≡ read_on p (frame s.mode Braces) s (λ ds. set_of (documents ds)) [] (Some (d, t))
+pub set_begins : (s : Setting) (p : Parse Document) (d : Document) (t : List ℕ) → strip (codes ": ") t ≡ None
+    → read_map_or_set s p d t ≡ read_on p (frame s.mode Braces) s (λ ds. set_of (documents ds)) [] (Some (d, t))
 set_begins s p d t colon = rw colon (first_is_read_on p (frame s.mode Braces) s (λ ds. set_of (documents ds)) (Some (d, t)))
 
 -- a map whose first key was read with its colon
-pub map_begins_with : (s : Setting) (p : Parse Document) (key : Document) (t u : List ℕ) → before_colon p t ≡ Some (key, u) → option_and_then (λ x. read_map_or_set s p x.0 x.1) (p t) ≡ read_on (read_pair p p) (frame s.mode Braces) s (λ ps. map_of (pairs_of ps)) [] (parse_map (λ value. (key, value)) (p u))
+pub map_begins_with : (s : Setting) (p : Parse Document) (key : Document) (t u : List ℕ) → before_colon p t ≡ Some (key, u)
+    → option_and_then (λ x. read_map_or_set s p x.0 x.1) (p t)
+    ≡ read_on (read_pair p p) (frame s.mode Braces) s (λ ps. map_of (pairs_of ps)) [] (parse_map (λ value. (key, value)) (p u))
 map_begins_with s p key t u h =
     let read = colon_follows p t key u h in
     rw read.1 (map_begins s p key read.0 u read.2)
 
 -- a pair of a map is a key, and then a value
-pub pair_is : (p : Parse Document) (f : Frame) (s : Setting) (make : List (Document × Document) → Document) (xs : List (Document × Document)) (t : List ℕ) → read_on (read_pair p p) f s make xs (read_pair p p t) ≡ option_and_then (λ x. read_on (read_pair p p) f s make xs (read_value p x.0 x.1)) (p t)
+pub pair_is : (p : Parse Document) (f : Frame) (s : Setting) (make : List (Document × Document) → Document)
+    (xs : List (Document × Document)) (t : List ℕ)
+    → read_on (read_pair p p) f s make xs (read_pair p p t) ≡ option_and_then (λ x. read_on (read_pair p p) f s make xs (read_value p x.0 x.1)) (p t)
 pair_is p f s make xs t = by_key (p t)
   where
-    by_key : (o : Option (Document × List ℕ)) → read_on (read_pair p p) f s make xs (option_and_then (λ x. read_value p x.0 x.1) o) ≡ option_and_then (λ x. read_on (read_pair p p) f s make xs (read_value p x.0 x.1)) o
+    by_key : (o : Option (Document × List ℕ))
+        → read_on (read_pair p p) f s make xs (option_and_then (λ x. read_value p x.0 x.1) o)
+        ≡ option_and_then (λ x. read_on (read_pair p p) f s make xs (read_value p x.0 x.1)) o
     by_key None = refl
     by_key (Some x) = refl
 
 -- a pair or a field whose key or name was read with its colon is that, and then a value
-pub value_is : {A : Type 0} (q : Parse A) (p : Parse Document) (f : Frame) (s : Setting) (make : List (A × Document) → Document) (xs : List (A × Document)) (key : A) (t u : List ℕ) → before_colon q t ≡ Some (key, u) → read_on (read_pair q p) f s make xs (read_pair q p t) ≡ read_on (read_pair q p) f s make xs (parse_map (λ value. (key, value)) (p u))
+pub value_is : {A : Type 0} (q : Parse A) (p : Parse Document) (f : Frame) (s : Setting) (make : List (A × Document) → Document)
+    (xs : List (A × Document)) (key : A) (t u : List ℕ) → before_colon q t ≡ Some (key, u)
+    → read_on (read_pair q p) f s make xs (read_pair q p t) ≡ read_on (read_pair q p) f s make xs (parse_map (λ value. (key, value)) (p u))
 value_is q p f s make xs key t u h = ap (λ o. read_on (read_pair q p) f s make xs o) (pair_from q p t key u h)
 
 -- a document is read in terms of what reads its entries
@@ -129,7 +163,8 @@ reads_without_name s n t [] word empty = read_is s n t ∙ rw (← word) refl
 reads_without_name s n t (c ∷ w) word empty = let none = eqb-true (length (c ∷ w)) 0 empty in absurd (omega arith)
 
 -- where one does, as what begins with it
-pub reads_named : (s : Setting) (n : ℕ) (t w u : List ℕ) → w ≡ word_of t → u ≡ after_word t → (length w == 0) ≡ false → read s n t ≡ read_named s (entry_at s n) w u
+pub reads_named : (s : Setting) (n : ℕ) (t w u : List ℕ) → w ≡ word_of t → u ≡ after_word t → (length w == 0) ≡ false
+    → read s n t ≡ read_named s (entry_at s n) w u
 reads_named s n t [] u word rest some = absurd (cc)
 reads_named s n t (c ∷ w) u word rest some = read_is s n t ∙ rw (← word, ← rest) refl
 
@@ -167,10 +202,12 @@ opens_nothing c text (b ∷ t) which none = rw (differs which) refl
 -- a word that nothing of the kind follows is a leaf
 word_alone : (s : Setting) (p : Parse Document) (w u : List ℕ) → (length w == 0) ≡ false → may_open u ≡ false → read_named s p w u ≡ Some (leaf w, u)
 word_alone s p [] u some none = absurd (cc)
-word_alone s p (c ∷ w) u some none = rw (opens_nothing 40 (new_line (inside s).mode (inside s).depth) u (inl refl) none, opens_nothing 32 (123 ∷ (brace_space s.mode ++ new_line (inside s).mode (inside s).depth)) u (inr refl) none) refl
+word_alone s p (c ∷ w) u some none = rw (opens_nothing 40 (new_line (inside s).mode (inside s).depth) u (inl refl) none,
+    opens_nothing 32 (123 ∷ (brace_space s.mode ++ new_line (inside s).mode (inside s).depth)) u (inr refl) none) refl
 
 -- so it is an entry of a block, where any may lie in it
-word_is_entry : (level : Level) (t w u : List ℕ) → level.depth < 255 → w ≡ word_of t → u ≡ after_word t → (length w == 0) ≡ false → may_open u ≡ false → entry_of level t ≡ Some (leaf w, u)
+word_is_entry : (level : Level) (t w u : List ℕ) → level.depth < 255 → w ≡ word_of t → u ≡ after_word t → (length w == 0) ≡ false
+    → may_open u ≡ false → entry_of level t ≡ Some (leaf w, u)
 word_is_entry level t w u few word rest some none =
     let left : 255 - level.depth ≡ suc (254 - level.depth) = omega (arith, few) in
     let s = inside (setting_at level) in
@@ -187,10 +224,12 @@ word_parts (c ∷ x) v w u h =
     (sym parts.0, sym parts.1, ap (λ y. length y == 0) (sym parts.0) ∙ some)
 
 -- a word that is an entry is one as the definition of reading has it
-pub entry_word_is : (level : Level) (t w u : List ℕ) → level.depth < 256 → read_entry_word level.depth t ≡ Some (w, u) → (AreWordBytes w) × (entry_of level t ≡ Some (leaf w, u))
+pub entry_word_is : (level : Level) (t w u : List ℕ) → level.depth < 256 → read_entry_word level.depth t ≡ Some (w, u) → (AreWordBytes w)
+    × (entry_of level t ≡ Some (leaf w, u))
 entry_word_is level t w u bound h = by_tests (level.depth == 255) (may_open (after_word t)) refl refl h
   where
-    by_tests : (last opens : Bool) → (level.depth == 255) ≡ last → may_open (after_word t) ≡ opens → cond (last || opens) None (read_word t) ≡ Some (w, u) → (AreWordBytes w) × (entry_of level t ≡ Some (leaf w, u))
+    by_tests : (last opens : Bool) → (level.depth == 255) ≡ last → may_open (after_word t) ≡ opens
+        → cond (last || opens) None (read_word t) ≡ Some (w, u) → (AreWordBytes w) × (entry_of level t ≡ Some (leaf w, u))
     by_tests true opens last none found = absurd (cc)
     by_tests false true last none found = absurd (cc)
     by_tests false false last none found =
@@ -199,7 +238,8 @@ entry_word_is level t w u bound h = by_tests (level.depth == 255) (may_open (aft
         (front_is_bytes t w parts.0, word_is_entry level t w u few parts.0 parts.1 parts.2 (ap may_open parts.1 ∙ none))
 
 -- so is a key that is such a word
-pub key_is : (level : Level) (t : List ℕ) (d : Document) (u : List ℕ) → level.depth < 256 → read_key level.depth t ≡ Some (d, u) → before_colon (entry_of level) t ≡ Some (d, u)
+pub key_is : (level : Level) (t : List ℕ) (d : Document) (u : List ℕ) → level.depth < 256 → read_key level.depth t ≡ Some (d, u)
+    → before_colon (entry_of level) t ≡ Some (d, u)
 key_is level t d u bound h =
     let colon = colon_follows (λ v. parse_map leaf (read_entry_word level.depth v)) t d u h in
     let word = mapped_from leaf (read_entry_word level.depth t) d colon.0 colon.1 in
@@ -223,7 +263,8 @@ pub no_entry_name : (depth : ℕ) (t u : List ℕ) → u ≡ after_word t → ma
 no_entry_name depth t u rest opens = tested (depth == 255) (may_open (after_word t)) (read_word t) (inl (ap may_open (sym rest) ∙ opens))
 
 -- and else it is, where any may lie in the block
-pub entry_word_stands : (depth : ℕ) (t w u : List ℕ) → (depth == 255) ≡ false → w ≡ word_of t → u ≡ after_word t → (length w == 0) ≡ false → may_open u ≡ false → Some (w, u) ≡ read_entry_word depth t
+pub entry_word_stands : (depth : ℕ) (t w u : List ℕ) → (depth == 255) ≡ false → w ≡ word_of t → u ≡ after_word t → (length w == 0) ≡ false
+    → may_open u ≡ false → Some (w, u) ≡ read_entry_word depth t
 entry_word_stands depth t w u last word rest some none =
     let shut : may_open (after_word t) ≡ false = ap may_open (sym rest) ∙ none in
     sym (word_is_read t w u word rest some) ∙ rw (last, shut) refl

@@ -53,7 +53,8 @@ set_normal : (docs : List Doc) → normal (set_of (documents (map doc_document d
 set_normal [] = refl
 set_normal (doc ∷ docs) = ap (λ ds. set_of (document (normal_doc doc) ds)) (sym (normal_all-map doc_document docs))
 
-struct_normal : (name : List ℕ) (fields : List (String Global × Doc)) → normal (struct_of name (fields_of (map field_view fields))) ≡ struct_form name (map normal_field fields)
+struct_normal : (name : List ℕ) (fields : List (String Global × Doc))
+    → normal (struct_of name (fields_of (map field_view fields))) ≡ struct_form name (map normal_field fields)
 struct_normal name [] = refl
 struct_normal name (f ∷ fields) = ap (λ fs. struct_of name (field (string_bytes f.0) (normal_doc f.1) fs)) (sym (normal_fields-map field_view fields))
 
@@ -75,10 +76,12 @@ module _ {d : Doc} where
   pub normal-MapOf : (pairs : Vec (Doc × Doc) Global) → d ≡ MapOf pairs → normal_doc d ≡ map_of (pairs_of (map normal_pair pairs.items))
   normal-MapOf pairs e = ap normal (ap doc_document e ∙ doc_document-MapOf pairs) ∙ ap map_of (sym (normal_pairs-map pair_view pairs.items))
 
-  pub normal-StructOf : (name : String Global) (fields : Vec (String Global × Doc) Global) → d ≡ StructOf name fields → normal_doc d ≡ struct_form (string_bytes name) (map normal_field fields.items)
+  pub normal-StructOf : (name : String Global) (fields : Vec (String Global × Doc) Global) → d ≡ StructOf name fields
+      → normal_doc d ≡ struct_form (string_bytes name) (map normal_field fields.items)
   normal-StructOf name fields e = ap normal (ap doc_document e ∙ doc_document-StructOf name fields) ∙ struct_normal (string_bytes name) fields.items
 
-  pub normal-TupleOf : (name : String Global) (fields : Vec Doc Global) → d ≡ TupleOf name fields → normal_doc d ≡ tuple_form (string_bytes name) (map normal_doc fields.items)
+  pub normal-TupleOf : (name : String Global) (fields : Vec Doc Global) → d ≡ TupleOf name fields
+      → normal_doc d ≡ tuple_form (string_bytes name) (map normal_doc fields.items)
   normal-TupleOf name fields e = ap normal (ap doc_document e ∙ doc_document-TupleOf name fields) ∙ tuple_normal (string_bytes name) fields.items
 
 -- a vector has as many items as it says
@@ -104,14 +107,19 @@ has_items f v some none = let e : vec_len v ≡ 0 = len_is v ∙ sym (length-map
 
 -- a struct or a tuple with fields is no leaf
 module _ {d : Doc} where
-  pub leaf-StructOf : (name : String Global) (fields : Vec (String Global × Doc) Global) → d ≡ StructOf name fields → (vec_len fields == 0) ≡ false → None ≡ leaf_part (normal_doc d)
-  leaf-StructOf name fields e some = rw (normal-StructOf name fields e) (sym (struct_has_no_leaf (string_bytes name) (map normal_field fields.items) (has_items normal_field fields some)))
+  pub leaf-StructOf : (name : String Global) (fields : Vec (String Global × Doc) Global) → d ≡ StructOf name fields
+      → (vec_len fields == 0) ≡ false → None ≡ leaf_part (normal_doc d)
+  leaf-StructOf name fields e some = rw (normal-StructOf name fields e)
+      (sym (struct_has_no_leaf (string_bytes name) (map normal_field fields.items) (has_items normal_field fields some)))
 
-  pub leaf-TupleOf : (name : String Global) (fields : Vec Doc Global) → d ≡ TupleOf name fields → (vec_len fields == 0) ≡ false → None ≡ leaf_part (normal_doc d)
-  leaf-TupleOf name fields e some = rw (normal-TupleOf name fields e) (sym (tuple_has_no_leaf (string_bytes name) (map normal_doc fields.items) (has_items normal_doc fields some)))
+  pub leaf-TupleOf : (name : String Global) (fields : Vec Doc Global) → d ≡ TupleOf name fields → (vec_len fields == 0) ≡ false
+      → None ≡ leaf_part (normal_doc d)
+  leaf-TupleOf name fields e some = rw (normal-TupleOf name fields e)
+      (sym (tuple_has_no_leaf (string_bytes name) (map normal_doc fields.items) (has_items normal_doc fields some)))
 
   -- nor is what is neither a leaf, a struct nor a tuple
-  leaf-other : Variant d → ((text : _) → d ≡ Leaf text → ⊥) → ((name fields : _) → d ≡ StructOf name fields → ⊥) → ((name fields : _) → d ≡ TupleOf name fields → ⊥) → None ≡ leaf_part (normal_doc d)
+  leaf-other : Variant d → ((text : _) → d ≡ Leaf text → ⊥) → ((name fields : _) → d ≡ StructOf name fields → ⊥)
+      → ((name fields : _) → d ≡ TupleOf name fields → ⊥) → None ≡ leaf_part (normal_doc d)
   leaf-other (a_leaf text e) no_leaf no_struct no_tuple = absurd (no_leaf text e)
   leaf-other (a_list entries e) no_leaf no_struct no_tuple = rw (normal-Listed entries e) refl
   leaf-other (a_set entries e) no_leaf no_struct no_tuple = rw (normal-SetOf entries e) (sym (set_has_no_leaf (map normal_doc entries.items)))
@@ -119,5 +127,6 @@ module _ {d : Doc} where
   leaf-other (a_struct name fields e) no_leaf no_struct no_tuple = absurd (no_struct name fields e)
   leaf-other (a_tuple name fields e) no_leaf no_struct no_tuple = absurd (no_tuple name fields e)
 
-pub leaf-default : {d : Doc} → ((text : _) → d ≡ Leaf text → ⊥) → ((name fields : _) → d ≡ StructOf name fields → ⊥) → ((name fields : _) → d ≡ TupleOf name fields → ⊥) → None ≡ leaf_part (normal_doc d)
+pub leaf-default : {d : Doc} → ((text : _) → d ≡ Leaf text → ⊥) → ((name fields : _) → d ≡ StructOf name fields → ⊥)
+    → ((name fields : _) → d ≡ TupleOf name fields → ⊥) → None ≡ leaf_part (normal_doc d)
 leaf-default {d} no_leaf no_struct no_tuple = leaf-other (variant d) no_leaf no_struct no_tuple

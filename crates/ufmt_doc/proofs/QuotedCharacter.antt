@@ -59,7 +59,8 @@ length-escaped_char c = go (cases_lt c 128)
 pub nothing_passes : (inside bytes : List ℕ) → bytes ≡ inside → None ≡ slice_get bytes 0 → PassesCharacter inside None
 nothing_passes inside bytes is none = record {
   shorter = tt;
-  behind = λ c rest scalar front. absurd (omega (arith, ap length (sym is ∙ empty bytes none), ap length front, length-append (escaped 39 c) rest, length-escaped_char c));
+  behind = λ c rest scalar front. absurd (omega
+      (arith, ap length (sym is ∙ empty bytes none), ap length front, length-append (escaped 39 c) rest, length-escaped_char c));
 }
   where
     empty : (bytes : List ℕ) → None ≡ slice_get bytes 0 → bytes ≡ []
@@ -85,12 +86,14 @@ module _ (inside : List ℕ) (some : 0 < length inside) (low : get_or inside 0 0
   pub ascii_passes : (answer : Option (Bor (List ℕ))) → now_of answer ≡ strip (escaped_byte 39 (told inside)) inside → PassesCharacter inside answer
   ascii_passes answer h = record { shorter = less answer h; behind = λ c rest scalar is. h ∙ stripped c rest is }
     where
-      less : (answer : Option (Bor (List ℕ))) → now_of answer ≡ strip (escaped_byte 39 (told inside)) inside → IfSome answer (λ rest. length rest.now < length inside)
+      less : (answer : Option (Bor (List ℕ))) → now_of answer ≡ strip (escaped_byte 39 (told inside)) inside
+          → IfSome answer (λ rest. length rest.now < length inside)
       less None h = tt
       less (Some rest) h = spelled_shorter 39 (told inside) inside rest.now (sym h)
 
 -- any other character is taken as it is
-pub past_ascii_passes : (inside : List ℕ) (d : ℕ) (r : Bor (List ℕ)) → 128 ≤ get_or inside 0 0 → inside ≡ encode_utf8 d ++ r.now → PassesCharacter inside (Some r)
+pub past_ascii_passes : (inside : List ℕ) (d : ℕ) (r : Bor (List ℕ)) → 128 ≤ get_or inside 0 0 → inside ≡ encode_utf8 d ++ r.now
+    → PassesCharacter inside (Some r)
 past_ascii_passes inside d r high is = record {
   shorter = omega (arith, ap length is, length-append (encode_utf8 d) r.now, length-encode d, (len_utf8_bounds d).0);
   behind = λ c rest scalar other.
@@ -101,10 +104,12 @@ past_ascii_passes inside d r high is = record {
 -- whether what is left behind one is the closing apostrophe is whether there is one
 module _ (leaf inside : List ℕ) (d : ℕ) (is : leaf ≡ encode_utf8 d ++ inside) where
   between : (cs : List ℕ) → leaf ≡ quoted 39 cs → inside ≡ escaped_all 39 cs ++ (39 ∷ [])
-  between cs whole = sym (encode_same 39 d (escaped_all 39 cs ++ (39 ∷ [])) inside (ap (λ e. e ++ (escaped_all 39 cs ++ (39 ∷ []))) (encode_ascii 39 (omega arith)) ∙ sym whole ∙ is)).1
+  between cs whole = sym (encode_same 39 d (escaped_all 39 cs ++ (39 ∷ [])) inside
+      (ap (λ e. e ++ (escaped_all 39 cs ++ (39 ∷ []))) (encode_ascii 39 (omega arith)) ∙ sym whole ∙ is)).1
 
   -- what is left behind the first of several characters
-  left : (answer : Option (Bor (List ℕ))) → PassesCharacter inside answer → (c : ℕ) (cs : List ℕ) → all_scalars (c ∷ cs) ≡ true → leaf ≡ quoted 39 (c ∷ cs) → now_of answer ≡ Some (escaped_all 39 cs ++ (39 ∷ []))
+  left : (answer : Option (Bor (List ℕ))) → PassesCharacter inside answer → (c : ℕ) (cs : List ℕ) → all_scalars (c ∷ cs) ≡ true
+      → leaf ≡ quoted 39 (c ∷ cs) → now_of answer ≡ Some (escaped_all 39 cs ++ (39 ∷ []))
   left answer passes c cs scalars whole =
       passes.behind c (escaped_all 39 cs ++ (39 ∷ [])) (both _ _ scalars).0 (between (c ∷ cs) whole ∙ append_assoc (escaped 39 c) (escaped_all 39 cs) (39 ∷ []))
     where
@@ -141,7 +146,8 @@ module _ (leaf inside : List ℕ) (d : ℕ) (is : leaf ≡ encode_utf8 d ++ insi
       none h = cc
 
 -- a character is what a text between apostrophes is, where it is one
-pub character_read : (t text u : List ℕ) (answer : Bool) → read_between 39 is_utf8 t ≡ Some (text, u) → IsOneCharacter text answer → read_between 39 is_char t ≡ cond answer (Some (text, u)) None
+pub character_read : (t text u : List ℕ) (answer : Bool) → read_between 39 is_utf8 t ≡ Some (text, u) → IsOneCharacter text answer
+    → read_between 39 is_char t ≡ cond answer (Some (text, u)) None
 character_read t text u answer reads one =
     let opening = led_from {B = List ℕ × List ℕ} (λ v. option_and_then {T = List ℕ × List ℕ} (λ x. if_right is_utf8 39 x.0 x.1) (read_inside 39 (suc (length v)) v)) (strip (39 ∷ []) t) (text, u) reads in
     let inside = led_from {A = List ℕ × List ℕ} (λ x. if_right is_utf8 39 x.0 x.1) (read_inside 39 (suc (length opening.0)) opening.0) (text, u) opening.2 in
@@ -161,11 +167,13 @@ no_character t h = at (strip (39 ∷ []) t) h
         go false e = rw e refl
         go true e = let some : ◌≡◌ {A = Option (List ℕ × List ℕ)} (Some (quoted 39 (chars bs), u)) None = sym (rw e refl) ∙ h in absurd (cc)
 
-    inside : (o : Option (List ℕ × List ℕ)) → option_and_then {T = List ℕ × List ℕ} (λ x. if_right is_utf8 39 x.0 x.1) o ≡ None → option_and_then {T = List ℕ × List ℕ} (λ x. if_right is_char 39 x.0 x.1) o ≡ None
+    inside : (o : Option (List ℕ × List ℕ)) → option_and_then {T = List ℕ × List ℕ} (λ x. if_right is_utf8 39 x.0 x.1) o ≡ None
+        → option_and_then {T = List ℕ × List ℕ} (λ x. if_right is_char 39 x.0 x.1) o ≡ None
     inside None h = refl
     inside (Some x) h = is_char-is_utf8 x.0 x.1 h
 
-    at : (o : Option (List ℕ)) → option_and_then (λ u. option_and_then {T = List ℕ × List ℕ} (λ x. if_right is_utf8 39 x.0 x.1) (read_inside 39 (suc (length u)) u)) o ≡ None
+    at : (o : Option (List ℕ)) → option_and_then
+        (λ u. option_and_then {T = List ℕ × List ℕ} (λ x. if_right is_utf8 39 x.0 x.1) (read_inside 39 (suc (length u)) u)) o ≡ None
         → option_and_then (λ u. option_and_then {T = List ℕ × List ℕ} (λ x. if_right is_char 39 x.0 x.1) (read_inside 39 (suc (length u)) u)) o ≡ None
     at None h = refl
     at (Some u) h = inside (read_inside 39 (suc (length u)) u) h

@@ -35,7 +35,8 @@ module _ (q : ℕ) (quote : IsQuote q) where
       record { bytes = bytes; reads = reads; leaf = rw far (ap (take (length leaf)) whole ∙ take-append_seam leaf rest) }
 
   -- what is read is tested
-  tested : (test : List ℕ → Bool) (t u rest : List ℕ) → strip (q ∷ []) t ≡ Some u → (b : Between t u rest) → read_between q test t ≡ if_right test q b.bytes rest
+  tested : (test : List ℕ → Bool) (t u rest : List ℕ) → strip (q ∷ []) t ≡ Some u → (b : Between t u rest)
+      → read_between q test t ≡ if_right test q b.bytes rest
   tested test t u rest opening b = rw (opening, b.reads) refl
 
   -- where there is no quote, or no other
@@ -47,7 +48,8 @@ module _ (q : ℕ) (quote : IsQuote q) where
   nothing_from f g (Some x) h = absurd (cc)
 
   pub no_closing : (test : List ℕ → Bool) (t u : List ℕ) → strip (q ∷ []) t ≡ Some u → behind_quote q u ≡ None → read_between q test t ≡ None
-  no_closing test t u opening h = rw opening (nothing_from {A = List ℕ × List ℕ} {B = List ℕ} {C = List ℕ × List ℕ} (λ x. x.1) (λ x. if_right test q x.0 x.1) (read_inside q (suc (length u)) u) h)
+  no_closing test t u opening h = rw opening
+      (nothing_from {A = List ℕ × List ℕ} {B = List ℕ} {C = List ℕ × List ℕ} (λ x. x.1) (λ x. if_right test q x.0 x.1) (read_inside q (suc (length u)) u) h)
 
   -- what is tested is the whole leaf: it is UTF-8 exactly if what is between the quotes is
   module _ (t u rest : List ℕ) (opening : strip (q ∷ []) t ≡ Some u) (closing : behind_quote q u ≡ Some rest) where

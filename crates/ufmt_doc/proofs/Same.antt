@@ -60,63 +60,81 @@ string_eq_told x y h = (slice_eq-Decides Decides-eqb (string_bytes x) (string_by
 
 -- what an answer tells of the parts of two documents it tells of the documents
 module _ {answer : Bool} {a b : Doc} where
-  pub same-Listed : (entries others : Vec Doc Global) → a ≡ Listed entries → b ≡ Listed others → IsTrue answer ↔ (map normal_doc entries.items ≡ map normal_doc others.items) → IsTrue answer ↔ (normal_doc a ≡ normal_doc b)
+  pub same-Listed : (entries others : Vec Doc Global) → a ≡ Listed entries → b ≡ Listed others
+      → IsTrue answer ↔ (map normal_doc entries.items ≡ map normal_doc others.items) → IsTrue answer ↔ (normal_doc a ≡ normal_doc b)
   same-Listed entries others e f tells =
       rw (normal-Listed entries e, normal-Listed others f) (λ yes. ap (λ ds. list_of (documents ds)) (tells.0 yes), λ same. tells.1 (documents_tell _ _ (cc)))
 
-  pub same-SetOf : (entries others : Vec Doc Global) → a ≡ SetOf entries → b ≡ SetOf others → IsTrue answer ↔ (map normal_doc entries.items ≡ map normal_doc others.items) → IsTrue answer ↔ (normal_doc a ≡ normal_doc b)
+  pub same-SetOf : (entries others : Vec Doc Global) → a ≡ SetOf entries → b ≡ SetOf others
+      → IsTrue answer ↔ (map normal_doc entries.items ≡ map normal_doc others.items) → IsTrue answer ↔ (normal_doc a ≡ normal_doc b)
   same-SetOf entries others e f tells =
       rw (normal-SetOf entries e, normal-SetOf others f) (λ yes. ap set_form (tells.0 yes), λ same. tells.1 (set_tells _ _ same))
 
-  pub same-MapOf : (pairs others : Vec (Doc × Doc) Global) → a ≡ MapOf pairs → b ≡ MapOf others → IsTrue answer ↔ (map normal_pair pairs.items ≡ map normal_pair others.items) → IsTrue answer ↔ (normal_doc a ≡ normal_doc b)
+  pub same-MapOf : (pairs others : Vec (Doc × Doc) Global) → a ≡ MapOf pairs → b ≡ MapOf others
+      → IsTrue answer ↔ (map normal_pair pairs.items ≡ map normal_pair others.items) → IsTrue answer ↔ (normal_doc a ≡ normal_doc b)
   same-MapOf pairs others e f tells =
       rw (normal-MapOf pairs e, normal-MapOf others f) (λ yes. ap (λ ps. map_of (pairs_of ps)) (tells.0 yes), λ same. tells.1 (pairs_tell _ _ (cc)))
 
-  pub same-StructOf : (name other : String Global) (fields others : Vec (String Global × Doc) Global) → a ≡ StructOf name fields → b ≡ StructOf other others → string_eq name other ≡ true → IsTrue answer ↔ (map normal_field fields.items ≡ map normal_field others.items) → IsTrue answer ↔ (normal_doc a ≡ normal_doc b)
+  pub same-StructOf : (name other : String Global) (fields others : Vec (String Global × Doc) Global) → a ≡ StructOf name fields
+      → b ≡ StructOf other others → string_eq name other ≡ true
+      → IsTrue answer ↔ (map normal_field fields.items ≡ map normal_field others.items) → IsTrue answer ↔ (normal_doc a ≡ normal_doc b)
   same-StructOf name other fields others e f names tells =
       let named = string_eq_tells name other names in
-      rw (normal-StructOf name fields e, normal-StructOf other others f, named) (λ yes. ap (struct_form (string_bytes other)) (tells.0 yes), λ same. tells.1 (struct_tells _ _ _ _ same).1)
+      rw (normal-StructOf name fields e, normal-StructOf other others f, named)
+        (λ yes. ap (struct_form (string_bytes other)) (tells.0 yes), λ same. tells.1 (struct_tells _ _ _ _ same).1)
 
-  pub same-TupleOf : (name other : String Global) (fields others : Vec Doc Global) → a ≡ TupleOf name fields → b ≡ TupleOf other others → string_eq name other ≡ true → IsTrue answer ↔ (map normal_doc fields.items ≡ map normal_doc others.items) → IsTrue answer ↔ (normal_doc a ≡ normal_doc b)
+  pub same-TupleOf : (name other : String Global) (fields others : Vec Doc Global) → a ≡ TupleOf name fields → b ≡ TupleOf other others
+      → string_eq name other ≡ true → IsTrue answer ↔ (map normal_doc fields.items ≡ map normal_doc others.items)
+      → IsTrue answer ↔ (normal_doc a ≡ normal_doc b)
   same-TupleOf name other fields others e f names tells =
       let named = string_eq_tells name other names in
-      rw (normal-TupleOf name fields e, normal-TupleOf other others f, named) (λ yes. ap (tuple_form (string_bytes other)) (tells.0 yes), λ same. tells.1 (tuple_tells _ _ _ _ same).1)
+      rw (normal-TupleOf name fields e, normal-TupleOf other others f, named)
+        (λ yes. ap (tuple_form (string_bytes other)) (tells.0 yes), λ same. tells.1 (tuple_tells _ _ _ _ same).1)
 
 -- a list with an item isn't empty
 is_some : {A : Type 0} (x : A) (xs : List A) → (length (x ∷ xs) == 0) ≡ false
 is_some x xs = grind (arith, nat_tests)
 
 -- an empty set is an empty map, and no other set is a map
-braces_same : (answer : Bool) (ds : List Document) (ps : List (Document × Document)) → answer ≡ (length ds == 0) && (length ps == 0) → IsTrue answer ↔ (set_form ds ≡ map_of (pairs_of ps))
+braces_same : (answer : Bool) (ds : List Document) (ps : List (Document × Document)) → answer ≡ (length ds == 0) && (length ps == 0)
+    → IsTrue answer ↔ (set_form ds ≡ map_of (pairs_of ps))
 braces_same answer [] [] is = (λ yes. refl, λ same. is)
 braces_same answer [] (p ∷ ps) is = let some = is_some p ps in (λ yes. absurd (cc), λ same. absurd (cc))
 braces_same answer (d ∷ ds) ps is = let some = is_some d ds in (λ yes. absurd (cc), λ same. absurd (cc))
 
 -- two tests for items, of what the items are seen as
-both_empty : {X Y V W : Type 0} (f : X → V) (g : Y → W) (v : Vec X Global) (w : Vec Y Global) → (vec_len v == 0) && (vec_len w == 0) ≡ (length (map f v.items) == 0) && (length (map g w.items) == 0)
+both_empty : {X Y V W : Type 0} (f : X → V) (g : Y → W) (v : Vec X Global) (w : Vec Y Global)
+    → (vec_len v == 0) && (vec_len w == 0) ≡ (length (map f v.items) == 0) && (length (map g w.items) == 0)
 both_empty f g v w = rw (length-map v.items f, length-map w.items g, ← len_is v, ← len_is w) refl
 
 module _ {answer : Bool} {a b : Doc} where
-  pub same-SetOf-MapOf : (entries : Vec Doc Global) (pairs : Vec (Doc × Doc) Global) → a ≡ SetOf entries → b ≡ MapOf pairs → answer ≡ (vec_len entries == 0) && (vec_len pairs == 0) → IsTrue answer ↔ (normal_doc a ≡ normal_doc b)
+  pub same-SetOf-MapOf : (entries : Vec Doc Global) (pairs : Vec (Doc × Doc) Global) → a ≡ SetOf entries → b ≡ MapOf pairs
+      → answer ≡ (vec_len entries == 0) && (vec_len pairs == 0) → IsTrue answer ↔ (normal_doc a ≡ normal_doc b)
   same-SetOf-MapOf entries pairs e f is =
-      rw (normal-SetOf entries e, normal-MapOf pairs f) (braces_same answer (map normal_doc entries.items) (map normal_pair pairs.items) (is ∙ both_empty normal_doc normal_pair entries pairs))
+      rw (normal-SetOf entries e, normal-MapOf pairs f)
+        (braces_same answer (map normal_doc entries.items) (map normal_pair pairs.items) (is ∙ both_empty normal_doc normal_pair entries pairs))
 
 -- an answer tells two equal values in either order
 pub in_other_order : {A : Type 0} {answer : Bool} {x y : A} → IsTrue answer ↔ (x ≡ y) → IsTrue answer ↔ (y ≡ x)
 in_other_order tells = (λ yes. sym (tells.0 yes), λ same. tells.1 (sym same))
 
 -- where items at one place differ, so do the lists
-pub differ_at : {A B : Type 0} (f : A → B) (xs ys : List A) (n : ℕ) (x y : A) → (n < length xs) × (n < length ys) × ((d : A) → x ≡ get_or xs n d) × ((d : A) → y ≡ get_or ys n d) → (f x ≡ f y → ⊥) → IsTrue false ↔ (map f xs ≡ map f ys)
+pub differ_at : {A B : Type 0} (f : A → B) (xs ys : List A) (n : ℕ) (x y : A) → (n < length xs) × (n < length ys)
+    × ((d : A) → x ≡ get_or xs n d) × ((d : A) → y ≡ get_or ys n d) → (f x ≡ f y → ⊥) → IsTrue false ↔ (map f xs ≡ map f ys)
 differ_at f xs ys n x y turn differ =
     let here : f x ≡ get_or (map f xs) n (f x) = ap f (turn.2 x) ∙ sym (get_or-map f xs n x (f x) turn.0) in
     let there : f y ≡ get_or (map f ys) n (f x) = ap f (turn.3 y) ∙ sym (get_or-map f ys n y (f x) turn.1) in
     (λ yes. absurd (cc), λ same. absurd (differ (cc)))
 
 -- where they are equal, and the lists were up to there, the lists are with them
-pub more_same : {A B Z : Type 0} (f : A → B) (xs ys : List A) (so_far : List Z) (z : Z) (x y : A) → (length so_far < length xs) × (length so_far < length ys) × ((d : A) → x ≡ get_or xs (length so_far) d) × ((d : A) → y ≡ get_or ys (length so_far) d) → f x ≡ f y → map f (take (length so_far) xs) ≡ map f (take (length so_far) ys) → map f (take (length (so_far ++ z ∷ [])) xs) ≡ map f (take (length (so_far ++ z ∷ [])) ys)
+pub more_same : {A B Z : Type 0} (f : A → B) (xs ys : List A) (so_far : List Z) (z : Z) (x y : A) → (length so_far < length xs)
+    × (length so_far < length ys) × ((d : A) → x ≡ get_or xs (length so_far) d) × ((d : A) → y ≡ get_or ys (length so_far) d) → f x ≡ f y
+    → map f (take (length so_far) xs) ≡ map f (take (length so_far) ys)
+    → map f (take (length (so_far ++ z ∷ [])) xs) ≡ map f (take (length (so_far ++ z ∷ [])) ys)
 more_same f xs ys so_far z x y turn here before =
     let n = length so_far in
-    rw (length-append so_far (z ∷ []), take_more xs n x turn.0, take_more ys n y turn.1, ← turn.2 x, ← turn.3 y, map-append f (take n xs) (x ∷ []), map-append f (take n ys) (y ∷ []), before, here) refl
+    rw (length-append so_far (z ∷ []), take_more xs n x turn.0, take_more ys n y turn.1, ← turn.2 x, ← turn.3 y,
+      map-append f (take n xs) (x ∷ []), map-append f (take n ys) (y ∷ []), before, here) refl
 
 -- what kind of document a normal form is; an empty set is a map
 pub data Kind : Type 0 where
@@ -158,8 +176,10 @@ kind_is (a_leaf text e) none = let is = normal-Leaf text e in absurd (cc)
 kind_is (a_list entries e) none = rw (normal-Listed entries e) refl
 kind_is (a_set entries e) none = rw (normal-SetOf entries e) (set_kind (map normal_doc entries.items))
 kind_is (a_map pairs e) none = rw (normal-MapOf pairs e) refl
-kind_is (a_struct name fields e) none = rw (normal-StructOf name fields e) (struct_kind (string_bytes name) (map normal_field fields.items) (rw (normal-StructOf name fields e) at none))
-kind_is (a_tuple name fields e) none = rw (normal-TupleOf name fields e) (tuple_kind (string_bytes name) (map normal_doc fields.items) (rw (normal-TupleOf name fields e) at none))
+kind_is (a_struct name fields e) none = rw (normal-StructOf name fields e)
+    (struct_kind (string_bytes name) (map normal_field fields.items) (rw (normal-StructOf name fields e) at none))
+kind_is (a_tuple name fields e) none = rw (normal-TupleOf name fields e)
+    (tuple_kind (string_bytes name) (map normal_doc fields.items) (rw (normal-TupleOf name fields e) at none))
 
 -- that a `Doc` is no variant of a kind
 abbrev pub IsNot : Doc → Kind → Type 0
@@ -204,10 +224,12 @@ module _ {a b : Doc} (none : None ≡ leaf_part (normal_doc a)) where
   pub differ-MapOf : (pairs : Vec (Doc × Doc) Global) → a ≡ MapOf pairs → IsNot b braced → IsTrue false ↔ (normal_doc a ≡ normal_doc b)
   differ-MapOf pairs e never = differ_by b (a_map pairs e) none never
 
-  pub differ-StructOf : (name : String Global) (fields : Vec (String Global × Doc) Global) → a ≡ StructOf name fields → IsNot b named_struct → IsTrue false ↔ (normal_doc a ≡ normal_doc b)
+  pub differ-StructOf : (name : String Global) (fields : Vec (String Global × Doc) Global) → a ≡ StructOf name fields → IsNot b named_struct
+      → IsTrue false ↔ (normal_doc a ≡ normal_doc b)
   differ-StructOf name fields e never = differ_by b (a_struct name fields e) none never
 
-  pub differ-TupleOf : (name : String Global) (fields : Vec Doc Global) → a ≡ TupleOf name fields → IsNot b named_tuple → IsTrue false ↔ (normal_doc a ≡ normal_doc b)
+  pub differ-TupleOf : (name : String Global) (fields : Vec Doc Global) → a ≡ TupleOf name fields → IsNot b named_tuple
+      → IsTrue false ↔ (normal_doc a ≡ normal_doc b)
   differ-TupleOf name fields e never = differ_by b (a_tuple name fields e) none never
 
 -- what an answer tells of one fact it tells of another that goes with that

@@ -14,7 +14,10 @@ stripped text t None h = sym (strip_of_none text t h)
 stripped text t (Some x) h = sym (strip_of_front text t x.now h)
 
 -- so is what `strip_prefix` answers
-pub strip_prefix-strip : (text t : List ℕ) (r : Option (Bor (List ℕ))) → MatchOption r (pointwise nat_eq (take (length text) t) text ≡ false) (λ x. (pointwise nat_eq (take (length text) t) text ≡ true) × (x.now ≡ drop (length text) t) × (length x.now + length text ≡ length t)) → now_of r ≡ strip text t
+pub strip_prefix-strip : (text t : List ℕ) (r : Option (Bor (List ℕ)))
+    → MatchOption r (pointwise nat_eq (take (length text) t) text ≡ false)
+    (λ x. (pointwise nat_eq (take (length text) t) text ≡ true) × (x.now ≡ drop (length text) t) × (length x.now + length text ≡ length t))
+    → now_of r ≡ strip text t
 strip_prefix-strip text t r h = stripped text t r (strip_prefix_is Decides-eqb t text r h)
 
 -- four spaces more
@@ -22,7 +25,8 @@ indentation_more : (k : ℕ) (t : List ℕ) → strip (indentation (suc k)) t �
 indentation_more k t = strip-append (codes "    ") (indentation k) t
 
 -- what is left of an indentation behind four spaces
-pub indentation_goes_on : (depth unit : ℕ) (t u : List ℕ) → unit < depth → strip (codes "    ") t ≡ Some u → strip (indentation (depth - unit)) t ≡ strip (indentation (depth - (unit + 1))) u
+pub indentation_goes_on : (depth unit : ℕ) (t u : List ℕ) → unit < depth → strip (codes "    ") t ≡ Some u
+    → strip (indentation (depth - unit)) t ≡ strip (indentation (depth - (unit + 1))) u
 indentation_goes_on depth unit t u h spaces =
     let one_more : depth - unit ≡ suc (depth - (unit + 1)) = omega arith in
     rw one_more (indentation_more (depth - (unit + 1)) t ∙ rw spaces refl)

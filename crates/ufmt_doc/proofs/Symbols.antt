@@ -66,7 +66,8 @@ is_symbol-told text h = go (strip (codes "()") text) refl h
         let sound = read_quoted-sound text x.0 x.1 e in
         subst IsQuoted (sym (sound.1 ∙ ap (λ t. x.0 ++ t) (nothing x.1 k) ∙ append-nil x.0)) sound.0
 
-    go : (o : Option (List ℕ)) → strip (codes "()") text ≡ o → choose (choose o (λ u. Some (codes "()", u)) (read_quoted text)) (λ x. is_nothing x.1) false ≡ true → (text ≡ codes "()") ⊎ IsQuoted text
+    go : (o : Option (List ℕ)) → strip (codes "()") text ≡ o
+        → choose (choose o (λ u. Some (codes "()", u)) (read_quoted text)) (λ x. is_nothing x.1) false ≡ true → (text ≡ codes "()") ⊎ IsQuoted text
     go None e k = inr (quoted (read_quoted text) refl k)
     go (Some u) e k = inl (strip_found (codes "()") text u e ∙ ap (λ t. codes "()" ++ t) (nothing u k))
 
@@ -77,7 +78,8 @@ is_symbol-sound text h = record { shape = inr (is_symbol-told text h) }
 -- and `()`, and each quoted leaf, is one
 pub is_symbol-complete : (text : List ℕ) → (text ≡ codes "()") ⊎ IsQuoted text → is_symbol text ≡ true
 is_symbol-complete text (inl unit) = rw unit refl
-is_symbol-complete text (inr quoted) = ap (λ o. choose o (λ x. is_nothing x.1) false) (read text quoted (ap read_quoted (sym (append-nil text)) ∙ read_quoted-complete text [] quoted))
+is_symbol-complete text (inr quoted) = ap (λ o. choose o (λ x. is_nothing x.1) false)
+    (read text quoted (ap read_quoted (sym (append-nil text)) ∙ read_quoted-complete text [] quoted))
   where
     read : (text : List ℕ) → IsQuoted text → read_quoted text ≡ Some (text, []) → read_symbol text ≡ Some (text, [])
     read text (inl of_text) reads = rw of_text.2 (ap read_quoted (sym of_text.2) ∙ reads ∙ ap (λ t. Some (t, [])) of_text.2)

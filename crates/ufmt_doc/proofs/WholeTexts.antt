@@ -12,11 +12,13 @@ use Rattle.ufmt_doc.specs.Private.Read.{AnswersAs}
 use Rattle.ufmt_doc.specs.Texts.{IsNormalForm, IsNoText}
 
 -- a document that was read is a token document in normal form that has the text
-pub is_normal_form : (mode : Mode) (input : List ℕ) (answer : Result Doc ReadError) → AnswersAs doc_document answer (read_text mode input) → IfOk answer (λ doc. IsNormalForm (layout (setting mode 0)) input (doc_document doc))
+pub is_normal_form : (mode : Mode) (input : List ℕ) (answer : Result Doc ReadError) → AnswersAs doc_document answer (read_text mode input)
+    → IfOk answer (λ doc. IsNormalForm (layout (setting mode 0)) input (doc_document doc))
 is_normal_form mode input (Ok doc) h = reads_only_texts mode input (doc_document doc) h
 is_normal_form mode input (Err e) h = tt
 
 -- where the answer is `NotText` no token document has the text
-pub is_no_text : (mode : Mode) (input : List ℕ) (answer : Result Doc ReadError) → AnswersAs doc_document answer (read_text mode input) → IsErrOf answer NotText → IsNoText (layout (setting mode 0)) input
+pub is_no_text : (mode : Mode) (input : List ℕ) (answer : Result Doc ReadError) → AnswersAs doc_document answer (read_text mode input)
+    → IsErrOf answer NotText → IsNoText (layout (setting mode 0)) input
 is_no_text mode input (Ok doc) h is = absurd (cc)
 is_no_text mode input (Err e) h is = refuses_no_text mode input (h (cc))

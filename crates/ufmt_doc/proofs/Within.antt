@@ -130,18 +130,22 @@ mutual
   HasWords-words_within (joined ds) n h k = absurd h
   HasWords-words_within (list_of no_documents) n h k = refl
   HasWords-words_within (list_of (document d ds)) zero h k = absurd (omega arith)
-  HasWords-words_within (list_of (document d ds)) (suc n) h k = and_true _ _ (HasWords-words_within d n h.0 (omega arith)) (HaveWords-all_within ds n h.1 (omega arith))
+  HasWords-words_within (list_of (document d ds)) (suc n) h k =
+      and_true _ _ (HasWords-words_within d n h.0 (omega arith)) (HaveWords-all_within ds n h.1 (omega arith))
   HasWords-words_within (set_of no_documents) n h k = refl
   HasWords-words_within (set_of (document d ds)) zero h k = absurd (omega arith)
-  HasWords-words_within (set_of (document d ds)) (suc n) h k = and_true _ _ (HasWords-words_within d n h.0 (omega arith)) (HaveWords-all_within ds n h.1 (omega arith))
+  HasWords-words_within (set_of (document d ds)) (suc n) h k =
+      and_true _ _ (HasWords-words_within d n h.0 (omega arith)) (HaveWords-all_within ds n h.1 (omega arith))
   HasWords-words_within (map_of no_pairs) n h k = refl
   HasWords-words_within (map_of (pair key value ps)) zero h k = absurd (omega arith)
   HasWords-words_within (map_of (pair key value ps)) (suc n) h k =
-      and_true _ _ (HasWords-words_within key n h.0 (omega arith)) (and_true _ _ (HasWords-words_within value n h.1 (omega arith)) (HaveWords-pairs_within ps n h.2 (omega arith)))
+      and_true _ _ (HasWords-words_within key n h.0 (omega arith))
+        (and_true _ _ (HasWords-words_within value n h.1 (omega arith)) (HaveWords-pairs_within ps n h.2 (omega arith)))
   HasWords-words_within (struct_of name no_fields) n h k = and_true _ _ (IsWord-to name h.0) refl
   HasWords-words_within (struct_of name (field label value fs)) zero h k = absurd (omega arith)
   HasWords-words_within (struct_of name (field label value fs)) (suc n) h k =
-      and_true _ _ (IsWord-to name h.0) (and_true _ _ (IsWord-to label h.1.0) (and_true _ _ (HasWords-words_within value n h.1.1 (omega arith)) (HaveWords-fields_within fs n h.1.2 (omega arith))))
+      and_true _ _ (IsWord-to name h.0) (and_true _ _ (IsWord-to label h.1.0)
+        (and_true _ _ (HasWords-words_within value n h.1.1 (omega arith)) (HaveWords-fields_within fs n h.1.2 (omega arith))))
   HasWords-words_within (tuple_of name no_documents) n h k = and_true _ _ (IsWord-to name h) refl
   HasWords-words_within (tuple_of name (document d ds)) zero h k = absurd (omega arith)
   HasWords-words_within (tuple_of name (document d ds)) (suc n) h k =
@@ -155,7 +159,8 @@ mutual
   HaveWords-pairs_within : (ps : Pairs) (n : ℕ) → PairsHaveWords ps → nest_pairs ps ≤ n → pairs_within (suc n) ps ≡ true
   HaveWords-pairs_within no_pairs n h k = refl
   HaveWords-pairs_within (pair key value ps) n h k =
-      and_true _ _ (HasWords-words_within key n h.0 (omega arith)) (and_true _ _ (HasWords-words_within value n h.1 (omega arith)) (HaveWords-pairs_within ps n h.2 (omega arith)))
+      and_true _ _ (HasWords-words_within key n h.0 (omega arith))
+        (and_true _ _ (HasWords-words_within value n h.1 (omega arith)) (HaveWords-pairs_within ps n h.2 (omega arith)))
 
   HaveWords-fields_within : (fs : Fields) (n : ℕ) → FieldsHaveWords fs → nest_fields fs ≤ n → fields_within (suc n) fs ≡ true
   HaveWords-fields_within no_fields n h k = refl
@@ -167,12 +172,14 @@ pub are_word_bytes-refuted : {whole : Bool} {xs more : List ℕ} {c : ℕ} → w
 are_word_bytes-refuted same first h = rw (same, first, h) refl
 
 -- the name of a tuple with fields may be empty
-pub is_tuple_name-fields : {X : Type 0} (f : X → Document) (name : List ℕ) (xs : List X) → (length xs ≡ 0 → ⊥) → are_word_bytes name ≡ true → is_tuple_name name (documents (map f xs)) ≡ true
+pub is_tuple_name-fields : {X : Type 0} (f : X → Document) (name : List ℕ) (xs : List X) → (length xs ≡ 0 → ⊥) → are_word_bytes name ≡ true
+    → is_tuple_name name (documents (map f xs)) ≡ true
 is_tuple_name-fields f name [] some h = absurd (some refl)
 is_tuple_name-fields f name (x ∷ xs) some h = h
 
 -- fields that are tested in a row: whether those that are left pass is whether the whole does
-module _ {whole : Bool} {n : ℕ} {fs more : Fields} {label : List ℕ} {value : Document} (same : whole ≡ fields_within n fs) (first : fs ≡ field label value more) where
+module _ {whole : Bool} {n : ℕ} {fs more : Fields} {label : List ℕ} {value : Document} (same : whole ≡ fields_within n fs)
+    (first : fs ≡ field label value more) where
   pub fields_within-zero : n ≡ 0 → false ≡ whole
   fields_within-zero k = rw (same, first, k) refl
 

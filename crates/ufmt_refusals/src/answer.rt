@@ -39,7 +39,8 @@ impl Answer {
     /// Of a value's text, which is `ample` with ample memory.
     pub fn of_text(answer: Result<String, AllocError>, ample: &str) -> Answer
         ensures memory { IsErr answer ↔ (result ≡ Answer.WantOfMemory) }
-        ensures ample { (result ≡ Answer.Ample) → IfOk answer (λ text. string_bytes text ≡ ample.now) }
+        ensures ample { (result ≡ Answer.Ample)
+            → IfOk answer (λ text. string_bytes text ≡ ample.now) }
     {
         match answer {
             Ok(text) if text.as_str() == ample => Answer::Ample,

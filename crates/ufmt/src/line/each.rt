@@ -32,7 +32,8 @@ impl<T, M: Mark<T>> Each<'_, T, M> {
     // Each of these items, with the text before it.
     fn print_rest<W: uWrite>(&self, rest: &[T], f: &mut Formatter<W>) -> Result<(), W::Error>
         ensures { Prints W.seen f.old
-            (pieces_text (setting_of f.old) (preceded self.now.between.now (map (M.pieces self.now.mark) rest.now)))
+            (pieces_text (setting_of f.old)
+            (preceded self.now.between.now (map (M.pieces self.now.mark) rest.now)))
             (is_ok result) f.new }
     {
         for item in rest {

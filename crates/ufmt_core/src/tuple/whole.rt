@@ -20,7 +20,8 @@ pub trait UnnamedFields<'a> {
         requires is_open { IsOpen (tuple_block block.old) }
         requires is_inside { IsInside (tuple_block block.old) }
         ensures { WritesEnding W.seen (tuple_block block.old)
-            (tail_of (tuple_block block.old) (remaining_entries (documents self.now))) (is_ok result)
+            (tail_of (tuple_block block.old) (remaining_entries (documents self.now)))
+            (is_ok result)
             (tuple_block block.new) };
 }
 

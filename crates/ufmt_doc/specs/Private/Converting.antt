@@ -47,7 +47,8 @@ field_of from to t = parse_map (field_text (inside (setting_at to))) (read_pair 
 
 -- what is written behind an entry, where the block has so many with it and `q` converts them
 unfoldable pub rest_text : Parse (List ℕ) → Frame → Setting → Frame → Setting → Count → Parse (List ℕ)
-rest_text q f s g i count t = option_and_then (λ u. parse_map (λ texts. trail i.mode ++ block_tail g i count texts) (read_others q f s count u)) (strip (trail s.mode) t)
+rest_text q f s g i count t = option_and_then
+    (λ u. parse_map (λ texts. trail i.mode ++ block_tail g i count texts) (read_others q f s count u)) (strip (trail s.mode) t)
 
 -- a block to its end, where this was written with an entry that was converted
 abbrev pub convert_on : Parse (List ℕ) → Frame → Setting → Frame → Setting → Count → Option (List ℕ × List ℕ) → Option (List ℕ × List ℕ)
@@ -68,7 +69,9 @@ convert_colon from to before out t = convert_value from to before (prefixed (out
 -- an open block to its end, where this was written with the entry, key or value that began in it
 abbrev pub block_conversion : Level → Level → TextBlock → Option (List ℕ × List ℕ) → Option (List ℕ × List ℕ)
 block_conversion from to (blocks.Entry kind before) o = convert_block (entry_text from to) from to kind before o
-block_conversion from to blocks.Braces o = option_and_then (λ x. choose (strip (codes ": ") x.1) (λ u. convert_colon from to Zero x.0 u) (convert_block (entry_text from to) from to kinds.Braces Zero (Some (x.0, x.1)))) o
+block_conversion from to blocks.Braces o =
+    option_and_then (λ x. choose (strip (codes ": ") x.1) (λ u. convert_colon from to Zero x.0 u)
+    (convert_block (entry_text from to) from to kinds.Braces Zero (Some (x.0, x.1)))) o
 block_conversion from to blocks.Key o = option_and_then (λ x. option_and_then (λ u. convert_colon from to Several x.0 u) (strip (codes ": ") x.1)) o
 block_conversion from to (blocks.Value before) o = convert_value from to before o
 block_conversion from to (blocks.Field before) o = convert_block (field_of from to) from to kinds.Struct before o
@@ -80,20 +83,26 @@ text_after_step from to (Some block) out t = block_conversion from to block (pre
 
 -- the step was made in converting this, and leaves at most so many bytes
 abbrev pub ConvertsStep : Level → Level → ℕ → Result (Option TextBlock × Bor (List ℕ)) ReadError → List ℕ → Option (List ℕ × List ℕ) → Type 0
-ConvertsStep from to bytes answer out there = MatchResult answer (λ x. (there ≡ text_after_step from to x.0 out x.1.now) × (length x.1.now ≤ bytes)) (λ e. e ≡ NotText → there ≡ None)
+ConvertsStep from to bytes answer out there =
+    MatchResult answer (λ x. (there ≡ text_after_step from to x.0 out x.1.now) × (length x.1.now ≤ bytes)) (λ e. e ≡ NotText → there ≡ None)
 
 -- the same where the document is there that is converted, and leaves fewer bytes than the number
 abbrev pub ConvertsBeginning : Level → Level → ℕ → Result (Option TextBlock × Bor (List ℕ)) ReadError → List ℕ → List ℕ → Option (Document × List ℕ) → Type 0
-ConvertsBeginning from to bytes answer old new there = MatchResult answer (λ x. (prefixed old (parse_map (layout (setting_at to)) there) ≡ text_after_step from to x.0 new x.1.now) × (length x.1.now < bytes)) (λ e. e ≡ NotText → there ≡ None)
+ConvertsBeginning from to bytes answer old new there =
+    MatchResult answer (λ x. (prefixed old (parse_map (layout (setting_at to)) there) ≡ text_after_step from to x.0 new x.1.now)
+    × (length x.1.now < bytes)) (λ e. e ≡ NotText → there ≡ None)
 
 -- a field's name and colon were read and written
 abbrev pub WritesLabel : Result (Bor (List ℕ)) ReadError → List ℕ → List ℕ → List ℕ → Type 0
-WritesLabel answer old new t = MatchResult answer (λ r. (label : List ℕ) × (read_label t ≡ Some (label, r.now)) × (new ≡ old ++ (label ++ codes ": "))) (λ e. e ≡ NotText → read_label t ≡ None)
+WritesLabel answer old new t = MatchResult answer
+    (λ r. (label : List ℕ) × (read_label t ≡ Some (label, r.now)) × (new ≡ old ++ (label ++ codes ": "))) (λ e. e ≡ NotText → read_label t ≡ None)
 
 -- what stood behind an entry, and what was written there
 abbrev pub ConvertsBehindEntry : Level → Level → Kind → Count → Result (Bool × Bor (List ℕ)) ReadError → List ℕ → List ℕ → List ℕ → Type 0
 ConvertsBehindEntry from to kind before answer old new t = MatchResult answer
-    (λ x. (behind_entry (frame from.mode kind) (setting_at from) before t ≡ Some (x.0, x.1.now)) × (new ≡ old ++ (trail to.mode ++ cond x.0 (separator to.mode (inside (setting_at to)).depth) (ending (frame to.mode kind) (setting_at to) (next before)))))
+    (λ x. (behind_entry (frame from.mode kind) (setting_at from) before t ≡ Some (x.0, x.1.now))
+      × (new ≡ old ++ (trail to.mode ++ cond x.0 (separator to.mode (inside (setting_at to)).depth)
+      (ending (frame to.mode kind) (setting_at to) (next before)))))
     (λ e. e ≡ NotText → behind_entry (frame from.mode kind) (setting_at from) before t ≡ None)
 
 -- what is written in all by blocks that lie one in another, where this was written with the entry that began in the innermost
@@ -112,4 +121,5 @@ conversion_from from to open_blocks false out t = blocks_conversion from to 0 op
 
 -- these blocks, this text and this rest were come to in converting this
 abbrev pub ConvertsOn : Mode → Mode → ℕ → Result (Bool × Bor (List ℕ)) ReadError → List TextBlock → List ℕ → Option (List ℕ × List ℕ) → Type 0
-ConvertsOn from to bytes answer open_blocks out there = MatchResult answer (λ x. (there ≡ conversion_from from to open_blocks x.0 out x.1.now) × (length x.1.now ≤ bytes)) (λ e. e ≡ NotText → there ≡ None)
+ConvertsOn from to bytes answer open_blocks out there =
+    MatchResult answer (λ x. (there ≡ conversion_from from to open_blocks x.0 out x.1.now) × (length x.1.now ≤ bytes)) (λ e. e ≡ NotText → there ≡ None)

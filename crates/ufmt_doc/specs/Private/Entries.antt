@@ -8,7 +8,9 @@ use Rattle.ufmt.specs.Reading.{Parse, choose, parse_map, strip, read_others}
 
 -- behind an entry that stands behind so many others: true and the start of the next one, or false and what follows the block's end
 unfoldable pub behind_entry : Frame → Setting → Count → Parse Bool
-behind_entry f s before t = option_and_then (λ u. choose (strip (separator (inside s).mode (inside s).depth) u) (λ v. Some (true, v)) (option_map (λ v. (false, v)) (strip (ending f s (next before)) u))) (strip (trail s.mode) t)
+behind_entry f s before t = option_and_then
+    (λ u. choose (strip (separator (inside s).mode (inside s).depth) u) (λ v. Some (true, v))
+    (option_map (λ v. (false, v)) (strip (ending f s (next before)) u))) (strip (trail s.mode) t)
 
 -- a block behind its entries so far
 unfoldable pub read_more : {A : Type 0} → Parse A → Frame → Setting → (List A → Document) → List A → Parse Document

@@ -39,4 +39,5 @@ reading_from mode blocks (Some doc) t = Some (doc_document doc, t)
 
 -- these blocks and this rest were come to in reading this
 abbrev pub ReadsOn : Mode → ℕ → Result (Option Doc × Bor (List ℕ)) ReadError → List OpenBlock → Option (Document × List ℕ) → Type 0
-ReadsOn mode bytes answer blocks there = MatchResult answer (λ x. (there ≡ reading_from mode blocks x.0 x.1.now) × (length x.1.now ≤ bytes)) (λ e. e ≡ NotText → there ≡ None)
+ReadsOn mode bytes answer blocks there = MatchResult answer (λ x. (there ≡ reading_from mode blocks x.0 x.1.now) × (length x.1.now ≤ bytes))
+    (λ e. e ≡ NotText → there ≡ None)

@@ -27,13 +27,23 @@ read_label t = before_colon read_word t
 
 -- an open block at its level, where this is what the entry, key or value that begins in it is read as
 abbrev pub block_reading : Level → OpenBlock → Option (Document × List ℕ) → Option (Document × List ℕ)
-block_reading level (blocks.List entries) o = read_on (entry_of level) (frame level.mode kinds.Brackets) (setting_at level) (λ ds. list_of (documents ds)) (docs_view entries) o
+block_reading level (blocks.List entries) o =
+    read_on (entry_of level) (frame level.mode kinds.Brackets) (setting_at level) (λ ds. list_of (documents ds)) (docs_view entries) o
 block_reading level blocks.Braces o = option_and_then (λ x. read_map_or_set (setting_at level) (entry_of level) x.0 x.1) o
-block_reading level (blocks.Set entries) o = read_on (entry_of level) (frame level.mode kinds.Braces) (setting_at level) (λ ds. set_of (documents ds)) (docs_view entries) o
-block_reading level (blocks.Map pairs None) o = option_and_then (λ x. read_on (read_pair (entry_of level) (entry_of level)) (frame level.mode kinds.Braces) (setting_at level) (λ ps. map_of (pairs_of ps)) (pairs_view pairs) (read_value (entry_of level) x.0 x.1)) o
-block_reading level (blocks.Map pairs (Some key)) o = read_on (read_pair (entry_of level) (entry_of level)) (frame level.mode kinds.Braces) (setting_at level) (λ ps. map_of (pairs_of ps)) (pairs_view pairs) (parse_map (λ value. (doc_document key, value)) o)
-block_reading level (blocks.Struct name fields label) o = read_on (read_pair read_word (entry_of level)) (frame level.mode kinds.Struct) (setting_at level) (λ fs. struct_of (string_bytes name) (fields_of fs)) (fields_view fields) (parse_map (λ value. (string_bytes label, value)) o)
-block_reading level (blocks.Tuple name entries) o = read_on (entry_of level) (frame level.mode (tuple_kind (string_bytes name))) (setting_at level) (λ ds. tuple_of (string_bytes name) (documents ds)) (docs_view entries) o
+block_reading level (blocks.Set entries) o =
+    read_on (entry_of level) (frame level.mode kinds.Braces) (setting_at level) (λ ds. set_of (documents ds)) (docs_view entries) o
+block_reading level (blocks.Map pairs None) o =
+    option_and_then (λ x. read_on (read_pair (entry_of level) (entry_of level)) (frame level.mode kinds.Braces) (setting_at level)
+    (λ ps. map_of (pairs_of ps)) (pairs_view pairs) (read_value (entry_of level) x.0 x.1)) o
+block_reading level (blocks.Map pairs (Some key)) o =
+    read_on (read_pair (entry_of level) (entry_of level)) (frame level.mode kinds.Braces) (setting_at level) (λ ps. map_of (pairs_of ps))
+    (pairs_view pairs) (parse_map (λ value. (doc_document key, value)) o)
+block_reading level (blocks.Struct name fields label) o =
+    read_on (read_pair read_word (entry_of level)) (frame level.mode kinds.Struct) (setting_at level)
+    (λ fs. struct_of (string_bytes name) (fields_of fs)) (fields_view fields) (parse_map (λ value. (string_bytes label, value)) o)
+block_reading level (blocks.Tuple name entries) o =
+    read_on (entry_of level) (frame level.mode (tuple_kind (string_bytes name))) (setting_at level)
+    (λ ds. tuple_of (string_bytes name) (documents ds)) (docs_view entries) o
 
 -- the document of a block with its entries so far
 abbrev pub block_document : OpenBlock → Document
@@ -50,7 +60,8 @@ goes_on_with level block goes_on t = cond goes_on (block_reading level block (en
 
 -- this block, and no more bytes than the number, were come to in reading this
 abbrev pub TakesEntry : Level → ℕ → Result (Bool × Bor (List ℕ)) ReadError → OpenBlock → Option (Document × List ℕ) → Type 0
-TakesEntry level bytes answer block there = MatchResult answer (λ x. (there ≡ goes_on_with level block x.0 x.1.now) × (length x.1.now ≤ bytes)) (λ e. e ≡ NotText → there ≡ None)
+TakesEntry level bytes answer block there =
+    MatchResult answer (λ x. (there ≡ goes_on_with level block x.0 x.1.now) × (length x.1.now ≤ bytes)) (λ e. e ≡ NotText → there ≡ None)
 
 -- a block of this kind with these entries before, whatever document they make, where its next entry is read as this
 abbrev pub entries_on : Level → Kind → (List Document → Document) → List Document → Option (Document × List ℕ) → Option (Document × List ℕ)
@@ -60,7 +71,8 @@ entries_on level kind make before o = read_on (entry_of level) (frame level.mode
 abbrev pub TakesWords : Level → Kind → ℕ → Result (Bool × Bor (List ℕ)) ReadError → List Document → List Document → Option (Document × List ℕ) → Type 0
 TakesWords level kind bytes answer old new o = (make : List Document → Document) →
     MatchResult answer
-    (λ x. (entries_on level kind make old o ≡ cond x.0 (entries_on level kind make new (entry_of level x.1.now)) (Some (make new, x.1.now))) × (length x.1.now ≤ bytes))
+    (λ x. (entries_on level kind make old o ≡ cond x.0 (entries_on level kind make new (entry_of level x.1.now)) (Some (make new, x.1.now)))
+      × (length x.1.now ≤ bytes))
     (λ e. e ≡ NotText → entries_on level kind make old o ≡ None)
 
 -- the innermost of the blocks that are open, where any is
@@ -81,4 +93,6 @@ OpensAtMostOne old new (Some doc) = new ≡ old
 
 -- the step was made in reading this, and leaves fewer bytes than the number
 abbrev pub ReadsStep : Level → ℕ → Result (Option Doc × Bor (List ℕ)) ReadError → List OpenBlock → List OpenBlock → Option (Document × List ℕ) → Type 0
-ReadsStep level bytes answer old new there = MatchResult answer (λ x. (there ≡ after_step level new x.0 x.1.now) × (length x.1.now < bytes) × OpensAtMostOne old new x.0) (λ e. e ≡ NotText → there ≡ None)
+ReadsStep level bytes answer old new there =
+    MatchResult answer (λ x. (there ≡ after_step level new x.0 x.1.now) × (length x.1.now < bytes) × OpensAtMostOne old new x.0)
+    (λ e. e ≡ NotText → there ≡ None)

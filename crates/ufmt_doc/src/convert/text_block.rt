@@ -63,7 +63,8 @@ fn pass<'a>(
     output: &mut String,
     input: &'a [u8],
 ) -> Result<(bool, &'a [u8]), ReadError>
-    ensures { ConvertsBehindEntry from to kind before result (string_bytes output.old) (string_bytes output.new)
+    ensures { ConvertsBehindEntry from to kind before result (string_bytes output.old)
+        (string_bytes output.new)
         input.now }
 {
     let (goes_on, rest) = from.pass_entry(kind, before, input)?;

@@ -125,7 +125,8 @@ fn put_in_map<'a>(
     input: &'a [u8],
 ) -> Result<(bool, &'a [u8]), ReadError>
     ensures { TakesEntry level (length input.now) result (OpenBlock.Map pairs.new key.new)
-        (block_reading level (OpenBlock.Map pairs.old key.old) (Some (doc_document doc, input.now))) }
+        (block_reading level (OpenBlock.Map pairs.old key.old)
+        (Some (doc_document doc, input.now))) }
 {
     match key.take() {
         Some(first) => {
@@ -162,7 +163,8 @@ fn put_field<'a>(
 ) -> Result<(bool, &'a [u8]), ReadError>
     ensures { (name : String Global)
         → TakesEntry level (length input.now) result (OpenBlock.Struct name fields.new label.new)
-        (block_reading level (OpenBlock.Struct name fields.old label.old) (Some (doc_document doc, input.now))) }
+        (block_reading level (OpenBlock.Struct name fields.old label.old)
+        (Some (doc_document doc, input.now))) }
 {
     let before = Count::of(fields.len());
     let waiting = mem::replace(label, String::new(alloc));

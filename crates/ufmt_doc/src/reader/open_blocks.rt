@@ -48,7 +48,8 @@ impl OpenBlocks {
     ) -> Result<(Option<Doc>, &'a [u8]), ReadError>
         requires { length self.old.blocks.items < 256 }
         ensures { (level : Level) → ReadsStep level (suc (length rest.now)) result
-            self.old.blocks.items self.new.blocks.items (goes_on_with level block goes_on rest.now) }
+            self.old.blocks.items self.new.blocks.items
+            (goes_on_with level block goes_on rest.now) }
     {
         if goes_on {
             self.blocks.push(block)?;

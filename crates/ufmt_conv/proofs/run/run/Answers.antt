@@ -2,7 +2,8 @@ use Rattle.std.proofs.Common.{◌≡◌, List, ℕ, Option, Some, None, IfSome, 
 use Rattle.ufmt_conv.proofs.run.run.Goals as goal
 
 -- what answers the bytes that were read answers the input, as far as that is known
-answers_input : (Answers : List ℕ → List ℕ → Type 0) (Written : List ℕ → Type 0) (known : Option (List ℕ)) (text line : List ℕ) → IfSome known (λ bytes. text ≡ bytes)
+answers_input : (Answers : List ℕ → List ℕ → Type 0) (Written : List ℕ → Type 0) (known : Option (List ℕ)) (text line : List ℕ)
+    → IfSome known (λ bytes. text ≡ bytes)
     → Answers text line → Written line → IfSome known (λ bytes. (x : List ℕ) × Answers bytes x × Written x)
 answers_input Answers Written None text line same answers written = tt
 answers_input Answers Written (Some bytes) text line same answers written = (line, subst (λ t. Answers t line) same answers, written)

@@ -5,7 +5,8 @@ pub split_at-requires : goal.split_at-requires
 split_at-requires c = rw (c.plain_len.ensures, c.as_bytes.ensures.value) (IsCharBoundary-stretch c.args.text.now)
 
 pub returns-clause-stretch : goal.returns-clause-stretch
-returns-clause-stretch c = rw (c.split_at.ensures.front, c.split_at.ensures.back, c.plain_len.ensures, c.as_bytes.ensures.value) (escaped_bytes-stretch c.args.text.now)
+returns-clause-stretch c = rw (c.split_at.ensures.front, c.split_at.ensures.back, c.plain_len.ensures, c.as_bytes.ensures.value)
+    (escaped_bytes-stretch c.args.text.now)
 
 pub returns-clause-at_escape : goal.returns-clause-at_escape
 returns-clause-at_escape c = rw (c.split_at.ensures.back, c.plain_len.ensures, c.as_bytes.ensures.value) (plain_len-behind c.args.text.now)

@@ -7,7 +7,8 @@ use Rattle.ufmt_core.proofs.QuotedBytes.{PrintedBefore}
 use Rattle.ufmt_core.proofs.quoted.write_escaped.Given as goal
 
 abbrev pub invariant-escapes : goal.invariant-escapes
-invariant-escapes g l = shadow (Utf8 l.rest) × (plain_len l.rest ≡ 0) × PrintedBefore g.W.uWrite.seen l.fn.f (escaped_bytes 34 l.text) (escaped_bytes 34 l.rest) l.f
+invariant-escapes g l = shadow (Utf8 l.rest) × (plain_len l.rest ≡ 0)
+    × PrintedBefore g.W.uWrite.seen l.fn.f (escaped_bytes 34 l.text) (escaped_bytes 34 l.rest) l.f
 
 abbrev pub decreases-escapes : goal.decreases-escapes
 decreases-escapes g l = length l.rest

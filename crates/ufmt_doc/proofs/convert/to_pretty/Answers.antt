@@ -4,4 +4,6 @@ use Rattle.ufmt_doc.proofs.Conversions.{converts, no_text_converted, plain_text_
 use Rattle.ufmt_doc.proofs.convert.to_pretty.Goals as goal
 
 pub returns : goal.returns
-returns c = converts plain_text pretty_text c.args.input.now c.converted.result (plain_text_converted c.args.input.now c.converted.result c.converted.ensures) (no_text_converted Plain pretty_text c.args.input.now c.converted.result c.converted.ensures)
+returns c = converts plain_text pretty_text c.args.input.now c.converted.result
+    (plain_text_converted c.args.input.now c.converted.result c.converted.ensures)
+    (no_text_converted Plain pretty_text c.args.input.now c.converted.result c.converted.ensures)

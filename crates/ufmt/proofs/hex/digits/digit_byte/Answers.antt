@@ -6,7 +6,9 @@ use Rattle.ufmt.proofs.hex.digits.digit_byte.Goals as goal
 
 -- the check computes these tests over the whole table
 pub returns-then-upper_case : goal.returns-then-upper_case
-returns-then-upper_case c = rw c.if-upper_case.true (eqb-true _ _ (agree_below_at (λ n. eqb (slice_index_or UPPER_CASE n 0) (hexadecimal_byte true n)) (λ _. true) 16 c.args.digit refl c.requires))
+returns-then-upper_case c = rw c.if-upper_case.true
+    (eqb-true _ _ (agree_below_at (λ n. eqb (slice_index_or UPPER_CASE n 0) (hexadecimal_byte true n)) (λ _. true) 16 c.args.digit refl c.requires))
 
 pub returns : goal.returns
-returns c = rw c.if-upper_case.false (eqb-true _ _ (agree_below_at (λ n. eqb (slice_index_or LOWER_CASE n 0) (hexadecimal_byte false n)) (λ _. true) 16 c.args.digit refl c.requires))
+returns c = rw c.if-upper_case.false (eqb-true _ _
+    (agree_below_at (λ n. eqb (slice_index_or LOWER_CASE n 0) (hexadecimal_byte false n)) (λ _. true) 16 c.args.digit refl c.requires))

@@ -4,4 +4,5 @@ use Rattle.ufmt_core.specs.Builder.{map_block}
 use Rattle.ufmt_core.proofs.formatter.Formatter.map_of.Given as goal
 
 abbrev pub invariant-loop-pair : goal.invariant-loop-pair
-invariant-loop-pair g l = WritesRow g.W.uWrite.seen (map_block l.initial.map) (λ p. pair_text (g.K.uDebug.document p.0) (g.V.uDebug.document p.1)) (take l.pair-index l.pairs) true (map_block l.map)
+invariant-loop-pair g l = WritesRow g.W.uWrite.seen (map_block l.initial.map)
+    (λ p. pair_text (g.K.uDebug.document p.0) (g.V.uDebug.document p.1)) (take l.pair-index l.pairs) true (map_block l.map)

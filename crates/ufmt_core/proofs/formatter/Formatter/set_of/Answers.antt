@@ -10,4 +10,5 @@ returns-in_err-entries g c =
     (set_opened c.in_ok-set.ensures.opening (items_failed g.T.uDebug.document c.iter.ensures.rest c.in_err-entries.ensures.entries (search)))
 
 pub returns : goal.returns
-returns g c = set_opened c.in_ok-set.ensures.opening (items_written g.T.uDebug.document c.iter.ensures.rest c.in_ok-entries.ensures.entries (finished c.finish.ensures (search)))
+returns g c = set_opened c.in_ok-set.ensures.opening
+    (items_written g.T.uDebug.document c.iter.ensures.rest c.in_ok-entries.ensures.entries (finished c.finish.ensures (search)))

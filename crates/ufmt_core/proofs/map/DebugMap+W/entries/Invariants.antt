@@ -7,5 +7,6 @@ abbrev pub invariant-loop-key : goal.invariant-loop-key
 invariant-loop-key g l = record {
   can : (goal.iterator-loop-key g).can_next l.key-iterator;
   ends : (goal.iterator-loop-key g).is_finite l.key-iterator;
-  row : WritesRow g.W.uWrite.seen (map_block l.initial.self) (λ x. pair_text (g.K.uDebug.document x.0) (g.V.uDebug.document x.1)) l.yielded true (map_block l.self);
+  row : WritesRow g.W.uWrite.seen (map_block l.initial.self)
+      (λ x. pair_text (g.K.uDebug.document x.0) (g.V.uDebug.document x.1)) l.yielded true (map_block l.self);
 }

@@ -4,4 +4,5 @@ use Rattle.ufmt_core.proofs.Items.{AlwaysYields-items}
 use Rattle.ufmt_core.proofs.std_impls.BTreeMapuDebug.fmt.Goals as goal
 
 pub returns : goal.returns
-returns g c = c.fmt_map.ensures _ (λ it gives. AlwaysYields-items (λ e. (g.K.uDebug.document e.0, g.V.uDebug.document e.1)) _ (YieldsList-from_rest _ (gives ∙ c.iter.ensures.rest)))
+returns g c = c.fmt_map.ensures _ (λ it gives. AlwaysYields-items (λ e. (g.K.uDebug.document e.0, g.V.uDebug.document e.1)) _
+    (YieldsList-from_rest _ (gives ∙ c.iter.ensures.rest)))

@@ -13,10 +13,12 @@ abbrev pub invariant-loop-entry-2 : goal.invariant-loop-entry-2
 invariant-loop-entry-2 l = words_within l.deepest (doc_document l.self) ≡ all_within l.deepest (documents (map doc_document (drop l.entry-index l.entry-items)))
 
 abbrev pub invariant-loop-key : goal.invariant-loop-key
-invariant-loop-key l = words_within l.deepest (doc_document l.self) ≡ pairs_within l.deepest (pairs_of (map (λ p. (doc_document p.0, doc_document p.1)) (drop l.key-index l.key-items)))
+invariant-loop-key l = words_within l.deepest (doc_document l.self)
+    ≡ pairs_within l.deepest (pairs_of (map (λ p. (doc_document p.0, doc_document p.1)) (drop l.key-index l.key-items)))
 
 abbrev pub invariant-loop-label : goal.invariant-loop-label
-invariant-loop-label l = words_within l.deepest (doc_document l.self) ≡ fields_within l.deepest (fields_of (map (λ f. (string_bytes f.0, doc_document f.1)) (drop l.label-index l.label-items)))
+invariant-loop-label l = words_within l.deepest (doc_document l.self)
+    ≡ fields_within l.deepest (fields_of (map (λ f. (string_bytes f.0, doc_document f.1)) (drop l.label-index l.label-items)))
 
 abbrev pub invariant-loop-value : goal.invariant-loop-value
 invariant-loop-value l = words_within l.deepest (doc_document l.self) ≡ all_within l.deepest (documents (map doc_document (drop l.value-index l.value-items)))

@@ -6,4 +6,5 @@ use Rattle.ufmt_doc.specs.Parts.{first_value}
 use Rattle.ufmt_doc.proofs.doc.parts.first_value.Given as goal
 
 abbrev pub invariant-loop-other : goal.invariant-loop-other
-invariant-loop-other l = first_value l.label (fields_of (map field_view l.fields)) ≡ first_value l.label (fields_of (map field_view (drop l.other-index l.fields)))
+invariant-loop-other l = first_value l.label (fields_of (map field_view l.fields))
+    ≡ first_value l.label (fields_of (map field_view (drop l.other-index l.fields)))

@@ -16,7 +16,9 @@ use Rattle.ufmt_doc.proofs.Stacks.{steps_are}
 use Rattle.ufmt_doc.proofs.reader.begin.begin_list.Goals as goal
 
 -- a list in which no entry was read yet
-none_read : (level : Level) (items : List Doc) (t start : List ℕ) → items ≡ [] → strip (codes "]") t ≡ None → strip (lead (frame level.mode Brackets) (inside (setting_at level)) Zero) t ≡ Some start → read_list (setting_at level) (entry_of level) t ≡ entries_on level Brackets (λ ds. list_of (documents ds)) (map doc_document items) (entry_of level start)
+none_read : (level : Level) (items : List Doc) (t start : List ℕ) → items ≡ [] → strip (codes "]") t ≡ None
+    → strip (lead (frame level.mode Brackets) (inside (setting_at level)) Zero) t ≡ Some start
+    → read_list (setting_at level) (entry_of level) t ≡ entries_on level Brackets (λ ds. list_of (documents ds)) (map doc_document items) (entry_of level start)
 none_read level items t start none empty opening =
     list_begins (setting_at level) (entry_of level) t start empty opening
     ∙ ap (λ xs. entries_on level Brackets (λ ds. list_of (documents ds)) (map doc_document xs) (entry_of level start)) (sym none)
@@ -24,7 +26,8 @@ none_read level items t start none empty opening =
 pub returns-in_err-goes_on : goal.returns-in_err-goes_on
 returns-in_err-goes_on c =
     passes_on _ c.from_residual-in_err-goes_on.result _ c.in_err-goes_on.field-0.0 _ c.from_residual-in_err-goes_on.ensures.1 (λ y p. p) λ refused.
-    none_read c.args.level c.in_ok-entries.entries.items c.args.input.now c.in-Some-strip_lead.rest.now c.in_ok-entries.ensures.items (sym c.in_default.ensures) (sym c.in-Some-strip_lead.ensures)
+    none_read c.args.level c.in_ok-entries.entries.items c.args.input.now c.in-Some-strip_lead.rest.now c.in_ok-entries.ensures.items
+      (sym c.in_default.ensures) (sym c.in-Some-strip_lead.ensures)
     ∙ c.in_err-goes_on.ensures (λ ds. list_of (documents ds)) refused
 
 pub returns-in_ok-goes_on : goal.returns-in_ok-goes_on
@@ -36,5 +39,6 @@ returns-in_ok-goes_on c =
     let b : length start ≤ length c.args.input.now = strip_within (lead (frame level.mode Brackets) (inside (setting_at level)) Zero) c.args.input.now start (sym c.in-Some-strip_lead.ensures) in
     let longer : suc (length c.in_ok-goes_on.rest.now) ≤ suc (length c.args.input.now) = omega (arith, a, b) in
     steps_are level _ _ c.open_or_close.result c.args.blocks.now.blocks.items c.open_or_close.new.self.blocks.items _ _
-    (none_read level c.in_ok-entries.entries.items c.args.input.now start c.in_ok-entries.ensures.items (sym c.in_default.ensures) (sym c.in-Some-strip_lead.ensures) ∙ put.0)
+    (none_read level c.in_ok-entries.entries.items c.args.input.now start c.in_ok-entries.ensures.items (sym c.in_default.ensures)
+      (sym c.in-Some-strip_lead.ensures) ∙ put.0)
     longer (c.open_or_close.ensures level)

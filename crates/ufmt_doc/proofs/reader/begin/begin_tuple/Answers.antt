@@ -15,7 +15,9 @@ use Rattle.ufmt_doc.proofs.Stacks.{steps_are}
 use Rattle.ufmt_doc.proofs.reader.begin.begin_tuple.Goals as goal
 
 -- a tuple in which no entry was read yet
-none_read : (level : Level) (name : List ℕ) (kind : Kind) (items : List Doc) (t : List ℕ) → kind ≡ tuple_kind name → items ≡ [] → read_tuple (setting_at level) (entry_of level) name t ≡ entries_on level kind (λ ds. tuple_of name (documents ds)) (map doc_document items) (entry_of level t)
+none_read : (level : Level) (name : List ℕ) (kind : Kind) (items : List Doc) (t : List ℕ) → kind ≡ tuple_kind name → items ≡ []
+    → read_tuple (setting_at level) (entry_of level) name t
+    ≡ entries_on level kind (λ ds. tuple_of name (documents ds)) (map doc_document items) (entry_of level t)
 none_read level name kind items t same none =
     let make : List Document → Document = λ ds. tuple_of name (documents ds) in
     first_is_read_on (entry_of level) (frame level.mode (tuple_kind name)) (setting_at level) make (entry_of level t)
@@ -26,7 +28,8 @@ pub returns-in_err-goes_on : goal.returns-in_err-goes_on
 returns-in_err-goes_on c =
     let kind = c.tuple.ensures ∙ ap tuple_kind c.deref.ensures in
     passes_on _ c.from_residual-in_err-goes_on.result _ c.in_err-goes_on.field-0.0 _ c.from_residual-in_err-goes_on.ensures.1 (λ y p. p) λ refused.
-    none_read c.args.level (string_bytes c.args.name) c.tuple.result _ c.args.input.now kind c.in_ok-entries.ensures.items ∙ c.in_err-goes_on.ensures (λ ds. tuple_of (string_bytes c.args.name) (documents ds)) refused
+    none_read c.args.level (string_bytes c.args.name) c.tuple.result _ c.args.input.now kind c.in_ok-entries.ensures.items
+      ∙ c.in_err-goes_on.ensures (λ ds. tuple_of (string_bytes c.args.name) (documents ds)) refused
 
 pub returns : goal.returns
 returns c =

@@ -7,7 +7,8 @@ use Rattle.ufmt_doc.proofs.QuotedCharacter.{ascii_passes, first_byte, nothing_pa
 use Rattle.ufmt_doc.proofs.reader.quoted.behind_character.Goals as goal
 
 pub returns-in_err-first : goal.returns-in_err-first
-returns-in_err-first c = rw c.from_residual.ensures (nothing_passes c.args.inside.now c.as_bytes.result.now c.as_bytes.ensures.value c.in_err-first.ensures.value)
+returns-in_err-first c = rw c.from_residual.ensures
+    (nothing_passes c.args.inside.now c.as_bytes.result.now c.as_bytes.ensures.value c.in_err-first.ensures.value)
 
 pub returns-then-is_ascii : goal.returns-then-is_ascii
 returns-then-is_ascii c =

@@ -7,5 +7,6 @@ use Rattle.ufmt_user.proofs.by_hand.PortsuDebug.fmt.Given as goal
 abbrev pub invariant-loop-port : goal.invariant-loop-port
 invariant-loop-port g l = record {
   is_open : IsOpen (map_block l.map);
-  row : WritesRow g.W.uWrite.seen (map_block l.initial.map) (λ p. pair_text (number p.number) (g.T.uDebug.document p.user)) (take l.port-index l.port-items) true (map_block l.map);
+  row : WritesRow g.W.uWrite.seen (map_block l.initial.map) (λ p. pair_text (number p.number) (g.T.uDebug.document p.user))
+      (take l.port-index l.port-items) true (map_block l.map);
 }

@@ -6,5 +6,6 @@ use Rattle.ufmt_user.proofs.by_hand.UsersuDebug.fmt.Given as goal
 abbrev pub invariant-loop-port : goal.invariant-loop-port
 invariant-loop-port g l = record {
   is_open : IsOpen (list_block l.list);
-  row : WritesRow g.W.uWrite.seen (list_block l.initial.list) (λ p. entry_text (g.T.uDebug.document p.user)) (take l.port-index l.port-items) true (list_block l.list);
+  row : WritesRow g.W.uWrite.seen (list_block l.initial.list) (λ p. entry_text (g.T.uDebug.document p.user))
+      (take l.port-index l.port-items) true (list_block l.list);
 }

@@ -10,4 +10,5 @@ pub returns-in-Set : goal.returns-in-Set
 returns-in-Set c = rw c.in-Set.is (c.put_entry-in-Set.ensures (λ ds. set_of (documents ds)))
 
 pub returns-in-Tuple : goal.returns-in-Tuple
-returns-in-Tuple c = rw (c.in-Tuple.is, ← (c.tuple.ensures ∙ ap tuple_kind c.deref.ensures)) (c.put_entry-in-Tuple.ensures (λ ds. tuple_of (string_bytes c.in-Tuple.name) (documents ds)))
+returns-in-Tuple c = rw (c.in-Tuple.is, ← (c.tuple.ensures ∙ ap tuple_kind c.deref.ensures))
+    (c.put_entry-in-Tuple.ensures (λ ds. tuple_of (string_bytes c.in-Tuple.name) (documents ds)))
