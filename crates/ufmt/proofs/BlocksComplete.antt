@@ -80,10 +80,12 @@ read_rest_complete q f s closes count (suc n) [] (text ∷ texts) u h less = abs
 read_rest_complete q f s closes count (suc n) (x ∷ xs) [] u h less = absurd h
 read_rest_complete q f s closes count (suc n) (x ∷ xs) (text ∷ texts) u h less =
     let left : List ℕ = block_tail f s (next (next count)) texts ++ u in
-    rw (entry_assoc (lead f (inside s) (next count)) text (trail s.mode) (block_tail f s (next (next count)) texts) u,
-      strip_stands (lead f (inside s) (next count)) (text ++ (trail s.mode ++ left)))
+    rw (
+      entry_assoc (lead f (inside s) (next count)) text (trail s.mode) (block_tail f s (next (next count)) texts) u,
+      strip_stands (lead f (inside s) (next count)) (text ++ (trail s.mode ++ left)),
+    )
     (read_turn_complete q s.mode (read_rest q f s (next (next count)) n) x xs text left u h.0 (rest_follows f s closes (next count) texts u)
-      (read_rest_complete q f s closes (next count) n xs texts u h.1 (omega arith)))
+    (read_rest_complete q f s closes (next count) n xs texts u h.1 (omega arith)))
 
 -- no more entries than bytes are left of a block
 entries_within : {A : Type 0} (q : Parse A) (f : Frame) (s : Setting) (count : Count) (xs : List A) (texts : List (List ℕ))
@@ -94,8 +96,11 @@ entries_within q f s count (x ∷ xs) [] h = absurd h
 entries_within q f s count (x ∷ xs) (text ∷ texts) h =
     let some : length text ≡ suc (length h.0.begins.tail) = ap length h.0.begins.is in
     let below : length texts ≤ length (block_tail f s (next count) texts) = entries_within q f s (next count) xs texts h.1 in
-    rw (length-append (lead f (inside s) count) (text ++ (trail s.mode ++ block_tail f s (next count) texts)),
-      length-append text (trail s.mode ++ block_tail f s (next count) texts), length-append (trail s.mode) (block_tail f s (next count) texts))
+    rw (
+      length-append (lead f (inside s) count) (text ++ (trail s.mode ++ block_tail f s (next count) texts)),
+      length-append text (trail s.mode ++ block_tail f s (next count) texts),
+      length-append (trail s.mode) (block_tail f s (next count) texts),
+    )
     (omega arith)
 
 -- the same in as many turns as it takes
@@ -123,8 +128,10 @@ pub read_block_complete : {A : Type 0} (q : Parse A) (f : Frame) (s : Setting) (
     → (x : A) (xs : List A) (text : List ℕ) (texts : List (List ℕ)) (u : List ℕ) → IsRead q x text → AreRead q xs texts
     → read_block q f s make (block_tail f s Zero (text ∷ texts) ++ u) ≡ Some (make (x ∷ xs), u)
 read_block_complete q f s make closes x xs text texts u h hs =
-    rw (entry_assoc (lead f (inside s) Zero) text (trail s.mode) (block_tail f s One texts) u,
-      strip_stands (lead f (inside s) Zero) (text ++ (trail s.mode ++ (block_tail f s One texts ++ u))))
+    rw (
+      entry_assoc (lead f (inside s) Zero) text (trail s.mode) (block_tail f s One texts) u,
+      strip_stands (lead f (inside s) Zero) (text ++ (trail s.mode ++ (block_tail f s One texts ++ u))),
+    )
     (read_entries_complete q f s make closes x xs text texts u h hs)
 
 -- a value behind its key's colon is read

@@ -35,9 +35,16 @@ read_turn_sound : {A : Type 0} (q : Parse A) (Good : A → Type 0) (text : A →
     × (xs : List A) × Good x × (t ≡ text x ++ (trail mode ++ v)) × (more v ≡ Some (xs, u)) × (x ∷ xs ≡ ys)
 read_turn_sound q Good text mode more finds t ys u h =
     let first = led_from _ (q t) (ys, u) h in
-    let behind = read_after_entry_sound mode more first.0.0 first.0.1 ys u first.2 in
-    (first.0.0, behind.0, behind.1, finds.good t first.0.0 first.0.1 first.1, finds.whole t first.0.0 first.0.1 first.1
-      ∙ ap (λ w. text first.0.0 ++ w) behind.2, behind.3, behind.4)
+    let behind = read_after_entry_sound mode more first.0.0 first.0.1 ys u first.2 in (
+      first.0.0,
+      behind.0,
+      behind.1,
+      finds.good t first.0.0 first.0.1 first.1,
+      finds.whole t first.0.0 first.0.1 first.1
+          ∙ ap (λ w. text first.0.0 ++ w) behind.2,
+      behind.3,
+      behind.4,
+    )
 
 -- the whole of what is left of a block from an entry on
 entry_whole : (t v w start text after left u : List ℕ) → t ≡ start ++ v → v ≡ text ++ (after ++ w) → w ≡ left ++ u
@@ -53,9 +60,11 @@ read_rest_step : {A : Type 0} (q : Parse A) (Good : A → Type 0) (text : A → 
 read_rest_step q Good text f s finds count more t xs u later (inl h) =
     let found = read_turn_sound q Good text s.mode more finds h.0 xs u h.2 in
     let left = later found.1 found.2 found.5 in
-    subst (λ ys. AreGood Good ys × (t ≡ block_tail f s count (map text ys) ++ u)) found.6
-    ((found.3, left.0), entry_whole t h.0 found.1 (lead f (inside s) count) (text found.0) (trail s.mode)
-      (block_tail f s (next count) (map text found.2)) u (strip_found (lead f (inside s) count) t h.0 h.1) found.4 left.1)
+    subst (λ ys. AreGood Good ys × (t ≡ block_tail f s count (map text ys) ++ u)) found.6 (
+      (found.3, left.0),
+      entry_whole t h.0 found.1 (lead f (inside s) count) (text found.0) (trail s.mode)
+          (block_tail f s (next count) (map text found.2)) u (strip_found (lead f (inside s) count) t h.0 h.1) found.4 left.1,
+    )
 read_rest_step q Good text f s finds count more t xs u later (inr h) =
     let end = beside_from [] (strip (ending f s count) t) xs u h.1 in
     subst (λ ys. AreGood Good ys × (t ≡ block_tail f s count (map text ys) ++ u)) end.1 (tt, strip_found (ending f s count) t u end.0)
@@ -128,9 +137,13 @@ pub read_value_sound : {A : Type 0} (p : Parse Document) (Good : Document → Ty
     × Good value × (t ≡ codes ": " ++ (text value ++ u))
 read_value_sound {A} p Good text finds key t x u h =
     let behind = led_from _ (strip (codes ": ") t) (x, u) h in
-    let mapped = mapped_from _ (p behind.0) x u behind.2 in
-    (mapped.0, mapped.2, finds.good behind.0 mapped.0 u mapped.1, strip_found (codes ": ") t behind.0 behind.1
-      ∙ ap (λ w. codes ": " ++ w) (finds.whole behind.0 mapped.0 u mapped.1))
+    let mapped = mapped_from _ (p behind.0) x u behind.2 in (
+      mapped.0,
+      mapped.2,
+      finds.good behind.0 mapped.0 u mapped.1,
+      strip_found (codes ": ") t behind.0 behind.1
+          ∙ ap (λ w. codes ": " ++ w) (finds.whole behind.0 mapped.0 u mapped.1),
+    )
 
 -- a key and a value with these properties
 abbrev pub IsGoodPair : {A : Type 0} → (A → Type 0) → (Document → Type 0) → A × Document → Type 0
@@ -150,7 +163,7 @@ read_pair_sound key p GoodKey Good key_text text finds_key finds t x u h =
     subst (λ y. IsGoodPair GoodKey Good y × (t ≡ pair_text key_text text y ++ u)) second.1 (
       (finds_key.good t first.0.0 first.0.1 first.1, second.2),
       finds_key.whole t first.0.0 first.0.1 first.1 ∙ ap (λ w. key_text first.0.0 ++ w) second.3
-        ∙ sym (append_assoc (key_text first.0.0) (codes ": " ++ text second.0) u),
+          ∙ sym (append_assoc (key_text first.0.0) (codes ": " ++ text second.0) u),
     )
 
 -- so keys and values are found where keys and values are

@@ -58,8 +58,10 @@ module _ {W X : Type 0} {seen : Seen W} {start f : Formatter W} {whole : List Pi
   -- both were written
   pub Leaves-next : {mid new : Formatter W} → Prints seen f between true mid → Prints seen mid (pieces_text (setting_of mid) (h x)) true new
       → Leaves seen start whole new (preceded between (map h (drop (k + 1) xs)))
-  Leaves-next a b = record { completes = λ ok last p. after
-      (Prints-then_at (λ s. pieces_text s (h x ++ preceded between (map h (drop (k + 1) xs)))) a (Prints-both (h x) _ b p)) }
+  Leaves-next a b = record {
+    completes = λ ok last p. after
+        (Prints-then_at (λ s. pieces_text s (h x ++ preceded between (map h (drop (k + 1) xs)))) a (Prints-both (h x) _ b p));
+  }
 
 -- no item is left
 pub Leaves-none : {W X : Type 0} {seen : Seen W} {start f : Formatter W} {whole : List Piece} (between : List ℕ) (h : X → List Piece)

@@ -15,8 +15,10 @@ digit_byte digit below = rw (le-leb 48 (48 + digit) (omega arith), le-leb (48 + 
 -- and so are those of several
 digit_bytes : (digits : List ℕ) → All (λ digit. digit < 10) digits → AreWordBytes (map decimal_byte digits)
 digit_bytes [] below = tt
-digit_bytes (digit ∷ digits) below = (digit_byte digit (All-head (λ d. d < 10) digit digits below),
-    digit_bytes digits (All-tail (λ d. d < 10) digit digits below))
+digit_bytes (digit ∷ digits) below = (
+  digit_byte digit (All-head (λ d. d < 10) digit digits below),
+  digit_bytes digits (All-tail (λ d. d < 10) digit digits below),
+)
 
 -- at least one of them is a word
 digits_are_word : (digits : List ℕ) → 0 < length digits → All (λ digit. digit < 10) digits → IsWord (map decimal_byte digits)

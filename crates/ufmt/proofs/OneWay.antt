@@ -30,8 +30,10 @@ pretty_reads_one_way = λ k d e u v hd he nd ne hu hv same. reads_one_way (setti
 
 -- at depth 0 of any mode one text has one normal form, and one normal form one text
 text_tells : (s : Setting) → Fits s 255 → (d e : Document) → IsToken d → IsToken e → (layout s d ≡ layout s e) ↔ (normal d ≡ normal e)
-text_tells s fits d e hd he = (λ same. (reads_one_way s 255 fits d e [] [] hd.0 he.0 hd.1 he.1 tt tt (ap (λ t. t ++ []) same)).0,
-    λ same. sym (layout-normal s d) ∙ ap (layout s) same ∙ layout-normal s e)
+text_tells s fits d e hd he = (
+  λ same. (reads_one_way s 255 fits d e [] [] hd.0 he.0 hd.1 he.1 tt tt (ap (λ t. t ++ []) same)).0,
+  λ same. sym (layout-normal s d) ∙ ap (layout s) same ∙ layout-normal s e,
+)
 
 -- so plain texts tell normal forms apart
 pub plain_text_tells : PlainTextTells
@@ -43,5 +45,7 @@ pretty_text_tells = text_tells (setting Pretty 0) (omega arith)
 
 -- so each tells what the other does
 pub texts_agree : TextsAgree
-texts_agree = λ d e hd he. (λ same. (pretty_text_tells d e hd he).1 ((plain_text_tells d e hd he).0 same),
-    λ same. (plain_text_tells d e hd he).1 ((pretty_text_tells d e hd he).0 same))
+texts_agree = λ d e hd he. (
+  λ same. (pretty_text_tells d e hd he).1 ((plain_text_tells d e hd he).0 same),
+  λ same. (plain_text_tells d e hd he).1 ((pretty_text_tells d e hd he).0 same),
+)

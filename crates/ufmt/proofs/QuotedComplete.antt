@@ -45,8 +45,12 @@ read_inside-complete q bs u zero quote few = absurd (omega arith)
 read_inside-complete q [] u (suc n) quote few = rw (eq-eqb q q refl) refl
 read_inside-complete q (b ∷ bs) u (suc n) quote few =
     let rest = escaped_bytes q bs ++ (q ∷ u) in
-    rw (append_assoc (escaped_byte q b) (escaped_bytes q bs) (q ∷ u), escaped-no_quote q b rest quote, read_escaped-complete q b rest quote,
-      read_inside-complete q bs u n quote (omega arith)) refl
+    rw (
+      append_assoc (escaped_byte q b) (escaped_bytes q bs) (q ∷ u),
+      escaped-no_quote q b rest quote,
+      read_escaped-complete q b rest quote,
+      read_inside-complete q bs u n quote (omega arith),
+    ) refl
 
 -- a spelling has at least one byte
 pub length-escaped : (q b : ℕ) → 1 ≤ length (escaped_byte q b)

@@ -37,7 +37,7 @@ plain_line b no_line e = let is = eq-eqb b 10 e in absurd (cc)
 escaped_line : (q b : ℕ) → IsQuote q → IsOneLine (escaped_byte q b)
 escaped_line q b quote =
     each_row q b (λ n e. IsOneLine e) (omega arith, (omega arith, tt)) (omega arith, (omega arith, tt)) (omega arith, (omega arith, tt))
-      (omega arith, (omega arith, tt))
+    (omega arith, (omega arith, tt))
     (λ itself. (omega arith, (itself_line q b quote itself, tt)))
     (λ low. (omega arith, (omega arith, (omega arith, IsOneLine-append (hex_digits b) (codes "}") (digits_line b (nat_lt b 16) refl low) (omega arith, tt)))))
     (λ no_line itself. (plain_line b no_line, tt))
@@ -53,9 +53,11 @@ quote_line q (inr e) = omega (arith, e)
 
 quoted_line : (q : ℕ) (cs : List ℕ) → IsQuote q → IsOneLine (quoted q cs)
 quoted_line q cs quote =
-    subst IsOneLine (sym (quoted-bytes q cs quote))
-      (quote_line q quote, IsOneLine-append (escaped_bytes q (encode_utf8_all cs)) (q ∷ []) (escaped_lines q (encode_utf8_all cs) quote)
-      (quote_line q quote, tt))
+    subst IsOneLine (sym (quoted-bytes q cs quote)) (
+      quote_line q quote,
+      IsOneLine-append (escaped_bytes q (encode_utf8_all cs)) (q ∷ []) (escaped_lines q (encode_utf8_all cs) quote)
+          (quote_line q quote, tt),
+    )
 
 pub quoted_is_one_line : QuotedIsOneLine
 quoted_is_one_line text (inl of_text) = subst IsOneLine (sym of_text.2) (quoted_line 34 of_text.0 (inl refl))

@@ -25,13 +25,13 @@ at_quote q t w bs u stripped is =
 -- where one more byte stands
 at_byte : (q n : ℕ) (t bs u : List ℕ) → ((s cs v : List ℕ) → read_inside q n s ≡ Some (cs, v) → s ≡ escaped_bytes q cs ++ (q ∷ v))
     → option_and_then {T = ℕ × List ℕ} (λ x. parse_map {B = List ℕ} (λ cs. x.0 ∷ cs) (read_inside q n x.1)) (read_escaped q t)
-        ≡ Some (bs, u) → t ≡ escaped_bytes q bs ++ (q ∷ u)
+    ≡ Some (bs, u) → t ≡ escaped_bytes q bs ++ (q ∷ u)
 at_byte q n t bs u sound h =
     let first = led_from {A = ℕ × List ℕ} (λ x. parse_map {B = List ℕ} (λ cs. x.0 ∷ cs) (read_inside q n x.1)) (read_escaped q t) (bs, u) h in
     let rest = mapped_from {B = List ℕ} (λ cs. first.0.0 ∷ cs) (read_inside q n first.0.1) bs u first.2 in
     let byte = read_escaped-sound q t first.0.0 first.0.1 first.1 in
     byte ∙ ap (λ s. escaped_byte q first.0.0 ++ s) (sound first.0.1 rest.0 u rest.1)
-      ∙ sym (append_assoc (escaped_byte q first.0.0) (escaped_bytes q rest.0) (q ∷ u))
+    ∙ sym (append_assoc (escaped_byte q first.0.0) (escaped_bytes q rest.0) (q ∷ u))
     ∙ ap (λ cs. escaped_bytes q cs ++ (q ∷ u)) rest.2
 
 -- bytes that are read up to a closing quote are spelled before it
@@ -40,7 +40,7 @@ unfolding read_inside
 read_inside-sound q zero t bs u h = absurd (cc)
 read_inside-sound q (suc n) t bs u h =
     elim (chosen_from {B = Option (List ℕ × List ℕ)} (strip (q ∷ []) t) (λ v. Some ([], v))
-        (option_and_then {T = ℕ × List ℕ} (λ x. parse_map {B = List ℕ} (λ cs. x.0 ∷ cs) (read_inside q n x.1)) (read_escaped q t)) (Some (bs, u)) h) [
+    (option_and_then {T = ℕ × List ℕ} (λ x. parse_map {B = List ℕ} (λ cs. x.0 ∷ cs) (read_inside q n x.1)) (read_escaped q t)) (Some (bs, u)) h) [
       | inl quote ↦ at_quote q t quote.0 bs u quote.1 quote.2
       | inr byte ↦ at_byte q n t bs u (read_inside-sound q n) byte.1
     ]
@@ -82,8 +82,10 @@ read_front q test t text u quote b utf8 =
     b.front ∙ ap (λ s. s ++ u) (sym (b.is ∙ whole))
 
 text_sound : (t text u : List ℕ) → IsBetween 34 is_utf8 t text u → IsQuoted text × (t ≡ text ++ u)
-text_sound t text u b = (inl (chars b.bytes, scalars-chars b.bytes (IsUtf8-from_is_utf8 b.bytes b.right), b.is),
-    read_front 34 is_utf8 t text u (inl refl) b b.right)
+text_sound t text u b = (
+  inl (chars b.bytes, scalars-chars b.bytes (IsUtf8-from_is_utf8 b.bytes b.right), b.is),
+  read_front 34 is_utf8 t text u (inl refl) b b.right,
+)
 
 -- both of two tests
 both : (x y : Bool) → x && y ≡ true → (x ≡ true) × (y ≡ true)

@@ -46,8 +46,8 @@ digits_ascii b false short low = rw short
 braces_ascii : (b : ℕ) → b < 128 → IsAscii (codes "u{" ++ (hex_digits b ++ codes "}"))
 braces_ascii b low =
     IsAscii-cons 117 (codes "{" ++ (hex_digits b ++ codes "}")) (omega arith)
-      (IsAscii-cons 123 (hex_digits b ++ codes "}") (omega arith)
-      (IsAscii-append (hex_digits b) (codes "}") (digits_ascii b (nat_lt b 16) refl low) (one_ascii 125 (omega arith))))
+    (IsAscii-cons 123 (hex_digits b ++ codes "}") (omega arith)
+    (IsAscii-append (hex_digits b) (codes "}") (digits_ascii b (nat_lt b 16) refl low) (one_ascii 125 (omega arith))))
 
 itself_ascii : (q b : ℕ) → IsQuote q → (b ≡ 92) ⊎ (b ≡ q) → b < 128
 itself_ascii q b quote (inl e) = omega (arith, e)
@@ -57,7 +57,7 @@ itself_ascii q b (inr h) (inr e) = omega (arith, e, h)
 pub spelling : (q b : ℕ) → IsQuote q → Spelling b (escaped_byte q b)
 spelling q b quote =
     each_row q b Spelling (letter 0 48 (omega arith) (omega arith)) (letter 9 116 (omega arith) (omega arith))
-      (letter 10 110 (omega arith) (omega arith)) (letter 13 114 (omega arith) (omega arith))
+    (letter 10 110 (omega arith) (omega arith)) (letter 13 114 (omega arith) (omega arith))
     (λ itself. letter b b (itself_ascii q b quote itself) (itself_ascii q b quote itself))
     (λ low. inr (codes "u{" ++ (hex_digits b ++ codes "}"), refl, braces_ascii b low, low))
     (λ no_line itself. inl refl)
@@ -75,7 +75,7 @@ module _ (q : ℕ) (quote : IsQuote q) where
   utf8-told [] xs u = u
   utf8-told (b ∷ bs) xs u = elim (spelling q b quote) [
     | inl plain ↦ subst IsUtf8 (sym (goes_on xs bs b))
-      (utf8-told bs (xs ++ (b ∷ [])) (subst IsUtf8 (ap (λ e. xs ++ (e ++ escaped_bytes q bs)) plain ∙ goes_on xs (escaped_bytes q bs) b) u))
+        (utf8-told bs (xs ++ (b ∷ [])) (subst IsUtf8 (ap (λ e. xs ++ (e ++ escaped_bytes q bs)) plain ∙ goes_on xs (escaped_bytes q bs) b) u))
     | inr escape ↦
         let parts = IsUtf8-cut xs (escape.0 ++ escaped_bytes q bs) 92 (omega arith) (subst IsUtf8 (ap (λ e. xs ++ (e ++ escaped_bytes q bs)) escape.1) u) in
         let rest = utf8-told bs [] (IsUtf8-past escape.0 (escaped_bytes q bs) escape.2 parts.1) in
@@ -87,13 +87,13 @@ module _ (q : ℕ) (quote : IsQuote q) where
   utf8-escaped [] xs u = u
   utf8-escaped (b ∷ bs) xs u = elim (spelling q b quote) [
     | inl plain ↦ subst IsUtf8 (sym (ap (λ e. xs ++ (e ++ escaped_bytes q bs)) plain ∙ goes_on xs (escaped_bytes q bs) b))
-      (utf8-escaped bs (xs ++ (b ∷ [])) (subst IsUtf8 (goes_on xs bs b) u))
+        (utf8-escaped bs (xs ++ (b ∷ [])) (subst IsUtf8 (goes_on xs bs b) u))
     | inr escape ↦
         let parts = IsUtf8-cut xs bs b escape.3 u in
         let front : IsUtf8 (92 ∷ escape.0) = IsUtf8-from_ascii (92 ∷ escape.0) (IsAscii-cons 92 escape.0 (omega arith) escape.2) in
         subst IsUtf8 (sym (ap (λ e. xs ++ (e ++ escaped_bytes q bs)) escape.1))
-          (IsUtf8-append xs ((92 ∷ escape.0) ++ escaped_bytes q bs) parts.0
-          (IsUtf8-append (92 ∷ escape.0) (escaped_bytes q bs) front (utf8-escaped bs [] parts.1)))
+        (IsUtf8-append xs ((92 ∷ escape.0) ++ escaped_bytes q bs) parts.0
+        (IsUtf8-append (92 ∷ escape.0) (escaped_bytes q bs) front (utf8-escaped bs [] parts.1)))
   ]
 
   -- with their quotes too

@@ -30,18 +30,22 @@ pairs_complete : (p : Parse Document) (i : Setting) (n : ℕ) → ReadsBelow p i
     → AreRead (read_pair p p) (listed_pairs (normal_pairs ps)) (pair_texts i ps)
 unfolding listed_pairs
 pairs_complete p i n below no_pairs h less = tt
-pairs_complete p i n below (pair key value ps) h less =
-    (read_pair_complete p p (normal key) (normal value) (layout i key) (layout i value) (below.reads key h.0 (omega arith))
-    (below.reads value h.1 (omega arith)), pairs_complete p i n below ps h.2 (omega arith))
+pairs_complete p i n below (pair key value ps) h less = (
+  read_pair_complete p p (normal key) (normal value) (layout i key) (layout i value) (below.reads key h.0 (omega arith))
+      (below.reads value h.1 (omega arith)),
+  pairs_complete p i n below ps h.2 (omega arith),
+)
 
 -- so it reads fields in a row
 fields_complete : (p : Parse Document) (i : Setting) (n : ℕ) → ReadsBelow p i n → (fs : Fields) → FieldsHaveWords fs → nest_fields fs < n
     → AreRead (read_pair read_word p) (listed_fields (normal_fields fs)) (field_texts i fs)
 unfolding listed_fields
 fields_complete p i n below no_fields h less = tt
-fields_complete p i n below (field label value fs) h less =
-    (read_pair_complete read_word p label (normal value) label (layout i value) (label_complete label h.0)
-    (below.reads value h.1 (omega arith)), fields_complete p i n below fs h.2 (omega arith))
+fields_complete p i n below (field label value fs) h less = (
+  read_pair_complete read_word p label (normal value) label (layout i value) (label_complete label h.0)
+      (below.reads value h.1 (omega arith)),
+  fields_complete p i n below fs h.2 (omega arith),
+)
 
 -- what begins the entries of a list, a set, a map or a tuple without a name, behind the bracket
 entries_begin : (s : Setting) {text : List ℕ} → Begins text → (t u : List ℕ) → Begins ((new_line (inside s).mode (inside s).depth ++ (text ++ t)) ++ u)
@@ -62,7 +66,7 @@ list_complete s p n below fits d ds u h hs less =
     let close = closes s Brackets (fits_less s 1 n (omega arith) fits) in
     rw (closer_begins_none 93 [] refl (entries_begin s first.begins (trail s.mode ++ block_tail (frame s.mode Brackets) s One (texts (inside s) ds)) u))
     (rw (read_block_complete p (frame s.mode Brackets) s (λ es. list_of (documents es)) close (normal d) (listed (normal_all ds))
-      (layout (inside s) d) (texts (inside s) ds) u first more)
+    (layout (inside s) d) (texts (inside s) ds) u first more)
     (ap (λ es. Some (list_of (document (normal d) es), u)) (documents-listed (normal_all ds))))
 
 -- a set with entries is read
@@ -75,12 +79,16 @@ set_complete s p n below fits d ds u h hs less =
     let close = closes s Braces (fits_less s 1 n (omega arith) fits) in
     let left : List ℕ = block_tail (frame s.mode Braces) s One (texts (inside s) ds) in
     rw (closer_begins_none 125 [] refl (entries_begin s first.begins (trail s.mode ++ left) u))
-    (rw (entry_assoc (lead (frame s.mode Braces) (inside s) Zero) (layout (inside s) d) (trail s.mode) left u,
-      strip_stands (lead (frame s.mode Braces) (inside s) Zero) (layout (inside s) d ++ (trail s.mode ++ (left ++ u))))
-    (rw (first.reads (trail s.mode ++ (left ++ u)) (rest_follows (frame s.mode Braces) s close Zero (texts (inside s) ds) u),
-      no_colon s (texts (inside s) ds) u)
+    (rw (
+      entry_assoc (lead (frame s.mode Braces) (inside s) Zero) (layout (inside s) d) (trail s.mode) left u,
+      strip_stands (lead (frame s.mode Braces) (inside s) Zero) (layout (inside s) d ++ (trail s.mode ++ (left ++ u))),
+    )
+    (rw (
+      first.reads (trail s.mode ++ (left ++ u)) (rest_follows (frame s.mode Braces) s close Zero (texts (inside s) ds) u),
+      no_colon s (texts (inside s) ds) u,
+    )
     (rw (read_after_first_complete p (frame s.mode Braces) s (λ es. set_of (documents es)) close (normal d) (listed (normal_all ds))
-      (texts (inside s) ds) u more)
+    (texts (inside s) ds) u more)
     (ap (λ es. Some (set_of (document (normal d) es), u)) (documents-listed (normal_all ds))))))
 
 -- a map with entries is read
@@ -95,14 +103,18 @@ map_complete s p n below fits key value ps u hk hv hs less =
     let left : List ℕ = block_tail (frame s.mode Braces) s One (pair_texts (inside s) ps) in
     let entry : List ℕ = layout (inside s) key ++ (codes ": " ++ layout (inside s) value) in
     rw (closer_begins_none 125 [] refl (entries_begin s (Begins-append first.begins (codes ": " ++ layout (inside s) value)) (trail s.mode ++ left) u))
-    (rw (entry_assoc (lead (frame s.mode Braces) (inside s) Zero) entry (trail s.mode) left u,
-      strip_stands (lead (frame s.mode Braces) (inside s) Zero) (entry ++ (trail s.mode ++ (left ++ u))))
-    (rw (append_assoc (layout (inside s) key) (codes ": " ++ layout (inside s) value) (trail s.mode ++ (left ++ u)),
-      first.reads (codes ": " ++ (layout (inside s) value ++ (trail s.mode ++ (left ++ u)))) (inl refl))
+    (rw (
+      entry_assoc (lead (frame s.mode Braces) (inside s) Zero) entry (trail s.mode) left u,
+      strip_stands (lead (frame s.mode Braces) (inside s) Zero) (entry ++ (trail s.mode ++ (left ++ u))),
+    )
+    (rw (
+      append_assoc (layout (inside s) key) (codes ": " ++ layout (inside s) value) (trail s.mode ++ (left ++ u)),
+      first.reads (codes ": " ++ (layout (inside s) value ++ (trail s.mode ++ (left ++ u)))) (inl refl),
+    )
     (rw (read_value_complete p (normal key) (normal value) (layout (inside s) value) (trail s.mode ++ (left ++ u)) second
-      (rest_follows (frame s.mode Braces) s close Zero (pair_texts (inside s) ps) u))
+    (rest_follows (frame s.mode Braces) s close Zero (pair_texts (inside s) ps) u))
     (rw (read_after_first_complete (read_pair p p) (frame s.mode Braces) s (λ es. map_of (pairs_of es)) close (normal key, normal value)
-      (listed_pairs (normal_pairs ps)) (pair_texts (inside s) ps) u more)
+    (listed_pairs (normal_pairs ps)) (pair_texts (inside s) ps) u more)
     (ap (λ es. Some (map_of (pair (normal key) (normal value) es), u)) (pairs_of-listed_pairs (normal_pairs ps)))))))
 
 -- a struct with fields is read
@@ -121,7 +133,7 @@ struct_complete s p n below fits (c ∷ name) label value fs u hn hl hv hs less 
     word_leads s p (c ∷ name) (start ++ (entry ++ (trail s.mode ++ left))) u hn refl
     ∙ (lead_chosen start entry (trail s.mode) left u (read_struct s p (c ∷ name)) (Some (leaf (c ∷ name), (start ++ (entry ++ (trail s.mode ++ left))) ++ u))
     ∙ (read_entries_complete (read_pair read_word p) (frame s.mode Struct) s (λ es. struct_of (c ∷ name) (fields_of es)) close
-      (label, normal value) (listed_fields (normal_fields fs)) entry (field_texts (inside s) fs) u first more
+    (label, normal value) (listed_fields (normal_fields fs)) entry (field_texts (inside s) fs) u first more
     ∙ (ap (λ es. Some (struct_of (c ∷ name) (field label (normal value) es), u)) (fields_of-listed_fields (normal_fields fs)))))
 
 -- a tuple with fields is read
@@ -135,7 +147,7 @@ tuple_complete s p n below fits [] d ds u hn h hs less =
     let close = closes s Unnamed (fits_less s 1 n (omega arith) fits) in
     rw (no_symbol (entries_begin s first.begins (trail s.mode ++ block_tail (frame s.mode Unnamed) s One (texts (inside s) ds)) u))
     (rw (read_block_complete p (frame s.mode Unnamed) s (λ es. tuple_of [] (documents es)) close (normal d) (listed (normal_all ds))
-      (layout (inside s) d) (texts (inside s) ds) u first more)
+    (layout (inside s) d) (texts (inside s) ds) u first more)
     (ap (λ es. Some (tuple_of [] (document (normal d) es), u)) (documents-listed (normal_all ds))))
 tuple_complete s p n below fits (c ∷ name) d ds u hn h hs less =
     let first : IsRead p (normal d) (layout (inside s) d) = below.reads d h (omega arith) in
@@ -145,10 +157,10 @@ tuple_complete s p n below fits (c ∷ name) d ds u hn h hs less =
     let start : List ℕ = lead (frame s.mode Tuple) (inside s) Zero in
     word_leads s p (c ∷ name) (start ++ (layout (inside s) d ++ (trail s.mode ++ left))) u hn refl
     ∙ (lead_chosen start (layout (inside s) d) (trail s.mode) left u (read_tuple s p (c ∷ name))
-      (choose (strip (lead (frame s.mode Struct) (inside s) Zero) ((start ++ (layout (inside s) d ++ (trail s.mode ++ left))) ++ u))
-      (read_struct s p (c ∷ name)) (Some (leaf (c ∷ name), (start ++ (layout (inside s) d ++ (trail s.mode ++ left))) ++ u)))
+    (choose (strip (lead (frame s.mode Struct) (inside s) Zero) ((start ++ (layout (inside s) d ++ (trail s.mode ++ left))) ++ u))
+    (read_struct s p (c ∷ name)) (Some (leaf (c ∷ name), (start ++ (layout (inside s) d ++ (trail s.mode ++ left))) ++ u)))
     ∙ (read_entries_complete p (frame s.mode Tuple) s (λ es. tuple_of (c ∷ name) (documents es)) close (normal d) (listed (normal_all ds))
-      (layout (inside s) d) (texts (inside s) ds) u first more
+    (layout (inside s) d) (texts (inside s) ds) u first more
     ∙ (ap (λ es. Some (tuple_of (c ∷ name) (document (normal d) es), u)) (documents-listed (normal_all ds)))))
 
 -- a struct or tuple without fields is read as the leaf of its name
@@ -182,5 +194,9 @@ read_complete zero s d u h less fits follows =
     read_with_complete s (λ t. None) zero (record { reads = λ e w below. absurd (omega arith) }) fits d u h less follows
 read_complete (suc n) s d u h less fits follows =
     read_with_complete s (read (inside s) n) (suc n)
-    (record { reads = λ e w under. record { begins = document_begins (inside s) e w;
-    reads = λ v after. read_complete n (inside s) e v w (omega arith) (fits_inside s n fits) after } }) fits d u h less follows
+    (record {
+      reads = λ e w under. record {
+        begins = document_begins (inside s) e w;
+        reads = λ v after. read_complete n (inside s) e v w (omega arith) (fits_inside s n fits) after;
+      };
+    }) fits d u h less follows

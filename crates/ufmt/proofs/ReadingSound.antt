@@ -129,8 +129,13 @@ read_list_sound s p n finds t v d u front h = go (chosen_from (strip ((frame s.m
         ⊎ ((strip ((frame s.mode Brackets).closing Zero) v ≡ None)
         × (read_block p (frame s.mode Brackets) s (λ ds. list_of (documents ds)) v ≡ Some (d, u))) → Found s n t d u
     go (inl k) = found_same (list_of no_documents) d k.0 u
-        (record { words = tt; nests = omega arith; is_normal = refl; whole = front
-        ∙ ap (λ w. codes "[" ++ w) (strip_found ((frame s.mode Brackets).closing Zero) v k.0 k.1) }) k.2
+        (record {
+          words = tt;
+          nests = omega arith;
+          is_normal = refl;
+          whole = front
+              ∙ ap (λ w. codes "[" ++ w) (strip_found ((frame s.mode Brackets).closing Zero) v k.0 k.1);
+        }) k.2
     go (inr k) =
         let behind = led_from _ (strip (lead (frame s.mode Brackets) (inside s) Zero) v) (d, u) k.1 in
         list_found s n t behind.0 d u (front ∙ ap (λ w. codes "[" ++ w) (strip_found (lead (frame s.mode Brackets) (inside s) Zero) v behind.0 behind.1))
@@ -151,9 +156,9 @@ read_map_or_set_sound s p n finds t v w first d u front good whole h = go (chose
         let pair_whole : v ≡ pair_text (layout (inside s)) (layout (inside s)) pair_read.0.0 ++ pair_read.0.1 = subst (λ y. v ≡ pair_text (layout (inside s)) (layout (inside s)) y ++ pair_read.0.1) value.1 (whole ∙ ap (λ z. layout (inside s) first ++ z) value.3 ∙ sym (append_assoc (layout (inside s) first) (codes ": " ++ layout (inside s) value.0) pair_read.0.1)) in
         map_found s n t v d u front (with_first pair_read.0.0 v pair_read.0.1 pair_good pair_whole
         (read_after_first_sound (read_pair p p) (IsGoodPair (IsNormalBelow n) (IsNormalBelow n))
-          (pair_text (layout (inside s)) (layout (inside s))) (frame s.mode Braces) s (λ ps. map_of (pairs_of ps))
-          (read_pair_finds p p (IsNormalBelow n) (IsNormalBelow n) (layout (inside s))
-          (layout (inside s)) finds finds) pair_read.0.0 pair_read.0.1 d u pair_read.2))
+        (pair_text (layout (inside s)) (layout (inside s))) (frame s.mode Braces) s (λ ps. map_of (pairs_of ps))
+        (read_pair_finds p p (IsNormalBelow n) (IsNormalBelow n) (layout (inside s))
+        (layout (inside s)) finds finds) pair_read.0.0 pair_read.0.1 d u pair_read.2))
     go (inr k) = set_found s n t v d u front (with_first first v w good whole
         (read_after_first_sound p (IsNormalBelow n) (layout (inside s)) (frame s.mode Braces) s (λ ds. set_of (documents ds)) finds first w d u k.1))
 
@@ -165,14 +170,19 @@ read_braces_sound s p n finds t v d u front h = go (chosen_from (strip ((frame s
     go : ((w : List ℕ) × (strip ((frame s.mode Braces).closing Zero) v ≡ Some w) × (given (map_of no_pairs) w ≡ given d u))
         ⊎ ((strip ((frame s.mode Braces).closing Zero) v ≡ None) × (read_braced_entries s p v ≡ Some (d, u))) → Found s n t d u
     go (inl k) = found_same (map_of no_pairs) d k.0 u
-        (record { words = tt; nests = omega arith; is_normal = refl; whole = front
-        ∙ ap (λ w. codes "{" ++ w) (strip_found ((frame s.mode Braces).closing Zero) v k.0 k.1) }) k.2
+        (record {
+          words = tt;
+          nests = omega arith;
+          is_normal = refl;
+          whole = front
+              ∙ ap (λ w. codes "{" ++ w) (strip_found ((frame s.mode Braces).closing Zero) v k.0 k.1);
+        }) k.2
     go (inr k) =
         let behind = led_from _ (strip (lead (frame s.mode Braces) (inside s) Zero) v) (d, u) k.1 in
         let first = led_from _ (p behind.0) (d, u) behind.2 in
         read_map_or_set_sound s p n finds t behind.0 first.0.1 first.0.0 d u
-          (front ∙ ap (λ w. codes "{" ++ w) (strip_found (lead (frame s.mode Braces) (inside s) Zero) v behind.0 behind.1))
-          (finds.good behind.0 first.0.0 first.0.1 first.1) (finds.whole behind.0 first.0.0 first.0.1 first.1) first.2
+        (front ∙ ap (λ w. codes "{" ++ w) (strip_found (lead (frame s.mode Braces) (inside s) Zero) v behind.0 behind.1))
+        (finds.good behind.0 first.0.0 first.0.1 first.1) (finds.whole behind.0 first.0.0 first.0.1 first.1) first.2
 
 -- what is read as a tuple is one
 read_tuple_sound : (s : Setting) (p : Parse Document) (n : ℕ) → Finds p (IsNormalBelow n) (layout (inside s))
@@ -189,8 +199,8 @@ read_struct_sound : (s : Setting) (p : Parse Document) (n : ℕ) → Finds p (Is
 read_struct_sound s p n finds name t v w d u word front behind h =
     struct_found s n name t w d u word (front ∙ ap (λ x. name ++ x) (strip_found (lead (frame s.mode Struct) (inside s) Zero) v w behind))
     (read_entries_sound (read_pair read_word p) (IsGoodPair IsWord (IsNormalBelow n)) (pair_text (λ x. x) (layout (inside s)))
-      (frame s.mode Struct) s (λ fs. struct_of name (fields_of fs))
-      (read_pair_finds read_word p IsWord (IsNormalBelow n) (λ x. x) (layout (inside s)) read_word_finds finds) w d u h)
+    (frame s.mode Struct) s (λ fs. struct_of name (fields_of fs))
+    (read_pair_finds read_word p IsWord (IsNormalBelow n) (λ x. x) (layout (inside s)) read_word_finds finds) w d u h)
 
 -- a leaf that was found
 leaf_found : {s : Setting} {n : ℕ} {t : List ℕ} (text u : List ℕ) → IsTokenLeaf text → t ≡ text ++ u → Found s n t (leaf text) u

@@ -76,17 +76,25 @@ shift-line line lines h = rw (shift_from-append true line 10 lines, hanging-one_
 -- a text with a line feed, shifted k times
 shift_times-line : (k : ℕ) (text : List ℕ) → shift_times k (text ++ codes "\n") ≡ indentation k ++ (hanging k text ++ codes "\n")
 shift_times-line zero text = rw (hanging-zero text)
-shift_times-line (suc k) text = rw (shift_from-append true text 10 [], shift_times-line k (codes "    " ++ hanging 1 text),
-    hanging-hanging k text) (indentation-suc k _)
+shift_times-line (suc k) text = rw (
+  shift_from-append true text 10 [],
+  shift_times-line k (codes "    " ++ hanging 1 text),
+  hanging-hanging k text,
+) (indentation-suc k _)
 
 -- ---- blocks in any frame
 
 -- the lines of an entry and more lines, shifted, inside a block at depth k
 shift-entry : (k : ℕ) (text lines end : List ℕ) →
     indentation k ++ (hanging k (shift (text ++ (codes ",\n" ++ lines))) ++ end) ≡ indentation (suc k)
-      ++ (hanging (suc k) text ++ (codes ",\n" ++ (indentation k ++ (hanging k (shift lines) ++ end))))
-shift-entry k text lines end = rw (shift_from-append true text 44 (10 ∷ lines), hanging-append k (hanging 1 text) _, hanging-hanging k text,
-    append_assoc (hanging (suc k) text) _ end, append_assoc (indentation k) (hanging k (shift lines)) end) (indentation-suc k _)
+    ++ (hanging (suc k) text ++ (codes ",\n" ++ (indentation k ++ (hanging k (shift lines) ++ end))))
+shift-entry k text lines end = rw (
+  shift_from-append true text 44 (10 ∷ lines),
+  hanging-append k (hanging 1 text) _,
+  hanging-hanging k text,
+  append_assoc (hanging (suc k) text) _ end,
+  append_assoc (indentation k) (hanging k (shift lines)) end,
+) (indentation-suc k _)
 
 -- a frame whose parts stand on one line each, and which ends one entry as it ends several
 record IsSteady (f : Frame) : Type 0 where
@@ -122,7 +130,7 @@ block_tail-next : (f : Frame) (k : ℕ) (count : Count) → IsSteady f → entry
 block_tail-next f k count p e [] = ending-next f k count p
 block_tail-next f k count p e (s ∷ ss) =
     ap₂ (λ before after. before ++ (hanging (suc k) s ++ (codes ",\n" ++ after)))
-      (lead-next f (inside (setting Pretty k)) count ∙ ap indentation e) (block_tail-next f k (next count) p e ss)
+    (lead-next f (inside (setting Pretty k)) count ∙ ap indentation e) (block_tail-next f k (next count) p e ss)
     ∙ sym (shift-entry k s (entry_lines ss) (f.closing Several))
 
 -- where a block at depth k has entries, these are one deeper
@@ -135,8 +143,16 @@ block_tail-first : (f : Frame) (k : ℕ) → IsSteady f → (ss : List (List ℕ
     → block_tail f (setting Pretty k) Zero (map (hanging (entry_depth Pretty k)) ss) ≡ hanging k (shifted_tail f ss)
 block_tail-first f k p [] e = sym (p.zero k)
 block_tail-first f k p (s ∷ ss) e =
-    rw (ap (λ n. map (hanging n) ss) e, e, block_tail-next f k Zero p e ss, append_assoc, hanging-append k f.start _, p.start k,
-      hanging-append k (shift (entry_lines (s ∷ ss))) (f.closing Several), p.several k)
+    rw (
+      ap (λ n. map (hanging n) ss) e,
+      e,
+      block_tail-next f k Zero p e ss,
+      append_assoc,
+      hanging-append k f.start _,
+      p.start k,
+      hanging-append k (shift (entry_lines (s ∷ ss))) (f.closing Several),
+      p.several k,
+    )
     (ap (λ u. f.start ++ (codes "\n" ++ u)) (sym (shift-entry k s (entry_lines ss) (f.closing Several))))
 
 -- a block in any such frame hangs where its entries do
@@ -144,7 +160,7 @@ framed : (f : Frame) (k : ℕ) (name : List ℕ) (ss : List (List ℕ)) → IsSt
     name ++ (f.opening ++ block_tail f (setting Pretty k) Zero (map (hanging (entry_depth Pretty k)) ss)) ≡ hanging k (name ++ (f.opening ++ shifted_tail f ss))
 framed f k name ss p h e =
     rw (hanging-append k name _, hanging-one_line k name h, hanging-append k f.opening _, p.opening k)
-      (ap (λ u. name ++ (f.opening ++ u)) (block_tail-first f k p ss e))
+    (ap (λ u. name ++ (f.opening ++ u)) (block_tail-first f k p ss e))
 
 -- ---- documents
 
@@ -213,8 +229,12 @@ mutual
       → pair_texts (setting Pretty k) ps ≡ map (hanging k) (shifted_pairs ps)
   pair_texts-shifted k no_pairs h n = refl
   pair_texts-shifted k (pair key value ps) h n =
-      rw (hanging-append k (shifted key) _, layout-shifted k key h.0 (omega arith), layout-shifted k value h.1 (omega arith),
-        pair_texts-shifted k ps h.2 (omega arith))
+      rw (
+        hanging-append k (shifted key) _,
+        layout-shifted k key h.0 (omega arith),
+        layout-shifted k value h.1 (omega arith),
+        pair_texts-shifted k ps h.2 (omega arith),
+      )
 
   field_texts-shifted : (k : ℕ) (fs : Fields) → FieldsHaveNoLineFeed fs → nest_fields fs + k ≤ 255
       → field_texts (setting Pretty k) fs ≡ map (hanging k) (shifted_fields fs)

@@ -49,8 +49,10 @@ word_leads s p w t u h stops = ap (read_with s p) (append_assoc w t u) ∙ at_wo
 -- a name before a follower is a leaf
 name_alone : (s : Setting) (p : Parse Document) (w u : List ℕ) → IsWord w → IsFollower u → read_named s p w u ≡ Some (leaf w, u)
 name_alone s p [] u h follows = absurd h
-name_alone s p (c ∷ w) u h follows = rw (follower_no_tuple u (new_line (inside s).mode (inside s).depth) follows,
-    follower_no_struct u (brace_space s.mode ++ new_line (inside s).mode (inside s).depth) follows) refl
+name_alone s p (c ∷ w) u h follows = rw (
+  follower_no_tuple u (new_line (inside s).mode (inside s).depth) follows,
+  follower_no_struct u (brace_space s.mode ++ new_line (inside s).mode (inside s).depth) follows,
+) refl
 
 -- a quoted leaf is read, whatever follows it
 quoted_complete : (s : Setting) (p : Parse Document) (text u : List ℕ) → IsQuoted text → read_with s p (text ++ u) ≡ Some (leaf text, u)
@@ -78,9 +80,9 @@ no_symbol b = rw (closer_begins_none 41 [] refl b) refl
 pub read_symbol_sound : (t text u : List ℕ) → read_symbol t ≡ Some (text, u) → IsTokenLeaf text × (t ≡ text ++ u)
 read_symbol_sound t text u h = elim (chosen_from {B = Option (List ℕ × List ℕ)} (strip (codes "()") t) (λ v. Some (codes "()", v))
     (read_quoted t) (Some (text, u)) h) [
-  | inl unit ↦ at_unit unit.0 unit.1 unit.2
-  | inr quoted ↦ at_quote (read_quoted-sound t text u quoted.1)
-]
+      | inl unit ↦ at_unit unit.0 unit.1 unit.2
+      | inr quoted ↦ at_quote (read_quoted-sound t text u quoted.1)
+    ]
   where
     at_unit : (v : List ℕ) → strip (codes "()") t ≡ Some v → ◌≡◌ {A = Option (List ℕ × List ℕ)} (Some (codes "()", v)) (Some (text, u))
         → IsTokenLeaf text × (t ≡ text ++ u)

@@ -112,7 +112,7 @@ normal-inside : normal (struct_of (codes "S")
     (field (codes "a") (map_of (pair (tuple_of (codes "K") no_documents) (set_of no_documents) no_pairs))
     (field (codes "b") (set_of (lone (struct_of (codes "B") no_fields))) no_fields)))
     ≡ struct_of (codes "S") (field (codes "a") (map_of (pair (leaf (codes "K")) (map_of no_pairs) no_pairs))
-      (field (codes "b") (set_of (lone (leaf (codes "B")))) no_fields))
+    (field (codes "b") (set_of (lone (leaf (codes "B")))) no_fields))
 normal-inside = refl
 
 normal-parts : normal (joined (lone (pretty_part (tuple_of (codes "T") (lone (set_of no_documents))))))

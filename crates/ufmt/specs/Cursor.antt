@@ -25,8 +25,13 @@ buffer_name c = c.buffer.ghost_name
 
 -- a cursor as a writer: its text is always told, it takes as many bytes as remain, and it writes over its buffer, which its name and length tell from others
 abbrev pub cursor_seen : Seen Cursor
-cursor_seen = record { told = λ c. ⊤; text = written_bytes; room = remaining_count; identity = λ c. buffer_name c ∷ buffer_length c ∷ [];
-    store = λ c. c.buffer.now }
+cursor_seen = record {
+  told = λ c. ⊤;
+  text = written_bytes;
+  room = remaining_count;
+  identity = λ c. buffer_name c ∷ buffer_length c ∷ [];
+  store = λ c. c.buffer.now;
+}
 
 -- a piece that fits is appended and the bytes past it stay; another is refused and nothing changes
 pub record Fills (old : Cursor) (piece : List ℕ) (ok : Bool) (new : Cursor) : Type 0 where

@@ -46,8 +46,12 @@ module _ {W : Type 0} {seen : Seen W} where
   -- a call that went on, and then what closes the block
   pub WritesEnding-then : {old mid new : Block W} {p q : List ℕ} {ok : Bool} {between : Count} → WritesPart seen old p true between mid
       → WritesEnding seen mid q ok new → WritesEnding seen old (p ++ q) ok new
-  WritesEnding-then a f = record { wrote = Writes-then a.wrote f.wrote; same = Same-then a.same f.same; closed = f.closed;
-      restored = f.restored ∙ a.same.outer }
+  WritesEnding-then a f = record {
+    wrote = Writes-then a.wrote f.wrote;
+    same = Same-then a.same f.same;
+    closed = f.closed;
+    restored = f.restored ∙ a.same.outer;
+  }
 
   -- a call that failed closes the block
   pub WritesEnding-fails : {old new : Block W} {p : List ℕ} (q : List ℕ) {between : Count} → WritesPart seen old p false between new
@@ -73,8 +77,11 @@ module _ {W : Type 0} {seen : Seen W} (pending : Status) (old : Block W) {new : 
 
   -- was handed its failure
   WritesPart-abandoned : Prints seen old.formatter printed false ended → Abandons (lent_to pending old ended) new → StopsIn seen old printed new
-  WritesPart-abandoned p a = record { wrote = rw a.same_writer p.wrote;
-      same = record { reference = a.same.reference; kind = a.same.kind; outer = a.same.outer }; after = a.after }
+  WritesPart-abandoned p a = record {
+    wrote = rw a.same_writer p.wrote;
+    same = record { reference = a.same.reference; kind = a.same.kind; outer = a.same.outer };
+    after = a.after;
+  }
 
 -- an entry in halves: what stands before the value was written, the lent formatter has printed the value's text, and the second half has ended the entry
 module _ {W E : Type 0} {seen : Seen W} (pending : Status) (old : Block W) {new : Block W} {begun : Formatter W} (ended : Formatter W)
@@ -89,7 +96,7 @@ module _ {W E : Type 0} {seen : Seen W} (pending : Status) (old : Block W) {new 
   WritesPart-between (Err x) result m p l e =
       let end = subst (λ (b : Block W). EndsEntry seen (Err x) b result (is_ok result) new) m e in
       rw (ap is_ok end.error.0, ← append_assoc before (text (inner old)) (trail_of old))
-        (WritesPart-fails _ (WritesPart-abandoned pending old (Prints-then_at text p l) end.error.1))
+      (WritesPart-fails _ (WritesPart-abandoned pending old (Prints-then_at text p l) end.error.1))
 
 -- a map's entry: the key, `: ` and the value, each by the lent formatter
 module _ {W E : Type 0} {seen : Seen W} (old : Block W) {new : Block W} {begun : Formatter W} (ended : Formatter W) (key value : Document) where
@@ -99,21 +106,25 @@ module _ {W E : Type 0} {seen : Seen W} (old : Block W) {new : Block W} {begun :
       OnOk answer (StopsIn seen mid (codes ": ") new) → OnErr answer (Abandons mid new) → WritesEntry seen old (pair_text key value) false new
   WritesEntry-no_value (Ok x) m p l stop error =
       let whole : framed (frame_of old) (inner old) old.count (pair_text key value (inner old)) ≡ ((lead_of old ++ layout (inner old) key) ++ codes ": ") ++ (layout (inner old) value ++ trail_of old) = simp append_assoc in
-      record { part = rw whole (WritesPart-fails _
-          (WritesPart-printed Lent old (λ s. codes ": ") (Prints-then_at (λ s. layout s key) p l.prints)
-          (subst (λ (b : Block W). StopsIn seen b (codes ": ") new) m stop))) }
+      record {
+        part = rw whole (WritesPart-fails _
+            (WritesPart-printed Lent old (λ s. codes ": ") (Prints-then_at (λ s. layout s key) p l.prints)
+            (subst (λ (b : Block W). StopsIn seen b (codes ": ") new) m stop)));
+      }
   WritesEntry-no_value (Err x) m p l stop error =
       let whole : framed (frame_of old) (inner old) old.count (pair_text key value (inner old)) ≡ (lead_of old ++ layout (inner old) key) ++ (codes ": " ++ (layout (inner old) value ++ trail_of old)) = simp append_assoc in
-      record { part = rw whole (WritesPart-fails _
-          (WritesPart-abandoned Lent old (Prints-then_at (λ s. layout s key) p l.prints) (subst (λ (b : Block W). Abandons b new) m error))) }
+      record {
+        part = rw whole (WritesPart-fails _
+            (WritesPart-abandoned Lent old (Prints-then_at (λ s. layout s key) p l.prints) (subst (λ (b : Block W). Abandons b new) m error)));
+      }
 
   -- `: ` and the value too
   pub WritesEntry-pair : {Y : Type 0} {mid last : Block W} {lent : Formatter W} (printed : Formatter W)
       (key_answer answer result : Result (Unit {0}) E) (lending : Result Y E) →
       mid ≡ lent_to Lent old ended → Prints seen old.formatter (lead_of old) true begun → LaysOut seen begun key (is_ok key_answer) ended
-        → IfErr key_answer (λ e. lending ≡ Err e) → IsOk lending →
+      → IfErr key_answer (λ e. lending ≡ Err e) → IsOk lending →
       last ≡ lent_to LentValue mid printed → Prints seen mid.formatter (codes ": ") true lent
-        → LaysOut seen lent value (is_ok answer) printed → EndsEntry seen answer last result (is_ok result) new →
+      → LaysOut seen lent value (is_ok answer) printed → EndsEntry seen answer last result (is_ok result) new →
       WritesEntry seen old (pair_text key value) (is_ok result) new
   WritesEntry-pair {last = last} {lent = lent} printed key_answer answer result lending m p k error ok l colon v e =
       let keyed = subst (λ (o : Bool). Prints seen begun (layout (setting_of begun) key) o ended) (handed_ok key_answer lending error ok) k.prints in
@@ -147,8 +158,10 @@ count_after-append count (y ∷ xs) x = count_after-append (next count) xs x
 module _ {W D : Type 0} {seen : Seen W} (text_of : D → Setting → List ℕ) where
   -- no entry yet
   pub WritesRow-none : (b : Block W) → IsOpen b → WritesRow seen b text_of [] true b
-  WritesRow-none b open_b = record { part =
-      record { wrote = Writes-nothing _; same = record { reference = refl; kind = refl; outer = refl }; after = (refl, open_b, refl) } }
+  WritesRow-none b open_b = record {
+    part =
+        record { wrote = Writes-nothing _; same = record { reference = refl; kind = refl; outer = refl }; after = (refl, open_b, refl) };
+  }
 
   -- after some entries, one more
   pub WritesRow-more : {old mid new : Block W} (xs : List D) (y : D) (ok : Bool) → WritesRow seen old text_of xs true mid
@@ -169,14 +182,14 @@ module _ {W D : Type 0} {seen : Seen W} (text_of : D → Setting → List ℕ) w
       WritesRow seen old text_of (take (k + 1) whole) ok new
   WritesRow-next {old} {mid} {new} whole k y ok within is a e =
       subst (λ (xs : List D). WritesRow seen old text_of xs ok new) (ap (λ z. take k whole ++ z ∷ []) is ∙ sym (take_more whole k y within))
-          (WritesRow-more (take k whole) y ok a e)
+      (WritesRow-more (take k whole) y ok a e)
 
 module _ {W U T D X E : Type 0} {seen : Seen W} {becomes : U → T → Type 0} (steps : T → Option D → T → Type 0) (text_of : D → Setting → List ℕ) where
   -- a loop over the items of an iterator, where the entry after the first ones failed
   pub WritesEntries-stopped : {entries : U} (first here after : T) {xs : List D} {y : D} {old mid new : Block W} (answer : Result X E)
       → IsErr answer → becomes entries first →
       Yields steps first xs here → steps here (Some y) after → WritesRow seen old text_of xs true mid
-        → WritesEntry seen mid (text_of y) false new → WritesEntries seen becomes steps text_of entries old (is_ok answer) new
+      → WritesEntry seen mid (text_of y) false new → WritesEntries seen becomes steps text_of entries old (is_ok answer) new
   WritesEntries-stopped first here after {xs} {y} answer failed begins yields step a e =
       rw (is_ok-err answer failed) record {
         iterator = first;
@@ -191,7 +204,7 @@ module _ {W U T D Y : Type 0} {seen : Seen W} {becomes : U → T → Type 0} {st
   -- where every run of the iterator gives items that `view` takes to `ys`, their entries were written, or a beginning of them
   pub WritesRow-from_entries : (entries : U) (ys : List Y) {old new : Block W} (ok : Bool) →
       ((it : T) → becomes entries it → AlwaysYields steps view it ys)
-        → WritesEntries seen becomes steps (λ x. text_of (view x)) entries old ok new → WritesRow seen old text_of ys ok new
+      → WritesEntries seen becomes steps (λ x. text_of (view x)) entries old ok new → WritesRow seen old text_of ys ok new
   WritesRow-from_entries entries ys {old} {new} true yields a =
       let given : YieldsList steps view a.iterator ys = record { runs = yields a.iterator a.begins } in
       let all = items_from_drains a.items (a.drains.0, a.drains.1, λ _. a.drains.2 refl) given in

@@ -49,7 +49,7 @@ cut text high grows (suc count) n h =
     let middle : n % 10 ^ suc count / 10 ≡ n / 10 % 10 ^ count = rw pow-suc (omega (arith, digits)) in
     let last : n % 10 ^ suc count % 10 ≡ n % 10 = rw pow-suc (omega (arith, digits)) in
     step.0 ∙ rw (← quotient, middle, last, cut text high grows count (n / 10) step.1)
-      (append_assoc (text 0 (n / 10 / 10 ^ count)) (last_digits count (n / 10 % 10 ^ count)) (decimal_byte (n % 10) ∷ []))
+    (append_assoc (text 0 (n / 10 / 10 ^ count)) (last_digits count (n / 10 % 10 ^ count)) (decimal_byte (n % 10) ∷ []))
 
 -- as the last digits do
 last_digits-split : (front count n : ℕ) → last_digits (front + count) n ≡ last_digits front (n / 10 ^ count) ++ last_digits count (n % 10 ^ count)
@@ -57,7 +57,7 @@ unfolding last_digits
 last_digits-split front count n =
     let none : front + 0 ≡ front = omega arith in
     cut (λ c m. last_digits (front + c) m) (λ c m. Unit {0})
-        (λ c m h. (ap (λ k. last_digits k m) {x = front + suc c} {y = suc (front + c)} (omega arith), h)) count n tt ∙ rw none refl
+    (λ c m h. (ap (λ k. last_digits k m) {x = front + suc c} {y = suc (front + c)} (omega arith), h)) count n tt ∙ rw none refl
 
 -- and decimal texts
 pub decimal-cut : (count n : ℕ) → 10 ^ count ≤ n → decimal (pos n) ≡ decimal (pos (n / 10 ^ count)) ++ last_digits count (n % 10 ^ count)
@@ -68,18 +68,22 @@ decimal-cut =
 -- which then are shorter by as many
 pub length-cut : (count n : ℕ) → 10 ^ count ≤ n → length (decimal (pos n)) ≡ length (decimal (pos (n / 10 ^ count))) + count
 length-cut count n high =
-    omega (arith, ap length (decimal-cut count n high), length-append (decimal (pos (n / 10 ^ count))) (last_digits count (n % 10 ^ count)),
-      length-last_digits count (n % 10 ^ count))
+    omega (
+      arith,
+      ap length (decimal-cut count n high),
+      length-append (decimal (pos (n / 10 ^ count))) (last_digits count (n % 10 ^ count)),
+      length-last_digits count (n % 10 ^ count),
+    )
 
 -- the last digits are written in two halves, the second first
 pub last_digits-halves : (half n start : ℕ) (buffer mid new : List ℕ)
     → drop (start + half) mid ≡ last_digits half (n % 10 ^ half) ++ drop (start + half + half) buffer →
     drop start new ≡ last_digits half (n / 10 ^ half) ++ drop (start + half) mid
-      → drop start new ≡ last_digits (half + half) n ++ drop (start + (half + half)) buffer
+    → drop start new ≡ last_digits (half + half) n ++ drop (start + (half + half)) buffer
 last_digits-halves half n start buffer mid new second first =
     let end : start + half + half ≡ start + (half + half) = omega arith in
     rw (first, second, end, last_digits-split half half n)
-      (sym (append_assoc (last_digits half (n / 10 ^ half)) (last_digits half (n % 10 ^ half)) (drop (start + (half + half)) buffer)))
+    (sym (append_assoc (last_digits half (n / 10 ^ half)) (last_digits half (n % 10 ^ half)) (drop (start + (half + half)) buffer)))
 
 -- what a loop that writes the last digits before the others keeps: where they are left, there is room for them and for another
 pub record IsCutFrom (count n left start : ℕ) (buffer : List ℕ) : Type 0 where
@@ -94,8 +98,12 @@ cut_from count n left start buffer fits written =
     let digits = ap length written.joined in
     let whole = length-append (decimal (pos left)) (drop start buffer) in
     let another = text-nonempty decimal-in_base (left / 10 ^ count) in
-    record { fits = fits; written = written; room =
-        λ high. omega (arith, written.within, digits, whole, length-drop start buffer, length-cut count left high, another) }
+    record {
+      fits = fits;
+      written = written;
+      room =
+          λ high. omega (arith, written.within, digits, whole, length-drop start buffer, length-cut count left high, another);
+    }
 
 -- before the first turn
 pub IsCutFrom-none : (count n : ℕ) (buffer : List ℕ) → length (decimal (pos n)) ≤ length buffer → IsCutFrom count n n (length buffer) buffer
@@ -106,11 +114,16 @@ IsCutFrom-none count n buffer fits =
 pub IsCutFrom-more : {count n left start : ℕ} {buffer : List ℕ} (new : List ℕ) → IsCutFrom count n left start buffer → 10 ^ count ≤ left
     → length new ≡ length buffer →
     drop (start - count) new ≡ last_digits count (left % 10 ^ count) ++ drop (start - count + count) buffer
-      → IsCutFrom count n (left / 10 ^ count) (start - count) new
+    → IsCutFrom count n (left / 10 ^ count) (start - count) new
 IsCutFrom-more {count} {n} {left} {start} {buffer} new kept high same_length placed =
     let next : start - count + count ≡ start = omega (arith, kept.room high) in
     cut_from count n (left / 10 ^ count) (start - count) new (omega (arith, kept.fits)) record {
       within = omega (arith, kept.written.within);
-      joined = rw (placed, next, ← append_assoc (decimal (pos (left / 10 ^ count))) (last_digits count (left % 10 ^ count))
-          (drop start buffer), ← decimal-cut count left high) kept.written.joined;
+      joined = rw (
+        placed,
+        next,
+        ← append_assoc (decimal (pos (left / 10 ^ count))) (last_digits count (left % 10 ^ count))
+            (drop start buffer),
+        ← decimal-cut count left high,
+      ) kept.written.joined;
     }

@@ -16,8 +16,10 @@ module _ {W : Type 0} where
 module _ {W : Type 0} {seen : Seen W} {start : Formatter W} {reference : ℕ} {b : Block W} where
   begun : {d : Document} {kind : Kind} {opening : List ℕ} {left : Setting → List (List ℕ)} → IsBlock d kind opening left
       → WritesOpening seen start reference kind opening b → Leaves seen start d b.reference b left
-  begun {left = left} is_block o = record { completes =
-      λ ok last c. LaysOut-opened is_block o (subst (λ (r : ℕ). Completes seen r b left ok last) o.same.reference c) }
+  begun {left = left} is_block o = record {
+    completes =
+        λ ok last c. LaysOut-opened is_block o (subst (λ (r : ℕ). Completes seen r b left ok last) o.same.reference c);
+  }
 
   pub list_begun : {ds : Documents} → WritesOpening seen start reference Brackets (codes "[") b
       → Leaves seen start (list_of ds) b.reference b (remaining_entries ds)

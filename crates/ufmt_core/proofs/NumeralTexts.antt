@@ -57,4 +57,4 @@ module _ {base : ℕ} {byte_of : ℕ → ℕ} {text : ℕ → List ℕ} (t : IsT
   IsAscii-text ascii n =
       let below = (numeral-tells base n t.two).below_base in
       rw (t.by_digits n) (IsAscii-from_all (map byte_of (numeral base n))
-        (All-map (λ byte. byte < 128) byte_of (numeral base n) (λ k d within. ascii _ (below k d within))))
+      (All-map (λ byte. byte < 128) byte_of (numeral base n) (λ k d within. ascii _ (below k d within))))

@@ -22,7 +22,7 @@ digits_of-after base n (digit ∷ digits) two positive below =
     let more : 0 < n * base + digit = omega (arith, mul-le-mul_right base positive) in
     digits_of-after base (n * base + digit) digits two more (All-tail (λ d. d < base) digit digits below)
     ∙ ap (λ front. front ++ digits) (digits_of_step base (n * base + digit) two more
-      ∙ ap₂ (λ q r. digits_of base q ++ r ∷ []) (div-mul-add n base digit low) (mod-mul-add n base digit low))
+    ∙ ap₂ (λ q r. digits_of base q ++ r ∷ []) (div-mul-add n base digit low) (mod-mul-add n base digit low))
     ∙ append_assoc (digits_of base n) (digit ∷ []) digits
 
 -- a number above 0 and below the base is its own digit

@@ -55,8 +55,10 @@ module _ {W : Type 0} {seen : Seen W} {start last : Formatter W} {d : Document} 
       → OnErr r (Prints seen start opening false last) → LaysOut seen start d (is_ok answer) last
   LaysOut-not_opened answer failed was unopened =
       let p = IfErr-at_err _ was unopened in
-      LaysOut-err answer failed (record { prints =
-          record { wrote = rw (is_block.joined (setting_of start)) (Writes-fails _ p.wrote); same_setting = p.same_setting } })
+      LaysOut-err answer failed (record {
+        prints =
+            record { wrote = rw (is_block.joined (setting_of start)) (Writes-fails _ p.wrote); same_setting = p.same_setting };
+      })
 
   -- a builder that began, and what was written from then on
   pub LaysOut-opened : {reference : ℕ} {b : Block W} {ok : Bool} → WritesOpening seen start reference kind opening b
@@ -142,7 +144,7 @@ module _ {W : Type 0} {seen : Seen W} {reference : ℕ} {b b' : Block W} {last :
   -- as a call that failed does, which wrote a beginning of this part
   Completes-stops : {part : List ℕ} (more : List ℕ) {count : Count} {left : Setting → List (List ℕ)} →
       (IsInside b → tail_of b left ≡ part ++ more) → WritesPart seen b part false count b'
-        → (reference ≡ b'.reference → last ≡ b'.formatter) → Completes seen reference b left false last
+      → (reference ≡ b'.reference → last ≡ b'.formatter) → Completes seen reference b left false last
   Completes-stops more text a = Completes-closed (λ inside_b. rw (text inside_b) (WritesEnding-fails more a))
 
   pub completed : {left : Setting → List (List ℕ)} {ok : Bool} → WritesEnding seen b (tail_of b left) ok b'
@@ -157,14 +159,14 @@ module _ {W : Type 0} (b : Block W) where
   -- an entry is the first part of what is left
   block_tail-entry : (text : Setting → List ℕ) (left : Setting → List (List ℕ)) → IsInside b →
       tail_of b (λ i. text i ∷ left i) ≡ framed (frame_of b) (inner b) b.count (text (inner b))
-        ++ block_tail (frame b.outer.mode b.kind) b.outer (next b.count) (left (inside b.outer))
+      ++ block_tail (frame b.outer.mode b.kind) b.outer (next b.count) (left (inside b.outer))
   block_tail-entry text left inside_b = rw inside_b (simp append_assoc)
 
   -- entries in a row are the first of what is left
   block_tail-row : {D : Type 0} (text_of : D → Setting → List ℕ) (items : List D) (left more : Setting → List (List ℕ))
       → ((i : Setting) → left i ≡ map (λ x. text_of x i) items ++ more i) → IsInside b →
       tail_of b left ≡ framed_all (frame_of b) (inner b) b.count (map (λ x. text_of x (inner b)) items)
-        ++ block_tail (frame b.outer.mode b.kind) b.outer (count_after b.count items) (more (inside b.outer))
+      ++ block_tail (frame b.outer.mode b.kind) b.outer (count_after b.count items) (more (inside b.outer))
   block_tail-row text_of items left more all inside_b =
       let texts = map (λ x. text_of x (inside b.outer)) items in
       let f = frame b.outer.mode b.kind in
@@ -220,7 +222,7 @@ module _ {W : Type 0} {seen : Seen W} {reference : ℕ} {b b' : Block W} {last :
     loop_failed k {y} within is written failed =
         let more = λ (i : Setting). map (λ x. text_of x i) (drop (k + 1) whole) in
         row_failed more (λ i. all i ∙ ap (map (λ x. text_of x i)) (sym (take-append-drop (k + 1) whole))
-          ∙ map-append (λ x. text_of x i) (take (k + 1) whole) (drop (k + 1) whole)) (WritesRow-next text_of whole k y false within is written failed)
+        ∙ map-append (λ x. text_of x i) (take (k + 1) whole) (drop (k + 1) whole)) (WritesRow-next text_of whole k y false within is written failed)
 
 -- the texts of documents that values have, in the order of the values
 pub texts-of : {X : Type 0} (h : X → Document) (xs : List X) (i : Setting) → remaining_entries (documents (map h xs)) i ≡ map (λ x. entry_text (h x) i) xs
@@ -253,32 +255,34 @@ module _ {W E : Type 0} {seen : Seen W} {d : Document} {begun ended : Formatter 
   pub entry_between : {K : Type 0} (kind : K → Kind) (old : Builder W K) {mid : Builder W K} → mid ≡ lent Lent old ended
       → Prints seen old.formatter.now (lead_of (block kind old)) true begun →
       LaysOut seen begun d (is_ok answer) ended → EndsEntry seen answer (block kind mid) result (is_ok result) new
-        → WritesEntry seen (block kind old) (entry_text d) (is_ok result) new
-  entry_between kind old m p l e = record { part =
-      WritesPart-between Lent (block kind old) ended _ (entry_text d) answer result (ap (block kind) m) p l.prints e }
+      → WritesEntry seen (block kind old) (entry_text d) (is_ok result) new
+  entry_between kind old m p l e = record {
+    part =
+        WritesPart-between Lent (block kind old) ended _ (entry_text d) answer result (ap (block kind) m) p l.prints e;
+  }
 
   pub list_entry_between : (old : Builder W ListBlock) {mid : Builder W ListBlock} → mid ≡ lent Lent old ended
       → Prints seen old.formatter.now (lead_of (list_block old)) true begun →
       LaysOut seen begun d (is_ok answer) ended → EndsEntry seen answer (list_block mid) result (is_ok result) new
-        → WritesEntry seen (list_block old) (entry_text d) (is_ok result) new
+      → WritesEntry seen (list_block old) (entry_text d) (is_ok result) new
   list_entry_between = entry_between (λ _. Brackets)
 
   pub set_entry_between : (old : Builder W SetBlock) {mid : Builder W SetBlock} → mid ≡ lent Lent old ended
       → Prints seen old.formatter.now (lead_of (set_block old)) true begun →
       LaysOut seen begun d (is_ok answer) ended → EndsEntry seen answer (set_block mid) result (is_ok result) new
-        → WritesEntry seen (set_block old) (entry_text d) (is_ok result) new
+      → WritesEntry seen (set_block old) (entry_text d) (is_ok result) new
   set_entry_between = entry_between (λ _. Braces)
 
   pub tuple_field_between : (old : Builder W TupleBlock) {mid : Builder W TupleBlock} → mid ≡ lent Lent old ended
       → Prints seen old.formatter.now (lead_of (tuple_block old)) true begun →
       LaysOut seen begun d (is_ok answer) ended → EndsEntry seen answer (tuple_block mid) result (is_ok result) new
-        → WritesEntry seen (tuple_block old) (entry_text d) (is_ok result) new
+      → WritesEntry seen (tuple_block old) (entry_text d) (is_ok result) new
   tuple_field_between = entry_between kind_of_tuple
 
   pub field_between : (old : Builder W StructBlock) {mid : Builder W StructBlock} (label : List ℕ) → mid ≡ lent Lent old ended
       → Prints seen old.formatter.now (field_lead_of label (struct_block old)) true begun →
       LaysOut seen begun d (is_ok answer) ended → EndsEntry seen answer (struct_block mid) result (is_ok result) new
-        → WritesEntry seen (struct_block old) (field_text label d) (is_ok result) new
+      → WritesEntry seen (struct_block old) (field_text label d) (is_ok result) new
   field_between old label m p l e =
       let whole : framed (frame_of (struct_block old)) (inner (struct_block old)) old.count (field_text label d (inner (struct_block old)))
       ≡ field_lead_of label (struct_block old) ++ (entry_text d (inner (struct_block old)) ++ trail_of (struct_block old)) = simp append_assoc in

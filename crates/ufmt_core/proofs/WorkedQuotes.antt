@@ -18,7 +18,7 @@ past-ascii-text = refl
 -- the same of characters
 rows-char : map quoted_char (0 ∷ 9 ∷ 10 ∷ 13 ∷ 92 ∷ 34 ∷ 39 ∷ 1 ∷ 27 ∷ 127 ∷ [])
     ≡ codes "'\\0'" ∷ codes "'\\t'" ∷ codes "'\\n'" ∷ codes "'\\r'" ∷ codes "'\\\\'" ∷ codes "'\"'" ∷ codes "'\\''" ∷ codes "'\\u{1}'"
-      ∷ codes "'\\u{1b}'" ∷ codes "'\\u{7f}'" ∷ []
+    ∷ codes "'\\u{1b}'" ∷ codes "'\\u{7f}'" ∷ []
 unfolding lib.Utf8.encode
 rows-char = refl
 

@@ -15,9 +15,12 @@ is_ok-err (Err e) h = refl
 -- what was appended after `p` was
 Appended-then : (ok : Bool) (old p q mid new : List ℕ) → mid ≡ old ++ p → Appended ok mid q new → Appended ok old (p ++ q) new
 Appended-then true old p q mid new e h = h ∙ ap (λ t. t ++ q) e ∙ append_assoc old p q
-Appended-then false old p q mid new e h =
-    (p ++ h.0, record { remainder = h.1.remainder; joined = ap (λ t. p ++ t) h.1.joined ∙ sym (append_assoc p h.0 h.1.remainder) }, h.2
-      ∙ ap (λ t. t ++ h.0) e ∙ append_assoc old p h.0)
+Appended-then false old p q mid new e h = (
+  p ++ h.0,
+  record { remainder = h.1.remainder; joined = ap (λ t. p ++ t) h.1.joined ∙ sym (append_assoc p h.0 h.1.remainder) },
+  h.2
+      ∙ ap (λ t. t ++ h.0) e ∙ append_assoc old p h.0,
+)
 
 -- a beginning of `p` is one of `p ++ q`
 Appended-fails : (old p q new : List ℕ) → Appended false old p new → Appended false old (p ++ q) new
@@ -42,8 +45,12 @@ module _ {W : Type 0} {seen : Seen W} where
     stays_told = λ t. b.stays_told (a.stays_told t);
     appended = λ t. Appended-then ok _ p q _ _ (a.appended t) (b.appended (a.stays_told t));
     fits = λ h. b.fits (omega (arith, length-append p q, a.room_left (omega (arith, length-append p q))));
-    room_left = λ h. omega (arith, length-append p q, a.room_left (omega (arith, length-append p q)),
-        b.room_left (omega (arith, length-append p q, a.room_left (omega (arith, length-append p q)))));
+    room_left = λ h. omega (
+      arith,
+      length-append p q,
+      a.room_left (omega (arith, length-append p q)),
+      b.room_left (omega (arith, length-append p q, a.room_left (omega (arith, length-append p q)))),
+    );
     same_identity = b.same_identity ∙ a.same_identity;
     untouched = λ t. b.untouched (a.stays_told t) ∙ drop-further _ _ _ _ (Appended-grows ok _ q _ (b.appended (a.stays_told t))) (a.untouched t);
   }

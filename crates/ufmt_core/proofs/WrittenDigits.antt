@@ -23,8 +23,14 @@ module _ {base : ℕ} {byte_of : ℕ → ℕ} {text : ℕ → List ℕ} (t : IsT
     (fits : length (text n) ≤ length buffer) (written : IsWrittenFrom text n left start buffer) where
   -- there is room for a digit
   pub digit_fits : 0 < start
-  digit_fits = omega (arith, written.within, text-nonempty t left, ap length written.joined, length-append (text left) (drop start buffer),
-      length-drop start buffer)
+  digit_fits = omega (
+    arith,
+    written.within,
+    text-nonempty t left,
+    ap length written.joined,
+    length-append (text left) (drop start buffer),
+    length-drop start buffer,
+  )
 
   module _ (rest digit byte : ℕ) (is_rest : rest ≡ left / base) (is_digit : digit ≡ left % base) (is_byte : byte ≡ byte_of digit) where
     -- the step of the loop where digits are left

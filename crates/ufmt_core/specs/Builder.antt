@@ -20,8 +20,14 @@ use Rattle.ufmt_core.specs.Block.{Status, Lent, LentValue, Closed, Block, StopsI
 
 -- a builder whose marker tells the kind of its block
 abbrev pub block : {W K : Type 0} → (K → Kind) → Builder W K → Block W
-block kind b = record { formatter = b.formatter.now; reference = b.formatter.ghost_name; kind = kind b.marker; outer = b.outer;
-    count = b.count; status = b.status }
+block kind b = record {
+  formatter = b.formatter.now;
+  reference = b.formatter.ghost_name;
+  kind = kind b.marker;
+  outer = b.outer;
+  count = b.count;
+  status = b.status;
+}
 
 -- a tuple's kind, which tells whether it has a name
 abbrev pub kind_of_tuple : TupleBlock → Kind

@@ -20,7 +20,7 @@ use Rattle.ufmt_core.proofs.Counts.{next-next}
 mapped_turn : {A : Type 0} (q : Parse A) (v : A → List ℕ) (f : Frame) (s : Setting) (count : Count) (n : ℕ) (t : List ℕ)
     → ((u : List ℕ) → read_rest (λ w. parse_map v (q w)) f s (next count) n u ≡ parse_map (map v) (read_rest q f s (next count) n u))
     → choose (strip (lead f (inside s) count) t)
-      (read_turn (λ w. parse_map v (q w)) s.mode (read_rest (λ w. parse_map v (q w)) f s (next count) n)) (read_end f s count t)
+    (read_turn (λ w. parse_map v (q w)) s.mode (read_rest (λ w. parse_map v (q w)) f s (next count) n)) (read_end f s count t)
     ≡ parse_map (map v) (choose (strip (lead f (inside s) count) t) (read_turn q s.mode (read_rest q f s (next count) n)) (read_end f s count t))
 mapped_turn {A} q v f s count n t others = turn (strip (lead f (inside s) count) t)
   where
@@ -146,15 +146,15 @@ behind_converts {q} f s g i before out t takes = behind (strip (trail s.mode) t)
         → prefixed out (parse_map (λ texts. trail i.mode ++ block_tail g i (next before) texts)
         (choose o (read_turn q s.mode (read_others q f s (next (next before)))) (read_end f s (next before) u)))
         ≡ option_and_then (go_on q f s g i before out)
-            (choose o (λ v. Some (true, v)) (option_map {U = Bool × List ℕ} (λ v. (false, v)) (strip (ending f s (next before)) u)))
+        (choose o (λ v. Some (true, v)) (option_map {U = Bool × List ℕ} (λ v. (false, v)) (strip (ending f s (next before)) u)))
     by_separator u None = ended (strip (ending f s (next before)) u)
     by_separator u (Some v) = entry (q v)
 
     behind : (o : Option (List ℕ)) → prefixed out
         (option_and_then (λ u. parse_map (λ texts. trail i.mode ++ block_tail g i (next before) texts) (read_others q f s (next before) u)) o)
         ≡ option_and_then (go_on q f s g i before out)
-            (option_and_then (λ u. choose (strip (separator (inside s).mode (inside s).depth) u) (λ v. Some (true, v))
-            (option_map {U = Bool × List ℕ} (λ v. (false, v)) (strip (ending f s (next before)) u))) o)
+        (option_and_then (λ u. choose (strip (separator (inside s).mode (inside s).depth) u) (λ v. Some (true, v))
+        (option_map {U = Bool × List ℕ} (λ v. (false, v)) (strip (ending f s (next before)) u))) o)
     behind None = refl
     behind (Some u) =
         ap (λ o. prefixed out (parse_map (λ texts. trail i.mode ++ block_tail g i (next before) texts) o)) (read_others-read_turn q takes f s (next before) u)

@@ -56,9 +56,9 @@ list_converts from to out t r empty opening =
     let i = setting_at to in
     ap (λ o. prefixed out (parse_map (layout i) o)) (list_begins (setting_at from) (entry_of from) t r empty opening)
     ∙ block_begins (entry_of from) (layout (inside i)) (frame from.mode Brackets) (setting_at from) (frame to.mode Brackets) i
-      (λ ds. list_of (documents ds)) (front layouts.Brackets i [])
-      (λ d ds. shape layouts.Brackets i [] (layout (inside i) d) (texts (inside i) (documents ds)) (map (layout (inside i)) ds)
-      (texts_are (inside i) ds)) out (entry_of from r)
+    (λ ds. list_of (documents ds)) (front layouts.Brackets i [])
+    (λ d ds. shape layouts.Brackets i [] (layout (inside i) d) (texts (inside i) (documents ds)) (map (layout (inside i)) ds)
+    (texts_are (inside i) ds)) out (entry_of from r)
 
 -- a named tuple behind what stands before its first field
 pub tuple_converts : (from to : Level) (out w t r : List ℕ) → IsWord w
@@ -70,9 +70,9 @@ tuple_converts from to out (c ∷ w) t r word opening =
     let i = setting_at to in
     ap (λ o. prefixed out (parse_map (layout i) o)) (tuple_begins (setting_at from) (entry_of from) (c ∷ w) t r word opening)
     ∙ block_begins (entry_of from) (layout (inside i)) (frame from.mode Tuple) (setting_at from) (frame to.mode Tuple) i
-      (λ ds. tuple_of (c ∷ w) (documents ds)) (front layouts.Tuple i (c ∷ w))
-      (λ d ds. shape layouts.Tuple i (c ∷ w) (layout (inside i) d) (texts (inside i) (documents ds)) (map (layout (inside i)) ds)
-      (texts_are (inside i) ds)) out (entry_of from r)
+    (λ ds. tuple_of (c ∷ w) (documents ds)) (front layouts.Tuple i (c ∷ w))
+    (λ d ds. shape layouts.Tuple i (c ∷ w) (layout (inside i) d) (texts (inside i) (documents ds)) (map (layout (inside i)) ds)
+    (texts_are (inside i) ds)) out (entry_of from r)
 
 -- a tuple without a name behind what stands before its first field
 pub unnamed_converts : (from to : Level) (out t r : List ℕ) → strip (codes "[") t ≡ None → strip (codes "{") t ≡ None → read_symbol t ≡ None
@@ -83,9 +83,9 @@ unnamed_converts from to out t r bracket brace symbol opening =
     let i = setting_at to in
     ap (λ o. prefixed out (parse_map (layout i) o)) (unnamed_begins (setting_at from) (entry_of from) t r bracket brace symbol opening)
     ∙ block_begins (entry_of from) (layout (inside i)) (frame from.mode Unnamed) (setting_at from) (frame to.mode Unnamed) i
-      (λ ds. tuple_of [] (documents ds)) (front layouts.Unnamed i [])
-      (λ d ds. shape layouts.Unnamed i [] (layout (inside i) d) (texts (inside i) (documents ds)) (map (layout (inside i)) ds)
-      (texts_are (inside i) ds)) out (entry_of from r)
+    (λ ds. tuple_of [] (documents ds)) (front layouts.Unnamed i [])
+    (λ d ds. shape layouts.Unnamed i [] (layout (inside i) d) (texts (inside i) (documents ds)) (map (layout (inside i)) ds)
+    (texts_are (inside i) ds)) out (entry_of from r)
 
 -- the value of a pair, behind its key and a colon
 value_converts : (i : Setting) (out : List ℕ) (key : Document) (o : Option (Document × List ℕ))
@@ -117,17 +117,17 @@ braces_convert_on from to out (Some x) = by_colon (strip (codes ": ") x.1) refl
         let i = setting_at to in
         ap (λ o. prefixed out (parse_map (layout i) o)) (set_begins (setting_at from) (entry_of from) x.0 x.1 colon)
         ∙ block_begins (entry_of from) (layout (inside i)) (frame from.mode Braces) (setting_at from) (frame to.mode Braces) i
-          (λ ds. set_of (documents ds)) (front layouts.Braces i [])
-          (λ d ds. shape layouts.Braces i [] (layout (inside i) d) (texts (inside i) (documents ds)) (map (layout (inside i)) ds)
-          (texts_are (inside i) ds)) out (Some x)
+        (λ ds. set_of (documents ds)) (front layouts.Braces i [])
+        (λ d ds. shape layouts.Braces i [] (layout (inside i) d) (texts (inside i) (documents ds)) (map (layout (inside i)) ds)
+        (texts_are (inside i) ds)) out (Some x)
     by_colon (Some u) colon =
         let i = setting_at to in
         let p = entry_of from in
         ap (λ o. prefixed out (parse_map (layout i) o)) (map_begins (setting_at from) p x.0 x.1 u colon)
         ∙ block_begins (read_pair p p) (pair_text (inside i)) (frame from.mode Braces) (setting_at from) (frame to.mode Braces) i
-          (λ ps. map_of (pairs_of ps)) (front layouts.Braces i [])
-          (λ d ds. shape layouts.Braces i [] (pair_text (inside i) d) (pair_texts (inside i) (pairs_of ds)) (map (pair_text (inside i)) ds)
-          (pairs_are (inside i) ds)) out (parse_map (λ value. (x.0, value)) (p u))
+        (λ ps. map_of (pairs_of ps)) (front layouts.Braces i [])
+        (λ d ds. shape layouts.Braces i [] (pair_text (inside i) d) (pair_texts (inside i) (pairs_of ds)) (map (pair_text (inside i)) ds)
+        (pairs_are (inside i) ds)) out (parse_map (λ value. (x.0, value)) (p u))
         ∙ ap (λ o. convert_value from to Zero o) (value_converts (inside i) before x.0 (p u))
 
 -- a set or a map behind what stands before its first entry
@@ -150,13 +150,13 @@ struct_converts from to out w t r label u word tuple opening named =
     let p = entry_of from in
     ap (λ o. prefixed out (parse_map (layout i) o)) (struct_begins (setting_at from) p w t r word tuple opening)
     ∙ block_begins (read_pair read_word p) (field_text (inside i)) (frame from.mode Struct) (setting_at from) (frame to.mode Struct) i
-      (λ fs. struct_of w (fields_of fs)) (front layouts.Struct i w)
-      (λ d ds. shape layouts.Struct i w (field_text (inside i) d) (field_texts (inside i) (fields_of ds)) (map (field_text (inside i)) ds)
-      (fields_are (inside i) ds)) out (read_pair read_word p r)
+    (λ fs. struct_of w (fields_of fs)) (front layouts.Struct i w)
+    (λ d ds. shape layouts.Struct i w (field_text (inside i) d) (field_texts (inside i) (fields_of ds)) (map (field_text (inside i)) ds)
+    (fields_are (inside i) ds)) out (read_pair read_word p r)
     ∙ ap (λ o. convert_block (λ v. parse_map (field_text (inside i)) (read_pair read_word p v)) from to Struct Zero
-      (prefixed (out ++ front layouts.Struct i w) (parse_map (field_text (inside i)) o))) (pair_from read_word p r label u named)
+    (prefixed (out ++ front layouts.Struct i w) (parse_map (field_text (inside i)) o))) (pair_from read_word p r label u named)
     ∙ ap (λ o. convert_block (λ v. parse_map (field_text (inside i)) (read_pair read_word p v)) from to Struct Zero o)
-      (field_converts (inside i) (out ++ front layouts.Struct i w) label (p u))
+    (field_converts (inside i) (out ++ front layouts.Struct i w) label (p u))
 
 -- a later pair is a key, and then a value
 pub pair_converts : (from to : Level) (out t : List ℕ)
@@ -183,7 +183,7 @@ pub later_field_converts : (from to : Level) (out t label u : List ℕ) → read
     ≡ text_after_step from to (Some (blocks.Field Several)) (out ++ (label ++ codes ": ")) u
 later_field_converts from to out t label u named =
     ap (λ o. convert_block (field_of from to) from to Struct Several (prefixed out (parse_map (field_text (inside (setting_at to))) o)))
-      (pair_from read_word (entry_of from) t label u named)
+    (pair_from read_word (entry_of from) t label u named)
     ∙ ap (λ o. convert_block (field_of from to) from to Struct Several o) (field_converts (inside (setting_at to)) out label (entry_of from u))
 
 -- and nothing where no name stands
@@ -191,7 +191,7 @@ pub no_field_converts : (from to : Level) (out t : List ℕ) → read_label t �
     → convert_block (field_of from to) from to Struct Several (prefixed out (field_of from to t)) ≡ None
 no_field_converts from to out t named =
     ap (λ o. convert_block (field_of from to) from to Struct Several (prefixed out (parse_map (field_text (inside (setting_at to))) o)))
-      (pair_without read_word (entry_of from) t named)
+    (pair_without read_word (entry_of from) t named)
 
 -- an entry, a pair or a field that is converted takes a byte
 pub entry_text_takes : (from to : Level) → Takes (entry_text from to)

@@ -25,7 +25,7 @@ pub doc_document-StructOf : (name fields : _)
     → doc_document (StructOf name fields) ≡ struct_of (string_bytes name) (fields_of (map (λ f. (string_bytes f.0, doc_document f.1)) fields.items))
 doc_document-StructOf name fields = ap doc_document (sym (rolls-StructOf name fields)) ∙ fold-roll-Doc Document document_step _
     ∙ ap (λ fs. struct_of (string_bytes name) (fields_of fs))
-        (map-map (λ (f : String Global × Document). (string_bytes f.0, f.1)) (λ (f : String Global × Doc). (f.0, doc_document f.1)) fields.items)
+    (map-map (λ (f : String Global × Document). (string_bytes f.0, f.1)) (λ (f : String Global × Doc). (f.0, doc_document f.1)) fields.items)
 
 pub doc_document-TupleOf : (name fields : _) → doc_document (TupleOf name fields) ≡ tuple_of (string_bytes name) (documents (map doc_document fields.items))
 doc_document-TupleOf name fields = ap doc_document (sym (rolls-TupleOf name fields)) ∙ fold-roll-Doc Document document_step _
@@ -37,6 +37,6 @@ item-first xs i other x h e = rw (add-one, e) (drop-cons xs i other h)
 -- and so its label and its value's document are the first of the fields
 pub fields-first : {rest more : List (String Global × Doc)} {x : String Global × Doc} {label : List ℕ} → rest ≡ x ∷ more → label ≡ string_bytes x.0 →
     fields_of (map (λ f. (string_bytes f.0, doc_document f.1)) rest)
-      ≡ field label (doc_document x.1) (fields_of (map (λ f. (string_bytes f.0, doc_document f.1)) more))
+    ≡ field label (doc_document x.1) (fields_of (map (λ f. (string_bytes f.0, doc_document f.1)) more))
 fields-first {more = more} {x = x} h e = ap (λ fs. fields_of (map (λ f. (string_bytes f.0, doc_document f.1)) fs)) h
     ∙ ap (λ n. field n (doc_document x.1) (fields_of (map (λ f. (string_bytes f.0, doc_document f.1)) more))) (sym e)

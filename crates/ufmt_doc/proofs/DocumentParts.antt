@@ -202,8 +202,10 @@ opens_nothing c text (b ∷ t) which none = rw (differs which) refl
 -- a word that nothing of the kind follows is a leaf
 word_alone : (s : Setting) (p : Parse Document) (w u : List ℕ) → (length w == 0) ≡ false → may_open u ≡ false → read_named s p w u ≡ Some (leaf w, u)
 word_alone s p [] u some none = absurd (cc)
-word_alone s p (c ∷ w) u some none = rw (opens_nothing 40 (new_line (inside s).mode (inside s).depth) u (inl refl) none,
-    opens_nothing 32 (123 ∷ (brace_space s.mode ++ new_line (inside s).mode (inside s).depth)) u (inr refl) none) refl
+word_alone s p (c ∷ w) u some none = rw (
+  opens_nothing 40 (new_line (inside s).mode (inside s).depth) u (inl refl) none,
+  opens_nothing 32 (123 ∷ (brace_space s.mode ++ new_line (inside s).mode (inside s).depth)) u (inr refl) none,
+) refl
 
 -- so it is an entry of a block, where any may lie in it
 word_is_entry : (level : Level) (t w u : List ℕ) → level.depth < 255 → w ≡ word_of t → u ≡ after_word t → (length w == 0) ≡ false

@@ -43,8 +43,8 @@ entry_in_front q f s make before xs x (Some u) some = rw (count_more xs x, some)
 turn_in_front : {A : Type 0} (q : Parse A) (f : Frame) (s : Setting) (make : List A → Document) (before : Count) (xs : List A)
     (o : Option (A × List ℕ)) → count_of (length xs) ≡ next before →
     parse_map (λ ys. make (xs ++ ys)) (option_and_then
-      (λ x. option_and_then (λ u. parse_map (λ ys. x.0 ∷ ys) (read_others q f s (next (next before)) u)) (strip (trail s.mode) x.1)) o)
-      ≡ read_on q f s make xs o
+    (λ x. option_and_then (λ u. parse_map (λ ys. x.0 ∷ ys) (read_others q f s (next (next before)) u)) (strip (trail s.mode) x.1)) o)
+    ≡ read_on q f s make xs o
 unfolding read_more
 turn_in_front q f s make before xs None some = refl
 turn_in_front q f s make before xs (Some x) some = entry_in_front q f s make before xs x.0 (strip (trail s.mode) x.1) some
@@ -59,8 +59,8 @@ end_in_front make xs (Some u) = ap (λ ys. Some (make ys, u)) (append-nil xs)
 others_are : {A : Type 0} (q : Parse A) → Takes q
     → (f : Frame) (s : Setting) (make : List A → Document) (before : Count) (xs : List A) (u : List ℕ) → count_of (length xs) ≡ next before →
     parse_map (λ ys. make (xs ++ ys)) (read_others q f s (next before) u)
-        ≡ choose (strip (separator (inside s).mode (inside s).depth) u) (λ v. read_on q f s make xs (q v))
-        (option_map {U = Document × List ℕ} (λ v. (make xs, v)) (strip (ending f s (next before)) u))
+    ≡ choose (strip (separator (inside s).mode (inside s).depth) u) (λ v. read_on q f s make xs (q v))
+    (option_map {U = Document × List ℕ} (λ v. (make xs, v)) (strip (ending f s (next before)) u))
 others_are {A} q takes f s make before xs u some =
     ap (λ o. parse_map (λ ys. make (xs ++ ys)) o) (read_others-read_turn q takes f s (next before) u)
     ∙ rw (lead-next f (inside s) before) (by_separator (strip (separator (inside s).mode (inside s).depth) u))
@@ -81,15 +81,15 @@ behind_decides {q = q} f s make before xs t takes some = behind (strip (trail s.
   where
     chosen : (o e : Option (List ℕ)) → choose o (λ v. read_on q f s make xs (q v)) (option_map {U = Document × List ℕ} (λ v. (make xs, v)) e)
         ≡ option_and_then (λ x. cond x.0 (read_on q f s make xs (q x.1)) (Some (make xs, x.1)))
-            (choose o (λ v. Some (true, v)) (option_map {U = Bool × List ℕ} (λ v. (false, v)) e))
+        (choose o (λ v. Some (true, v)) (option_map {U = Bool × List ℕ} (λ v. (false, v)) e))
     chosen None None = refl
     chosen None (Some v) = refl
     chosen (Some v) e = refl
 
     behind : (o : Option (List ℕ)) → option_and_then (λ u. parse_map (λ ys. make (xs ++ ys)) (read_others q f s (count_of (length xs)) u)) o
         ≡ option_and_then (λ x. cond x.0 (read_on q f s make xs (q x.1)) (Some (make xs, x.1)))
-            (option_and_then (λ u. choose (strip (separator (inside s).mode (inside s).depth) u) (λ v. Some (true, v))
-            (option_map {U = Bool × List ℕ} (λ v. (false, v)) (strip (ending f s (next before)) u))) o)
+        (option_and_then (λ u. choose (strip (separator (inside s).mode (inside s).depth) u) (λ v. Some (true, v))
+        (option_map {U = Bool × List ℕ} (λ v. (false, v)) (strip (ending f s (next before)) u))) o)
     behind None = refl
     behind (Some u) = rw some (others_are q takes f s make before xs u some)
         ∙ chosen (strip (separator (inside s).mode (inside s).depth) u) (strip (ending f s (next before)) u)
@@ -161,7 +161,7 @@ pub put_decides : {A B : Type 0} {q : Parse B} {there : Option (Bool × List ℕ
     (view : A → B) (old new : List A) (x : A) (before : Count) (t : List ℕ) → Takes q → new ≡ old ++ x ∷ [] → before ≡ count_of (length old)
     → behind_entry f s before t ≡ there →
     read_more q f s make (map view old ++ view x ∷ []) t
-      ≡ option_and_then (λ y. cond y.0 (read_on q f s make (map view new) (q y.1)) (Some (make (map view new), y.1))) there
+    ≡ option_and_then (λ y. cond y.0 (read_on q f s make (map view new) (q y.1)) (Some (make (map view new), y.1))) there
 put_decides {q = q} f s make view old new x before t takes pushed counted h =
     let p = count_is view old new x before pushed counted in
     rw (← h, ← p.0) (behind_decides f s make before (map view new) t takes p.1)
@@ -171,8 +171,8 @@ pub put_passes : {A B : Type 0} {q : Parse B} (f : Frame) (s : Setting) (make : 
     (before : Count) (t : List ℕ) (answer : Result (Bool × Bor (List ℕ)) ReadError) → Takes q → new ≡ old ++ x ∷ []
     → before ≡ count_of (length old) → ReadsAs (λ goes. goes) answer (behind_entry f s before t)
     → MatchResult answer (λ a. (read_more q f s make (map view old ++ view x ∷ []) t
-      ≡ cond a.0 (read_on q f s make (map view new) (q a.1.now)) (Some (make (map view new), a.1.now))) × (length a.1.now ≤ length t))
-      (λ e. e ≡ NotText → read_more q f s make (map view old ++ view x ∷ []) t ≡ None)
+    ≡ cond a.0 (read_on q f s make (map view new) (q a.1.now)) (Some (make (map view new), a.1.now))) × (length a.1.now ≤ length t))
+    (λ e. e ≡ NotText → read_more q f s make (map view old ++ view x ∷ []) t ≡ None)
 put_passes f s make view old new x before t (Err e) takes pushed counted h = λ is. put_decides f s make view old new x before t takes pushed counted (h is)
 put_passes f s make view old new x before t (Ok (goes, v)) takes pushed counted h =
     (put_decides f s make view old new x before t takes pushed counted h, behind_within f s before t goes v.now h)

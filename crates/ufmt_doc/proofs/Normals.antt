@@ -60,7 +60,7 @@ normal-struct_of f name (x ∷ xs) some = refl
 
 pub normal-StructOf : (name : String Global) (old new : Vec (String Global × Doc) Global) → (length old.items ≡ 0 → ⊥) →
     fields_of (map field_view new.items) ≡ normal_fields (fields_of (map field_view old.items))
-      → doc_document (StructOf name new) ≡ normal (doc_document (StructOf name old))
+    → doc_document (StructOf name new) ≡ normal (doc_document (StructOf name old))
 normal-StructOf name old new some h =
     doc_document-StructOf name new ∙ ap (struct_of (string_bytes name)) h ∙ sym (normal-struct_of field_view (string_bytes name) old.items some)
     ∙ sym (ap normal (doc_document-StructOf name old))

@@ -81,7 +81,7 @@ module _ {answer : Bool} {a b : Doc} where
   same-StructOf name other fields others e f names tells =
       let named = string_eq_tells name other names in
       rw (normal-StructOf name fields e, normal-StructOf other others f, named)
-        (λ yes. ap (struct_form (string_bytes other)) (tells.0 yes), λ same. tells.1 (struct_tells _ _ _ _ same).1)
+      (λ yes. ap (struct_form (string_bytes other)) (tells.0 yes), λ same. tells.1 (struct_tells _ _ _ _ same).1)
 
   pub same-TupleOf : (name other : String Global) (fields others : Vec Doc Global) → a ≡ TupleOf name fields → b ≡ TupleOf other others
       → string_eq name other ≡ true → IsTrue answer ↔ (map normal_doc fields.items ≡ map normal_doc others.items)
@@ -89,7 +89,7 @@ module _ {answer : Bool} {a b : Doc} where
   same-TupleOf name other fields others e f names tells =
       let named = string_eq_tells name other names in
       rw (normal-TupleOf name fields e, normal-TupleOf other others f, named)
-        (λ yes. ap (tuple_form (string_bytes other)) (tells.0 yes), λ same. tells.1 (tuple_tells _ _ _ _ same).1)
+      (λ yes. ap (tuple_form (string_bytes other)) (tells.0 yes), λ same. tells.1 (tuple_tells _ _ _ _ same).1)
 
 -- a list with an item isn't empty
 is_some : {A : Type 0} (x : A) (xs : List A) → (length (x ∷ xs) == 0) ≡ false
@@ -112,7 +112,7 @@ module _ {answer : Bool} {a b : Doc} where
       → answer ≡ (vec_len entries == 0) && (vec_len pairs == 0) → IsTrue answer ↔ (normal_doc a ≡ normal_doc b)
   same-SetOf-MapOf entries pairs e f is =
       rw (normal-SetOf entries e, normal-MapOf pairs f)
-        (braces_same answer (map normal_doc entries.items) (map normal_pair pairs.items) (is ∙ both_empty normal_doc normal_pair entries pairs))
+      (braces_same answer (map normal_doc entries.items) (map normal_pair pairs.items) (is ∙ both_empty normal_doc normal_pair entries pairs))
 
 -- an answer tells two equal values in either order
 pub in_other_order : {A : Type 0} {answer : Bool} {x y : A} → IsTrue answer ↔ (x ≡ y) → IsTrue answer ↔ (y ≡ x)
@@ -133,8 +133,17 @@ pub more_same : {A B Z : Type 0} (f : A → B) (xs ys : List A) (so_far : List Z
     → map f (take (length (so_far ++ z ∷ [])) xs) ≡ map f (take (length (so_far ++ z ∷ [])) ys)
 more_same f xs ys so_far z x y turn here before =
     let n = length so_far in
-    rw (length-append so_far (z ∷ []), take_more xs n x turn.0, take_more ys n y turn.1, ← turn.2 x, ← turn.3 y,
-      map-append f (take n xs) (x ∷ []), map-append f (take n ys) (y ∷ []), before, here) refl
+    rw (
+      length-append so_far (z ∷ []),
+      take_more xs n x turn.0,
+      take_more ys n y turn.1,
+      ← turn.2 x,
+      ← turn.3 y,
+      map-append f (take n xs) (x ∷ []),
+      map-append f (take n ys) (y ∷ []),
+      before,
+      here,
+    ) refl
 
 -- what kind of document a normal form is; an empty set is a map
 pub data Kind : Type 0 where

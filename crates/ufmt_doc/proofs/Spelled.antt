@@ -59,8 +59,11 @@ module _ (q : ℕ) where
   SpelledBefore-none = ([], refl)
 
   pub SpelledBefore-then : {t u v : List ℕ} → SpelledBefore q t u → SpelledBefore q u v → SpelledBefore q t v
-  SpelledBefore-then {v = v} one two = (one.0 ++ two.0, one.1 ∙ ap (λ w. escaped_bytes q one.0 ++ w) two.1
-      ∙ sym (append_assoc (escaped_bytes q one.0) (escaped_bytes q two.0) v) ∙ ap (λ w. w ++ v) (sym (escaped_bytes-append q one.0 two.0)))
+  SpelledBefore-then {v = v} one two = (
+    one.0 ++ two.0,
+    one.1 ∙ ap (λ w. escaped_bytes q one.0 ++ w) two.1
+        ∙ sym (append_assoc (escaped_bytes q one.0) (escaped_bytes q two.0) v) ∙ ap (λ w. w ++ v) (sym (escaped_bytes-append q one.0 two.0)),
+  )
 
   -- one byte more
   pub SpelledBefore-byte : {t : List ℕ} (b : ℕ) (u : List ℕ) → strip (escaped_byte q b) t ≡ Some u → SpelledBefore q t u
@@ -76,7 +79,7 @@ module _ (q : ℕ) where
       let whole : t ≡ escaped_bytes q h.0 ++ (q ∷ u) = h.1 ∙ ap (λ w. escaped_bytes q h.0 ++ w) (strip_found (q ∷ []) r u at_quote) in
       let few : length h.0 < suc (length t) = omega (arith, ap length whole, length-append (escaped_bytes q h.0) (q ∷ u), length-escaped_bytes q h.0) in
       ap (λ w. option_map (λ x. x.1) (read_inside q (suc (length t)) w)) whole
-        ∙ ap (λ o. option_map (λ x. x.1) o) (read_inside-complete q h.0 u (suc (length t)) quote few)
+      ∙ ap (λ o. option_map (λ x. x.1) o) (read_inside-complete q h.0 u (suc (length t)) quote few)
 
   -- where nothing is read behind bytes that were
   read_inside-past : IsQuote q → (bs t : List ℕ) (n k : ℕ) → k ≡ length bs + n → read_inside q n t ≡ None → read_inside q k (escaped_bytes q bs ++ t) ≡ None
@@ -85,8 +88,12 @@ module _ (q : ℕ) where
   read_inside-past quote (b ∷ bs) t n zero is h = absurd (omega (arith, is))
   read_inside-past quote (b ∷ bs) t n (suc k) is h =
       let rest = escaped_bytes q bs ++ t in
-      rw (append_assoc (escaped_byte q b) (escaped_bytes q bs) t, escaped-no_quote q b rest quote, read_escaped-complete q b rest quote,
-        read_inside-past quote bs t n k (omega (arith, is)) h) refl
+      rw (
+        append_assoc (escaped_byte q b) (escaped_bytes q bs) t,
+        escaped-no_quote q b rest quote,
+        read_escaped-complete q b rest quote,
+        read_inside-past quote bs t n k (omega (arith, is)) h,
+      ) refl
 
   read_inside-stops : (t : List ℕ) (n : ℕ) → strip (q ∷ []) t ≡ None → strip (escaped_byte q (told t)) t ≡ None → read_inside q (suc n) t ≡ None
   unfolding read_inside
@@ -98,7 +105,7 @@ module _ (q : ℕ) where
       let n = length t - length h.0 in
       let enough : suc (length t) ≡ length h.0 + suc n = omega (arith, ap length h.1, length-append (escaped_bytes q h.0) u, length-escaped_bytes q h.0) in
       ap (λ o. option_map (λ x. x.1) o) (ap (read_inside q (suc (length t))) h.1
-        ∙ read_inside-past quote h.0 u (suc n) (suc (length t)) enough (read_inside-stops u n no_quote no_byte))
+      ∙ read_inside-past quote h.0 u (suc n) (suc (length t)) enough (read_inside-stops u n no_quote no_byte))
 
 -- so none is read there
 pub unspelled_past : (q : ℕ) (t : List ℕ) → IsQuote q → 255 < told t → slice_index t 0 ≡ 92 → read_escaped q t ≡ None

@@ -66,7 +66,7 @@ resumed_last block_reading k [] block o = let same : k ≡ k + 0 = omega arith i
 resumed_last block_reading k (first ∷ more) block o =
     let same : suc k + length more ≡ k + suc (length more) = omega arith in
     ap (block_reading k first) (resumed_last block_reading (suc k) more block o
-      ∙ ap (λ n. from_innermost block_reading (suc k) more (block_reading n block o)) same)
+    ∙ ap (λ n. from_innermost block_reading (suc k) more (block_reading n block o)) same)
 
 -- what it makes of its entry goes on to the next one out
 pub resumed_out : {B X : Type 0} (block_reading : ℕ → B → Option X → Option X) (old new : List B) (block : B) (depth : ℕ)
@@ -127,7 +127,7 @@ pub opens : (mode : Mode) (old new : List OpenBlock) (block : OpenBlock) (level 
     ≡ blocks_reading mode 0 new (document_at mode (length new) t)
 opens mode old new block level t pushed same =
     ap (λ l. blocks_reading mode 0 old (block_reading l block (entry_of l t))) same
-      ∙ resumed_in (λ n. block_reading (level_at mode n)) (λ n. document_at mode n t) old new block (length old) pushed refl
+    ∙ resumed_in (λ n. block_reading (level_at mode n)) (λ n. document_at mode n t) old new block (length old) pushed refl
 
 -- a list is what stands before its last item, and that item
 pub last_apart : {X : Type 0} (xs : List X) (k : ℕ) (x : X) → k + 1 ≡ length xs → x ≡ get_or xs k x → xs ≡ take k xs ++ x ∷ []
@@ -158,4 +158,4 @@ pub step_opens : (mode : Mode) (level : Level) (old new : List OpenBlock) (read 
     → blocks_reading mode 0 old (after_step level new read t) ≡ blocks_reading mode 0 new (document_at mode (length new) t)
 step_opens mode level old new read t is same pushed =
     ap (λ r. blocks_reading mode 0 old (after_step level new r t)) is
-      ∙ opens mode old new (innermost new) level t (subst (λ r. OpensAtMostOne old new r) is pushed) same
+    ∙ opens mode old new (innermost new) level t (subst (λ r. OpensAtMostOne old new r) is pushed) same

@@ -48,7 +48,7 @@ pub told_more : (q : ℕ) (inside bytes rest items : List ℕ) (b : ℕ) (u : Li
     → read_escaped q rest ≡ Some (b, u) → items ≡ bytes ++ (b ∷ []) → inside ≡ escaped_bytes q items ++ u
 told_more q inside bytes rest items b u before h is =
     before ∙ ap (λ t. escaped_bytes q bytes ++ t) (read_escaped-sound q rest b u h ∙ ap (λ t. t ++ u) (sym (append-nil (escaped_byte q b))))
-      ∙ sym (append_assoc (escaped_bytes q bytes) (escaped_bytes q (b ∷ [])) u)
+    ∙ sym (append_assoc (escaped_bytes q bytes) (escaped_bytes q (b ∷ [])) u)
     ∙ ap (λ t. t ++ u) (sym (escaped_bytes-append q bytes (b ∷ []))) ∙ ap (λ bs. escaped_bytes q bs ++ u) (sym is)
 
 -- a leaf is quoted where its text is
@@ -77,8 +77,11 @@ module _ (t inside : List ℕ) (q : ℕ) (front : t ≡ q ∷ inside) (symbol : 
   is_quoted = elim (is_symbol-told t symbol) [ inl unit ↦ absurd (other (ap (λ (u : List ℕ). get_or u 0 0) (sym front ∙ unit))) | inr quoted ↦ quoted ]
 
   pub first_is_quote : IsQuote q
-  first_is_quote = elim is_quoted [ inl of_text ↦ inl (ap (λ (u : List ℕ). get_or u 0 0) (sym front ∙ of_text.2)) | inr of_char ↦ inr
-      (ap (λ (u : List ℕ). get_or u 0 0) (sym front ∙ of_char.2)) ]
+  first_is_quote = elim is_quoted [
+    | inl of_text ↦ inl (ap (λ (u : List ℕ). get_or u 0 0) (sym front ∙ of_text.2))
+    | inr of_char ↦ inr
+        (ap (λ (u : List ℕ). get_or u 0 0) (sym front ∙ of_char.2))
+  ]
 
   -- the characters between the quotes, whose bytes were told
   pub record Told (bytes : List ℕ) : Type 0 where

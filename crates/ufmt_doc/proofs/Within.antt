@@ -140,12 +140,12 @@ mutual
   HasWords-words_within (map_of (pair key value ps)) zero h k = absurd (omega arith)
   HasWords-words_within (map_of (pair key value ps)) (suc n) h k =
       and_true _ _ (HasWords-words_within key n h.0 (omega arith))
-        (and_true _ _ (HasWords-words_within value n h.1 (omega arith)) (HaveWords-pairs_within ps n h.2 (omega arith)))
+      (and_true _ _ (HasWords-words_within value n h.1 (omega arith)) (HaveWords-pairs_within ps n h.2 (omega arith)))
   HasWords-words_within (struct_of name no_fields) n h k = and_true _ _ (IsWord-to name h.0) refl
   HasWords-words_within (struct_of name (field label value fs)) zero h k = absurd (omega arith)
   HasWords-words_within (struct_of name (field label value fs)) (suc n) h k =
       and_true _ _ (IsWord-to name h.0) (and_true _ _ (IsWord-to label h.1.0)
-        (and_true _ _ (HasWords-words_within value n h.1.1 (omega arith)) (HaveWords-fields_within fs n h.1.2 (omega arith))))
+      (and_true _ _ (HasWords-words_within value n h.1.1 (omega arith)) (HaveWords-fields_within fs n h.1.2 (omega arith))))
   HasWords-words_within (tuple_of name no_documents) n h k = and_true _ _ (IsWord-to name h) refl
   HasWords-words_within (tuple_of name (document d ds)) zero h k = absurd (omega arith)
   HasWords-words_within (tuple_of name (document d ds)) (suc n) h k =
@@ -160,7 +160,7 @@ mutual
   HaveWords-pairs_within no_pairs n h k = refl
   HaveWords-pairs_within (pair key value ps) n h k =
       and_true _ _ (HasWords-words_within key n h.0 (omega arith))
-        (and_true _ _ (HasWords-words_within value n h.1 (omega arith)) (HaveWords-pairs_within ps n h.2 (omega arith)))
+      (and_true _ _ (HasWords-words_within value n h.1 (omega arith)) (HaveWords-pairs_within ps n h.2 (omega arith)))
 
   HaveWords-fields_within : (fs : Fields) (n : ℕ) → FieldsHaveWords fs → nest_fields fs ≤ n → fields_within (suc n) fs ≡ true
   HaveWords-fields_within no_fields n h k = refl

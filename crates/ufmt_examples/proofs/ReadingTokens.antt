@@ -14,13 +14,18 @@ use Rattle.ufmt_user.specs.declared.logger.Reading.{Reading}
 
 -- its names are words, its leaves numbers, and it is one block
 pub IsToken-reading : (r : Reading) → IsToken (reading_document r)
-IsToken-reading r = ((IsWord-from (codes "Reading") refl,
-    (IsWord-from (codes "channel") refl, HasWords-integer (pos r.channel), (IsWord-from (codes "celsius") refl, HasWords-integer r.celsius, tt))), omega arith)
+IsToken-reading r = (
+  (
+    IsWord-from (codes "Reading") refl,
+    (IsWord-from (codes "channel") refl, HasWords-integer (pos r.channel), (IsWord-from (codes "celsius") refl, HasWords-integer r.celsius, tt)),
+  ),
+  omega arith,
+)
 
 -- what is found of the field is the decimal text
 pub celsius_found : (answer : Result (Option (String Global)) ReadError) (line : List ℕ)
     → IfOk answer (λ text. (d : Document) → IsToken d → plain_text d ≡ line
-        → option_map string_bytes text ≡ option_and_then leaf_part (field_part (codes "celsius") (normal d)))
+    → option_map string_bytes text ≡ option_and_then leaf_part (field_part (codes "celsius") (normal d)))
     → IfOk answer (λ text. (r : Reading) → line ≡ plain_text (reading_document r) → option_map string_bytes text ≡ Some (decimal r.celsius))
 celsius_found (Ok text) line found = λ r printed. found (reading_document r) (IsToken-reading r) (sym printed)
 celsius_found (Err e) line found = tt

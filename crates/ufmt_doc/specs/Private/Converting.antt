@@ -101,8 +101,8 @@ WritesLabel answer old new t = MatchResult answer
 abbrev pub ConvertsBehindEntry : Level → Level → Kind → Count → Result (Bool × Bor (List ℕ)) ReadError → List ℕ → List ℕ → List ℕ → Type 0
 ConvertsBehindEntry from to kind before answer old new t = MatchResult answer
     (λ x. (behind_entry (frame from.mode kind) (setting_at from) before t ≡ Some (x.0, x.1.now))
-      × (new ≡ old ++ (trail to.mode ++ cond x.0 (separator to.mode (inside (setting_at to)).depth)
-      (ending (frame to.mode kind) (setting_at to) (next before)))))
+    × (new ≡ old ++ (trail to.mode ++ cond x.0 (separator to.mode (inside (setting_at to)).depth)
+    (ending (frame to.mode kind) (setting_at to) (next before)))))
     (λ e. e ≡ NotText → behind_entry (frame from.mode kind) (setting_at from) before t ≡ None)
 
 -- what is written in all by blocks that lie one in another, where this was written with the entry that began in the innermost

@@ -72,7 +72,7 @@ abbrev pub TakesWords : Level → Kind → ℕ → Result (Bool × Bor (List ℕ
 TakesWords level kind bytes answer old new o = (make : List Document → Document) →
     MatchResult answer
     (λ x. (entries_on level kind make old o ≡ cond x.0 (entries_on level kind make new (entry_of level x.1.now)) (Some (make new, x.1.now)))
-      × (length x.1.now ≤ bytes))
+    × (length x.1.now ≤ bytes))
     (λ e. e ≡ NotText → entries_on level kind make old o ≡ None)
 
 -- the innermost of the blocks that are open, where any is

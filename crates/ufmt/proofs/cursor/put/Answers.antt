@@ -9,7 +9,7 @@ returns-clause-written c =
     let end = start + length c.args.bytes.now in
     let copied = c.copy.ensures in
     take-put_mid start (end - start) buffer c.copy.new.target end (omega (arith, ap length copied)) (omega arith)
-      ∙ ap (λ piece. take start buffer ++ piece) copied
+    ∙ ap (λ piece. take start buffer ++ piece) copied
 
 pub returns-clause-unwritten : goal.returns-clause-unwritten
 returns-clause-unwritten c =

@@ -11,7 +11,7 @@ returns-in-Ok-fmt_pretty g c =
     let debugged = c.in-Ok-fmt-2.ensures.prints.same_setting ∙ displayed in
     Prints-then c.in-Ok.ensures (Prints-then (Prints-shown s c.in-Ok.ensures.same_setting c.in-Ok-fmt.ensures)
     (Prints-then (Prints-shown s displayed c.in-Ok-fmt-2.ensures)
-      (Prints-then (Prints-shown s debugged c.in-Ok-fmt_pretty.ensures) (Prints-last c.fmt_hex.ensures))))
+    (Prints-then (Prints-shown s debugged c.in-Ok-fmt_pretty.ensures) (Prints-last c.fmt_hex.ensures))))
 
 pub returns-in-Err-fmt_pretty : goal.returns-in-Err-fmt_pretty
 returns-in-Err-fmt_pretty g c =

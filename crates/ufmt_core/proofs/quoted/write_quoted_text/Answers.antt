@@ -12,10 +12,10 @@ pub returns-in_err-write_escaped : goal.returns-in_err-write_escaped
 returns-in_err-write_escaped g c =
     Prints-same (sym (quoted_text-parts c.args.text.now c.utf8.text))
     (Prints-err _ c.from_residual-in_err-write_escaped.ensures.0
-      (Prints-then {p = codes "\""} c.in_ok-write_str.ensures (Prints-fails _ c.in_err-write_escaped.ensures)))
+    (Prints-then {p = codes "\""} c.in_ok-write_str.ensures (Prints-fails _ c.in_err-write_escaped.ensures)))
 
 pub returns : goal.returns
 returns g c =
     Prints-same (sym (quoted_text-parts c.args.text.now c.utf8.text))
     (Prints-then {p = codes "\""} c.in_ok-write_str.ensures
-      (Prints-then {p = escaped_bytes 34 c.args.text.now} c.in_ok-write_escaped.ensures c.write_str-2.ensures))
+    (Prints-then {p = escaped_bytes 34 c.args.text.now} c.in_ok-write_escaped.ensures c.write_str-2.ensures))

@@ -40,4 +40,4 @@ Doc::normalize-returns-in-StructOf t c =
     let made : fields_of (map field_view (with_items old new).items) ≡ normal_fields (fields_of (map field_view old.items)) =
     ap (λ fs. fields_of (map field_view fs)) (with_items_is old new kept) ∙ c.normalize_fields.ensures ∙ ap (λ fs. normal_fields (fields_of (map field_view fs))) seen in
     rw (c.in-StructOf.is, ← rolls-StructOf name old, out-roll-Doc (StructOf name old), rolls-StructOf name old)
-      (normal-StructOf name old (with_items old new) some made)
+    (normal-StructOf name old (with_items old new) some made)

@@ -27,7 +27,7 @@ pub returns-in_err-write_padding-2 : goal.returns-in_err-write_padding-2
 returns-in_err-write_padding-2 g c =
     rw (padded-last c.args.self.now c.args.payload.now c.missing-missing.result c.missing-missing.ensures (sym c.pads_first.ensures ∙ c.if-pads_first.false))
     (Prints-err _ c.from_residual-in_err-write_padding-2.ensures.0
-      (Prints-then c.in_ok-write_prefix-2.ensures (Prints-fails _ c.in_err-write_padding-2.ensures)))
+    (Prints-then c.in_ok-write_prefix-2.ensures (Prints-fails _ c.in_err-write_padding-2.ensures)))
 
 pub returns : goal.returns
 returns g c =

@@ -13,8 +13,12 @@ pub bounds-buffer-start : goal.bounds-buffer-start
 bounds-buffer-start g c =
     let l = c.loop-rest in
     let value = g.N.Nibbles.value in
-    omega (arith, l.invariant.within, digit_fits (hexadecimal-in_base c.args.upper_case) (value c.args.n) (value l.left) l.start l.buffer
-      (omega arith) l.invariant)
+    omega (
+      arith,
+      l.invariant.within,
+      digit_fits (hexadecimal-in_base c.args.upper_case) (value c.args.n) (value l.left) l.start l.buffer
+          (omega arith) l.invariant,
+    )
 
 pub returns-then-is_zero-clause-written : goal.returns-then-is_zero-clause-written
 returns-then-is_zero-clause-written g c =
@@ -23,7 +27,7 @@ returns-then-is_zero-clause-written g c =
     let split = c.split_last_digit-rest in
     IsWrittenFrom-all (hexadecimal-in_base c.args.upper_case) (value c.args.n) (value l.left) l.start l.buffer (omega arith) l.invariant
     (value split.result.0) split.result.1 c.digit_byte.result split.ensures.rest split.ensures.digit c.digit_byte.ensures
-      (c.is_zero.ensures.0 c.if-is_zero.true)
+    (c.is_zero.ensures.0 c.if-is_zero.true)
 
 pub loop-rest-preserved : goal.loop-rest-preserved
 loop-rest-preserved g c =

@@ -22,4 +22,4 @@ pub returns : goal.returns
 returns g c =
     map_opened c.in_ok-map.ensures.opening
     (loop_written _ _ (pair_texts-of (λ p. g.K.uDebug.document p.0)
-      (λ p. g.V.uDebug.document p.1) _) c.loop-pair.pair-index c.loop-pair-test.false c.loop-pair.invariant (finished c.finish.ensures (search)))
+    (λ p. g.V.uDebug.document p.1) _) c.loop-pair.pair-index c.loop-pair-test.false c.loop-pair.invariant (finished c.finish.ensures (search)))

@@ -11,7 +11,7 @@ returns-in_err-begin_value-clause-entry g c =
     let left = IfErr-at_err _ c.in_err-begin_value.was c.begin_value.follows.holds-at-none in
     rw (is_ok-err _ c.from_residual-in_err-begin_value.ensures.0)
     (WritesEntry-no_value (map_block c.args.self.now) c.fmt-key_answer.new.f _
-      (g.V.uDebug.document c.args.value.now) _ lent c.in_ok-begin_entry.ensures.lead c.fmt-key_answer.ensures left.0 left.1)
+    (g.V.uDebug.document c.args.value.now) _ lent c.in_ok-begin_entry.ensures.lead c.fmt-key_answer.ensures left.0 left.1)
 
 pub returns-clause-entry : goal.returns-clause-entry
 returns-clause-entry g c =

@@ -11,4 +11,4 @@ returns-in_err-begin_field-clause-entry g c =
 pub returns-clause-entry : goal.returns-clause-entry
 returns-clause-entry g c =
     field_between _ _ c.args.self.now _ (c.begin_field.follows.holds _
-      (ap is_ok c.in_ok-begin_field.was)) c.in_ok-begin_field.ensures.lead c.fmt-answer.ensures c.end_field.ensures.end
+    (ap is_ok c.in_ok-begin_field.was)) c.in_ok-begin_field.ensures.lead c.fmt-answer.ensures c.end_field.ensures.end

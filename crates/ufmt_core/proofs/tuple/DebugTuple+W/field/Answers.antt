@@ -12,4 +12,4 @@ returns-in_err-begin_field-clause-entry g c =
 pub returns-clause-entry : goal.returns-clause-entry
 returns-clause-entry g c =
     entry_between _ _ kind_of_tuple c.args.self.now
-      (c.begin_field.follows.holds _ (ap is_ok c.in_ok-begin_field.was)) c.in_ok-begin_field.ensures.lead c.fmt-answer.ensures c.end_field.ensures.end
+    (c.begin_field.follows.holds _ (ap is_ok c.in_ok-begin_field.was)) c.in_ok-begin_field.ensures.lead c.fmt-answer.ensures c.end_field.ensures.end

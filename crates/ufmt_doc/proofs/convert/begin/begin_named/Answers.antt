@@ -32,8 +32,8 @@ returns-in_ok-write_front c =
     let within : length rest ≤ length c.args.input.now = strip_within (lead (frame from.mode Tuple) (inside (setting_at from)) Zero) c.args.input.now rest (sym c.in-Some.ensures) in (
       tuple_converts from c.args.to (string_bytes c.args.output.now) c.args.word.now c.args.input.now rest c.requires (sym c.in-Some.ensures)
           ∙ ap (λ out. text_after_step from c.args.to (Some (Entry Tuple Zero)) out rest)
-            (sym (written (string_bytes c.args.output.now) c.args.word.now _ _ _
-            (c.in_ok-write_text.ensures ∙ ap (λ text. string_bytes c.args.output.now ++ text) c.text_from.ensures) c.in_ok-write_front.ensures)),
+          (sym (written (string_bytes c.args.output.now) c.args.word.now _ _ _
+          (c.in_ok-write_text.ensures ∙ ap (λ text. string_bytes c.args.output.now ++ text) c.text_from.ensures) c.in_ok-write_front.ensures)),
       omega (arith, within),
     )
 
@@ -46,7 +46,7 @@ returns-in_ok-rest c =
     let b : length c.in_ok-rest.rest.now < length start = colon_within _ _ _ read_word_takes label.1 in
     let before = written (string_bytes c.args.output.now) c.args.word.now _ _ _ (c.in_ok-write_text.ensures ∙ ap (λ text. string_bytes c.args.output.now ++ text) c.text_from.ensures) c.in_ok-write_front-2.ensures in (
       struct_converts from c.args.to (string_bytes c.args.output.now) c.args.word.now c.args.input.now start label.0 c.in_ok-rest.rest.now c.requires
-        (sym c.in_default.ensures) (sym c.in-Some-strip_lead.ensures) label.1
+          (sym c.in_default.ensures) (sym c.in-Some-strip_lead.ensures) label.1
           ∙ ap (λ out. text_after_step from c.args.to (Some (Field Zero)) (out ++ (label.0 ++ codes ": ")) c.in_ok-rest.rest.now) (sym before)
           ∙ ap (λ out. text_after_step from c.args.to (Some (Field Zero)) out c.in_ok-rest.rest.now) (sym label.2),
       omega (arith, a, b),

@@ -17,7 +17,7 @@ returns-in_ok-write_front c =
     let rest = c.in-Some-strip_lead.rest.now in
     let lead = sym c.in-Some-strip_lead.ensures in (
       unnamed_converts from c.args.to (string_bytes c.args.output.now) c.args.input.now rest (sym c.in_default.ensures)
-        (sym c.in_default-strip_opening.ensures) (sym c.in_default-split_symbol.ensures) lead
+          (sym c.in_default-strip_opening.ensures) (sym c.in_default-split_symbol.ensures) lead
           ∙ ap (λ out. text_after_step from c.args.to (Some (Entry Unnamed Zero)) out rest) (sym c.in_ok-write_front.ensures),
       strip_shortens 40 (new_line from.mode (inside (setting_at from)).depth) c.args.input.now rest lead,
     )

@@ -9,16 +9,18 @@ pub returns-in_err-goes_on : goal.returns-in_err-goes_on
 returns-in_err-goes_on c =
     passes_on _ c.from_residual.result _ c.in_err-goes_on.field-0.0 _ c.from_residual.ensures.1 (λ y p. p) λ refused.
     pass_refused (entry_text c.args.from c.args.to) c.args.from c.args.to c.args.kind c.args.before _ c.args.input.now
-      (entry_text_takes c.args.from c.args.to) (c.in_err-goes_on.ensures refused)
+    (entry_text_takes c.args.from c.args.to) (c.in_err-goes_on.ensures refused)
 
 pub returns-then-goes_on : goal.returns-then-goes_on
-returns-then-goes_on c =
-    (pass_goes_on (entry_text c.args.from c.args.to) c.args.from c.args.to c.args.kind c.args.before _ _ c.args.input.now _ _
+returns-then-goes_on c = (
+  pass_goes_on (entry_text c.args.from c.args.to) c.args.from c.args.to c.args.kind c.args.before _ _ c.args.input.now _ _
       (entry_text_takes c.args.from c.args.to) c.in_ok-goes_on.ensures.0 c.in_ok-goes_on.ensures.1 c.if-goes_on.true,
-      behind_within _ _ _ _ _ _ c.in_ok-goes_on.ensures.0)
+  behind_within _ _ _ _ _ _ c.in_ok-goes_on.ensures.0,
+)
 
 pub returns-else-goes_on : goal.returns-else-goes_on
-returns-else-goes_on c =
-    (pass_ends (entry_text c.args.from c.args.to) c.args.from c.args.to c.args.kind c.args.before _ _ c.args.input.now _ _
+returns-else-goes_on c = (
+  pass_ends (entry_text c.args.from c.args.to) c.args.from c.args.to c.args.kind c.args.before _ _ c.args.input.now _ _
       (entry_text_takes c.args.from c.args.to) c.in_ok-goes_on.ensures.0 c.in_ok-goes_on.ensures.1 c.if-goes_on.false,
-      behind_within _ _ _ _ _ _ c.in_ok-goes_on.ensures.0)
+  behind_within _ _ _ _ _ _ c.in_ok-goes_on.ensures.0,
+)

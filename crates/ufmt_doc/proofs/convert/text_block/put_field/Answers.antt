@@ -15,13 +15,13 @@ pub returns-in_err-goes_on : goal.returns-in_err-goes_on
 returns-in_err-goes_on c =
     passes_on _ c.from_residual.result _ c.in_err-goes_on.field-0.0 _ c.from_residual.ensures.1 (λ y p. p) λ refused.
     pass_refused (field_of c.args.from c.args.to) c.args.from c.args.to Struct c.args.before _ c.args.input.now
-      (field_of_takes c.args.from c.args.to) (c.in_err-goes_on.ensures refused)
+    (field_of_takes c.args.from c.args.to) (c.in_err-goes_on.ensures refused)
 
 pub returns-in_err-rest : goal.returns-in_err-rest
 returns-in_err-rest c =
     passes_on _ c.from_residual-in_err-rest.result _ c.in_err-rest.field-0.0 _ c.from_residual-in_err-rest.ensures.1 (λ y p. p) λ refused.
     pass_goes_on (field_of c.args.from c.args.to) c.args.from c.args.to Struct c.args.before _ _ c.args.input.now _ _
-      (field_of_takes c.args.from c.args.to) c.in_ok-goes_on.ensures.0 c.in_ok-goes_on.ensures.1 c.if-goes_on.true
+    (field_of_takes c.args.from c.args.to) c.in_ok-goes_on.ensures.0 c.in_ok-goes_on.ensures.1 c.if-goes_on.true
     ∙ no_field_converts c.args.from c.args.to _ c.in_ok-goes_on.rest.now (c.in_err-rest.ensures refused)
 
 pub returns-in_ok-rest : goal.returns-in_ok-rest
@@ -30,14 +30,15 @@ returns-in_ok-rest c =
     let a : length c.in_ok-goes_on.rest.now ≤ length c.args.input.now = behind_within _ _ _ _ _ _ c.in_ok-goes_on.ensures.0 in
     let b : length c.in_ok-rest.rest.now < length c.in_ok-goes_on.rest.now = colon_within _ _ _ read_word_takes label.1 in (
       pass_goes_on (field_of c.args.from c.args.to) c.args.from c.args.to Struct c.args.before _ _ c.args.input.now _ _
-        (field_of_takes c.args.from c.args.to) c.in_ok-goes_on.ensures.0 c.in_ok-goes_on.ensures.1 c.if-goes_on.true
+          (field_of_takes c.args.from c.args.to) c.in_ok-goes_on.ensures.0 c.in_ok-goes_on.ensures.1 c.if-goes_on.true
           ∙ later_field_converts c.args.from c.args.to _ c.in_ok-goes_on.rest.now _ _ label.1
           ∙ ap (λ out. text_after_step c.args.from c.args.to (Some (Field Several)) out c.in_ok-rest.rest.now) (sym label.2),
       omega (arith, a, b),
     )
 
 pub returns-else-goes_on : goal.returns-else-goes_on
-returns-else-goes_on c =
-    (pass_ends (field_of c.args.from c.args.to) c.args.from c.args.to Struct c.args.before _ _ c.args.input.now _ _
+returns-else-goes_on c = (
+  pass_ends (field_of c.args.from c.args.to) c.args.from c.args.to Struct c.args.before _ _ c.args.input.now _ _
       (field_of_takes c.args.from c.args.to) c.in_ok-goes_on.ensures.0 c.in_ok-goes_on.ensures.1 c.if-goes_on.false,
-      behind_within _ _ _ _ _ _ c.in_ok-goes_on.ensures.0)
+  behind_within _ _ _ _ _ _ c.in_ok-goes_on.ensures.0,
+)

@@ -19,4 +19,4 @@ parts units = ap indentation (sym (div-add-mod' units 8)) ∙ indentation-add (u
 pub returns : goal.returns
 returns c =
     writes_both c.write_units.result (string_bytes c.args.output.now) _ (string_bytes c.write_units.new.output) _ _
-      (indentation c.args.units) c.in_ok-write_eights.ensures (parts c.args.units) c.write_units.ensures
+    (indentation c.args.units) c.in_ok-write_eights.ensures (parts c.args.units) c.write_units.ensures

@@ -8,7 +8,7 @@ bytes-smaller c = read_shorter c.args.quote c.bytes.rest.now c.in-Some.byte c.in
 pub bytes-preserved : goal.bytes-preserved
 bytes-preserved c =
     told_more c.args.quote c.args.inside.now c.bytes.bytes.items c.bytes.rest.now c.push.new.self.items c.in-Some.byte c.in-Some.behind.now c.bytes.invariant
-      (sym c.in-Some.ensures) c.in_ok-push.ensures.items
+    (sym c.in-Some.ensures) c.in_ok-push.ensures.items
 
 pub returns : goal.returns
 returns c = λ bs is. told_all c.args.quote c.requires c.bytes.bytes.items c.bytes.rest.now bs (sym c.in_default.ensures) (sym c.bytes.invariant ∙ is)

@@ -9,12 +9,12 @@ returns-then-not-is_symbol c = no_symbol_unquoted c.args.text.now (sym c.is_symb
 pub told_bytes-requires : goal.told_bytes-requires
 told_bytes-requires c =
     first_is_quote c.args.text.now c.in-Some.inside.now c.in-Some.first.now (sym c.as_bytes.ensures.value ∙ c.in-Some.ensures.cases.0)
-      (sym c.is_symbol.ensures ∙ c.if-not-is_symbol.false) c.if-quote-eq40.false
+    (sym c.is_symbol.ensures ∙ c.if-not-is_symbol.false) c.if-quote-eq40.false
 
 pub returns-in-Ok : goal.returns-in-Ok
 returns-in-Ok c =
     told_text c.args.text.now c.in-Some.inside.now c.in-Some.first.now (sym c.as_bytes.ensures.value ∙ c.in-Some.ensures.cases.0)
-      (sym c.is_symbol.ensures ∙ c.if-not-is_symbol.false) c.if-quote-eq40.false
+    (sym c.is_symbol.ensures ∙ c.if-not-is_symbol.false) c.if-quote-eq40.false
     c.in_ok-told_bytes.field-0.items (string_bytes c.in-Ok.text) c.in_ok-told_bytes.ensures (ap (λ v. v.items) c.in-Ok.ensures.ok)
 
 pub returns : goal.returns

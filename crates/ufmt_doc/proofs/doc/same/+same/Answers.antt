@@ -35,8 +35,11 @@ are_same_fields-loop-field-preserved t c =
     let turn = zip_turn c.args.fields.now c.args.others.now c.loop-field.yielded c.into_iter-field-iterator.result c.loop-field.field-iterator c.next.new.self _ (search rules) (search rules) c.loop-field.yielded_by _ c.in-Some.is c.next.ensures.steps in
     let labels = string_eq_tells c.in-Some.field.now.0 c.in-Some.other.now.0 (not_false _ (sym c.ne.ensures ∙ c.if-ne.false)) in
     let values = c.is_same.ensures.0 c.if-not-is_same.false in
-    record { can_next = search rules; is_finite = search rules;
-        so_far = more_same normal_field c.args.fields.now c.args.others.now c.loop-field.yielded _ _ _ turn (cc) c.loop-field.invariant.so_far }
+    record {
+      can_next = search rules;
+      is_finite = search rules;
+      so_far = more_same normal_field c.args.fields.now c.args.others.now c.loop-field.yielded _ _ _ turn (cc) c.loop-field.invariant.so_far;
+    }
 
 pub is_same-returns-in-Listed-Listed : goal.is_same-returns-in-Listed-Listed
 is_same-returns-in-Listed-Listed t c = same-Listed _ _ c.in-Listed-Listed.is-0 c.in-Listed-Listed.is-1
@@ -80,9 +83,9 @@ is_same-returns-in_default-2-2 t c =
     elim c.in_default.branch [
       | is_same-in_default-via-in-Listed+in_default w ↦ differ-Listed c.in_default-2.ensures w.in_default.field-0-0 w.in_default.is-0 w.in_default.not-Listed-1
       | is_same-in_default-via-in-SetOf+in_default w ↦ differ-SetOf c.in_default-2.ensures w.in_default.field-0-0 w.in_default.is-0
-        (w.in_default.not-SetOf-1, w.in_default.not-MapOf-1)
+          (w.in_default.not-SetOf-1, w.in_default.not-MapOf-1)
       | is_same-in_default-via-in-MapOf+in_default w ↦ differ-MapOf c.in_default-2.ensures w.in_default.field-0-0 w.in_default.is-0
-        (w.in_default.not-SetOf-1, w.in_default.not-MapOf-1)
+          (w.in_default.not-SetOf-1, w.in_default.not-MapOf-1)
       | is_same-in_default-via-in-StructOf+in_default w ↦ differ-StructOf c.in_default-2.ensures w.in_default.field-0-0 w.in_default.field-1-0 w.in_default.is-0 w.in_default.not-StructOf-1
       | is_same-in_default-via-in-TupleOf+in_default w ↦ differ-TupleOf c.in_default-2.ensures w.in_default.field-0-0 w.in_default.field-1-0 w.in_default.is-0 w.in_default.not-TupleOf-1
       | is_same-in_default-via-in_default w ↦ absurd (text_is_leaf w.in_default.field-0-0 w.in_default.is-0 c.in_default-2.ensures)

@@ -27,7 +27,7 @@ pub returns-in_err-goes_on : goal.returns-in_err-goes_on
 returns-in_err-goes_on c =
     passes_on _ c.from_residual-in_err-goes_on.result _ c.in_err-goes_on.field-0.0 _ c.from_residual-in_err-goes_on.ensures.1 (λ y p. p) λ refused.
     none_read c.args.level c.in_ok-entries.entries.items c.args.input.now c.in-Some-strip_lead.rest.now c.in_ok-entries.ensures.items
-      (sym c.in_default.ensures) (sym c.in-Some-strip_lead.ensures)
+    (sym c.in_default.ensures) (sym c.in-Some-strip_lead.ensures)
     ∙ c.in_err-goes_on.ensures (λ ds. list_of (documents ds)) refused
 
 pub returns-in_ok-goes_on : goal.returns-in_ok-goes_on
@@ -40,5 +40,5 @@ returns-in_ok-goes_on c =
     let longer : suc (length c.in_ok-goes_on.rest.now) ≤ suc (length c.args.input.now) = omega (arith, a, b) in
     steps_are level _ _ c.open_or_close.result c.args.blocks.now.blocks.items c.open_or_close.new.self.blocks.items _ _
     (none_read level c.in_ok-entries.entries.items c.args.input.now start c.in_ok-entries.ensures.items (sym c.in_default.ensures)
-      (sym c.in-Some-strip_lead.ensures) ∙ put.0)
+    (sym c.in-Some-strip_lead.ensures) ∙ put.0)
     longer (c.open_or_close.ensures level)

@@ -30,6 +30,6 @@ returns-in_ok-fields c =
     let longer : suc (length rest) ≤ suc (length c.args.input.now) = omega (arith, a, b) in
     steps_are level _ _ c.open_or_close.result c.args.blocks.now.blocks.items c.open_or_close.new.self.blocks.items _ _
     (rw (c.in_ok-name.ensures, c.in_ok-fields.ensures.items, ← pair_from read_word (entry_of level) start _ _ c.in_ok-label.ensures)
-      (struct_begins (setting_at level) (entry_of level) c.args.word.now c.args.input.now start c.requires.word (sym c.in_default.ensures)
-      (sym c.in-Some-strip_lead.ensures)))
+    (struct_begins (setting_at level) (entry_of level) c.args.word.now c.args.input.now start c.requires.word (sym c.in_default.ensures)
+    (sym c.in-Some-strip_lead.ensures)))
     longer (c.open_or_close.ensures level)

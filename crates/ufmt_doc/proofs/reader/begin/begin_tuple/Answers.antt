@@ -29,7 +29,7 @@ returns-in_err-goes_on c =
     let kind = c.tuple.ensures ∙ ap tuple_kind c.deref.ensures in
     passes_on _ c.from_residual-in_err-goes_on.result _ c.in_err-goes_on.field-0.0 _ c.from_residual-in_err-goes_on.ensures.1 (λ y p. p) λ refused.
     none_read c.args.level (string_bytes c.args.name) c.tuple.result _ c.args.input.now kind c.in_ok-entries.ensures.items
-      ∙ c.in_err-goes_on.ensures (λ ds. tuple_of (string_bytes c.args.name) (documents ds)) refused
+    ∙ c.in_err-goes_on.ensures (λ ds. tuple_of (string_bytes c.args.name) (documents ds)) refused
 
 pub returns : goal.returns
 returns c =

@@ -18,7 +18,7 @@ returns-in-Some-strip_lead c =
     let longer : suc (length start) ≤ length c.args.input.now = omega (arith, fewer) in
     steps_are level _ _ c.begin_tuple.result c.args.blocks.now.blocks.items c.begin_tuple.new.blocks.blocks.items _ _
     (unnamed_opens (setting_at level) (entry_of level) c.args.input.now start (sym c.in_default.ensures)
-      (sym c.in_default-strip_opening.ensures) (sym c.in_default-split_symbol.ensures) lead
+    (sym c.in_default-strip_opening.ensures) (sym c.in_default-split_symbol.ensures) lead
     ∙ ap (λ name. read_tuple (setting_at level) (entry_of level) name start) (sym c.new.ensures.bytes))
     longer c.begin_tuple.ensures
 

@@ -5,9 +5,9 @@ use Rattle.ufmt_doc.proofs.reader.level.strip_indentation.Goals as goal
 pub returns-in_err-rest : goal.returns-in_err-rest
 returns-in_err-rest c =
     rw c.from_residual.ensures (sym (c.loop-unit.invariant
-      ∙ indentation_ends c.args.units c.loop-unit._unit c.loop-unit.rest.now (omega arith) (sym c.in_err-rest.ensures)))
+    ∙ indentation_ends c.args.units c.loop-unit._unit c.loop-unit.rest.now (omega arith) (sym c.in_err-rest.ensures)))
 
 pub loop-unit-preserved : goal.loop-unit-preserved
 loop-unit-preserved c =
     c.loop-unit.invariant ∙ indentation_goes_on c.args.units c.loop-unit._unit c.loop-unit.rest.now c.in_ok-rest.rest.now (omega arith)
-      (sym c.in_ok-rest.ensures)
+    (sym c.in_ok-rest.ensures)

@@ -23,19 +23,23 @@ returns-in_err-answer-in-None c =
     let d = doc_document c.args.doc in
     passes_on _ c.from_residual.result _ c.in_err-answer-in-None.field-0.0 _ c.from_residual.ensures.1 (λ y p. p) λ refused.
     set_begins (setting_at level) (entry_of level) d c.args.input.now (sym c.in-None.ensures)
-      ∙ ap (put_in level d c.args.input.now) (sym c.new-entries.ensures.items) ∙ c.in_err-answer-in-None.ensures (λ ds. set_of (documents ds)) refused
+    ∙ ap (put_in level d c.args.input.now) (sym c.new-entries.ensures.items) ∙ c.in_err-answer-in-None.ensures (λ ds. set_of (documents ds)) refused
 
 pub returns-in-Some : goal.returns-in-Some
 returns-in-Some c =
     let level = c.args.level in
-    let within : length c.in-Some.rest.now ≤ length c.args.input.now = strip_within (codes ": ") _ _ (sym c.in-Some.ensures) in
-    (rw c.new.ensures.items (map_begins (setting_at level) (entry_of level) (doc_document c.args.doc) c.args.input.now c.in-Some.rest.now
-      (sym c.in-Some.ensures)), within)
+    let within : length c.in-Some.rest.now ≤ length c.args.input.now = strip_within (codes ": ") _ _ (sym c.in-Some.ensures) in (
+      rw c.new.ensures.items (map_begins (setting_at level) (entry_of level) (doc_document c.args.doc) c.args.input.now c.in-Some.rest.now
+          (sym c.in-Some.ensures)),
+      within,
+    )
 
 pub returns-in_ok-answer-in-None : goal.returns-in_ok-answer-in-None
 returns-in_ok-answer-in-None c =
     let level = c.args.level in
-    let d = doc_document c.args.doc in
-    (set_begins (setting_at level) (entry_of level) d c.args.input.now (sym c.in-None.ensures)
-      ∙ ap (put_in level d c.args.input.now) (sym c.new-entries.ensures.items)
-      ∙ (c.in_ok-answer-in-None.ensures (λ ds. set_of (documents ds))).0, (c.in_ok-answer-in-None.ensures (λ ds. set_of (documents ds))).1)
+    let d = doc_document c.args.doc in (
+      set_begins (setting_at level) (entry_of level) d c.args.input.now (sym c.in-None.ensures)
+          ∙ ap (put_in level d c.args.input.now) (sym c.new-entries.ensures.items)
+          ∙ (c.in_ok-answer-in-None.ensures (λ ds. set_of (documents ds))).0,
+      (c.in_ok-answer-in-None.ensures (λ ds. set_of (documents ds))).1,
+    )

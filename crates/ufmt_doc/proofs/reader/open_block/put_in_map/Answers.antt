@@ -13,18 +13,19 @@ use Rattle.ufmt_doc.proofs.reader.open_block.put_in_map.Goals as goal
 pub returns-in_err-goes_on-in-Some : goal.returns-in_err-goes_on-in-Some
 returns-in_err-goes_on-in-Some c =
     passes_on _ c.from_residual-in_err-goes_on-in-Some.result _ c.in_err-goes_on-in-Some.field-0.0 _ c.from_residual-in_err-goes_on-in-Some.ensures.1
-      (λ y p. p) λ refused.
+    (λ y p. p) λ refused.
     rw (← c.in-Some.ensures.value) (put_decides _ _ (λ ps. map_of (pairs_of ps)) pair_view _ _ _ _ _
-      (pair_takes c.args.level) c.in_ok-push-in-Some.ensures.items
-      (c.of-before.ensures ∙ ap count_of (c.len.ensures ∙ c.args.pairs.now.ok.0)) (c.in_err-goes_on-in-Some.ensures refused))
+    (pair_takes c.args.level) c.in_ok-push-in-Some.ensures.items
+    (c.of-before.ensures ∙ ap count_of (c.len.ensures ∙ c.args.pairs.now.ok.0)) (c.in_err-goes_on-in-Some.ensures refused))
 
 pub returns-then-not-goes_on : goal.returns-then-not-goes_on
-returns-then-not-goes_on c =
-    (rw (← c.in-Some.ensures.value) (put_decides _ _ (λ ps. map_of (pairs_of ps)) pair_view _ _ _ _ _
+returns-then-not-goes_on c = (
+  rw (← c.in-Some.ensures.value) (put_decides _ _ (λ ps. map_of (pairs_of ps)) pair_view _ _ _ _ _
       (pair_takes c.args.level) c.in_ok-push-in-Some.ensures.items
       (c.of-before.ensures ∙ ap count_of (c.len.ensures ∙ c.args.pairs.now.ok.0))
       (c.in_ok-goes_on-in-Some.ensures ∙ ap (λ b. Some (b, c.in_ok-goes_on-in-Some.rest.now)) c.if-not-goes_on.true)),
-      behind_within _ _ _ _ _ _ c.in_ok-goes_on-in-Some.ensures)
+  behind_within _ _ _ _ _ _ c.in_ok-goes_on-in-Some.ensures,
+)
 
 pub returns-in-Some-2 : goal.returns-in-Some-2
 returns-in-Some-2 c =
@@ -35,10 +36,10 @@ returns-in-Some-2 c =
     let a : length rest ≤ length c.args.input.now = behind_within _ _ _ _ _ _ c.in_ok-goes_on-in-Some.ensures in
     let b : length c.in-Some-2.behind.now < length rest = colon_within _ _ _ (entry_of_takes level) key in (
       rw (← c.in-Some.ensures.value) (put_decides _ _ (λ ps. map_of (pairs_of ps)) pair_view _ _ _ _ _
-        (pair_takes level) c.in_ok-push-in-Some.ensures.items (c.of-before.ensures ∙ ap count_of (c.len.ensures ∙ c.args.pairs.now.ok.0))
-        (c.in_ok-goes_on-in-Some.ensures ∙ ap (λ b. Some (b, rest)) c.if-not-goes_on.false)
+          (pair_takes level) c.in_ok-push-in-Some.ensures.items (c.of-before.ensures ∙ ap count_of (c.len.ensures ∙ c.args.pairs.now.ok.0))
+          (c.in_ok-goes_on-in-Some.ensures ∙ ap (λ b. Some (b, rest)) c.if-not-goes_on.false)
           ∙ value_is (entry_of level) (entry_of level) (frame level.mode Braces) (setting_at level) (λ ps. map_of (pairs_of ps))
-            (pairs_view c.push.new.self) (doc_document c.in-Some-2.next) rest c.in-Some-2.behind.now key),
+          (pairs_view c.push.new.self) (doc_document c.in-Some-2.next) rest c.in-Some-2.behind.now key),
       omega (arith, a, b),
     )
 
@@ -47,9 +48,9 @@ returns-in-None-2 c =
     let level = c.args.level in
     let rest = c.in_ok-goes_on-in-Some.rest.now in (
       rw (← c.in-Some.ensures.value, c.in-Some.ensures.after)
-        (put_decides _ _ (λ ps. map_of (pairs_of ps)) pair_view _ _ _ _ _ (pair_takes level) c.in_ok-push-in-Some.ensures.items
-        (c.of-before.ensures ∙ ap count_of (c.len.ensures ∙ c.args.pairs.now.ok.0))
-        (c.in_ok-goes_on-in-Some.ensures ∙ ap (λ b. Some (b, rest)) c.if-not-goes_on.false)
+          (put_decides _ _ (λ ps. map_of (pairs_of ps)) pair_view _ _ _ _ _ (pair_takes level) c.in_ok-push-in-Some.ensures.items
+          (c.of-before.ensures ∙ ap count_of (c.len.ensures ∙ c.args.pairs.now.ok.0))
+          (c.in_ok-goes_on-in-Some.ensures ∙ ap (λ b. Some (b, rest)) c.if-not-goes_on.false)
           ∙ pair_is (entry_of level) (frame level.mode Braces) (setting_at level) (λ ps. map_of (pairs_of ps)) (pairs_view c.push.new.self) rest),
       behind_within _ _ _ _ _ _ c.in_ok-goes_on-in-Some.ensures,
     )

@@ -12,9 +12,9 @@ returns-in-Ok c =
     let leaf = c.in-Ok.ensures.cases in
     ap (λ text. Some (text, rest)) leaf.0
     ∙ sym (is_text c.args.quote c.requires c.args.input.now c.in_ok-strip_byte.field-0.now rest (sym c.in_ok-strip_byte.ensures)
-      (sym c.in_ok-rest.ensures) c.split_at.result.0.now c.split_at.ensures.front leaf.1)
+    (sym c.in_ok-rest.ensures) c.split_at.result.0.now c.split_at.ensures.front leaf.1)
 
 pub returns-in-Err : goal.returns-in-Err
 returns-in-Err c =
     sym (is_no_text c.args.quote c.requires c.args.input.now c.in_ok-strip_byte.field-0.now c.in_ok-rest.rest.now
-      (sym c.in_ok-strip_byte.ensures) (sym c.in_ok-rest.ensures) c.split_at.result.0.now c.split_at.ensures.front c.in-Err.ensures.cases.0)
+    (sym c.in_ok-strip_byte.ensures) (sym c.in_ok-rest.ensures) c.split_at.result.0.now c.split_at.ensures.front c.in-Err.ensures.cases.0)

@@ -8,8 +8,8 @@ returns-in_err-first c = rw c.from_residual.ensures (sym (no_symbol_first c.args
 pub returns-in_err-strip : goal.returns-in_err-strip
 returns-in_err-strip c =
     rw c.from_residual-in_err-strip.ensures (sym
-      (no_symbol_here c.args.input.now c.in_ok-first.field-0.now c.in_ok-first.ensures.value c.if-first-eq34.false c.if-first-eq39.false
-      (sym c.in_err-strip.ensures)))
+    (no_symbol_here c.args.input.now c.in_ok-first.field-0.now c.in_ok-first.ensures.value c.if-first-eq34.false c.if-first-eq39.false
+    (sym c.in_err-strip.ensures)))
 
 pub returns-then-first-eq34 : goal.returns-then-first-eq34
 returns-then-first-eq34 c = c.split_quoted.ensures

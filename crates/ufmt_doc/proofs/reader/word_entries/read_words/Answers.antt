@@ -29,7 +29,7 @@ word_put : (level : Level) (kind : Kind) (make : List Document → Document) (al
     → all ≡ cond there (entries_on level kind make new (entry_of level u)) (Some (make new, u))
 word_put level kind make all old new text t w v u goes there before word same put is =
     word_read level kind make all old text t w v before word same ∙ put
-      ∙ ap (λ b. cond b (entries_on level kind make new (entry_of level u)) (Some (make new, u))) is
+    ∙ ap (λ b. cond b (entries_on level kind make new (entry_of level u)) (Some (make new, u))) is
 
 -- which is shorter than what stood before the word
 word_within : (level : Level) (t w v u : List ℕ) → entry_of level t ≡ Some (leaf w, v) → length u ≤ length v → length u < length t
@@ -46,8 +46,8 @@ returns-in_err-goes_on c = λ make.
     let entry = (entry_word_is c.args.level c.words.rest.now c.in-Some.word.now c.in-Some.behind.now bound (sym c.in-Some.ensures)).1 in
     passes_on _ c.from_residual-in_err-goes_on.result _ c.in_err-goes_on.field-0.0 _ c.from_residual-in_err-goes_on.ensures.1 (λ y p. p) λ refused.
     word_read c.args.level c.args.kind make _
-      (docs_view c.words.entries) c.in_ok-word_text.field-0 c.words.rest.now c.in-Some.word.now c.in-Some.behind.now
-      (c.words.invariant.0 make) entry c.in_ok-word_text.ensures ∙ c.in_err-goes_on.ensures make refused
+    (docs_view c.words.entries) c.in_ok-word_text.field-0 c.words.rest.now c.in-Some.word.now c.in-Some.behind.now
+    (c.words.invariant.0 make) entry c.in_ok-word_text.ensures ∙ c.in_err-goes_on.ensures make refused
 
 pub words-smaller : goal.words-smaller
 words-smaller c =
@@ -60,17 +60,21 @@ words-preserved c =
     let before = c.words.invariant.1 in
     let bound : c.args.level.depth < 256 = omega arith in
     let entry = (entry_word_is c.args.level c.words.rest.now c.in-Some.word.now c.in-Some.behind.now bound (sym c.in-Some.ensures)).1 in
-    let fewer : length c.in_ok-goes_on.after.now < length c.words.rest.now = word_within c.args.level _ _ _ _ entry (c.in_ok-goes_on.ensures (λ ds. list_of (documents ds))).1 in
-    (λ make. word_put c.args.level c.args.kind make _ (docs_view c.words.entries)
-      (docs_view c.put_entry.new.entries) c.in_ok-word_text.field-0 c.words.rest.now c.in-Some.word.now c.in-Some.behind.now c.in_ok-goes_on.after.now _ _
-      (c.words.invariant.0 make) entry c.in_ok-word_text.ensures (c.in_ok-goes_on.ensures make).0 c.if-not-goes_on.false, omega (arith, before, fewer))
+    let fewer : length c.in_ok-goes_on.after.now < length c.words.rest.now = word_within c.args.level _ _ _ _ entry (c.in_ok-goes_on.ensures (λ ds. list_of (documents ds))).1 in (
+      λ make. word_put c.args.level c.args.kind make _ (docs_view c.words.entries)
+          (docs_view c.put_entry.new.entries) c.in_ok-word_text.field-0 c.words.rest.now c.in-Some.word.now c.in-Some.behind.now c.in_ok-goes_on.after.now _ _
+          (c.words.invariant.0 make) entry c.in_ok-word_text.ensures (c.in_ok-goes_on.ensures make).0 c.if-not-goes_on.false,
+      omega (arith, before, fewer),
+    )
 
 pub returns-then-not-goes_on : goal.returns-then-not-goes_on
 returns-then-not-goes_on c = λ make.
     let before = c.words.invariant.1 in
     let bound : c.args.level.depth < 256 = omega arith in
     let entry = (entry_word_is c.args.level c.words.rest.now c.in-Some.word.now c.in-Some.behind.now bound (sym c.in-Some.ensures)).1 in
-    let fewer : length c.in_ok-goes_on.after.now < length c.words.rest.now = word_within c.args.level _ _ _ _ entry (c.in_ok-goes_on.ensures make).1 in
-    (word_put c.args.level c.args.kind make _ (docs_view c.words.entries)
-      (docs_view c.put_entry.new.entries) c.in_ok-word_text.field-0 c.words.rest.now c.in-Some.word.now c.in-Some.behind.now c.in_ok-goes_on.after.now _ _
-      (c.words.invariant.0 make) entry c.in_ok-word_text.ensures (c.in_ok-goes_on.ensures make).0 c.if-not-goes_on.true, omega (arith, before, fewer))
+    let fewer : length c.in_ok-goes_on.after.now < length c.words.rest.now = word_within c.args.level _ _ _ _ entry (c.in_ok-goes_on.ensures make).1 in (
+      word_put c.args.level c.args.kind make _ (docs_view c.words.entries)
+          (docs_view c.put_entry.new.entries) c.in_ok-word_text.field-0 c.words.rest.now c.in-Some.word.now c.in-Some.behind.now c.in_ok-goes_on.after.now _ _
+          (c.words.invariant.0 make) entry c.in_ok-word_text.ensures (c.in_ok-goes_on.ensures make).0 c.if-not-goes_on.true,
+      omega (arith, before, fewer),
+    )

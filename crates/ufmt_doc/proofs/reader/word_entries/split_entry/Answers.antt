@@ -15,4 +15,4 @@ pub returns-else-may_open : goal.returns-else-may_open
 returns-else-may_open c =
     let last : (c.args.level.depth == 255) ≡ false = grind (arith, nat_tests) in
     entry_word_stands c.args.level.depth c.args.input.now c.split_word.result.0.now c.split_word.result.1.now last c.split_word.ensures.word c.split_word.ensures.rest
-      (sym c.is_empty.ensures ∙ c.if-is_empty.false) (sym c.may_open.ensures ∙ c.if-may_open.false)
+    (sym c.is_empty.ensures ∙ c.if-is_empty.false) (sym c.may_open.ensures ∙ c.if-may_open.false)

@@ -8,24 +8,28 @@ pub returns-in_err-map : goal.returns-in_err-map
 returns-in_err-map g c = map_not_opened _ c.from_residual.ensures.0 c.in_err-map.was c.debug_map.follows.holds-at-none
 
 pub loop-port-init : goal.loop-port-init
-loop-port-init g c = record { is_open = c.in_ok-map.ensures.is_open;
-    row = WritesRow-none (λ p. pair_text (number p.number) (g.T.uDebug.document p.user)) _ c.in_ok-map.ensures.is_open }
+loop-port-init g c = record {
+  is_open = c.in_ok-map.ensures.is_open;
+  row = WritesRow-none (λ p. pair_text (number p.number) (g.T.uDebug.document p.user)) _ c.in_ok-map.ensures.is_open;
+}
 
 pub returns-in_err-entry : goal.returns-in_err-entry
 returns-in_err-entry g c =
     rw (sym c.deref-port-items.ensures.value) (LaysOut-err _ c.from_residual-in_err-entry.ensures.0
     (map_opened c.in_ok-map.ensures.opening (loop_failed (λ p. pair_text (number p.number) (g.T.uDebug.document p.user)) _
-      (pair_texts-of (λ p. number p.number) (λ p. g.T.uDebug.document p.user) c.deref-port-items.result.now)
+    (pair_texts-of (λ p. number p.number) (λ p. g.T.uDebug.document p.user) c.deref-port-items.result.now)
     c.loop-port.port-index c.loop-port-test.true c.port-item.is c.loop-port.invariant.row c.in_err-entry.ensures.entry (search))))
 
 pub loop-port-preserved : goal.loop-port-preserved
-loop-port-preserved g c = record { is_open = c.in_ok-entry.ensures.is_open;
-    row = WritesRow-next (λ p. pair_text (number p.number)
-    (g.T.uDebug.document p.user)) c.deref-port-items.result.now c.loop-port.port-index c.port-item.result true c.loop-port-test.true c.port-item.is c.loop-port.invariant.row c.in_ok-entry.ensures.entry }
+loop-port-preserved g c = record {
+  is_open = c.in_ok-entry.ensures.is_open;
+  row = WritesRow-next (λ p. pair_text (number p.number)
+      (g.T.uDebug.document p.user)) c.deref-port-items.result.now c.loop-port.port-index c.port-item.result true c.loop-port-test.true c.port-item.is c.loop-port.invariant.row c.in_ok-entry.ensures.entry;
+}
 
 pub returns : goal.returns
 returns g c =
     rw (sym c.deref-port-items.ensures.value)
     (map_opened c.in_ok-map.ensures.opening (loop_written (λ p. pair_text (number p.number) (g.T.uDebug.document p.user)) _
-      (pair_texts-of (λ p. number p.number) (λ p. g.T.uDebug.document p.user) c.deref-port-items.result.now)
+    (pair_texts-of (λ p. number p.number) (λ p. g.T.uDebug.document p.user) c.deref-port-items.result.now)
     c.loop-port.port-index c.loop-port-test.false c.loop-port.invariant.row (finished c.finish.ensures (search))))

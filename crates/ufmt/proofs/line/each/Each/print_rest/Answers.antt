@@ -5,7 +5,7 @@ use Rattle.ufmt.proofs.line.each.Each.print_rest.Goals as goal
 pub returns-in_err-write_str : goal.returns-in_err-write_str
 returns-in_err-write_str g c =
     Prints-err _ c.from_residual.ensures.0 (text_fails _
-      (g.M.Mark.pieces c.args.self.now.mark) c.args.rest.now c.loop-item.item-index c.item-item.result c.loop-item-test.true c.item-item.is c.loop-item.invariant c.in_err-write_str.ensures)
+    (g.M.Mark.pieces c.args.self.now.mark) c.args.rest.now c.loop-item.item-index c.item-item.result c.loop-item-test.true c.item-item.is c.loop-item.invariant c.in_err-write_str.ensures)
 
 pub returns-in_err-print_value : goal.returns-in_err-print_value
 returns-in_err-print_value g c =

@@ -5,4 +5,4 @@ use Rattle.ufmt_core.proofs.formatter.builder.Builder.entry.Goals as goal
 pub returns-clause-entry : goal.returns-clause-entry
 returns-clause-entry g c =
     entry_between _ _ g.K.BlockKind.kind c.args.self.now
-      (c.begin_entry.follows.holds _ (ap is_ok c.in_ok-begin_entry.was)) c.in_ok-begin_entry.ensures.lead c.fmt-answer.ensures c.end_entry.ensures.end
+    (c.begin_entry.follows.holds _ (ap is_ok c.in_ok-begin_entry.was)) c.in_ok-begin_entry.ensures.lead c.fmt-answer.ensures c.end_entry.ensures.end

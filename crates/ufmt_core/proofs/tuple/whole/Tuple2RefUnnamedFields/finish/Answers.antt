@@ -6,7 +6,7 @@ use Rattle.ufmt_core.proofs.tuple.whole.Tuple2RefUnnamedFields.finish.Goals as g
 pub returns-in_err-field : goal.returns-in_err-field
 returns-in_err-field g c =
     rw (is_ok-err _ c.from_residual.ensures.0)
-      (closing_failed (remaining_entries (g.R.UnnamedFields.documents c.args.self.now.1)) c.requires.is_inside c.in_err-field.ensures.entry)
+    (closing_failed (remaining_entries (g.R.UnnamedFields.documents c.args.self.now.1)) c.requires.is_inside c.in_err-field.ensures.entry)
 
 pub returns : goal.returns
 returns g c = closing_after_entry (remaining_entries

@@ -17,7 +17,7 @@ returns-in_err-next c =
     passes_on _ c.from_residual.result _ c.in_err-next.field-0.0 _ c.from_residual.ensures.1 (λ y p. p) λ refused.
     c.ends.invariant.0
     ∙ finishes_text from to blocks (take k blocks) c.index.result.now k _ _ (last_apart blocks k c.index.result.now last c.index.ensures)
-      (depth_before k blocks last) (c.in_err-next.ensures refused)
+    (depth_before k blocks last) (c.in_err-next.ensures refused)
     ∙ resume_text_none from to 0 (take k blocks)
 
 pub returns-in-Some-next : goal.returns-in-Some-next
@@ -34,8 +34,8 @@ returns-in-Some-next c =
     let after = put.1 in (
       c.ends.invariant.0
           ∙ finishes_text from to blocks (take k blocks) c.index.result.now k _ _
-            (last_apart blocks k c.index.result.now last c.index.ensures) (depth_before k blocks last)
-            (put.0 ∙ ap (λ next. text_after_step (level_at from k) (level_at to k) next out rest) c.in-Some-next.is)
+          (last_apart blocks k c.index.result.now last c.index.ensures) (depth_before k blocks last)
+          (put.0 ∙ ap (λ next. text_after_step (level_at from k) (level_at to k) next out rest) c.in-Some-next.is)
           ∙ opens_text from to (take k blocks) _ c.in-Some-next.block k out rest (last_set blocks k c.in-Some-next.block last) (depth_before k blocks last),
       omega (arith, before, after),
     )
@@ -55,8 +55,8 @@ ends-preserved c =
     let one_less : vec_len c.ends.self.blocks - 1 ≡ k = omega arith in (
       c.ends.invariant.0
           ∙ finishes_text from to blocks (take k blocks) c.index.result.now k _ _
-            (last_apart blocks k c.index.result.now last c.index.ensures) (depth_before k blocks last)
-            (put.0 ∙ ap (λ next. text_after_step (level_at from k) (level_at to k) next out rest) c.in_default-next.is)
+          (last_apart blocks k c.index.result.now last c.index.ensures) (depth_before k blocks last)
+          (put.0 ∙ ap (λ next. text_after_step (level_at from k) (level_at to k) next out rest) c.in_default-next.is)
           ∙ ap (λ xs. blocks_conversion from to 0 xs (Some (out, rest))) (sym (c.pop.ensures.rest ∙ ap (λ n. take n blocks) one_less)),
       omega (arith, before, after),
     )

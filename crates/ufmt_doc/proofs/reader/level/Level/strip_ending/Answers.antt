@@ -12,7 +12,7 @@ returns-in_err-strip_line_start-in-One c =
     let start = ap (λ text. strip text c.args.input.now) (if_any-is c.args.count (line_start s.mode s.depth) c.in-One.is)
     ∙ ap (λ s. strip (line_start s.mode s.depth) c.args.input.now) (sym c.setting.ensures) in
     rw c.from_residual.ensures (sym (strips_neither (if_any c.args.count (line_start s.mode s.depth))
-      ((frame s.mode c.args.kind).closing c.args.count) c.args.input.now (start ∙ sym c.in_err-strip_line_start-in-One.ensures)))
+    ((frame s.mode c.args.kind).closing c.args.count) c.args.input.now (start ∙ sym c.in_err-strip_line_start-in-One.ensures)))
 
 pub returns-in_ok-strip_line_start-in-One : goal.returns-in_ok-strip_line_start-in-One
 returns-in_ok-strip_line_start-in-One c =
@@ -20,4 +20,4 @@ returns-in_ok-strip_line_start-in-One c =
     let start = ap (λ text. strip text c.args.input.now) (if_any-is c.args.count (line_start s.mode s.depth) c.in-One.is)
     ∙ ap (λ s. strip (line_start s.mode s.depth) c.args.input.now) (sym c.setting.ensures) in
     c.strip_closing-in-One.ensures ∙ sym (strips_both (if_any c.args.count (line_start s.mode s.depth))
-      ((frame s.mode c.args.kind).closing c.args.count) c.args.input.now _ (start ∙ sym c.in_ok-strip_line_start-in-One.ensures))
+    ((frame s.mode c.args.kind).closing c.args.count) c.args.input.now _ (start ∙ sym c.in_ok-strip_line_start-in-One.ensures))

@@ -7,4 +7,4 @@ pub returns-in_ok-push : goal.returns-in_ok-push
 returns-in_ok-push c = λ level.
     let fewer : length c.args.rest.now < suc (length c.args.rest.now) = omega arith in
     opened level _ _ _ _ c.args.rest.now _ c.in_ok-push.ensures.items
-      (ap (λ goes. goes_on_with level c.args.block goes c.args.rest.now) c.if-goes_on.true) fewer
+    (ap (λ goes. goes_on_with level c.args.block goes c.args.rest.now) c.if-goes_on.true) fewer

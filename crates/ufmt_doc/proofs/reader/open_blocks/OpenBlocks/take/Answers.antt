@@ -16,7 +16,7 @@ returns-in_err-goes_on c =
     passes_on _ c.from_residual.result _ c.in_err-goes_on.field-0.0 _ c.from_residual.ensures.1 (λ y p. p) λ refused.
     c.ends.invariant.0
     ∙ finishes mode blocks (take k blocks) c.index_mut.result.now (level_at mode k) _ _
-      (last_apart blocks k c.index_mut.result.now last c.index_mut.ensures.value) (level_before mode k blocks last) (c.in_err-goes_on.ensures refused)
+    (last_apart blocks k c.index_mut.result.now last c.index_mut.ensures.value) (level_before mode k blocks last) (c.in_err-goes_on.ensures refused)
     ∙ resume_none mode 0 (take k blocks)
 
 pub returns-then-goes_on : goal.returns-then-goes_on
@@ -30,10 +30,10 @@ returns-then-goes_on c =
     let after = put.1 in (
       c.ends.invariant.0
           ∙ finishes mode blocks (take k blocks) c.index_mut.result.now (level_at mode k) _ _
-            (last_apart blocks k c.index_mut.result.now last c.index_mut.ensures.value) (level_before mode k blocks last)
-            (put.0 ∙ ap (λ goes. goes_on_with (level_at mode k) c.put.new.self goes c.in_ok-goes_on.after.now) c.if-goes_on.true)
+          (last_apart blocks k c.index_mut.result.now last c.index_mut.ensures.value) (level_before mode k blocks last)
+          (put.0 ∙ ap (λ goes. goes_on_with (level_at mode k) c.put.new.self goes c.in_ok-goes_on.after.now) c.if-goes_on.true)
           ∙ opens mode (take k blocks) _ c.put.new.self (level_at mode k) c.in_ok-goes_on.after.now (last_set blocks k c.put.new.self last)
-            (level_before mode k blocks last),
+          (level_before mode k blocks last),
       omega (arith, before, after),
     )
 
@@ -50,8 +50,8 @@ ends-preserved c =
     let document = ap block_document popped.1 ∙ sym c.close-doc.ensures in (
       c.ends.invariant.0
           ∙ finishes mode blocks (take k blocks) c.index_mut.result.now (level_at mode k) _ _
-            (last_apart blocks k c.index_mut.result.now last c.index_mut.ensures.value) (level_before mode k blocks last)
-            (put.0 ∙ ap (λ goes. goes_on_with (level_at mode k) c.put.new.self goes c.in_ok-goes_on.after.now) c.if-goes_on.false)
+          (last_apart blocks k c.index_mut.result.now last c.index_mut.ensures.value) (level_before mode k blocks last)
+          (put.0 ∙ ap (λ goes. goes_on_with (level_at mode k) c.put.new.self goes c.in_ok-goes_on.after.now) c.if-goes_on.false)
           ∙ ap (λ xs. blocks_reading mode 0 xs (Some (block_document c.put.new.self, c.in_ok-goes_on.after.now))) popped.0
           ∙ ap (λ d. blocks_reading mode 0 c.pop.new.self.items (Some (d, c.in_ok-goes_on.after.now))) document,
       omega (arith, before, after),
