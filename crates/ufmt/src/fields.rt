@@ -13,13 +13,13 @@
 macro_rules! fields {
     ($formatter:expr, $value:ident, $name:ident { $($field:ident),* $(,)? } $(,)?) => {{
         let formatter: &mut $crate::Formatter<_> = $formatter;
-        let $name { $($field),* } = $value;
-        $crate::fields!(formatter, $name { $($field: $field),* })
+        let $name { $($field),* } = &$value;
+        $crate::fields!(formatter, $name { $($field: *$field),* })
     }};
     ($formatter:expr, $value:ident, $name:ident ( $($field:ident),* $(,)? ) $(,)?) => {{
         let formatter: &mut $crate::Formatter<_> = $formatter;
-        let $name($($field),*) = $value;
-        $crate::fields!(formatter, $name($($field),*))
+        let $name($($field),*) = &$value;
+        $crate::fields!(formatter, $name($(*$field),*))
     }};
     ($formatter:expr, $value:ident, $name:ident $(,)?) => {{
         let $name = $value;

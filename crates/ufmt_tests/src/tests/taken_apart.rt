@@ -46,23 +46,7 @@ fn write_small<W: uWrite>(f: &mut Formatter<W>) -> [Result<(), W::Error>; 3] {
     ]
 }
 
-#[rattlefmt::skip]
-fn write_thirteen<W: uWrite>(f: &mut Formatter<W>) -> Result<(), W::Error> {
-    let thirteen = Thirteen {
-        a: 1,
-        b: 2,
-        c: 3,
-        d: 4,
-        e: 5,
-        f: 6,
-        g: 7,
-        h: 8,
-        i: 9,
-        j: 10,
-        k: 11,
-        l: 12,
-        m: 13,
-    };
+fn write_thirteen<W: uWrite>(f: &mut Formatter<W>, thirteen: &Thirteen) -> Result<(), W::Error> {
     fields!(
         f,
         thirteen,
@@ -92,7 +76,22 @@ Thirteen { a: 1, b: 2, c: 3, d: 4, e: 5, f: 6, g: 7, h: 8, i: 9, j: 10, k: 11, l
 fn values_are_taken_apart(rt: HostRuntime) {
     let mut text = String::new(rt.alloc());
     let mut f = Formatter::new(&mut text);
-    let are_ok = are_ok(&write_small(&mut f)) && write_thirteen(&mut f).is_ok();
+    let thirteen = Thirteen {
+        a: 1,
+        b: 2,
+        c: 3,
+        d: 4,
+        e: 5,
+        f: 6,
+        g: 7,
+        h: 8,
+        i: 9,
+        j: 10,
+        k: 11,
+        l: 12,
+        m: 13,
+    };
+    let are_ok = are_ok(&write_small(&mut f)) && write_thirteen(&mut f, &thirteen).is_ok();
     same(
         &rt,
         (are_ok, text.as_str()),
