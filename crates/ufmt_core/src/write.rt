@@ -34,13 +34,11 @@ impl<A: Allocator> uWrite for String<A> {
 
     ghost seen = { string_seen };
 
+    #[inline(always)]
     fn write_str(&mut self, s: &str) -> Result<(), AllocError>
         ensures writes { Writes string_seen self.old s.now (is_ok result) self.new }
         ensures unchanged { OnErr result (string_bytes self.new ≡ string_bytes self.old) }
     {
-        if s.is_empty() {
-            return Ok(());
-        }
         self.push_str(s)
     }
 
