@@ -10,21 +10,6 @@ pub const OPENING_BRACKET: &str = "[";
 /// What opens a set or a map.
 pub const OPENING_BRACE: &str = "{";
 
-/// What closes a list.
-pub const CLOSING_BRACKET: &str = "]";
-
-/// What closes a set, a map or a struct.
-pub const CLOSING_BRACE: &str = "}";
-
-/// What closes a tuple.
-pub const CLOSING_PARENTHESIS: &str = ")";
-
-/// The comma after the only entry of a tuple without a name.
-pub const LONE_COMMA: &str = ",";
-
-/// The space inside the braces of a struct.
-pub const BRACE_SPACE: &str = " ";
-
 /// What stands between a key or a field's name and its value.
 pub const COLON: &str = ": ";
 
@@ -127,7 +112,7 @@ impl Kind {
     {
         match (self, mode) {
             (Kind::Brackets | Kind::Braces, _) => ("", ""),
-            (Kind::Struct, Mode::Plain) => (" {", BRACE_SPACE),
+            (Kind::Struct, Mode::Plain) => (" {", " "),
             (Kind::Struct, Mode::Pretty) => (" {", ""),
             (Kind::Tuple | Kind::Unnamed, _) => ("(", ""),
         }
@@ -140,13 +125,13 @@ impl Kind {
         ensures { result.0.now ++ result.1.now ≡ (frame mode self).closing count }
     {
         match (self, mode, count) {
-            (Kind::Brackets, _, _) => ("", CLOSING_BRACKET),
-            (Kind::Braces, _, _) => ("", CLOSING_BRACE),
+            (Kind::Brackets, _, _) => ("", "]"),
+            (Kind::Braces, _, _) => ("", "}"),
             (Kind::Struct | Kind::Tuple | Kind::Unnamed, _, Count::Zero) => ("", ""),
-            (Kind::Struct, Mode::Plain, _) => (BRACE_SPACE, CLOSING_BRACE),
-            (Kind::Struct, Mode::Pretty, _) => ("", CLOSING_BRACE),
-            (Kind::Unnamed, Mode::Plain, Count::One) => (LONE_COMMA, CLOSING_PARENTHESIS),
-            (Kind::Tuple | Kind::Unnamed, _, _) => ("", CLOSING_PARENTHESIS),
+            (Kind::Struct, Mode::Plain, _) => (" ", "}"),
+            (Kind::Struct, Mode::Pretty, _) => ("", "}"),
+            (Kind::Unnamed, Mode::Plain, Count::One) => (",", ")"),
+            (Kind::Tuple | Kind::Unnamed, _, _) => ("", ")"),
         }
     }
 }

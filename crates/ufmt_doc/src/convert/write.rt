@@ -7,10 +7,7 @@ ghost use Rattle.ufmt_doc.specs.Private.Level.{setting_at};
 
 use crate::reader::ReadError;
 use crate::reader::level::Level;
-use ufmt::layout::{
-    BRACE_SPACE, CLOSING_BRACE, CLOSING_BRACKET, CLOSING_PARENTHESIS, Count, Kind, LONE_COMMA,
-    Mode, Setting, UNIT,
-};
+use ufmt::layout::{Count, Kind, Setting, UNIT};
 
 /// Writes a text.
 #[inline(always)]
@@ -190,23 +187,14 @@ impl Level {
         write_to_line(self.mode.separator(), self.setting().inside(), output)
     }
 
-    // What ends a block with so many entries, on the line on which it ends. Each piece has an arm, in
-    // which it is a constant: that is what makes it cheap to write.
+    // What ends a block with so many entries, on the line on which it ends.
     #[inline(always)]
     fn write_closing(self, kind: Kind, count: Count, output: &mut String) -> Result<(), ReadError>
         ensures { WritesPiece result (string_bytes output.old) (string_bytes output.new)
             ((frame self.mode kind).closing count) }
     {
-        match (kind, self.mode, count) {
-            (Kind::Struct | Kind::Tuple | Kind::Unnamed, _, Count::Zero) => Ok(()),
-            (Kind::Brackets, _, _) => write_text(CLOSING_BRACKET, output),
-            (Kind::Struct, Mode::Plain, _) => write_pieces(BRACE_SPACE, CLOSING_BRACE, output),
-            (Kind::Braces | Kind::Struct, _, _) => write_text(CLOSING_BRACE, output),
-            (Kind::Unnamed, Mode::Plain, Count::One) => {
-                write_pieces(LONE_COMMA, CLOSING_PARENTHESIS, output)
-            }
-            (Kind::Tuple | Kind::Unnamed, _, _) => write_text(CLOSING_PARENTHESIS, output),
-        }
+        let (before, bracket) = kind.closing(self.mode, count);
+        write_pieces(before, bracket, output)
     }
 
     /// Writes what ends a block with so many entries.
