@@ -4,7 +4,7 @@ ghost use Rattle.ufmt_core.specs.Layout.{ending, frame, indentation, lead, line_
 ghost use Rattle.ufmt_core.specs.Formatter.{Prints, depth_of, mode_of, setting_of};
 
 use crate::formatter::Formatter;
-use crate::layout::{COLON, Count, Kind, UNIT};
+use crate::layout::{COLON, Count, Kind, Mode, UNIT};
 use crate::write::uWrite;
 
 impl<W: uWrite> Formatter<W> {
@@ -71,9 +71,25 @@ impl<W: uWrite> Formatter<W> {
         ensures { Prints W.seen self.old (frame (mode_of self.old) kind).start (is_ok result)
             self.new }
     {
-        let (bracket, space) = kind.start(self.setting.mode);
-        self.write_piece(bracket)?;
-        self.write_piece(space)
+        match self.setting.mode {
+            Mode::Plain => {
+                let (bracket, space) = kind.start(Mode::Plain);
+                self.write_both(bracket, space)
+            }
+            Mode::Pretty => {
+                let (bracket, space) = kind.start(Mode::Pretty);
+                self.write_both(bracket, space)
+            }
+        }
+    }
+
+    // Hands on two pieces, each unless it is empty.
+    #[inline(always)]
+    fn write_both(&mut self, first: &str, second: &str) -> Result<(), W::Error>
+        ensures { Prints W.seen self.old (first.now ++ second.now) (is_ok result) self.new }
+    {
+        self.write_piece(first)?;
+        self.write_piece(second)
     }
 
     #[inline(always)]
@@ -121,9 +137,16 @@ impl<W: uWrite> Formatter<W> {
         ensures { Prints W.seen self.old ((frame (mode_of self.old) kind).closing count)
             (is_ok result) self.new }
     {
-        let (before, bracket) = kind.closing(self.setting.mode, count);
-        self.write_piece(before)?;
-        self.write_piece(bracket)
+        match self.setting.mode {
+            Mode::Plain => {
+                let (before, bracket) = kind.closing(Mode::Plain, count);
+                self.write_both(before, bracket)
+            }
+            Mode::Pretty => {
+                let (before, bracket) = kind.closing(Mode::Pretty, count);
+                self.write_both(before, bracket)
+            }
+        }
     }
 
     // Hands the piece on, unless it is empty.
