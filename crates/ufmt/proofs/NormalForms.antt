@@ -5,7 +5,7 @@ use Rattle.ufmt_core.specs.Layout.{setting, inside, tuple_kind, block, layout, l
 use Rattle.ufmt_core.specs.declared.layout.Mode.TheVariants.{Pretty}
 use Rattle.ufmt_core.specs.declared.layout.Setting.{Setting}
 use Rattle.ufmt_core.specs.declared.layout.Kind.TheVariants.{Brackets, Braces, Struct}
-use Rattle.ufmt.specs.Token.{HasWords, HaveWords, PairsHaveWords, FieldsHaveWords, IsToken, normal, normal_all, normal_pairs, normal_fields}
+use Rattle.ufmt.specs.Token.{HasTokens, HaveTokens, PairsHaveTokens, FieldsHaveTokens, IsToken, normal, normal_all, normal_pairs, normal_fields}
 
 mutual
   -- taking the normal form again changes nothing
@@ -65,34 +65,34 @@ mutual
 
 mutual
   -- where a document's leaves and names are words, so are those of its normal form
-  pub HasWords-normal : (d : Document) → HasWords d → HasWords (normal d)
-  HasWords-normal (leaf text) h = h
-  HasWords-normal (joined ds) h = absurd h
-  HasWords-normal (list_of ds) h = HaveWords-normal_all ds h
-  HasWords-normal (set_of no_documents) h = tt
-  HasWords-normal (set_of (document d ds)) h = (HasWords-normal d h.0, HaveWords-normal_all ds h.1)
-  HasWords-normal (map_of ps) h = PairsHaveWords-normal_pairs ps h
-  HasWords-normal (struct_of name no_fields) h = record { shape = inl h.0 }
-  HasWords-normal (struct_of name (field label value fs)) h = (h.0, (h.1.0, HasWords-normal value h.1.1, FieldsHaveWords-normal_fields fs h.1.2))
-  HasWords-normal (tuple_of name no_documents) h = record { shape = inl h }
-  HasWords-normal (tuple_of name (document d ds)) h = (h.0, HasWords-normal d h.1, HaveWords-normal_all ds h.2)
-  HasWords-normal (pretty_part d) h = absurd h
+  pub HasTokens-normal : (d : Document) → HasTokens d → HasTokens (normal d)
+  HasTokens-normal (leaf text) h = h
+  HasTokens-normal (joined ds) h = absurd h
+  HasTokens-normal (list_of ds) h = HaveTokens-normal_all ds h
+  HasTokens-normal (set_of no_documents) h = tt
+  HasTokens-normal (set_of (document d ds)) h = (HasTokens-normal d h.0, HaveTokens-normal_all ds h.1)
+  HasTokens-normal (map_of ps) h = PairsHaveTokens-normal_pairs ps h
+  HasTokens-normal (struct_of name no_fields) h = record { shape = inl h.0 }
+  HasTokens-normal (struct_of name (field label value fs)) h = (h.0, (h.1.0, HasTokens-normal value h.1.1, FieldsHaveTokens-normal_fields fs h.1.2))
+  HasTokens-normal (tuple_of name no_documents) h = record { shape = inl h }
+  HasTokens-normal (tuple_of name (document d ds)) h = (h.0, HasTokens-normal d h.1, HaveTokens-normal_all ds h.2)
+  HasTokens-normal (pretty_part d) h = absurd h
 
-  pub HaveWords-normal_all : (ds : Documents) → HaveWords ds → HaveWords (normal_all ds)
-  HaveWords-normal_all no_documents h = tt
-  HaveWords-normal_all (document d ds) h = (HasWords-normal d h.0, HaveWords-normal_all ds h.1)
+  pub HaveTokens-normal_all : (ds : Documents) → HaveTokens ds → HaveTokens (normal_all ds)
+  HaveTokens-normal_all no_documents h = tt
+  HaveTokens-normal_all (document d ds) h = (HasTokens-normal d h.0, HaveTokens-normal_all ds h.1)
 
-  pub PairsHaveWords-normal_pairs : (ps : Pairs) → PairsHaveWords ps → PairsHaveWords (normal_pairs ps)
-  PairsHaveWords-normal_pairs no_pairs h = tt
-  PairsHaveWords-normal_pairs (pair key value ps) h = (HasWords-normal key h.0, HasWords-normal value h.1, PairsHaveWords-normal_pairs ps h.2)
+  pub PairsHaveTokens-normal_pairs : (ps : Pairs) → PairsHaveTokens ps → PairsHaveTokens (normal_pairs ps)
+  PairsHaveTokens-normal_pairs no_pairs h = tt
+  PairsHaveTokens-normal_pairs (pair key value ps) h = (HasTokens-normal key h.0, HasTokens-normal value h.1, PairsHaveTokens-normal_pairs ps h.2)
 
-  pub FieldsHaveWords-normal_fields : (fs : Fields) → FieldsHaveWords fs → FieldsHaveWords (normal_fields fs)
-  FieldsHaveWords-normal_fields no_fields h = tt
-  FieldsHaveWords-normal_fields (field label value fs) h = (h.0, HasWords-normal value h.1, FieldsHaveWords-normal_fields fs h.2)
+  pub FieldsHaveTokens-normal_fields : (fs : Fields) → FieldsHaveTokens fs → FieldsHaveTokens (normal_fields fs)
+  FieldsHaveTokens-normal_fields no_fields h = tt
+  FieldsHaveTokens-normal_fields (field label value fs) h = (h.0, HasTokens-normal value h.1, FieldsHaveTokens-normal_fields fs h.2)
 
 -- the normal form of a token document is a token document
 pub IsToken-normal : (d : Document) → IsToken d → IsToken (normal d)
-IsToken-normal d h = (HasWords-normal d h.0, subst (λ n. n ≤ 255) (sym (nest-normal d)) h.1)
+IsToken-normal d h = (HasTokens-normal d h.0, subst (λ n. n ≤ 255) (sym (nest-normal d)) h.1)
 
 -- a set's normal form has the text of the set of its documents' normal forms, also where it is the empty map
 layout-normal-set_of : (s : Setting) (ds : Documents) → layout s (normal (set_of ds)) ≡ layout s (set_of (normal_all ds))

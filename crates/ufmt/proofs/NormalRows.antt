@@ -3,19 +3,19 @@ use Rattle.std.proofs.Common.{◌≡◌, refl, ap, ap₂, ℕ, ◌<◌, List, []
 use Rattle.ufmt_core.specs.Document.{Document, document, documents, pairs_of, fields_of, nest, nest_all, nest_pairs, nest_fields}
 use Rattle.ufmt_core.specs.Layout.{layout, texts, pair_texts, field_texts}
 use Rattle.ufmt_core.specs.declared.layout.Setting.{Setting}
-use Rattle.ufmt.specs.Token.{IsWord, HasWords, HaveWords, PairsHaveWords, FieldsHaveWords, normal, normal_all, normal_pairs, normal_fields}
+use Rattle.ufmt.specs.Token.{IsWord, HasTokens, HaveTokens, PairsHaveTokens, FieldsHaveTokens, normal, normal_all, normal_pairs, normal_fields}
 use Rattle.ufmt.proofs.BlocksSound.{AreGood, IsGoodPair, pair_text}
 
 -- a token document in normal form that is nested less than the number
 pub record IsNormalBelow (n : ℕ) (d : Document) : Type 0 where
-  pub words : HasWords d
+  pub tokens : HasTokens d
   pub nests : nest d < n
   pub is_normal : normal d ≡ d
 
--- token documents in normal form in a row are a row of words
-pub documents_words : (n : ℕ) (ds : List Document) → AreGood (IsNormalBelow n) ds → HaveWords (documents ds)
-documents_words n [] h = tt
-documents_words n (d ∷ ds) h = (h.0.words, documents_words n ds h.1)
+-- token documents in normal form, in a row, can be read again
+pub documents_tokens : (n : ℕ) (ds : List Document) → AreGood (IsNormalBelow n) ds → HaveTokens (documents ds)
+documents_tokens n [] h = tt
+documents_tokens n (d ∷ ds) h = (h.0.tokens, documents_tokens n ds h.1)
 
 -- a row in normal form
 pub documents_normal : (n : ℕ) (ds : List Document) → AreGood (IsNormalBelow n) ds → normal_all (documents ds) ≡ documents ds
@@ -36,10 +36,10 @@ documents_texts i (d ∷ ds) = ap (λ ts. layout i d ∷ ts) (documents_texts i 
 abbrev pub ArePairsGood : ℕ → List (Document × Document) → Type 0
 ArePairsGood n ps = AreGood (IsGoodPair (IsNormalBelow n) (IsNormalBelow n)) ps
 
--- pairs are of words
-pub pairs_words : (n : ℕ) (ps : List (Document × Document)) → ArePairsGood n ps → PairsHaveWords (pairs_of ps)
-pairs_words n [] h = tt
-pairs_words n (p ∷ ps) h = (h.0.0.words, h.0.1.words, pairs_words n ps h.1)
+-- so can pairs
+pub pairs_tokens : (n : ℕ) (ps : List (Document × Document)) → ArePairsGood n ps → PairsHaveTokens (pairs_of ps)
+pairs_tokens n [] h = tt
+pairs_tokens n (p ∷ ps) h = (h.0.0.tokens, h.0.1.tokens, pairs_tokens n ps h.1)
 
 -- in normal form
 pub pairs_normal : (n : ℕ) (ps : List (Document × Document)) → ArePairsGood n ps → normal_pairs (pairs_of ps) ≡ pairs_of ps
@@ -60,10 +60,10 @@ pairs_texts i (p ∷ ps) = ap (λ ts. pair_text (layout i) (layout i) p ∷ ts) 
 abbrev pub AreFieldsGood : ℕ → List (List ℕ × Document) → Type 0
 AreFieldsGood n fs = AreGood (IsGoodPair IsWord (IsNormalBelow n)) fs
 
--- fields are of words
-pub fields_words : (n : ℕ) (fs : List (List ℕ × Document)) → AreFieldsGood n fs → FieldsHaveWords (fields_of fs)
-fields_words n [] h = tt
-fields_words n (f ∷ fs) h = (h.0.0, h.0.1.words, fields_words n fs h.1)
+-- and fields
+pub fields_tokens : (n : ℕ) (fs : List (List ℕ × Document)) → AreFieldsGood n fs → FieldsHaveTokens (fields_of fs)
+fields_tokens n [] h = tt
+fields_tokens n (f ∷ fs) h = (h.0.0, h.0.1.tokens, fields_tokens n fs h.1)
 
 -- in normal form
 pub fields_normal : (n : ℕ) (fs : List (List ℕ × Document)) → AreFieldsGood n fs → normal_fields (fields_of fs) ≡ fields_of fs

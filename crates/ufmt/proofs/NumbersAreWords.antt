@@ -6,7 +6,7 @@ use Rattle.std.proofs.lemmas.List.Elements.{All-head, All-tail}
 use Rattle.ufmt_core.specs.Decimal.{decimal, decimal_byte, TellsDecimal, TellsMagnitude}
 use Rattle.ufmt_core.specs.Words.{integer}
 use Rattle.ufmt_core.proofs.DecimalTexts.{decimal-tells}
-use Rattle.ufmt.specs.Token.{is_word_byte, AreWordBytes, IsWord, HasWords}
+use Rattle.ufmt.specs.Token.{is_word_byte, AreWordBytes, IsWord, HasTokens}
 
 -- a digit's byte is a word's
 digit_byte : (digit : ℕ) → digit < 10 → is_word_byte (decimal_byte digit) ≡ true
@@ -43,5 +43,5 @@ pub decimal_is_word : (z : ℤ) → IsWord (decimal z)
 decimal_is_word z = told_is_word z (decimal z) (decimal-tells z)
 
 -- a number's document is a leaf that can be read again
-pub HasWords-integer : (z : ℤ) → HasWords (integer z)
-HasWords-integer z = record { shape = inl (decimal_is_word z) }
+pub HasTokens-integer : (z : ℤ) → HasTokens (integer z)
+HasTokens-integer z = record { shape = inl (decimal_is_word z) }

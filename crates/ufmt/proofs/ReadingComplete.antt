@@ -5,7 +5,7 @@ use Rattle.ufmt_core.specs.Layout.{frame, inside, new_line, lead, trail, block_t
 use Rattle.ufmt_core.specs.declared.layout.Setting.{Setting}
 use Rattle.ufmt_core.specs.declared.layout.Kind.TheVariants.{Brackets, Braces, Struct, Tuple, Unnamed}
 use Rattle.ufmt_core.specs.declared.layout.Count.TheVariants.{Zero, One}
-use Rattle.ufmt.specs.Token.{AreWordBytes, IsWord, HasWords, HaveWords, PairsHaveWords, FieldsHaveWords, normal, normal_all, normal_pairs, normal_fields, IsFollower}
+use Rattle.ufmt.specs.Token.{AreWordBytes, IsWord, HasTokens, HaveTokens, PairsHaveTokens, FieldsHaveTokens, normal, normal_all, normal_pairs, normal_fields, IsFollower}
 use Rattle.ufmt.specs.Reading.{Parse, choose, strip, read_word, read_pair, read_tuple, read_struct, read_with, read}
 use Rattle.ufmt.proofs.Parsing.{strip_stands}
 use Rattle.ufmt.proofs.BlocksComplete.{Begins, Begins-append, IsRead, AreRead, entry_assoc, rest_follows, read_entries_complete, read_block_complete, read_after_first_complete, read_value_complete, read_pair_complete}
@@ -16,17 +16,17 @@ use Rattle.ufmt.proofs.TokenLeaves.{word_leaf, label_complete, leaf_complete, no
 
 -- `p` reads at this mode and depth each token document that is nested less than the number
 pub record ReadsBelow (p : Parse Document) (i : Setting) (n : ℕ) : Type 0 where
-  pub reads : (d : Document) → HasWords d → nest d < n → IsRead p (normal d) (layout i d)
+  pub reads : (d : Document) → HasTokens d → nest d < n → IsRead p (normal d) (layout i d)
 
 -- so it reads documents in a row
-documents_complete : (p : Parse Document) (i : Setting) (n : ℕ) → ReadsBelow p i n → (ds : Documents) → HaveWords ds → nest_all ds < n
+documents_complete : (p : Parse Document) (i : Setting) (n : ℕ) → ReadsBelow p i n → (ds : Documents) → HaveTokens ds → nest_all ds < n
     → AreRead p (listed (normal_all ds)) (texts i ds)
 unfolding listed
 documents_complete p i n below no_documents h less = tt
 documents_complete p i n below (document d ds) h less = (below.reads d h.0 (omega arith), documents_complete p i n below ds h.1 (omega arith))
 
 -- so it reads pairs in a row
-pairs_complete : (p : Parse Document) (i : Setting) (n : ℕ) → ReadsBelow p i n → (ps : Pairs) → PairsHaveWords ps → nest_pairs ps < n
+pairs_complete : (p : Parse Document) (i : Setting) (n : ℕ) → ReadsBelow p i n → (ps : Pairs) → PairsHaveTokens ps → nest_pairs ps < n
     → AreRead (read_pair p p) (listed_pairs (normal_pairs ps)) (pair_texts i ps)
 unfolding listed_pairs
 pairs_complete p i n below no_pairs h less = tt
@@ -37,7 +37,7 @@ pairs_complete p i n below (pair key value ps) h less = (
 )
 
 -- so it reads fields in a row
-fields_complete : (p : Parse Document) (i : Setting) (n : ℕ) → ReadsBelow p i n → (fs : Fields) → FieldsHaveWords fs → nest_fields fs < n
+fields_complete : (p : Parse Document) (i : Setting) (n : ℕ) → ReadsBelow p i n → (fs : Fields) → FieldsHaveTokens fs → nest_fields fs < n
     → AreRead (read_pair read_word p) (listed_fields (normal_fields fs)) (field_texts i fs)
 unfolding listed_fields
 fields_complete p i n below no_fields h less = tt
@@ -58,7 +58,7 @@ lead_chosen start text after left u f b = rw (entry_assoc start text after left 
 
 -- a list with entries is read
 list_complete : (s : Setting) (p : Parse Document) (n : ℕ) → ReadsBelow p (inside s) n → Fits s n
-    → (d : Document) (ds : Documents) (u : List ℕ) → HasWords d → HaveWords ds → nest (list_of (document d ds)) ≤ n
+    → (d : Document) (ds : Documents) (u : List ℕ) → HasTokens d → HaveTokens ds → nest (list_of (document d ds)) ≤ n
     → read_with s p (layout s (list_of (document d ds)) ++ u) ≡ Some (normal (list_of (document d ds)), u)
 list_complete s p n below fits d ds u h hs less =
     let first : IsRead p (normal d) (layout (inside s) d) = below.reads d h (omega arith) in
@@ -71,7 +71,7 @@ list_complete s p n below fits d ds u h hs less =
 
 -- a set with entries is read
 set_complete : (s : Setting) (p : Parse Document) (n : ℕ) → ReadsBelow p (inside s) n → Fits s n
-    → (d : Document) (ds : Documents) (u : List ℕ) → HasWords d → HaveWords ds → nest (set_of (document d ds)) ≤ n
+    → (d : Document) (ds : Documents) (u : List ℕ) → HasTokens d → HaveTokens ds → nest (set_of (document d ds)) ≤ n
     → read_with s p (layout s (set_of (document d ds)) ++ u) ≡ Some (normal (set_of (document d ds)), u)
 set_complete s p n below fits d ds u h hs less =
     let first : IsRead p (normal d) (layout (inside s) d) = below.reads d h (omega arith) in
@@ -93,7 +93,7 @@ set_complete s p n below fits d ds u h hs less =
 
 -- a map with entries is read
 map_complete : (s : Setting) (p : Parse Document) (n : ℕ) → ReadsBelow p (inside s) n → Fits s n
-    → (key value : Document) (ps : Pairs) (u : List ℕ) → HasWords key → HasWords value → PairsHaveWords ps
+    → (key value : Document) (ps : Pairs) (u : List ℕ) → HasTokens key → HasTokens value → PairsHaveTokens ps
     → nest (map_of (pair key value ps)) ≤ n → read_with s p (layout s (map_of (pair key value ps)) ++ u) ≡ Some (normal (map_of (pair key value ps)), u)
 map_complete s p n below fits key value ps u hk hv hs less =
     let first : IsRead p (normal key) (layout (inside s) key) = below.reads key hk (omega arith) in
@@ -119,7 +119,7 @@ map_complete s p n below fits key value ps u hk hv hs less =
 
 -- a struct with fields is read
 struct_complete : (s : Setting) (p : Parse Document) (n : ℕ) → ReadsBelow p (inside s) n → Fits s n
-    → (name label : List ℕ) (value : Document) (fs : Fields) (u : List ℕ) → IsWord name → IsWord label → HasWords value → FieldsHaveWords fs
+    → (name label : List ℕ) (value : Document) (fs : Fields) (u : List ℕ) → IsWord name → IsWord label → HasTokens value → FieldsHaveTokens fs
     → nest (struct_of name (field label value fs)) ≤ n
     → read_with s p (layout s (struct_of name (field label value fs)) ++ u) ≡ Some (normal (struct_of name (field label value fs)), u)
 struct_complete s p n below fits [] label value fs u hn hl hv hs less = absurd hn
@@ -138,7 +138,7 @@ struct_complete s p n below fits (c ∷ name) label value fs u hn hl hv hs less 
 
 -- a tuple with fields is read
 tuple_complete : (s : Setting) (p : Parse Document) (n : ℕ) → ReadsBelow p (inside s) n → Fits s n
-    → (name : List ℕ) (d : Document) (ds : Documents) (u : List ℕ) → AreWordBytes name → HasWords d → HaveWords ds
+    → (name : List ℕ) (d : Document) (ds : Documents) (u : List ℕ) → AreWordBytes name → HasTokens d → HaveTokens ds
     → nest (tuple_of name (document d ds)) ≤ n
     → read_with s p (layout s (tuple_of name (document d ds)) ++ u) ≡ Some (normal (tuple_of name (document d ds)), u)
 tuple_complete s p n below fits [] d ds u hn h hs less =
@@ -169,7 +169,7 @@ name_complete s p name u h follows = rw (append-nil name) (leaf_complete s p nam
 
 -- a document is read, where those of its entries are
 read_with_complete : (s : Setting) (p : Parse Document) (n : ℕ) → ReadsBelow p (inside s) n → Fits s n → (d : Document) (u : List ℕ)
-    → HasWords d → nest d ≤ n → IsFollower u → read_with s p (layout s d ++ u) ≡ Some (normal d, u)
+    → HasTokens d → nest d ≤ n → IsFollower u → read_with s p (layout s d ++ u) ≡ Some (normal d, u)
 read_with_complete s p n below fits (leaf text) u h less follows = leaf_complete s p text u h follows
 read_with_complete s p n below fits (joined ds) u h less follows = absurd h
 read_with_complete s p n below fits (list_of no_documents) u h less follows = refl
@@ -187,7 +187,7 @@ read_with_complete s p n below fits (tuple_of name (document d ds)) u h less fol
 read_with_complete s p n below fits (pretty_part d) u h less follows = absurd h
 
 -- the text of a token document, before a follower, is read as its normal form
-pub read_complete : (n : ℕ) (s : Setting) (d : Document) (u : List ℕ) → HasWords d → nest d ≤ n → Fits s n → IsFollower u
+pub read_complete : (n : ℕ) (s : Setting) (d : Document) (u : List ℕ) → HasTokens d → nest d ≤ n → Fits s n → IsFollower u
     → read s n (layout s d ++ u) ≡ Some (normal d, u)
 unfolding read
 read_complete zero s d u h less fits follows =

@@ -5,17 +5,17 @@ use Rattle.ufmt_core.specs.Layout.{frame, tuple_kind, inside, lead, block_tail, 
 use Rattle.ufmt_core.specs.declared.layout.Setting.{Setting}
 use Rattle.ufmt_core.specs.declared.layout.Kind.TheVariants.{Brackets, Braces, Struct, Tuple, Unnamed}
 use Rattle.ufmt_core.specs.declared.layout.Count.TheVariants.{Zero}
-use Rattle.ufmt.specs.Token.{AreWordBytes, IsWord, IsTokenLeaf, HasWords, normal}
+use Rattle.ufmt.specs.Token.{AreWordBytes, IsWord, IsTokenLeaf, HasTokens, normal}
 use Rattle.ufmt.specs.Reading.{Parse, choose, strip, word_of, after_word, read_word, read_symbol, read_value, read_pair, read_block, read_list, read_map, read_set, read_map_or_set, read_braced_entries, read_braces, read_tuple, read_struct, read_unnamed, read_without_name, read_named, read_by_word, read_with, read}
 use Rattle.ufmt.proofs.Parsing.{same_parts, strip_found, led_from, chosen_from}
 use Rattle.ufmt.proofs.ReadingWords.{words_whole, word_of_bytes, read_word_sound}
 use Rattle.ufmt.proofs.TokenLeaves.{word_leaf, read_symbol_sound}
-use Rattle.ufmt.proofs.NormalRows.{IsNormalBelow, documents_words, documents_normal, documents_nest, documents_texts, pairs_words, pairs_normal, pairs_nest, pairs_texts, fields_words, fields_normal, fields_nest, fields_texts}
+use Rattle.ufmt.proofs.NormalRows.{IsNormalBelow, documents_tokens, documents_normal, documents_nest, documents_texts, pairs_tokens, pairs_normal, pairs_nest, pairs_texts, fields_tokens, fields_normal, fields_nest, fields_texts}
 use Rattle.ufmt.proofs.BlocksSound.{Finds, FoundEntries, IsGoodPair, pair_text, read_pair_finds, read_entries_sound, read_after_first_sound, with_first, read_value_sound}
 
 -- a token document in normal form that was found at the front of a text, at this mode and depth, nested at most as much as the number
 pub record Found (s : Setting) (n : ℕ) (t : List ℕ) (d : Document) (u : List ℕ) : Type 0 where
-  pub words : HasWords d
+  pub tokens : HasTokens d
   pub nests : nest d ≤ n
   pub is_normal : normal d ≡ d
   pub whole : t ≡ layout s d ++ u
@@ -42,7 +42,7 @@ list_found s n t v d u front h =
     let some : 0 < n = (let first = h.good.0.nests in omega arith) in
     let nests = documents_nest n (h.first ∷ h.others) h.good some in
     subst (λ e. Found s n t e u) h.made (record {
-      words = documents_words n (h.first ∷ h.others) h.good;
+      tokens = documents_tokens n (h.first ∷ h.others) h.good;
       nests = omega arith;
       is_normal = ap list_of (documents_normal n (h.first ∷ h.others) h.good);
       whole = front ∙ ap (λ w. codes "[" ++ w) (h.whole
@@ -57,7 +57,7 @@ set_found s n t v d u front h =
     let some : 0 < n = (let first = h.good.0.nests in omega arith) in
     let nests = documents_nest n (h.first ∷ h.others) h.good some in
     subst (λ e. Found s n t e u) h.made (record {
-      words = documents_words n (h.first ∷ h.others) h.good;
+      tokens = documents_tokens n (h.first ∷ h.others) h.good;
       nests = omega arith;
       is_normal = ap set_of (documents_normal n (h.first ∷ h.others) h.good);
       whole = front ∙ ap (λ w. codes "{" ++ w) (h.whole
@@ -73,7 +73,7 @@ map_found s n t v d u front h =
     let some : 0 < n = (let first = h.good.0.0.nests in omega arith) in
     let nests = pairs_nest n (h.first ∷ h.others) h.good some in
     subst (λ e. Found s n t e u) h.made (record {
-      words = pairs_words n (h.first ∷ h.others) h.good;
+      tokens = pairs_tokens n (h.first ∷ h.others) h.good;
       nests = omega arith;
       is_normal = ap map_of (pairs_normal n (h.first ∷ h.others) h.good);
       whole = front ∙ ap (λ w. codes "{" ++ w) (h.whole
@@ -89,7 +89,7 @@ struct_found s n name t v d u word front h =
     let some : 0 < n = (let first = h.good.0.1.nests in omega arith) in
     let nests = fields_nest n (h.first ∷ h.others) h.good some in
     subst (λ e. Found s n t e u) h.made (record {
-      words = (word, fields_words n (h.first ∷ h.others) h.good);
+      tokens = (word, fields_tokens n (h.first ∷ h.others) h.good);
       nests = omega arith;
       is_normal = ap (struct_of name) (fields_normal n (h.first ∷ h.others) h.good);
       whole = front ∙ ap (λ w. name ++ w) (h.whole
@@ -112,9 +112,9 @@ tuple_found : (s : Setting) (n : ℕ) (name t v : List ℕ) (d : Document) (u : 
 tuple_found s n name t v d u word front h =
     let some : 0 < n = (let first = h.good.0.nests in omega arith) in
     let nests = documents_nest n (h.first ∷ h.others) h.good some in
-    let all = documents_words n (h.first ∷ h.others) h.good in
+    let all = documents_tokens n (h.first ∷ h.others) h.good in
     subst (λ e. Found s n t e u) h.made (record {
-      words = (word, all.0, all.1);
+      tokens = (word, all.0, all.1);
       nests = omega arith;
       is_normal = ap (tuple_of name) (documents_normal n (h.first ∷ h.others) h.good);
       whole = front ∙ ap (λ w. name ++ w) h.whole ∙ tuple_text s name h.first h.others u;
@@ -130,7 +130,7 @@ read_list_sound s p n finds t v d u front h = go (chosen_from (strip ((frame s.m
         × (read_block p (frame s.mode Brackets) s (λ ds. list_of (documents ds)) v ≡ Some (d, u))) → Found s n t d u
     go (inl k) = found_same (list_of no_documents) d k.0 u
         (record {
-          words = tt;
+          tokens = tt;
           nests = omega arith;
           is_normal = refl;
           whole = front
@@ -171,7 +171,7 @@ read_braces_sound s p n finds t v d u front h = go (chosen_from (strip ((frame s
         ⊎ ((strip ((frame s.mode Braces).closing Zero) v ≡ None) × (read_braced_entries s p v ≡ Some (d, u))) → Found s n t d u
     go (inl k) = found_same (map_of no_pairs) d k.0 u
         (record {
-          words = tt;
+          tokens = tt;
           nests = omega arith;
           is_normal = refl;
           whole = front
@@ -204,7 +204,7 @@ read_struct_sound s p n finds name t v w d u word front behind h =
 
 -- a leaf that was found
 leaf_found : {s : Setting} {n : ℕ} {t : List ℕ} (text u : List ℕ) → IsTokenLeaf text → t ≡ text ++ u → Found s n t (leaf text) u
-leaf_found text u h whole = record { words = h; nests = omega arith; is_normal = refl; whole = whole }
+leaf_found text u h whole = record { tokens = h; nests = omega arith; is_normal = refl; whole = whole }
 
 -- what is read behind a word is a tuple, a struct or a leaf
 read_named_sound : (s : Setting) (p : Parse Document) (n : ℕ) → Finds p (IsNormalBelow n) (layout (inside s))
@@ -267,6 +267,6 @@ pub read_sound : (n : ℕ) (s : Setting) (t : List ℕ) (d : Document) (u : List
 unfolding read
 read_sound zero s t d u h = read_with_sound s (λ v. None) zero (record { good = λ v x w k. absurd (cc); whole = λ v x w k. absurd (cc) }) t d u h
 read_sound (suc n) s t d u h = read_with_sound s (read (inside s) n) (suc n) (record {
-  good = λ v x w k. let found = read_sound n (inside s) v x w k in record { words = found.words; nests = omega (arith, found.nests); is_normal = found.is_normal };
+  good = λ v x w k. let found = read_sound n (inside s) v x w k in record { tokens = found.tokens; nests = omega (arith, found.nests); is_normal = found.is_normal };
   whole = λ v x w k. (read_sound n (inside s) v x w k).whole;
 }) t d u h

@@ -28,7 +28,7 @@ strip_within text t u h = rw (strip_found text t u h, length-append text u) (ome
 
 -- a document takes a byte
 pub read_takes : (s : Setting) (n : ℕ) → Takes (read s n)
-read_takes s n = record { takes = λ t d u h. let found = read_sound n s t d u h in begins_takes t (layout s d) u (document_begins s d found.words) found.whole }
+read_takes s n = record { takes = λ t d u h. let found = read_sound n s t d u h in begins_takes t (layout s d) u (document_begins s d found.tokens) found.whole }
 
 -- a word takes a byte
 pub read_word_takes : Takes read_word

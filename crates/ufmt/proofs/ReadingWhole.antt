@@ -22,7 +22,7 @@ all_found : (mode : Mode) (t : List ℕ) (e d : Document) (u : List ℕ) → Fou
     × (normal d ≡ d) × (layout (setting mode 0) d ≡ t)
 all_found mode t e d [] found h =
     let same : e ≡ d = cc in
-    rw (← same) ((found.words, found.nests), found.is_normal, sym (found.whole ∙ append-nil (layout (setting mode 0) e)))
+    rw (← same) ((found.tokens, found.nests), found.is_normal, sym (found.whole ∙ append-nil (layout (setting mode 0) e)))
 all_found mode t e d (c ∷ u) found h = absurd (cc)
 
 -- what is read is a token document in normal form that has the text

@@ -3,7 +3,7 @@ use Rattle.std.proofs.Common.{◌≡◌, ◌≢◌, ℕ, List, [], ◌∷◌, tr
 use Rattle.std.proofs.lemmas.Bool.{false≢true}
 use Rattle.ufmt_core.specs.Document.{Document, leaf, joined, list_of, set_of, map_of, struct_of, tuple_of, pretty_part, Documents, no_documents, document, Pairs, no_pairs, pair, Fields, no_fields, field}
 use Rattle.ufmt.specs.Shift.{IsOneLine, HasNoLineFeed, HaveNoLineFeed, PairsHaveNoLineFeed, FieldsHaveNoLineFeed}
-use Rattle.ufmt.specs.Token.{is_word_byte, AreWordBytes, IsWord, IsTokenLeaf, HasWords, HaveWords, PairsHaveWords, FieldsHaveWords}
+use Rattle.ufmt.specs.Token.{is_word_byte, AreWordBytes, IsWord, IsTokenLeaf, HasTokens, HaveTokens, PairsHaveTokens, FieldsHaveTokens}
 use Rattle.ufmt.proofs.QuotedLines.{quoted_is_one_line}
 
 is_word_byte-line_feed : (c : ℕ) → is_word_byte c ≡ true → c ≢ 10
@@ -24,26 +24,26 @@ IsTokenLeaf-IsOneLine text h =
     in elim h.shape [ inl w ↦ IsWord-IsOneLine text w | inr symbol ↦ elim symbol [ inl e ↦ subst IsOneLine (sym e) unit | inr quoted ↦ quoted_is_one_line text quoted ] ]
 
 mutual
-  pub HasWords-HasNoLineFeed : (d : Document) → HasWords d → HasNoLineFeed d
-  HasWords-HasNoLineFeed (leaf text) h = IsTokenLeaf-IsOneLine text h
-  HasWords-HasNoLineFeed (joined ds) h = absurd h
-  HasWords-HasNoLineFeed (list_of ds) h = HaveWords-HaveNoLineFeed ds h
-  HasWords-HasNoLineFeed (set_of ds) h = HaveWords-HaveNoLineFeed ds h
-  HasWords-HasNoLineFeed (map_of ps) h = PairsHaveWords-HaveNoLineFeed ps h
-  HasWords-HasNoLineFeed (struct_of name fs) h = (IsWord-IsOneLine name h.0, FieldsHaveWords-HaveNoLineFeed fs h.1)
-  HasWords-HasNoLineFeed (tuple_of name no_documents) h = (IsWord-IsOneLine name h, tt)
-  HasWords-HasNoLineFeed (tuple_of name (document d ds)) h = (AreWordBytes-IsOneLine name h.0, (HasWords-HasNoLineFeed d h.1, HaveWords-HaveNoLineFeed ds h.2))
-  HasWords-HasNoLineFeed (pretty_part d) h = absurd h
+  pub HasTokens-HasNoLineFeed : (d : Document) → HasTokens d → HasNoLineFeed d
+  HasTokens-HasNoLineFeed (leaf text) h = IsTokenLeaf-IsOneLine text h
+  HasTokens-HasNoLineFeed (joined ds) h = absurd h
+  HasTokens-HasNoLineFeed (list_of ds) h = HaveTokens-HaveNoLineFeed ds h
+  HasTokens-HasNoLineFeed (set_of ds) h = HaveTokens-HaveNoLineFeed ds h
+  HasTokens-HasNoLineFeed (map_of ps) h = PairsHaveTokens-HaveNoLineFeed ps h
+  HasTokens-HasNoLineFeed (struct_of name fs) h = (IsWord-IsOneLine name h.0, FieldsHaveTokens-HaveNoLineFeed fs h.1)
+  HasTokens-HasNoLineFeed (tuple_of name no_documents) h = (IsWord-IsOneLine name h, tt)
+  HasTokens-HasNoLineFeed (tuple_of name (document d ds)) h = (AreWordBytes-IsOneLine name h.0, (HasTokens-HasNoLineFeed d h.1, HaveTokens-HaveNoLineFeed ds h.2))
+  HasTokens-HasNoLineFeed (pretty_part d) h = absurd h
 
-  HaveWords-HaveNoLineFeed : (ds : Documents) → HaveWords ds → HaveNoLineFeed ds
-  HaveWords-HaveNoLineFeed no_documents h = tt
-  HaveWords-HaveNoLineFeed (document d ds) h = (HasWords-HasNoLineFeed d h.0, HaveWords-HaveNoLineFeed ds h.1)
+  HaveTokens-HaveNoLineFeed : (ds : Documents) → HaveTokens ds → HaveNoLineFeed ds
+  HaveTokens-HaveNoLineFeed no_documents h = tt
+  HaveTokens-HaveNoLineFeed (document d ds) h = (HasTokens-HasNoLineFeed d h.0, HaveTokens-HaveNoLineFeed ds h.1)
 
-  PairsHaveWords-HaveNoLineFeed : (ps : Pairs) → PairsHaveWords ps → PairsHaveNoLineFeed ps
-  PairsHaveWords-HaveNoLineFeed no_pairs h = tt
-  PairsHaveWords-HaveNoLineFeed (pair key value ps) h = (HasWords-HasNoLineFeed key h.0, HasWords-HasNoLineFeed value h.1, PairsHaveWords-HaveNoLineFeed ps h.2)
+  PairsHaveTokens-HaveNoLineFeed : (ps : Pairs) → PairsHaveTokens ps → PairsHaveNoLineFeed ps
+  PairsHaveTokens-HaveNoLineFeed no_pairs h = tt
+  PairsHaveTokens-HaveNoLineFeed (pair key value ps) h = (HasTokens-HasNoLineFeed key h.0, HasTokens-HasNoLineFeed value h.1, PairsHaveTokens-HaveNoLineFeed ps h.2)
 
-  FieldsHaveWords-HaveNoLineFeed : (fs : Fields) → FieldsHaveWords fs → FieldsHaveNoLineFeed fs
-  FieldsHaveWords-HaveNoLineFeed no_fields h = tt
-  FieldsHaveWords-HaveNoLineFeed (field label value fs) h =
-      (IsWord-IsOneLine label h.0, HasWords-HasNoLineFeed value h.1, FieldsHaveWords-HaveNoLineFeed fs h.2)
+  FieldsHaveTokens-HaveNoLineFeed : (fs : Fields) → FieldsHaveTokens fs → FieldsHaveNoLineFeed fs
+  FieldsHaveTokens-HaveNoLineFeed no_fields h = tt
+  FieldsHaveTokens-HaveNoLineFeed (field label value fs) h =
+      (IsWord-IsOneLine label h.0, HasTokens-HasNoLineFeed value h.1, FieldsHaveTokens-HaveNoLineFeed fs h.2)

@@ -2,8 +2,8 @@
 use Rattle.std.proofs.Common.{◌≡◌, ℕ, zero, suc, map, true, false, codes, refl, inl, inr, arith}
 use Rattle.std.proofs.lemmas.Bool.{false≢true}
 use Rattle.ufmt_core.specs.Document.{Document, leaf, joined, list_of, set_of, map_of, struct_of, tuple_of, pretty_part, Documents, no_documents, document, no_pairs, pair, no_fields, field, nest}
-use Rattle.ufmt.specs.Token.{is_word_byte, IsWord, HasWords, IsToken, normal, is_closer, IsFollower}
-use Rattle.ufmt.proofs.TokenLines.{HasWords-HasNoLineFeed}
+use Rattle.ufmt.specs.Token.{is_word_byte, IsWord, HasTokens, IsToken, normal, is_closer, IsFollower}
+use Rattle.ufmt.proofs.TokenLines.{HasTokens-HasNoLineFeed}
 
 -- ---- words
 
@@ -38,8 +38,8 @@ one = leaf (codes "1")
 abbrev lone : Document → Documents
 lone d = document d no_documents
 
-HasWords-one : HasWords one
-HasWords-one = record { shape = inl (refl, tt) }
+HasTokens-one : HasTokens one
+HasTokens-one = record { shape = inl (refl, tt) }
 
 IsToken-unit : IsToken (leaf (codes "()"))
 IsToken-unit = (record { shape = inr (inl refl) }, omega arith)
@@ -48,14 +48,14 @@ IsToken-not-empty_leaf : IsToken (leaf (codes "")) → ⊥
 IsToken-not-empty_leaf h = elim h.0.shape [ inl w ↦ w | inr symbol ↦ elim symbol [ inl e ↦ cc | inr quoted ↦ elim quoted [ inl of_text ↦ let e = of_text.2 in cc | inr of_char ↦ let e = of_char.2 in cc ] ] ]
 
 IsToken-not-line_feed : IsToken (leaf (codes "\n")) → ⊥
-IsToken-not-line_feed h = let line = HasWords-HasNoLineFeed (leaf (codes "\n")) h.0 in line.0 refl
+IsToken-not-line_feed h = let line = HasTokens-HasNoLineFeed (leaf (codes "\n")) h.0 in line.0 refl
 
 -- a struct of an empty set and a tuple without a name
 IsToken-settings : IsToken (struct_of (codes "S") (field (codes "m") (set_of no_documents) (field (codes "n") (tuple_of (codes "") (lone one)) no_fields)))
-IsToken-settings = (((refl, tt), ((refl, tt), tt, ((refl, tt), (tt, HasWords-one, tt), tt))), omega arith)
+IsToken-settings = (((refl, tt), ((refl, tt), tt, ((refl, tt), (tt, HasTokens-one, tt), tt))), omega arith)
 
 IsToken-map : IsToken (map_of (pair one one no_pairs))
-IsToken-map = ((HasWords-one, HasWords-one, tt), omega arith)
+IsToken-map = ((HasTokens-one, HasTokens-one, tt), omega arith)
 
 -- a name may be empty only where a tuple has a field
 IsToken-not-empty_tuple : IsToken (tuple_of (codes "") no_documents) → ⊥
@@ -82,13 +82,13 @@ nest-nested : (k : ℕ) → nest (nested k) ≡ k
 nest-nested zero = refl
 nest-nested (suc k) = omega (arith, nest-nested k)
 
-HasWords-nested : (k : ℕ) → HasWords (nested k)
-HasWords-nested zero = tt
-HasWords-nested (suc k) = (HasWords-nested k, tt)
+HasTokens-nested : (k : ℕ) → HasTokens (nested k)
+HasTokens-nested zero = tt
+HasTokens-nested (suc k) = (HasTokens-nested k, tt)
 
 -- 255 blocks with entries may lie one in another, round an empty one
 IsToken-nested : IsToken (nested 255)
-IsToken-nested = (HasWords-nested 255, omega (arith, nest-nested 255))
+IsToken-nested = (HasTokens-nested 255, omega (arith, nest-nested 255))
 
 IsToken-not-nested : IsToken (nested 256) → ⊥
 IsToken-not-nested h = omega (arith, nest-nested 256, h.1)

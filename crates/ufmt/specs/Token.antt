@@ -1,4 +1,4 @@
--- Token documents, whose texts can be read again: words, token documents, normal form and followers.
+-- Token documents, whose texts can be read again: words, tokens, token documents, normal form and followers.
 use Rattle.std.specs.Prelude.{◌≡◌, ◌⊎◌, ℕ, ◌≤◌, ◌&&◌, ◌||◌, ◌==◌, nat_le, List, [], ◌∷◌, Bool, true, codes, ⊤}
 use Rattle.ufmt_core.specs.Document.{Document, leaf, joined, list_of, set_of, map_of, struct_of, tuple_of, pretty_part, Documents, no_documents, document, Pairs, no_pairs, pair, Fields, no_fields, field, nest}
 use Rattle.ufmt_core.specs.Quoted.{IsQuoted}
@@ -53,22 +53,22 @@ module _ (IsLeaf : List ℕ → Type 0) where
     FieldsHaveLeaves no_fields = ⊤
     FieldsHaveLeaves (field label value fs) = IsWord label × HasLeaves value × FieldsHaveLeaves fs
 
--- every leaf can be read again, and names are words
-abbrev pub HasWords : Document → Type 0
-HasWords d = HasLeaves IsTokenLeaf d
+-- each leaf and each name is a token, which can be read again
+abbrev pub HasTokens : Document → Type 0
+HasTokens d = HasLeaves IsTokenLeaf d
 
-abbrev pub HaveWords : Documents → Type 0
-HaveWords ds = HaveLeaves IsTokenLeaf ds
+abbrev pub HaveTokens : Documents → Type 0
+HaveTokens ds = HaveLeaves IsTokenLeaf ds
 
-abbrev pub PairsHaveWords : Pairs → Type 0
-PairsHaveWords ps = PairsHaveLeaves IsTokenLeaf ps
+abbrev pub PairsHaveTokens : Pairs → Type 0
+PairsHaveTokens ps = PairsHaveLeaves IsTokenLeaf ps
 
-abbrev pub FieldsHaveWords : Fields → Type 0
-FieldsHaveWords fs = FieldsHaveLeaves IsTokenLeaf fs
+abbrev pub FieldsHaveTokens : Fields → Type 0
+FieldsHaveTokens fs = FieldsHaveLeaves IsTokenLeaf fs
 
--- a document of words whose blocks with entries lie at most 255 deep
+-- a document of tokens, whose blocks with entries lie at most 255 deep
 abbrev pub IsToken : Document → Type 0
-IsToken d = HasWords d × (nest d ≤ 255)
+IsToken d = HasTokens d × (nest d ≤ 255)
 
 -- the document as its text tells it: a name alone is a leaf, whatever it was the name of, and `{}` is a map, at each depth
 abbrev mutual

@@ -5,7 +5,7 @@ use Rattle.ufmt.specs.Decimal.{decimal}
 use Rattle.ufmt.specs.Document.{Document}
 use Rattle.ufmt.specs.Layout.{plain_text}
 use Rattle.ufmt.specs.Token.{IsToken, normal}
-use Rattle.ufmt.proofs.NumbersAreWords.{HasWords-integer}
+use Rattle.ufmt.proofs.NumbersAreWords.{HasTokens-integer}
 use Rattle.ufmt_doc.specs.Parts.{field_part, leaf_part}
 use Rattle.ufmt_doc.specs.declared.reader.error.ReadError.{ReadError}
 use Rattle.ufmt_doc.proofs.Within.{IsWord-from}
@@ -17,7 +17,7 @@ pub IsToken-reading : (r : Reading) → IsToken (reading_document r)
 IsToken-reading r = (
   (
     IsWord-from (codes "Reading") refl,
-    (IsWord-from (codes "channel") refl, HasWords-integer (pos r.channel), (IsWord-from (codes "celsius") refl, HasWords-integer r.celsius, tt)),
+    (IsWord-from (codes "channel") refl, HasTokens-integer (pos r.channel), (IsWord-from (codes "celsius") refl, HasTokens-integer r.celsius, tt)),
   ),
   omega arith,
 )
