@@ -9,7 +9,7 @@ use Rattle.ufmt.specs.Token.{AreWordBytes, IsWord, IsTokenLeaf, HasTokens, norma
 use Rattle.ufmt.specs.Reading.{Parse, choose, strip, word_of, after_word, read_word, read_symbol, read_value, read_pair, read_block, read_list, read_map, read_set, read_map_or_set, read_braced_entries, read_braces, read_tuple, read_struct, read_unnamed, read_without_name, read_named, read_by_word, read_with, read}
 use Rattle.ufmt.proofs.Parsing.{same_parts, strip_found, led_from, chosen_from}
 use Rattle.ufmt.proofs.ReadingWords.{words_whole, word_of_bytes, read_word_sound}
-use Rattle.ufmt.proofs.TokenLeaves.{word_leaf, read_symbol_sound}
+use Rattle.ufmt.proofs.TokenLeaves.{word_leaf, symbol_leaf, read_symbol_sound}
 use Rattle.ufmt.proofs.NormalRows.{IsNormalBelow, documents_tokens, documents_normal, documents_nest, documents_texts, pairs_tokens, pairs_normal, pairs_nest, pairs_texts, fields_tokens, fields_normal, fields_nest, fields_texts}
 use Rattle.ufmt.proofs.BlocksSound.{Finds, FoundEntries, IsGoodPair, pair_text, read_pair_finds, read_entries_sound, read_after_first_sound, with_first, read_value_sound}
 
@@ -234,7 +234,7 @@ read_without_name_sound s p n finds t d u h = in_brackets (chosen_from (strip (c
         ⊎ ((read_symbol t ≡ None) × (read_unnamed s p t ≡ Some (d, u))) → Found s n t d u
     in_parentheses (inl k) =
         let found = read_symbol_sound t k.0.0 k.0.1 k.1 in
-        found_same (leaf k.0.0) d k.0.1 u (leaf_found k.0.0 k.0.1 found.0 found.1) k.2
+        found_same (leaf k.0.0) d k.0.1 u (leaf_found k.0.0 k.0.1 (symbol_leaf k.0.0 found.0) found.1) k.2
     in_parentheses (inr k) =
         let behind = led_from _ (strip (lead (frame s.mode Unnamed) (inside s) Zero) t) (d, u) k.1 in
         read_tuple_sound s p n finds [] t t behind.0 d u tt refl behind.1 behind.2

@@ -4,13 +4,13 @@ use Rattle.ufmt_core.specs.Document.{Document, leaf}
 use Rattle.ufmt_core.specs.Layout.{inside, brace_space, new_line}
 use Rattle.ufmt_core.specs.Quoted.{IsQuoted, escaped_all}
 use Rattle.ufmt_core.specs.declared.layout.Setting.{Setting}
-use Rattle.ufmt.specs.Token.{IsWord, IsTokenLeaf, IsFollower}
+use Rattle.ufmt.specs.Token.{IsWord, IsSymbol, IsTokenLeaf, IsFollower}
 use Rattle.ufmt.specs.Reading.{Parse, strip, read_word, read_symbol, read_named, read_with}
 use Rattle.ufmt.specs.ReadingQuoted.{read_quoted}
 use Rattle.ufmt.proofs.Parsing.{chosen_from, same_parts, strip_found}
 use Rattle.ufmt.proofs.QuotedComplete.{read_quoted-complete}
 use Rattle.ufmt.proofs.QuotedSound.{read_quoted-sound}
-use Rattle.ufmt.proofs.ReadingWords.{StopsWord, follower_stops, is_word_byte-is_closer, word_of-append, after_word-append, read_word_complete}
+use Rattle.ufmt.proofs.ReadingWords.{StopsWord, follower_stops, is_word_byte-is_closer, word_of-append, after_word-append, read_word_complete, read_word_sound}
 use Rattle.ufmt.proofs.BlocksComplete.{Begins, IsRead}
 use Rattle.ufmt.proofs.FramesClose.{closer_begins_none, follower_no_tuple, follower_no_struct}
 
@@ -23,7 +23,7 @@ word_begins (c ∷ w) h = record { first = c; tail = w; is = refl; no_closer = i
 pub leaf_begins : (text : List ℕ) → IsTokenLeaf text → Begins text
 leaf_begins text h = go h.shape
   where
-    go : IsWord text ⊎ ((text ≡ codes "()") ⊎ IsQuoted text) → Begins text
+    go : IsWord text ⊎ IsSymbol text → Begins text
     go (inl w) = word_begins text w
     go (inr (inl e)) = record { first = 40; tail = codes ")"; is = e; no_closer = refl }
     go (inr (inr (inl of_text))) = record { first = 34; tail = escaped_all 34 of_text.0 ++ (34 ∷ []); is = of_text.2; no_closer = refl }
@@ -32,6 +32,14 @@ leaf_begins text h = go h.shape
 -- a word is a leaf
 pub word_leaf : (w : List ℕ) → IsWord w → IsTokenLeaf w
 word_leaf w h = record { shape = inl h }
+
+-- so are `()`, and a quoted text or character
+pub symbol_leaf : (text : List ℕ) → IsSymbol text → IsTokenLeaf text
+symbol_leaf text h = record { shape = inr h }
+
+-- a name is a word where the check computes so
+pub IsWord-from : (w : List ℕ) → read_word w ≡ Some (w, []) → IsWord w
+IsWord-from w h = (read_word_sound w w [] h).0
 
 -- the word before a field's colon is read
 pub label_complete : (w : List ℕ) → IsWord w → IsRead read_word w w
@@ -66,7 +74,7 @@ quoted_complete s p text u h = go h (read_quoted-complete text u h)
 pub leaf_complete : (s : Setting) (p : Parse Document) (text u : List ℕ) → IsTokenLeaf text → IsFollower u → read_with s p (text ++ u) ≡ Some (leaf text, u)
 leaf_complete s p text u h follows = go h.shape
   where
-    go : IsWord text ⊎ ((text ≡ codes "()") ⊎ IsQuoted text) → read_with s p (text ++ u) ≡ Some (leaf text, u)
+    go : IsWord text ⊎ IsSymbol text → read_with s p (text ++ u) ≡ Some (leaf text, u)
     go (inl w) = at_word s p text u w (follower_stops u follows) ∙ name_alone s p text u w follows
     go (inr (inl e)) = rw e refl
     go (inr (inr quoted)) = quoted_complete s p text u quoted
@@ -76,8 +84,17 @@ pub no_symbol : {t : List ℕ} → Begins t → read_symbol (40 ∷ t) ≡ None
 unfolding read_quoted
 no_symbol b = rw (closer_begins_none 41 [] refl b) refl
 
--- what is read as a leaf that is no word is a leaf
-pub read_symbol_sound : (t text u : List ℕ) → read_symbol t ≡ Some (text, u) → IsTokenLeaf text × (t ≡ text ++ u)
+-- a leaf that is no word is read, whatever follows it
+pub read_symbol_complete : (text u : List ℕ) → IsSymbol text → read_symbol (text ++ u) ≡ Some (text, u)
+read_symbol_complete text u (inl unit) = rw unit refl
+read_symbol_complete text u (inr quoted) = go quoted (read_quoted-complete text u quoted)
+  where
+    go : IsQuoted text → read_quoted (text ++ u) ≡ Some (text, u) → read_symbol (text ++ u) ≡ Some (text, u)
+    go (inl of_text) reads = rw of_text.2 (ap (λ t. read_quoted (t ++ u)) (sym of_text.2) ∙ reads ∙ ap (λ t. Some (t, u)) of_text.2)
+    go (inr of_char) reads = rw of_char.2 (ap (λ t. read_quoted (t ++ u)) (sym of_char.2) ∙ reads ∙ ap (λ t. Some (t, u)) of_char.2)
+
+-- and what is read so is one
+pub read_symbol_sound : (t text u : List ℕ) → read_symbol t ≡ Some (text, u) → IsSymbol text × (t ≡ text ++ u)
 read_symbol_sound t text u h = elim (chosen_from {B = Option (List ℕ × List ℕ)} (strip (codes "()") t) (λ v. Some (codes "()", v))
     (read_quoted t) (Some (text, u)) h) [
       | inl unit ↦ at_unit unit.0 unit.1 unit.2
@@ -85,10 +102,10 @@ read_symbol_sound t text u h = elim (chosen_from {B = Option (List ℕ × List �
     ]
   where
     at_unit : (v : List ℕ) → strip (codes "()") t ≡ Some v → ◌≡◌ {A = Option (List ℕ × List ℕ)} (Some (codes "()", v)) (Some (text, u))
-        → IsTokenLeaf text × (t ≡ text ++ u)
+        → IsSymbol text × (t ≡ text ++ u)
     at_unit v stripped is =
         let parts = same_parts {A = List ℕ} {B = List ℕ} (codes "()", v) (text, u) is in
-        (record { shape = inr (inl (sym parts.0)) }, strip_found (codes "()") t v stripped ∙ ap (λ w. codes "()" ++ w) parts.1 ∙ ap (λ w. w ++ u) parts.0)
+        (inl (sym parts.0), strip_found (codes "()") t v stripped ∙ ap (λ w. codes "()" ++ w) parts.1 ∙ ap (λ w. w ++ u) parts.0)
 
-    at_quote : IsQuoted text × (t ≡ text ++ u) → IsTokenLeaf text × (t ≡ text ++ u)
-    at_quote quoted = (record { shape = inr (inr quoted.0) }, quoted.1)
+    at_quote : IsQuoted text × (t ≡ text ++ u) → IsSymbol text × (t ≡ text ++ u)
+    at_quote quoted = (inr quoted.0, quoted.1)

@@ -1,8 +1,8 @@
 -- Where no leaf is quoted, those that can be read again are words and `()`.
-use Rattle.std.proofs.Common.{◌⊎◌, inl, inr, ℕ, List, ◌≡◌, codes}
+use Rattle.std.proofs.Common.{◌⊎◌, inl, inr, ℕ, List}
 use Rattle.ufmt_core.specs.Document.{Document, leaf, joined, list_of, set_of, map_of, struct_of, tuple_of, pretty_part, Documents, no_documents, document, Pairs, no_pairs, pair, Fields, no_fields, field}
 use Rattle.ufmt_core.specs.Quoted.{IsQuoted}
-use Rattle.ufmt.specs.Token.{IsWord, HasLeaves, HaveLeaves, PairsHaveLeaves, FieldsHaveLeaves, IsTokenLeaf, IsUnquotedLeaf}
+use Rattle.ufmt.specs.Token.{IsWord, IsSymbol, HasLeaves, HaveLeaves, PairsHaveLeaves, FieldsHaveLeaves, IsTokenLeaf, IsUnquotedLeaf}
 use Rattle.ufmt.specs.UnquotedLaws.{EachLeaf, AllLeaves, LeavesOfPairs, LeavesOfFields, UnquotedAsBefore}
 
 -- leaves that are such texts, and such, are the third kind of texts
@@ -34,7 +34,7 @@ module _ (P Q R : List ℕ → Type 0) (both : (text : List ℕ) → P text → 
 unquoted : (text : List ℕ) → IsTokenLeaf text → ¬ (IsQuoted text) → IsUnquotedLeaf text
 unquoted text h no_quotes = go h.shape
   where
-    go : IsWord text ⊎ ((text ≡ codes "()") ⊎ IsQuoted text) → IsUnquotedLeaf text
+    go : IsWord text ⊎ IsSymbol text → IsUnquotedLeaf text
     go (inl word) = inl word
     go (inr (inl unit)) = inr unit
     go (inr (inr quoted)) = absurd (no_quotes quoted)

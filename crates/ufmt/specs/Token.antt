@@ -23,9 +23,13 @@ IsWord (c ∷ text) = (is_word_byte c ≡ true) × AreWordBytes text
 abbrev pub IsUnquotedLeaf : List ℕ → Type 0
 IsUnquotedLeaf text = IsWord text ⊎ (text ≡ codes "()")
 
--- the text of a leaf that can be read again: a word, `()`, or a quoted text or character
+-- a leaf that is no word: `()`, or a quoted text or character
+abbrev pub IsSymbol : List ℕ → Type 0
+IsSymbol text = (text ≡ codes "()") ⊎ IsQuoted text
+
+-- the text of a leaf that can be read again
 pub record IsTokenLeaf (text : List ℕ) : Type 0 where
-  pub shape : IsWord text ⊎ ((text ≡ codes "()") ⊎ IsQuoted text)
+  pub shape : IsWord text ⊎ IsSymbol text
 
 -- a document with such leaves alone, whose names are words, but that of a tuple with fields may be empty
 module _ (IsLeaf : List ℕ → Type 0) where

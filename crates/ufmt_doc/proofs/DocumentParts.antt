@@ -10,7 +10,7 @@ use Rattle.ufmt.specs.Token.{AreWordBytes, IsWord}
 use Rattle.ufmt.specs.Reading.{Parse, parse_map, strip, word_of, after_word, if_word, read_symbol, read_word, read_value, read_pair, read_list, read_braces, read_map_or_set, read_named, read_tuple, read_without_name, read_with, read}
 use Rattle.ufmt.proofs.Parsing.{led_from, beside_from, mapped_from, same_parts}
 use Rattle.ufmt.proofs.ReadingTurns.{Takes, read_word_takes, strip_within}
-use Rattle.ufmt.proofs.TokenLeaves.{leaf_begins, read_symbol_sound}
+use Rattle.ufmt.proofs.TokenLeaves.{leaf_begins, read_symbol_sound, symbol_leaf}
 use Rattle.ufmt.proofs.ReadingWords.{word_of_bytes}
 use Rattle.ufmt_doc.specs.Private.Entries.{read_on}
 use Rattle.ufmt_doc.specs.declared.reader.level.Level.{Level}
@@ -99,7 +99,7 @@ pub symbol_begins : (s : Setting) (p : Parse Document) (t text r : List ℕ) →
     → read_symbol t ≡ Some (text, r) → (read_without_name s p t ≡ Some (leaf text, r)) × (length r < length t)
 symbol_begins s p t text r bracket brace symbol =
     let sound = read_symbol_sound t text r symbol in
-    let begins = leaf_begins text sound.0 in
+    let begins = leaf_begins text (symbol_leaf text sound.0) in
     (rw (bracket, brace, symbol) refl, omega (arith, ap length sound.1, length-append text r, ap length begins.is))
 
 -- a tuple without a name behind what stands before its first field

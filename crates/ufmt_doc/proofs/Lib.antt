@@ -14,7 +14,7 @@ pub mod Same
 pub mod Spelled
 pub mod Stacks
 pub mod Strips
-pub mod Symbols
+pub mod Leaves
 pub mod Unquoted
 pub mod WholeTexts
 pub mod Within

@@ -1,5 +1,5 @@
 -- What stands between the quotes of a leaf is told byte by byte.
-use Rattle.std.proofs.Common.{◌≡◌, ◌≢◌, inl, inr, refl, sym, ap, ◌∙◌, ℕ, true, false, List, [], ◌∷◌, ◌++◌, drop, length, Option, Some, None, get_or, append_assoc, append-nil, length-append, ◌<◌, arith}
+use Rattle.std.proofs.Common.{◌≡◌, ◌≢◌, inl, inr, refl, subst, sym, ap, ◌∙◌, ℕ, true, List, [], ◌∷◌, ◌++◌, drop, length, Option, Some, None, get_or, append_assoc, append-nil, length-append, ◌<◌, arith}
 use Rattle.std.specs.Str.{IsUtf8, all_scalars, chars, encode_utf8_all}
 use Rattle.std.proofs.lemmas.Str.{chars-encodes}
 use Rattle.ufmt.specs.Document.{leaf}
@@ -11,8 +11,7 @@ use Rattle.ufmt.proofs.QuotedComplete.{escaped-no_quote, length-escaped, quoted-
 use Rattle.ufmt.proofs.QuotedSound.{read_escaped-sound}
 use Rattle.ufmt_doc.specs.Private.Spelled.{Tells}
 use Rattle.ufmt_doc.specs.Unquoted.{IsInQuotes}
-use Rattle.ufmt_doc.specs.Private.Within.{is_symbol}
-use Rattle.ufmt_doc.proofs.Symbols.{is_symbol-complete, is_symbol-told}
+use Rattle.ufmt.specs.Token.{IsSymbol}
 use Rattle.ufmt_doc.proofs.Spelled.{escaped_bytes-append}
 
 -- where no byte is read any more, all were
@@ -56,11 +55,8 @@ leaf_text : (t text : List ℕ) → leaf t ≡ leaf text → t ≡ text
 leaf_text t text h = cc
 
 -- what is no leaf but a word and `()` has no quotes
-pub no_symbol_unquoted : (t : List ℕ) → is_symbol t ≡ false → (text : List ℕ) → IsQuoted text → leaf t ≢ leaf text
-no_symbol_unquoted t h text quoted e =
-    let same = leaf_text t text e in
-    let symbol : is_symbol t ≡ true = ap is_symbol same ∙ is_symbol-complete text (inr quoted) in
-    absurd (cc)
+pub no_symbol_unquoted : (t : List ℕ) → (IsSymbol t → ⊥) → (text : List ℕ) → IsQuoted text → leaf t ≢ leaf text
+no_symbol_unquoted t h text quoted e = h (inr (subst IsQuoted (sym (leaf_text t text e)) quoted))
 
 -- nor has what begins with a parenthesis
 pub unit_unquoted : (t inside : List ℕ) → t ≡ 40 ∷ inside → (text : List ℕ) → IsQuoted text → leaf t ≢ leaf text
@@ -72,9 +68,9 @@ pub nothing_unquoted : (t : List ℕ) → t ≡ [] → (text : List ℕ) → IsQ
 nothing_unquoted t is text (inl of_text) e = let u = sym is ∙ leaf_text t text e ∙ of_text.2 in absurd (cc)
 nothing_unquoted t is text (inr of_char) e = let u = sym is ∙ leaf_text t text e ∙ of_char.2 in absurd (cc)
 
-module _ (t inside : List ℕ) (q : ℕ) (front : t ≡ q ∷ inside) (symbol : is_symbol t ≡ true) (other : q ≢ 40) where
+module _ (t inside : List ℕ) (q : ℕ) (front : t ≡ q ∷ inside) (symbol : IsSymbol t) (other : q ≢ 40) where
   is_quoted : IsQuoted t
-  is_quoted = elim (is_symbol-told t symbol) [ inl unit ↦ absurd (other (ap (λ (u : List ℕ). get_or u 0 0) (sym front ∙ unit))) | inr quoted ↦ quoted ]
+  is_quoted = elim symbol [ inl unit ↦ absurd (other (ap (λ (u : List ℕ). get_or u 0 0) (sym front ∙ unit))) | inr quoted ↦ quoted ]
 
   pub first_is_quote : IsQuote q
   first_is_quote = elim is_quoted [

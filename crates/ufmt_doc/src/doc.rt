@@ -5,14 +5,13 @@ ghost use Rattle.ufmt.specs.Token.{IsToken};
 ghost use Rattle.ufmt.specs.Token.{normal, normal_all, normal_fields, normal_pairs};
 ghost use Rattle.ufmt_doc.specs.Doc.{doc_document};
 ghost use Rattle.ufmt_doc.specs.DocViews.{pair_view, field_view};
-ghost use Rattle.ufmt_doc.specs.Private.Within.{are_word_bytes, is_token_leaf, is_word, words_within};
+ghost use Rattle.ufmt_doc.specs.Private.Within.{AreTokensWithin, FieldsAreTokensWithin, IsTokenWithin, PairsAreTokensWithin};
 
 mod parts;
 mod quoted;
 mod same;
 
-use crate::reader::symbol::is_symbol;
-use crate::reader::word::is_word_byte;
+use crate::reader::leaf::{is_leaf, is_word};
 pub use same::same_text;
 use std::alloc::Global;
 use std::mem;
@@ -91,7 +90,7 @@ impl Doc {
     pub fn is_token(&self) -> bool
         ensures { IsTrue result ↔ IsToken (doc_document self.now) }
     {
-        self.has_words(DEEPEST)
+        self.has_tokens(DEEPEST)
     }
 
     /// Makes it its normal form, which has the same texts: at each depth a struct or a tuple that
@@ -114,66 +113,62 @@ impl Doc {
         }
     }
 
-    // Whether leaves and names are words, and blocks with entries lie at most so deep.
-    fn has_words(&self, deepest: u8) -> bool
-        ensures { result ≡ words_within deepest (doc_document self.now) }
+    // Whether it is a document of tokens, whose blocks with entries lie at most so deep.
+    #[cycle(has_tokens)]
+    fn has_tokens(&self, deepest: u8) -> bool
+        ensures { IsTrue result ↔ IsTokenWithin deepest (doc_document self.now) }
     {
         match self {
-            Doc::Leaf(text) => is_token_leaf(text),
-            Doc::Listed(entries) => {
-                for entry in entries {
-                    if deepest == 0 || !entry.has_words(deepest - 1) {
-                        return false;
-                    }
-                }
-                true
+            Doc::Leaf(text) => is_leaf(text),
+            Doc::Listed(entries) => have_tokens(entries, deepest),
+            Doc::SetOf(entries) => have_tokens(entries, deepest),
+            Doc::MapOf(pairs) => pairs_have_tokens(pairs, deepest),
+            Doc::StructOf(name, fields) => is_word(name) && fields_have_tokens(fields, deepest),
+            Doc::TupleOf(name, fields) if name.is_empty() => {
+                !fields.is_empty() && have_tokens(fields, deepest)
             }
-            Doc::SetOf(entries) => {
-                for entry in entries {
-                    if deepest == 0 || !entry.has_words(deepest - 1) {
-                        return false;
-                    }
-                }
-                true
-            }
-            Doc::MapOf(pairs) => {
-                for (key, value) in pairs {
-                    if deepest == 0
-                        || !key.has_words(deepest - 1)
-                        || !value.has_words(deepest - 1)
-                    {
-                        return false;
-                    }
-                }
-                true
-            }
-            Doc::StructOf(name, fields) => {
-                if !is_word(name) {
-                    return false;
-                }
-                for (label, value) in fields {
-                    if deepest == 0 || !is_word(label) || !value.has_words(deepest - 1) {
-                        return false;
-                    }
-                }
-                true
-            }
-            Doc::TupleOf(name, fields) => {
-                if fields.is_empty() {
-                    return is_word(name);
-                }
-                if !are_word_bytes(name) {
-                    return false;
-                }
-                for value in fields {
-                    if deepest == 0 || !value.has_words(deepest - 1) {
-                        return false;
-                    }
-                }
-                true
-            }
+            Doc::TupleOf(name, fields) => is_word(name) && have_tokens(fields, deepest),
         }
     }
+}
+
+// The same of the entries of a block, which lie one deeper than that.
+#[cycle(has_tokens)]
+fn have_tokens(docs: &[Doc], deepest: u8) -> bool
+    ensures { IsTrue result ↔ AreTokensWithin deepest (documents (map doc_document docs.now)) }
+{
+    for doc in docs {
+        if deepest == 0 || !doc.has_tokens(deepest - 1) {
+            return false;
+        }
+    }
+    true
+}
+
+// The same of keys and values.
+#[cycle(has_tokens)]
+fn pairs_have_tokens(pairs: &[(Doc, Doc)], deepest: u8) -> bool
+    ensures { IsTrue result ↔ PairsAreTokensWithin deepest (pairs_of (map pair_view pairs.now)) }
+{
+    for (key, value) in pairs {
+        if deepest == 0 || !key.has_tokens(deepest - 1) || !value.has_tokens(deepest - 1) {
+            return false;
+        }
+    }
+    true
+}
+
+// The same of fields, whose labels are words.
+#[cycle(has_tokens)]
+fn fields_have_tokens(fields: &[(String, Doc)], deepest: u8) -> bool
+    ensures { IsTrue result ↔ FieldsAreTokensWithin deepest (fields_of (map field_view fields.now)) }
+{
+    for (label, value) in fields {
+        if deepest == 0 || !is_word(label) || !value.has_tokens(deepest - 1) {
+            return false;
+        }
+    }
+    true
 }
 
 // Makes each document its normal form.
@@ -208,30 +203,4 @@ fn normalize_fields(alloc: Global, fields: &mut [(String, Doc)])
     for (_, value) in fields.iter_mut() {
         value.normalize(alloc);
     }
-}
-
-// A word, `()`, or a quoted text or character.
-fn is_token_leaf(text: &str) -> bool
-    ensures { result ≡ is_token_leaf text.now }
-{
-    is_word(text) || is_symbol(text)
-}
-
-// One or more bytes of words.
-fn is_word(text: &str) -> bool
-    ensures { result ≡ is_word text.now }
-{
-    !text.is_empty() && are_word_bytes(text)
-}
-
-// Bytes of words alone, perhaps none.
-fn are_word_bytes(text: &str) -> bool
-    ensures { result ≡ are_word_bytes text.now }
-{
-    for byte in text.as_bytes() {
-        if !is_word_byte(*byte) {
-            return false;
-        }
-    }
-    true
 }

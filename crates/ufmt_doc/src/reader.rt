@@ -6,12 +6,11 @@ ghost use Rattle.ufmt_doc.specs.Private.Read.{AnswersAs};
 mod begin;
 mod error;
 pub(crate) mod escape;
+pub(crate) mod leaf;
 pub(crate) mod level;
 mod open_block;
 mod open_blocks;
 mod quoted;
-pub(crate) mod symbol;
-pub(crate) mod word;
 mod word_entries;
 
 use crate::doc::Doc;

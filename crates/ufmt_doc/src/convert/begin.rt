@@ -9,9 +9,8 @@ ghost use Rattle.ufmt_doc.specs.Private.Level.{budget_of, entry_of, setting_at};
 use super::text_block::{TextBlock, convert_label};
 use super::write::write_text;
 use crate::reader::ReadError;
+use crate::reader::leaf::{split_symbol, split_word};
 use crate::reader::level::Level;
-use crate::reader::symbol::split_symbol;
-use crate::reader::word::split_word;
 use ufmt::layout::{Count, Kind};
 use ufmt::unsigned::text_from;
 

@@ -4,8 +4,8 @@ ghost use Rattle.ufmt_doc.specs.Private.Converting.{ConvertsBehindEntry, Convert
 
 use super::write::write_text;
 use crate::reader::ReadError;
+use crate::reader::leaf::split_word;
 use crate::reader::level::{Level, expect_colon, strip_colon};
-use crate::reader::word::split_word;
 use ufmt::layout::{COLON, Count, Kind};
 use ufmt::unsigned::text_from;
 

@@ -10,7 +10,7 @@ ghost use Rattle.ufmt_doc.specs.Unquoted.{Unquotes};
 use super::Doc;
 use crate::convert::plain_text;
 use crate::reader::escape::split_escaped;
-use crate::reader::symbol::is_symbol;
+use crate::reader::leaf::is_symbol;
 use std::alloc::{AllocError, Global};
 
 impl Doc {

@@ -7,11 +7,10 @@ ghost use Rattle.ufmt_doc.specs.Private.Steps.{ReadsStep};
 
 use crate::doc::Doc;
 use crate::reader::error::ReadError;
+use crate::reader::leaf::{split_symbol, split_word, word_text};
 use crate::reader::level::Level;
 use crate::reader::open_block::{OpenBlock, read_label};
 use crate::reader::open_blocks::OpenBlocks;
-use crate::reader::symbol::split_symbol;
-use crate::reader::word::{split_word, word_text};
 use crate::reader::word_entries::{read_key, read_words};
 use std::alloc::Global;
 use ufmt::layout::{Count, Kind};

@@ -8,8 +8,8 @@ ghost use Rattle.ufmt_doc.specs.Private.Steps.{TakesEntry, TakesWords, block_doc
 
 use crate::doc::Doc;
 use crate::reader::error::ReadError;
+use crate::reader::leaf::{split_word, word_text};
 use crate::reader::level::{Level, expect_colon, strip_colon};
-use crate::reader::word::{split_word, word_text};
 use crate::reader::word_entries::read_key;
 use std::alloc::Global;
 use std::mem;

@@ -8,9 +8,9 @@ ghost use Rattle.ufmt_doc.specs.Private.FrontWords.{may_open, read_entry_word, r
 
 use crate::doc::Doc;
 use crate::reader::error::ReadError;
+use crate::reader::leaf::{split_word, word_text};
 use crate::reader::level::{Level, strip_colon};
 use crate::reader::open_block::put_entry;
-use crate::reader::word::{split_word, word_text};
 use std::alloc::Global;
 use ufmt::layout::Kind;
 

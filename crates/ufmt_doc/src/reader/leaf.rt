@@ -1,11 +1,13 @@
-//! Words at the front of a text.
-ghost use Rattle.std.specs.Prelude.{◌≡◌, ◌≤◌, MatchResult, length, string_bytes};
-ghost use Rattle.ufmt.specs.Token.{is_word_byte, AreWordBytes};
-ghost use Rattle.ufmt.specs.Reading.{word_of, after_word};
+//! Leaves: words, `()`, and what stands in quotes.
+ghost use Rattle.std.specs.Prelude.{◌≡◌, ◌≤◌, ◌↔◌, IsTrue, MatchResult, length, option_map, string_bytes};
+ghost use Rattle.ufmt.specs.Token.{is_word_byte, AreWordBytes, IsSymbol, IsTokenLeaf, IsWord};
+ghost use Rattle.ufmt.specs.Reading.{after_word, read_symbol, word_of};
 ghost use Rattle.ufmt_doc.specs.Private.FrontWords.{PassesWordBytes};
 ghost use Rattle.ufmt_doc.specs.declared.reader.error.ReadError.TheVariants.{OutOfMemory};
 
 use crate::reader::error::ReadError;
+use crate::reader::level::strip;
+use crate::reader::quoted::{split_character, split_quoted};
 use std::alloc::Global;
 use ufmt::unsigned::text_from;
 
@@ -32,9 +34,9 @@ static WORD_BYTES: [bool; 256] = [
     false, false, false, false, false, false, false, false, false, false,
 ];
 
-/// Whether it is a byte of words.
+// Whether it is a byte of words.
 #[inline(always)]
-pub(crate) fn is_word_byte(byte: u8) -> bool
+fn is_word_byte(byte: u8) -> bool
     ensures { result ≡ is_word_byte byte }
 {
     WORD_BYTES[byte as usize]
@@ -88,4 +90,43 @@ pub(super) fn word_text(alloc: Global, word: &[u8]) -> Result<String, ReadError>
     ensures { MatchResult result (λ text. string_bytes text ≡ word.now) (λ e. e ≡ OutOfMemory) }
 {
     Ok(String::from_str(alloc, text_from(word, 0))?)
+}
+
+/// A leaf that is no word at the front of a text, and what follows it.
+pub(crate) fn split_symbol(input: &[u8]) -> Option<(&str, &[u8])>
+    ensures { option_map (λ x. (x.0.now, x.1.now)) result ≡ read_symbol input.now }
+{
+    let first = *input.first()?;
+    if first == b'"' {
+        split_quoted(b'"', input)
+    } else if first == b'\'' {
+        split_character(input)
+    } else {
+        Some(("()", strip(b"()", input)?))
+    }
+}
+
+/// Whether a text is a leaf that can be read again.
+pub(crate) fn is_leaf(text: &str) -> bool
+    ensures { IsTrue result ↔ IsTokenLeaf text.now }
+{
+    is_word(text) || is_symbol(text)
+}
+
+/// Whether a text is a word.
+pub(crate) fn is_word(text: &str) -> bool
+    ensures { IsTrue result ↔ IsWord text.now }
+{
+    let (word, rest) = split_word(text.as_bytes());
+    !word.is_empty() && rest.is_empty()
+}
+
+/// Whether a text is a leaf that is no word.
+pub(crate) fn is_symbol(text: &str) -> bool
+    ensures { IsTrue result ↔ IsSymbol text.now }
+{
+    match split_symbol(text.as_bytes()) {
+        Some((_, rest)) => rest.is_empty(),
+        None => false,
+    }
 }

@@ -1,6 +1,6 @@
 use Rattle.std.proofs.Common.{sym, ◌∙◌}
-use Rattle.ufmt_doc.proofs.Symbols.{character_symbol, no_symbol_first, no_symbol_here, text_symbol}
-use Rattle.ufmt_doc.proofs.reader.symbol.split_symbol.Goals as goal
+use Rattle.ufmt_doc.proofs.Leaves.{character_symbol, no_symbol_first, no_symbol_here, text_symbol}
+use Rattle.ufmt_doc.proofs.reader.leaf.split_symbol.Goals as goal
 
 pub returns-in_err-first : goal.returns-in_err-first
 returns-in_err-first c = rw c.from_residual.ensures (sym (no_symbol_first c.args.input.now c.in_err-first.ensures.value))

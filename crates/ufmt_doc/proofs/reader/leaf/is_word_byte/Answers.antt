@@ -1,8 +1,8 @@
 use Rattle.std.proofs.Common.{◌<◌, false, refl, arith, slice_index_or}
 use Rattle.std.proofs.lemmas.Bool.{agree_below_at}
 use Rattle.ufmt.specs.Token.{is_word_byte}
-use Rattle.ufmt_doc.specs.declared.reader.word.TheConstants.{WORD_BYTES}
-use Rattle.ufmt_doc.proofs.reader.word.is_word_byte.Goals as goal
+use Rattle.ufmt_doc.specs.declared.reader.leaf.TheConstants.{WORD_BYTES}
+use Rattle.ufmt_doc.proofs.reader.leaf.is_word_byte.Goals as goal
 
 -- the check computes this test over the whole table
 pub returns : goal.returns

@@ -1,6 +1,6 @@
 use Rattle.std.proofs.Common.{◌≤◌, ◌-◌, length}
 use Rattle.ufmt_doc.specs.Private.FrontWords.{PassesWordBytes}
-use Rattle.ufmt_doc.proofs.reader.word.split_word_from.Given as goal
+use Rattle.ufmt_doc.proofs.reader.leaf.split_word_from.Given as goal
 
 abbrev pub invariant-bytes : goal.invariant-bytes
 invariant-bytes l = PassesWordBytes l.input l.end × (l.end ≤ length l.input)
