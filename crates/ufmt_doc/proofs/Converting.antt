@@ -65,13 +65,6 @@ mapped_takes_byte q v takes t x u h = let found = mapped_from v (q t) x u h in t
 pub mapped_takes : {A : Type 0} (q : Parse A) (v : A → List ℕ) → Takes q → Takes (λ t. parse_map v (q t))
 mapped_takes q v takes = record { takes = mapped_takes_byte q v takes }
 
--- brackets of texts in a row
-pub assoc_three : (a b c d : List ℕ) → a ++ (b ++ (c ++ d)) ≡ ((a ++ b) ++ c) ++ d
-assoc_three a b c d = simp append_assoc refl
-
-assoc_four : (a b c d e : List ℕ) → a ++ (b ++ (c ++ (d ++ e))) ≡ ((a ++ (b ++ c)) ++ d) ++ e
-assoc_four a b c d e = simp append_assoc refl
-
 -- a block is converted from its first entry on, where its text is that entry's and what stands round it
 pub block_begins : {A : Type 0} (q : Parse A) (v : A → List ℕ) (f : Frame) (s : Setting) (g : Frame) (i : Setting)
     (make : List A → Document) (front : List ℕ)
@@ -85,8 +78,7 @@ block_begins {A} q v f s g i make front shape out (Some x) = behind (strip (trai
     made : (o : Option (List A × List ℕ)) → prefixed out (parse_map (layout i) (parse_map (λ ys. make (x.0 ∷ ys)) o))
         ≡ prefixed ((out ++ front) ++ v x.0) (parse_map (λ texts. trail i.mode ++ block_tail g i One texts) (parse_map (map v) o))
     made None = refl
-    made (Some p) = ap (λ text. Some (text, p.1))
-        (ap (λ text. out ++ text) (shape x.0 p.0) ∙ assoc_three out front (v x.0) (trail i.mode ++ block_tail g i One (map v p.0)))
+    made (Some p) = ap (λ text. Some (out ++ text, p.1)) (shape x.0 p.0) ∙ simp append_assoc refl
 
     behind : (o : Option (List ℕ)) → prefixed out
         (parse_map (layout i) (option_and_then (λ u. parse_map (λ ys. make (x.0 ∷ ys)) (read_others q f s One u)) o))
@@ -117,8 +109,7 @@ behind_converts {q} f s g i before out t takes = behind (strip (trail s.mode) t)
     texts_are : (x : List ℕ) (xs : List (List ℕ))
         → out ++ (trail i.mode ++ block_tail g i (next before) (x ∷ xs))
         ≡ ((out ++ (trail i.mode ++ separator (inside i).mode (inside i).depth)) ++ x) ++ (trail i.mode ++ block_tail g i Several xs)
-    texts_are x xs = rw (lead-next g (inside i) before, next-next before)
-        (assoc_four out (trail i.mode) (separator (inside i).mode (inside i).depth) x (trail i.mode ++ block_tail g i Several xs))
+    texts_are x xs = rw (lead-next g (inside i) before, next-next before) (simp append_assoc refl)
 
     others : (x : List ℕ) (o : Option (List (List ℕ) × List ℕ))
         → prefixed out (parse_map (λ texts. trail i.mode ++ block_tail g i (next before) texts) (parse_map (λ xs. x ∷ xs) o))

@@ -15,7 +15,7 @@ use Rattle.ufmt_doc.specs.Private.Converting.{convert_block, convert_colon, conv
 use Rattle.ufmt_doc.specs.Private.Level.{entry_of, setting_at}
 use Rattle.ufmt_doc.specs.Private.Steps.{read_label}
 use Rattle.ufmt.proofs.ReadingTurns.{Takes}
-use Rattle.ufmt_doc.proofs.Converting.{assoc_three, block_begins, mapped_takes}
+use Rattle.ufmt_doc.proofs.Converting.{block_begins, mapped_takes}
 use Rattle.ufmt_doc.proofs.EntrySteps.{entry_of_takes, field_takes, pair_takes}
 use Rattle.ufmt_doc.proofs.DocumentParts.{braces_begin, list_begins, map_begins, pair_from, pair_without, set_begins, struct_begins, tuple_begins, unnamed_begins}
 
@@ -32,10 +32,6 @@ fields_are : (i : Setting) (fs : List (List ℕ × Document)) → field_texts i 
 fields_are i [] = refl
 fields_are i (f ∷ fs) = ap (λ xs. field_text i f ∷ xs) (fields_are i fs)
 
--- brackets of texts in a row
-assoc_front : (a b c d : List ℕ) → a ++ (b ++ (c ++ d)) ≡ (a ++ (b ++ c)) ++ d
-assoc_front a b c d = simp append_assoc refl
-
 -- what stands before the first entry of a block
 abbrev front : Kind → Setting → List ℕ → List ℕ
 front kind i name = name ++ ((frame i.mode kind).opening ++ lead (frame i.mode kind) (inside i) Zero)
@@ -45,7 +41,7 @@ shape : (kind : Kind) (i : Setting) (name x : List ℕ) (xs ys : List (List ℕ)
     → block kind i name (x ∷ xs) ≡ front kind i name ++ (x ++ (trail i.mode ++ block_tail (frame i.mode kind) i One ys))
 shape kind i name x xs ys same =
     ap (λ ts. block kind i name (x ∷ ts)) same
-    ∙ assoc_front name (frame i.mode kind).opening (lead (frame i.mode kind) (inside i) Zero) (x ++ (trail i.mode ++ block_tail (frame i.mode kind) i One ys))
+    ∙ simp append_assoc refl
 
 -- a list behind what stands before its first entry
 pub list_converts : (from to : Level) (out t r : List ℕ) → strip (codes "]") t ≡ None
@@ -91,13 +87,13 @@ unnamed_converts from to out t r bracket brace symbol opening =
 value_converts : (i : Setting) (out : List ℕ) (key : Document) (o : Option (Document × List ℕ))
     → prefixed out (parse_map (pair_text i) (parse_map (λ value. (key, value)) o)) ≡ prefixed ((out ++ layout i key) ++ codes ": ") (parse_map (layout i) o)
 value_converts i out key None = refl
-value_converts i out key (Some x) = ap (λ text. Some (text, x.1)) (assoc_three out (layout i key) (codes ": ") (layout i x.0))
+value_converts i out key (Some x) = simp append_assoc refl
 
 -- the value of a field, behind its name and a colon
 field_converts : (i : Setting) (out label : List ℕ) (o : Option (Document × List ℕ))
     → prefixed out (parse_map (field_text i) (parse_map (λ value. (label, value)) o)) ≡ prefixed (out ++ (label ++ codes ": ")) (parse_map (layout i) o)
 field_converts i out label None = refl
-field_converts i out label (Some x) = ap (λ text. Some (text, x.1)) (assoc_front out label (codes ": ") (layout i x.0))
+field_converts i out label (Some x) = simp append_assoc refl
 
 -- a set or a map from its first entry, whatever that is read as
 braces_convert_on : (from to : Level) (out : List ℕ) (o : Option (Document × List ℕ))

@@ -9,7 +9,7 @@ use Rattle.ufmt_doc.specs.declared.convert.text_block.TextBlock.TheVariants as b
 use Rattle.ufmt_doc.specs.declared.reader.level.Level.{Level}
 use Rattle.ufmt_core.specs.declared.layout.Mode.{Mode}
 use Rattle.ufmt_core.specs.declared.layout.Mode.TheVariants.{Plain, Pretty}
-use Rattle.ufmt_doc.specs.Private.Converting.{document_text, entry_text, block_conversion, prefixed, blocks_conversion}
+use Rattle.ufmt_doc.specs.Private.Converting.{document_text, entry_text, block_conversion, prefixed, blocks_conversion, text_after_step}
 use Rattle.ufmt_doc.specs.Private.Level.{budget_of, setting_at}
 use Rattle.ufmt_doc.specs.Private.Stack.{level_at}
 use Rattle.ufmt_doc.proofs.Stacks.{document_is, resumed_in, resumed_none, resumed_out, setting_inside}
@@ -84,9 +84,27 @@ no_whole_text f (Some x) h = absurd (cc)
 pub depth_before : (k : ℕ) (xs : List TextBlock) → k + 1 ≡ length xs → k ≡ length (take k xs)
 depth_before k xs last = sym (length-take-le k xs (omega (arith, last)))
 
--- likewise at a depth that is told
-pub begins_text : (from to : Mode) (k depth : ℕ) (t : List ℕ) → depth ≡ k → k < 256
-    → document_text from to k t ≡ parse_map (layout (setting_at (level_at to depth)))
-    (read (setting_at (level_at from depth)) (budget_of (level_at from depth)) t)
-begins_text from to k depth t same few = document_text_is from to k t few
-    ∙ ap (λ n. parse_map (layout (setting_at (level_at to n))) (read (setting_at (level_at from n)) (budget_of (level_at from n)) t)) (sym same)
+-- an entry begins in the innermost of the blocks that are open, at this depth, and the whole is converted as this says
+module _ (from to : Mode) (blocks : List TextBlock) (out t : List ℕ) (depth : ℕ) (whole : Option (List ℕ × List ℕ))
+    (so_far : whole ≡ blocks_conversion from to 0 blocks (prefixed out (document_text from to (length blocks) t)))
+    (told : depth ≡ length blocks) (few : length blocks < 256) where
+  -- what is read there
+  abbrev entry : Option (Document × List ℕ)
+  entry = read (setting_at (level_at from depth)) (budget_of (level_at from depth)) t
+
+  entry_begins : whole ≡ blocks_conversion from to 0 blocks (prefixed out (parse_map (layout (setting_at (level_at to depth))) entry))
+  entry_begins = so_far ∙ ap (λ o. blocks_conversion from to 0 blocks (prefixed out o)) (document_text_is from to (length blocks) t few
+      ∙ ap (λ n. parse_map (layout (setting_at (level_at to n))) (read (setting_at (level_at from n)) (budget_of (level_at from n)) t)) (sym told))
+
+  -- where nothing is, nothing is converted
+  pub entry_refused : entry ≡ None → whole ≡ None
+  entry_refused none = entry_begins
+      ∙ ap (λ o. blocks_conversion from to 0 blocks (prefixed out (parse_map (layout (setting_at (level_at to depth))) o))) none
+      ∙ resume_text_none from to 0 blocks
+
+  -- where a step was made, the whole goes on with what it made
+  pub entry_stepped : (made step : Option TextBlock) (new rest : List ℕ) → prefixed out (parse_map (layout (setting_at (level_at to depth))) entry)
+      ≡ text_after_step (level_at from depth) (level_at to depth) made new rest → made ≡ step
+      → whole ≡ blocks_conversion from to 0 blocks (text_after_step (level_at from depth) (level_at to depth) step new rest)
+  entry_stepped made step new rest converts is = entry_begins ∙ ap (λ o. blocks_conversion from to 0 blocks o)
+      (converts ∙ ap (λ block. text_after_step (level_at from depth) (level_at to depth) block new rest) is)

@@ -1,5 +1,5 @@
 -- Blocks that are open one in another, and what their innermost entry is read as.
-use Rattle.std.proofs.Common.{◌≡◌, refl, ap, ◌∙◌, sym, subst, ℕ, zero, suc, ◌+◌, ◌-◌, ◌<◌, ◌≤◌, min, List, [], ◌∷◌, ◌++◌, length, length-append, get_or, set, take, Option, Some, None, Result, Ok, Err, Bor, arith}
+use Rattle.std.proofs.Common.{◌≡◌, refl, ap, ◌∙◌, sym, subst, ℕ, zero, suc, ◌+◌, ◌-◌, ◌<◌, ◌≤◌, min, List, [], ◌∷◌, ◌++◌, length, length-append, map, get_or, set, take, Option, Some, None, Result, Ok, Err, Bor, arith}
 use Rattle.std.proofs.Math.Seq.{take-length}
 use Rattle.std.proofs.lemmas.List.{length-set, length-take-le, take_more, take_more_set}
 use Rattle.ufmt.specs.Document.{Document}
@@ -8,6 +8,7 @@ use Rattle.ufmt.specs.Reading.{read}
 use Rattle.ufmt_doc.specs.declared.doc.Doc.{Doc}
 use Rattle.ufmt_doc.specs.declared.reader.error.ReadError.{ReadError}
 use Rattle.ufmt_doc.specs.declared.reader.level.Level.{Level}
+use Rattle.ufmt_core.specs.declared.layout.Kind.{Kind}
 use Rattle.ufmt_core.specs.declared.layout.Mode.{Mode}
 use Rattle.ufmt_core.specs.declared.layout.Mode.TheVariants.{Plain, Pretty}
 use Rattle.ufmt_doc.specs.declared.reader.open_block.OpenBlock.{OpenBlock}
@@ -15,7 +16,7 @@ use Rattle.ufmt_doc.specs.declared.reader.open_block.OpenBlock.TheVariants as bl
 use Rattle.ufmt_doc.specs.Doc.{doc_document}
 use Rattle.ufmt_doc.specs.Private.Level.{budget_of, entry_at, entry_of, setting_at}
 use Rattle.ufmt_doc.specs.Private.Stack.{document_at, level_at, blocks_reading, from_innermost}
-use Rattle.ufmt_doc.specs.Private.Steps.{OpensAtMostOne, ReadsStep, block_reading, innermost, after_step}
+use Rattle.ufmt_doc.specs.Private.Steps.{OpensAtMostOne, ReadsStep, block_reading, entries_on, innermost, after_step}
 
 -- a step that leaves fewer bytes than one number leaves fewer than a larger one
 pub steps_longer : (level : Level) (m n : ℕ) (answer : Result (Option Doc × Bor (List ℕ)) ReadError) (old new : List OpenBlock)
@@ -28,6 +29,11 @@ pub steps_are : (level : Level) (m n : ℕ) (answer : Result (Option Doc × Bor 
     (there all : Option (Document × List ℕ)) → all ≡ there → m ≤ n → ReadsStep level m answer old new there → ReadsStep level n answer old new all
 steps_are level m n answer old new there all same longer h =
     subst (λ o. ReadsStep level n answer old new o) (sym same) (steps_longer level m n answer old new there longer h)
+
+-- a block in which no entry was read yet
+pub none_read : (level : Level) (kind : Kind) (make : List Document → Document) (items : List Doc) (o there : Option (Document × List ℕ))
+    → items ≡ [] → there ≡ entries_on level kind make [] o → there ≡ entries_on level kind make (map doc_document items) o
+none_read level kind make items o there none begins = begins ∙ ap (λ xs. entries_on level kind make (map doc_document xs) o) (sym none)
 
 -- the innermost block is the one that was opened
 innermost_is : (old : List OpenBlock) (block : OpenBlock) → innermost (old ++ block ∷ []) ≡ block

@@ -40,12 +40,12 @@ pub(crate) fn read_text(alloc: Global, mode: Mode, input: &[u8]) -> Result<Doc, 
     Err(ReadError::NotText)
 }
 
-// The document, unless something is left behind it.
-fn if_all(doc: Doc, rest: &[u8]) -> Result<Doc, ReadError>
-    ensures { AnswersAs doc_document result (if_all (doc_document doc) rest.now) }
+/// What was made of a text, unless something is left behind it.
+pub(crate) fn if_all<T: Drop>(made: T, rest: &[u8]) -> Result<T, ReadError>
+    ensures { AnswersAs (λ x. x) result (if_all made rest.now) }
 {
     if rest.is_empty() {
-        Ok(doc)
+        Ok(made)
     } else {
         Err(ReadError::NotText)
     }

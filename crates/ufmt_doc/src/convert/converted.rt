@@ -1,13 +1,13 @@
 //! Converting a text from one mode to another entry by entry: a loop over the blocks that are open.
 ghost use Rattle.std.specs.Prelude.{option_map, string_bytes};
 ghost use Rattle.ufmt.specs.Layout.{layout, setting};
-ghost use Rattle.ufmt.specs.Reading.{if_all, read_text};
+ghost use Rattle.ufmt.specs.Reading.{read_text};
 ghost use Rattle.ufmt_doc.specs.Private.Read.{AnswersAs};
 
 use super::begin::begin;
 use super::text_blocks::TextBlocks;
-use crate::reader::ReadError;
 use crate::reader::level::Level;
+use crate::reader::{ReadError, if_all};
 use std::alloc::Global;
 use ufmt::layout::Mode;
 
@@ -39,15 +39,4 @@ pub(super) fn converted(
         }
     }
     Err(ReadError::NotText)
-}
-
-// The text, unless something is left behind it.
-fn if_all(output: String, rest: &[u8]) -> Result<String, ReadError>
-    ensures { AnswersAs string_bytes result (if_all (string_bytes output) rest.now) }
-{
-    if rest.is_empty() {
-        Ok(output)
-    } else {
-        Err(ReadError::NotText)
-    }
 }

@@ -3,7 +3,7 @@ use Rattle.ufmt.specs.Reading.{if_all}
 use Rattle.ufmt_doc.specs.Doc.{doc_document}
 use Rattle.ufmt_doc.specs.Private.Read.{AnswersAs}
 use Rattle.ufmt_doc.specs.Private.Stack.{reading_from, blocks_reading}
-use Rattle.ufmt_doc.proofs.Given.{passes_on}
+use Rattle.ufmt_doc.proofs.Given.{all_answers_as, passes_on}
 use Rattle.ufmt_doc.proofs.Stacks.{begins, document_is_none, resume_none, step_opens, step_reads}
 use Rattle.ufmt_doc.proofs.reader.read_text.Goals as goal
 
@@ -61,7 +61,8 @@ returns-in-Some-whole c =
     (begins c.args.mode (length blocks) c.in-Some.level c.entries.rest.now level.0 level.1 ∙ c.in_ok-read.ensures.0)
     ∙ step_reads c.args.mode c.in-Some.level blocks now c.in_ok-read.read c.in-Some-read.doc c.in_ok-read.after.now c.in-Some-read.is c.in_ok-read.ensures.2
     ∙ c.in_ok-whole.ensures.0 ∙ ap (λ o. reading_from c.args.mode c.take.new.self.blocks.items o c.in_ok-whole.after.now) c.in-Some-whole.is in
-    subst (λ there. AnswersAs doc_document c.if_all.result there) (sym (ap (λ o. option_and_then (λ x. if_all x.0 x.1) o) read_is)) c.if_all.ensures
+    subst (λ there. AnswersAs doc_document c.if_all.result there) (sym (ap (λ o. option_and_then (λ x. if_all x.0 x.1) o) read_is))
+    (all_answers_as doc_document c.if_all.result c.in-Some-whole.doc c.in_ok-whole.after.now c.if_all.ensures)
 
 pub returns : goal.returns
 returns c =
