@@ -150,17 +150,17 @@ abbrev pub IsGoodPair : {A : Type 0} → (A → Type 0) → (Document → Type 0
 IsGoodPair GoodKey Good x = GoodKey x.0 × Good x.1
 
 -- the text of a key and a value
-abbrev pub pair_text : {A : Type 0} → (A → List ℕ) → (Document → List ℕ) → A × Document → List ℕ
-pair_text key_text text x = key_text x.0 ++ (codes ": " ++ text x.1)
+abbrev pub keyed_text : {A : Type 0} → (A → List ℕ) → (Document → List ℕ) → A × Document → List ℕ
+keyed_text key_text text x = key_text x.0 ++ (codes ": " ++ text x.1)
 
 -- what is read as a key and a value is a key and a value
 read_pair_sound : {A : Type 0} (key : Parse A) (p : Parse Document) (GoodKey : A → Type 0) (Good : Document → Type 0)
     (key_text : A → List ℕ) (text : Document → List ℕ) → Finds key GoodKey key_text → Finds p Good text
-    → (t : List ℕ) (x : A × Document) (u : List ℕ) → read_pair key p t ≡ Some (x, u) → IsGoodPair GoodKey Good x × (t ≡ pair_text key_text text x ++ u)
+    → (t : List ℕ) (x : A × Document) (u : List ℕ) → read_pair key p t ≡ Some (x, u) → IsGoodPair GoodKey Good x × (t ≡ keyed_text key_text text x ++ u)
 read_pair_sound key p GoodKey Good key_text text finds_key finds t x u h =
     let first = led_from _ (key t) (x, u) h in
     let second = read_value_sound p Good text finds first.0.0 first.0.1 x u first.2 in
-    subst (λ y. IsGoodPair GoodKey Good y × (t ≡ pair_text key_text text y ++ u)) second.1 (
+    subst (λ y. IsGoodPair GoodKey Good y × (t ≡ keyed_text key_text text y ++ u)) second.1 (
       (finds_key.good t first.0.0 first.0.1 first.1, second.2),
       finds_key.whole t first.0.0 first.0.1 first.1 ∙ ap (λ w. key_text first.0.0 ++ w) second.3
           ∙ sym (append_assoc (key_text first.0.0) (codes ": " ++ text second.0) u),
@@ -169,7 +169,7 @@ read_pair_sound key p GoodKey Good key_text text finds_key finds t x u h =
 -- so keys and values are found where keys and values are
 pub read_pair_finds : {A : Type 0} (key : Parse A) (p : Parse Document) (GoodKey : A → Type 0) (Good : Document → Type 0)
     (key_text : A → List ℕ) (text : Document → List ℕ) → Finds key GoodKey key_text → Finds p Good text
-    → Finds (read_pair key p) (IsGoodPair GoodKey Good) (pair_text key_text text)
+    → Finds (read_pair key p) (IsGoodPair GoodKey Good) (keyed_text key_text text)
 read_pair_finds key p GoodKey Good key_text text finds_key finds = record {
   good = λ t x u h. (read_pair_sound key p GoodKey Good key_text text finds_key finds t x u h).0;
   whole = λ t x u h. (read_pair_sound key p GoodKey Good key_text text finds_key finds t x u h).1;

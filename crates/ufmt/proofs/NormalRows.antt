@@ -1,10 +1,8 @@
--- Rows of token documents in normal form, of pairs of them and of fields with them: words, nesting, normal form and texts.
-use Rattle.std.proofs.Common.{◌≡◌, refl, ap, ap₂, ℕ, ◌<◌, List, [], ◌∷◌, map, arith}
+-- Rows of token documents in normal form, of pairs of them and of fields with them: tokens, nesting and normal form.
+use Rattle.std.proofs.Common.{◌≡◌, refl, ap₂, ℕ, ◌<◌, List, [], ◌∷◌, arith}
 use Rattle.ufmt_core.specs.Document.{Document, document, documents, pairs_of, fields_of, nest, nest_all, nest_pairs, nest_fields}
-use Rattle.ufmt_core.specs.Layout.{layout, texts, pair_texts, field_texts}
-use Rattle.ufmt_core.specs.declared.layout.Setting.{Setting}
 use Rattle.ufmt.specs.Token.{IsWord, HasTokens, HaveTokens, PairsHaveTokens, FieldsHaveTokens, normal, normal_all, normal_pairs, normal_fields}
-use Rattle.ufmt.proofs.BlocksSound.{AreGood, IsGoodPair, pair_text}
+use Rattle.ufmt.proofs.BlocksSound.{AreGood, IsGoodPair}
 
 -- a token document in normal form that is nested less than the number
 pub record IsNormalBelow (n : ℕ) (d : Document) : Type 0 where
@@ -27,11 +25,6 @@ pub documents_nest : (n : ℕ) (ds : List Document) → AreGood (IsNormalBelow n
 documents_nest n [] h some = some
 documents_nest n (d ∷ ds) h some = let more = documents_nest n ds h.1 some in let first = h.0.nests in omega arith
 
--- with the texts that they have
-pub documents_texts : (i : Setting) (ds : List Document) → texts i (documents ds) ≡ map (layout i) ds
-documents_texts i [] = refl
-documents_texts i (d ∷ ds) = ap (λ ts. layout i d ∷ ts) (documents_texts i ds)
-
 -- pairs of token documents in normal form
 abbrev pub ArePairsGood : ℕ → List (Document × Document) → Type 0
 ArePairsGood n ps = AreGood (IsGoodPair (IsNormalBelow n) (IsNormalBelow n)) ps
@@ -51,11 +44,6 @@ pub pairs_nest : (n : ℕ) (ps : List (Document × Document)) → ArePairsGood n
 pairs_nest n [] h some = some
 pairs_nest n (p ∷ ps) h some = let more = pairs_nest n ps h.1 some in let key = h.0.0.nests in let value = h.0.1.nests in omega arith
 
--- with the texts that they have
-pub pairs_texts : (i : Setting) (ps : List (Document × Document)) → pair_texts i (pairs_of ps) ≡ map (pair_text (layout i) (layout i)) ps
-pairs_texts i [] = refl
-pairs_texts i (p ∷ ps) = ap (λ ts. pair_text (layout i) (layout i) p ∷ ts) (pairs_texts i ps)
-
 -- fields with a word and a token document in normal form
 abbrev pub AreFieldsGood : ℕ → List (List ℕ × Document) → Type 0
 AreFieldsGood n fs = AreGood (IsGoodPair IsWord (IsNormalBelow n)) fs
@@ -74,8 +62,3 @@ fields_normal n (f ∷ fs) h = rw (h.0.1.is_normal, fields_normal n fs h.1) refl
 pub fields_nest : (n : ℕ) (fs : List (List ℕ × Document)) → AreFieldsGood n fs → 0 < n → nest_fields (fields_of fs) < n
 fields_nest n [] h some = some
 fields_nest n (f ∷ fs) h some = let more = fields_nest n fs h.1 some in let value = h.0.1.nests in omega arith
-
--- with the texts that they have
-pub fields_texts : (i : Setting) (fs : List (List ℕ × Document)) → field_texts i (fields_of fs) ≡ map (pair_text (λ w. w) (layout i)) fs
-fields_texts i [] = refl
-fields_texts i (f ∷ fs) = ap (λ ts. pair_text (λ w. w) (layout i) f ∷ ts) (fields_texts i fs)

@@ -10,8 +10,9 @@ use Rattle.ufmt.specs.Reading.{Parse, choose, strip, word_of, after_word, read_w
 use Rattle.ufmt.proofs.Parsing.{same_parts, strip_found, led_from, chosen_from}
 use Rattle.ufmt.proofs.ReadingWords.{words_whole, word_of_bytes, read_word_sound}
 use Rattle.ufmt.proofs.TokenLeaves.{word_leaf, symbol_leaf, read_symbol_sound}
-use Rattle.ufmt.proofs.NormalRows.{IsNormalBelow, documents_tokens, documents_normal, documents_nest, documents_texts, pairs_tokens, pairs_normal, pairs_nest, pairs_texts, fields_tokens, fields_normal, fields_nest, fields_texts}
-use Rattle.ufmt.proofs.BlocksSound.{Finds, FoundEntries, IsGoodPair, pair_text, read_pair_finds, read_entries_sound, read_after_first_sound, with_first, read_value_sound}
+use Rattle.ufmt_core.proofs.Printing.{texts-documents, pair_texts-pairs_of, field_texts-fields_of}
+use Rattle.ufmt.proofs.NormalRows.{IsNormalBelow, documents_tokens, documents_normal, documents_nest, pairs_tokens, pairs_normal, pairs_nest, fields_tokens, fields_normal, fields_nest}
+use Rattle.ufmt.proofs.BlocksSound.{Finds, FoundEntries, IsGoodPair, keyed_text, read_pair_finds, read_entries_sound, read_after_first_sound, with_first, read_value_sound}
 
 -- a token document in normal form that was found at the front of a text, at this mode and depth, nested at most as much as the number
 pub record Found (s : Setting) (n : ℕ) (t : List ℕ) (d : Document) (u : List ℕ) : Type 0 where
@@ -46,7 +47,7 @@ list_found s n t v d u front h =
       nests = omega arith;
       is_normal = ap list_of (documents_normal n (h.first ∷ h.others) h.good);
       whole = front ∙ ap (λ w. codes "[" ++ w) (h.whole
-          ∙ ap (λ ts. block_tail (frame s.mode Brackets) s Zero ts ++ u) (sym (documents_texts (inside s) (h.first ∷ h.others))));
+          ∙ ap (λ ts. block_tail (frame s.mode Brackets) s Zero ts ++ u) (sym (texts-documents (inside s) (h.first ∷ h.others))));
     })
 
 -- a set of entries that were found was found
@@ -61,13 +62,13 @@ set_found s n t v d u front h =
       nests = omega arith;
       is_normal = ap set_of (documents_normal n (h.first ∷ h.others) h.good);
       whole = front ∙ ap (λ w. codes "{" ++ w) (h.whole
-          ∙ ap (λ ts. block_tail (frame s.mode Braces) s Zero ts ++ u) (sym (documents_texts (inside s) (h.first ∷ h.others))));
+          ∙ ap (λ ts. block_tail (frame s.mode Braces) s Zero ts ++ u) (sym (texts-documents (inside s) (h.first ∷ h.others))));
     })
 
 -- a map of pairs that were found was found
 map_found : (s : Setting) (n : ℕ) (t v : List ℕ) (d : Document) (u : List ℕ)
     → t ≡ codes "{" ++ (lead (frame s.mode Braces) (inside s) Zero ++ v)
-    → FoundEntries (IsGoodPair (IsNormalBelow n) (IsNormalBelow n)) (pair_text (layout (inside s)) (layout (inside s)))
+    → FoundEntries (IsGoodPair (IsNormalBelow n) (IsNormalBelow n)) (keyed_text (layout (inside s)) (layout (inside s)))
     (frame s.mode Braces) s (λ ps. map_of (pairs_of ps)) v d u → Found s n t d u
 map_found s n t v d u front h =
     let some : 0 < n = (let first = h.good.0.0.nests in omega arith) in
@@ -77,13 +78,13 @@ map_found s n t v d u front h =
       nests = omega arith;
       is_normal = ap map_of (pairs_normal n (h.first ∷ h.others) h.good);
       whole = front ∙ ap (λ w. codes "{" ++ w) (h.whole
-          ∙ ap (λ ts. block_tail (frame s.mode Braces) s Zero ts ++ u) (sym (pairs_texts (inside s) (h.first ∷ h.others))));
+          ∙ ap (λ ts. block_tail (frame s.mode Braces) s Zero ts ++ u) (sym (pair_texts-pairs_of (inside s) (h.first ∷ h.others))));
     })
 
 -- a struct of fields that were found was found
 struct_found : (s : Setting) (n : ℕ) (name t v : List ℕ) (d : Document) (u : List ℕ) → IsWord name
     → t ≡ name ++ (lead (frame s.mode Struct) (inside s) Zero ++ v)
-    → FoundEntries (IsGoodPair IsWord (IsNormalBelow n)) (pair_text (λ w. w) (layout (inside s))) (frame s.mode Struct) s
+    → FoundEntries (IsGoodPair IsWord (IsNormalBelow n)) (keyed_text (λ w. w) (layout (inside s))) (frame s.mode Struct) s
     (λ fs. struct_of name (fields_of fs)) v d u → Found s n t d u
 struct_found s n name t v d u word front h =
     let some : 0 < n = (let first = h.good.0.1.nests in omega arith) in
@@ -93,16 +94,16 @@ struct_found s n name t v d u word front h =
       nests = omega arith;
       is_normal = ap (struct_of name) (fields_normal n (h.first ∷ h.others) h.good);
       whole = front ∙ ap (λ w. name ++ w) (h.whole
-          ∙ ap (λ ts. block_tail (frame s.mode Struct) s Zero ts ++ u) (sym (fields_texts (inside s) (h.first ∷ h.others))))
+          ∙ ap (λ ts. block_tail (frame s.mode Struct) s Zero ts ++ u) (sym (field_texts-fields_of (inside s) (h.first ∷ h.others))))
           ∙ sym (append_assoc name (block_tail (frame s.mode Struct) s Zero (field_texts (inside s) (fields_of (h.first ∷ h.others)))) u);
     })
 
 -- the text of a tuple with fields
 tuple_text : (s : Setting) (name : List ℕ) (d : Document) (ds : List Document) (u : List ℕ)
     → name ++ (block_tail (frame s.mode (tuple_kind name)) s Zero (map (layout (inside s)) (d ∷ ds)) ++ u) ≡ layout s (tuple_of name (documents (d ∷ ds))) ++ u
-tuple_text s [] d ds u = ap (λ ts. block_tail (frame s.mode Unnamed) s Zero ts ++ u) (sym (documents_texts (inside s) (d ∷ ds)))
+tuple_text s [] d ds u = ap (λ ts. block_tail (frame s.mode Unnamed) s Zero ts ++ u) (sym (texts-documents (inside s) (d ∷ ds)))
 tuple_text s (c ∷ name) d ds u =
-    ap (λ ts. (c ∷ name) ++ (block_tail (frame s.mode Tuple) s Zero ts ++ u)) (sym (documents_texts (inside s) (d ∷ ds)))
+    ap (λ ts. (c ∷ name) ++ (block_tail (frame s.mode Tuple) s Zero ts ++ u)) (sym (texts-documents (inside s) (d ∷ ds)))
     ∙ sym (append_assoc (c ∷ name) (block_tail (frame s.mode Tuple) s Zero (texts (inside s) (documents (d ∷ ds)))) u)
 
 -- a tuple of fields that were found was found
@@ -153,10 +154,10 @@ read_map_or_set_sound s p n finds t v w first d u front good whole h = go (chose
         let pair_read = led_from _ (read_value p first w) (d, u) k.2 in
         let value = read_value_sound p (IsNormalBelow n) (layout (inside s)) finds first w pair_read.0.0 pair_read.0.1 pair_read.1 in
         let pair_good : IsGoodPair (IsNormalBelow n) (IsNormalBelow n) pair_read.0.0 = subst (IsGoodPair (IsNormalBelow n) (IsNormalBelow n)) value.1 (good, value.2) in
-        let pair_whole : v ≡ pair_text (layout (inside s)) (layout (inside s)) pair_read.0.0 ++ pair_read.0.1 = subst (λ y. v ≡ pair_text (layout (inside s)) (layout (inside s)) y ++ pair_read.0.1) value.1 (whole ∙ ap (λ z. layout (inside s) first ++ z) value.3 ∙ sym (append_assoc (layout (inside s) first) (codes ": " ++ layout (inside s) value.0) pair_read.0.1)) in
+        let pair_whole : v ≡ keyed_text (layout (inside s)) (layout (inside s)) pair_read.0.0 ++ pair_read.0.1 = subst (λ y. v ≡ keyed_text (layout (inside s)) (layout (inside s)) y ++ pair_read.0.1) value.1 (whole ∙ ap (λ z. layout (inside s) first ++ z) value.3 ∙ sym (append_assoc (layout (inside s) first) (codes ": " ++ layout (inside s) value.0) pair_read.0.1)) in
         map_found s n t v d u front (with_first pair_read.0.0 v pair_read.0.1 pair_good pair_whole
         (read_after_first_sound (read_pair p p) (IsGoodPair (IsNormalBelow n) (IsNormalBelow n))
-        (pair_text (layout (inside s)) (layout (inside s))) (frame s.mode Braces) s (λ ps. map_of (pairs_of ps))
+        (keyed_text (layout (inside s)) (layout (inside s))) (frame s.mode Braces) s (λ ps. map_of (pairs_of ps))
         (read_pair_finds p p (IsNormalBelow n) (IsNormalBelow n) (layout (inside s))
         (layout (inside s)) finds finds) pair_read.0.0 pair_read.0.1 d u pair_read.2))
     go (inr k) = set_found s n t v d u front (with_first first v w good whole
@@ -198,7 +199,7 @@ read_struct_sound : (s : Setting) (p : Parse Document) (n : ℕ) → Finds p (Is
     → strip (lead (frame s.mode Struct) (inside s) Zero) v ≡ Some w → read_struct s p name w ≡ Some (d, u) → Found s n t d u
 read_struct_sound s p n finds name t v w d u word front behind h =
     struct_found s n name t w d u word (front ∙ ap (λ x. name ++ x) (strip_found (lead (frame s.mode Struct) (inside s) Zero) v w behind))
-    (read_entries_sound (read_pair read_word p) (IsGoodPair IsWord (IsNormalBelow n)) (pair_text (λ x. x) (layout (inside s)))
+    (read_entries_sound (read_pair read_word p) (IsGoodPair IsWord (IsNormalBelow n)) (keyed_text (λ x. x) (layout (inside s)))
     (frame s.mode Struct) s (λ fs. struct_of name (fields_of fs))
     (read_pair_finds read_word p IsWord (IsNormalBelow n) (λ x. x) (layout (inside s)) read_word_finds finds) w d u h)
 

@@ -17,5 +17,5 @@ pub use line::{Line, line_into, write_line};
 pub use pieces::{fmt_pretty, write_debug, write_display, write_pretty};
 pub use ufmt_core::{
     DebugList, DebugMap, DebugSet, DebugStruct, DebugTuple, Formatter, NamedFields, UnnamedFields,
-    layout, quoted, uDebug, uWrite, unsigned,
+    ascii, layout, quoted, uDebug, uWrite, unsigned,
 };

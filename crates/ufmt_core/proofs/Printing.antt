@@ -6,8 +6,8 @@ use Rattle.std.proofs.lemmas.Iterator.{YieldsList-from_slice}
 use Rattle.std.proofs.lemmas.Simd.{map-map}
 use Rattle.std.proofs.lemmas.Result.{IfErr-at_err}
 use Rattle.std.specs.Slice.Iter.{iter_rest, iter_steps}
-use Rattle.ufmt_core.specs.Document.{Document, list_of, set_of, map_of, struct_of, tuple_of, Documents, Pairs, Fields, documents, pairs_of}
-use Rattle.ufmt_core.specs.Layout.{Setting, Kind, Brackets, Braces, Struct, Count, Zero, frame, inside, layout, next, block_tail, texts, pair_texts, tuple_kind}
+use Rattle.ufmt_core.specs.Document.{Document, list_of, set_of, map_of, struct_of, tuple_of, Documents, Pairs, Fields, documents, pairs_of, fields_of}
+use Rattle.ufmt_core.specs.Layout.{Setting, Kind, Brackets, Braces, Struct, Count, Zero, frame, inside, layout, next, block_tail, texts, pair_texts, field_texts, tuple_kind}
 use Rattle.ufmt_core.specs.Writes.{Seen, Writes}
 use Rattle.ufmt_core.specs.Formatter.{Formatter, Prints, LaysOut, setting_of, writer_of}
 use Rattle.ufmt_core.specs.Block.{Lent, Block, WritesEnding, WritesEntries, WritesEntry, EndsEntry, IsInside, WritesOpening, WritesPart, WritesRow, StopsIn, ending_of, remaining_entries, entry_text, field_lead_of, field_text, remaining_fields, framed, framed_all, frame_of, inner, lead_of, pair_text, remaining_pairs, count_after, tail_of, trail_of}
@@ -110,13 +110,17 @@ module _ {W : Type 0} {seen : Seen W} {start last : Formatter W} where
     tuple_opened {name} {ds} = LaysOut-opened (tuple-is_block name ds)
 
 -- the texts of items in a row
-texts-documents : (i : Setting) (ds : List Document) → texts i (documents ds) ≡ map (layout i) ds
+pub texts-documents : (i : Setting) (ds : List Document) → texts i (documents ds) ≡ map (layout i) ds
 texts-documents i [] = refl
 texts-documents i (d ∷ ds) = ap (λ ts. layout i d ∷ ts) (texts-documents i ds)
 
-pair_texts-pairs_of : (i : Setting) (ps : List (Document × Document)) → pair_texts i (pairs_of ps) ≡ map (λ p. pair_text p.0 p.1 i) ps
+pub pair_texts-pairs_of : (i : Setting) (ps : List (Document × Document)) → pair_texts i (pairs_of ps) ≡ map (λ p. pair_text p.0 p.1 i) ps
 pair_texts-pairs_of i [] = refl
 pair_texts-pairs_of i (p ∷ ps) = ap (λ ts. pair_text p.0 p.1 i ∷ ts) (pair_texts-pairs_of i ps)
+
+pub field_texts-fields_of : (i : Setting) (fs : List (List ℕ × Document)) → field_texts i (fields_of fs) ≡ map (λ f. field_text f.0 f.1 i) fs
+field_texts-fields_of i [] = refl
+field_texts-fields_of i (f ∷ fs) = ap (λ ts. field_text f.0 f.1 i ∷ ts) (field_texts-fields_of i fs)
 
 -- where a call of a builder went on, failed, or closed it
 module _ {W : Type 0} {seen : Seen W} {reference : ℕ} {b b' : Block W} {last : Formatter W} where

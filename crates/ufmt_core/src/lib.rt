@@ -5,6 +5,7 @@ ghost use Rattle.std.specs.Prelude.{is_ok};
 ghost use Rattle.ufmt_core.specs.Document.{Document};
 ghost use Rattle.ufmt_core.specs.Formatter.{LaysOut};
 
+pub mod ascii;
 mod core_impls;
 mod formatter;
 pub mod laws;

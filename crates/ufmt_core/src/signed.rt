@@ -4,9 +4,10 @@ ghost use Rattle.std.specs.Int.{is_negative};
 ghost use Rattle.ufmt_core.specs.Document.{leaf};
 ghost use Rattle.ufmt_core.specs.Decimal.{decimal};
 
+use crate::ascii::text_from;
 use crate::formatter::Formatter;
 use crate::uDebug;
-use crate::unsigned::{Magnitude, text_from};
+use crate::unsigned::Magnitude;
 use crate::write::uWrite;
 
 /// A signed number of some width, as its decimal text sees it.

@@ -1,12 +1,12 @@
 //! Decimal texts of unsigned numbers.
-ghost use Rattle.std.specs.Prelude.{◌≡◌, ◌+◌, ◌++◌, ◌/◌, ◌%◌, ◌^◌, ◌<◌, ◌≤◌, ℕ, pos, length, drop, IsAscii};
+ghost use Rattle.std.specs.Prelude.{◌≡◌, ◌+◌, ◌++◌, ◌/◌, ◌%◌, ◌^◌, ◌<◌, ◌≤◌, ℕ, pos, length, drop};
 ghost use Rattle.ufmt_core.specs.Document.{leaf};
 ghost use Rattle.ufmt_core.specs.Decimal.{decimal, decimal_byte, last_digits, EachNumberIsTold, OneTextTells, OneNumberIsTold};
 
+use crate::ascii::text_from;
 use crate::formatter::Formatter;
 use crate::uDebug;
 use crate::write::uWrite;
-use std::str;
 
 /// Each whole number has exactly one decimal text, and each decimal text tells exactly one number.
 pub fn decimal_is_one_text()
@@ -218,18 +218,6 @@ pub(crate) fn decimal_text<M: Magnitude, const N: usize>(n: M, buffer: &mut [u8;
 {
     let start = n.write_digits(buffer);
     text_from(buffer, start)
-}
-
-/// The text that ends `buffer`, from `start` on. It asks that `start` is within the buffer and that the
-/// bytes from there on are ASCII: `ufmt` calls it for hexadecimal digits.
-#[inline(always)]
-pub fn text_from(buffer: &[u8], start: usize) -> &str
-    requires within { start ≤ length buffer.now }
-    requires ascii { IsAscii (drop start buffer.now) }
-    ensures { result.now ≡ drop start buffer.now }
-{
-    // The check proves at this call that the bytes are a text.
-    unsafe { str::from_utf8_unchecked(&buffer[start..]) }
 }
 
 impl uDebug for u8 {

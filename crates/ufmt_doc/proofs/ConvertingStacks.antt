@@ -9,7 +9,7 @@ use Rattle.ufmt_doc.specs.declared.convert.text_block.TextBlock.TheVariants as b
 use Rattle.ufmt_doc.specs.declared.reader.level.Level.{Level}
 use Rattle.ufmt_core.specs.declared.layout.Mode.{Mode}
 use Rattle.ufmt_core.specs.declared.layout.Mode.TheVariants.{Plain, Pretty}
-use Rattle.ufmt_doc.specs.Private.Converting.{document_text, entry_text, block_conversion, prefixed, blocks_conversion, text_after_step}
+use Rattle.ufmt_doc.specs.Private.Converting.{document_text, converted_entry, block_conversion, prefixed, blocks_conversion, text_after_step}
 use Rattle.ufmt_doc.specs.Private.Level.{budget_of, setting_at}
 use Rattle.ufmt_doc.specs.Private.Stack.{level_at}
 use Rattle.ufmt_doc.proofs.Stacks.{document_is, resumed_in, resumed_none, resumed_out, setting_inside}
@@ -37,7 +37,7 @@ finishes_text from to = resumed_out (λ n. block_conversion (level_at from n) (l
 pub opens_text : (from to : Mode) (old new : List TextBlock) (block : TextBlock) (depth : ℕ) (out t : List ℕ) → new ≡ old ++ block ∷ []
     → depth ≡ length old → blocks_conversion from to 0 old
     (block_conversion (level_at from depth) (level_at to depth) block
-    (prefixed out (entry_text (level_at from depth) (level_at to depth) t)))
+    (prefixed out (converted_entry (level_at from depth) (level_at to depth) t)))
     ≡ blocks_conversion from to 0 new (prefixed out (document_text from to (length new) t))
 opens_text from to old new block depth out t =
     resumed_in (λ n. block_conversion (level_at from n) (level_at to n)) (λ n. prefixed out (document_text from to n t)) old new block depth

@@ -2,7 +2,7 @@
 ghost use Rattle.std.specs.Prelude.{◌≡◌, ◌↔◌, ◌/◌, ◌%◌, ◌^◌, ◌<◌, ◌≤◌, ℕ, length, drop, IsTrue};
 ghost use Rattle.ufmt.specs.Hex.{hexadecimal_byte, hexadecimal};
 
-use ufmt_core::unsigned::text_from;
+use ufmt_core::ascii::text_from;
 
 /// An unsigned number of some width, as its hexadecimal digits see it.
 pub(crate) trait Nibbles: Copy {

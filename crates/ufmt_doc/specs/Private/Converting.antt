@@ -1,6 +1,7 @@
 -- Converting a text entry by entry: what is written behind an entry of a block that is open, without the documents before it.
 use Rattle.std.specs.Prelude.{◌≡◌, ℕ, zero, suc, ◌<◌, ◌≤◌, Bool, true, false, cond, length, List, ◌++◌, codes, Option, Some, None, option_and_then, Result, MatchResult}
 use Rattle.std.specs.Borrow.{Bor}
+use Rattle.ufmt.specs.Block.{field_text, pair_text}
 use Rattle.ufmt.specs.Document.{Document}
 use Rattle.ufmt.specs.Layout.{Frame, ending, frame, inside, layout, next, block_tail, separator, setting, trail}
 use Rattle.ufmt_core.specs.declared.layout.Count.{Count}
@@ -28,22 +29,15 @@ prefixed out o = parse_map (λ text. out ++ text) o
 abbrev pub WritesPiece : {A : Type 0} → Result A ReadError → List ℕ → List ℕ → List ℕ → Type 0
 WritesPiece answer old new piece = MatchResult answer (λ a. new ≡ old ++ piece) (λ e. e ≡ OutOfMemory)
 
--- the texts of a pair and of a field
-abbrev pub pair_text : Setting → Document × Document → List ℕ
-pair_text i p = layout i p.0 ++ (codes ": " ++ layout i p.1)
-
-abbrev pub field_text : Setting → List ℕ × Document → List ℕ
-field_text i p = p.0 ++ (codes ": " ++ layout i p.1)
-
 -- what an entry, a pair or a field of a block at the first level is converted to for a block at the second
-abbrev pub entry_text : Level → Level → Parse (List ℕ)
-entry_text from to t = parse_map (layout (inside (setting_at to))) (entry_of from t)
+abbrev pub converted_entry : Level → Level → Parse (List ℕ)
+converted_entry from to t = parse_map (layout (inside (setting_at to))) (entry_of from t)
 
-abbrev pub pair_of : Level → Level → Parse (List ℕ)
-pair_of from to t = parse_map (pair_text (inside (setting_at to))) (read_pair (entry_of from) (entry_of from) t)
+abbrev pub converted_pair : Level → Level → Parse (List ℕ)
+converted_pair from to t = parse_map (λ p. pair_text p.0 p.1 (inside (setting_at to))) (read_pair (entry_of from) (entry_of from) t)
 
-abbrev pub field_of : Level → Level → Parse (List ℕ)
-field_of from to t = parse_map (field_text (inside (setting_at to))) (read_pair read_word (entry_of from) t)
+abbrev pub converted_field : Level → Level → Parse (List ℕ)
+converted_field from to t = parse_map (λ f. field_text f.0 f.1 (inside (setting_at to))) (read_pair read_word (entry_of from) t)
 
 -- what is written behind an entry, where the block has so many with it and `q` converts them
 unfoldable pub rest_text : Parse (List ℕ) → Frame → Setting → Frame → Setting → Count → Parse (List ℕ)
@@ -60,26 +54,26 @@ convert_block q from to kind before o = convert_on q (frame from.mode kind) (set
 
 -- a map from the value of a pair, the first pair or a later one
 abbrev pub convert_value : Level → Level → Count → Option (List ℕ × List ℕ) → Option (List ℕ × List ℕ)
-convert_value from to before o = convert_block (pair_of from to) from to kinds.Braces before o
+convert_value from to before o = convert_block (converted_pair from to) from to kinds.Braces before o
 
 -- a map from behind a colon
 abbrev pub convert_colon : Level → Level → Count → List ℕ → List ℕ → Option (List ℕ × List ℕ)
-convert_colon from to before out t = convert_value from to before (prefixed (out ++ codes ": ") (entry_text from to t))
+convert_colon from to before out t = convert_value from to before (prefixed (out ++ codes ": ") (converted_entry from to t))
 
 -- an open block to its end, where this was written with the entry, key or value that began in it
 abbrev pub block_conversion : Level → Level → TextBlock → Option (List ℕ × List ℕ) → Option (List ℕ × List ℕ)
-block_conversion from to (blocks.Entry kind before) o = convert_block (entry_text from to) from to kind before o
+block_conversion from to (blocks.Entry kind before) o = convert_block (converted_entry from to) from to kind before o
 block_conversion from to blocks.Braces o =
     option_and_then (λ x. choose (strip (codes ": ") x.1) (λ u. convert_colon from to Zero x.0 u)
-    (convert_block (entry_text from to) from to kinds.Braces Zero (Some (x.0, x.1)))) o
+    (convert_block (converted_entry from to) from to kinds.Braces Zero (Some (x.0, x.1)))) o
 block_conversion from to blocks.Key o = option_and_then (λ x. option_and_then (λ u. convert_colon from to Several x.0 u) (strip (codes ": ") x.1)) o
 block_conversion from to (blocks.Value before) o = convert_value from to before o
-block_conversion from to (blocks.Field before) o = convert_block (field_of from to) from to kinds.Struct before o
+block_conversion from to (blocks.Field before) o = convert_block (converted_field from to) from to kinds.Struct before o
 
 -- what a step makes of what was written and what is left: an entry begins in a block, or a document or a block has ended
 abbrev pub text_after_step : Level → Level → Option TextBlock → List ℕ → List ℕ → Option (List ℕ × List ℕ)
 text_after_step from to None out t = Some (out, t)
-text_after_step from to (Some block) out t = block_conversion from to block (prefixed out (entry_text from to t))
+text_after_step from to (Some block) out t = block_conversion from to block (prefixed out (converted_entry from to t))
 
 -- the step was made in converting this, and leaves at most so many bytes
 abbrev pub ConvertsStep : Level → Level → ℕ → Result (Option TextBlock × Bor (List ℕ)) ReadError → List ℕ → Option (List ℕ × List ℕ) → Type 0
@@ -112,7 +106,7 @@ blocks_conversion from to k blocks o = from_innermost (λ n. block_conversion (l
 -- what a document with this many blocks round it is converted to
 abbrev pub document_text : Mode → Mode → ℕ → Parse (List ℕ)
 document_text from to zero t = parse_map (layout (setting to 0)) (document_at from zero t)
-document_text from to (suc k) t = entry_text (level_at from k) (level_at to k) t
+document_text from to (suc k) t = converted_entry (level_at from k) (level_at to k) t
 
 -- what is written in all where blocks are open and an entry begins, or where the whole document has ended
 abbrev pub conversion_from : Mode → Mode → List TextBlock → Bool → List ℕ → List ℕ → Option (List ℕ × List ℕ)

@@ -11,8 +11,8 @@ use super::write::write_text;
 use crate::reader::ReadError;
 use crate::reader::leaf::{split_symbol, split_word};
 use crate::reader::level::Level;
+use ufmt::ascii::text_from;
 use ufmt::layout::{Count, Kind};
-use ufmt::unsigned::text_from;
 
 /// Converts a leaf or an empty block, or what opens a block up to its first entry: then the answer
 /// has the block.

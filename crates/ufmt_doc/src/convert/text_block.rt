@@ -1,13 +1,13 @@
 //! Blocks that are converted, up to an entry that begins in them.
 ghost use Rattle.std.specs.Prelude.{length, string_bytes, Some};
-ghost use Rattle.ufmt_doc.specs.Private.Converting.{ConvertsBehindEntry, ConvertsStep, WritesLabel, convert_block, convert_value, entry_text, field_of, block_conversion};
+ghost use Rattle.ufmt_doc.specs.Private.Converting.{ConvertsBehindEntry, ConvertsStep, WritesLabel, convert_block, convert_value, converted_entry, converted_field, block_conversion};
 
 use super::write::write_text;
 use crate::reader::ReadError;
 use crate::reader::leaf::split_word;
 use crate::reader::level::{Level, expect_colon, strip_colon};
+use ufmt::ascii::text_from;
 use ufmt::layout::{COLON, Count, Kind};
-use ufmt::unsigned::text_from;
 
 /// A block in which an entry begins, and how many stand before that: none or, behind a first one,
 /// `Several` at once, since then the same follows.
@@ -87,7 +87,7 @@ fn put_entry<'a>(
     input: &'a [u8],
 ) -> Result<(Option<TextBlock>, &'a [u8]), ReadError>
     ensures { ConvertsStep from to (length input.now) result (string_bytes output.new)
-        (convert_block (entry_text from to) from to kind before
+        (convert_block (converted_entry from to) from to kind before
         (Some (string_bytes output.old, input.now))) }
 {
     let (goes_on, rest) = pass(from, to, kind, before, output, input)?;
@@ -145,7 +145,7 @@ fn put_field<'a>(
     input: &'a [u8],
 ) -> Result<(Option<TextBlock>, &'a [u8]), ReadError>
     ensures { ConvertsStep from to (length input.now) result (string_bytes output.new)
-        (convert_block (field_of from to) from to Kind.Struct before
+        (convert_block (converted_field from to) from to Kind.Struct before
         (Some (string_bytes output.old, input.now))) }
 {
     let (goes_on, rest) = pass(from, to, Kind::Struct, before, output, input)?;

@@ -9,7 +9,7 @@ use crate::reader::error::ReadError;
 use crate::reader::level::strip;
 use crate::reader::quoted::{split_character, split_quoted};
 use std::alloc::Global;
-use ufmt::unsigned::text_from;
+use ufmt::ascii::text_from;
 
 // Of each byte, whether it is an ASCII digit, an ASCII letter, `_` or `-`.
 static WORD_BYTES: [bool; 256] = [

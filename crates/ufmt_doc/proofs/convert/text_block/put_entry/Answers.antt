@@ -1,6 +1,6 @@
 use Rattle.ufmt_doc.proofs.Converting.{pass_ends, pass_goes_on, pass_refused}
-use Rattle.ufmt_doc.proofs.ConvertingParts.{entry_text_takes}
-use Rattle.ufmt_doc.specs.Private.Converting.{entry_text}
+use Rattle.ufmt_doc.proofs.ConvertingParts.{converted_entry_takes}
+use Rattle.ufmt_doc.specs.Private.Converting.{converted_entry}
 use Rattle.ufmt_doc.proofs.EntrySteps.{behind_within}
 use Rattle.ufmt_doc.proofs.Given.{passes_on}
 use Rattle.ufmt_doc.proofs.convert.text_block.put_entry.Goals as goal
@@ -8,19 +8,19 @@ use Rattle.ufmt_doc.proofs.convert.text_block.put_entry.Goals as goal
 pub returns-in_err-goes_on : goal.returns-in_err-goes_on
 returns-in_err-goes_on c =
     passes_on _ c.from_residual.result _ c.in_err-goes_on.field-0.0 _ c.from_residual.ensures.1 (λ y p. p) λ refused.
-    pass_refused (entry_text c.args.from c.args.to) c.args.from c.args.to c.args.kind c.args.before _ c.args.input.now
-    (entry_text_takes c.args.from c.args.to) (c.in_err-goes_on.ensures refused)
+    pass_refused (converted_entry c.args.from c.args.to) c.args.from c.args.to c.args.kind c.args.before _ c.args.input.now
+    (converted_entry_takes c.args.from c.args.to) (c.in_err-goes_on.ensures refused)
 
 pub returns-then-goes_on : goal.returns-then-goes_on
 returns-then-goes_on c = (
-  pass_goes_on (entry_text c.args.from c.args.to) c.args.from c.args.to c.args.kind c.args.before _ _ c.args.input.now _ _
-      (entry_text_takes c.args.from c.args.to) c.in_ok-goes_on.ensures.0 c.in_ok-goes_on.ensures.1 c.if-goes_on.true,
+  pass_goes_on (converted_entry c.args.from c.args.to) c.args.from c.args.to c.args.kind c.args.before _ _ c.args.input.now _ _
+      (converted_entry_takes c.args.from c.args.to) c.in_ok-goes_on.ensures.0 c.in_ok-goes_on.ensures.1 c.if-goes_on.true,
   behind_within _ _ _ _ _ _ c.in_ok-goes_on.ensures.0,
 )
 
 pub returns-else-goes_on : goal.returns-else-goes_on
 returns-else-goes_on c = (
-  pass_ends (entry_text c.args.from c.args.to) c.args.from c.args.to c.args.kind c.args.before _ _ c.args.input.now _ _
-      (entry_text_takes c.args.from c.args.to) c.in_ok-goes_on.ensures.0 c.in_ok-goes_on.ensures.1 c.if-goes_on.false,
+  pass_ends (converted_entry c.args.from c.args.to) c.args.from c.args.to c.args.kind c.args.before _ _ c.args.input.now _ _
+      (converted_entry_takes c.args.from c.args.to) c.in_ok-goes_on.ensures.0 c.in_ok-goes_on.ensures.1 c.if-goes_on.false,
   behind_within _ _ _ _ _ _ c.in_ok-goes_on.ensures.0,
 )

@@ -1,7 +1,7 @@
 use Rattle.std.proofs.Common.{drop}
 use Rattle.std.proofs.lemmas.List.{take_rest}
 use Rattle.std.proofs.lemmas.Str.{IsUtf8-from_ascii}
-use Rattle.ufmt_core.proofs.unsigned.text_from.Goals as goal
+use Rattle.ufmt_core.proofs.ascii.text_from.Goals as goal
 
 pub from_utf8_unchecked-requires : goal.from_utf8_unchecked-requires
 from_utf8_unchecked-requires c =
