@@ -5,7 +5,7 @@ use Rattle.ufmt_core.specs.Layout.{inside, brace_space, new_line}
 use Rattle.ufmt_core.specs.Quoted.{IsQuoted, escaped_all}
 use Rattle.ufmt_core.specs.declared.layout.Setting.{Setting}
 use Rattle.ufmt.specs.Token.{IsWord, IsSymbol, IsTokenLeaf, IsFollower}
-use Rattle.ufmt.specs.Reading.{Parse, strip, read_word, read_symbol, read_named, read_with}
+use Rattle.ufmt.specs.Reading.{Parse, choose, strip, read_word, read_symbol, read_named, read_unnamed, read_with}
 use Rattle.ufmt.specs.ReadingQuoted.{read_quoted}
 use Rattle.ufmt.proofs.Parsing.{chosen_from, same_parts, strip_found}
 use Rattle.ufmt.proofs.QuotedComplete.{read_quoted-complete}
@@ -62,28 +62,6 @@ name_alone s p (c ∷ w) u h follows = rw (
   follower_no_struct u (brace_space s.mode ++ new_line (inside s).mode (inside s).depth) follows,
 ) refl
 
--- a quoted leaf is read, whatever follows it
-quoted_complete : (s : Setting) (p : Parse Document) (text u : List ℕ) → IsQuoted text → read_with s p (text ++ u) ≡ Some (leaf text, u)
-quoted_complete s p text u h = go h (read_quoted-complete text u h)
-  where
-    go : IsQuoted text → read_quoted (text ++ u) ≡ Some (text, u) → read_with s p (text ++ u) ≡ Some (leaf text, u)
-    go (inl of_text) reads = rw of_text.2 (rw (ap (λ t. read_quoted (t ++ u)) (sym of_text.2) ∙ reads) (ap (λ t. Some (leaf t, u)) of_text.2))
-    go (inr of_char) reads = rw of_char.2 (rw (ap (λ t. read_quoted (t ++ u)) (sym of_char.2) ∙ reads) (ap (λ t. Some (leaf t, u)) of_char.2))
-
--- a leaf before a follower is read
-pub leaf_complete : (s : Setting) (p : Parse Document) (text u : List ℕ) → IsTokenLeaf text → IsFollower u → read_with s p (text ++ u) ≡ Some (leaf text, u)
-leaf_complete s p text u h follows = go h.shape
-  where
-    go : IsWord text ⊎ IsSymbol text → read_with s p (text ++ u) ≡ Some (leaf text, u)
-    go (inl w) = at_word s p text u w (follower_stops u follows) ∙ name_alone s p text u w follows
-    go (inr (inl e)) = rw e refl
-    go (inr (inr quoted)) = quoted_complete s p text u quoted
-
--- a leaf that is no word isn't an opening parenthesis before an entry
-pub no_symbol : {t : List ℕ} → Begins t → read_symbol (40 ∷ t) ≡ None
-unfolding read_quoted
-no_symbol b = rw (closer_begins_none 41 [] refl b) refl
-
 -- a leaf that is no word is read, whatever follows it
 pub read_symbol_complete : (text u : List ℕ) → IsSymbol text → read_symbol (text ++ u) ≡ Some (text, u)
 read_symbol_complete text u (inl unit) = rw unit refl
@@ -93,7 +71,28 @@ read_symbol_complete text u (inr quoted) = go quoted (read_quoted-complete text 
     go (inl of_text) reads = rw of_text.2 (ap (λ t. read_quoted (t ++ u)) (sym of_text.2) ∙ reads ∙ ap (λ t. Some (t, u)) of_text.2)
     go (inr of_char) reads = rw of_char.2 (ap (λ t. read_quoted (t ++ u)) (sym of_char.2) ∙ reads ∙ ap (λ t. Some (t, u)) of_char.2)
 
--- and what is read so is one
+-- so a document that begins with one is that leaf
+symbol_first : (s : Setting) (p : Parse Document) (text u : List ℕ) → IsSymbol text
+    → read_with s p (text ++ u) ≡ choose (read_symbol (text ++ u)) (λ x. Some (leaf x.0, x.1)) (read_unnamed s p (text ++ u))
+symbol_first s p text u (inl unit) = rw unit refl
+symbol_first s p text u (inr (inl of_text)) = rw of_text.2 refl
+symbol_first s p text u (inr (inr of_char)) = rw of_char.2 refl
+
+-- a leaf before a follower is read
+pub leaf_complete : (s : Setting) (p : Parse Document) (text u : List ℕ) → IsTokenLeaf text → IsFollower u → read_with s p (text ++ u) ≡ Some (leaf text, u)
+leaf_complete s p text u h follows = go h.shape
+  where
+    go : IsWord text ⊎ IsSymbol text → read_with s p (text ++ u) ≡ Some (leaf text, u)
+    go (inl w) = at_word s p text u w (follower_stops u follows) ∙ name_alone s p text u w follows
+    go (inr symbol) = symbol_first s p text u symbol
+        ∙ ap (λ o. choose o (λ x. Some (leaf x.0, x.1)) (read_unnamed s p (text ++ u))) (read_symbol_complete text u symbol)
+
+-- a leaf that is no word isn't an opening parenthesis before an entry
+pub no_symbol : {t : List ℕ} → Begins t → read_symbol (40 ∷ t) ≡ None
+unfolding read_quoted
+no_symbol b = rw (closer_begins_none 41 [] refl b) refl
+
+-- what is read as a leaf that is no word is one
 pub read_symbol_sound : (t text u : List ℕ) → read_symbol t ≡ Some (text, u) → IsSymbol text × (t ≡ text ++ u)
 read_symbol_sound t text u h = elim (chosen_from {B = Option (List ℕ × List ℕ)} (strip (codes "()") t) (λ v. Some (codes "()", v))
     (read_quoted t) (Some (text, u)) h) [

@@ -1,11 +1,11 @@
 -- Leaves: which is read at the front that is no word, and which texts are leaves from end to end.
-use Rattle.std.proofs.Common.{List, None, Option, Some, [], ap, append-nil, arith, codes, false, refl, subst, sym, true, ℕ, ◌==◌, ◌∙◌, ◌∷◌, ◌≡◌, ◌≢◌, ◌++◌, Bool, length, eqb-true}
+use Rattle.std.proofs.Common.{List, None, Option, Some, [], ap, append-nil, arith, codes, false, refl, subst, sym, ℕ, ◌==◌, ◌∙◌, ◌∷◌, ◌≡◌, ◌≢◌, ◌++◌, Bool, length}
 use Rattle.std.specs.List.{slice_get}
 use Rattle.std.specs.Option.{option_or}
 use Rattle.std.specs.Str.{is_utf8}
 use Rattle.std.proofs.lemmas.Bool.Decides.{nat_tests}
 use Rattle.std.specs.Prelude.{◌↔◌, IsTrue}
-use Rattle.ufmt.specs.Reading.{Parse, after_word, if_word, read_symbol, read_word, strip, word_of}
+use Rattle.ufmt.specs.Reading.{Parse, after_word, read_symbol, read_word, strip, word_of}
 use Rattle.ufmt.specs.ReadingQuoted.{is_char, read_between, read_quoted}
 use Rattle.ufmt.specs.Token.{IsSymbol, IsWord}
 use Rattle.ufmt.proofs.Parsing.{same_parts}
@@ -78,10 +78,6 @@ pub word_tested : (t w u : List ℕ) (answer : Bool) → w ≡ word_of t → u �
     → IsTrue answer ↔ IsWord t
 word_tested t w u answer word rest some tested =
     leaves_nothing read_word read_word_sound whole_word t w u answer (word_is_read t w u word rest some) tested
-
-pub no_word_tested : (t w : List ℕ) → w ≡ word_of t → (length w == 0) ≡ true → IsTrue false ↔ IsWord t
-no_word_tested t [] word none = reads_nothing read_word read_word_sound whole_word t (ap (λ w. if_word w (after_word t)) (sym word))
-no_word_tested t (c ∷ w) word none = let e = eqb-true (length (c ∷ w)) 0 none in absurd (omega arith)
 
 -- a whole text that is a leaf but no word
 pub symbol_tested : (t x u : List ℕ) (answer : Bool) → Some (x, u) ≡ read_symbol t → answer ≡ (length u == 0) → IsTrue answer ↔ IsSymbol t

@@ -92,7 +92,8 @@ pub(super) fn word_text(alloc: Global, word: &[u8]) -> Result<String, ReadError>
     Ok(String::from_str(alloc, text_from(word, 0))?)
 }
 
-/// A leaf that is no word at the front of a text, and what follows it.
+/// A leaf that is no word at the front of a text, and what follows it. A word is split off by
+/// itself, since it may be the name of a block.
 pub(crate) fn split_symbol(input: &[u8]) -> Option<(&str, &[u8])>
     ensures { option_map (λ x. (x.0.now, x.1.now)) result ≡ read_symbol input.now }
 {
