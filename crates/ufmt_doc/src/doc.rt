@@ -161,7 +161,8 @@ fn pairs_have_tokens(pairs: &[(Doc, Doc)], deepest: u8) -> bool
 // The same of fields, whose labels are words.
 #[cycle(has_tokens)]
 fn fields_have_tokens(fields: &[(String, Doc)], deepest: u8) -> bool
-    ensures { IsTrue result ↔ FieldsAreTokensWithin deepest (fields_of (map field_view fields.now)) }
+    ensures { IsTrue result
+        ↔ FieldsAreTokensWithin deepest (fields_of (map field_view fields.now)) }
 {
     for (label, value) in fields {
         if deepest == 0 || !is_word(label) || !value.has_tokens(deepest - 1) {

@@ -15,7 +15,8 @@ Doc::has_tokens-returns-in-MapOf t c =
 pub Doc::has_tokens-returns-then-is_word : goal.Doc::has_tokens-returns-then-is_word
 Doc::has_tokens-returns-then-is_word t c =
     rw (ap doc_document c.in-StructOf.is ∙ doc_document-StructOf c.in-StructOf.name c.in-StructOf.fields, ← c.deref-then-is_word.ensures.value)
-    (as_well c.fields_have_tokens.ensures (struct_apart c.args.deepest (string_bytes c.in-StructOf.name) _ (subst IsWord c.deref-in-StructOf.ensures (c.is_word.ensures.0 c.if-is_word.true))))
+    (as_well c.fields_have_tokens.ensures (struct_apart c.args.deepest (string_bytes c.in-StructOf.name) _
+    (subst IsWord c.deref-in-StructOf.ensures (c.is_word.ensures.0 c.if-is_word.true))))
 
 pub Doc::has_tokens-returns-then-not-is_empty : goal.Doc::has_tokens-returns-then-not-is_empty
 Doc::has_tokens-returns-then-not-is_empty t c =
