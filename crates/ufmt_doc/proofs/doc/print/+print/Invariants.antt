@@ -6,7 +6,7 @@ use Rattle.ufmt.specs.Document.{documents, fields_of, map_of, pairs_of, set_of, 
 use Rattle.ufmt.proofs.Loops.{Leaves}
 use Rattle.ufmt_doc.specs.Doc.{doc_document}
 use Rattle.ufmt_doc.specs.DocViews.{pair_view, field_view}
-use Rattle.ufmt_doc.proofs.doc.+print.Given as goal
+use Rattle.ufmt_doc.proofs.doc.print.+print.Given as goal
 
 abbrev pub invariant-fmt_set-loop-entry : goal.invariant-fmt_set-loop-entry
 invariant-fmt_set-loop-entry g l = record {

@@ -10,7 +10,7 @@ use Rattle.ufmt.proofs.Printing.{LaysOut-err, set_not_opened, map_not_opened, st
 use Rattle.ufmt_doc.specs.Doc.{doc_document}
 use Rattle.ufmt_doc.specs.DocViews.{field_view, pair_view}
 use Rattle.ufmt_doc.proofs.Docs.{doc_document-MapOf, doc_document-StructOf, item-first, fields-first}
-use Rattle.ufmt_doc.proofs.doc.+print.Goals as goal
+use Rattle.ufmt_doc.proofs.doc.print.+print.Goals as goal
 
 pub DocuDebug::fmt-returns-in-MapOf : goal.DocuDebug::fmt-returns-in-MapOf
 DocuDebug::fmt-returns-in-MapOf g t c =
