@@ -1,11 +1,9 @@
 pub mod Conversions
-pub mod Converting
-pub mod ConvertingParts
-pub mod ConvertingStacks
 pub mod Docs
 pub mod DocumentParts
 pub mod EntrySteps
 pub mod Given
+pub mod Lines
 pub mod NormalDocs
 pub mod Normals
 pub mod QuotedCharacter
@@ -15,6 +13,14 @@ pub mod Spelled
 pub mod Stacks
 pub mod Strips
 pub mod Leaves
+pub mod Telling
+pub mod ScanLabels
+pub mod ScanWhole
+pub mod Scans
+pub mod TellingParts
+pub mod TextSinks
+pub mod ToldTexts
+pub mod WorkedTold
 pub mod Unquoted
 pub mod WholeTexts
 pub mod Within

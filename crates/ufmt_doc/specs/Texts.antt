@@ -1,9 +1,12 @@
 -- What readers promise: of the documents with a text, or of a text that no document has.
-use Rattle.std.specs.Prelude.{◌≡◌, ◌≢◌, List, ℕ, Result, String, IfOk, IsErrOf, string_bytes}
+use Rattle.std.specs.Prelude.{◌≡◌, ◌≢◌, List, ℕ, Bool, Result, String, IfOk, IsOk, IsErrOf, is_ok, string_bytes, ⊤}
 use Rattle.ufmt.specs.Document.{Document}
 use Rattle.ufmt.specs.Token.{IsToken, normal}
+use Rattle.ufmt.specs.Writes.{Seen, Writes}
 use Rattle.ufmt_doc.specs.declared.reader.error.ReadError.{ReadError}
 use Rattle.ufmt_doc.specs.declared.reader.error.ReadError.TheVariants.{NotText}
+use Rattle.ufmt_doc.specs.declared.scan.refusal.Refusal.{Refusal}
+use Rattle.ufmt_doc.specs.declared.scan.refusal.Refusal.TheVariants as refusals
 
 -- a token document in normal form that has this text
 abbrev pub IsNormalForm : (Document → List ℕ) → List ℕ → Document → Type 0
@@ -32,3 +35,13 @@ pub record Converts {A : Type 0} (from to : Document → List ℕ) (input : List
   pub not_text : IsErrOf answer NotText → IsNoText from input
   pub undoes : IfOk answer (λ text. Undoes from to input (string_bytes text))
   pub unconverted : IsErrOf answer NotText → IsUnconverted from to input
+
+-- what a conversion to a writer does with it
+pub record ConvertsTo {W E : Type 0} (seen : Seen W) (from to : Document → List ℕ) (input : List ℕ) (old : W) (answer : Result (⊤) (Refusal E)) (new : W) : Type 0 where
+  -- `Ok` is answered of texts alone, and `NotText` of what is none
+  pub ok : IsOk answer → (text : List ℕ) × IsConverted from to input text
+  pub not_text : IsErrOf answer refusals.NotText → IsNoText from input
+  -- the other text is written as any piece is: all of it, or a beginning where the writer refused
+  pub writes : (text : List ℕ) → IsConverted from to input text → Writes seen old text (is_ok answer) new
+  -- and so is what was written of an input that is no text
+  pub lawful : (text : List ℕ) × (whole : Bool) × Writes seen old text whole new

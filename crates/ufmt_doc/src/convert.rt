@@ -3,19 +3,17 @@ ghost use Rattle.std.specs.Prelude.{◌≡◌, ◌≤◌, string_bytes, IfOk};
 ghost use Rattle.ufmt.specs.Document.{nest};
 ghost use Rattle.ufmt.specs.Layout.{plain_text, pretty_text};
 ghost use Rattle.ufmt.specs.Shift.{HasNoLineFeed, shifted};
-ghost use Rattle.ufmt_doc.specs.Texts.{Converts};
+ghost use Rattle.ufmt_doc.specs.Texts.{Converts, ConvertsTo};
 
-mod begin;
-mod converted;
-mod text_block;
-mod text_blocks;
+mod text_sink;
 mod write;
 
 use crate::plain_reader::ReadError;
-use converted::converted;
+use crate::scan::{Refusal, scan};
 use std::alloc::{AllocError, Global};
+use text_sink::TextSink;
 use ufmt::layout::Mode;
-use ufmt::{Formatter, uDebug};
+use ufmt::{Formatter, uDebug, uWrite};
 
 /// The value's plain text. The only refusal is want of memory.
 pub fn plain_text<T: uDebug>(alloc: Global, value: &T) -> Result<String, AllocError>
@@ -44,14 +42,36 @@ pub fn pretty_text<T: uDebug>(alloc: Global, value: &T) -> Result<String, AllocE
     Ok(text)
 }
 
+/// Writes the pretty text of the token documents with this plain text to the writer. It takes no
+/// memory of its own, and where the input is such a text and the writer has room for the answer, it
+/// is `Ok`. `NotText` is answered of no such text, and else what the writer answered; the writer took
+/// a beginning of the answer then, or of what the input begins with.
+pub fn pretty_to<W: uWrite>(writer: &mut W, input: &[u8]) -> Result<(), Refusal<W::Error>>
+    ensures { ConvertsTo W.seen plain_text pretty_text input.now writer.old result writer.new }
+{
+    let mut sink = TextSink::new(Mode::Pretty, writer);
+    scan(Mode::Plain, input, &mut sink)
+}
+
+/// Writes the plain text of the token documents with this pretty text to the writer, with the
+/// refusals of `pretty_to`.
+pub fn plain_to<W: uWrite>(writer: &mut W, input: &[u8]) -> Result<(), Refusal<W::Error>>
+    ensures { ConvertsTo W.seen pretty_text plain_text input.now writer.old result writer.new }
+{
+    let mut sink = TextSink::new(Mode::Plain, writer);
+    scan(Mode::Pretty, input, &mut sink)
+}
+
 /// The pretty text of the token documents with this plain text. Of a text that `to_plain` answered
-/// that is the text from which it was made. No document is made on the way: memory goes to the
-/// answer, and a few bytes to each block that is open. `NotText` is answered of no such text, and
-/// else `OutOfMemory` alone; nothing of the answer is left then.
+/// that is the text from which it was made. No document is made on the way, and memory goes to the
+/// answer alone. `NotText` is answered of no such text, and else `OutOfMemory` alone; nothing of the
+/// answer is left then.
 pub fn to_pretty(alloc: Global, input: &[u8]) -> Result<String, ReadError>
     ensures { Converts plain_text pretty_text input.now result }
 {
-    converted(alloc, Mode::Plain, Mode::Pretty, input)
+    let mut text = String::new(alloc);
+    pretty_to(&mut text, input)?;
+    Ok(text)
 }
 
 /// The plain text of the token documents with this pretty text. Of a text that `to_pretty` answered
@@ -60,5 +80,7 @@ pub fn to_pretty(alloc: Global, input: &[u8]) -> Result<String, ReadError>
 pub fn to_plain(alloc: Global, input: &[u8]) -> Result<String, ReadError>
     ensures { Converts pretty_text plain_text input.now result }
 {
-    converted(alloc, Mode::Pretty, Mode::Plain, input)
+    let mut text = String::new(alloc);
+    plain_to(&mut text, input)?;
+    Ok(text)
 }

@@ -8,3 +8,4 @@ pub mod laws;
 pub mod plain_reader;
 pub mod pretty_reader;
 mod reader;
+pub mod scan;

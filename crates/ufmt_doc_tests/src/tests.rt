@@ -12,6 +12,7 @@ mod quoted;
 mod same_texts;
 mod shape;
 mod texts;
+mod to_writers;
 mod tokens;
 mod verdict;
 

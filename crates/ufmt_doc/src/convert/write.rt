@@ -1,219 +1,175 @@
-//! Writing what stands round the entries of blocks, at each level of the text that is written.
-ghost use Rattle.std.specs.Prelude.{◌++◌, ◌*◌, string_bytes};
+//! Writing what stands round the entries of blocks, in few pieces.
+ghost use Rattle.std.specs.Prelude.{◌≡◌, ◌++◌, codes, is_ok};
 ghost use Rattle.ufmt.specs.Layout.{ending, frame, indentation, inside, lead, line_start, new_line, separator, trail};
+ghost use Rattle.ufmt.specs.Writes.{Writes};
 ghost use Rattle.ufmt_core.specs.declared.layout.Count.TheVariants.{Zero};
-ghost use Rattle.ufmt_doc.specs.Private.Converting.{WritesPiece};
-ghost use Rattle.ufmt_doc.specs.Private.Level.{setting_at};
+ghost use Rattle.ufmt_core.specs.declared.layout.Mode.TheVariants.{Pretty};
 
-use crate::reader::ReadError;
-use crate::reader::level::Level;
-use ufmt::layout::{Count, Kind, Setting, UNIT};
+use ufmt::ascii::text_from;
+use ufmt::layout::{COLON, Count, Kind, Mode, Setting};
+use ufmt::uWrite;
 
-/// Writes a text.
+// What ends the line of an entry, and the units of the next one at the greatest depth.
+static LINE: [u8; 1022] = *b"\
+    ,\n\
+    \x20                                                                                    \
+    \x20                                                                                    \
+    \x20                                                                                    \
+    \x20                                                                                    \
+    \x20                                                                                    \
+    \x20                                                                                    \
+    \x20                                                                                    \
+    \x20                                                                                    \
+    \x20                                                                                    \
+    \x20                                                                                    \
+    \x20                                                                                    \
+    \x20                                                                                    ";
+
+const _: () = prove!(LINE.len() == 2 + 4 * 255);
+
+// What ends the line of an entry, and what the next one is indented by.
 #[inline(always)]
-pub(super) fn write_text(text: &str, output: &mut String) -> Result<(), ReadError>
-    ensures { WritesPiece result (string_bytes output.old) (string_bytes output.new) text.now }
+fn line(units: u8) -> &'static [u8]
+    ensures { result.now ≡ trail Pretty ++ indentation units }
 {
-    output.push_str(text)?;
-    Ok(())
+    &LINE[..2 + 4 * units as usize]
 }
 
-// Writes a piece, which may be empty.
+// Writes a piece, unless it is empty.
 #[inline(always)]
-fn write_piece(piece: &str, output: &mut String) -> Result<(), ReadError>
-    ensures { WritesPiece result (string_bytes output.old) (string_bytes output.new) piece.now }
+pub(super) fn write_piece<W: uWrite>(piece: &str, writer: &mut W) -> Result<(), W::Error>
+    ensures { Writes W.seen writer.old piece.now (is_ok result) writer.new }
 {
     if piece.is_empty() {
         Ok(())
     } else {
-        write_text(piece, output)
+        writer.write_str(piece)
     }
 }
 
-// Writes two pieces.
+// Writes two pieces, each unless it is empty.
 #[inline(always)]
-fn write_pieces(first: &str, second: &str, output: &mut String) -> Result<(), ReadError>
-    ensures { WritesPiece result (string_bytes output.old) (string_bytes output.new)
-        (first.now ++ second.now) }
+fn write_both<W: uWrite>(first: &str, second: &str, writer: &mut W) -> Result<(), W::Error>
+    ensures { Writes W.seen writer.old (first.now ++ second.now) (is_ok result) writer.new }
 {
-    write_piece(first, output)?;
-    write_piece(second, output)
+    write_piece(first, writer)?;
+    write_piece(second, writer)
 }
 
-// Writes a piece and the indentation of a line.
+// Writes a new line and its indentation, where entries stand on lines of their own.
 #[inline(always)]
-fn write_to_line(piece: &str, line: Setting, output: &mut String) -> Result<(), ReadError>
-    ensures { WritesPiece result (string_bytes output.old) (string_bytes output.new)
-        (piece.now ++ line_start line.mode line.depth) }
+fn write_new_line<W: uWrite>(entry: Setting, writer: &mut W) -> Result<(), W::Error>
+    ensures { Writes W.seen writer.old (new_line entry.mode entry.depth) (is_ok result) writer.new }
 {
-    write_piece(piece, output)?;
-    write_line_start(line, output)
+    match entry.mode {
+        Mode::Plain => Ok(()),
+        Mode::Pretty => writer.write_str(text_from(line(entry.depth), 1)),
+    }
 }
 
-// Writes the indentation of a line.
+// Writes what ends the line of an entry, and the indentation of the line that ends its block.
 #[inline(always)]
-fn write_line_start(line: Setting, output: &mut String) -> Result<(), ReadError>
-    ensures { WritesPiece result (string_bytes output.old) (string_bytes output.new)
-        (line_start line.mode line.depth) }
+fn write_last_line<W: uWrite>(block: Setting, writer: &mut W) -> Result<(), W::Error>
+    ensures { Writes W.seen writer.old (trail block.mode ++ line_start block.mode block.depth)
+        (is_ok result) writer.new }
 {
-    match line.units() {
-        0 => Ok(()),
-        units => write_indentation(units, output),
+    match block.mode {
+        Mode::Plain => Ok(()),
+        Mode::Pretty => writer.write_str(text_from(line(block.depth), 0)),
     }
 }
 
-// Writes so many units.
+// Writes what ends a block with so many entries, on the line on which it ends.
 #[inline(always)]
-fn write_units(count: u8, output: &mut String) -> Result<(), ReadError>
-    ensures { WritesPiece result (string_bytes output.old) (string_bytes output.new)
-        (indentation count) }
+fn write_closing<W: uWrite>(
+    mode: Mode,
+    kind: Kind,
+    count: Count,
+    writer: &mut W,
+) -> Result<(), W::Error>
+    ensures { Writes W.seen writer.old ((frame mode kind).closing count) (is_ok result)
+        writer.new }
 {
-    for _unit in 0..count {
-        write_text(UNIT, output)?;
-    }
-    Ok(())
+    let (before, bracket) = kind.closing(mode, count);
+    write_both(before, bracket, writer)
 }
 
-// Writes so many times eight units.
+// Writes what stands before the first entry of a block alone.
 #[inline(always)]
-fn write_eights(count: u8, output: &mut String) -> Result<(), ReadError>
-    ensures { WritesPiece result (string_bytes output.old) (string_bytes output.new)
-        (indentation (count * 8)) }
+fn write_start<W: uWrite>(mode: Mode, kind: Kind, writer: &mut W) -> Result<(), W::Error>
+    ensures { Writes W.seen writer.old (frame mode kind).start (is_ok result) writer.new }
 {
-    for _eight in 0..count {
-        write_text("                                ", output)?;
-    }
-    Ok(())
+    let (bracket, space) = kind.start(mode);
+    write_both(bracket, space, writer)
 }
 
-// The same in as few pieces as they take.
-#[inline(never)]
-fn write_deep_indentation(units: u8, output: &mut String) -> Result<(), ReadError>
-    ensures { WritesPiece result (string_bytes output.old) (string_bytes output.new)
-        (indentation units) }
-{
-    write_eights(units / 8, output)?;
-    write_units(units % 8, output)
-}
-
-// Writes so many units, deep ones apart.
+/// Writes a block without entries.
 #[inline(always)]
-fn write_indentation(units: u8, output: &mut String) -> Result<(), ReadError>
-    ensures { WritesPiece result (string_bytes output.old) (string_bytes output.new)
-        (indentation units) }
+pub(super) fn write_empty<W: uWrite>(mode: Mode, kind: Kind, writer: &mut W) -> Result<(), W::Error>
+    ensures { Writes W.seen writer.old
+        ((frame mode kind).opening ++ (frame mode kind).closing Zero) (is_ok result) writer.new }
 {
-    if units < 8 {
-        write_units(units, output)
-    } else {
-        write_deep_indentation(units, output)
+    write_piece(kind.opening(), writer)?;
+    write_closing(mode, kind, Count::Zero, writer)
+}
+
+/// Writes what stands before the first entry of a block whose entries are laid out so.
+#[inline(always)]
+pub(super) fn write_opening<W: uWrite>(
+    entry: Setting,
+    kind: Kind,
+    writer: &mut W,
+) -> Result<(), W::Error>
+    ensures { Writes W.seen writer.old
+        ((frame entry.mode kind).opening ++ lead (frame entry.mode kind) entry Zero)
+        (is_ok result) writer.new }
+{
+    write_piece(kind.opening(), writer)?;
+    write_start(entry.mode, kind, writer)?;
+    write_new_line(entry, writer)
+}
+
+/// Writes a field's name and the colon behind it.
+#[inline(always)]
+pub(super) fn write_label<W: uWrite>(name: &str, writer: &mut W) -> Result<(), W::Error>
+    ensures { Writes W.seen writer.old (name.now ++ codes ": ") (is_ok result) writer.new }
+{
+    write_piece(name, writer)?;
+    writer.write_str(COLON)
+}
+
+/// Writes what stands between two entries that are laid out so.
+#[inline(always)]
+pub(super) fn write_next<W: uWrite>(entry: Setting, writer: &mut W) -> Result<(), W::Error>
+    ensures { Writes W.seen writer.old (trail entry.mode ++ separator entry.mode entry.depth)
+        (is_ok result) writer.new }
+{
+    match entry.mode {
+        Mode::Plain => writer.write_str(Mode::Plain.separator()),
+        Mode::Pretty => writer.write_str(text_from(line(entry.depth), 0)),
     }
 }
 
-impl Level {
-    // What stands behind the name of a block, with entries or without.
-    #[inline(always)]
-    fn write_opening(self, kind: Kind, output: &mut String) -> Result<(), ReadError>
-        ensures { WritesPiece result (string_bytes output.old) (string_bytes output.new)
-            (frame self.mode kind).opening }
-    {
-        write_piece(kind.opening(), output)
-    }
-
-    // What stands before the first entry of a block alone.
-    #[inline(always)]
-    fn write_start(self, kind: Kind, output: &mut String) -> Result<(), ReadError>
-        ensures { WritesPiece result (string_bytes output.old) (string_bytes output.new)
-            (frame self.mode kind).start }
-    {
-        let (bracket, space) = kind.start(self.mode);
-        write_pieces(bracket, space, output)
-    }
-
-    // A new line and its indentation, where entries stand on lines of their own.
-    #[inline(always)]
-    fn write_new_line(self, output: &mut String) -> Result<(), ReadError>
-        ensures { WritesPiece result (string_bytes output.old) (string_bytes output.new)
-            (new_line self.mode (inside (setting_at self)).depth) }
-    {
-        write_to_line(self.mode.line_feed(), self.setting().inside(), output)
-    }
-
-    // What stands before the first entry of a block.
-    #[inline(always)]
-    fn write_lead(self, kind: Kind, output: &mut String) -> Result<(), ReadError>
-        ensures { WritesPiece result (string_bytes output.old) (string_bytes output.new)
-            (lead (frame self.mode kind) (inside (setting_at self)) Zero) }
-    {
-        self.write_start(kind, output)?;
-        self.write_new_line(output)
-    }
-
-    /// Writes what stands between the name of a block and its first entry.
-    #[inline(always)]
-    pub(super) fn write_front(self, kind: Kind, output: &mut String) -> Result<(), ReadError>
-        ensures { WritesPiece result (string_bytes output.old) (string_bytes output.new)
-            ((frame self.mode kind).opening
-            ++ lead (frame self.mode kind) (inside (setting_at self)) Zero) }
-    {
-        self.write_opening(kind, output)?;
-        self.write_lead(kind, output)
-    }
-
-    /// Writes what stands behind the name of a block without entries.
-    #[inline(always)]
-    pub(super) fn write_empty(self, kind: Kind, output: &mut String) -> Result<(), ReadError>
-        ensures { WritesPiece result (string_bytes output.old) (string_bytes output.new)
-            ((frame self.mode kind).opening ++ (frame self.mode kind).closing Zero) }
-    {
-        self.write_opening(kind, output)?;
-        self.write_closing(kind, Count::Zero, output)
-    }
-
-    /// Writes what stands after an entry.
-    #[inline(always)]
-    pub(super) fn write_trail(self, output: &mut String) -> Result<(), ReadError>
-        ensures { WritesPiece result (string_bytes output.old) (string_bytes output.new)
-            (trail self.mode) }
-    {
-        write_piece(self.mode.trail(), output)
-    }
-
-    /// Writes what stands before a later entry of a block.
-    #[inline(always)]
-    pub(super) fn write_separator(self, output: &mut String) -> Result<(), ReadError>
-        ensures { WritesPiece result (string_bytes output.old) (string_bytes output.new)
-            (separator self.mode (inside (setting_at self)).depth) }
-    {
-        write_to_line(self.mode.separator(), self.setting().inside(), output)
-    }
-
-    // What ends a block with so many entries, on the line on which it ends.
-    #[inline(always)]
-    fn write_closing(self, kind: Kind, count: Count, output: &mut String) -> Result<(), ReadError>
-        ensures { WritesPiece result (string_bytes output.old) (string_bytes output.new)
-            ((frame self.mode kind).closing count) }
-    {
-        let (before, bracket) = kind.closing(self.mode, count);
-        write_pieces(before, bracket, output)
-    }
-
-    /// Writes what ends a block with so many entries.
-    #[inline(always)]
-    pub(super) fn write_ending(
-        self,
-        kind: Kind,
-        count: Count,
-        output: &mut String,
-    ) -> Result<(), ReadError>
-        ensures { WritesPiece result (string_bytes output.old) (string_bytes output.new)
-            (ending (frame self.mode kind) (setting_at self) count) }
-    {
-        match count {
-            Count::Zero => self.write_closing(kind, count, output),
-            Count::One | Count::Several => {
-                write_line_start(self.setting(), output)?;
-                self.write_closing(kind, count, output)
-            }
+/// Writes what stands behind the last of so many entries of a block that is laid out so.
+#[inline(always)]
+pub(super) fn write_ending<W: uWrite>(
+    block: Setting,
+    kind: Kind,
+    count: Count,
+    writer: &mut W,
+) -> Result<(), W::Error>
+    ensures { Writes W.seen writer.old
+        (trail block.mode ++ ending (frame block.mode kind) block count) (is_ok result)
+        writer.new }
+{
+    match count {
+        Count::Zero => {
+            write_piece(block.mode.trail(), writer)?;
+            write_closing(block.mode, kind, count, writer)
+        }
+        Count::One | Count::Several => {
+            write_last_line(block, writer)?;
+            write_closing(block.mode, kind, count, writer)
         }
     }
 }

@@ -1,8 +1,9 @@
 //! Why a text gives no document.
 ghost use Rattle.std.specs.Prelude.{◌≡◌};
-ghost use Rattle.ufmt_doc.specs.ReadError.{code_of};
+ghost use Rattle.ufmt_doc.specs.ReadError.{code_of, error_of};
 ghost use Rattle.ufmt_doc.specs.declared.reader.error.ReadError.TheVariants.{OutOfMemory};
 
+use crate::scan::Refusal;
 use std::alloc::{AllocError, AllocFailed};
 
 /// Why a text was not read.
@@ -26,6 +27,18 @@ impl<T: Drop> From<AllocFailed<T>> for ReadError {
 
     fn from(_e: AllocFailed<T>) -> ReadError {
         ReadError::OutOfMemory
+    }
+}
+
+/// What a conversion to a `String` answers: the string's own refusal is want of memory.
+impl From<Refusal<AllocError>> for ReadError {
+    ghost from_gives = { λ refusal e. e ≡ error_of refusal };
+
+    fn from(refusal: Refusal<AllocError>) -> ReadError {
+        match refusal {
+            Refusal::NotText => ReadError::NotText,
+            Refusal::Refused(_) => ReadError::OutOfMemory,
+        }
     }
 }
 

@@ -200,7 +200,12 @@ impl Level {
     // or false, and what follows the block's end. Each mode has an arm, in which its pieces are
     // constants.
     #[inline(always)]
-    fn behind_entry(self, kind: Kind, before: Count, input: &[u8]) -> Option<(bool, &[u8])>
+    pub(crate) fn behind_entry(
+        self,
+        kind: Kind,
+        before: Count,
+        input: &[u8],
+    ) -> Option<(bool, &[u8])>
         ensures { option_map (λ x. (x.0, x.1.now)) result
             ≡ behind_entry (frame self.mode kind) (setting_at self) before input.now }
     {

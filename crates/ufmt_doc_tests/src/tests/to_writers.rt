@@ -1,0 +1,87 @@
+//! Conversions to writers: over buffers of each size, and of what is no text.
+use super::holds;
+use super::mode::Mode;
+use super::texts::{NODE_PLAIN, NODE_PRETTY};
+use std::alloc::{AllocError, Global};
+use ufmt::{Cursor, Full, uWrite};
+use ufmt_doc::convert::{plain_to, pretty_to};
+use ufmt_doc::scan::Refusal;
+
+// What a text of this mode is converted to, written to the writer.
+fn converted_to<W: uWrite>(
+    mode: Mode,
+    writer: &mut W,
+    text: &[u8],
+) -> Result<(), Refusal<W::Error>> {
+    match mode {
+        Mode::Plain => pretty_to(writer, text),
+        Mode::Pretty => plain_to(writer, text),
+    }
+}
+
+// Whether the conversion to a buffer of this size is `Ok` where the whole fits, and `Full` behind a
+// beginning where not.
+fn is_fitted(
+    alloc: Global,
+    mode: Mode,
+    text: &[u8],
+    other: &[u8],
+    size: usize,
+) -> Result<bool, AllocError> {
+    let mut bytes = vec![in alloc; 0u8; size]?;
+    let mut cursor = Cursor::new(bytes.as_mut_slice());
+    let is_right = match converted_to(mode, &mut cursor, text) {
+        Ok(()) => size >= other.len() && cursor.written() == other,
+        Err(Refusal::Refused(Full)) => size < other.len() && other.starts_with(cursor.written()),
+        Err(Refusal::NotText) => false,
+    };
+    Ok(is_right)
+}
+
+// Of how many sizes that holds, from no byte to one more than the text has.
+fn fitted(alloc: Global, mode: Mode, text: &str, other: &str) -> Result<usize, AllocError> {
+    let mut count = 0usize;
+    for size in 0..=other.len().saturating_add(1) {
+        if is_fitted(alloc, mode, text.as_bytes(), other.as_bytes(), size)? {
+            count = count.saturating_add(1);
+        }
+    }
+    Ok(count)
+}
+
+#[test]
+fn a_conversion_is_fitted_to_its_buffer(rt: HostRuntime) {
+    let plain = "{a: [\"b\", ()], N: {}, (c,): {d, e}}";
+    let pretty =
+        "{\n    a: [\n        \"b\",\n        (),\n    ],\n    N: {},\n    (\n        c,\n    ): {\n        d,\n        e,\n    },\n}";
+    let rows = [
+        (Mode::Plain, plain, pretty),
+        (Mode::Pretty, pretty, plain),
+        (Mode::Plain, NODE_PLAIN, NODE_PRETTY),
+        (Mode::Pretty, NODE_PRETTY, NODE_PLAIN),
+    ];
+    for (mode, text, other) in rows {
+        let sizes = fitted(rt.alloc(), mode, text, other);
+        holds(&rt, sizes == Ok(other.len().saturating_add(2)), text);
+    }
+}
+
+// Whether the conversion to a buffer with room enough says that this is no text.
+fn is_no_text(mode: Mode, text: &[u8]) -> bool {
+    let mut bytes = [0u8; 64];
+    let mut cursor = Cursor::new(&mut bytes);
+    match converted_to(mode, &mut cursor, text) {
+        Err(Refusal::NotText) => true,
+        Ok(()) | Err(Refusal::Refused(_)) => false,
+    }
+}
+
+#[test]
+fn what_is_no_text_is_told_from_a_full_buffer(rt: HostRuntime) {
+    for text in ["", "[a", "[a, b", "[a,b]", "S { a }", "{a: b, c}"] {
+        holds(&rt, is_no_text(Mode::Plain, text.as_bytes()), text);
+    }
+    for text in ["", "[a]", "[\n    a\n]", "[\n    a,\n] "] {
+        holds(&rt, is_no_text(Mode::Pretty, text.as_bytes()), text);
+    }
+}
