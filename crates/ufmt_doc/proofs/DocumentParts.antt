@@ -1,22 +1,19 @@
 -- Where documents, pairs and fields begin, in terms of what their entries are read as.
-use Rattle.std.proofs.Common.{◌≡◌, refl, ap, ◌∙◌, sym, ℕ, zero, suc, ◌-◌, ◌<◌, ◌≤◌, ◌==◌, ◌||◌, Bool, cond, ◌⊎◌, inl, inr, true, false, List, [], ◌∷◌, ◌++◌, length, length-append, eqb-true, Option, Some, None, option_map, option_and_then, codes, arith}
-use Rattle.std.proofs.lemmas.Bool.Decides.{nat_tests}
+use Rattle.std.proofs.Common.{◌≡◌, refl, ap, ◌∙◌, sym, ℕ, zero, suc, ◌<◌, ◌≤◌, ◌==◌, ◌||◌, Bool, cond, ◌⊎◌, inl, inr, true, false, List, [], ◌∷◌, length, length-append, eqb-true, Option, Some, None, option_map, option_and_then, codes, arith}
 use Rattle.ufmt.specs.Document.{Document, leaf, list_of, set_of, map_of, struct_of, tuple_of, documents, pairs_of, fields_of}
 use Rattle.ufmt_core.specs.declared.layout.Setting.{Setting}
 use Rattle.ufmt_core.specs.declared.layout.Kind.TheVariants.{Brackets, Braces, Struct, Tuple, Unnamed}
 use Rattle.ufmt_core.specs.declared.layout.Count.TheVariants.{Zero}
-use Rattle.ufmt.specs.Layout.{Frame, frame, brace_space, tuple_kind, inside, lead, new_line}
+use Rattle.ufmt.specs.Layout.{frame, tuple_kind, inside, lead}
 use Rattle.ufmt.specs.Token.{AreWordBytes, IsWord}
-use Rattle.ufmt.specs.Reading.{Parse, parse_map, strip, word_of, after_word, if_word, read_symbol, read_word, read_value, read_pair, read_list, read_braces, read_map_or_set, read_named, read_tuple, read_without_name, read_with, read}
-use Rattle.ufmt.proofs.Parsing.{led_from, beside_from, mapped_from, same_parts}
+use Rattle.ufmt.specs.Reading.{Parse, parse_map, strip, word_of, after_word, read_symbol, read_word, read_value, read_pair, read_list, read_braces, read_map_or_set, read_named, read_tuple, read_without_name, read_with, read}
+use Rattle.ufmt.proofs.Parsing.{led_from, beside_from}
 use Rattle.ufmt.proofs.ReadingTurns.{Takes, read_word_takes, strip_within}
 use Rattle.ufmt.proofs.TokenLeaves.{leaf_begins, read_symbol_sound, symbol_leaf}
 use Rattle.ufmt.proofs.ReadingWords.{word_of_bytes}
 use Rattle.ufmt_doc.specs.Private.Entries.{read_on}
-use Rattle.ufmt_doc.specs.declared.reader.level.Level.{Level}
-use Rattle.ufmt_doc.specs.Private.Level.{entry_at, entry_of, setting_at}
-use Rattle.ufmt_doc.specs.Private.Steps.{before_colon}
-use Rattle.ufmt_doc.specs.Private.FrontWords.{may_open, read_entry_word, read_key}
+use Rattle.ufmt_doc.specs.Private.Level.{entry_at}
+use Rattle.ufmt_doc.specs.Private.FrontWords.{before_colon}
 use Rattle.ufmt_doc.proofs.EntrySteps.{first_is_read_on}
 
 -- a named tuple behind what stands before its first field
@@ -125,32 +122,6 @@ pub set_begins : (s : Setting) (p : Parse Document) (d : Document) (t : List ℕ
     → read_map_or_set s p d t ≡ read_on p (frame s.mode Braces) s (λ ds. set_of (documents ds)) [] (Some (d, t))
 set_begins s p d t colon = rw colon (first_is_read_on p (frame s.mode Braces) s (λ ds. set_of (documents ds)) (Some (d, t)))
 
--- a map whose first key was read with its colon
-pub map_begins_with : (s : Setting) (p : Parse Document) (key : Document) (t u : List ℕ) → before_colon p t ≡ Some (key, u)
-    → option_and_then (λ x. read_map_or_set s p x.0 x.1) (p t)
-    ≡ read_on (read_pair p p) (frame s.mode Braces) s (λ ps. map_of (pairs_of ps)) [] (parse_map (λ value. (key, value)) (p u))
-map_begins_with s p key t u h =
-    let read = colon_follows p t key u h in
-    rw read.1 (map_begins s p key read.0 u read.2)
-
--- a pair of a map is a key, and then a value
-pub pair_is : (p : Parse Document) (f : Frame) (s : Setting) (make : List (Document × Document) → Document)
-    (xs : List (Document × Document)) (t : List ℕ)
-    → read_on (read_pair p p) f s make xs (read_pair p p t) ≡ option_and_then (λ x. read_on (read_pair p p) f s make xs (read_value p x.0 x.1)) (p t)
-pair_is p f s make xs t = by_key (p t)
-  where
-    by_key : (o : Option (Document × List ℕ))
-        → read_on (read_pair p p) f s make xs (option_and_then (λ x. read_value p x.0 x.1) o)
-        ≡ option_and_then (λ x. read_on (read_pair p p) f s make xs (read_value p x.0 x.1)) o
-    by_key None = refl
-    by_key (Some x) = refl
-
--- a pair or a field whose key or name was read with its colon is that, and then a value
-pub value_is : {A : Type 0} (q : Parse A) (p : Parse Document) (f : Frame) (s : Setting) (make : List (A × Document) → Document)
-    (xs : List (A × Document)) (key : A) (t u : List ℕ) → before_colon q t ≡ Some (key, u)
-    → read_on (read_pair q p) f s make xs (read_pair q p t) ≡ read_on (read_pair q p) f s make xs (parse_map (λ value. (key, value)) (p u))
-value_is q p f s make xs key t u h = ap (λ o. read_on (read_pair q p) f s make xs o) (pair_from q p t key u h)
-
 -- a document is read in terms of what reads its entries
 read_is : (s : Setting) (n : ℕ) (t : List ℕ) → read s n t ≡ read_with s (entry_at s n) t
 unfolding read
@@ -190,83 +161,9 @@ word_is_read t (c ∷ w) u word rest some = rw (← word, ← rest) refl
 pub word_within : (t w u : List ℕ) → w ≡ word_of t → u ≡ after_word t → (length w == 0) ≡ false → suc (length u) ≤ length t
 word_within t w u word rest some = let shorter = read_word_takes.takes t w u (word_is_read t w u word rest some) in omega (arith, shorter)
 
--- where neither an opening parenthesis nor a space stands, nothing is stripped that begins with one
-opens_nothing : (c : ℕ) (text t : List ℕ) → (c == 40) ≡ true ⊎ (c == 32) ≡ true → may_open t ≡ false → strip (c ∷ text) t ≡ None
-opens_nothing c text [] which none = refl
-opens_nothing c text (b ∷ t) which none = rw (differs which) refl
-  where
-    differs : (c == 40) ≡ true ⊎ (c == 32) ≡ true → (c == b) ≡ false
-    differs (inl is) = grind (arith, nat_tests)
-    differs (inr is) = grind (arith, nat_tests)
-
--- a word that nothing of the kind follows is a leaf
-word_alone : (s : Setting) (p : Parse Document) (w u : List ℕ) → (length w == 0) ≡ false → may_open u ≡ false → read_named s p w u ≡ Some (leaf w, u)
-word_alone s p [] u some none = absurd (cc)
-word_alone s p (c ∷ w) u some none = rw (
-  opens_nothing 40 (new_line (inside s).mode (inside s).depth) u (inl refl) none,
-  opens_nothing 32 (123 ∷ (brace_space s.mode ++ new_line (inside s).mode (inside s).depth)) u (inr refl) none,
-) refl
-
--- so it is an entry of a block, where any may lie in it
-word_is_entry : (level : Level) (t w u : List ℕ) → level.depth < 255 → w ≡ word_of t → u ≡ after_word t → (length w == 0) ≡ false
-    → may_open u ≡ false → entry_of level t ≡ Some (leaf w, u)
-word_is_entry level t w u few word rest some none =
-    let left : 255 - level.depth ≡ suc (254 - level.depth) = omega (arith, few) in
-    let s = inside (setting_at level) in
-    ap (λ n. entry_at (setting_at level) n t) left
-    ∙ reads_named s (254 - level.depth) t w u word rest some
-    ∙ word_alone s (entry_at s (254 - level.depth)) w u some none
-
--- a word that was read is that in front, and isn't empty
-word_parts : (x v w u : List ℕ) → if_word x v ≡ Some (w, u) → (w ≡ x) × (u ≡ v) × ((length w == 0) ≡ false)
-word_parts [] v w u h = absurd (cc)
-word_parts (c ∷ x) v w u h =
-    let parts = same_parts {A = List ℕ} {B = List ℕ} (c ∷ x, v) (w, u) h in
-    let some : (length (c ∷ x) == 0) ≡ false = grind (arith, nat_tests) in
-    (sym parts.0, sym parts.1, ap (λ y. length y == 0) (sym parts.0) ∙ some)
-
--- a word that is an entry is one as the definition of reading has it
-pub entry_word_is : (level : Level) (t w u : List ℕ) → level.depth < 256 → read_entry_word level.depth t ≡ Some (w, u) → (AreWordBytes w)
-    × (entry_of level t ≡ Some (leaf w, u))
-entry_word_is level t w u bound h = by_tests (level.depth == 255) (may_open (after_word t)) refl refl h
-  where
-    by_tests : (last opens : Bool) → (level.depth == 255) ≡ last → may_open (after_word t) ≡ opens
-        → cond (last || opens) None (read_word t) ≡ Some (w, u) → (AreWordBytes w) × (entry_of level t ≡ Some (leaf w, u))
-    by_tests true opens last none found = absurd (cc)
-    by_tests false true last none found = absurd (cc)
-    by_tests false false last none found =
-        let parts = word_parts (word_of t) (after_word t) w u found in
-        let few : level.depth < 255 = grind (arith, nat_tests) in
-        (front_is_bytes t w parts.0, word_is_entry level t w u few parts.0 parts.1 parts.2 (ap may_open parts.1 ∙ none))
-
--- so is a key that is such a word
-pub key_is : (level : Level) (t : List ℕ) (d : Document) (u : List ℕ) → level.depth < 256 → read_key level.depth t ≡ Some (d, u)
-    → before_colon (entry_of level) t ≡ Some (d, u)
-key_is level t d u bound h =
-    let colon = colon_follows (λ v. parse_map leaf (read_entry_word level.depth v)) t d u h in
-    let word = mapped_from leaf (read_entry_word level.depth t) d colon.0 colon.1 in
-    let entry = (entry_word_is level t word.0 colon.0 bound word.1).1 ∙ ap (λ e. Some (e, colon.0)) word.2 in
-    rw (entry, colon.2) refl
-
 -- nothing is read where a test holds, or nothing stands there
 tested : (last opens : Bool) (o : Option (List ℕ × List ℕ)) → (opens ≡ true) ⊎ (o ≡ None) → None ≡ cond (last || opens) None o
 tested true opens o none = refl
 tested false true o none = refl
 tested false false o (inl opens) = absurd (cc)
 tested false false o (inr none) = sym none
-
--- where no word stands in front, none is an entry
-pub no_entry_word : (depth : ℕ) (t w : List ℕ) → w ≡ word_of t → (length w == 0) ≡ true → None ≡ read_entry_word depth t
-no_entry_word depth t [] word empty = tested (depth == 255) (may_open (after_word t)) (read_word t) (inr (ap (λ x. if_word x (after_word t)) (sym word)))
-no_entry_word depth t (c ∷ w) word empty = let none = eqb-true (length (c ∷ w)) 0 empty in absurd (omega arith)
-
--- nor where a block may open behind it
-pub no_entry_name : (depth : ℕ) (t u : List ℕ) → u ≡ after_word t → may_open u ≡ true → None ≡ read_entry_word depth t
-no_entry_name depth t u rest opens = tested (depth == 255) (may_open (after_word t)) (read_word t) (inl (ap may_open (sym rest) ∙ opens))
-
--- and else it is, where any may lie in the block
-pub entry_word_stands : (depth : ℕ) (t w u : List ℕ) → (depth == 255) ≡ false → w ≡ word_of t → u ≡ after_word t → (length w == 0) ≡ false
-    → may_open u ≡ false → Some (w, u) ≡ read_entry_word depth t
-entry_word_stands depth t w u last word rest some none =
-    let shut : may_open (after_word t) ≡ false = ap may_open (sym rest) ∙ none in
-    sym (word_is_read t w u word rest some) ∙ rw (last, shut) refl

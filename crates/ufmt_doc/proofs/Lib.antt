@@ -2,10 +2,11 @@ pub mod Conversions
 pub mod Docs
 pub mod DocumentParts
 pub mod EntrySteps
-pub mod Given
+pub mod GrowingDocuments
 pub mod Lines
 pub mod NormalDocs
 pub mod Normals
+pub mod OpenBlocks
 pub mod QuotedCharacter
 pub mod QuotedLeaves
 pub mod Same

@@ -12,7 +12,7 @@ use Rattle.ufmt_doc.specs.declared.scan.stage.Stage.TheVariants as stages
 use Rattle.ufmt_doc.specs.Private.Level.{entry_of}
 use Rattle.ufmt_doc.specs.Private.Scanning.{coming, coming_in, entry_told, prefixed, told_field}
 use Rattle.ufmt_doc.specs.Private.Stack.{document_at, level_at}
-use Rattle.ufmt_doc.specs.Private.Steps.{read_label}
+use Rattle.ufmt_doc.specs.Private.FrontWords.{read_label}
 use Rattle.ufmt_doc.specs.Scan.{told}
 use Rattle.ufmt_doc.proofs.DocumentParts.{pair_from, pair_without}
 use Rattle.ufmt_doc.proofs.Scans.{coming_in_last}

@@ -8,14 +8,6 @@ use Rattle.ufmt_doc.specs.declared.reader.error.ReadError.TheVariants.{NotText}
 abbrev pub AnswersAs : {A B : Type 0} → (A → B) → Result A ReadError → Option B → Type 0
 AnswersAs f answer there = MatchResult answer (λ a. there ≡ Some (f a)) (λ e. e ≡ NotText → there ≡ None)
 
--- the same of a value and what follows it
-abbrev pub ReadsAs : {A B : Type 0} → (A → B) → Result (A × Bor (List ℕ)) ReadError → Option (B × List ℕ) → Type 0
-ReadsAs f answer there = AnswersAs (λ x. (f x.0, x.1.now)) answer there
-
--- the same of what follows alone
-abbrev pub StripsAs : Result (Bor (List ℕ)) ReadError → Option (List ℕ) → Type 0
-StripsAs answer there = AnswersAs (λ rest. rest.now) answer there
-
 -- what follows, where something does
 abbrev pub now_of : Option (Bor (List ℕ)) → Option (List ℕ)
 now_of rest = option_map (λ r. r.now) rest

@@ -1,15 +1,11 @@
 //! Leaves: words, `()`, and what stands in quotes.
-ghost use Rattle.std.specs.Prelude.{◌≡◌, ◌≤◌, ◌↔◌, IsTrue, MatchResult, length, option_map, string_bytes};
-ghost use Rattle.ufmt.specs.Token.{is_word_byte, AreWordBytes, IsSymbol, IsTokenLeaf, IsWord};
+ghost use Rattle.std.specs.Prelude.{◌≡◌, ◌≤◌, ◌↔◌, IsTrue, length, option_map};
+ghost use Rattle.ufmt.specs.Token.{is_word_byte, IsSymbol, IsTokenLeaf, IsWord};
 ghost use Rattle.ufmt.specs.Reading.{after_word, read_symbol, word_of};
 ghost use Rattle.ufmt_doc.specs.Private.FrontWords.{PassesWordBytes};
-ghost use Rattle.ufmt_doc.specs.declared.reader.error.ReadError.TheVariants.{OutOfMemory};
 
-use crate::reader::error::ReadError;
 use crate::reader::level::strip;
 use crate::reader::quoted::{split_character, split_quoted};
-use std::alloc::Global;
-use ufmt::ascii::text_from;
 
 // Of each byte, whether it is an ASCII digit, an ASCII letter, `_` or `-`.
 static WORD_BYTES: [bool; 256] = [
@@ -82,14 +78,6 @@ fn split_word_from(input: &[u8], start: usize) -> (&[u8], &[u8])
         end += 1;
     }
     input.split_at(end)
-}
-
-/// A text of word bytes.
-pub(super) fn word_text(alloc: Global, word: &[u8]) -> Result<String, ReadError>
-    requires { AreWordBytes word.now }
-    ensures { MatchResult result (λ text. string_bytes text ≡ word.now) (λ e. e ≡ OutOfMemory) }
-{
-    Ok(String::from_str(alloc, text_from(word, 0))?)
 }
 
 /// A leaf that is no word at the front of a text, and what follows it. A word is split off by

@@ -5,9 +5,8 @@ ghost use Rattle.ufmt_core.specs.declared.layout.Count.TheVariants.{Zero};
 ghost use Rattle.ufmt.specs.Reading.{strip};
 ghost use Rattle.ufmt_doc.specs.Private.Level.{setting_at};
 ghost use Rattle.ufmt_doc.specs.Private.Entries.{behind_entry};
-ghost use Rattle.ufmt_doc.specs.Private.Read.{ReadsAs, StripsAs, now_of};
+ghost use Rattle.ufmt_doc.specs.Private.Read.{now_of};
 
-use crate::reader::error::ReadError;
 use ufmt::layout::{COLON, Count, Kind, Mode, Setting, UNIT};
 
 /// Where a document stands: the mode that it is laid out in, and how many blocks are open round it.
@@ -40,14 +39,6 @@ pub(crate) fn strip_colon(input: &[u8]) -> Option<&[u8]>
     ensures { now_of result ≡ strip (codes ": ") input.now }
 {
     strip_piece(COLON, input)
-}
-
-/// What follows that colon, with which the input is to begin.
-#[inline(always)]
-pub(crate) fn expect_colon(input: &[u8]) -> Result<&[u8], ReadError>
-    ensures { StripsAs result (strip (codes ": ") input.now) }
-{
-    strip_colon(input).ok_or(ReadError::NotText)
 }
 
 // What follows a piece, which may be empty.
@@ -94,6 +85,7 @@ fn strip_line_start(line: Setting, input: &[u8]) -> Option<&[u8]>
 }
 
 // What follows so many units.
+#[inline(always)]
 fn strip_indentation(units: u8, input: &[u8]) -> Option<&[u8]>
     ensures { now_of result ≡ strip (indentation units) input.now }
 {
@@ -184,6 +176,7 @@ impl Level {
     }
 
     // What follows the end of a block with so many entries.
+    #[inline(always)]
     fn strip_ending(self, kind: Kind, count: Count, input: &[u8]) -> Option<&[u8]>
         ensures { now_of result
             ≡ strip (ending (frame self.mode kind) (setting_at self) count) input.now }
@@ -196,10 +189,10 @@ impl Level {
         }
     }
 
-    // What follows an entry of a block behind so many others: true, and where the next entry begins,
-    // or false, and what follows the block's end. Each mode has an arm, in which its pieces are
-    // constants.
+    /// What follows an entry of a block behind so many others: true, and where the next entry begins,
+    /// or false, and what follows the block's end.
     #[inline(always)]
+    #[tactic(auto, unfolding(crate::specs::Private::Entries::behind_entry))]
     pub(crate) fn behind_entry(
         self,
         kind: Kind,
@@ -209,49 +202,10 @@ impl Level {
         ensures { option_map (λ x. (x.0, x.1.now)) result
             ≡ behind_entry (frame self.mode kind) (setting_at self) before input.now }
     {
-        match self.mode {
-            Mode::Plain => self.at(Mode::Plain).strip_behind(kind, before, input),
-            Mode::Pretty => self.at(Mode::Pretty).strip_behind(kind, before, input),
-        }
-    }
-
-    // As many blocks are open, in this mode.
-    #[inline(always)]
-    fn at(self, mode: Mode) -> Level
-        ensures mode { result.mode ≡ mode }
-        ensures depth { result.depth ≡ self.depth }
-    {
-        Level {
-            mode,
-            depth: self.depth,
-        }
-    }
-
-    #[inline(always)]
-    #[tactic(auto, unfolding(crate::specs::Private::Entries::behind_entry))]
-    fn strip_behind(self, kind: Kind, before: Count, input: &[u8]) -> Option<(bool, &[u8])>
-        ensures { option_map (λ x. (x.0, x.1.now)) result
-            ≡ behind_entry (frame self.mode kind) (setting_at self) before input.now }
-    {
         let rest = self.strip_trail(input)?;
         match self.strip_separator(rest) {
             Some(start) => Some((true, start)),
             None => Some((false, self.strip_ending(kind, before.next(), rest)?)),
         }
-    }
-
-    /// The same where one of them is to stand there.
-    #[inline(always)]
-    pub(crate) fn pass_entry(
-        self,
-        kind: Kind,
-        before: Count,
-        input: &[u8],
-    ) -> Result<(bool, &[u8]), ReadError>
-        ensures { ReadsAs (λ goes_on. goes_on) result
-            (behind_entry (frame self.mode kind) (setting_at self) before input.now) }
-    {
-        self.behind_entry(kind, before, input)
-            .ok_or(ReadError::NotText)
     }
 }

@@ -15,21 +15,24 @@ use ufmt::layout::{Count, Kind};
 
 /// A leaf, an empty block, or what opens a block: the part, its text, and what follows.
 #[inline(always)]
-pub(super) fn begin<'a>(level: Level, input: &'a [u8]) -> Option<(Part, &'a str, &'a [u8])>
+pub(super) fn begin<'a, S, const PRETTY: bool>(
+    level: Level,
+    input: &'a [u8],
+) -> Option<(Part, &'a str, &'a [u8])>
     ensures { Begins level (length input.now) result
         (parse_map told (read (setting_at level) (budget_of level) input.now)) }
 {
     let (word, rest) = split_word(input);
     if word.is_empty() {
-        begin_without_name(level, input)
+        begin_without_name::<S, PRETTY>(level, input)
     } else {
-        begin_named(level, word, rest)
+        begin_named::<S, PRETTY>(level, word, rest)
     }
 }
 
 // What begins with this word, behind the word.
 #[inline(always)]
-fn begin_named<'a>(
+fn begin_named<'a, S, const PRETTY: bool>(
     level: Level,
     word: &'a [u8],
     input: &'a [u8],
@@ -50,14 +53,17 @@ fn begin_named<'a>(
 
 // What begins with no word.
 #[inline(always)]
-fn begin_without_name(level: Level, input: &[u8]) -> Option<(Part, &str, &[u8])>
+fn begin_without_name<S, const PRETTY: bool>(
+    level: Level,
+    input: &[u8],
+) -> Option<(Part, &str, &[u8])>
     ensures { Begins level (length input.now) result
         (parse_map told (read_without_name (setting_at level) (entry_of level) input.now)) }
 {
     if let Some(rest) = level.strip_opening(Kind::Brackets, input) {
-        begin_list(level, rest)
+        begin_list::<S, PRETTY>(level, rest)
     } else if let Some(rest) = level.strip_opening(Kind::Braces, input) {
-        begin_braces(level, rest)
+        begin_braces::<S, PRETTY>(level, rest)
     } else if let Some((text, rest)) = split_symbol(input) {
         Some((Part::Leaf, text, rest))
     } else {
@@ -68,7 +74,10 @@ fn begin_without_name(level: Level, input: &[u8]) -> Option<(Part, &str, &[u8])>
 
 // A list behind its opening.
 #[inline(always)]
-fn begin_list(level: Level, input: &[u8]) -> Option<(Part, &'static str, &[u8])>
+fn begin_list<S, const PRETTY: bool>(
+    level: Level,
+    input: &[u8],
+) -> Option<(Part, &'static str, &[u8])>
     ensures { Begins level (suc (length input.now)) result
         (parse_map told (read_list (setting_at level) (entry_of level) input.now)) }
 {
@@ -82,7 +91,10 @@ fn begin_list(level: Level, input: &[u8]) -> Option<(Part, &'static str, &[u8])>
 
 // A set or a map behind its opening.
 #[inline(always)]
-fn begin_braces(level: Level, input: &[u8]) -> Option<(Part, &'static str, &[u8])>
+fn begin_braces<S, const PRETTY: bool>(
+    level: Level,
+    input: &[u8],
+) -> Option<(Part, &'static str, &[u8])>
     ensures { Begins level (suc (length input.now)) result
         (parse_map told (read_braces (setting_at level) (entry_of level) input.now)) }
 {

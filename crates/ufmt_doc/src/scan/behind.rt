@@ -12,27 +12,31 @@ use ufmt::layout::{Count, Kind};
 
 /// The part that follows what stands in a block at this stage, the stage behind it, and the rest.
 #[inline(always)]
-pub(super) fn behind(level: Level, stage: Stage, input: &[u8]) -> Option<(Part, Stage, &[u8])>
+pub(super) fn behind<S, const PRETTY: bool>(
+    level: Level,
+    stage: Stage,
+    input: &[u8],
+) -> Option<(Part, Stage, &[u8])>
     ensures { Follows level (length input.now) result (stage_told level stage (Some ([], input.now))) }
 {
     match stage {
-        Stage::Entry(kind, before) => behind_entry(level, kind, before, input),
+        Stage::Entry(kind, before) => behind_entry::<S, PRETTY>(level, kind, before, input),
         Stage::Braces => match strip_colon(input) {
             Some(rest) => Some((Part::Colon, Stage::Value(Count::Zero), rest)),
-            None => behind_entry(level, Kind::Braces, Count::Zero, input),
+            None => behind_entry::<S, PRETTY>(level, Kind::Braces, Count::Zero, input),
         },
         Stage::Key => {
             let rest = strip_colon(input)?;
             Some((Part::Colon, Stage::Value(Count::Several), rest))
         }
-        Stage::Value(before) => behind_value(level, before, input),
-        Stage::Field(before) => behind_field(level, before, input),
+        Stage::Value(before) => behind_value::<S, PRETTY>(level, before, input),
+        Stage::Field(before) => behind_field::<S, PRETTY>(level, before, input),
     }
 }
 
 // Behind an entry of a list, a set or a tuple.
 #[inline(always)]
-fn behind_entry(
+fn behind_entry<S, const PRETTY: bool>(
     level: Level,
     kind: Kind,
     before: Count,
@@ -51,7 +55,11 @@ fn behind_entry(
 
 // Behind the value of a pair.
 #[inline(always)]
-fn behind_value(level: Level, before: Count, input: &[u8]) -> Option<(Part, Stage, &[u8])>
+fn behind_value<S, const PRETTY: bool>(
+    level: Level,
+    before: Count,
+    input: &[u8],
+) -> Option<(Part, Stage, &[u8])>
     ensures { Follows level (length input.now) result
         (tell_block (pair_told level) level Braces before (Some ([], input.now))) }
 {
@@ -65,7 +73,11 @@ fn behind_value(level: Level, before: Count, input: &[u8]) -> Option<(Part, Stag
 
 // Behind the value of a field.
 #[inline(always)]
-fn behind_field(level: Level, before: Count, input: &[u8]) -> Option<(Part, Stage, &[u8])>
+fn behind_field<S, const PRETTY: bool>(
+    level: Level,
+    before: Count,
+    input: &[u8],
+) -> Option<(Part, Stage, &[u8])>
     ensures { Follows level (length input.now) result
         (stage_told level (Stage.Field before) (Some ([], input.now))) }
 {

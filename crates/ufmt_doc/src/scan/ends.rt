@@ -12,7 +12,7 @@ use ufmt::layout::Mode;
 impl Stages {
     /// Tells what follows an entry of the innermost block, and ends each block that ends there.
     /// Whether the outermost ended too, and what follows.
-    pub(super) fn end_entries<'a, S: Sink>(
+    pub(super) fn end_entries<'a, S: Sink, const PRETTY: bool>(
         &mut self,
         mode: Mode,
         sink: &mut S,
@@ -29,7 +29,8 @@ impl Stages {
                 mode,
                 depth: last as u8,
             };
-            let Some((part, stage, after)) = behind(level, self.items[last], rest) else {
+            let Some((part, stage, after)) = behind::<S, PRETTY>(level, self.items[last], rest)
+            else {
                 return Err(Refusal::NotText);
             };
             rest = after;

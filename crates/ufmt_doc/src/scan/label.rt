@@ -1,7 +1,7 @@
 //! The names of fields.
 ghost use Rattle.std.specs.Prelude.{◌≡◌, ◌≤◌, IfOk, length, option_map};
 ghost use Rattle.ufmt_doc.specs.Private.Scanning.{ScansOn, beginning_told, coming_in, open_stages, stages_told};
-ghost use Rattle.ufmt_doc.specs.Private.Steps.{read_label};
+ghost use Rattle.ufmt_doc.specs.Private.FrontWords.{read_label};
 
 use super::part::{Part, Sink};
 use super::refusal::Refusal;
@@ -14,7 +14,7 @@ use ufmt::layout::Mode;
 
 /// A field's name, and what follows the colon behind it.
 #[inline(always)]
-fn label(input: &[u8]) -> Option<(&str, &[u8])>
+fn label<S, const PRETTY: bool>(input: &[u8]) -> Option<(&str, &[u8])>
     ensures { option_map (λ x. (x.0.now, x.1.now)) result ≡ read_label input.now }
 {
     let (word, rest) = split_word(input);
@@ -27,7 +27,7 @@ fn label(input: &[u8]) -> Option<(&str, &[u8])>
 
 impl Stages {
     /// Tells the name of the field that comes, where the innermost block is a struct.
-    pub(super) fn tell_label<'a, S: Sink>(
+    pub(super) fn tell_label<'a, S: Sink, const PRETTY: bool>(
         &self,
         mode: Mode,
         sink: &mut S,
@@ -45,7 +45,7 @@ impl Stages {
         let Stage::Field(_) = self.items[last] else {
             return Ok(input);
         };
-        let Some((name, rest)) = label(input) else {
+        let Some((name, rest)) = label::<S, PRETTY>(input) else {
             return Err(Refusal::NotText);
         };
         if let Err(e) = sink.hear(Part::Label, name) {

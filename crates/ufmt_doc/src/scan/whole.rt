@@ -14,14 +14,29 @@ use ufmt::layout::Mode;
 pub fn scan<S: Sink>(mode: Mode, input: &[u8], sink: &mut S) -> Result<(), Refusal<S::Error>>
     ensures { Scans S.took S.stopped result sink.old sink.new (read_text mode input.now) }
 {
+    match mode {
+        Mode::Plain => scan_at::<S, false>(Mode::Plain, input, sink),
+        Mode::Pretty => scan_at::<S, true>(Mode::Pretty, input, sink),
+    }
+}
+
+// The same, in code of its own for each sink and mode, as are the calls below it: what stands round
+// entries is a constant there.
+fn scan_at<S: Sink, const PRETTY: bool>(
+    mode: Mode,
+    input: &[u8],
+    sink: &mut S,
+) -> Result<(), Refusal<S::Error>>
+    ensures { Scans S.took S.stopped result sink.old sink.new (read_text mode input.now) }
+{
     let mut stages = Stages::new();
     let mut rest = input;
     'documents: while let Some(depth) = stages.entry_depth() {
-        rest = match stages.tell_label(mode, sink, rest) {
+        rest = match stages.tell_label::<S, PRETTY>(mode, sink, rest) {
             Ok(after) => after,
             Err(refusal) => return Err(refusal),
         };
-        let Some((part, text, after)) = begin(Level { mode, depth }, rest) else {
+        let Some((part, text, after)) = begin::<S, PRETTY>(Level { mode, depth }, rest) else {
             return Err(Refusal::NotText);
         };
         rest = after;
@@ -32,7 +47,7 @@ pub fn scan<S: Sink>(mode: Mode, input: &[u8], sink: &mut S) -> Result<(), Refus
             stages.push(stage);
             continue 'documents;
         }
-        let (ended, after) = match stages.end_entries(mode, sink, rest) {
+        let (ended, after) = match stages.end_entries::<S, PRETTY>(mode, sink, rest) {
             Ok(answer) => answer,
             Err(refusal) => return Err(refusal),
         };

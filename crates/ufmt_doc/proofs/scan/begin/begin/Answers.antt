@@ -13,17 +13,17 @@ begins_longer level m n None there longer h = h
 begins_longer level m n (Some x) there longer h = (h.0, let less = h.1 in omega (arith, less))
 
 pub begin_named-requires : goal.begin_named-requires
-begin_named-requires c =
+begin_named-requires g c =
     front_is_word c.args.input.now c.split_word.result.0.now c.split_word.ensures.word (sym c.is_empty.ensures ∙ c.if-is_empty.false)
 
 pub returns-then-is_empty : goal.returns-then-is_empty
-returns-then-is_empty c =
+returns-then-is_empty g c =
     rw (reads_without_name (setting_at c.args.level)
     (budget_of c.args.level) c.args.input.now c.split_word.result.0.now c.split_word.ensures.word
     (sym c.is_empty.ensures ∙ c.if-is_empty.true)) c.begin_without_name.ensures
 
 pub returns-else-is_empty : goal.returns-else-is_empty
-returns-else-is_empty c =
+returns-else-is_empty g c =
     let some = sym c.is_empty.ensures ∙ c.if-is_empty.false in
     begins_longer c.args.level _ _ c.begin_named.result _
     (word_within c.args.input.now c.split_word.result.0.now c.split_word.result.1.now c.split_word.ensures.word c.split_word.ensures.rest some)

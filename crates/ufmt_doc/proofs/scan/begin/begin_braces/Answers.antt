@@ -8,7 +8,7 @@ use Rattle.ufmt_doc.proofs.TellingParts.{braces_tell}
 use Rattle.ufmt_doc.proofs.scan.begin.begin_braces.Goals as goal
 
 pub returns-in_ok-rest : goal.returns-in_ok-rest
-returns-in_ok-rest c =
+returns-in_ok-rest g c =
     let level = c.args.level in
     let rest = c.in_ok-rest.rest.now in
     let within : length rest ≤ length c.args.input.now = strip_within (lead (frame level.mode Braces) (inside (setting_at level)) Zero) c.args.input.now rest (sym c.in_ok-rest.ensures) in

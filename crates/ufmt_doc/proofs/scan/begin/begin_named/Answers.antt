@@ -18,10 +18,10 @@ word_is_ascii [] word = absurd word
 word_is_ascii (c ∷ w) word = word_bytes_are_ascii (c ∷ w) word
 
 pub text_from-name-requires-clause-ascii : goal.text_from-name-requires-clause-ascii
-text_from-name-requires-clause-ascii c = word_is_ascii c.args.word.now c.requires
+text_from-name-requires-clause-ascii g c = word_is_ascii c.args.word.now c.requires
 
 pub returns-in-Some : goal.returns-in-Some
-returns-in-Some c =
+returns-in-Some g c =
     let level = c.args.level in
     let rest = c.in-Some.rest.now in
     let within : length rest ≤ length c.args.input.now = strip_within (lead (frame level.mode Tuple) (inside (setting_at level)) Zero) c.args.input.now rest (sym c.in-Some.ensures) in (
@@ -31,7 +31,7 @@ returns-in-Some c =
     )
 
 pub returns-in-Some-strip_lead : goal.returns-in-Some-strip_lead
-returns-in-Some-strip_lead c =
+returns-in-Some-strip_lead g c =
     let level = c.args.level in
     let rest = c.in-Some-strip_lead.rest.now in
     let within : length rest ≤ length c.args.input.now = strip_within (lead (frame level.mode Struct) (inside (setting_at level)) Zero) c.args.input.now rest (sym c.in-Some-strip_lead.ensures) in (

@@ -9,7 +9,7 @@ use Rattle.ufmt_doc.proofs.TellingParts.{unnamed_tells}
 use Rattle.ufmt_doc.proofs.scan.begin.begin_without_name.Goals as goal
 
 pub returns-in_ok-rest : goal.returns-in_ok-rest
-returns-in_ok-rest c =
+returns-in_ok-rest g c =
     let level = c.args.level in
     let rest = c.in_ok-rest.rest.now in
     let lead = sym c.in_ok-rest.ensures in (
@@ -18,7 +18,7 @@ returns-in_ok-rest c =
     )
 
 pub returns-in-Some-split_symbol : goal.returns-in-Some-split_symbol
-returns-in-Some-split_symbol c =
+returns-in-Some-split_symbol g c =
     let text = c.in-Some-split_symbol.text.now in
     let rest = c.in-Some-split_symbol.rest.now in
     let read = symbol_begins (setting_at c.args.level) (entry_of c.args.level) c.args.input.now text rest (sym c.in_default.ensures) (sym c.in_default-strip_opening.ensures) (sym c.in-Some-split_symbol.ensures) in

@@ -8,16 +8,16 @@ use Rattle.ufmt_doc.proofs.TellingParts.{field_told_takes}
 use Rattle.ufmt_doc.proofs.scan.behind.behind_field.Goals as goal
 
 pub returns-in_err-goes_on : goal.returns-in_err-goes_on
-returns-in_err-goes_on c = rw c.from_residual.ensures (refused_tells c.args.level Struct c.args.before c.args.input.now (field_told_takes c.args.level) (sym c.in_err-goes_on.ensures))
+returns-in_err-goes_on g c = rw c.from_residual.ensures (refused_tells c.args.level Struct c.args.before c.args.input.now (field_told_takes c.args.level) (sym c.in_err-goes_on.ensures))
 
 pub returns-then-goes_on : goal.returns-then-goes_on
-returns-then-goes_on c = (
+returns-then-goes_on g c = (
   goes_on_tells c.args.level Struct c.args.before c.args.input.now _ _ (field_told_takes c.args.level) (sym c.in_ok-goes_on.ensures) c.if-goes_on.true,
   behind_within _ _ _ _ _ _ (sym c.in_ok-goes_on.ensures),
 )
 
 pub returns-else-goes_on : goal.returns-else-goes_on
-returns-else-goes_on c = (
+returns-else-goes_on g c = (
   ends_tells c.args.level Struct c.args.before c.args.input.now _ _ (field_told_takes c.args.level) (sym c.in_ok-goes_on.ensures) c.if-goes_on.false
       ∙ ap (λ count. Some (plainly (Close Struct count) ∷ [], c.in_ok-goes_on.rest.now)) (sym c.next.ensures),
   behind_within _ _ _ _ _ _ (sym c.in_ok-goes_on.ensures),
