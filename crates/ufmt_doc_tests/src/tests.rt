@@ -10,6 +10,7 @@ mod pieces;
 mod printed;
 mod quoted;
 mod same_texts;
+mod scanned;
 mod shape;
 mod texts;
 mod to_writers;

@@ -1,9 +1,11 @@
 #![tactic(auto)]
 
-//! Callers of `ufmt_doc`: a line of a log read back, and texts compared.
+//! Callers of `ufmt_doc`: a line of a log read back, or made readable, and texts compared.
 
+mod log_line;
 mod read_back;
 mod snapshot;
 
+pub use log_line::pretty_line;
 pub use read_back::{celsius, field_text};
 pub use snapshot::print_alike;

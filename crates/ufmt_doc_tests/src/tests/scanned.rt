@@ -1,0 +1,150 @@
+//! What a scanner tells a sink of a user's own, part by part, and that it stops where the sink does.
+ghost use Rattle.std.specs.Prelude.{⊤};
+
+use super::same;
+use std::alloc::AllocError;
+use std::test::Fail;
+use ufmt::layout::{Count, Kind, Mode};
+use ufmt_doc::scan::{Part, Refusal, Sink, scan};
+
+// Notes each part as one letter and its text, up to so many.
+#[derive(Drop)]
+struct Notes {
+    text: String,
+    left: usize,
+}
+
+// Why it takes no more.
+#[derive(Drop)]
+enum Stop {
+    Enough,
+    OutOfMemory,
+}
+
+fn of_kind(kind: Kind) -> char {
+    match kind {
+        Kind::Brackets => 'l',
+        Kind::Braces => 'b',
+        Kind::Struct => 's',
+        Kind::Tuple => 't',
+        Kind::Unnamed => 'u',
+    }
+}
+
+fn of_count(count: Count) -> char {
+    match count {
+        Count::Zero => '0',
+        Count::One => '1',
+        Count::Several => '2',
+    }
+}
+
+impl Notes {
+    fn note(&mut self, part: Part, text: &str) -> Result<(), AllocError> {
+        match part {
+            Part::Leaf => self.text.push('=')?,
+            Part::Empty(kind) => {
+                self.text.push('e')?;
+                self.text.push(of_kind(kind))?;
+            }
+            Part::Open(kind) => {
+                self.text.push('o')?;
+                self.text.push(of_kind(kind))?;
+            }
+            Part::Label => self.text.push('.')?,
+            Part::Colon => self.text.push(':')?,
+            Part::Next => self.text.push(',')?,
+            Part::Close(kind, count) => {
+                self.text.push('c')?;
+                self.text.push(of_kind(kind))?;
+                self.text.push(of_count(count))?;
+            }
+        }
+        self.text.push_str(text)?;
+        self.text.push(' ')?;
+        Ok(())
+    }
+}
+
+impl Sink for Notes {
+    type Error = Stop;
+
+    ghost took = { λ _ _ _. ⊤ };
+
+    ghost stopped = { λ _ _ _. ⊤ };
+
+    ghost begun = { λ _. tt };
+
+    fn hear(&mut self, part: Part, text: &str) -> Result<(), Stop> {
+        if self.left == 0 {
+            return Err(Stop::Enough);
+        }
+        self.left -= 1;
+        match self.note(part, text) {
+            Ok(()) => Ok(()),
+            Err(_) => Err(Stop::OutOfMemory),
+        }
+    }
+}
+
+// How the scan ended.
+fn ending(answer: Result<(), Refusal<Stop>>) -> &'static str {
+    match answer {
+        Ok(()) => "whole",
+        Err(Refusal::NotText) => "no text",
+        Err(Refusal::Refused(Stop::Enough)) => "stopped",
+        Err(Refusal::Refused(Stop::OutOfMemory)) => "no memory",
+    }
+}
+
+// The parts of texts, as many as the sink takes.
+#[test]
+fn parts_are_told_in_order(rt: HostRuntime) -> Result<(), Fail> {
+    let rows = [
+        (Mode::Plain, "word", 9, "whole", "=word "),
+        (Mode::Plain, "()", 9, "whole", "=() "),
+        (Mode::Plain, "[]", 9, "whole", "el "),
+        (Mode::Plain, "{}", 9, "whole", "eb "),
+        (Mode::Plain, "[a, \"b\"]", 9, "whole", "ol =a , =\"b\" cl2 "),
+        (Mode::Plain, "{a}", 9, "whole", "ob =a cb1 "),
+        (
+            Mode::Plain,
+            "{a: b, c: []}",
+            9,
+            "whole",
+            "ob =a : =b , =c : el cb2 ",
+        ),
+        (
+            Mode::Plain,
+            "S { x: 1, y: 2 }",
+            9,
+            "whole",
+            "osS .x =1 , .y =2 cs2 ",
+        ),
+        (Mode::Plain, "T(1)", 9, "whole", "otT =1 ct1 "),
+        (Mode::Plain, "(1,)", 9, "whole", "ou =1 cu1 "),
+        (
+            Mode::Pretty,
+            "[\n    a,\n    b,\n]",
+            9,
+            "whole",
+            "ol =a , =b cl2 ",
+        ),
+        (Mode::Plain, "[a, b]", 3, "stopped", "ol =a , "),
+        (Mode::Plain, "[a, b]", 0, "stopped", ""),
+        (Mode::Plain, "S { x: 1 }", 1, "stopped", "osS "),
+        (Mode::Plain, "[a, b", 9, "no text", "ol =a , =b "),
+        (Mode::Plain, "a b", 9, "no text", "=a "),
+        (Mode::Plain, "", 9, "no text", ""),
+    ];
+    for (mode, text, left, wanted, parts) in rows {
+        let mut notes = Notes {
+            text: String::new(rt.alloc()),
+            left,
+        };
+        let ended = ending(scan(mode, text.as_bytes(), &mut notes));
+        same(&rt, ended, wanted, text);
+        same(&rt, notes.text.as_str(), parts, text);
+    }
+    Ok(())
+}

@@ -1,0 +1,49 @@
+//! Lines into a buffer of 256 bytes.
+use super::*;
+use std::process::Abort;
+use std::test::Fail;
+
+const READING: &str = "Reading { channel: 3, celsius: -4 }";
+
+// Its pretty text has 637 bytes.
+const LONG: &str = "[[[[[[[[[[[[1]]]]]]]]]]]]";
+
+// What is answered of a line, and what the buffer has behind it.
+fn same(rt: &impl Abort, line: &str, wanted: Result<&str, &str>) {
+    let mut buffer = [b'#'; 256];
+    let text = match pretty_line(line.as_bytes(), &mut buffer) {
+        Ok(length) => {
+            assert_eq!(rt; Ok(length), wanted.map(str::len), "{line}");
+            wanted
+        }
+        Err(Refusal::NotText) => Err("not text"),
+        Err(Refusal::Refused(Full)) => Err("full"),
+    };
+    assert_eq!(rt; text, wanted, "{line}");
+    if let Ok(text) = wanted {
+        assert!(rt; buffer.starts_with(text.as_bytes()), "{line}");
+        assert!(rt;
+            buffer.iter().skip(text.len()).all(|byte| *byte == b'#'),
+            "{line}"
+        );
+    }
+}
+
+// What is written of a line, with the bytes behind it as they were.
+#[test]
+fn lines_are_made_readable(rt: HostRuntime) -> Result<(), Fail> {
+    let rows = [
+        (
+            READING,
+            Ok("Reading {\n    channel: 3,\n    celsius: -4,\n}"),
+        ),
+        ("()", Ok("()")),
+        ("[[]]", Ok("[\n    [],\n]")),
+        ("Reading { channel: 3", Err("not text")),
+        (LONG, Err("full")),
+    ];
+    for (line, wanted) in rows {
+        same(&rt, line, wanted);
+    }
+    Ok(())
+}
