@@ -2,6 +2,7 @@ pub mod BlocksComplete
 pub mod BlocksSound
 pub mod Cursors
 pub mod FramesClose
+pub mod Fronts
 pub mod HexadecimalTexts
 pub mod Lines
 pub mod ListedDocuments

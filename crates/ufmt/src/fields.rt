@@ -32,86 +32,49 @@ macro_rules! fields {
     ($formatter:expr, $name:ident) => { $crate::Formatter::write_str($formatter, stringify!($name)) };
     ($formatter:expr, $name:ident {} $(,)?) => { $crate::Formatter::struct_0($formatter, stringify!($name)) };
     ($formatter:expr, $name:ident () $(,)?) => { $crate::Formatter::tuple_0($formatter, stringify!($name)) };
-    ($formatter:expr, $name:ident { $a:ident: $av:expr $(,)? } $(,)?) => {
-        $crate::Formatter::struct_1($formatter, stringify!($name), stringify!($a), &$av)
-    };
-    ($formatter:expr, $name:ident { $a:ident: $av:expr, $b:ident: $bv:expr $(,)? } $(,)?) => {
-        $crate::Formatter::struct_2($formatter, stringify!($name), stringify!($a), &$av, stringify!($b), &$bv)
-    };
-    ($formatter:expr, $name:ident { $a:ident: $av:expr, $b:ident: $bv:expr, $c:ident: $cv:expr $(,)? } $(,)?) => {
-        $crate::Formatter::struct_3($formatter, stringify!($name), stringify!($a), &$av, stringify!($b), &$bv, stringify!($c), &$cv)
-    };
-    ($formatter:expr, $name:ident { $a:ident: $av:expr, $b:ident: $bv:expr, $c:ident: $cv:expr, $d:ident: $dv:expr $(,)? } $(,)?) => {
-        $crate::Formatter::struct_4($formatter, stringify!($name), stringify!($a), &$av, stringify!($b), &$bv, stringify!($c), &$cv, stringify!($d), &$dv)
-    };
-    ($formatter:expr, $name:ident { $a:ident: $av:expr, $b:ident: $bv:expr, $c:ident: $cv:expr, $d:ident: $dv:expr, $e:ident: $ev:expr $(,)? } $(,)?) => {
-        $crate::Formatter::struct_5($formatter, stringify!($name), stringify!($a), &$av, stringify!($b), &$bv, stringify!($c), &$cv, stringify!($d), &$dv, stringify!($e), &$ev)
-    };
-    ($formatter:expr, $name:ident { $a:ident: $av:expr, $b:ident: $bv:expr, $c:ident: $cv:expr, $d:ident: $dv:expr, $e:ident: $ev:expr, $f:ident: $fv:expr $(,)? } $(,)?) => {
-        $crate::Formatter::struct_6($formatter, stringify!($name), stringify!($a), &$av, stringify!($b), &$bv, stringify!($c), &$cv, stringify!($d), &$dv, stringify!($e), &$ev, stringify!($f), &$fv)
-    };
-    ($formatter:expr, $name:ident { $a:ident: $av:expr, $b:ident: $bv:expr, $c:ident: $cv:expr, $d:ident: $dv:expr, $e:ident: $ev:expr, $f:ident: $fv:expr, $g:ident: $gv:expr $(,)? } $(,)?) => {
-        $crate::Formatter::struct_7($formatter, stringify!($name), stringify!($a), &$av, stringify!($b), &$bv, stringify!($c), &$cv, stringify!($d), &$dv, stringify!($e), &$ev, stringify!($f), &$fv, stringify!($g), &$gv)
-    };
-    ($formatter:expr, $name:ident { $a:ident: $av:expr, $b:ident: $bv:expr, $c:ident: $cv:expr, $d:ident: $dv:expr, $e:ident: $ev:expr, $f:ident: $fv:expr, $g:ident: $gv:expr, $h:ident: $hv:expr $(,)? } $(,)?) => {
-        $crate::Formatter::struct_8($formatter, stringify!($name), stringify!($a), &$av, stringify!($b), &$bv, stringify!($c), &$cv, stringify!($d), &$dv, stringify!($e), &$ev, stringify!($f), &$fv, stringify!($g), &$gv, stringify!($h), &$hv)
-    };
-    ($formatter:expr, $name:ident { $a:ident: $av:expr, $b:ident: $bv:expr, $c:ident: $cv:expr, $d:ident: $dv:expr, $e:ident: $ev:expr, $f:ident: $fv:expr, $g:ident: $gv:expr, $h:ident: $hv:expr, $i:ident: $iv:expr $(,)? } $(,)?) => {
-        $crate::Formatter::struct_9($formatter, stringify!($name), stringify!($a), &$av, stringify!($b), &$bv, stringify!($c), &$cv, stringify!($d), &$dv, stringify!($e), &$ev, stringify!($f), &$fv, stringify!($g), &$gv, stringify!($h), &$hv, stringify!($i), &$iv)
-    };
-    ($formatter:expr, $name:ident { $a:ident: $av:expr, $b:ident: $bv:expr, $c:ident: $cv:expr, $d:ident: $dv:expr, $e:ident: $ev:expr, $f:ident: $fv:expr, $g:ident: $gv:expr, $h:ident: $hv:expr, $i:ident: $iv:expr, $j:ident: $jv:expr $(,)? } $(,)?) => {
-        $crate::Formatter::struct_10($formatter, stringify!($name), stringify!($a), &$av, stringify!($b), &$bv, stringify!($c), &$cv, stringify!($d), &$dv, stringify!($e), &$ev, stringify!($f), &$fv, stringify!($g), &$gv, stringify!($h), &$hv, stringify!($i), &$iv, stringify!($j), &$jv)
-    };
-    ($formatter:expr, $name:ident { $a:ident: $av:expr, $b:ident: $bv:expr, $c:ident: $cv:expr, $d:ident: $dv:expr, $e:ident: $ev:expr, $f:ident: $fv:expr, $g:ident: $gv:expr, $h:ident: $hv:expr, $i:ident: $iv:expr, $j:ident: $jv:expr, $k:ident: $kv:expr $(,)? } $(,)?) => {
-        $crate::Formatter::struct_11($formatter, stringify!($name), stringify!($a), &$av, stringify!($b), &$bv, stringify!($c), &$cv, stringify!($d), &$dv, stringify!($e), &$ev, stringify!($f), &$fv, stringify!($g), &$gv, stringify!($h), &$hv, stringify!($i), &$iv, stringify!($j), &$jv, stringify!($k), &$kv)
-    };
-    ($formatter:expr, $name:ident { $a:ident: $av:expr, $b:ident: $bv:expr, $c:ident: $cv:expr, $d:ident: $dv:expr, $e:ident: $ev:expr, $f:ident: $fv:expr, $g:ident: $gv:expr, $h:ident: $hv:expr, $i:ident: $iv:expr, $j:ident: $jv:expr, $k:ident: $kv:expr, $l:ident: $lv:expr $(,)? } $(,)?) => {
-        $crate::Formatter::struct_12($formatter, stringify!($name), stringify!($a), &$av, stringify!($b), &$bv, stringify!($c), &$cv, stringify!($d), &$dv, stringify!($e), &$ev, stringify!($f), &$fv, stringify!($g), &$gv, stringify!($h), &$hv, stringify!($i), &$iv, stringify!($j), &$jv, stringify!($k), &$kv, stringify!($l), &$lv)
-    };
-    ($formatter:expr, $name:ident ( $av:expr $(,)? ) $(,)?) => {
-        $crate::Formatter::tuple_1($formatter, stringify!($name), &$av)
-    };
-    ($formatter:expr, $name:ident ( $av:expr, $bv:expr $(,)? ) $(,)?) => {
-        $crate::Formatter::tuple_2($formatter, stringify!($name), &$av, &$bv)
-    };
-    ($formatter:expr, $name:ident ( $av:expr, $bv:expr, $cv:expr $(,)? ) $(,)?) => {
-        $crate::Formatter::tuple_3($formatter, stringify!($name), &$av, &$bv, &$cv)
-    };
-    ($formatter:expr, $name:ident ( $av:expr, $bv:expr, $cv:expr, $dv:expr $(,)? ) $(,)?) => {
-        $crate::Formatter::tuple_4($formatter, stringify!($name), &$av, &$bv, &$cv, &$dv)
-    };
-    ($formatter:expr, $name:ident ( $av:expr, $bv:expr, $cv:expr, $dv:expr, $ev:expr $(,)? ) $(,)?) => {
-        $crate::Formatter::tuple_5($formatter, stringify!($name), &$av, &$bv, &$cv, &$dv, &$ev)
-    };
-    ($formatter:expr, $name:ident ( $av:expr, $bv:expr, $cv:expr, $dv:expr, $ev:expr, $fv:expr $(,)? ) $(,)?) => {
-        $crate::Formatter::tuple_6($formatter, stringify!($name), &$av, &$bv, &$cv, &$dv, &$ev, &$fv)
-    };
-    ($formatter:expr, $name:ident ( $av:expr, $bv:expr, $cv:expr, $dv:expr, $ev:expr, $fv:expr, $gv:expr $(,)? ) $(,)?) => {
-        $crate::Formatter::tuple_7($formatter, stringify!($name), &$av, &$bv, &$cv, &$dv, &$ev, &$fv, &$gv)
-    };
-    ($formatter:expr, $name:ident ( $av:expr, $bv:expr, $cv:expr, $dv:expr, $ev:expr, $fv:expr, $gv:expr, $hv:expr $(,)? ) $(,)?) => {
-        $crate::Formatter::tuple_8($formatter, stringify!($name), &$av, &$bv, &$cv, &$dv, &$ev, &$fv, &$gv, &$hv)
-    };
-    ($formatter:expr, $name:ident ( $av:expr, $bv:expr, $cv:expr, $dv:expr, $ev:expr, $fv:expr, $gv:expr, $hv:expr, $iv:expr $(,)? ) $(,)?) => {
-        $crate::Formatter::tuple_9($formatter, stringify!($name), &$av, &$bv, &$cv, &$dv, &$ev, &$fv, &$gv, &$hv, &$iv)
-    };
-    ($formatter:expr, $name:ident ( $av:expr, $bv:expr, $cv:expr, $dv:expr, $ev:expr, $fv:expr, $gv:expr, $hv:expr, $iv:expr, $jv:expr $(,)? ) $(,)?) => {
-        $crate::Formatter::tuple_10($formatter, stringify!($name), &$av, &$bv, &$cv, &$dv, &$ev, &$fv, &$gv, &$hv, &$iv, &$jv)
-    };
-    ($formatter:expr, $name:ident ( $av:expr, $bv:expr, $cv:expr, $dv:expr, $ev:expr, $fv:expr, $gv:expr, $hv:expr, $iv:expr, $jv:expr, $kv:expr $(,)? ) $(,)?) => {
-        $crate::Formatter::tuple_11($formatter, stringify!($name), &$av, &$bv, &$cv, &$dv, &$ev, &$fv, &$gv, &$hv, &$iv, &$jv, &$kv)
-    };
-    ($formatter:expr, $name:ident ( $av:expr, $bv:expr, $cv:expr, $dv:expr, $ev:expr, $fv:expr, $gv:expr, $hv:expr, $iv:expr, $jv:expr, $kv:expr, $lv:expr $(,)? ) $(,)?) => {
-        $crate::Formatter::tuple_12($formatter, stringify!($name), &$av, &$bv, &$cv, &$dv, &$ev, &$fv, &$gv, &$hv, &$iv, &$jv, &$kv, &$lv)
-    };
     ($formatter:expr, $name:ident { $($field:ident: $value:expr),+ $(,)? } $(,)?) => {
-        $crate::Formatter::struct_of($formatter, stringify!($name), &$crate::field_chain!($($field: $value,)+))
+        $crate::whole_value!(struct [$($field)+] $formatter, stringify!($name), $(stringify!($field), &$value,)+)
     };
     ($formatter:expr, $name:ident ( $($value:expr),+ $(,)? ) $(,)?) => {
-        $crate::Formatter::tuple_of($formatter, stringify!($name), &$crate::value_chain!($($value,)+))
+        $crate::whole_value!(tuple [$(($value))+] $formatter, stringify!($name), $(&$value,)+)
     };
     ($($other:tt)*) => {
         compile_error!("expected a formatter and what it prints: `self, Name { x, y }` or `self, Name(x, y)`, which take the value apart, `Name { x, y }`, `Name { x: e, y: e }`, `Name(e, e)` or `Name`")
+    };
+}
+
+/// The call for a whole struct or tuple with so many fields, and past twelve that for a chain.
+#[macro_export]
+macro_rules! whole_value {
+    (struct [$a:tt] $($arguments:tt)*) => { $crate::Formatter::struct_1($($arguments)*) };
+    (struct [$a:tt $b:tt] $($arguments:tt)*) => { $crate::Formatter::struct_2($($arguments)*) };
+    (struct [$a:tt $b:tt $c:tt] $($arguments:tt)*) => { $crate::Formatter::struct_3($($arguments)*) };
+    (struct [$a:tt $b:tt $c:tt $d:tt] $($arguments:tt)*) => { $crate::Formatter::struct_4($($arguments)*) };
+    (struct [$a:tt $b:tt $c:tt $d:tt $e:tt] $($arguments:tt)*) => { $crate::Formatter::struct_5($($arguments)*) };
+    (struct [$a:tt $b:tt $c:tt $d:tt $e:tt $f:tt] $($arguments:tt)*) => { $crate::Formatter::struct_6($($arguments)*) };
+    (struct [$a:tt $b:tt $c:tt $d:tt $e:tt $f:tt $g:tt] $($arguments:tt)*) => { $crate::Formatter::struct_7($($arguments)*) };
+    (struct [$a:tt $b:tt $c:tt $d:tt $e:tt $f:tt $g:tt $h:tt] $($arguments:tt)*) => { $crate::Formatter::struct_8($($arguments)*) };
+    (struct [$a:tt $b:tt $c:tt $d:tt $e:tt $f:tt $g:tt $h:tt $i:tt] $($arguments:tt)*) => { $crate::Formatter::struct_9($($arguments)*) };
+    (struct [$a:tt $b:tt $c:tt $d:tt $e:tt $f:tt $g:tt $h:tt $i:tt $j:tt] $($arguments:tt)*) => { $crate::Formatter::struct_10($($arguments)*) };
+    (struct [$a:tt $b:tt $c:tt $d:tt $e:tt $f:tt $g:tt $h:tt $i:tt $j:tt $k:tt] $($arguments:tt)*) => { $crate::Formatter::struct_11($($arguments)*) };
+    (struct [$a:tt $b:tt $c:tt $d:tt $e:tt $f:tt $g:tt $h:tt $i:tt $j:tt $k:tt $l:tt] $($arguments:tt)*) => { $crate::Formatter::struct_12($($arguments)*) };
+    (struct [$($more:tt)+] $formatter:expr, $name:expr, $($fields:tt)+) => {
+        $crate::Formatter::struct_of($formatter, $name, &$crate::field_chain!($($fields)+))
+    };
+    (tuple [$a:tt] $($arguments:tt)*) => { $crate::Formatter::tuple_1($($arguments)*) };
+    (tuple [$a:tt $b:tt] $($arguments:tt)*) => { $crate::Formatter::tuple_2($($arguments)*) };
+    (tuple [$a:tt $b:tt $c:tt] $($arguments:tt)*) => { $crate::Formatter::tuple_3($($arguments)*) };
+    (tuple [$a:tt $b:tt $c:tt $d:tt] $($arguments:tt)*) => { $crate::Formatter::tuple_4($($arguments)*) };
+    (tuple [$a:tt $b:tt $c:tt $d:tt $e:tt] $($arguments:tt)*) => { $crate::Formatter::tuple_5($($arguments)*) };
+    (tuple [$a:tt $b:tt $c:tt $d:tt $e:tt $f:tt] $($arguments:tt)*) => { $crate::Formatter::tuple_6($($arguments)*) };
+    (tuple [$a:tt $b:tt $c:tt $d:tt $e:tt $f:tt $g:tt] $($arguments:tt)*) => { $crate::Formatter::tuple_7($($arguments)*) };
+    (tuple [$a:tt $b:tt $c:tt $d:tt $e:tt $f:tt $g:tt $h:tt] $($arguments:tt)*) => { $crate::Formatter::tuple_8($($arguments)*) };
+    (tuple [$a:tt $b:tt $c:tt $d:tt $e:tt $f:tt $g:tt $h:tt $i:tt] $($arguments:tt)*) => { $crate::Formatter::tuple_9($($arguments)*) };
+    (tuple [$a:tt $b:tt $c:tt $d:tt $e:tt $f:tt $g:tt $h:tt $i:tt $j:tt] $($arguments:tt)*) => { $crate::Formatter::tuple_10($($arguments)*) };
+    (tuple [$a:tt $b:tt $c:tt $d:tt $e:tt $f:tt $g:tt $h:tt $i:tt $j:tt $k:tt] $($arguments:tt)*) => { $crate::Formatter::tuple_11($($arguments)*) };
+    (tuple [$a:tt $b:tt $c:tt $d:tt $e:tt $f:tt $g:tt $h:tt $i:tt $j:tt $k:tt $l:tt] $($arguments:tt)*) => { $crate::Formatter::tuple_12($($arguments)*) };
+    (tuple [$($more:tt)+] $formatter:expr, $name:expr, $($fields:tt)+) => {
+        $crate::Formatter::tuple_of($formatter, $name, &$crate::value_chain!($($fields)+))
     };
 }
 
@@ -119,14 +82,12 @@ macro_rules! fields {
 #[macro_export]
 macro_rules! field_chain {
     () => { () };
-    ($field:ident: $value:expr, $($rest:tt)*) => {
-        (stringify!($field), &$value, $crate::field_chain!($($rest)*))
-    };
+    ($name:expr, $value:expr, $($rest:tt)*) => { ($name, $value, $crate::field_chain!($($rest)*)) };
 }
 
 /// The chain of these values that `Formatter::tuple_of` takes.
 #[macro_export]
 macro_rules! value_chain {
     () => { () };
-    ($value:expr, $($rest:tt)*) => { (&$value, $crate::value_chain!($($rest)*)) };
+    ($value:expr, $($rest:tt)*) => { ($value, $crate::value_chain!($($rest)*)) };
 }

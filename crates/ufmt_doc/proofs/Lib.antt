@@ -3,6 +3,7 @@ pub mod Docs
 pub mod DocumentParts
 pub mod EntrySteps
 pub mod GrowingDocuments
+pub mod IntoBuffers
 pub mod Lines
 pub mod NormalDocs
 pub mod Normals

@@ -1,5 +1,6 @@
 -- What readers promise: of the documents with a text, or of a text that no document has.
-use Rattle.std.specs.Prelude.{◌≡◌, ◌≢◌, List, ℕ, Bool, Result, String, IfOk, IsOk, IsErrOf, is_ok, string_bytes, ⊤}
+use Rattle.std.specs.Prelude.{◌≡◌, ◌≢◌, List, ℕ, Bool, Result, String, IfOk, IsOk, IsErrOf, is_ok, length, string_bytes, ⊤}
+use Rattle.ufmt.specs.Buffer.{Fronts}
 use Rattle.ufmt.specs.Document.{Document}
 use Rattle.ufmt.specs.Token.{IsToken, normal}
 use Rattle.ufmt.specs.Writes.{Seen, Writes}
@@ -45,3 +46,13 @@ pub record ConvertsTo {W E : Type 0} (seen : Seen W) (from to : Document → Lis
   pub writes : (text : List ℕ) → IsConverted from to input text → Writes seen old text (is_ok answer) new
   -- and so is what was written of an input that is no text
   pub lawful : (text : List ℕ) × (whole : Bool) × Writes seen old text whole new
+
+-- what a conversion into a caller's buffer does with it
+pub record ConvertsInto {E : Type 0} (from to : Document → List ℕ) (input old : List ℕ) (answer : Result ℕ (Refusal E)) (new : List ℕ) : Type 0 where
+  -- `Ok` is answered of texts alone, and `NotText` of what is none
+  pub ok : IsOk answer → (text : List ℕ) × IsConverted from to input text
+  pub not_text : IsErrOf answer refusals.NotText → IsNoText from input
+  -- the other text stands at the buffer's front: all of it where it fits, or a beginning
+  pub fronts : (text : List ℕ) → IsConverted from to input text → Fronts old text answer new
+  -- the buffer keeps its length, also of an input that is no text
+  pub same_length : length new ≡ length old

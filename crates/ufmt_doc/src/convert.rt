@@ -3,7 +3,7 @@ ghost use Rattle.std.specs.Prelude.{◌≡◌, ◌≤◌, string_bytes, IfOk};
 ghost use Rattle.ufmt.specs.Document.{nest};
 ghost use Rattle.ufmt.specs.Layout.{plain_text, pretty_text};
 ghost use Rattle.ufmt.specs.Shift.{HasNoLineFeed, shifted};
-ghost use Rattle.ufmt_doc.specs.Texts.{Converts, ConvertsTo};
+ghost use Rattle.ufmt_doc.specs.Texts.{Converts, ConvertsInto, ConvertsTo};
 
 mod text_sink;
 mod write;
@@ -13,7 +13,7 @@ use crate::scan::{Refusal, scan};
 use std::alloc::{AllocError, Global};
 use text_sink::TextSink;
 use ufmt::layout::Mode;
-use ufmt::{Formatter, uDebug, uWrite};
+use ufmt::{Cursor, Formatter, Full, uDebug, uWrite};
 
 /// The value's plain text. The only refusal is want of memory.
 pub fn plain_text<T: uDebug>(alloc: Global, value: &T) -> Result<String, AllocError>
@@ -60,6 +60,28 @@ pub fn plain_to<W: uWrite>(writer: &mut W, input: &[u8]) -> Result<(), Refusal<W
 {
     let mut sink = TextSink::new(Mode::Plain, writer);
     scan(Mode::Pretty, input, &mut sink)
+}
+
+/// Puts the pretty text of the token documents with this plain text at the front of the buffer, and
+/// answers how many bytes it has. It takes no memory. `NotText` is answered of no such text, and `Full`
+/// where the answer has more bytes than the buffer, which begins with a beginning of it then. The other
+/// bytes of the buffer stay.
+pub fn pretty_into(buffer: &mut [u8], input: &[u8]) -> Result<usize, Refusal<Full>>
+    ensures { ConvertsInto plain_text pretty_text input.now buffer.old result buffer.new }
+{
+    let mut cursor = Cursor::new(buffer);
+    pretty_to(&mut cursor, input)?;
+    Ok(cursor.written().len())
+}
+
+/// Puts the plain text of the token documents with this pretty text at the front of the buffer, with
+/// the answers of `pretty_into`.
+pub fn plain_into(buffer: &mut [u8], input: &[u8]) -> Result<usize, Refusal<Full>>
+    ensures { ConvertsInto pretty_text plain_text input.now buffer.old result buffer.new }
+{
+    let mut cursor = Cursor::new(buffer);
+    plain_to(&mut cursor, input)?;
+    Ok(cursor.written().len())
 }
 
 /// The pretty text of the token documents with this plain text. Of a text that `to_plain` answered

@@ -8,8 +8,8 @@ ghost use Rattle.ufmt_doc.specs.declared.scan.refusal.Refusal.TheVariants.{NotTe
 #[cfg(test)]
 mod tests;
 
-use ufmt::{Cursor, Full};
-use ufmt_doc::convert::pretty_to;
+use ufmt::Full;
+use ufmt_doc::convert::pretty_into;
 use ufmt_doc::scan::Refusal;
 
 /// The pretty text of a line, at the front of the buffer, and how many bytes it has. It takes no
@@ -22,7 +22,5 @@ pub fn pretty_line(line: &[u8], buffer: &mut [u8; 256]) -> Result<usize, Refusal
         → (text : List ℕ) × IsConverted plain_text pretty_text line.now text }
     ensures not_text { IsErrOf result NotText → IsNoText plain_text line.now }
 {
-    let mut cursor = Cursor::new(buffer);
-    pretty_to(&mut cursor, line)?;
-    Ok(cursor.written().len())
+    pretty_into(buffer, line)
 }

@@ -44,6 +44,12 @@ impl<'a, D: uDebug, R: NamedFields<'a>> NamedFields<'a> for (&'a str, &'a D, R) 
     }
 }
 
+/// The chain of these fields that `struct_of` takes.
+macro_rules! field_chain {
+    () => { () };
+    ($name:ident: $value:ident, $($rest:tt)*) => { ($name, $value, field_chain!($($rest)*)) };
+}
+
 impl<W: uWrite> Formatter<W> {
     /// Writes a whole struct, whose fields are a chain `(name, value, (name, value, .. ()))` of
     /// references. On `Err` a beginning of that is written, and mode and depth are as before.
@@ -81,7 +87,7 @@ impl<W: uWrite> Formatter<W> {
             (struct_of name.now (fields_of ((a.now, A.document a_value.now) ∷ []))) (is_ok result)
             self.new }
     {
-        self.struct_of(name, &(a, a_value, ()))
+        self.struct_of(name, &field_chain!(a: a_value,))
     }
 
     /// Writes a whole struct with 2 fields. On `Err` a beginning of it is written.
@@ -99,7 +105,7 @@ impl<W: uWrite> Formatter<W> {
             ((a.now, A.document a_value.now) ∷ (b.now, B.document b_value.now) ∷ [])))
             (is_ok result) self.new }
     {
-        self.struct_of(name, &(a, a_value, (b, b_value, ())))
+        self.struct_of(name, &field_chain!(a: a_value, b: b_value,))
     }
 
     /// Writes a whole struct with 3 fields. On `Err` a beginning of it is written.
@@ -119,7 +125,7 @@ impl<W: uWrite> Formatter<W> {
             ((a.now, A.document a_value.now) ∷ (b.now, B.document b_value.now)
             ∷ (c.now, C.document c_value.now) ∷ []))) (is_ok result) self.new }
     {
-        self.struct_of(name, &(a, a_value, (b, b_value, (c, c_value, ()))))
+        self.struct_of(name, &field_chain!(a: a_value, b: b_value, c: c_value,))
     }
 
     /// Writes a whole struct with 4 fields. On `Err` a beginning of it is written.
@@ -142,10 +148,8 @@ impl<W: uWrite> Formatter<W> {
             ∷ (c.now, C.document c_value.now) ∷ (d.now, D.document d_value.now) ∷ [])))
             (is_ok result) self.new }
     {
-        self.struct_of(
-            name,
-            &(a, a_value, (b, b_value, (c, c_value, (d, d_value, ())))),
-        )
+        let fields = field_chain!(a: a_value, b: b_value, c: c_value, d: d_value,);
+        self.struct_of(name, &fields)
     }
 
     /// Writes a whole struct with 5 fields. On `Err` a beginning of it is written.
@@ -170,14 +174,8 @@ impl<W: uWrite> Formatter<W> {
             ∷ (c.now, C.document c_value.now) ∷ (d.now, D.document d_value.now)
             ∷ (e.now, E.document e_value.now) ∷ []))) (is_ok result) self.new }
     {
-        self.struct_of(
-            name,
-            &(
-                a,
-                a_value,
-                (b, b_value, (c, c_value, (d, d_value, (e, e_value, ())))),
-            ),
-        )
+        let fields = field_chain!(a: a_value, b: b_value, c: c_value, d: d_value, e: e_value,);
+        self.struct_of(name, &fields)
     }
 
     /// Writes a whole struct with 6 fields. On `Err` a beginning of it is written.
@@ -205,18 +203,10 @@ impl<W: uWrite> Formatter<W> {
             ∷ (e.now, E.document e_value.now) ∷ (f.now, F.document f_value.now) ∷ [])))
             (is_ok result) self.new }
     {
-        self.struct_of(
-            name,
-            &(
-                a,
-                a_value,
-                (
-                    b,
-                    b_value,
-                    (c, c_value, (d, d_value, (e, e_value, (f, f_value, ())))),
-                ),
-            ),
-        )
+        let fields = field_chain!(
+            a: a_value, b: b_value, c: c_value, d: d_value, e: e_value, f: f_value,
+        );
+        self.struct_of(name, &fields)
     }
 
     /// Writes a whole struct with 7 fields. On `Err` a beginning of it is written.
@@ -255,22 +245,11 @@ impl<W: uWrite> Formatter<W> {
             ∷ (e.now, E.document e_value.now) ∷ (f.now, F.document f_value.now)
             ∷ (g.now, G.document g_value.now) ∷ []))) (is_ok result) self.new }
     {
-        self.struct_of(
-            name,
-            &(
-                a,
-                a_value,
-                (
-                    b,
-                    b_value,
-                    (
-                        c,
-                        c_value,
-                        (d, d_value, (e, e_value, (f, f_value, (g, g_value, ())))),
-                    ),
-                ),
-            ),
-        )
+        let fields = field_chain!(
+            a: a_value, b: b_value, c: c_value, d: d_value, e: e_value, f: f_value,
+            g: g_value,
+        );
+        self.struct_of(name, &fields)
     }
 
     /// Writes a whole struct with 8 fields. On `Err` a beginning of it is written.
@@ -313,26 +292,11 @@ impl<W: uWrite> Formatter<W> {
             ∷ (g.now, G.document g_value.now) ∷ (h.now, H.document h_value.now) ∷ [])))
             (is_ok result) self.new }
     {
-        self.struct_of(
-            name,
-            &(
-                a,
-                a_value,
-                (
-                    b,
-                    b_value,
-                    (
-                        c,
-                        c_value,
-                        (
-                            d,
-                            d_value,
-                            (e, e_value, (f, f_value, (g, g_value, (h, h_value, ())))),
-                        ),
-                    ),
-                ),
-            ),
-        )
+        let fields = field_chain!(
+            a: a_value, b: b_value, c: c_value, d: d_value, e: e_value, f: f_value,
+            g: g_value, h: h_value,
+        );
+        self.struct_of(name, &fields)
     }
 
     /// Writes a whole struct with 9 fields. On `Err` a beginning of it is written.
@@ -378,30 +342,11 @@ impl<W: uWrite> Formatter<W> {
             ∷ (g.now, G.document g_value.now) ∷ (h.now, H.document h_value.now)
             ∷ (i.now, I.document i_value.now) ∷ []))) (is_ok result) self.new }
     {
-        self.struct_of(
-            name,
-            &(
-                a,
-                a_value,
-                (
-                    b,
-                    b_value,
-                    (
-                        c,
-                        c_value,
-                        (
-                            d,
-                            d_value,
-                            (
-                                e,
-                                e_value,
-                                (f, f_value, (g, g_value, (h, h_value, (i, i_value, ())))),
-                            ),
-                        ),
-                    ),
-                ),
-            ),
-        )
+        let fields = field_chain!(
+            a: a_value, b: b_value, c: c_value, d: d_value, e: e_value, f: f_value,
+            g: g_value, h: h_value, i: i_value,
+        );
+        self.struct_of(name, &fields)
     }
 
     /// Writes a whole struct with 10 fields. On `Err` a beginning of it is written.
@@ -451,34 +396,11 @@ impl<W: uWrite> Formatter<W> {
             ∷ (i.now, I.document i_value.now) ∷ (j.now, J.document j_value.now) ∷ [])))
             (is_ok result) self.new }
     {
-        self.struct_of(
-            name,
-            &(
-                a,
-                a_value,
-                (
-                    b,
-                    b_value,
-                    (
-                        c,
-                        c_value,
-                        (
-                            d,
-                            d_value,
-                            (
-                                e,
-                                e_value,
-                                (
-                                    f,
-                                    f_value,
-                                    (g, g_value, (h, h_value, (i, i_value, (j, j_value, ())))),
-                                ),
-                            ),
-                        ),
-                    ),
-                ),
-            ),
-        )
+        let fields = field_chain!(
+            a: a_value, b: b_value, c: c_value, d: d_value, e: e_value, f: f_value,
+            g: g_value, h: h_value, i: i_value, j: j_value,
+        );
+        self.struct_of(name, &fields)
     }
 
     /// Writes a whole struct with 11 fields. On `Err` a beginning of it is written.
@@ -531,38 +453,11 @@ impl<W: uWrite> Formatter<W> {
             ∷ (i.now, I.document i_value.now) ∷ (j.now, J.document j_value.now)
             ∷ (k.now, K.document k_value.now) ∷ []))) (is_ok result) self.new }
     {
-        self.struct_of(
-            name,
-            &(
-                a,
-                a_value,
-                (
-                    b,
-                    b_value,
-                    (
-                        c,
-                        c_value,
-                        (
-                            d,
-                            d_value,
-                            (
-                                e,
-                                e_value,
-                                (
-                                    f,
-                                    f_value,
-                                    (
-                                        g,
-                                        g_value,
-                                        (h, h_value, (i, i_value, (j, j_value, (k, k_value, ())))),
-                                    ),
-                                ),
-                            ),
-                        ),
-                    ),
-                ),
-            ),
-        )
+        let fields = field_chain!(
+            a: a_value, b: b_value, c: c_value, d: d_value, e: e_value, f: f_value,
+            g: g_value, h: h_value, i: i_value, j: j_value, k: k_value,
+        );
+        self.struct_of(name, &fields)
     }
 
     /// Writes a whole struct with 12 fields. On `Err` a beginning of it is written.
@@ -619,45 +514,10 @@ impl<W: uWrite> Formatter<W> {
             ∷ (k.now, K.document k_value.now) ∷ (l.now, L.document l_value.now) ∷ [])))
             (is_ok result) self.new }
     {
-        self.struct_of(
-            name,
-            &(
-                a,
-                a_value,
-                (
-                    b,
-                    b_value,
-                    (
-                        c,
-                        c_value,
-                        (
-                            d,
-                            d_value,
-                            (
-                                e,
-                                e_value,
-                                (
-                                    f,
-                                    f_value,
-                                    (
-                                        g,
-                                        g_value,
-                                        (
-                                            h,
-                                            h_value,
-                                            (
-                                                i,
-                                                i_value,
-                                                (j, j_value, (k, k_value, (l, l_value, ()))),
-                                            ),
-                                        ),
-                                    ),
-                                ),
-                            ),
-                        ),
-                    ),
-                ),
-            ),
-        )
+        let fields = field_chain!(
+            a: a_value, b: b_value, c: c_value, d: d_value, e: e_value, f: f_value,
+            g: g_value, h: h_value, i: i_value, j: j_value, k: k_value, l: l_value,
+        );
+        self.struct_of(name, &fields)
     }
 }

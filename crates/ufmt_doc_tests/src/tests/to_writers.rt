@@ -4,7 +4,7 @@ use super::mode::Mode;
 use super::texts::{NODE_PLAIN, NODE_PRETTY};
 use std::alloc::{AllocError, Global};
 use ufmt::{Cursor, Full, uWrite};
-use ufmt_doc::convert::{plain_to, pretty_to};
+use ufmt_doc::convert::{plain_into, plain_to, pretty_into, pretty_to};
 use ufmt_doc::scan::Refusal;
 
 // What a text of this mode is converted to, written to the writer.
@@ -84,4 +84,32 @@ fn what_is_no_text_is_told_from_a_full_buffer(rt: HostRuntime) {
     for text in ["", "[a]", "[\n    a\n]", "[\n    a,\n] "] {
         holds(&rt, is_no_text(Mode::Pretty, text.as_bytes()), text);
     }
+}
+
+// Whether the text of this mode is converted to the front of a buffer with room enough, and the bytes
+// behind it stay.
+fn is_in_front(mode: Mode, text: &str, other: &str) -> bool {
+    let mut bytes = [b'#'; 64];
+    let answer = match mode {
+        Mode::Plain => pretty_into(&mut bytes, text.as_bytes()),
+        Mode::Pretty => plain_into(&mut bytes, text.as_bytes()),
+    };
+    match answer {
+        Ok(count) => {
+            count == other.len()
+                && bytes.starts_with(other.as_bytes())
+                && bytes.iter().skip(count).all(|byte| *byte == b'#')
+        }
+        Err(_) => false,
+    }
+}
+
+#[test]
+fn a_conversion_into_a_buffer_stands_in_front(rt: HostRuntime) {
+    let (plain, pretty) = (
+        "S { a: [1, ()] }",
+        "S {\n    a: [\n        1,\n        (),\n    ],\n}",
+    );
+    holds(&rt, is_in_front(Mode::Plain, plain, pretty), plain);
+    holds(&rt, is_in_front(Mode::Pretty, pretty, plain), pretty);
 }

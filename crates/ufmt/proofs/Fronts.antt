@@ -6,14 +6,15 @@ use Rattle.std.specs.Result.{IsErrAnd}
 use Rattle.ufmt.specs.Buffer.{Fronts}
 use Rattle.ufmt.specs.Cursor.{cursor_seen, unwritten_bytes, written_bytes}
 use Rattle.ufmt.specs.declared.cursor.Cursor.{Cursor}
-use Rattle.ufmt.specs.Writes.{Writes}
+use Rattle.ufmt_core.specs.Writes.{Writes}
 
 module _ (old : List ℕ) (begun ended : Cursor) (written : written_bytes begun ≡ []) (unwritten : unwritten_bytes begun ≡ old) (text : List ℕ) where
   begins_with : begun.buffer.now ≡ old
   begins_with = sym (take-append-drop begun.count begun.buffer.now) ∙ ap (λ xs. xs ++ unwritten_bytes begun) written ∙ unwritten
 
-  same_length : {ok : _} → Writes cursor_seen begun text ok ended → length ended.buffer.now ≡ length old
-  same_length w = ap (λ xs. slice_index_or xs 1 0) w.same_identity ∙ ap length begins_with
+  -- a buffer that is written keeps its length
+  pub keeps_length : {ok : _} → Writes cursor_seen begun text ok ended → length ended.buffer.now ≡ length old
+  keeps_length w = ap (λ xs. slice_index_or xs 1 0) w.same_identity ∙ ap length begins_with
 
   counted : length (written_bytes ended) ≡ ended.count
   counted = length-take-le ended.count ended.buffer.now ended.within
@@ -28,7 +29,7 @@ module _ (old : List ℕ) (begun ended : Cursor) (written : written_bytes begun 
   -- all of the text
   pub fronts_whole : {E : Type 0} → Writes cursor_seen begun text true ended → Fronts {E = E} old text (Ok (length (written_bytes ended))) ended.buffer.now
   fronts_whole w = record {
-    same_length = same_length w;
+    same_length = keeps_length w;
     fits = λ h. refl;
     within = subst (λ n. n ≤ length ended.buffer.now) (sym counted) ended.within;
     whole = (in_front ∙ w.appended tt ∙ ap (λ xs. xs ++ text) written, behind w);
@@ -40,7 +41,7 @@ module _ (old : List ℕ) (begun ended : Cursor) (written : written_bytes begun 
   fronts_beginning e w =
       let taken = w.appended tt in
       let part_is : written_bytes ended ≡ taken.0 = taken.2 ∙ ap (λ xs. xs ++ taken.0) written in record {
-        same_length = same_length w;
+        same_length = keeps_length w;
         fits = λ h. let ok = w.fits (subst (λ xs. length text ≤ length xs) (sym unwritten) h) in absurd (cc);
         within = tt;
         whole = tt;
