@@ -13,16 +13,14 @@ use crate::scan::{Refusal, scan};
 use std::alloc::{AllocError, Global};
 use text_sink::TextSink;
 use ufmt::layout::Mode;
-use ufmt::{Cursor, Formatter, Full, uDebug, uWrite};
+use ufmt::{Cursor, Full, uDebug, uWrite, write_debug, write_pretty};
 
 /// The value's plain text. The only refusal is want of memory.
 pub fn plain_text<T: uDebug>(alloc: Global, value: &T) -> Result<String, AllocError>
     ensures { IfOk result (λ text. string_bytes text ≡ plain_text (T.document value.now)) }
 {
     let mut text = String::new(alloc);
-    let mut f = Formatter::new(&mut text);
-    value.fmt(&mut f)?;
-    f.into_inner();
+    write_debug(&mut text, value)?;
     Ok(text)
 }
 
@@ -36,9 +34,7 @@ pub fn pretty_text<T: uDebug>(alloc: Global, value: &T) -> Result<String, AllocE
         → string_bytes text ≡ shifted (T.document value.now)) }
 {
     let mut text = String::new(alloc);
-    let mut f = Formatter::new(&mut text);
-    f.pretty(|f| value.fmt(f))?;
-    f.into_inner();
+    write_pretty(&mut text, value)?;
     Ok(text)
 }
 
