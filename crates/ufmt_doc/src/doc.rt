@@ -50,12 +50,14 @@ impl Doc {
             Doc::Leaf(_) => {}
             Doc::Listed(entries) => normalize_all(alloc, entries),
             Doc::SetOf(entries) if !entries.is_empty() => normalize_all(alloc, entries),
-            Doc::SetOf(_) => *self = Doc::MapOf(Vec::new(alloc)),
+            Doc::SetOf(_) => drop(mem::replace(self, Doc::MapOf(Vec::new(alloc)))),
             Doc::MapOf(pairs) => normalize_pairs(alloc, pairs),
             Doc::StructOf(_, fields) if !fields.is_empty() => normalize_fields(alloc, fields),
-            Doc::StructOf(name, _) => *self = Doc::Leaf(mem::replace(name, String::new(alloc))),
             Doc::TupleOf(_, fields) if !fields.is_empty() => normalize_all(alloc, fields),
-            Doc::TupleOf(name, _) => *self = Doc::Leaf(mem::replace(name, String::new(alloc))),
+            Doc::StructOf(name, _) | Doc::TupleOf(name, _) => {
+                let name = mem::replace(name, String::new(alloc));
+                drop(mem::replace(self, Doc::Leaf(name)));
+            }
         }
     }
 
