@@ -1,8 +1,9 @@
 -- Words, token documents, normal forms and followers: which are and which aren't, computed.
-use Rattle.std.proofs.Common.{◌≡◌, ℕ, zero, suc, map, true, false, codes, refl, inl, inr, arith}
+use Rattle.std.proofs.Common.{◌≡◌, [], ℕ, zero, suc, map, true, false, codes, refl, inl, inr, arith}
 use Rattle.std.proofs.lemmas.Bool.{false≢true}
 use Rattle.ufmt_core.specs.Document.{Document, leaf, joined, list_of, set_of, map_of, struct_of, tuple_of, pretty_part, Documents, no_documents, document, no_pairs, pair, no_fields, field, nest}
 use Rattle.ufmt.specs.Token.{is_word_byte, IsWord, HasTokens, IsToken, normal, is_closer, IsFollower}
+use Rattle.ufmt.proofs.TokenLeaves.{leaf_begins, read_symbol_sound, symbol_leaf}
 use Rattle.ufmt.proofs.TokenLines.{HasTokens-HasNoLineFeed}
 
 -- ---- words
@@ -42,10 +43,10 @@ HasTokens-one : HasTokens one
 HasTokens-one = record { shape = inl (refl, tt) }
 
 IsToken-unit : IsToken (leaf (codes "()"))
-IsToken-unit = (record { shape = inr (inl refl) }, omega arith)
+IsToken-unit = (symbol_leaf (codes "()") (read_symbol_sound (codes "()") (codes "()") [] refl).0, omega arith)
 
 IsToken-not-empty_leaf : IsToken (leaf (codes "")) → ⊥
-IsToken-not-empty_leaf h = elim h.0.shape [ inl w ↦ w | inr symbol ↦ elim symbol [ inl e ↦ cc | inr quoted ↦ elim quoted [ inl of_text ↦ let e = of_text.2 in cc | inr of_char ↦ let e = of_char.2 in cc ] ] ]
+IsToken-not-empty_leaf h = let begins = leaf_begins (codes "") h.0 in let none = begins.is in absurd (cc)
 
 IsToken-not-line_feed : IsToken (leaf (codes "\n")) → ⊥
 IsToken-not-line_feed h = let line = HasTokens-HasNoLineFeed (leaf (codes "\n")) h.0 in line.0 refl

@@ -70,7 +70,7 @@ module _ {Is : List ℕ → Type 0} (read : Parse (List ℕ)) (sound : (t x u : 
 whole_word : (t : List ℕ) → IsWord t → read_word t ≡ Some (t, [])
 whole_word t h = ap read_word (sym (append-nil t)) ∙ read_word_complete t [] h tt
 
-whole_symbol : (t : List ℕ) → IsSymbol t → read_symbol t ≡ Some (t, [])
+pub whole_symbol : (t : List ℕ) → IsSymbol t → read_symbol t ≡ Some (t, [])
 whole_symbol t h = ap read_symbol (sym (append-nil t)) ∙ read_symbol_complete t [] h
 
 -- a whole text that is a word

@@ -1,14 +1,15 @@
 -- What stands between the quotes of a leaf is told byte by byte.
-use Rattle.std.proofs.Common.{◌≡◌, ◌≢◌, inl, inr, refl, subst, sym, ap, ◌∙◌, ℕ, true, List, [], ◌∷◌, ◌++◌, drop, length, Option, Some, None, get_or, append_assoc, append-nil, length-append, ◌<◌, arith}
+use Rattle.std.proofs.Common.{◌≡◌, inl, inr, refl, sym, ap, ◌∙◌, ℕ, true, List, [], ◌∷◌, ◌++◌, drop, length, Option, Some, None, get_or, append_assoc, append-nil, length-append, ◌<◌, arith}
 use Rattle.std.specs.Str.{IsUtf8, all_scalars, chars, encode_utf8_all}
 use Rattle.std.proofs.lemmas.Str.{chars-encodes}
 use Rattle.ufmt.specs.Document.{leaf}
 use Rattle.ufmt.specs.Quoted.{IsQuote, IsQuoted, escaped_byte, escaped_bytes, quoted, quoted_text}
-use Rattle.ufmt.specs.ReadingQuoted.{read_escaped}
-use Rattle.ufmt.specs.Reading.{strip}
+use Rattle.ufmt.specs.ReadingQuoted.{read_escaped, read_quoted}
+use Rattle.ufmt.specs.Reading.{read_symbol, strip}
 use Rattle.ufmt.proofs.Parsing.{same_parts, strip_stands}
+use Rattle.ufmt.proofs.QuotedSound.{read_escaped-sound, read_quoted-sound}
+use Rattle.ufmt_doc.proofs.Leaves.{whole_symbol}
 use Rattle.ufmt.proofs.QuotedComplete.{escaped-no_quote, length-escaped, quoted-bytes, read_escaped-complete}
-use Rattle.ufmt.proofs.QuotedSound.{read_escaped-sound}
 use Rattle.ufmt_doc.specs.Private.Spelled.{Tells}
 use Rattle.ufmt_doc.specs.Unquoted.{IsInQuotes}
 use Rattle.ufmt.specs.Token.{IsSymbol}
@@ -50,34 +51,12 @@ told_more q inside bytes rest items b u before h is =
     ∙ sym (append_assoc (escaped_bytes q bytes) (escaped_bytes q (b ∷ [])) u)
     ∙ ap (λ t. t ++ u) (sym (escaped_bytes-append q bytes (b ∷ []))) ∙ ap (λ bs. escaped_bytes q bs ++ u) (sym is)
 
--- a leaf is quoted where its text is
-leaf_text : (t text : List ℕ) → leaf t ≡ leaf text → t ≡ text
-leaf_text t text h = cc
+module _ (t inside : List ℕ) (q : ℕ) (front : t ≡ q ∷ inside) (symbol : IsSymbol t) (quote : IsQuote q) where
+  read_by_quote : read_symbol t ≡ read_quoted t
+  read_by_quote = elim quote [ inl is ↦ rw (front, is) refl | inr is ↦ rw (front, is) refl ]
 
--- what is no leaf but a word and `()` has no quotes
-pub no_symbol_unquoted : (t : List ℕ) → (IsSymbol t → ⊥) → (text : List ℕ) → IsQuoted text → leaf t ≢ leaf text
-no_symbol_unquoted t h text quoted e = h (inr (subst IsQuoted (sym (leaf_text t text e)) quoted))
-
--- nor has what begins with a parenthesis
-pub unit_unquoted : (t inside : List ℕ) → t ≡ 40 ∷ inside → (text : List ℕ) → IsQuoted text → leaf t ≢ leaf text
-unit_unquoted t inside is text (inl of_text) e = omega (arith, ap (λ (u : List ℕ). get_or u 0 0) (sym is ∙ leaf_text t text e ∙ of_text.2))
-unit_unquoted t inside is text (inr of_char) e = omega (arith, ap (λ (u : List ℕ). get_or u 0 0) (sym is ∙ leaf_text t text e ∙ of_char.2))
-
--- nothing is no quoted leaf
-pub nothing_unquoted : (t : List ℕ) → t ≡ [] → (text : List ℕ) → IsQuoted text → leaf t ≢ leaf text
-nothing_unquoted t is text (inl of_text) e = let u = sym is ∙ leaf_text t text e ∙ of_text.2 in absurd (cc)
-nothing_unquoted t is text (inr of_char) e = let u = sym is ∙ leaf_text t text e ∙ of_char.2 in absurd (cc)
-
-module _ (t inside : List ℕ) (q : ℕ) (front : t ≡ q ∷ inside) (symbol : IsSymbol t) (other : q ≢ 40) where
   is_quoted : IsQuoted t
-  is_quoted = elim symbol [ inl unit ↦ absurd (other (ap (λ (u : List ℕ). get_or u 0 0) (sym front ∙ unit))) | inr quoted ↦ quoted ]
-
-  pub first_is_quote : IsQuote q
-  first_is_quote = elim is_quoted [
-    | inl of_text ↦ inl (ap (λ (u : List ℕ). get_or u 0 0) (sym front ∙ of_text.2))
-    | inr of_char ↦ inr
-        (ap (λ (u : List ℕ). get_or u 0 0) (sym front ∙ of_char.2))
-  ]
+  is_quoted = (read_quoted-sound t t [] (sym read_by_quote ∙ whole_symbol t symbol)).0
 
   -- the characters between the quotes, whose bytes were told
   pub record Told (bytes : List ℕ) : Type 0 where

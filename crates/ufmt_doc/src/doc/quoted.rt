@@ -55,7 +55,7 @@ fn unquoted_leaf(alloc: Global, text: &str) -> Result<Option<String>, AllocError
     if !is_symbol(text) {
         return Ok(None);
     }
-    if quote == b'(' {
+    if quote != b'"' && quote != b'\'' {
         return Ok(None);
     }
     match String::from_utf8(told_bytes(alloc, quote, inside)?) {
