@@ -60,8 +60,9 @@ pub fn plain_to<W: uWrite>(writer: &mut W, input: &[u8]) -> Result<(), Refusal<W
 
 /// Puts the pretty text of the token documents with this plain text at the front of the buffer, and
 /// answers how many bytes it has. It takes no memory. `NotText` is answered of no such text, and `Full`
-/// where the answer has more bytes than the buffer, which begins with a beginning of it then. The other
-/// bytes of the buffer stay.
+/// where the answer has more bytes than the buffer, which begins with a beginning of it then. Of such a
+/// text the other bytes of the buffer stay; of an input that is none it may hold others, as many as
+/// before, and `Full` may be answered too.
 pub fn pretty_into(buffer: &mut [u8], input: &[u8]) -> Result<usize, Refusal<Full>>
     ensures { ConvertsInto plain_text pretty_text input.now buffer.old result buffer.new }
 {
