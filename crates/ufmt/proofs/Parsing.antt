@@ -7,10 +7,6 @@ pub strip_stands : (text t : List ℕ) → strip text (text ++ t) ≡ Some t
 strip_stands [] t = refl
 strip_stands (c ∷ text) t = rw (eq-eqb c c refl) (strip_stands text t)
 
--- what begins with another byte isn't stripped
-pub strip_differs : (c b : ℕ) (text t : List ℕ) → (c == b) ≡ false → strip (c ∷ text) (b ∷ t) ≡ None
-strip_differs c b text t e = rw e
-
 -- two values are equal where an option holds the one and the other
 same_value : {A : Type 0} (x y : A) → Some x ≡ Some y → x ≡ y
 same_value x y h = cc

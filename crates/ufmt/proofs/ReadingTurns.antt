@@ -94,24 +94,3 @@ unfolding read_rest
 read_others-read_turn q takes f s count t =
     turn_same q takes f s count (read_rest q f s (next count) (length t)) (read_others q f s (next count)) t
     (λ w less. turns_enough q takes f s (length t) (suc (length w)) (next count) w less (omega arith))
-
--- an entry that was read, with what stands round it, goes in front of what is left behind it
-pub read_others-entry : {A : Type 0} (q : Parse A) → Takes q
-    → (f : Frame) (s : Setting) (count : Count) (t v w : List ℕ) (x : A) (u : List ℕ) → strip (lead f (inside s) count) t ≡ Some v
-    → q v ≡ Some (x, w) → strip (trail s.mode) w ≡ Some u → read_others q f s count t ≡ parse_map (λ xs. x ∷ xs) (read_others q f s (next count) u)
-read_others-entry q takes f s count t v w x u before entry after = read_others-read_turn q takes f s count t ∙ rw (before, entry, after) refl
-
--- where no entry stands there is the end
-pub read_others-read_end : {A : Type 0} (q : Parse A) → Takes q → (f : Frame) (s : Setting) (count : Count) (t : List ℕ)
-    → strip (lead f (inside s) count) t ≡ None → read_others q f s count t ≡ read_end f s count t
-read_others-read_end q takes f s count t before = read_others-read_turn q takes f s count t ∙ rw before refl
-
--- where what should be an entry is none, nothing is read
-pub read_others-no_entry : {A : Type 0} (q : Parse A) → Takes q → (f : Frame) (s : Setting) (count : Count) (t v : List ℕ)
-    → strip (lead f (inside s) count) t ≡ Some v → q v ≡ None → read_others q f s count t ≡ None
-read_others-no_entry q takes f s count t v before entry = read_others-read_turn q takes f s count t ∙ rw (before, entry) refl
-
--- likewise where what should stand after an entry doesn't
-pub read_others-no_trail : {A : Type 0} (q : Parse A) → Takes q → (f : Frame) (s : Setting) (count : Count) (t v w : List ℕ) (x : A)
-    → strip (lead f (inside s) count) t ≡ Some v → q v ≡ Some (x, w) → strip (trail s.mode) w ≡ None → read_others q f s count t ≡ None
-read_others-no_trail q takes f s count t v w x before entry after = read_others-read_turn q takes f s count t ∙ rw (before, entry, after) refl

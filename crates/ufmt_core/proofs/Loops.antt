@@ -21,10 +21,6 @@ module _ {W : Type 0} {seen : Seen W} {start : Formatter W} {reference : ℕ} {b
         λ ok last c. LaysOut-opened is_block o (subst (λ (r : ℕ). Completes seen r b left ok last) o.same.reference c);
   }
 
-  pub list_begun : {ds : Documents} → WritesOpening seen start reference Brackets (codes "[") b
-      → Leaves seen start (list_of ds) b.reference b (remaining_entries ds)
-  list_begun {ds} = begun (list-is_block ds)
-
   pub set_begun : {ds : Documents} → WritesOpening seen start reference Braces (codes "{") b
       → Leaves seen start (set_of ds) b.reference b (remaining_entries ds)
   set_begun {ds} = begun (set-is_block ds)

@@ -66,11 +66,6 @@ IsCharBoundary-stretch bs = let ends = stretch_ends bs in (ends.0, λ within hig
 pub quoted_char-parts : (c : ℕ) → quoted_char c ≡ (39 ∷ []) ++ (escaped 39 c ++ (39 ∷ []))
 quoted_char-parts c = ap (λ t. 39 ∷ (t ++ (39 ∷ []))) (append-nil (escaped 39 c))
 
--- a text at whose front an escape stands is that, and what follows
-pub escaped_bytes-escape : (text : List ℕ) (b : ℕ) (e rest : List ℕ) → text ≡ b ∷ rest → Some e ≡ escape 34 b
-    → escaped_bytes 34 text ≡ e ++ escaped_bytes 34 rest
-escaped_bytes-escape text b e rest is escaped = ap (escaped_bytes 34) is ∙ ap (λ t. t ++ escaped_bytes 34 rest) (escaped_byte-escaped b e escaped)
-
 -- of a whole text all but what is left was printed
 pub record PrintedBefore {W : Type 0} (seen : Seen W) (old : Formatter W) (whole left : List ℕ) (new : Formatter W) : Type 0 where
   pub done : List ℕ
@@ -92,10 +87,3 @@ module _ {W : Type 0} {seen : Seen W} where
       → left ≡ part ++ more → Prints seen mid part false new → Prints seen old whole false new
   PrintedBefore-fails part more before is printed =
       Prints-same (sym (before.joined ∙ ap (λ t. before.done ++ t) is)) (Prints-then before.prints (Prints-fails more printed))
-
-  -- nothing is left
-  pub PrintedBefore-all : {old new : Formatter W} {whole left : List ℕ} → PrintedBefore seen old whole left new → left ≡ [] → Prints seen old whole true new
-  PrintedBefore-all before none = Prints-same (before_all before.joined none) before.prints
-    where
-      before_all : {whole done left : List ℕ} → whole ≡ done ++ left → left ≡ [] → done ≡ whole
-      before_all {done = done} is none = sym (is ∙ ap (λ t. done ++ t) none ∙ append-nil done)

@@ -9,7 +9,7 @@ use Rattle.ufmt.proofs.OneWay.{plain_text_tells, pretty_text_tells}
 use Rattle.ufmt_doc.specs.declared.doc.Doc.{Doc}
 use Rattle.ufmt_doc.specs.declared.reader.error.ReadError.{ReadError}
 use Rattle.ufmt_doc.specs.Doc.{doc_document}
-use Rattle.ufmt_doc.specs.declared.scan.refusal.Refusal.{Refusal}
+use Rattle.ufmt_scan.specs.declared.scan.refusal.Refusal.{Refusal}
 use Rattle.ufmt.specs.Writes.{Writes, string_seen}
 use Rattle.ufmt_doc.specs.Texts.{Converts, ConvertsTo, IsConverted, IsNormalForm, IsNoText, IsUnconverted, Undoes}
 

@@ -13,9 +13,9 @@ use Rattle.ufmt_core.specs.declared.layout.Count.{Count}
 use Rattle.ufmt_core.specs.declared.layout.Count.TheVariants.{One}
 use Rattle.ufmt_core.specs.declared.layout.Kind.{Kind}
 use Rattle.ufmt_core.specs.declared.layout.Kind.TheVariants.{Brackets, Braces, Struct}
-use Rattle.ufmt_doc.specs.declared.scan.part.Part.TheVariants.{Label, Colon}
+use Rattle.ufmt_scan.specs.declared.scan.part.Part.TheVariants.{Label, Colon}
 use Rattle.ufmt_doc.specs.Private.Growing.{Block, Grew, Growing, entry_ended, grow, growing, grown, one_field_more, one_more, one_pair_more, put_in, with_entry, without_entries}
-use Rattle.ufmt_doc.specs.Scan.{Event, Hears, plainly, told, told_entries, told_fields, told_pairs, told_tail}
+use Rattle.ufmt_scan.specs.Scan.{Event, Hears, plainly, told, told_entries, told_fields, told_pairs, told_tail}
 
 -- parts behind parts
 pub grown-append : (g : Growing) (es fs : List Event) → grown g (es ++ fs) ≡ grown (grown g es) fs

@@ -8,7 +8,7 @@ use Rattle.ufmt.specs.Document.{Document}
 use Rattle.ufmt.specs.declared.cursor.Cursor.{Cursor}
 use Rattle.ufmt.specs.declared.cursor.Full.{Full}
 use Rattle.ufmt_doc.specs.Texts.{ConvertsInto, ConvertsTo}
-use Rattle.ufmt_doc.specs.declared.scan.refusal.Refusal.{Refusal}
+use Rattle.ufmt_scan.specs.declared.scan.refusal.Refusal.{Refusal}
 
 module _ (from to : Document → List ℕ) (input old : List ℕ) (begun ended : Cursor) (written : written_bytes begun ≡ []) (unwritten : unwritten_bytes begun ≡ old) where
   -- the whole text

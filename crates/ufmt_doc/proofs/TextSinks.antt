@@ -16,11 +16,11 @@ use Rattle.ufmt_core.specs.declared.layout.Mode.{Mode}
 use Rattle.ufmt_core.specs.declared.layout.Mode.TheVariants.{Plain, Pretty}
 use Rattle.ufmt_core.specs.declared.layout.Setting.{Setting}
 use Rattle.ufmt_doc.specs.declared.convert.text_sink.TextSink.{TextSink}
-use Rattle.ufmt_doc.specs.declared.scan.part.Part.TheVariants.{Open}
-use Rattle.ufmt_doc.specs.declared.scan.refusal.Refusal.{Refusal}
-use Rattle.ufmt_doc.specs.declared.scan.refusal.Refusal.TheVariants.{NotText, Refused}
+use Rattle.ufmt_scan.specs.declared.scan.part.Part.TheVariants.{Open}
+use Rattle.ufmt_scan.specs.declared.scan.refusal.Refusal.{Refusal}
+use Rattle.ufmt_scan.specs.declared.scan.refusal.Refusal.TheVariants.{NotText, Refused}
 use Rattle.ufmt_doc.specs.Private.TextSink.{WritesPart, Wrote}
-use Rattle.ufmt_doc.specs.Scan.{Event, Hears, Scans, told}
+use Rattle.ufmt_scan.specs.Scan.{Event, Hears, Scans, told}
 use Rattle.ufmt_doc.specs.ScanTexts.{written, texts_written, setting_behind}
 use Rattle.ufmt_doc.specs.Texts.{ConvertsTo, IsConverted}
 use Rattle.ufmt_doc.proofs.Conversions.{converted}

@@ -8,12 +8,12 @@ use Rattle.ufmt.specs.ReadingQuoted.{read_escaped, read_quoted}
 use Rattle.ufmt.specs.Reading.{read_symbol, strip}
 use Rattle.ufmt.proofs.Parsing.{same_parts, strip_stands}
 use Rattle.ufmt.proofs.QuotedSound.{read_escaped-sound, read_quoted-sound}
-use Rattle.ufmt_doc.proofs.Leaves.{whole_symbol}
+use Rattle.ufmt_scan.proofs.Leaves.{whole_symbol}
 use Rattle.ufmt.proofs.QuotedComplete.{escaped-no_quote, length-escaped, quoted-bytes, read_escaped-complete}
-use Rattle.ufmt_doc.specs.Private.Spelled.{Tells}
+use Rattle.ufmt_scan.specs.Private.Spelled.{Tells}
 use Rattle.ufmt_doc.specs.Unquoted.{IsInQuotes}
 use Rattle.ufmt.specs.Token.{IsSymbol}
-use Rattle.ufmt_doc.proofs.Spelled.{escaped_bytes-append}
+use Rattle.ufmt_scan.proofs.Spelled.{escaped_bytes-append}
 
 -- where no byte is read any more, all were
 module _ (q : ℕ) (quote : IsQuote q) where

@@ -5,9 +5,9 @@ use Rattle.ufmt.specs.Layout.{plain_text, pretty_text, setting}
 use Rattle.ufmt_core.specs.declared.layout.Count.TheVariants.{One, Several}
 use Rattle.ufmt_core.specs.declared.layout.Kind.TheVariants.{Brackets, Braces, Struct, Tuple, Unnamed}
 use Rattle.ufmt_core.specs.declared.layout.Mode.TheVariants.{Plain, Pretty}
-use Rattle.ufmt_doc.specs.Scan.{plainly, told}
+use Rattle.ufmt_scan.specs.Scan.{plainly, told}
 use Rattle.ufmt_doc.specs.ScanTexts.{texts_written, setting_behind}
-use Rattle.ufmt_doc.specs.declared.scan.part.Part.TheVariants.{Leaf, Empty, Open, Label, Colon, Next, Close}
+use Rattle.ufmt_scan.specs.declared.scan.part.Part.TheVariants.{Leaf, Empty, Open, Label, Colon, Next, Close}
 
 -- a struct with a list of two words
 abbrev words : Document

@@ -3,7 +3,7 @@ pub mod DocViews
 pub mod Parts
 pub mod Private
 pub mod ReadError
-pub mod Scan
 pub mod ScanTexts
 pub mod Texts
 pub mod Unquoted
+pub use Rattle.ufmt_scan.specs.Scan

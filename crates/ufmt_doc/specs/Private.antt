@@ -1,12 +1,6 @@
 -- What the steps of readers, conversions and documents are held to. No public contract names any of it: the steps add up to the public ones, and that is proved.
-pub mod Entries
-pub mod FrontWords
 pub mod Growing
-pub mod Level
 pub mod Read
 pub mod Same
-pub mod Scanning
-pub mod Spelled
-pub mod Stack
 pub mod TextSink
 pub mod Within

@@ -2,8 +2,8 @@
 use Rattle.std.specs.Prelude.{ℕ}
 use Rattle.ufmt_doc.specs.declared.reader.error.ReadError.{ReadError}
 use Rattle.ufmt_doc.specs.declared.reader.error.ReadError.TheVariants.{NotText, OutOfMemory}
-use Rattle.ufmt_doc.specs.declared.scan.refusal.Refusal.{Refusal}
-use Rattle.ufmt_doc.specs.declared.scan.refusal.Refusal.TheVariants as refusals
+use Rattle.ufmt_scan.specs.declared.scan.refusal.Refusal.{Refusal}
+use Rattle.ufmt_scan.specs.declared.scan.refusal.Refusal.TheVariants as refusals
 
 abbrev pub code_of : ReadError → ℕ
 code_of NotText = 1

@@ -5,8 +5,8 @@ use Rattle.ufmt_core.specs.declared.layout.Mode.{Mode}
 use Rattle.ufmt_core.specs.declared.layout.Mode.TheVariants.{Plain, Pretty}
 use Rattle.ufmt_core.specs.declared.layout.Count.TheVariants.{Zero}
 use Rattle.ufmt_core.specs.declared.layout.Setting.{Setting}
-use Rattle.ufmt_doc.specs.Scan.{Event}
-use Rattle.ufmt_doc.specs.declared.scan.part.Part.TheVariants.{Leaf, Empty, Open, Label, Colon, Next, Close}
+use Rattle.ufmt_scan.specs.Scan.{Event}
+use Rattle.ufmt_scan.specs.declared.scan.part.Part.TheVariants.{Leaf, Empty, Open, Label, Colon, Next, Close}
 
 -- the depth of a block whose entries are at this depth
 abbrev pub block_depth : Mode → ℕ → ℕ

@@ -6,8 +6,8 @@ use Rattle.ufmt.specs.Token.{IsToken, normal}
 use Rattle.ufmt.specs.Writes.{Seen, Writes}
 use Rattle.ufmt_doc.specs.declared.reader.error.ReadError.{ReadError}
 use Rattle.ufmt_doc.specs.declared.reader.error.ReadError.TheVariants.{NotText}
-use Rattle.ufmt_doc.specs.declared.scan.refusal.Refusal.{Refusal}
-use Rattle.ufmt_doc.specs.declared.scan.refusal.Refusal.TheVariants as refusals
+use Rattle.ufmt_scan.specs.declared.scan.refusal.Refusal.{Refusal}
+use Rattle.ufmt_scan.specs.declared.scan.refusal.Refusal.TheVariants as refusals
 
 -- a token document in normal form that has this text
 abbrev pub IsNormalForm : (Document → List ℕ) → List ℕ → Document → Type 0

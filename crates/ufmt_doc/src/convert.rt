@@ -9,11 +9,11 @@ mod text_sink;
 mod write;
 
 use crate::plain_reader::ReadError;
-use crate::scan::{Refusal, scan};
 use std::alloc::{AllocError, Global};
 use text_sink::TextSink;
 use ufmt::layout::Mode;
 use ufmt::{Cursor, Full, uDebug, uWrite, write_debug, write_pretty};
+use ufmt_scan::scan::{Refusal, scan};
 
 /// The value's plain text. The only refusal is want of memory.
 pub fn plain_text<T: uDebug>(alloc: Global, value: &T) -> Result<String, AllocError>

@@ -12,10 +12,10 @@ mod print;
 mod quoted;
 mod same;
 
-use crate::reader::leaf::{is_leaf, is_word};
 pub use same::same_text;
 use std::alloc::Global;
 use std::mem;
+use ufmt_scan::leaf::{is_leaf, is_word};
 
 // How deep blocks with entries lie at most in a document whose text can be read again.
 const DEEPEST: u8 = 255;

@@ -8,4 +8,5 @@ pub mod laws;
 pub mod plain_reader;
 pub mod pretty_reader;
 mod reader;
-pub mod scan;
+
+pub use ufmt_scan::scan;

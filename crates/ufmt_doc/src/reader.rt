@@ -6,19 +6,15 @@ ghost use Rattle.ufmt_doc.specs.Private.Read.{AnswersAs};
 
 mod document_sink;
 mod error;
-pub(crate) mod escape;
-pub(crate) mod leaf;
-pub(crate) mod level;
 mod open_block;
 mod open_blocks;
-mod quoted;
 
 use crate::doc::Doc;
-use crate::scan::scan;
 pub use error::ReadError;
 use open_blocks::OpenBlocks;
 use std::alloc::Global;
 use ufmt::layout::Mode;
+use ufmt_scan::scan::scan;
 
 /// The document that the whole text is of.
 pub(crate) fn read_text(alloc: Global, mode: Mode, input: &[u8]) -> Result<Doc, ReadError>

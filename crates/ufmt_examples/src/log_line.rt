@@ -3,7 +3,6 @@ ghost use Rattle.std.specs.Prelude.{List, ℕ, IsErrOf, IsOk};
 ghost use Rattle.ufmt.specs.Buffer.{Fronts};
 ghost use Rattle.ufmt.specs.Layout.{plain_text, pretty_text};
 ghost use Rattle.ufmt_doc.specs.Texts.{IsConverted, IsNoText};
-ghost use Rattle.ufmt_doc.specs.declared.scan.refusal.Refusal.TheVariants.{NotText};
 
 #[cfg(test)]
 mod tests;
@@ -20,7 +19,7 @@ pub fn pretty_line(line: &[u8], buffer: &mut [u8; 256]) -> Result<usize, Refusal
         → Fronts buffer.old text result buffer.new }
     ensures is_text { IsOk result
         → (text : List ℕ) × IsConverted plain_text pretty_text line.now text }
-    ensures not_text { IsErrOf result NotText → IsNoText plain_text line.now }
+    ensures not_text { IsErrOf result Refusal.NotText → IsNoText plain_text line.now }
 {
     pretty_into(buffer, line)
 }

@@ -6,9 +6,9 @@ use Rattle.ufmt_core.specs.declared.layout.Kind.TheVariants.{Brackets, Braces, S
 use Rattle.ufmt_doc.specs.declared.doc.Doc.{Doc}
 use Rattle.ufmt_doc.specs.declared.reader.open_block.OpenBlock.{OpenBlock}
 use Rattle.ufmt_doc.specs.declared.reader.open_blocks.OpenBlocks.{OpenBlocks}
-use Rattle.ufmt_doc.specs.declared.scan.part.Part.TheVariants.{Leaf, Empty, Open, Label, Colon, Next, Close}
+use Rattle.ufmt_scan.specs.declared.scan.part.Part.TheVariants.{Leaf, Empty, Open, Label, Colon, Next, Close}
 use Rattle.ufmt_doc.specs.Doc.{doc_document}
-use Rattle.ufmt_doc.specs.Scan.{Event}
+use Rattle.ufmt_scan.specs.Scan.{Event}
 
 -- an open block: its document so far, and what waits in it: a key, or a field's name as a leaf
 abbrev pub Block : Type 0

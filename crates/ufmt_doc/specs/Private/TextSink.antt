@@ -2,7 +2,7 @@
 use Rattle.std.specs.Prelude.{◌≡◌, Bool, List}
 use Rattle.ufmt.specs.Writes.{Seen, Writes}
 use Rattle.ufmt_doc.specs.declared.convert.text_sink.TextSink.{TextSink}
-use Rattle.ufmt_doc.specs.Scan.{Event}
+use Rattle.ufmt_scan.specs.Scan.{Event}
 use Rattle.ufmt_doc.specs.ScanTexts.{written, setting_after, texts_written, setting_behind}
 
 -- it wrote a part, or a beginning of what is written for it

@@ -9,9 +9,9 @@ ghost use Rattle.ufmt_core.proofs.Writing.{Writes-nothing};
 use super::write::{
     write_empty, write_ending, write_label, write_next, write_opening, write_piece,
 };
-use crate::scan::{Part, Sink};
 use ufmt::layout::{COLON, Mode, Setting};
 use ufmt::uWrite;
+use ufmt_scan::scan::{Part, Sink};
 
 /// A writer, and the mode and depth at which the text goes on.
 #[derive(Drop)]

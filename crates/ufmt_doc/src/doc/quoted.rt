@@ -4,14 +4,14 @@ ghost use Rattle.std.specs.Str.{chars};
 ghost use Rattle.ufmt.specs.Document.{leaf};
 ghost use Rattle.ufmt.specs.Quoted.{IsQuote, quoted_char, quoted_text};
 ghost use Rattle.ufmt_doc.specs.Doc.{doc_document};
-ghost use Rattle.ufmt_doc.specs.Private.Spelled.{Tells};
+ghost use Rattle.ufmt_scan.specs.Private.Spelled.{Tells};
 ghost use Rattle.ufmt_doc.specs.Unquoted.{Unquotes};
 
 use super::Doc;
 use crate::convert::plain_text;
-use crate::reader::escape::split_escaped;
-use crate::reader::leaf::is_symbol;
 use std::alloc::{AllocError, Global};
+use ufmt_scan::escape::split_escaped;
+use ufmt_scan::leaf::is_symbol;
 
 impl Doc {
     /// A leaf of the text, in quotation marks and with its escapes, as `uDebug` prints it. It takes

@@ -4,7 +4,7 @@ ghost use Rattle.ufmt.specs.Layout.{plain_text, pretty_text};
 ghost use Rattle.ufmt.specs.Token.{IsToken, normal};
 ghost use Rattle.ufmt_doc.specs.Doc.{doc_document};
 ghost use Rattle.ufmt_doc.specs.Parts.{leaf_part};
-ghost use Rattle.ufmt_doc.specs.Private.Read.{now_of};
+ghost use Rattle.ufmt_scan.specs.Rest.{now_of};
 ghost use Rattle.ufmt_doc.specs.Private.Same.{normal_doc, normal_field, normal_pair};
 
 use super::Doc;

@@ -9,9 +9,9 @@ ghost use Rattle.ufmt_doc.specs.Private.Growing.{Grew, closed, entry_ended, grow
 use super::open_block::OpenBlock;
 use super::open_blocks::OpenBlocks;
 use crate::doc::Doc;
-use crate::scan::{Part, Sink};
 use std::alloc::{AllocError, Global};
 use ufmt::layout::Kind;
+use ufmt_scan::scan::{Part, Sink};
 
 // How many blocks may be open, one in another.
 const MOST_OPEN: usize = 256;

@@ -3,8 +3,8 @@ ghost use Rattle.std.specs.Prelude.{◌≡◌};
 ghost use Rattle.ufmt_doc.specs.ReadError.{code_of, error_of};
 ghost use Rattle.ufmt_doc.specs.declared.reader.error.ReadError.TheVariants.{OutOfMemory};
 
-use crate::scan::Refusal;
 use std::alloc::{AllocError, AllocFailed};
+use ufmt_scan::scan::Refusal;
 
 /// Why a text was not read.
 #[derive(Clone, Copy, PartialEq, Eq, Debug)]

@@ -1,6 +1,6 @@
 use Rattle.std.proofs.Common.{◌∙◌, ap}
 use Rattle.ufmt_doc.specs.Private.Growing.{grown}
-use Rattle.ufmt_doc.specs.Scan.{told}
+use Rattle.ufmt_scan.specs.Scan.{told}
 use Rattle.ufmt_doc.proofs.GrowingDocuments.{whole_is}
 use Rattle.ufmt_doc.proofs.OpenBlocks.{whole_answers}
 use Rattle.ufmt_doc.proofs.reader.read_text.Goals as goal

@@ -1,5 +1,0 @@
-use Rattle.ufmt_doc.proofs.Strips.{strip_prefix-strip}
-use Rattle.ufmt_doc.proofs.reader.level.strip.Goals as goal
-
-pub returns : goal.returns
-returns c = strip_prefix-strip c.args.text.now c.args.input.now c.strip_prefix.result c.strip_prefix.ensures.cases

@@ -1,0 +1,70 @@
+-- An open block behind one of its entries: the next entry, or its end.
+use Rattle.std.proofs.Common.{◌≡◌, refl, ℕ, zero, suc, ◌<◌, ◌≤◌, Bool, true, false, List, [], ◌∷◌, length, length-append, Option, Some, None, option_map, option_and_then, arith}
+use Rattle.ufmt.specs.Document.{Document}
+use Rattle.ufmt.specs.Layout.{Frame, ending, inside, next, separator, trail}
+use Rattle.ufmt_core.specs.declared.layout.Count.{Count}
+use Rattle.ufmt_core.specs.declared.layout.Setting.{Setting}
+use Rattle.ufmt_core.specs.declared.layout.Count.TheVariants.{One}
+use Rattle.ufmt.specs.Reading.{Parse, choose, parse_map, strip, read_word, read_pair, read_others, read_after_first}
+use Rattle.ufmt.proofs.Parsing.{strip_found, same_parts}
+use Rattle.ufmt.proofs.ReadingTurns.{Takes, strip_within, read_takes, read_pair_takes, read_word_takes}
+use Rattle.ufmt_scan.specs.Private.Entries.{behind_entry, read_more, read_on}
+use Rattle.ufmt_scan.specs.declared.level.Level.{Level}
+use Rattle.ufmt_scan.specs.Private.Level.{budget_of, entry_at, entry_of, setting_at}
+
+-- behind a text that has a byte it is shorter
+pub strip_shortens : (c : ℕ) (text t u : List ℕ) → strip (c ∷ text) t ≡ Some u → length u < length t
+strip_shortens c text t u h = rw (strip_found (c ∷ text) t u h, length-append (c ∷ text) u) (omega arith)
+
+-- nor is what is left behind an entry longer
+pub behind_within : (f : Frame) (s : Setting) (before : Count) (t : List ℕ) (goes : Bool) (v : List ℕ)
+    → behind_entry f s before t ≡ Some (goes, v) → length v ≤ length t
+unfolding behind_entry
+behind_within f s before t goes v h = behind (strip (trail s.mode) t) refl h
+  where
+    chosen : (u : List ℕ) (o e : Option (List ℕ)) → strip (separator (inside s).mode (inside s).depth) u ≡ o
+        → strip (ending f s (next before)) u ≡ e
+        → choose o (λ v. Some (true, v)) (option_map {U = Bool × List ℕ} (λ v. (false, v)) e) ≡ Some (goes, v) → length v ≤ length u
+    chosen u None None a b h = absurd (cc)
+    chosen u None (Some w) a b h = let same = (same_parts {A = Bool} {B = List ℕ} (false, w) (goes, v) h).1 in rw (← same) (strip_within (ending f s (next before)) u w b)
+    chosen u (Some w) e a b h = let same = (same_parts {A = Bool} {B = List ℕ} (true, w) (goes, v) h).1 in rw (← same) (strip_within (separator (inside s).mode (inside s).depth) u w a)
+
+    behind : (o : Option (List ℕ)) → strip (trail s.mode) t ≡ o
+        → option_and_then (λ u. choose (strip (separator (inside s).mode (inside s).depth) u) (λ v. Some (true, v))
+        (option_map {U = Bool × List ℕ} (λ v. (false, v)) (strip (ending f s (next before)) u))) o ≡ Some (goes, v) → length v ≤ length t
+    behind None a h = absurd (cc)
+    behind (Some u) a h =
+        let first = strip_within (trail s.mode) t u a in
+        let second = chosen u (strip (separator (inside s).mode (inside s).depth) u) (strip (ending f s (next before)) u) refl refl h in
+        omega arith
+
+-- what reads the entries of a block takes a byte
+entry_takes : (s : Setting) (n : ℕ) → Takes (entry_at s n)
+entry_takes s zero = record { takes = λ t x u h. absurd (cc) }
+entry_takes s (suc n) = read_takes (inside s) n
+
+-- so do what reads an entry, a pair or a field at a level
+pub entry_of_takes : (level : Level) → Takes (entry_of level)
+entry_of_takes level = entry_takes (setting_at level) (budget_of level)
+
+pub pair_takes : (level : Level) → Takes (read_pair (entry_of level) (entry_of level))
+pair_takes level = read_pair_takes (entry_of level) (entry_of level) (entry_of_takes level) (entry_of_takes level)
+
+pub field_takes : (level : Level) → Takes (read_pair read_word (entry_of level))
+field_takes level = read_pair_takes read_word (entry_of level) read_word_takes (entry_of_takes level)
+
+-- the first entry of a block, whatever it is read as
+pub first_is_read_on : {A : Type 0} (q : Parse A) (f : Frame) (s : Setting) (make : List A → Document) (o : Option (A × List ℕ))
+    → option_and_then (λ x. read_after_first q f s make x.0 x.1) o ≡ read_on q f s make [] o
+unfolding read_more
+first_is_read_on {A} q f s make None = refl
+first_is_read_on {A} q f s make (Some x) = behind (strip (trail s.mode) x.1)
+  where
+    mapped : (o : Option (List A × List ℕ)) → parse_map make (parse_map (λ ys. x.0 ∷ ys) o) ≡ parse_map (λ ys. make (x.0 ∷ ys)) o
+    mapped None = refl
+    mapped (Some p) = refl
+
+    behind : (o : Option (List ℕ)) → parse_map make (option_and_then (λ u. parse_map (λ ys. x.0 ∷ ys) (read_others q f s One u)) o)
+        ≡ option_and_then (λ u. parse_map (λ ys. make (x.0 ∷ ys)) (read_others q f s One u)) o
+    behind None = refl
+    behind (Some u) = mapped (read_others q f s One u)

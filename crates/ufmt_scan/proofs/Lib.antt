@@ -1,0 +1,14 @@
+pub mod EntrySteps
+pub mod DocumentParts
+pub mod Leaves
+pub mod QuotedCharacter
+pub mod QuotedLeaves
+pub mod ScanLabels
+pub mod ScanWhole
+pub mod Scans
+pub mod Spelled
+pub mod Stacks
+pub mod Strips
+pub mod Telling
+pub mod TellingParts
+pub mod WordBytes

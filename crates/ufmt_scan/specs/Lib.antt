@@ -1,0 +1,3 @@
+pub mod Private
+pub mod Rest
+pub mod Scan

@@ -1,0 +1,7 @@
+-- What the steps of the scanner are held to. No public contract names any of it: the steps add up to the public ones, and that is proved.
+pub mod Entries
+pub mod FrontWords
+pub mod Level
+pub mod Scanning
+pub mod Spelled
+pub mod Stack

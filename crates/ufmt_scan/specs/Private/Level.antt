@@ -1,0 +1,31 @@
+-- Levels of a reader, as the settings of layouts that they are.
+use Rattle.std.specs.Prelude.{ℕ, zero, suc, ◌-◌, None}
+use Rattle.ufmt.specs.Document.{Document}
+use Rattle.ufmt.specs.Layout.{inside, setting}
+use Rattle.ufmt_core.specs.declared.layout.Mode.{Mode}
+use Rattle.ufmt_core.specs.declared.layout.Setting.{Setting}
+use Rattle.ufmt_core.specs.declared.layout.Mode.TheVariants.{Plain, Pretty}
+use Rattle.ufmt.specs.Reading.{Parse, read}
+use Rattle.ufmt_scan.specs.declared.level.Level.{Level}
+
+-- the depth that a document is laid out at, with this many blocks round it
+abbrev pub depth_in : Mode → ℕ → ℕ
+depth_in Plain k = 0
+depth_in Pretty k = k
+
+-- the mode and depth that a document is laid out at
+abbrev pub setting_at : Level → Setting
+setting_at level = setting level.mode (depth_in level.mode level.depth)
+
+-- what reads an entry of a block at this mode and depth: nothing where no block may lie deeper
+abbrev pub entry_at : Setting → ℕ → Parse Document
+entry_at s zero = λ t. None
+entry_at s (suc n) = read (inside s) n
+
+-- how many blocks with entries may lie in a document at this level one in another
+abbrev pub budget_of : Level → ℕ
+budget_of level = 255 - level.depth
+
+-- what reads an entry of a block at this level
+abbrev pub entry_of : Level → Parse Document
+entry_of level = entry_at (setting_at level) (budget_of level)

@@ -1,0 +1,29 @@
+-- What stands in quotes, on the way to the closing quote.
+use Rattle.std.specs.Prelude.{◌≡◌, ℕ, suc, ◌<◌, ◌==◌, Bool, true, List, [], ◌∷◌, ◌++◌, length, Option, Some, option_map, IfSome}
+use Rattle.std.specs.Borrow.{Bor}
+use Rattle.std.specs.Char.{IsScalar}
+use Rattle.std.specs.Str.{all_scalars}
+use Rattle.ufmt.specs.Quoted.{escaped, escaped_bytes, quoted}
+use Rattle.ufmt.specs.ReadingQuoted.{read_inside}
+use Rattle.ufmt_scan.specs.Rest.{now_of}
+
+-- what is left of a text behind bytes as they are written between two of these quotes
+abbrev pub SpelledBefore : ℕ → List ℕ → List ℕ → Type 0
+SpelledBefore quote whole left = (bs : List ℕ) × (whole ≡ escaped_bytes quote bs ++ left)
+
+-- these are the bytes that are written up to the closing quote, if one ends the text
+abbrev pub Tells : ℕ → List ℕ → List ℕ → Type 0
+Tells quote inside bytes = (bs : List ℕ) → inside ≡ escaped_bytes quote bs ++ (quote ∷ []) → bytes ≡ bs
+
+-- what follows the closing quote, behind the opening one
+abbrev pub behind_quote : ℕ → List ℕ → Option (List ℕ)
+behind_quote quote t = option_map (λ x. x.1) (read_inside quote (suc (length t)) t)
+
+-- the answer is whether the characters between the apostrophes are one
+abbrev pub IsOneCharacter : List ℕ → Bool → Type 0
+IsOneCharacter leaf answer = (cs : List ℕ) → all_scalars cs ≡ true → leaf ≡ quoted 39 cs → answer ≡ (length cs == 1)
+
+-- the answer is shorter, and it is what follows the character at the front, if one is written there
+pub record PassesCharacter (inside : List ℕ) (answer : Option (Bor (List ℕ))) : Type 0 where
+  pub shorter : IfSome answer (λ rest. length rest.now < length inside)
+  pub behind : (c : ℕ) (rest : List ℕ) → IsScalar c → inside ≡ escaped 39 c ++ rest → now_of answer ≡ Some rest

@@ -1,0 +1,101 @@
+//! Bytes as they are written between quotes, each in its one spelling.
+ghost use Rattle.std.specs.Prelude.{◌≡◌, ◌<◌, ◌≤◌, option_map};
+ghost use Rattle.std.specs.Char.{digit_value};
+ghost use Rattle.std.specs.List.{slice_index};
+ghost use Rattle.ufmt.specs.Quoted.{IsQuote, escaped_byte};
+ghost use Rattle.ufmt.specs.Reading.{strip};
+ghost use Rattle.ufmt.specs.ReadingQuoted.{read_escaped, told, told_escape, told_number};
+ghost use Rattle.ufmt_scan.specs.Rest.{now_of};
+
+use crate::level::{strip, strip_byte};
+use ufmt::quoted::escape;
+
+/// What follows the byte that is written at the front, between these quotes.
+#[inline(always)]
+pub(super) fn strip_escaped(quote: u8, input: &[u8]) -> Option<&[u8]>
+    requires { IsQuote quote }
+    ensures { now_of result ≡ strip (escaped_byte quote (told input.now)) input.now }
+{
+    let (_, rest) = split_escaped(quote, input)?;
+    Some(rest)
+}
+
+/// The byte that is written at the front, between these quotes, and what follows it.
+pub fn split_escaped(quote: u8, input: &[u8]) -> Option<(u8, &[u8])>
+    requires { IsQuote quote }
+    ensures { option_map (λ x. (x.0, x.1.now)) result ≡ read_escaped quote input.now }
+{
+    let byte = u8::try_from(told(input)).ok()?;
+    Some((byte, strip_spelling(quote, byte, input)?))
+}
+
+// What follows this byte, as it is written between these quotes.
+#[inline(always)]
+fn strip_spelling(quote: u8, byte: u8, input: &[u8]) -> Option<&[u8]>
+    requires { IsQuote quote }
+    ensures { now_of result ≡ strip (escaped_byte quote byte) input.now }
+{
+    match escape(byte, quote) {
+        Some(spelling) => strip(spelling.as_bytes(), input),
+        None => strip_byte(byte, input),
+    }
+}
+
+// The only byte that may be written at the front. Past 255 there is none.
+fn told(input: &[u8]) -> u32
+    ensures told { result ≡ told input.now }
+    ensures past { 255 < result → slice_index input.now 0 ≡ 92 }
+{
+    match byte_at(input, 0) {
+        b'\\' => told_escape(input),
+        first => u32::from(first),
+    }
+}
+
+// The only byte that may be written as a backslash and what follows it.
+fn told_escape(input: &[u8]) -> u32
+    ensures { result ≡ told_escape input.now (slice_index input.now 1) }
+{
+    match byte_at(input, 1) {
+        b'0' => 0,
+        b't' => 9,
+        b'n' => 10,
+        b'r' => 13,
+        b'u' => told_number(input),
+        letter => u32::from(letter),
+    }
+}
+
+// The number of one or two digits between braces.
+fn told_number(input: &[u8]) -> u32
+    ensures { result ≡ told_number input.now }
+{
+    let first = digit_value(byte_at(input, 3));
+    match byte_at(input, 4) {
+        b'}' => first,
+        second => first * 16 + digit_value(second),
+    }
+}
+
+// The byte at this index, or 0 past the end.
+fn byte_at(input: &[u8], index: usize) -> u8
+    ensures { result ≡ slice_index input.now index }
+{
+    match input.get(index) {
+        Some(byte) => *byte,
+        None => 0,
+    }
+}
+
+// The value of a digit or a letter as a digit, and 36 for any other byte.
+fn digit_value(byte: u8) -> u32
+    ensures value { result ≡ digit_value byte }
+    ensures small { result ≤ 36 }
+{
+    match byte {
+        b'0'..=b'9' => u32::from(byte - b'0'),
+        b'A'..=b'Z' => u32::from(byte - b'A') + 10,
+        b'a'..=b'z' => u32::from(byte - b'a') + 10,
+        _ => 36,
+    }
+}

@@ -1,0 +1,89 @@
+//! Texts and characters in quotes at the front of a text.
+ghost use Rattle.std.specs.Prelude.{◌≡◌, option_map};
+ghost use Rattle.std.specs.Str.{is_utf8};
+ghost use Rattle.ufmt.specs.Quoted.{IsQuote};
+ghost use Rattle.ufmt.specs.ReadingQuoted.{is_char, read_between};
+ghost use Rattle.ufmt_scan.specs.Rest.{now_of};
+ghost use Rattle.ufmt_scan.specs.Private.Spelled.{IsOneCharacter, PassesCharacter, SpelledBefore, behind_quote};
+
+use crate::escape::strip_escaped;
+use crate::level::strip_byte;
+use ufmt::quoted::plain_len;
+
+/// A character between apostrophes, with them, and what follows it.
+pub(super) fn split_character(input: &[u8]) -> Option<(&str, &[u8])>
+    ensures { option_map (λ x. (x.0.now, x.1.now)) result ≡ read_between 39 is_char input.now }
+{
+    let (leaf, rest) = split_quoted(b'\'', input)?;
+    if is_character(leaf) {
+        Some((leaf, rest))
+    } else {
+        None
+    }
+}
+
+/// A text between two of these quotes, with them, and what follows it.
+pub(super) fn split_quoted(quote: u8, input: &[u8]) -> Option<(&str, &[u8])>
+    requires { IsQuote quote }
+    ensures { option_map (λ x. (x.0.now, x.1.now)) result ≡ read_between quote is_utf8 input.now }
+{
+    let rest = behind_quote(quote, strip_byte(quote, input)?)?;
+    let (leaf, _) = input.split_at(input.len() - rest.len());
+    // Tested once for all of it: escapes are ASCII.
+    match str::from_utf8(leaf) {
+        Ok(leaf) => Some((leaf, rest)),
+        Err(_) => None,
+    }
+}
+
+// What follows the closing quote.
+fn behind_quote(quote: u8, input: &[u8]) -> Option<&[u8]>
+    requires { IsQuote quote }
+    ensures { now_of result ≡ behind_quote quote input.now }
+{
+    let mut rest = behind_stretch(quote, input);
+    'escapes: loop {
+        if let Some(behind) = strip_byte(quote, rest) {
+            return Some(behind);
+        }
+        rest = behind_stretch(quote, strip_escaped(quote, rest)?);
+    }
+}
+
+// What follows bytes that stand for themselves, several of which are passed at once between quotation
+// marks.
+fn behind_stretch(quote: u8, input: &[u8]) -> &[u8]
+    ensures { SpelledBefore quote input.now result.now }
+{
+    if quote == b'"' {
+        input.split_at(plain_len(input)).1
+    } else {
+        input
+    }
+}
+
+// Whether just one character stands between the apostrophes.
+fn is_character(leaf: &str) -> bool
+    ensures { IsOneCharacter leaf.now result }
+{
+    let mut characters = leaf.chars();
+    let Some(_apostrophe) = characters.next() else {
+        return false;
+    };
+    match behind_character(characters.as_str()) {
+        Some(rest) => rest.len() == 1,
+        None => false,
+    }
+}
+
+// What follows the character that is written at the front, between apostrophes.
+fn behind_character(inside: &str) -> Option<&[u8]>
+    ensures { PassesCharacter inside.now result }
+{
+    if inside.as_bytes().first()?.is_ascii() {
+        return strip_escaped(b'\'', inside.as_bytes());
+    }
+    let mut characters = inside.chars();
+    characters.next()?;
+    Some(characters.as_str().as_bytes())
+}
