@@ -8,10 +8,11 @@ use Rattle.ufmt.specs.Reading.{choose, parse_map, strip, read_symbol, read_brace
 use Rattle.ufmt.specs.Token.{IsWord}
 use Rattle.ufmt_scan.specs.declared.level.Level.{Level}
 use Rattle.ufmt_scan.specs.declared.scan.part.Part.TheVariants.{Open, Colon}
+use Rattle.ufmt_scan.specs.declared.scan.stage.Stage.{Stage}
 use Rattle.ufmt_scan.specs.declared.scan.stage.Stage.TheVariants as stages
 use Rattle.ufmt_scan.specs.Scan.{Event, plainly, told, told_entries, told_pairs, told_fields, told_tail}
 use Rattle.ufmt_scan.specs.Private.Level.{entry_of, setting_at}
-use Rattle.ufmt_scan.specs.Private.Scanning.{Told, behind_part, prefixed, stage_told, tell_block, tell_colon, tell_value, told_field, told_pair, entry_told, pair_told, field_told}
+use Rattle.ufmt_scan.specs.Private.Scanning.{Told, behind_part, prefixed, stage_told, tell_block, tell_colon, tell_value, told_field, told_pair, entry_told, pair_told, field_told, turn_told}
 use Rattle.ufmt_scan.proofs.DocumentParts.{braces_begin, list_begins, map_begins, set_begins, struct_begins, tuple_begins, unnamed_begins}
 use Rattle.ufmt_scan.proofs.Telling.{block_tells, mapped_takes}
 use Rattle.ufmt_scan.proofs.EntrySteps.{entry_of_takes, field_takes, pair_takes}
@@ -125,11 +126,18 @@ pair_tells level t = by_key (entry_of level t)
     by_key (Some x) = by_colon x.0 (strip (codes ": ") x.1)
 
 -- an entry, a pair or a field that is told takes a byte
-pub entry_told_takes : (level : Level) → Takes (entry_told level)
+entry_told_takes : (level : Level) → Takes (entry_told level)
 entry_told_takes level = mapped_takes (entry_of level) told (entry_of_takes level)
 
-pub pair_told_takes : (level : Level) → Takes (pair_told level)
+pair_told_takes : (level : Level) → Takes (pair_told level)
 pair_told_takes level = mapped_takes (read_pair (entry_of level) (entry_of level)) told_pair (pair_takes level)
 
-pub field_told_takes : (level : Level) → Takes (field_told level)
+field_told_takes : (level : Level) → Takes (field_told level)
 field_told_takes level = mapped_takes (read_pair read_word (entry_of level)) told_field (field_takes level)
+
+pub turn_told_takes : (level : Level) (next : Stage) → Takes (turn_told level next)
+turn_told_takes level (stages.Entry kind before) = entry_told_takes level
+turn_told_takes level stages.Braces = entry_told_takes level
+turn_told_takes level stages.Key = pair_told_takes level
+turn_told_takes level (stages.Value before) = pair_told_takes level
+turn_told_takes level (stages.Field before) = field_told_takes level

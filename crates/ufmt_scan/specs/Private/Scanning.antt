@@ -47,6 +47,14 @@ pair_told level t = parse_map told_pair (read_pair (entry_of level) (entry_of le
 abbrev pub field_told : Level → Parse (List Event)
 field_told level t = parse_map told_field (read_pair read_word (entry_of level) t)
 
+-- an entry, a pair or a field, as it is told of a block that goes on at this stage
+abbrev pub turn_told : Level → Stage → Parse (List Event)
+turn_told level (stages.Entry kind before) = entry_told level
+turn_told level stages.Braces = entry_told level
+turn_told level stages.Key = pair_told level
+turn_told level (stages.Value before) = pair_told level
+turn_told level (stages.Field before) = field_told level
+
 -- what is told behind an entry, where the block has so many with it and `q` tells them
 unfoldable pub rest_told : Parse (List Event) → Frame → Setting → Kind → Count → Parse (List Event)
 rest_told q f s kind count t = option_and_then (λ u. parse_map (told_tail kind count) (read_others q f s count u)) (strip (trail s.mode) t)
@@ -84,6 +92,10 @@ coming level stages.Braces t = entry_told level t
 coming level stages.Key t = entry_told level t
 coming level (stages.Value before) t = entry_told level t
 coming level (stages.Field before) t = field_told level t
+
+-- behind an entry a block of this kind goes on at this stage
+abbrev pub GoesOnAt : Level → Kind → Stage → Type 0
+GoesOnAt level kind next = (t : List ℕ) → stage_told level next (coming level next t) ≡ tell_block (turn_told level next) level kind Several (turn_told level next t)
 
 -- the stage of a block that opens
 abbrev pub first_stage : Kind → Stage

@@ -3,7 +3,7 @@ ghost use Rattle.std.specs.Prelude.{[], length, Some};
 ghost use Rattle.ufmt_core.specs.declared.layout.Kind.TheVariants.{Braces};
 ghost use Rattle.ufmt_core.specs.declared.layout.Count.TheVariants.{Several};
 ghost use Rattle.ufmt_scan.specs.declared.scan.stage.Stage.TheVariants.{Value};
-ghost use Rattle.ufmt_scan.specs.Private.Scanning.{Follows, coming, entry_told, pair_told, field_told, stage_told, tell_block, tell_colon};
+ghost use Rattle.ufmt_scan.specs.Private.Scanning.{Follows, GoesOnAt, coming, stage_told, tell_block, tell_colon, turn_told};
 
 use super::part::Part;
 use super::stage::Stage;
@@ -20,75 +20,48 @@ pub(super) fn behind<S, const PRETTY: bool>(
     ensures { Follows level (length input.now) result (stage_told level stage (Some ([], input.now))) }
 {
     match stage {
-        Stage::Entry(kind, before) => behind_entry::<S, PRETTY>(level, kind, before, input),
+        Stage::Entry(kind, before) => {
+            let next = Stage::Entry(kind, Count::Several);
+            behind_entry::<S, PRETTY>(level, kind, before, next, input)
+        }
         Stage::Braces => match strip_colon(input) {
             Some(rest) => Some((Part::Colon, Stage::Value(Count::Zero), rest)),
-            None => behind_entry::<S, PRETTY>(level, Kind::Braces, Count::Zero, input),
+            None => {
+                let next = Stage::Entry(Kind::Braces, Count::Several);
+                behind_entry::<S, PRETTY>(level, Kind::Braces, Count::Zero, next, input)
+            }
         },
         Stage::Key => {
             let rest = strip_colon(input)?;
             Some((Part::Colon, Stage::Value(Count::Several), rest))
         }
-        Stage::Value(before) => behind_value::<S, PRETTY>(level, before, input),
-        Stage::Field(before) => behind_field::<S, PRETTY>(level, before, input),
+        Stage::Value(before) => {
+            behind_entry::<S, PRETTY>(level, Kind::Braces, before, Stage::Key, input)
+        }
+        Stage::Field(before) => {
+            let next = Stage::Field(Count::Several);
+            behind_entry::<S, PRETTY>(level, Kind::Struct, before, next, input)
+        }
     }
 }
 
-// Behind an entry of a list, a set or a tuple.
+// Behind an entry, a pair or a field of a block that goes on at this stage.
 #[inline(always)]
 fn behind_entry<S, const PRETTY: bool>(
     level: Level,
     kind: Kind,
     before: Count,
+    next: Stage,
     input: &[u8],
 ) -> Option<(Part, Stage, &[u8])>
+    requires { GoesOnAt level kind next }
     ensures { Follows level (length input.now) result
-        (tell_block (entry_told level) level kind before (Some ([], input.now))) }
+        (tell_block (turn_told level next) level kind before (Some ([], input.now))) }
 {
     let (goes_on, rest) = level.behind_entry(kind, before, input)?;
     if goes_on {
-        Some((Part::Next, Stage::Entry(kind, Count::Several), rest))
+        Some((Part::Next, next, rest))
     } else {
-        Some((Part::Close(kind, before.next()), Stage::Braces, rest))
-    }
-}
-
-// Behind the value of a pair.
-#[inline(always)]
-fn behind_value<S, const PRETTY: bool>(
-    level: Level,
-    before: Count,
-    input: &[u8],
-) -> Option<(Part, Stage, &[u8])>
-    ensures { Follows level (length input.now) result
-        (tell_block (pair_told level) level Braces before (Some ([], input.now))) }
-{
-    let (goes_on, rest) = level.behind_entry(Kind::Braces, before, input)?;
-    if goes_on {
-        Some((Part::Next, Stage::Key, rest))
-    } else {
-        Some((Part::Close(Kind::Braces, before.next()), Stage::Key, rest))
-    }
-}
-
-// Behind the value of a field.
-#[inline(always)]
-fn behind_field<S, const PRETTY: bool>(
-    level: Level,
-    before: Count,
-    input: &[u8],
-) -> Option<(Part, Stage, &[u8])>
-    ensures { Follows level (length input.now) result
-        (stage_told level (Stage.Field before) (Some ([], input.now))) }
-{
-    let (goes_on, rest) = level.behind_entry(Kind::Struct, before, input)?;
-    if goes_on {
-        Some((Part::Next, Stage::Field(Count::Several), rest))
-    } else {
-        Some((
-            Part::Close(Kind::Struct, before.next()),
-            Stage::Field(Count::Several),
-            rest,
-        ))
+        Some((Part::Close(kind, before.next()), next, rest))
     }
 }
