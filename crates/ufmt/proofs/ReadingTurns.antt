@@ -1,5 +1,5 @@
 -- What is left of a block is read turn by turn: the number of turns may be forgotten.
-use Rattle.std.proofs.Common.{◌≡◌, refl, ap, ◌∙◌, ℕ, zero, suc, ◌<◌, ◌≤◌, List, ◌∷◌, ◌++◌, length, length-append, Option, Some, None, option_and_then, codes, arith}
+use Rattle.std.proofs.Common.{◌≡◌, refl, ap, ℕ, zero, suc, ◌<◌, ◌≤◌, List, ◌∷◌, ◌++◌, length, length-append, Option, Some, None, option_and_then, codes, arith}
 use Rattle.ufmt_core.specs.Document.{Document}
 use Rattle.ufmt_core.specs.Layout.{Frame, inside, lead, trail, next, layout}
 use Rattle.ufmt_core.specs.declared.layout.Setting.{Setting}

@@ -1,11 +1,11 @@
 -- A block whose entries a loop writes, one a turn: what is left of it before each turn.
 use Rattle.std.proofs.Common.{◌≡◌, ℕ, List, [], ◌∷◌, Bool, true, false, codes, subst, sym, ◌∙◌}
-use Rattle.ufmt_core.specs.Document.{Document, list_of, set_of, map_of, struct_of, tuple_of, Documents, Pairs, Fields}
-use Rattle.ufmt_core.specs.Layout.{Setting, Kind, Brackets, Braces, Struct, tuple_kind}
+use Rattle.ufmt_core.specs.Document.{Document, set_of, map_of, struct_of, tuple_of, Documents, Pairs, Fields}
+use Rattle.ufmt_core.specs.Layout.{Setting, Kind, Braces, Struct, tuple_kind}
 use Rattle.ufmt_core.specs.Writes.{Seen}
 use Rattle.ufmt_core.specs.Formatter.{Formatter, LaysOut}
 use Rattle.ufmt_core.specs.Block.{Block, WritesEnding, WritesEntry, WritesOpening, ending_of, remaining_entries, remaining_fields, remaining_pairs}
-use Rattle.ufmt_core.proofs.Printing.{Completes, IsBlock, LaysOut-opened, list-is_block, set-is_block, map-is_block, struct-is_block, tuple-is_block, entry_written, entry_failed, finished}
+use Rattle.ufmt_core.proofs.Printing.{Completes, IsBlock, LaysOut-opened, set-is_block, map-is_block, struct-is_block, tuple-is_block, entry_written, entry_failed, finished}
 
 module _ {W : Type 0} where
   -- once what is left of the block is written, the document is laid out

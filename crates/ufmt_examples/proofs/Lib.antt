@@ -1,1 +1,2 @@
 pub mod ReadingTokens
+pub mod ReadableTexts

@@ -1,11 +1,8 @@
 -- Words of a text, byte by byte.
-use Rattle.std.proofs.Common.{◌≡◌, refl, ◌∙◌, sym, ℕ, zero, suc, ◌+◌, ◌<◌, true, false, List, [], ◌∷◌, length, take, drop, get_or, append-nil, append_assoc, arith}
+use Rattle.std.proofs.Common.{◌≡◌, ℕ, zero, suc, ◌<◌, true, List, [], ◌∷◌, get_or, arith}
 use Rattle.std.specs.Str.{IsAscii}
-use Rattle.std.proofs.lemmas.List.{drop_more, take_more}
 use Rattle.std.proofs.lemmas.Bool.Decides.{nat_tests}
 use Rattle.ufmt.specs.Token.{is_word_byte, AreWordBytes}
-use Rattle.ufmt.specs.Reading.{word_of, after_word}
-use Rattle.ufmt_scan.specs.Private.FrontWords.{PassesWordBytes}
 
 -- a byte of a word is one of ASCII
 word_byte_is_ascii : (c : ℕ) → is_word_byte c ≡ true → c < 128

@@ -86,22 +86,22 @@ fn what_is_no_text_is_told_from_a_full_buffer(rt: HostRuntime) {
     }
 }
 
-// Whether the text of this mode is converted to the front of a buffer with room enough, and the bytes
-// behind it stay.
-fn is_in_front(mode: Mode, text: &str, other: &str) -> bool {
+// Whether the conversion into a buffer with room enough says so of the text and leaves this in front,
+// and the bytes behind it stay.
+fn is_in_front(mode: Mode, text: &str, is_text: bool, front: &str) -> bool {
     let mut bytes = [b'#'; 64];
     let answer = match mode {
         Mode::Plain => pretty_into(&mut bytes, text.as_bytes()),
         Mode::Pretty => plain_into(&mut bytes, text.as_bytes()),
     };
-    match answer {
-        Ok(count) => {
-            count == other.len()
-                && bytes.starts_with(other.as_bytes())
-                && bytes.iter().skip(count).all(|byte| *byte == b'#')
-        }
-        Err(_) => false,
-    }
+    let is_said = match answer {
+        Ok(count) => is_text && count == front.len(),
+        Err(Refusal::NotText) => !is_text,
+        Err(Refusal::Refused(Full)) => false,
+    };
+    is_said
+        && bytes.starts_with(front.as_bytes())
+        && bytes.iter().skip(front.len()).all(|byte| *byte == b'#')
 }
 
 #[test]
@@ -110,6 +110,14 @@ fn a_conversion_into_a_buffer_stands_in_front(rt: HostRuntime) {
         "S { a: [1, ()] }",
         "S {\n    a: [\n        1,\n        (),\n    ],\n}",
     );
-    holds(&rt, is_in_front(Mode::Plain, plain, pretty), plain);
-    holds(&rt, is_in_front(Mode::Pretty, pretty, plain), pretty);
+    let rows = [
+        (Mode::Plain, plain, true, pretty),
+        (Mode::Pretty, pretty, true, plain),
+        (Mode::Plain, "[a, b", false, "[\n    a,\n    b"),
+        (Mode::Pretty, "[\n    a\n]", false, "[a"),
+        (Mode::Plain, ", a", false, ""),
+    ];
+    for (mode, text, is_text, front) in rows {
+        holds(&rt, is_in_front(mode, text, is_text, front), text);
+    }
 }

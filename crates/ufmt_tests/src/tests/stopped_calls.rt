@@ -68,7 +68,7 @@ impl<'a> Calls<'a> {
 }
 
 /// What a builder's calls leave: the last of them with its answer, and mode and depth.
-#[derive(PartialEq, Debug, Drop)]
+#[derive(Clone, Copy, PartialEq, Debug)]
 struct Left<'a> {
     last: LastCall<'a>,
     answer: Result<(), Full>,
