@@ -11,7 +11,7 @@ pub mod run;
 use run::{Command, Fault, Watched};
 use std::process::ExitCode;
 use std::{env, io};
-pub use ufmt_doc::{convert, doc, laws, plain_reader, pretty_reader};
+pub use ufmt_doc::{convert, doc, laws, plain_reader, pretty_reader, scan};
 
 // The status where the words are no command.
 const USAGE_STATUS: u8 = 2;

@@ -1,15 +1,10 @@
-pub mod Conversions
 pub mod Docs
 pub mod GrowingDocuments
-pub mod IntoBuffers
-pub mod Lines
 pub mod NormalDocs
 pub mod Normals
 pub mod OpenBlocks
 pub mod Same
-pub mod TextSinks
-pub mod ToldTexts
-pub mod WorkedTold
+pub mod ReadForms
 pub mod Unquoted
 pub mod WholeTexts
 pub mod Within

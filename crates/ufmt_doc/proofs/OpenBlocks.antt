@@ -8,8 +8,8 @@ use Rattle.ufmt.specs.Document.{Document, map_of, struct_of, documents, pairs_of
 use Rattle.ufmt_doc.specs.declared.doc.Doc.{Doc}
 use Rattle.ufmt_doc.specs.declared.doc.Doc.TheVariants.{MapOf, StructOf}
 use Rattle.ufmt_doc.specs.declared.reader.open_block.OpenBlock.{OpenBlock}
-use Rattle.ufmt_doc.specs.declared.reader.error.ReadError.{ReadError}
-use Rattle.ufmt_doc.specs.declared.reader.error.ReadError.TheVariants.{NotText}
+use Rattle.ufmt_scan.specs.declared.error.ReadError.{ReadError}
+use Rattle.ufmt_scan.specs.declared.error.ReadError.TheVariants.{NotText}
 use Rattle.ufmt_doc.specs.Doc.{doc_document}
 use Rattle.ufmt_doc.specs.Private.Read.{AnswersAs}
 use Rattle.ufmt_doc.specs.DocViews.{field_view, fields_view, pair_view, pairs_view}

@@ -5,11 +5,11 @@ use Rattle.ufmt.specs.Layout.{layout, setting}
 use Rattle.ufmt.specs.Reading.{read_text}
 use Rattle.ufmt.proofs.ReadingWhole.{reads_only_texts, refuses_no_text}
 use Rattle.ufmt_doc.specs.declared.doc.Doc.{Doc}
-use Rattle.ufmt_doc.specs.declared.reader.error.ReadError.{ReadError}
-use Rattle.ufmt_doc.specs.declared.reader.error.ReadError.TheVariants.{NotText}
+use Rattle.ufmt_scan.specs.declared.error.ReadError.{ReadError}
+use Rattle.ufmt_scan.specs.declared.error.ReadError.TheVariants.{NotText}
 use Rattle.ufmt_doc.specs.Doc.{doc_document}
 use Rattle.ufmt_doc.specs.Private.Read.{AnswersAs}
-use Rattle.ufmt_doc.specs.Texts.{IsNormalForm, IsNoText}
+use Rattle.ufmt_scan.specs.Texts.{IsNormalForm, IsNoText}
 
 -- a document that was read is a token document in normal form that has the text
 pub is_normal_form : (mode : Mode) (input : List ℕ) (answer : Result Doc ReadError) → AnswersAs doc_document answer (read_text mode input)

@@ -2,8 +2,8 @@ pub mod Doc
 pub mod DocViews
 pub mod Parts
 pub mod Private
-pub mod ReadError
-pub mod ScanTexts
-pub mod Texts
 pub mod Unquoted
 pub use Rattle.ufmt_scan.specs.Scan
+pub use Rattle.ufmt_scan.specs.ReadError
+pub use Rattle.ufmt_scan.specs.ScanTexts
+pub use Rattle.ufmt_scan.specs.Texts

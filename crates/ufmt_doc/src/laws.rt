@@ -3,13 +3,13 @@ ghost use Rattle.std.specs.Prelude.{◌≡◌, string_bytes, IfOk, IsErrOf};
 ghost use Rattle.ufmt.specs.Layout.{plain_text, pretty_text};
 ghost use Rattle.ufmt.specs.Token.{IsToken, normal};
 ghost use Rattle.ufmt_doc.specs.Doc.{doc_document};
-ghost use Rattle.ufmt_doc.specs.Texts.{IsNoText};
+ghost use Rattle.ufmt_scan.specs.Texts.{IsNoText};
 
-use crate::convert::{plain_text, pretty_text, to_plain, to_pretty};
 use crate::doc::Doc;
 use crate::plain_reader::{ReadError, read_plain};
 use crate::pretty_reader::read_pretty;
 use std::alloc::Global;
+use ufmt_scan::convert::{plain_text, pretty_text, to_plain, to_pretty};
 
 /// A plain text that is read and written plainly is itself again.
 pub fn plain_again(alloc: Global, input: &[u8]) -> Result<String, ReadError>

@@ -1,12 +1,11 @@
 #![tactic(auto)]
 
-//! Documents as values, readers of their texts, and conversions of one text to the other.
+//! Documents as values, and readers of their texts.
 
-pub mod convert;
 pub mod doc;
 pub mod laws;
 pub mod plain_reader;
 pub mod pretty_reader;
 mod reader;
 
-pub use ufmt_scan::scan;
+pub use ufmt_scan::{convert, scan};

@@ -2,13 +2,13 @@
 ghost use Rattle.std.specs.Prelude.{IfOk, IsErrOf};
 ghost use Rattle.ufmt.specs.Layout.{plain_text};
 ghost use Rattle.ufmt_doc.specs.Doc.{doc_document};
-ghost use Rattle.ufmt_doc.specs.Texts.{IsNormalForm, IsNoText};
+ghost use Rattle.ufmt_scan.specs.Texts.{IsNormalForm, IsNoText};
 
 use crate::doc::Doc;
-pub use crate::reader::ReadError;
 use crate::reader::read_text;
 use std::alloc::Global;
 use ufmt::layout::Mode;
+pub use ufmt_scan::error::ReadError;
 
 /// The document with this plain text, in normal form. Empty braces are an empty map, and a name
 /// alone is a leaf. `NotText` is answered of what is no token document's plain text, and else

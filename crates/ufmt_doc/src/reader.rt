@@ -5,15 +5,14 @@ ghost use Rattle.ufmt_doc.specs.Doc.{doc_document};
 ghost use Rattle.ufmt_doc.specs.Private.Read.{AnswersAs};
 
 mod document_sink;
-mod error;
 mod open_block;
 mod open_blocks;
 
 use crate::doc::Doc;
-pub use error::ReadError;
 use open_blocks::OpenBlocks;
 use std::alloc::Global;
 use ufmt::layout::Mode;
+use ufmt_scan::error::ReadError;
 use ufmt_scan::scan::scan;
 
 /// The document that the whole text is of.

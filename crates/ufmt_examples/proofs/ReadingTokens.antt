@@ -7,7 +7,7 @@ use Rattle.ufmt.specs.Layout.{plain_text}
 use Rattle.ufmt.specs.Token.{IsToken, normal}
 use Rattle.ufmt.proofs.NumbersAreWords.{HasTokens-integer}
 use Rattle.ufmt_doc.specs.Parts.{field_part, leaf_part}
-use Rattle.ufmt_doc.specs.declared.reader.error.ReadError.{ReadError}
+use Rattle.ufmt_scan.specs.declared.error.ReadError.{ReadError}
 use Rattle.ufmt.proofs.TokenLeaves.{IsWord-from}
 use Rattle.ufmt_user.specs.Logger.{reading_document}
 use Rattle.ufmt_user.specs.declared.logger.Reading.{Reading}

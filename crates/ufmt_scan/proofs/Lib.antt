@@ -12,3 +12,9 @@ pub mod Strips
 pub mod Telling
 pub mod TellingParts
 pub mod WordBytes
+pub mod IntoBuffers
+pub mod Lines
+pub mod TextSinks
+pub mod ToldTexts
+pub mod WorkedTold
+pub mod Conversions

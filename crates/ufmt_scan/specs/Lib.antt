@@ -1,3 +1,6 @@
 pub mod Private
 pub mod Rest
 pub mod Scan
+pub mod ReadError
+pub mod ScanTexts
+pub mod Texts

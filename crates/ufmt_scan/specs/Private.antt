@@ -5,3 +5,4 @@ pub mod Level
 pub mod Scanning
 pub mod Spelled
 pub mod Stack
+pub mod TextSink

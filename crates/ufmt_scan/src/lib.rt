@@ -1,7 +1,9 @@
 #![tactic(auto)]
 
-//! Texts of token documents, told part by part to whatever takes them.
+//! Texts of token documents: told part by part to whatever takes them, and converted to one another.
 
+pub mod convert;
+pub mod error;
 pub mod escape;
 pub mod leaf;
 mod level;

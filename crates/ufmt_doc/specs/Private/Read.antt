@@ -1,7 +1,7 @@
 -- How the answer of a reader stands to what is to be read.
 use Rattle.std.specs.Prelude.{◌≡◌, Option, Some, None, Result, MatchResult}
-use Rattle.ufmt_doc.specs.declared.reader.error.ReadError.{ReadError}
-use Rattle.ufmt_doc.specs.declared.reader.error.ReadError.TheVariants.{NotText}
+use Rattle.ufmt_scan.specs.declared.error.ReadError.{ReadError}
+use Rattle.ufmt_scan.specs.declared.error.ReadError.TheVariants.{NotText}
 
 -- the answer is what there is, seen through f, and `NotText` only where there is nothing
 abbrev pub AnswersAs : {A B : Type 0} → (A → B) → Result A ReadError → Option B → Type 0

@@ -8,8 +8,8 @@ ghost use Rattle.ufmt_scan.specs.Private.Spelled.{Tells};
 ghost use Rattle.ufmt_doc.specs.Unquoted.{Unquotes};
 
 use super::Doc;
-use crate::convert::plain_text;
 use std::alloc::{AllocError, Global};
+use ufmt_scan::convert::plain_text;
 use ufmt_scan::escape::split_escaped;
 use ufmt_scan::leaf::is_symbol;
 

@@ -1,6 +1,6 @@
 use Rattle.std.proofs.Common.{rules}
 use Rattle.ufmt_doc.specs.Doc.{doc_document}
-use Rattle.ufmt_doc.proofs.Conversions.{plain_read_again}
+use Rattle.ufmt_doc.proofs.ReadForms.{plain_read_again}
 use Rattle.ufmt_doc.proofs.laws.normal_by_way_of_plain.Goals as goal
 
 pub returns-clause-ok : goal.returns-clause-ok

@@ -2,7 +2,7 @@ use Rattle.std.proofs.Common.{Some, ap, ◌∙◌}
 use Rattle.std.specs.Prelude.{option_and_then}
 use Rattle.ufmt_doc.specs.Doc.{doc_document}
 use Rattle.ufmt_doc.specs.Parts.{field_part, leaf_part}
-use Rattle.ufmt_doc.proofs.Conversions.{plain_form_is}
+use Rattle.ufmt_doc.proofs.ReadForms.{plain_form_is}
 use Rattle.ufmt_examples.proofs.read_back.field_text.Goals as goal
 
 pub returns-in-Some-clause-found : goal.returns-in-Some-clause-found

@@ -1,6 +1,0 @@
-use Rattle.std.specs.Prelude.{is_ok}
-use Rattle.ufmt_doc.proofs.TextSinks.{hears_part}
-use Rattle.ufmt_doc.proofs.convert.text_sink.TextSinkSink.hear.Goals as goal
-
-pub returns : goal.returns
-returns g c = hears_part g.W.uWrite.seen _ _ _ (is_ok c.write_part.result) c.write_part.ensures

@@ -1,0 +1,150 @@
+-- A sink that lays a text out writes the other text of the document that it is told.
+use Rattle.std.proofs.Common.{◌≡◌, ◌∙◌, refl, ap, sym, subst, ℕ, ◌+◌, ◌≤◌, Bool, true, false, List, [], ◌∷◌, ◌++◌, append-nil, Option, Some, None, Result, Ok, Err, arith}
+use Rattle.std.specs.Borrow.{MutBor}
+use Rattle.std.specs.Prelude.{⊤}
+use Rattle.ufmt.specs.Document.{Document, nest}
+use Rattle.ufmt.specs.Layout.{frame, inside, layout, lead, plain_text, pretty_text, setting}
+use Rattle.ufmt.specs.Reading.{read_text}
+use Rattle.ufmt.specs.Token.{IsToken}
+use Rattle.ufmt.specs.Writes.{Seen, Writes}
+use Rattle.ufmt.proofs.ReadingWhole.{reads_only_texts, refuses_no_text}
+use Rattle.ufmt.proofs.OneWay.{texts_agree}
+use Rattle.ufmt_core.proofs.Writing.{Writes-fails, Writes-then}
+use Rattle.ufmt_core.specs.declared.layout.Count.TheVariants.{Zero}
+use Rattle.ufmt_core.specs.declared.layout.Kind.{Kind}
+use Rattle.ufmt_core.specs.declared.layout.Mode.{Mode}
+use Rattle.ufmt_core.specs.declared.layout.Mode.TheVariants.{Plain, Pretty}
+use Rattle.ufmt_core.specs.declared.layout.Setting.{Setting}
+use Rattle.ufmt_scan.specs.declared.convert.text_sink.TextSink.{TextSink}
+use Rattle.ufmt_scan.specs.declared.scan.part.Part.TheVariants.{Open}
+use Rattle.ufmt_scan.specs.declared.scan.refusal.Refusal.{Refusal}
+use Rattle.ufmt_scan.specs.declared.scan.refusal.Refusal.TheVariants.{NotText, Refused}
+use Rattle.ufmt_scan.specs.Private.TextSink.{WritesPart, Wrote}
+use Rattle.ufmt_scan.specs.Scan.{Event, Hears, Scans, told}
+use Rattle.ufmt_scan.specs.ScanTexts.{written, texts_written, setting_behind}
+use Rattle.ufmt_scan.specs.Texts.{ConvertsTo, IsConverted}
+use Rattle.ufmt_scan.proofs.Conversions.{converted}
+use Rattle.ufmt_scan.proofs.ToldTexts.{setting_behind-append, texts_written-append, told_text}
+
+module _ {W : Type 0} (seen : Seen W) where
+  -- a part behind parts
+  part_behind : (start old new : TextSink W) (es : List Event) (e : Event) (ok : Bool) → Wrote seen true start es old → WritesPart seen old e ok new
+      → Wrote seen ok start (es ++ e ∷ []) new
+  part_behind start old new es e ok before part =
+      let whole = texts_written-append start.setting es (e ∷ [])
+      ∙ ap (λ t. texts_written start.setting es ++ t) (append-nil (written (setting_behind start.setting es) e) ∙ ap (λ s. written s e) (sym before.1)) in (
+        subst (λ t. Writes seen start.writer t ok new.writer) (sym whole) (Writes-then before.0 part.0),
+        part.1 ∙ ap (λ s. setting_behind s (e ∷ [])) before.1 ∙ sym (setting_behind-append start.setting es (e ∷ [])),
+      )
+
+  -- what opens a block, behind its name
+  pub opening_written : {first mid last : W} {name : List ℕ} {ok : Bool} (s i : Setting) (kind : Kind) → i ≡ inside s → Writes seen first name true mid
+      → Writes seen mid ((frame i.mode kind).opening ++ lead (frame i.mode kind) i Zero) ok last → Writes seen first (written s (Open kind, name)) ok last
+  opening_written {first} {mid} {last} {name} {ok} s i kind same before h =
+      Writes-then before (subst (λ x. Writes seen mid ((frame x.mode kind).opening ++ lead (frame x.mode kind) x Zero) ok last) same h)
+
+  -- so it is a lawful sink
+  pub hears_part : (old new : TextSink W) (e : Event) (ok : Bool) → WritesPart seen old e ok new → Hears (Wrote seen true) (Wrote seen false) old e ok new
+  hears_part old new e true part = λ start es before. part_behind start old new es e true before part
+  hears_part old new e false part = λ start es before. part_behind start old new es e false before part
+
+  module _ (from to : Mode) (tells : (d e : Document) → IsToken d → IsToken e → layout (setting from 0) d ≡ layout (setting from 0) e → layout (setting to 0) d ≡ layout (setting to 0) e)
+      (input : List ℕ) (old : TextSink W) (at : old.setting ≡ setting to 0) where
+    -- what is told of a token document is laid out
+    abbrev text_of : Document → List ℕ
+    text_of d = layout (setting to 0) d
+
+    abbrev IsOther : List ℕ → Type 0
+    IsOther text = IsConverted (layout (setting from 0)) (layout (setting to 0)) input text
+
+    told_whole : (d : Document) → IsToken d → texts_written old.setting (told d) ≡ text_of d
+    told_whole d token =
+        let bound : nest d + 0 ≤ 255 = omega (arith, token.1) in
+        ap (λ s. texts_written s (told d)) at ∙ (told_text to 0 d token.0 bound).0
+
+    -- the text of the document that was read is what the input is converted to
+    read_converted : (d : Document) → read_text from input ≡ Some d → IsOther (text_of d)
+    read_converted d is = converted (layout (setting from 0)) (layout (setting to 0)) tells input (text_of d) d (reads_only_texts from input d is) refl
+
+    other_is : (d : Document) → read_text from input ≡ Some d → (text : List ℕ) → IsOther text → text ≡ text_of d
+    other_is d is text other =
+        let form = reads_only_texts from input d is in sym (other.each d form.0 form.2)
+
+    -- and where the input is converted to a text, a document was there to read
+    found : (there : Option Document) → read_text from input ≡ there → (text : List ℕ) → IsOther text → (d : Document) × (there ≡ Some d)
+    found None none text other = absurd (refuses_no_text from input none other.some.0 other.some.1 other.some.2)
+    found (Some d) is text other = (d, refl)
+
+    -- what a scan with that sink does with its writer
+    pub scan_converts : {E : Type 0} (answer : Result (⊤) (Refusal E)) (new : TextSink W) → Scans (Wrote seen true) (Wrote seen false) answer old new (read_text from input)
+        → ConvertsTo seen (layout (setting from 0)) (layout (setting to 0)) input old.writer answer new.writer
+    scan_converts (Ok x) new h =
+        let d = h.0 in
+        let token = (reads_only_texts from input d h.1).0 in
+        let wrote = subst (λ t. Writes seen old.writer t true new.writer) (told_whole d token) h.2.0 in record {
+          ok = λ is. (text_of d, read_converted d h.1);
+          not_text = λ is. absurd (cc);
+          writes = λ text other. subst (λ t. Writes seen old.writer t true new.writer) (sym (other_is d h.1 text other)) wrote;
+          lawful = (text_of d, true, wrote);
+        }
+    scan_converts (Err NotText) new h = record {
+      ok = λ is. absurd (cc);
+      not_text = λ is. refuses_no_text from input h.2;
+      writes = λ text other. let none = refuses_no_text from input h.2 in absurd (none other.some.0 other.some.1 other.some.2);
+      lawful = (texts_written old.setting h.0, true, h.1.0);
+    }
+    scan_converts (Err (Refused e)) new h = record {
+      ok = λ is. absurd (cc);
+      not_text = λ is. absurd (cc);
+      writes = λ text other. refused text other (found (read_text from input) refl text other);
+      lawful = (texts_written old.setting h.0, false, h.1.0);
+    }
+      where
+        refused : (text : List ℕ) → IsOther text → (d : Document) × (read_text from input ≡ Some d) → Writes seen old.writer text false new.writer
+        refused text other at_document =
+            let d = at_document.0 in
+            let token = (reads_only_texts from input d at_document.1).0 in
+            let leads = h.2 d at_document.1 in
+            let whole = other_is d at_document.1 text other ∙ sym (told_whole d token) ∙ ap (texts_written old.setting) leads.1
+            ∙ texts_written-append old.setting h.0 leads.0 in
+            subst (λ t. Writes seen old.writer t false new.writer) (sym whole)
+            (Writes-fails (texts_written (setting_behind old.setting h.0) leads.0) h.1.0)
+
+  pub pretty_converts : {E : Type 0} (input : List ℕ) (old : TextSink W) (answer : Result (⊤) (Refusal E)) (new : TextSink W) → old.setting ≡ setting Pretty 0
+      → Scans (Wrote seen true) (Wrote seen false) answer old new (read_text Plain input) → ConvertsTo seen plain_text pretty_text input old.writer answer new.writer
+  pretty_converts input old answer new at h = scan_converts Plain Pretty (λ d e hd he same. (texts_agree d e hd he).0 same) input old at answer new h
+
+  pub plain_converts : {E : Type 0} (input : List ℕ) (old : TextSink W) (answer : Result (⊤) (Refusal E)) (new : TextSink W) → old.setting ≡ setting Plain 0
+      → Scans (Wrote seen true) (Wrote seen false) answer old new (read_text Pretty input) → ConvertsTo seen pretty_text plain_text input old.writer answer new.writer
+  plain_converts input old answer new at h = scan_converts Pretty Plain (λ d e hd he same. (texts_agree d e hd he).1 same) input old at answer new h
+
+-- a writer behind a reference, and what it does there
+module _ {W : Type 0} (seen : Seen W) where
+  abbrev referred : Seen (MutBor W)
+  referred = record {
+    told = λ r. seen.told r.now;
+    text = λ r. seen.text r.now;
+    room = λ r. seen.room r.now;
+    identity = λ r. r.ghost_name ∷ seen.identity r.now;
+    store = λ r. seen.store r.now;
+  }
+
+  writes_behind : {old new : MutBor W} {text : List ℕ} {ok : Bool} → Writes referred old text ok new → Writes seen old.now text ok new.now
+  writes_behind {old} {new} h =
+      let same : new.ghost_name ∷ seen.identity new.now ≡ old.ghost_name ∷ seen.identity old.now = h.same_identity in record {
+        stays_told = h.stays_told;
+        appended = h.appended;
+        fits = h.fits;
+        room_left = h.room_left;
+        same_identity = cc;
+        untouched = h.untouched;
+      }
+
+  pub converts_behind : {E : Type 0} {from to : Document → List ℕ} {input : List ℕ} {old new : MutBor W} {answer : Result (⊤) (Refusal E)}
+      → ConvertsTo referred from to input old answer new → ConvertsTo seen from to input old.now answer new.now
+  converts_behind h = record {
+    ok = h.ok;
+    not_text = h.not_text;
+    writes = λ text other. writes_behind (h.writes text other);
+    lawful = (h.lawful.0, h.lawful.1, writes_behind h.lawful.2);
+  }

@@ -1,0 +1,186 @@
+-- A sink that writes a text for each part writes the document's layout.
+use Rattle.std.proofs.Common.{◌≡◌, ◌∙◌, refl, ap, sym, ℕ, suc, ◌+◌, ◌-◌, ◌≤◌, List, [], ◌∷◌, ◌++◌, codes, append_assoc, append-nil, arith}
+use Rattle.std.specs.Prelude.{⊤}
+use Rattle.ufmt.specs.Document.{Document, leaf, joined, list_of, set_of, map_of, struct_of, tuple_of, pretty_part, Documents, no_documents, document, Pairs, no_pairs, pair, Fields, no_fields, field, nest, nest_all, nest_pairs, nest_fields}
+use Rattle.ufmt.specs.Layout.{Frame, frame, setting, inside, entry_depth, separator, trail, lead, ending, next, block, block_tail, tuple_kind, layout, texts, pair_texts, field_texts}
+use Rattle.ufmt.specs.Token.{HasTokens, HaveTokens, PairsHaveTokens, FieldsHaveTokens}
+use Rattle.ufmt_core.specs.declared.layout.Count.{Count}
+use Rattle.ufmt_core.specs.declared.layout.Count.TheVariants.{Zero, One, Several}
+use Rattle.ufmt_core.specs.declared.layout.Kind.{Kind}
+use Rattle.ufmt_core.specs.declared.layout.Kind.TheVariants.{Brackets, Braces, Struct}
+use Rattle.ufmt_core.specs.declared.layout.Mode.{Mode}
+use Rattle.ufmt_core.specs.declared.layout.Mode.TheVariants.{Plain, Pretty}
+use Rattle.ufmt_core.specs.declared.layout.Setting.{Setting}
+use Rattle.ufmt_scan.specs.Scan.{Event, plainly, told, told_tail, told_block, told_entries, told_pairs, told_fields}
+use Rattle.ufmt_scan.specs.ScanTexts.{outside, written, setting_after, texts_written, setting_behind}
+use Rattle.ufmt_scan.specs.declared.scan.part.Part.TheVariants.{Leaf, Empty, Open, Label, Colon, Next, Close}
+
+-- parts in a row, and more behind them
+pub texts_written-append : (s : Setting) (es fs : List Event)
+    → texts_written s (es ++ fs) ≡ texts_written s es ++ texts_written (setting_behind s es) fs
+texts_written-append s [] fs = refl
+texts_written-append s (e ∷ es) fs = ap (λ t. written s e ++ t) (texts_written-append (setting_after s e) es fs)
+    ∙ sym (append_assoc (written s e) (texts_written (setting_after s e) es) (texts_written (setting_behind (setting_after s e) es) fs))
+
+pub setting_behind-append : (s : Setting) (es fs : List Event) → setting_behind s (es ++ fs) ≡ setting_behind (setting_behind s es) fs
+setting_behind-append s [] fs = refl
+setting_behind-append s (e ∷ es) fs = setting_behind-append (setting_after s e) es fs
+
+-- for these parts this text is written, from one mode and depth to another
+record AreWritten (s : Setting) (es : List Event) (text : List ℕ) (last : Setting) : Type 0 where
+  pub writes : texts_written s es ≡ text
+  pub leaves : setting_behind s es ≡ last
+
+-- parts behind a part, and parts behind parts
+part_written : {s last : Setting} {es : List Event} {u : List ℕ} (e : Event) (t : List ℕ) → written s e ≡ t
+    → AreWritten (setting_after s e) es u last → AreWritten s (e ∷ es) (t ++ u) last
+part_written {s} {last} {es} {u} e t first more = record {
+  writes = ap (λ w. w ++ texts_written (setting_after s e) es) first ∙ ap (λ w. t ++ w) more.writes;
+  leaves = more.leaves;
+}
+
+parts_written : {s mid last : Setting} {es fs : List Event} {t u : List ℕ} → AreWritten s es t mid → AreWritten mid fs u last
+    → AreWritten s (es ++ fs) (t ++ u) last
+parts_written {s} {mid} {last} {es} {fs} {t} {u} first more = record {
+  writes = texts_written-append s es fs ∙ ap (λ w. w ++ texts_written (setting_behind s es) fs) first.writes
+      ∙ ap (λ at. t ++ texts_written at fs) first.leaves ∙ ap (λ w. t ++ w) more.writes;
+  leaves = setting_behind-append s es fs ∙ ap (λ at. setting_behind at fs) first.leaves ∙ more.leaves;
+}
+
+-- the same of a text that is equal
+same_written : {s last : Setting} {es : List Event} {t u : List ℕ} → AreWritten s es t last → t ≡ u → AreWritten s es u last
+same_written h e = record { writes = h.writes ∙ e; leaves = h.leaves }
+
+-- entries at these parts have these texts, each at this mode and depth
+abbrev EntriesAreWritten : Setting → List (List Event) → List (List ℕ) → Type 0
+EntriesAreWritten i [] [] = ⊤
+EntriesAreWritten i [] (t ∷ ts) = ⊥
+EntriesAreWritten i (es ∷ ess) [] = ⊥
+EntriesAreWritten i (es ∷ ess) (t ∷ ts) = AreWritten i es t i × EntriesAreWritten i ess ts
+
+-- round the entries of a block is the block, where the depth didn't saturate
+outside_inside : (mode : Mode) (k : ℕ) → k + 1 ≤ 255 → outside (inside (setting mode k)) ≡ setting mode k
+outside_inside Plain k few = refl
+outside_inside Pretty k few = let same : entry_depth Pretty k - 1 ≡ k = grind (arith, few) in ap (setting Pretty) same
+
+-- what may nest in a block may do so at its entries' depth
+deeper : (mode : Mode) (k n : ℕ) → suc n + k ≤ 255 → n + entry_depth mode k ≤ 255
+deeper Plain k n few = omega (arith, few)
+deeper Pretty k n few = grind (arith, few)
+
+-- what separates two entries is what a later one has before it
+separator_is : (f : Frame) (i : Setting) (count : Count) → separator i.mode i.depth ≡ lead f i (next count)
+separator_is f i Zero = refl
+separator_is f i One = refl
+separator_is f i Several = refl
+
+-- a block
+module _ (mode : Mode) (k : ℕ) (few : k + 1 ≤ 255) (kind : Kind) where
+  abbrev s : Setting
+  s = setting mode k
+
+  -- what is left of it behind an entry
+  tail_written : (count : Count) (ess : List (List Event)) (ts : List (List ℕ)) → EntriesAreWritten (inside s) ess ts
+      → AreWritten (inside s) (told_tail kind (next count) ess) (trail mode ++ block_tail (frame mode kind) s (next count) ts) s
+  tail_written count [] [] h =
+      let out = outside_inside mode k few in
+      same_written (part_written (plainly (Close kind (next count))) (trail mode ++ ending (frame mode kind) s (next count))
+      (ap (λ o. trail mode ++ ending (frame mode kind) o (next count)) out) (record { writes = refl; leaves = out }))
+      (append-nil (trail mode ++ ending (frame mode kind) s (next count)))
+  tail_written count [] (t ∷ ts) h = absurd h
+  tail_written count (es ∷ ess) [] h = absurd h
+  tail_written count (es ∷ ess) (t ∷ ts) h =
+      let between : List ℕ = lead (frame mode kind) (inside s) (next count) in
+      let left : List ℕ = block_tail (frame mode kind) s (next (next count)) ts in
+      same_written (part_written (plainly Next) (trail mode ++ between)
+      (ap (λ w. trail mode ++ w) (separator_is (frame mode kind) (inside s) count))
+      (parts_written h.0 (tail_written (next count) ess ts h.1)))
+      (append_assoc (trail mode) between (t ++ (trail mode ++ left)))
+
+  -- the whole of one with entries
+  block_written : (name : List ℕ) (alone : Event) (ess : List (List Event)) (ts : List (List ℕ)) {es : List Event} {t : List ℕ}
+      → AreWritten (inside s) es t (inside s) → EntriesAreWritten (inside s) ess ts
+      → AreWritten s (told_block kind name alone (es ∷ ess)) (block kind s name (t ∷ ts)) s
+  block_written name alone ess ts {es} {t} first more =
+      let opening : List ℕ = (frame mode kind).opening in
+      let start : List ℕ = lead (frame mode kind) (inside s) Zero in
+      let left : List ℕ = t ++ (trail mode ++ block_tail (frame mode kind) s One ts) in
+      same_written (part_written (Open kind, name) (name ++ (opening ++ start)) refl
+      (parts_written first (tail_written Zero ess ts more)))
+      (append_assoc name (opening ++ start) left ∙ ap (λ w. name ++ w) (append_assoc opening start left))
+
+-- a leaf, and a name alone
+leaf_written : (s : Setting) (text : List ℕ) → AreWritten s ((Leaf, text) ∷ []) text s
+leaf_written s text = record { writes = append-nil text; leaves = refl }
+
+-- a key and its value, and a field's name and its value
+pair_written : {s : Setting} {es fs : List Event} {t u : List ℕ} → AreWritten s es t s → AreWritten s fs u s
+    → AreWritten s (es ++ plainly Colon ∷ fs) (t ++ (codes ": " ++ u)) s
+pair_written key value = parts_written key (part_written (plainly Colon) (codes ": ") refl value)
+
+field_written : {s : Setting} {es : List Event} {t : List ℕ} (label : List ℕ) → AreWritten s es t s
+    → AreWritten s ((Label, label) ∷ es) (label ++ (codes ": " ++ t)) s
+field_written {t = t} label value = same_written (part_written (Label, label) (label ++ codes ": ") refl value) (append_assoc label (codes ": ") t)
+
+-- for the parts of a token document its layout is written, and mode and depth are behind them as before
+module _ (mode : Mode) where
+  mutual
+    told_written : (k : ℕ) (d : Document) → HasTokens d → nest d + k ≤ 255
+        → AreWritten (setting mode k) (told d) (layout (setting mode k) d) (setting mode k)
+    told_written k (leaf text) h few = leaf_written (setting mode k) text
+    told_written k (joined ds) h few = absurd h
+    told_written k (list_of no_documents) h few = record { writes = refl; leaves = refl }
+    told_written k (list_of (document d ds)) h few =
+        block_written mode k (omega arith) Brackets [] (plainly (Empty Brackets)) _ _
+        (told_written (entry_depth mode k) d h.0 (deeper mode k (nest d) (omega arith)))
+        (entries_written (entry_depth mode k) ds h.1 (deeper mode k (nest_all ds) (omega arith)))
+    told_written k (set_of no_documents) h few = record { writes = refl; leaves = refl }
+    told_written k (set_of (document d ds)) h few =
+        block_written mode k (omega arith) Braces [] (plainly (Empty Braces)) _ _
+        (told_written (entry_depth mode k) d h.0 (deeper mode k (nest d) (omega arith)))
+        (entries_written (entry_depth mode k) ds h.1 (deeper mode k (nest_all ds) (omega arith)))
+    told_written k (map_of no_pairs) h few = record { writes = refl; leaves = refl }
+    told_written k (map_of (pair key value ps)) h few =
+        block_written mode k (omega arith) Braces [] (plainly (Empty Braces)) _ _
+        (pair_written (told_written (entry_depth mode k) key h.0 (deeper mode k (nest key) (omega arith)))
+        (told_written (entry_depth mode k) value h.1 (deeper mode k (nest value) (omega arith))))
+        (pairs_written (entry_depth mode k) ps h.2 (deeper mode k (nest_pairs ps) (omega arith)))
+    told_written k (struct_of name no_fields) h few = record { writes = refl; leaves = refl }
+    told_written k (struct_of name (field label value fs)) h few =
+        block_written mode k (omega arith) Struct name (Leaf, name) _ _
+        (field_written label (told_written (entry_depth mode k) value h.1.1 (deeper mode k (nest value) (omega arith))))
+        (fields_written (entry_depth mode k) fs h.1.2 (deeper mode k (nest_fields fs) (omega arith)))
+    told_written k (tuple_of [] no_documents) h few = absurd h
+    told_written k (tuple_of (c ∷ name) no_documents) h few = record { writes = refl; leaves = refl }
+    told_written k (tuple_of name (document d ds)) h few =
+        block_written mode k (omega arith) (tuple_kind name) name (Leaf, name) _ _
+        (told_written (entry_depth mode k) d h.1 (deeper mode k (nest d) (omega arith)))
+        (entries_written (entry_depth mode k) ds h.2 (deeper mode k (nest_all ds) (omega arith)))
+    told_written k (pretty_part d) h few = absurd h
+
+    entries_written : (k : ℕ) (ds : Documents) → HaveTokens ds → nest_all ds + k ≤ 255
+        → EntriesAreWritten (setting mode k) (told_entries ds) (texts (setting mode k) ds)
+    entries_written k no_documents h few = tt
+    entries_written k (document d ds) h few = (told_written k d h.0 (omega arith), entries_written k ds h.1 (omega arith))
+
+    pairs_written : (k : ℕ) (ps : Pairs) → PairsHaveTokens ps → nest_pairs ps + k ≤ 255
+        → EntriesAreWritten (setting mode k) (told_pairs ps) (pair_texts (setting mode k) ps)
+    pairs_written k no_pairs h few = tt
+    pairs_written k (pair key value ps) h few = (
+      pair_written (told_written k key h.0 (omega arith)) (told_written k value h.1 (omega arith)),
+      pairs_written k ps h.2 (omega arith),
+    )
+
+    fields_written : (k : ℕ) (fs : Fields) → FieldsHaveTokens fs → nest_fields fs + k ≤ 255
+        → EntriesAreWritten (setting mode k) (told_fields fs) (field_texts (setting mode k) fs)
+    fields_written k no_fields h few = tt
+    fields_written k (field label value fs) h few = (
+      field_written label (told_written k value h.1 (omega arith)),
+      fields_written k fs h.2 (omega arith),
+    )
+
+-- what is written for the parts of a token document is its layout, and mode and depth are behind them as before
+pub told_text : (mode : Mode) (k : ℕ) (d : Document) → HasTokens d → nest d + k ≤ 255
+    → (texts_written (setting mode k) (told d) ≡ layout (setting mode k) d) × (setting_behind (setting mode k) (told d) ≡ setting mode k)
+told_text mode k d h few =
+    let all = told_written mode k d h few in (all.writes, all.leaves)

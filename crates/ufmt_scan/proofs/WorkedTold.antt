@@ -1,0 +1,48 @@
+-- The parts of a small document and what is written for them, computed.
+use Rattle.std.proofs.Common.{◌≡◌, refl, [], ◌∷◌, codes}
+use Rattle.ufmt.specs.Document.{Document, leaf, list_of, set_of, map_of, struct_of, tuple_of, no_documents, document, no_pairs, pair, no_fields, field}
+use Rattle.ufmt.specs.Layout.{plain_text, pretty_text, setting}
+use Rattle.ufmt_core.specs.declared.layout.Count.TheVariants.{One, Several}
+use Rattle.ufmt_core.specs.declared.layout.Kind.TheVariants.{Brackets, Braces, Struct, Tuple, Unnamed}
+use Rattle.ufmt_core.specs.declared.layout.Mode.TheVariants.{Plain, Pretty}
+use Rattle.ufmt_scan.specs.Scan.{plainly, told}
+use Rattle.ufmt_scan.specs.ScanTexts.{texts_written, setting_behind}
+use Rattle.ufmt_scan.specs.declared.scan.part.Part.TheVariants.{Leaf, Empty, Open, Label, Colon, Next, Close}
+
+-- a struct with a list of two words
+abbrev words : Document
+words = struct_of (codes "S") (field (codes "l") (list_of (document (leaf (codes "a")) (document (leaf (codes "b")) no_documents))) no_fields)
+
+words-told : told words ≡ (Open Struct, codes "S") ∷ (Label, codes "l") ∷ plainly (Open Brackets) ∷ (Leaf, codes "a") ∷ plainly Next
+    ∷ (Leaf, codes "b") ∷ plainly (Close Brackets Several) ∷ plainly (Close Struct One) ∷ []
+words-told = refl
+
+words-plain : texts_written (setting Plain 0) (told words) ≡ codes "S { l: [a, b] }"
+words-plain = refl
+
+words-pretty : texts_written (setting Pretty 0) (told words) ≡ codes "S {\n    l: [\n        a,\n        b,\n    ],\n}"
+words-pretty = refl
+
+words-plain_text : plain_text words ≡ texts_written (setting Plain 0) (told words)
+words-plain_text = refl
+
+words-pretty_text : pretty_text words ≡ texts_written (setting Pretty 0) (told words)
+words-pretty_text = refl
+
+words-depth : setting_behind (setting Pretty 0) (told words) ≡ setting Pretty 0
+words-depth = refl
+
+-- a named tuple of a tuple of one word and a map from a name alone to an empty set
+abbrev blocks : Document
+blocks = tuple_of (codes "T") (document (tuple_of [] (document (leaf (codes "a")) no_documents))
+    (document (map_of (pair (struct_of (codes "N") no_fields) (set_of no_documents) no_pairs)) no_documents))
+
+blocks-told : told blocks ≡ (Open Tuple, codes "T") ∷ plainly (Open Unnamed) ∷ (Leaf, codes "a") ∷ plainly (Close Unnamed One) ∷ plainly Next
+    ∷ plainly (Open Braces) ∷ (Leaf, codes "N") ∷ plainly Colon ∷ plainly (Empty Braces) ∷ plainly (Close Braces One) ∷ plainly (Close Tuple Several) ∷ []
+blocks-told = refl
+
+blocks-plain : texts_written (setting Plain 0) (told blocks) ≡ codes "T((a,), {N: {}})"
+blocks-plain = refl
+
+pub blocks-pretty : texts_written (setting Pretty 0) (told blocks) ≡ codes "T(\n    (\n        a,\n    ),\n    {\n        N: {},\n    },\n)"
+blocks-pretty = refl

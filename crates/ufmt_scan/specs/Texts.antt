@@ -1,0 +1,58 @@
+-- What readers promise: of the documents with a text, or of a text that no document has.
+use Rattle.std.specs.Prelude.{◌≡◌, ◌≢◌, List, ℕ, Bool, Result, String, IfOk, IsOk, IsErrOf, is_ok, length, string_bytes, ⊤}
+use Rattle.ufmt.specs.Buffer.{Fronts}
+use Rattle.ufmt.specs.Document.{Document}
+use Rattle.ufmt.specs.Token.{IsToken, normal}
+use Rattle.ufmt.specs.Writes.{Seen, Writes}
+use Rattle.ufmt_scan.specs.declared.error.ReadError.{ReadError}
+use Rattle.ufmt_scan.specs.declared.error.ReadError.TheVariants.{NotText}
+use Rattle.ufmt_scan.specs.declared.scan.refusal.Refusal.{Refusal}
+use Rattle.ufmt_scan.specs.declared.scan.refusal.Refusal.TheVariants as refusals
+
+-- a token document in normal form that has this text
+abbrev pub IsNormalForm : (Document → List ℕ) → List ℕ → Document → Type 0
+IsNormalForm text_of input d = IsToken d × (normal d ≡ d) × (text_of d ≡ input)
+
+-- no token document has this text
+abbrev pub IsNoText : (Document → List ℕ) → List ℕ → Type 0
+IsNoText text_of input = (d : Document) → IsToken d → text_of d ≢ input
+
+-- what a text is converted to: some token document has the text, and each that has it has the answer as its other text
+pub record IsConverted (from to : Document → List ℕ) (input answer : List ℕ) : Type 0 where
+  pub some : (d : Document) × IsToken d × (from d ≡ input)
+  pub each : (d : Document) → IsToken d → from d ≡ input → to d ≡ answer
+
+-- the answer is the text from which the input was converted, if it was converted from one
+abbrev pub Undoes : (Document → List ℕ) → (Document → List ℕ) → List ℕ → List ℕ → Type 0
+Undoes from to input answer = (earlier : List ℕ) → IsConverted to from earlier input → answer ≡ earlier
+
+-- the input was converted from no text
+abbrev pub IsUnconverted : (Document → List ℕ) → (Document → List ℕ) → List ℕ → Type 0
+IsUnconverted from to input = (earlier : List ℕ) → IsConverted to from earlier input → ⊥
+
+-- what a conversion answers to a text: what it is converted to, which undoes the conversion in the other direction; or `NotText`, of no text
+pub record Converts {A : Type 0} (from to : Document → List ℕ) (input : List ℕ) (answer : Result (String A) ReadError) : Type 0 where
+  pub ok : IfOk answer (λ text. IsConverted from to input (string_bytes text))
+  pub not_text : IsErrOf answer NotText → IsNoText from input
+  pub undoes : IfOk answer (λ text. Undoes from to input (string_bytes text))
+  pub unconverted : IsErrOf answer NotText → IsUnconverted from to input
+
+-- what a conversion to a writer does with it
+pub record ConvertsTo {W E : Type 0} (seen : Seen W) (from to : Document → List ℕ) (input : List ℕ) (old : W) (answer : Result (⊤) (Refusal E)) (new : W) : Type 0 where
+  -- `Ok` is answered of texts alone, and `NotText` of what is none
+  pub ok : IsOk answer → (text : List ℕ) × IsConverted from to input text
+  pub not_text : IsErrOf answer refusals.NotText → IsNoText from input
+  -- the other text is written as any piece is: all of it, or a beginning where the writer refused
+  pub writes : (text : List ℕ) → IsConverted from to input text → Writes seen old text (is_ok answer) new
+  -- and so is what was written of an input that is no text
+  pub lawful : (text : List ℕ) × (whole : Bool) × Writes seen old text whole new
+
+-- what a conversion into a caller's buffer does with it
+pub record ConvertsInto {E : Type 0} (from to : Document → List ℕ) (input old : List ℕ) (answer : Result ℕ (Refusal E)) (new : List ℕ) : Type 0 where
+  -- `Ok` is answered of texts alone, and `NotText` of what is none
+  pub ok : IsOk answer → (text : List ℕ) × IsConverted from to input text
+  pub not_text : IsErrOf answer refusals.NotText → IsNoText from input
+  -- the other text stands at the buffer's front: all of it where it fits, or a beginning
+  pub fronts : (text : List ℕ) → IsConverted from to input text → Fronts old text answer new
+  -- the buffer keeps its length, also of an input that is no text
+  pub same_length : length new ≡ length old

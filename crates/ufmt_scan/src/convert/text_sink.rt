@@ -1,0 +1,86 @@
+//! A sink that lays out what it is told.
+ghost use Rattle.std.specs.Prelude.{◌≡◌, true, false, is_ok};
+ghost use Rattle.ufmt.specs.Layout.{setting};
+ghost use Rattle.ufmt_scan.specs.Private.TextSink.{WritesPart, Wrote};
+ghost use Rattle.ufmt_scan.specs.ScanTexts.{outside};
+ghost use Rattle.std.proofs.Common.{refl};
+ghost use Rattle.ufmt_core.proofs.Writing.{Writes-nothing};
+
+use super::write::{
+    write_empty, write_ending, write_label, write_next, write_opening, write_piece,
+};
+use crate::scan::{Part, Sink};
+use ufmt::layout::{COLON, Mode, Setting};
+use ufmt::uWrite;
+
+/// A writer, and the mode and depth at which the text goes on.
+#[derive(Drop)]
+pub(super) struct TextSink<W> {
+    writer: W,
+    setting: Setting,
+}
+
+// The mode and depth of a block whose entries are laid out so.
+#[inline(always)]
+fn outside(entry: Setting) -> Setting
+    ensures { result ≡ outside entry }
+{
+    match entry.mode {
+        Mode::Plain => entry,
+        Mode::Pretty => Setting {
+            mode: Mode::Pretty,
+            depth: entry.depth.saturating_sub(1),
+        },
+    }
+}
+
+impl<W: uWrite> TextSink<W> {
+    /// Lays a whole text out in this mode.
+    pub(super) fn new(mode: Mode, writer: W) -> TextSink<W>
+        ensures writer { result.writer ≡ writer }
+        ensures setting { result.setting ≡ setting mode 0 }
+    {
+        TextSink {
+            writer,
+            setting: Setting { mode, depth: 0 },
+        }
+    }
+
+    #[inline(always)]
+    fn write_part(&mut self, part: Part, text: &str) -> Result<(), W::Error>
+        ensures { WritesPart W.seen self.old (part, text.now) (is_ok result) self.new }
+    {
+        match part {
+            Part::Leaf => write_piece(text, &mut self.writer),
+            Part::Empty(kind) => write_empty(self.setting.mode, kind, &mut self.writer),
+            Part::Open(kind) => {
+                self.setting = self.setting.inside();
+                write_piece(text, &mut self.writer)?;
+                write_opening(self.setting, kind, &mut self.writer)
+            }
+            Part::Label => write_label(text, &mut self.writer),
+            Part::Colon => self.writer.write_str(COLON),
+            Part::Next => write_next(self.setting, &mut self.writer),
+            Part::Close(kind, count) => {
+                self.setting = outside(self.setting);
+                write_ending(self.setting, kind, count, &mut self.writer)
+            }
+        }
+    }
+}
+
+/// Hands the writer each part's text. Its refusals are the writer's.
+impl<W: uWrite> Sink for TextSink<W> {
+    type Error = W::Error;
+
+    ghost took = { Wrote W.seen true };
+
+    ghost stopped = { Wrote W.seen false };
+
+    ghost begun = { λ s. (Writes-nothing s.writer, refl) };
+
+    #[inline(always)]
+    fn hear(&mut self, part: Part, text: &str) -> Result<(), W::Error> {
+        self.write_part(part, text)
+    }
+}
