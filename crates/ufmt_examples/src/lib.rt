@@ -1,6 +1,6 @@
 #![tactic(auto)]
 
-//! Callers of `ufmt_doc`: a line of a log read back, tested or made readable, and texts compared.
+//! Callers of `ufmt_scan` and `ufmt_doc`: a line of a log read back, tested or made readable, and texts compared.
 
 mod log_line;
 mod read_back;

@@ -1,4 +1,4 @@
-//! Why a text gives no document.
+//! Why a text was not read, whether as a document or on the way to another text.
 ghost use Rattle.std.specs.Prelude.{◌≡◌};
 ghost use Rattle.ufmt_scan.specs.ReadError.{code_of, error_of};
 ghost use Rattle.ufmt_scan.specs.declared.error.ReadError.TheVariants.{OutOfMemory};

@@ -20,7 +20,8 @@ pub(super) fn strip_escaped(quote: u8, input: &[u8]) -> Option<&[u8]>
     Some(rest)
 }
 
-/// The byte that is written at the front, between these quotes, and what follows it.
+/// The byte that is written at the front, between these quotes, and what follows it. `None` where no
+/// byte stands there in its one spelling. `quote` is a quotation mark or an apostrophe.
 pub fn split_escaped(quote: u8, input: &[u8]) -> Option<(u8, &[u8])>
     requires { IsQuote quote }
     ensures { option_map (λ x. (x.0, x.1.now)) result ≡ read_escaped quote input.now }
