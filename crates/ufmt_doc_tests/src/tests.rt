@@ -1,6 +1,7 @@
 //! What no clause says: that calls on documents can succeed, and what they give on rows written by hand.
 mod deep;
 mod laws;
+mod leaves;
 mod levels;
 mod malformed;
 mod mode;

@@ -1,12 +1,9 @@
 -- Texts converted by way of the document that they are read as.
-use Rattle.std.proofs.Common.{◌≡◌, ◌∙◌, ap, sym, subst, List, ℕ, [], ◌++◌, Result, Ok, Err, IfOk, is_ok, Global, String, string_bytes}
+use Rattle.std.proofs.Common.{◌≡◌, ◌∙◌, ap, sym, subst, List, ℕ, [], ◌++◌, Result, Ok, Err, is_ok, Global, String, string_bytes}
 use Rattle.std.specs.Prelude.{⊤, IsOk}
 use Rattle.std.specs.declared.alloc.AllocError.{AllocError}
 use Rattle.ufmt.specs.Document.{Document}
-use Rattle.ufmt.specs.Layout.{plain_text, pretty_text}
-use Rattle.ufmt.specs.Token.{IsToken, normal}
-use Rattle.ufmt.proofs.OneWay.{plain_text_tells, pretty_text_tells}
-use Rattle.ufmt_scan.specs.declared.error.ReadError.{ReadError}
+use Rattle.ufmt.specs.Token.{IsToken}
 use Rattle.ufmt_scan.specs.declared.scan.refusal.Refusal.{Refusal}
 use Rattle.ufmt.specs.Writes.{Writes, string_seen}
 use Rattle.ufmt_scan.specs.Texts.{Converts, ConvertsTo, IsConverted, IsNormalForm, IsNoText, IsUnconverted, Undoes}

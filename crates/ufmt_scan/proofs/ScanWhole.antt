@@ -14,7 +14,7 @@ use Rattle.ufmt_scan.specs.declared.scan.refusal.Refusal.TheVariants.{NotText, R
 use Rattle.ufmt_scan.specs.declared.scan.stage.Stage.{Stage}
 use Rattle.ufmt_scan.specs.declared.scan.stage.Stage.TheVariants as stages
 use Rattle.ufmt_scan.specs.Private.Level.{budget_of, setting_at}
-use Rattle.ufmt_scan.specs.Private.Scanning.{NothingTold, OnRefused, TellsOn, Told, beginning_told, behind_part, coming, coming_in, first_stage, goes_on_told, prefixed, stage_of, stage_told, stages_told, told_field}
+use Rattle.ufmt_scan.specs.Private.Scanning.{OnRefused, TellsOn, Told, beginning_told, behind_part, coming, coming_in, first_stage, goes_on_told, prefixed, stage_of, stage_told, stages_told, told_field}
 use Rattle.ufmt_scan.specs.Private.Stack.{document_at, level_at}
 use Rattle.ufmt_scan.specs.Scan.{Event, ScanRefused, told}
 use Rattle.ufmt_scan.proofs.Scans.{told_in, coming_in_last, stages_none}
@@ -41,19 +41,15 @@ module _ {S : Type 0} (took stopped : S → List Event → S → Type 0) where
       at (c ∷ t) is = absurd (cc)
 
   -- a scan that ended early, of the whole text
-  pub whole_untold : (mode : Mode) (t : List ℕ) (a b : S) → took a [] a → NothingTold took a b (parse_map told (read (setting mode 0) 255 t))
-      → (es : List Event) × took a es b × (read_text mode t ≡ None)
-  whole_untold mode t a b begun h = (h.0, h.1 a [] begun, whole_none mode t h.2)
-
-  pub whole_refused : {E : Type 0} (mode : Mode) (t : List ℕ) (a b : S) (refusal : Refusal E) → took a [] a
+  pub whole_refused : {E : Type 0} (mode : Mode) (t : List ℕ) {a : S} (b : S) (refusal : Refusal E) → took a [] a
       → OnRefused took stopped a b (parse_map told (read (setting mode 0) 255 t)) refusal → ScanRefused took stopped a b (read_text mode t) refusal
-  whole_refused mode t a b NotText begun h = whole_untold mode t a b begun h
-  whole_refused mode t a b (Refused e) begun h = (h.0, h.1 a [] begun, λ d is. h.2 (told d, []) (all_told (read (setting mode 0) 255 t) d is))
+  whole_refused mode t {a} b NotText begun h = (h.0, h.1 a [] begun, whole_none mode t h.2)
+  whole_refused mode t {a} b (Refused e) begun h = (h.0, h.1 a [] begun, λ d is. h.2 (told d, []) (all_told (read (setting mode 0) 255 t) d is))
 
   -- a scan that came to the end
-  pub whole_told : (mode : Mode) (t rest : List ℕ) (a b : S) → took a [] a → TellsOn took a b (parse_map told (read (setting mode 0) 255 t)) (Some ([], rest))
+  pub whole_told : (mode : Mode) (t rest : List ℕ) {a b : S} → took a [] a → TellsOn took a b (parse_map told (read (setting mode 0) 255 t)) (Some ([], rest))
       → (length rest == 0) ≡ true → (d : Document) × (read_text mode t ≡ Some d) × took a (told d) b
-  whole_told mode t rest a b begun h ended = at (read (setting mode 0) 255 t) rest h.2 ended
+  whole_told mode t rest {a} {b} begun h ended = at (read (setting mode 0) 255 t) rest h.2 ended
     where
       at : (o : Option (Document × List ℕ)) (u : List ℕ) → parse_map told o ≡ Some (h.0 ++ [], u) → (length u == 0) ≡ true
           → (d : Document) × (option_and_then (λ x. if_all x.0 x.1) o ≡ Some d) × took a (told d) b
@@ -64,10 +60,10 @@ module _ {S : Type 0} (took stopped : S → List Event → S → Type 0) where
       at (Some x) (c ∷ u) is e = let none = eqb-true (length (c ∷ u)) 0 e in absurd (omega arith)
 
   -- or to more than the end
-  pub whole_goes_on : (mode : Mode) (t rest : List ℕ) (a b : S) → took a [] a
+  pub whole_goes_on : (mode : Mode) (t rest : List ℕ) {a b : S} → took a [] a
       → TellsOn took a b (parse_map told (read (setting mode 0) 255 t)) (Some ([], rest)) → (length rest == 0) ≡ false
       → (es : List Event) × took a es b × (read_text mode t ≡ None)
-  whole_goes_on mode t rest a b begun h more = (h.0, h.1 a [] begun, at (read (setting mode 0) 255 t) rest h.2 more)
+  whole_goes_on mode t rest {a} begun h more = (h.0, h.1 a [] begun, at (read (setting mode 0) 255 t) rest h.2 more)
     where
       at : (o : Option (Document × List ℕ)) (u : List ℕ) → parse_map told o ≡ Some (h.0 ++ [], u) → (length u == 0) ≡ false
           → option_and_then (λ x. if_all x.0 x.1) o ≡ None

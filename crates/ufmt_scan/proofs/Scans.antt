@@ -38,42 +38,46 @@ leads_from es (Some y) there h x is = let same : Some (es ++ y.0, y.1) ≡ Some 
 
 module _ {S : Type 0} (took kept : S → List Event → S → Type 0) where
   -- a sink that took some parts, and then took more or stopped in them
-  takes_on : (a b c : S) (es fs : List Event) → Takes took took a es b → Takes took kept b fs c → Takes took kept a (es ++ fs) c
-  takes_on a b c es fs first then_more = λ start out h. subst (λ gs. kept start gs c) (append_assoc out es fs) (then_more start (out ++ es) (first start out h))
+  takes_on : {a b c : S} (es fs : List Event) → Takes took took a es b → Takes took kept b fs c → Takes took kept a (es ++ fs) c
+  takes_on {c = c} es fs first then_more = λ start out h. subst (λ gs. kept start gs c) (append_assoc out es fs) (then_more start (out ++ es) (first start out h))
 
 -- what is told of this, step by step
 module _ {S : Type 0} (took stopped : S → List Event → S → Type 0) where
   -- where nothing is told yet
-  pub tells_nothing : (a : S) (there left : Told) → there ≡ left → TellsOn took a a there left
-  tells_nothing a there left same = ([], λ start out h. subst (λ fs. took start fs a) (sym (append-nil out)) h, same ∙ sym (prefixed_nothing left))
-
-  -- one part more
-  pub tells_part : (a b : S) (e : Event) (there left : Told) → Hears took stopped a e true b → there ≡ prefixed (e ∷ []) left → TellsOn took a b there left
-  tells_part a b e there left heard is = (e ∷ [], heard, is)
+  pub tells_nothing : {a : S} {there left : Told} → there ≡ left → TellsOn took a a there left
+  tells_nothing {a} {left = left} same = ([], λ start out h. subst (λ fs. took start fs a) (sym (append-nil out)) h, same ∙ sym (prefixed_nothing left))
 
   -- two steps are one
-  pub tells_then : (a b c : S) (there mid left : Told) → TellsOn took a b there mid → TellsOn took b c mid left → TellsOn took a c there left
-  tells_then a b c there mid left first next =
-      (first.0 ++ next.0, takes_on took took a b c first.0 next.0 first.1 next.1, first.2 ∙ ap (prefixed first.0) next.2 ∙ prefixed_twice first.0 next.0 left)
+  pub tells_then : {a b c : S} {there mid : Told} (left : Told) → TellsOn took a b there mid → TellsOn took b c mid left → TellsOn took a c there left
+  tells_then left first more =
+      (first.0 ++ more.0, takes_on took took first.0 more.0 first.1 more.1, first.2 ∙ ap (prefixed first.0) more.2 ∙ prefixed_twice first.0 more.0 left)
+
+  -- one part more
+  pub tells_part : {a b : S} {e : Event} {there : Told} (left : Told) → Hears took stopped a e true b → there ≡ prefixed (e ∷ []) left → TellsOn took a b there left
+  tells_part {e = e} left heard is = (e ∷ [], heard, is)
+
+  -- what is left is this
+  pub tells_left : {a b : S} {there mid left : Told} → TellsOn took a b there mid → mid ≡ left → TellsOn took a b there left
+  tells_left first same = (first.0, first.1, first.2 ∙ ap (prefixed first.0) same)
 
   -- nothing is there to tell
-  pub nothing_told : (a : S) (there : Told) → there ≡ None → NothingTold took a a there
-  nothing_told a there none = ([], λ start out h. subst (λ fs. took start fs a) (sym (append-nil out)) h, none)
+  pub nothing_told : {a : S} {there : Told} → there ≡ None → NothingTold took a a there
+  nothing_told {a} none = ([], λ start out h. subst (λ fs. took start fs a) (sym (append-nil out)) h, none)
 
   -- or behind what was told
-  pub none_behind : (a b c : S) (there left : Told) → TellsOn took a b there left → NothingTold took b c left → NothingTold took a c there
-  none_behind a b c there left first h = (first.0 ++ h.0, takes_on took took a b c first.0 h.0 first.1 h.1, first.2 ∙ ap (prefixed first.0) h.2)
+  pub none_behind : {a b c : S} {there left : Told} → TellsOn took a b there left → NothingTold took b c left → NothingTold took a c there
+  none_behind first h = (first.0 ++ h.0, takes_on took took first.0 h.0 first.1 h.1, first.2 ∙ ap (prefixed first.0) h.2)
 
   -- the sink refused a part
-  pub part_refused : {E : Type 0} (a b : S) (e : Event) (there left : Told) (why : E) → Hears took stopped a e false b → there ≡ prefixed (e ∷ []) left
+  pub part_refused : {E : Type 0} {a b : S} {e : Event} {there : Told} (left : Told) (why : E) → Hears took stopped a e false b → there ≡ prefixed (e ∷ []) left
       → OnRefused took stopped a b there (Refused why)
-  part_refused a b e there left why heard is = (e ∷ [], heard, leads_from (e ∷ []) left there is)
+  part_refused {e = e} {there} left why heard is = (e ∷ [], heard, leads_from (e ∷ []) left there is)
 
   -- a refusal behind what was told
-  pub refused_behind : {E : Type 0} (a b c : S) (there left : Told) (refusal : Refusal E) → TellsOn took a b there left
+  pub refused_behind : {E : Type 0} {a b : S} {there : Told} (c : S) (left : Told) (refusal : Refusal E) → TellsOn took a b there left
       → OnRefused took stopped b c left refusal → OnRefused took stopped a c there refusal
-  refused_behind a b c there left NotText first h = none_behind a b c there left first h
-  refused_behind a b c there left (Refused e) first h = (first.0 ++ h.0, takes_on took stopped a b c first.0 h.0 first.1 h.1, leads left first.2 h.2)
+  refused_behind c left NotText first h = none_behind first h
+  refused_behind {there = there} c left (Refused e) first h = (first.0 ++ h.0, takes_on took stopped first.0 h.0 first.1 h.1, leads left first.2 h.2)
     where
       leads : (o : Told) → there ≡ prefixed first.0 o → ((x : List Event × List ℕ) → o ≡ Some x → Leads h.0 x.0)
           → (x : List Event × List ℕ) → there ≡ Some x → Leads (first.0 ++ h.0) x.0
@@ -141,6 +145,13 @@ innermost_tells mode items k count d o there more within step =
 pub told_in : (mode : Mode) (open_blocks : List Stage) (e : Event) (there o : Told) → there ≡ stages_told mode 0 open_blocks (prefixed (e ∷ []) o)
     → there ≡ prefixed (e ∷ []) (stages_told mode 0 open_blocks o)
 told_in mode open_blocks e there o is = is ∙ stages-prefixed mode 0 open_blocks (e ∷ []) o
+
+-- so the part that follows an entry of the innermost block is told first of all of them, and the block round it goes on
+pub innermost_told : (mode : Mode) (items : List Stage) (k count : ℕ) (d : Stage) (o left : Told) (e : Event) → count ≡ k + 1 → k < length items
+    → stage_told (level_at mode k) (get_or items k d) o ≡ prefixed (e ∷ []) left
+    → stages_told mode 0 (take count items) o ≡ prefixed (e ∷ []) (stages_told mode 0 (take k items) left)
+innermost_told mode items k count d o left e more within step =
+    told_in mode (take k items) e _ left (innermost_tells mode items k count d o _ more within step)
 
 -- what comes next is that of the innermost block
 pub coming_in_last : (mode : Mode) (k : ℕ) (outer : List Stage) (stage : Stage) (t : List ℕ)

@@ -1,8 +1,9 @@
 -- Where documents, pairs and fields begin that are told.
-use Rattle.std.proofs.Common.{◌≡◌, refl, ap, ◌∙◌, ℕ, List, [], ◌∷◌, ◌++◌, append_assoc, map, Option, Some, None, option_and_then, codes}
+use Rattle.std.proofs.Common.{◌≡◌, ◌≤◌, ◌<◌, refl, ap, ◌∙◌, ℕ, suc, List, [], ◌∷◌, ◌++◌, append_assoc, length, map, Option, Some, None, option_and_then, codes, arith}
 use Rattle.ufmt_core.specs.declared.layout.Count.TheVariants.{Several, Zero, One}
+use Rattle.ufmt_core.specs.declared.layout.Kind.{Kind}
 use Rattle.ufmt_core.specs.declared.layout.Kind.TheVariants.{Brackets, Braces, Struct, Tuple, Unnamed}
-use Rattle.ufmt.specs.Document.{Document, list_of, set_of, map_of, struct_of, tuple_of, documents, pairs_of, fields_of}
+use Rattle.ufmt.specs.Document.{Document, list_of, set_of, map_of, struct_of, tuple_of, Documents, document, documents, pairs_of, fields_of}
 use Rattle.ufmt.specs.Layout.{frame, inside, lead}
 use Rattle.ufmt.specs.Reading.{choose, parse_map, strip, read_symbol, read_braces, read_list, read_map_or_set, read_named, read_pair, read_value, read_word, read_without_name}
 use Rattle.ufmt.specs.Token.{IsWord}
@@ -11,12 +12,13 @@ use Rattle.ufmt_scan.specs.declared.scan.part.Part.TheVariants.{Open, Colon}
 use Rattle.ufmt_scan.specs.declared.scan.stage.Stage.{Stage}
 use Rattle.ufmt_scan.specs.declared.scan.stage.Stage.TheVariants as stages
 use Rattle.ufmt_scan.specs.Scan.{Event, plainly, told, told_entries, told_pairs, told_fields, told_tail}
+use Rattle.ufmt_scan.specs.Private.Entries.{read_on}
 use Rattle.ufmt_scan.specs.Private.Level.{entry_of, setting_at}
-use Rattle.ufmt_scan.specs.Private.Scanning.{Told, behind_part, prefixed, stage_told, tell_block, tell_colon, tell_value, told_field, told_pair, entry_told, pair_told, field_told, turn_told}
+use Rattle.ufmt_scan.specs.Private.Scanning.{Told, behind_part, prefixed, stage_told, tell_block, tell_colon, tell_on, tell_value, told_field, told_pair, entry_told, pair_told, field_told, turn_told}
 use Rattle.ufmt_scan.proofs.DocumentParts.{braces_begin, list_begins, map_begins, set_begins, struct_begins, tuple_begins, unnamed_begins}
 use Rattle.ufmt_scan.proofs.Telling.{block_tells, mapped_takes}
 use Rattle.ufmt_scan.proofs.EntrySteps.{entry_of_takes, field_takes, pair_takes}
-use Rattle.ufmt.proofs.ReadingTurns.{Takes}
+use Rattle.ufmt.proofs.ReadingTurns.{Takes, strip_within}
 
 -- what is told of entries, pairs and fields in a row
 told_entries-documents : (ds : List Document) → told_entries (documents ds) ≡ map told ds
@@ -31,14 +33,28 @@ told_fields-fields_of : (fs : List (List ℕ × Document)) → told_fields (fiel
 told_fields-fields_of [] = refl
 told_fields-fields_of (f ∷ fs) = ap (λ es. told_field f ∷ es) (told_fields-fields_of fs)
 
+-- a list, a set or a tuple from its first entry on
+entries_tell : (level : Level) (kind : Kind) (name : List ℕ) (make : Documents → Document)
+    → ((d : Document) (ds : Documents) → told (make (document d ds)) ≡ (Open kind, name) ∷ (told d ++ told_tail kind One (told_entries ds))) → (o : Option (Document × List ℕ))
+    → parse_map told (read_on (entry_of level) (frame level.mode kind) (setting_at level) (λ ds. make (documents ds)) [] o)
+    ≡ prefixed ((Open kind, name) ∷ []) (tell_on (entry_told level) (frame level.mode kind) (setting_at level) kind One (parse_map told o))
+entries_tell level kind name make shape o =
+    block_tells (entry_of level) told (frame level.mode kind) (setting_at level) kind (λ ds. make (documents ds)) (Open kind, name)
+    (λ d ds. shape d (documents ds) ∙ ap (λ ess. (Open kind, name) ∷ (told d ++ told_tail kind One ess)) (told_entries-documents ds)) o
+
+-- what follows the start of a block is no longer than what begins with it
+pub behind_lead : (level : Level) (kind : Kind) (t r : List ℕ) → strip (lead (frame level.mode kind) (inside (setting_at level)) Zero) t ≡ Some r → length r < suc (length t)
+behind_lead level kind t r h =
+    let within : length r ≤ length t = strip_within (lead (frame level.mode kind) (inside (setting_at level)) Zero) t r h in
+    omega (arith, within)
+
 -- a list behind what stands before its first entry
 pub list_tells : (level : Level) (t r : List ℕ) → strip (codes "]") t ≡ None
     → strip (lead (frame level.mode Brackets) (inside (setting_at level)) Zero) t ≡ Some r
     → parse_map told (read_list (setting_at level) (entry_of level) t) ≡ prefixed ((Open Brackets, []) ∷ []) (behind_part level (Open Brackets) r)
 list_tells level t r empty opening =
     ap (parse_map told) (list_begins (setting_at level) (entry_of level) t r empty opening)
-    ∙ block_tells (entry_of level) told (frame level.mode Brackets) (setting_at level) Brackets (λ ds. list_of (documents ds)) (Open Brackets, [])
-    (λ d ds. ap (λ ess. (Open Brackets, []) ∷ (told d ++ told_tail Brackets One ess)) (told_entries-documents ds)) (entry_of level r)
+    ∙ entries_tell level Brackets [] list_of (λ d ds. refl) (entry_of level r)
 
 -- a named tuple behind what stands before its first field
 pub tuple_tells : (level : Level) (w t r : List ℕ) → IsWord w → strip (lead (frame level.mode Tuple) (inside (setting_at level)) Zero) t ≡ Some r
@@ -46,8 +62,7 @@ pub tuple_tells : (level : Level) (w t r : List ℕ) → IsWord w → strip (lea
 tuple_tells level [] t r word opening = absurd word
 tuple_tells level (c ∷ w) t r word opening =
     ap (parse_map told) (tuple_begins (setting_at level) (entry_of level) (c ∷ w) t r word opening)
-    ∙ block_tells (entry_of level) told (frame level.mode Tuple) (setting_at level) Tuple (λ ds. tuple_of (c ∷ w) (documents ds)) (Open Tuple, c ∷ w)
-    (λ d ds. ap (λ ess. (Open Tuple, c ∷ w) ∷ (told d ++ told_tail Tuple One ess)) (told_entries-documents ds)) (entry_of level r)
+    ∙ entries_tell level Tuple (c ∷ w) (tuple_of (c ∷ w)) (λ d ds. refl) (entry_of level r)
 
 -- a tuple without a name behind what stands before its first field
 pub unnamed_tells : (level : Level) (t r : List ℕ) → strip (codes "[") t ≡ None → strip (codes "{") t ≡ None → read_symbol t ≡ None
@@ -55,8 +70,7 @@ pub unnamed_tells : (level : Level) (t r : List ℕ) → strip (codes "[") t ≡
     → parse_map told (read_without_name (setting_at level) (entry_of level) t) ≡ prefixed ((Open Unnamed, []) ∷ []) (behind_part level (Open Unnamed) r)
 unnamed_tells level t r bracket brace symbol opening =
     ap (parse_map told) (unnamed_begins (setting_at level) (entry_of level) t r bracket brace symbol opening)
-    ∙ block_tells (entry_of level) told (frame level.mode Unnamed) (setting_at level) Unnamed (λ ds. tuple_of [] (documents ds)) (Open Unnamed, [])
-    (λ d ds. ap (λ ess. (Open Unnamed, []) ∷ (told d ++ told_tail Unnamed One ess)) (told_entries-documents ds)) (entry_of level r)
+    ∙ entries_tell level Unnamed [] (tuple_of []) (λ d ds. refl) (entry_of level r)
 
 -- a struct behind what stands before its first field
 pub struct_tells : (level : Level) (w t r : List ℕ) → IsWord w → strip (lead (frame level.mode Tuple) (inside (setting_at level)) Zero) t ≡ None
@@ -92,8 +106,7 @@ braces_tell_on level (Some x) = by_colon (strip (codes ": ") x.1) refl
         (tell_block (entry_told level) level Braces Zero (Some (told x.0, x.1))))
     by_colon None colon =
         ap (parse_map told) (set_begins (setting_at level) (entry_of level) x.0 x.1 colon)
-        ∙ block_tells (entry_of level) told (frame level.mode Braces) (setting_at level) Braces (λ ds. set_of (documents ds)) (Open Braces, [])
-        (λ d ds. ap (λ ess. (Open Braces, []) ∷ (told d ++ told_tail Braces One ess)) (told_entries-documents ds)) (Some x)
+        ∙ entries_tell level Braces [] set_of (λ d ds. refl) (Some x)
     by_colon (Some u) colon =
         let p = entry_of level in
         ap (parse_map told) (map_begins (setting_at level) p x.0 x.1 u colon)

@@ -1,6 +1,9 @@
 //! A whole text, told part by part: a loop over the documents that begin in it.
-ghost use Rattle.ufmt.specs.Reading.{read_text};
-ghost use Rattle.ufmt_scan.specs.Scan.{Scans};
+ghost use Rattle.std.specs.Prelude.{[], Some};
+ghost use Rattle.ufmt.specs.Layout.{setting};
+ghost use Rattle.ufmt.specs.Reading.{parse_map, read, read_text};
+ghost use Rattle.ufmt_scan.specs.Private.Scanning.{ScansOn};
+ghost use Rattle.ufmt_scan.specs.Scan.{Scans, told};
 
 use super::begin::begin;
 use super::part::Sink;
@@ -22,12 +25,29 @@ pub fn scan<S: Sink>(mode: Mode, input: &[u8], sink: &mut S) -> Result<(), Refus
 
 // The same, in code of its own for each sink and mode, as are the calls below it: what stands round
 // entries is a constant there.
+#[inline(always)]
 fn scan_at<S: Sink, const PRETTY: bool>(
     mode: Mode,
     input: &[u8],
     sink: &mut S,
 ) -> Result<(), Refusal<S::Error>>
     ensures { Scans S.took S.stopped result sink.old sink.new (read_text mode input.now) }
+{
+    match tell_document::<S, PRETTY>(mode, input, sink) {
+        Ok(rest) if rest.is_empty() => Ok(()),
+        Ok(_) => Err(Refusal::NotText),
+        Err(refusal) => Err(refusal),
+    }
+}
+
+// Tells the document at the front of the input, and gives what follows it.
+fn tell_document<'a, S: Sink, const PRETTY: bool>(
+    mode: Mode,
+    input: &'a [u8],
+    sink: &mut S,
+) -> Result<&'a [u8], Refusal<S::Error>>
+    ensures { ScansOn S.took S.stopped result sink.old sink.new
+        (parse_map told (read (setting mode 0) 255 input.now)) (λ rest. Some ([], rest.now)) }
 {
     let mut stages = Stages::new();
     let mut rest = input;
@@ -53,11 +73,7 @@ fn scan_at<S: Sink, const PRETTY: bool>(
         };
         rest = after;
         if ended {
-            return if rest.is_empty() {
-                Ok(())
-            } else {
-                Err(Refusal::NotText)
-            };
+            return Ok(rest);
         }
     }
     Err(Refusal::NotText)

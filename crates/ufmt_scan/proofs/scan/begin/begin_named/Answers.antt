@@ -1,14 +1,10 @@
-use Rattle.std.proofs.Common.{◌∙◌, ◌≤◌, arith, length, sym, ap, List, ℕ, [], ◌∷◌}
+use Rattle.std.proofs.Common.{◌∙◌, sym, ap, List, ℕ, [], ◌∷◌}
 use Rattle.std.specs.Str.{IsAscii}
-use Rattle.ufmt.specs.Layout.{frame, inside, lead}
 use Rattle.ufmt.specs.Token.{IsWord}
-use Rattle.ufmt_core.specs.declared.layout.Count.TheVariants.{Zero}
 use Rattle.ufmt_core.specs.declared.layout.Kind.TheVariants.{Struct, Tuple}
-use Rattle.ufmt_scan.specs.Private.Level.{setting_at}
-use Rattle.ufmt.proofs.ReadingTurns.{strip_within}
 use Rattle.ufmt_scan.specs.declared.scan.part.Part.TheVariants.{Open}
 use Rattle.ufmt_scan.specs.Private.Scanning.{behind_part, prefixed}
-use Rattle.ufmt_scan.proofs.TellingParts.{struct_tells, tuple_tells}
+use Rattle.ufmt_scan.proofs.TellingParts.{behind_lead, struct_tells, tuple_tells}
 use Rattle.ufmt_scan.proofs.WordBytes.{word_bytes_are_ascii}
 use Rattle.ufmt_scan.proofs.scan.begin.begin_named.Goals as goal
 
@@ -24,18 +20,18 @@ pub returns-in-Some : goal.returns-in-Some
 returns-in-Some g c =
     let level = c.args.level in
     let rest = c.in-Some.rest.now in
-    let within : length rest ≤ length c.args.input.now = strip_within (lead (frame level.mode Tuple) (inside (setting_at level)) Zero) c.args.input.now rest (sym c.in-Some.ensures) in (
-      tuple_tells level c.args.word.now c.args.input.now rest c.requires (sym c.in-Some.ensures)
+    let lead = sym c.in-Some.ensures in (
+      tuple_tells level c.args.word.now c.args.input.now rest c.requires lead
           ∙ ap (λ name. prefixed ((Open Tuple, name) ∷ []) (behind_part level (Open Tuple) rest)) (sym c.text_from-name.ensures),
-      omega (arith, within),
+      behind_lead level Tuple c.args.input.now rest lead,
     )
 
 pub returns-in-Some-strip_lead : goal.returns-in-Some-strip_lead
 returns-in-Some-strip_lead g c =
     let level = c.args.level in
     let rest = c.in-Some-strip_lead.rest.now in
-    let within : length rest ≤ length c.args.input.now = strip_within (lead (frame level.mode Struct) (inside (setting_at level)) Zero) c.args.input.now rest (sym c.in-Some-strip_lead.ensures) in (
-      struct_tells level c.args.word.now c.args.input.now rest c.requires (sym c.in_default.ensures) (sym c.in-Some-strip_lead.ensures)
+    let lead = sym c.in-Some-strip_lead.ensures in (
+      struct_tells level c.args.word.now c.args.input.now rest c.requires (sym c.in_default.ensures) lead
           ∙ ap (λ name. prefixed ((Open Struct, name) ∷ []) (behind_part level (Open Struct) rest)) (sym c.text_from-name.ensures),
-      omega (arith, within),
+      behind_lead level Struct c.args.input.now rest lead,
     )

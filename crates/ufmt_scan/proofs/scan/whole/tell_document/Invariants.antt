@@ -4,7 +4,7 @@ use Rattle.ufmt.specs.Layout.{setting}
 use Rattle.ufmt.specs.Reading.{parse_map, read}
 use Rattle.ufmt_scan.specs.Scan.{told}
 use Rattle.ufmt_scan.specs.Private.Scanning.{TellsOn, coming_in, open_stages, stages_told}
-use Rattle.ufmt_scan.proofs.scan.whole.scan_at.Given as goal
+use Rattle.ufmt_scan.proofs.scan.whole.tell_document.Given as goal
 
 abbrev pub invariant-documents : goal.invariant-documents
 invariant-documents g l = TellsOn g.S.Sink.took l.fn.sink l.sink (parse_map told (read (setting l.mode 0) 255 l.input))
