@@ -3,39 +3,41 @@ use super::same;
 use ufmt_scan::escape::split_escaped;
 use ufmt_scan::leaf::{is_leaf, is_symbol, is_word};
 
-const NONE: (bool, bool, bool) = (false, false, false);
+// What a text is, and the text.
+const TEXTS: &str = "\
+none:;\
+word:-;\
+word:az_AZ-09;\
+none:a b;\
+none:a,;\
+none:\u{e9};\
+symbol:();\
+none:()();\
+symbol:\"\";\
+none:\"a\"b;\
+none:\"\\u{7F}\";\
+symbol:'\u{e9}';\
+none:'';\
+none:'ab'";
 
-const WORD: (bool, bool, bool) = (true, true, false);
-
-const SYMBOL: (bool, bool, bool) = (true, false, true);
-
-const TEXTS: [(&str, (bool, bool, bool)); 14] = [
-    ("", NONE),
-    ("-", WORD),
-    ("az_AZ-09", WORD),
-    ("a b", NONE),
-    ("a:", NONE),
-    ("\u{e9}", NONE),
-    ("()", SYMBOL),
-    ("()()", NONE),
-    ("\"\"", SYMBOL),
-    ("\"a\"b", NONE),
-    ("\"\\u{7F}\"", NONE),
-    ("'\u{e9}'", SYMBOL),
-    ("''", NONE),
-    ("'ab'", NONE),
-];
+fn told(text: &str) -> &'static str {
+    match (is_leaf(text), is_word(text), is_symbol(text)) {
+        (true, true, false) => "word",
+        (true, false, true) => "symbol",
+        (false, false, false) => "none",
+        _ => "several answers that differ",
+    }
+}
 
 #[test]
 fn leaves_are_told_apart(rt: HostRuntime) {
-    for (text, wanted) in TEXTS {
-        same(
-            &rt,
-            (is_leaf(text), is_word(text), is_symbol(text)),
-            wanted,
-            text,
-        );
+    let mut count = 0usize;
+    for row in TEXTS.split(';') {
+        let (wanted, text) = row.split_once(':').unwrap_or((row, ""));
+        same(&rt, told(text), wanted, row);
+        count = count.saturating_add(1);
     }
+    same(&rt, count, 14, "texts");
 }
 
 // What stands between quotation marks, the byte that is written at its front, and how much follows.

@@ -2,7 +2,7 @@
 ghost use Rattle.std.specs.Prelude.{◌≤◌, length};
 
 use super::mode::Mode;
-use super::texts::{NODE_PLAIN, NODE_PRETTY, NOT_PLAIN, NOT_PRETTY, TEXTS};
+use super::texts::{NODE_PLAIN, NODE_PRETTY, NOT_PLAIN, NOT_PRETTY, NOT_UTF8, TEXTS};
 use super::verdict::{Verdict, converts_to, read, told};
 use super::{holds, same};
 use std::alloc::{AllocError, Global};
@@ -36,24 +36,29 @@ fn texts_are_taken_and_converted(rt: HostRuntime) {
     same(&rt, count, 43, "documents");
 }
 
-// The text as what a failed row shows.
-fn shown(text: &[u8]) -> &str {
-    str::from_utf8(text).unwrap_or("bytes that are no UTF-8")
-}
-
-#[test]
-fn what_is_no_plain_text_is_refused(rt: HostRuntime) {
-    for text in NOT_PLAIN {
-        let verdict = told(rt.alloc(), Mode::Plain, text);
-        same(&rt, verdict, Verdict::Refused, shown(text));
+// How many of the texts are refused before the first that isn't, and that one.
+fn refused<'a>(alloc: Global, mode: Mode, texts: &'a str) -> (usize, Option<&'a str>) {
+    let mut count = 0usize;
+    for text in texts.split('|') {
+        if told(alloc, mode, text.as_bytes()) != Verdict::Refused {
+            return (count, Some(text));
+        }
+        count = count.saturating_add(1);
     }
+    (count, None)
 }
 
 #[test]
-fn what_is_no_pretty_text_is_refused(rt: HostRuntime) {
-    for text in NOT_PRETTY {
-        let verdict = told(rt.alloc(), Mode::Pretty, text);
-        same(&rt, verdict, Verdict::Refused, shown(text));
+fn what_is_no_text_is_refused(rt: HostRuntime) {
+    let plain = refused(rt.alloc(), Mode::Plain, NOT_PLAIN);
+    same(&rt, plain, (71, None), "plain texts");
+    let pretty = refused(rt.alloc(), Mode::Pretty, NOT_PRETTY);
+    same(&rt, pretty, (29, None), "pretty texts");
+    for text in NOT_UTF8 {
+        let plain = told(rt.alloc(), Mode::Plain, text);
+        let pretty = told(rt.alloc(), Mode::Pretty, text);
+        same(&rt, plain, Verdict::Refused, "bytes that are no UTF-8");
+        same(&rt, pretty, Verdict::Refused, "bytes that are no UTF-8");
     }
 }
 
