@@ -28,10 +28,7 @@ pub trait uDisplay {
 impl<T: uDisplay> uDisplay for &T {
     ghost display = { λ x. T.display x.now };
 
-    fn fmt<W>(&self, f: &mut Formatter<W>) -> Result<(), W::Error>
-    where
-        W: uWrite,
-    {
+    fn fmt<W: uWrite>(&self, f: &mut Formatter<W>) -> Result<(), W::Error> {
         (**self).fmt(f)
     }
 }
@@ -40,10 +37,7 @@ impl<T: uDisplay> uDisplay for &T {
 impl<T: uDisplay> uDisplay for &mut T {
     ghost display = { λ x. T.display x.now };
 
-    fn fmt<W>(&self, f: &mut Formatter<W>) -> Result<(), W::Error>
-    where
-        W: uWrite,
-    {
+    fn fmt<W: uWrite>(&self, f: &mut Formatter<W>) -> Result<(), W::Error> {
         (**self).fmt(f)
     }
 }
@@ -52,10 +46,7 @@ impl<T: uDisplay> uDisplay for &mut T {
 impl<T: uDisplay, A: Allocator> uDisplay for Box<T, A> {
     ghost display = { λ x. T.display x.value };
 
-    fn fmt<W>(&self, f: &mut Formatter<W>) -> Result<(), W::Error>
-    where
-        W: uWrite,
-    {
+    fn fmt<W: uWrite>(&self, f: &mut Formatter<W>) -> Result<(), W::Error> {
         (**self).fmt(f)
     }
 }
@@ -64,10 +55,7 @@ impl<T: uDisplay, A: Allocator> uDisplay for Box<T, A> {
 impl uDisplay for char {
     ghost display = { λ c. leaf (encode_utf8 c) };
 
-    fn fmt<W>(&self, f: &mut Formatter<W>) -> Result<(), W::Error>
-    where
-        W: uWrite,
-    {
+    fn fmt<W: uWrite>(&self, f: &mut Formatter<W>) -> Result<(), W::Error> {
         f.write_char(*self)
     }
 }
@@ -76,10 +64,7 @@ impl uDisplay for char {
 impl uDisplay for &str {
     ghost display = { λ s. leaf s.now };
 
-    fn fmt<W>(&self, f: &mut Formatter<W>) -> Result<(), W::Error>
-    where
-        W: uWrite,
-    {
+    fn fmt<W: uWrite>(&self, f: &mut Formatter<W>) -> Result<(), W::Error> {
         f.write_str(self)
     }
 }
@@ -88,10 +73,7 @@ impl uDisplay for &str {
 impl<A: Allocator> uDisplay for String<A> {
     ghost display = { λ s. leaf (string_bytes s) };
 
-    fn fmt<W>(&self, f: &mut Formatter<W>) -> Result<(), W::Error>
-    where
-        W: uWrite,
-    {
+    fn fmt<W: uWrite>(&self, f: &mut Formatter<W>) -> Result<(), W::Error> {
         f.write_str(self.as_str())
     }
 }
@@ -99,10 +81,7 @@ impl<A: Allocator> uDisplay for String<A> {
 impl uDisplay for u8 {
     ghost display = { ⟦<u8 as uDebug>⟧.document };
 
-    fn fmt<W>(&self, f: &mut Formatter<W>) -> Result<(), W::Error>
-    where
-        W: uWrite,
-    {
+    fn fmt<W: uWrite>(&self, f: &mut Formatter<W>) -> Result<(), W::Error> {
         uDebug::fmt(self, f)
     }
 }
@@ -110,10 +89,7 @@ impl uDisplay for u8 {
 impl uDisplay for u16 {
     ghost display = { ⟦<u16 as uDebug>⟧.document };
 
-    fn fmt<W>(&self, f: &mut Formatter<W>) -> Result<(), W::Error>
-    where
-        W: uWrite,
-    {
+    fn fmt<W: uWrite>(&self, f: &mut Formatter<W>) -> Result<(), W::Error> {
         uDebug::fmt(self, f)
     }
 }
@@ -121,10 +97,7 @@ impl uDisplay for u16 {
 impl uDisplay for u32 {
     ghost display = { ⟦<u32 as uDebug>⟧.document };
 
-    fn fmt<W>(&self, f: &mut Formatter<W>) -> Result<(), W::Error>
-    where
-        W: uWrite,
-    {
+    fn fmt<W: uWrite>(&self, f: &mut Formatter<W>) -> Result<(), W::Error> {
         uDebug::fmt(self, f)
     }
 }
@@ -132,10 +105,7 @@ impl uDisplay for u32 {
 impl uDisplay for u64 {
     ghost display = { ⟦<u64 as uDebug>⟧.document };
 
-    fn fmt<W>(&self, f: &mut Formatter<W>) -> Result<(), W::Error>
-    where
-        W: uWrite,
-    {
+    fn fmt<W: uWrite>(&self, f: &mut Formatter<W>) -> Result<(), W::Error> {
         uDebug::fmt(self, f)
     }
 }
@@ -143,10 +113,7 @@ impl uDisplay for u64 {
 impl uDisplay for u128 {
     ghost display = { ⟦<u128 as uDebug>⟧.document };
 
-    fn fmt<W>(&self, f: &mut Formatter<W>) -> Result<(), W::Error>
-    where
-        W: uWrite,
-    {
+    fn fmt<W: uWrite>(&self, f: &mut Formatter<W>) -> Result<(), W::Error> {
         uDebug::fmt(self, f)
     }
 }
@@ -154,10 +121,7 @@ impl uDisplay for u128 {
 impl uDisplay for usize {
     ghost display = { ⟦<usize as uDebug>⟧.document };
 
-    fn fmt<W>(&self, f: &mut Formatter<W>) -> Result<(), W::Error>
-    where
-        W: uWrite,
-    {
+    fn fmt<W: uWrite>(&self, f: &mut Formatter<W>) -> Result<(), W::Error> {
         uDebug::fmt(self, f)
     }
 }
@@ -165,10 +129,7 @@ impl uDisplay for usize {
 impl uDisplay for i8 {
     ghost display = { ⟦<i8 as uDebug>⟧.document };
 
-    fn fmt<W>(&self, f: &mut Formatter<W>) -> Result<(), W::Error>
-    where
-        W: uWrite,
-    {
+    fn fmt<W: uWrite>(&self, f: &mut Formatter<W>) -> Result<(), W::Error> {
         uDebug::fmt(self, f)
     }
 }
@@ -176,10 +137,7 @@ impl uDisplay for i8 {
 impl uDisplay for i16 {
     ghost display = { ⟦<i16 as uDebug>⟧.document };
 
-    fn fmt<W>(&self, f: &mut Formatter<W>) -> Result<(), W::Error>
-    where
-        W: uWrite,
-    {
+    fn fmt<W: uWrite>(&self, f: &mut Formatter<W>) -> Result<(), W::Error> {
         uDebug::fmt(self, f)
     }
 }
@@ -187,10 +145,7 @@ impl uDisplay for i16 {
 impl uDisplay for i32 {
     ghost display = { ⟦<i32 as uDebug>⟧.document };
 
-    fn fmt<W>(&self, f: &mut Formatter<W>) -> Result<(), W::Error>
-    where
-        W: uWrite,
-    {
+    fn fmt<W: uWrite>(&self, f: &mut Formatter<W>) -> Result<(), W::Error> {
         uDebug::fmt(self, f)
     }
 }
@@ -198,10 +153,7 @@ impl uDisplay for i32 {
 impl uDisplay for i64 {
     ghost display = { ⟦<i64 as uDebug>⟧.document };
 
-    fn fmt<W>(&self, f: &mut Formatter<W>) -> Result<(), W::Error>
-    where
-        W: uWrite,
-    {
+    fn fmt<W: uWrite>(&self, f: &mut Formatter<W>) -> Result<(), W::Error> {
         uDebug::fmt(self, f)
     }
 }
@@ -209,10 +161,7 @@ impl uDisplay for i64 {
 impl uDisplay for i128 {
     ghost display = { ⟦<i128 as uDebug>⟧.document };
 
-    fn fmt<W>(&self, f: &mut Formatter<W>) -> Result<(), W::Error>
-    where
-        W: uWrite,
-    {
+    fn fmt<W: uWrite>(&self, f: &mut Formatter<W>) -> Result<(), W::Error> {
         uDebug::fmt(self, f)
     }
 }
@@ -220,10 +169,7 @@ impl uDisplay for i128 {
 impl uDisplay for isize {
     ghost display = { ⟦<isize as uDebug>⟧.document };
 
-    fn fmt<W>(&self, f: &mut Formatter<W>) -> Result<(), W::Error>
-    where
-        W: uWrite,
-    {
+    fn fmt<W: uWrite>(&self, f: &mut Formatter<W>) -> Result<(), W::Error> {
         uDebug::fmt(self, f)
     }
 }
@@ -231,10 +177,7 @@ impl uDisplay for isize {
 impl uDisplay for NonZeroU8 {
     ghost display = { ⟦<NonZeroU8 as uDebug>⟧.document };
 
-    fn fmt<W>(&self, f: &mut Formatter<W>) -> Result<(), W::Error>
-    where
-        W: uWrite,
-    {
+    fn fmt<W: uWrite>(&self, f: &mut Formatter<W>) -> Result<(), W::Error> {
         uDebug::fmt(self, f)
     }
 }
@@ -242,10 +185,7 @@ impl uDisplay for NonZeroU8 {
 impl uDisplay for NonZeroU16 {
     ghost display = { ⟦<NonZeroU16 as uDebug>⟧.document };
 
-    fn fmt<W>(&self, f: &mut Formatter<W>) -> Result<(), W::Error>
-    where
-        W: uWrite,
-    {
+    fn fmt<W: uWrite>(&self, f: &mut Formatter<W>) -> Result<(), W::Error> {
         uDebug::fmt(self, f)
     }
 }
@@ -253,10 +193,7 @@ impl uDisplay for NonZeroU16 {
 impl uDisplay for NonZeroU32 {
     ghost display = { ⟦<NonZeroU32 as uDebug>⟧.document };
 
-    fn fmt<W>(&self, f: &mut Formatter<W>) -> Result<(), W::Error>
-    where
-        W: uWrite,
-    {
+    fn fmt<W: uWrite>(&self, f: &mut Formatter<W>) -> Result<(), W::Error> {
         uDebug::fmt(self, f)
     }
 }
@@ -264,10 +201,7 @@ impl uDisplay for NonZeroU32 {
 impl uDisplay for NonZeroU64 {
     ghost display = { ⟦<NonZeroU64 as uDebug>⟧.document };
 
-    fn fmt<W>(&self, f: &mut Formatter<W>) -> Result<(), W::Error>
-    where
-        W: uWrite,
-    {
+    fn fmt<W: uWrite>(&self, f: &mut Formatter<W>) -> Result<(), W::Error> {
         uDebug::fmt(self, f)
     }
 }
@@ -275,10 +209,7 @@ impl uDisplay for NonZeroU64 {
 impl uDisplay for NonZeroUsize {
     ghost display = { ⟦<NonZeroUsize as uDebug>⟧.document };
 
-    fn fmt<W>(&self, f: &mut Formatter<W>) -> Result<(), W::Error>
-    where
-        W: uWrite,
-    {
+    fn fmt<W: uWrite>(&self, f: &mut Formatter<W>) -> Result<(), W::Error> {
         uDebug::fmt(self, f)
     }
 }
@@ -286,10 +217,7 @@ impl uDisplay for NonZeroUsize {
 impl uDisplay for NonZeroI8 {
     ghost display = { ⟦<NonZeroI8 as uDebug>⟧.document };
 
-    fn fmt<W>(&self, f: &mut Formatter<W>) -> Result<(), W::Error>
-    where
-        W: uWrite,
-    {
+    fn fmt<W: uWrite>(&self, f: &mut Formatter<W>) -> Result<(), W::Error> {
         uDebug::fmt(self, f)
     }
 }
@@ -297,10 +225,7 @@ impl uDisplay for NonZeroI8 {
 impl uDisplay for NonZeroI16 {
     ghost display = { ⟦<NonZeroI16 as uDebug>⟧.document };
 
-    fn fmt<W>(&self, f: &mut Formatter<W>) -> Result<(), W::Error>
-    where
-        W: uWrite,
-    {
+    fn fmt<W: uWrite>(&self, f: &mut Formatter<W>) -> Result<(), W::Error> {
         uDebug::fmt(self, f)
     }
 }
@@ -308,10 +233,7 @@ impl uDisplay for NonZeroI16 {
 impl uDisplay for NonZeroI32 {
     ghost display = { ⟦<NonZeroI32 as uDebug>⟧.document };
 
-    fn fmt<W>(&self, f: &mut Formatter<W>) -> Result<(), W::Error>
-    where
-        W: uWrite,
-    {
+    fn fmt<W: uWrite>(&self, f: &mut Formatter<W>) -> Result<(), W::Error> {
         uDebug::fmt(self, f)
     }
 }
@@ -319,10 +241,7 @@ impl uDisplay for NonZeroI32 {
 impl uDisplay for NonZeroI64 {
     ghost display = { ⟦<NonZeroI64 as uDebug>⟧.document };
 
-    fn fmt<W>(&self, f: &mut Formatter<W>) -> Result<(), W::Error>
-    where
-        W: uWrite,
-    {
+    fn fmt<W: uWrite>(&self, f: &mut Formatter<W>) -> Result<(), W::Error> {
         uDebug::fmt(self, f)
     }
 }
@@ -330,10 +249,7 @@ impl uDisplay for NonZeroI64 {
 impl uDisplay for NonZeroIsize {
     ghost display = { ⟦<NonZeroIsize as uDebug>⟧.document };
 
-    fn fmt<W>(&self, f: &mut Formatter<W>) -> Result<(), W::Error>
-    where
-        W: uWrite,
-    {
+    fn fmt<W: uWrite>(&self, f: &mut Formatter<W>) -> Result<(), W::Error> {
         uDebug::fmt(self, f)
     }
 }
@@ -341,10 +257,7 @@ impl uDisplay for NonZeroIsize {
 impl uDisplay for bool {
     ghost display = { ⟦<bool as uDebug>⟧.document };
 
-    fn fmt<W>(&self, f: &mut Formatter<W>) -> Result<(), W::Error>
-    where
-        W: uWrite,
-    {
+    fn fmt<W: uWrite>(&self, f: &mut Formatter<W>) -> Result<(), W::Error> {
         uDebug::fmt(self, f)
     }
 }

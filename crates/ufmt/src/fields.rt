@@ -33,47 +33,38 @@ macro_rules! fields {
     ($formatter:expr, $name:ident {} $(,)?) => { $crate::Formatter::struct_0($formatter, stringify!($name)) };
     ($formatter:expr, $name:ident () $(,)?) => { $crate::Formatter::tuple_0($formatter, stringify!($name)) };
     ($formatter:expr, $name:ident { $($field:ident: $value:expr),+ $(,)? } $(,)?) => {
-        $crate::whole_value!(struct [$($field)+] $formatter, stringify!($name), $(stringify!($field), &$value,)+)
+        $crate::whole_value!(
+            struct_of [$($field)+]
+            [struct_1 struct_2 struct_3 struct_4 struct_5 struct_6 struct_7 struct_8 struct_9 struct_10 struct_11 struct_12]
+            $formatter, stringify!($name), $(stringify!($field), &$value,)+
+        )
     };
     ($formatter:expr, $name:ident ( $($value:expr),+ $(,)? ) $(,)?) => {
-        $crate::whole_value!(tuple [$(($value))+] $formatter, stringify!($name), $(&$value,)+)
+        $crate::whole_value!(
+            tuple_of [$(($value))+]
+            [tuple_1 tuple_2 tuple_3 tuple_4 tuple_5 tuple_6 tuple_7 tuple_8 tuple_9 tuple_10 tuple_11 tuple_12]
+            $formatter, stringify!($name), $(&$value,)+
+        )
     };
     ($($other:tt)*) => {
         compile_error!("expected a formatter and what it prints: `self, Name { x, y }` or `self, Name(x, y)`, which take the value apart, `Name { x, y }`, `Name { x: e, y: e }`, `Name(e, e)` or `Name`")
     };
 }
 
-/// The call for a whole struct or tuple with so many fields, and past twelve that for a chain.
+/// The call for a whole struct or tuple with so many fields, and past twelve that for a chain: a field
+/// and a call are taken off both lists until one field is left.
 #[macro_export]
 macro_rules! whole_value {
-    (struct [$a:tt] $($arguments:tt)*) => { $crate::Formatter::struct_1($($arguments)*) };
-    (struct [$a:tt $b:tt] $($arguments:tt)*) => { $crate::Formatter::struct_2($($arguments)*) };
-    (struct [$a:tt $b:tt $c:tt] $($arguments:tt)*) => { $crate::Formatter::struct_3($($arguments)*) };
-    (struct [$a:tt $b:tt $c:tt $d:tt] $($arguments:tt)*) => { $crate::Formatter::struct_4($($arguments)*) };
-    (struct [$a:tt $b:tt $c:tt $d:tt $e:tt] $($arguments:tt)*) => { $crate::Formatter::struct_5($($arguments)*) };
-    (struct [$a:tt $b:tt $c:tt $d:tt $e:tt $f:tt] $($arguments:tt)*) => { $crate::Formatter::struct_6($($arguments)*) };
-    (struct [$a:tt $b:tt $c:tt $d:tt $e:tt $f:tt $g:tt] $($arguments:tt)*) => { $crate::Formatter::struct_7($($arguments)*) };
-    (struct [$a:tt $b:tt $c:tt $d:tt $e:tt $f:tt $g:tt $h:tt] $($arguments:tt)*) => { $crate::Formatter::struct_8($($arguments)*) };
-    (struct [$a:tt $b:tt $c:tt $d:tt $e:tt $f:tt $g:tt $h:tt $i:tt] $($arguments:tt)*) => { $crate::Formatter::struct_9($($arguments)*) };
-    (struct [$a:tt $b:tt $c:tt $d:tt $e:tt $f:tt $g:tt $h:tt $i:tt $j:tt] $($arguments:tt)*) => { $crate::Formatter::struct_10($($arguments)*) };
-    (struct [$a:tt $b:tt $c:tt $d:tt $e:tt $f:tt $g:tt $h:tt $i:tt $j:tt $k:tt] $($arguments:tt)*) => { $crate::Formatter::struct_11($($arguments)*) };
-    (struct [$a:tt $b:tt $c:tt $d:tt $e:tt $f:tt $g:tt $h:tt $i:tt $j:tt $k:tt $l:tt] $($arguments:tt)*) => { $crate::Formatter::struct_12($($arguments)*) };
-    (struct [$($more:tt)+] $formatter:expr, $name:expr, $($fields:tt)+) => {
+    ($kind:ident [$last:tt] [$call:ident $($more:ident)*] $($arguments:tt)*) => {
+        $crate::Formatter::$call($($arguments)*)
+    };
+    ($kind:ident [$field:tt $($fields:tt)+] [$call:ident $($calls:ident)*] $($arguments:tt)*) => {
+        $crate::whole_value!($kind [$($fields)+] [$($calls)*] $($arguments)*)
+    };
+    (struct_of [$($more:tt)+] [] $formatter:expr, $name:expr, $($fields:tt)+) => {
         $crate::Formatter::struct_of($formatter, $name, &$crate::field_chain!($($fields)+))
     };
-    (tuple [$a:tt] $($arguments:tt)*) => { $crate::Formatter::tuple_1($($arguments)*) };
-    (tuple [$a:tt $b:tt] $($arguments:tt)*) => { $crate::Formatter::tuple_2($($arguments)*) };
-    (tuple [$a:tt $b:tt $c:tt] $($arguments:tt)*) => { $crate::Formatter::tuple_3($($arguments)*) };
-    (tuple [$a:tt $b:tt $c:tt $d:tt] $($arguments:tt)*) => { $crate::Formatter::tuple_4($($arguments)*) };
-    (tuple [$a:tt $b:tt $c:tt $d:tt $e:tt] $($arguments:tt)*) => { $crate::Formatter::tuple_5($($arguments)*) };
-    (tuple [$a:tt $b:tt $c:tt $d:tt $e:tt $f:tt] $($arguments:tt)*) => { $crate::Formatter::tuple_6($($arguments)*) };
-    (tuple [$a:tt $b:tt $c:tt $d:tt $e:tt $f:tt $g:tt] $($arguments:tt)*) => { $crate::Formatter::tuple_7($($arguments)*) };
-    (tuple [$a:tt $b:tt $c:tt $d:tt $e:tt $f:tt $g:tt $h:tt] $($arguments:tt)*) => { $crate::Formatter::tuple_8($($arguments)*) };
-    (tuple [$a:tt $b:tt $c:tt $d:tt $e:tt $f:tt $g:tt $h:tt $i:tt] $($arguments:tt)*) => { $crate::Formatter::tuple_9($($arguments)*) };
-    (tuple [$a:tt $b:tt $c:tt $d:tt $e:tt $f:tt $g:tt $h:tt $i:tt $j:tt] $($arguments:tt)*) => { $crate::Formatter::tuple_10($($arguments)*) };
-    (tuple [$a:tt $b:tt $c:tt $d:tt $e:tt $f:tt $g:tt $h:tt $i:tt $j:tt $k:tt] $($arguments:tt)*) => { $crate::Formatter::tuple_11($($arguments)*) };
-    (tuple [$a:tt $b:tt $c:tt $d:tt $e:tt $f:tt $g:tt $h:tt $i:tt $j:tt $k:tt $l:tt] $($arguments:tt)*) => { $crate::Formatter::tuple_12($($arguments)*) };
-    (tuple [$($more:tt)+] $formatter:expr, $name:expr, $($fields:tt)+) => {
+    (tuple_of [$($more:tt)+] [] $formatter:expr, $name:expr, $($fields:tt)+) => {
         $crate::Formatter::tuple_of($formatter, $name, &$crate::value_chain!($($fields)+))
     };
 }

@@ -112,10 +112,11 @@ impl HexOptions {
 impl<T: uDisplayHex> uDisplayHex for &T {
     ghost hex_text = { λ x. T.hex_text x.now };
 
-    fn fmt_hex<W>(&self, f: &mut Formatter<W>, options: HexOptions) -> Result<(), W::Error>
-    where
-        W: uWrite,
-    {
+    fn fmt_hex<W: uWrite>(
+        &self,
+        f: &mut Formatter<W>,
+        options: HexOptions,
+    ) -> Result<(), W::Error> {
         (**self).fmt_hex(f, options)
     }
 }

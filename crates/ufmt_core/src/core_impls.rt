@@ -15,10 +15,7 @@ impl<T: uDebug> uDebug for &T {
     ghost document = { λ x. T.document x.now };
 
     #[inline(always)]
-    fn fmt<W>(&self, f: &mut Formatter<W>) -> Result<(), W::Error>
-    where
-        W: uWrite,
-    {
+    fn fmt<W: uWrite>(&self, f: &mut Formatter<W>) -> Result<(), W::Error> {
         (**self).fmt(f)
     }
 }
@@ -28,10 +25,7 @@ impl<T: uDebug> uDebug for &mut T {
     ghost document = { λ x. T.document x.now };
 
     #[inline(always)]
-    fn fmt<W>(&self, f: &mut Formatter<W>) -> Result<(), W::Error>
-    where
-        W: uWrite,
-    {
+    fn fmt<W: uWrite>(&self, f: &mut Formatter<W>) -> Result<(), W::Error> {
         (**self).fmt(f)
     }
 }
@@ -40,10 +34,7 @@ impl<T: uDebug> uDebug for &mut T {
 impl<T: uDebug> uDebug for &[T] {
     ghost document = { λ items. list_of (documents (map T.document items.now)) };
 
-    fn fmt<W>(&self, f: &mut Formatter<W>) -> Result<(), W::Error>
-    where
-        W: uWrite,
-    {
+    fn fmt<W: uWrite>(&self, f: &mut Formatter<W>) -> Result<(), W::Error> {
         f.list_of(self)
     }
 }
@@ -52,10 +43,7 @@ impl<T: uDebug> uDebug for &[T] {
 impl<T: uDebug, const N: usize> uDebug for [T; N] {
     ghost document = { λ items. list_of (documents (map T.document items)) };
 
-    fn fmt<W>(&self, f: &mut Formatter<W>) -> Result<(), W::Error>
-    where
-        W: uWrite,
-    {
+    fn fmt<W: uWrite>(&self, f: &mut Formatter<W>) -> Result<(), W::Error> {
         let items: &[T] = self;
         items.fmt(f)
     }
@@ -64,10 +52,7 @@ impl<T: uDebug, const N: usize> uDebug for [T; N] {
 impl uDebug for bool {
     ghost document = { λ b. leaf (if b then codes "true" else codes "false") };
 
-    fn fmt<W>(&self, f: &mut Formatter<W>) -> Result<(), W::Error>
-    where
-        W: uWrite,
-    {
+    fn fmt<W: uWrite>(&self, f: &mut Formatter<W>) -> Result<(), W::Error> {
         f.write_str(if *self { "true" } else { "false" })
     }
 }
@@ -76,10 +61,7 @@ impl uDebug for bool {
 impl uDebug for &str {
     ghost document = { λ s. leaf (quoted_text (chars s.now)) };
 
-    fn fmt<W>(&self, f: &mut Formatter<W>) -> Result<(), W::Error>
-    where
-        W: uWrite,
-    {
+    fn fmt<W: uWrite>(&self, f: &mut Formatter<W>) -> Result<(), W::Error> {
         write_quoted_text(f, self)
     }
 }
@@ -88,10 +70,7 @@ impl uDebug for &str {
 impl uDebug for char {
     ghost document = { λ c. leaf (quoted_char c) };
 
-    fn fmt<W>(&self, f: &mut Formatter<W>) -> Result<(), W::Error>
-    where
-        W: uWrite,
-    {
+    fn fmt<W: uWrite>(&self, f: &mut Formatter<W>) -> Result<(), W::Error> {
         write_quoted_char(f, *self)
     }
 }
@@ -99,10 +78,7 @@ impl uDebug for char {
 impl uDebug for () {
     ghost document = { λ _. leaf (codes "()") };
 
-    fn fmt<W>(&self, f: &mut Formatter<W>) -> Result<(), W::Error>
-    where
-        W: uWrite,
-    {
+    fn fmt<W: uWrite>(&self, f: &mut Formatter<W>) -> Result<(), W::Error> {
         f.write_str("()")
     }
 }
@@ -111,10 +87,7 @@ impl uDebug for () {
 impl<T: uDebug> uDebug for Option<T> {
     ghost document = { option_document T.document };
 
-    fn fmt<W>(&self, f: &mut Formatter<W>) -> Result<(), W::Error>
-    where
-        W: uWrite,
-    {
+    fn fmt<W: uWrite>(&self, f: &mut Formatter<W>) -> Result<(), W::Error> {
         match self {
             None => f.write_str("None"),
             Some(value) => f.tuple_1("Some", value),
@@ -126,10 +99,7 @@ impl<T: uDebug> uDebug for Option<T> {
 impl<T: uDebug, E: uDebug> uDebug for Result<T, E> {
     ghost document = { result_document T.document E.document };
 
-    fn fmt<W>(&self, f: &mut Formatter<W>) -> Result<(), W::Error>
-    where
-        W: uWrite,
-    {
+    fn fmt<W: uWrite>(&self, f: &mut Formatter<W>) -> Result<(), W::Error> {
         match self {
             Ok(value) => f.tuple_1("Ok", value),
             Err(error) => f.tuple_1("Err", error),

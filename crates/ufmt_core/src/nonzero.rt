@@ -15,10 +15,7 @@ use std::num::{
 impl uDebug for NonZeroU8 {
     ghost document = { λ n. leaf (decimal (pos (non_zero_u8_get n))) };
 
-    fn fmt<W>(&self, f: &mut Formatter<W>) -> Result<(), W::Error>
-    where
-        W: uWrite,
-    {
+    fn fmt<W: uWrite>(&self, f: &mut Formatter<W>) -> Result<(), W::Error> {
         self.get().fmt(f)
     }
 }
@@ -26,10 +23,7 @@ impl uDebug for NonZeroU8 {
 impl uDebug for NonZeroU16 {
     ghost document = { λ n. leaf (decimal (pos (non_zero_u16_get n))) };
 
-    fn fmt<W>(&self, f: &mut Formatter<W>) -> Result<(), W::Error>
-    where
-        W: uWrite,
-    {
+    fn fmt<W: uWrite>(&self, f: &mut Formatter<W>) -> Result<(), W::Error> {
         self.get().fmt(f)
     }
 }
@@ -37,10 +31,7 @@ impl uDebug for NonZeroU16 {
 impl uDebug for NonZeroU32 {
     ghost document = { λ n. leaf (decimal (pos (non_zero_u32_get n))) };
 
-    fn fmt<W>(&self, f: &mut Formatter<W>) -> Result<(), W::Error>
-    where
-        W: uWrite,
-    {
+    fn fmt<W: uWrite>(&self, f: &mut Formatter<W>) -> Result<(), W::Error> {
         self.get().fmt(f)
     }
 }
@@ -48,10 +39,7 @@ impl uDebug for NonZeroU32 {
 impl uDebug for NonZeroU64 {
     ghost document = { λ n. leaf (decimal (pos (non_zero_u64_get n))) };
 
-    fn fmt<W>(&self, f: &mut Formatter<W>) -> Result<(), W::Error>
-    where
-        W: uWrite,
-    {
+    fn fmt<W: uWrite>(&self, f: &mut Formatter<W>) -> Result<(), W::Error> {
         self.get().fmt(f)
     }
 }
@@ -59,10 +47,7 @@ impl uDebug for NonZeroU64 {
 impl uDebug for NonZeroUsize {
     ghost document = { λ n. leaf (decimal (pos (non_zero_usize_get n))) };
 
-    fn fmt<W>(&self, f: &mut Formatter<W>) -> Result<(), W::Error>
-    where
-        W: uWrite,
-    {
+    fn fmt<W: uWrite>(&self, f: &mut Formatter<W>) -> Result<(), W::Error> {
         self.get().fmt(f)
     }
 }
@@ -70,10 +55,7 @@ impl uDebug for NonZeroUsize {
 impl uDebug for NonZeroI8 {
     ghost document = { λ n. leaf (decimal (non_zero_i8_get n)) };
 
-    fn fmt<W>(&self, f: &mut Formatter<W>) -> Result<(), W::Error>
-    where
-        W: uWrite,
-    {
+    fn fmt<W: uWrite>(&self, f: &mut Formatter<W>) -> Result<(), W::Error> {
         self.get().fmt(f)
     }
 }
@@ -81,10 +63,7 @@ impl uDebug for NonZeroI8 {
 impl uDebug for NonZeroI16 {
     ghost document = { λ n. leaf (decimal (non_zero_i16_get n)) };
 
-    fn fmt<W>(&self, f: &mut Formatter<W>) -> Result<(), W::Error>
-    where
-        W: uWrite,
-    {
+    fn fmt<W: uWrite>(&self, f: &mut Formatter<W>) -> Result<(), W::Error> {
         self.get().fmt(f)
     }
 }
@@ -92,10 +71,7 @@ impl uDebug for NonZeroI16 {
 impl uDebug for NonZeroI32 {
     ghost document = { λ n. leaf (decimal (non_zero_i32_get n)) };
 
-    fn fmt<W>(&self, f: &mut Formatter<W>) -> Result<(), W::Error>
-    where
-        W: uWrite,
-    {
+    fn fmt<W: uWrite>(&self, f: &mut Formatter<W>) -> Result<(), W::Error> {
         self.get().fmt(f)
     }
 }
@@ -103,10 +79,7 @@ impl uDebug for NonZeroI32 {
 impl uDebug for NonZeroI64 {
     ghost document = { λ n. leaf (decimal (non_zero_i64_get n)) };
 
-    fn fmt<W>(&self, f: &mut Formatter<W>) -> Result<(), W::Error>
-    where
-        W: uWrite,
-    {
+    fn fmt<W: uWrite>(&self, f: &mut Formatter<W>) -> Result<(), W::Error> {
         self.get().fmt(f)
     }
 }
@@ -114,10 +87,7 @@ impl uDebug for NonZeroI64 {
 impl uDebug for NonZeroIsize {
     ghost document = { λ n. leaf (decimal (non_zero_isize_get n)) };
 
-    fn fmt<W>(&self, f: &mut Formatter<W>) -> Result<(), W::Error>
-    where
-        W: uWrite,
-    {
+    fn fmt<W: uWrite>(&self, f: &mut Formatter<W>) -> Result<(), W::Error> {
         self.get().fmt(f)
     }
 }

@@ -83,10 +83,7 @@ impl uDebug for i8 {
     ghost document = { λ z. leaf (decimal z) };
 
     #[inline(always)]
-    fn fmt<W>(&self, f: &mut Formatter<W>) -> Result<(), W::Error>
-    where
-        W: uWrite,
-    {
+    fn fmt<W: uWrite>(&self, f: &mut Formatter<W>) -> Result<(), W::Error> {
         f.write_str(decimal_text(i64::from(*self), &mut [0; 4]))
     }
 }
@@ -95,10 +92,7 @@ impl uDebug for i16 {
     ghost document = { λ z. leaf (decimal z) };
 
     #[inline(always)]
-    fn fmt<W>(&self, f: &mut Formatter<W>) -> Result<(), W::Error>
-    where
-        W: uWrite,
-    {
+    fn fmt<W: uWrite>(&self, f: &mut Formatter<W>) -> Result<(), W::Error> {
         f.write_str(decimal_text(i64::from(*self), &mut [0; 6]))
     }
 }
@@ -107,10 +101,7 @@ impl uDebug for i32 {
     ghost document = { λ z. leaf (decimal z) };
 
     #[inline(always)]
-    fn fmt<W>(&self, f: &mut Formatter<W>) -> Result<(), W::Error>
-    where
-        W: uWrite,
-    {
+    fn fmt<W: uWrite>(&self, f: &mut Formatter<W>) -> Result<(), W::Error> {
         f.write_str(decimal_text(i64::from(*self), &mut [0; 11]))
     }
 }
@@ -119,10 +110,7 @@ impl uDebug for i64 {
     ghost document = { λ z. leaf (decimal z) };
 
     #[inline(always)]
-    fn fmt<W>(&self, f: &mut Formatter<W>) -> Result<(), W::Error>
-    where
-        W: uWrite,
-    {
+    fn fmt<W: uWrite>(&self, f: &mut Formatter<W>) -> Result<(), W::Error> {
         f.write_str(decimal_text(*self, &mut [0; 20]))
     }
 }
@@ -130,10 +118,7 @@ impl uDebug for i64 {
 impl uDebug for i128 {
     ghost document = { λ z. leaf (decimal z) };
 
-    fn fmt<W>(&self, f: &mut Formatter<W>) -> Result<(), W::Error>
-    where
-        W: uWrite,
-    {
+    fn fmt<W: uWrite>(&self, f: &mut Formatter<W>) -> Result<(), W::Error> {
         f.write_str(decimal_text(*self, &mut [0; 40]))
     }
 }
@@ -142,10 +127,7 @@ impl uDebug for isize {
     ghost document = { λ z. leaf (decimal z) };
 
     #[inline(always)]
-    fn fmt<W>(&self, f: &mut Formatter<W>) -> Result<(), W::Error>
-    where
-        W: uWrite,
-    {
+    fn fmt<W: uWrite>(&self, f: &mut Formatter<W>) -> Result<(), W::Error> {
         f.write_str(decimal_text(*self as i64, &mut [0; 20]))
     }
 }

@@ -17,10 +17,7 @@ use std::collections::{BTreeMap, BTreeSet};
 impl<T: uDebug, A: Allocator> uDebug for Vec<T, A> {
     ghost document = { λ v. list_of (documents (map T.document v.items)) };
 
-    fn fmt<W>(&self, f: &mut Formatter<W>) -> Result<(), W::Error>
-    where
-        W: uWrite,
-    {
+    fn fmt<W: uWrite>(&self, f: &mut Formatter<W>) -> Result<(), W::Error> {
         f.list_of(self)
     }
 }
@@ -29,10 +26,7 @@ impl<T: uDebug, A: Allocator> uDebug for Vec<T, A> {
 impl<T: uDebug + Ord, A: Allocator> uDebug for BTreeSet<T, A> {
     ghost document = { λ s. set_of (documents (map T.document s.keys)) };
 
-    fn fmt<W>(&self, f: &mut Formatter<W>) -> Result<(), W::Error>
-    where
-        W: uWrite,
-    {
+    fn fmt<W: uWrite>(&self, f: &mut Formatter<W>) -> Result<(), W::Error> {
         fmt_set(self.iter(), f)
     }
 }
@@ -42,10 +36,7 @@ impl<K: uDebug + Ord, V: uDebug, A: Allocator> uDebug for BTreeMap<K, V, A> {
     ghost document = { λ m. map_of
         (pairs_of (map (λ e. (K.document e.0, V.document e.1)) m.entries)) };
 
-    fn fmt<W>(&self, f: &mut Formatter<W>) -> Result<(), W::Error>
-    where
-        W: uWrite,
-    {
+    fn fmt<W: uWrite>(&self, f: &mut Formatter<W>) -> Result<(), W::Error> {
         fmt_map(self.iter(), f)
     }
 }
@@ -54,10 +45,7 @@ impl<K: uDebug + Ord, V: uDebug, A: Allocator> uDebug for BTreeMap<K, V, A> {
 impl<T: uDebug, A: Allocator> uDebug for Box<T, A> {
     ghost document = { λ b. T.document b.value };
 
-    fn fmt<W>(&self, f: &mut Formatter<W>) -> Result<(), W::Error>
-    where
-        W: uWrite,
-    {
+    fn fmt<W: uWrite>(&self, f: &mut Formatter<W>) -> Result<(), W::Error> {
         (**self).fmt(f)
     }
 }
@@ -66,10 +54,7 @@ impl<T: uDebug, A: Allocator> uDebug for Box<T, A> {
 impl<A: Allocator> uDebug for String<A> {
     ghost document = { λ s. leaf (quoted_text (chars (string_bytes s))) };
 
-    fn fmt<W>(&self, f: &mut Formatter<W>) -> Result<(), W::Error>
-    where
-        W: uWrite,
-    {
+    fn fmt<W: uWrite>(&self, f: &mut Formatter<W>) -> Result<(), W::Error> {
         write_quoted_text(f, self.as_str())
     }
 }

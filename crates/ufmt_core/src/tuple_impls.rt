@@ -9,10 +9,7 @@ use crate::write::uWrite;
 impl<A: uDebug> uDebug for (A,) {
     ghost document = { λ t. tuple_of [] (documents (A.document t.0 ∷ [])) };
 
-    fn fmt<W>(&self, f: &mut Formatter<W>) -> Result<(), W::Error>
-    where
-        W: uWrite,
-    {
+    fn fmt<W: uWrite>(&self, f: &mut Formatter<W>) -> Result<(), W::Error> {
         f.tuple_1("", &self.0)
     }
 }
@@ -20,10 +17,7 @@ impl<A: uDebug> uDebug for (A,) {
 impl<A: uDebug, B: uDebug> uDebug for (A, B) {
     ghost document = { λ t. tuple_of [] (documents (A.document t.0 ∷ B.document t.1 ∷ [])) };
 
-    fn fmt<W>(&self, f: &mut Formatter<W>) -> Result<(), W::Error>
-    where
-        W: uWrite,
-    {
+    fn fmt<W: uWrite>(&self, f: &mut Formatter<W>) -> Result<(), W::Error> {
         f.tuple_2("", &self.0, &self.1)
     }
 }
@@ -32,10 +26,7 @@ impl<A: uDebug, B: uDebug, C: uDebug> uDebug for (A, B, C) {
     ghost document = { λ t. tuple_of []
         (documents (A.document t.0 ∷ B.document t.1 ∷ C.document t.2 ∷ [])) };
 
-    fn fmt<W>(&self, f: &mut Formatter<W>) -> Result<(), W::Error>
-    where
-        W: uWrite,
-    {
+    fn fmt<W: uWrite>(&self, f: &mut Formatter<W>) -> Result<(), W::Error> {
         f.tuple_3("", &self.0, &self.1, &self.2)
     }
 }
@@ -44,10 +35,7 @@ impl<A: uDebug, B: uDebug, C: uDebug, D: uDebug> uDebug for (A, B, C, D) {
     ghost document = { λ t. tuple_of []
         (documents (A.document t.0 ∷ B.document t.1 ∷ C.document t.2 ∷ D.document t.3 ∷ [])) };
 
-    fn fmt<W>(&self, f: &mut Formatter<W>) -> Result<(), W::Error>
-    where
-        W: uWrite,
-    {
+    fn fmt<W: uWrite>(&self, f: &mut Formatter<W>) -> Result<(), W::Error> {
         f.tuple_4("", &self.0, &self.1, &self.2, &self.3)
     }
 }
@@ -57,10 +45,7 @@ impl<A: uDebug, B: uDebug, C: uDebug, D: uDebug, E: uDebug> uDebug for (A, B, C,
         (documents (A.document t.0 ∷ B.document t.1 ∷ C.document t.2 ∷ D.document t.3 ∷ E.document
         t.4 ∷ [])) };
 
-    fn fmt<W>(&self, f: &mut Formatter<W>) -> Result<(), W::Error>
-    where
-        W: uWrite,
-    {
+    fn fmt<W: uWrite>(&self, f: &mut Formatter<W>) -> Result<(), W::Error> {
         f.tuple_5("", &self.0, &self.1, &self.2, &self.3, &self.4)
     }
 }
@@ -71,10 +56,7 @@ impl<A: uDebug, B: uDebug, C: uDebug, D: uDebug, E: uDebug, F: uDebug> uDebug
         (documents (A.document t.0 ∷ B.document t.1 ∷ C.document t.2 ∷ D.document t.3 ∷ E.document
         t.4 ∷ F.document t.5 ∷ [])) };
 
-    fn fmt<W>(&self, f: &mut Formatter<W>) -> Result<(), W::Error>
-    where
-        W: uWrite,
-    {
+    fn fmt<W: uWrite>(&self, f: &mut Formatter<W>) -> Result<(), W::Error> {
         f.tuple_6("", &self.0, &self.1, &self.2, &self.3, &self.4, &self.5)
     }
 }
@@ -85,10 +67,7 @@ impl<A: uDebug, B: uDebug, C: uDebug, D: uDebug, E: uDebug, F: uDebug, G: uDebug
         (documents (A.document t.0 ∷ B.document t.1 ∷ C.document t.2 ∷ D.document t.3 ∷ E.document
         t.4 ∷ F.document t.5 ∷ G.document t.6 ∷ [])) };
 
-    fn fmt<W>(&self, f: &mut Formatter<W>) -> Result<(), W::Error>
-    where
-        W: uWrite,
-    {
+    fn fmt<W: uWrite>(&self, f: &mut Formatter<W>) -> Result<(), W::Error> {
         f.tuple_7(
             "", &self.0, &self.1, &self.2, &self.3, &self.4, &self.5, &self.6,
         )
@@ -101,10 +80,7 @@ impl<A: uDebug, B: uDebug, C: uDebug, D: uDebug, E: uDebug, F: uDebug, G: uDebug
         (documents (A.document t.0 ∷ B.document t.1 ∷ C.document t.2 ∷ D.document t.3 ∷ E.document
         t.4 ∷ F.document t.5 ∷ G.document t.6 ∷ H.document t.7 ∷ [])) };
 
-    fn fmt<W>(&self, f: &mut Formatter<W>) -> Result<(), W::Error>
-    where
-        W: uWrite,
-    {
+    fn fmt<W: uWrite>(&self, f: &mut Formatter<W>) -> Result<(), W::Error> {
         f.tuple_8(
             "", &self.0, &self.1, &self.2, &self.3, &self.4, &self.5, &self.6, &self.7,
         )
@@ -126,10 +102,7 @@ impl<
         (documents (A.document t.0 ∷ B.document t.1 ∷ C.document t.2 ∷ D.document t.3 ∷ E.document
         t.4 ∷ F.document t.5 ∷ G.document t.6 ∷ H.document t.7 ∷ I.document t.8 ∷ [])) };
 
-    fn fmt<W>(&self, f: &mut Formatter<W>) -> Result<(), W::Error>
-    where
-        W: uWrite,
-    {
+    fn fmt<W: uWrite>(&self, f: &mut Formatter<W>) -> Result<(), W::Error> {
         f.tuple_9(
             "", &self.0, &self.1, &self.2, &self.3, &self.4, &self.5, &self.6, &self.7, &self.8,
         )
@@ -153,10 +126,7 @@ impl<
         t.4 ∷ F.document t.5 ∷ G.document t.6 ∷ H.document t.7 ∷ I.document t.8 ∷ J.document t.9
         ∷ [])) };
 
-    fn fmt<W>(&self, f: &mut Formatter<W>) -> Result<(), W::Error>
-    where
-        W: uWrite,
-    {
+    fn fmt<W: uWrite>(&self, f: &mut Formatter<W>) -> Result<(), W::Error> {
         f.tuple_10(
             "", &self.0, &self.1, &self.2, &self.3, &self.4, &self.5, &self.6, &self.7, &self.8,
             &self.9,
@@ -182,10 +152,7 @@ impl<
         t.4 ∷ F.document t.5 ∷ G.document t.6 ∷ H.document t.7 ∷ I.document t.8 ∷ J.document t.9
         ∷ K.document t.10 ∷ [])) };
 
-    fn fmt<W>(&self, f: &mut Formatter<W>) -> Result<(), W::Error>
-    where
-        W: uWrite,
-    {
+    fn fmt<W: uWrite>(&self, f: &mut Formatter<W>) -> Result<(), W::Error> {
         f.tuple_11(
             "", &self.0, &self.1, &self.2, &self.3, &self.4, &self.5, &self.6, &self.7, &self.8,
             &self.9, &self.10,
@@ -212,10 +179,7 @@ impl<
         t.4 ∷ F.document t.5 ∷ G.document t.6 ∷ H.document t.7 ∷ I.document t.8 ∷ J.document t.9
         ∷ K.document t.10 ∷ L.document t.11 ∷ [])) };
 
-    fn fmt<W>(&self, f: &mut Formatter<W>) -> Result<(), W::Error>
-    where
-        W: uWrite,
-    {
+    fn fmt<W: uWrite>(&self, f: &mut Formatter<W>) -> Result<(), W::Error> {
         f.tuple_12(
             "", &self.0, &self.1, &self.2, &self.3, &self.4, &self.5, &self.6, &self.7, &self.8,
             &self.9, &self.10, &self.11,

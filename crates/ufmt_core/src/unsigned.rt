@@ -224,10 +224,7 @@ impl uDebug for u8 {
     ghost document = { λ n. leaf (decimal (pos n)) };
 
     #[inline(always)]
-    fn fmt<W>(&self, f: &mut Formatter<W>) -> Result<(), W::Error>
-    where
-        W: uWrite,
-    {
+    fn fmt<W: uWrite>(&self, f: &mut Formatter<W>) -> Result<(), W::Error> {
         f.write_str(decimal_text(u64::from(*self), &mut [0; 3]))
     }
 }
@@ -236,10 +233,7 @@ impl uDebug for u16 {
     ghost document = { λ n. leaf (decimal (pos n)) };
 
     #[inline(always)]
-    fn fmt<W>(&self, f: &mut Formatter<W>) -> Result<(), W::Error>
-    where
-        W: uWrite,
-    {
+    fn fmt<W: uWrite>(&self, f: &mut Formatter<W>) -> Result<(), W::Error> {
         f.write_str(decimal_text(u64::from(*self), &mut [0; 5]))
     }
 }
@@ -248,10 +242,7 @@ impl uDebug for u32 {
     ghost document = { λ n. leaf (decimal (pos n)) };
 
     #[inline(always)]
-    fn fmt<W>(&self, f: &mut Formatter<W>) -> Result<(), W::Error>
-    where
-        W: uWrite,
-    {
+    fn fmt<W: uWrite>(&self, f: &mut Formatter<W>) -> Result<(), W::Error> {
         f.write_str(decimal_text(u64::from(*self), &mut [0; 10]))
     }
 }
@@ -260,10 +251,7 @@ impl uDebug for u64 {
     ghost document = { λ n. leaf (decimal (pos n)) };
 
     #[inline(always)]
-    fn fmt<W>(&self, f: &mut Formatter<W>) -> Result<(), W::Error>
-    where
-        W: uWrite,
-    {
+    fn fmt<W: uWrite>(&self, f: &mut Formatter<W>) -> Result<(), W::Error> {
         f.write_str(decimal_text(*self, &mut [0; 20]))
     }
 }
@@ -271,10 +259,7 @@ impl uDebug for u64 {
 impl uDebug for u128 {
     ghost document = { λ n. leaf (decimal (pos n)) };
 
-    fn fmt<W>(&self, f: &mut Formatter<W>) -> Result<(), W::Error>
-    where
-        W: uWrite,
-    {
+    fn fmt<W: uWrite>(&self, f: &mut Formatter<W>) -> Result<(), W::Error> {
         f.write_str(decimal_text(*self, &mut [0; 39]))
     }
 }
@@ -283,10 +268,7 @@ impl uDebug for usize {
     ghost document = { λ n. leaf (decimal (pos n)) };
 
     #[inline(always)]
-    fn fmt<W>(&self, f: &mut Formatter<W>) -> Result<(), W::Error>
-    where
-        W: uWrite,
-    {
+    fn fmt<W: uWrite>(&self, f: &mut Formatter<W>) -> Result<(), W::Error> {
         f.write_str(decimal_text(*self as u64, &mut [0; 20]))
     }
 }

@@ -27,10 +27,11 @@ fn print_hex<N: Nibbles, W: uWrite, const SIZE: usize>(
 impl uDisplayHex for u8 {
     ghost hex_text = { λ n options. padded_hexadecimal options n };
 
-    fn fmt_hex<W>(&self, f: &mut Formatter<W>, options: HexOptions) -> Result<(), W::Error>
-    where
-        W: uWrite,
-    {
+    fn fmt_hex<W: uWrite>(
+        &self,
+        f: &mut Formatter<W>,
+        options: HexOptions,
+    ) -> Result<(), W::Error> {
         print_hex(u64::from(*self), &mut [0; 2], f, options)
     }
 }
@@ -38,10 +39,11 @@ impl uDisplayHex for u8 {
 impl uDisplayHex for u16 {
     ghost hex_text = { λ n options. padded_hexadecimal options n };
 
-    fn fmt_hex<W>(&self, f: &mut Formatter<W>, options: HexOptions) -> Result<(), W::Error>
-    where
-        W: uWrite,
-    {
+    fn fmt_hex<W: uWrite>(
+        &self,
+        f: &mut Formatter<W>,
+        options: HexOptions,
+    ) -> Result<(), W::Error> {
         print_hex(u64::from(*self), &mut [0; 4], f, options)
     }
 }
@@ -49,10 +51,11 @@ impl uDisplayHex for u16 {
 impl uDisplayHex for u32 {
     ghost hex_text = { λ n options. padded_hexadecimal options n };
 
-    fn fmt_hex<W>(&self, f: &mut Formatter<W>, options: HexOptions) -> Result<(), W::Error>
-    where
-        W: uWrite,
-    {
+    fn fmt_hex<W: uWrite>(
+        &self,
+        f: &mut Formatter<W>,
+        options: HexOptions,
+    ) -> Result<(), W::Error> {
         print_hex(u64::from(*self), &mut [0; 8], f, options)
     }
 }
@@ -60,10 +63,11 @@ impl uDisplayHex for u32 {
 impl uDisplayHex for u64 {
     ghost hex_text = { λ n options. padded_hexadecimal options n };
 
-    fn fmt_hex<W>(&self, f: &mut Formatter<W>, options: HexOptions) -> Result<(), W::Error>
-    where
-        W: uWrite,
-    {
+    fn fmt_hex<W: uWrite>(
+        &self,
+        f: &mut Formatter<W>,
+        options: HexOptions,
+    ) -> Result<(), W::Error> {
         print_hex(*self, &mut [0; 16], f, options)
     }
 }
@@ -71,10 +75,11 @@ impl uDisplayHex for u64 {
 impl uDisplayHex for u128 {
     ghost hex_text = { λ n options. padded_hexadecimal options n };
 
-    fn fmt_hex<W>(&self, f: &mut Formatter<W>, options: HexOptions) -> Result<(), W::Error>
-    where
-        W: uWrite,
-    {
+    fn fmt_hex<W: uWrite>(
+        &self,
+        f: &mut Formatter<W>,
+        options: HexOptions,
+    ) -> Result<(), W::Error> {
         print_hex(*self, &mut [0; 32], f, options)
     }
 }
@@ -82,10 +87,11 @@ impl uDisplayHex for u128 {
 impl uDisplayHex for usize {
     ghost hex_text = { λ n options. padded_hexadecimal options n };
 
-    fn fmt_hex<W>(&self, f: &mut Formatter<W>, options: HexOptions) -> Result<(), W::Error>
-    where
-        W: uWrite,
-    {
+    fn fmt_hex<W: uWrite>(
+        &self,
+        f: &mut Formatter<W>,
+        options: HexOptions,
+    ) -> Result<(), W::Error> {
         print_hex(*self as u64, &mut [0; 16], f, options)
     }
 }
@@ -93,10 +99,11 @@ impl uDisplayHex for usize {
 impl uDisplayHex for i8 {
     ghost hex_text = { λ z options. padded_hexadecimal options (cast_unsigned w8 z) };
 
-    fn fmt_hex<W>(&self, f: &mut Formatter<W>, options: HexOptions) -> Result<(), W::Error>
-    where
-        W: uWrite,
-    {
+    fn fmt_hex<W: uWrite>(
+        &self,
+        f: &mut Formatter<W>,
+        options: HexOptions,
+    ) -> Result<(), W::Error> {
         self.cast_unsigned().fmt_hex(f, options)
     }
 }
@@ -104,10 +111,11 @@ impl uDisplayHex for i8 {
 impl uDisplayHex for i16 {
     ghost hex_text = { λ z options. padded_hexadecimal options (cast_unsigned w16 z) };
 
-    fn fmt_hex<W>(&self, f: &mut Formatter<W>, options: HexOptions) -> Result<(), W::Error>
-    where
-        W: uWrite,
-    {
+    fn fmt_hex<W: uWrite>(
+        &self,
+        f: &mut Formatter<W>,
+        options: HexOptions,
+    ) -> Result<(), W::Error> {
         self.cast_unsigned().fmt_hex(f, options)
     }
 }
@@ -115,10 +123,11 @@ impl uDisplayHex for i16 {
 impl uDisplayHex for i32 {
     ghost hex_text = { λ z options. padded_hexadecimal options (cast_unsigned w32 z) };
 
-    fn fmt_hex<W>(&self, f: &mut Formatter<W>, options: HexOptions) -> Result<(), W::Error>
-    where
-        W: uWrite,
-    {
+    fn fmt_hex<W: uWrite>(
+        &self,
+        f: &mut Formatter<W>,
+        options: HexOptions,
+    ) -> Result<(), W::Error> {
         self.cast_unsigned().fmt_hex(f, options)
     }
 }
@@ -126,10 +135,11 @@ impl uDisplayHex for i32 {
 impl uDisplayHex for i64 {
     ghost hex_text = { λ z options. padded_hexadecimal options (cast_unsigned w64 z) };
 
-    fn fmt_hex<W>(&self, f: &mut Formatter<W>, options: HexOptions) -> Result<(), W::Error>
-    where
-        W: uWrite,
-    {
+    fn fmt_hex<W: uWrite>(
+        &self,
+        f: &mut Formatter<W>,
+        options: HexOptions,
+    ) -> Result<(), W::Error> {
         self.cast_unsigned().fmt_hex(f, options)
     }
 }
@@ -137,10 +147,11 @@ impl uDisplayHex for i64 {
 impl uDisplayHex for i128 {
     ghost hex_text = { λ z options. padded_hexadecimal options (cast_unsigned w128 z) };
 
-    fn fmt_hex<W>(&self, f: &mut Formatter<W>, options: HexOptions) -> Result<(), W::Error>
-    where
-        W: uWrite,
-    {
+    fn fmt_hex<W: uWrite>(
+        &self,
+        f: &mut Formatter<W>,
+        options: HexOptions,
+    ) -> Result<(), W::Error> {
         self.cast_unsigned().fmt_hex(f, options)
     }
 }
@@ -148,10 +159,11 @@ impl uDisplayHex for i128 {
 impl uDisplayHex for isize {
     ghost hex_text = { λ z options. padded_hexadecimal options (cast_unsigned w64 z) };
 
-    fn fmt_hex<W>(&self, f: &mut Formatter<W>, options: HexOptions) -> Result<(), W::Error>
-    where
-        W: uWrite,
-    {
+    fn fmt_hex<W: uWrite>(
+        &self,
+        f: &mut Formatter<W>,
+        options: HexOptions,
+    ) -> Result<(), W::Error> {
         self.cast_unsigned().fmt_hex(f, options)
     }
 }

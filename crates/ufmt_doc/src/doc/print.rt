@@ -12,10 +12,7 @@ impl uDebug for Doc {
     ghost document = { doc_document };
 
     #[cycle(print)]
-    fn fmt<W>(&self, f: &mut Formatter<W>) -> Result<(), W::Error>
-    where
-        W: uWrite,
-    {
+    fn fmt<W: uWrite>(&self, f: &mut Formatter<W>) -> Result<(), W::Error> {
         match self {
             Doc::Leaf(text) => f.write_str(text),
             Doc::Listed(entries) => entries.fmt(f),

@@ -191,12 +191,13 @@ impl<W: uWrite> Calls<W::Error> for DebugTuple<'_, W> {
     }
 }
 
-// Makes a builder's calls, and goes on until one fails.
-fn make_each<E, B: Calls<E>>(
-    builder: &mut B,
+// Makes a builder's calls, the one that makes it among them, and goes on until one fails.
+fn make_each<E, B: Calls<E> + Drop>(
+    builder: Result<B, E>,
     calls: &[Call],
     last: &mut LastCall<'_>,
 ) -> Result<(), E> {
+    let mut builder = builder?;
     last.note("opening", builder.may_go_on());
     for call in calls {
         let (name, answer) = builder.make(*call);
@@ -224,11 +225,11 @@ impl Block {
         last: &mut LastCall<'_>,
     ) -> Result<(), W::Error> {
         match self {
-            Block::List => make_each(&mut f.debug_list()?, &OF_ENTRIES, last),
-            Block::Set => make_each(&mut f.debug_set()?, &OF_ENTRIES, last),
-            Block::Map => make_each(&mut f.debug_map()?, &OF_ENTRIES, last),
-            Block::Struct => make_each(&mut f.debug_struct("S")?, &OF_FIELDS, last),
-            Block::Tuple => make_each(&mut f.debug_tuple("T")?, &OF_FIELDS, last),
+            Block::List => make_each(f.debug_list(), &OF_ENTRIES, last),
+            Block::Set => make_each(f.debug_set(), &OF_ENTRIES, last),
+            Block::Map => make_each(f.debug_map(), &OF_ENTRIES, last),
+            Block::Struct => make_each(f.debug_struct("S"), &OF_FIELDS, last),
+            Block::Tuple => make_each(f.debug_tuple("T"), &OF_FIELDS, last),
         }
     }
 }
