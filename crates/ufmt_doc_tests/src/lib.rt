@@ -1,6 +1,6 @@
 #![tactic(auto)]
 
-//! Tests of documents, readers and conversions, by public calls alone.
+//! Tests of documents, by public calls alone.
 
 #[cfg(test)]
 mod tests;

@@ -1,22 +1,11 @@
 //! What no clause says: that calls on documents can succeed, and what they give on rows written by hand.
 mod deep;
-mod laws;
-mod leaves;
-mod levels;
-mod malformed;
-mod mode;
 mod normal;
-mod parts;
 mod pieces;
 mod printed;
-mod quoted;
 mod same_texts;
-mod scanned;
 mod shape;
-mod texts;
-mod to_writers;
 mod tokens;
-mod verdict;
 
 use std::alloc::Global;
 use std::fmt::Debug;
@@ -24,15 +13,11 @@ use std::process::Abort;
 use ufmt_doc::convert::{plain_text, pretty_text};
 use ufmt_doc::doc::Doc;
 
-// Asserts are calls of these two: one that is written out takes the check as long as a score of calls.
+// Asserts are calls of this one: one that is written out takes the check as long as a score of calls.
 // No other function is generic over the handle, which takes it as long again: what a row needs beside
-// them is a call that answers a plain value.
+// it is a call that answers a plain value.
 pub fn same<T: PartialEq + Debug + Drop>(rt: &impl Abort, given: T, wanted: T, case: &str) {
     assert_eq!(rt; given, wanted, "{case}");
-}
-
-pub fn holds(rt: &impl Abort, condition: bool, case: &str) {
-    assert!(rt; condition, "{case}");
 }
 
 // Whether this is the document's plain text. Want of memory is no.

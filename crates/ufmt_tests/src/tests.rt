@@ -3,14 +3,10 @@
 //! succeed. `rows` has what asserts a table, `each_piece` and `texts` the two kinds of rows.
 mod allocators;
 mod blocks;
-mod builder_calls;
-mod builders;
 mod by_builders;
 mod collections;
 mod cursors;
 mod each_piece;
-mod entries;
-mod fields;
 mod foreign;
 mod formatters;
 mod forwarded;
@@ -25,7 +21,6 @@ mod printed;
 mod quoted;
 mod repeated;
 mod rows;
-mod stopped_calls;
 mod taken_apart;
 mod texts;
 mod tuples;

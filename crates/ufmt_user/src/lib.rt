@@ -4,6 +4,7 @@
 
 mod by_hand;
 mod dump;
+mod fail_at;
 mod json;
 mod kind;
 mod logger;
@@ -17,6 +18,7 @@ mod wrappers;
 
 pub use by_hand::{Port, Ports, Users};
 pub use dump::dump_packet;
+pub use fail_at::FailAt;
 pub use json::Json;
 pub use kind::Kind;
 pub use logger::{Reading, log};

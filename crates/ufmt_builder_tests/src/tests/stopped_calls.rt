@@ -1,8 +1,8 @@
 //! A builder's calls over a writer that refuses one piece, and what is left behind the call that failed.
 use super::builder_calls::{Block, LastCall};
-use super::writers::FailAt;
 use std::alloc::{AllocError, Global};
 use ufmt::{Formatter, Full, uWrite};
+use ufmt_user::FailAt;
 
 /// Where a builder's calls are made: as the first entry of a list, in a mode.
 #[derive(Clone, Copy)]

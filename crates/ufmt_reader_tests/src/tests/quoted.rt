@@ -1,7 +1,7 @@
 //! Texts and characters in quotes, printed and read back.
 use super::mode::Mode;
-use super::verdict::{Verdict, told};
-use super::{has_plain_text, same};
+use super::same;
+use super::verdict::{Verdict, has_text, told};
 use std::alloc::{AllocError, Global};
 use ufmt_doc::convert::{plain_text, pretty_text};
 use ufmt_doc::doc::Doc;
@@ -51,7 +51,7 @@ const LEAVES: [(&str, &str); 5] = [
 
 // Whether the document is a token document with this leaf as its text, and has this text in quotes.
 fn is_made(alloc: Global, doc: &Doc, text: &str, leaf: &str) -> Result<bool, AllocError> {
-    let is_leaf = doc.is_token() && has_plain_text(alloc, doc, leaf.as_bytes());
+    let is_leaf = doc.is_token() && has_text(alloc, Mode::Plain, doc, leaf.as_bytes());
     Ok(is_leaf && comes_back(alloc, doc, text)?)
 }
 

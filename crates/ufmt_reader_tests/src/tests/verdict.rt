@@ -1,8 +1,7 @@
 //! What a reader and the conversion from its mode say of a text.
 use super::mode::Mode;
-use super::{has_plain_text, has_pretty_text};
 use std::alloc::Global;
-use ufmt_doc::convert::{to_plain, to_pretty};
+use ufmt_doc::convert::{plain_text, pretty_text, to_plain, to_pretty};
 use ufmt_doc::doc::Doc;
 use ufmt_doc::plain_reader::{ReadError, read_plain};
 use ufmt_doc::pretty_reader::read_pretty;
@@ -33,6 +32,18 @@ fn converted(alloc: Global, mode: Mode, text: &[u8]) -> Result<String, ReadError
     }
 }
 
+// Whether this is the document's text in this mode. Want of memory is no.
+pub fn has_text(alloc: Global, mode: Mode, doc: &Doc, text: &[u8]) -> bool {
+    let made = match mode {
+        Mode::Plain => plain_text(alloc, doc),
+        Mode::Pretty => pretty_text(alloc, doc),
+    };
+    match made {
+        Ok(made) => made.as_bytes() == text,
+        Err(_) => false,
+    }
+}
+
 // Whether the conversion of the text is this one. Want of memory is no.
 pub fn converts_to(alloc: Global, mode: Mode, text: &[u8], other: &[u8]) -> bool {
     match converted(alloc, mode, text) {
@@ -52,11 +63,11 @@ pub fn told(alloc: Global, mode: Mode, text: &[u8]) -> Verdict {
 
 // Whether the document has the text in its mode and the converted one in the other, which converts back.
 fn told_of_taken(alloc: Global, mode: Mode, text: &[u8], doc: &Doc, other: &[u8]) -> Verdict {
-    let (plain, pretty, back) = match mode {
-        Mode::Plain => (text, other, Mode::Pretty),
-        Mode::Pretty => (other, text, Mode::Plain),
+    let back = match mode {
+        Mode::Plain => Mode::Pretty,
+        Mode::Pretty => Mode::Plain,
     };
-    let has_texts = has_plain_text(alloc, doc, plain) && has_pretty_text(alloc, doc, pretty);
+    let has_texts = has_text(alloc, mode, doc, text) && has_text(alloc, back, doc, other);
     if has_texts && converts_to(alloc, back, other, text) {
         Verdict::Taken
     } else {

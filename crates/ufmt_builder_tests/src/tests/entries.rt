@@ -2,9 +2,9 @@
 ghost use Rattle.std.specs.Prelude.{◌-◌};
 ghost use Rattle.std.specs.Iterator.{at_most};
 
-use super::rows::same;
-use super::writers::FailAt;
+use super::same;
 use ufmt::{Cursor, Formatter, Full, uWrite};
+use ufmt_user::FailAt;
 
 /// The numbers 1 to 9, with how many of them were taken.
 #[derive(Drop)]

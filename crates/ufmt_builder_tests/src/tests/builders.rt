@@ -1,6 +1,6 @@
 //! What each builder and its formatter are behind a call that failed, at each piece of each call.
 use super::builder_calls::Block;
-use super::rows::same;
+use super::same;
 use super::stopped_calls::wrong_piece;
 
 const PLAIN_LIST: &str = "\

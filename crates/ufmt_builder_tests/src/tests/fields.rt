@@ -2,7 +2,7 @@
 //! a name and two. More than 12 make a chain. No two fields of a block have one name or one
 //! value, so that one in another's place shows. Its answers stand in an array, since the check takes twice
 //! as long for a `?`.
-use super::rows::{are_ok, same};
+use super::{are_ok, same};
 use ufmt::{Formatter, fields, uWrite};
 
 fn one_to_five_named<W: uWrite>(f: &mut Formatter<W>) -> [Result<(), W::Error>; 4] {

@@ -1,5 +1,7 @@
 //! A call of each law.
-use super::{has_plain_text, holds, same};
+use super::mode::Mode;
+use super::verdict::has_text;
+use super::{holds, same};
 use std::alloc::Global;
 use ufmt_doc::doc::Doc;
 use ufmt_doc::laws::*;
@@ -31,7 +33,7 @@ fn texts_come_back(rt: HostRuntime) {
 
 fn is_document(alloc: Global, answer: Result<Doc, ReadError>, plain: &[u8]) -> bool {
     match answer {
-        Ok(doc) => has_plain_text(alloc, &doc, plain),
+        Ok(doc) => has_text(alloc, Mode::Plain, &doc, plain),
         Err(_) => false,
     }
 }

@@ -5,7 +5,7 @@ use super::same;
 use std::alloc::AllocError;
 use std::test::Fail;
 use ufmt::layout::{Count, Kind, Mode};
-use ufmt_doc::scan::{Part, Refusal, Sink, scan};
+use ufmt_scan::scan::{Part, Refusal, Sink, scan};
 
 // Notes each part as one letter and its text, up to so many.
 #[derive(Drop)]

@@ -1,0 +1,6 @@
+#![tactic(auto)]
+
+//! Tests of the builders and of `fields!`, by public calls alone.
+
+#[cfg(test)]
+mod tests;

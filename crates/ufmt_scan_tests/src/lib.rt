@@ -1,0 +1,6 @@
+#![tactic(auto)]
+
+//! Tests of the scanner, by public calls alone.
+
+#[cfg(test)]
+mod tests;
