@@ -5,6 +5,7 @@ mod builders;
 mod entries;
 mod fields;
 mod stopped_calls;
+mod writers;
 
 use std::alloc::AllocError;
 use std::fmt::Debug;

@@ -4,7 +4,6 @@
 
 mod by_hand;
 mod dump;
-mod fail_at;
 mod json;
 mod kind;
 mod logger;
@@ -18,7 +17,6 @@ mod wrappers;
 
 pub use by_hand::{Port, Ports, Users};
 pub use dump::dump_packet;
-pub use fail_at::FailAt;
 pub use json::Json;
 pub use kind::Kind;
 pub use logger::{Reading, log};

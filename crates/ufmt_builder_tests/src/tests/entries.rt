@@ -3,8 +3,8 @@ ghost use Rattle.std.specs.Prelude.{◌-◌};
 ghost use Rattle.std.specs.Iterator.{at_most};
 
 use super::same;
+use super::writers::FailOnce;
 use ufmt::{Cursor, Formatter, Full, uWrite};
-use ufmt_user::FailAt;
 
 /// The numbers 1 to 9, with how many of them were taken.
 #[derive(Drop)]
@@ -93,7 +93,7 @@ impl Block {
 fn wrong_number(block: Block, is_pretty: bool, rows: &[(usize, u8)]) -> Option<usize> {
     for (number, taken) in rows {
         let mut buffer = [0; 200];
-        let mut f = Formatter::new(FailAt::once(&mut buffer, *number));
+        let mut f = Formatter::new(FailOnce::new(&mut buffer, *number));
         if block.write_in(is_pretty, &mut f) != (Err(Full), *taken) {
             return Some(*number);
         }

@@ -1,8 +1,8 @@
 //! A builder's calls over a writer that refuses one piece, and what is left behind the call that failed.
 use super::builder_calls::{Block, LastCall};
+use super::writers::FailOnce;
 use std::alloc::{AllocError, Global};
 use ufmt::{Formatter, Full, uWrite};
-use ufmt_user::FailAt;
 
 /// Where a builder's calls are made: as the first entry of a list, in a mode.
 #[derive(Clone, Copy)]
@@ -139,7 +139,7 @@ fn is_left(
     (number, length, last, answer): (usize, usize, LastCall<'_>, Result<(), Full>),
 ) -> bool {
     let mut bytes = [0u8; 100];
-    let writer = FailAt::once(&mut bytes, number);
+    let writer = FailOnce::new(&mut bytes, number);
     let (left, is_as_before, writer) = call_over(place, block, writer);
     let wanted = Left {
         last,

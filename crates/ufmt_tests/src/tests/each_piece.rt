@@ -1,10 +1,9 @@
 //! What each writer is handed of a value, where it fails at each place.
 use super::printed::{Displayed, Left, Printed, print_to};
 use super::rows::{Table, told_apart};
-use super::writers::Recorded;
+use super::writers::{FailAt, Recorded};
 use std::alloc::{AllocError, Global};
 use ufmt::{Cursor, Full, uDebug, uDisplay};
-use ufmt_user::FailAt;
 
 /// What a value prints in one mode.
 #[derive(Drop)]
