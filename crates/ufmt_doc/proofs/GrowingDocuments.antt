@@ -1,5 +1,5 @@
 -- What grows from the parts of a token document is its normal form.
-use Rattle.std.proofs.Common.{◌≡◌, ◌∙◌, refl, ap, sym, ℕ, List, [], ◌∷◌, ◌++◌, Option, Some, None, Result, Ok, Err}
+use Rattle.std.proofs.Common.{◌≡◌, ◌∙◌, refl, ap, sym, ℕ, List, [], ◌∷◌, ◌++◌, Some, None, Result, Ok, Err}
 use Rattle.std.specs.Prelude.{⊤}
 use Rattle.std.specs.Result.{OnOk, is_ok}
 use Rattle.ufmt.specs.Document.{Document, leaf, joined, list_of, set_of, map_of, struct_of, tuple_of, pretty_part, Documents, no_documents, document, Pairs, no_pairs, pair, Fields, no_fields, field}
@@ -14,7 +14,7 @@ use Rattle.ufmt_core.specs.declared.layout.Count.TheVariants.{One}
 use Rattle.ufmt_core.specs.declared.layout.Kind.{Kind}
 use Rattle.ufmt_core.specs.declared.layout.Kind.TheVariants.{Brackets, Braces, Struct}
 use Rattle.ufmt_scan.specs.declared.scan.part.Part.TheVariants.{Label, Colon}
-use Rattle.ufmt_doc.specs.Private.Growing.{Block, Grew, Growing, entry_ended, grow, growing, grown, one_field_more, one_more, one_pair_more, put_in, with_entry, without_entries}
+use Rattle.ufmt_doc.specs.Private.Growing.{Block, Grew, Growing, entry_ended, grow, growing, grown, nothing_read, with_all, with_entry, with_fields, with_pairs, without_entries}
 use Rattle.ufmt_scan.specs.Scan.{Event, Hears, plainly, told, told_entries, told_fields, told_pairs, told_tail}
 
 -- parts behind parts
@@ -22,67 +22,69 @@ pub grown-append : (g : Growing) (es fs : List Event) → grown g (es ++ fs) ≡
 grown-append g [] fs = refl
 grown-append g (e ∷ es) fs = grown-append (grow g e) es fs
 
--- entries with several more, pairs and fields likewise
-abbrev with_all : Documents → Documents → Documents
-with_all no_documents more = more
-with_all (document d ds) more = document d (with_all ds more)
-
-abbrev with_pairs : Pairs → Pairs → Pairs
-with_pairs no_pairs more = more
-with_pairs (pair k v ps) more = pair k v (with_pairs ps more)
-
-abbrev with_fields : Fields → Fields → Fields
-with_fields no_fields more = more
-with_fields (field l v fs) more = field l v (with_fields fs more)
-
+-- no entries behind entries, pairs and fields, and some behind some
 all_none : (ds : Documents) → with_all ds no_documents ≡ ds
 all_none no_documents = refl
 all_none (document d ds) = ap (document d) (all_none ds)
 
-all_one_more : (ds more : Documents) (d : Document) → with_all (one_more ds d) more ≡ with_all ds (document d more)
-all_one_more no_documents more d = refl
-all_one_more (document first ds) more d = ap (document first) (all_one_more ds more d)
+all_more : (ds es more : Documents) → with_all (with_all ds es) more ≡ with_all ds (with_all es more)
+all_more no_documents es more = refl
+all_more (document d ds) es more = ap (document d) (all_more ds es more)
 
 pairs_none : (ps : Pairs) → with_pairs ps no_pairs ≡ ps
 pairs_none no_pairs = refl
-pairs_none (pair k v ps) = ap (pair k v) (pairs_none ps)
+pairs_none (pair key value ps) = ap (pair key value) (pairs_none ps)
 
-pairs_one_more : (ps more : Pairs) (key value : Document) → with_pairs (one_pair_more ps key value) more ≡ with_pairs ps (pair key value more)
-pairs_one_more no_pairs more key value = refl
-pairs_one_more (pair k v ps) more key value = ap (pair k v) (pairs_one_more ps more key value)
+pairs_more : (ps qs more : Pairs) → with_pairs (with_pairs ps qs) more ≡ with_pairs ps (with_pairs qs more)
+pairs_more no_pairs qs more = refl
+pairs_more (pair key value ps) qs more = ap (pair key value) (pairs_more ps qs more)
 
 fields_none : (fs : Fields) → with_fields fs no_fields ≡ fs
 fields_none no_fields = refl
-fields_none (field l v fs) = ap (field l v) (fields_none fs)
+fields_none (field label value fs) = ap (field label value) (fields_none fs)
 
-fields_one_more : (fs more : Fields) (label : List ℕ) (value : Document)
-    → with_fields (one_field_more fs label value) more ≡ with_fields fs (field label value more)
-fields_one_more no_fields more label value = refl
-fields_one_more (field l v fs) more label value = ap (field l v) (fields_one_more fs more label value)
+fields_more : (fs gs more : Fields) → with_fields (with_fields fs gs) more ≡ with_fields fs (with_fields gs more)
+fields_more no_fields gs more = refl
+fields_more (field label value fs) gs more = ap (field label value) (fields_more fs gs more)
+
+-- what is told of these entries, each behind the end of the one before, takes a block from this to that, whatever lies round it
+abbrev Takes : List (List Event) → Block → Block → Type 0
+Takes [] b last = entry_ended b ≡ last
+Takes (es ∷ more) b last = (mid : Block) × ((outer : List Block) → grown (entry_ended b, outer) es ≡ (mid, outer)) × Takes more mid last
+
+-- so what is told of a block behind an entry puts the block in
+tail_grows : (kind : Kind) (count : Count) (ess : List (List Event)) (b last round : Block) (outer : List Block) → Takes ess b last
+    → grown (b, round ∷ outer) (told_tail kind count ess) ≡ (with_entry round last.0, outer)
+tail_grows kind count [] b last round outer h = ap (λ x. (with_entry round x.0, outer)) h
+tail_grows kind count (es ∷ more) b last round outer h =
+    let tail = told_tail kind (next count) more in
+    grown-append (entry_ended b, round ∷ outer) es tail ∙ ap (λ g. grown g tail) (h.1 (round ∷ outer))
+    ∙ tail_grows kind (next count) more h.0 last round outer h.2
+
+-- and what is told of all of it
+block_grows : (kind : Kind) (name : List ℕ) (es : List Event) (ess : List (List Event)) (mid last round : Block) (outer : List Block)
+    → ((outer : List Block) → grown ((without_entries kind name, None), outer) es ≡ (mid, outer)) → Takes ess mid last
+    → grown ((without_entries kind name, None), round ∷ outer) (es ++ told_tail kind One ess) ≡ (with_entry round last.0, outer)
+block_grows kind name es ess mid last round outer first h =
+    grown-append ((without_entries kind name, None), round ∷ outer) es (told_tail kind One ess)
+    ∙ ap (λ g. grown g (told_tail kind One ess)) (first (round ∷ outer)) ∙ tail_grows kind One ess mid last round outer h
 
 -- a list, a set or a tuple, whose entries come one by one
 record Collects (make : Documents → Document) : Type 0 where
-  puts : (ds : Documents) (d : Document) → with_entry (make ds, None) d ≡ (make (one_more ds d), None)
+  puts : (ds : Documents) (d : Document) → with_entry (make ds, None) d ≡ (make (with_all ds (document d no_documents)), None)
   stays : (ds : Documents) → entry_ended (make ds, None) ≡ (make ds, None)
 
 -- what is told of this document puts its normal form in
 abbrev Grows : Document → Type 0
-Grows d = (outer : List Block) (whole : Option Document) → grown (outer, whole) (told d) ≡ put_in (outer, whole) (normal d)
+Grows d = (b : Block) (outer : List Block) → grown (b, outer) (told d) ≡ (with_entry b (normal d), outer)
 
 -- a pair of a map
-pair_grows : (ps : Pairs) (key value : Document) → Grows key → Grows value → (outer : List Block) (whole : Option Document)
-    → grown ((map_of ps, None) ∷ outer, whole) (told key ++ plainly Colon ∷ told value)
-    ≡ ((map_of (one_pair_more ps (normal key) (normal value)), None) ∷ outer, whole)
-pair_grows ps key value h k outer whole =
-    grown-append ((map_of ps, None) ∷ outer, whole) (told key) (plainly Colon ∷ told value)
-    ∙ ap (λ g. grown g (plainly Colon ∷ told value)) (h ((map_of ps, None) ∷ outer) whole)
-    ∙ k ((map_of ps, Some (normal key)) ∷ outer) whole
-
--- a field of a struct
-field_grows : (name : List ℕ) (fs : Fields) (label : List ℕ) (value : Document) → Grows value → (outer : List Block) (whole : Option Document)
-    → grown ((struct_of name fs, None) ∷ outer, whole) ((Label, label) ∷ told value)
-    ≡ ((struct_of name (one_field_more fs label (normal value)), None) ∷ outer, whole)
-field_grows name fs label value h outer whole = h ((struct_of name fs, Some (leaf label)) ∷ outer) whole
+pair_grows : (ps : Pairs) (key value : Document) → Grows key → Grows value → (outer : List Block)
+    → grown ((map_of ps, None), outer) (told key ++ plainly Colon ∷ told value)
+    ≡ ((map_of (with_pairs ps (pair (normal key) (normal value) no_pairs)), None), outer)
+pair_grows ps key value h k outer =
+    grown-append ((map_of ps, None), outer) (told key) (plainly Colon ∷ told value)
+    ∙ ap (λ g. grown g (plainly Colon ∷ told value)) (h (map_of ps, None) outer) ∙ k (map_of ps, Some (normal key)) outer
 
 -- a tuple that is opened, with a name or without
 no_fields_yet : (name : List ℕ) → without_entries (tuple_kind name) name ≡ tuple_of name no_documents
@@ -91,81 +93,67 @@ no_fields_yet (c ∷ name) = refl
 
 mutual
   -- a document that is told is put in, in normal form
-  pub told_grows : (d : Document) → HasTokens d → (outer : List Block) (whole : Option Document)
-      → grown (outer, whole) (told d) ≡ put_in (outer, whole) (normal d)
-  told_grows (leaf text) h outer whole = refl
-  told_grows (joined ds) h outer whole = absurd h
-  told_grows (list_of no_documents) h outer whole = refl
-  told_grows (list_of (document d ds)) h outer whole =
-      let block : Block = (list_of no_documents, None) in
-      grown-append (block ∷ outer, whole) (told d) (told_tail Brackets One (told_entries ds))
-      ∙ ap (λ g. grown g (told_tail Brackets One (told_entries ds))) (told_grows d h.0 (block ∷ outer) whole)
-      ∙ entries_grow (λ xs. list_of xs) (record { puts = λ xs x. refl; stays = λ xs. refl }) Brackets One
-      (list_of (document (normal d) no_documents), None) (document (normal d) no_documents) refl ds h.1 outer whole
-  told_grows (set_of no_documents) h outer whole = refl
-  told_grows (set_of (document d ds)) h outer whole =
-      let block : Block = (map_of no_pairs, None) in
-      grown-append (block ∷ outer, whole) (told d) (told_tail Braces One (told_entries ds))
-      ∙ ap (λ g. grown g (told_tail Braces One (told_entries ds))) (told_grows d h.0 (block ∷ outer) whole)
-      ∙ entries_grow (λ xs. set_of xs) (record { puts = λ xs x. refl; stays = λ xs. refl }) Braces One
-      (map_of no_pairs, Some (normal d)) (document (normal d) no_documents) refl ds h.1 outer whole
-  told_grows (map_of no_pairs) h outer whole = refl
-  told_grows (map_of (pair key value ps)) h outer whole =
-      grown-append ((map_of no_pairs, None) ∷ outer, whole) (told key ++ plainly Colon ∷ told value) (told_tail Braces One (told_pairs ps))
-      ∙ ap (λ g. grown g (told_tail Braces One (told_pairs ps))) (pair_grows no_pairs key value (told_grows key h.0) (told_grows value h.1) outer whole)
-      ∙ pairs_grow One (pair (normal key) (normal value) no_pairs) ps h.2 outer whole
-  told_grows (struct_of name no_fields) h outer whole = refl
-  told_grows (struct_of name (field label value fs)) h outer whole =
-      grown-append ((struct_of name no_fields, None) ∷ outer, whole) ((Label, label) ∷ told value) (told_tail Struct One (told_fields fs))
-      ∙ ap (λ g. grown g (told_tail Struct One (told_fields fs))) (field_grows name no_fields label value (told_grows value h.1.1) outer whole)
-      ∙ fields_grow name One (field label (normal value) no_fields) fs h.1.2 outer whole
-  told_grows (tuple_of [] no_documents) h outer whole = absurd h
-  told_grows (tuple_of (c ∷ name) no_documents) h outer whole = refl
-  told_grows (tuple_of name (document d ds)) h outer whole =
-      let block : Block = (tuple_of name no_documents, None) in
-      ap (λ x. grown ((x, None) ∷ outer, whole) (told d ++ told_tail (tuple_kind name) One (told_entries ds))) (no_fields_yet name)
-      ∙ grown-append (block ∷ outer, whole) (told d) (told_tail (tuple_kind name) One (told_entries ds))
-      ∙ ap (λ g. grown g (told_tail (tuple_kind name) One (told_entries ds))) (told_grows d h.1 (block ∷ outer) whole)
-      ∙ entries_grow (λ xs. tuple_of name xs) (record { puts = λ xs x. refl; stays = λ xs. refl }) (tuple_kind name) One
-      (tuple_of name (document (normal d) no_documents), None) (document (normal d) no_documents) refl ds h.2 outer whole
-  told_grows (pretty_part d) h outer whole = absurd h
+  pub told_grows : (d : Document) → HasTokens d → (b : Block) (outer : List Block) → grown (b, outer) (told d) ≡ (with_entry b (normal d), outer)
+  told_grows (leaf text) h b outer = refl
+  told_grows (joined ds) h b outer = absurd h
+  told_grows (list_of no_documents) h b outer = refl
+  told_grows (list_of (document d ds)) h b outer =
+      block_grows Brackets [] (told d) (told_entries ds) (list_of (document (normal d) no_documents), None) _ b outer
+      (told_grows d h.0 (list_of no_documents, None))
+      (entries_take (λ xs. list_of xs) (record { puts = λ xs x. refl; stays = λ xs. refl }) _ (document (normal d) no_documents) refl ds h.1 _ refl)
+  told_grows (set_of no_documents) h b outer = refl
+  told_grows (set_of (document d ds)) h b outer =
+      block_grows Braces [] (told d) (told_entries ds) (map_of no_pairs, Some (normal d)) _ b outer (told_grows d h.0 (map_of no_pairs, None))
+      (entries_take (λ xs. set_of xs) (record { puts = λ xs x. refl; stays = λ xs. refl }) _ (document (normal d) no_documents) refl ds h.1 _ refl)
+  told_grows (map_of no_pairs) h b outer = refl
+  told_grows (map_of (pair key value ps)) h b outer =
+      block_grows Braces [] (told key ++ plainly Colon ∷ told value) (told_pairs ps) _ _ b outer
+      (pair_grows no_pairs key value (told_grows key h.0) (told_grows value h.1)) (pairs_take (pair (normal key) (normal value) no_pairs) ps h.2 _ refl)
+  told_grows (struct_of name no_fields) h b outer = refl
+  told_grows (struct_of name (field label value fs)) h b outer =
+      block_grows Struct name ((Label, label) ∷ told value) (told_fields fs) _ _ b outer
+      (told_grows value h.1.1 (struct_of name no_fields, Some (leaf label))) (fields_take name (field label (normal value) no_fields) fs h.1.2 _ refl)
+  told_grows (tuple_of [] no_documents) h b outer = absurd h
+  told_grows (tuple_of (c ∷ name) no_documents) h b outer = refl
+  told_grows (tuple_of name (document d ds)) h b outer =
+      block_grows (tuple_kind name) name (told d) (told_entries ds) (tuple_of name (document (normal d) no_documents), None) _ b outer
+      (λ outer. ap (λ x. grown ((x, None), outer) (told d)) (no_fields_yet name) ∙ told_grows d h.1 (tuple_of name no_documents, None) outer)
+      (entries_take (λ xs. tuple_of name xs) (record { puts = λ xs x. refl; stays = λ xs. refl }) _ (document (normal d) no_documents) refl ds h.2 _ refl)
+  told_grows (pretty_part d) h b outer = absurd h
 
-  -- the entries behind one, to the block's end
-  entries_grow : (make : Documents → Document) → Collects make → (kind : Kind) (count : Count) (block : Block) (ds : Documents)
-      → entry_ended block ≡ (make ds, None) → (more : Documents) → HaveTokens more → (outer : List Block) (whole : Option Document)
-      → grown (block ∷ outer, whole) (told_tail kind count (told_entries more)) ≡ put_in (outer, whole) (make (with_all ds (normal_all more)))
-  entries_grow make collects kind count block ds is no_documents h outer whole =
-      ap (λ b. put_in (outer, whole) b.0) is ∙ ap (λ xs. put_in (outer, whole) (make xs)) (sym (all_none ds))
-  entries_grow make collects kind count block ds is (document d more) h outer whole =
-      ap (λ b. grown (b ∷ outer, whole) (told d ++ told_tail kind (next count) (told_entries more))) is
-      ∙ grown-append ((make ds, None) ∷ outer, whole) (told d) (told_tail kind (next count) (told_entries more))
-      ∙ ap (λ g. grown g (told_tail kind (next count) (told_entries more))) (told_grows d h.0 ((make ds, None) ∷ outer) whole)
-      ∙ ap (λ b. grown (b ∷ outer, whole) (told_tail kind (next count) (told_entries more))) (collects.puts ds (normal d))
-      ∙ entries_grow make collects kind (next count) (make (one_more ds (normal d)), None) (one_more ds (normal d))
-      (collects.stays (one_more ds (normal d))) more h.1 outer whole
-      ∙ ap (λ xs. put_in (outer, whole) (make xs)) (all_one_more ds (normal_all more) (normal d))
+  -- the entries behind others, to these
+  entries_take : (make : Documents → Document) → Collects make → (b : Block) (ds : Documents) → entry_ended b ≡ (make ds, None)
+      → (more : Documents) → HaveTokens more → (last : Documents) → with_all ds (normal_all more) ≡ last → Takes (told_entries more) b (make last, None)
+  entries_take make collects b ds is no_documents h last all = is ∙ ap (λ xs. (make xs, None)) (sym (all_none ds) ∙ all)
+  entries_take make collects b ds is (document d more) h last all =
+      let one = document (normal d) no_documents in (
+        (make (with_all ds one), None),
+        λ outer. told_grows d h.0 (entry_ended b) outer ∙ ap (λ x. (with_entry x (normal d), outer)) is ∙ ap (λ x. (x, outer)) (collects.puts ds (normal d)),
+        entries_take make collects (make (with_all ds one), None) (with_all ds one) (collects.stays (with_all ds one)) more h.1 last
+            (all_more ds one (normal_all more) ∙ all),
+      )
 
-  -- the pairs behind one
-  pairs_grow : (count : Count) (ps more : Pairs) → PairsHaveTokens more → (outer : List Block) (whole : Option Document)
-      → grown ((map_of ps, None) ∷ outer, whole) (told_tail Braces count (told_pairs more))
-      ≡ put_in (outer, whole) (map_of (with_pairs ps (normal_pairs more)))
-  pairs_grow count ps no_pairs h outer whole = ap (λ xs. put_in (outer, whole) (map_of xs)) (sym (pairs_none ps))
-  pairs_grow count ps (pair key value more) h outer whole =
-      grown-append ((map_of ps, None) ∷ outer, whole) (told key ++ plainly Colon ∷ told value) (told_tail Braces (next count) (told_pairs more))
-      ∙ ap (λ g. grown g (told_tail Braces (next count) (told_pairs more))) (pair_grows ps key value (told_grows key h.0) (told_grows value h.1) outer whole)
-      ∙ pairs_grow (next count) (one_pair_more ps (normal key) (normal value)) more h.2 outer whole
-      ∙ ap (λ xs. put_in (outer, whole) (map_of xs)) (pairs_one_more ps (normal_pairs more) (normal key) (normal value))
+  -- the pairs behind others
+  pairs_take : (ps more : Pairs) → PairsHaveTokens more → (last : Pairs) → with_pairs ps (normal_pairs more) ≡ last
+      → Takes (told_pairs more) (map_of ps, None) (map_of last, None)
+  pairs_take ps no_pairs h last all = ap (λ xs. (map_of xs, None)) (sym (pairs_none ps) ∙ all)
+  pairs_take ps (pair key value more) h last all =
+      let one = pair (normal key) (normal value) no_pairs in (
+        (map_of (with_pairs ps one), None),
+        pair_grows ps key value (told_grows key h.0) (told_grows value h.1),
+        pairs_take (with_pairs ps one) more h.2 last (pairs_more ps one (normal_pairs more) ∙ all),
+      )
 
-  -- the fields behind one
-  fields_grow : (name : List ℕ) (count : Count) (fs more : Fields) → FieldsHaveTokens more → (outer : List Block) (whole : Option Document)
-      → grown ((struct_of name fs, None) ∷ outer, whole) (told_tail Struct count (told_fields more))
-      ≡ put_in (outer, whole) (struct_of name (with_fields fs (normal_fields more)))
-  fields_grow name count fs no_fields h outer whole = ap (λ xs. put_in (outer, whole) (struct_of name xs)) (sym (fields_none fs))
-  fields_grow name count fs (field label value more) h outer whole =
-      grown-append ((struct_of name fs, None) ∷ outer, whole) ((Label, label) ∷ told value) (told_tail Struct (next count) (told_fields more))
-      ∙ ap (λ g. grown g (told_tail Struct (next count) (told_fields more))) (field_grows name fs label value (told_grows value h.1) outer whole)
-      ∙ fields_grow name (next count) (one_field_more fs label (normal value)) more h.2 outer whole
-      ∙ ap (λ xs. put_in (outer, whole) (struct_of name xs)) (fields_one_more fs (normal_fields more) label (normal value))
+  -- the fields behind others
+  fields_take : (name : List ℕ) (fs more : Fields) → FieldsHaveTokens more → (last : Fields) → with_fields fs (normal_fields more) ≡ last
+      → Takes (told_fields more) (struct_of name fs, None) (struct_of name last, None)
+  fields_take name fs no_fields h last all = ap (λ xs. (struct_of name xs, None)) (sym (fields_none fs) ∙ all)
+  fields_take name fs (field label value more) h last all =
+      let one = field label (normal value) no_fields in (
+        (struct_of name (with_fields fs one), None),
+        told_grows value h.1 (struct_of name fs, Some (leaf label)),
+        fields_take name (with_fields fs one) more h.2 last (fields_more fs one (normal_fields more) ∙ all),
+      )
 
 -- a part behind parts: so blocks that take each part so are a lawful sink
 pub hears_part : {E : Type 0} (old new : OpenBlocks) (e : Event) (answer : Result (⊤) E) → OnOk answer (growing new ≡ grow (growing old) e)
@@ -175,7 +163,7 @@ hears_part old new e (Err x) h = λ start es before. tt
 
 -- what was read of a whole text is the one document that it is of
 pub whole_is : (mode : Mode) (input : List ℕ) (d : Document) (new : Growing) → read_text mode input ≡ Some d
-    → new ≡ grown ([], None) (told d) → new ≡ ([], Some d)
+    → new ≡ grown nothing_read (told d) → new ≡ ((map_of no_pairs, Some d), [])
 whole_is mode input d new is grew =
     let form = reads_only_texts mode input d is in
-    grew ∙ told_grows d form.0.0 [] None ∙ ap (λ x. ([], Some x)) form.1
+    grew ∙ told_grows d form.0.0 (map_of no_pairs, None) [] ∙ ap (λ x. ((map_of no_pairs, Some x), [])) form.1

@@ -21,5 +21,6 @@ pub(crate) fn read_text(alloc: Global, mode: Mode, input: &[u8]) -> Result<Doc, 
 {
     let mut blocks = OpenBlocks::new(alloc);
     scan(mode, input, &mut blocks)?;
-    blocks.whole.ok_or(ReadError::NotText)
+    let round = blocks.inner;
+    round.waits.ok_or(ReadError::NotText)
 }

@@ -14,32 +14,33 @@ use Rattle.ufmt_scan.specs.Scan.{Event}
 abbrev pub Block : Type 0
 Block = Document × Option Document
 
--- the open blocks, the innermost first, and the whole document where it ended
+-- the innermost block, and those round it from there outwards
 abbrev pub Growing : Type 0
-Growing = List Block × Option Document
+Growing = Block × List Block
 
--- entries, pairs and fields with one more behind them
-abbrev pub one_more : Documents → Document → Documents
-one_more no_documents last = document last no_documents
-one_more (document d ds) last = document d (one_more ds last)
+-- entries, pairs and fields with more behind them
+abbrev pub with_all : Documents → Documents → Documents
+with_all no_documents more = more
+with_all (document d ds) more = document d (with_all ds more)
 
-abbrev pub one_pair_more : Pairs → Document → Document → Pairs
-one_pair_more no_pairs key value = pair key value no_pairs
-one_pair_more (pair k v ps) key value = pair k v (one_pair_more ps key value)
+abbrev pub with_pairs : Pairs → Pairs → Pairs
+with_pairs no_pairs more = more
+with_pairs (pair key value ps) more = pair key value (with_pairs ps more)
 
-abbrev pub one_field_more : Fields → List ℕ → Document → Fields
-one_field_more no_fields label value = field label value no_fields
-one_field_more (field l v fs) label value = field l v (one_field_more fs label value)
+abbrev pub with_fields : Fields → Fields → Fields
+with_fields no_fields more = more
+with_fields (field label value fs) more = field label value (with_fields fs more)
 
--- a block with an entry more, a key that waits, or the value of what waits
+-- a block with an entry more, with a key or a field's name that waits, or with the value of what waits
 abbrev pub with_entry : Block → Document → Block
-with_entry (list_of ds, waits) d = (list_of (one_more ds d), waits)
-with_entry (set_of ds, waits) d = (set_of (one_more ds d), waits)
+with_entry (list_of ds, waits) d = (list_of (with_all ds (document d no_documents)), waits)
+with_entry (set_of ds, waits) d = (set_of (with_all ds (document d no_documents)), waits)
 with_entry (map_of ps, None) d = (map_of ps, Some d)
-with_entry (map_of ps, Some key) d = (map_of (one_pair_more ps key d), None)
-with_entry (struct_of name fs, Some (leaf label)) d = (struct_of name (one_field_more fs label d), None)
-with_entry (struct_of name fs, waits) d = (struct_of name fs, None)
-with_entry (tuple_of name ds, waits) d = (tuple_of name (one_more ds d), waits)
+with_entry (map_of ps, Some key) d = (map_of (with_pairs ps (pair key d no_pairs)), None)
+with_entry (struct_of name fs, None) d = (struct_of name fs, Some d)
+with_entry (struct_of name fs, Some (leaf label)) d = (struct_of name (with_fields fs (field label d no_fields)), None)
+with_entry (struct_of name fs, Some other) d = (struct_of name fs, None)
+with_entry (tuple_of name ds, waits) d = (tuple_of name (with_all ds (document d no_documents)), waits)
 with_entry (d, waits) other = (d, waits)
 
 -- a block behind an entry: what stands alone in braces makes them a set
@@ -51,10 +52,6 @@ entry_ended (d, waits) = (d, waits)
 abbrev pub IsMap : Document → Type 0
 IsMap d = (ps : Pairs) × (d ≡ map_of ps)
 
--- a block in which the field of this name follows
-abbrev pub named : List ℕ → Block → Block
-named label (d, waits) = (d, Some (leaf label))
-
 -- a block of this kind and name without entries
 abbrev pub without_entries : Kind → List ℕ → Document
 without_entries Brackets name = list_of no_documents
@@ -63,39 +60,37 @@ without_entries Struct name = struct_of name no_fields
 without_entries Tuple name = tuple_of name no_documents
 without_entries Unnamed name = tuple_of name no_documents
 
--- a document that ended goes into the innermost block, or is the whole
+-- a document that ended, or a field's name, goes into the innermost block
 abbrev pub put_in : Growing → Document → Growing
-put_in ([], whole) d = ([], Some d)
-put_in (block ∷ outer, whole) d = (with_entry block d ∷ outer, whole)
+put_in g d = (with_entry g.0 d, g.1)
 
 -- a block is opened in the innermost one
 abbrev pub opened : Document → Growing → Growing
-opened d g = ((d, None) ∷ g.0, g.1)
-
--- the innermost block changes so
-abbrev pub within : (Block → Block) → Growing → Growing
-within f ([], whole) = ([], whole)
-within f (block ∷ outer, whole) = (f block ∷ outer, whole)
+opened d g = ((d, None), g.0 ∷ g.1)
 
 -- the innermost block ends, and goes into the one round it
 abbrev pub closed : Growing → Growing
-closed ([], whole) = ([], whole)
-closed (block ∷ outer, whole) = put_in (outer, whole) block.0
+closed (block, []) = (block, [])
+closed (block, next ∷ outer) = (with_entry next block.0, outer)
 
 -- what grows, with one part more
 abbrev pub grow : Growing → Event → Growing
 grow g (Leaf, text) = put_in g (leaf text)
 grow g (Empty kind, name) = put_in g (without_entries kind name)
 grow g (Open kind, name) = opened (without_entries kind name) g
-grow g (Label, label) = within (named label) g
+grow g (Label, label) = put_in g (leaf label)
 grow g (Colon, text) = g
-grow g (Next, text) = within entry_ended g
-grow g (Close kind count, text) = closed (within entry_ended g)
+grow g (Next, text) = (entry_ended g.0, g.1)
+grow g (Close kind count, text) = closed (entry_ended g.0, g.1)
 
 -- with these parts, one behind another
 abbrev pub grown : Growing → List Event → Growing
 grown g [] = g
 grown g (e ∷ es) = grown (grow g e) es
+
+-- braces round a whole document, in which it waits where it ended
+abbrev pub nothing_read : Growing
+nothing_read = ((map_of no_pairs, None), [])
 
 -- what a block of a reader is, and what waits in it
 abbrev pub waiting : Option Doc → Option Document
@@ -110,7 +105,7 @@ innermost_first [] = []
 innermost_first (block ∷ inner) = innermost_first inner ++ block_view block ∷ []
 
 abbrev pub growing : OpenBlocks → Growing
-growing blocks = (innermost_first blocks.blocks.items, waiting blocks.whole)
+growing blocks = (block_view blocks.inner, innermost_first blocks.outer.items)
 
 -- a reader took these parts
 abbrev pub Grew : OpenBlocks → List Event → OpenBlocks → Type 0

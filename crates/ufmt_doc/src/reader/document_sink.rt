@@ -1,15 +1,16 @@
 //! A sink that makes the document of which it is told.
-ghost use Rattle.std.specs.Prelude.{◌≡◌, ⊤, [], None};
+ghost use Rattle.std.specs.Prelude.{◌≡◌, ⊤};
 ghost use Rattle.std.specs.Result.{IfOk, OnOk};
 ghost use Rattle.std.proofs.Common.{refl};
 ghost use Rattle.ufmt.specs.Document.{leaf};
 ghost use Rattle.ufmt_doc.specs.Doc.{doc_document};
-ghost use Rattle.ufmt_doc.specs.Private.Growing.{Grew, closed, entry_ended, grow, growing, innermost_first, named, opened, put_in, within, without_entries};
+ghost use Rattle.ufmt_doc.specs.Private.Growing.{Grew, closed, entry_ended, grow, growing, nothing_read, opened, put_in, without_entries};
 
-use super::open_block::OpenBlock;
+use super::open_block::{OpenBlock, push};
 use super::open_blocks::OpenBlocks;
 use crate::doc::Doc;
 use std::alloc::{AllocError, Global};
+use std::mem;
 use ufmt::layout::Kind;
 use ufmt_scan::scan::{Part, Sink};
 
@@ -17,6 +18,7 @@ use ufmt_scan::scan::{Part, Sink};
 const MOST_OPEN: usize = 256;
 
 // A block of this kind and name without entries.
+#[inline(always)]
 fn without_entries(alloc: Global, kind: Kind, name: &str) -> Result<Doc, AllocError>
     ensures { IfOk result (λ doc. doc_document doc ≡ without_entries kind name.now) }
 {
@@ -32,14 +34,14 @@ fn without_entries(alloc: Global, kind: Kind, name: &str) -> Result<Doc, AllocEr
 }
 
 impl OpenBlocks {
-    /// Nothing is open, and nothing was read.
+    /// Nothing was read.
     pub(super) fn new(alloc: Global) -> OpenBlocks
-        ensures { growing result ≡ ([], None) }
+        ensures { growing result ≡ nothing_read }
     {
         OpenBlocks {
             alloc,
-            blocks: Vec::new(alloc),
-            whole: None,
+            outer: Vec::new(alloc),
+            inner: OpenBlock::new(Doc::MapOf(Vec::new(alloc))),
         }
     }
 
@@ -50,21 +52,21 @@ impl OpenBlocks {
         ensures { OnOk result (growing self.new ≡ grow (growing self.old) (part, text.now)) }
     {
         match part {
-            Part::Leaf => self.put_leaf(text),
+            Part::Leaf | Part::Label => self.put_leaf(text),
             Part::Empty(kind) => self.put_empty(kind, text),
             Part::Open(kind) => self.open(kind, text),
-            Part::Label => self.name_field(text),
             Part::Colon => Ok(()),
-            Part::Next => self.end_entry(),
+            Part::Next => self.inner.end_entry(self.alloc),
             Part::Close(_, _) => self.close(),
         }
     }
 
-    // Puts in a leaf.
+    // Puts in a leaf, or a field's name.
     fn put_leaf(&mut self, text: &str) -> Result<(), AllocError>
         ensures { OnOk result (growing self.new ≡ put_in (growing self.old) (leaf text.now)) }
     {
-        self.put(Doc::Leaf(String::from_str(self.alloc, text)?))
+        self.inner
+            .put(Doc::Leaf(String::from_str(self.alloc, text)?))
     }
 
     // Puts in a block without entries.
@@ -73,21 +75,7 @@ impl OpenBlocks {
         ensures { OnOk result
             (growing self.new ≡ put_in (growing self.old) (without_entries kind name.now)) }
     {
-        self.put(without_entries(self.alloc, kind, name)?)
-    }
-
-    // Puts a document that ended into the innermost block; without one it is the whole.
-    #[inline(always)]
-    fn put(&mut self, doc: Doc) -> Result<(), AllocError>
-        ensures { OnOk result (growing self.new ≡ put_in (growing self.old) (doc_document doc)) }
-    {
-        match self.blocks.last_mut() {
-            Some(block) => block.put(doc),
-            None => {
-                self.whole = Some(doc);
-                Ok(())
-            }
-        }
+        self.inner.put(without_entries(self.alloc, kind, name)?)
     }
 
     // Opens a block of this kind and name in the innermost one.
@@ -96,47 +84,24 @@ impl OpenBlocks {
             (growing self.new ≡ opened (without_entries kind name.now) (growing self.old)) }
     {
         // A scanner opens no more.
-        if self.blocks.len() == MOST_OPEN {
+        if self.outer.len() == MOST_OPEN {
             return Err(AllocError);
         }
         let block = OpenBlock::new(without_entries(self.alloc, kind, name)?);
-        self.blocks.push(block)?;
-        Ok(())
-    }
-
-    // Names the field that follows in the innermost block.
-    #[inline(never)]
-    fn name_field(&mut self, label: &str) -> Result<(), AllocError>
-        ensures { OnOk result
-            (growing self.new ≡ within (named label.now) (growing self.old)) }
-    {
-        match self.blocks.last_mut() {
-            Some(block) => {
-                block.name_field(String::from_str(self.alloc, label)?);
-                Ok(())
-            }
-            None => Ok(()),
-        }
-    }
-
-    // Ends an entry of the innermost block.
-    fn end_entry(&mut self) -> Result<(), AllocError>
-        ensures { OnOk result (growing self.new ≡ within entry_ended (growing self.old)) }
-    {
-        match self.blocks.last_mut() {
-            Some(block) => block.end_entry(self.alloc),
-            None => Ok(()),
-        }
+        push(&mut self.outer, mem::replace(&mut self.inner, block))
     }
 
     // Ends the innermost block, which goes into the one round it.
     fn close(&mut self) -> Result<(), AllocError>
         ensures { OnOk result
-            (growing self.new ≡ closed (within entry_ended (growing self.old))) }
+            (growing self.new ≡ closed (entry_ended (growing self.old).0, (growing self.old).1)) }
     {
-        self.end_entry()?;
-        match self.blocks.pop() {
-            Some(block) => self.put(block.doc),
+        self.inner.end_entry(self.alloc)?;
+        match self.outer.pop() {
+            Some(outer) => {
+                let ended = mem::replace(&mut self.inner, outer);
+                self.inner.put(ended.doc)
+            }
             None => Ok(()),
         }
     }

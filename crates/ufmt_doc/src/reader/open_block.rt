@@ -1,10 +1,10 @@
 //! A block that is read: its document so far, and what waits in it.
-ghost use Rattle.std.specs.Prelude.{◌≡◌, List, None, string_bytes, ℕ};
-ghost use Rattle.std.specs.Result.{OnOk};
+ghost use Rattle.std.specs.Prelude.{◌≡◌, ◌++◌, [], ◌∷◌, List, None, ℕ};
+ghost use Rattle.std.specs.Result.{OnErr, OnOk};
 ghost use Rattle.ufmt.specs.Document.{documents, fields_of, map_of, pairs_of, struct_of};
 ghost use Rattle.ufmt_doc.specs.Doc.{doc_document};
 ghost use Rattle.ufmt_doc.specs.DocViews.{docs_view, fields_view, pairs_view};
-ghost use Rattle.ufmt_doc.specs.Private.Growing.{block_view, entry_ended, named, one_more, IsMap, waiting, with_entry};
+ghost use Rattle.ufmt_doc.specs.Private.Growing.{IsMap, block_view, entry_ended, waiting, with_all, with_entry};
 
 use crate::doc::Doc;
 use std::alloc::{AllocError, Global};
@@ -61,16 +61,9 @@ impl OpenBlock {
             return Ok(());
         };
         let mut entries = Vec::new(alloc);
-        entries.push(first)?;
+        push(&mut entries, first)?;
         self.doc = Doc::SetOf(entries);
         Ok(())
-    }
-
-    /// Names the field whose value follows.
-    pub(super) fn name_field(&mut self, label: String)
-        ensures { block_view self.new ≡ named (string_bytes label) (block_view self.old) }
-    {
-        self.waits = Some(Doc::Leaf(label));
     }
 }
 
@@ -78,10 +71,9 @@ impl OpenBlock {
 #[inline(always)]
 fn put_entry(entries: &mut Vec<Doc>, doc: Doc) -> Result<(), AllocError>
     ensures { OnOk result (documents (docs_view entries.new)
-        ≡ one_more (documents (docs_view entries.old)) (doc_document doc)) }
+        ≡ with_all (documents (docs_view entries.old)) (documents (doc_document doc ∷ []))) }
 {
-    entries.push(doc)?;
-    Ok(())
+    push(entries, doc)
 }
 
 // Puts a value into a map beside the key that waits, or a key, which waits then.
@@ -96,10 +88,7 @@ fn put_in_map(
         (doc_document doc)) }
 {
     match waits.take() {
-        Some(key) => {
-            pairs.push((key, doc))?;
-            Ok(())
-        }
+        Some(key) => push(pairs, (key, doc)),
         None => {
             *waits = Some(doc);
             Ok(())
@@ -107,7 +96,7 @@ fn put_in_map(
     }
 }
 
-// Puts a value into a struct beside the name that waits.
+// Puts a value into a struct beside the name that waits, or a name, which waits then.
 #[inline(never)]
 fn put_field(
     fields: &mut Vec<(String, Doc)>,
@@ -120,10 +109,23 @@ fn put_field(
         (doc_document doc)) }
 {
     match waits.take() {
-        Some(Doc::Leaf(label)) => {
-            fields.push((label, doc))?;
+        Some(Doc::Leaf(label)) => push(fields, (label, doc)),
+        Some(_other) => Ok(()),
+        None => {
+            *waits = Some(doc);
             Ok(())
         }
-        _ => Ok(()),
     }
+}
+
+/// `Vec::push`, which makes room first: an answer that hands the item back on failure would be cleared
+/// for each item.
+#[inline(always)]
+pub(super) fn push<T: Drop>(items: &mut Vec<T>, item: T) -> Result<(), AllocError>
+    ensures ok { OnOk result (items.new.items ≡ items.old.items ++ item ∷ []) }
+    ensures err { OnErr result (items.new.items ≡ items.old.items) }
+{
+    items.reserve(1)?;
+    items.push_reserved(item);
+    Ok(())
 }

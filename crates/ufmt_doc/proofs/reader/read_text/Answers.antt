@@ -9,4 +9,4 @@ pub returns : goal.returns
 returns c =
     let scanned = c.in_ok-scan.ensures in
     let whole = whole_is c.args.mode c.args.input.now scanned.0 _ scanned.1 (scanned.2 ∙ ap (λ g. grown g (told scanned.0)) c.new-blocks.ensures) in
-    whole_answers c.ok_or.result c.scan.new.sink.whole scanned.0 scanned.1 (ap (λ g. g.1) whole) c.ok_or.ensures.value
+    whole_answers c.ok_or.result c.scan.new.sink.inner.waits scanned.0 scanned.1 (ap (λ g. g.0.1) whole) c.ok_or.ensures.value
