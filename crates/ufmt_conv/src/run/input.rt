@@ -1,5 +1,5 @@
 //! Reading an input to its end.
-ghost use Rattle.std.specs.Prelude.{◌≡◌, ◌+◌, ◌<◌, ◌≤◌, ◌↔◌, ◌⊎◌, false, drop, take, vec_len, length, IfErr, IfOk, IfSome, IsErrOf, MatchResult, IsTrue, OnErr, OnOk};
+ghost use Rattle.std.specs.Prelude.{◌≡◌, ◌+◌, ◌≤◌, ◌↔◌, ◌⊎◌, false, drop, take, vec_len, IfErr, IfOk, IfSome, IsErrOf, IsTrue, OnErr, OnOk};
 ghost use Rattle.std.specs.Io.KnownBytes.{Consumes, IsAtEnd};
 ghost use Rattle.ufmt_conv.specs.Watched.{device_of, has_failed};
 
@@ -54,22 +54,7 @@ fn read_after<R: Read>(
     if filled == text.len() {
         text.resize(filled + ROOM, 0)?;
     }
-    read_at(input, text.as_mut_slice(), filled)
-}
-
-// One read into a buffer from a place on.
-fn read_at<R: Read>(input: &mut Watched<R>, buffer: &mut [u8], place: usize) -> Result<usize, Fault>
-    requires works { has_failed input.old ≡ false }
-    requires within { place < length buffer.old }
-    ensures front { take place buffer.new ≡ take place buffer.old }
-    ensures fits { IfOk result (λ count. place + count ≤ length buffer.new) }
-    ensures ok { IfOk result (λ count. Consumes (R.remaining (device_of input.old))
-        (R.remaining (device_of input.new)) (take count (drop place buffer.new))) }
-    ensures end { IfOk result (λ count. count ≡ 0 → IsAtEnd (R.remaining (device_of input.new))) }
-    ensures failed { MatchResult result (λ _. has_failed input.new ≡ false)
-        (λ fault. IsTrue (has_failed input.new) × (fault ≡ Fault.CannotRead)) }
-{
     input
-        .read_some(&mut buffer[place..])
+        .read_some(&mut text.as_mut_slice()[filled..])
         .map_err(|_| Fault::CannotRead)
 }
