@@ -41,7 +41,10 @@ impl OpenBlocks {
         OpenBlocks {
             alloc,
             outer: Vec::new(alloc),
-            inner: OpenBlock::new(Doc::MapOf(Vec::new(alloc))),
+            inner: OpenBlock {
+                doc: Doc::MapOf(Vec::new(alloc)),
+                waits: None,
+            },
         }
     }
 
@@ -87,7 +90,10 @@ impl OpenBlocks {
         if self.outer.len() == MOST_OPEN {
             return Err(AllocError);
         }
-        let block = OpenBlock::new(without_entries(self.alloc, kind, name)?);
+        let block = OpenBlock {
+            doc: without_entries(self.alloc, kind, name)?,
+            waits: None,
+        };
         push(&mut self.outer, mem::replace(&mut self.inner, block))
     }
 

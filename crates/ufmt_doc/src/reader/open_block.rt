@@ -1,5 +1,5 @@
 //! A block that is read: its document so far, and what waits in it.
-ghost use Rattle.std.specs.Prelude.{◌≡◌, ◌++◌, [], ◌∷◌, List, None, ℕ};
+ghost use Rattle.std.specs.Prelude.{◌≡◌, ◌++◌, [], ◌∷◌, List, ℕ};
 ghost use Rattle.std.specs.Result.{OnErr, OnOk};
 ghost use Rattle.ufmt.specs.Document.{documents, fields_of, map_of, pairs_of, struct_of};
 ghost use Rattle.ufmt_doc.specs.Doc.{doc_document};
@@ -18,12 +18,6 @@ pub(super) struct OpenBlock {
 }
 
 impl OpenBlock {
-    pub(super) fn new(doc: Doc) -> OpenBlock
-        ensures { block_view result ≡ (doc_document doc, None) }
-    {
-        OpenBlock { doc, waits: None }
-    }
-
     /// Puts in an entry, a key or a value.
     #[inline(always)]
     pub(super) fn put(&mut self, doc: Doc) -> Result<(), AllocError>

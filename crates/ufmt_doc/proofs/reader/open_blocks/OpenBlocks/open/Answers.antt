@@ -9,7 +9,6 @@ returns c =
     on_ok_weaker c.push.result
     (λ is. rw (
       c.replace.ensures.after,
-      c.new-block.ensures,
       c.in_ok-without_entries.ensures,
       innermost_is {new = c.push.new.items.items} outer c.args.self.now.inner (is ∙ ap (λ block. outer ++ block ∷ []) c.replace.ensures.value),
     ) refl) c.push.ensures.ok
