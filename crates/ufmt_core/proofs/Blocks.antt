@@ -98,24 +98,27 @@ module _ {W E : Type 0} {seen : Seen W} (pending : Status) (old : Block W) {new 
       rw (ap is_ok end.error.0, ← append_assoc before (text (inner old)) (trail_of old))
       (WritesPart-fails _ (WritesPart-abandoned pending old (Prints-then_at text p l) end.error.1))
 
--- a map's entry: the key, `: ` and the value, each by the lent formatter
+-- a map's entry is what leads to its value, the value, and what follows
+pair_framed : {W : Type 0} (b : Block W) (key value : Document) → framed (frame_of b) (inner b) b.count (pair_text key value (inner b))
+    ≡ ((lead_of b ++ layout (inner b) key) ++ codes ": ") ++ (layout (inner b) value ++ trail_of b)
+pair_framed b key value = simp append_assoc
+
+-- its key, `: ` and the value, each by the lent formatter
 module _ {W E : Type 0} {seen : Seen W} (old : Block W) {new : Block W} {begun : Formatter W} (ended : Formatter W) (key value : Document) where
   -- the key and then `: `, where that failed, or where the key's answer was an error
   pub WritesEntry-no_value : {mid : Block W} (answer : Result (Unit {0}) E) → mid ≡ lent_to Lent old ended
       → Prints seen old.formatter (lead_of old) true begun → LaysOut seen begun key (is_ok answer) ended →
       OnOk answer (StopsIn seen mid (codes ": ") new) → OnErr answer (Abandons mid new) → WritesEntry seen old (pair_text key value) false new
   WritesEntry-no_value (Ok x) m p l stop error =
-      let whole : framed (frame_of old) (inner old) old.count (pair_text key value (inner old)) ≡ ((lead_of old ++ layout (inner old) key) ++ codes ": ") ++ (layout (inner old) value ++ trail_of old) = simp append_assoc in
       record {
-        part = rw whole (WritesPart-fails _
+        part = rw (pair_framed old key value) (WritesPart-fails _
             (WritesPart-printed Lent old (λ s. codes ": ") (Prints-then_at (λ s. layout s key) p l.prints)
             (subst (λ (b : Block W). StopsIn seen b (codes ": ") new) m stop)));
       }
   WritesEntry-no_value (Err x) m p l stop error =
-      let whole : framed (frame_of old) (inner old) old.count (pair_text key value (inner old)) ≡ (lead_of old ++ layout (inner old) key) ++ (codes ": " ++ (layout (inner old) value ++ trail_of old)) = simp append_assoc in
       record {
-        part = rw whole (WritesPart-fails _
-            (WritesPart-abandoned Lent old (Prints-then_at (λ s. layout s key) p l.prints) (subst (λ (b : Block W). Abandons b new) m error)));
+        part = rw (pair_framed old key value) (WritesPart-fails _ (WritesPart-fails (codes ": ") {between = old.count} {count = old.count}
+            (WritesPart-abandoned Lent old (Prints-then_at (λ s. layout s key) p l.prints) (subst (λ (b : Block W). Abandons b new) m error))));
       }
 
   -- `: ` and the value too
@@ -130,8 +133,7 @@ module _ {W E : Type 0} {seen : Seen W} (old : Block W) {new : Block W} {begun :
       let keyed = subst (λ (o : Bool). Prints seen begun (layout (setting_of begun) key) o ended) (handed_ok key_answer lending error ok) k.prints in
       let front = Prints-then (Prints-then_at (λ s. layout s key) p keyed) (subst (λ (b : Block W). Prints seen b.formatter (codes ": ") true lent) m colon) in
       let lent_value : last ≡ lent_to LentValue old printed = l ∙ ap (λ b. lent_to LentValue b printed) m in
-      let whole : framed (frame_of old) (inner old) old.count (pair_text key value (inner old)) ≡ ((lead_of old ++ layout (inner old) key) ++ codes ": ") ++ (layout (inner old) value ++ trail_of old) = simp append_assoc in
-      record { part = rw whole (WritesPart-between LentValue old printed _ (λ s. layout s value) answer result lent_value front v.prints e) }
+      record { part = rw (pair_framed old key value) (WritesPart-between LentValue old printed _ (λ s. layout s value) answer result lent_value front v.prints e) }
 
 -- entries in a row
 

@@ -22,10 +22,7 @@ impl<T: uDebug> uDebug for Ports<T> {
     ghost document = { λ t.
         map_of (pairs_of (map (λ p. (number p.number, T.document p.user)) t.ports.items)) };
 
-    fn fmt<W>(&self, f: &mut Formatter<W>) -> Result<(), W::Error>
-    where
-        W: uWrite,
-    {
+    fn fmt<W: uWrite>(&self, f: &mut Formatter<W>) -> Result<(), W::Error> {
         let mut map = f.debug_map()?;
         for port in &self.ports {
             map.entry(&port.number, &port.user)?;
@@ -43,10 +40,7 @@ pub struct Users<T> {
 impl<T: uDebug> uDebug for Users<T> {
     ghost document = { λ t. list_of (documents (map (λ p. T.document p.user) t.ports.items)) };
 
-    fn fmt<W>(&self, f: &mut Formatter<W>) -> Result<(), W::Error>
-    where
-        W: uWrite,
-    {
+    fn fmt<W: uWrite>(&self, f: &mut Formatter<W>) -> Result<(), W::Error> {
         let mut list = f.debug_list()?;
         for port in &self.ports {
             let answer = port.user.fmt(list.begin_entry()?);

@@ -29,10 +29,7 @@ impl uDebug for Json {
           (map_of (pairs_of (map (λ p. (number p.0, p.1)) values.entries)) ∷ [])
     ]) };
 
-    fn fmt<W>(&self, f: &mut Formatter<W>) -> Result<(), W::Error>
-    where
-        W: uWrite,
-    {
+    fn fmt<W: uWrite>(&self, f: &mut Formatter<W>) -> Result<(), W::Error> {
         match self {
             Json::Null => fields!(f, Null),
             Json::Number(n) => fields!(f, Number(n)),

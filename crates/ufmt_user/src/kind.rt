@@ -20,10 +20,7 @@ impl<T: uDebug> uDebug for Kind<T> {
       | C x y ↦ named_struct "C" (("x", T.document x) ∷ ("y", T.document y) ∷ [])
     ] };
 
-    fn fmt<W>(&self, f: &mut Formatter<W>) -> Result<(), W::Error>
-    where
-        W: uWrite,
-    {
+    fn fmt<W: uWrite>(&self, f: &mut Formatter<W>) -> Result<(), W::Error> {
         match self {
             Kind::A => fields!(f, A),
             Kind::B(x, y) => fields!(f, B(x, y)),

@@ -14,10 +14,7 @@ pub struct Reading {
 impl uDebug for Reading {
     ghost document = { reading_document };
 
-    fn fmt<W>(&self, f: &mut Formatter<W>) -> Result<(), W::Error>
-    where
-        W: uWrite,
-    {
+    fn fmt<W: uWrite>(&self, f: &mut Formatter<W>) -> Result<(), W::Error> {
         fields!(f, self, Reading { channel, celsius })
     }
 }

@@ -18,10 +18,7 @@ impl uDebug for Message<'_> {
     ghost document = { λ m. named_struct "Message"
         (("node", number m.node) ∷ ("level", character m.level) ∷ ("text", str m.text) ∷ []) };
 
-    fn fmt<W>(&self, f: &mut Formatter<W>) -> Result<(), W::Error>
-    where
-        W: uWrite,
-    {
+    fn fmt<W: uWrite>(&self, f: &mut Formatter<W>) -> Result<(), W::Error> {
         fields!(f, self, Message { node, level, text })
     }
 }

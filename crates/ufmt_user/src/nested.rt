@@ -15,10 +15,7 @@ impl<T: uDebug> uDebug for Nested<T> {
     ghost document = { λ n. named_struct "Nested"
         (("first", T.document n.first) ∷ ("second", T.document n.second) ∷ []) };
 
-    fn fmt<W>(&self, f: &mut Formatter<W>) -> Result<(), W::Error>
-    where
-        W: uWrite,
-    {
+    fn fmt<W: uWrite>(&self, f: &mut Formatter<W>) -> Result<(), W::Error> {
         fields!(f, self, Nested { first, second })
     }
 }

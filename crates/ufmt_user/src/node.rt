@@ -19,10 +19,7 @@ impl uDebug for Node {
         (λ n. named_struct "Node"
         (("value", number n.value) ∷ ("next", option_document (λ b. b.value) n.next) ∷ [])) };
 
-    fn fmt<W>(&self, f: &mut Formatter<W>) -> Result<(), W::Error>
-    where
-        W: uWrite,
-    {
+    fn fmt<W: uWrite>(&self, f: &mut Formatter<W>) -> Result<(), W::Error> {
         fields!(f, self, Node { value, next })
     }
 }
@@ -39,10 +36,7 @@ impl uDebug for Tree {
         (λ t. named_struct "Tree"
         (("size", number t.size) ∷ ("children", list_of (documents t.children.items)) ∷ [])) };
 
-    fn fmt<W>(&self, f: &mut Formatter<W>) -> Result<(), W::Error>
-    where
-        W: uWrite,
-    {
+    fn fmt<W: uWrite>(&self, f: &mut Formatter<W>) -> Result<(), W::Error> {
         fields!(f, self, Tree { size, children })
     }
 }

@@ -15,10 +15,7 @@ impl<T: uDebug, U: uDebug> uDebug for Pair<T, U> {
     ghost document = { λ p. named_struct "Pair"
         (("x", T.document p.x) ∷ ("y", U.document p.y) ∷ []) };
 
-    fn fmt<W>(&self, f: &mut Formatter<W>) -> Result<(), W::Error>
-    where
-        W: uWrite,
-    {
+    fn fmt<W: uWrite>(&self, f: &mut Formatter<W>) -> Result<(), W::Error> {
         fields!(f, self, Pair { x, y })
     }
 }

@@ -13,10 +13,7 @@ pub struct Scores<T> {
 impl<T: uDebug> uDebug for Scores<T> {
     ghost document = { λ s. list_of (documents (map T.document s.scores.items)) };
 
-    fn fmt<W>(&self, f: &mut Formatter<W>) -> Result<(), W::Error>
-    where
-        W: uWrite,
-    {
+    fn fmt<W: uWrite>(&self, f: &mut Formatter<W>) -> Result<(), W::Error> {
         f.list_of(&self.scores)
     }
 }

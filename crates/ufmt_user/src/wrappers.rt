@@ -13,10 +13,7 @@ pub struct Braces {}
 impl uDebug for Braces {
     ghost document = { λ _. named_struct "Braces" [] };
 
-    fn fmt<W>(&self, f: &mut Formatter<W>) -> Result<(), W::Error>
-    where
-        W: uWrite,
-    {
+    fn fmt<W: uWrite>(&self, f: &mut Formatter<W>) -> Result<(), W::Error> {
         fields!(f, self, Braces {})
     }
 }
@@ -28,10 +25,7 @@ pub struct Parens();
 impl uDebug for Parens {
     ghost document = { λ _. named_tuple "Parens" [] };
 
-    fn fmt<W>(&self, f: &mut Formatter<W>) -> Result<(), W::Error>
-    where
-        W: uWrite,
-    {
+    fn fmt<W: uWrite>(&self, f: &mut Formatter<W>) -> Result<(), W::Error> {
         fields!(f, self, Parens())
     }
 }
@@ -43,10 +37,7 @@ pub struct Tuple<T, U>(pub T, pub U);
 impl<T: uDebug, U: uDebug> uDebug for Tuple<T, U> {
     ghost document = { λ t. named_tuple "Tuple" (T.document t.0 ∷ U.document t.1 ∷ []) };
 
-    fn fmt<W>(&self, f: &mut Formatter<W>) -> Result<(), W::Error>
-    where
-        W: uWrite,
-    {
+    fn fmt<W: uWrite>(&self, f: &mut Formatter<W>) -> Result<(), W::Error> {
         fields!(f, self, Tuple(first, second))
     }
 }
@@ -58,10 +49,7 @@ pub struct X<T>(pub T);
 impl<T: uDebug> uDebug for X<T> {
     ghost document = { λ x. named_tuple "X" (T.document x.0 ∷ []) };
 
-    fn fmt<W>(&self, f: &mut Formatter<W>) -> Result<(), W::Error>
-    where
-        W: uWrite,
-    {
+    fn fmt<W: uWrite>(&self, f: &mut Formatter<W>) -> Result<(), W::Error> {
         fields!(f, self, X(value))
     }
 }
@@ -73,10 +61,7 @@ pub struct I32<T>(pub T);
 impl<T: uDebug> uDebug for I32<T> {
     ghost document = { λ x. named_tuple "I32" (T.document x.0 ∷ []) };
 
-    fn fmt<W>(&self, f: &mut Formatter<W>) -> Result<(), W::Error>
-    where
-        W: uWrite,
-    {
+    fn fmt<W: uWrite>(&self, f: &mut Formatter<W>) -> Result<(), W::Error> {
         fields!(f, self, I32(value))
     }
 }
@@ -91,10 +76,7 @@ pub enum Y<T> {
 impl<T: uDebug> uDebug for Y<T> {
     ghost document = { elim [ W ↦ named "W" | Z x ↦ named_tuple "Z" (T.document x ∷ []) ] };
 
-    fn fmt<W>(&self, f: &mut Formatter<W>) -> Result<(), W::Error>
-    where
-        W: uWrite,
-    {
+    fn fmt<W: uWrite>(&self, f: &mut Formatter<W>) -> Result<(), W::Error> {
         match self {
             Y::W => fields!(f, W),
             Y::Z(value) => fields!(f, Z(value)),
@@ -109,10 +91,7 @@ pub struct InPrettyMode<T>(pub T);
 impl<T: uDebug> uDebug for InPrettyMode<T> {
     ghost document = { λ x. pretty_part (T.document x.0) };
 
-    fn fmt<W>(&self, f: &mut Formatter<W>) -> Result<(), W::Error>
-    where
-        W: uWrite,
-    {
+    fn fmt<W: uWrite>(&self, f: &mut Formatter<W>) -> Result<(), W::Error> {
         f.pretty(|f| self.0.fmt(f))
     }
 }

@@ -66,7 +66,7 @@ impl<W: uWrite> Formatter<W> {
         fields.finish(&mut block)
     }
 
-    /// Writes a whole struct with no fields. On `Err` a beginning of it is written.
+    /// `struct_of` without fields.
     #[inline(always)]
     pub fn struct_0(&mut self, name: &str) -> Result<(), W::Error>
         ensures { LaysOut W.seen self.old (struct_of name.now (fields_of ([]))) (is_ok result)
@@ -75,7 +75,7 @@ impl<W: uWrite> Formatter<W> {
         self.struct_of(name, &())
     }
 
-    /// Writes a whole struct with one field. On `Err` a beginning of it is written.
+    /// `struct_of` with one field.
     #[inline(always)]
     pub fn struct_1<'a, A: uDebug>(
         &mut self,
@@ -90,7 +90,7 @@ impl<W: uWrite> Formatter<W> {
         self.struct_of(name, &field_chain!(a: a_value,))
     }
 
-    /// Writes a whole struct with 2 fields. On `Err` a beginning of it is written.
+    /// `struct_of` with 2 fields.
     #[inline(always)]
     pub fn struct_2<'a, A: uDebug, B: uDebug>(
         &mut self,
@@ -108,7 +108,7 @@ impl<W: uWrite> Formatter<W> {
         self.struct_of(name, &field_chain!(a: a_value, b: b_value,))
     }
 
-    /// Writes a whole struct with 3 fields. On `Err` a beginning of it is written.
+    /// `struct_of` with 3 fields.
     #[inline(always)]
     pub fn struct_3<'a, A: uDebug, B: uDebug, C: uDebug>(
         &mut self,
@@ -128,7 +128,7 @@ impl<W: uWrite> Formatter<W> {
         self.struct_of(name, &field_chain!(a: a_value, b: b_value, c: c_value,))
     }
 
-    /// Writes a whole struct with 4 fields. On `Err` a beginning of it is written.
+    /// `struct_of` with 4 fields.
     #[inline(always)]
     pub fn struct_4<'a, A: uDebug, B: uDebug, C: uDebug, D: uDebug>(
         &mut self,
@@ -152,7 +152,7 @@ impl<W: uWrite> Formatter<W> {
         self.struct_of(name, &fields)
     }
 
-    /// Writes a whole struct with 5 fields. On `Err` a beginning of it is written.
+    /// `struct_of` with 5 fields.
     #[inline(always)]
     pub fn struct_5<'a, A: uDebug, B: uDebug, C: uDebug, D: uDebug, E: uDebug>(
         &mut self,
@@ -178,7 +178,7 @@ impl<W: uWrite> Formatter<W> {
         self.struct_of(name, &fields)
     }
 
-    /// Writes a whole struct with 6 fields. On `Err` a beginning of it is written.
+    /// `struct_of` with 6 fields.
     #[inline(always)]
     pub fn struct_6<'a, A: uDebug, B: uDebug, C: uDebug, D: uDebug, E: uDebug, F: uDebug>(
         &mut self,
@@ -209,7 +209,7 @@ impl<W: uWrite> Formatter<W> {
         self.struct_of(name, &fields)
     }
 
-    /// Writes a whole struct with 7 fields. On `Err` a beginning of it is written.
+    /// `struct_of` with 7 fields.
     #[inline(always)]
     pub fn struct_7<
         'a,
@@ -252,7 +252,7 @@ impl<W: uWrite> Formatter<W> {
         self.struct_of(name, &fields)
     }
 
-    /// Writes a whole struct with 8 fields. On `Err` a beginning of it is written.
+    /// `struct_of` with 8 fields.
     #[inline(always)]
     pub fn struct_8<
         'a,
@@ -299,7 +299,7 @@ impl<W: uWrite> Formatter<W> {
         self.struct_of(name, &fields)
     }
 
-    /// Writes a whole struct with 9 fields. On `Err` a beginning of it is written.
+    /// `struct_of` with 9 fields.
     #[inline(always)]
     pub fn struct_9<
         'a,
@@ -349,7 +349,7 @@ impl<W: uWrite> Formatter<W> {
         self.struct_of(name, &fields)
     }
 
-    /// Writes a whole struct with 10 fields. On `Err` a beginning of it is written.
+    /// `struct_of` with 10 fields.
     #[inline(always)]
     pub fn struct_10<
         'a,
@@ -403,7 +403,7 @@ impl<W: uWrite> Formatter<W> {
         self.struct_of(name, &fields)
     }
 
-    /// Writes a whole struct with 11 fields. On `Err` a beginning of it is written.
+    /// `struct_of` with 11 fields.
     #[inline(always)]
     pub fn struct_11<
         'a,
@@ -460,7 +460,7 @@ impl<W: uWrite> Formatter<W> {
         self.struct_of(name, &fields)
     }
 
-    /// Writes a whole struct with 12 fields. On `Err` a beginning of it is written.
+    /// `struct_of` with 12 fields.
     #[inline(always)]
     pub fn struct_12<
         'a,

@@ -57,7 +57,7 @@ impl<W: uWrite> Formatter<W> {
         fields.finish(&mut block)
     }
 
-    /// Writes a whole tuple with no fields. On `Err` a beginning of it is written.
+    /// `tuple_of` without fields.
     pub fn tuple_0(&mut self, name: &str) -> Result<(), W::Error>
         ensures { LaysOut W.seen self.old (tuple_of name.now (documents ([]))) (is_ok result)
             self.new }
@@ -65,7 +65,7 @@ impl<W: uWrite> Formatter<W> {
         self.tuple_of(name, &())
     }
 
-    /// Writes a whole tuple with one field. On `Err` a beginning of it is written.
+    /// `tuple_of` with one field.
     pub fn tuple_1<'a, A: uDebug>(&mut self, name: &str, a: &'a A) -> Result<(), W::Error>
         ensures { LaysOut W.seen self.old (tuple_of name.now (documents (A.document a.now ∷ [])))
             (is_ok result) self.new }
@@ -73,7 +73,7 @@ impl<W: uWrite> Formatter<W> {
         self.tuple_of(name, &(a, ()))
     }
 
-    /// Writes a whole tuple with 2 fields. On `Err` a beginning of it is written.
+    /// `tuple_of` with 2 fields.
     pub fn tuple_2<'a, A: uDebug, B: uDebug>(
         &mut self,
         name: &str,
@@ -87,7 +87,7 @@ impl<W: uWrite> Formatter<W> {
         self.tuple_of(name, &(a, (b, ())))
     }
 
-    /// Writes a whole tuple with 3 fields. On `Err` a beginning of it is written.
+    /// `tuple_of` with 3 fields.
     pub fn tuple_3<'a, A: uDebug, B: uDebug, C: uDebug>(
         &mut self,
         name: &str,
@@ -103,7 +103,7 @@ impl<W: uWrite> Formatter<W> {
         self.tuple_of(name, &(a, (b, (c, ()))))
     }
 
-    /// Writes a whole tuple with 4 fields. On `Err` a beginning of it is written.
+    /// `tuple_of` with 4 fields.
     pub fn tuple_4<'a, A: uDebug, B: uDebug, C: uDebug, D: uDebug>(
         &mut self,
         name: &str,
@@ -120,7 +120,7 @@ impl<W: uWrite> Formatter<W> {
         self.tuple_of(name, &(a, (b, (c, (d, ())))))
     }
 
-    /// Writes a whole tuple with 5 fields. On `Err` a beginning of it is written.
+    /// `tuple_of` with 5 fields.
     pub fn tuple_5<'a, A: uDebug, B: uDebug, C: uDebug, D: uDebug, E: uDebug>(
         &mut self,
         name: &str,
@@ -138,7 +138,7 @@ impl<W: uWrite> Formatter<W> {
         self.tuple_of(name, &(a, (b, (c, (d, (e, ()))))))
     }
 
-    /// Writes a whole tuple with 6 fields. On `Err` a beginning of it is written.
+    /// `tuple_of` with 6 fields.
     pub fn tuple_6<'a, A: uDebug, B: uDebug, C: uDebug, D: uDebug, E: uDebug, F: uDebug>(
         &mut self,
         name: &str,
@@ -157,7 +157,7 @@ impl<W: uWrite> Formatter<W> {
         self.tuple_of(name, &(a, (b, (c, (d, (e, (f, ())))))))
     }
 
-    /// Writes a whole tuple with 7 fields. On `Err` a beginning of it is written.
+    /// `tuple_of` with 7 fields.
     pub fn tuple_7<'a, A: uDebug, B: uDebug, C: uDebug, D: uDebug, E: uDebug, F: uDebug, G: uDebug>(
         &mut self,
         name: &str,
@@ -177,7 +177,7 @@ impl<W: uWrite> Formatter<W> {
         self.tuple_of(name, &(a, (b, (c, (d, (e, (f, (g, ()))))))))
     }
 
-    /// Writes a whole tuple with 8 fields. On `Err` a beginning of it is written.
+    /// `tuple_of` with 8 fields.
     pub fn tuple_8<
         'a,
         A: uDebug,
@@ -209,7 +209,7 @@ impl<W: uWrite> Formatter<W> {
         self.tuple_of(name, &(a, (b, (c, (d, (e, (f, (g, (h, ())))))))))
     }
 
-    /// Writes a whole tuple with 9 fields. On `Err` a beginning of it is written.
+    /// `tuple_of` with 9 fields.
     pub fn tuple_9<
         'a,
         A: uDebug,
@@ -243,7 +243,7 @@ impl<W: uWrite> Formatter<W> {
         self.tuple_of(name, &(a, (b, (c, (d, (e, (f, (g, (h, (i, ()))))))))))
     }
 
-    /// Writes a whole tuple with 10 fields. On `Err` a beginning of it is written.
+    /// `tuple_of` with 10 fields.
     pub fn tuple_10<
         'a,
         A: uDebug,
@@ -279,7 +279,7 @@ impl<W: uWrite> Formatter<W> {
         self.tuple_of(name, &(a, (b, (c, (d, (e, (f, (g, (h, (i, (j, ())))))))))))
     }
 
-    /// Writes a whole tuple with 11 fields. On `Err` a beginning of it is written.
+    /// `tuple_of` with 11 fields.
     pub fn tuple_11<
         'a,
         A: uDebug,
@@ -320,7 +320,7 @@ impl<W: uWrite> Formatter<W> {
         )
     }
 
-    /// Writes a whole tuple with 12 fields. On `Err` a beginning of it is written.
+    /// `tuple_of` with 12 fields.
     pub fn tuple_12<
         'a,
         A: uDebug,

@@ -1,16 +1,16 @@
 use Rattle.ufmt_core.proofs.Blocks.{WritesRow-from_entries}
-use Rattle.ufmt_core.proofs.Printing.{LaysOut-err, set_not_opened, set_opened, entries_written, entries_failed, finished}
+use Rattle.ufmt_core.proofs.Printing.{LaysOut-err, entries, failed, finished, is_set, not_opened, opened, written}
 use Rattle.ufmt_core.proofs.set.fmt_set.Goals as goal
 
 pub returns-in_err-set : goal.returns-in_err-set
-returns-in_err-set g c ds yields = set_not_opened _ c.from_residual.ensures.0 c.in_err-set.was c.debug_set.follows.holds-at-none
+returns-in_err-set g c ds yields = not_opened is_set _ c.from_residual.ensures.0 c.in_err-set.was c.debug_set.follows.holds-at-none
 
 pub returns-in_err-entries : goal.returns-in_err-entries
 returns-in_err-entries g c ds yields =
     LaysOut-err _ c.from_residual-in_err-entries.ensures.0
-    (set_opened c.in_ok-set.ensures.opening (entries_failed ds (WritesRow-from_entries _ _ c.args.items ds _ yields c.in_err-entries.ensures.entries) (search)))
+    (opened is_set c.in_ok-set.ensures.opening (failed (entries ds (WritesRow-from_entries _ _ c.args.items ds _ yields c.in_err-entries.ensures.entries)) (search)))
 
 pub returns : goal.returns
 returns g c ds yields =
-    set_opened c.in_ok-set.ensures.opening
-    (entries_written ds (WritesRow-from_entries _ _ c.args.items ds _ yields c.in_ok-entries.ensures.entries) (finished c.finish.ensures (search)))
+    opened is_set c.in_ok-set.ensures.opening
+    (written (entries ds (WritesRow-from_entries _ _ c.args.items ds _ yields c.in_ok-entries.ensures.entries)) (finished c.finish.ensures (search)))

@@ -2,11 +2,11 @@ use Rattle.std.proofs.Common.{ap, ◌∙◌, is_ok, map, rules, sym}
 use Rattle.std.proofs.Math.ListN.{drop_of_length-le}
 use Rattle.std.proofs.lemmas.Result.{IfErr-at_err}
 use Rattle.ufmt.specs.Block.{remaining_entries, remaining_fields, remaining_pairs}
-use Rattle.ufmt.specs.Builder.{map_block}
+use Rattle.ufmt.specs.Builder.{map_block, set_block, struct_block, tuple_block}
 use Rattle.ufmt.specs.Document.{documents, fields_of, pairs_of}
 use Rattle.ufmt.proofs.Blocks.{WritesEntry-no_value, WritesEntry-pair}
-use Rattle.ufmt.proofs.Loops.{set_begun, map_begun, struct_begun, tuple_begun, leaves_next, leaves_stopped, leaves_finished}
-use Rattle.ufmt.proofs.Printing.{LaysOut-err, set_not_opened, map_not_opened, struct_not_opened, tuple_not_opened, entry_not_begun, field_not_begun, pair_not_begun, set_entry_between, tuple_field_between, field_between}
+use Rattle.ufmt.proofs.Loops.{begun, leaves_next, leaves_stopped, leaves_finished}
+use Rattle.ufmt.proofs.Printing.{LaysOut-err, entry_between, entry_not_begun, field_between, field_not_begun, is_map, is_set, is_struct, is_tuple, not_opened}
 use Rattle.ufmt_doc.specs.Doc.{doc_document}
 use Rattle.ufmt_doc.specs.DocViews.{field_view, pair_view}
 use Rattle.ufmt_doc.proofs.Docs.{doc_document-MapOf, doc_document-StructOf, item-first, fields-first}
@@ -26,7 +26,7 @@ DocuDebug::fmt-returns-in-StructOf g t c =
 
 pub fmt_set-returns-in_err-set : goal.fmt_set-returns-in_err-set
 fmt_set-returns-in_err-set g t c =
-    set_not_opened _ c.from_residual.ensures.0 c.in_err-set.was c.debug_set.follows.holds-at-none
+    not_opened is_set _ c.from_residual.ensures.0 c.in_err-set.was c.debug_set.follows.holds-at-none
 
 pub fmt_set-returns-in_err-begin_entry : goal.fmt_set-returns-in_err-begin_entry
 fmt_set-returns-in_err-begin_entry g t c =
@@ -34,11 +34,11 @@ fmt_set-returns-in_err-begin_entry g t c =
     (leaves_stopped c.loop-entry.invariant.leaves
     (ap (λ xs. remaining_entries (documents (map doc_document xs)))
     (item-first _ _ _ _ c.loop-entry-test.true c.entry-item.is))
-    (entry_not_begun (doc_document c.entry-item.result) _ c.in_err-begin_entry.was c.begin_entry.follows.holds-at-none) c.in_ok-set.ensures.opening.same.reference (search))
+    (entry_not_begun c.in_err-begin_entry.was c.begin_entry.follows.holds-at-none) c.in_ok-set.ensures.opening.same.reference (search))
 
 pub fmt_set-returns-in_err-end_entry : goal.fmt_set-returns-in_err-end_entry
 fmt_set-returns-in_err-end_entry g t c =
-    let written = set_entry_between _ _ c.loop-entry.set (c.begin_entry.follows.holds _ (ap is_ok c.in_ok-begin_entry.was)) c.in_ok-begin_entry.ensures.lead c.fmt-answer.ensures c.in_err-end_entry.ensures.end in
+    let written = entry_between (set_block c.loop-entry.set) (ap set_block (c.begin_entry.follows.holds _ (ap is_ok c.in_ok-begin_entry.was))) c.in_ok-begin_entry.ensures.lead c.fmt-answer.ensures c.in_err-end_entry.ensures.end in
     LaysOut-err _ c.from_residual-in_err-end_entry.ensures.0
     (leaves_stopped c.loop-entry.invariant.leaves
     (ap (λ xs. remaining_entries (documents (map doc_document xs)))
@@ -46,7 +46,7 @@ fmt_set-returns-in_err-end_entry g t c =
 
 pub fmt_set-loop-entry-preserved : goal.fmt_set-loop-entry-preserved
 fmt_set-loop-entry-preserved g t c =
-    let written = set_entry_between _ _ c.loop-entry.set (c.begin_entry.follows.holds _ (ap is_ok c.in_ok-begin_entry.was)) c.in_ok-begin_entry.ensures.lead c.fmt-answer.ensures c.in_ok-end_entry.ensures.end in
+    let written = entry_between (set_block c.loop-entry.set) (ap set_block (c.begin_entry.follows.holds _ (ap is_ok c.in_ok-begin_entry.was))) c.in_ok-begin_entry.ensures.lead c.fmt-answer.ensures c.in_ok-end_entry.ensures.end in
     record {
       is_open = search rules;
       leaves =
@@ -65,12 +65,12 @@ fmt_set-loop-entry-init g t c =
     record {
       is_open = search rules;
       leaves =
-          set_begun c.in_ok-set.ensures.opening;
+          begun is_set c.in_ok-set.ensures.opening;
     }
 
 pub fmt_map-returns-in_err-map : goal.fmt_map-returns-in_err-map
 fmt_map-returns-in_err-map g t c =
-    map_not_opened _ c.from_residual.ensures.0 c.in_err-map.was c.debug_map.follows.holds-at-none
+    not_opened is_map _ c.from_residual.ensures.0 c.in_err-map.was c.debug_map.follows.holds-at-none
 
 pub fmt_map-returns-in_err-begin_entry : goal.fmt_map-returns-in_err-begin_entry
 fmt_map-returns-in_err-begin_entry g t c =
@@ -78,9 +78,7 @@ fmt_map-returns-in_err-begin_entry g t c =
     (leaves_stopped c.loop-key.invariant.leaves
     (ap (λ xs. remaining_pairs (pairs_of (map pair_view xs)))
     (item-first _ _ _ _ c.loop-key-test.true c.loop-key-item.is))
-    (pair_not_begun (doc_document c.loop-key-item.result.0) _
-    (doc_document c.loop-key-item.result.1) c.in_err-begin_entry.was c.begin_entry.follows.holds-at-none) c.in_ok-map.ensures.opening.same.reference
-    (search))
+    (entry_not_begun c.in_err-begin_entry.was c.begin_entry.follows.holds-at-none) c.in_ok-map.ensures.opening.same.reference (search))
 
 pub fmt_map-returns-in_err-begin_value : goal.fmt_map-returns-in_err-begin_value
 fmt_map-returns-in_err-begin_value g t c =
@@ -128,31 +126,31 @@ fmt_map-loop-key-init g t c =
     record {
       is_open = search rules;
       leaves =
-          map_begun c.in_ok-map.ensures.opening;
+          begun is_map c.in_ok-map.ensures.opening;
     }
 
 pub fmt_struct-returns-in_err-block : goal.fmt_struct-returns-in_err-block
 fmt_struct-returns-in_err-block g t c =
-    struct_not_opened _ c.from_residual.ensures.0 c.in_err-block.was c.debug_struct.follows.holds-at-none
+    not_opened is_struct _ c.from_residual.ensures.0 c.in_err-block.was c.debug_struct.follows.holds-at-none
 
 pub fmt_struct-returns-in_err-begin_field : goal.fmt_struct-returns-in_err-begin_field
 fmt_struct-returns-in_err-begin_field g t c =
     LaysOut-err _ c.from_residual-in_err-begin_field.ensures.0
     (leaves_stopped c.loop-label.invariant.leaves
     (ap remaining_fields (fields-first (item-first _ _ _ _ c.loop-label-test.true c.loop-label-item.is) c.deref.ensures))
-    (field_not_begun (doc_document c.loop-label-item.result.1) _ _ c.in_err-begin_field.was c.begin_field.follows.holds-at-none) c.in_ok-block.ensures.opening.same.reference
+    (field_not_begun c.in_err-begin_field.was _ (doc_document c.loop-label-item.result.1) c.begin_field.follows.holds-at-none) c.in_ok-block.ensures.opening.same.reference
     (search))
 
 pub fmt_struct-returns-in_err-end_field : goal.fmt_struct-returns-in_err-end_field
 fmt_struct-returns-in_err-end_field g t c =
-    let written = field_between _ _ c.loop-label.block _ (c.begin_field.follows.holds _ (ap is_ok c.in_ok-begin_field.was)) c.in_ok-begin_field.ensures.lead c.fmt-answer.ensures c.in_err-end_field.ensures.end in
+    let written = field_between (struct_block c.loop-label.block) _ (ap struct_block (c.begin_field.follows.holds _ (ap is_ok c.in_ok-begin_field.was))) c.in_ok-begin_field.ensures.lead c.fmt-answer.ensures c.in_err-end_field.ensures.end in
     LaysOut-err _ c.from_residual-in_err-end_field.ensures.0
     (leaves_stopped c.loop-label.invariant.leaves
     (ap remaining_fields (fields-first (item-first _ _ _ _ c.loop-label-test.true c.loop-label-item.is) c.deref.ensures)) written c.in_ok-block.ensures.opening.same.reference (search))
 
 pub fmt_struct-loop-label-preserved : goal.fmt_struct-loop-label-preserved
 fmt_struct-loop-label-preserved g t c =
-    let written = field_between _ _ c.loop-label.block _ (c.begin_field.follows.holds _ (ap is_ok c.in_ok-begin_field.was)) c.in_ok-begin_field.ensures.lead c.fmt-answer.ensures c.in_ok-end_field.ensures.end in
+    let written = field_between (struct_block c.loop-label.block) _ (ap struct_block (c.begin_field.follows.holds _ (ap is_ok c.in_ok-begin_field.was))) c.in_ok-begin_field.ensures.lead c.fmt-answer.ensures c.in_ok-end_field.ensures.end in
     record {
       is_open = search rules;
       leaves =
@@ -171,23 +169,23 @@ fmt_struct-loop-label-init g t c =
     record {
       is_open = search rules;
       leaves =
-          struct_begun c.in_ok-block.ensures.opening;
+          begun is_struct c.in_ok-block.ensures.opening;
     }
 
 pub fmt_tuple-returns-in_err-tuple : goal.fmt_tuple-returns-in_err-tuple
 fmt_tuple-returns-in_err-tuple g t c =
-    tuple_not_opened _ c.from_residual.ensures.0 c.in_err-tuple.was c.debug_tuple.follows.holds-at-none
+    not_opened is_tuple _ c.from_residual.ensures.0 c.in_err-tuple.was c.debug_tuple.follows.holds-at-none
 
 pub fmt_tuple-returns-in_err-begin_field : goal.fmt_tuple-returns-in_err-begin_field
 fmt_tuple-returns-in_err-begin_field g t c =
     LaysOut-err _ c.from_residual-in_err-begin_field.ensures.0
     (leaves_stopped c.loop-value.invariant.leaves
     (ap (λ xs. remaining_entries (documents (map doc_document xs))) (item-first _ _ _ _ c.loop-value-test.true c.value-item.is))
-    (entry_not_begun (doc_document c.value-item.result) _ c.in_err-begin_field.was c.begin_field.follows.holds-at-none) c.in_ok-tuple.ensures.opening.same.reference (search))
+    (entry_not_begun c.in_err-begin_field.was c.begin_field.follows.holds-at-none) c.in_ok-tuple.ensures.opening.same.reference (search))
 
 pub fmt_tuple-returns-in_err-end_field : goal.fmt_tuple-returns-in_err-end_field
 fmt_tuple-returns-in_err-end_field g t c =
-    let written = tuple_field_between _ _ c.loop-value.tuple (c.begin_field.follows.holds _ (ap is_ok c.in_ok-begin_field.was)) c.in_ok-begin_field.ensures.lead c.fmt-answer.ensures c.in_err-end_field.ensures.end in
+    let written = entry_between (tuple_block c.loop-value.tuple) (ap tuple_block (c.begin_field.follows.holds _ (ap is_ok c.in_ok-begin_field.was))) c.in_ok-begin_field.ensures.lead c.fmt-answer.ensures c.in_err-end_field.ensures.end in
     LaysOut-err _ c.from_residual-in_err-end_field.ensures.0
     (leaves_stopped c.loop-value.invariant.leaves
     (ap (λ xs. remaining_entries (documents (map doc_document xs)))
@@ -195,7 +193,7 @@ fmt_tuple-returns-in_err-end_field g t c =
 
 pub fmt_tuple-loop-value-preserved : goal.fmt_tuple-loop-value-preserved
 fmt_tuple-loop-value-preserved g t c =
-    let written = tuple_field_between _ _ c.loop-value.tuple (c.begin_field.follows.holds _ (ap is_ok c.in_ok-begin_field.was)) c.in_ok-begin_field.ensures.lead c.fmt-answer.ensures c.in_ok-end_field.ensures.end in
+    let written = entry_between (tuple_block c.loop-value.tuple) (ap tuple_block (c.begin_field.follows.holds _ (ap is_ok c.in_ok-begin_field.was))) c.in_ok-begin_field.ensures.lead c.fmt-answer.ensures c.in_ok-end_field.ensures.end in
     record {
       is_open = search rules;
       leaves =
@@ -214,5 +212,5 @@ fmt_tuple-loop-value-init g t c =
     record {
       is_open = search rules;
       leaves =
-          tuple_begun c.in_ok-tuple.ensures.opening;
+          begun is_tuple c.in_ok-tuple.ensures.opening;
     }
