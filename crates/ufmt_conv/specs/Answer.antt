@@ -6,7 +6,6 @@ use Rattle.ufmt_conv.specs.declared.run.command.Command.TheVariants.{Lengths, Pr
 use Rattle.ufmt.specs.Decimal.{decimal}
 use Rattle.ufmt.specs.Document.{Document, documents, leaf, list_of}
 use Rattle.ufmt.specs.Layout.{plain_text, pretty_text}
-use Rattle.ufmt_conv.specs.Written.{AppendsBeginning}
 use Rattle.ufmt_doc.specs.Texts.{IsConverted, IsNoText}
 
 -- a byte before the first line, which it begins where there is none
@@ -47,6 +46,10 @@ IsAnswerLine command input line =
 -- where the input and the output tell their bytes: the answer's line to the whole input was written
 abbrev pub Answered : Command → Option (List ℕ) → Option (List ℕ) → Option (List ℕ) → Type 0
 Answered command input old new = IfSome input (λ bytes. (line : List ℕ) × IsAnswerLine command bytes line × Appends old new line)
+
+-- known bytes grow by a beginning of `bytes`, perhaps nothing, perhaps all
+abbrev pub AppendsBeginning : Option (List ℕ) → Option (List ℕ) → List ℕ → Type 0
+AppendsBeginning old new bytes = (count : ℕ) × Appends old new (take count bytes)
 
 -- likewise of a beginning of it
 abbrev pub AnsweredInPart : Command → Option (List ℕ) → Option (List ℕ) → Option (List ℕ) → Type 0

@@ -2,7 +2,6 @@ pub mod Answer
 pub mod Command
 pub mod Fault
 pub mod Watched
-pub mod Written
 pub use Rattle.ufmt_doc.specs.Doc
 pub use Rattle.ufmt_doc.specs.ReadError
 pub use Rattle.ufmt_doc.specs.Texts

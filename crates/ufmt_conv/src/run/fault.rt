@@ -1,5 +1,6 @@
 //! What ends a run before its answer is written.
 ghost use Rattle.std.specs.Prelude.{◌≡◌};
+ghost use Rattle.ufmt_conv.specs.Fault.{line_of, status_of};
 ghost use Rattle.ufmt_conv.specs.declared.run.fault.Fault.TheVariants.{OutOfMemory};
 
 use std::alloc::AllocError;
@@ -20,15 +21,12 @@ pub enum Fault {
 }
 
 impl Fault {
-    ghost use Rattle.ufmt_conv.specs.Fault.{line_of, status_of};
-
     /// The status that the program ends with.
     pub fn status(&self) -> u8
         ensures { result ≡ status_of self.now }
     {
         match self {
-            Fault::NotPlain => 1,
-            Fault::NotPretty => 1,
+            Fault::NotPlain | Fault::NotPretty => 1,
             Fault::CannotRead => 3,
             Fault::CannotWrite => 4,
             Fault::OutOfMemory => 5,

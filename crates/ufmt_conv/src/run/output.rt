@@ -1,8 +1,8 @@
 //! Writing bytes whole.
 ghost use Rattle.std.specs.Prelude.{◌≡◌, ◌↔◌, false, IsErr, IsTrue, OnErr, OnOk};
 ghost use Rattle.std.specs.Io.KnownBytes.{Appends};
+ghost use Rattle.ufmt_conv.specs.Answer.{AppendsBeginning};
 ghost use Rattle.ufmt_conv.specs.Watched.{device_of, has_failed};
-ghost use Rattle.ufmt_conv.specs.Written.{AppendsBeginning};
 
 use super::watched::{Failed, Watched};
 use std::io::Write;

@@ -2,6 +2,7 @@
 ghost use Rattle.std.specs.Prelude.{◌≡◌, ◌<◌, false, length, IfOk, IsTrue, OnErr, OnOk};
 ghost use Rattle.std.specs.Io.{ReadsAtMost, WritesAtMost};
 ghost use Rattle.std.specs.Io.KnownBytes.{Keeps, ReadConsumes, WriteAppends};
+ghost use Rattle.ufmt_conv.specs.Watched.{device_of, has_failed};
 
 use std::io::{Read, Write};
 
@@ -17,8 +18,6 @@ pub struct Watched<D> {
 }
 
 impl<D> Watched<D> {
-    ghost use Rattle.ufmt_conv.specs.Watched.{device_of, has_failed};
-
     /// Watches a device, which has not failed yet.
     pub fn new(device: D) -> Self
         ensures device { device_of result ≡ device }
@@ -55,8 +54,6 @@ impl<D> Watched<D> {
 }
 
 impl<D: Read> Watched<D> {
-    ghost use Rattle.ufmt_conv.specs.Watched.{device_of, has_failed};
-
     /// Reads once. An `Ok` is the device's answer; `Failed` stands for its error, and takes nothing.
     pub fn read_some(&mut self, buffer: &mut [u8]) -> Result<usize, Failed>
         ensures bound { ReadsAtMost result buffer.new }
@@ -73,8 +70,6 @@ impl<D: Read> Watched<D> {
 }
 
 impl<D: Write> Watched<D> {
-    ghost use Rattle.ufmt_conv.specs.Watched.{device_of, has_failed};
-
     /// Writes once. An `Ok` is the device's answer; `Failed` stands for its error, or for nothing
     /// taken of a piece that isn't empty, and leaves its bytes as they were.
     pub fn write_some(&mut self, bytes: &[u8]) -> Result<usize, Failed>
