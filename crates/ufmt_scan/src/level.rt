@@ -1,6 +1,6 @@
 //! What stands round the entries of blocks, stripped from a text at each of its levels.
 ghost use Rattle.std.specs.Prelude.{◌≡◌, ◌∷◌, ◌++◌, [], codes, Some, option_map};
-ghost use Rattle.ufmt.specs.Layout.{ending, frame, indentation, inside, lead, line_start, new_line, separator, trail};
+ghost use Rattle.ufmt.specs.Layout.{frame, inside, lead, line_start};
 ghost use Rattle.ufmt_core.specs.declared.layout.Count.TheVariants.{Zero};
 ghost use Rattle.ufmt.specs.Reading.{strip};
 ghost use Rattle.ufmt_scan.specs.Private.Level.{setting_at};
@@ -46,19 +46,17 @@ pub(crate) fn strip_colon(input: &[u8]) -> Option<&[u8]>
 fn strip_piece<'a>(piece: &str, input: &'a [u8]) -> Option<&'a [u8]>
     ensures { now_of result ≡ strip piece.now input.now }
 {
-    if piece.is_empty() {
-        Some(input)
-    } else if piece.len() == 1 {
-        strip_byte(piece.as_bytes()[0], input)
-    } else if piece.len() == 2 {
-        strip_byte(piece.as_bytes()[1], strip_byte(piece.as_bytes()[0], input)?)
-    } else {
-        strip(piece.as_bytes(), input)
+    match piece.as_bytes() {
+        [] => Some(input),
+        [byte] => strip_byte(*byte, input),
+        [first, second] => strip_byte(*second, strip_byte(*first, input)?),
+        longer => strip(longer, input),
     }
 }
 
 // What follows two pieces.
 #[inline(always)]
+#[tactic(auto, using(crate::proofs::Strips::stripping))]
 fn strip_pieces<'a>(first: &str, second: &str, input: &'a [u8]) -> Option<&'a [u8]>
     ensures { now_of result ≡ strip (first.now ++ second.now) input.now }
 {
@@ -67,30 +65,12 @@ fn strip_pieces<'a>(first: &str, second: &str, input: &'a [u8]) -> Option<&'a [u
 
 // What follows a piece and the indentation of a line.
 #[inline(always)]
+#[tactic(auto, using(crate::proofs::Strips::stripping))]
 fn strip_to_line<'a>(piece: &str, line: Setting, input: &'a [u8]) -> Option<&'a [u8]>
     ensures { now_of result ≡ strip (piece.now ++ line_start line.mode line.depth) input.now }
 {
-    strip_line_start(line, strip_piece(piece, input)?)
-}
-
-// What follows the indentation of a line.
-#[inline(always)]
-fn strip_line_start(line: Setting, input: &[u8]) -> Option<&[u8]>
-    ensures { now_of result ≡ strip (line_start line.mode line.depth) input.now }
-{
-    match line.units() {
-        0 => Some(input),
-        units => strip_indentation(units, input),
-    }
-}
-
-// What follows so many units.
-#[inline(always)]
-fn strip_indentation(units: u8, input: &[u8]) -> Option<&[u8]>
-    ensures { now_of result ≡ strip (indentation units) input.now }
-{
-    let mut rest = input;
-    for _unit in 0..units {
+    let mut rest = strip_piece(piece, input)?;
+    for _unit in 0..line.units() {
         rest = strip_piece(UNIT, rest)?;
     }
     Some(rest)
@@ -102,15 +82,13 @@ impl Level {
     pub(crate) fn setting(self) -> Setting
         ensures { result ≡ setting_at self }
     {
-        match self.mode {
-            Mode::Plain => Setting {
-                mode: Mode::Plain,
-                depth: 0,
-            },
-            Mode::Pretty => Setting {
-                mode: Mode::Pretty,
-                depth: self.depth,
-            },
+        let depth = match self.mode {
+            Mode::Plain => 0,
+            Mode::Pretty => self.depth,
+        };
+        Setting {
+            mode: self.mode,
+            depth,
         }
     }
 
@@ -122,48 +100,16 @@ impl Level {
         strip_piece(kind.opening(), input)
     }
 
-    // What follows what stands before the first entry of a block alone.
-    #[inline(always)]
-    fn strip_start(self, kind: Kind, input: &[u8]) -> Option<&[u8]>
-        ensures { now_of result ≡ strip (frame self.mode kind).start input.now }
-    {
-        let (bracket, space) = kind.start(self.mode);
-        strip_pieces(bracket, space, input)
-    }
-
-    // What follows a new line and its indentation, where entries stand on lines of their own.
-    #[inline(always)]
-    fn strip_new_line(self, input: &[u8]) -> Option<&[u8]>
-        ensures { now_of result
-            ≡ strip (new_line self.mode (inside (setting_at self)).depth) input.now }
-    {
-        strip_to_line(self.mode.line_feed(), self.setting().inside(), input)
-    }
-
     /// What follows what stands before the first entry of a block.
     #[inline(always)]
+    #[tactic(auto, using(crate::proofs::Strips::stripping))]
     pub(crate) fn strip_lead(self, kind: Kind, input: &[u8]) -> Option<&[u8]>
         ensures { now_of result
             ≡ strip (lead (frame self.mode kind) (inside (setting_at self)) Zero) input.now }
     {
-        self.strip_new_line(self.strip_start(kind, input)?)
-    }
-
-    // What follows what stands before a later entry of a block.
-    #[inline(always)]
-    fn strip_separator(self, input: &[u8]) -> Option<&[u8]>
-        ensures { now_of result
-            ≡ strip (separator self.mode (inside (setting_at self)).depth) input.now }
-    {
-        strip_to_line(self.mode.separator(), self.setting().inside(), input)
-    }
-
-    // What follows what stands after an entry.
-    #[inline(always)]
-    fn strip_trail(self, input: &[u8]) -> Option<&[u8]>
-        ensures { now_of result ≡ strip (trail self.mode) input.now }
-    {
-        strip_piece(self.mode.trail(), input)
+        let (bracket, space) = kind.start(self.mode);
+        let start = strip_pieces(bracket, space, input)?;
+        strip_to_line(self.mode.line_feed(), self.setting().inside(), start)
     }
 
     /// What follows the end of a block with so many entries, on the line on which it ends.
@@ -175,24 +121,10 @@ impl Level {
         strip_pieces(before, bracket, input)
     }
 
-    // What follows the end of a block with so many entries.
-    #[inline(always)]
-    fn strip_ending(self, kind: Kind, count: Count, input: &[u8]) -> Option<&[u8]>
-        ensures { now_of result
-            ≡ strip (ending (frame self.mode kind) (setting_at self) count) input.now }
-    {
-        match count {
-            Count::Zero => self.strip_closing(kind, count, input),
-            Count::One | Count::Several => {
-                self.strip_closing(kind, count, strip_line_start(self.setting(), input)?)
-            }
-        }
-    }
-
     /// What follows an entry of a block behind so many others: true, and where the next entry begins,
     /// or false, and what follows the block's end.
     #[inline(always)]
-    #[tactic(auto, unfolding(crate::specs::Private::Entries::behind_entry))]
+    #[tactic(auto, using(crate::proofs::Strips::stripping), unfolding(crate::specs::Private::Entries::behind_entry))]
     pub(crate) fn behind_entry(
         self,
         kind: Kind,
@@ -202,10 +134,11 @@ impl Level {
         ensures { option_map (λ x. (x.0, x.1.now)) result
             ≡ behind_entry (frame self.mode kind) (setting_at self) before input.now }
     {
-        let rest = self.strip_trail(input)?;
-        match self.strip_separator(rest) {
-            Some(start) => Some((true, start)),
-            None => Some((false, self.strip_ending(kind, before.next(), rest)?)),
+        let rest = strip_piece(self.mode.trail(), input)?;
+        if let Some(start) = strip_to_line(self.mode.separator(), self.setting().inside(), rest) {
+            return Some((true, start));
         }
+        let end = strip_to_line("", self.setting(), rest)?;
+        Some((false, self.strip_closing(kind, before.next(), end)?))
     }
 }
