@@ -3,20 +3,16 @@ use Rattle.std.proofs.Common.{◌≡◌, ◌∙◌, refl, ap, sym, subst, ℕ, �
 use Rattle.std.specs.Borrow.{MutBor}
 use Rattle.std.specs.Prelude.{⊤}
 use Rattle.ufmt.specs.Document.{Document, nest}
-use Rattle.ufmt.specs.Layout.{frame, inside, layout, lead, plain_text, pretty_text, setting}
+use Rattle.ufmt.specs.Layout.{layout, plain_text, pretty_text, setting}
 use Rattle.ufmt.specs.Reading.{read_text}
 use Rattle.ufmt.specs.Token.{IsToken}
 use Rattle.ufmt.specs.Writes.{Seen, Writes}
 use Rattle.ufmt.proofs.ReadingWhole.{reads_only_texts, refuses_no_text}
 use Rattle.ufmt.proofs.OneWay.{texts_agree}
 use Rattle.ufmt_core.proofs.Writing.{Writes-fails, Writes-then}
-use Rattle.ufmt_core.specs.declared.layout.Count.TheVariants.{Zero}
-use Rattle.ufmt_core.specs.declared.layout.Kind.{Kind}
 use Rattle.ufmt_core.specs.declared.layout.Mode.{Mode}
 use Rattle.ufmt_core.specs.declared.layout.Mode.TheVariants.{Plain, Pretty}
-use Rattle.ufmt_core.specs.declared.layout.Setting.{Setting}
 use Rattle.ufmt_scan.specs.declared.convert.text_sink.TextSink.{TextSink}
-use Rattle.ufmt_scan.specs.declared.scan.part.Part.TheVariants.{Open}
 use Rattle.ufmt_scan.specs.declared.scan.refusal.Refusal.{Refusal}
 use Rattle.ufmt_scan.specs.declared.scan.refusal.Refusal.TheVariants.{NotText, Refused}
 use Rattle.ufmt_scan.specs.Private.TextSink.{WritesPart, Wrote}
@@ -36,12 +32,6 @@ module _ {W : Type 0} (seen : Seen W) where
         subst (λ t. Writes seen start.writer t ok new.writer) (sym whole) (Writes-then before.0 part.0),
         part.1 ∙ ap (λ s. setting_behind s (e ∷ [])) before.1 ∙ sym (setting_behind-append start.setting es (e ∷ [])),
       )
-
-  -- what opens a block, behind its name
-  pub opening_written : {first mid last : W} {name : List ℕ} {ok : Bool} (s i : Setting) (kind : Kind) → i ≡ inside s → Writes seen first name true mid
-      → Writes seen mid ((frame i.mode kind).opening ++ lead (frame i.mode kind) i Zero) ok last → Writes seen first (written s (Open kind, name)) ok last
-  opening_written {first} {mid} {last} {name} {ok} s i kind same before h =
-      Writes-then before (subst (λ x. Writes seen mid ((frame x.mode kind).opening ++ lead (frame x.mode kind) x Zero) ok last) same h)
 
   -- so it is a lawful sink
   pub hears_part : (old new : TextSink W) (e : Event) (ok : Bool) → WritesPart seen old e ok new → Hears (Wrote seen true) (Wrote seen false) old e ok new

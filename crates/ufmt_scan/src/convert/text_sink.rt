@@ -6,11 +6,9 @@ ghost use Rattle.ufmt_scan.specs.ScanTexts.{outside};
 ghost use Rattle.std.proofs.Common.{refl};
 ghost use Rattle.ufmt_core.proofs.Writing.{Writes-nothing};
 
-use super::write::{
-    write_empty, write_ending, write_label, write_next, write_opening, write_piece,
-};
+use super::write::{between, last_line, new_line, write_piece, write_pieces};
 use crate::scan::{Part, Sink};
-use ufmt::layout::{COLON, Mode, Setting};
+use ufmt::layout::{COLON, Count, Mode, Setting};
 use ufmt::uWrite;
 
 /// A writer, and the mode and depth at which the text goes on.
@@ -50,20 +48,39 @@ impl<W: uWrite> TextSink<W> {
     fn write_part(&mut self, part: Part, text: &str) -> Result<(), W::Error>
         ensures { WritesPart W.seen self.old (part, text.now) (is_ok result) self.new }
     {
+        let writer = &mut self.writer;
         match part {
-            Part::Leaf => write_piece(text, &mut self.writer),
-            Part::Empty(kind) => write_empty(self.setting.mode, kind, &mut self.writer),
+            Part::Leaf => write_piece(text, writer),
+            Part::Empty(kind) => {
+                let (before, bracket) = kind.closing(self.setting.mode, Count::Zero);
+                write_pieces("", "", kind.opening(), before, bracket, writer)
+            }
             Part::Open(kind) => {
                 self.setting = self.setting.inside();
-                write_piece(text, &mut self.writer)?;
-                write_opening(self.setting, kind, &mut self.writer)
+                let (bracket, space) = kind.start(self.setting.mode);
+                write_pieces(
+                    text,
+                    kind.opening(),
+                    bracket,
+                    space,
+                    new_line(self.setting),
+                    writer,
+                )
             }
-            Part::Label => write_label(text, &mut self.writer),
-            Part::Colon => self.writer.write_str(COLON),
-            Part::Next => write_next(self.setting, &mut self.writer),
+            Part::Label => write_pieces("", "", "", text, COLON, writer),
+            Part::Colon => write_piece(COLON, writer),
+            Part::Next => write_piece(between(self.setting), writer),
             Part::Close(kind, count) => {
                 self.setting = outside(self.setting);
-                write_ending(self.setting, kind, count, &mut self.writer)
+                let (before, bracket) = kind.closing(self.setting.mode, count);
+                write_pieces(
+                    "",
+                    "",
+                    last_line(self.setting, count),
+                    before,
+                    bracket,
+                    writer,
+                )
             }
         }
     }

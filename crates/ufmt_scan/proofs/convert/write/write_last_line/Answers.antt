@@ -1,5 +1,0 @@
-use Rattle.ufmt_scan.proofs.Lines.{line_ascii}
-use Rattle.ufmt_scan.proofs.convert.write.write_last_line.Goals as goal
-
-pub text_from-requires-clause-ascii : goal.text_from-requires-clause-ascii
-text_from-requires-clause-ascii g c = rw c.line.ensures (line_ascii c.args.block.depth)
