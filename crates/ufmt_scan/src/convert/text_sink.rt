@@ -58,14 +58,8 @@ impl<W: uWrite> TextSink<W> {
             Part::Open(kind) => {
                 self.setting = self.setting.inside();
                 let (bracket, space) = kind.start(self.setting.mode);
-                write_pieces(
-                    text,
-                    kind.opening(),
-                    bracket,
-                    space,
-                    new_line(self.setting),
-                    writer,
-                )
+                let line = new_line(self.setting);
+                write_pieces(text, kind.opening(), bracket, space, line, writer)
             }
             Part::Label => write_pieces("", "", "", text, COLON, writer),
             Part::Colon => write_piece(COLON, writer),
@@ -73,14 +67,8 @@ impl<W: uWrite> TextSink<W> {
             Part::Close(kind, count) => {
                 self.setting = outside(self.setting);
                 let (before, bracket) = kind.closing(self.setting.mode, count);
-                write_pieces(
-                    "",
-                    "",
-                    last_line(self.setting, count),
-                    before,
-                    bracket,
-                    writer,
-                )
+                let line = last_line(self.setting, count);
+                write_pieces("", "", line, before, bracket, writer)
             }
         }
     }
