@@ -82,10 +82,7 @@ fn told_number(input: &[u8]) -> u32
 fn byte_at(input: &[u8], index: usize) -> u8
     ensures { result ≡ slice_index input.now index }
 {
-    match input.get(index) {
-        Some(byte) => *byte,
-        None => 0,
-    }
+    input.get(index).copied().unwrap_or(0)
 }
 
 // The value of a digit or a letter as a digit, and 36 for any other byte.
@@ -93,10 +90,5 @@ fn digit_value(byte: u8) -> u32
     ensures value { result ≡ digit_value byte }
     ensures small { result ≤ 36 }
 {
-    match byte {
-        b'0'..=b'9' => u32::from(byte - b'0'),
-        b'A'..=b'Z' => u32::from(byte - b'A') + 10,
-        b'a'..=b'z' => u32::from(byte - b'a') + 10,
-        _ => 36,
-    }
+    char::from(byte).to_digit(36).unwrap_or(36)
 }

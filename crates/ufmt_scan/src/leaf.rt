@@ -4,38 +4,22 @@ ghost use Rattle.ufmt.specs.Token.{is_word_byte, IsSymbol, IsTokenLeaf, IsWord};
 ghost use Rattle.ufmt.specs.Reading.{after_word, read_symbol, word_of};
 ghost use Rattle.ufmt_scan.specs.Private.FrontWords.{PassesWordBytes};
 
-use crate::level::strip;
+use crate::level::strip_piece;
 use crate::quoted::{split_character, split_quoted};
 
-// Of each byte, whether it is an ASCII digit, an ASCII letter, `_` or `-`.
-static WORD_BYTES: [bool; 256] = [
-    false, false, false, false, false, false, false, false, false, false, false, false, false,
-    false, false, false, false, false, false, false, false, false, false, false, false, false,
-    false, false, false, false, false, false, false, false, false, false, false, false, false,
-    false, false, false, false, false, false, true, false, false, true, true, true, true, true,
-    true, true, true, true, true, false, false, false, false, false, false, false, true, true,
-    true, true, true, true, true, true, true, true, true, true, true, true, true, true, true, true,
-    true, true, true, true, true, true, true, true, false, false, false, false, true, false, true,
-    true, true, true, true, true, true, true, true, true, true, true, true, true, true, true, true,
-    true, true, true, true, true, true, true, true, true, false, false, false, false, false, false,
-    false, false, false, false, false, false, false, false, false, false, false, false, false,
-    false, false, false, false, false, false, false, false, false, false, false, false, false,
-    false, false, false, false, false, false, false, false, false, false, false, false, false,
-    false, false, false, false, false, false, false, false, false, false, false, false, false,
-    false, false, false, false, false, false, false, false, false, false, false, false, false,
-    false, false, false, false, false, false, false, false, false, false, false, false, false,
-    false, false, false, false, false, false, false, false, false, false, false, false, false,
-    false, false, false, false, false, false, false, false, false, false, false, false, false,
-    false, false, false, false, false, false, false, false, false, false, false, false, false,
-    false, false, false, false, false, false, false, false, false, false,
-];
+// Of each byte, whether it is one of words: an ASCII digit, an ASCII letter, `_` or `-`.
+static WORD_BYTES: [u8; 256] = *b"\
+    .............................................w..wwwwwwwwww......\
+    .wwwwwwwwwwwwwwwwwwwwwwwwww....w.wwwwwwwwwwwwwwwwwwwwwwwwww.....\
+    ................................................................\
+    ................................................................";
 
 // Whether it is a byte of words.
 #[inline(always)]
 fn is_word_byte(byte: u8) -> bool
     ensures { result ≡ is_word_byte byte }
 {
-    WORD_BYTES[byte as usize]
+    WORD_BYTES[byte as usize] == b'w'
 }
 
 /// The word bytes at the front, and what follows them.
@@ -82,16 +66,16 @@ fn split_word_from(input: &[u8], start: usize) -> (&[u8], &[u8])
 
 /// A leaf that is no word at the front of a text, and what follows it. A word is split off by
 /// itself, since it may be the name of a block.
+#[tactic(auto, unfolding(ufmt::specs::ReadingQuoted::read_quoted))]
 pub(crate) fn split_symbol(input: &[u8]) -> Option<(&str, &[u8])>
     ensures { option_map (λ x. (x.0.now, x.1.now)) result ≡ read_symbol input.now }
 {
-    let first = *input.first()?;
-    if first == b'"' {
-        split_quoted(b'"', input)
-    } else if first == b'\'' {
-        split_character(input)
+    if let Some(rest) = strip_piece("()", input) {
+        Some(("()", rest))
+    } else if let Some(text) = split_quoted(b'"', input) {
+        Some(text)
     } else {
-        Some(("()", strip(b"()", input)?))
+        split_character(input)
     }
 }
 

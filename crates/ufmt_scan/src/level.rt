@@ -41,9 +41,9 @@ pub(crate) fn strip_colon(input: &[u8]) -> Option<&[u8]>
     strip_piece(COLON, input)
 }
 
-// What follows a piece, which may be empty.
+/// What follows a piece, which may be empty.
 #[inline(always)]
-fn strip_piece<'a>(piece: &str, input: &'a [u8]) -> Option<&'a [u8]>
+pub(crate) fn strip_piece<'a>(piece: &str, input: &'a [u8]) -> Option<&'a [u8]>
     ensures { now_of result ≡ strip piece.now input.now }
 {
     match piece.as_bytes() {

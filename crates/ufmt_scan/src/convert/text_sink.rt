@@ -6,7 +6,7 @@ ghost use Rattle.ufmt_scan.specs.ScanTexts.{outside};
 ghost use Rattle.std.proofs.Common.{refl};
 ghost use Rattle.ufmt_core.proofs.Writing.{Writes-nothing};
 
-use super::write::{between, last_line, new_line, write_piece, write_pieces};
+use super::write::{last_line, line, new_line, write_piece, write_pieces};
 use crate::scan::{Part, Sink};
 use ufmt::layout::{COLON, Count, Mode, Setting};
 use ufmt::uWrite;
@@ -63,7 +63,10 @@ impl<W: uWrite> TextSink<W> {
             }
             Part::Label => write_pieces("", "", "", text, COLON, writer),
             Part::Colon => write_piece(COLON, writer),
-            Part::Next => write_piece(between(self.setting), writer),
+            Part::Next => match self.setting.mode {
+                Mode::Plain => write_piece(Mode::Plain.separator(), writer),
+                Mode::Pretty => write_piece(line(0, self.setting.depth), writer),
+            },
             Part::Close(kind, count) => {
                 self.setting = outside(self.setting);
                 let (before, bracket) = kind.closing(self.setting.mode, count);

@@ -1,6 +1,6 @@
 //! The pieces that stand round the entries of blocks.
 ghost use Rattle.std.specs.Prelude.{◌≡◌, ◌≤◌, ◌++◌, drop, is_ok};
-ghost use Rattle.ufmt.specs.Layout.{if_any, indentation, line_start, new_line, separator, trail};
+ghost use Rattle.ufmt.specs.Layout.{if_any, indentation, line_start, new_line, trail};
 ghost use Rattle.ufmt.specs.Writes.{Writes};
 ghost use Rattle.ufmt_core.specs.declared.layout.Mode.TheVariants.{Pretty};
 
@@ -26,9 +26,9 @@ static LINE: [u8; 1022] = *b"\
 
 const _: () = prove!(LINE.len() == 2 + 4 * 255);
 
-// What ends the line of an entry, and what the next one is indented by, from this byte on.
+/// What ends the line of an entry, and what the next one is indented by, from this byte on.
 #[inline(always)]
-fn line(start: usize, units: u8) -> &'static str
+pub(super) fn line(start: usize, units: u8) -> &'static str
     requires { start ≤ 2 }
     ensures { result.now ≡ drop start (trail Pretty ++ indentation units) }
 {
@@ -43,17 +43,6 @@ pub(super) fn new_line(entry: Setting) -> &'static str
     match entry.mode {
         Mode::Plain => "",
         Mode::Pretty => line(1, entry.depth),
-    }
-}
-
-/// What stands between two entries that are laid out so.
-#[inline(always)]
-pub(super) fn between(entry: Setting) -> &'static str
-    ensures { result.now ≡ trail entry.mode ++ separator entry.mode entry.depth }
-{
-    match entry.mode {
-        Mode::Plain => Mode::Plain.separator(),
-        Mode::Pretty => line(0, entry.depth),
     }
 }
 
