@@ -1,56 +1,13 @@
--- Leaves: which is read at the front that is no word, and which texts are leaves from end to end.
-use Rattle.std.proofs.Common.{List, None, Option, Some, [], ap, append-nil, arith, codes, false, refl, subst, sym, ℕ, ◌==◌, ◌∙◌, ◌∷◌, ◌≡◌, ◌≢◌, ◌++◌, Bool, length}
-use Rattle.std.specs.List.{slice_get}
-use Rattle.std.specs.Option.{option_or}
-use Rattle.std.specs.Str.{is_utf8}
+-- Which texts are leaves from end to end.
+use Rattle.std.proofs.Common.{List, None, Some, [], ap, append-nil, arith, false, subst, sym, ℕ, ◌==◌, ◌∙◌, ◌∷◌, ◌≡◌, ◌++◌, Bool, length}
 use Rattle.std.proofs.lemmas.Bool.Decides.{nat_tests}
 use Rattle.std.specs.Prelude.{◌↔◌, IsTrue}
-use Rattle.ufmt.specs.Reading.{Parse, after_word, read_symbol, read_word, strip, word_of}
-use Rattle.ufmt.specs.ReadingQuoted.{is_char, read_between, read_quoted}
+use Rattle.ufmt.specs.Reading.{Parse, after_word, read_symbol, read_word, word_of}
 use Rattle.ufmt.specs.Token.{IsSymbol, IsWord}
 use Rattle.ufmt.proofs.Parsing.{same_parts}
 use Rattle.ufmt.proofs.ReadingWords.{read_word_complete, read_word_sound}
 use Rattle.ufmt.proofs.TokenLeaves.{read_symbol_complete, read_symbol_sound}
 use Rattle.ufmt_scan.proofs.DocumentParts.{word_is_read}
-
--- which leaf stands at the front is told by the first byte
-pub no_symbol_first : (t : List ℕ) → None ≡ slice_get t 0 → read_symbol t ≡ None
-unfolding read_quoted
-no_symbol_first [] h = refl
-no_symbol_first (b ∷ t) h = absurd (cc)
-
-module _ (t : List ℕ) (b : ℕ) (first : Some b ≡ slice_get t 0) where
-  -- what begins so
-  begins : (u : List ℕ) → Some b ≡ slice_get u 0 → (v : List ℕ) × (u ≡ b ∷ v)
-  begins [] h = absurd (cc)
-  begins (d ∷ v) h = (v, cc)
-
-  option_or-none : {A : Type 0} (o : Option A) → option_or o None ≡ o
-  option_or-none None = refl
-  option_or-none (Some x) = refl
-
-  at_text : (v : List ℕ) → t ≡ 34 ∷ v → read_symbol t ≡ read_between 34 is_utf8 t
-  unfolding read_quoted
-  at_text v e = rw e (option_or-none (read_between 34 is_utf8 (34 ∷ v)))
-
-  pub text_symbol : b ≡ 34 → read_symbol t ≡ read_between 34 is_utf8 t
-  text_symbol is = let u = begins t first in at_text u.0 (u.1 ∙ ap (λ c. c ∷ u.0) is)
-
-  at_character : (v : List ℕ) → t ≡ 39 ∷ v → read_symbol t ≡ read_between 39 is_char t
-  unfolding read_quoted
-  at_character v e = rw e refl
-
-  pub character_symbol : b ≡ 39 → read_symbol t ≡ read_between 39 is_char t
-  character_symbol is = let u = begins t first in at_character u.0 (u.1 ∙ ap (λ c. c ∷ u.0) is)
-
-  pub no_symbol_here : b ≢ 34 → b ≢ 39 → strip (codes "()") t ≡ None → read_symbol t ≡ None
-  unfolding read_quoted
-  no_symbol_here text character unit =
-      let u = begins t first in
-      let text_differs : (34 == b) ≡ false = grind (arith, nat_tests) in
-      let character_differs : (39 == b) ≡ false = grind (arith, nat_tests) in
-      let is_no_unit : strip (codes "()") (b ∷ u.0) ≡ None = ap (strip (codes "()")) (sym u.1) ∙ unit in
-      ap read_symbol u.1 ∙ rw (is_no_unit, text_differs, character_differs) refl
 
 -- what is read at the front and leaves nothing is the whole
 module _ {Is : List ℕ → Type 0} (read : Parse (List ℕ)) (sound : (t x u : List ℕ) → read t ≡ Some (x, u) → Is x × (t ≡ x ++ u))

@@ -1,16 +1,17 @@
 -- What stands in quotes: bytes as they are written there, up to the closing quote.
-use Rattle.std.proofs.Common.{◌≡◌, refl, sym, ap, ◌∙◌, ℕ, zero, suc, ◌+◌, ◌-◌, ◌<◌, ◌≤◌, ◌==◌, false, List, [], ◌∷◌, ◌++◌, length, take, drop, Option, Some, None, option_map, append_assoc, append-nil, length-append, arith}
+use Rattle.std.proofs.Common.{◌≡◌, inl, refl, sym, ap, ◌∙◌, ℕ, suc, ◌<◌, ◌≤◌, ◌==◌, false, List, [], ◌∷◌, ◌++◌, length, drop, Option, Some, None, option_map, append_assoc, length-append, arith}
 use Rattle.std.specs.List.{slice_index}
 use Rattle.std.specs.Prelude.{unwrap_or}
 use Rattle.std.proofs.lemmas.Bool.Decides.{nat_tests}
-use Rattle.std.proofs.lemmas.List.{take-append-drop}
 use Rattle.ufmt.specs.Quoted.{IsQuote, escape, escaped_byte, escaped_bytes, plain_len}
 use Rattle.ufmt.specs.Reading.{strip}
 use Rattle.ufmt.specs.ReadingQuoted.{read_escaped, read_inside, told}
+use Rattle.ufmt.specs.Parse.{parse_map}
+use Rattle.ufmt.proofs.QuotedSound.{read_inside-sound}
 use Rattle.ufmt_core.proofs.QuotedBytes.{escape-past_ascii}
 use Rattle.ufmt.proofs.Parsing.{strip_found}
 use Rattle.ufmt.proofs.QuotedComplete.{escaped-no_quote, length-escaped, length-escaped_bytes, quote_ascii, read_escaped-complete, read_inside-complete}
-use Rattle.ufmt_scan.specs.Private.Spelled.{SpelledBefore, behind_quote}
+use Rattle.ufmt_scan.specs.Private.Spelled.{behind_quote}
 
 -- how a byte is written, where it has an escape
 pub escaped_byte-is : (q b : ℕ) (e : List ℕ) → Some e ≡ escape q b → escaped_byte q b ≡ e
@@ -36,73 +37,55 @@ escaped_bytes-append q [] cs = refl
 escaped_bytes-append q (b ∷ bs) cs = ap (λ t. escaped_byte q b ++ t) (escaped_bytes-append q bs cs)
     ∙ sym (append_assoc (escaped_byte q b) (escaped_bytes q bs) (escaped_bytes q cs))
 
--- bytes that stand for themselves are written so
-stretch : (bs : List ℕ) → (escaped_bytes 34 (take (plain_len bs) bs) ≡ take (plain_len bs) bs) × (plain_len bs ≤ length bs)
+module _ (q : ℕ) (quote : IsQuote q) where
+  -- turns past the length of the text make no difference
+  turns : (n m : ℕ) (t : List ℕ) → length t < n → length t < m → read_inside q n t ≡ read_inside q m t
+  turns n m t few enough = go (read_inside q n t) refl (read_inside q m t) refl
+    where
+      found : (k l : ℕ) (x : List ℕ × List ℕ) → read_inside q k t ≡ Some x → length t < l → read_inside q l t ≡ Some x
+      found k l x is more =
+          let whole = read_inside-sound q k t x.0 x.1 is in
+          let bytes : length x.0 < l = omega (arith, ap length whole, length-append (escaped_bytes q x.0) (q ∷ x.1), length-escaped_bytes q x.0) in
+          ap (read_inside q l) whole ∙ read_inside-complete q x.0 x.1 l quote bytes
+
+      go : (a : Option (List ℕ × List ℕ)) → read_inside q n t ≡ a → (b : Option (List ℕ × List ℕ)) → read_inside q m t ≡ b → read_inside q n t ≡ read_inside q m t
+      go (Some x) is b also = is ∙ sym (found n m x is enough)
+      go None is (Some y) also = found m n y also few ∙ sym also
+      go None is None also = is ∙ sym also
+
+  -- what follows the closing quote is the same behind a byte that is written there
+  behind_byte : (b : ℕ) (u : List ℕ) → behind_quote q (escaped_byte q b ++ u) ≡ behind_quote q u
+  unfolding read_inside
+  behind_byte b u =
+      let more : length u < length (escaped_byte q b ++ u) = omega (arith, length-append (escaped_byte q b) u, length-escaped q b) in
+      rw (escaped-no_quote q b u quote, read_escaped-complete q b u quote, turns (length (escaped_byte q b ++ u)) (suc (length u)) u more (omega arith))
+      (beside (read_inside q (suc (length u)) u))
+    where
+      beside : (o : Option (List ℕ × List ℕ)) → option_map (λ x. x.1) (parse_map (λ bs. b ∷ bs) o) ≡ option_map (λ x. x.1) o
+      beside None = refl
+      beside (Some x) = refl
+
+  pub behind_stripped : (t u : List ℕ) → strip (escaped_byte q (told t)) t ≡ Some u → behind_quote q t ≡ behind_quote q u
+  behind_stripped t u h = ap (behind_quote q) (strip_found (escaped_byte q (told t)) t u h) ∙ behind_byte (told t) u
+
+-- the closing quote, and what is neither one nor a byte that is written there
+pub behind_quote-here : (q : ℕ) (t u : List ℕ) → strip (q ∷ []) t ≡ Some u → behind_quote q t ≡ Some u
+unfolding read_inside
+behind_quote-here q t u h = rw h refl
+
+pub behind_quote-none : (q : ℕ) (t : List ℕ) → strip (q ∷ []) t ≡ None → strip (escaped_byte q (told t)) t ≡ None → behind_quote q t ≡ None
+unfolding read_inside
+behind_quote-none q t no_quote no_byte = rw (no_quote, no_byte) refl
+
+-- bytes that stand for themselves are passed at once
+pub stretch : (t : List ℕ) → (behind_quote 34 t ≡ behind_quote 34 (drop (plain_len t) t)) × (plain_len t ≤ length t)
 stretch [] = (refl, omega arith)
-stretch (b ∷ bs) = go (escape 34 b) refl (stretch bs)
+stretch (b ∷ t) = go (escape 34 b) refl (stretch t)
   where
-    go : (e : Option (List ℕ)) → escape 34 b ≡ e → (escaped_bytes 34 (take (plain_len bs) bs) ≡ take (plain_len bs) bs) × (plain_len bs ≤ length bs)
-        → (escaped_bytes 34 (take (plain_len (b ∷ bs)) (b ∷ bs)) ≡ take (plain_len (b ∷ bs)) (b ∷ bs)) × (plain_len (b ∷ bs) ≤ length (b ∷ bs))
-    go None h more = rw (h, h) (ap (λ t. b ∷ t) more.0, omega (arith, more.1))
+    go : (e : Option (List ℕ)) → escape 34 b ≡ e → (behind_quote 34 t ≡ behind_quote 34 (drop (plain_len t) t)) × (plain_len t ≤ length t)
+        → (behind_quote 34 (b ∷ t) ≡ behind_quote 34 (drop (plain_len (b ∷ t)) (b ∷ t))) × (plain_len (b ∷ t) ≤ length (b ∷ t))
+    go None h more = rw h (ap (λ e. behind_quote 34 (unwrap_or e (b ∷ []) ++ t)) (sym h) ∙ behind_byte 34 (inl refl) b t ∙ more.0, omega (arith, more.1))
     go (Some e) h more = rw h (refl, omega arith)
-
-pub plain_len-le : (bs : List ℕ) → plain_len bs ≤ length bs
-plain_len-le bs = (stretch bs).1
-
--- what is left behind them
-pub SpelledBefore-stretch : (q : ℕ) (t u : List ℕ) → q ≡ 34 → u ≡ drop (plain_len t) t → SpelledBefore q t u
-SpelledBefore-stretch q t u e is = rw (e, is)
-    (take (plain_len t) t, sym (take-append-drop (plain_len t) t) ∙ ap (λ w. w ++ drop (plain_len t) t) (sym (stretch t).0))
-
-module _ (q : ℕ) where
-  pub SpelledBefore-then : {t u v : List ℕ} → SpelledBefore q t u → SpelledBefore q u v → SpelledBefore q t v
-  SpelledBefore-then {v = v} one two = (
-    one.0 ++ two.0,
-    one.1 ∙ ap (λ w. escaped_bytes q one.0 ++ w) two.1
-        ∙ sym (append_assoc (escaped_bytes q one.0) (escaped_bytes q two.0) v) ∙ ap (λ w. w ++ v) (sym (escaped_bytes-append q one.0 two.0)),
-  )
-
-  -- one byte more
-  pub SpelledBefore-byte : {t : List ℕ} (b : ℕ) (u : List ℕ) → strip (escaped_byte q b) t ≡ Some u → SpelledBefore q t u
-  SpelledBefore-byte {t} b u h = (b ∷ [], strip_found (escaped_byte q b) t u h ∙ ap (λ w. w ++ u) (sym (append-nil (escaped_byte q b))))
-
-  -- what is left is no longer
-  pub SpelledBefore-shorter : {t u : List ℕ} → SpelledBefore q t u → length u ≤ length t
-  SpelledBefore-shorter {u = u} h = omega (arith, ap length h.1, length-append (escaped_bytes q h.0) u)
-
-  -- where the closing quote stands
-  pub behind_quote-found : (t r u : List ℕ) → IsQuote q → SpelledBefore q t r → strip (q ∷ []) r ≡ Some u → behind_quote q t ≡ Some u
-  behind_quote-found t r u quote h at_quote =
-      let whole : t ≡ escaped_bytes q h.0 ++ (q ∷ u) = h.1 ∙ ap (λ w. escaped_bytes q h.0 ++ w) (strip_found (q ∷ []) r u at_quote) in
-      let few : length h.0 < suc (length t) = omega (arith, ap length whole, length-append (escaped_bytes q h.0) (q ∷ u), length-escaped_bytes q h.0) in
-      ap (λ w. option_map (λ x. x.1) (read_inside q (suc (length t)) w)) whole
-      ∙ ap (λ o. option_map (λ x. x.1) o) (read_inside-complete q h.0 u (suc (length t)) quote few)
-
-  -- where nothing is read behind bytes that were
-  read_inside-past : IsQuote q → (bs t : List ℕ) (n k : ℕ) → k ≡ length bs + n → read_inside q n t ≡ None → read_inside q k (escaped_bytes q bs ++ t) ≡ None
-  unfolding read_inside
-  read_inside-past quote [] t n k is h = let same : k ≡ n = omega (arith, is) in rw same h
-  read_inside-past quote (b ∷ bs) t n zero is h = absurd (omega (arith, is))
-  read_inside-past quote (b ∷ bs) t n (suc k) is h =
-      let rest = escaped_bytes q bs ++ t in
-      rw (
-        append_assoc (escaped_byte q b) (escaped_bytes q bs) t,
-        escaped-no_quote q b rest quote,
-        read_escaped-complete q b rest quote,
-        read_inside-past quote bs t n k (omega (arith, is)) h,
-      ) refl
-
-  read_inside-stops : (t : List ℕ) (n : ℕ) → strip (q ∷ []) t ≡ None → strip (escaped_byte q (told t)) t ≡ None → read_inside q (suc n) t ≡ None
-  unfolding read_inside
-  read_inside-stops t n no_quote no_byte = rw (no_quote, no_byte) refl
-
-  pub behind_quote-refused : (t u : List ℕ) → IsQuote q → SpelledBefore q t u → strip (q ∷ []) u ≡ None
-      → strip (escaped_byte q (told u)) u ≡ None → behind_quote q t ≡ None
-  behind_quote-refused t u quote h no_quote no_byte =
-      let n = length t - length h.0 in
-      let enough : suc (length t) ≡ length h.0 + suc n = omega (arith, ap length h.1, length-append (escaped_bytes q h.0) u, length-escaped_bytes q h.0) in
-      ap (λ o. option_map (λ x. x.1) o) (ap (read_inside q (suc (length t))) h.1
-      ∙ read_inside-past quote h.0 u (suc n) (suc (length t)) enough (read_inside-stops u n no_quote no_byte))
 
 -- so none is read there
 pub unspelled_past : (q : ℕ) (t : List ℕ) → IsQuote q → 255 < told t → slice_index t 0 ≡ 92 → read_escaped q t ≡ None

@@ -75,7 +75,7 @@ separator_is f i One = refl
 separator_is f i Several = refl
 
 -- a block
-module _ (mode : Mode) (k : ℕ) (few : k + 1 ≤ 255) (kind : Kind) where
+module _ (mode : Mode) (k n : ℕ) (few : suc n + k ≤ 255) (kind : Kind) where
   abbrev s : Setting
   s = setting mode k
 
@@ -83,7 +83,7 @@ module _ (mode : Mode) (k : ℕ) (few : k + 1 ≤ 255) (kind : Kind) where
   tail_written : (count : Count) (ess : List (List Event)) (ts : List (List ℕ)) → EntriesAreWritten (inside s) ess ts
       → AreWritten (inside s) (told_tail kind (next count) ess) (trail mode ++ block_tail (frame mode kind) s (next count) ts) s
   tail_written count [] [] h =
-      let out = outside_inside mode k few in
+      let out = outside_inside mode k (omega arith) in
       same_written (part_written (plainly (Close kind (next count))) (trail mode ++ ending (frame mode kind) s (next count))
       (ap (λ o. trail mode ++ ending (frame mode kind) o (next count)) out) (record { writes = refl; leaves = out }))
       (append-nil (trail mode ++ ending (frame mode kind) s (next count)))
@@ -99,14 +99,13 @@ module _ (mode : Mode) (k : ℕ) (few : k + 1 ≤ 255) (kind : Kind) where
 
   -- the whole of one with entries
   block_written : (name : List ℕ) (alone : Event) (ess : List (List Event)) (ts : List (List ℕ)) {es : List Event} {t : List ℕ}
-      → AreWritten (inside s) es t (inside s) → EntriesAreWritten (inside s) ess ts
-      → AreWritten s (told_block kind name alone (es ∷ ess)) (block kind s name (t ∷ ts)) s
-  block_written name alone ess ts {es} {t} first more =
+      → EntriesAreWritten (inside s) (es ∷ ess) (t ∷ ts) → AreWritten s (told_block kind name alone (es ∷ ess)) (block kind s name (t ∷ ts)) s
+  block_written name alone ess ts {es} {t} h =
       let opening : List ℕ = (frame mode kind).opening in
       let start : List ℕ = lead (frame mode kind) (inside s) Zero in
       let left : List ℕ = t ++ (trail mode ++ block_tail (frame mode kind) s One ts) in
       same_written (part_written (Open kind, name) (name ++ (opening ++ start)) refl
-      (parts_written first (tail_written Zero ess ts more)))
+      (parts_written h.0 (tail_written Zero ess ts h.1)))
       (append_assoc name (opening ++ start) left ∙ ap (λ w. name ++ w) (append_assoc opening start left))
 
 -- a leaf, and a name alone
@@ -131,51 +130,43 @@ module _ (mode : Mode) where
     told_written k (joined ds) h few = absurd h
     told_written k (list_of no_documents) h few = record { writes = refl; leaves = refl }
     told_written k (list_of (document d ds)) h few =
-        block_written mode k (omega arith) Brackets [] (plainly (Empty Brackets)) _ _
-        (told_written (entry_depth mode k) d h.0 (deeper mode k (nest d) (omega arith)))
-        (entries_written (entry_depth mode k) ds h.1 (deeper mode k (nest_all ds) (omega arith)))
+        block_written mode k _ few Brackets [] (plainly (Empty Brackets)) _ _ (entries_written k (document d ds) h few)
     told_written k (set_of no_documents) h few = record { writes = refl; leaves = refl }
     told_written k (set_of (document d ds)) h few =
-        block_written mode k (omega arith) Braces [] (plainly (Empty Braces)) _ _
-        (told_written (entry_depth mode k) d h.0 (deeper mode k (nest d) (omega arith)))
-        (entries_written (entry_depth mode k) ds h.1 (deeper mode k (nest_all ds) (omega arith)))
+        block_written mode k _ few Braces [] (plainly (Empty Braces)) _ _ (entries_written k (document d ds) h few)
     told_written k (map_of no_pairs) h few = record { writes = refl; leaves = refl }
     told_written k (map_of (pair key value ps)) h few =
-        block_written mode k (omega arith) Braces [] (plainly (Empty Braces)) _ _
-        (pair_written (told_written (entry_depth mode k) key h.0 (deeper mode k (nest key) (omega arith)))
-        (told_written (entry_depth mode k) value h.1 (deeper mode k (nest value) (omega arith))))
-        (pairs_written (entry_depth mode k) ps h.2 (deeper mode k (nest_pairs ps) (omega arith)))
+        block_written mode k _ few Braces [] (plainly (Empty Braces)) _ _ (pairs_written k (pair key value ps) h few)
     told_written k (struct_of name no_fields) h few = record { writes = refl; leaves = refl }
     told_written k (struct_of name (field label value fs)) h few =
-        block_written mode k (omega arith) Struct name (Leaf, name) _ _
-        (field_written label (told_written (entry_depth mode k) value h.1.1 (deeper mode k (nest value) (omega arith))))
-        (fields_written (entry_depth mode k) fs h.1.2 (deeper mode k (nest_fields fs) (omega arith)))
+        block_written mode k _ few Struct name (Leaf, name) _ _ (fields_written k (field label value fs) h.1 few)
     told_written k (tuple_of [] no_documents) h few = absurd h
     told_written k (tuple_of (c ∷ name) no_documents) h few = record { writes = refl; leaves = refl }
     told_written k (tuple_of name (document d ds)) h few =
-        block_written mode k (omega arith) (tuple_kind name) name (Leaf, name) _ _
-        (told_written (entry_depth mode k) d h.1 (deeper mode k (nest d) (omega arith)))
-        (entries_written (entry_depth mode k) ds h.2 (deeper mode k (nest_all ds) (omega arith)))
+        block_written mode k _ few (tuple_kind name) name (Leaf, name) _ _ (entries_written k (document d ds) (h.1, h.2) few)
     told_written k (pretty_part d) h few = absurd h
 
-    entries_written : (k : ℕ) (ds : Documents) → HaveTokens ds → nest_all ds + k ≤ 255
-        → EntriesAreWritten (setting mode k) (told_entries ds) (texts (setting mode k) ds)
+    -- the entries of a block at this depth, its pairs and its fields
+    entries_written : (k : ℕ) (ds : Documents) → HaveTokens ds → suc (nest_all ds) + k ≤ 255
+        → EntriesAreWritten (inside (setting mode k)) (told_entries ds) (texts (inside (setting mode k)) ds)
     entries_written k no_documents h few = tt
-    entries_written k (document d ds) h few = (told_written k d h.0 (omega arith), entries_written k ds h.1 (omega arith))
+    entries_written k (document d ds) h few =
+        (told_written (entry_depth mode k) d h.0 (deeper mode k (nest d) (omega arith)), entries_written k ds h.1 (omega arith))
 
-    pairs_written : (k : ℕ) (ps : Pairs) → PairsHaveTokens ps → nest_pairs ps + k ≤ 255
-        → EntriesAreWritten (setting mode k) (told_pairs ps) (pair_texts (setting mode k) ps)
+    pairs_written : (k : ℕ) (ps : Pairs) → PairsHaveTokens ps → suc (nest_pairs ps) + k ≤ 255
+        → EntriesAreWritten (inside (setting mode k)) (told_pairs ps) (pair_texts (inside (setting mode k)) ps)
     pairs_written k no_pairs h few = tt
     pairs_written k (pair key value ps) h few = (
-      pair_written (told_written k key h.0 (omega arith)) (told_written k value h.1 (omega arith)),
+      pair_written (told_written (entry_depth mode k) key h.0 (deeper mode k (nest key) (omega arith)))
+          (told_written (entry_depth mode k) value h.1 (deeper mode k (nest value) (omega arith))),
       pairs_written k ps h.2 (omega arith),
     )
 
-    fields_written : (k : ℕ) (fs : Fields) → FieldsHaveTokens fs → nest_fields fs + k ≤ 255
-        → EntriesAreWritten (setting mode k) (told_fields fs) (field_texts (setting mode k) fs)
+    fields_written : (k : ℕ) (fs : Fields) → FieldsHaveTokens fs → suc (nest_fields fs) + k ≤ 255
+        → EntriesAreWritten (inside (setting mode k)) (told_fields fs) (field_texts (inside (setting mode k)) fs)
     fields_written k no_fields h few = tt
     fields_written k (field label value fs) h few = (
-      field_written label (told_written k value h.1 (omega arith)),
+      field_written label (told_written (entry_depth mode k) value h.1 (deeper mode k (nest value) (omega arith))),
       fields_written k fs h.2 (omega arith),
     )
 

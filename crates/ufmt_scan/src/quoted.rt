@@ -1,10 +1,10 @@
 //! Texts and characters in quotes at the front of a text.
-ghost use Rattle.std.specs.Prelude.{◌≡◌, option_map};
+ghost use Rattle.std.specs.Prelude.{◌≡◌, ◌≤◌, length, option_map};
 ghost use Rattle.std.specs.Str.{is_utf8};
 ghost use Rattle.ufmt.specs.Quoted.{IsQuote};
 ghost use Rattle.ufmt.specs.ReadingQuoted.{is_char, read_between};
 ghost use Rattle.ufmt_scan.specs.Rest.{now_of};
-ghost use Rattle.ufmt_scan.specs.Private.Spelled.{IsOneCharacter, PassesCharacter, SpelledBefore, behind_quote};
+ghost use Rattle.ufmt_scan.specs.Private.Spelled.{IsOneCharacter, PassesCharacter, behind_quote};
 
 use crate::escape::strip_escaped;
 use crate::level::strip_byte;
@@ -53,7 +53,8 @@ fn behind_quote(quote: u8, input: &[u8]) -> Option<&[u8]>
 // What follows bytes that stand for themselves, several of which are passed at once between quotation
 // marks.
 fn behind_stretch(quote: u8, input: &[u8]) -> &[u8]
-    ensures { SpelledBefore quote input.now result.now }
+    ensures behind { behind_quote quote input.now ≡ behind_quote quote result.now }
+    ensures shorter { length result.now ≤ length input.now }
 {
     if quote == b'"' {
         input.split_at(plain_len(input)).1

@@ -7,10 +7,6 @@ use Rattle.ufmt.specs.Quoted.{escaped, escaped_bytes, quoted}
 use Rattle.ufmt.specs.ReadingQuoted.{read_inside}
 use Rattle.ufmt_scan.specs.Rest.{now_of}
 
--- what is left of a text behind bytes as they are written between two of these quotes
-abbrev pub SpelledBefore : ℕ → List ℕ → List ℕ → Type 0
-SpelledBefore quote whole left = (bs : List ℕ) × (whole ≡ escaped_bytes quote bs ++ left)
-
 -- these are the bytes that are written up to the closing quote, if one ends the text
 abbrev pub Tells : ℕ → List ℕ → List ℕ → Type 0
 Tells quote inside bytes = (bs : List ℕ) → inside ≡ escaped_bytes quote bs ++ (quote ∷ []) → bytes ≡ bs
