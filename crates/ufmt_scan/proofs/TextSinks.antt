@@ -26,12 +26,10 @@ module _ {W : Type 0} (seen : Seen W) where
   -- a part behind parts
   part_behind : (start old new : TextSink W) (es : List Event) (e : Event) (ok : Bool) → Wrote seen true start es old → WritesPart seen old e ok new
       → Wrote seen ok start (es ++ e ∷ []) new
-  part_behind start old new es e ok before part =
-      let whole = texts_written-append start.setting es (e ∷ [])
-      ∙ ap (λ t. texts_written start.setting es ++ t) (append-nil (written (setting_behind start.setting es) e) ∙ ap (λ s. written s e) (sym before.1)) in (
-        subst (λ t. Writes seen start.writer t ok new.writer) (sym whole) (Writes-then before.0 part.0),
-        part.1 ∙ ap (λ s. setting_behind s (e ∷ [])) before.1 ∙ sym (setting_behind-append start.setting es (e ∷ [])),
-      )
+  part_behind start old new es e ok before part = (
+    simp (texts_written-append, sym before.1, append-nil) (Writes-then before.0 part.0),
+    simp (setting_behind-append, sym before.1) part.1,
+  )
 
   -- so it is a lawful sink
   pub hears_part : (old new : TextSink W) (e : Event) (ok : Bool) → WritesPart seen old e ok new → Hears (Wrote seen true) (Wrote seen false) old e ok new
@@ -40,43 +38,30 @@ module _ {W : Type 0} (seen : Seen W) where
 
   module _ (from to : Mode) (tells : (d e : Document) → IsToken d → IsToken e → layout (setting from 0) d ≡ layout (setting from 0) e → layout (setting to 0) d ≡ layout (setting to 0) e)
       (input : List ℕ) (old : TextSink W) (at : old.setting ≡ setting to 0) where
-    -- what is told of a token document is laid out
-    abbrev text_of : Document → List ℕ
-    text_of d = layout (setting to 0) d
-
     abbrev IsOther : List ℕ → Type 0
     IsOther text = IsConverted (layout (setting from 0)) (layout (setting to 0)) input text
 
-    told_whole : (d : Document) → IsToken d → texts_written old.setting (told d) ≡ text_of d
-    told_whole d token =
-        let bound : nest d + 0 ≤ 255 = omega (arith, token.1) in
-        ap (λ s. texts_written s (told d)) at ∙ (told_text to 0 d token.0 bound).0
-
-    -- the text of the document that was read is what the input is converted to
-    read_converted : (d : Document) → read_text from input ≡ Some d → IsOther (text_of d)
-    read_converted d is = converted (layout (setting from 0)) (layout (setting to 0)) tells input (text_of d) d (reads_only_texts from input d is) refl
-
-    other_is : (d : Document) → read_text from input ≡ Some d → (text : List ℕ) → IsOther text → text ≡ text_of d
-    other_is d is text other =
-        let form = reads_only_texts from input d is in sym (other.each d form.0 form.2)
-
-    -- and where the input is converted to a text, a document was there to read
-    found : (there : Option Document) → read_text from input ≡ there → (text : List ℕ) → IsOther text → (d : Document) × (there ≡ Some d)
-    found None none text other = absurd (refuses_no_text from input none other.some.0 other.some.1 other.some.2)
-    found (Some d) is text other = (d, refl)
+    -- what is written for the parts of the document that was read is what the input is converted to, and all that it is converted to
+    read_is : (d : Document) → read_text from input ≡ Some d
+        → IsOther (texts_written old.setting (told d)) × ((text : List ℕ) → IsOther text → texts_written old.setting (told d) ≡ text)
+    read_is d is =
+        let form = reads_only_texts from input d is in
+        let bound : nest d + 0 ≤ 255 = omega (arith, form.0.1) in
+        let whole = ap (λ s. texts_written s (told d)) at ∙ (told_text to 0 d form.0.0 bound).0 in
+        (
+          converted (layout (setting from 0)) (layout (setting to 0)) tells input (texts_written old.setting (told d)) d form whole,
+          λ text other. whole ∙ other.each d form.0 form.2,
+        )
 
     -- what a scan with that sink does with its writer
     pub scan_converts : {E : Type 0} (answer : Result (⊤) (Refusal E)) (new : TextSink W) → Scans (Wrote seen true) (Wrote seen false) answer old new (read_text from input)
         → ConvertsTo seen (layout (setting from 0)) (layout (setting to 0)) input old.writer answer new.writer
-    scan_converts (Ok x) new h =
-        let d = h.0 in
-        let token = (reads_only_texts from input d h.1).0 in
-        let wrote = subst (λ t. Writes seen old.writer t true new.writer) (told_whole d token) h.2.0 in record {
-          ok = λ is. (text_of d, read_converted d h.1);
-          not_text = λ is. absurd (cc);
-          writes = λ text other. subst (λ t. Writes seen old.writer t true new.writer) (sym (other_is d h.1 text other)) wrote;
-          lawful = (text_of d, true, wrote);
-        }
+    scan_converts (Ok x) new h = record {
+      ok = λ is. (texts_written old.setting (told h.0), (read_is h.0 h.1).0);
+      not_text = λ is. absurd (cc);
+      writes = λ text other. subst (λ t. Writes seen old.writer t true new.writer) ((read_is h.0 h.1).1 text other) h.2.0;
+      lawful = (texts_written old.setting (told h.0), true, h.2.0);
+    }
     scan_converts (Err NotText) new h = record {
       ok = λ is. absurd (cc);
       not_text = λ is. refuses_no_text from input h.2;
@@ -86,19 +71,16 @@ module _ {W : Type 0} (seen : Seen W) where
     scan_converts (Err (Refused e)) new h = record {
       ok = λ is. absurd (cc);
       not_text = λ is. absurd (cc);
-      writes = λ text other. refused text other (found (read_text from input) refl text other);
+      writes = refused (read_text from input) refl;
       lawful = (texts_written old.setting h.0, false, h.1.0);
     }
       where
-        refused : (text : List ℕ) → IsOther text → (d : Document) × (read_text from input ≡ Some d) → Writes seen old.writer text false new.writer
-        refused text other at_document =
-            let d = at_document.0 in
-            let token = (reads_only_texts from input d at_document.1).0 in
-            let leads = h.2 d at_document.1 in
-            let whole = other_is d at_document.1 text other ∙ sym (told_whole d token) ∙ ap (texts_written old.setting) leads.1
-            ∙ texts_written-append old.setting h.0 leads.0 in
-            subst (λ t. Writes seen old.writer t false new.writer) (sym whole)
-            (Writes-fails (texts_written (setting_behind old.setting h.0) leads.0) h.1.0)
+        refused : (there : Option Document) → read_text from input ≡ there → (text : List ℕ) → IsOther text → Writes seen old.writer text false new.writer
+        refused None none text other = absurd (refuses_no_text from input none other.some.0 other.some.1 other.some.2)
+        refused (Some d) is text other =
+            let leads = h.2 d is in
+            let whole = sym (texts_written-append old.setting h.0 leads.0) ∙ ap (texts_written old.setting) (sym leads.1) ∙ (read_is d is).1 text other in
+            subst (λ t. Writes seen old.writer t false new.writer) whole (Writes-fails (texts_written (setting_behind old.setting h.0) leads.0) h.1.0)
 
   pub pretty_converts : {E : Type 0} (input : List ℕ) (old : TextSink W) (answer : Result (⊤) (Refusal E)) (new : TextSink W) → old.setting ≡ setting Pretty 0
       → Scans (Wrote seen true) (Wrote seen false) answer old new (read_text Plain input) → ConvertsTo seen plain_text pretty_text input old.writer answer new.writer

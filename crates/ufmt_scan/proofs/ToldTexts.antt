@@ -31,26 +31,6 @@ record AreWritten (s : Setting) (es : List Event) (text : List ℕ) (last : Sett
   pub writes : texts_written s es ≡ text
   pub leaves : setting_behind s es ≡ last
 
--- parts behind a part, and parts behind parts
-part_written : {s last : Setting} {es : List Event} {u : List ℕ} (e : Event) (t : List ℕ) → written s e ≡ t
-    → AreWritten (setting_after s e) es u last → AreWritten s (e ∷ es) (t ++ u) last
-part_written {s} {last} {es} {u} e t first more = record {
-  writes = ap (λ w. w ++ texts_written (setting_after s e) es) first ∙ ap (λ w. t ++ w) more.writes;
-  leaves = more.leaves;
-}
-
-parts_written : {s mid last : Setting} {es fs : List Event} {t u : List ℕ} → AreWritten s es t mid → AreWritten mid fs u last
-    → AreWritten s (es ++ fs) (t ++ u) last
-parts_written {s} {mid} {last} {es} {fs} {t} {u} first more = record {
-  writes = texts_written-append s es fs ∙ ap (λ w. w ++ texts_written (setting_behind s es) fs) first.writes
-      ∙ ap (λ at. t ++ texts_written at fs) first.leaves ∙ ap (λ w. t ++ w) more.writes;
-  leaves = setting_behind-append s es fs ∙ ap (λ at. setting_behind at fs) first.leaves ∙ more.leaves;
-}
-
--- the same of a text that is equal
-same_written : {s last : Setting} {es : List Event} {t u : List ℕ} → AreWritten s es t last → t ≡ u → AreWritten s es u last
-same_written h e = record { writes = h.writes ∙ e; leaves = h.leaves }
-
 -- entries at these parts have these texts, each at this mode and depth
 abbrev EntriesAreWritten : Setting → List (List Event) → List (List ℕ) → Type 0
 EntriesAreWritten i [] [] = ⊤
@@ -84,49 +64,43 @@ module _ (mode : Mode) (k n : ℕ) (few : suc n + k ≤ 255) (kind : Kind) where
       → AreWritten (inside s) (told_tail kind (next count) ess) (trail mode ++ block_tail (frame mode kind) s (next count) ts) s
   tail_written count [] [] h =
       let out = outside_inside mode k (omega arith) in
-      same_written (part_written (plainly (Close kind (next count))) (trail mode ++ ending (frame mode kind) s (next count))
-      (ap (λ o. trail mode ++ ending (frame mode kind) o (next count)) out) (record { writes = refl; leaves = out }))
-      (append-nil (trail mode ++ ending (frame mode kind) s (next count)))
+      let text = λ (o : Setting). trail mode ++ ending (frame mode kind) o (next count) in
+      record { writes = ap (λ o. text o ++ []) out ∙ append-nil (text s); leaves = out }
   tail_written count [] (t ∷ ts) h = absurd h
   tail_written count (es ∷ ess) [] h = absurd h
   tail_written count (es ∷ ess) (t ∷ ts) h =
-      let between : List ℕ = lead (frame mode kind) (inside s) (next count) in
-      let left : List ℕ = block_tail (frame mode kind) s (next (next count)) ts in
-      same_written (part_written (plainly Next) (trail mode ++ between)
-      (ap (λ w. trail mode ++ w) (separator_is (frame mode kind) (inside s) count))
-      (parts_written h.0 (tail_written (next count) ess ts h.1)))
-      (append_assoc (trail mode) between (t ++ (trail mode ++ left)))
+      let more = tail_written (next count) ess ts h.1 in record {
+        writes = simp (texts_written-append, h.0.writes, h.0.leaves, more.writes, separator_is (frame mode kind) (inside s) count, append_assoc);
+        leaves = simp (setting_behind-append, h.0.leaves, more.leaves);
+      }
 
   -- the whole of one with entries
   block_written : (name : List ℕ) (alone : Event) (ess : List (List Event)) (ts : List (List ℕ)) {es : List Event} {t : List ℕ}
       → EntriesAreWritten (inside s) (es ∷ ess) (t ∷ ts) → AreWritten s (told_block kind name alone (es ∷ ess)) (block kind s name (t ∷ ts)) s
-  block_written name alone ess ts {es} {t} h =
-      let opening : List ℕ = (frame mode kind).opening in
-      let start : List ℕ = lead (frame mode kind) (inside s) Zero in
-      let left : List ℕ = t ++ (trail mode ++ block_tail (frame mode kind) s One ts) in
-      same_written (part_written (Open kind, name) (name ++ (opening ++ start)) refl
-      (parts_written h.0 (tail_written Zero ess ts h.1)))
-      (append_assoc name (opening ++ start) left ∙ ap (λ w. name ++ w) (append_assoc opening start left))
-
--- a leaf, and a name alone
-leaf_written : (s : Setting) (text : List ℕ) → AreWritten s ((Leaf, text) ∷ []) text s
-leaf_written s text = record { writes = append-nil text; leaves = refl }
+  block_written name alone ess ts h =
+      let tail = tail_written Zero ess ts h.1 in record {
+        writes = simp (texts_written-append, h.0.writes, h.0.leaves, tail.writes, append_assoc);
+        leaves = simp (setting_behind-append, h.0.leaves, tail.leaves);
+      }
 
 -- a key and its value, and a field's name and its value
 pair_written : {s : Setting} {es fs : List Event} {t u : List ℕ} → AreWritten s es t s → AreWritten s fs u s
     → AreWritten s (es ++ plainly Colon ∷ fs) (t ++ (codes ": " ++ u)) s
-pair_written key value = parts_written key (part_written (plainly Colon) (codes ": ") refl value)
+pair_written key value = record {
+  writes = simp (texts_written-append, key.writes, key.leaves, value.writes);
+  leaves = simp (setting_behind-append, key.leaves, value.leaves);
+}
 
 field_written : {s : Setting} {es : List Event} {t : List ℕ} (label : List ℕ) → AreWritten s es t s
     → AreWritten s ((Label, label) ∷ es) (label ++ (codes ": " ++ t)) s
-field_written {t = t} label value = same_written (part_written (Label, label) (label ++ codes ": ") refl value) (append_assoc label (codes ": ") t)
+field_written {t = t} label value = record { writes = rw value.writes (append_assoc label (codes ": ") t); leaves = value.leaves }
 
 -- for the parts of a token document its layout is written, and mode and depth are behind them as before
 module _ (mode : Mode) where
   mutual
     told_written : (k : ℕ) (d : Document) → HasTokens d → nest d + k ≤ 255
         → AreWritten (setting mode k) (told d) (layout (setting mode k) d) (setting mode k)
-    told_written k (leaf text) h few = leaf_written (setting mode k) text
+    told_written k (leaf text) h few = record { writes = append-nil text; leaves = refl }
     told_written k (joined ds) h few = absurd h
     told_written k (list_of no_documents) h few = record { writes = refl; leaves = refl }
     told_written k (list_of (document d ds)) h few =
