@@ -1,5 +1,5 @@
 -- A quoted leaf is split off the front as it is read there: its quotes, what stands between them, and the test of it.
-use Rattle.std.proofs.Common.{◌≡◌, refl, sym, ap, subst, ◌∙◌, ℕ, suc, ◌-◌, ◌≤◌, Bool, true, false, List, [], ◌∷◌, ◌++◌, length, take, Option, Some, None, option_map, option_and_then, append_assoc, length-append, arith}
+use Rattle.std.proofs.Common.{◌≡◌, refl, sym, ap, subst, ◌∙◌, ℕ, suc, ◌-◌, ◌≤◌, Bool, true, false, List, [], ◌∷◌, ◌++◌, length, take, Option, Some, None, option_map, append_assoc, length-append, arith}
 use Rattle.std.specs.Str.{IsUtf8, chars, is_utf8}
 use Rattle.std.proofs.Math.Seq.{take-append_seam}
 use Rattle.std.proofs.lemmas.Str.{IsUtf8-from_is_utf8, encodes-chars, is_utf8-from_IsUtf8}
@@ -38,10 +38,6 @@ module _ (q : ℕ) (quote : IsQuote q) where
   tested : (test : List ℕ → Bool) (t u rest : List ℕ) → strip (q ∷ []) t ≡ Some u → (b : Between t u rest)
       → read_between q test t ≡ if_right test q b.bytes rest
   tested test t u rest opening b = rw (opening, b.reads) refl
-
-  nothing_from : {A B C : Type 0} (f : A → B) (g : A → Option C) (o : Option A) → option_map f o ≡ None → option_and_then g o ≡ None
-  nothing_from f g None h = refl
-  nothing_from f g (Some x) h = absurd (cc)
 
   -- what is tested is the whole leaf: it is UTF-8 exactly if what is between the quotes is
   module _ (t u rest : List ℕ) (opening : strip (q ∷ []) t ≡ Some u) (closing : behind_quote q u ≡ Some rest) where

@@ -14,8 +14,8 @@ use Rattle.ufmt.proofs.QuotedComplete.{escaped-no_quote, length-escaped, length-
 use Rattle.ufmt_scan.specs.Private.Spelled.{behind_quote}
 
 -- how a byte is written, where it has an escape
-pub escaped_byte-is : (q b : ℕ) (e : List ℕ) → Some e ≡ escape q b → escaped_byte q b ≡ e
-escaped_byte-is q b e is = ap (λ o. unwrap_or o (b ∷ [])) (sym is)
+pub escaped_byte_is : (q b : ℕ) (e : List ℕ) → Some e ≡ escape q b → escaped_byte q b ≡ e
+escaped_byte_is q b e is = ap (λ o. unwrap_or o (b ∷ [])) (sym is)
 
 -- no text begins with a number past 255
 pub spelled_past : (q : ℕ) (t : List ℕ) → IsQuote q → 255 < told t → slice_index t 0 ≡ 92 → strip (escaped_byte q (told t)) t ≡ None

@@ -13,7 +13,7 @@ use Rattle.ufmt_core.specs.declared.layout.Mode.TheVariants.{Plain, Pretty}
 use Rattle.ufmt_core.specs.declared.layout.Setting.{Setting}
 use Rattle.ufmt_scan.specs.Scan.{Event, plainly, told, told_tail, told_block, told_entries, told_pairs, told_fields}
 use Rattle.ufmt_scan.specs.ScanTexts.{outside, written, setting_after, texts_written, setting_behind}
-use Rattle.ufmt_scan.specs.declared.scan.part.Part.TheVariants.{Leaf, Empty, Open, Label, Colon, Next, Close}
+use Rattle.ufmt_scan.specs.declared.scan.part.Part.TheVariants.{Leaf, Empty, Label, Colon}
 
 -- parts in a row, and more behind them
 pub texts_written-append : (s : Setting) (es fs : List Event)

@@ -22,6 +22,7 @@ pub(super) fn strip_escaped(quote: u8, input: &[u8]) -> Option<&[u8]>
 
 /// The byte that is written at the front, between these quotes, and what follows it. `None` where no
 /// byte stands there in its one spelling. `quote` is a quotation mark or an apostrophe.
+#[tactic(auto, using(crate::proofs::Spelled::unspelled_past))]
 pub fn split_escaped(quote: u8, input: &[u8]) -> Option<(u8, &[u8])>
     requires { IsQuote quote }
     ensures { option_map (λ x. (x.0, x.1.now)) result ≡ read_escaped quote input.now }
@@ -32,6 +33,7 @@ pub fn split_escaped(quote: u8, input: &[u8]) -> Option<(u8, &[u8])>
 
 // What follows this byte, as it is written between these quotes.
 #[inline(always)]
+#[tactic(auto, using(crate::proofs::Spelled::escaped_byte_is))]
 fn strip_spelling(quote: u8, byte: u8, input: &[u8]) -> Option<&[u8]>
     requires { IsQuote quote }
     ensures { now_of result ≡ strip (escaped_byte quote byte) input.now }

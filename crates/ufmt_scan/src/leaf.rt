@@ -87,6 +87,7 @@ pub fn is_leaf(text: &str) -> bool
 }
 
 /// Whether a text is a word.
+#[tactic(auto, using(crate::proofs::Leaves::word_tested))]
 pub fn is_word(text: &str) -> bool
     ensures { IsTrue result ↔ IsWord text.now }
 {
@@ -95,6 +96,7 @@ pub fn is_word(text: &str) -> bool
 }
 
 /// Whether a text is a leaf that is no word.
+#[tactic(auto, using(crate::proofs::Leaves::no_symbol_tested))]
 pub fn is_symbol(text: &str) -> bool
     ensures { IsTrue result ↔ IsSymbol text.now }
 {

@@ -11,6 +11,7 @@ use crate::level::strip_byte;
 use ufmt::quoted::plain_len;
 
 /// A character between apostrophes, with them, and what follows it.
+#[tactic(auto, using(crate::proofs::QuotedCharacter::character_read))]
 pub(super) fn split_character(input: &[u8]) -> Option<(&str, &[u8])>
     ensures { option_map (λ x. (x.0.now, x.1.now)) result ≡ read_between 39 is_char input.now }
 {

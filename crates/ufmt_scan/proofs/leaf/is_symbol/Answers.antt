@@ -1,10 +1,7 @@
 use Rattle.std.proofs.Common.{ap, ◌∙◌}
 use Rattle.ufmt.specs.Reading.{read_symbol}
-use Rattle.ufmt_scan.proofs.Leaves.{no_symbol_tested, symbol_tested}
+use Rattle.ufmt_scan.proofs.Leaves.{symbol_tested}
 use Rattle.ufmt_scan.proofs.leaf.is_symbol.Goals as goal
 
 pub returns-in-Some : goal.returns-in-Some
 returns-in-Some c = symbol_tested c.args.text.now _ _ _ (c.in-Some.ensures ∙ ap read_symbol c.as_bytes.ensures.value) c.is_empty.ensures
-
-pub returns-in-None : goal.returns-in-None
-returns-in-None c = no_symbol_tested c.args.text.now (c.in-None.ensures ∙ ap read_symbol c.as_bytes.ensures.value)

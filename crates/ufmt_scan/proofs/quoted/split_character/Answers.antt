@@ -1,9 +1,6 @@
-use Rattle.std.proofs.Common.{rules, refl, sym, ◌∙◌}
+use Rattle.std.proofs.Common.{refl, sym, ◌∙◌}
 use Rattle.ufmt_scan.proofs.QuotedCharacter.{character_read}
 use Rattle.ufmt_scan.proofs.quoted.split_character.Goals as goal
-
-pub returns-then-is_character : goal.returns-then-is_character
-returns-then-is_character c = search (rules, character_read)
 
 pub returns-else-is_character : goal.returns-else-is_character
 returns-else-is_character c = sym (character_read c.args.input.now c.in_ok-leaf.leaf.now c.in_ok-leaf.rest.now c.is_character.result
