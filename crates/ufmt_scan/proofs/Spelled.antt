@@ -18,8 +18,8 @@ pub escaped_byte_is : (q b : ℕ) (e : List ℕ) → Some e ≡ escape q b → e
 escaped_byte_is q b e is = ap (λ o. unwrap_or o (b ∷ [])) (sym is)
 
 -- no text begins with a number past 255
-pub spelled_past : (q : ℕ) (t : List ℕ) → IsQuote q → 255 < told t → slice_index t 0 ≡ 92 → strip (escaped_byte q (told t)) t ≡ None
-spelled_past q t quote past first = rw (escape-past_ascii q (told t) (quote_ascii q quote) (omega (arith, past))) (at t first)
+pub unspelled_past : (q : ℕ) (t : List ℕ) → IsQuote q → 255 < told t → slice_index t 0 ≡ 92 → read_escaped q t ≡ None
+unspelled_past q t quote past first = rw (escape-past_ascii q (told t) (quote_ascii q quote) (omega (arith, past)), at t first) refl
   where
     at : (u : List ℕ) → slice_index u 0 ≡ 92 → strip (told t ∷ []) u ≡ None
     at [] e = refl
@@ -86,7 +86,3 @@ stretch (b ∷ t) = go (escape 34 b) refl (stretch t)
         → (behind_quote 34 (b ∷ t) ≡ behind_quote 34 (drop (plain_len (b ∷ t)) (b ∷ t))) × (plain_len (b ∷ t) ≤ length (b ∷ t))
     go None h more = rw h (ap (λ e. behind_quote 34 (unwrap_or e (b ∷ []) ++ t)) (sym h) ∙ behind_byte 34 (inl refl) b t ∙ more.0, omega (arith, more.1))
     go (Some e) h more = rw h (refl, omega arith)
-
--- so none is read there
-pub unspelled_past : (q : ℕ) (t : List ℕ) → IsQuote q → 255 < told t → slice_index t 0 ≡ 92 → read_escaped q t ≡ None
-unspelled_past q t quote past first = rw (spelled_past q t quote past first) refl

@@ -1,8 +1,5 @@
 -- Texts stripped from slices.
-use Rattle.std.proofs.Common.{◌≡◌, ◌≢◌, refl, sym, ℕ, suc, ◌+◌, ◌-◌, ◌<◌, List, ◌++◌, length, take, drop, true, false, Option, Some, None, codes, Bor, MatchOption, nat_eq, arith}
-use Rattle.std.specs.Cmp.Lexicographic.{pointwise}
-use Rattle.std.proofs.lemmas.Bool.Decides.{Decides-eqb}
-use Rattle.std.proofs.lemmas.Slice.Eq.{strip_prefix_is}
+use Rattle.std.proofs.Common.{◌≡◌, ◌≢◌, refl, sym, ℕ, suc, ◌+◌, ◌-◌, ◌<◌, List, ◌++◌, Option, Some, None, codes, Bor, MatchOption, arith}
 use Rattle.ufmt.specs.Layout.{if_any, indentation, next}
 use Rattle.ufmt_core.specs.declared.layout.Count.{Count}
 use Rattle.ufmt_core.specs.declared.layout.Count.TheVariants.{Zero, One, Several}
@@ -11,17 +8,10 @@ use Rattle.ufmt.proofs.Parsing.{strip_of_front, strip_of_none}
 pub use Rattle.ufmt.proofs.Parsing.{strip-append}
 use Rattle.ufmt_scan.specs.Rest.{now_of}
 
--- a slice's own call strips what the reading function strips
-stripped : (text t : List ℕ) (r : Option (Bor (List ℕ))) → MatchOption r ((rest : List ℕ) → t ≢ text ++ rest) (λ x. t ≡ text ++ x.now) → now_of r ≡ strip text t
+-- what the reading function strips is told by what the text begins with
+pub stripped : (text t : List ℕ) (r : Option (Bor (List ℕ))) → MatchOption r ((rest : List ℕ) → t ≢ text ++ rest) (λ x. t ≡ text ++ x.now) → now_of r ≡ strip text t
 stripped text t None h = sym (strip_of_none text t h)
 stripped text t (Some x) h = sym (strip_of_front text t x.now h)
-
--- so is what `strip_prefix` answers
-pub strip_prefix-strip : (text t : List ℕ) (r : Option (Bor (List ℕ)))
-    → MatchOption r (pointwise nat_eq (take (length text) t) text ≡ false)
-    (λ x. (pointwise nat_eq (take (length text) t) text ≡ true) × (x.now ≡ drop (length text) t) × (length x.now + length text ≡ length t))
-    → now_of r ≡ strip text t
-strip_prefix-strip text t r h = stripped text t r (strip_prefix_is Decides-eqb t text r h)
 
 -- a line with units left begins with one
 pub indentation_more : (units unit : ℕ) → unit < units → indentation (units - unit) ≡ codes "    " ++ indentation (units - (unit + 1))

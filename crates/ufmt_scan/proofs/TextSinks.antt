@@ -20,7 +20,7 @@ use Rattle.ufmt_scan.specs.Scan.{Event, Hears, Scans, told}
 use Rattle.ufmt_scan.specs.ScanTexts.{texts_written, setting_behind}
 use Rattle.ufmt_scan.specs.Texts.{ConvertsTo, IsConverted}
 use Rattle.ufmt_scan.proofs.Conversions.{converted}
-use Rattle.ufmt_scan.proofs.ToldTexts.{setting_behind-append, texts_written-append, told_text}
+use Rattle.ufmt_scan.proofs.ToldTexts.{setting_behind-append, texts_written-append, told_written}
 
 module _ {W : Type 0} (seen : Seen W) where
   -- a part behind parts
@@ -47,7 +47,7 @@ module _ {W : Type 0} (seen : Seen W) where
     read_is d is =
         let form = reads_only_texts from input d is in
         let bound : nest d + 0 ≤ 255 = omega (arith, form.0.1) in
-        let whole = ap (λ s. texts_written s (told d)) at ∙ (told_text to 0 d form.0.0 bound).0 in (
+        let whole = ap (λ s. texts_written s (told d)) at ∙ (told_written to 0 d form.0.0 bound).writes in (
           converted (layout (setting from 0)) (layout (setting to 0)) tells input (texts_written old.setting (told d)) d form whole,
           λ text other. whole ∙ other.each d form.0 form.2,
         )

@@ -27,7 +27,7 @@ setting_behind-append s [] fs = refl
 setting_behind-append s (e ∷ es) fs = setting_behind-append (setting_after s e) es fs
 
 -- for these parts this text is written, from one mode and depth to another
-record AreWritten (s : Setting) (es : List Event) (text : List ℕ) (last : Setting) : Type 0 where
+pub record AreWritten (s : Setting) (es : List Event) (text : List ℕ) (last : Setting) : Type 0 where
   pub writes : texts_written s es ≡ text
   pub leaves : setting_behind s es ≡ last
 
@@ -98,7 +98,7 @@ field_written {t = t} label value = record { writes = rw value.writes (append_as
 -- for the parts of a token document its layout is written, and mode and depth are behind them as before
 module _ (mode : Mode) where
   mutual
-    told_written : (k : ℕ) (d : Document) → HasTokens d → nest d + k ≤ 255
+    pub told_written : (k : ℕ) (d : Document) → HasTokens d → nest d + k ≤ 255
         → AreWritten (setting mode k) (told d) (layout (setting mode k) d) (setting mode k)
     told_written k (leaf text) h few = record { writes = append-nil text; leaves = refl }
     told_written k (joined ds) h few = absurd h
@@ -143,9 +143,3 @@ module _ (mode : Mode) where
       field_written label (told_written (entry_depth mode k) value h.1 (deeper mode k (nest value) (omega arith))),
       fields_written k fs h.2 (omega arith),
     )
-
--- what is written for the parts of a token document is its layout, and mode and depth are behind them as before
-pub told_text : (mode : Mode) (k : ℕ) (d : Document) → HasTokens d → nest d + k ≤ 255
-    → (texts_written (setting mode k) (told d) ≡ layout (setting mode k) d) × (setting_behind (setting mode k) (told d) ≡ setting mode k)
-told_text mode k d h few =
-    let all = told_written mode k d h few in (all.writes, all.leaves)
