@@ -1,143 +1,153 @@
--- Where documents, pairs and fields begin, in terms of what their entries are read as.
-use Rattle.std.proofs.Common.{◌≡◌, refl, ap, ◌∙◌, sym, ℕ, zero, suc, ◌<◌, ◌≤◌, ◌==◌, ◌||◌, Bool, cond, ◌⊎◌, inl, inr, true, false, List, [], ◌∷◌, length, length-append, eqb-true, Option, Some, None, option_map, option_and_then, codes, arith}
-use Rattle.ufmt.specs.Document.{Document, leaf, list_of, set_of, map_of, struct_of, tuple_of, documents, pairs_of, fields_of}
+-- Where documents, pairs and fields begin that are told.
+use Rattle.std.proofs.Common.{◌≡◌, refl, ap, ◌∙◌, sym, ℕ, zero, suc, ◌<◌, ◌≤◌, ◌==◌, ◌||◌, Bool, cond, ◌⊎◌, inl, inr, true, false, List, [], ◌∷◌, ◌++◌, length, length-append, eqb-true, map, Option, Some, None, option_and_then, codes, arith, Bor}
+use Rattle.ufmt.specs.Document.{Document, leaf, list_of, set_of, map_of, struct_of, tuple_of, no_documents, no_pairs, Documents, document, documents, pairs_of, fields_of}
 use Rattle.ufmt_core.specs.declared.layout.Setting.{Setting}
+use Rattle.ufmt_core.specs.declared.layout.Kind.{Kind}
 use Rattle.ufmt_core.specs.declared.layout.Kind.TheVariants.{Brackets, Braces, Struct, Tuple, Unnamed}
-use Rattle.ufmt_core.specs.declared.layout.Count.TheVariants.{Zero}
-use Rattle.ufmt.specs.Layout.{frame, tuple_kind, inside, lead}
+use Rattle.ufmt_core.specs.declared.layout.Count.TheVariants.{Zero, One, Several}
+use Rattle.ufmt.specs.Layout.{frame, inside, lead}
 use Rattle.ufmt.specs.Token.{AreWordBytes, IsWord}
-use Rattle.ufmt.specs.Reading.{Parse, parse_map, strip, word_of, after_word, read_symbol, read_word, read_value, read_pair, read_list, read_braces, read_map_or_set, read_named, read_tuple, read_without_name, read_with, read}
-use Rattle.ufmt.proofs.Parsing.{led_from, beside_from}
+use Rattle.ufmt.specs.Reading.{Parse, choose, parse_map, strip, word_of, after_word, read_after_first, read_symbol, read_word, read_value, read_list, read_braces, read_map_or_set, read_named, read_without_name, read_by_word, read}
 use Rattle.ufmt.proofs.ReadingTurns.{Takes, read_word_takes, strip_within}
 use Rattle.ufmt.proofs.TokenLeaves.{leaf_begins, read_symbol_sound, symbol_leaf}
 use Rattle.ufmt.proofs.ReadingWords.{word_of_bytes}
-use Rattle.ufmt_scan.specs.Private.Entries.{read_on}
-use Rattle.ufmt_scan.specs.Private.Level.{entry_at}
-use Rattle.ufmt_scan.specs.Private.FrontWords.{before_colon}
-use Rattle.ufmt_scan.proofs.EntrySteps.{first_is_read_on}
+use Rattle.ufmt_scan.specs.declared.level.Level.{Level}
+use Rattle.ufmt_scan.specs.declared.scan.part.Part.{Part}
+use Rattle.ufmt_scan.specs.declared.scan.part.Part.TheVariants.{Colon, Empty, Label, Leaf, Open}
+use Rattle.ufmt_scan.specs.declared.scan.stage.Stage.{Stage}
+use Rattle.ufmt_scan.specs.declared.scan.stage.Stage.TheVariants as stages
+use Rattle.ufmt_scan.specs.Scan.{Event, plainly, told, told_entries, told_fields, told_pairs, told_tail}
+use Rattle.ufmt_scan.specs.Private.Level.{budget_of, entry_at, entry_of, setting_at}
+use Rattle.ufmt_scan.specs.Private.Scanning.{Comes, GoesOnAt, Told, after, block_told, entries, fields, open_told, pairs, prefixed, rest_told, stage_told, then_told, turn_of, turn_told, value_told}
+use Rattle.ufmt_scan.proofs.EntrySteps.{entry_of_takes, field_takes, pair_takes}
+use Rattle.ufmt_scan.proofs.Telling.{block_tells, prefixed_twice}
 
--- a named tuple behind what stands before its first field
-pub tuple_opens : (s : Setting) (p : Parse Document) (w t r : List ℕ) → IsWord w
-    → strip (lead (frame s.mode Tuple) (inside s) Zero) t ≡ Some r → read_named s p w t ≡ read_tuple s p w r
-tuple_opens s p [] t r word opening = absurd word
-tuple_opens s p (c ∷ w) t r word opening = rw opening refl
+-- what is told of entries, pairs and fields in a row
+told_entries-documents : (ds : List Document) → told_entries (documents ds) ≡ map told ds
+told_entries-documents [] = refl
+told_entries-documents (d ∷ ds) = ap (λ es. told d ∷ es) (told_entries-documents ds)
 
--- from that field
-pub tuple_begins : (s : Setting) (p : Parse Document) (w t r : List ℕ) → IsWord w
-    → strip (lead (frame s.mode Tuple) (inside s) Zero) t ≡ Some r
-    → read_named s p w t ≡ read_on p (frame s.mode (tuple_kind w)) s (λ ds. tuple_of w (documents ds)) [] (p r)
-tuple_begins s p w t r word opening = tuple_opens s p w t r word opening
-    ∙ first_is_read_on p (frame s.mode (tuple_kind w)) s (λ ds. tuple_of w (documents ds)) (p r)
+told_pairs-pairs_of : (level : Level) (ps : List (Document × Document)) → told_pairs (pairs_of ps) ≡ map (pairs level).tell ps
+told_pairs-pairs_of level [] = refl
+told_pairs-pairs_of level (p ∷ ps) = ap (λ es. (pairs level).tell p ∷ es) (told_pairs-pairs_of level ps)
 
--- a struct behind what stands before its first field, from that field
-pub struct_begins : (s : Setting) (p : Parse Document) (w t r : List ℕ) → IsWord w
-    → strip (lead (frame s.mode Tuple) (inside s) Zero) t ≡ None → strip (lead (frame s.mode Struct) (inside s) Zero) t ≡ Some r
-    → read_named s p w t ≡ read_on (read_pair read_word p) (frame s.mode Struct) s (λ fs. struct_of w (fields_of fs)) [] (read_pair read_word p r)
-struct_begins s p [] t r word tuple opening = absurd word
-struct_begins s p (c ∷ w) t r word tuple opening =
-    rw (tuple, opening) (first_is_read_on (read_pair read_word p) (frame s.mode Struct) s (λ fs. struct_of (c ∷ w) (fields_of fs)) (read_pair read_word p r))
+told_fields-fields_of : (level : Level) (fs : List (List ℕ × Document)) → told_fields (fields_of fs) ≡ map (fields level).tell fs
+told_fields-fields_of level [] = refl
+told_fields-fields_of level (f ∷ fs) = ap (λ es. (fields level).tell f ∷ es) (told_fields-fields_of level fs)
 
--- a pair or a field from what stands before its colon
-pair_is_beside : {A : Type 0} (q : Parse A) (p : Parse Document) (t : List ℕ)
-    → read_pair q p t ≡ option_and_then (λ x. parse_map {A = Document} {B = A × Document} (λ value. (x.0, value)) (p x.1)) (before_colon q t)
-pair_is_beside {A} q p t = by_key (q t)
-  where
-    colon : (key : A) (o : Option (List ℕ)) → option_and_then (λ u. parse_map (λ value. (key, value)) (p u)) o
-        ≡ option_and_then (λ x. parse_map {A = Document} {B = A × Document} (λ value. (x.0, value)) (p x.1)) (option_map {U = A × List ℕ} (λ u. (key, u)) o)
-    colon key None = refl
-    colon key (Some u) = refl
+module _ (level : Level) where
+  -- a list, a set or a tuple from its first entry on
+  entries_tell : (kind : Kind) (name : List ℕ) (make : Documents → Document)
+      → ((d : Document) (ds : Documents) → told (make (document d ds)) ≡ (Open kind, name) ∷ (told d ++ told_tail kind One (told_entries ds))) → (o : Option (Document × List ℕ))
+      → parse_map told (option_and_then (λ x. read_after_first (entry_of level) (frame level.mode kind) (setting_at level) (λ ds. make (documents ds)) x.0 x.1) o)
+      ≡ prefixed ((Open kind, name) ∷ []) (then_told (parse_map told o) (rest_told (entries level) level kind One))
+  entries_tell kind name make shape = block_tells (entries level) level kind (λ ds. make (documents ds)) (Open kind, name)
+      (λ d ds. shape d (documents ds) ∙ ap (λ ess. (Open kind, name) ∷ (told d ++ told_tail kind One ess)) (told_entries-documents ds))
 
-    by_key : (o : Option (A × List ℕ)) → option_and_then (λ x. read_value p x.0 x.1) o
-        ≡ option_and_then (λ x. parse_map {A = Document} {B = A × Document} (λ value. (x.0, value)) (p x.1))
-        (option_and_then (λ x. option_map {U = A × List ℕ} (λ u. (x.0, u)) (strip (codes ": ") x.1)) o)
-    by_key None = refl
-    by_key (Some x) = colon x.0 (strip (codes ": ") x.1)
+  -- a named tuple or struct behind what stands before its first field
+  pub tuple_tells : (w t r : List ℕ) → IsWord w → strip (lead (frame level.mode Tuple) (inside (setting_at level)) Zero) t ≡ Some r
+      → parse_map told (read_named (setting_at level) (entry_of level) w t) ≡ open_told level Tuple w r
+  tuple_tells [] t r word opening = absurd word
+  tuple_tells (c ∷ w) t r word opening = rw opening (entries_tell Tuple (c ∷ w) (tuple_of (c ∷ w)) (λ d ds. refl) (entry_of level r))
 
--- where that and a colon stand, the pair is that and its value
-pub pair_from : {A : Type 0} (q : Parse A) (p : Parse Document) (t : List ℕ) (key : A) (u : List ℕ) → before_colon q t ≡ Some (key, u)
-    → read_pair q p t ≡ parse_map (λ value. (key, value)) (p u)
-pair_from {A} q p t key u h = pair_is_beside q p t
-    ∙ ap (λ o. option_and_then (λ x. parse_map {A = Document} {B = A × Document} (λ value. (x.0, value)) (p x.1)) o) h
+  pub struct_tells : (w t r : List ℕ) → IsWord w → strip (lead (frame level.mode Tuple) (inside (setting_at level)) Zero) t ≡ None
+      → strip (lead (frame level.mode Struct) (inside (setting_at level)) Zero) t ≡ Some r
+      → parse_map told (read_named (setting_at level) (entry_of level) w t) ≡ open_told level Struct w r
+  struct_tells [] t r word tuple opening = absurd word
+  struct_tells (c ∷ w) t r word tuple opening = rw (tuple, opening) (block_tells (fields level) level Struct (λ fs. struct_of (c ∷ w) (fields_of fs)) (Open Struct, c ∷ w)
+      (λ f fs. ap (λ ess. (Open Struct, c ∷ w) ∷ ((fields level).tell f ++ told_tail Struct One ess)) (told_fields-fields_of level fs)) ((fields level).read r))
 
--- and else there is none
-pub pair_without : {A : Type 0} (q : Parse A) (p : Parse Document) (t : List ℕ) → before_colon q t ≡ None → read_pair q p t ≡ None
-pair_without {A} q p t h = pair_is_beside q p t
-    ∙ ap (λ o. option_and_then (λ x. parse_map {A = Document} {B = A × Document} (λ value. (x.0, value)) (p x.1)) o) h
+  -- a tuple without a name
+  pub unnamed_tells : (t r : List ℕ) → strip (codes "[") t ≡ None → strip (codes "{") t ≡ None → read_symbol t ≡ None
+      → strip (lead (frame level.mode Unnamed) (inside (setting_at level)) Zero) t ≡ Some r
+      → parse_map told (read_without_name (setting_at level) (entry_of level) t) ≡ open_told level Unnamed [] r
+  unnamed_tells t r bracket brace symbol opening = rw (bracket, brace, symbol, opening) (entries_tell Unnamed [] (tuple_of []) (λ d ds. refl) (entry_of level r))
 
--- what stands before a colon and a space was read, and they follow it
-colon_follows : {A : Type 0} (q : Parse A) (t : List ℕ) (key : A) (u : List ℕ) → before_colon q t ≡ Some (key, u) → (v : List ℕ)
-    × (q t ≡ Some (key, v)) × (strip (codes ": ") v ≡ Some u)
-colon_follows q t key u h =
-    let read = led_from _ (q t) (key, u) h in
-    let colon = beside_from read.0.0 (strip (codes ": ") read.0.1) key u read.2 in
-    (read.0.1, read.1 ∙ ap (λ k. Some (k, read.0.1)) colon.1, colon.0)
+  -- a list, or a set or a map, behind its opening
+  block_opens : (kind : Kind) (empty : Document) (q : Parse Document) → told empty ≡ plainly (Empty kind) ∷ []
+      → ((u : List ℕ) → parse_map told (q u) ≡ open_told level kind [] u) → (ends opens : Option (List ℕ))
+      → parse_map told (choose ends (λ u. Some (empty, u)) (option_and_then q opens))
+      ≡ choose ends (λ u. Some (plainly (Empty kind) ∷ [], u)) (option_and_then (open_told level kind []) opens)
+  block_opens kind empty q none some None None = refl
+  block_opens kind empty q none some None (Some u) = some u
+  block_opens kind empty q none some (Some u) opens = ap (λ es. Some (es, u)) none
 
--- and what follows them is shorter
-pub colon_within : {A : Type 0} {q : Parse A} (t : List ℕ) (key : A) (u : List ℕ) → Takes q → before_colon q t ≡ Some (key, u) → length u < length t
-colon_within {q = q} t key u takes h =
-    let read = colon_follows q t key u h in
-    let a = takes.takes t key read.0 read.1 in
-    let b = strip_within (codes ": ") read.0 u read.2 in
-    omega (arith, a, b)
+  pub list_tells : (t : List ℕ) → parse_map told (read_list (setting_at level) (entry_of level) t) ≡ block_told level Brackets t
+  list_tells t = block_opens Brackets (list_of no_documents) _ refl (λ u. entries_tell Brackets [] list_of (λ d ds. refl) (entry_of level u)) _ _
 
--- a list behind what stands before its first entry
-pub list_begins : (s : Setting) (p : Parse Document) (t r : List ℕ) → strip (codes "]") t ≡ None
-    → strip (lead (frame s.mode Brackets) (inside s) Zero) t ≡ Some r
-    → read_list s p t ≡ read_on p (frame s.mode Brackets) s (λ ds. list_of (documents ds)) [] (p r)
-list_begins s p t r empty opening = rw (empty, opening) (first_is_read_on p (frame s.mode Brackets) s (λ ds. list_of (documents ds)) (p r))
+  -- the value of a pair, behind its key and a colon
+  value_tells : (key : Document) (o : Option (Document × List ℕ)) (more : Parse (List Event))
+      → then_told (parse_map (pairs level).tell (parse_map (λ value. (key, value)) o)) more
+      ≡ prefixed (told key) (prefixed (plainly Colon ∷ []) (then_told (parse_map told o) more))
+  value_tells key None more = refl
+  value_tells key (Some x) more =
+      sym (ap (prefixed (told key)) (prefixed_twice (plainly Colon ∷ []) (told x.0) (more x.1)) ∙ prefixed_twice (told key) (plainly Colon ∷ told x.0) (more x.1))
 
--- a set or a map behind what stands before its first entry
-pub braces_begin : (s : Setting) (p : Parse Document) (t r : List ℕ) → strip (codes "}") t ≡ None
-    → strip (lead (frame s.mode Braces) (inside s) Zero) t ≡ Some r → read_braces s p t ≡ option_and_then (λ x. read_map_or_set s p x.0 x.1) (p r)
-braces_begin s p t r empty opening = rw (empty, opening) refl
+  -- a set or a map from its first entry on
+  first_tells : (o : Option (Document × List ℕ)) → parse_map told (option_and_then (λ x. read_map_or_set (setting_at level) (entry_of level) x.0 x.1) o)
+      ≡ prefixed ((Open Braces, []) ∷ []) (then_told (parse_map told o) (stage_told level stages.Braces))
+  first_tells None = refl
+  first_tells (Some x) = by_colon (strip (codes ": ") x.1) refl
+    where
+      by_colon : (o : Option (List ℕ)) → strip (codes ": ") x.1 ≡ o → parse_map told (read_map_or_set (setting_at level) (entry_of level) x.0 x.1)
+          ≡ prefixed ((Open Braces, []) ∷ []) (prefixed (told x.0) (choose o (value_told level Zero) (rest_told (entries level) level Braces One x.1)))
+      by_colon None colon = rw colon (entries_tell Braces [] set_of (λ d ds. refl) (Some x))
+      by_colon (Some u) colon = rw colon (block_tells (pairs level) level Braces (λ ps. map_of (pairs_of ps)) (Open Braces, [])
+          (λ q ps. ap (λ ess. (Open Braces, []) ∷ ((pairs level).tell q ++ told_tail Braces One ess)) (told_pairs-pairs_of level ps)) (parse_map (λ value. (x.0, value)) (entry_of level u))
+          ∙ ap (prefixed ((Open Braces, []) ∷ [])) (value_tells x.0 (entry_of level u) (rest_told (pairs level) level Braces One)))
+
+  pub braces_tells : (t : List ℕ) → parse_map told (read_braces (setting_at level) (entry_of level) t) ≡ block_told level Braces t
+  braces_tells t = block_opens Braces (map_of no_pairs) _ refl (λ u. first_tells (entry_of level u)) _ _
+
+  -- a later pair is a key, and then a value
+  pub pair_tells : GoesOnAt level Braces stages.Key
+  pair_tells t = by_key (entry_of level t)
+    where
+      by_colon : (key : Document) (o : Option (List ℕ)) → prefixed (told key) (option_and_then (value_told level Several) o)
+          ≡ then_told (parse_map (pairs level).tell (option_and_then (λ u. parse_map (λ value. (key, value)) (entry_of level u)) o)) (rest_told (pairs level) level Braces Several)
+      by_colon key None = refl
+      by_colon key (Some u) = sym (value_tells key (entry_of level u) (rest_told (pairs level) level Braces Several))
+
+      by_key : (o : Option (Document × List ℕ)) → then_told (parse_map told o) (stage_told level stages.Key)
+          ≡ then_told (parse_map (pairs level).tell (option_and_then (λ x. read_value (entry_of level) x.0 x.1) o)) (rest_told (pairs level) level Braces Several)
+      by_key None = refl
+      by_key (Some x) = by_colon x.0 (strip (codes ": ") x.1)
+
+-- the entries, pairs or fields of a block each take a byte
+pub turn_takes : (level : Level) (stage : Stage) → Takes (turn_of level stage).read
+turn_takes level stages.Key = pair_takes level
+turn_takes level (stages.Value before) = pair_takes level
+turn_takes level (stages.Field before) = field_takes level
+turn_takes level _ = entry_of_takes level
 
 -- a leaf that is no word
-pub symbol_begins : (s : Setting) (p : Parse Document) (t text r : List ℕ) → strip (codes "[") t ≡ None → strip (codes "{") t ≡ None
-    → read_symbol t ≡ Some (text, r) → (read_without_name s p t ≡ Some (leaf text, r)) × (length r < length t)
-symbol_begins s p t text r bracket brace symbol =
+pub symbol_tells : (level : Level) (t text r : List ℕ) → strip (codes "[") t ≡ None → strip (codes "{") t ≡ None → read_symbol t ≡ Some (text, r)
+    → (parse_map told (read_without_name (setting_at level) (entry_of level) t) ≡ Some ((Leaf, text) ∷ [], r)) × (length r < length t)
+symbol_tells level t text r bracket brace symbol =
     let sound = read_symbol_sound t text r symbol in
     let begins = leaf_begins text (symbol_leaf text sound.0) in
     (rw (bracket, brace, symbol) refl, omega (arith, ap length sound.1, length-append text r, ap length begins.is))
 
--- a tuple without a name behind what stands before its first field
-pub unnamed_opens : (s : Setting) (p : Parse Document) (t r : List ℕ) → strip (codes "[") t ≡ None → strip (codes "{") t ≡ None
-    → read_symbol t ≡ None → strip (lead (frame s.mode Unnamed) (inside s) Zero) t ≡ Some r → read_without_name s p t ≡ read_tuple s p [] r
-unnamed_opens s p t r bracket brace symbol opening = rw (bracket, brace, symbol, opening) refl
-
--- from that field
-pub unnamed_begins : (s : Setting) (p : Parse Document) (t r : List ℕ) → strip (codes "[") t ≡ None → strip (codes "{") t ≡ None
-    → read_symbol t ≡ None → strip (lead (frame s.mode Unnamed) (inside s) Zero) t ≡ Some r
-    → read_without_name s p t ≡ read_on p (frame s.mode Unnamed) s (λ ds. tuple_of [] (documents ds)) [] (p r)
-unnamed_begins s p t r bracket brace symbol opening = unnamed_opens s p t r bracket brace symbol opening
-    ∙ first_is_read_on p (frame s.mode Unnamed) s (λ ds. tuple_of [] (documents ds)) (p r)
-
--- a map where a colon follows its first key
-pub map_begins : (s : Setting) (p : Parse Document) (d : Document) (t u : List ℕ) → strip (codes ": ") t ≡ Some u
-    → read_map_or_set s p d t ≡ read_on (read_pair p p) (frame s.mode Braces) s (λ ps. map_of (pairs_of ps)) [] (parse_map (λ value. (d, value)) (p u))
-map_begins s p d t u colon = rw colon (first_is_read_on (read_pair p p) (frame s.mode Braces) s (λ ps. map_of (pairs_of ps))
-    (parse_map (λ value. (d, value)) (p u)))
-
--- and else a set
-pub set_begins : (s : Setting) (p : Parse Document) (d : Document) (t : List ℕ) → strip (codes ": ") t ≡ None
-    → read_map_or_set s p d t ≡ read_on p (frame s.mode Braces) s (λ ds. set_of (documents ds)) [] (Some (d, t))
-set_begins s p d t colon = rw colon (first_is_read_on p (frame s.mode Braces) s (λ ds. set_of (documents ds)) (Some (d, t)))
-
--- a document is read in terms of what reads its entries
-read_is : (s : Setting) (n : ℕ) (t : List ℕ) → read s n t ≡ read_with s (entry_at s n) t
+-- a document is read by the word in front, where one stands there
+read_is : (s : Setting) (n : ℕ) (t : List ℕ) → read s n t ≡ read_by_word s (entry_at s n) t (word_of t) (after_word t)
 unfolding read
 read_is s zero t = refl
 read_is s (suc n) t = refl
 
--- where no word stands in front, it is read as what has none
 pub reads_without_name : (s : Setting) (n : ℕ) (t w : List ℕ) → w ≡ word_of t → (length w == 0) ≡ true → read s n t ≡ read_without_name s (entry_at s n) t
 reads_without_name s n t [] word empty = read_is s n t ∙ rw (← word) refl
 reads_without_name s n t (c ∷ w) word empty = let none = eqb-true (length (c ∷ w)) 0 empty in absurd (omega arith)
 
--- where one does, as what begins with it
 pub reads_named : (s : Setting) (n : ℕ) (t w u : List ℕ) → w ≡ word_of t → u ≡ after_word t → (length w == 0) ≡ false
     → read s n t ≡ read_named s (entry_at s n) w u
 reads_named s n t [] u word rest some = absurd (cc)
 reads_named s n t (c ∷ w) u word rest some = read_is s n t ∙ rw (← word, ← rest) refl
+
+-- what comes of a text comes of one that tells the same, and leaves fewer bytes than a larger number
+pub comes_as : (behind : Option Stage → Parse (List Event)) {m : ℕ} (n : ℕ) (answer : Option (Part × Bor (List ℕ) × Option Stage × Bor (List ℕ))) {there : Told} (other : Told)
+    → m ≤ n → there ≡ other → Comes behind m answer other → Comes behind n answer there
+comes_as behind n None other longer same h = same ∙ h
+comes_as behind n (Some x) other longer same h = (same ∙ h.0, let less = h.1 in omega (arith, less))
 
 -- one or more word bytes are a word
 bytes_are_word : (w : List ℕ) → AreWordBytes w → (length w == 0) ≡ false → IsWord w
@@ -160,6 +170,20 @@ word_is_read t (c ∷ w) u word rest some = rw (← word, ← rest) refl
 -- what follows them is shorter
 pub word_within : (t w u : List ℕ) → w ≡ word_of t → u ≡ after_word t → (length w == 0) ≡ false → suc (length u) ≤ length t
 word_within t w u word rest some = let shorter = read_word_takes.takes t w u (word_is_read t w u word rest some) in omega (arith, shorter)
+
+-- a field's name and the colon behind it come first of a field
+pub label_tells : (level : Level) (t w u v : List ℕ) → w ≡ word_of t → u ≡ after_word t → (length w == 0) ≡ false → strip (codes ": ") u ≡ Some v
+    → (turn_told (fields level) t ≡ prefixed ((Label, w) ∷ []) (turn_told (entries level) v)) × (length v < length t)
+label_tells level t w u v word rest some colon = (
+  rw (word_is_read t w u word rest some, colon) (labelled (entry_of level v)),
+  let shorter = word_within t w u word rest some in
+      let within = strip_within (codes ": ") u v colon in
+      omega (arith, shorter, within),
+)
+  where
+    labelled : (o : Option (Document × List ℕ)) → parse_map (fields level).tell (parse_map (λ value. (w, value)) o) ≡ prefixed ((Label, w) ∷ []) (parse_map told o)
+    labelled None = refl
+    labelled (Some x) = refl
 
 -- nothing is read where a test holds, or nothing stands there
 tested : (last opens : Bool) (o : Option (List ℕ × List ℕ)) → (opens ≡ true) ⊎ (o ≡ None) → None ≡ cond (last || opens) None o

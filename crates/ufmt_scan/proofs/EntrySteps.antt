@@ -1,14 +1,14 @@
 -- An open block behind one of its entries: the next entry, or its end.
 use Rattle.std.proofs.Common.{◌≡◌, refl, ℕ, zero, suc, ◌<◌, ◌≤◌, Bool, true, false, List, [], ◌∷◌, length, length-append, Option, Some, None, option_map, option_and_then, arith}
-use Rattle.ufmt.specs.Document.{Document}
-use Rattle.ufmt.specs.Layout.{Frame, ending, inside, next, separator, trail}
+use Rattle.ufmt.specs.Layout.{Frame, ending, frame, inside, lead, next, separator, trail}
 use Rattle.ufmt_core.specs.declared.layout.Count.{Count}
+use Rattle.ufmt_core.specs.declared.layout.Count.TheVariants.{Zero}
+use Rattle.ufmt_core.specs.declared.layout.Kind.{Kind}
 use Rattle.ufmt_core.specs.declared.layout.Setting.{Setting}
-use Rattle.ufmt_core.specs.declared.layout.Count.TheVariants.{One}
 use Rattle.ufmt.specs.Reading.{Parse, choose, parse_map, strip, read_word, read_pair, read_others, read_after_first}
 use Rattle.ufmt.proofs.Parsing.{strip_found, same_parts}
 use Rattle.ufmt.proofs.ReadingTurns.{Takes, strip_within, read_takes, read_pair_takes, read_word_takes}
-use Rattle.ufmt_scan.specs.Private.Entries.{behind_entry, read_more, read_on}
+use Rattle.ufmt_scan.specs.Private.Entries.{behind_entry}
 use Rattle.ufmt_scan.specs.declared.level.Level.{Level}
 use Rattle.ufmt_scan.specs.Private.Level.{budget_of, entry_at, entry_of, setting_at}
 
@@ -16,9 +16,14 @@ use Rattle.ufmt_scan.specs.Private.Level.{budget_of, entry_at, entry_of, setting
 pub strip_shortens : (c : ℕ) (text t u : List ℕ) → strip (c ∷ text) t ≡ Some u → length u < length t
 strip_shortens c text t u h = rw (strip_found (c ∷ text) t u h, length-append (c ∷ text) u) (omega arith)
 
--- nor is what is left behind an entry longer
+-- behind what stands before the first entry of a block it is no longer
+pub behind_lead : (level : Level) (kind : Kind) (t u : List ℕ) → strip (lead (frame level.mode kind) (inside (setting_at level)) Zero) t ≡ Some u → length u < suc (length t)
+behind_lead level kind t u h =
+    let within : length u ≤ length t = strip_within (lead (frame level.mode kind) (inside (setting_at level)) Zero) t u h in omega (arith, within)
+
+-- nor is what is left behind an entry
 pub behind_within : (f : Frame) (s : Setting) (before : Count) (t : List ℕ) (goes : Bool) (v : List ℕ)
-    → behind_entry f s before t ≡ Some (goes, v) → length v ≤ length t
+    → behind_entry f s before t ≡ Some (goes, v) → length v < suc (length t)
 unfolding behind_entry
 behind_within f s before t goes v h = behind (strip (trail s.mode) t) refl h
   where
@@ -31,7 +36,7 @@ behind_within f s before t goes v h = behind (strip (trail s.mode) t) refl h
 
     behind : (o : Option (List ℕ)) → strip (trail s.mode) t ≡ o
         → option_and_then (λ u. choose (strip (separator (inside s).mode (inside s).depth) u) (λ v. Some (true, v))
-        (option_map {U = Bool × List ℕ} (λ v. (false, v)) (strip (ending f s (next before)) u))) o ≡ Some (goes, v) → length v ≤ length t
+        (option_map {U = Bool × List ℕ} (λ v. (false, v)) (strip (ending f s (next before)) u))) o ≡ Some (goes, v) → length v < suc (length t)
     behind None a h = absurd (cc)
     behind (Some u) a h =
         let first = strip_within (trail s.mode) t u a in
@@ -52,19 +57,3 @@ pair_takes level = read_pair_takes (entry_of level) (entry_of level) (entry_of_t
 
 pub field_takes : (level : Level) → Takes (read_pair read_word (entry_of level))
 field_takes level = read_pair_takes read_word (entry_of level) read_word_takes (entry_of_takes level)
-
--- the first entry of a block, whatever it is read as
-pub first_is_read_on : {A : Type 0} (q : Parse A) (f : Frame) (s : Setting) (make : List A → Document) (o : Option (A × List ℕ))
-    → option_and_then (λ x. read_after_first q f s make x.0 x.1) o ≡ read_on q f s make [] o
-unfolding read_more
-first_is_read_on {A} q f s make None = refl
-first_is_read_on {A} q f s make (Some x) = behind (strip (trail s.mode) x.1)
-  where
-    mapped : (o : Option (List A × List ℕ)) → parse_map make (parse_map (λ ys. x.0 ∷ ys) o) ≡ parse_map (λ ys. make (x.0 ∷ ys)) o
-    mapped None = refl
-    mapped (Some p) = refl
-
-    behind : (o : Option (List ℕ)) → parse_map make (option_and_then (λ u. parse_map (λ ys. x.0 ∷ ys) (read_others q f s One u)) o)
-        ≡ option_and_then (λ u. parse_map (λ ys. make (x.0 ∷ ys)) (read_others q f s One u)) o
-    behind None = refl
-    behind (Some u) = mapped (read_others q f s One u)

@@ -3,14 +3,12 @@ pub mod DocumentParts
 pub mod Leaves
 pub mod QuotedCharacter
 pub mod QuotedLeaves
-pub mod ScanLabels
 pub mod ScanWhole
 pub mod Scans
-pub mod Spelled
 pub mod Stacks
-pub mod Strips
 pub mod Telling
-pub mod TellingParts
+pub mod Spelled
+pub mod Strips
 pub mod WordBytes
 pub mod IntoBuffers
 pub mod Lines

@@ -4,5 +4,4 @@ pub mod FrontWords
 pub mod Level
 pub mod Scanning
 pub mod Spelled
-pub mod Stack
 pub mod TextSink

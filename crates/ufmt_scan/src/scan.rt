@@ -7,6 +7,7 @@ mod part;
 mod refusal;
 mod stage;
 mod stages;
+mod tell;
 mod whole;
 
 pub use part::{Part, Sink};

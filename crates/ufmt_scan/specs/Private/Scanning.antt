@@ -1,26 +1,23 @@
 -- Telling a text part by part: what is told of it from where a scanner stands, without the documents before.
-use Rattle.std.specs.Prelude.{◌≡◌, ℕ, zero, suc, ◌<◌, ◌≤◌, Bool, true, false, length, take, List, [], ◌∷◌, ◌++◌, codes, Option, Some, None, option_and_then, MatchOption, Result, MatchResult}
+use Rattle.std.specs.Prelude.{◌≡◌, ℕ, zero, suc, ◌<◌, cond, Bool, length, List, [], ◌∷◌, ◌++◌, map, codes, Option, Some, None, option_and_then, MatchOption, Result, MatchResult}
 use Rattle.std.specs.Borrow.{Bor}
 use Rattle.ufmt.specs.Document.{Document}
-use Rattle.ufmt.specs.Layout.{Frame, frame, next, trail}
+use Rattle.ufmt.specs.Layout.{frame, inside, lead, next, setting, trail}
 use Rattle.ufmt_core.specs.declared.layout.Count.{Count}
-use Rattle.ufmt_core.specs.declared.layout.Count.TheVariants.{Zero, Several}
+use Rattle.ufmt_core.specs.declared.layout.Count.TheVariants.{Zero, One, Several}
 use Rattle.ufmt_core.specs.declared.layout.Kind.{Kind}
 use Rattle.ufmt_core.specs.declared.layout.Kind.TheVariants as kinds
-use Rattle.ufmt_core.specs.declared.layout.Setting.{Setting}
-use Rattle.ufmt.specs.Reading.{Parse, choose, parse_map, strip, read_word, read_pair, read_others}
+use Rattle.ufmt_core.specs.declared.layout.Mode.{Mode}
+use Rattle.ufmt.specs.Reading.{Parse, choose, parse_map, strip, read, read_word, read_pair, read_others}
 use Rattle.ufmt_scan.specs.declared.level.Level.{Level}
 use Rattle.ufmt_scan.specs.declared.scan.part.Part.{Part}
 use Rattle.ufmt_scan.specs.declared.scan.part.Part.TheVariants as parts
+use Rattle.ufmt_scan.specs.declared.scan.refusal.Refusal.{Refusal}
+use Rattle.ufmt_scan.specs.declared.scan.refusal.Refusal.TheVariants.{NotText, Refused}
 use Rattle.ufmt_scan.specs.declared.scan.stage.Stage.{Stage}
 use Rattle.ufmt_scan.specs.declared.scan.stage.Stage.TheVariants as stages
 use Rattle.ufmt_scan.specs.Private.Level.{entry_of, setting_at}
-use Rattle.ufmt_core.specs.declared.layout.Mode.{Mode}
-use Rattle.ufmt_scan.specs.declared.scan.refusal.Refusal.{Refusal}
-use Rattle.ufmt_scan.specs.declared.scan.refusal.Refusal.TheVariants.{NotText, Refused}
-use Rattle.ufmt_scan.specs.declared.scan.stages.Stages.{Stages}
-use Rattle.ufmt_scan.specs.Private.Stack.{document_at, from_innermost, level_at}
-use Rattle.ufmt_scan.specs.Scan.{Event, Leads, plainly, told, told_tail}
+use Rattle.ufmt_scan.specs.Scan.{Event, plainly, told, told_tail}
 
 -- what is told and what is left to read
 abbrev pub Told : Type 0
@@ -30,161 +27,152 @@ Told = Option (List Event × List ℕ)
 abbrev pub prefixed : List Event → Told → Told
 prefixed es o = parse_map (λ more. es ++ more) o
 
--- what is told of a pair and of a field
-abbrev pub told_pair : Document × Document → List Event
-told_pair p = told p.0 ++ plainly parts.Colon ∷ told p.1
+-- this, and then what is told of what it leaves
+abbrev pub then_told : Told → Parse (List Event) → Told
+then_told o more = option_and_then (λ x. prefixed x.0 (more x.1)) o
 
-abbrev pub told_field : List ℕ × Document → List Event
-told_field f = (parts.Label, f.0) ∷ told f.1
+-- how a block reads what stands in it one after another, and what is told of each
+pub record Turn : Type 1 where
+  pub Entry : Type 0
+  pub read : Parse Entry
+  pub tell : Entry → List Event
 
--- an entry, a pair or a field of a block at this level, as it is told
-abbrev pub entry_told : Level → Parse (List Event)
-entry_told level t = parse_map told (entry_of level t)
+abbrev pub entries : Level → Turn
+entries level = record { Entry = Document; read = entry_of level; tell = told }
 
-abbrev pub pair_told : Level → Parse (List Event)
-pair_told level t = parse_map told_pair (read_pair (entry_of level) (entry_of level) t)
+abbrev pub pairs : Level → Turn
+pairs level = record {
+  Entry = Document × Document;
+  read = read_pair (entry_of level) (entry_of level);
+  tell = λ p. told p.0 ++ plainly parts.Colon ∷ told p.1;
+}
 
-abbrev pub field_told : Level → Parse (List Event)
-field_told level t = parse_map told_field (read_pair read_word (entry_of level) t)
+abbrev pub fields : Level → Turn
+fields level = record {
+  Entry = List ℕ × Document;
+  read = read_pair read_word (entry_of level);
+  tell = λ f. (parts.Label, f.0) ∷ told f.1;
+}
 
--- an entry, a pair or a field, as it is told of a block that goes on at this stage
-abbrev pub turn_told : Level → Stage → Parse (List Event)
-turn_told level (stages.Entry kind before) = entry_told level
-turn_told level stages.Braces = entry_told level
-turn_told level stages.Key = pair_told level
-turn_told level (stages.Value before) = pair_told level
-turn_told level (stages.Field before) = field_told level
+-- of a block that goes on at this stage
+abbrev pub turn_of : Level → Stage → Turn
+turn_of level stages.Key = pairs level
+turn_of level (stages.Value before) = pairs level
+turn_of level (stages.Field before) = fields level
+turn_of level _ = entries level
 
--- what is told behind an entry, where the block has so many with it and `q` tells them
-unfoldable pub rest_told : Parse (List Event) → Frame → Setting → Kind → Count → Parse (List Event)
-rest_told q f s kind count t = option_and_then (λ u. parse_map (told_tail kind count) (read_others q f s count u)) (strip (trail s.mode) t)
+-- an entry, a pair or a field, as it is told
+abbrev pub turn_told : Turn → Parse (List Event)
+turn_told turn t = parse_map turn.tell (turn.read t)
 
--- a block to its end, where this is told of the entry that stands there
-abbrev pub tell_on : Parse (List Event) → Frame → Setting → Kind → Count → Told → Told
-tell_on q f s kind count o = option_and_then (λ x. prefixed x.0 (rest_told q f s kind count x.1)) o
+-- a block at this level behind so many of them
+unfoldable pub rest_told : Turn → Level → Kind → Count → Parse (List Event)
+rest_told turn level kind count t = option_and_then
+    (λ u. parse_map (λ xs. told_tail kind count (map turn.tell xs)) (read_others turn.read (frame level.mode kind) (setting_at level) count u))
+    (strip (trail level.mode) t)
 
--- the same of a block of this kind at a level
-abbrev pub tell_block : Parse (List Event) → Level → Kind → Count → Told → Told
-tell_block q level kind before o = tell_on q (frame level.mode kind) (setting_at level) kind (next before) o
+-- the same behind one that stands behind so many others, where the block goes on at this stage
+abbrev pub follows_told : Level → Kind → Count → Stage → Parse (List Event)
+follows_told level kind before stage = rest_told (turn_of level stage) level kind (next before)
 
--- a map from the value of a pair
-abbrev pub tell_value : Level → Count → Told → Told
-tell_value level before o = tell_block (pair_told level) level kinds.Braces before o
+-- a map behind a key and a colon
+abbrev pub value_told : Level → Count → Parse (List Event)
+value_told level before t = prefixed (plainly parts.Colon ∷ []) (then_told (turn_told (entries level) t) (rest_told (pairs level) level kinds.Braces (next before)))
 
--- a map from the colon behind a key
-abbrev pub tell_colon : Level → Count → List Event → List ℕ → Told
-tell_colon level before es t = tell_value level before (prefixed (es ++ plainly parts.Colon ∷ []) (entry_told level t))
-
--- an open block to its end, where this is told of the entry, key, value or field that stands there
-abbrev pub stage_told : Level → Stage → Told → Told
-stage_told level (stages.Entry kind before) o = tell_block (entry_told level) level kind before o
-stage_told level stages.Braces o =
-    option_and_then (λ x. choose (strip (codes ": ") x.1) (λ u. tell_colon level Zero x.0 u)
-    (tell_block (entry_told level) level kinds.Braces Zero (Some (x.0, x.1)))) o
-stage_told level stages.Key o = option_and_then (λ x. option_and_then (λ u. tell_colon level Several x.0 u) (strip (codes ": ") x.1)) o
-stage_told level (stages.Value before) o = tell_value level before o
-stage_told level (stages.Field before) o = tell_block (field_told level) level kinds.Struct before o
+-- an open block behind the entry, key, value or field that stands there
+abbrev pub stage_told : Level → Stage → Parse (List Event)
+stage_told level (stages.Entry kind before) t = rest_told (entries level) level kind (next before) t
+stage_told level stages.Braces t = choose (strip (codes ": ") t) (value_told level Zero) (rest_told (entries level) level kinds.Braces One t)
+stage_told level stages.Key t = option_and_then (value_told level Several) (strip (codes ": ") t)
+stage_told level (stages.Value before) t = rest_told (pairs level) level kinds.Braces (next before) t
+stage_told level (stages.Field before) t = rest_told (fields level) level kinds.Struct (next before) t
 
 -- what comes next in a block: a field with its name, or a document
 abbrev pub coming : Level → Stage → Parse (List Event)
-coming level (stages.Entry kind before) t = entry_told level t
-coming level stages.Braces t = entry_told level t
-coming level stages.Key t = entry_told level t
-coming level (stages.Value before) t = entry_told level t
-coming level (stages.Field before) t = field_told level t
+coming level (stages.Field before) = turn_told (fields level)
+coming level _ = turn_told (entries level)
+
+-- the block from there to its end, or nothing where no block is open
+abbrev pub after : Level → Option Stage → Parse (List Event)
+after level None t = Some ([], t)
+after level (Some stage) t = then_told (coming level stage t) (stage_told level stage)
 
 -- behind an entry a block of this kind goes on at this stage
 abbrev pub GoesOnAt : Level → Kind → Stage → Type 0
-GoesOnAt level kind next = (t : List ℕ) → stage_told level next (coming level next t) ≡ tell_block (turn_told level next) level kind Several (turn_told level next t)
+GoesOnAt level kind stage = (t : List ℕ) → after level (Some stage) t ≡ then_told (turn_told (turn_of level stage) t) (rest_told (turn_of level stage) level kind Several)
 
 -- the stage of a block that opens
 abbrev pub first_stage : Kind → Stage
-first_stage kinds.Brackets = stages.Entry kinds.Brackets Zero
 first_stage kinds.Braces = stages.Braces
 first_stage kinds.Struct = stages.Field Zero
-first_stage kinds.Tuple = stages.Entry kinds.Tuple Zero
-first_stage kinds.Unnamed = stages.Entry kinds.Unnamed Zero
+first_stage kind = stages.Entry kind Zero
 
--- what is told behind this part: the block that it opened, or nothing more
-abbrev pub behind_part : Level → Part → List ℕ → Told
-behind_part level (parts.Open kind) t = stage_told level (first_stage kind) (coming level (first_stage kind) t)
-behind_part level parts.Leaf t = Some ([], t)
-behind_part level (parts.Empty kind) t = Some ([], t)
-behind_part level parts.Label t = Some ([], t)
-behind_part level parts.Colon t = Some ([], t)
-behind_part level parts.Next t = Some ([], t)
-behind_part level (parts.Close kind count) t = Some ([], t)
+-- a block with this name behind the name or its opening, where it has entries
+abbrev pub open_told : Level → Kind → List ℕ → List ℕ → Told
+open_told level kind name t = prefixed ((parts.Open kind, name) ∷ []) (after level (Some (first_stage kind)) t)
 
--- a part was told with its text, in telling this, and leaves fewer bytes than the number
-abbrev pub Begins : Level → ℕ → Option (Part × Bor (List ℕ) × Bor (List ℕ)) → Told → Type 0
-Begins level bytes answer there = MatchOption answer (there ≡ None)
-    (λ x. (there ≡ prefixed ((x.0, x.1.now) ∷ []) (behind_part level x.0 x.2.now)) × (length x.2.now < bytes))
+-- and where it may have none
+abbrev pub block_told : Level → Kind → Parse (List Event)
+block_told level kind t = choose (strip ((frame level.mode kind).closing Zero) t) (λ u. Some (plainly (parts.Empty kind) ∷ [], u))
+    (option_and_then (open_told level kind []) (strip (lead (frame level.mode kind) (inside (setting_at level)) Zero) t))
 
--- what is told behind what follows an entry: the block goes on at its next stage, or it has ended
-abbrev pub behind_entry_told : Level → Part → Stage → List ℕ → Told
-behind_entry_told level (parts.Close kind count) stage t = Some ([], t)
-behind_entry_told level parts.Colon stage t = stage_told level stage (coming level stage t)
-behind_entry_told level parts.Next stage t = stage_told level stage (coming level stage t)
-behind_entry_told level parts.Leaf stage t = stage_told level stage (coming level stage t)
-behind_entry_told level (parts.Empty kind) stage t = stage_told level stage (coming level stage t)
-behind_entry_told level (parts.Open kind) stage t = stage_told level stage (coming level stage t)
-behind_entry_told level parts.Label stage t = stage_told level stage (coming level stage t)
+-- a part comes of what is there to tell, and leaves fewer bytes than the number, of which this is told
+abbrev pub Comes : (Option Stage → Parse (List Event)) → ℕ → Option (Part × Bor (List ℕ) × Option Stage × Bor (List ℕ)) → Told → Type 0
+Comes behind bytes answer there = MatchOption answer (there ≡ None)
+    (λ x. (there ≡ prefixed ((x.0, x.1.now) ∷ []) (behind x.2 x.3.now)) × (length x.3.now < bytes))
 
--- the part that follows what stands in a block was told, and leaves at most so many bytes
-abbrev pub Follows : Level → ℕ → Option (Part × Stage × Bor (List ℕ)) → Told → Type 0
-Follows level bytes answer there = MatchOption answer (there ≡ None)
-    (λ x. (there ≡ prefixed (plainly x.0 ∷ []) (behind_entry_told level x.0 x.1 x.2.now)) × (length x.2.now ≤ bytes))
+-- the level with this many blocks round it
+abbrev pub level_at : Mode → ℕ → Level
+level_at mode k = record { mode = mode; depth = k }
 
--- the stages of the blocks that are open
-abbrev pub open_stages : Stages → List Stage
-open_stages s = take s.count s.items
+-- what is told of a document with this many blocks round it: no entry begins in the 256th
+abbrev pub document_at : Mode → ℕ → Parse (List Event)
+document_at mode zero t = parse_map told (read (setting mode 0) 255 t)
+document_at mode (suc k) t = turn_told (entries (level_at mode k)) t
 
--- what is told in all of blocks that are open, the outermost first and with this many round it, where this is told of the entry that stands in the innermost
-abbrev pub stages_told : Mode → ℕ → List Stage → Told → Told
-stages_told mode k open_blocks o = from_innermost (λ n. stage_told (level_at mode n)) k open_blocks o
+-- what is told of all blocks that are open, the innermost first, behind the entry that stands there
+abbrev pub behind_told : Mode → List Stage → Parse (List Event)
+behind_told mode [] t = Some ([], t)
+behind_told mode (stage ∷ outer) t = then_told (stage_told (level_at mode (length outer)) stage t) (behind_told mode outer)
 
--- what comes next in the innermost of them, or where none is open
-abbrev pub coming_in : Mode → ℕ → List Stage → Parse (List Event)
-coming_in mode k [] t = parse_map told (document_at mode zero t)
-coming_in mode k (stage ∷ []) t = coming (level_at mode k) stage t
-coming_in mode k (stage ∷ inner ∷ more) t = coming_in mode (suc k) (inner ∷ more) t
+-- where a document begins in the innermost of them
+abbrev pub document_told : Mode → List Stage → Parse (List Event)
+document_told mode open_blocks t = then_told (document_at mode (length open_blocks) t) (behind_told mode open_blocks)
 
--- a sink that took some parts takes these behind them, or stops at the last
-abbrev pub Takes : {S : Type 0} → (S → List Event → S → Type 0) → (S → List Event → S → Type 0) → S → List Event → S → Type 0
-Takes {S} took kept old es new = (start : S) (out : List Event) → took start out old → kept start (out ++ es) new
+-- or what comes next in it
+abbrev pub coming_in : Mode → List Stage → Parse (List Event)
+coming_in mode [] = document_at mode zero
+coming_in mode (stage ∷ outer) = coming (level_at mode (length outer)) stage
 
--- some parts of this were told, and this is left of it
-abbrev pub TellsOn : {S : Type 0} → (S → List Event → S → Type 0) → S → S → Told → Told → Type 0
-TellsOn took old new there left = (es : List Event) × Takes took took old es new × (there ≡ prefixed es left)
+abbrev pub all_told : Mode → List Stage → Parse (List Event)
+all_told mode open_blocks t = then_told (coming_in mode open_blocks t) (behind_told mode open_blocks)
 
--- some parts were told of what turned out to be nothing that can be told
-abbrev pub NothingTold : {S : Type 0} → (S → List Event → S → Type 0) → S → S → Told → Type 0
-NothingTold took old new there = (es : List Event) × Takes took took old es new × (there ≡ None)
+-- behind a part: in these blocks, and one that goes on in them
+abbrev pub onward_told : Mode → List Stage → Option Stage → Parse (List Event)
+onward_told mode outer None = behind_told mode outer
+onward_told mode outer (Some stage) = all_told mode (stage ∷ outer)
 
--- some parts of this were told, and the answer says what is left; or the sink stopped at one, or there is nothing to tell
-module _ {S : Type 0} (took stopped : S → List Event → S → Type 0) where
-  abbrev pub OnRefused : {E : Type 0} → S → S → Told → Refusal E → Type 0
-  OnRefused old new there NotText = NothingTold took old new there
-  OnRefused old new there (Refused e) = (es : List Event) × Takes took stopped old es new × ((x : List Event × List ℕ) → there ≡ Some x → Leads es x.0)
+-- where the blocks are ended as far as they end: nothing more, or what comes in the innermost of these
+abbrev pub left_told : Mode → List Stage → Bool → Parse (List Event)
+left_told mode open_blocks ended t = cond ended (Some ([], t)) (all_told mode open_blocks t)
 
-  abbrev pub ScansOn : {A E : Type 0} → Result A (Refusal E) → S → S → Told → (A → Told) → Type 0
-  ScansOn answer old new there after = MatchResult answer (λ x. TellsOn took old new there (after x)) (OnRefused old new there)
+-- a sink that took some parts took these of what is there to tell behind them, or stopped at the last, and this is left to tell
+pub record Tells {S : Type 0} (took kept : S → List Event → S → Type 0) (old new : S) (there left : Told) : Type 0 where
+  pub parts : List Event
+  pub takes : (start : S) (es : List Event) → took start es old → kept start (es ++ parts) new
+  pub is : there ≡ prefixed parts left
 
--- what is told where the blocks are ended as far as they end: nothing more, or what comes in the innermost of these
-abbrev pub goes_on_told : Mode → List Stage → Bool → List ℕ → Told
-goes_on_told mode open_blocks true t = Some ([], t)
-goes_on_told mode open_blocks false t = stages_told mode 0 open_blocks (coming_in mode 0 open_blocks t)
+-- why a scan ended says whether the last part was taken
+abbrev pub kept_by : {S E : Type 0} → (S → List Event → S → Type 0) → (S → List Event → S → Type 0) → Refusal E → S → List Event → S → Type 0
+kept_by took stopped NotText = took
+kept_by took stopped (Refused e) = stopped
 
--- the stage of the block that a part opens, if it opens one
-abbrev pub stage_of : Part → Option Stage
-stage_of (parts.Open kind) = Some (first_stage kind)
-stage_of parts.Leaf = None
-stage_of (parts.Empty kind) = None
-stage_of parts.Label = None
-stage_of parts.Colon = None
-stage_of parts.Next = None
-stage_of (parts.Close kind count) = None
+-- the sink stopped at a part of what is there to tell, or took some, and there is nothing to tell
+pub record Stops {S E : Type 0} (took stopped : S → List Event → S → Type 0) (old new : S) (there : Told) (why : Refusal E) : Type 0 where
+  pub left : Told
+  pub tells : Tells took (kept_by took stopped why) old new there left
+  pub none : why ≡ NotText → left ≡ None
 
--- what is told in all where a document begins in the innermost of these blocks
-abbrev pub beginning_told : Mode → List Stage → List ℕ → Told
-beginning_told mode open_blocks t = stages_told mode 0 open_blocks (parse_map told (document_at mode (length open_blocks) t))
+-- some parts were told, and the answer says what is left, or why the scan ended
+abbrev pub ScansOn : {S A E : Type 0} → (S → List Event → S → Type 0) → (S → List Event → S → Type 0) → Result A (Refusal E) → S → S → Told → (A → Told) → Type 0
+ScansOn took stopped answer old new there left = MatchResult answer (λ x. Tells took took old new there (left x)) (Stops took stopped old new there)

@@ -1,23 +1,24 @@
 //! What follows an entry, a key or a value.
-ghost use Rattle.std.specs.Prelude.{[], length, Some};
+ghost use Rattle.std.specs.Prelude.{length, suc};
 ghost use Rattle.ufmt_core.specs.declared.layout.Kind.TheVariants.{Braces};
 ghost use Rattle.ufmt_core.specs.declared.layout.Count.TheVariants.{Several};
 ghost use Rattle.ufmt_scan.specs.declared.scan.stage.Stage.TheVariants.{Value};
-ghost use Rattle.ufmt_scan.specs.Private.Scanning.{Follows, GoesOnAt, coming, stage_told, tell_block, tell_colon, turn_told};
+ghost use Rattle.ufmt_scan.specs.Private.Scanning.{Comes, GoesOnAt, after, follows_told, stage_told};
 
 use super::part::Part;
 use super::stage::Stage;
+use super::tell::Step;
 use crate::level::{Level, strip_colon};
 use ufmt::layout::{Count, Kind};
 
-/// The part that follows what stands in a block at this stage, the stage behind it, and the rest.
+/// The part that follows what stands in a block at this stage.
 #[inline(always)]
 pub(super) fn behind<S, const PRETTY: bool>(
     level: Level,
     stage: Stage,
     input: &[u8],
-) -> Option<(Part, Stage, &[u8])>
-    ensures { Follows level (length input.now) result (stage_told level stage (Some ([], input.now))) }
+) -> Option<Step<'_>>
+    ensures { Comes (after level) (suc (length input.now)) result (stage_told level stage input.now) }
 {
     match stage {
         Stage::Entry(kind, before) => {
@@ -25,7 +26,7 @@ pub(super) fn behind<S, const PRETTY: bool>(
             behind_entry::<S, PRETTY>(level, kind, before, next, input)
         }
         Stage::Braces => match strip_colon(input) {
-            Some(rest) => Some((Part::Colon, Stage::Value(Count::Zero), rest)),
+            Some(rest) => Some((Part::Colon, "", Some(Stage::Value(Count::Zero)), rest)),
             None => {
                 let next = Stage::Entry(Kind::Braces, Count::Several);
                 behind_entry::<S, PRETTY>(level, Kind::Braces, Count::Zero, next, input)
@@ -33,7 +34,7 @@ pub(super) fn behind<S, const PRETTY: bool>(
         },
         Stage::Key => {
             let rest = strip_colon(input)?;
-            Some((Part::Colon, Stage::Value(Count::Several), rest))
+            Some((Part::Colon, "", Some(Stage::Value(Count::Several)), rest))
         }
         Stage::Value(before) => {
             behind_entry::<S, PRETTY>(level, Kind::Braces, before, Stage::Key, input)
@@ -53,15 +54,15 @@ fn behind_entry<S, const PRETTY: bool>(
     before: Count,
     next: Stage,
     input: &[u8],
-) -> Option<(Part, Stage, &[u8])>
+) -> Option<Step<'_>>
     requires { GoesOnAt level kind next }
-    ensures { Follows level (length input.now) result
-        (tell_block (turn_told level next) level kind before (Some ([], input.now))) }
+    ensures { Comes (after level) (suc (length input.now)) result
+        (follows_told level kind before next input.now) }
 {
     let (goes_on, rest) = level.behind_entry(kind, before, input)?;
     if goes_on {
-        Some((Part::Next, next, rest))
+        Some((Part::Next, "", Some(next), rest))
     } else {
-        Some((Part::Close(kind, before.next()), next, rest))
+        Some((Part::Close(kind, before.next()), "", None, rest))
     }
 }

@@ -1,8 +1,7 @@
 //! A block that is open in a text that is told.
 ghost use Rattle.std.specs.Prelude.{◌≡◌};
-ghost use Rattle.ufmt_scan.specs.Private.Scanning.{stage_of};
+ghost use Rattle.ufmt_scan.specs.Private.Scanning.{first_stage};
 
-use super::part::Part;
 use ufmt::layout::{Count, Kind};
 
 /// A block that is open, by what stands in it.
@@ -20,17 +19,16 @@ pub(super) enum Stage {
     Field(Count),
 }
 
-impl Part {
-    /// The stage of the block that the part opens.
+impl Stage {
+    /// A block of this kind whose first entry stands there.
     #[inline(always)]
-    pub(super) fn stage(self) -> Option<Stage>
-        ensures { result ≡ stage_of self }
+    pub(super) fn first(kind: Kind) -> Stage
+        ensures { result ≡ first_stage kind }
     {
-        match self {
-            Part::Open(Kind::Braces) => Some(Stage::Braces),
-            Part::Open(Kind::Struct) => Some(Stage::Field(Count::Zero)),
-            Part::Open(kind) => Some(Stage::Entry(kind, Count::Zero)),
-            _ => None,
+        match kind {
+            Kind::Braces => Stage::Braces,
+            Kind::Struct => Stage::Field(Count::Zero),
+            _ => Stage::Entry(kind, Count::Zero),
         }
     }
 }

@@ -1,20 +1,29 @@
 //! The blocks that are open in a text that is told, one in another, in an array.
-ghost use Rattle.std.specs.Prelude.{◌≡◌, ◌<◌, ◌≤◌, ◌+◌, [], ◌∷◌, ◌++◌, length, take, MatchOption};
+ghost use Rattle.std.specs.Prelude.{◌≡◌, ◌<◌, ◌≤◌, ◌∷◌, [], length, reverse, take, List, MatchOption};
+ghost use Rattle.ufmt_scan.specs.declared.scan.stage.Stage.{Stage};
 
 use super::stage::Stage;
+use std::marker::Model;
 
-/// The open blocks, the outermost first, each but the last with an entry that is open too.
+/// The open blocks, each but the innermost with an entry that is open too. A contract sees their
+/// stages, the innermost first.
 #[derive(Drop)]
 pub(super) struct Stages {
-    pub(super) items: [Stage; 256],
-    pub(super) count: usize,
-    ghost few: { count ≤ 256 },
-    ghost all: { length items ≡ 256 },
+    items: [Stage; 256],
+    count: usize,
+}
+
+impl Model for Stages {
+    ghost Value = { List Stage };
+
+    ghost view = { λ s. reverse (take s.count s.items) };
+
+    ghost invariant = { λ s. (s.count ≤ 256) × (length s.items ≡ 256) };
 }
 
 impl Stages {
     pub(super) fn new() -> Stages
-        ensures { result.count ≡ 0 }
+        ensures { result ≡ [] }
     {
         Stages {
             items: [Stage::Braces; 256],
@@ -23,21 +32,49 @@ impl Stages {
     }
 
     /// The depth of an entry that begins in the innermost block, unless no entry may.
+    #[inline(always)]
     pub(super) fn entry_depth(&self) -> Option<u8>
-        ensures { MatchOption result (self.now.count ≡ 256)
-            (λ depth. (depth ≡ self.now.count) × (self.now.count < 256)) }
+        ensures { MatchOption result (length self.now ≡ 256)
+            (λ depth. (depth ≡ length self.now) × (depth < 256)) }
     {
         u8::try_from(self.count).ok()
     }
 
-    /// Opens a block in the innermost one.
-    pub(super) fn push(&mut self, stage: Stage)
-        requires { self.old.count < 256 }
-        ensures stages { take self.new.count self.new.items
-            ≡ take self.old.count self.old.items ++ stage ∷ [] }
-        ensures count { self.new.count ≡ self.old.count + 1 }
+    /// The innermost block, and how many lie round it.
+    #[inline(always)]
+    pub(super) fn innermost(&self) -> Option<(Stage, u8)>
+        ensures { MatchOption result (self.now ≡ [])
+            (λ x. (outer : List Stage) × (self.now ≡ x.0 ∷ outer) × (x.1 ≡ length outer)) }
     {
-        self.items[self.count] = stage;
-        self.count += 1;
+        let last = self.count.checked_sub(1)?;
+        Some((self.items[last], last as u8))
+    }
+
+    /// Opens a block at this depth, in the innermost one.
+    #[inline(always)]
+    pub(super) fn push(&mut self, depth: u8, stage: Stage)
+        requires { depth ≡ length self.old }
+        ensures { self.new ≡ stage ∷ self.old }
+    {
+        self.items[depth as usize] = stage;
+        self.count = depth as usize + 1;
+    }
+
+    /// The innermost block, which is at this depth, goes on at this stage.
+    #[inline(always)]
+    pub(super) fn go_on(&mut self, depth: u8, stage: Stage)
+        ensures { (before : Stage) (outer : List Stage) → self.old ≡ before ∷ outer
+            → depth ≡ length outer → self.new ≡ stage ∷ outer }
+    {
+        self.items[depth as usize] = stage;
+    }
+
+    /// The innermost block, which is at this depth, ends.
+    #[inline(always)]
+    pub(super) fn pop(&mut self, depth: u8)
+        ensures { (before : Stage) (outer : List Stage) → self.old ≡ before ∷ outer
+            → depth ≡ length outer → self.new ≡ outer }
+    {
+        self.count = depth as usize;
     }
 }

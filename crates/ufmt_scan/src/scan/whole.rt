@@ -9,6 +9,7 @@ use super::begin::begin;
 use super::part::Sink;
 use super::refusal::Refusal;
 use super::stages::Stages;
+use super::tell::tell;
 use crate::level::Level;
 use ufmt::layout::Mode;
 
@@ -52,25 +53,15 @@ fn tell_document<'a, S: Sink, const PRETTY: bool>(
     let mut stages = Stages::new();
     let mut rest = input;
     'documents: while let Some(depth) = stages.entry_depth() {
-        rest = match stages.tell_label::<S, PRETTY>(mode, sink, rest) {
-            Ok(after) => after,
-            Err(refusal) => return Err(refusal),
-        };
-        let Some((part, text, after)) = begin::<S, PRETTY>(Level { mode, depth }, rest) else {
-            return Err(Refusal::NotText);
-        };
+        let begun = stages.tell_label::<S, PRETTY>(mode, sink, rest)?;
+        let step = begin::<S, PRETTY>(Level { mode, depth }, begun);
+        let (opened, after) = tell(step, sink)?;
         rest = after;
-        if let Err(e) = sink.hear(part, text) {
-            return Err(Refusal::Refused(e));
-        }
-        if let Some(stage) = part.stage() {
-            stages.push(stage);
+        if let Some(stage) = opened {
+            stages.push(depth, stage);
             continue 'documents;
         }
-        let (ended, after) = match stages.end_entries::<S, PRETTY>(mode, sink, rest) {
-            Ok(answer) => answer,
-            Err(refusal) => return Err(refusal),
-        };
+        let (ended, after) = stages.end_entries::<S, PRETTY>(mode, sink, rest)?;
         rest = after;
         if ended {
             return Ok(rest);

@@ -1,25 +1,32 @@
-use Rattle.std.proofs.Common.{ap, sym}
+use Rattle.std.proofs.Common.{sym, [], arith}
 use Rattle.ufmt.specs.Layout.{inside, new_line}
-use Rattle.ufmt.specs.Reading.{parse_map}
-use Rattle.ufmt_scan.specs.Private.Level.{entry_of, setting_at}
-use Rattle.ufmt_scan.specs.Scan.{told}
-use Rattle.ufmt_scan.proofs.DocumentParts.{symbol_begins}
+use Rattle.ufmt_scan.specs.Private.Level.{setting_at}
+use Rattle.ufmt_scan.specs.Private.Scanning.{after}
+use Rattle.ufmt_scan.proofs.DocumentParts.{braces_tells, comes_as, list_tells, symbol_tells, unnamed_tells}
 use Rattle.ufmt_scan.proofs.EntrySteps.{strip_shortens}
-use Rattle.ufmt_scan.proofs.TellingParts.{unnamed_tells}
 use Rattle.ufmt_scan.proofs.scan.begin.begin_without_name.Goals as goal
 
-pub returns-in_ok-rest : goal.returns-in_ok-rest
-returns-in_ok-rest g c =
-    let level = c.args.level in
-    let rest = c.in_ok-rest.rest.now in
-    let lead = sym c.in_ok-rest.ensures in (
-      unnamed_tells level c.args.input.now rest (sym c.in_default.ensures) (sym c.in_default-strip_opening.ensures) (sym c.in_default-split_symbol.ensures) lead,
-      strip_shortens 40 (new_line level.mode (inside (setting_at level)).depth) c.args.input.now rest lead,
-    )
+pub returns-in-Some : goal.returns-in-Some
+returns-in-Some g c =
+    let shorter = strip_shortens 91 [] c.args.input.now c.in-Some.rest.now (sym c.in-Some.ensures) in
+    comes_as (after c.args.level) _ c.begin_block.result _ (omega (arith, shorter)) (rw (sym c.in-Some.ensures) (list_tells c.args.level c.in-Some.rest.now)) c.begin_block.ensures
+
+pub returns-in-Some-strip_opening : goal.returns-in-Some-strip_opening
+returns-in-Some-strip_opening g c =
+    let rest = c.in-Some-strip_opening.rest.now in
+    let shorter = strip_shortens 123 [] c.args.input.now rest (sym c.in-Some-strip_opening.ensures) in
+    comes_as (after c.args.level) _ c.begin_block-in-Some-strip_opening.result _ (omega (arith, shorter))
+    (rw (sym c.in_default.ensures, sym c.in-Some-strip_opening.ensures) (braces_tells c.args.level rest)) c.begin_block-in-Some-strip_opening.ensures
 
 pub returns-in-Some-split_symbol : goal.returns-in-Some-split_symbol
-returns-in-Some-split_symbol g c =
-    let text = c.in-Some-split_symbol.text.now in
-    let rest = c.in-Some-split_symbol.rest.now in
-    let read = symbol_begins (setting_at c.args.level) (entry_of c.args.level) c.args.input.now text rest (sym c.in_default.ensures) (sym c.in_default-strip_opening.ensures) (sym c.in-Some-split_symbol.ensures) in
-    (ap (parse_map told) read.0, read.1)
+returns-in-Some-split_symbol g c = symbol_tells c.args.level c.args.input.now c.in-Some-split_symbol.text.now c.in-Some-split_symbol.rest.now
+    (sym c.in_default.ensures) (sym c.in_default-strip_opening.ensures) (sym c.in-Some-split_symbol.ensures)
+
+pub returns-in_ok-strip_lead : goal.returns-in_ok-strip_lead
+returns-in_ok-strip_lead g c =
+    let level = c.args.level in
+    let rest = c.in_ok-strip_lead.field-0.now in
+    let lead = sym c.in_ok-strip_lead.ensures in
+    c.open.ensures level _ _
+    (unnamed_tells level c.args.input.now rest (sym c.in_default.ensures) (sym c.in_default-strip_opening.ensures) (sym c.in_default-split_symbol.ensures) lead)
+    (strip_shortens 40 (new_line level.mode (inside (setting_at level)).depth) c.args.input.now rest lead)

@@ -1,36 +1,31 @@
-use Rattle.std.proofs.Common.{◌∙◌, ap, [], take, arith}
-use Rattle.ufmt_scan.specs.declared.scan.refusal.Refusal.TheVariants.{Refused}
-use Rattle.ufmt_scan.specs.Private.Scanning.{stages_told}
-use Rattle.ufmt_scan.specs.Private.Stack.{level_at}
-use Rattle.ufmt_scan.proofs.Scans.{ends_at, goes_on_at, goes_on_in, innermost_tells, innermost_told, none_behind, nothing_told, part_refused, refused_behind, stages_none, tells_left, tells_part, tells_then}
+use Rattle.std.proofs.Common.{◌≡◌, ◌∙◌, ap, sym, arith}
+use Rattle.ufmt_scan.specs.Private.Scanning.{all_told, behind_told, left_told, onward_told}
+use Rattle.ufmt_scan.proofs.Scans.{follows_in, refused, stops_behind, tells_left, tells_then}
 use Rattle.ufmt_scan.proofs.scan.stages.Stages.end_entries.Goals as goal
 
-pub returns-in_default-behind-clause-told : goal.returns-in_default-behind-clause-told
-returns-in_default-behind-clause-told g c =
-    none_behind g.S.Sink.took g.S.Sink.stopped c.ends.invariant.told (nothing_told g.S.Sink.took g.S.Sink.stopped
-    (innermost_tells c.args.mode c.ends.self.items c.in-Some.last c.ends.self.count _ _ _ (omega arith) (omega arith) c.in_default-behind.ensures
-    ∙ stages_none c.args.mode 0 (take c.in-Some.last c.ends.self.items)))
+pub returns-in_err-next-clause-told : goal.returns-in_err-next-clause-told
+returns-in_err-next-clause-told g c =
+    let blocks = c.in-Some.ensures in
+    refused (λ x. left_told c.args.mode c.ends.self x.0 x.1.now) c.from_residual.result c.from_residual.ensures.1 (stops_behind c.ends.invariant.told
+    (c.in_err-next.ensures _ _ _ (follows_in c.args.mode c.ends.self blocks.0 c.in-Some.stage c.in-Some.depth _ c.ends.rest.now c.behind-step.result blocks.1 blocks.2 c.behind-step.ensures)).0)
 
-pub returns-in-Err-clause-told : goal.returns-in-Err-clause-told
-returns-in-Err-clause-told g c =
-    refused_behind g.S.Sink.took g.S.Sink.stopped _ _ (Refused c.in-Err.e) c.ends.invariant.told (part_refused g.S.Sink.took g.S.Sink.stopped _ c.in-Err.e c.in-Err.ensures
-    (innermost_told c.args.mode c.ends.self.items c.in-Some.last c.ends.self.count _ _ _ (c.in-Some-behind.part, []) (omega arith) (omega arith) c.in-Some-behind.ensures.0))
+pub returns-in-Some-next-clause-told : goal.returns-in-Some-next-clause-told
+returns-in-Some-next-clause-told g c =
+    let blocks = c.in-Some.ensures in
+    tells_left (tells_then c.ends.invariant.told
+    (c.in_ok-next.ensures _ _ _ (follows_in c.args.mode c.ends.self blocks.0 c.in-Some.stage c.in-Some.depth _ c.ends.rest.now c.behind-step.result blocks.1 blocks.2 c.behind-step.ensures)).0)
+    (ap (λ next. onward_told c.args.mode blocks.0 next c.in_ok-next.after.now) c.in-Some-next.is
+    ∙ ap (λ open_blocks. all_told c.args.mode open_blocks c.in_ok-next.after.now) (sym (c.go_on.ensures _ _ blocks.1 blocks.2)))
 
 pub ends-preserved : goal.ends-preserved
 ends-preserved g c =
-    let told = tells_left g.S.Sink.took g.S.Sink.stopped (tells_then g.S.Sink.took g.S.Sink.stopped _ c.ends.invariant.told
-    (tells_part g.S.Sink.took g.S.Sink.stopped _ c.in_default-hear.ensures
-    (innermost_told c.args.mode c.ends.self.items c.in-Some.last c.ends.self.count _ _ _ (c.in-Some-behind.part, []) (omega arith) (omega arith) c.in-Some-behind.ensures.0)))
-    (ap (stages_told c.args.mode 0 (take c.in-Some.last c.ends.self.items))
-    (ends_at (level_at c.args.mode c.in-Some.last) c.in-Some-behind.part c.in-Some-behind.stage c.in-Some-behind.after.now _ _ c.in-Close.is)) in
-    record { told = told; within = omega (arith, c.ends.invariant.within, c.in-Some-behind.ensures.1) }
-
-pub returns-in_default-part : goal.returns-in_default-part
-returns-in_default-part g c =
-    let told = tells_left g.S.Sink.took g.S.Sink.stopped (tells_then g.S.Sink.took g.S.Sink.stopped _ c.ends.invariant.told
-    (tells_part g.S.Sink.took g.S.Sink.stopped _ c.in_default-hear.ensures
-    (innermost_told c.args.mode c.ends.self.items c.in-Some.last c.ends.self.count _ _ _ (c.in-Some-behind.part, []) (omega arith) (omega arith) c.in-Some-behind.ensures.0)))
-    (ap (stages_told c.args.mode 0 (take c.in-Some.last c.ends.self.items))
-    (goes_on_at (level_at c.args.mode c.in-Some.last) c.in-Some-behind.part c.in-Some-behind.stage c.in-Some-behind.after.now c.in_default-part.not-Close)
-    ∙ goes_on_in c.args.mode c.ends.self.items c.in-Some.last c.ends.self.count c.in-Some-behind.stage c.in-Some-behind.after.now (omega arith) (omega arith)) in
-    record { told = told; within = omega (arith, c.ends.invariant.within, c.in-Some-behind.ensures.1) }
+    let blocks = c.in-Some.ensures in
+    let comes = follows_in c.args.mode c.ends.self blocks.0 c.in-Some.stage c.in-Some.depth _ c.ends.rest.now c.behind-step.result blocks.1 blocks.2 c.behind-step.ensures in
+    let step = c.in_ok-next.ensures _ _ _ comes in
+    let less = step.1 in
+    record {
+      told = tells_left (tells_then c.ends.invariant.told step.0)
+          (ap (λ next. onward_told c.args.mode blocks.0 next c.in_ok-next.after.now) c.in_default-next.is
+          ∙ ap (λ open_blocks. behind_told c.args.mode open_blocks c.in_ok-next.after.now) (sym (c.pop.ensures _ _ blocks.1 blocks.2)));
+      within = omega (arith, c.ends.invariant.within, less);
+    }

@@ -1,41 +1,30 @@
-use Rattle.std.proofs.Common.{◌∙◌, ap, sym, ◌<◌, length, arith}
-use Rattle.ufmt_scan.specs.declared.scan.part.Part.TheVariants.{Label}
-use Rattle.ufmt_scan.specs.Private.Scanning.{open_stages, stages_told}
-use Rattle.ufmt.proofs.ReadingTurns.{read_word_takes}
-use Rattle.ufmt_scan.proofs.DocumentParts.{colon_within}
-use Rattle.ufmt_scan.proofs.ScanLabels.{document_comes, label_comes, no_label_comes}
-use Rattle.ufmt_scan.proofs.Scans.{nothing_told, part_refused, stages_none, tells_nothing, tells_part, told_in}
+use Rattle.std.proofs.Common.{◌≡◌, refl, sym, ℕ, ◌∷◌, List, Option, Bor, length, arith}
+use Rattle.ufmt_core.specs.declared.layout.Count.{Count}
+use Rattle.ufmt_core.specs.declared.layout.Mode.{Mode}
+use Rattle.ufmt_scan.specs.declared.level.Level.{Level}
+use Rattle.ufmt_scan.specs.declared.scan.part.Part.{Part}
+use Rattle.ufmt_scan.specs.declared.scan.stage.Stage.{Stage}
+use Rattle.ufmt_scan.specs.declared.scan.stage.Stage.TheVariants.{Field}
+use Rattle.ufmt_scan.specs.Private.Scanning.{Comes, all_told, behind_told, document_told, entries, fields, level_at, turn_told}
+use Rattle.ufmt_scan.proofs.Scans.{comes_then, refused}
 use Rattle.ufmt_scan.proofs.scan.stages.Stages.tell_label.Goals as goal
 
-pub returns-in_default-items : goal.returns-in_default-items
-returns-in_default-items g c =
-    record {
-      told = tells_nothing g.S.Sink.took g.S.Sink.stopped (ap (stages_told c.args.mode 0 (open_stages c.args.self.now))
-          (document_comes c.args.mode c.args.self.now.items c.in-Some.last c.args.self.now.count _ (omega arith) (omega arith) c.args.input.now c.in_default-items.not-Field));
-      within = omega arith;
-    }
+-- a field's name comes first of all that is told, where the innermost block is a struct
+label_comes : (mode : Mode) (open_blocks outer : List Stage) (stage : Stage) (before : Count) (bytes : ℕ) (t : List ℕ) (answer : Option (Part × Bor (List ℕ) × Option Stage × Bor (List ℕ)))
+    → open_blocks ≡ stage ∷ outer → stage ≡ Field before → ((level : Level) → Comes (λ next. turn_told (entries level)) bytes answer (turn_told (fields level) t))
+    → Comes (λ next. document_told mode open_blocks) bytes answer (all_told mode open_blocks t)
+label_comes mode open_blocks outer stage before bytes t answer is field h =
+    rw (is, field) (comes_then (behind_told mode (Field before ∷ outer)) (λ next. turn_told (entries (level_at mode (length outer)))) (λ next. document_told mode (Field before ∷ outer)) (λ next u. refl) bytes answer _ (h (level_at mode (length outer))))
 
-pub returns-in_default-label-clause-told : goal.returns-in_default-label-clause-told
-returns-in_default-label-clause-told g c =
-    nothing_told g.S.Sink.took g.S.Sink.stopped (ap (stages_told c.args.mode 0 (open_stages c.args.self.now))
-    (no_label_comes c.args.mode c.args.self.now.items c.in-Some.last c.args.self.now.count _ (omega arith) (omega arith) c.args.input.now c.in-Field.field-0 c.in-Field.is (sym c.in_default-label.ensures))
-    ∙ stages_none c.args.mode 0 (open_stages c.args.self.now))
-
-pub returns-in-Err-clause-told : goal.returns-in-Err-clause-told
-returns-in-Err-clause-told g c =
-    part_refused g.S.Sink.took g.S.Sink.stopped _ c.in-Err.e c.in-Err.ensures
-    (told_in c.args.mode (open_stages c.args.self.now) (Label, c.in-Some-label.name.now) _ _
-    (ap (stages_told c.args.mode 0 (open_stages c.args.self.now)) (label_comes c.args.mode c.args.self.now.items c.in-Some.last c.args.self.now.count _ (omega arith) (omega arith)
-    c.args.input.now c.in-Some-label.name.now c.in-Some-label.rest.now c.in-Field.field-0 c.in-Field.is (sym c.in-Some-label.ensures))))
+pub returns-in_err-rest-clause-told : goal.returns-in_err-rest-clause-told
+returns-in_err-rest-clause-told g c = refused (λ rest. document_told c.args.mode c.args.self.now rest.now) c.from_residual.result c.from_residual.ensures.1
+    (c.in_err-rest.ensures _ _ _ (label_comes c.args.mode c.args.self.now c.in-Some-Field-default.ensures.0 _ _ _ c.args.input.now c.label.result c.in-Some-Field-default.ensures.1 c.in-Some-Field-default.field-0-0-is c.label.ensures)).0
 
 pub returns-clause-told : goal.returns-clause-told
 returns-clause-told g c =
-    tells_part g.S.Sink.took g.S.Sink.stopped _ c.in_default-hear.ensures
-    (told_in c.args.mode (open_stages c.args.self.now) (Label, c.in-Some-label.name.now) _ _
-    (ap (stages_told c.args.mode 0 (open_stages c.args.self.now)) (label_comes c.args.mode c.args.self.now.items c.in-Some.last c.args.self.now.count _ (omega arith) (omega arith)
-    c.args.input.now c.in-Some-label.name.now c.in-Some-label.rest.now c.in-Field.field-0 c.in-Field.is (sym c.in-Some-label.ensures))))
+    (c.in_ok-rest.ensures _ _ _ (label_comes c.args.mode c.args.self.now c.in-Some-Field-default.ensures.0 _ _ _ c.args.input.now c.label.result c.in-Some-Field-default.ensures.1 c.in-Some-Field-default.field-0-0-is c.label.ensures)).0
 
 pub returns-clause-within : goal.returns-clause-within
 returns-clause-within g c =
-    let shorter : length c.in-Some-label.rest.now < length c.args.input.now = colon_within c.args.input.now c.in-Some-label.name.now c.in-Some-label.rest.now read_word_takes (sym c.in-Some-label.ensures) in
-    omega (arith, shorter)
+    let less = (c.in_ok-rest.ensures _ _ _ (label_comes c.args.mode c.args.self.now c.in-Some-Field-default.ensures.0 _ _ _ c.args.input.now c.label.result c.in-Some-Field-default.ensures.1 c.in-Some-Field-default.field-0-0-is c.label.ensures)).1 in
+    omega (arith, less)
