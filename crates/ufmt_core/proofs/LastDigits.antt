@@ -22,8 +22,15 @@ unfolding last_digits
 last_digits-two n low = let tens : n / 10 % 10 ≡ n / 10 = omega arith in rw tens refl
 
 -- they are the whole text of a number of two digits
-pub decimal-two : (n : ℕ) → 10 ≤ n → n < 100 → decimal (pos n) ≡ last_digits 2 n
-decimal-two n high low = text-step decimal-in_base n high ∙ rw (text-digit decimal-in_base (n / 10) (omega arith), last_digits-two n low) refl
+pub decimal_two : (n : ℕ) → 10 ≤ n → n < 100 → decimal (pos n) ≡ last_digits 2 n
+decimal_two n high low = text-step decimal-in_base n high ∙ rw (text-digit decimal-in_base (n / 10) (omega arith), last_digits-two n low) refl
+
+-- a decimal text has a digit, and that of a number of two digits has two
+pub decimal_nonempty : (n : ℕ) → 0 < length (decimal (pos n))
+decimal_nonempty = text-nonempty decimal-in_base
+
+pub length_two : (n : ℕ) → 10 ≤ n → n < 100 → length (decimal (pos n)) ≡ 2
+length_two n high low = ap length (decimal_two n high low) ∙ length-last_digits 2 n
 
 -- two bytes written at `at`, and what was behind them
 pub drop-pair : (buffer : List ℕ) (at next tens ones : ℕ) → next ≡ at + 1 → at + 2 ≤ length buffer
@@ -97,7 +104,7 @@ cut_from : (count n left start : ℕ) (buffer : List ℕ) → length (decimal (p
 cut_from count n left start buffer fits written =
     let digits = ap length written.joined in
     let whole = length-append (decimal (pos left)) (drop start buffer) in
-    let another = text-nonempty decimal-in_base (left / 10 ^ count) in
+    let another = decimal_nonempty (left / 10 ^ count) in
     record {
       fits = fits;
       written = written;

@@ -25,42 +25,30 @@ escaped_byte-plain b plain = go (escape 34 b) plain
     go None h = refl
     go (Some e) h = absurd (cc)
 
--- with one it is written so
-escaped_byte-escaped : (b : ℕ) (e : List ℕ) → Some e ≡ escape 34 b → escaped_byte 34 b ≡ e
-escaped_byte-escaped b e is = ap (λ o. unwrap_or o (b ∷ [])) (sym is)
+-- the bytes at the front that stand for themselves: with the rest escaped they are the text escaped, no such byte follows them, and where they end
+-- the text ends or a byte of ASCII stands
+pub record IsStretch (bs : List ℕ) : Type 0 where
+  pub escaped : escaped_bytes 34 bs ≡ take (plain_len bs) bs ++ escaped_bytes 34 (drop (plain_len bs) bs)
+  pub behind : plain_len (drop (plain_len bs) bs) ≡ 0
+  pub within : plain_len bs ≤ length bs
+  pub ascii : plain_len bs < length bs → slice_index bs (plain_len bs) < 128
 
--- the bytes at the front that stand for themselves, and the rest escaped, are the text escaped
-pub escaped_bytes-stretch : (bs : List ℕ) → escaped_bytes 34 bs ≡ take (plain_len bs) bs ++ escaped_bytes 34 (drop (plain_len bs) bs)
-escaped_bytes-stretch [] = refl
-escaped_bytes-stretch (b ∷ bs) = go (is_none (escape 34 b)) refl (escaped_bytes-stretch bs)
+pub stretch : (bs : List ℕ) → IsStretch bs
+stretch [] = record { escaped = refl; behind = refl; within = omega arith; ascii = λ more. absurd (omega arith) }
+stretch (b ∷ bs) = go (is_none (escape 34 b)) refl (stretch bs)
   where
-    go : (plain : Bool) → is_none (escape 34 b) ≡ plain → escaped_bytes 34 bs ≡ take (plain_len bs) bs ++ escaped_bytes 34 (drop (plain_len bs) bs)
-        → escaped_bytes 34 (b ∷ bs) ≡ take (plain_len (b ∷ bs)) (b ∷ bs) ++ escaped_bytes 34 (drop (plain_len (b ∷ bs)) (b ∷ bs))
-    go true h more = rw (h, escaped_byte-plain b h) (ap (λ t. b ∷ t) more)
-    go false h more = rw h refl
-
--- behind them stands none
-pub plain_len-behind : (bs : List ℕ) → plain_len (drop (plain_len bs) bs) ≡ 0
-plain_len-behind [] = refl
-plain_len-behind (b ∷ bs) = go (is_none (escape 34 b)) refl (plain_len-behind bs)
-  where
-    go : (plain : Bool) → is_none (escape 34 b) ≡ plain → plain_len (drop (plain_len bs) bs) ≡ 0 → plain_len (drop (plain_len (b ∷ bs)) (b ∷ bs)) ≡ 0
-    go true h more = rw h more
-    go false h more = rw (h, h) refl
-
--- where they end the text ends, or a byte of ASCII stands
-stretch_ends : (bs : List ℕ) → (plain_len bs ≤ length bs) × (plain_len bs < length bs → slice_index bs (plain_len bs) < 128)
-stretch_ends [] = (omega arith, λ h. absurd (omega arith))
-stretch_ends (b ∷ bs) = go (is_none (escape 34 b)) refl (stretch_ends bs)
-  where
-    go : (plain : Bool) → is_none (escape 34 b) ≡ plain → (plain_len bs ≤ length bs) × (plain_len bs < length bs → slice_index bs (plain_len bs) < 128)
-        → (plain_len (b ∷ bs) ≤ length (b ∷ bs)) × (plain_len (b ∷ bs) < length (b ∷ bs) → slice_index (b ∷ bs) (plain_len (b ∷ bs)) < 128)
-    go true h more = rw h (omega (arith, more.0), λ within. more.1 (omega arith))
-    go false h more = rw h (omega arith, λ within. escape-ascii b h)
+    go : (plain : Bool) → is_none (escape 34 b) ≡ plain → IsStretch bs → IsStretch (b ∷ bs)
+    go true h rest = record {
+      escaped = rw (h, escaped_byte-plain b h) (ap (λ t. b ∷ t) rest.escaped);
+      behind = rw h rest.behind;
+      within = rw h (omega (arith, rest.within));
+      ascii = rw h (λ more. rest.ascii (omega arith));
+    }
+    go false h rest = record { escaped = rw h refl; behind = rw (h, h) refl; within = rw h (omega arith); ascii = rw h (λ more. escape-ascii b h) }
 
 -- so the text may be cut there
 pub IsCharBoundary-stretch : (bs : List ℕ) → IsCharBoundary bs (plain_len bs)
-IsCharBoundary-stretch bs = let ends = stretch_ends bs in (ends.0, λ within high. absurd (omega (arith, ends.1 within)))
+IsCharBoundary-stretch bs = let front = stretch bs in (front.within, λ more high. absurd (omega (arith, front.ascii more)))
 
 -- a quoted character is its quotes and what stands between them
 pub quoted_char-parts : (c : ℕ) → quoted_char c ≡ (39 ∷ []) ++ (escaped 39 c ++ (39 ∷ []))

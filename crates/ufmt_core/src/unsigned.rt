@@ -193,6 +193,7 @@ fn write_short(n: u32, buffer: &mut [u8], end: usize) -> usize
 }
 
 // Writes a number of one digit or two before `end`, and gives the index of the first.
+#[tactic(auto, using(crate::proofs::LastDigits::decimal_nonempty, crate::proofs::LastDigits::length_two))]
 #[inline(always)]
 fn write_first(n: u32, buffer: &mut [u8], end: usize) -> usize
     requires two_digits { n < 100 }

@@ -1,5 +1,5 @@
 //! Reading an input to its end.
-ghost use Rattle.std.specs.Prelude.{◌≡◌, ◌+◌, ◌≤◌, ◌↔◌, ◌⊎◌, false, drop, take, vec_len, IfErr, IfOk, IfSome, IsErrOf, IsTrue, OnErr, OnOk};
+ghost use Rattle.std.specs.Prelude.{◌≡◌, ◌+◌, ◌<◌, ◌≤◌, ◌↔◌, ◌⊎◌, false, drop, take, vec_len, length, IfErr, IfOk, IfSome, IsErrOf, MatchResult, IsTrue, OnErr, OnOk};
 ghost use Rattle.std.specs.Io.KnownBytes.{Consumes, IsAtEnd};
 ghost use Rattle.ufmt_conv.specs.Watched.{device_of, has_failed};
 
@@ -54,7 +54,8 @@ fn read_after<R: Read>(
     if filled == text.len() {
         text.resize(filled + ROOM, 0)?;
     }
+    let buffer = text.as_mut_slice();
     input
-        .read_some(&mut text.as_mut_slice()[filled..])
+        .read_some(&mut buffer[filled..])
         .map_err(|_| Fault::CannotRead)
 }

@@ -1,4 +1,4 @@
-use Rattle.ufmt_core.proofs.QuotedBytes.{IsCharBoundary-stretch, escaped_bytes-stretch, plain_len-behind}
+use Rattle.ufmt_core.proofs.QuotedBytes.{IsCharBoundary-stretch, stretch}
 use Rattle.ufmt_core.proofs.quoted.split_stretch.Goals as goal
 
 pub split_at-requires : goal.split_at-requires
@@ -6,7 +6,7 @@ split_at-requires c = rw (c.plain_len.ensures, c.as_bytes.ensures.value) (IsChar
 
 pub returns-clause-stretch : goal.returns-clause-stretch
 returns-clause-stretch c = rw (c.split_at.ensures.front, c.split_at.ensures.back, c.plain_len.ensures, c.as_bytes.ensures.value)
-    (escaped_bytes-stretch c.args.text.now)
+    (stretch c.args.text.now).escaped
 
 pub returns-clause-at_escape : goal.returns-clause-at_escape
-returns-clause-at_escape c = rw (c.split_at.ensures.back, c.plain_len.ensures, c.as_bytes.ensures.value) (plain_len-behind c.args.text.now)
+returns-clause-at_escape c = rw (c.split_at.ensures.back, c.plain_len.ensures, c.as_bytes.ensures.value) (stretch c.args.text.now).behind
