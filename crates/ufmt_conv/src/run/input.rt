@@ -1,5 +1,5 @@
 //! Reading an input to its end.
-ghost use Rattle.std.specs.Prelude.{◌≡◌, ◌+◌, ◌<◌, ◌≤◌, ◌↔◌, ◌⊎◌, false, drop, take, vec_len, length, IfErr, IfOk, IfSome, IsErrOf, MatchResult, IsTrue, OnErr, OnOk};
+ghost use Rattle.std.specs.Prelude.{◌≡◌, ◌+◌, ◌≤◌, ◌↔◌, ◌⊎◌, false, drop, take, vec_len, IfErr, IfOk, IfSome, IsErrOf, IsTrue, OnOk};
 ghost use Rattle.std.specs.Io.KnownBytes.{Consumes, IsAtEnd};
 ghost use Rattle.ufmt_conv.specs.Watched.{device_of, has_failed};
 
