@@ -1,9 +1,8 @@
-//! Printing a document: each kind of block by a function of its own.
-ghost use Rattle.std.specs.Prelude.{is_ok, map};
-ghost use Rattle.ufmt.specs.Document.{documents, fields_of, map_of, pairs_of, set_of, struct_of, tuple_of};
+//! Printing a document: what holds the entries of a block prints them as a block of its kind.
+ghost use Rattle.std.specs.Prelude.{is_ok, List, map, string_bytes, ℕ};
+ghost use Rattle.ufmt.specs.Document.{Document, documents, fields_of, map_of, pairs_of, set_of, struct_of, tuple_of};
 ghost use Rattle.ufmt.specs.Formatter.{LaysOut};
 ghost use Rattle.ufmt_doc.specs.Doc.{doc_document};
-ghost use Rattle.ufmt_doc.specs.DocViews.{pair_view, field_view};
 
 use super::Doc;
 use ufmt::{Formatter, uDebug, uWrite};
@@ -16,71 +15,70 @@ impl uDebug for Doc {
         match self {
             Doc::Leaf(text) => f.write_str(text),
             Doc::Listed(entries) => entries.fmt(f),
-            Doc::SetOf(entries) => fmt_set(entries, f),
-            Doc::MapOf(pairs) => fmt_map(pairs, f),
-            Doc::StructOf(name, fields) => fmt_struct(name, fields, f),
-            Doc::TupleOf(name, fields) => fmt_tuple(name, fields, f),
+            Doc::SetOf(entries) => EntriesOf::<SetKind>::print(entries, "", f),
+            Doc::MapOf(pairs) => EntriesOf::<MapKind>::print(pairs, "", f),
+            Doc::StructOf(name, fields) => EntriesOf::<StructKind>::print(fields, name, f),
+            Doc::TupleOf(name, fields) => EntriesOf::<TupleKind>::print(fields, name, f),
         }
     }
 }
 
-// Prints a set of these entries.
-#[cycle(print)]
-fn fmt_set<W: uWrite>(entries: &[Doc], f: &mut Formatter<W>) -> Result<(), W::Error>
-    ensures { LaysOut W.seen f.old (set_of (documents (map doc_document entries.now)))
-        (is_ok result) f.new }
-{
-    let mut set = f.debug_set()?;
-    for entry in entries {
-        let answer = entry.fmt(set.begin_entry()?);
-        set.end_entry(answer)?;
-    }
-    set.finish()
+struct SetKind;
+
+struct MapKind;
+
+struct StructKind;
+
+struct TupleKind;
+
+// The entries of a block of this kind. It is called at the types of `Doc`'s fields, as may be where
+// a document prints itself: a call at `Doc` would be refused.
+trait EntriesOf<Kind> {
+    // The block with this name.
+    ghost block: { List ℕ → Self → Document };
+
+    fn print<W: uWrite>(&self, name: &str, f: &mut Formatter<W>) -> Result<(), W::Error>
+        ensures { LaysOut W.seen f.old (block name.now self.now) (is_ok result) f.new };
 }
 
-// Prints a map of these pairs.
-#[cycle(print)]
-fn fmt_map<W: uWrite>(pairs: &[(Doc, Doc)], f: &mut Formatter<W>) -> Result<(), W::Error>
-    ensures { LaysOut W.seen f.old (map_of (pairs_of (map pair_view pairs.now)))
-        (is_ok result) f.new }
-{
-    let mut map = f.debug_map()?;
-    for (key, value) in pairs {
-        let key_answer = key.fmt(map.begin_entry()?);
-        let answer = value.fmt(map.begin_value(key_answer)?);
-        map.end_entry(answer)?;
+impl<T: uDebug> EntriesOf<SetKind> for Vec<T> {
+    ghost block = { λ _ v. set_of (documents (map T.document v.items)) };
+
+    fn print<W: uWrite>(&self, _name: &str, f: &mut Formatter<W>) -> Result<(), W::Error> {
+        f.set_of(self)
     }
-    map.finish()
 }
 
-// Prints a struct with this name and these fields.
-#[cycle(print)]
-fn fmt_struct<W: uWrite>(
-    name: &str,
-    fields: &[(String, Doc)],
-    f: &mut Formatter<W>,
-) -> Result<(), W::Error>
-    ensures { LaysOut W.seen f.old (struct_of name.now (fields_of (map field_view fields.now)))
-        (is_ok result) f.new }
-{
-    let mut block = f.debug_struct(name)?;
-    for (label, value) in fields {
-        let answer = value.fmt(block.begin_field(label)?);
-        block.end_field(answer)?;
+impl<K: uDebug, V: uDebug> EntriesOf<MapKind> for Vec<(K, V)> {
+    ghost block = { λ _ v. map_of (pairs_of (map (λ p. (K.document p.0, V.document p.1)) v.items)) };
+
+    fn print<W: uWrite>(&self, _name: &str, f: &mut Formatter<W>) -> Result<(), W::Error> {
+        f.map_of(self)
     }
-    block.finish()
 }
 
-// Prints a tuple with this name and these fields.
-#[cycle(print)]
-fn fmt_tuple<W: uWrite>(name: &str, fields: &[Doc], f: &mut Formatter<W>) -> Result<(), W::Error>
-    ensures { LaysOut W.seen f.old (tuple_of name.now (documents (map doc_document fields.now)))
-        (is_ok result) f.new }
-{
-    let mut tuple = f.debug_tuple(name)?;
-    for value in fields {
-        let answer = value.fmt(tuple.begin_field()?);
-        tuple.end_field(answer)?;
+impl<T: uDebug> EntriesOf<TupleKind> for Vec<T> {
+    ghost block = { λ name v. tuple_of name (documents (map T.document v.items)) };
+
+    fn print<W: uWrite>(&self, name: &str, f: &mut Formatter<W>) -> Result<(), W::Error> {
+        let values = self.as_slice();
+        let mut tuple = f.debug_tuple(name)?;
+        for value in values {
+            tuple.field(value)?;
+        }
+        tuple.finish()
     }
-    tuple.finish()
+}
+
+impl<V: uDebug> EntriesOf<StructKind> for Vec<(String, V)> {
+    ghost block = { λ name v. struct_of name (fields_of (map (λ f. (string_bytes f.0, V.document f.1)) v.items)) };
+
+    fn print<W: uWrite>(&self, name: &str, f: &mut Formatter<W>) -> Result<(), W::Error> {
+        let fields = self.as_slice();
+        let mut block = f.debug_struct(name)?;
+        for field in fields {
+            block.field(&field.0, &field.1)?;
+        }
+        block.finish()
+    }
 }
