@@ -33,5 +33,4 @@ pub mod WorkedReadings
 pub mod WorkedShifts
 pub mod WorkedTokens
 pub use Rattle.ufmt_core.proofs.Blocks
-pub use Rattle.ufmt_core.proofs.Loops
 pub use Rattle.ufmt_core.proofs.Printing

@@ -4,7 +4,6 @@ pub mod DecimalTexts
 pub mod Indentation
 pub mod Items
 pub mod LastDigits
-pub mod Loops
 pub mod NumeralTexts
 pub mod Numerals
 pub mod Printing
