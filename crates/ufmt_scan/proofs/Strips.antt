@@ -9,7 +9,8 @@ pub use Rattle.ufmt.proofs.Parsing.{strip-append}
 use Rattle.ufmt_scan.specs.Rest.{now_of}
 
 -- what the reading function strips is told by what the text begins with
-pub stripped : (text t : List ℕ) (r : Option (Bor (List ℕ))) → MatchOption r ((rest : List ℕ) → t ≢ text ++ rest) (λ x. t ≡ text ++ x.now) → now_of r ≡ strip text t
+pub stripped : (text t : List ℕ) (r : Option (Bor (List ℕ)))
+    → MatchOption r ((rest : List ℕ) → t ≢ text ++ rest) (λ x. t ≡ text ++ x.now) → now_of r ≡ strip text t
 stripped text t None h = sym (strip_of_none text t h)
 stripped text t (Some x) h = sym (strip_of_front text t x.now h)
 

@@ -11,7 +11,9 @@ returns-in_err-strip_escaped c = rw c.from_residual.ensures (sym
     (c.escapes.invariant ∙ behind_quote-none c.args.quote c.escapes.rest.now (sym c.in_default.ensures) (sym c.in_err-strip_escaped.ensures)))
 
 pub escapes-smaller : goal.escapes-smaller
-escapes-smaller c = omega (arith, spelled_shorter c.args.quote (told c.escapes.rest.now) c.escapes.rest.now c.in_ok-strip_escaped.field-0.now (sym c.in_ok-strip_escaped.ensures))
+escapes-smaller c =
+    let rest = c.escapes.rest.now in
+    omega (arith, spelled_shorter c.args.quote (told rest) rest c.in_ok-strip_escaped.field-0.now (sym c.in_ok-strip_escaped.ensures))
 
 pub escapes-preserved : goal.escapes-preserved
 escapes-preserved c =
