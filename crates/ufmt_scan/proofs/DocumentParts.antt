@@ -1,6 +1,6 @@
 -- Where documents, pairs and fields begin that are told.
-use Rattle.std.proofs.Common.{◌≡◌, refl, ap, ◌∙◌, sym, ℕ, zero, suc, ◌<◌, ◌≤◌, ◌==◌, ◌||◌, Bool, cond, ◌⊎◌, inl, inr, true, false, List, [], ◌∷◌, ◌++◌, length, length-append, eqb-true, map, Option, Some, None, option_and_then, codes, arith, Bor}
-use Rattle.ufmt.specs.Document.{Document, leaf, list_of, set_of, map_of, struct_of, tuple_of, no_documents, no_pairs, Documents, document, documents, pairs_of, fields_of}
+use Rattle.std.proofs.Common.{◌≡◌, refl, ap, ◌∙◌, sym, ℕ, zero, suc, ◌<◌, ◌≤◌, ◌==◌, ◌||◌, Bool, cond, ◌⊎◌, inl, inr, true, false, List, [], ◌∷◌, ◌++◌, length, length-append, eqb-true, map, Option, Some, None, option_and_then, codes, arith}
+use Rattle.ufmt.specs.Document.{Document, list_of, set_of, map_of, struct_of, tuple_of, no_documents, no_pairs, Documents, document, documents, pairs_of, fields_of}
 use Rattle.ufmt_core.specs.declared.layout.Setting.{Setting}
 use Rattle.ufmt_core.specs.declared.layout.Kind.{Kind}
 use Rattle.ufmt_core.specs.declared.layout.Kind.TheVariants.{Brackets, Braces, Struct, Tuple, Unnamed}
@@ -12,13 +12,12 @@ use Rattle.ufmt.proofs.ReadingTurns.{Takes, read_word_takes, strip_within}
 use Rattle.ufmt.proofs.TokenLeaves.{leaf_begins, read_symbol_sound, symbol_leaf}
 use Rattle.ufmt.proofs.ReadingWords.{word_of_bytes}
 use Rattle.ufmt_scan.specs.declared.level.Level.{Level}
-use Rattle.ufmt_scan.specs.declared.scan.part.Part.{Part}
 use Rattle.ufmt_scan.specs.declared.scan.part.Part.TheVariants.{Colon, Empty, Label, Leaf, Open}
 use Rattle.ufmt_scan.specs.declared.scan.stage.Stage.{Stage}
 use Rattle.ufmt_scan.specs.declared.scan.stage.Stage.TheVariants as stages
 use Rattle.ufmt_scan.specs.Scan.{Event, plainly, told, told_entries, told_fields, told_pairs, told_tail}
-use Rattle.ufmt_scan.specs.Private.Level.{budget_of, entry_at, entry_of, setting_at}
-use Rattle.ufmt_scan.specs.Private.Scanning.{Comes, GoesOnAt, Told, after, block_told, entries, fields, open_told, pairs, prefixed, rest_told, stage_told, then_told, turn_of, turn_told, value_told}
+use Rattle.ufmt_scan.specs.Private.Level.{entry_at, entry_of, setting_at}
+use Rattle.ufmt_scan.specs.Private.Scanning.{Answer, Comes, GoesOnAt, Told, block_told, entries, fields, open_told, pairs, prefixed, rest_told, stage_told, then_told, turn_of, turn_told, value_told}
 use Rattle.ufmt_scan.proofs.EntrySteps.{entry_of_takes, field_takes, pair_takes}
 use Rattle.ufmt_scan.proofs.Telling.{block_tells, prefixed_twice}
 
@@ -38,8 +37,10 @@ told_fields-fields_of level (f ∷ fs) = ap (λ es. (fields level).tell f ∷ es
 module _ (level : Level) where
   -- a list, a set or a tuple from its first entry on
   entries_tell : (kind : Kind) (name : List ℕ) (make : Documents → Document)
-      → ((d : Document) (ds : Documents) → told (make (document d ds)) ≡ (Open kind, name) ∷ (told d ++ told_tail kind One (told_entries ds))) → (o : Option (Document × List ℕ))
-      → parse_map told (option_and_then (λ x. read_after_first (entry_of level) (frame level.mode kind) (setting_at level) (λ ds. make (documents ds)) x.0 x.1) o)
+      → ((d : Document) (ds : Documents) → told (make (document d ds)) ≡ (Open kind, name) ∷ (told d ++ told_tail kind One (told_entries ds)))
+      → (o : Option (Document × List ℕ))
+      → parse_map told (option_and_then (λ x. read_after_first (entry_of level) (frame level.mode kind) (setting_at level) (λ ds. make
+      (documents ds)) x.0 x.1) o)
       ≡ prefixed ((Open kind, name) ∷ []) (then_told (parse_map told o) (rest_told (entries level) level kind One))
   entries_tell kind name make shape = block_tells (entries level) level kind (λ ds. make (documents ds)) (Open kind, name)
       (λ d ds. shape d (documents ds) ∙ ap (λ ess. (Open kind, name) ∷ (told d ++ told_tail kind One ess)) (told_entries-documents ds))
@@ -54,14 +55,16 @@ module _ (level : Level) where
       → strip (lead (frame level.mode Struct) (inside (setting_at level)) Zero) t ≡ Some r
       → parse_map told (read_named (setting_at level) (entry_of level) w t) ≡ open_told level Struct w r
   struct_tells [] t r word tuple opening = absurd word
-  struct_tells (c ∷ w) t r word tuple opening = rw (tuple, opening) (block_tells (fields level) level Struct (λ fs. struct_of (c ∷ w) (fields_of fs)) (Open Struct, c ∷ w)
+  struct_tells (c ∷ w) t r word tuple opening = rw (tuple, opening) (block_tells (fields level) level Struct (λ fs. struct_of (c ∷ w) (fields_of fs))
+      (Open Struct, c ∷ w)
       (λ f fs. ap (λ ess. (Open Struct, c ∷ w) ∷ ((fields level).tell f ++ told_tail Struct One ess)) (told_fields-fields_of level fs)) ((fields level).read r))
 
   -- a tuple without a name
   pub unnamed_tells : (t r : List ℕ) → strip (codes "[") t ≡ None → strip (codes "{") t ≡ None → read_symbol t ≡ None
       → strip (lead (frame level.mode Unnamed) (inside (setting_at level)) Zero) t ≡ Some r
       → parse_map told (read_without_name (setting_at level) (entry_of level) t) ≡ open_told level Unnamed [] r
-  unnamed_tells t r bracket brace symbol opening = rw (bracket, brace, symbol, opening) (entries_tell Unnamed [] (tuple_of []) (λ d ds. refl) (entry_of level r))
+  unnamed_tells t r bracket brace symbol opening = rw (bracket, brace, symbol, opening) (entries_tell Unnamed [] (tuple_of []) (λ d ds. refl)
+      (entry_of level r))
 
   -- a list, or a set or a map, behind its opening
   block_opens : (kind : Kind) (empty : Document) (q : Parse Document) → told empty ≡ plainly (Empty kind) ∷ []
@@ -81,7 +84,8 @@ module _ (level : Level) where
       ≡ prefixed (told key) (prefixed (plainly Colon ∷ []) (then_told (parse_map told o) more))
   value_tells key None more = refl
   value_tells key (Some x) more =
-      sym (ap (prefixed (told key)) (prefixed_twice (plainly Colon ∷ []) (told x.0) (more x.1)) ∙ prefixed_twice (told key) (plainly Colon ∷ told x.0) (more x.1))
+      sym (ap (prefixed (told key)) (prefixed_twice (plainly Colon ∷ []) (told x.0) (more x.1))
+      ∙ prefixed_twice (told key) (plainly Colon ∷ told x.0) (more x.1))
 
   -- a set or a map from its first entry on
   first_tells : (o : Option (Document × List ℕ)) → parse_map told (option_and_then (λ x. read_map_or_set (setting_at level) (entry_of level) x.0 x.1) o)
@@ -93,7 +97,8 @@ module _ (level : Level) where
           ≡ prefixed ((Open Braces, []) ∷ []) (prefixed (told x.0) (choose o (value_told level Zero) (rest_told (entries level) level Braces One x.1)))
       by_colon None colon = rw colon (entries_tell Braces [] set_of (λ d ds. refl) (Some x))
       by_colon (Some u) colon = rw colon (block_tells (pairs level) level Braces (λ ps. map_of (pairs_of ps)) (Open Braces, [])
-          (λ q ps. ap (λ ess. (Open Braces, []) ∷ ((pairs level).tell q ++ told_tail Braces One ess)) (told_pairs-pairs_of level ps)) (parse_map (λ value. (x.0, value)) (entry_of level u))
+          (λ q ps. ap (λ ess. (Open Braces, []) ∷ ((pairs level).tell q ++ told_tail Braces One ess)) (told_pairs-pairs_of level ps)) (parse_map (λ value.
+          (x.0, value)) (entry_of level u))
           ∙ ap (prefixed ((Open Braces, []) ∷ [])) (value_tells x.0 (entry_of level u) (rest_told (pairs level) level Braces One)))
 
   pub braces_tells : (t : List ℕ) → parse_map told (read_braces (setting_at level) (entry_of level) t) ≡ block_told level Braces t
@@ -104,12 +109,14 @@ module _ (level : Level) where
   pair_tells t = by_key (entry_of level t)
     where
       by_colon : (key : Document) (o : Option (List ℕ)) → prefixed (told key) (option_and_then (value_told level Several) o)
-          ≡ then_told (parse_map (pairs level).tell (option_and_then (λ u. parse_map (λ value. (key, value)) (entry_of level u)) o)) (rest_told (pairs level) level Braces Several)
+          ≡ then_told (parse_map (pairs level).tell (option_and_then (λ u. parse_map (λ value. (key, value)) (entry_of level u)) o)) (rest_told
+          (pairs level) level Braces Several)
       by_colon key None = refl
       by_colon key (Some u) = sym (value_tells key (entry_of level u) (rest_told (pairs level) level Braces Several))
 
       by_key : (o : Option (Document × List ℕ)) → then_told (parse_map told o) (stage_told level stages.Key)
-          ≡ then_told (parse_map (pairs level).tell (option_and_then (λ x. read_value (entry_of level) x.0 x.1) o)) (rest_told (pairs level) level Braces Several)
+          ≡ then_told (parse_map (pairs level).tell (option_and_then (λ x. read_value (entry_of level) x.0 x.1) o)) (rest_told
+          (pairs level) level Braces Several)
       by_key None = refl
       by_key (Some x) = by_colon x.0 (strip (codes ": ") x.1)
 
@@ -144,7 +151,7 @@ reads_named s n t [] u word rest some = absurd (cc)
 reads_named s n t (c ∷ w) u word rest some = read_is s n t ∙ rw (← word, ← rest) refl
 
 -- what comes of a text comes of one that tells the same, and leaves fewer bytes than a larger number
-pub comes_as : (behind : Option Stage → Parse (List Event)) {m : ℕ} (n : ℕ) (answer : Option (Part × Bor (List ℕ) × Option Stage × Bor (List ℕ))) {there : Told} (other : Told)
+pub comes_as : (behind : Option Stage → Parse (List Event)) {m : ℕ} (n : ℕ) (answer : Answer) {there : Told} (other : Told)
     → m ≤ n → there ≡ other → Comes behind m answer other → Comes behind n answer there
 comes_as behind n None other longer same h = same ∙ h
 comes_as behind n (Some x) other longer same h = (same ∙ h.0, let less = h.1 in omega (arith, less))
@@ -181,7 +188,8 @@ label_tells level t w u v word rest some colon = (
       omega (arith, shorter, within),
 )
   where
-    labelled : (o : Option (Document × List ℕ)) → parse_map (fields level).tell (parse_map (λ value. (w, value)) o) ≡ prefixed ((Label, w) ∷ []) (parse_map told o)
+    labelled : (o : Option (Document × List ℕ)) → parse_map (fields level).tell (parse_map (λ value. (w, value)) o) ≡ prefixed ((Label, w) ∷ [])
+        (parse_map told o)
     labelled None = refl
     labelled (Some x) = refl
 

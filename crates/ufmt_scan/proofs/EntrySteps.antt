@@ -1,12 +1,12 @@
 -- An open block behind one of its entries: the next entry, or its end.
-use Rattle.std.proofs.Common.{◌≡◌, refl, ℕ, zero, suc, ◌<◌, ◌≤◌, Bool, true, false, List, [], ◌∷◌, length, length-append, Option, Some, None, option_map, option_and_then, arith}
+use Rattle.std.proofs.Common.{◌≡◌, refl, ℕ, zero, suc, ◌<◌, ◌≤◌, Bool, true, false, List, ◌∷◌, length, length-append, Option, Some, None, option_map, arith}
 use Rattle.ufmt.specs.Layout.{Frame, ending, frame, inside, lead, next, separator, trail}
 use Rattle.ufmt_core.specs.declared.layout.Count.{Count}
 use Rattle.ufmt_core.specs.declared.layout.Count.TheVariants.{Zero}
 use Rattle.ufmt_core.specs.declared.layout.Kind.{Kind}
 use Rattle.ufmt_core.specs.declared.layout.Setting.{Setting}
-use Rattle.ufmt.specs.Reading.{Parse, choose, parse_map, strip, read_word, read_pair, read_others, read_after_first}
-use Rattle.ufmt.proofs.Parsing.{strip_found, same_parts}
+use Rattle.ufmt.specs.Reading.{choose, strip, read_word, read_pair}
+use Rattle.ufmt.proofs.Parsing.{led_from, strip_found, same_parts}
 use Rattle.ufmt.proofs.ReadingTurns.{Takes, strip_within, read_takes, read_pair_takes, read_word_takes}
 use Rattle.ufmt_scan.specs.Private.Entries.{behind_entry}
 use Rattle.ufmt_scan.specs.declared.level.Level.{Level}
@@ -17,7 +17,8 @@ pub strip_shortens : (c : ℕ) (text t u : List ℕ) → strip (c ∷ text) t �
 strip_shortens c text t u h = rw (strip_found (c ∷ text) t u h, length-append (c ∷ text) u) (omega arith)
 
 -- behind what stands before the first entry of a block it is no longer
-pub behind_lead : (level : Level) (kind : Kind) (t u : List ℕ) → strip (lead (frame level.mode kind) (inside (setting_at level)) Zero) t ≡ Some u → length u < suc (length t)
+pub behind_lead : (level : Level) (kind : Kind) (t u : List ℕ) → strip (lead (frame level.mode kind) (inside (setting_at level)) Zero) t ≡ Some u
+    → length u < suc (length t)
 behind_lead level kind t u h =
     let within : length u ≤ length t = strip_within (lead (frame level.mode kind) (inside (setting_at level)) Zero) t u h in omega (arith, within)
 
@@ -25,23 +26,21 @@ behind_lead level kind t u h =
 pub behind_within : (f : Frame) (s : Setting) (before : Count) (t : List ℕ) (goes : Bool) (v : List ℕ)
     → behind_entry f s before t ≡ Some (goes, v) → length v < suc (length t)
 unfolding behind_entry
-behind_within f s before t goes v h = behind (strip (trail s.mode) t) refl h
+behind_within f s before t goes v h =
+    let trailed = led_from _ (strip (trail s.mode) t) (goes, v) h in
+    let first = strip_within (trail s.mode) t trailed.0 trailed.1 in
+    let second = chosen trailed.0 (strip (separator (inside s).mode (inside s).depth) trailed.0) (strip (ending f s
+    (next before)) trailed.0) refl refl trailed.2 in
+    omega (arith, first, second)
   where
     chosen : (u : List ℕ) (o e : Option (List ℕ)) → strip (separator (inside s).mode (inside s).depth) u ≡ o
         → strip (ending f s (next before)) u ≡ e
         → choose o (λ v. Some (true, v)) (option_map {U = Bool × List ℕ} (λ v. (false, v)) e) ≡ Some (goes, v) → length v ≤ length u
     chosen u None None a b h = absurd (cc)
-    chosen u None (Some w) a b h = let same = (same_parts {A = Bool} {B = List ℕ} (false, w) (goes, v) h).1 in rw (← same) (strip_within (ending f s (next before)) u w b)
-    chosen u (Some w) e a b h = let same = (same_parts {A = Bool} {B = List ℕ} (true, w) (goes, v) h).1 in rw (← same) (strip_within (separator (inside s).mode (inside s).depth) u w a)
-
-    behind : (o : Option (List ℕ)) → strip (trail s.mode) t ≡ o
-        → option_and_then (λ u. choose (strip (separator (inside s).mode (inside s).depth) u) (λ v. Some (true, v))
-        (option_map {U = Bool × List ℕ} (λ v. (false, v)) (strip (ending f s (next before)) u))) o ≡ Some (goes, v) → length v < suc (length t)
-    behind None a h = absurd (cc)
-    behind (Some u) a h =
-        let first = strip_within (trail s.mode) t u a in
-        let second = chosen u (strip (separator (inside s).mode (inside s).depth) u) (strip (ending f s (next before)) u) refl refl h in
-        omega arith
+    chosen u None (Some w) a b h = let same = (same_parts {A = Bool} {B = List ℕ} (false, w) (goes, v) h).1 in rw (← same) (strip_within (ending f s
+        (next before)) u w b)
+    chosen u (Some w) e a b h = let same = (same_parts {A = Bool} {B = List ℕ} (true, w) (goes, v) h).1 in rw (← same) (strip_within (separator
+        (inside s).mode (inside s).depth) u w a)
 
 -- what reads the entries of a block takes a byte
 entry_takes : (s : Setting) (n : ℕ) → Takes (entry_at s n)

@@ -1,9 +1,9 @@
 -- A whole text, told part by part: what the scan of a document at its front says of it.
-use Rattle.std.proofs.Common.{◌≡◌, refl, ap, subst, sym, ◌∙◌, ℕ, ◌==◌, Bool, true, false, List, [], ◌∷◌, ◌++◌, append-nil, eqb-true, length, Option, Some, None, option_and_then, arith}
+use Rattle.std.proofs.Common.{◌≡◌, refl, ap, subst, sym, ◌∙◌, ℕ, ◌==◌, true, false, List, [], ◌∷◌, ◌++◌, append-nil, eqb-true, length, Option, Some, None, option_and_then, arith}
 use Rattle.ufmt.specs.Document.{Document}
 use Rattle.ufmt.specs.Layout.{setting}
 use Rattle.ufmt.specs.Reading.{if_all, parse_map, read, read_text}
-use Rattle.ufmt.proofs.Parsing.{same_parts}
+use Rattle.ufmt.proofs.Parsing.{mapped_from, same_parts}
 use Rattle.ufmt_core.specs.declared.layout.Mode.{Mode}
 use Rattle.ufmt_scan.specs.declared.scan.refusal.Refusal.{Refusal}
 use Rattle.ufmt_scan.specs.declared.scan.refusal.Refusal.TheVariants.{NotText, Refused}
@@ -38,20 +38,13 @@ module _ {S : Type 0} (took stopped : S → List Event → S → Type 0) (mode :
   pub whole_told : (rest : List ℕ) → Tells took took a b (parse_map told (read (setting mode 0) 255 t)) (Some ([], rest))
       → (length rest == 0) ≡ true → (d : Document) × (read_text mode t ≡ Some d) × took a (told d) b
   whole_told (c ∷ rest) h ended = let none = eqb-true (length (c ∷ rest)) 0 ended in absurd (omega arith)
-  whole_told [] h ended = at (read (setting mode 0) 255 t) h.is
-    where
-      at : (o : Option (Document × List ℕ)) → parse_map told o ≡ Some (h.parts ++ [], [])
-          → (d : Document) × (option_and_then (λ x. if_all x.0 x.1) o ≡ Some d) × took a (told d) b
-      at None is = absurd (cc)
-      at (Some x) is =
-          let parts = same_parts {A = List Event} {B = List ℕ} (told x.0, x.1) (h.parts ++ [], []) is in
-          (x.0, ap (if_all x.0) parts.1, subst (λ es. took a es b) (sym (parts.0 ∙ append-nil h.parts)) (h.takes a [] begun))
+  whole_told [] h ended =
+      let read_as = mapped_from told (read (setting mode 0) 255 t) (h.parts ++ []) [] h.is in
+      (read_as.0, ap (option_and_then (λ x. if_all x.0 x.1)) read_as.1, subst (λ es. took a es b) (sym (read_as.2 ∙ append-nil h.parts)) (h.takes a [] begun))
 
   pub whole_goes_on : (rest : List ℕ) → Tells took took a b (parse_map told (read (setting mode 0) 255 t)) (Some ([], rest))
       → (length rest == 0) ≡ false → (es : List Event) × took a es b × (read_text mode t ≡ None)
   whole_goes_on [] h more = absurd (cc)
-  whole_goes_on (c ∷ rest) h more = (h.parts, h.takes a [] begun, at (read (setting mode 0) 255 t) h.is)
-    where
-      at : (o : Option (Document × List ℕ)) → parse_map told o ≡ Some (h.parts ++ [], c ∷ rest) → option_and_then (λ x. if_all x.0 x.1) o ≡ None
-      at None is = refl
-      at (Some x) is = ap (if_all x.0) (same_parts {A = List Event} {B = List ℕ} (told x.0, x.1) (h.parts ++ [], c ∷ rest) is).1
+  whole_goes_on (c ∷ rest) h more =
+      let read_as = mapped_from told (read (setting mode 0) 255 t) (h.parts ++ []) (c ∷ rest) h.is in
+      (h.parts, h.takes a [] begun, ap (option_and_then (λ x. if_all x.0 x.1)) read_as.1)

@@ -10,7 +10,8 @@ module _ {A : Type 0} (items : List A) where
   innermost_is k d within = ap reverse (take_more items k d within) ∙ reverse-append (take k items) (get_or items k d ∷ [])
 
   -- where this is the innermost of them, and this many lie round it
-  module _ (count k : ℕ) (last : A) (outer : List A) (within : count ≤ length items) (is : reverse (take count items) ≡ last ∷ outer) (depth : k ≡ length outer) where
+  module _ (count k : ℕ) (last : A) (outer : List A) (within : count ≤ length items) (is : reverse (take count items) ≡ last ∷ outer)
+      (depth : k ≡ length outer) where
     count_is : count ≡ k + 1
     count_is =
         let all : length (reverse (take count items)) ≡ count = length_is count within in

@@ -102,7 +102,8 @@ module _ (turn : Turn) (level : Level) (kind : Kind) where
       entry (Some x) = after x.0 (strip (trail level.mode) x.1)
 
       by_separator : (u : List ℕ) (o : Option (List ℕ))
-          → tail (next before) (choose o (read_turn turn.read level.mode (read_on (next (next before)))) (read_end (frame level.mode kind) (setting_at level) (next before) u))
+          → tail (next before) (choose o (read_turn turn.read level.mode (read_on (next (next before)))) (read_end (frame level.mode kind)
+          (setting_at level) (next before) u))
           ≡ option_and_then (go_on before) (choose o (λ v. Some (true, v))
           (option_map {U = Bool × List ℕ} (λ v. (false, v)) (strip (ending (frame level.mode kind) (setting_at level) (next before)) u)))
       by_separator u None = ended (strip (ending (frame level.mode kind) (setting_at level) (next before)) u)
@@ -115,4 +116,5 @@ module _ (turn : Turn) (level : Level) (kind : Kind) where
       behind None = refl
       behind (Some u) =
           ap (tail (next before)) (read_others-read_turn turn.read takes (frame level.mode kind) (setting_at level) (next before) u)
-          ∙ rw (lead-next (frame level.mode kind) (inside (setting_at level)) before) (by_separator u (strip (separator (inside (setting_at level)).mode (inside (setting_at level)).depth) u))
+          ∙ rw (lead-next (frame level.mode kind) (inside (setting_at level)) before) (by_separator u (strip (separator (inside (setting_at level)).mode
+          (inside (setting_at level)).depth) u))

@@ -77,7 +77,8 @@ follows_told level kind before stage = rest_told (turn_of level stage) level kin
 
 -- a map behind a key and a colon
 abbrev pub value_told : Level → Count → Parse (List Event)
-value_told level before t = prefixed (plainly parts.Colon ∷ []) (then_told (turn_told (entries level) t) (rest_told (pairs level) level kinds.Braces (next before)))
+value_told level before t = prefixed (plainly parts.Colon ∷ []) (then_told (turn_told (entries level) t) (rest_told (pairs level) level kinds.Braces
+    (next before)))
 
 -- an open block behind the entry, key, value or field that stands there
 abbrev pub stage_told : Level → Stage → Parse (List Event)
@@ -99,7 +100,8 @@ after level (Some stage) t = then_told (coming level stage t) (stage_told level 
 
 -- behind an entry a block of this kind goes on at this stage
 abbrev pub GoesOnAt : Level → Kind → Stage → Type 0
-GoesOnAt level kind stage = (t : List ℕ) → after level (Some stage) t ≡ then_told (turn_told (turn_of level stage) t) (rest_told (turn_of level stage) level kind Several)
+GoesOnAt level kind stage = (t : List ℕ) → after level (Some stage) t ≡ then_told (turn_told (turn_of level stage) t) (rest_told
+    (turn_of level stage) level kind Several)
 
 -- the stage of a block that opens
 abbrev pub first_stage : Kind → Stage
@@ -116,8 +118,12 @@ abbrev pub block_told : Level → Kind → Parse (List Event)
 block_told level kind t = choose (strip ((frame level.mode kind).closing Zero) t) (λ u. Some (plainly (parts.Empty kind) ∷ [], u))
     (option_and_then (open_told level kind []) (strip (lead (frame level.mode kind) (inside (setting_at level)) Zero) t))
 
+-- what begin or behind answer: a part, its text, the stage of the block that opens or goes on with it, and what follows
+abbrev pub Answer : Type 0
+Answer = Option (Part × Bor (List ℕ) × Option Stage × Bor (List ℕ))
+
 -- a part comes of what is there to tell, and leaves fewer bytes than the number, of which this is told
-abbrev pub Comes : (Option Stage → Parse (List Event)) → ℕ → Option (Part × Bor (List ℕ) × Option Stage × Bor (List ℕ)) → Told → Type 0
+abbrev pub Comes : (Option Stage → Parse (List Event)) → ℕ → Answer → Told → Type 0
 Comes behind bytes answer there = MatchOption answer (there ≡ None)
     (λ x. (there ≡ prefixed ((x.0, x.1.now) ∷ []) (behind x.2 x.3.now)) × (length x.3.now < bytes))
 
@@ -174,5 +180,6 @@ pub record Stops {S E : Type 0} (took stopped : S → List Event → S → Type 
   pub none : why ≡ NotText → left ≡ None
 
 -- some parts were told, and the answer says what is left, or why the scan ended
-abbrev pub ScansOn : {S A E : Type 0} → (S → List Event → S → Type 0) → (S → List Event → S → Type 0) → Result A (Refusal E) → S → S → Told → (A → Told) → Type 0
+abbrev pub ScansOn : {S A E : Type 0} → (S → List Event → S → Type 0) → (S → List Event → S → Type 0) → Result A (Refusal E) → S → S → Told → (A → Told)
+    → Type 0
 ScansOn took stopped answer old new there left = MatchResult answer (λ x. Tells took took old new there (left x)) (Stops took stopped old new there)

@@ -8,10 +8,12 @@ use Rattle.ufmt_scan.proofs.WordBytes.{word_bytes_are_ascii}
 use Rattle.ufmt_scan.proofs.scan.begin.begin.Goals as goal
 
 pub text_from-requires-clause-ascii : goal.text_from-requires-clause-ascii
-text_from-requires-clause-ascii g c = word_bytes_are_ascii c.split_word.result.0.now (front_is_bytes c.args.input.now c.split_word.result.0.now c.split_word.ensures.word)
+text_from-requires-clause-ascii g c = word_bytes_are_ascii c.split_word.result.0.now
+    (front_is_bytes c.args.input.now c.split_word.result.0.now c.split_word.ensures.word)
 
 pub begin_named-requires : goal.begin_named-requires
-begin_named-requires g c = rw c.text_from.ensures (front_is_word c.args.input.now c.split_word.result.0.now c.split_word.ensures.word (sym c.is_empty.ensures ∙ c.if-is_empty.false))
+begin_named-requires g c = rw c.text_from.ensures (front_is_word c.args.input.now c.split_word.result.0.now c.split_word.ensures.word
+    (sym c.is_empty.ensures ∙ c.if-is_empty.false))
 
 pub returns-then-is_empty : goal.returns-then-is_empty
 returns-then-is_empty g c =
@@ -26,4 +28,5 @@ returns-else-is_empty g c =
     let word = c.text_from.ensures ∙ c.split_word.ensures.word in
     let some : (length name == 0) ≡ false = rw c.text_from.ensures (sym c.is_empty.ensures ∙ c.if-is_empty.false) in
     comes_as (after c.args.level) _ (Some c.begin_named.result) _ (word_within input name rest word c.split_word.ensures.rest some)
-    (ap (parse_map told) (reads_named (setting_at c.args.level) (budget_of c.args.level) input name rest word c.split_word.ensures.rest some)) c.begin_named.ensures
+    (ap (parse_map told) (reads_named (setting_at c.args.level)
+    (budget_of c.args.level) input name rest word c.split_word.ensures.rest some)) c.begin_named.ensures

@@ -6,9 +6,11 @@ use Rattle.ufmt_scan.proofs.scan.begin.begin_named.Goals as goal
 
 pub returns-in-Some : goal.returns-in-Some
 returns-in-Some g c = c.open.ensures c.args.level _ _
-    (tuple_tells c.args.level c.args.name.now c.args.input.now c.in-Some.rest.now c.requires (sym c.in-Some.ensures)) (behind_lead c.args.level Tuple _ _ (sym c.in-Some.ensures))
+    (tuple_tells c.args.level c.args.name.now c.args.input.now c.in-Some.rest.now c.requires (sym c.in-Some.ensures)) (behind_lead c.args.level Tuple _ _
+    (sym c.in-Some.ensures))
 
 pub returns-in-Some-strip_lead : goal.returns-in-Some-strip_lead
 returns-in-Some-strip_lead g c = c.open-in-Some-strip_lead.ensures c.args.level _ _
-    (struct_tells c.args.level c.args.name.now c.args.input.now c.in-Some-strip_lead.rest.now c.requires (sym c.in_default.ensures) (sym c.in-Some-strip_lead.ensures))
+    (struct_tells c.args.level c.args.name.now c.args.input.now c.in-Some-strip_lead.rest.now c.requires (sym c.in_default.ensures)
+    (sym c.in-Some-strip_lead.ensures))
     (behind_lead c.args.level Struct _ _ (sym c.in-Some-strip_lead.ensures))

@@ -9,7 +9,8 @@ use Rattle.ufmt_scan.proofs.scan.begin.begin_without_name.Goals as goal
 pub returns-in-Some : goal.returns-in-Some
 returns-in-Some g c =
     let shorter = strip_shortens 91 [] c.args.input.now c.in-Some.rest.now (sym c.in-Some.ensures) in
-    comes_as (after c.args.level) _ c.begin_block.result _ (omega (arith, shorter)) (rw (sym c.in-Some.ensures) (list_tells c.args.level c.in-Some.rest.now)) c.begin_block.ensures
+    comes_as (after c.args.level) _ c.begin_block.result _ (omega (arith, shorter)) (rw (sym c.in-Some.ensures)
+    (list_tells c.args.level c.in-Some.rest.now)) c.begin_block.ensures
 
 pub returns-in-Some-strip_opening : goal.returns-in-Some-strip_opening
 returns-in-Some-strip_opening g c =

@@ -15,7 +15,8 @@ use Rattle.ufmt_scan.proofs.Telling.{behind_tells, go_on}
 use Rattle.ufmt_scan.proofs.scan.behind.behind_entry.Goals as goal
 
 follows : (level : Level) (kind : Kind) (before : Count) (next : Stage) (t : List ℕ) (o : Option (Bool × List ℕ))
-    → o ≡ behind_entry (frame level.mode kind) (setting_at level) before t → follows_told level kind before next t ≡ option_and_then (go_on (turn_of level next) level kind before) o
+    → o ≡ behind_entry (frame level.mode kind) (setting_at level) before t → follows_told level kind before next t ≡ option_and_then (go_on
+    (turn_of level next) level kind before) o
 follows level kind before next t o is = behind_tells (turn_of level next) level kind before t (turn_takes level next)
     ∙ ap (option_and_then (go_on (turn_of level next) level kind before)) (sym is)
 

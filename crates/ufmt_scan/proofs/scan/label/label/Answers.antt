@@ -4,7 +4,8 @@ use Rattle.ufmt_scan.proofs.WordBytes.{word_bytes_are_ascii}
 use Rattle.ufmt_scan.proofs.scan.label.label.Goals as goal
 
 pub text_from-requires-clause-ascii : goal.text_from-requires-clause-ascii
-text_from-requires-clause-ascii g c = word_bytes_are_ascii c.split_word.result.0.now (front_is_bytes c.args.input.now c.split_word.result.0.now c.split_word.ensures.word)
+text_from-requires-clause-ascii g c = word_bytes_are_ascii c.split_word.result.0.now
+    (front_is_bytes c.args.input.now c.split_word.result.0.now c.split_word.ensures.word)
 
 pub returns : goal.returns
 returns g c = λ level. rw c.text_from.ensures (label_tells level c.args.input.now c.split_word.result.0.now c.split_word.result.1.now c.in_ok-rest.rest.now

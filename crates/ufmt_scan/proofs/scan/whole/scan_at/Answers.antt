@@ -11,4 +11,5 @@ returns-in-Ok-2 g c = whole_goes_on g.S.Sink.took g.S.Sink.stopped c.args.mode c
     (sym c.is_empty.ensures ∙ c.if-is_empty.false)
 
 pub returns-in-Err : goal.returns-in-Err
-returns-in-Err g c = whole_refused g.S.Sink.took g.S.Sink.stopped c.args.mode c.args.input.now (g.met.S.Sink.begun c.args.sink.now) c.in-Err.refusal c.in-Err.ensures
+returns-in-Err g c = whole_refused g.S.Sink.took g.S.Sink.stopped c.args.mode c.args.input.now
+    (g.met.S.Sink.begun c.args.sink.now) c.in-Err.refusal c.in-Err.ensures

@@ -7,5 +7,9 @@ returns c =
     let items = c.self.inside.items in
     let last = c.in_ok-last.last in
     let count : c.self.inside.count ≡ last + 1 = omega arith in
-    let within : last < length items = omega arith in
-    (reverse (take last items), sym c.self.view_is ∙ ap (λ n. reverse (take n items)) count ∙ innermost_is items last _ within, sym (length_is items last (omega arith)))
+    let within : last < length items = omega arith in (
+      reverse (take last items),
+      sym c.self.view_is ∙ ap (λ n. reverse (take n items)) count
+          ∙ innermost_is items last _ within,
+      sym (length_is items last (omega arith)),
+    )
