@@ -1,24 +1,15 @@
 -- Steps of a scan, one after another: what the sink took, and what is left to tell.
-use Rattle.std.proofs.Common.{◌≡◌, refl, ap, subst, sym, ◌∙◌, ℕ, zero, suc, ◌<◌, ◌+◌, ◌-◌, min, List, [], ◌∷◌, ◌++◌, append_assoc, append-nil, length, Option, Some, None, Result, Ok, Err, IsErrAnd, arith}
+use Rattle.std.proofs.Common.{◌≡◌, refl, ap, subst, ◌∙◌, ℕ, zero, suc, ◌<◌, ◌+◌, ◌-◌, min, List, [], ◌∷◌, ◌++◌, append_assoc, length, Option, Some, None, Result, Ok, Err, IsErrAnd, arith}
 use Rattle.ufmt.specs.Layout.{inside, setting}
 use Rattle.ufmt.specs.Reading.{Parse, parse_map, read}
 use Rattle.ufmt_core.specs.declared.layout.Mode.{Mode}
 use Rattle.ufmt_core.specs.declared.layout.Mode.TheVariants.{Plain, Pretty}
 use Rattle.ufmt_scan.specs.declared.scan.refusal.Refusal.{Refusal}
-use Rattle.ufmt_scan.specs.declared.scan.refusal.Refusal.TheVariants.{NotText}
 use Rattle.ufmt_scan.specs.declared.scan.stage.Stage.{Stage}
 use Rattle.ufmt_scan.specs.Private.Level.{budget_of, entry_at, setting_at}
 use Rattle.ufmt_scan.specs.Private.Scanning.{Answer, Comes, ScansOn, Stops, Tells, Told, after, behind_told, coming, document_at, document_told, level_at, onward_told, prefixed, stage_told, then_told}
 use Rattle.ufmt_scan.specs.Scan.{Event, told}
 use Rattle.ufmt_scan.proofs.Telling.{prefixed_nothing, prefixed_twice, then-prefixed, then-then}
-
--- nothing was told yet
-pub tells_nothing : {S : Type 0} {took : S → List Event → S → Type 0} {a : S} {there left : Told} → there ≡ left → Tells took took a a there left
-tells_nothing {took = took} {a} {left = left} same = record {
-  parts = [];
-  takes = λ start es h. subst (λ fs. took start fs a) (sym (append-nil es)) h;
-  is = same ∙ sym (prefixed_nothing left);
-}
 
 module _ {S : Type 0} {took kept : S → List Event → S → Type 0} {a b : S} {there mid : Told} where
   -- two steps are one
@@ -33,11 +24,6 @@ module _ {S : Type 0} {took kept : S → List Event → S → Type 0} {a b : S} 
   -- what is left is this
   pub tells_left : {left : Told} → Tells took kept a b there mid → mid ≡ left → Tells took kept a b there left
   tells_left told same = record { parts = told.parts; takes = told.takes; is = told.is ∙ ap (prefixed told.parts) same }
-
--- nothing is left to tell
-pub stops_there : {S E : Type 0} {took stopped : S → List Event → S → Type 0} {a b : S} {there left : Told} → Tells took took a b there left
-    → left ≡ None → Stops {E = E} took stopped a b there NotText
-stops_there told none = record { left = None; tells = tells_left told none; none = λ why. refl }
 
 -- a scan that ends behind what was told
 pub stops_behind : {S E : Type 0} {took stopped : S → List Event → S → Type 0} {a b c : S} {there mid : Told} {why : Refusal E} → Tells took took a b there mid
