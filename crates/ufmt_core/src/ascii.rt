@@ -5,7 +5,7 @@ use std::str;
 
 /// The text that ends `buffer`, from `start` on: the digits that were written there, or a word of
 /// a text that is read. It asks that `start` is within the buffer and that the bytes from there on
-/// are ASCII: `ufmt` calls it for hexadecimal digits, and `ufmt_doc` for words.
+/// are ASCII: `ufmt` calls it for hexadecimal digits, and `ufmt_scan` for words.
 #[inline(always)]
 pub fn text_from(buffer: &[u8], start: usize) -> &str
     requires within { start ≤ length buffer.now }

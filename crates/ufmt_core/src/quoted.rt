@@ -9,25 +9,11 @@ use crate::formatter::Formatter;
 use crate::write::uWrite;
 
 // Of each byte, whether it stands for itself in a quoted text.
-static STAND_FOR_THEMSELVES: [bool; 256] = [
-    false, false, false, false, false, false, false, false, false, false, false, false, false,
-    false, false, false, false, false, false, false, false, false, false, false, false, false,
-    false, false, false, false, false, false, true, true, false, true, true, true, true, true,
-    true, true, true, true, true, true, true, true, true, true, true, true, true, true, true, true,
-    true, true, true, true, true, true, true, true, true, true, true, true, true, true, true, true,
-    true, true, true, true, true, true, true, true, true, true, true, true, true, true, true, true,
-    true, true, true, true, false, true, true, true, true, true, true, true, true, true, true,
-    true, true, true, true, true, true, true, true, true, true, true, true, true, true, true, true,
-    true, true, true, true, true, true, true, true, false, true, true, true, true, true, true,
-    true, true, true, true, true, true, true, true, true, true, true, true, true, true, true, true,
-    true, true, true, true, true, true, true, true, true, true, true, true, true, true, true, true,
-    true, true, true, true, true, true, true, true, true, true, true, true, true, true, true, true,
-    true, true, true, true, true, true, true, true, true, true, true, true, true, true, true, true,
-    true, true, true, true, true, true, true, true, true, true, true, true, true, true, true, true,
-    true, true, true, true, true, true, true, true, true, true, true, true, true, true, true, true,
-    true, true, true, true, true, true, true, true, true, true, true, true, true, true, true, true,
-    true, true, true, true, true, true, true, true, true, true,
-];
+static STAND_FOR_THEMSELVES: [u8; 256] = *b"\
+    ................................ss.sssssssssssssssssssssssssssss\
+    ssssssssssssssssssssssssssss.ssssssssssssssssssssssssssssssssss.\
+    ssssssssssssssssssssssssssssssssssssssssssssssssssssssssssssssss\
+    ssssssssssssssssssssssssssssssssssssssssssssssssssssssssssssssss";
 
 /// How a byte is written between these quotes, and `None` where it stands for itself, as every byte
 /// past ASCII does. `quote` is a quotation mark or an apostrophe.
@@ -209,5 +195,5 @@ fn plain_len_from(bytes: &[u8], start: usize) -> usize
 fn stands(byte: u8) -> bool
     ensures { result ≡ is_none (escape 34 byte) }
 {
-    STAND_FOR_THEMSELVES[byte as usize]
+    STAND_FOR_THEMSELVES[byte as usize] == b's'
 }
