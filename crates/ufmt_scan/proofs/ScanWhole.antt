@@ -1,5 +1,6 @@
 -- A whole text, told part by part: what the scan of a document at its front says of it.
-use Rattle.std.proofs.Common.{◌≡◌, refl, ap, subst, sym, ◌∙◌, ℕ, ◌==◌, true, false, List, [], ◌∷◌, ◌++◌, append-nil, eqb-true, length, Option, Some, None, option_and_then, arith}
+use Rattle.std.proofs.Common.{◌≡◌, refl, ap, subst, sym, ◌∙◌, ℕ, ◌==◌, true, false, List, [], ◌∷◌, ◌++◌, append-nil, eqb-true, length, Option, Some, None, option_and_then, Result, Ok, Err, IsErrAnd, Bor, arith}
+use Rattle.std.specs.Prelude.{⊤}
 use Rattle.ufmt.specs.Document.{Document}
 use Rattle.ufmt.specs.Layout.{setting}
 use Rattle.ufmt.specs.Reading.{if_all, parse_map, read, read_text}
@@ -7,8 +8,8 @@ use Rattle.ufmt.proofs.Parsing.{mapped_from, same_parts}
 use Rattle.ufmt_core.specs.declared.layout.Mode.{Mode}
 use Rattle.ufmt_scan.specs.declared.scan.refusal.Refusal.{Refusal}
 use Rattle.ufmt_scan.specs.declared.scan.refusal.Refusal.TheVariants.{NotText, Refused}
-use Rattle.ufmt_scan.specs.Private.Scanning.{Stops, Tells, Told, prefixed}
-use Rattle.ufmt_scan.specs.Scan.{Event, Leads, ScanRefused, told}
+use Rattle.ufmt_scan.specs.Private.Scanning.{ScansOn, Stops, Tells, Told, prefixed}
+use Rattle.ufmt_scan.specs.Scan.{Event, Leads, ScanRefused, Scans, told}
 
 -- where nothing is told there is no document
 none_is_whole : (o : Option (Document × List ℕ)) → parse_map told o ≡ None → option_and_then (λ x. if_all x.0 x.1) o ≡ None
@@ -26,6 +27,10 @@ leads_whole None es left is d whole = absurd (cc)
 leads_whole (Some x) es None is d whole = absurd (cc)
 leads_whole (Some x) es (Some y) is d whole =
     (y.0, ap told (sym (if_all_is x.0 d x.1 whole)) ∙ (same_parts {A = List Event} {B = List ℕ} (told x.0, x.1) (es ++ y.0, y.1) is).0)
+
+-- the document at the front of a text was told, or the scan ended before
+abbrev pub Front : {S E : Type 0} → (S → List Event → S → Type 0) → (S → List Event → S → Type 0) → Mode → List ℕ → S → Result (Bor (List ℕ)) (Refusal E) → S → Type 0
+Front took stopped mode t old answer new = ScansOn took stopped answer old new (parse_map told (read (setting mode 0) 255 t)) (λ rest. Some ([], rest.now))
 
 module _ {S : Type 0} (took stopped : S → List Event → S → Type 0) (mode : Mode) (t : List ℕ) {a b : S} (begun : took a [] a) where
   -- a scan that ended early, of the whole text
@@ -48,3 +53,10 @@ module _ {S : Type 0} (took stopped : S → List Event → S → Type 0) (mode :
   whole_goes_on (c ∷ rest) h more =
       let read_as = mapped_from told (read (setting mode 0) 255 t) (h.parts ++ []) (c ∷ rest) h.is in
       (h.parts, h.takes a [] begun, ap (option_and_then (λ x. if_all x.0 x.1)) read_as.1)
+
+-- the scan of the whole hands on why that of its front ended
+pub whole_ended : {S E : Type 0} (took stopped : S → List Event → S → Type 0) (mode : Mode) (t : List ℕ) (a b : S) → took a [] a
+    → (front : Result (Bor (List ℕ)) (Refusal E)) (why : Refusal E) (answer : Result (⊤) (Refusal E)) → front ≡ Err why → IsErrAnd answer (λ y. y ≡ why)
+    → Front took stopped mode t a front b → Scans took stopped answer a b (read_text mode t)
+whole_ended took stopped mode t a b begun front why (Ok x) is h steps = absurd h
+whole_ended took stopped mode t a b begun front why (Err y) is h steps = rw h (whole_refused took stopped mode t begun why (rw is at steps))

@@ -72,10 +72,8 @@ pub(crate) fn split_symbol(input: &[u8]) -> Option<(&str, &[u8])>
 {
     if let Some(rest) = strip_piece("()", input) {
         Some(("()", rest))
-    } else if let Some(text) = split_quoted(b'"', input) {
-        Some(text)
     } else {
-        split_character(input)
+        split_quoted(b'"', input).or_else(|| split_character(input))
     }
 }
 

@@ -1,5 +1,5 @@
 //! What stands round the entries of blocks, stripped from a text at each of its levels.
-ghost use Rattle.std.specs.Prelude.{◌≡◌, ◌∷◌, ◌++◌, [], codes, Some, option_map};
+ghost use Rattle.std.specs.Prelude.{◌≡◌, ◌∷◌, ◌++◌, [], Some, option_map};
 ghost use Rattle.ufmt.specs.Layout.{frame, inside, lead, line_start};
 ghost use Rattle.ufmt_core.specs.declared.layout.Count.TheVariants.{Zero};
 ghost use Rattle.ufmt.specs.Reading.{strip};
@@ -7,7 +7,7 @@ ghost use Rattle.ufmt_scan.specs.Private.Level.{setting_at};
 ghost use Rattle.ufmt_scan.specs.Private.Entries.{behind_entry};
 ghost use Rattle.ufmt_scan.specs.Rest.{now_of};
 
-use ufmt::layout::{COLON, Count, Kind, Mode, Setting, UNIT};
+use ufmt::layout::{Count, Kind, Mode, Setting, UNIT};
 
 /// Where a document stands: the mode that it is laid out in, and how many blocks are open round it.
 #[derive(Clone, Copy)]
@@ -31,14 +31,6 @@ pub(crate) fn strip_byte(byte: u8, input: &[u8]) -> Option<&[u8]>
 {
     let (first, rest) = input.split_first()?;
     if *first == byte { Some(rest) } else { None }
-}
-
-/// What follows the colon behind a key or a field's name.
-#[inline(always)]
-pub(crate) fn strip_colon(input: &[u8]) -> Option<&[u8]>
-    ensures { now_of result ≡ strip (codes ": ") input.now }
-{
-    strip_piece(COLON, input)
 }
 
 /// What follows a piece, which may be empty.
@@ -90,14 +82,6 @@ impl Level {
             mode: self.mode,
             depth,
         }
-    }
-
-    /// What follows the opening of a block.
-    #[inline(always)]
-    pub(crate) fn strip_opening(self, kind: Kind, input: &[u8]) -> Option<&[u8]>
-        ensures { now_of result ≡ strip (frame self.mode kind).opening input.now }
-    {
-        strip_piece(kind.opening(), input)
     }
 
     /// What follows what stands before the first entry of a block.

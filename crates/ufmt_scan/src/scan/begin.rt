@@ -11,9 +11,9 @@ use super::part::Part;
 use super::stage::Stage;
 use super::tell::Step;
 use crate::leaf::{split_symbol, split_word};
-use crate::level::Level;
+use crate::level::{Level, strip_piece};
 use ufmt::ascii::text_from;
-use ufmt::layout::{Count, Kind};
+use ufmt::layout::{Count, Kind, OPENING_BRACE, OPENING_BRACKET};
 
 /// A leaf, an empty block, or what opens a block.
 #[inline(always)]
@@ -51,9 +51,9 @@ fn begin_without_name<S, const PRETTY: bool>(level: Level, input: &[u8]) -> Opti
     ensures { Comes (after level) (length input.now) result
         (parse_map told (read_without_name (setting_at level) (entry_of level) input.now)) }
 {
-    if let Some(rest) = level.strip_opening(Kind::Brackets, input) {
+    if let Some(rest) = strip_piece(OPENING_BRACKET, input) {
         begin_block::<S, PRETTY>(level, Kind::Brackets, rest)
-    } else if let Some(rest) = level.strip_opening(Kind::Braces, input) {
+    } else if let Some(rest) = strip_piece(OPENING_BRACE, input) {
         begin_block::<S, PRETTY>(level, Kind::Braces, rest)
     } else if let Some((text, rest)) = split_symbol(input) {
         Some((Part::Leaf, text, None, rest))

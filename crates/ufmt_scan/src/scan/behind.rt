@@ -8,8 +8,8 @@ ghost use Rattle.ufmt_scan.specs.Private.Scanning.{Comes, GoesOnAt, after, follo
 use super::part::Part;
 use super::stage::Stage;
 use super::tell::Step;
-use crate::level::{Level, strip_colon};
-use ufmt::layout::{Count, Kind};
+use crate::level::{Level, strip_piece};
+use ufmt::layout::{COLON, Count, Kind};
 
 /// The part that follows what stands in a block at this stage.
 #[inline(always)]
@@ -25,7 +25,7 @@ pub(super) fn behind<S, const PRETTY: bool>(
             let next = Stage::Entry(kind, Count::Several);
             behind_entry::<S, PRETTY>(level, kind, before, next, input)
         }
-        Stage::Braces => match strip_colon(input) {
+        Stage::Braces => match strip_piece(COLON, input) {
             Some(rest) => Some((Part::Colon, "", Some(Stage::Value(Count::Zero)), rest)),
             None => {
                 let next = Stage::Entry(Kind::Braces, Count::Several);
@@ -33,7 +33,7 @@ pub(super) fn behind<S, const PRETTY: bool>(
             }
         },
         Stage::Key => {
-            let rest = strip_colon(input)?;
+            let rest = strip_piece(COLON, input)?;
             Some((Part::Colon, "", Some(Stage::Value(Count::Several)), rest))
         }
         Stage::Value(before) => {

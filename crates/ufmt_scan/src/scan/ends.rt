@@ -29,10 +29,10 @@ impl Stages {
             let (next, after) = tell(step, sink)?;
             rest = after;
             if let Some(stage) = next {
-                self.go_on(depth, stage);
+                self.put(depth, stage);
                 return Ok((false, rest));
             }
-            self.pop(depth);
+            self.end(depth);
         }
         Ok((true, rest))
     }

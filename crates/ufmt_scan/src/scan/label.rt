@@ -9,9 +9,9 @@ use super::stage::Stage;
 use super::stages::Stages;
 use super::tell::{Step, tell};
 use crate::leaf::split_word;
-use crate::level::strip_colon;
+use crate::level::strip_piece;
 use ufmt::ascii::text_from;
-use ufmt::layout::Mode;
+use ufmt::layout::{COLON, Mode};
 
 /// A field's name, and what follows the colon behind it.
 #[inline(always)]
@@ -23,7 +23,7 @@ fn label<S, const PRETTY: bool>(input: &[u8]) -> Option<Step<'_>>
     if word.is_empty() {
         return None;
     }
-    let rest = strip_colon(rest)?;
+    let rest = strip_piece(COLON, rest)?;
     Some((Part::Label, text_from(word, 0), None, rest))
 }
 

@@ -1,5 +1,5 @@
 //! The blocks that are open in a text that is told, one in another, in an array.
-ghost use Rattle.std.specs.Prelude.{◌≡◌, ◌<◌, ◌≤◌, ◌∷◌, [], length, reverse, take, List, MatchOption};
+ghost use Rattle.std.specs.Prelude.{◌≡◌, ◌<◌, ◌≤◌, ◌∷◌, ◌++◌, [], length, reverse, take, List, MatchOption};
 ghost use Rattle.ufmt_scan.specs.declared.scan.stage.Stage.{Stage};
 
 use super::stage::Stage;
@@ -50,30 +50,21 @@ impl Stages {
         Some((self.items[last], last as u8))
     }
 
-    /// Opens a block at this depth, in the innermost one.
+    /// The blocks round this depth stay open, and in them a block that stands at this stage.
     #[inline(always)]
-    pub(super) fn push(&mut self, depth: u8, stage: Stage)
-        requires { depth ≡ length self.old }
-        ensures { self.new ≡ stage ∷ self.old }
+    pub(super) fn put(&mut self, depth: u8, stage: Stage)
+        ensures { (inner outer : List Stage) → self.old ≡ inner ++ outer → depth ≡ length outer
+            → self.new ≡ stage ∷ outer }
     {
         self.items[depth as usize] = stage;
         self.count = depth as usize + 1;
     }
 
-    /// The innermost block, which is at this depth, goes on at this stage.
+    /// The blocks round this depth stay open.
     #[inline(always)]
-    pub(super) fn go_on(&mut self, depth: u8, stage: Stage)
-        ensures { (before : Stage) (outer : List Stage) → self.old ≡ before ∷ outer
-            → depth ≡ length outer → self.new ≡ stage ∷ outer }
-    {
-        self.items[depth as usize] = stage;
-    }
-
-    /// The innermost block, which is at this depth, ends.
-    #[inline(always)]
-    pub(super) fn pop(&mut self, depth: u8)
-        ensures { (before : Stage) (outer : List Stage) → self.old ≡ before ∷ outer
-            → depth ≡ length outer → self.new ≡ outer }
+    pub(super) fn end(&mut self, depth: u8)
+        ensures { (inner outer : List Stage) → self.old ≡ inner ++ outer → depth ≡ length outer
+            → self.new ≡ outer }
     {
         self.count = depth as usize;
     }

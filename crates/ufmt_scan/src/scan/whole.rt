@@ -18,30 +18,19 @@ use ufmt::layout::Mode;
 pub fn scan<S: Sink>(mode: Mode, input: &[u8], sink: &mut S) -> Result<(), Refusal<S::Error>>
     ensures { Scans S.took S.stopped result sink.old sink.new (read_text mode input.now) }
 {
-    match mode {
-        Mode::Plain => scan_at::<S, false>(Mode::Plain, input, sink),
-        Mode::Pretty => scan_at::<S, true>(Mode::Pretty, input, sink),
+    let told = match mode {
+        Mode::Plain => tell_document::<S, false>(Mode::Plain, input, sink),
+        Mode::Pretty => tell_document::<S, true>(Mode::Pretty, input, sink),
+    };
+    if told?.is_empty() {
+        Ok(())
+    } else {
+        Err(Refusal::NotText)
     }
 }
 
-// The same, in code of its own for each sink and mode, as are the calls below it: what stands round
-// entries is a constant there.
-#[inline(always)]
-fn scan_at<S: Sink, const PRETTY: bool>(
-    mode: Mode,
-    input: &[u8],
-    sink: &mut S,
-) -> Result<(), Refusal<S::Error>>
-    ensures { Scans S.took S.stopped result sink.old sink.new (read_text mode input.now) }
-{
-    match tell_document::<S, PRETTY>(mode, input, sink) {
-        Ok(rest) if rest.is_empty() => Ok(()),
-        Ok(_) => Err(Refusal::NotText),
-        Err(refusal) => Err(refusal),
-    }
-}
-
-// Tells the document at the front of the input, and gives what follows it.
+// Tells the document at the front of the input, and gives what follows it. For each sink and mode it has
+// code of its own, as have the calls below it: what stands round entries is a constant there.
 fn tell_document<'a, S: Sink, const PRETTY: bool>(
     mode: Mode,
     input: &'a [u8],
@@ -58,7 +47,7 @@ fn tell_document<'a, S: Sink, const PRETTY: bool>(
         let (opened, after) = tell(step, sink)?;
         rest = after;
         if let Some(stage) = opened {
-            stages.push(depth, stage);
+            stages.put(depth, stage);
             continue 'documents;
         }
         let (ended, after) = stages.end_entries::<S, PRETTY>(mode, sink, rest)?;

@@ -1,4 +1,4 @@
-use Rattle.std.proofs.Common.{◌∙◌, ap, sym, [], Some}
+use Rattle.std.proofs.Common.{◌∙◌, ap, sym, refl, [], Some}
 use Rattle.ufmt_scan.specs.Private.Scanning.{all_told, left_told, onward_told}
 use Rattle.ufmt_scan.proofs.Scans.{begins_in, refused, stops_behind, tells_left, tells_then}
 use Rattle.ufmt_scan.proofs.scan.whole.tell_document.Goals as goal
@@ -19,7 +19,7 @@ documents-preserved-in-Some-opened g c =
     (c.in_ok-opened.ensures _ _ _ (begins_in c.args.mode c.documents.stages c.in-Some.depth _ c.in_ok-begun.begun.now c.begin-step.result
     c.in-Some.ensures.0 c.in-Some.ensures.1 c.begin-step.ensures)).0)
     (ap (λ next. onward_told c.args.mode c.documents.stages next c.in_ok-opened.after.now) c.in-Some-opened.is
-    ∙ ap (λ open_blocks. all_told c.args.mode open_blocks c.in_ok-opened.after.now) (sym c.push.ensures))
+    ∙ ap (λ open_blocks. all_told c.args.mode open_blocks c.in_ok-opened.after.now) (sym (c.put.ensures [] _ refl c.in-Some.ensures.0)))
 
 pub returns-in_err-ended : goal.returns-in_err-ended
 returns-in_err-ended g c = refused (λ rest. Some ([], rest.now)) c.from_residual-in_err-ended.result c.from_residual-in_err-ended.ensures.1
