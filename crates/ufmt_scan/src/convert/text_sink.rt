@@ -43,11 +43,21 @@ impl<W: uWrite> TextSink<W> {
             setting: Setting { mode, depth: 0 },
         }
     }
+}
+
+/// Hands the writer each part's text. Its refusals are the writer's.
+impl<W: uWrite> Sink for TextSink<W> {
+    type Error = W::Error;
+
+    ghost took = { Wrote W.seen true };
+
+    ghost stopped = { Wrote W.seen false };
+
+    ghost begun = { λ s. (Writes-nothing s.writer, refl) };
 
     #[inline(always)]
-    fn write_part(&mut self, part: Part, text: &str) -> Result<(), W::Error>
-        ensures { WritesPart W.seen self.old (part, text.now) (is_ok result) self.new }
-    {
+    #[tactic(auto, using(crate::proofs::TextSinks::hears_part))]
+    fn hear(&mut self, part: Part, text: &str) -> Result<(), W::Error> {
         let writer = &mut self.writer;
         match part {
             Part::Leaf => write_piece(text, writer),
@@ -74,21 +84,5 @@ impl<W: uWrite> TextSink<W> {
                 write_pieces("", "", line, before, bracket, writer)
             }
         }
-    }
-}
-
-/// Hands the writer each part's text. Its refusals are the writer's.
-impl<W: uWrite> Sink for TextSink<W> {
-    type Error = W::Error;
-
-    ghost took = { Wrote W.seen true };
-
-    ghost stopped = { Wrote W.seen false };
-
-    ghost begun = { λ s. (Writes-nothing s.writer, refl) };
-
-    #[inline(always)]
-    fn hear(&mut self, part: Part, text: &str) -> Result<(), W::Error> {
-        self.write_part(part, text)
     }
 }
