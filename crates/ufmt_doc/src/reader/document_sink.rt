@@ -48,22 +48,6 @@ impl OpenBlocks {
         }
     }
 
-    // Takes a part and its text. Each is taken by a function of its own, since a function begins by
-    // clearing room for all that its arms make.
-    #[inline(always)]
-    fn grow(&mut self, part: Part, text: &str) -> Result<(), AllocError>
-        ensures { OnOk result (growing self.new ≡ grow (growing self.old) (part, text.now)) }
-    {
-        match part {
-            Part::Leaf | Part::Label => self.put_leaf(text),
-            Part::Empty(kind) => self.put_empty(kind, text),
-            Part::Open(kind) => self.open(kind, text),
-            Part::Colon => Ok(()),
-            Part::Next => self.inner.end_entry(self.alloc),
-            Part::Close(_, _) => self.close(),
-        }
-    }
-
     // Puts in a leaf, or a field's name.
     fn put_leaf(&mut self, text: &str) -> Result<(), AllocError>
         ensures { OnOk result (growing self.new ≡ put_in (growing self.old) (leaf text.now)) }
@@ -123,8 +107,18 @@ impl Sink for OpenBlocks {
 
     ghost begun = { λ blocks. refl };
 
+    // Each part is taken by a function of its own, since a function begins by clearing room for all that
+    // its arms make.
     #[inline(always)]
+    #[tactic(auto, using(crate::proofs::GrowingDocuments::hears_part))]
     fn hear(&mut self, part: Part, text: &str) -> Result<(), AllocError> {
-        self.grow(part, text)
+        match part {
+            Part::Leaf | Part::Label => self.put_leaf(text),
+            Part::Empty(kind) => self.put_empty(kind, text),
+            Part::Open(kind) => self.open(kind, text),
+            Part::Colon => Ok(()),
+            Part::Next => self.inner.end_entry(self.alloc),
+            Part::Close(_, _) => self.close(),
+        }
     }
 }
