@@ -17,8 +17,7 @@ pub fn plain_again(alloc: Global, input: &[u8]) -> Result<String, ReadError>
     ensures not_text { IsErrOf result ReadError.NotText → IsNoText plain_text input.now }
 {
     let doc = read_plain(alloc, input)?;
-    let text = plain_text(alloc, &doc)?;
-    Ok(text)
+    Ok(plain_text(alloc, &doc)?)
 }
 
 /// A pretty text that is read and written prettily is itself again.
@@ -27,8 +26,7 @@ pub fn pretty_again(alloc: Global, input: &[u8]) -> Result<String, ReadError>
     ensures not_text { IsErrOf result ReadError.NotText → IsNoText pretty_text input.now }
 {
     let doc = read_pretty(alloc, input)?;
-    let text = pretty_text(alloc, &doc)?;
-    Ok(text)
+    Ok(pretty_text(alloc, &doc)?)
 }
 
 /// The plain text of the pretty text of a plain one is that again.

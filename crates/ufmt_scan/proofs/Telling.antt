@@ -1,5 +1,5 @@
 -- Entries that are told one after another make up what is told of the block that they were read as.
-use Rattle.std.proofs.Common.{◌≡◌, refl, ap, ◌∙◌, sym, ℕ, Bool, true, false, cond, List, [], ◌∷◌, ◌++◌, append_assoc, append-nil, map, Option, Some, None, option_map, option_and_then}
+use Rattle.std.proofs.Common.{◌≡◌, refl, ap, ◌∙◌, sym, ℕ, List, [], ◌∷◌, ◌++◌, append_assoc, append-nil, map, Option, Some, None, option_map, option_and_then}
 use Rattle.ufmt.specs.Document.{Document}
 use Rattle.ufmt.specs.Layout.{ending, frame, inside, next, separator, trail}
 use Rattle.ufmt_core.specs.declared.layout.Count.{Count}
@@ -11,7 +11,6 @@ use Rattle.ufmt.proofs.Shifting.{lead-next}
 use Rattle.ufmt_core.proofs.Counts.{next-next}
 use Rattle.ufmt_scan.specs.declared.scan.part.Part.TheVariants.{Close, Next}
 use Rattle.ufmt_scan.specs.Scan.{Event, plainly, told, told_tail}
-use Rattle.ufmt_scan.specs.Private.Entries.{behind_entry}
 use Rattle.ufmt_scan.specs.Private.Scanning.{Told, Turn, prefixed, rest_told, then_told, turn_told}
 use Rattle.ufmt_scan.specs.Private.Level.{setting_at}
 use Rattle.ufmt_scan.specs.declared.level.Level.{Level}
@@ -62,15 +61,16 @@ module _ (turn : Turn) (level : Level) (kind : Kind) where
       behind None = refl
       behind (Some u) = made (read_on u)
 
-  -- another entry, or the end of the block
-  abbrev pub go_on : Count → Bool × List ℕ → Told
-  go_on before x = cond x.0 (prefixed (plainly Next ∷ []) (then_told (turn_told turn x.1) (rest_told turn level kind Several)))
-      (Some (plainly (Close kind (next before)) ∷ [], x.1))
+  -- another entry, where one begins, or the end of the block
+  abbrev pub go_on : Count → Option (List ℕ) → Option (List ℕ) → Told
+  go_on before (Some v) end = prefixed (plainly Next ∷ []) (then_told (turn_told turn v) (rest_told turn level kind Several))
+  go_on before None end = option_map (λ v. (plainly (Close kind (next before)) ∷ [], v)) end
 
   -- what stands behind an entry decides: the next one is told, or the block ends, or nothing is told
-  pub behind_tells : (before : Count) (t : List ℕ) → Takes turn.read
-      → rest_told turn level kind (next before) t ≡ option_and_then (go_on before) (behind_entry (frame level.mode kind) (setting_at level) before t)
-  unfolding rest_told behind_entry
+  pub behind_tells : (before : Count) (t : List ℕ) → Takes turn.read → rest_told turn level kind (next before) t
+      ≡ option_and_then (λ u. go_on before (strip (separator level.mode (inside (setting_at level)).depth) u)
+      (strip (ending (frame level.mode kind) (setting_at level) (next before)) u)) (strip (trail level.mode) t)
+  unfolding rest_told
   behind_tells before t takes = behind (strip (trail level.mode) t)
     where
       tail : Count → Option (List turn.Entry × List ℕ) → Told
@@ -79,8 +79,10 @@ module _ (turn : Turn) (level : Level) (kind : Kind) where
       read_on : Count → List ℕ → Option (List turn.Entry × List ℕ)
       read_on count u = read_others turn.read (frame level.mode kind) (setting_at level) count u
 
-      ended : (e : Option (List ℕ)) → tail (next before) (option_map (λ v. ([], v)) e)
-          ≡ option_and_then (go_on before) (option_map {U = Bool × List ℕ} (λ v. (false, v)) e)
+      ends : List ℕ → Option (List ℕ)
+      ends u = strip (ending (frame level.mode kind) (setting_at level) (next before)) u
+
+      ended : (e : Option (List ℕ)) → tail (next before) (option_map (λ v. ([], v)) e) ≡ go_on before None e
       ended None = refl
       ended (Some v) = refl
 
@@ -101,20 +103,15 @@ module _ (turn : Turn) (level : Level) (kind : Kind) where
       entry None = refl
       entry (Some x) = after x.0 (strip (trail level.mode) x.1)
 
-      by_separator : (u : List ℕ) (o : Option (List ℕ))
-          → tail (next before) (choose o (read_turn turn.read level.mode (read_on (next (next before)))) (read_end (frame level.mode kind)
-          (setting_at level) (next before) u))
-          ≡ option_and_then (go_on before) (choose o (λ v. Some (true, v))
-          (option_map {U = Bool × List ℕ} (λ v. (false, v)) (strip (ending (frame level.mode kind) (setting_at level) (next before)) u)))
-      by_separator u None = ended (strip (ending (frame level.mode kind) (setting_at level) (next before)) u)
+      by_separator : (u : List ℕ) (o : Option (List ℕ)) → tail (next before) (choose o (read_turn turn.read level.mode (read_on (next (next before))))
+          (read_end (frame level.mode kind) (setting_at level) (next before) u)) ≡ go_on before o (ends u)
+      by_separator u None = ended (ends u)
       by_separator u (Some v) = entry (turn.read v)
 
       behind : (o : Option (List ℕ)) → option_and_then (λ u. tail (next before) (read_on (next before) u)) o
-          ≡ option_and_then (go_on before) (option_and_then
-          (λ u. choose (strip (separator (inside (setting_at level)).mode (inside (setting_at level)).depth) u) (λ v. Some (true, v))
-          (option_map {U = Bool × List ℕ} (λ v. (false, v)) (strip (ending (frame level.mode kind) (setting_at level) (next before)) u))) o)
+          ≡ option_and_then (λ u. go_on before (strip (separator level.mode (inside (setting_at level)).depth) u) (ends u)) o
       behind None = refl
       behind (Some u) =
           ap (tail (next before)) (read_others-read_turn turn.read takes (frame level.mode kind) (setting_at level) (next before) u)
-          ∙ rw (lead-next (frame level.mode kind) (inside (setting_at level)) before) (by_separator u (strip (separator (inside (setting_at level)).mode
+          ∙ rw (lead-next (frame level.mode kind) (inside (setting_at level)) before) (by_separator u (strip (separator level.mode
           (inside (setting_at level)).depth) u))

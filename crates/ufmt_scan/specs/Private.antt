@@ -1,5 +1,4 @@
 -- What the steps of the scanner and of conversions are held to. No public contract names any of it: the steps add up to the public ones, and that is proved.
-pub mod Entries
 pub mod FrontWords
 pub mod Level
 pub mod Scanning

@@ -1,10 +1,9 @@
 //! What stands round the entries of blocks, stripped from a text at each of its levels.
-ghost use Rattle.std.specs.Prelude.{◌≡◌, ◌∷◌, ◌++◌, [], Some, option_map};
+ghost use Rattle.std.specs.Prelude.{◌≡◌, ◌∷◌, ◌++◌, []};
 ghost use Rattle.ufmt.specs.Layout.{frame, inside, lead, line_start};
 ghost use Rattle.ufmt_core.specs.declared.layout.Count.TheVariants.{Zero};
 ghost use Rattle.ufmt.specs.Reading.{strip};
 ghost use Rattle.ufmt_scan.specs.Private.Level.{setting_at};
-ghost use Rattle.ufmt_scan.specs.Private.Entries.{behind_entry};
 ghost use Rattle.ufmt_scan.specs.Rest.{now_of};
 
 use ufmt::layout::{Count, Kind, Mode, Setting, UNIT};
@@ -55,10 +54,10 @@ fn strip_pieces<'a>(first: &str, second: &str, input: &'a [u8]) -> Option<&'a [u
     strip_piece(second, strip_piece(first, input)?)
 }
 
-// What follows a piece and the indentation of a line.
+/// What follows a piece and the indentation of a line.
 #[inline(always)]
 #[tactic(auto, using(crate::proofs::Strips::stripping))]
-fn strip_to_line<'a>(piece: &str, line: Setting, input: &'a [u8]) -> Option<&'a [u8]>
+pub(crate) fn strip_to_line<'a>(piece: &str, line: Setting, input: &'a [u8]) -> Option<&'a [u8]>
     ensures { now_of result ≡ strip (piece.now ++ line_start line.mode line.depth) input.now }
 {
     let mut rest = strip_piece(piece, input)?;
@@ -74,13 +73,10 @@ impl Level {
     pub(crate) fn setting(self) -> Setting
         ensures { result ≡ setting_at self }
     {
-        let depth = match self.mode {
-            Mode::Plain => 0,
-            Mode::Pretty => self.depth,
-        };
-        Setting {
-            mode: self.mode,
-            depth,
+        let Level { mode, depth } = self;
+        match mode {
+            Mode::Plain => Setting { mode, depth: 0 },
+            Mode::Pretty => Setting { mode, depth },
         }
     }
 
@@ -103,26 +99,5 @@ impl Level {
     {
         let (before, bracket) = kind.closing(self.mode, count);
         strip_pieces(before, bracket, input)
-    }
-
-    /// What follows an entry of a block behind so many others: true, and where the next entry begins,
-    /// or false, and what follows the block's end.
-    #[inline(always)]
-    #[tactic(auto, using(crate::proofs::Strips::stripping), unfolding(crate::specs::Private::Entries::behind_entry))]
-    pub(crate) fn behind_entry(
-        self,
-        kind: Kind,
-        before: Count,
-        input: &[u8],
-    ) -> Option<(bool, &[u8])>
-        ensures { option_map (λ x. (x.0, x.1.now)) result
-            ≡ behind_entry (frame self.mode kind) (setting_at self) before input.now }
-    {
-        let rest = strip_piece(self.mode.trail(), input)?;
-        if let Some(start) = strip_to_line(self.mode.separator(), self.setting().inside(), rest) {
-            return Some((true, start));
-        }
-        let end = strip_to_line("", self.setting(), rest)?;
-        Some((false, self.strip_closing(kind, before.next(), end)?))
     }
 }

@@ -61,9 +61,8 @@ impl<T: uDebug> EntriesOf<TupleKind> for Vec<T> {
     ghost block = { λ name v. tuple_of name (documents (map T.document v.items)) };
 
     fn print<W: uWrite>(&self, name: &str, f: &mut Formatter<W>) -> Result<(), W::Error> {
-        let values = self.as_slice();
         let mut tuple = f.debug_tuple(name)?;
-        for value in values {
+        for value in self {
             tuple.field(value)?;
         }
         tuple.finish()
@@ -74,9 +73,8 @@ impl<V: uDebug> EntriesOf<StructKind> for Vec<(String, V)> {
     ghost block = { λ name v. struct_of name (fields_of (map (λ f. (string_bytes f.0, V.document f.1)) v.items)) };
 
     fn print<W: uWrite>(&self, name: &str, f: &mut Formatter<W>) -> Result<(), W::Error> {
-        let fields = self.as_slice();
         let mut block = f.debug_struct(name)?;
-        for field in fields {
+        for field in self {
             block.field(&field.0, &field.1)?;
         }
         block.finish()

@@ -8,7 +8,7 @@ ghost use Rattle.ufmt_scan.specs.Private.Scanning.{Comes, GoesOnAt, after, follo
 use super::part::Part;
 use super::stage::Stage;
 use super::tell::Step;
-use crate::level::{Level, strip_piece};
+use crate::level::{Level, strip_piece, strip_to_line};
 use ufmt::layout::{COLON, Count, Kind};
 
 /// The part that follows what stands in a block at this stage.
@@ -59,10 +59,11 @@ fn behind_entry<S, const PRETTY: bool>(
     ensures { Comes (after level) (suc (length input.now)) result
         (follows_told level kind before next input.now) }
 {
-    let (goes_on, rest) = level.behind_entry(kind, before, input)?;
-    if goes_on {
-        Some((Part::Next, "", Some(next), rest))
-    } else {
-        Some((Part::Close(kind, before.next()), "", None, rest))
+    let rest = strip_piece(level.mode.trail(), input)?;
+    if let Some(start) = strip_to_line(level.mode.separator(), level.setting().inside(), rest) {
+        return Some((Part::Next, "", Some(next), start));
     }
+    let count = before.next();
+    let end = level.strip_closing(kind, count, strip_to_line("", level.setting(), rest)?)?;
+    Some((Part::Close(kind, count), "", None, end))
 }
