@@ -61,8 +61,9 @@ impl<T: uDebug> EntriesOf<TupleKind> for Vec<T> {
     ghost block = { λ name v. tuple_of name (documents (map T.document v.items)) };
 
     fn print<W: uWrite>(&self, name: &str, f: &mut Formatter<W>) -> Result<(), W::Error> {
+        let values = self.as_slice();
         let mut tuple = f.debug_tuple(name)?;
-        for value in self {
+        for value in values {
             tuple.field(value)?;
         }
         tuple.finish()
@@ -73,8 +74,9 @@ impl<V: uDebug> EntriesOf<StructKind> for Vec<(String, V)> {
     ghost block = { λ name v. struct_of name (fields_of (map (λ f. (string_bytes f.0, V.document f.1)) v.items)) };
 
     fn print<W: uWrite>(&self, name: &str, f: &mut Formatter<W>) -> Result<(), W::Error> {
+        let fields = self.as_slice();
         let mut block = f.debug_struct(name)?;
-        for field in self {
+        for field in fields {
             block.field(&field.0, &field.1)?;
         }
         block.finish()
