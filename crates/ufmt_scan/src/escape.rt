@@ -7,7 +7,7 @@ ghost use Rattle.ufmt.specs.Reading.{strip};
 ghost use Rattle.ufmt.specs.ReadingQuoted.{read_escaped, told, told_escape, told_number};
 ghost use Rattle.ufmt_scan.specs.Rest.{now_of};
 
-use crate::level::{strip, strip_byte};
+use crate::level::{strip_byte, strip_piece};
 use ufmt::quoted::escape;
 
 /// What follows the byte that is written at the front, between these quotes.
@@ -39,7 +39,7 @@ fn strip_spelling(quote: u8, byte: u8, input: &[u8]) -> Option<&[u8]>
     ensures { now_of result ≡ strip (escaped_byte quote byte) input.now }
 {
     match escape(byte, quote) {
-        Some(spelling) => strip(spelling.as_bytes(), input),
+        Some(spelling) => strip_piece(spelling, input),
         None => strip_byte(byte, input),
     }
 }

@@ -15,14 +15,6 @@ pub(crate) struct Level {
     pub(crate) depth: u8,
 }
 
-/// What follows `text`, where the input begins with it.
-#[inline(always)]
-pub(crate) fn strip<'a>(text: &[u8], input: &'a [u8]) -> Option<&'a [u8]>
-    ensures { now_of result ≡ strip text.now input.now }
-{
-    input.strip_prefix(text)
-}
-
 /// What follows this byte, where the input begins with it.
 #[inline(always)]
 pub(crate) fn strip_byte(byte: u8, input: &[u8]) -> Option<&[u8]>
@@ -41,7 +33,7 @@ pub(crate) fn strip_piece<'a>(piece: &str, input: &'a [u8]) -> Option<&'a [u8]>
         [] => Some(input),
         [byte] => strip_byte(*byte, input),
         [first, second] => strip_byte(*second, strip_byte(*first, input)?),
-        longer => strip(longer, input),
+        longer => input.strip_prefix(longer),
     }
 }
 
