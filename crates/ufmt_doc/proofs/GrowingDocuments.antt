@@ -14,7 +14,7 @@ use Rattle.ufmt_core.specs.declared.layout.Count.TheVariants.{One}
 use Rattle.ufmt_core.specs.declared.layout.Kind.{Kind}
 use Rattle.ufmt_core.specs.declared.layout.Kind.TheVariants.{Brackets, Braces, Struct}
 use Rattle.ufmt_scan.specs.declared.scan.part.Part.TheVariants.{Label, Colon}
-use Rattle.ufmt_doc.specs.Private.Growing.{Block, Grew, Growing, entry_ended, grow, growing, grown, nothing_read, with_all, with_entry, with_fields, with_pairs, without_entries}
+use Rattle.ufmt_doc.specs.Private.Growing.{BlockSoFar, Grew, Growing, entry_ended, grow, growing, grown, nothing_read, with_all, with_entry, with_fields, with_pairs, without_entries}
 use Rattle.ufmt_scan.specs.Scan.{Event, Hears, plainly, told, told_entries, told_fields, told_pairs, told_tail}
 
 -- parts behind parts
@@ -48,12 +48,12 @@ fields_more no_fields gs more = refl
 fields_more (field label value fs) gs more = ap (field label value) (fields_more fs gs more)
 
 -- what is told of these entries, each behind the end of the one before, takes a block from this to that, whatever lies round it
-abbrev Takes : List (List Event) → Block → Block → Type 0
-Takes [] b last = entry_ended b ≡ last
-Takes (es ∷ more) b last = (mid : Block) × ((outer : List Block) → grown (entry_ended b, outer) es ≡ (mid, outer)) × Takes more mid last
+abbrev GrowsThrough : List (List Event) → BlockSoFar → BlockSoFar → Type 0
+GrowsThrough [] b last = entry_ended b ≡ last
+GrowsThrough (es ∷ more) b last = (mid : BlockSoFar) × ((outer : List BlockSoFar) → grown (entry_ended b, outer) es ≡ (mid, outer)) × GrowsThrough more mid last
 
 -- so what is told of a block behind an entry puts the block in
-tail_grows : (kind : Kind) (count : Count) (ess : List (List Event)) (b last round : Block) (outer : List Block) → Takes ess b last
+tail_grows : (kind : Kind) (count : Count) (ess : List (List Event)) (b last round : BlockSoFar) (outer : List BlockSoFar) → GrowsThrough ess b last
     → grown (b, round ∷ outer) (told_tail kind count ess) ≡ (with_entry round last.0, outer)
 tail_grows kind count [] b last round outer h = ap (λ x. (with_entry round x.0, outer)) h
 tail_grows kind count (es ∷ more) b last round outer h =
@@ -62,8 +62,8 @@ tail_grows kind count (es ∷ more) b last round outer h =
     ∙ tail_grows kind (next count) more h.0 last round outer h.2
 
 -- and what is told of all of it
-block_grows : (kind : Kind) (name : List ℕ) (es : List Event) (ess : List (List Event)) (mid last round : Block) (outer : List Block)
-    → ((outer : List Block) → grown ((without_entries kind name, None), outer) es ≡ (mid, outer)) → Takes ess mid last
+block_grows : (kind : Kind) (name : List ℕ) (es : List Event) (ess : List (List Event)) (mid last round : BlockSoFar) (outer : List BlockSoFar)
+    → ((outer : List BlockSoFar) → grown ((without_entries kind name, None), outer) es ≡ (mid, outer)) → GrowsThrough ess mid last
     → grown ((without_entries kind name, None), round ∷ outer) (es ++ told_tail kind One ess) ≡ (with_entry round last.0, outer)
 block_grows kind name es ess mid last round outer first h =
     grown-append ((without_entries kind name, None), round ∷ outer) es (told_tail kind One ess)
@@ -76,10 +76,10 @@ record Collects (make : Documents → Document) : Type 0 where
 
 -- what is told of this document puts its normal form in
 abbrev Grows : Document → Type 0
-Grows d = (b : Block) (outer : List Block) → grown (b, outer) (told d) ≡ (with_entry b (normal d), outer)
+Grows d = (b : BlockSoFar) (outer : List BlockSoFar) → grown (b, outer) (told d) ≡ (with_entry b (normal d), outer)
 
 -- a pair of a map
-pair_grows : (ps : Pairs) (key value : Document) → Grows key → Grows value → (outer : List Block)
+pair_grows : (ps : Pairs) (key value : Document) → Grows key → Grows value → (outer : List BlockSoFar)
     → grown ((map_of ps, None), outer) (told key ++ plainly Colon ∷ told value)
     ≡ ((map_of (with_pairs ps (pair (normal key) (normal value) no_pairs)), None), outer)
 pair_grows ps key value h k outer =
@@ -93,7 +93,7 @@ no_fields_yet (c ∷ name) = refl
 
 mutual
   -- a document that is told is put in, in normal form
-  pub told_grows : (d : Document) → HasTokens d → (b : Block) (outer : List Block) → grown (b, outer) (told d) ≡ (with_entry b (normal d), outer)
+  pub told_grows : (d : Document) → HasTokens d → (b : BlockSoFar) (outer : List BlockSoFar) → grown (b, outer) (told d) ≡ (with_entry b (normal d), outer)
   told_grows (leaf text) h b outer = refl
   told_grows (joined ds) h b outer = absurd h
   told_grows (list_of no_documents) h b outer = refl
@@ -122,8 +122,8 @@ mutual
   told_grows (pretty_part d) h b outer = absurd h
 
   -- the entries behind others, to these
-  entries_take : (make : Documents → Document) → Collects make → (b : Block) (ds : Documents) → entry_ended b ≡ (make ds, None)
-      → (more : Documents) → HaveTokens more → (last : Documents) → with_all ds (normal_all more) ≡ last → Takes (told_entries more) b (make last, None)
+  entries_take : (make : Documents → Document) → Collects make → (b : BlockSoFar) (ds : Documents) → entry_ended b ≡ (make ds, None)
+      → (more : Documents) → HaveTokens more → (last : Documents) → with_all ds (normal_all more) ≡ last → GrowsThrough (told_entries more) b (make last, None)
   entries_take make collects b ds is no_documents h last all = is ∙ ap (λ xs. (make xs, None)) (sym (all_none ds) ∙ all)
   entries_take make collects b ds is (document d more) h last all =
       let one = document (normal d) no_documents in (
@@ -135,7 +135,7 @@ mutual
 
   -- the pairs behind others
   pairs_take : (ps more : Pairs) → PairsHaveTokens more → (last : Pairs) → with_pairs ps (normal_pairs more) ≡ last
-      → Takes (told_pairs more) (map_of ps, None) (map_of last, None)
+      → GrowsThrough (told_pairs more) (map_of ps, None) (map_of last, None)
   pairs_take ps no_pairs h last all = ap (λ xs. (map_of xs, None)) (sym (pairs_none ps) ∙ all)
   pairs_take ps (pair key value more) h last all =
       let one = pair (normal key) (normal value) no_pairs in (
@@ -146,7 +146,7 @@ mutual
 
   -- the fields behind others
   fields_take : (name : List ℕ) (fs more : Fields) → FieldsHaveTokens more → (last : Fields) → with_fields fs (normal_fields more) ≡ last
-      → Takes (told_fields more) (struct_of name fs, None) (struct_of name last, None)
+      → GrowsThrough (told_fields more) (struct_of name fs, None) (struct_of name last, None)
   fields_take name fs no_fields h last all = ap (λ xs. (struct_of name xs, None)) (sym (fields_none fs) ∙ all)
   fields_take name fs (field label value more) h last all =
       let one = field label (normal value) no_fields in (

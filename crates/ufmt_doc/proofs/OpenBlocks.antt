@@ -10,7 +10,7 @@ use Rattle.ufmt_scan.specs.declared.error.ReadError.TheVariants.{NotText}
 use Rattle.ufmt_doc.specs.Doc.{doc_document}
 use Rattle.ufmt_doc.specs.Private.Read.{AnswersAs}
 use Rattle.ufmt_doc.specs.DocViews.{field_view, fields_view, pair_view, pairs_view}
-use Rattle.ufmt_doc.specs.Private.Growing.{Block, block_view, innermost_first, waiting, with_all, with_entry, with_fields, with_pairs}
+use Rattle.ufmt_doc.specs.Private.Growing.{BlockSoFar, block_view, innermost_first, waiting, with_all, with_entry, with_fields, with_pairs}
 use Rattle.ufmt_doc.proofs.Docs.{doc_document-MapOf, doc_document-StructOf}
 
 -- an entry behind entries, a pair behind pairs, a field behind fields
@@ -43,12 +43,12 @@ field_put old f is = rw is (behind old)
 
 -- what is put into the pairs of a map, or the fields of a struct, is put into the block
 pub put_in_pairs : (old new : Vec (Doc × Doc) Global) (before after : Option Doc) (d : Document)
-    → ◌≡◌ {A = Block} (map_of (pairs_of (pairs_view new)), waiting after) (with_entry (map_of (pairs_of (pairs_view old)), waiting before) d)
+    → ◌≡◌ {A = BlockSoFar} (map_of (pairs_of (pairs_view new)), waiting after) (with_entry (map_of (pairs_of (pairs_view old)), waiting before) d)
     → block_view (record { doc = MapOf new; waits = after }) ≡ with_entry (block_view (record { doc = MapOf old; waits = before })) d
 put_in_pairs old new before after d h = rw (doc_document-MapOf new, doc_document-MapOf old) h
 
 pub put_in_fields : (name : String Global) (old new : Vec (String Global × Doc) Global) (before after : Option Doc) (d : Document)
-    → ◌≡◌ {A = Block} (struct_of (string_bytes name) (fields_of (fields_view new)), waiting after)
+    → ◌≡◌ {A = BlockSoFar} (struct_of (string_bytes name) (fields_of (fields_view new)), waiting after)
     (with_entry (struct_of (string_bytes name) (fields_of (fields_view old)), waiting before) d)
     → block_view (record { doc = StructOf name new; waits = after }) ≡ with_entry (block_view (record { doc = StructOf name old; waits = before })) d
 put_in_fields name old new before after d h = rw (doc_document-StructOf name new, doc_document-StructOf name old) h

@@ -10,7 +10,7 @@ use Rattle.ufmt.proofs.Parsing.{same_parts, strip_stands}
 use Rattle.ufmt.proofs.QuotedSound.{read_escaped-sound, read_quoted-sound}
 use Rattle.ufmt_scan.proofs.Leaves.{whole_symbol}
 use Rattle.ufmt.proofs.QuotedComplete.{escaped-no_quote, length-escaped, quoted-bytes, read_escaped-complete}
-use Rattle.ufmt_scan.specs.Private.Spelled.{Tells}
+use Rattle.ufmt_doc.specs.Private.Quoted.{AreSpelled}
 use Rattle.ufmt_doc.specs.Unquoted.{IsInQuotes}
 use Rattle.ufmt.specs.Token.{IsSymbol}
 use Rattle.ufmt_scan.proofs.Spelled.{escaped_bytes-append}
@@ -59,7 +59,7 @@ module _ (t inside : List ℕ) (q : ℕ) (front : t ≡ q ∷ inside) (symbol : 
   is_quoted = (read_quoted-sound t t [] (sym read_by_quote ∙ whole_symbol t symbol)).0
 
   -- the characters between the quotes, whose bytes were told
-  pub record Told (bytes : List ℕ) : Type 0 where
+  pub record QuotedCharacters (bytes : List ℕ) : Type 0 where
     pub characters : List ℕ
     pub scalars : all_scalars characters ≡ true
     pub are : encode_utf8_all characters ≡ bytes
@@ -72,10 +72,10 @@ module _ (t inside : List ℕ) (q : ℕ) (front : t ≡ q ∷ inside) (symbol : 
       let same : q ≡ k = ap (λ (u : List ℕ). get_or u 0 0) whole in
       ap (drop 1) whole ∙ ap (λ n. escaped_bytes n (encode_utf8_all cs) ++ (n ∷ [])) (sym same)
 
-  pub told_between : (bytes : List ℕ) → Tells q inside bytes → Told bytes
+  pub told_between : (bytes : List ℕ) → AreSpelled q inside bytes → QuotedCharacters bytes
   told_between bytes tells = go is_quoted
     where
-      go : IsQuoted t → Told bytes
+      go : IsQuoted t → QuotedCharacters bytes
       go (inl of_text) = record {
         characters = of_text.0;
         scalars = of_text.1;
@@ -89,8 +89,8 @@ module _ (t inside : List ℕ) (q : ℕ) (front : t ≡ q ∷ inside) (symbol : 
         in_quotes = λ text same. inr (of_char.0, same, ap leaf of_char.2);
       }
 
-  pub told_text : (bytes text : List ℕ) → Tells q inside bytes → text ≡ bytes → IsInQuotes (leaf t) text
+  pub told_text : (bytes text : List ℕ) → AreSpelled q inside bytes → text ≡ bytes → IsInQuotes (leaf t) text
   told_text bytes text tells is = let told = told_between bytes tells in told.in_quotes text (ap chars (is ∙ sym told.are) ∙ chars-encodes told.characters told.scalars)
 
-  pub told_utf8 : (bytes : List ℕ) → Tells q inside bytes → IsUtf8 bytes
+  pub told_utf8 : (bytes : List ℕ) → AreSpelled q inside bytes → IsUtf8 bytes
   told_utf8 bytes tells = let told = told_between bytes tells in (told.characters, (told.scalars, told.are))

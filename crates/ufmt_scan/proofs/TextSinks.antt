@@ -15,7 +15,7 @@ use Rattle.ufmt_core.specs.declared.layout.Mode.TheVariants.{Plain, Pretty}
 use Rattle.ufmt_scan.specs.declared.convert.text_sink.TextSink.{TextSink}
 use Rattle.ufmt_scan.specs.declared.scan.refusal.Refusal.{Refusal}
 use Rattle.ufmt_scan.specs.declared.scan.refusal.Refusal.TheVariants.{NotText, Refused}
-use Rattle.ufmt_scan.specs.Private.TextSink.{WritesPart, Wrote}
+use Rattle.ufmt_scan.specs.Private.TextSink.{WritesEvent, Wrote}
 use Rattle.ufmt_scan.specs.Scan.{Event, Hears, Scans, told}
 use Rattle.ufmt_scan.specs.ScanTexts.{texts_written, setting_behind}
 use Rattle.ufmt_scan.specs.Texts.{ConvertsTo, IsConverted}
@@ -24,7 +24,7 @@ use Rattle.ufmt_scan.proofs.ToldTexts.{setting_behind-append, texts_written-appe
 
 module _ {W : Type 0} (seen : Seen W) where
   -- a part behind parts
-  part_behind : (start old new : TextSink W) (es : List Event) (e : Event) (ok : Bool) → Wrote seen true start es old → WritesPart seen old e ok new
+  part_behind : (start old new : TextSink W) (es : List Event) (e : Event) (ok : Bool) → Wrote seen true start es old → WritesEvent seen old e ok new
       → Wrote seen ok start (es ++ e ∷ []) new
   part_behind start old new es e ok before part = (
     simp (texts_written-append, sym before.1, append-nil) (Writes-then before.0 part.0),
@@ -32,7 +32,7 @@ module _ {W : Type 0} (seen : Seen W) where
   )
 
   -- so it is a lawful sink
-  pub hears_part : (old new : TextSink W) (e : Event) (ok : Bool) → WritesPart seen old e ok new → Hears (Wrote seen true) (Wrote seen false) old e ok new
+  pub hears_part : (old new : TextSink W) (e : Event) (ok : Bool) → WritesEvent seen old e ok new → Hears (Wrote seen true) (Wrote seen false) old e ok new
   hears_part old new e true part = λ start es before. part_behind start old new es e true before part
   hears_part old new e false part = λ start es before. part_behind start old new es e false before part
 

@@ -11,12 +11,12 @@ use Rattle.ufmt_doc.specs.Doc.{doc_document}
 use Rattle.ufmt_scan.specs.Scan.{Event}
 
 -- an open block: its document so far, and what waits in it: a key, or a field's name as a leaf
-abbrev pub Block : Type 0
-Block = Document × Option Document
+abbrev pub BlockSoFar : Type 0
+BlockSoFar = Document × Option Document
 
 -- the innermost block, and those round it from there outwards
 abbrev pub Growing : Type 0
-Growing = Block × List Block
+Growing = BlockSoFar × List BlockSoFar
 
 -- entries, pairs and fields with more behind them
 abbrev pub with_all : Documents → Documents → Documents
@@ -32,7 +32,7 @@ with_fields no_fields more = more
 with_fields (field label value fs) more = field label value (with_fields fs more)
 
 -- a block with an entry more, with a key or a field's name that waits, or with the value of what waits
-abbrev pub with_entry : Block → Document → Block
+abbrev pub with_entry : BlockSoFar → Document → BlockSoFar
 with_entry (list_of ds, waits) d = (list_of (with_all ds (document d no_documents)), waits)
 with_entry (set_of ds, waits) d = (set_of (with_all ds (document d no_documents)), waits)
 with_entry (map_of ps, None) d = (map_of ps, Some d)
@@ -44,7 +44,7 @@ with_entry (tuple_of name ds, waits) d = (tuple_of name (with_all ds (document d
 with_entry (d, waits) other = (d, waits)
 
 -- a block behind an entry: what stands alone in braces makes them a set
-abbrev pub entry_ended : Block → Block
+abbrev pub entry_ended : BlockSoFar → BlockSoFar
 entry_ended (map_of ps, Some first) = (set_of (document first no_documents), None)
 entry_ended (d, waits) = (d, waits)
 
@@ -96,11 +96,11 @@ nothing_read = ((map_of no_pairs, None), [])
 abbrev pub waiting : Option Doc → Option Document
 waiting waits = option_map doc_document waits
 
-abbrev pub block_view : OpenBlock → Block
+abbrev pub block_view : OpenBlock → BlockSoFar
 block_view block = (doc_document block.doc, waiting block.waits)
 
 -- blocks that are open, the outermost first, from the innermost on
-abbrev pub innermost_first : List OpenBlock → List Block
+abbrev pub innermost_first : List OpenBlock → List BlockSoFar
 innermost_first [] = []
 innermost_first (block ∷ inner) = innermost_first inner ++ block_view block ∷ []
 

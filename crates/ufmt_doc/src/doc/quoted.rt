@@ -4,7 +4,7 @@ ghost use Rattle.std.specs.Str.{chars};
 ghost use Rattle.ufmt.specs.Document.{leaf};
 ghost use Rattle.ufmt.specs.Quoted.{IsQuote, quoted_char, quoted_text};
 ghost use Rattle.ufmt_doc.specs.Doc.{doc_document};
-ghost use Rattle.ufmt_scan.specs.Private.Spelled.{Tells};
+ghost use Rattle.ufmt_doc.specs.Private.Quoted.{AreSpelled};
 ghost use Rattle.ufmt_doc.specs.Unquoted.{Unquotes};
 
 use super::Doc;
@@ -67,7 +67,7 @@ fn unquoted_leaf(alloc: Global, text: &str) -> Result<Option<String>, AllocError
 // The bytes that are written up to the closing quote.
 fn told_bytes(alloc: Global, quote: u8, inside: &[u8]) -> Result<Vec<u8>, AllocError>
     requires { IsQuote quote }
-    ensures { IfOk result (λ bytes. Tells quote inside.now bytes.items) }
+    ensures { IfOk result (λ bytes. AreSpelled quote inside.now bytes.items) }
 {
     let mut bytes = Vec::new(alloc);
     let mut rest = inside;

@@ -1,15 +1,11 @@
 -- What stands in quotes, on the way to the closing quote.
-use Rattle.std.specs.Prelude.{◌≡◌, ℕ, suc, ◌<◌, ◌==◌, Bool, true, List, [], ◌∷◌, ◌++◌, length, Option, Some, option_map, IfSome}
+use Rattle.std.specs.Prelude.{◌≡◌, ℕ, suc, ◌<◌, ◌==◌, Bool, true, List, ◌++◌, length, Option, Some, option_map, IfSome}
 use Rattle.std.specs.Borrow.{Bor}
 use Rattle.std.specs.Char.{IsScalar}
 use Rattle.std.specs.Str.{all_scalars}
-use Rattle.ufmt.specs.Quoted.{escaped, escaped_bytes, quoted}
+use Rattle.ufmt.specs.Quoted.{escaped, quoted}
 use Rattle.ufmt.specs.ReadingQuoted.{read_inside}
 use Rattle.ufmt_scan.specs.Rest.{now_of}
-
--- these are the bytes that are written up to the closing quote, if one ends the text
-abbrev pub Tells : ℕ → List ℕ → List ℕ → Type 0
-Tells quote inside bytes = (bs : List ℕ) → inside ≡ escaped_bytes quote bs ++ (quote ∷ []) → bytes ≡ bs
 
 -- what follows the closing quote, behind the opening one
 abbrev pub behind_quote : ℕ → List ℕ → Option (List ℕ)

@@ -6,8 +6,8 @@ use Rattle.ufmt_scan.specs.Scan.{Event}
 use Rattle.ufmt_scan.specs.ScanTexts.{written, setting_after, texts_written, setting_behind}
 
 -- it wrote a part, or a beginning of what is written for it
-abbrev pub WritesPart : {W : Type 0} → Seen W → TextSink W → Event → Bool → TextSink W → Type 0
-WritesPart seen old e ok new = Writes seen old.writer (written old.setting e) ok new.writer × (new.setting ≡ setting_after old.setting e)
+abbrev pub WritesEvent : {W : Type 0} → Seen W → TextSink W → Event → Bool → TextSink W → Type 0
+WritesEvent seen old e ok new = Writes seen old.writer (written old.setting e) ok new.writer × (new.setting ≡ setting_after old.setting e)
 
 -- it wrote these parts, or a beginning of what is written for them
 abbrev pub Wrote : {W : Type 0} → Seen W → Bool → TextSink W → List Event → TextSink W → Type 0

@@ -1,7 +1,7 @@
 //! A sink that lays out what it is told.
 ghost use Rattle.std.specs.Prelude.{◌≡◌, true, false, is_ok};
 ghost use Rattle.ufmt.specs.Layout.{setting};
-ghost use Rattle.ufmt_scan.specs.Private.TextSink.{WritesPart, Wrote};
+ghost use Rattle.ufmt_scan.specs.Private.TextSink.{WritesEvent, Wrote};
 ghost use Rattle.ufmt_scan.specs.ScanTexts.{outside};
 ghost use Rattle.std.proofs.Common.{refl};
 ghost use Rattle.ufmt_core.proofs.Writing.{Writes-nothing};
