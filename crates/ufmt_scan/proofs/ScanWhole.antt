@@ -29,7 +29,8 @@ leads_whole (Some x) es (Some y) is d whole =
     (y.0, ap told (sym (if_all_is x.0 d x.1 whole)) ∙ (same_parts {A = List Event} {B = List ℕ} (told x.0, x.1) (es ++ y.0, y.1) is).0)
 
 -- the document at the front of a text was told, or the scan ended before
-abbrev pub Front : {S E : Type 0} → (S → List Event → S → Type 0) → (S → List Event → S → Type 0) → Mode → List ℕ → S → Result (Bor (List ℕ)) (Refusal E) → S → Type 0
+abbrev pub Front : {S E : Type 0} → (S → List Event → S → Type 0) → (S → List Event → S → Type 0) → Mode → List ℕ → S
+    → Result (Bor (List ℕ)) (Refusal E) → S → Type 0
 Front took stopped mode t old answer new = ScansOn took stopped answer old new (parse_map told (read (setting mode 0) 255 t)) (λ rest. Some ([], rest.now))
 
 module _ {S : Type 0} (took stopped : S → List Event → S → Type 0) (mode : Mode) (t : List ℕ) {a b : S} (begun : took a [] a) where
