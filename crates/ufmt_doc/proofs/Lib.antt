@@ -1,6 +1,5 @@
 pub mod Docs
 pub mod GrowingDocuments
-pub mod NormalDocs
 pub mod Normals
 pub mod OpenBlocks
 pub mod Same

@@ -1,245 +1,157 @@
--- When the normal forms of two `Doc`s are equal, by their parts.
-use Rattle.std.proofs.Common.{◌≡◌, refl, sym, ap, ◌∙◌, ℕ, ◌<◌, ◌==◌, ◌&&◌, List, [], ◌∷◌, ◌++◌, length, length-append, get_or, map, take, subst, Bool, true, false, None, String, Vec, Global, arith}
-use Rattle.std.proofs.lemmas.List.{get_or-map, length-map, map-append, take_more}
-use Rattle.std.proofs.lemmas.Bool.Decides.{Decides-eqb, nat_tests}
-use Rattle.std.proofs.lemmas.Slice.Eq.{slice_eq-Decides}
-use Rattle.std.specs.Prelude.{IsTrue, ◌↔◌, string_bytes, ⊤}
-use Rattle.std.specs.String.{string_eq}
-use Rattle.std.specs.Vec.{vec_len}
-use Rattle.ufmt.specs.Document.{Document, leaf, joined, list_of, set_of, map_of, struct_of, tuple_of, pretty_part, documents, pairs_of, fields_of}
-use Rattle.ufmt_doc.specs.declared.doc.Doc.{Doc}
-use Rattle.ufmt_doc.specs.declared.doc.Doc.TheVariants.{Leaf, Listed, SetOf, MapOf, StructOf, TupleOf}
+-- When two `Doc`s have one normal form, by their parts.
+use Rattle.std.proofs.Common.{◌≡◌, refl, sym, ap, ◌∙◌, ◌==◌, ◌&&◌, ℕ, List, [], ◌∷◌, length, map, subst, Bool, false, None, Bor, String, Vec, Global, arith}
+use Rattle.std.proofs.lemmas.Bool.Decides.{nat_tests}
+use Rattle.std.specs.Prelude.{IsTrue, ◌↔◌, string_bytes, vec_len, ⊤}
+use Rattle.std.specs.Bool.{then_some}
+use Rattle.std.specs.List.{AllZip}
+use Rattle.ufmt.specs.Document.{Document, leaf, joined, list_of, set_of, map_of, struct_of, tuple_of, pretty_part, no_documents, document, documents, pairs_of, no_fields, field, fields_of}
+use Rattle.ufmt.specs.Token.{normal, normal_all, normal_pairs, normal_fields}
+use Rattle.ufmt_doc.specs.declared.doc.Doc.{Doc, Doc-F, out-Doc, roll-Doc, roll-out-Doc}
+use Rattle.ufmt_doc.specs.declared.doc.Doc.TheFolds.{fold-roll-Doc}
+use Rattle.ufmt_doc.specs.declared.doc.Doc.TheOpen as layer
+use Rattle.ufmt_doc.specs.declared.doc.Doc.TheVariants.{Leaf, Listed, SetOf, MapOf, StructOf, TupleOf, rolls-Leaf, rolls-Listed, rolls-SetOf, rolls-MapOf, rolls-StructOf, rolls-TupleOf}
+use Rattle.ufmt_doc.specs.Doc.{doc_document, document_step}
+use Rattle.ufmt_doc.specs.DocViews.{pair_view, field_view}
 use Rattle.ufmt_doc.specs.Parts.{leaf_part}
-use Rattle.ufmt_doc.specs.Private.Same.{normal_doc, normal_pair, normal_field}
-use Rattle.ufmt_doc.proofs.NormalDocs.{Variant, a_leaf, a_list, a_set, a_map, a_struct, a_tuple, variant, set_form, struct_form, tuple_form, normal-Leaf, normal-Listed, normal-SetOf, normal-MapOf, normal-StructOf, normal-TupleOf, len_is}
+use Rattle.ufmt_scan.specs.Rest.{now_of}
 
--- rows are equal where their lists are
-documents_tell : (xs ys : List Document) → documents xs ≡ documents ys → xs ≡ ys
-documents_tell [] [] h = refl
-documents_tell [] (y ∷ ys) h = absurd (cc)
-documents_tell (x ∷ xs) [] h = absurd (cc)
-documents_tell (x ∷ xs) (y ∷ ys) h = let first : x ≡ y = cc in let rest = documents_tell xs ys (cc) in cc
+-- two documents have one normal form
+abbrev SameDoc : Doc → Doc → Type 0
+SameDoc d e = normal (doc_document d) ≡ normal (doc_document e)
 
-pairs_tell : (xs ys : List (Document × Document)) → pairs_of xs ≡ pairs_of ys → xs ≡ ys
-pairs_tell [] [] h = refl
-pairs_tell [] (y ∷ ys) h = absurd (cc)
-pairs_tell (x ∷ xs) [] h = absurd (cc)
-pairs_tell ((j, x) ∷ xs) ((k, y) ∷ ys) h = let key : j ≡ k = cc in let value : x ≡ y = cc in let rest = pairs_tell xs ys (cc) in cc
+-- entries, pairs and fields have one normal form exactly if each has one with its like
+docs_same : (ds es : List Doc) → AllZip SameDoc ds es ↔ (normal_all (documents (map doc_document ds)) ≡ normal_all (documents (map doc_document es)))
+docs_same [] [] = (λ h. refl, λ h. tt)
+docs_same [] (e ∷ es) = (λ h. absurd h, λ h. absurd (cc))
+docs_same (d ∷ ds) [] = (λ h. absurd h, λ h. absurd (cc))
+docs_same (d ∷ ds) (e ∷ es) = let rest = docs_same ds es in (λ h. let more = rest.0 h.1 in cc, λ h. (cc, rest.1 (cc)))
 
-fields_tell : (xs ys : List (List ℕ × Document)) → fields_of xs ≡ fields_of ys → xs ≡ ys
-fields_tell [] [] h = refl
-fields_tell [] (y ∷ ys) h = absurd (cc)
-fields_tell (x ∷ xs) [] h = absurd (cc)
-fields_tell ((j, x) ∷ xs) ((k, y) ∷ ys) h = let label : j ≡ k = cc in let value : x ≡ y = cc in let rest = fields_tell xs ys (cc) in cc
+pairs_same : (ps qs : List (Doc × Doc)) → AllZip (λ p q. SameDoc p.0 q.0 × SameDoc p.1 q.1) ps qs
+    ↔ (normal_pairs (pairs_of (map pair_view ps)) ≡ normal_pairs (pairs_of (map pair_view qs)))
+pairs_same [] [] = (λ h. refl, λ h. tt)
+pairs_same [] (q ∷ qs) = (λ h. absurd h, λ h. absurd (cc))
+pairs_same (p ∷ ps) [] = (λ h. absurd h, λ h. absurd (cc))
+pairs_same (p ∷ ps) (q ∷ qs) = let rest = pairs_same ps qs in (λ h. let more = rest.0 h.1 in cc, λ h. ((cc, cc), rest.1 (cc)))
 
--- forms are equal where names and entries are
-set_tells : (xs ys : List Document) → set_form xs ≡ set_form ys → xs ≡ ys
-set_tells [] [] h = refl
-set_tells [] (y ∷ ys) h = absurd (cc)
-set_tells (x ∷ xs) [] h = absurd (cc)
-set_tells (x ∷ xs) (y ∷ ys) h = documents_tell (x ∷ xs) (y ∷ ys) (cc)
+fields_same : (fs gs : List (String Global × Doc)) → AllZip (λ f g. (string_bytes f.0 ≡ string_bytes g.0) × SameDoc f.1 g.1) fs gs
+    ↔ (normal_fields (fields_of (map field_view fs)) ≡ normal_fields (fields_of (map field_view gs)))
+fields_same [] [] = (λ h. refl, λ h. tt)
+fields_same [] (g ∷ gs) = (λ h. absurd h, λ h. absurd (cc))
+fields_same (f ∷ fs) [] = (λ h. absurd h, λ h. absurd (cc))
+fields_same (f ∷ fs) (g ∷ gs) = let rest = fields_same fs gs in (λ h. let more = rest.0 h.1 in cc, λ h. ((cc, cc), rest.1 (cc)))
 
-struct_tells : (m n : List ℕ) (xs ys : List (List ℕ × Document)) → struct_form m xs ≡ struct_form n ys → (m ≡ n) × (xs ≡ ys)
-struct_tells m n [] [] h = (cc, refl)
-struct_tells m n [] (y ∷ ys) h = absurd (cc)
-struct_tells m n (x ∷ xs) [] h = absurd (cc)
-struct_tells m n (x ∷ xs) (y ∷ ys) h = (cc, fields_tell (x ∷ xs) (y ∷ ys) (cc))
+-- and so do blocks of one kind and name
+pub lists_same : (ds es : List Doc) → AllZip SameDoc ds es ↔ (normal (list_of (documents (map doc_document ds))) ≡ normal (list_of (documents (map doc_document es))))
+lists_same ds es = let all = docs_same ds es in (λ h. ap list_of (all.0 h), λ h. all.1 (cc))
 
-tuple_tells : (m n : List ℕ) (xs ys : List Document) → tuple_form m xs ≡ tuple_form n ys → (m ≡ n) × (xs ≡ ys)
-tuple_tells m n [] [] h = (cc, refl)
-tuple_tells m n [] (y ∷ ys) h = absurd (cc)
-tuple_tells m n (x ∷ xs) [] h = absurd (cc)
-tuple_tells m n (x ∷ xs) (y ∷ ys) h = (cc, documents_tell (x ∷ xs) (y ∷ ys) (cc))
+pub sets_same : (ds es : List Doc) → AllZip SameDoc ds es ↔ (normal (set_of (documents (map doc_document ds))) ≡ normal (set_of (documents (map doc_document es))))
+sets_same [] [] = (λ h. refl, λ h. tt)
+sets_same [] (e ∷ es) = (λ h. absurd h, λ h. absurd (cc))
+sets_same (d ∷ ds) [] = (λ h. absurd h, λ h. absurd (cc))
+sets_same (d ∷ ds) (e ∷ es) = let all = docs_same (d ∷ ds) (e ∷ es) in (λ h. let same = all.0 h in cc, λ h. all.1 (cc))
 
--- two strings are equal where the test says so
-pub string_eq_tells : (x y : String Global) → string_eq x y ≡ true → string_bytes x ≡ string_bytes y
-string_eq_tells x y h = (slice_eq-Decides Decides-eqb (string_bytes x) (string_bytes y) _ refl).0 h
+pub maps_same : (ps qs : List (Doc × Doc)) → AllZip (λ p q. SameDoc p.0 q.0 × SameDoc p.1 q.1) ps qs
+    ↔ (normal (map_of (pairs_of (map pair_view ps))) ≡ normal (map_of (pairs_of (map pair_view qs))))
+maps_same ps qs = let all = pairs_same ps qs in (λ h. ap map_of (all.0 h), λ h. all.1 (cc))
 
-pub string_eq_told : (x y : String Global) → string_bytes x ≡ string_bytes y → string_eq x y ≡ true
-string_eq_told x y h = (slice_eq-Decides Decides-eqb (string_bytes x) (string_bytes y) _ refl).1 h
+pub structs_same : (name : List ℕ) (fs gs : List (String Global × Doc))
+    → AllZip (λ f g. (string_bytes f.0 ≡ string_bytes g.0) × SameDoc f.1 g.1) fs gs
+    ↔ (normal (struct_of name (fields_of (map field_view fs))) ≡ normal (struct_of name (fields_of (map field_view gs))))
+structs_same name [] [] = (λ h. refl, λ h. tt)
+structs_same name [] (g ∷ gs) = (λ h. absurd h, λ h. absurd (cc))
+structs_same name (f ∷ fs) [] = (λ h. absurd h, λ h. absurd (cc))
+structs_same name (f ∷ fs) (g ∷ gs) = let all = fields_same (f ∷ fs) (g ∷ gs) in (λ h. let same = all.0 h in cc, λ h. all.1 (cc))
 
--- what an answer tells of the parts of two documents it tells of the documents
-module _ {answer : Bool} {a b : Doc} where
-  pub same-Listed : (entries others : Vec Doc Global) → a ≡ Listed entries → b ≡ Listed others
-      → IsTrue answer ↔ (map normal_doc entries.items ≡ map normal_doc others.items) → IsTrue answer ↔ (normal_doc a ≡ normal_doc b)
-  same-Listed entries others e f tells =
-      rw (normal-Listed entries e, normal-Listed others f) (λ yes. ap (λ ds. list_of (documents ds)) (tells.0 yes), λ same. tells.1 (documents_tell _ _ (cc)))
+pub tuples_same : (name : List ℕ) (ds es : List Doc)
+    → AllZip SameDoc ds es ↔ (normal (tuple_of name (documents (map doc_document ds))) ≡ normal (tuple_of name (documents (map doc_document es))))
+tuples_same name [] [] = (λ h. refl, λ h. tt)
+tuples_same name [] (e ∷ es) = (λ h. absurd h, λ h. absurd (cc))
+tuples_same name (d ∷ ds) [] = (λ h. absurd h, λ h. absurd (cc))
+tuples_same name (d ∷ ds) (e ∷ es) = let all = docs_same (d ∷ ds) (e ∷ es) in (λ h. let same = all.0 h in cc, λ h. all.1 (cc))
 
-  pub same-SetOf : (entries others : Vec Doc Global) → a ≡ SetOf entries → b ≡ SetOf others
-      → IsTrue answer ↔ (map normal_doc entries.items ≡ map normal_doc others.items) → IsTrue answer ↔ (normal_doc a ≡ normal_doc b)
-  same-SetOf entries others e f tells =
-      rw (normal-SetOf entries e, normal-SetOf others f) (λ yes. ap set_form (tells.0 yes), λ same. tells.1 (set_tells _ _ same))
-
-  pub same-MapOf : (pairs others : Vec (Doc × Doc) Global) → a ≡ MapOf pairs → b ≡ MapOf others
-      → IsTrue answer ↔ (map normal_pair pairs.items ≡ map normal_pair others.items) → IsTrue answer ↔ (normal_doc a ≡ normal_doc b)
-  same-MapOf pairs others e f tells =
-      rw (normal-MapOf pairs e, normal-MapOf others f) (λ yes. ap (λ ps. map_of (pairs_of ps)) (tells.0 yes), λ same. tells.1 (pairs_tell _ _ (cc)))
-
-  pub same-StructOf : (name other : String Global) (fields others : Vec (String Global × Doc) Global) → a ≡ StructOf name fields
-      → b ≡ StructOf other others → string_eq name other ≡ true
-      → IsTrue answer ↔ (map normal_field fields.items ≡ map normal_field others.items) → IsTrue answer ↔ (normal_doc a ≡ normal_doc b)
-  same-StructOf name other fields others e f names tells =
-      let named = string_eq_tells name other names in
-      rw (normal-StructOf name fields e, normal-StructOf other others f, named)
-      (λ yes. ap (struct_form (string_bytes other)) (tells.0 yes), λ same. tells.1 (struct_tells _ _ _ _ same).1)
-
-  pub same-TupleOf : (name other : String Global) (fields others : Vec Doc Global) → a ≡ TupleOf name fields → b ≡ TupleOf other others
-      → string_eq name other ≡ true → IsTrue answer ↔ (map normal_doc fields.items ≡ map normal_doc others.items)
-      → IsTrue answer ↔ (normal_doc a ≡ normal_doc b)
-  same-TupleOf name other fields others e f names tells =
-      let named = string_eq_tells name other names in
-      rw (normal-TupleOf name fields e, normal-TupleOf other others f, named)
-      (λ yes. ap (tuple_form (string_bytes other)) (tells.0 yes), λ same. tells.1 (tuple_tells _ _ _ _ same).1)
-
--- a list with an item isn't empty
+-- an empty set is an empty map, and no other set is a map
 is_some : {A : Type 0} (x : A) (xs : List A) → (length (x ∷ xs) == 0) ≡ false
 is_some x xs = grind (arith, nat_tests)
 
--- an empty set is an empty map, and no other set is a map
-braces_same : (answer : Bool) (ds : List Document) (ps : List (Document × Document)) → answer ≡ (length ds == 0) && (length ps == 0)
-    → IsTrue answer ↔ (set_form ds ≡ map_of (pairs_of ps))
-braces_same answer [] [] is = (λ yes. refl, λ same. is)
-braces_same answer [] (p ∷ ps) is = let some = is_some p ps in (λ yes. absurd (cc), λ same. absurd (cc))
-braces_same answer (d ∷ ds) ps is = let some = is_some d ds in (λ yes. absurd (cc), λ same. absurd (cc))
+braces : {answer : Bool} (ds : List Doc) (ps : List (Doc × Doc)) → answer ≡ (length ds == 0) && (length ps == 0)
+    → IsTrue answer ↔ (normal (set_of (documents (map doc_document ds))) ≡ normal (map_of (pairs_of (map pair_view ps))))
+braces [] [] is = (λ yes. refl, λ same. is)
+braces [] (p ∷ ps) is = let some = is_some p ps in (λ yes. absurd (cc), λ same. absurd (cc))
+braces (d ∷ ds) ps is = let some = is_some d ds in (λ yes. absurd (cc), λ same. absurd (cc))
 
--- two tests for items, of what the items are seen as
-both_empty : {X Y V W : Type 0} (f : X → V) (g : Y → W) (v : Vec X Global) (w : Vec Y Global)
-    → (vec_len v == 0) && (vec_len w == 0) ≡ (length (map f v.items) == 0) && (length (map g w.items) == 0)
-both_empty f g v w = rw (length-map v.items f, length-map w.items g, ← len_is v, ← len_is w) refl
+pub braces_same : {answer : Bool} (v : Vec Doc Global) (w : Vec (Doc × Doc) Global) → answer ≡ (vec_len v == 0) && (vec_len w == 0)
+    → IsTrue answer ↔ (normal (set_of (documents (map doc_document v.items))) ≡ normal (map_of (pairs_of (map pair_view w.items))))
+braces_same v w is = braces v.items w.items (is ∙ rw (v.ok.0, w.ok.0) refl)
 
-module _ {answer : Bool} {a b : Doc} where
-  pub same-SetOf-MapOf : (entries : Vec Doc Global) (pairs : Vec (Doc × Doc) Global) → a ≡ SetOf entries → b ≡ MapOf pairs
-      → answer ≡ (vec_len entries == 0) && (vec_len pairs == 0) → IsTrue answer ↔ (normal_doc a ≡ normal_doc b)
-  same-SetOf-MapOf entries pairs e f is =
-      rw (normal-SetOf entries e, normal-MapOf pairs f)
-      (braces_same answer (map normal_doc entries.items) (map normal_pair pairs.items) (is ∙ both_empty normal_doc normal_pair entries pairs))
+-- what leaf a struct or a tuple is in normal form, by a test for fields
+pub struct_leaf : (name : Bor (List ℕ)) (fs : List (String Global × Doc)) (empty : Bool) → empty ≡ (length fs == 0)
+    → now_of (then_some empty name) ≡ leaf_part (normal (struct_of name.now (fields_of (map field_view fs))))
+struct_leaf name [] empty is = rw is refl
+struct_leaf name (f ∷ fs) empty is = rw (is ∙ is_some f fs) refl
+
+pub tuple_leaf : (name : Bor (List ℕ)) (ds : List Doc) (empty : Bool) → empty ≡ (length ds == 0)
+    → now_of (then_some empty name) ≡ leaf_part (normal (tuple_of name.now (documents (map doc_document ds))))
+tuple_leaf name [] empty is = rw is refl
+tuple_leaf name (d ∷ ds) empty is = rw (is ∙ is_some d ds) refl
 
 -- an answer tells two equal values in either order
 pub in_other_order : {A : Type 0} {answer : Bool} {x y : A} → IsTrue answer ↔ (x ≡ y) → IsTrue answer ↔ (y ≡ x)
 in_other_order tells = (λ yes. sym (tells.0 yes), λ same. tells.1 (sym same))
 
--- where items at one place differ, so do the lists
-pub differ_at : {A B : Type 0} (f : A → B) (xs ys : List A) (n : ℕ) (x y : A) → (n < length xs) × (n < length ys)
-    × ((d : A) → x ≡ get_or xs n d) × ((d : A) → y ≡ get_or ys n d) → (f x ≡ f y → ⊥) → IsTrue false ↔ (map f xs ≡ map f ys)
-differ_at f xs ys n x y turn differ =
-    let here : f x ≡ get_or (map f xs) n (f x) = ap f (turn.2 x) ∙ sym (get_or-map f xs n x (f x) turn.0) in
-    let there : f y ≡ get_or (map f ys) n (f x) = ap f (turn.3 y) ∙ sym (get_or-map f ys n y (f x) turn.1) in
-    (λ yes. absurd (cc), λ same. absurd (differ (cc)))
-
--- where they are equal, and the lists were up to there, the lists are with them
-pub more_same : {A B Z : Type 0} (f : A → B) (xs ys : List A) (so_far : List Z) (z : Z) (x y : A) → (length so_far < length xs)
-    × (length so_far < length ys) × ((d : A) → x ≡ get_or xs (length so_far) d) × ((d : A) → y ≡ get_or ys (length so_far) d) → f x ≡ f y
-    → map f (take (length so_far) xs) ≡ map f (take (length so_far) ys)
-    → map f (take (length (so_far ++ z ∷ [])) xs) ≡ map f (take (length (so_far ++ z ∷ [])) ys)
-more_same f xs ys so_far z x y turn here before =
-    let n = length so_far in
-    rw (
-      length-append so_far (z ∷ []),
-      take_more xs n x turn.0,
-      take_more ys n y turn.1,
-      ← turn.2 x,
-      ← turn.3 y,
-      map-append f (take n xs) (x ∷ []),
-      map-append f (take n ys) (y ∷ []),
-      before,
-      here,
-    ) refl
-
--- what kind of document a normal form is; an empty set is a map
+-- what kind of document one is: braces are of one kind
 pub data Kind : Type 0 where
-  text_alone listed braced named_struct named_tuple no_normal_form : Kind
+  text_alone listed braced named_struct named_tuple no_kind : Kind
 
-abbrev kind_of : Document → Kind
-kind_of (leaf text) = text_alone
-kind_of (joined ds) = no_normal_form
-kind_of (list_of ds) = listed
-kind_of (set_of ds) = braced
-kind_of (map_of ps) = braced
-kind_of (struct_of name fs) = named_struct
-kind_of (tuple_of name ds) = named_tuple
-kind_of (pretty_part d) = no_normal_form
+abbrev pub kind : Document → Kind
+kind (leaf text) = text_alone
+kind (list_of ds) = listed
+kind (set_of ds) = braced
+kind (map_of ps) = braced
+kind (struct_of name fs) = named_struct
+kind (tuple_of name ds) = named_tuple
+kind _ = no_kind
 
--- the kind that a variant has but where it is a leaf
-abbrev kind_by : {d : Doc} → Variant d → Kind
-kind_by (a_leaf text e) = text_alone
-kind_by (a_list entries e) = listed
-kind_by (a_set entries e) = braced
-kind_by (a_map pairs e) = braced
-kind_by (a_struct name fields e) = named_struct
-kind_by (a_tuple name fields e) = named_tuple
+-- a normal form that is no leaf is of the document's kind
+kept : (d : Document) → leaf_part (normal d) ≡ None → kind (normal d) ≡ kind d
+kept (leaf text) none = refl
+kept (joined ds) none = refl
+kept (list_of ds) none = refl
+kept (set_of no_documents) none = refl
+kept (set_of (document d ds)) none = refl
+kept (map_of ps) none = refl
+kept (struct_of name no_fields) none = absurd (cc)
+kept (struct_of name (field label value fs)) none = refl
+kept (tuple_of name no_documents) none = absurd (cc)
+kept (tuple_of name (document d ds)) none = refl
+kept (pretty_part d) none = refl
 
-set_kind : (ds : List Document) → kind_of (set_form ds) ≡ braced
-set_kind [] = refl
-set_kind (d ∷ ds) = refl
+-- that a `Doc` is no variant of a kind, which of its own kind it is
+abbrev pub IsNot : Kind → Doc → Type 0
+IsNot text_alone d = (text : String Global) → d ≡ Leaf text → ⊥
+IsNot listed d = (entries : Vec Doc Global) → d ≡ Listed entries → ⊥
+IsNot braced d = ((entries : Vec Doc Global) → d ≡ SetOf entries → ⊥) × ((pairs : Vec (Doc × Doc) Global) → d ≡ MapOf pairs → ⊥)
+IsNot named_struct d = (name : String Global) (fields : Vec (String Global × Doc) Global) → d ≡ StructOf name fields → ⊥
+IsNot named_tuple d = (name : String Global) (fields : Vec Doc Global) → d ≡ TupleOf name fields → ⊥
+IsNot no_kind d = ⊤
 
-struct_kind : (name : List ℕ) (fs : List (List ℕ × Document)) → leaf_part (struct_form name fs) ≡ None → kind_of (struct_form name fs) ≡ named_struct
-struct_kind name [] none = absurd (cc)
-struct_kind name (f ∷ fs) none = refl
-
-tuple_kind : (name : List ℕ) (ds : List Document) → leaf_part (tuple_form name ds) ≡ None → kind_of (tuple_form name ds) ≡ named_tuple
-tuple_kind name [] none = absurd (cc)
-tuple_kind name (d ∷ ds) none = refl
-
-kind_is : {d : Doc} (v : Variant d) → leaf_part (normal_doc d) ≡ None → kind_of (normal_doc d) ≡ kind_by v
-kind_is (a_leaf text e) none = let is = normal-Leaf text e in absurd (cc)
-kind_is (a_list entries e) none = rw (normal-Listed entries e) refl
-kind_is (a_set entries e) none = rw (normal-SetOf entries e) (set_kind (map normal_doc entries.items))
-kind_is (a_map pairs e) none = rw (normal-MapOf pairs e) refl
-kind_is (a_struct name fields e) none = rw (normal-StructOf name fields e)
-    (struct_kind (string_bytes name) (map normal_field fields.items) (rw (normal-StructOf name fields e) at none))
-kind_is (a_tuple name fields e) none = rw (normal-TupleOf name fields e)
-    (tuple_kind (string_bytes name) (map normal_doc fields.items) (rw (normal-TupleOf name fields e) at none))
-
--- that a `Doc` is no variant of a kind
-abbrev pub IsNot : Doc → Kind → Type 0
-IsNot d text_alone = (text : String Global) → d ≡ Leaf text → ⊥
-IsNot d listed = (entries : Vec Doc Global) → d ≡ Listed entries → ⊥
-IsNot d braced = ((entries : Vec Doc Global) → d ≡ SetOf entries → ⊥) × ((pairs : Vec (Doc × Doc) Global) → d ≡ MapOf pairs → ⊥)
-IsNot d named_struct = (name : String Global) (fields : Vec (String Global × Doc) Global) → d ≡ StructOf name fields → ⊥
-IsNot d named_tuple = (name : String Global) (fields : Vec Doc Global) → d ≡ TupleOf name fields → ⊥
-IsNot d no_normal_form = ⊤
-
-some_variant : {d : Doc} (v : Variant d) → IsNot d (kind_by v) → ⊥
-some_variant (a_leaf text e) never = never text e
-some_variant (a_list entries e) never = never entries e
-some_variant (a_set entries e) never = never.0 entries e
-some_variant (a_map pairs e) never = never.1 pairs e
-some_variant (a_struct name fields e) never = never name fields e
-some_variant (a_tuple name fields e) never = never name fields e
-
--- a document that is no leaf has another normal form than one of another kind
-kinds_differ : {a b : Doc} (v : Variant a) (w : Variant b) → None ≡ leaf_part (normal_doc a) → IsNot b (kind_by v) → normal_doc a ≡ normal_doc b → ⊥
-kinds_differ {a} {b} v w none never same =
-    let first = kind_is v (sym none) in
-    let second = kind_is w (sym (ap leaf_part same) ∙ sym none) in
-    let kinds : kind_by v ≡ kind_by w = sym first ∙ ap kind_of same ∙ second in
-    some_variant w (subst (IsNot b) kinds never)
-
--- a leaf is one
-pub text_is_leaf : {d : Doc} (text : String Global) → d ≡ Leaf text → None ≡ leaf_part (normal_doc d) → ⊥
-text_is_leaf text e none = let is = normal-Leaf text e in cc
+some_variant : (l : Doc-F Doc) → IsNot (kind (doc_document (roll-Doc l))) (roll-Doc l) → ⊥
+some_variant (layer.Leaf text) never = (rw (fold-roll-Doc Document document_step (layer.Leaf text)) at never) text (rolls-Leaf text)
+some_variant (layer.Listed entries) never = (rw (fold-roll-Doc Document document_step (layer.Listed entries)) at never) entries (rolls-Listed entries)
+some_variant (layer.SetOf entries) never = (rw (fold-roll-Doc Document document_step (layer.SetOf entries)) at never).0 entries (rolls-SetOf entries)
+some_variant (layer.MapOf pairs) never = (rw (fold-roll-Doc Document document_step (layer.MapOf pairs)) at never).1 pairs (rolls-MapOf pairs)
+some_variant (layer.StructOf name fields) never =
+    (rw (fold-roll-Doc Document document_step (layer.StructOf name fields)) at never) name fields (rolls-StructOf name fields)
+some_variant (layer.TupleOf name fields) never =
+    (rw (fold-roll-Doc Document document_step (layer.TupleOf name fields)) at never) name fields (rolls-TupleOf name fields)
 
 -- documents of different kinds, of which the first is no leaf, have different normal forms
-differ_by : {a : Doc} (b : Doc) (v : Variant a) → None ≡ leaf_part (normal_doc a) → IsNot b (kind_by v) → IsTrue false ↔ (normal_doc a ≡ normal_doc b)
-differ_by b v none never = (λ yes. absurd (cc), λ same. absurd (kinds_differ v (variant b) none never same))
-
-module _ {a b : Doc} (none : None ≡ leaf_part (normal_doc a)) where
-  pub differ-Listed : (entries : Vec Doc Global) → a ≡ Listed entries → IsNot b listed → IsTrue false ↔ (normal_doc a ≡ normal_doc b)
-  differ-Listed entries e never = differ_by b (a_list entries e) none never
-
-  pub differ-SetOf : (entries : Vec Doc Global) → a ≡ SetOf entries → IsNot b braced → IsTrue false ↔ (normal_doc a ≡ normal_doc b)
-  differ-SetOf entries e never = differ_by b (a_set entries e) none never
-
-  pub differ-MapOf : (pairs : Vec (Doc × Doc) Global) → a ≡ MapOf pairs → IsNot b braced → IsTrue false ↔ (normal_doc a ≡ normal_doc b)
-  differ-MapOf pairs e never = differ_by b (a_map pairs e) none never
-
-  pub differ-StructOf : (name : String Global) (fields : Vec (String Global × Doc) Global) → a ≡ StructOf name fields → IsNot b named_struct
-      → IsTrue false ↔ (normal_doc a ≡ normal_doc b)
-  differ-StructOf name fields e never = differ_by b (a_struct name fields e) none never
-
-  pub differ-TupleOf : (name : String Global) (fields : Vec Doc Global) → a ≡ TupleOf name fields → IsNot b named_tuple
-      → IsTrue false ↔ (normal_doc a ≡ normal_doc b)
-  differ-TupleOf name fields e never = differ_by b (a_tuple name fields e) none never
+pub differ : (a b : Doc) {d : Document} → doc_document a ≡ d → None ≡ leaf_part (normal (doc_document a)) → IsNot (kind d) b → IsTrue false ↔ SameDoc a b
+differ a b is none never = (
+  λ yes. absurd (cc),
+  λ same.
+      let kinds = ap kind (sym is) ∙ sym (kept _ (sym none)) ∙ ap kind same ∙ kept _ (sym (ap leaf_part same) ∙ sym none) in
+      absurd (some_variant (out-Doc b) (subst (λ d. IsNot (kind (doc_document d)) d) (sym (roll-out-Doc b)) (subst (λ k. IsNot k b) kinds never))),
+)
 
 -- what an answer tells of one fact it tells of another that goes with that
 pub tells_also : {answer : Bool} {P Q : Type 0} → Q ↔ P → IsTrue answer ↔ P → IsTrue answer ↔ Q

@@ -1,76 +1,72 @@
--- Whether a document's text can be read again is told entry by entry.
-use Rattle.std.proofs.Common.{◌≡◌, ◌==◌, ℕ, ◌-◌, ◌<◌, true, false, List, [], ◌∷◌, length, map, subst, arith, eqb-true}
-use Rattle.std.specs.Prelude.{◌↔◌, IsTrue}
-use Rattle.ufmt.specs.Document.{Document, struct_of, tuple_of, Documents, no_documents, document, documents, Pairs, no_pairs, pair, Fields, no_fields, field}
+-- Whether a block's text can be read again is told entry by entry.
+use Rattle.std.proofs.Common.{◌≡◌, ◌==◌, ℕ, ◌-◌, ◌<◌, true, false, List, [], ◌∷◌, length, map, arith, eqb-true, String, Global}
+use Rattle.std.specs.Prelude.{◌↔◌, IsTrue, string_bytes}
+use Rattle.std.specs.List.{AllByRecursion}
+use Rattle.ufmt.specs.Document.{list_of, map_of, struct_of, tuple_of, documents, pairs_of, fields_of}
 use Rattle.ufmt.specs.Token.{IsWord}
-use Rattle.ufmt_doc.specs.Private.Within.{IsTokenWithin, AreTokensWithin, PairsAreTokensWithin, FieldsAreTokensWithin}
+use Rattle.ufmt_doc.specs.declared.doc.Doc.{Doc}
+use Rattle.ufmt_doc.specs.Doc.{doc_document}
+use Rattle.ufmt_doc.specs.DocViews.{pair_view, field_view}
+use Rattle.ufmt_doc.specs.Private.Within.{IsTokenWithin}
 
--- the first entry, and those behind it
-pub entry_apart : (n : ℕ) (d : Document) (ds : Documents)
-    → AreTokensWithin n (document d ds) ↔ (((0 < n) × IsTokenWithin (n - 1) d) × AreTokensWithin n ds)
-entry_apart n d no_documents = (λ h. ((omega arith, (h.0.0, omega arith)), (tt, omega arith)), λ h. ((h.0.1.0, tt), omega arith))
-entry_apart n d (document e ds) = (λ h. ((omega arith, (h.0.0, omega arith)), (h.0.1, omega arith)), λ h. ((h.0.1.0, h.1.0), omega arith))
-
-pub pair_apart : (n : ℕ) (key value : Document) (ps : Pairs)
-    → PairsAreTokensWithin n (pair key value ps) ↔ (((0 < n) × IsTokenWithin (n - 1) key × IsTokenWithin (n - 1) value) × PairsAreTokensWithin n ps)
-pair_apart n key value no_pairs = (
-  λ h. ((omega arith, (h.0.0, omega arith), (h.0.1, omega arith)), (tt, omega arith)),
-  λ h. ((h.0.1.0, h.0.2.0, tt), omega arith),
-)
-pair_apart n key value (pair k v ps) = (
-  λ h. ((omega arith, (h.0.0, omega arith), (h.0.1, omega arith)), (h.0.2, omega arith)),
-  λ h. ((h.0.1.0, h.0.2.0, h.1.0), omega arith),
-)
-
-pub field_apart : (n : ℕ) (label : List ℕ) (value : Document) (fs : Fields)
-    → FieldsAreTokensWithin n (field label value fs) ↔ (((0 < n) × IsWord label × IsTokenWithin (n - 1) value) × FieldsAreTokensWithin n fs)
-field_apart n label value no_fields = (
-  λ h. ((omega arith, h.0.0, (h.0.1, omega arith)), (tt, omega arith)),
-  λ h. ((h.0.1, h.0.2.0, tt), omega arith),
-)
-field_apart n label value (field l v fs) = (
-  λ h. ((omega arith, h.0.0, (h.0.1, omega arith)), (h.0.2, omega arith)),
-  λ h. ((h.0.1, h.0.2.0, h.1.0), omega arith),
-)
-
--- a struct's name, and its fields
-pub struct_apart : (n : ℕ) (name : List ℕ) (fs : Fields) → IsWord name → FieldsAreTokensWithin n fs ↔ IsTokenWithin n (struct_of name fs)
-struct_apart n name no_fields word = (λ h. ((word, h.0), h.1), λ h. (h.0.1, h.1))
-struct_apart n name (field label value fs) word = (λ h. ((word, h.0), h.1), λ h. (h.0.1, h.1))
-
--- a tuple without a name has fields
-pub unnamed_apart : {X : Type 0} (f : X → Document) (n : ℕ) (name : List ℕ) (xs : List X) → (length name == 0) ≡ true → (length xs == 0) ≡ false
-    → AreTokensWithin n (documents (map f xs)) ↔ IsTokenWithin n (tuple_of name (documents (map f xs)))
-unnamed_apart f n [] [] unnamed some = absurd (cc)
-unnamed_apart f n [] (x ∷ xs) unnamed some = (λ h. ((tt, h.0.0, h.0.1), h.1), λ h. ((h.0.1, h.0.2), h.1))
-unnamed_apart f n (c ∷ name) xs unnamed some = let none = eqb-true (length (c ∷ name)) 0 unnamed in absurd (omega arith)
-
-pub no_tuple : {X : Type 0} (f : X → Document) (n : ℕ) (name : List ℕ) (xs : List X) → (length name == 0) ≡ true → (length xs == 0) ≡ true
-    → IsTrue false ↔ IsTokenWithin n (tuple_of name (documents (map f xs)))
-no_tuple f n [] [] unnamed none = (λ h. absurd (cc), λ h. absurd h.0)
-no_tuple f n [] (x ∷ xs) unnamed none = let e = eqb-true (length (x ∷ xs)) 0 none in absurd (omega arith)
-no_tuple f n (c ∷ name) xs unnamed none = let e = eqb-true (length (c ∷ name)) 0 unnamed in absurd (omega arith)
-
--- what passes exactly if another does, which does exactly if a third does
+-- what holds exactly if another does, which does exactly if a third does
 pub as_well : {A B C : Type 0} → A ↔ B → B ↔ C → A ↔ C
 as_well h k = (λ a. k.0 (h.0 a), λ c. h.1 (k.1 c))
 
--- the whole passes exactly if what is left does: where the first of it passes, exactly if those behind it do
-behind : {Whole Left First Behind : Type 0} → Whole ↔ Left → Left ↔ (First × Behind) → First → Whole ↔ Behind
-behind so_far apart first = as_well so_far (λ l. (apart.0 l).1, λ b. apart.1 (first, b))
+module _ (n : ℕ) where
+  -- the entries of a list or a set
+  pub docs_within : (ds : List Doc) → AllByRecursion (λ d. (0 < n) × IsTokenWithin (n - 1) (doc_document d)) ds ↔ IsTokenWithin n (list_of (documents (map doc_document ds)))
+  docs_within [] = (λ h. (tt, omega arith), λ h. tt)
+  docs_within (d ∷ []) = (λ h. ((h.0.1.0, tt), omega arith), λ h. ((omega arith, (h.0.0, omega arith)), tt))
+  docs_within (d ∷ e ∷ ds) =
+      let rest = docs_within (e ∷ ds) in
+      (λ h. let more = rest.0 h.1 in ((h.0.1.0, more.0), omega arith), λ h. ((omega arith, (h.0.0, omega arith)), rest.1 (h.0.1, omega arith)))
 
-module _ {Whole : Type 0} {n : ℕ} where
-  pub entry_passed : {left more : Documents} {d : Document} → Whole ↔ AreTokensWithin n left → left ≡ document d more
-      → 0 < n → IsTokenWithin (n - 1) d → Whole ↔ AreTokensWithin n more
-  entry_passed {more = more} {d = d} so_far first some passes =
-      behind (subst (λ ds. Whole ↔ AreTokensWithin n ds) first so_far) (entry_apart n d more) (some, passes)
+  -- the pairs of a map
+  pub pairs_within : (ps : List (Doc × Doc))
+      → AllByRecursion (λ p. (0 < n) × (IsTokenWithin (n - 1) (doc_document p.0) × IsTokenWithin (n - 1) (doc_document p.1))) ps
+      ↔ IsTokenWithin n (map_of (pairs_of (map pair_view ps)))
+  pairs_within [] = (λ h. (tt, omega arith), λ h. tt)
+  pairs_within (p ∷ []) = (
+    λ h. ((h.0.1.0.0, h.0.1.1.0, tt), omega arith),
+    λ h. ((omega arith, ((h.0.0, omega arith), (h.0.1, omega arith))), tt),
+  )
+  pairs_within (p ∷ q ∷ ps) =
+      let rest = pairs_within (q ∷ ps) in (
+        λ h. let more = rest.0 h.1 in ((h.0.1.0.0, h.0.1.1.0, more.0), omega arith),
+        λ h. ((omega arith, ((h.0.0, omega arith), (h.0.1, omega arith))), rest.1 (h.0.2, omega arith)),
+      )
 
-  pub pair_passed : {left more : Pairs} {key value : Document} → Whole ↔ PairsAreTokensWithin n left → left ≡ pair key value more
-      → 0 < n → IsTokenWithin (n - 1) key → IsTokenWithin (n - 1) value → Whole ↔ PairsAreTokensWithin n more
-  pair_passed {more = more} {key = key} {value = value} so_far first some passes also =
-      behind (subst (λ ps. Whole ↔ PairsAreTokensWithin n ps) first so_far) (pair_apart n key value more) (some, passes, also)
+  -- the fields of a struct with this name
+  pub fields_within : (name : List ℕ) → IsWord name → (fs : List (String Global × Doc))
+      → AllByRecursion (λ f. (0 < n) × (IsWord (string_bytes f.0) × IsTokenWithin (n - 1) (doc_document f.1))) fs
+      ↔ IsTokenWithin n (struct_of name (fields_of (map field_view fs)))
+  fields_within name word [] = (λ h. ((word, tt), omega arith), λ h. tt)
+  fields_within name word (f ∷ []) = (
+    λ h. ((word, (h.0.1.0, h.0.1.1.0, tt)), omega arith),
+    λ h. ((omega arith, (h.0.1.0, (h.0.1.1, omega arith))), tt),
+  )
+  fields_within name word (f ∷ g ∷ fs) =
+      let rest = fields_within name word (g ∷ fs) in (
+        λ h. let more = rest.0 h.1 in ((word, (h.0.1.0, h.0.1.1.0, more.0.1)), omega arith),
+        λ h. ((omega arith, (h.0.1.0, (h.0.1.1, omega arith))), rest.1 ((word, h.0.1.2), omega arith)),
+      )
 
-  pub field_passed : {left more : Fields} {label : List ℕ} {value : Document} → Whole ↔ FieldsAreTokensWithin n left → left ≡ field label value more
-      → 0 < n → IsWord label → IsTokenWithin (n - 1) value → Whole ↔ FieldsAreTokensWithin n more
-  field_passed {more = more} {label = label} {value = value} so_far first some word passes =
-      behind (subst (λ fs. Whole ↔ FieldsAreTokensWithin n fs) first so_far) (field_apart n label value more) (some, word, passes)
+  -- a tuple, by its fields: its name is a word, or it has none and has fields
+  pub tuple_within : (name : List ℕ) → IsWord name → (ds : List Doc)
+      → IsTokenWithin n (list_of (documents (map doc_document ds))) ↔ IsTokenWithin n (tuple_of name (documents (map doc_document ds)))
+  tuple_within [] word ds = absurd word
+  tuple_within (c ∷ name) word [] = (λ h. (word, h.1), λ h. (tt, h.1))
+  tuple_within (c ∷ name) word (d ∷ ds) = (λ h. ((word, h.0.0, h.0.1), h.1), λ h. ((h.0.1, h.0.2), h.1))
+
+  pub unnamed_within : (name : List ℕ) (ds : List Doc) → (length name == 0) ≡ true → (length ds == 0) ≡ false
+      → IsTokenWithin n (list_of (documents (map doc_document ds))) ↔ IsTokenWithin n (tuple_of name (documents (map doc_document ds)))
+  unnamed_within [] [] unnamed some = absurd (cc)
+  unnamed_within [] (d ∷ ds) unnamed some = (λ h. ((tt, h.0.0, h.0.1), h.1), λ h. ((h.0.1, h.0.2), h.1))
+  unnamed_within (c ∷ name) ds unnamed some = let none = eqb-true (length (c ∷ name)) 0 unnamed in absurd (omega arith)
+
+  pub no_tuple : (name : List ℕ) (ds : List Doc) → (length name == 0) ≡ true → (length ds == 0) ≡ true
+      → IsTrue false ↔ IsTokenWithin n (tuple_of name (documents (map doc_document ds)))
+  no_tuple [] [] unnamed none = (λ h. absurd (cc), λ h. absurd h.0)
+  no_tuple [] (d ∷ ds) unnamed none = let e = eqb-true (length (d ∷ ds)) 0 none in absurd (omega arith)
+  no_tuple (c ∷ name) ds unnamed none = let e = eqb-true (length (c ∷ name)) 0 unnamed in absurd (omega arith)

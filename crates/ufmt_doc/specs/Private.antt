@@ -2,5 +2,4 @@
 pub mod Growing
 pub mod Quoted
 pub mod Read
-pub mod Same
 pub mod Within

@@ -5,17 +5,16 @@ ghost use Rattle.ufmt.specs.Token.{IsToken};
 ghost use Rattle.ufmt.specs.Token.{normal, normal_all, normal_fields, normal_pairs};
 ghost use Rattle.ufmt_doc.specs.Doc.{doc_document};
 ghost use Rattle.ufmt_doc.specs.DocViews.{pair_view, field_view};
-ghost use Rattle.ufmt_doc.specs.Private.Within.{AreTokensWithin, FieldsAreTokensWithin, IsTokenWithin, PairsAreTokensWithin};
 
 mod parts;
 mod print;
 mod quoted;
-mod same;
+mod tree;
 
-pub use same::same_text;
 use std::alloc::Global;
 use std::mem;
-use ufmt_scan::leaf::{is_leaf, is_word};
+use tree::Tokens;
+pub use tree::same_text;
 
 // How deep blocks with entries lie at most in a document whose text can be read again.
 const DEEPEST: u8 = 255;
@@ -60,64 +59,6 @@ impl Doc {
             }
         }
     }
-
-    // Whether it is a document of tokens, whose blocks with entries lie at most so deep.
-    #[cycle(has_tokens)]
-    fn has_tokens(&self, deepest: u8) -> bool
-        ensures { IsTrue result ↔ IsTokenWithin deepest (doc_document self.now) }
-    {
-        match self {
-            Doc::Leaf(text) => is_leaf(text),
-            Doc::Listed(entries) => have_tokens(entries, deepest),
-            Doc::SetOf(entries) => have_tokens(entries, deepest),
-            Doc::MapOf(pairs) => pairs_have_tokens(pairs, deepest),
-            Doc::StructOf(name, fields) => is_word(name) && fields_have_tokens(fields, deepest),
-            Doc::TupleOf(name, fields) if name.is_empty() => {
-                !fields.is_empty() && have_tokens(fields, deepest)
-            }
-            Doc::TupleOf(name, fields) => is_word(name) && have_tokens(fields, deepest),
-        }
-    }
-}
-
-// The same of the entries of a block, which lie one deeper than that.
-#[cycle(has_tokens)]
-fn have_tokens(docs: &[Doc], deepest: u8) -> bool
-    ensures { IsTrue result ↔ AreTokensWithin deepest (documents (map doc_document docs.now)) }
-{
-    for doc in docs {
-        if deepest == 0 || !doc.has_tokens(deepest - 1) {
-            return false;
-        }
-    }
-    true
-}
-
-// The same of keys and values.
-#[cycle(has_tokens)]
-fn pairs_have_tokens(pairs: &[(Doc, Doc)], deepest: u8) -> bool
-    ensures { IsTrue result ↔ PairsAreTokensWithin deepest (pairs_of (map pair_view pairs.now)) }
-{
-    for (key, value) in pairs {
-        if deepest == 0 || !key.has_tokens(deepest - 1) || !value.has_tokens(deepest - 1) {
-            return false;
-        }
-    }
-    true
-}
-
-// The same of fields, whose labels are words.
-#[cycle(has_tokens)]
-fn fields_have_tokens(fields: &[(String, Doc)], deepest: u8) -> bool
-    ensures { IsTrue result
-        ↔ FieldsAreTokensWithin deepest (fields_of (map field_view fields.now)) }
-{
-    for (label, value) in fields {
-        if deepest == 0 || !is_word(label) || !value.has_tokens(deepest - 1) {
-            return false;
-        }
-    }
-    true
 }
 
 // Makes each document its normal form.

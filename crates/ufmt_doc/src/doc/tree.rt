@@ -1,0 +1,163 @@
+//! Documents as trees: whether one is of tokens, and whether two have the same text.
+ghost use Rattle.std.specs.List.{AllByRecursion, AllZip};
+ghost use Rattle.std.specs.Prelude.{◌≡◌, ◌↔◌, ◌<◌, ◌-◌, ℕ, IsTrue, string_bytes};
+ghost use Rattle.ufmt.specs.Layout.{plain_text, pretty_text};
+ghost use Rattle.ufmt.specs.Token.{IsToken, IsWord, normal};
+ghost use Rattle.ufmt_doc.specs.Doc.{doc_document};
+ghost use Rattle.ufmt_doc.specs.Parts.{leaf_part};
+ghost use Rattle.ufmt_doc.specs.Private.Within.{IsTokenWithin};
+ghost use Rattle.ufmt_scan.specs.Rest.{now_of};
+
+use super::Doc;
+use ufmt_scan::leaf::{is_leaf, is_word};
+
+/// Whether two token documents have the same text. It compares their trees, and makes no text.
+pub fn same_text(a: &Doc, b: &Doc) -> bool
+    requires a_is_token { IsToken (doc_document a.now) }
+    requires b_is_token { IsToken (doc_document b.now) }
+    ensures plain { IsTrue result
+        ↔ (plain_text (doc_document a.now) ≡ plain_text (doc_document b.now)) }
+    ensures pretty { IsTrue result
+        ↔ (pretty_text (doc_document a.now) ≡ pretty_text (doc_document b.now)) }
+    ensures normal { IsTrue result ↔ (normal (doc_document a.now) ≡ normal (doc_document b.now)) }
+{
+    a.is_same(b)
+}
+
+// What is of tokens. It is called at the types of `Doc`'s fields, as may be where a document calls
+// itself: a call at `Doc` would be refused.
+pub(super) trait Tokens {
+    ghost tokens: { ℕ → Self → Type 0 };
+
+    // Whether it is of tokens, with blocks that have entries at most so deep.
+    fn has_tokens(&self, deepest: u8) -> bool
+        ensures { IsTrue result ↔ tokens deepest self.now };
+}
+
+impl Tokens for String {
+    ghost tokens = { λ _ label. IsWord (string_bytes label) };
+
+    fn has_tokens(&self, _deepest: u8) -> bool {
+        is_word(self)
+    }
+}
+
+impl<K: Tokens, V: Tokens> Tokens for (K, V) {
+    ghost tokens = { λ n p. K.tokens n p.0 × V.tokens n p.1 };
+
+    fn has_tokens(&self, deepest: u8) -> bool {
+        self.0.has_tokens(deepest) && self.1.has_tokens(deepest)
+    }
+}
+
+// The entries of a block lie one deeper than that.
+impl<T: Tokens> Tokens for Vec<T> {
+    ghost tokens = { λ n v. AllByRecursion (λ x. (0 < n) × T.tokens (n - 1) x) v.items };
+
+    fn has_tokens(&self, deepest: u8) -> bool {
+        for entry in self {
+            if deepest == 0 || !entry.has_tokens(deepest - 1) {
+                return false;
+            }
+        }
+        true
+    }
+}
+
+impl Tokens for Doc {
+    ghost tokens = { λ n d. IsTokenWithin n (doc_document d) };
+
+    #[cycle(has_tokens)]
+    fn has_tokens(&self, deepest: u8) -> bool {
+        match self {
+            Doc::Leaf(text) => is_leaf(text),
+            Doc::Listed(entries) => entries.has_tokens(deepest),
+            Doc::SetOf(entries) => entries.has_tokens(deepest),
+            Doc::MapOf(pairs) => pairs.has_tokens(deepest),
+            Doc::StructOf(name, fields) => is_word(name) && fields.has_tokens(deepest),
+            Doc::TupleOf(name, fields) if name.is_empty() => {
+                !fields.is_empty() && fields.has_tokens(deepest)
+            }
+            Doc::TupleOf(name, fields) => is_word(name) && fields.has_tokens(deepest),
+        }
+    }
+}
+
+// What has a normal form, called as that is.
+trait Same {
+    ghost same: { Self → Self → Type 0 };
+
+    // Whether two have the same normal form.
+    fn is_same(&self, other: &Self) -> bool
+        ensures { IsTrue result ↔ same self.now other.now };
+}
+
+impl Same for String {
+    ghost same = { λ label other. string_bytes label ≡ string_bytes other };
+
+    fn is_same(&self, other: &String) -> bool {
+        self == other
+    }
+}
+
+impl<K: Same, V: Same> Same for (K, V) {
+    ghost same = { λ p q. K.same p.0 q.0 × V.same p.1 q.1 };
+
+    fn is_same(&self, other: &(K, V)) -> bool {
+        self.0.is_same(&other.0) && self.1.is_same(&other.1)
+    }
+}
+
+impl<T: Same> Same for Vec<T> {
+    ghost same = { λ v w. AllZip T.same v.items w.items };
+
+    fn is_same(&self, other: &Vec<T>) -> bool {
+        if self.len() != other.len() {
+            return false;
+        }
+        for (entry, another) in self.iter().zip(other) {
+            if !entry.is_same(another) {
+                return false;
+            }
+        }
+        true
+    }
+}
+
+// An empty set is an empty map, and a struct or a tuple without fields a leaf.
+impl Same for Doc {
+    ghost same = { λ d e. normal (doc_document d) ≡ normal (doc_document e) };
+
+    #[cycle(is_same)]
+    fn is_same(&self, other: &Doc) -> bool {
+        match (self, other) {
+            (Doc::Listed(entries), Doc::Listed(others)) => entries.is_same(others),
+            (Doc::SetOf(entries), Doc::SetOf(others)) => entries.is_same(others),
+            (Doc::SetOf(entries), Doc::MapOf(pairs)) => entries.is_empty() && pairs.is_empty(),
+            (Doc::MapOf(pairs), Doc::SetOf(entries)) => entries.is_empty() && pairs.is_empty(),
+            (Doc::MapOf(pairs), Doc::MapOf(others)) => pairs.is_same(others),
+            (Doc::StructOf(name, fields), Doc::StructOf(another, others)) => {
+                name == another && fields.is_same(others)
+            }
+            (Doc::TupleOf(name, fields), Doc::TupleOf(another, others)) => {
+                name == another && fields.is_same(others)
+            }
+            _ => match (leaf_text(self), leaf_text(other)) {
+                (Some(text), Some(another)) => text == another,
+                _ => false,
+            },
+        }
+    }
+}
+
+// The text of a document whose normal form is a leaf.
+fn leaf_text(doc: &Doc) -> Option<&str>
+    ensures { now_of result ≡ leaf_part (normal (doc_document doc.now)) }
+{
+    match doc {
+        Doc::Leaf(text) => Some(text),
+        Doc::StructOf(name, fields) => fields.is_empty().then_some(name.as_str()),
+        Doc::TupleOf(name, fields) => fields.is_empty().then_some(name.as_str()),
+        Doc::Listed(_) | Doc::SetOf(_) | Doc::MapOf(_) => None,
+    }
+}
