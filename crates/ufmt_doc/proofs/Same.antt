@@ -3,7 +3,7 @@ use Rattle.std.proofs.Common.{◌≡◌, refl, sym, ap, ◌∙◌, ◌==◌, ◌
 use Rattle.std.proofs.lemmas.Bool.Decides.{nat_tests}
 use Rattle.std.specs.Prelude.{IsTrue, ◌↔◌, string_bytes, vec_len, ⊤}
 use Rattle.std.specs.Bool.{then_some}
-use Rattle.std.specs.List.{AllZip}
+use Rattle.std.specs.List.{AllByRecursion, AllZip, zip}
 use Rattle.ufmt.specs.Document.{Document, leaf, joined, list_of, set_of, map_of, struct_of, tuple_of, pretty_part, no_documents, document, documents, pairs_of, no_fields, field, fields_of}
 use Rattle.ufmt.specs.Token.{normal, normal_all, normal_pairs, normal_fields}
 use Rattle.ufmt_doc.specs.declared.doc.Doc.{Doc, Doc-F, out-Doc, roll-Doc, roll-out-Doc}
@@ -14,6 +14,13 @@ use Rattle.ufmt_doc.specs.Doc.{doc_document, document_step}
 use Rattle.ufmt_doc.specs.DocViews.{pair_view, field_view}
 use Rattle.ufmt_doc.specs.Parts.{leaf_part}
 use Rattle.ufmt_scan.specs.Rest.{now_of}
+
+-- what holds of each of their pairs holds of two lists of one length, place by place
+pub zipped : {X : Type 0} (R : X → X → Type 0) (xs ys : List X) → length xs ≡ length ys → AllByRecursion (λ p. R p.0 p.1) (zip xs ys) ↔ AllZip R xs ys
+zipped R [] [] long = (λ h. tt, λ h. tt)
+zipped R [] (y ∷ ys) long = absurd (omega arith)
+zipped R (x ∷ xs) [] long = absurd (omega arith)
+zipped R (x ∷ xs) (y ∷ ys) long = let rest = zipped R xs ys (omega arith) in (λ h. (h.0, rest.0 h.1), λ h. (h.0, rest.1 h.1))
 
 -- two documents have one normal form
 abbrev SameDoc : Doc → Doc → Type 0
@@ -152,7 +159,3 @@ differ a b is none never = (
       let kinds = ap kind (sym is) ∙ sym (kept _ (sym none)) ∙ ap kind same ∙ kept _ (sym (ap leaf_part same) ∙ sym none) in
       absurd (some_variant (out-Doc b) (subst (λ d. IsNot (kind (doc_document d)) d) (sym (roll-out-Doc b)) (subst (λ k. IsNot k b) kinds never))),
 )
-
--- what an answer tells of one fact it tells of another that goes with that
-pub tells_also : {answer : Bool} {P Q : Type 0} → Q ↔ P → IsTrue answer ↔ P → IsTrue answer ↔ Q
-tells_also with tells = (λ yes. with.1 (tells.0 yes), λ q. tells.1 (with.0 q))

@@ -1,7 +1,10 @@
 -- Whether a block's text can be read again is told entry by entry.
-use Rattle.std.proofs.Common.{◌≡◌, ◌==◌, ℕ, ◌-◌, ◌<◌, true, false, List, [], ◌∷◌, length, map, arith, eqb-true, String, Global}
+use Rattle.std.proofs.Common.{◌≡◌, refl, Bool, ◌==◌, ℕ, ◌-◌, ◌<◌, true, false, List, [], ◌∷◌, length, map, arith, eqb-true, String, Global}
 use Rattle.std.specs.Prelude.{◌↔◌, IsTrue, string_bytes}
-use Rattle.std.specs.List.{AllByRecursion}
+use Rattle.std.specs.Bool.{MatchBool}
+use Rattle.std.specs.List.{AllByRecursion, AllWithin, HoldsAt}
+use Rattle.std.proofs.lemmas.Iterator.Search.{true_from_All}
+use Rattle.std.proofs.lemmas.List.Elements.{All-from_all_within, All-from_recursion, recursion_from_All}
 use Rattle.ufmt.specs.Document.{list_of, map_of, struct_of, tuple_of, documents, pairs_of, fields_of}
 use Rattle.ufmt.specs.Token.{IsWord}
 use Rattle.ufmt_doc.specs.declared.doc.Doc.{Doc}
@@ -12,6 +15,13 @@ use Rattle.ufmt_doc.specs.Private.Within.{IsTokenWithin}
 -- what holds exactly if another does, which does exactly if a third does
 pub as_well : {A B C : Type 0} → A ↔ B → B ↔ C → A ↔ C
 as_well h k = (λ a. k.0 (h.0 a), λ c. h.1 (k.1 c))
+
+-- `all` tells whether each item passes
+pub all_tells : {X : Type 0} (Passes : X → Type 0) (answer : Bool) (xs : List X)
+    → MatchBool answer (AllWithin Passes xs 0 (length xs)) ((k : ℕ) × (k < length xs) × HoldsAt (λ x. Passes x → ⊥) xs k)
+    → IsTrue answer ↔ AllByRecursion Passes xs
+all_tells Passes true xs h = (λ yes. recursion_from_All Passes xs (All-from_all_within Passes xs h), λ all. refl)
+all_tells Passes false xs h = (λ yes. absurd (cc), λ all. true_from_All Passes (λ x. Passes x → ⊥) false xs (λ x p q. q p) h (All-from_recursion Passes xs all))
 
 module _ (n : ℕ) where
   -- the entries of a list or a set
@@ -27,10 +37,7 @@ module _ (n : ℕ) where
       → AllByRecursion (λ p. (0 < n) × (IsTokenWithin (n - 1) (doc_document p.0) × IsTokenWithin (n - 1) (doc_document p.1))) ps
       ↔ IsTokenWithin n (map_of (pairs_of (map pair_view ps)))
   pairs_within [] = (λ h. (tt, omega arith), λ h. tt)
-  pairs_within (p ∷ []) = (
-    λ h. ((h.0.1.0.0, h.0.1.1.0, tt), omega arith),
-    λ h. ((omega arith, ((h.0.0, omega arith), (h.0.1, omega arith))), tt),
-  )
+  pairs_within (p ∷ []) = (λ h. ((h.0.1.0.0, h.0.1.1.0, tt), omega arith), λ h. ((omega arith, ((h.0.0, omega arith), (h.0.1, omega arith))), tt))
   pairs_within (p ∷ q ∷ ps) =
       let rest = pairs_within (q ∷ ps) in (
         λ h. let more = rest.0 h.1 in ((h.0.1.0.0, h.0.1.1.0, more.0), omega arith),
@@ -42,10 +49,7 @@ module _ (n : ℕ) where
       → AllByRecursion (λ f. (0 < n) × (IsWord (string_bytes f.0) × IsTokenWithin (n - 1) (doc_document f.1))) fs
       ↔ IsTokenWithin n (struct_of name (fields_of (map field_view fs)))
   fields_within name word [] = (λ h. ((word, tt), omega arith), λ h. tt)
-  fields_within name word (f ∷ []) = (
-    λ h. ((word, (h.0.1.0, h.0.1.1.0, tt)), omega arith),
-    λ h. ((omega arith, (h.0.1.0, (h.0.1.1, omega arith))), tt),
-  )
+  fields_within name word (f ∷ []) = (λ h. ((word, (h.0.1.0, h.0.1.1.0, tt)), omega arith), λ h. ((omega arith, (h.0.1.0, (h.0.1.1, omega arith))), tt))
   fields_within name word (f ∷ g ∷ fs) =
       let rest = fields_within name word (g ∷ fs) in (
         λ h. let more = rest.0 h.1 in ((word, (h.0.1.0, h.0.1.1.0, more.0.1)), omega arith),

@@ -55,12 +55,8 @@ impl<T: Tokens> Tokens for Vec<T> {
     ghost tokens = { λ n v. AllByRecursion (λ x. (0 < n) × T.tokens (n - 1) x) v.items };
 
     fn has_tokens(&self, deepest: u8) -> bool {
-        for entry in self {
-            if deepest == 0 || !entry.has_tokens(deepest - 1) {
-                return false;
-            }
-        }
-        true
+        self.iter()
+            .all(|entry| deepest > 0 && entry.has_tokens(deepest - 1))
     }
 }
 
@@ -112,15 +108,7 @@ impl<T: Same> Same for Vec<T> {
     ghost same = { λ v w. AllZip T.same v.items w.items };
 
     fn is_same(&self, other: &Vec<T>) -> bool {
-        if self.len() != other.len() {
-            return false;
-        }
-        for (entry, another) in self.iter().zip(other) {
-            if !entry.is_same(another) {
-                return false;
-            }
-        }
-        true
+        self.len() == other.len() && self.iter().zip(other).all(|(a, b)| a.is_same(b))
     }
 }
 

@@ -1,9 +1,9 @@
 use Rattle.ufmt.proofs.OneWay.{plain_text_tells, pretty_text_tells}
-use Rattle.ufmt_doc.proofs.Same.{tells_also}
+use Rattle.ufmt_doc.proofs.Within.{as_well}
 use Rattle.ufmt_doc.proofs.doc.tree.same_text.Goals as goal
 
 pub returns-clause-plain : goal.returns-clause-plain
-returns-clause-plain c = tells_also (plain_text_tells _ _ c.requires.a_is_token c.requires.b_is_token) c.is_same.ensures
+returns-clause-plain c = let tells = plain_text_tells _ _ c.requires.a_is_token c.requires.b_is_token in as_well c.is_same.ensures (tells.1, tells.0)
 
 pub returns-clause-pretty : goal.returns-clause-pretty
-returns-clause-pretty c = tells_also (pretty_text_tells _ _ c.requires.a_is_token c.requires.b_is_token) c.is_same.ensures
+returns-clause-pretty c = let tells = pretty_text_tells _ _ c.requires.a_is_token c.requires.b_is_token in as_well c.is_same.ensures (tells.1, tells.0)
