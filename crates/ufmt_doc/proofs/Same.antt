@@ -48,10 +48,12 @@ fields_same (f ∷ fs) [] = (λ h. absurd h, λ h. absurd (cc))
 fields_same (f ∷ fs) (g ∷ gs) = let rest = fields_same fs gs in (λ h. let more = rest.0 h.1 in cc, λ h. ((cc, cc), rest.1 (cc)))
 
 -- and so do blocks of one kind and name
-pub lists_same : (ds es : List Doc) → AllZip SameDoc ds es ↔ (normal (list_of (documents (map doc_document ds))) ≡ normal (list_of (documents (map doc_document es))))
+pub lists_same : (ds es : List Doc)
+    → AllZip SameDoc ds es ↔ (normal (list_of (documents (map doc_document ds))) ≡ normal (list_of (documents (map doc_document es))))
 lists_same ds es = let all = docs_same ds es in (λ h. ap list_of (all.0 h), λ h. all.1 (cc))
 
-pub sets_same : (ds es : List Doc) → AllZip SameDoc ds es ↔ (normal (set_of (documents (map doc_document ds))) ≡ normal (set_of (documents (map doc_document es))))
+pub sets_same : (ds es : List Doc)
+    → AllZip SameDoc ds es ↔ (normal (set_of (documents (map doc_document ds))) ≡ normal (set_of (documents (map doc_document es))))
 sets_same [] [] = (λ h. refl, λ h. tt)
 sets_same [] (e ∷ es) = (λ h. absurd h, λ h. absurd (cc))
 sets_same (d ∷ ds) [] = (λ h. absurd h, λ h. absurd (cc))

@@ -25,7 +25,8 @@ all_tells Passes false xs h = (λ yes. absurd (cc), λ all. true_from_All Passes
 
 module _ (n : ℕ) where
   -- the entries of a list or a set
-  pub docs_within : (ds : List Doc) → AllByRecursion (λ d. (0 < n) × IsTokenWithin (n - 1) (doc_document d)) ds ↔ IsTokenWithin n (list_of (documents (map doc_document ds)))
+  pub docs_within : (ds : List Doc)
+      → AllByRecursion (λ d. (0 < n) × IsTokenWithin (n - 1) (doc_document d)) ds ↔ IsTokenWithin n (list_of (documents (map doc_document ds)))
   docs_within [] = (λ h. (tt, omega arith), λ h. tt)
   docs_within (d ∷ []) = (λ h. ((h.0.1.0, tt), omega arith), λ h. ((omega arith, (h.0.0, omega arith)), tt))
   docs_within (d ∷ e ∷ ds) =

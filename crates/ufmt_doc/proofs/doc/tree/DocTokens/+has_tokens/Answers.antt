@@ -7,22 +7,18 @@ use Rattle.ufmt_doc.proofs.Within.{as_well, docs_within, fields_within, no_tuple
 use Rattle.ufmt_doc.proofs.doc.tree.DocTokens.+has_tokens.Goals as goal
 
 pub returns-in-Listed : goal.returns-in-Listed
-returns-in-Listed t c =
-    rw (ap doc_document c.in-Listed.is ∙ doc_document-Listed c.in-Listed.entries) (as_well c.has_tokens.ensures (docs_within c.args.deepest c.in-Listed.entries.items))
+returns-in-Listed t c = rw (ap doc_document c.in-Listed.is ∙ doc_document-Listed _) (as_well c.has_tokens.ensures (docs_within _ _))
 
 pub returns-in-SetOf : goal.returns-in-SetOf
-returns-in-SetOf t c =
-    rw (ap doc_document c.in-SetOf.is ∙ doc_document-SetOf c.in-SetOf.entries) (as_well c.has_tokens-in-SetOf.ensures (docs_within c.args.deepest c.in-SetOf.entries.items))
+returns-in-SetOf t c = rw (ap doc_document c.in-SetOf.is ∙ doc_document-SetOf _) (as_well c.has_tokens-in-SetOf.ensures (docs_within _ c.in-SetOf.entries.items))
 
 pub returns-in-MapOf : goal.returns-in-MapOf
-returns-in-MapOf t c =
-    rw (ap doc_document c.in-MapOf.is ∙ doc_document-MapOf c.in-MapOf.pairs) (as_well c.has_tokens-in-MapOf.ensures (pairs_within c.args.deepest c.in-MapOf.pairs.items))
+returns-in-MapOf t c = rw (ap doc_document c.in-MapOf.is ∙ doc_document-MapOf _) (as_well c.has_tokens-in-MapOf.ensures (pairs_within _ _))
 
 pub returns-then-is_word : goal.returns-then-is_word
 returns-then-is_word t c =
-    rw (ap doc_document c.in-StructOf.is ∙ doc_document-StructOf c.in-StructOf.name c.in-StructOf.fields)
-    (as_well c.has_tokens-then-is_word.ensures (fields_within c.args.deepest (string_bytes c.in-StructOf.name)
-    (subst IsWord c.deref-in-StructOf.ensures (c.is_word.ensures.0 c.if-is_word.true)) c.in-StructOf.fields.items))
+    rw (ap doc_document c.in-StructOf.is ∙ doc_document-StructOf _ _)
+    (as_well c.has_tokens-then-is_word.ensures (fields_within _ _ (subst IsWord c.deref-in-StructOf.ensures (c.is_word.ensures.0 c.if-is_word.true)) _))
 
 pub returns-then-not-is_empty : goal.returns-then-not-is_empty
 returns-then-not-is_empty t c =
@@ -43,7 +39,6 @@ returns-else-not-is_empty t c =
 
 pub returns-then-is_word-2 : goal.returns-then-is_word-2
 returns-then-is_word-2 t c =
-    let fields = c.in-TupleOf-2.fields in
-    rw (ap doc_document c.in-TupleOf-2.is ∙ doc_document-TupleOf c.in-TupleOf-2.name fields)
-    (as_well c.has_tokens-then-is_word-2.ensures (as_well (docs_within c.args.deepest fields.items) (tuple_within c.args.deepest (string_bytes c.in-TupleOf-2.name)
-    (subst IsWord c.deref-in-TupleOf-2.ensures (c.is_word-in-TupleOf-2.ensures.0 c.if-is_word-2.true)) fields.items)))
+    let word = subst IsWord c.deref-in-TupleOf-2.ensures (c.is_word-in-TupleOf-2.ensures.0 c.if-is_word-2.true) in
+    rw (ap doc_document c.in-TupleOf-2.is ∙ doc_document-TupleOf _ _)
+    (as_well c.has_tokens-then-is_word-2.ensures (as_well (docs_within _ _) (tuple_within _ _ word _)))
