@@ -67,8 +67,7 @@ impl Tokens for Doc {
     fn has_tokens(&self, deepest: u8) -> bool {
         match self {
             Doc::Leaf(text) => is_leaf(text),
-            Doc::Listed(entries) => entries.has_tokens(deepest),
-            Doc::SetOf(entries) => entries.has_tokens(deepest),
+            Doc::Listed(entries) | Doc::SetOf(entries) => entries.has_tokens(deepest),
             Doc::MapOf(pairs) => pairs.has_tokens(deepest),
             Doc::StructOf(name, fields) => is_word(name) && fields.has_tokens(deepest),
             Doc::TupleOf(name, fields) if name.is_empty() => {

@@ -1,4 +1,4 @@
-use Rattle.std.proofs.Common.{◌==◌, ap, subst, sym, ◌∙◌}
+use Rattle.std.proofs.Common.{inl, inr, ◌==◌, ap, subst, sym, ◌∙◌}
 use Rattle.std.specs.Prelude.{string_bytes}
 use Rattle.ufmt.specs.Token.{IsWord}
 use Rattle.ufmt_doc.specs.Doc.{doc_document}
@@ -7,13 +7,12 @@ use Rattle.ufmt_doc.proofs.Within.{as_well, docs_within, fields_within, no_tuple
 use Rattle.ufmt_doc.proofs.doc.tree.DocTokens.+has_tokens.Goals as goal
 
 pub returns-in-Listed : goal.returns-in-Listed
-returns-in-Listed t c = rw (ap doc_document c.in-Listed.is ∙ doc_document-Listed _) (as_well c.has_tokens.ensures (docs_within _ _))
-
-pub returns-in-SetOf : goal.returns-in-SetOf
-returns-in-SetOf t c = rw (ap doc_document c.in-SetOf.is ∙ doc_document-SetOf _) (as_well c.has_tokens-in-SetOf.ensures (docs_within _ c.in-SetOf.entries.items))
+returns-in-Listed t c =
+    let within = as_well c.has_tokens-in-Listed.ensures (docs_within _ c.in-Listed.entries.items) in
+    elim c.in-Listed.is [ inl is ↦ rw (ap doc_document is ∙ doc_document-Listed _) within | inr is ↦ rw (ap doc_document is ∙ doc_document-SetOf _) within ]
 
 pub returns-in-MapOf : goal.returns-in-MapOf
-returns-in-MapOf t c = rw (ap doc_document c.in-MapOf.is ∙ doc_document-MapOf _) (as_well c.has_tokens-in-MapOf.ensures (pairs_within _ _))
+returns-in-MapOf t c = rw (ap doc_document c.in-MapOf.is ∙ doc_document-MapOf _) (as_well c.has_tokens.ensures (pairs_within _ _))
 
 pub returns-then-is_word : goal.returns-then-is_word
 returns-then-is_word t c =
