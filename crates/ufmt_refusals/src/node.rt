@@ -15,10 +15,7 @@ impl<T: uDebug> uDebug for Node<T> {
     ghost document = { λ n. named_struct "Node"
         (("value", number n.value) ∷ ("next", option_document T.document n.next) ∷ []) };
 
-    fn fmt<W>(&self, f: &mut Formatter<W>) -> Result<(), W::Error>
-    where
-        W: uWrite,
-    {
+    fn fmt<W: uWrite>(&self, f: &mut Formatter<W>) -> Result<(), W::Error> {
         fields!(f, self, Node { value, next })
     }
 }
