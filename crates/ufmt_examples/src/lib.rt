@@ -8,6 +8,6 @@ mod readable;
 mod snapshot;
 
 pub use log_line::pretty_line;
-pub use read_back::{celsius, field_text};
+pub use read_back::{celsius, read_field};
 pub use readable::is_readable;
 pub use snapshot::print_alike;

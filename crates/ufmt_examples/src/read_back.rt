@@ -20,7 +20,7 @@ use ufmt_doc::plain_reader::{ReadError, read_plain};
 
 /// The text of a field of the struct that was printed to a line. `None` where the line is no struct,
 /// has no such field, or has a block there.
-pub fn field_text(alloc: Global, line: &[u8], label: &str) -> Result<Option<String>, ReadError>
+pub fn read_field(alloc: Global, line: &[u8], label: &str) -> Result<Option<String>, ReadError>
     ensures found { IfOk result (λ text.
         (d : Document) → IsToken d → plain_text d ≡ line.now
         → option_map string_bytes text
@@ -51,5 +51,5 @@ pub fn celsius(alloc: Global, line: &[u8]) -> Result<Option<String>, ReadError>
     ensures is_read { IsErrOf result ReadError.NotText
         → (reading : Reading) → line.now ≢ plain_text (reading_document reading) }
 {
-    field_text(alloc, line, "celsius")
+    read_field(alloc, line, "celsius")
 }

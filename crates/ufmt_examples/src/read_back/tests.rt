@@ -34,7 +34,7 @@ fn fields_have_their_texts(rt: HostRuntime) -> Result<(), Fail> {
         ("[celsius]", "celsius", None),
     ];
     for (line, label, wanted) in rows {
-        let found = field_text(rt.alloc(), line.as_bytes(), label)?;
+        let found = read_field(rt.alloc(), line.as_bytes(), label)?;
         same(&rt, found.as_deref(), wanted, line);
     }
     Ok(())

@@ -3,7 +3,7 @@ use Rattle.std.specs.Prelude.{option_and_then}
 use Rattle.ufmt_doc.specs.Doc.{doc_document}
 use Rattle.ufmt_doc.specs.Parts.{field_part, leaf_part}
 use Rattle.ufmt_doc.proofs.ReadForms.{plain_form_is}
-use Rattle.ufmt_examples.proofs.read_back.field_text.Goals as goal
+use Rattle.ufmt_examples.proofs.read_back.read_field.Goals as goal
 
 pub returns-in-Some-clause-found : goal.returns-in-Some-clause-found
 returns-in-Some-clause-found c = λ d token same.
