@@ -4,7 +4,7 @@ ghost use Rattle.ufmt_scan.specs.ReadError.{code_of, error_of};
 ghost use Rattle.ufmt_scan.specs.declared.error.ReadError.TheVariants.{OutOfMemory};
 
 use crate::scan::Refusal;
-use std::alloc::AllocError;
+use std::alloc::{AllocError, AllocFailed};
 
 /// Why a text was not read.
 #[derive(Clone, Copy, PartialEq, Eq, Debug)]
@@ -18,6 +18,15 @@ impl From<AllocError> for ReadError {
     ghost from_gives = { λ _ e. e ≡ OutOfMemory };
 
     fn from(_e: AllocError) -> ReadError {
+        ReadError::OutOfMemory
+    }
+}
+
+/// What `Vec::push` answers, so that a caller that collects what it read writes `?`.
+impl<T: Drop> From<AllocFailed<T>> for ReadError {
+    ghost from_gives = { λ _ e. e ≡ OutOfMemory };
+
+    fn from(_e: AllocFailed<T>) -> ReadError {
         ReadError::OutOfMemory
     }
 }

@@ -188,3 +188,21 @@ fn parts_come_in_the_order_of_the_text(rt: HostRuntime) {
         same(&rt, has_both, Ok(true), text);
     }
 }
+
+// A caller that collects what it read, with `?` behind each push.
+fn label_lengths(alloc: Global, line: &[u8]) -> Result<Vec<usize>, ReadError> {
+    let doc = read_plain(alloc, line)?;
+    let fields = doc.fields().unwrap_or(&[]);
+    let mut lengths = Vec::new(alloc);
+    for field in fields {
+        lengths.push(field.0.len())?;
+    }
+    Ok(lengths)
+}
+
+#[test]
+fn what_was_read_is_collected(rt: HostRuntime) -> Result<(), ReadError> {
+    let lengths = label_lengths(rt.alloc(), b"P { x: 1, why: 2 }")?;
+    same(&rt, lengths.as_slice() == [1, 3].as_slice(), true, "labels");
+    Ok(())
+}
