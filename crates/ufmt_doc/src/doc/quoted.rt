@@ -52,16 +52,10 @@ fn unquoted_leaf(alloc: Global, text: &str) -> Result<Option<String>, AllocError
         return Ok(None);
     };
     let quote = *first;
-    if !is_symbol(text) {
+    if !is_symbol(text) || (quote != b'"' && quote != b'\'') {
         return Ok(None);
     }
-    if quote != b'"' && quote != b'\'' {
-        return Ok(None);
-    }
-    match String::from_utf8(told_bytes(alloc, quote, inside)?) {
-        Ok(text) => Ok(Some(text)),
-        Err(_) => Ok(None),
-    }
+    Ok(String::from_utf8(told_bytes(alloc, quote, inside)?).ok())
 }
 
 // The bytes that are written up to the closing quote.
