@@ -1,0 +1,95 @@
+//! The calls on the texts of one mode.
+use std::alloc::{AllocError, Global};
+use ufmt::layout::Mode;
+use ufmt::{Full, uWrite};
+use ufmt_doc::doc::Doc;
+use ufmt_doc::plain_reader::{ReadError, read_plain};
+use ufmt_doc::pretty_reader::read_pretty;
+use ufmt_doc::scan::{Refusal, Sink, scan};
+use ufmt_doc::{convert, laws};
+
+/// A text, and the mode in which it is read.
+#[derive(Clone, Copy)]
+pub struct Calls<'a> {
+    pub alloc: Global,
+    pub mode: Mode,
+    pub text: &'a [u8],
+}
+
+impl Calls<'_> {
+    /// The same calls in the other mode, on what this text was converted to.
+    pub fn on_converted<'b>(&self, text: &'b str) -> Calls<'b> {
+        let mode = match self.mode {
+            Mode::Plain => Mode::Pretty,
+            Mode::Pretty => Mode::Plain,
+        };
+        Calls {
+            alloc: self.alloc,
+            mode,
+            text: text.as_bytes(),
+        }
+    }
+
+    pub fn scan<S: Sink>(&self, sink: &mut S) -> Result<(), Refusal<S::Error>> {
+        scan(self.mode, self.text, sink)
+    }
+
+    pub fn read(&self) -> Result<Doc, ReadError> {
+        match self.mode {
+            Mode::Plain => read_plain(self.alloc, self.text),
+            Mode::Pretty => read_pretty(self.alloc, self.text),
+        }
+    }
+
+    pub fn convert(&self) -> Result<String, ReadError> {
+        match self.mode {
+            Mode::Plain => convert::to_pretty(self.alloc, self.text),
+            Mode::Pretty => convert::to_plain(self.alloc, self.text),
+        }
+    }
+
+    pub fn convert_to<W: uWrite>(&self, writer: &mut W) -> Result<(), Refusal<W::Error>> {
+        match self.mode {
+            Mode::Plain => convert::pretty_to(writer, self.text),
+            Mode::Pretty => convert::plain_to(writer, self.text),
+        }
+    }
+
+    pub fn convert_into(&self, buffer: &mut [u8]) -> Result<usize, Refusal<Full>> {
+        match self.mode {
+            Mode::Plain => convert::pretty_into(buffer, self.text),
+            Mode::Pretty => convert::plain_into(buffer, self.text),
+        }
+    }
+
+    /// The text, read and printed again.
+    pub fn again(&self) -> Result<String, ReadError> {
+        match self.mode {
+            Mode::Plain => laws::plain_again(self.alloc, self.text),
+            Mode::Pretty => laws::pretty_again(self.alloc, self.text),
+        }
+    }
+
+    /// The text, converted to the other mode and back.
+    pub fn by_way_of_the_other(&self) -> Result<String, ReadError> {
+        match self.mode {
+            Mode::Plain => laws::plain_by_way_of_pretty(self.alloc, self.text),
+            Mode::Pretty => laws::pretty_by_way_of_plain(self.alloc, self.text),
+        }
+    }
+
+    /// A document's own text in this mode.
+    pub fn print(&self, doc: &Doc) -> Result<String, AllocError> {
+        match self.mode {
+            Mode::Plain => convert::plain_text(self.alloc, doc),
+            Mode::Pretty => convert::pretty_text(self.alloc, doc),
+        }
+    }
+
+    pub fn print_into(&self, buffer: &mut [u8], doc: &Doc) -> Result<usize, Full> {
+        match self.mode {
+            Mode::Plain => ufmt::debug_into(buffer, doc),
+            Mode::Pretty => ufmt::pretty_into(buffer, doc),
+        }
+    }
+}

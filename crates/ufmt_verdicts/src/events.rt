@@ -1,0 +1,76 @@
+//! A sink of one's own, which notes what a scan tells it.
+ghost use Rattle.std.specs.Prelude.{⊤};
+
+use std::alloc::{AllocError, Global};
+use ufmt::layout::{Count, Kind};
+use ufmt_doc::scan::{Part, Sink};
+
+/// The parts so far: a letter or a sign for each, and its text.
+#[derive(Drop)]
+pub struct Events {
+    pub text: String,
+}
+
+impl Events {
+    pub fn new(alloc: Global) -> Self {
+        Events {
+            text: String::new(alloc),
+        }
+    }
+
+    fn note(&mut self, signs: &str, text: &str) -> Result<(), AllocError> {
+        self.text.push_str(signs)?;
+        self.text.push_str(text)?;
+        self.text.push(' ')
+    }
+
+    fn note_kind(&mut self, sign: &str, kind: Kind) -> Result<(), AllocError> {
+        self.text.push_str(sign)?;
+        self.text.push_str(match kind {
+            Kind::Brackets => "l",
+            Kind::Braces => "b",
+            Kind::Struct => "s",
+            Kind::Tuple => "t",
+            Kind::Unnamed => "u",
+        })
+    }
+}
+
+fn digit(count: Count) -> &'static str {
+    match count {
+        Count::Zero => "0",
+        Count::One => "1",
+        Count::Several => "2",
+    }
+}
+
+impl Sink for Events {
+    type Error = AllocError;
+
+    ghost took = { λ _ _ _. ⊤ };
+
+    ghost stopped = { λ _ _ _. ⊤ };
+
+    ghost begun = { λ _. tt };
+
+    fn hear(&mut self, part: Part, text: &str) -> Result<(), AllocError> {
+        match part {
+            Part::Leaf => self.note("=", text),
+            Part::Empty(kind) => {
+                self.note_kind("e", kind)?;
+                self.note("", text)
+            }
+            Part::Open(kind) => {
+                self.note_kind("o", kind)?;
+                self.note("", text)
+            }
+            Part::Label => self.note(".", text),
+            Part::Colon => self.note(":", text),
+            Part::Next => self.note(",", text),
+            Part::Close(kind, count) => {
+                self.note_kind("c", kind)?;
+                self.note(digit(count), text)
+            }
+        }
+    }
+}

@@ -1,0 +1,80 @@
+//! A call that answers otherwise than the calls beside it.
+use std::alloc::{AllocError, AllocFailed, Global};
+use ufmt::Full;
+use ufmt_doc::plain_reader::ReadError;
+use ufmt_doc::scan::Refusal;
+
+/// What a call answered. Memory is at hand, so that want of it is wrong as well.
+#[derive(Clone, Copy)]
+pub enum Fault {
+    WantOfMemory,
+    NotText,
+    Full,
+    /// The call of this name answered something else than the others.
+    Other(&'static str),
+}
+
+impl Fault {
+    pub fn words(&self, alloc: Global) -> Result<String, AllocError> {
+        match self {
+            Fault::WantOfMemory => String::from_str(alloc, "FAULT, want of memory"),
+            Fault::NotText => String::from_str(alloc, "FAULT, no text"),
+            Fault::Full => String::from_str(alloc, "FAULT, full"),
+            Fault::Other(call) => format!(in alloc; "FAULT, {call}"),
+        }
+    }
+}
+
+/// `Ok` where a call answered what it should.
+pub fn agree(is_right: bool, call: &'static str) -> Result<(), Fault> {
+    if is_right {
+        Ok(())
+    } else {
+        Err(Fault::Other(call))
+    }
+}
+
+impl From<AllocError> for Fault {
+    fn from(_error: AllocError) -> Fault {
+        Fault::WantOfMemory
+    }
+}
+
+impl<T: Drop> From<AllocFailed<T>> for Fault {
+    fn from(_error: AllocFailed<T>) -> Fault {
+        Fault::WantOfMemory
+    }
+}
+
+impl From<Full> for Fault {
+    fn from(_error: Full) -> Fault {
+        Fault::Full
+    }
+}
+
+impl From<ReadError> for Fault {
+    fn from(error: ReadError) -> Fault {
+        match error {
+            ReadError::NotText => Fault::NotText,
+            ReadError::OutOfMemory => Fault::WantOfMemory,
+        }
+    }
+}
+
+impl From<Refusal<AllocError>> for Fault {
+    fn from(refusal: Refusal<AllocError>) -> Fault {
+        match refusal {
+            Refusal::NotText => Fault::NotText,
+            Refusal::Refused(_) => Fault::WantOfMemory,
+        }
+    }
+}
+
+impl From<Refusal<Full>> for Fault {
+    fn from(refusal: Refusal<Full>) -> Fault {
+        match refusal {
+            Refusal::NotText => Fault::NotText,
+            Refusal::Refused(_) => Fault::Full,
+        }
+    }
+}

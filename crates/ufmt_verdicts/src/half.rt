@@ -1,0 +1,218 @@
+//! The calls of one mode on one text, compared with each other.
+ghost use Rattle.std.specs.Prelude.{[]};
+
+use crate::calls::Calls;
+use crate::digest::Digest;
+use crate::events::Events;
+use crate::fault::{Fault, agree};
+use crate::loose::Loosener;
+use crate::parts::Parts;
+use std::alloc::{AllocError, Global};
+use ufmt::{Full, uWrite};
+use ufmt_doc::doc::{Doc, same_text};
+use ufmt_doc::laws::{normal_by_way_of_plain, normal_by_way_of_pretty};
+use ufmt_doc::plain_reader::ReadError;
+use ufmt_doc::scan::Refusal;
+
+/// What the calls answer, in words.
+pub fn verdict(calls: Calls<'_>) -> Result<String, AllocError> {
+    let answer = match calls.read() {
+        Ok(doc) => of_text(calls, &doc).map(Some),
+        Err(ReadError::NotText) => of_no_text(calls).map(|()| None),
+        Err(ReadError::OutOfMemory) => Err(Fault::Other("the reader wants memory")),
+    };
+    match answer {
+        Ok(Some(half)) => half.words(calls.alloc),
+        Ok(None) => String::from_str(calls.alloc, "no text"),
+        Err(fault) => fault.words(calls.alloc),
+    }
+}
+
+// What came out of a text.
+#[derive(Clone, Copy)]
+struct Half {
+    events: Digest,
+    converted: Digest,
+    parts: Digest,
+    // Whether a list of the document can be read again: it lies less than 255 deep.
+    is_token_in_a_list: bool,
+}
+
+impl Half {
+    fn words(&self, alloc: Global) -> Result<String, AllocError> {
+        let events = self.events.words(alloc)?;
+        let converted = self.converted.words(alloc)?;
+        let parts = self.parts.words(alloc)?;
+        let in_a_list = if self.is_token_in_a_list { "yes" } else { "no" };
+        format!(in alloc;
+            "events {events}, converted {converted}, parts {parts}, in a list {in_a_list}"
+        )
+    }
+}
+
+fn of_text(calls: Calls<'_>, doc: &Doc) -> Result<Half, Fault> {
+    let mut events = Events::new(calls.alloc);
+    agree(calls.scan(&mut events).is_ok(), "scan")?;
+    let converted = calls.convert()?;
+    converts_alike(calls, &converted)?;
+    comes_again(calls, &converted)?;
+    prints(calls, doc)?;
+    prints(calls.on_converted(&converted), doc)?;
+    let parts = Parts::of(calls.alloc, doc)?;
+    is_normal(calls, &parts)?;
+    is_normal_of_loose(calls, doc, &parts)?;
+    Ok(Half {
+        events: Digest::of(&events.text),
+        converted: Digest::of(&converted),
+        parts: Digest::of(&parts),
+        is_token_in_a_list: is_token_in_a_list(calls, doc)?,
+    })
+}
+
+// Into any writer, and into buffers of the exact length and of one byte less.
+fn converts_alike(calls: Calls<'_>, converted: &str) -> Result<(), Fault> {
+    let mut text = String::new(calls.alloc);
+    calls.convert_to(&mut text)?;
+    agree(text.as_str() == converted, "conversion to a writer")?;
+    let mut buffer = vec![in calls.alloc; 0u8; converted.len()]?;
+    let count = calls.convert_into(&mut buffer)?;
+    let is_whole = count == converted.len() && buffer.as_slice() == converted.as_bytes();
+    agree(is_whole, "conversion into a buffer")?;
+    let is_full = match buffer.split_last_mut() {
+        Some((_, shorter)) => is_full(calls.convert_into(shorter)),
+        None => false,
+    };
+    agree(is_full, "conversion into a buffer of one byte less")
+}
+
+fn is_full(answer: Result<usize, Refusal<Full>>) -> bool {
+    match answer {
+        Err(Refusal::Refused(Full)) => true,
+        _ => false,
+    }
+}
+
+// Read and printed, and there and back.
+fn comes_again(calls: Calls<'_>, converted: &str) -> Result<(), Fault> {
+    let again = calls.again()?;
+    agree(again.as_bytes() == calls.text, "read and printed again")?;
+    let back = calls.by_way_of_the_other()?;
+    agree(back.as_bytes() == calls.text, "there and back")?;
+    let back = calls.on_converted(converted).convert()?;
+    agree(back.as_bytes() == calls.text, "converted back")
+}
+
+// The document's own text is the text, in memory and in buffers.
+fn prints(calls: Calls<'_>, doc: &Doc) -> Result<(), Fault> {
+    let text = calls.print(doc)?;
+    agree(text.as_bytes() == calls.text, "print")?;
+    let mut buffer = vec![in calls.alloc; 0u8; text.len()]?;
+    let count = calls.print_into(&mut buffer, doc)?;
+    let is_whole = count == text.len() && buffer.as_slice() == calls.text;
+    agree(is_whole, "print into a buffer")?;
+    let is_full = match buffer.split_last_mut() {
+        Some((_, shorter)) => calls.print_into(shorter, doc) == Err(Full),
+        None => false,
+    };
+    agree(is_full, "print into a buffer of one byte less")
+}
+
+// What was read stays as it is.
+fn is_normal(calls: Calls<'_>, parts: &str) -> Result<(), Fault> {
+    let mut doc = calls.read()?;
+    doc.normalize(calls.alloc);
+    let normal = Parts::of(calls.alloc, &doc)?;
+    agree(normal.as_str() == parts, "normalize of what was read")
+}
+
+// A document that isn't in normal form has the same texts and the same normal form.
+fn is_normal_of_loose(calls: Calls<'_>, doc: &Doc, parts: &str) -> Result<(), Fault> {
+    let mut loose = calls.read()?;
+    let mut loosener = Loosener {
+        alloc: calls.alloc,
+        is_struct_next: true,
+    };
+    loosener.loosen(&mut loose);
+    prints(calls, &loose)?;
+    if !doc.is_token() || !loose.is_token() {
+        return Err(Fault::Other("is_token"));
+    }
+    agree(same_text(doc, doc), "same_text with itself")?;
+    agree(same_text(&loose, doc), "same_text with the normal form")?;
+    agree(same_text(doc, &loose), "same_text of the normal form")?;
+    let by_plain = normal_by_way_of_plain(calls.alloc, &loose)?;
+    let by_plain = Parts::of(calls.alloc, &by_plain)?;
+    agree(by_plain.as_str() == parts, "normal form by way of plain")?;
+    let by_pretty = normal_by_way_of_pretty(calls.alloc, &loose)?;
+    let by_pretty = Parts::of(calls.alloc, &by_pretty)?;
+    agree(by_pretty.as_str() == parts, "normal form by way of pretty")?;
+    loose.normalize(calls.alloc);
+    let normal = Parts::of(calls.alloc, &loose)?;
+    agree(normal.as_str() == parts, "normalize")
+}
+
+fn is_token_in_a_list(calls: Calls<'_>, doc: &Doc) -> Result<bool, Fault> {
+    let mut entries = Vec::new(calls.alloc);
+    entries.push(calls.read()?)?;
+    let list = Doc::Listed(entries);
+    if !list.is_token() {
+        return Ok(false);
+    }
+    if !doc.is_token() {
+        return Err(Fault::Other("is_token"));
+    }
+    let are_told_apart = !same_text(&list, doc) && !same_text(doc, &list);
+    agree(are_told_apart, "same_text with a list of it")?;
+    Ok(true)
+}
+
+// A writer that counts bytes.
+#[derive(Drop)]
+struct Counted {
+    count: usize,
+}
+
+impl uWrite for Counted {
+    type Error = Full;
+
+    ghost seen = { record { told = λ _. ⊥; text = λ _. []; room = λ _. 0; identity = λ _. []; store = λ _. [] } };
+
+    fn write_str(&mut self, s: &str) -> Result<(), Full> {
+        self.count = self.count.saturating_add(s.len());
+        Ok(())
+    }
+}
+
+// Every call refuses it. The buffer has room for what is written of it before that.
+fn of_no_text(calls: Calls<'_>) -> Result<(), Fault> {
+    let mut events = Events::new(calls.alloc);
+    agree(is_not_text(calls.scan(&mut events)), "scan of no text")?;
+    agree(
+        calls.convert() == Err(ReadError::NotText),
+        "conversion of no text",
+    )?;
+    let mut counted = Counted { count: 0 };
+    agree(
+        is_not_text(calls.convert_to(&mut counted)),
+        "conversion of no text to a writer",
+    )?;
+    let mut buffer = vec![in calls.alloc; 0u8; counted.count]?;
+    let into_buffer = calls.convert_into(&mut buffer).map(|_count| ());
+    agree(
+        is_not_text(into_buffer),
+        "conversion of no text into a buffer",
+    )?;
+    agree(
+        calls.again() == Err(ReadError::NotText),
+        "no text, read again",
+    )?;
+    let by_way = calls.by_way_of_the_other();
+    agree(by_way == Err(ReadError::NotText), "no text, there and back")
+}
+
+fn is_not_text<E: Drop>(answer: Result<(), Refusal<E>>) -> bool {
+    match answer {
+        Err(Refusal::NotText) => true,
+        _ => false,
+    }
+}

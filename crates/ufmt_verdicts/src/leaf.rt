@@ -1,0 +1,97 @@
+//! A text as a leaf and as a name, in quotes, and its characters.
+use crate::digest::Digest;
+use crate::fault::{Fault, agree};
+use std::alloc::{AllocError, Global};
+use ufmt_doc::convert::{plain_text, pretty_text};
+use ufmt_doc::doc::Doc;
+use ufmt_doc::plain_reader::read_plain;
+use ufmt_doc::pretty_reader::read_pretty;
+use ufmt_scan::leaf::{is_leaf, is_word};
+
+// How many characters of a text are put in apostrophes.
+const MOST_CHARACTERS: usize = 64;
+
+/// What the calls answer, in words.
+pub fn verdict(alloc: Global, text: &[u8]) -> Result<String, AllocError> {
+    let Ok(text) = str::from_utf8(text) else {
+        return String::from_str(alloc, "no UTF-8");
+    };
+    match of_text(alloc, text) {
+        Ok(leaf) => leaf.words(alloc),
+        Err(fault) => fault.words(alloc),
+    }
+}
+
+#[derive(Clone, Copy)]
+struct Leaf {
+    is_token: bool,
+    is_token_as_name: bool,
+    quoted: Digest,
+    characters: Digest,
+}
+
+impl Leaf {
+    fn words(&self, alloc: Global) -> Result<String, AllocError> {
+        let token = if self.is_token { "yes" } else { "no" };
+        let name = if self.is_token_as_name { "yes" } else { "no" };
+        let quoted = self.quoted.words(alloc)?;
+        let characters = self.characters.words(alloc)?;
+        format!(in alloc; "token {token}, name {name}, quoted {quoted}, characters {characters}")
+    }
+}
+
+fn of_text(alloc: Global, text: &str) -> Result<Leaf, Fault> {
+    let leaf = Doc::Leaf(String::from_str(alloc, text)?);
+    agree(
+        plain_text(alloc, &leaf)?.as_str() == text,
+        "plain text of a leaf",
+    )?;
+    agree(
+        pretty_text(alloc, &leaf)?.as_str() == text,
+        "pretty text of a leaf",
+    )?;
+    agree(is_leaf(text) == leaf.is_token(), "is_leaf")?;
+    let named = named(alloc, text)?;
+    agree(is_word(text) == named.is_token(), "is_word")?;
+    let quoted = Doc::text(alloc, text)?;
+    Ok(Leaf {
+        is_token: leaf.is_token(),
+        is_token_as_name: named.is_token(),
+        quoted: Digest::of(read_back(alloc, &quoted, text)?),
+        characters: Digest::of(&characters(alloc, text)?),
+    })
+}
+
+// A struct with that name, and with a field of that name.
+fn named(alloc: Global, name: &str) -> Result<Doc, Fault> {
+    let mut fields = Vec::new(alloc);
+    let value = Doc::Leaf(String::from_str(alloc, "x")?);
+    fields.push((String::from_str(alloc, name)?, value))?;
+    Ok(Doc::StructOf(String::from_str(alloc, name)?, fields))
+}
+
+// The leaf's text, which both readers read as the leaf of this text in quotes.
+fn read_back<'a>(alloc: Global, quoted: &'a Doc, text: &str) -> Result<&'a str, Fault> {
+    let leaf = quoted.as_leaf().unwrap_or("");
+    agree(quoted.is_token(), "is_token of a leaf in quotes")?;
+    let plain = read_plain(alloc, leaf.as_bytes())?;
+    let pretty = read_pretty(alloc, leaf.as_bytes())?;
+    for read in [&plain, &pretty] {
+        agree(read.as_leaf() == Some(leaf), "a leaf in quotes, read")?;
+        let inside = read.unquoted(alloc)?;
+        agree(inside.as_deref() == Some(text), "unquoted")?;
+    }
+    Ok(leaf)
+}
+
+// The first characters in apostrophes, in a row.
+fn characters(alloc: Global, text: &str) -> Result<String, Fault> {
+    let mut row = String::new(alloc);
+    for character in text.chars().take(MOST_CHARACTERS) {
+        let quoted = Doc::character(alloc, character)?;
+        let mut inside = String::new(alloc);
+        inside.push(character)?;
+        row.push_str(read_back(alloc, &quoted, &inside)?)?;
+    }
+    Ok(row)
+}

@@ -1,0 +1,62 @@
+//! Makes each call of the library on each text that it reads, and prints one line of verdicts a text.
+//! `tools/try-texts` runs it and compares the lines with those of a model.
+//!
+//! Standard input has the texts in a row: each is a line with a number, then so many bytes.
+//!
+//! A half of a line, `plain` or `pretty`, is `no text` where the calls of that mode refuse the text. Else
+//! it has digests of what came out. Where one call disagrees with the others, it names that call.
+#![tactic(auto)]
+
+mod calls;
+mod digest;
+mod events;
+mod fault;
+mod half;
+mod leaf;
+mod loose;
+mod parts;
+
+use calls::Calls;
+use std::io::{self, Read, Write};
+use ufmt::layout::Mode;
+
+fn main(rt: HostRuntime) -> io::Result<()> {
+    let mut input = Vec::new(rt.alloc());
+    rt.reader().read_to_end(&mut input)?;
+    let mut output = io::BufWriter::new(rt.alloc(), io::writer(&rt))?;
+    let mut rest = input.as_slice();
+    // Each text takes at least a line feed.
+    for _text in 0..input.len() {
+        let Some((text, after)) = split_text(rest) else {
+            break;
+        };
+        report(&rt, &mut output, text)?;
+        rest = after;
+    }
+    output.flush()
+}
+
+// The first text, and what follows it.
+fn split_text(input: &[u8]) -> Option<(&[u8], &[u8])> {
+    let end = input.iter().position(|byte| *byte == b'\n')?;
+    let (number, rest) = input.split_at_checked(end)?;
+    let length = str::from_utf8(number).ok()?.parse().ok()?;
+    rest.get(1..)?.split_at_checked(length)
+}
+
+fn report<W: Write>(rt: &HostRuntime, output: &mut W, text: &[u8]) -> io::Result<()> {
+    let alloc = rt.alloc();
+    let plain = half::verdict(Calls {
+        alloc,
+        mode: Mode::Plain,
+        text,
+    })?;
+    let pretty = half::verdict(Calls {
+        alloc,
+        mode: Mode::Pretty,
+        text,
+    })?;
+    let leaf = leaf::verdict(alloc, text)?;
+    let line = format!(in alloc; "plain: {plain}; pretty: {pretty}; leaf: {leaf}\n")?;
+    output.write_all(line.as_bytes())
+}

@@ -1,0 +1,159 @@
+//! What the calls for a document's parts tell of it.
+use crate::fault::{Fault, agree};
+use std::alloc::Global;
+use ufmt_doc::doc::Doc;
+
+/// The parts so far, each block with its entries in parentheses, and each leaf in quotes also without
+/// them.
+#[derive(Drop)]
+pub struct Parts {
+    pub alloc: Global,
+    pub text: String,
+}
+
+/// A leaf's text, a block's name, and how many entries, pairs and fields it has.
+type Counts<'a> = (
+    Option<&'a str>,
+    Option<&'a str>,
+    Option<usize>,
+    Option<usize>,
+    Option<usize>,
+);
+
+fn counts(doc: &Doc) -> Counts<'_> {
+    (
+        doc.as_leaf(),
+        doc.name(),
+        doc.entries().map(|entries| entries.len()),
+        doc.pairs().map(|pairs| pairs.len()),
+        doc.fields().map(|fields| fields.len()),
+    )
+}
+
+impl Parts {
+    pub fn of(alloc: Global, doc: &Doc) -> Result<String, Fault> {
+        let mut parts = Parts {
+            alloc,
+            text: String::new(alloc),
+        };
+        parts.note(doc)?;
+        Ok(parts.text)
+    }
+
+    #[cycle(parts)]
+    fn note(&mut self, doc: &Doc) -> Result<(), Fault> {
+        let counts = counts(doc);
+        match doc {
+            Doc::Leaf(text) => {
+                agree(
+                    counts == (Some(text.as_str()), None, None, None, None),
+                    "parts of a leaf",
+                )?;
+                self.note_leaf(doc, text)
+            }
+            Doc::Listed(entries) => {
+                agree(
+                    counts == (None, None, Some(entries.len()), None, None),
+                    "parts of a list",
+                )?;
+                self.note_entries("l", "", entries)
+            }
+            Doc::SetOf(entries) => {
+                agree(
+                    counts == (None, None, Some(entries.len()), None, None),
+                    "parts of a set",
+                )?;
+                self.note_entries("b", "", entries)
+            }
+            Doc::MapOf(pairs) => {
+                agree(
+                    counts == (None, None, None, Some(pairs.len()), None),
+                    "parts of a map",
+                )?;
+                self.note_pairs(pairs)
+            }
+            Doc::StructOf(name, fields) => {
+                let wanted = (None, Some(name.as_str()), None, None, Some(fields.len()));
+                agree(counts == wanted, "parts of a struct")?;
+                agree(has_last_field(doc, fields), "field")?;
+                self.note_fields(name, fields)
+            }
+            Doc::TupleOf(name, fields) => {
+                let wanted = (None, Some(name.as_str()), Some(fields.len()), None, None);
+                agree(counts == wanted, "parts of a tuple")?;
+                self.note_entries("t", name, fields)
+            }
+        }
+    }
+
+    #[cycle(parts)]
+    fn note_entries(&mut self, sign: &str, name: &str, entries: &[Doc]) -> Result<(), Fault> {
+        self.begin(sign, name)?;
+        for entry in entries {
+            self.note(entry)?;
+        }
+        self.end()
+    }
+
+    #[cycle(parts)]
+    fn note_pairs(&mut self, pairs: &[(Doc, Doc)]) -> Result<(), Fault> {
+        self.begin("m", "")?;
+        for (key, value) in pairs {
+            self.note(key)?;
+            self.note(value)?;
+        }
+        self.end()
+    }
+
+    #[cycle(parts)]
+    fn note_fields(&mut self, name: &str, fields: &[(String, Doc)]) -> Result<(), Fault> {
+        self.begin("s", name)?;
+        for (label, value) in fields {
+            self.text.push_str(label)?;
+            self.text.push(':')?;
+            self.note(value)?;
+        }
+        self.end()
+    }
+
+    fn begin(&mut self, sign: &str, name: &str) -> Result<(), Fault> {
+        self.text.push_str(sign)?;
+        self.text.push_str(name)?;
+        self.text.push('(')?;
+        Ok(())
+    }
+
+    fn end(&mut self) -> Result<(), Fault> {
+        self.text.push(')')?;
+        Ok(())
+    }
+
+    fn note_leaf(&mut self, doc: &Doc, text: &str) -> Result<(), Fault> {
+        self.text.push('=')?;
+        self.text.push_str(text)?;
+        if let Some(inside) = doc.unquoted(self.alloc)? {
+            self.text.push('~')?;
+            self.text.push_str(&inside)?;
+            let again = quoted_as(self.alloc, text, &inside)?;
+            agree(again.as_leaf() == Some(text), "Doc::text or Doc::character")?;
+        }
+        self.text.push(' ')?;
+        Ok(())
+    }
+}
+
+// The leaf of what was between the quotes of a leaf.
+fn quoted_as(alloc: Global, leaf: &str, inside: &str) -> Result<Doc, Fault> {
+    match inside.chars().next() {
+        Some(character) if leaf.starts_with('\'') => Ok(Doc::character(alloc, character)?),
+        _ => Ok(Doc::text(alloc, inside)?),
+    }
+}
+
+// Whether the last field's value is found. Of two fields with one name that is the first one's.
+fn has_last_field(doc: &Doc, fields: &[(String, Doc)]) -> bool {
+    match fields.last() {
+        Some((label, _)) => doc.field(label).is_some() && doc.field("").is_none(),
+        None => doc.field("x").is_none(),
+    }
+}

@@ -1,0 +1,212 @@
+"""Random token documents, and texts that are nearly one's text. A seed makes the same ones each time."""
+import random
+
+from model import DEEPEST, Block, plain, pretty, quoted
+
+LETTERS = "abcxyzABCXYZ0189_-"
+# Characters of one to four bytes, those that have an escape, and the ends of their ranges.
+CHARACTERS = (
+    "\0\t\n\r\\\"'\x01\x08\x0b\x0c\x0e\x1b\x1f\x7f aZ~,:[]{}()\u0080\u00e9\u07ff\u0800\u20ac\ud7ff\ue000\ufffd\uffff"
+    "\U00010000\U0001f980\U0010ffff"
+)
+# Widths and lengths around those where a counter or a buffer could end.
+WIDTHS = (1, 2, 3, 4, 5, 6, 7, 8, 9, 12, 13, 16, 17, 31, 32, 33, 64, 65, 100, 127, 128, 129, 254, 255, 256, 257, 1000)
+LENGTHS = (1, 2, 15, 16, 63, 64, 65, 127, 128, 129, 254, 255, 256, 257, 511, 512, 600, 1023, 1024, 4095, 4096, 4097, 65535, 65536, 100_000)
+DEPTHS = (1, 2, 3, 4, 5, 8, 12, 13, 16, 17, 31, 32, 33, 64, 100, 127, 128, 129, 200, 254, 255, 256)
+# A place of a document in a block, by which a chain goes down.
+PLACES = ("list", "set", "key", "value", "struct", "tuple", "unnamed", "last of two", "first of two")
+# What a mutation puts in: brackets, spaces, line ends, escapes, quotes, and bytes that end no character.
+PIECES = (
+    "[", "]", "{", "}", "(", ")", "[]", "{}", "()", ",", ", ", ",\n", ": ", ":", " ", "    ", "\n", "\r", "\t", "\0", "\x7f",
+    '"', "'", "\\", "\\n", "\\u{1b}", "\\u{a}", "\\u{7F}", "\\u{07f}", "\\u{41}", "\\'", '\\"', "\\x", "a", "-", "\u00e9",
+)
+BAD_BYTES = (b"\xff", b"\x80", b"\xc3", b"\xc0\x80", b"\xed\xa0\x80", b"\xf4\x90\x80\x80", b"\xe2\x82", b"\xf0\x9f\xa6")
+
+
+class Maker:
+    def __init__(self, seed):
+        self.random = random.Random(seed)
+
+    def word(self, length=None):
+        if length is None:
+            length = self.random.choice((1, 1, 2, 3, 4, 8, 20))
+        return "".join(self.random.choices(LETTERS, k=length))
+
+    def characters(self, length):
+        if self.random.random() < 0.3:
+            return "".join(self.random.choices("ab c,:", k=length))
+        return "".join(self.random.choices(CHARACTERS, k=length))
+
+    def leaf(self):
+        form = self.random.random()
+        if form < 0.45:
+            return self.word()
+        if form < 0.55:
+            return "()"
+        if form < 0.8:
+            return quoted(self.characters(self.random.choice((0, 1, 2, 3, 5, 9, 20))))
+        return quoted(self.random.choice(CHARACTERS), "'")
+
+    def long_leaf(self):
+        length = self.random.choice(LENGTHS)
+        form = self.random.randrange(3)
+        if form == 0:
+            return self.word(length)
+        if form == 1:
+            return quoted(self.random.choice(CHARACTERS) * length)
+        return quoted(self.characters(length))
+
+    def empty(self):
+        return Block(self.random.choice(("list", "map")), "", [])
+
+    def block(self, kind, values):
+        """A block of this kind, or of the kind that has such a place, with these values."""
+        if kind == "map":
+            return Block("map", "", [(self.document(0), value) for value in values])
+        if kind == "struct":
+            return Block("struct", self.word(), [(self.word(), value) for value in values])
+        if kind == "unnamed":
+            return Block("tuple", "", [(None, value) for value in values])
+        name = self.word() if kind == "tuple" else ""
+        return Block(kind, name, [(None, value) for value in values])
+
+    def kind(self):
+        return self.random.choice(("list", "set", "map", "struct", "tuple", "unnamed"))
+
+    def document(self, depth):
+        """With blocks at most so deep, and of any kind."""
+        form = self.random.random()
+        if depth == 0 or form < 0.15:
+            return self.empty() if form < 0.03 else self.leaf()
+        count = self.random.choice((1, 1, 2, 2, 3, 3, 4, 5, 6))
+        values = [self.document(depth - 1) for _ in range(count)]
+        kind = self.kind()
+        if kind == "map":
+            return Block("map", "", [(self.document(depth - 1), value) for value in values])
+        return self.block(kind, values)
+
+    def wide(self):
+        """A block with many entries, which are small."""
+        values = [self.document(self.random.choice((0, 0, 0, 1))) for _ in range(self.random.choice(WIDTHS))]
+        return self.block(self.kind(), values)
+
+    def deeper(self, place, document):
+        """A block that has the document in this place."""
+        if place == "key":
+            return Block("map", "", [(document, self.leaf())])
+        if place == "value":
+            return Block("map", "", [(self.leaf(), document)])
+        if place == "last of two":
+            return Block(self.random.choice(("list", "set")), "", [(None, self.leaf()), (None, document)])
+        if place == "first of two":
+            return Block("tuple", "", [(None, document), (None, self.leaf())])
+        return self.block(place, [document])
+
+    def chain(self):
+        """A document as deep as one can be, or deeper by one, by one place or by any."""
+        depth = self.random.choice(DEPTHS)
+        place = self.random.choice(PLACES)
+        is_mixed = self.random.random() < 0.3
+        document = self.random.choice((self.leaf(), self.empty(), "x"))
+        for _ in range(depth):
+            document = self.deeper(self.random.choice(PLACES) if is_mixed else place, document)
+        return document
+
+    def whole_text(self):
+        """The plain or the pretty text of a document. One that is too deep is no token document."""
+        form = self.random.random()
+        if form < 0.7:
+            document = self.document(self.random.choice((1, 1, 2, 2, 3, 3, 4)))
+        elif form < 0.8:
+            document = self.wide()
+        elif form < 0.88:
+            document = self.chain()
+        else:
+            document = self.placed_leaf()
+        return self.random.choice((plain, pretty))(document)
+
+    def placed_leaf(self):
+        """A long leaf, by itself or in a place of a block."""
+        leaf = self.long_leaf()
+        if self.random.random() < 0.5:
+            return leaf
+        return self.deeper(self.random.choice(PLACES), leaf)
+
+    def changed(self, data):
+        """The text with a change, most often of one byte or one piece."""
+        at = self.random.randrange(len(data) + 1)
+        form = self.random.randrange(8)
+        piece = self.random.choice(PIECES).encode()
+        if form == 0:
+            return data[:at]
+        if form == 1:
+            return data[at:]
+        if form == 2:
+            return data[:at] + data[at + 1 :]
+        if form == 3:
+            return data[:at] + piece + data[at + 1 :]
+        if form == 4:
+            return data[:at] + self.random.choice(BAD_BYTES) + data[at:]
+        if form == 5:
+            return self.changed_at(data, piece)
+        if form == 6:
+            return data + piece
+        return data[:at] + piece + data[at:]
+
+    def changed_at(self, data, piece):
+        """One of the places of another piece, exchanged for this one."""
+        old = self.random.choice(PIECES).encode()
+        count = data.count(old)
+        if count == 0:
+            return piece + data
+        pieces = data.split(old)
+        at = self.random.randrange(1, count + 1)
+        return old.join(pieces[:at]) + piece + old.join(pieces[at:])
+
+    def noise(self):
+        """Bytes that are no text, as long as one."""
+        length = self.random.choice(LENGTHS)
+        form = self.random.randrange(4)
+        if form == 0:
+            return self.characters(length).encode()
+        if form == 1:
+            return self.random.choice(PIECES).encode() * length
+        if form == 2:
+            return b"\n".join(b"a" * self.random.randrange(9) for _ in range(length // 4))
+        return self.random.randbytes(length)
+
+    def data(self):
+        form = self.random.random()
+        if form < 0.04:
+            return self.noise()
+        text = self.whole_text().encode()
+        if form < 0.5:
+            return text
+        for _ in range(self.random.choice((1, 1, 1, 2))):
+            text = self.changed(text)
+        return text
+
+
+def beginnings():
+    """Texts that stand for their kind and come first with every seed: each shape at each limit."""
+    maker = Maker(0)
+    yield from (b"", b"\n", b"()", b"[]", b"{}", b'""', b"''", b"x\n")
+    for depth in (DEEPEST - 1, DEEPEST, DEEPEST + 1):
+        for place in PLACES:
+            document = "x"
+            for _ in range(depth):
+                document = maker.deeper(place, document)
+            yield plain(document).encode()
+            yield pretty(document).encode()
+    for kind in ("list", "set", "map", "struct", "tuple", "unnamed"):
+        for width in (1, 2, 3, 4, 5, 13, 255, 256, 257, 1000):
+            document = maker.block(kind, [maker.leaf() for _ in range(width)])
+            yield plain(document).encode()
+            yield pretty(document).encode()
+    for character in CHARACTERS:
+        for length in (1, 255, 256, 257, 4097, 100_000):
+            yield quoted(character * length).encode()
+        yield quoted(character, "'").encode()
+    for length in LENGTHS:
+        yield b"x" * length
+        yield b" " * length

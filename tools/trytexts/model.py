@@ -1,0 +1,392 @@
+"""What the library should say of a text, by tables of its own. It shares no code with the project.
+
+A document is a leaf, which is a str, or a Block. Documents here are in normal form: a struct or a tuple
+has a field, and a set has an entry.
+"""
+import re
+import zlib
+from typing import NamedTuple
+
+# The most blocks with entries that lie one in another.
+DEEPEST = 255
+INDENT = "    "
+
+
+class Block(NamedTuple):
+    """A list, a set, a map, a struct or a tuple.
+
+    An entry is a pair: what is before a colon, and a document. Before the colon a map has a document,
+    a struct a name, and the other kinds None.
+    """
+
+    kind: str
+    name: str
+    entries: list
+
+
+# ---- The layout of blocks. Each row: what opens the block, and what closes it. The name comes first.
+
+PLAIN_FRAMES = {
+    "list": ("[", "]"),
+    "set": ("{", "}"),
+    "map": ("{", "}"),
+    "struct": (" { ", " }"),
+    "tuple": ("(", ")"),
+}
+PRETTY_FRAMES = {
+    "list": ("[\n", "]"),
+    "set": ("{\n", "}"),
+    "map": ("{\n", "}"),
+    "struct": (" {\n", "}"),
+    "tuple": ("(\n", ")"),
+}
+EMPTY = {"list": "[]", "map": "{}"}
+
+
+def plain(document):
+    """The plain text: entries are joined by a comma and a space."""
+    out = []
+    add_plain(document, out)
+    return "".join(out)
+
+
+def add_plain(document, out):
+    if isinstance(document, str):
+        out.append(document)
+        return
+    kind, name, entries = document
+    if not entries:
+        out.append(EMPTY[kind])
+        return
+    opening, closing = PLAIN_FRAMES[kind]
+    out.append(name + opening)
+    for number, (before, value) in enumerate(entries):
+        if number > 0:
+            out.append(", ")
+        if before is not None:
+            add_plain(before, out)
+            out.append(": ")
+        add_plain(value, out)
+    if kind == "tuple" and name == "" and len(entries) == 1:
+        out.append(",")
+    out.append(closing)
+
+
+def pretty(document):
+    """The pretty text: an entry a line, indented by the depth of its block, with a comma after it."""
+    out = []
+    add_pretty(document, 0, out)
+    return "".join(out)
+
+
+def add_pretty(document, depth, out):
+    if isinstance(document, str):
+        out.append(document)
+        return
+    kind, name, entries = document
+    if not entries:
+        out.append(EMPTY[kind])
+        return
+    opening, closing = PRETTY_FRAMES[kind]
+    out.append(name + opening)
+    for before, value in entries:
+        out.append(INDENT * (depth + 1))
+        if before is not None:
+            add_pretty(before, depth + 1, out)
+            out.append(": ")
+        add_pretty(value, depth + 1, out)
+        out.append(",\n")
+    out.append(INDENT * depth + closing)
+
+
+# ---- Quoted leaves. Of each character the first row that fits is its only spelling.
+
+
+def spelled(character, quote):
+    """A character as it is written between these quotes."""
+    short = {"\0": r"\0", "\t": r"\t", "\n": r"\n", "\r": r"\r", "\\": "\\\\", quote: "\\" + quote}
+    if character in short:
+        return short[character]
+    if character < " " or character == "\x7f":
+        return "\\u{%x}" % ord(character)
+    return character
+
+
+def quoted(text, quote='"'):
+    return quote + "".join(spelled(character, quote) for character in text) + quote
+
+
+WORD = re.compile(r"[A-Za-z0-9_-]+")
+CODE = r"\\u\{(?:[1-8bcef]|1[0-9a-f]|7f)\}"
+QUOTED_TEXT = re.compile(r'"(?:[^"\\\x00-\x1f\x7f]|\\[0tnr\\"]|' + CODE + r')*"')
+QUOTED_CHARACTER = re.compile(r"'(?:[^'\\\x00-\x1f\x7f]|\\[0tnr\\']|" + CODE + r")'")
+ESCAPE = re.compile(r"\\u\{([0-9a-f]+)\}|\\(.)")
+
+
+def unquoted(leaf):
+    """What is between the quotes of a leaf, without escapes. None of a leaf without quotes."""
+    if leaf[0] not in "\"'":
+        return None
+    letters = {"0": "\0", "t": "\t", "n": "\n", "r": "\r"}
+
+    def denoted(found):
+        if found[1] is not None:
+            return chr(int(found[1], 16))
+        return letters.get(found[2], found[2])
+
+    return ESCAPE.sub(denoted, leaf[1:-1])
+
+
+# ---- The readers, one for each table of texts. A call gives a document and where it ends, or None.
+
+
+def leaf_at(text, at):
+    """A word, a leaf in quotes, or `()`."""
+    for pattern in (WORD, QUOTED_TEXT, QUOTED_CHARACTER):
+        found = pattern.match(text, at)
+        if found:
+            return found[0], found.end()
+    if text.startswith("()", at):
+        return "()", at + 2
+    return None
+
+
+def empty_at(text, at):
+    for kind, brackets in EMPTY.items():
+        if text.startswith(brackets, at):
+            return Block(kind, "", []), at + 2
+    return None
+
+
+class Reader:
+    """A reader of one mode. `entries_at` reads the entries of a block up to its closing bracket."""
+
+    def read(self, text):
+        found = self.document_at(text, 0, 0)
+        if found is None or found[1] != len(text):
+            return None
+        return found[0]
+
+    def document_at(self, text, at, depth):
+        found = leaf_at(text, at) or empty_at(text, at)
+        name = ""
+        if found is not None:
+            document, end = found
+            is_name = isinstance(document, str) and WORD.fullmatch(document)
+            if not is_name:
+                return found
+            name, at = document, end
+        block = self.block_at(text, at, depth, name)
+        if block is None:
+            return found
+        return block or None
+
+    def block_at(self, text, at, depth, name):
+        """A block whose opening is here. None where nothing opens, and False where no block is whole."""
+        for kind in ["struct", "tuple"] if name else ["list", "map", "tuple"]:
+            opening, closing = self.frames[kind]
+            if text.startswith(opening, at):
+                if depth == DEEPEST:
+                    return False
+                found = self.entries_at(text, at + len(opening), depth, kind)
+                return self.whole(text, found, depth, kind, name, closing) or False
+        return None
+
+    def whole(self, text, found, depth, kind, name, closing):
+        if found is None:
+            return None
+        entries, at = found
+        if kind == "map" and entries[0][0] is None:
+            kind = "set"
+        block = Block(kind, name, entries)
+        end = self.closing(block, depth, closing)
+        if not text.startswith(end, at):
+            return None
+        return block, at + len(end)
+
+    def entry_at(self, text, at, depth, kind):
+        """A field has a name and a colon, and a pair of a map a key and a colon."""
+        before = None
+        if kind == "struct":
+            found = WORD.match(text, at)
+            if not found or not text.startswith(": ", found.end()):
+                return None
+            before, at = found[0], found.end() + 2
+        found = self.document_at(text, at, depth + 1)
+        if found is not None and kind == "map" and text.startswith(": ", found[1]):
+            before = found[0]
+            found = self.document_at(text, found[1] + 2, depth + 1)
+        if found is None:
+            return None
+        return (before, found[0]), found[1]
+
+    def entries_at(self, text, at, depth, kind):
+        """At least one entry. In braces each has a colon, or none has."""
+        entries = []
+        more = self.before_entry(text, at, depth, True)
+        while more is not None:
+            found = self.entry_at(text, more, depth, kind)
+            if found is None:
+                return None
+            entry, at = found
+            entries.append(entry)
+            if (entry[0] is None) != (entries[0][0] is None):
+                return None
+            at = self.after_entry(text, at)
+            if at is None:
+                return None
+            more = self.before_entry(text, at, depth, False)
+        return (entries, at) if entries else None
+
+
+class PlainReader(Reader):
+    frames = PLAIN_FRAMES
+
+    def closing(self, block, _depth, closing):
+        is_single = block.kind == "tuple" and block.name == "" and len(block.entries) == 1
+        return "," + closing if is_single else closing
+
+    def before_entry(self, text, at, _depth, is_first):
+        if is_first:
+            return at
+        return at + 2 if text.startswith(", ", at) else None
+
+    def after_entry(self, _text, at):
+        return at
+
+
+class PrettyReader(Reader):
+    frames = PRETTY_FRAMES
+
+    def closing(self, _block, depth, closing):
+        return INDENT * depth + closing
+
+    def before_entry(self, text, at, depth, _is_first):
+        """A line of the block begins with its indentation, and then there is an entry."""
+        indentation = INDENT * (depth + 1)
+        return at + len(indentation) if text.startswith(indentation, at) else None
+
+    def after_entry(self, text, at):
+        return at + 2 if text.startswith(",\n", at) else None
+
+
+# ---- What the calls tell of a document.
+
+
+def events(document, out):
+    """What a scan tells its sink: a sign for each part, and its text."""
+    if isinstance(document, str):
+        out.append("=" + document + " ")
+        return
+    kind, name, entries = document
+    letter = {"list": "l", "set": "b", "map": "b", "struct": "s", "tuple": "t" if name else "u"}[kind]
+    if not entries:
+        out.append("e" + letter + " ")
+        return
+    out.append("o" + letter + name + " ")
+    for number, (before, value) in enumerate(entries):
+        if number > 0:
+            out.append(", ")
+        if kind == "struct":
+            out.append("." + before + " ")
+        elif kind == "map":
+            events(before, out)
+            out.append(": ")
+        events(value, out)
+    out.append("c" + letter + ("1 " if len(entries) == 1 else "2 "))
+
+
+def parts(document, out):
+    """Its parts: a letter and a name for each block, and its entries in parentheses."""
+    if isinstance(document, str):
+        inside = unquoted(document)
+        out.append("=" + document + (" " if inside is None else "~" + inside + " "))
+        return
+    kind, name, entries = document
+    letter = {"list": "l", "set": "b", "map": "m", "struct": "s", "tuple": "t"}[kind]
+    out.append(letter + name + "(")
+    for before, value in entries:
+        if kind == "struct":
+            out.append(before + ":")
+        elif kind == "map":
+            parts(before, out)
+        parts(value, out)
+    out.append(")")
+
+
+def depth_of(document):
+    """How many blocks with entries lie one in another."""
+    if isinstance(document, str) or not document.entries:
+        return 0
+    depths = [depth_of(value) for _before, value in document.entries]
+    if document.kind == "map":
+        depths += [depth_of(key) for key, _value in document.entries]
+    return 1 + max(depths)
+
+
+def digest(text):
+    text = text.encode()
+    adler = zlib.adler32(text)
+    return "%d %d %d" % (len(text), adler >> 16, adler & 0xFFFF)
+
+
+def joined(tell, document):
+    out = []
+    tell(document, out)
+    return "".join(out)
+
+
+def half(document, converted):
+    if document is None:
+        return "no text"
+    return "events %s, converted %s, parts %s, in a list %s" % (
+        digest(joined(events, document)),
+        digest(converted(document)),
+        digest(joined(parts, document)),
+        "yes" if depth_of(document) < DEEPEST else "no",
+    )
+
+
+def leaf_verdict(text):
+    is_name = bool(WORD.fullmatch(text))
+    found = leaf_at(text, 0)
+    return "token %s, name %s, quoted %s, characters %s" % (
+        "yes" if found is not None and found[1] == len(text) else "no",
+        "yes" if is_name else "no",
+        digest(quoted(text)),
+        digest("".join(quoted(character, "'") for character in text[:64])),
+    )
+
+
+def verdict(data):
+    """The line that the program prints of these bytes."""
+    try:
+        text = data.decode()
+    except UnicodeDecodeError:
+        return "plain: no text; pretty: no text; leaf: no UTF-8"
+    return "plain: %s; pretty: %s; leaf: %s" % (
+        half(PlainReader().read(text), pretty),
+        half(PrettyReader().read(text), plain),
+        leaf_verdict(text),
+    )
+
+
+def answer(command, data):
+    """Status, standard output and standard error of the program that converts."""
+    if command == "lengths":
+        lines = data.split(b"\n")
+        if lines[-1] == b"":
+            lines.pop()
+        return 0, "[%s]\n" % ", ".join(str(len(line)) for line in lines), ""
+    try:
+        text = data.decode().removesuffix("\n")
+    except UnicodeDecodeError:
+        text = None
+    reader, convert, name = {
+        "pretty": (PlainReader(), pretty, "plain"),
+        "plain": (PrettyReader(), plain, "pretty"),
+    }[command]
+    document = None if text is None else reader.read(text)
+    if document is None:
+        return 1, "", "ufmt_conv: not a %s text\n" % name
+    return 0, convert(document) + "\n", ""
