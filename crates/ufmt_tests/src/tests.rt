@@ -7,6 +7,7 @@ mod by_builders;
 mod collections;
 mod cursors;
 mod each_piece;
+mod evaluations;
 mod foreign;
 mod formatters;
 mod forwarded;

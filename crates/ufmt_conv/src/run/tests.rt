@@ -1,4 +1,5 @@
 //! The program's answers, by rows of input and output.
+mod calls;
 mod devices;
 
 use super::*;
