@@ -170,17 +170,13 @@ const MISQUOTED: [&[u8]; 21] = [
     b"\"\x7f\"",
 ];
 
-// The status of a run, and whether the output took just these bytes and a device failed where it should.
-fn judged(given: Ran, written: &'static str, outcome: Result<(), Fault>) -> (u8, &'static str) {
-    let status = match given.0 {
+// Whether a run had this status and outcome, and the output took just the bytes that it should.
+fn is_judged(given: Ran, status: u8, outcome: Result<(), Fault>) -> bool {
+    let given_status = match given.0 {
         Ok(()) => 0,
         Err(fault) => fault.status(),
     };
-    if given == wanted(outcome) {
-        (status, written)
-    } else {
-        (status, "another answer")
-    }
+    given_status == status && given == wanted(outcome)
 }
 
 // What a command says of an input that it refuses.
@@ -192,9 +188,9 @@ fn refusal(command: Command) -> Fault {
     }
 }
 
-// What a row's run answers by one byte a call, by two and by all, and with a line feed behind an input
+// Whether a row is answered by one byte a call, by two and by all, and with a line feed behind an input
 // that has none at its end.
-fn judged_row(alloc: Global, row: Row) -> Result<[(u8, &'static str); 4], AllocError> {
+fn is_answered(alloc: Global, row: Row) -> Result<bool, AllocError> {
     let (command, input, status, written) = row;
     let outcome = match status {
         0 => Ok(()),
@@ -206,19 +202,17 @@ fn judged_row(alloc: Global, row: Row) -> Result<[(u8, &'static str); 4], AllocE
     }
     let [first, second, third] = rans_by_any(alloc, command, input, written.as_bytes());
     let last = ran_by(alloc, command, &line, WHOLE, written.as_bytes());
-    Ok([
-        judged(first, written, outcome),
-        judged(second, written, outcome),
-        judged(third, written, outcome),
-        judged(last, written, outcome),
-    ])
+    let are_judged = is_judged(first, status, outcome)
+        && is_judged(second, status, outcome)
+        && is_judged(third, status, outcome);
+    Ok(are_judged && is_judged(last, status, outcome))
 }
 
 // How many rows are answered as they should be before the first that isn't, and that one's input.
 fn answered(alloc: Global, rows: &[Row]) -> (usize, &'static [u8]) {
     let mut count = 0usize;
     for row in rows {
-        if judged_row(alloc, *row) != Ok([(row.2, row.3); 4]) {
+        if is_answered(alloc, *row) != Ok(true) {
             return (count, row.1);
         }
         count = count.saturating_add(1);
