@@ -3,6 +3,7 @@
 mod laws;
 mod levels;
 mod malformed;
+mod misquoted;
 mod mode;
 mod parts;
 mod quoted;

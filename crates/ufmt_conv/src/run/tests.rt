@@ -1,6 +1,7 @@
 //! The program's answers, by rows of input and output.
 mod calls;
 mod devices;
+mod rows;
 
 use super::*;
 use std::alloc::AllocError;
@@ -155,13 +156,7 @@ fn rans_by_any(alloc: Global, command: Command, input: &[u8], written: &[u8]) ->
 
 #[test]
 fn lengths_are_answered(rt: HostRuntime) {
-    let rows: [(&[u8], &str); 5] = [
-        (b"", "[]\n"),
-        (b"\n", "[0]\n"),
-        (b"ab\n\nxyz", "[2, 0, 3]\n"),
-        (b"ab\r\n", "[3]\n"),
-        (b"\xff\xfe\n\x80", "[2, 1]\n"),
-    ];
+    let rows: [(&[u8], &str); 2] = [(b"ab\r\n", "[3]\n"), (b"\xff\xfe\n\x80", "[2, 1]\n")];
     for (input, written) in rows {
         let given = rans_by_any(rt.alloc(), Command::Lengths, input, written.as_bytes());
         same(&rt, given, [wanted(Ok(())); 3], written);
@@ -188,34 +183,12 @@ const README_PRETTY: &str = "\
 ]
 ";
 
-// A text with a line feed and without one is the same text. `ufmt_doc_tests` has more texts.
+// A text with a line feed and without one is the same text. `rows` has more texts.
 #[test]
 fn pretty_and_plain_lead_to_each_other(rt: HostRuntime) {
     let rows = [
         (Command::Pretty, README_PLAIN, README_PRETTY),
         (Command::Plain, README_PRETTY, README_PLAIN),
-        (Command::Pretty, "x\n", "x\n"),
-        (Command::Plain, "x\n", "x\n"),
-        (
-            Command::Pretty,
-            "{\"a\": \"b: c, d\"}\n",
-            "{\n    \"a\": \"b: c, d\",\n}\n",
-        ),
-        (
-            Command::Plain,
-            "{\n    \"a\": \"b: c, d\",\n}\n",
-            "{\"a\": \"b: c, d\"}\n",
-        ),
-        (
-            Command::Pretty,
-            "[\"]\", '}']\n",
-            "[\n    \"]\",\n    '}',\n]\n",
-        ),
-        (
-            Command::Plain,
-            "[\n    \"]\",\n    '}',\n]\n",
-            "[\"]\", '}']\n",
-        ),
     ];
     for (command, input, written) in rows {
         let given = ran_by(
@@ -235,78 +208,6 @@ fn pretty_and_plain_lead_to_each_other(rt: HostRuntime) {
             written.as_bytes(),
         );
         same(&rt, given, wanted(Ok(())), input);
-    }
-}
-
-// Leaves in quotes, each of which has one text in both modes.
-#[test]
-fn leaves_in_quotes_are_answered(rt: HostRuntime) {
-    for line in [
-        "\"\\u{1b}\"\n",
-        "\"é\"\n",
-        "'\"'\n",
-        "\"'\"\n",
-        "'\\''\n",
-        "\"\"\n",
-    ] {
-        for command in [Command::Pretty, Command::Plain] {
-            let input = line.trim_end().as_bytes();
-            let given = ran_by(rt.alloc(), command, input, WHOLE, line.as_bytes());
-            same(&rt, given, wanted(Ok(())), line);
-        }
-    }
-}
-
-// What stands in no quotes, in wrong ones, or where a name is to stand.
-const MISQUOTED: [&[u8]; 20] = [
-    b"'''",
-    b"\"\"\"",
-    b"\"a",
-    b"'ab'",
-    b"''",
-    b"\"\\x\"",
-    b"\"\\u{41}\"",
-    b"\"\\u{1B}\"",
-    b"\"\\u{07f}\"",
-    b"\"\\u{7F}\"",
-    b"\"\\u{a}\"",
-    b"'\\\"'",
-    b"\"\\'\"",
-    b"S { \"a\": b }",
-    b"\"S\"(x)",
-    b"\"\xff\"",
-    b"\xc3\xa9",
-    b"\"\t\"",
-    b"\"\n\"",
-    b"\"\x7f\"",
-];
-
-#[test]
-fn what_is_quoted_otherwise_is_refused(rt: HostRuntime) {
-    for input in MISQUOTED {
-        let given = ran_by(rt.alloc(), Command::Pretty, input, WHOLE, b"");
-        same(&rt, given, wanted(Err(Fault::NotPlain)), "a leaf");
-    }
-}
-
-// A text that is refused by one byte a call and as a whole. `ufmt_doc_tests` has more such texts.
-#[test]
-fn what_is_no_text_is_refused(rt: HostRuntime) {
-    let rows = [
-        (Command::Pretty, "", Fault::NotPlain),
-        (Command::Pretty, "\n", Fault::NotPlain),
-        (Command::Pretty, "[]\n\n", Fault::NotPlain),
-        (Command::Pretty, "[\n1]", Fault::NotPlain),
-        (Command::Pretty, "[\n    1,\n]", Fault::NotPlain),
-        (Command::Plain, "", Fault::NotPretty),
-        (Command::Plain, "\n", Fault::NotPretty),
-        (Command::Plain, "[\n    1,\n]\n\n", Fault::NotPretty),
-        (Command::Plain, "[\n1]", Fault::NotPretty),
-        (Command::Plain, "[1]", Fault::NotPretty),
-    ];
-    for (command, input, fault) in rows {
-        let given = rans_by_any(rt.alloc(), command, input.as_bytes(), b"");
-        same(&rt, given, [wanted(Err(fault)); 3], input);
     }
 }
 

@@ -2,7 +2,7 @@
 ghost use Rattle.std.specs.Prelude.{◌≤◌, length};
 
 use super::mode::Mode;
-use super::texts::{NODE_PLAIN, NODE_PRETTY, NOT_PLAIN, NOT_PRETTY, NOT_UTF8, TEXTS};
+use super::texts::{NO_WORDS, NODE_PLAIN, NODE_PRETTY, NOT_PLAIN, NOT_PRETTY, TEXTS};
 use super::verdict::{Verdict, converts_to, read, told};
 use super::{holds, same};
 use std::alloc::{AllocError, Global};
@@ -33,7 +33,7 @@ fn texts_are_taken_and_converted(rt: HostRuntime) {
         holds(&rt, are_converted(alloc, plain, pretty), row);
         count = count.saturating_add(1);
     }
-    same(&rt, count, 43, "documents");
+    same(&rt, count, 44, "documents");
 }
 
 // How many of the texts are refused before the first that isn't, and that one.
@@ -51,14 +51,14 @@ fn refused<'a>(alloc: Global, mode: Mode, texts: &'a str) -> (usize, Option<&'a 
 #[test]
 fn what_is_no_text_is_refused(rt: HostRuntime) {
     let plain = refused(rt.alloc(), Mode::Plain, NOT_PLAIN);
-    same(&rt, plain, (71, None), "plain texts");
+    same(&rt, plain, (43, None), "plain texts");
     let pretty = refused(rt.alloc(), Mode::Pretty, NOT_PRETTY);
     same(&rt, pretty, (29, None), "pretty texts");
-    for text in NOT_UTF8 {
+    for text in NO_WORDS {
         let plain = told(rt.alloc(), Mode::Plain, text);
         let pretty = told(rt.alloc(), Mode::Pretty, text);
-        same(&rt, plain, Verdict::Refused, "bytes that are no UTF-8");
-        same(&rt, pretty, Verdict::Refused, "bytes that are no UTF-8");
+        same(&rt, plain, Verdict::Refused, "bytes that are no words");
+        same(&rt, pretty, Verdict::Refused, "bytes that are no words");
     }
 }
 

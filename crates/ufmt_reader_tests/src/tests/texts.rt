@@ -1,6 +1,6 @@
 //! Texts that are read, and texts that are refused, as the layouts of documents have it.
 
-/// Of 43 documents the plain text, a line, and the pretty text below it, with an empty line between
+/// Of 44 documents the plain text, a line, and the pretty text below it, with an empty line between
 /// two documents. They are one literal, since an array of pairs takes the check four times as long.
 pub const TEXTS: &str = "\
 x
@@ -192,6 +192,9 @@ Node {
 \"\\u{1b}\"
 \"\\u{1b}\"
 
+\"a\\\"b\\n\"
+\"a\\\"b\\n\"
+
 \"é\"
 \"é\"
 
@@ -279,34 +282,6 @@ pub const NOT_PLAIN: &str = "\
 |S { (): b }\
 |S { a b }\
 |\u{e9}\
-|'''\
-|\"\"\"\
-|\"a\
-|'ab'\
-|''\
-|\"\\x\"\
-|\"\\u{41}\"\
-|\"\\u{1B}\"\
-|\"\\u{07f}\"\
-|\"\\u{7F}\"\
-|\"\\u{a}\"\
-|\"\\u{1b\"\
-|\"\\u1b\"\
-|\"\\u{}\"\
-|\"\\u{80}\"\
-|\"\\\
-|\"\\\"\
-|'\\\"'\
-|\"\\'\"\
-|S { \"a\": b }\
-|\"S\"(x)\
-|\"S\" { a: b }\
-|\"\t\"\
-|\"\n\"\
-|\"\x7f\"\
-|'\u{e9}\u{e9}'\
-|'e\u{301}'\
-|\"a\"b\
 |[\n    x,\n]\
 |n(1,)\
 |[1, ]\
@@ -343,13 +318,8 @@ pub const NOT_PRETTY: &str = "\
 |[\n    [\n        1,\n],\n]\
 |[1]";
 
-pub const NOT_UTF8: [&[u8]; 5] = [
-    b"\xff",
-    b"\"\xff\"",
-    b"'\xff'",
-    b"\"\xc0\xaf\"",
-    b"\"\xed\xa0\x80\"",
-];
+// Bytes that are no UTF-8, and a character past ASCII, in no quotes.
+pub const NO_WORDS: [&[u8]; 4] = [b"\xff", b"a\xff", b"\xc3\xa9", b"()\xff"];
 
 pub const NODE_PLAIN: &str = "Node { value: 1, next: Some(Node { value: 0, next: None }) }";
 

@@ -128,3 +128,30 @@ fn a_pretty_part_that_fails_by_itself(rt: HostRuntime) {
     );
     same(&rt, cursor.remaining(), 8, "what remains");
 }
+
+// A pretty part of one piece, with the mode in it, and the mode and depth behind it.
+fn write_in_pretty_mode<W: uWrite>(
+    f: &mut Formatter<W>,
+    piece: &str,
+) -> (Result<(), W::Error>, bool, bool, u8) {
+    let mut inside = false;
+    let answer = f.pretty(|f| {
+        inside = f.is_pretty();
+        f.write_str(piece)
+    });
+    (answer, inside, f.is_pretty(), f.depth())
+}
+
+#[test]
+fn a_pretty_part_whose_piece_is_refused(rt: HostRuntime) {
+    let mut buffer = [0; 1];
+    let mut f = Formatter::new(Cursor::new(&mut buffer));
+    let refused = write_in_pretty_mode(&mut f, "ab");
+    same(&rt, refused, (Err(Full), true, false, 0), "what is left");
+    let cursor = f.into_inner();
+    same(&rt, cursor.written(), b"".as_slice(), "nothing is written");
+    let mut f = Formatter::new(cursor);
+    let taken = write_in_pretty_mode(&mut f, "a");
+    same(&rt, taken, (Ok(()), true, false, 0), "a piece that fits");
+    same(&rt, f.into_inner().written(), b"a".as_slice(), "it alone");
+}

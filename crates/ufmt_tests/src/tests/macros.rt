@@ -162,3 +162,25 @@ fn nothing_is_evaluated_after_a_failure(rt: HostRuntime) {
     same(&rt, answers, wanted, "a failure, and none");
     same(&rt, f.into_inner().written(), b"1".as_slice(), "of both");
 }
+
+// The answer, and what is left of the formatter.
+fn write_answer(f: &mut Formatter<Cursor<'_>>) -> (Result<(), Full>, bool, u8) {
+    let answer = uwrite!(f, text "The answer is ", display 42i32);
+    (answer, f.is_pretty(), f.depth())
+}
+
+#[test]
+fn pieces_go_into_a_long_buffer(rt: HostRuntime) {
+    let mut buffer = [0; 256];
+    let mut f = Formatter::new(Cursor::new(&mut buffer));
+    same(
+        &rt,
+        write_answer(&mut f),
+        (Ok(()), false, 0),
+        "what is left",
+    );
+    let cursor = f.into_inner();
+    same(&rt, cursor.remaining(), 240, "what remains");
+    let text = "The answer is 42".as_bytes();
+    same(&rt, cursor.written(), text, "the text");
+}

@@ -3,8 +3,8 @@ use super::forwarded;
 use super::rows::{Table, has_rows, list};
 use std::alloc::{AllocError, Global};
 use ufmt_user::{
-    I32, Kind, Message, Nested, Node, Pair, Port, Ports, Reading, Scores, Tree, Users, Y, log,
-    print,
+    I32, Kind, Message, Nested, Node, Pair, Port, Ports, Reading, Scores, Tree, Tuple, Users, X, Y,
+    log, print,
 };
 
 const STRUCTS_AND_ENUMS: &str = "\
@@ -12,6 +12,20 @@ I32(0)~
 I32(
     0,
 );
+Tuple(0, 0)~
+Tuple(
+    0,
+    0,
+);
+X(0)~
+X(
+    0,
+);
+Pair { x: 0, y: 0 }~
+Pair {
+    x: 0,
+    y: 0,
+};
 Nested { first: Pair { x: 0, y: 0 }, second: Pair { x: 0, y: 0 } }~
 Nested {
     first: Pair {
@@ -46,6 +60,9 @@ X;
 fn structs_and_enums(rt: HostRuntime) {
     let mut table = Table::new(rt.alloc());
     table.texts(&I32(0i32));
+    table.texts(&Tuple(0i32, 0u64));
+    table.texts(&X(0i32));
+    table.texts(&Pair { x: 0i32, y: 0u64 });
     table.texts(&Nested {
         first: Pair { x: 0u64, y: 0u64 },
         second: Pair { x: 0u64, y: 0u64 },

@@ -1,0 +1,251 @@
+//! Inputs of each command, and what a run makes of them: a table of statuses and whole outputs.
+use super::*;
+
+// A command, its input, the status of the run, and all that is written.
+type Row = (Command, &'static [u8], u8, &'static str);
+
+// Blocks of each kind, one in another. A last line feed of the input belongs to no text.
+const BLOCKS: [Row; 18] = [
+    (Command::Lengths, b"", 0, "[]\n"),
+    (Command::Lengths, b"\n", 0, "[0]\n"),
+    (Command::Lengths, b"ab\n\nxyz", 0, "[2, 0, 3]\n"),
+    (
+        Command::Pretty,
+        b"Node { value: 1, next: Some(Node { value: 0, next: None }) }",
+        0,
+        "Node {\n    value: 1,\n    next: Some(\n        Node {\n            value: 0,\n            next: None,\n        },\n    ),\n}\n",
+    ),
+    (
+        Command::Plain,
+        b"Node {\n    value: 1,\n    next: Some(\n        Node {\n            value: 0,\n            next: None,\n        },\n    ),\n}",
+        0,
+        "Node { value: 1, next: Some(Node { value: 0, next: None }) }\n",
+    ),
+    (
+        Command::Pretty,
+        b"{a: S { b: -1 }, c: ()}",
+        0,
+        "{\n    a: S {\n        b: -1,\n    },\n    c: (),\n}\n",
+    ),
+    (
+        Command::Plain,
+        b"{\n    a: S {\n        b: -1,\n    },\n    c: (),\n}\n",
+        0,
+        "{a: S { b: -1 }, c: ()}\n",
+    ),
+    (Command::Pretty, b"S { x: y }", 0, "S {\n    x: y,\n}\n"),
+    (Command::Pretty, b"S { x: y }\n", 0, "S {\n    x: y,\n}\n"),
+    (Command::Plain, b"S {\n    x: y,\n}", 0, "S { x: y }\n"),
+    (
+        Command::Pretty,
+        b"{S { a: b }: c}",
+        0,
+        "{\n    S {\n        a: b,\n    }: c,\n}\n",
+    ),
+    (
+        Command::Plain,
+        b"{\n    S {\n        a: b,\n    }: c,\n}",
+        0,
+        "{S { a: b }: c}\n",
+    ),
+    (Command::Pretty, b"x\n", 0, "x\n"),
+    (Command::Plain, b"x\n", 0, "x\n"),
+    (Command::Pretty, b"(x,)", 0, "(\n    x,\n)\n"),
+    (Command::Plain, b"(\n    x,\n)", 0, "(x,)\n"),
+    (Command::Pretty, b"n(x)", 0, "n(\n    x,\n)\n"),
+    (Command::Plain, b"n(\n    x,\n)", 0, "n(x)\n"),
+];
+
+// Leaves in quotes, by themselves and in blocks. What is printed is read again.
+const QUOTED: [Row; 23] = [
+    (
+        Command::Pretty,
+        b"[\"a, b\", 'c']",
+        0,
+        "[\n    \"a, b\",\n    'c',\n]\n",
+    ),
+    (
+        Command::Plain,
+        b"[\n    \"a, b\",\n    'c',\n]\n",
+        0,
+        "[\"a, b\", 'c']\n",
+    ),
+    (Command::Pretty, b"\"\"", 0, "\"\"\n"),
+    (Command::Plain, b"\"\"\n", 0, "\"\"\n"),
+    (Command::Pretty, b"{\"k\": ()}", 0, "{\n    \"k\": (),\n}\n"),
+    (
+        Command::Plain,
+        b"{\n    \"k\": (),\n}\n",
+        0,
+        "{\"k\": ()}\n",
+    ),
+    (
+        Command::Pretty,
+        b"{\"a\": \"b: c, d\"}",
+        0,
+        "{\n    \"a\": \"b: c, d\",\n}\n",
+    ),
+    (
+        Command::Plain,
+        b"{\n    \"a\": \"b: c, d\",\n}\n",
+        0,
+        "{\"a\": \"b: c, d\"}\n",
+    ),
+    (
+        Command::Pretty,
+        b"[\"]\", '}']",
+        0,
+        "[\n    \"]\",\n    '}',\n]\n",
+    ),
+    (
+        Command::Plain,
+        b"[\n    \"]\",\n    '}',\n]\n",
+        0,
+        "[\"]\", '}']\n",
+    ),
+    (Command::Pretty, b"\"\\u{1b}\"", 0, "\"\\u{1b}\"\n"),
+    (Command::Plain, b"\"\\u{1b}\"\n", 0, "\"\\u{1b}\"\n"),
+    (Command::Pretty, b"\"\xc3\xa9\"", 0, "\"é\"\n"),
+    (Command::Plain, b"\"\xc3\xa9\"\n", 0, "\"é\"\n"),
+    (Command::Pretty, b"'\"'", 0, "'\"'\n"),
+    (Command::Plain, b"'\"'\n", 0, "'\"'\n"),
+    (Command::Pretty, b"\"'\"", 0, "\"'\"\n"),
+    (Command::Plain, b"\"'\"\n", 0, "\"'\"\n"),
+    (Command::Pretty, b"'\\''", 0, "'\\''\n"),
+    (Command::Plain, b"'\\''\n", 0, "'\\''\n"),
+    (Command::Pretty, b"\"a\\\"b\\n\"", 0, "\"a\\\"b\\n\"\n"),
+    (Command::Plain, b"\"a\\\"b\\n\"\n", 0, "\"a\\\"b\\n\"\n"),
+    (Command::Pretty, b"\"\\u{7f}\"", 0, "\"\\u{7f}\"\n"),
+];
+
+// What is no text of the command's kind: empty, with a space, comma or line feed too many or too few, cut
+// off, or of the other kind.
+const MISPLACED: [Row; 22] = [
+    (Command::Pretty, b"", 1, ""),
+    (Command::Pretty, b"\n", 1, ""),
+    (Command::Pretty, b"[1,2]", 1, ""),
+    (Command::Pretty, b"S { }", 1, ""),
+    (Command::Pretty, b"n(1,)", 1, ""),
+    (Command::Pretty, b"(1)", 1, ""),
+    (Command::Pretty, b"{a: b, c}", 1, ""),
+    (Command::Pretty, b"[1, ]", 1, ""),
+    (Command::Pretty, b"[1", 1, ""),
+    (Command::Pretty, b"a b", 1, ""),
+    (Command::Pretty, b"[]\n\n", 1, ""),
+    (Command::Pretty, b"[\n1]", 1, ""),
+    (Command::Pretty, b"[\n    1,\n]", 1, ""),
+    (Command::Plain, b"", 1, ""),
+    (Command::Plain, b"\n", 1, ""),
+    (Command::Plain, b"[\n   1,\n]", 1, ""),
+    (Command::Plain, b"[\n\t1,\n]", 1, ""),
+    (Command::Plain, b"[\n    1\n]", 1, ""),
+    (Command::Plain, b"[\n    1,\n]\n\n", 1, ""),
+    (Command::Plain, b"[\n    [\n        1,\n],\n]", 1, ""),
+    (Command::Plain, b"[\n1]", 1, ""),
+    (Command::Plain, b"[1]", 1, ""),
+];
+
+// What stands in no quotes, in wrong ones, or where a name is to stand. Each is no text of either kind.
+const MISQUOTED: [&[u8]; 21] = [
+    b"'''",
+    b"\"\"\"",
+    b"\"a",
+    b"'ab'",
+    b"''",
+    b"\"\\x\"",
+    b"\"\\u{41}\"",
+    b"\"\\u{1B}\"",
+    b"\"\\u{07f}\"",
+    b"\"\\u{7F}\"",
+    b"\"\\u{a}\"",
+    b"'\\\"'",
+    b"\"\\'\"",
+    b"S { \"a\": b }",
+    b"S {\n    \"a\": b,\n}",
+    b"\"S\"(x)",
+    b"\"\xff\"",
+    b"\xc3\xa9",
+    b"\"\t\"",
+    b"\"\n\"",
+    b"\"\x7f\"",
+];
+
+// Whether a run had this status and outcome, and the output took just the bytes that it should.
+fn is_judged(given: Ran, status: u8, outcome: Result<(), Fault>) -> bool {
+    let given_status = match given.0 {
+        Ok(()) => 0,
+        Err(fault) => fault.status(),
+    };
+    given_status == status && given == wanted(outcome)
+}
+
+// What a command says of an input that it refuses.
+fn refusal(command: Command) -> Fault {
+    match command {
+        Command::Lengths => Fault::CannotRead,
+        Command::Pretty => Fault::NotPlain,
+        Command::Plain => Fault::NotPretty,
+    }
+}
+
+// Whether a row is answered by one byte a call, by two and by all, and with a line feed behind an input
+// that has none at its end.
+fn is_answered(alloc: Global, row: Row) -> Result<bool, AllocError> {
+    let (command, input, status, written) = row;
+    let outcome = match status {
+        0 => Ok(()),
+        _ => Err(refusal(command)),
+    };
+    let mut line = Vec::from_slice(alloc, input)?;
+    if command != Command::Lengths && !input.ends_with(b"\n") {
+        line.push(b'\n')?;
+    }
+    let [first, second, third] = rans_by_any(alloc, command, input, written.as_bytes());
+    let last = ran_by(alloc, command, &line, WHOLE, written.as_bytes());
+    let are_judged = is_judged(first, status, outcome)
+        && is_judged(second, status, outcome)
+        && is_judged(third, status, outcome);
+    Ok(are_judged && is_judged(last, status, outcome))
+}
+
+// How many rows are answered as they should be before the first that isn't, and that one's input.
+fn answered(alloc: Global, rows: &[Row]) -> (usize, &'static [u8]) {
+    let mut count = 0usize;
+    for row in rows {
+        if is_answered(alloc, *row) != Ok(true) {
+            return (count, row.1);
+        }
+        count = count.saturating_add(1);
+    }
+    (count, b"none")
+}
+
+#[test]
+fn blocks_are_answered(rt: HostRuntime) {
+    let given = answered(rt.alloc(), &BLOCKS);
+    same(&rt, given, (18, b"none"), "blocks");
+}
+
+#[test]
+fn leaves_in_quotes_are_answered(rt: HostRuntime) {
+    let given = answered(rt.alloc(), &QUOTED);
+    same(&rt, given, (23, b"none"), "leaves in quotes");
+}
+
+#[test]
+fn what_is_no_text_is_refused(rt: HostRuntime) {
+    let given = answered(rt.alloc(), &MISPLACED);
+    same(&rt, given, (22, b"none"), "no texts");
+}
+
+#[test]
+fn what_is_quoted_otherwise_is_refused(rt: HostRuntime) {
+    for input in MISQUOTED {
+        let rows = [
+            (Command::Pretty, input, 1, ""),
+            (Command::Plain, input, 1, ""),
+        ];
+        let given = answered(rt.alloc(), &rows);
+        same(&rt, given, (2, b"none"), "misquoted");
+    }
+}
