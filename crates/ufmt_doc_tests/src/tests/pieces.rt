@@ -152,6 +152,42 @@ fn pieces_of(alloc: Global, shape: &Shape<'_>) -> Result<String, AllocError> {
 
 const A_LEAF: &str = "a leaf|~a leaf|";
 
+// Empty leaves and names, which are pieces too.
+const EMPTY_TEXTS: Shape<'static> = StructOf(
+    "",
+    &[
+        ("", Leaf("")),
+        ("", MapOf(&[(Leaf(""), Leaf(""))])),
+        ("", TupleOf("", &[Leaf(""), Leaf("x")])),
+    ],
+);
+
+const PIECES_OF_EMPTY_TEXTS: &str = "\
+| {| ||: ||, ||: |{||: ||}|, ||: ||(||, |x|)| |}|~\
+| {|\n|    ||: ||,\n\
+|    ||: |{|\n|    |    ||: ||,\n|    |}|,\n\
+|    ||: ||(|\n|    |    ||,\n|    |    |x|,\n|    |)|,\n|}|";
+
+// Blocks without entries.
+const EMPTY_BLOCKS: Shape<'static> = Listed(&[
+    Listed(&[]),
+    SetOf(&[]),
+    MapOf(&[]),
+    StructOf("S", &[]),
+    TupleOf("T", &[]),
+    TupleOf("", &[]),
+]);
+
+const PIECES_OF_EMPTY_BLOCKS: &str = "\
+[|[|]|, |{|}|, |{|}|, |S|, |T|, ||]|~\
+[|\n|    |[|]|,\n|    |{|}|,\n|    |{|}|,\n|    |S|,\n|    |T|,\n|    ||,\n|]|";
+
+const FIVE_LISTS: Shape<'static> = Listed(&[Listed(&[Listed(&[Listed(&[Listed(&[Leaf("x")])])])])]);
+
+const PIECES_OF_FIVE_LISTS: &str = "\
+[|[|[|[|[|x|]|]|]|]|]|~\
+[|\n|    |[|\n|    |    |[|\n|    |    |    |[|\n|    |    |    |    |[|\n|    |    |    |    |    |x|,\n|    |    |    |    |]|,\n|    |    |    |]|,\n|    |    |]|,\n|    |]|,\n|]|";
+
 // A block of each kind, whose leaves have two bytes.
 const BLOCKS: Shape<'static> = StructOf(
     "S",
@@ -174,7 +210,14 @@ S| {|\n|    |a|: |[|\n|    |    |xy|,\n|    |]|,\n\
 
 #[test]
 fn documents_are_written_piece_by_piece(rt: HostRuntime) {
-    for (shape, wanted) in [(Leaf("a leaf"), A_LEAF), (BLOCKS, PIECES_OF_BLOCKS)] {
+    for (shape, wanted) in [
+        (Leaf("a leaf"), A_LEAF),
+        (Leaf(""), "|~|"),
+        (BLOCKS, PIECES_OF_BLOCKS),
+        (EMPTY_TEXTS, PIECES_OF_EMPTY_TEXTS),
+        (EMPTY_BLOCKS, PIECES_OF_EMPTY_BLOCKS),
+        (FIVE_LISTS, PIECES_OF_FIVE_LISTS),
+    ] {
         let pieces = pieces_of(rt.alloc(), &shape);
         same(&rt, pieces.as_deref().ok(), Some(wanted), "pieces");
     }

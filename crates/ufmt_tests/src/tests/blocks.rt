@@ -97,3 +97,22 @@ fn a_pretty_part(rt: HostRuntime) {
     table.pieces(&[InPrettyMode(Some(1u8))]);
     has_rows(&rt, &table, PRETTY_PARTS);
 }
+
+const VARIANTS_AND_DEEP: &str = "\
+Ok|(|1|)|~
+Ok|(|\n|    |1|,\n|)|;
+Err|(|2|)|~
+Err|(|\n|    |2|,\n|)|;
+[|Some|(|[|Some|(|[|1|]|)|]|)|]|~
+[|\n|    |Some|(|\n|    |    |[|\n|    |    |    |Some|(|\n|    |    |    |    |[|\n|    |    |    |    |    |1|,\n|    |    |    |    |]|,\n|    |    |    |)|,\n|    |    |]|,\n|    |)|,\n|]|;
+";
+
+// Each unit of an indentation is a piece of its own.
+#[test]
+fn variants_and_deep_blocks(rt: HostRuntime) {
+    let mut table = Table::new(rt.alloc());
+    table.pieces(&Ok::<u8, u8>(1));
+    table.pieces(&Err::<u8, u8>(2));
+    table.pieces(&[Some([Some([1u8])])]);
+    has_rows(&rt, &table, VARIANTS_AND_DEEP);
+}

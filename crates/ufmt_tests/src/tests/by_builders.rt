@@ -60,6 +60,39 @@ impl Printed for Unit {
     }
 }
 
+// A struct without a name, whose fields have none: one by each way to write a field.
+struct NoNames;
+
+impl Printed for NoNames {
+    fn print<W: uWrite>(&self, f: &mut Formatter<W>) -> Result<(), W::Error> {
+        let mut block = f.debug_struct("")?;
+        block.field("", &1u8)?;
+        let answer = 2u8.fmt(block.begin_field("")?);
+        block.end_field(answer)?;
+        block.finish()
+    }
+}
+
+// Likewise in one call.
+struct NoNamesWhole;
+
+impl Printed for NoNamesWhole {
+    fn print<W: uWrite>(&self, f: &mut Formatter<W>) -> Result<(), W::Error> {
+        f.struct_2("", "", &1u8, "", &2u8)
+    }
+}
+
+// A struct and tuples without a name, in one call, and without a field.
+struct NothingWhole;
+
+impl Printed for NothingWhole {
+    fn print<W: uWrite>(&self, f: &mut Formatter<W>) -> Result<(), W::Error> {
+        f.struct_0("")?;
+        f.tuple_0("")?;
+        f.tuple_1("", &1u8)
+    }
+}
+
 const STRUCTS_AND_TUPLES: &str = "\
 S| {| |m|: |{|1|: |2|}|, |n|: |3| |}|~
 S| {|\n|    |m|: |{|\n|    |    |1|: |2|,\n|    |}|,\n|    |n|: |3|,\n|}|;
@@ -74,6 +107,12 @@ T|(|\n|    |1|,\n|)|;
 |(|\n|    |1|,\n|    |2|,\n|)|;
 T|(|1|, |2|)|~
 T|(|\n|    |1|,\n|    |2|,\n|)|;
+| {| ||: |1|, ||: |2| |}|~
+| {|\n|    ||: |1|,\n|    ||: |2|,\n|}|;
+| {| ||: |1|, ||: |2| |}|~
+| {|\n|    ||: |1|,\n|    ||: |2|,\n|}|;
+|||(|1|,|)|~
+|||(|\n|    |1|,\n|)|;
 ";
 
 #[test]
@@ -87,5 +126,8 @@ fn structs_and_tuples(rt: HostRuntime) {
     table.pieces(&OneField("T"));
     table.pieces(&TwoFields(""));
     table.pieces(&TwoFields("T"));
+    table.pieces(&NoNames);
+    table.pieces(&NoNamesWhole);
+    table.pieces(&NothingWhole);
     has_rows(&rt, &table, STRUCTS_AND_TUPLES);
 }

@@ -3,6 +3,7 @@ ghost use Rattle.std.specs.Prelude.{[]};
 
 use super::printed::{Printed, print_to};
 use super::rows::{are_ok, same};
+use super::writers::Recorded;
 use std::alloc::AllocError;
 use ufmt::{Cursor, Formatter, Full, uWrite};
 
@@ -83,6 +84,29 @@ fn characters_reach_the_call_of_the_writer_for_them(rt: HostRuntime) {
         "by a formatter",
     );
     same(&rt, noted.text.as_str(), "éabc", "the text");
+}
+
+// An empty text and a character of four bytes, each by the writer's call and by a formatter.
+fn write_both<W: uWrite + Drop>(mut writer: W) -> [Result<(), W::Error>; 3] {
+    let by_writer = writer.write_str("");
+    let mut f = Formatter::new(writer);
+    [by_writer, f.write_str(""), f.write_char('🦀')]
+}
+
+#[test]
+fn pieces_go_through_references(rt: HostRuntime) {
+    let mut recorded = Recorded::new(rt.alloc());
+    let mut reference = &mut recorded;
+    let by_two = write_both(&mut reference);
+    let by_one = write_both(reference);
+    let by_itself = recorded.write_char('🦀');
+    let are_ok = are_ok(&by_two) && are_ok(&by_one) && by_itself.is_ok();
+    same(
+        &rt,
+        (are_ok, recorded.barred.as_str()),
+        (true, "||🦀|||🦀|🦀|"),
+        "by two references, by one and by none",
+    );
 }
 
 struct Dropped;

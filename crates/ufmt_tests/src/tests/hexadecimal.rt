@@ -61,6 +61,8 @@ ffffd8f0|;
 0|0|AB|;
 0|0|AB|;
 0|0|AB|;
+0|0|0|0|0|0|0|0|0|0|0|0|0|0|0|0|0|0|0|0|0|0|0|0|0|0|0|0|0|0|0|0|0|0|0|0|0|0|21|;
+ | | | | | | | | | | | | | | | | | | | | | | | | | | | | | | | | | | | |0x|21|;
 ";
 
 #[test]
@@ -86,6 +88,8 @@ fn padded_numbers(rt: HostRuntime) {
     }
     table.padded(171u8, upper_case(false, b'0', 4));
     table.padded(&171u8, upper_case(false, b'0', 4));
+    table.padded(33u8, lower_case(false, b'0', 40));
+    table.padded(33u8, lower_case(true, b' ', 40));
     has_rows(&rt, &table, PADDED);
 }
 

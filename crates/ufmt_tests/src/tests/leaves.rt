@@ -1,6 +1,8 @@
 //! What is one piece in both modes, and quoted texts, whose escapes are pieces.
 use super::printed::Displayed;
-use super::rows::{Table, has_rows};
+use super::repeated::repeated;
+use super::rows::{Table, has_rows, same};
+use std::alloc::{AllocError, Global};
 
 #[test]
 fn leaves(rt: HostRuntime) {
@@ -29,8 +31,20 @@ fn references(rt: HostRuntime) {
 const QUOTED: &str = r#""|"|;
 "|a|\"|é b|\n|"|;
 "|\n|\n|"|;
+"|\u{1b}|"|;
+"|a|\u{1b}|\u{7f}|é|\u{1}|"|;
+"|\0|\t|\n|\r|\\|'|"|;
 '|é|'|;
+'|🦀|'|;
 '|\'|'|;
+'|"|'|;
+'|\0|'|;
+'|\t|'|;
+'|\n|'|;
+'|\r|'|;
+'|\\|'|;
+'|\u{1b}|'|;
+'|\u{7f}|'|;
 "#;
 
 #[test]
@@ -39,9 +53,33 @@ fn quoted_leaves(rt: HostRuntime) {
     table.pieces(&"");
     table.pieces(&"a\"é b\n");
     table.pieces(&"\n\n");
-    table.pieces(&'é');
-    table.pieces(&'\'');
+    table.pieces(&"\u{1b}");
+    table.pieces(&"a\u{1b}\u{7f}é\u{1}");
+    table.pieces_of_made(String::from_str(rt.alloc(), "\0\t\n\r\\'"));
+    for character in [
+        'é', '🦀', '\'', '"', '\0', '\t', '\n', '\r', '\\', '\u{1b}', '\u{7f}',
+    ] {
+        table.pieces(&character);
+    }
     has_rows(&rt, &table, QUOTED);
+}
+
+// A text of so many letters, and its pieces by both traits, with a bar after each.
+fn is_one_piece(alloc: Global, length: usize) -> Result<bool, AllocError> {
+    let text = repeated(alloc, "", "x", length, "")?;
+    let mut table = Table::new(alloc);
+    table.pieces(&text.as_str());
+    table.pieces(&Displayed(text.as_str()));
+    let wanted = format!(in alloc; "\"|{text}|\"|;\n{text}|;\n")?;
+    Ok(table.text() == Some(wanted.as_str()))
+}
+
+#[test]
+fn a_long_text_is_one_piece(rt: HostRuntime) {
+    for length in [64, 65, 255, 256, 300] {
+        let given = is_one_piece(rt.alloc(), length);
+        same(&rt, (length, given), (length, Ok(true)), "a long text");
+    }
 }
 
 const DISPLAYED: &str = "\

@@ -111,6 +111,31 @@ fn values_are_taken_once_and_before_the_first_piece(rt: HostRuntime) {
     );
 }
 
+// Empty texts, items and separators are pieces too.
+struct EmptyPieces;
+
+impl Printed for EmptyPieces {
+    fn print<W: uWrite>(&self, f: &mut Formatter<W>) -> Result<(), W::Error> {
+        pieces!(text "").print(f)?;
+        pieces!(text "", display "", each debug [1u8, 2, 3] between "", text "").print(f)?;
+        pieces!(each display ["", ""] between "").print(f)?;
+        pieces!(each hex [1u8, 2] with PREFIXED between "", each ["a", "b"] by (ufmt::line::Display) between "").print(
+            f,
+        )
+    }
+}
+
+const EMPTY_PIECES: &str = "\
+|||1||2||3|||||0x|0|0|0|1||0x|0|0|0|2|a||b|;
+";
+
+#[test]
+fn empty_pieces_are_handed_on(rt: HostRuntime) {
+    let mut table = Table::new(rt.alloc());
+    table.pieces(&EmptyPieces);
+    has_rows(&rt, &table, EMPTY_PIECES);
+}
+
 struct ALine;
 
 impl Printed for ALine {

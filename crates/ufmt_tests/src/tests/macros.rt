@@ -44,6 +44,17 @@ impl Printed for Line {
     }
 }
 
+// Empty texts are pieces too.
+struct EmptyTexts;
+
+impl Printed for EmptyTexts {
+    fn print<W: uWrite>(&self, f: &mut Formatter<W>) -> Result<(), W::Error> {
+        uwrite!(f, text "")?;
+        uwrite!(f, text "", display 1u8, text "", display "")?;
+        uwriteln!(f, text "")
+    }
+}
+
 const PIECES: &str = "\
 n=|7||(|1|,|)|Some|(|\n|    |2|,\n|)|0x|0|0|ff|~
 n=|7||(|\n|    |1|,\n|)|Some|(|\n|    |2|,\n|)|0x|0|0|ff|;
@@ -51,6 +62,7 @@ n=|7||(|\n|    |1|,\n|)|Some|(|\n|    |2|,\n|)|0x|0|0|ff|;
 a|0x|0|0|0|1|b|\n|;
 a b|7|[|1|]|[|\n|    |2|,\n|]|\n|~
 a b|7|[|\n|    |1|,\n|]|[|\n|    |2|,\n|]|\n|;
+||1||||\n|;
 ";
 
 #[test]
@@ -60,6 +72,7 @@ fn pieces_are_handed_on(rt: HostRuntime) {
     table.pieces(&HexadecimalFirst);
     table.pieces(&HexadecimalInALine);
     table.pieces(&Line);
+    table.pieces(&EmptyTexts);
     has_rows(&rt, &table, PIECES);
 }
 
