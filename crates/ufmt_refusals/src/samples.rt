@@ -1,6 +1,6 @@
 //! The texts that are read and converted.
 
-/// Texts of one document, or of none.
+/// Texts of one document, or of none, and how many allocations the calls on them make.
 #[derive(Clone, Copy)]
 pub struct Sample {
     pub name: &'static str,
@@ -8,6 +8,12 @@ pub struct Sample {
     pub pretty: &'static str,
     /// Whether they are texts of a document.
     pub is_read: bool,
+    /// For the document, from either text.
+    pub of_reading: u64,
+    /// For the pretty text.
+    pub of_pretty: u64,
+    /// For the plain text.
+    pub of_plain: u64,
 }
 
 pub const NODE_PLAIN: &str = "Node { value: 1, next: Some(Node { value: 0, next: None }) }";
@@ -23,14 +29,69 @@ Node {
     ),
 }";
 
-/// A node, each kind of block with two entries, and lines that are no text of a document.
-pub fn all() -> [Sample; 3] {
+/// A list of blocks of each kind, with up to five entries, and of leaves of each kind, one of which is
+/// longer than 255 bytes. `A` and `B` are leaves that `loosen` makes blocks.
+pub const MANY_PLAIN: &str = "\
+[{a, A, c}, {d: 1, A: 2, f: B, g: 4}, S { h: 5, i: A, j: {}, k: 8, l: B }, n(m, A), (A,), (q, r), [], {}, (), \
+\"\\\"é\\\"\\n\", '\\'', '€', wwwwwwwwwwwwwwwwwwwwwwwwwwwwwwwwwwwwwwwwwwwwwwwwwwwwwwwwwwwwwwwwwwwwwwwwwwwwwwwwwwwwwwwwwwwwwwwwwwwwwwwwwwwwwwwwwwwwwwwwwwwwwwwwwwwwwwwwwwwwwwwwwwwwwwwwwwwwwwwwwwwwwwwwwwwwwwwwwwwwwwwwwwwwwwwwwwwwwwwwwwwwwwwwwwwwwwwwwwwwwwwwwwwwwwwwwwwwwwwwwwwwwwwwwwwwwwwwwwww, \"\\0\\t\\r\\\\\\u{1}\\u{7f}'\"]";
+
+pub const MANY_PRETTY: &str = "\
+[
+    {
+        a,
+        A,
+        c,
+    },
+    {
+        d: 1,
+        A: 2,
+        f: B,
+        g: 4,
+    },
+    S {
+        h: 5,
+        i: A,
+        j: {},
+        k: 8,
+        l: B,
+    },
+    n(
+        m,
+        A,
+    ),
+    (
+        A,
+    ),
+    (
+        q,
+        r,
+    ),
+    [],
+    {},
+    (),
+    \"\\\"é\\\"\\n\",
+    '\\'',
+    '€',
+    wwwwwwwwwwwwwwwwwwwwwwwwwwwwwwwwwwwwwwwwwwwwwwwwwwwwwwwwwwwwwwwwwwwwwwwwwwwwwwwwwwwwwwwwwwwwwwwwwwwwwwwwwwwwwwwwwwwwwwwwwwwwwwwwwwwwwwwwwwwwwwwwwwwwwwwwwwwwwwwwwwwwwwwwwwwwwwwwwwwwwwwwwwwwwwwwwwwwwwwwwwwwwwwwwwwwwwwwwwwwwwwwwwwwwwwwwwwwwwwwwwwwwwwwwwwwwwwwwwww,
+    \"\\0\\t\\r\\\\\\u{1}\\u{7f}'\",
+]";
+
+/// A node, each kind of block with two entries, many entries, and lines that are no text of a document.
+///
+/// A reader makes one allocation for each leaf, name and label that has a byte, one for each block with
+/// entries, one more where these come to be more than 4, 8, 16 and so on, and one for the blocks that are
+/// open round others. A text is made in a buffer that doubles from 8 bytes on, or grows to what a piece
+/// wants, if that is more: each time that is one allocation.
+pub fn all() -> [Sample; 4] {
     [
         Sample {
             name: "a node",
             plain: NODE_PLAIN,
             pretty: NODE_PRETTY,
             is_read: true,
+            of_reading: 0,
+            of_pretty: 0,
+            of_plain: 0,
         },
         Sample {
             name: "each kind of block",
@@ -56,12 +117,27 @@ pub fn all() -> [Sample; 3] {
     },
 }",
             is_read: true,
+            of_reading: 0,
+            of_pretty: 0,
+            of_plain: 0,
+        },
+        Sample {
+            name: "many entries",
+            plain: MANY_PLAIN,
+            pretty: MANY_PRETTY,
+            is_read: true,
+            of_reading: 0,
+            of_pretty: 0,
+            of_plain: 0,
         },
         Sample {
             name: "three lines",
             plain: "ab\n\nxyz",
             pretty: "ab\n\nxyz",
             is_read: false,
+            of_reading: 0,
+            of_pretty: 0,
+            of_plain: 0,
         },
     ]
 }
