@@ -14,18 +14,31 @@ use ufmt_doc::doc::Doc;
 use ufmt_doc::plain_reader::{ReadError, read_plain};
 use ufmt_doc::pretty_reader::read_pretty;
 
-/// Reads the texts of a sample and converts each to the other.
-pub fn report_texts(rt: &HostRuntime, sample: &Sample) -> io::Result<()> {
-    let (plain, pretty) = (sample.plain.as_bytes(), sample.pretty.as_bytes());
-    let (mut ample_plain, mut ample_pretty) = (None, None);
+// The texts of a sample, where a document has them.
+fn ample_texts(sample: &Sample) -> (Option<&'static str>, Option<&'static str>) {
     if sample.is_read {
-        (ample_plain, ample_pretty) = (Some(sample.plain), Some(sample.pretty));
+        (Some(sample.plain), Some(sample.pretty))
+    } else {
+        (None, None)
     }
+}
+
+/// Reads the texts of a sample.
+pub fn report_readers(rt: &HostRuntime, sample: &Sample) -> io::Result<()> {
+    let (plain, pretty) = (sample.plain.as_bytes(), sample.pretty.as_bytes());
+    let (ample_plain, _) = ample_texts(sample);
     let name = sample.name;
     let answer = Answer::of_reading(read_plain(rt.alloc(), plain), ample_plain);
     report(rt, "read_plain", name, sample.of_reading, answer)?;
     let answer = Answer::of_reading(read_pretty(rt.alloc(), pretty), ample_plain);
-    report(rt, "read_pretty", name, sample.of_reading, answer)?;
+    report(rt, "read_pretty", name, sample.of_reading, answer)
+}
+
+/// Converts each text of a sample to the other.
+pub fn report_conversions(rt: &HostRuntime, sample: &Sample) -> io::Result<()> {
+    let (plain, pretty) = (sample.plain.as_bytes(), sample.pretty.as_bytes());
+    let (ample_plain, ample_pretty) = ample_texts(sample);
+    let name = sample.name;
     let answer = Answer::of_conversion(to_pretty(rt.alloc(), plain), ample_pretty);
     report(rt, "to_pretty", name, sample.of_pretty, answer)?;
     let answer = Answer::of_conversion(to_plain(rt.alloc(), pretty), ample_plain);
@@ -57,15 +70,15 @@ fn plain_in_a_text(alloc: Global, pretty: &[u8]) -> Result<String, ReadError> {
 /// Gives the texts of a node and of the lengths of three lines.
 pub fn report_values(rt: &HostRuntime) -> io::Result<()> {
     let answer = Answer::of_text(plain_text(rt.alloc(), &two_nodes()), NODE_PLAIN);
-    report(rt, "plain_text", "a node", 0, answer)?;
+    report(rt, "plain_text", "a node", 4, answer)?;
     let answer = Answer::of_text(pretty_text(rt.alloc(), &two_nodes()), NODE_PRETTY);
-    report(rt, "pretty_text", "a node", 0, answer)?;
+    report(rt, "pretty_text", "a node", 5, answer)?;
     let lengths = [2u64, 0, 3];
     let answer = Answer::of_text(plain_text(rt.alloc(), &lengths), "[2, 0, 3]");
-    report(rt, "plain_text", "three lengths", 0, answer)?;
+    report(rt, "plain_text", "three lengths", 2, answer)?;
     let pretty = "[\n    2,\n    0,\n    3,\n]";
     let answer = Answer::of_text(pretty_text(rt.alloc(), &lengths), pretty);
-    report(rt, "pretty_text", "three lengths", 0, answer)
+    report(rt, "pretty_text", "three lengths", 3, answer)
 }
 
 // A text, and the leaf of it in quotes.
@@ -86,12 +99,12 @@ const CHARACTERS: [(&str, char, &str); 6] = [
 /// Puts texts and characters in quotes, and takes them out again.
 pub fn report_quoted(rt: &HostRuntime) -> io::Result<()> {
     let answer = Answer::of_reading(leaf_of_text(rt.alloc(), TEXT), Some(QUOTED));
-    report(rt, "Doc::text", "a text", 0, answer)?;
+    report(rt, "Doc::text", "a text", 2, answer)?;
     let answer = Answer::of_reading(leaf_of_text(rt.alloc(), ""), Some("\"\""));
-    report(rt, "Doc::text", "no byte", 0, answer)?;
+    report(rt, "Doc::text", "no byte", 1, answer)?;
     for (case, character, leaf) in CHARACTERS {
         let answer = Answer::of_reading(leaf_of_character(rt.alloc(), character), Some(leaf));
-        report(rt, "Doc::character", case, 0, answer)?;
+        report(rt, "Doc::character", case, 1, answer)?;
     }
     Ok(())
 }
@@ -114,16 +127,16 @@ const HEXADECIMAL: HexOptions = HexOptions {
 /// Writes into a text, which takes memory for what it is handed.
 pub fn report_writers(rt: &HostRuntime) -> io::Result<()> {
     let answer = Answer::of_text(written_text(rt.alloc()), "aé");
-    report(rt, "write_str", "a text", 0, answer)?;
+    report(rt, "write_str", "a text", 1, answer)?;
     let answer = Answer::of_text(written_character(rt.alloc()), "é");
-    report(rt, "write_char", "a character", 0, answer)?;
+    report(rt, "write_char", "a character", 1, answer)?;
     let mut text = String::new(rt.alloc());
     let answer = write_debug(&mut text, &"é");
     report(
         rt,
         "write_debug",
         "a text",
-        0,
+        1,
         of_written(answer, &text, "\"é\""),
     )?;
     let mut text = String::new(rt.alloc());
@@ -132,7 +145,7 @@ pub fn report_writers(rt: &HostRuntime) -> io::Result<()> {
         rt,
         "write_display",
         "a text",
-        0,
+        1,
         of_written(answer, &text, "é"),
     )?;
     let mut text = String::new(rt.alloc());
@@ -141,7 +154,7 @@ pub fn report_writers(rt: &HostRuntime) -> io::Result<()> {
         rt,
         "write_pretty",
         "a number",
-        0,
+        2,
         of_written(answer, &text, "Some(\n    1,\n)"),
     )?;
     let mut text = String::new(rt.alloc());
@@ -153,7 +166,7 @@ pub fn report_writers(rt: &HostRuntime) -> io::Result<()> {
         rt,
         "write_line",
         "three pieces",
-        0,
+        1,
         of_written(answer, &text, "n=70x01"),
     )?;
     let mut text = String::new(rt.alloc());
@@ -162,7 +175,7 @@ pub fn report_writers(rt: &HostRuntime) -> io::Result<()> {
         rt,
         "uwriteln",
         "two pieces",
-        0,
+        1,
         of_written(answer, &text, "n=7\n"),
     )
 }

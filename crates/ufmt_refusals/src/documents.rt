@@ -19,16 +19,10 @@ const MANY: &str = "many entries";
 
 /// Makes each call on a document of many entries, and on another with its text.
 pub fn report_documents(rt: &HostRuntime) -> io::Result<()> {
-    let (answer, doc) = read_twice(rt.alloc(), MANY_PLAIN);
-    report(
-        rt,
-        "read_plain",
-        "many entries, for the calls on them",
-        0,
-        answer,
-    )?;
-    let (answer, other) = read_twice(rt.alloc(), MANY_PLAIN);
-    report(rt, "read_plain", "many entries, to loosen them", 0, answer)?;
+    let (answer, doc) = read_twice(rt.alloc(), Mode::Plain, MANY_PLAIN);
+    report(rt, "read_plain", MANY, 44, answer)?;
+    let (answer, other) = read_twice(rt.alloc(), Mode::Pretty, MANY_PRETTY);
+    report(rt, "read_pretty", MANY, 44, answer)?;
     match (doc, other) {
         (Some(doc), Some(other)) => {
             report_parts(rt, &doc)?;
@@ -118,11 +112,11 @@ fn report_unquoted(rt: &HostRuntime, doc: &Doc) -> io::Result<()> {
     let character = entries.get(11).unwrap_or(doc);
     let longer = entries.get(13).unwrap_or(doc);
     let answer = Answer::of_text(unquoted(rt.alloc(), text), "\"é\"\n");
-    report(rt, "unquoted", "a text", 0, answer)?;
+    report(rt, "unquoted", "a text", 1, answer)?;
     let answer = Answer::of_text(unquoted(rt.alloc(), character), "€");
-    report(rt, "unquoted", "a character", 0, answer)?;
+    report(rt, "unquoted", "a character", 1, answer)?;
     let answer = Answer::of_text(unquoted(rt.alloc(), longer), "\0\t\r\\\u{1}\u{7f}'");
-    report(rt, "unquoted", "escapes", 0, answer)?;
+    report(rt, "unquoted", "escapes", 1, answer)?;
     let before = one_box(rt.alloc());
     let is_right = doc.unquoted(rt.alloc()) == Ok(None);
     report_free(rt, "unquoted", "a list", before, is_right)
@@ -187,6 +181,7 @@ pub fn report_conversions(rt: &HostRuntime) -> io::Result<()> {
 }
 
 // Takes every part, and keeps none.
+#[derive(Drop)]
 struct Ignores;
 
 impl Sink for Ignores {

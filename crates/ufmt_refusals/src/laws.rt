@@ -4,6 +4,7 @@ use crate::loose::{loosen, read_twice};
 use crate::report::report;
 use crate::samples::{NODE_PLAIN, NODE_PRETTY};
 use std::io;
+use ufmt::layout::Mode;
 use ufmt_doc::doc::Doc;
 use ufmt_doc::laws::*;
 
@@ -11,17 +12,17 @@ use ufmt_doc::laws::*;
 pub fn report_laws(rt: &HostRuntime) -> io::Result<()> {
     let (plain, pretty) = (NODE_PLAIN.as_bytes(), NODE_PRETTY.as_bytes());
     let answer = Answer::of_conversion(plain_again(rt.alloc(), plain), Some(NODE_PLAIN));
-    report(rt, "plain_again", "a node", 0, answer)?;
+    report(rt, "plain_again", "a node", 18, answer)?;
     let answer = Answer::of_conversion(pretty_again(rt.alloc(), pretty), Some(NODE_PRETTY));
-    report(rt, "pretty_again", "a node", 0, answer)?;
+    report(rt, "pretty_again", "a node", 19, answer)?;
     let again = plain_by_way_of_pretty(rt.alloc(), plain);
     let answer = Answer::of_conversion(again, Some(NODE_PLAIN));
-    report(rt, "plain_by_way_of_pretty", "a node", 0, answer)?;
+    report(rt, "plain_by_way_of_pretty", "a node", 9, answer)?;
     let again = pretty_by_way_of_plain(rt.alloc(), pretty);
     let answer = Answer::of_conversion(again, Some(NODE_PRETTY));
-    report(rt, "pretty_by_way_of_plain", "a node", 0, answer)?;
-    let (answer, doc) = read_twice(rt.alloc(), LOOSE);
-    report(rt, "read_plain", "a tuple, for its normal form", 0, answer)?;
+    report(rt, "pretty_by_way_of_plain", "a node", 9, answer)?;
+    let (answer, doc) = read_twice(rt.alloc(), Mode::Plain, LOOSE);
+    report(rt, "read_plain", "a tuple, for its normal form", 3, answer)?;
     match doc {
         Some(doc) => report_normal(rt, doc),
         None => Ok(()),
@@ -37,7 +38,7 @@ fn report_normal(rt: &HostRuntime, mut doc: Doc) -> io::Result<()> {
         return Ok(());
     }
     let answer = Answer::of_reading(normal_by_way_of_plain(rt.alloc(), &doc), Some(LOOSE));
-    report(rt, "normal_by_way_of_plain", "a tuple", 0, answer)?;
+    report(rt, "normal_by_way_of_plain", "a tuple", 4, answer)?;
     let answer = Answer::of_reading(normal_by_way_of_pretty(rt.alloc(), &doc), Some(LOOSE));
-    report(rt, "normal_by_way_of_pretty", "a tuple", 0, answer)
+    report(rt, "normal_by_way_of_pretty", "a tuple", 6, answer)
 }

@@ -2,19 +2,25 @@
 use crate::answer::Answer;
 use std::alloc::Global;
 use std::mem;
+use ufmt::layout::Mode;
 use ufmt_doc::doc::Doc;
 use ufmt_doc::plain_reader::{ReadError, read_plain};
+use ufmt_doc::pretty_reader::read_pretty;
 
 /// A text that is read, and read again where memory was refused: only one allocation is. So the calls on
 /// the document can be made in each run.
-pub fn read_twice(alloc: Global, text: &str) -> (Answer, Option<Doc>) {
-    match read_plain(alloc, text.as_bytes()) {
+pub fn read_twice(alloc: Global, mode: Mode, text: &str) -> (Answer, Option<Doc>) {
+    match read(alloc, mode, text) {
         Ok(doc) => (Answer::Ample, Some(doc)),
-        Err(ReadError::OutOfMemory) => (
-            Answer::WantOfMemory,
-            read_plain(alloc, text.as_bytes()).ok(),
-        ),
+        Err(ReadError::OutOfMemory) => (Answer::WantOfMemory, read(alloc, mode, text).ok()),
         Err(ReadError::NotText) => (Answer::Other, None),
+    }
+}
+
+fn read(alloc: Global, mode: Mode, text: &str) -> Result<Doc, ReadError> {
+    match mode {
+        Mode::Plain => read_plain(alloc, text.as_bytes()),
+        Mode::Pretty => read_pretty(alloc, text.as_bytes()),
     }
 }
 

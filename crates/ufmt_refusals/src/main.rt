@@ -27,8 +27,10 @@ fn main(rt: HostRuntime) -> io::Result<()> {
         return println!(rt; "refused before the calls");
     }
     for sample in samples::all() {
-        calls::report_texts(&rt, &sample)?;
+        calls::report_readers(&rt, &sample)?;
+        calls::report_conversions(&rt, &sample)?;
     }
+    calls::report_conversions(&rt, &samples::MANY)?;
     calls::report_values(&rt)?;
     calls::report_quoted(&rt)?;
     calls::report_writers(&rt)?;

@@ -10,11 +10,11 @@ pub fn report(rt: &HostRuntime) -> io::Result<()> {
     let mut text = String::new(rt.alloc());
     let mut f = Formatter::new(&mut text);
     let answer = two_nodes().fmt(&mut f);
-    report_left(rt, "plain", 0, answer, f)?;
+    report_left(rt, "plain", 4, answer, f)?;
     let mut text = String::new(rt.alloc());
     let mut f = Formatter::new(&mut text);
     let answer = f.pretty(|f| two_nodes().fmt(f));
-    report_left(rt, "pretty", 0, answer, f)
+    report_left(rt, "pretty", 5, answer, f)
 }
 
 fn report_left(

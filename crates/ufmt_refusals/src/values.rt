@@ -39,7 +39,7 @@ pub fn report_values(rt: &HostRuntime) -> io::Result<()> {
         Ok(made) => (Answer::Ample, Some(made)),
         Err(_) => (Answer::WantOfMemory, collections(rt.alloc()).ok()),
     };
-    report(rt, "making", "collections", 0, answer)?;
+    report(rt, "making", "collections", 5, answer)?;
     let mut buffer = [0; 128];
     if let Some(made) = made {
         let before = one_box(rt.alloc());
@@ -118,7 +118,7 @@ pub fn report_pieces(rt: &HostRuntime) -> io::Result<()> {
     let before = one_box(rt.alloc());
     let answer = i128::MIN.fmt_hex(&mut f, HEXADECIMAL);
     let is_right = answer.is_ok()
-        && f.into_inner().written() == b"0x80000000000000000000000000000000";
+        && f.into_inner().written() == b"0x80000000000000000000000000000000".as_slice();
     report_free(rt, "fmt_hex", "a number", before, is_right)?;
     let mut f = Formatter::new(Cursor::new(&mut buffer));
     let before = one_box(rt.alloc());
