@@ -36,6 +36,19 @@ impl Answer {
         }
     }
 
+    /// Of a call that takes no memory, whether it gave what it should. The allocation is the program's
+    /// own, made just before the call.
+    pub fn of_call(before: Result<(), AllocError>, is_right: bool) -> Answer
+        ensures memory { IsErr before ↔ (result ≡ Answer.WantOfMemory) }
+        ensures ample { (result ≡ Answer.Ample) → IsTrue is_right }
+    {
+        match before {
+            Ok(()) if is_right => Answer::Ample,
+            Ok(()) => Answer::Other,
+            Err(_) => Answer::WantOfMemory,
+        }
+    }
+
     /// Of a value's text, which is `ample` with ample memory.
     pub fn of_text(answer: Result<String, AllocError>, ample: &str) -> Answer
         ensures memory { IsErr answer ↔ (result ≡ Answer.WantOfMemory) }
@@ -91,12 +104,12 @@ impl Answer {
     }
 }
 
-// It takes no memory, so that it is never refused any.
-fn has_plain_text(doc: &Doc, text: Option<&str>) -> bool
+/// Whether this is the document's plain text. It takes no memory, so that it is never refused any.
+pub fn has_plain_text(doc: &Doc, text: Option<&str>) -> bool
     ensures { IsTrue result → IfSome text.entry (λ wanted.
         plain_text (doc_document doc.now) ≡ wanted.now) }
 {
-    let mut buffer = [0; 128];
+    let mut buffer = [0; 1024];
     match (ufmt::debug_into(&mut buffer, doc), text) {
         (Ok(count), Some(text)) => buffer.get(..count) == Some(text.as_bytes()),
         _ => false,

@@ -1,56 +1,201 @@
-//! The calls on texts and values, each with a line that says what it answered.
+//! The calls that take memory, on texts and values, each with a line that says what it answered.
 use crate::answer::Answer;
 use crate::node::two_nodes;
+use crate::report::report;
 use crate::samples::{NODE_PLAIN, NODE_PRETTY, Sample};
 use std::alloc::{AllocError, Global};
 use std::io;
-use ufmt_doc::convert::{plain_text, pretty_text, to_plain, to_pretty};
+use ufmt::{
+    Formatter, HexOptions, pieces, uWrite, uwriteln, write_debug, write_display, write_line,
+    write_pretty,
+};
+use ufmt_doc::convert::{plain_text, plain_to, pretty_text, pretty_to, to_plain, to_pretty};
 use ufmt_doc::doc::Doc;
-use ufmt_doc::plain_reader::read_plain;
+use ufmt_doc::plain_reader::{ReadError, read_plain};
 use ufmt_doc::pretty_reader::read_pretty;
 
-/// Reads the texts of a sample and converts each to the other.
-pub fn report_texts(rt: &HostRuntime, sample: &Sample) -> io::Result<()> {
-    let (plain, pretty) = (sample.plain.as_bytes(), sample.pretty.as_bytes());
-    let (mut ample_plain, mut ample_pretty) = (None, None);
+// The texts of a sample, where a document has them.
+fn ample_texts(sample: &Sample) -> (Option<&'static str>, Option<&'static str>) {
     if sample.is_read {
-        (ample_plain, ample_pretty) = (Some(sample.plain), Some(sample.pretty));
+        (Some(sample.plain), Some(sample.pretty))
+    } else {
+        (None, None)
     }
+}
+
+/// Reads the texts of a sample.
+pub fn report_readers(rt: &HostRuntime, sample: &Sample) -> io::Result<()> {
+    let (plain, pretty) = (sample.plain.as_bytes(), sample.pretty.as_bytes());
+    let (ample_plain, _) = ample_texts(sample);
+    let name = sample.name;
     let answer = Answer::of_reading(read_plain(rt.alloc(), plain), ample_plain);
-    report(rt, "read_plain", sample.name, answer)?;
+    report(rt, "read_plain", name, sample.of_reading, answer)?;
     let answer = Answer::of_reading(read_pretty(rt.alloc(), pretty), ample_plain);
-    report(rt, "read_pretty", sample.name, answer)?;
+    report(rt, "read_pretty", name, sample.of_reading, answer)
+}
+
+/// Converts each text of a sample to the other.
+pub fn report_conversions(rt: &HostRuntime, sample: &Sample) -> io::Result<()> {
+    let (plain, pretty) = (sample.plain.as_bytes(), sample.pretty.as_bytes());
+    let (ample_plain, ample_pretty) = ample_texts(sample);
+    let name = sample.name;
     let answer = Answer::of_conversion(to_pretty(rt.alloc(), plain), ample_pretty);
-    report(rt, "to_pretty", sample.name, answer)?;
+    report(rt, "to_pretty", name, sample.of_pretty, answer)?;
     let answer = Answer::of_conversion(to_plain(rt.alloc(), pretty), ample_plain);
-    report(rt, "to_plain", sample.name, answer)
+    report(rt, "to_plain", name, sample.of_plain, answer)?;
+    let answer = Answer::of_conversion(pretty_in_a_text(rt.alloc(), plain), ample_pretty);
+    report(
+        rt,
+        "pretty_to, into a text,",
+        name,
+        sample.of_pretty,
+        answer,
+    )?;
+    let answer = Answer::of_conversion(plain_in_a_text(rt.alloc(), pretty), ample_plain);
+    report(rt, "plain_to, into a text,", name, sample.of_plain, answer)
+}
+
+fn pretty_in_a_text(alloc: Global, plain: &[u8]) -> Result<String, ReadError> {
+    let mut text = String::new(alloc);
+    pretty_to(&mut text, plain)?;
+    Ok(text)
+}
+
+fn plain_in_a_text(alloc: Global, pretty: &[u8]) -> Result<String, ReadError> {
+    let mut text = String::new(alloc);
+    plain_to(&mut text, pretty)?;
+    Ok(text)
 }
 
 /// Gives the texts of a node and of the lengths of three lines.
 pub fn report_values(rt: &HostRuntime) -> io::Result<()> {
     let answer = Answer::of_text(plain_text(rt.alloc(), &two_nodes()), NODE_PLAIN);
-    report(rt, "plain_text", "a node", answer)?;
+    report(rt, "plain_text", "a node", 4, answer)?;
     let answer = Answer::of_text(pretty_text(rt.alloc(), &two_nodes()), NODE_PRETTY);
-    report(rt, "pretty_text", "a node", answer)?;
+    report(rt, "pretty_text", "a node", 5, answer)?;
     let lengths = [2u64, 0, 3];
     let answer = Answer::of_text(plain_text(rt.alloc(), &lengths), "[2, 0, 3]");
-    report(rt, "plain_text", "three lengths", answer)?;
+    report(rt, "plain_text", "three lengths", 2, answer)?;
     let pretty = "[\n    2,\n    0,\n    3,\n]";
     let answer = Answer::of_text(pretty_text(rt.alloc(), &lengths), pretty);
-    report(rt, "pretty_text", "three lengths", answer)?;
-    let answer = Answer::of_text(text_again(rt.alloc()), "a\"b");
-    report(rt, "text and unquoted", "a text", answer)
+    report(rt, "pretty_text", "three lengths", 3, answer)
 }
 
-// A text that was put in quotes and taken out of them.
-fn text_again(alloc: Global) -> Result<String, AllocError> {
-    let doc = Doc::text(alloc, "a\"b")?;
-    match doc.unquoted(alloc)? {
-        Some(text) => Ok(text),
-        None => Ok(String::new(alloc)),
+// A text, and the leaf of it in quotes.
+const TEXT: &str = "a\"é\n";
+
+const QUOTED: &str = "\"a\\\"é\\n\"";
+
+// A character in words, with its leaf in quotes.
+const CHARACTERS: [(&str, char, &str); 6] = [
+    ("a letter", 'a', "'a'"),
+    ("an apostrophe", '\'', "'\\''"),
+    ("a control character", '\u{7f}', "'\\u{7f}'"),
+    ("a character of two bytes", 'é', "'é'"),
+    ("a character of three bytes", '€', "'€'"),
+    ("a character of four bytes", '\u{1f600}', "'\u{1f600}'"),
+];
+
+/// Puts texts and characters in quotes, and takes them out again.
+pub fn report_quoted(rt: &HostRuntime) -> io::Result<()> {
+    let answer = Answer::of_reading(leaf_of_text(rt.alloc(), TEXT), Some(QUOTED));
+    report(rt, "Doc::text", "a text", 2, answer)?;
+    let answer = Answer::of_reading(leaf_of_text(rt.alloc(), ""), Some("\"\""));
+    report(rt, "Doc::text", "no byte", 1, answer)?;
+    for (case, character, leaf) in CHARACTERS {
+        let answer = Answer::of_reading(leaf_of_character(rt.alloc(), character), Some(leaf));
+        report(rt, "Doc::character", case, 1, answer)?;
     }
+    Ok(())
 }
 
-fn report(rt: &HostRuntime, call: &str, case: &str, answer: Answer) -> io::Result<()> {
-    println!(rt; "{call} of {case}: {}", answer.words())
+fn leaf_of_text(alloc: Global, text: &str) -> Result<Doc, ReadError> {
+    Ok(Doc::text(alloc, text)?)
+}
+
+fn leaf_of_character(alloc: Global, character: char) -> Result<Doc, ReadError> {
+    Ok(Doc::character(alloc, character)?)
+}
+
+const HEXADECIMAL: HexOptions = HexOptions {
+    upper_case: false,
+    pad_char: b'0',
+    pad_length: 4,
+    ox_prefix: true,
+};
+
+/// Writes into a text, which takes memory for what it is handed.
+pub fn report_writers(rt: &HostRuntime) -> io::Result<()> {
+    let answer = Answer::of_text(written_text(rt.alloc()), "aé");
+    report(rt, "write_str", "a text", 1, answer)?;
+    let answer = Answer::of_text(written_character(rt.alloc()), "é");
+    report(rt, "write_char", "a character", 1, answer)?;
+    let mut text = String::new(rt.alloc());
+    let answer = write_debug(&mut text, &"é");
+    report(
+        rt,
+        "write_debug",
+        "a text",
+        1,
+        of_written(answer, &text, "\"é\""),
+    )?;
+    let mut text = String::new(rt.alloc());
+    let answer = write_display(&mut text, &"é");
+    report(
+        rt,
+        "write_display",
+        "a text",
+        1,
+        of_written(answer, &text, "é"),
+    )?;
+    let mut text = String::new(rt.alloc());
+    let answer = write_pretty(&mut text, &Some(1u8));
+    report(
+        rt,
+        "write_pretty",
+        "a number",
+        2,
+        of_written(answer, &text, "Some(\n    1,\n)"),
+    )?;
+    let mut text = String::new(rt.alloc());
+    let answer = write_line(
+        &mut text,
+        &pieces!(text "n=", display 7u8, hex 1u8 with HEXADECIMAL),
+    );
+    report(
+        rt,
+        "write_line",
+        "three pieces",
+        1,
+        of_written(answer, &text, "n=70x01"),
+    )?;
+    let mut text = String::new(rt.alloc());
+    let answer = uwriteln!(&mut Formatter::new(&mut text), text "n=", debug 7u8);
+    report(
+        rt,
+        "uwriteln",
+        "two pieces",
+        1,
+        of_written(answer, &text, "n=7\n"),
+    )
+}
+
+fn written_text(alloc: Global) -> Result<String, AllocError> {
+    let mut text = String::new(alloc);
+    uWrite::write_str(&mut text, "aé")?;
+    Ok(text)
+}
+
+fn written_character(alloc: Global) -> Result<String, AllocError> {
+    let mut text = String::new(alloc);
+    uWrite::write_char(&mut text, 'é')?;
+    Ok(text)
+}
+
+// Of a call that wrote into a text, which it left as it should.
+fn of_written(answer: Result<(), AllocError>, text: &str, ample: &str) -> Answer {
+    match answer {
+        Ok(()) if text != ample => Answer::Other,
+        _ => Answer::of_memory(answer),
+    }
 }

@@ -1,5 +1,6 @@
-//! Makes each call that takes memory, and says what it answered: that of ample memory, want of memory
-//! or anything else. `tools/try-refusals` runs it with one allocation after another refused.
+//! Makes each call of the library that takes memory, and the calls that take none, and says what each
+//! answered: that of ample memory, want of memory or anything else; and how many allocations it makes.
+//! `tools/try-refusals` runs it with one allocation after another refused, and counts.
 //!
 //! Standard input has a number: how many allocations are made before the calls. So one number of a
 //! refused allocation refuses any allocation of the calls.
@@ -7,27 +8,42 @@
 
 mod answer;
 mod calls;
+mod documents;
+mod laws;
+mod loose;
 mod node;
 mod printed;
+mod report;
 mod samples;
+mod values;
 
 use answer::Answer;
-use std::alloc::{AllocError, Global};
+use report::{boxes, one_box, report};
 use std::io::{self, Read};
 
 fn main(rt: HostRuntime) -> io::Result<()> {
     let count = spare_count(&rt)?;
-    if make_boxes(rt.alloc(), count).is_err() {
+    if boxes(rt.alloc(), count).is_err() {
         return println!(rt; "refused before the calls");
     }
     for sample in samples::all() {
-        calls::report_texts(&rt, &sample)?;
+        calls::report_readers(&rt, &sample)?;
+        calls::report_conversions(&rt, &sample)?;
     }
+    calls::report_conversions(&rt, &samples::MANY)?;
     calls::report_values(&rt)?;
+    calls::report_quoted(&rt)?;
+    calls::report_writers(&rt)?;
     printed::report(&rt)?;
+    laws::report_laws(&rt)?;
+    documents::report_documents(&rt)?;
+    documents::report_conversions(&rt)?;
+    documents::report_leaves(&rt)?;
+    values::report_values(&rt)?;
+    values::report_pieces(&rt)?;
     // It is the first allocation after the calls: where it is refused, each of theirs was made.
-    let last = Answer::of_memory(make_boxes(rt.alloc(), 1));
-    println!(rt; "an allocation after the calls: {}", last.words())
+    let last = Answer::of_memory(one_box(rt.alloc()));
+    report(&rt, "one allocation", "the program itself", 1, last)
 }
 
 // The number on standard input; 0 where there is none.
@@ -36,12 +52,4 @@ fn spare_count(rt: &HostRuntime) -> io::Result<u64> {
     let count = rt.reader().read(&mut bytes)?;
     let text = str::from_utf8(&bytes[..count]).unwrap_or("");
     Ok(text.trim().parse().unwrap_or(0))
-}
-
-// So many allocations, each let go before the next is made.
-fn make_boxes(alloc: Global, count: u64) -> Result<(), AllocError> {
-    for number in 0..count {
-        let _box = Box::new(alloc, number)?;
-    }
-    Ok(())
 }

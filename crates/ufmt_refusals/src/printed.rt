@@ -10,16 +10,17 @@ pub fn report(rt: &HostRuntime) -> io::Result<()> {
     let mut text = String::new(rt.alloc());
     let mut f = Formatter::new(&mut text);
     let answer = two_nodes().fmt(&mut f);
-    report_left(rt, "plain", answer, f)?;
+    report_left(rt, "plain", 4, answer, f)?;
     let mut text = String::new(rt.alloc());
     let mut f = Formatter::new(&mut text);
     let answer = f.pretty(|f| two_nodes().fmt(f));
-    report_left(rt, "pretty", answer, f)
+    report_left(rt, "pretty", 5, answer, f)
 }
 
 fn report_left(
     rt: &HostRuntime,
     mode: &str,
+    allocations: u64,
     answer: Result<(), AllocError>,
     f: Formatter<&mut String>,
 ) -> io::Result<()> {
@@ -27,7 +28,7 @@ fn report_left(
     let (is_pretty, depth) = (f.is_pretty(), f.depth());
     let text = f.into_inner();
     println!(rt;
-        "fmt of a node, {mode}: {}; is_pretty={is_pretty} depth={depth} text={:?}",
+        "fmt of a node, {mode}: {}, {allocations} allocations; is_pretty={is_pretty} depth={depth} text={:?}",
         answer.words(),
         text.as_str()
     )

@@ -1,6 +1,11 @@
 //! The texts that are read and converted.
 
-/// Texts of one document, or of none.
+/// Texts of one document, or of none, and how many allocations the calls on them make.
+///
+/// A reader makes one for each leaf, name and label that has a byte; one for each block with entries, and
+/// one more where these come to be more than 4, 8, 16 and so on; and one for the blocks that are open
+/// around others. A text is made in a buffer that grows to 8 bytes, 16, 32 and so on, or to what a longer
+/// piece wants: each growth is one.
 #[derive(Clone, Copy)]
 pub struct Sample {
     pub name: &'static str,
@@ -8,6 +13,12 @@ pub struct Sample {
     pub pretty: &'static str,
     /// Whether they are texts of a document.
     pub is_read: bool,
+    /// For the document, from either text.
+    pub of_reading: u64,
+    /// For the pretty text.
+    pub of_pretty: u64,
+    /// For the plain text.
+    pub of_plain: u64,
 }
 
 pub const NODE_PLAIN: &str = "Node { value: 1, next: Some(Node { value: 0, next: None }) }";
@@ -23,6 +34,64 @@ Node {
     ),
 }";
 
+/// A list of blocks of each kind, with up to five entries, and of leaves of each kind, one of which is
+/// longer than 255 bytes. `A` and `B` are leaves that `loosen` makes blocks.
+pub const MANY_PLAIN: &str = "\
+[{a, A, c}, {d: 1, A: 2, f: B, g: 4}, S { h: 5, i: A, j: {}, k: 8, l: B }, n(m, A), (A,), (q, r), [], {}, (), \
+\"\\\"é\\\"\\n\", '\\'', '€', wwwwwwwwwwwwwwwwwwwwwwwwwwwwwwwwwwwwwwwwwwwwwwwwwwwwwwwwwwwwwwwwwwwwwwwwwwwwwwwwwwwwwwwwwwwwwwwwwwwwwwwwwwwwwwwwwwwwwwwwwwwwwwwwwwwwwwwwwwwwwwwwwwwwwwwwwwwwwwwwwwwwwwwwwwwwwwwwwwwwwwwwwwwwwwwwwwwwwwwwwwwwwwwwwwwwwwwwwwwwwwwwwwwwwwwwwwwwwwwwwwwwwwwwwwwwwwwwwwww, \"\\0\\t\\r\\\\\\u{1}\\u{7f}'\"]";
+
+pub const MANY_PRETTY: &str = "\
+[
+    {
+        a,
+        A,
+        c,
+    },
+    {
+        d: 1,
+        A: 2,
+        f: B,
+        g: 4,
+    },
+    S {
+        h: 5,
+        i: A,
+        j: {},
+        k: 8,
+        l: B,
+    },
+    n(
+        m,
+        A,
+    ),
+    (
+        A,
+    ),
+    (
+        q,
+        r,
+    ),
+    [],
+    {},
+    (),
+    \"\\\"é\\\"\\n\",
+    '\\'',
+    '€',
+    wwwwwwwwwwwwwwwwwwwwwwwwwwwwwwwwwwwwwwwwwwwwwwwwwwwwwwwwwwwwwwwwwwwwwwwwwwwwwwwwwwwwwwwwwwwwwwwwwwwwwwwwwwwwwwwwwwwwwwwwwwwwwwwwwwwwwwwwwwwwwwwwwwwwwwwwwwwwwwwwwwwwwwwwwwwwwwwwwwwwwwwwwwwwwwwwwwwwwwwwwwwwwwwwwwwwwwwwwwwwwwwwwwwwwwwwwwwwwwwwwwwwwwwwwwwwwwwwwwww,
+    \"\\0\\t\\r\\\\\\u{1}\\u{7f}'\",
+]";
+
+/// The list of blocks and leaves. Its document is read by `read_twice`.
+pub const MANY: Sample = Sample {
+    name: "many entries",
+    plain: MANY_PLAIN,
+    pretty: MANY_PRETTY,
+    is_read: true,
+    of_reading: 44,
+    of_pretty: 8,
+    of_plain: 7,
+};
+
 /// A node, each kind of block with two entries, and lines that are no text of a document.
 pub fn all() -> [Sample; 3] {
     [
@@ -31,6 +100,9 @@ pub fn all() -> [Sample; 3] {
             plain: NODE_PLAIN,
             pretty: NODE_PRETTY,
             is_read: true,
+            of_reading: 14,
+            of_pretty: 5,
+            of_plain: 4,
         },
         Sample {
             name: "each kind of block",
@@ -56,12 +128,18 @@ pub fn all() -> [Sample; 3] {
     },
 }",
             is_read: true,
+            of_reading: 19,
+            of_pretty: 6,
+            of_plain: 4,
         },
         Sample {
             name: "three lines",
             plain: "ab\n\nxyz",
             pretty: "ab\n\nxyz",
             is_read: false,
+            of_reading: 1,
+            of_pretty: 1,
+            of_plain: 1,
         },
     ]
 }

@@ -1,0 +1,44 @@
+//! The laws of reading and writing that take memory.
+use crate::answer::Answer;
+use crate::loose::{loosen, read_twice};
+use crate::report::report;
+use crate::samples::{NODE_PLAIN, NODE_PRETTY};
+use std::io;
+use ufmt::layout::Mode;
+use ufmt_doc::doc::Doc;
+use ufmt_doc::laws::*;
+
+/// Leads texts and a document back to themselves.
+pub fn report_laws(rt: &HostRuntime) -> io::Result<()> {
+    let (plain, pretty) = (NODE_PLAIN.as_bytes(), NODE_PRETTY.as_bytes());
+    let answer = Answer::of_conversion(plain_again(rt.alloc(), plain), Some(NODE_PLAIN));
+    report(rt, "plain_again", "a node", 18, answer)?;
+    let answer = Answer::of_conversion(pretty_again(rt.alloc(), pretty), Some(NODE_PRETTY));
+    report(rt, "pretty_again", "a node", 19, answer)?;
+    let again = plain_by_way_of_pretty(rt.alloc(), plain);
+    let answer = Answer::of_conversion(again, Some(NODE_PLAIN));
+    report(rt, "plain_by_way_of_pretty", "a node", 9, answer)?;
+    let again = pretty_by_way_of_plain(rt.alloc(), pretty);
+    let answer = Answer::of_conversion(again, Some(NODE_PRETTY));
+    report(rt, "pretty_by_way_of_plain", "a node", 9, answer)?;
+    let (answer, doc) = read_twice(rt.alloc(), Mode::Plain, LOOSE);
+    report(rt, "read_plain", "a tuple, for its normal form", 3, answer)?;
+    match doc {
+        Some(doc) => report_normal(rt, doc),
+        None => Ok(()),
+    }
+}
+
+// A tuple of a leaf that is made a struct, and a map that is made a set.
+const LOOSE: &str = "(A, {})";
+
+fn report_normal(rt: &HostRuntime, mut doc: Doc) -> io::Result<()> {
+    loosen(&mut doc, rt.alloc());
+    if !doc.is_token() {
+        return Ok(());
+    }
+    let answer = Answer::of_reading(normal_by_way_of_plain(rt.alloc(), &doc), Some(LOOSE));
+    report(rt, "normal_by_way_of_plain", "a tuple", 4, answer)?;
+    let answer = Answer::of_reading(normal_by_way_of_pretty(rt.alloc(), &doc), Some(LOOSE));
+    report(rt, "normal_by_way_of_pretty", "a tuple", 6, answer)
+}
