@@ -1,9 +1,12 @@
-//! What no clause says of the builders, of what stands over them, and of `fields!`: what each call answers
-//! and leaves where a writer refuses a piece, how many items are taken, and that each call can succeed.
+//! What no clause says of the builders, of what is above them, and of macros: what each call returns
+//! and leaves where a writer refuses a piece, how many items are taken, how often and in which order a
+//! macro evaluates its values, and that each call can succeed.
 mod builder_calls;
 mod builders;
 mod entries;
+mod evaluations;
 mod fields;
+mod rows;
 mod stopped_calls;
 mod writers;
 

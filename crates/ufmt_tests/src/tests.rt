@@ -1,5 +1,5 @@
 //! What no clause says: the texts that the real ufmt and core::fmt print of the same values, where
-//! pieces end, what is left where a writer fails, what the macros evaluate, and that each call can
+//! pieces end, what is left where a writer fails, and that each call can
 //! succeed. `rows` has what asserts a table, `each_piece` and `texts` the two kinds of rows.
 mod allocators;
 mod blocks;
@@ -7,7 +7,6 @@ mod by_builders;
 mod collections;
 mod cursors;
 mod each_piece;
-mod evaluations;
 mod foreign;
 mod formatters;
 mod forwarded;

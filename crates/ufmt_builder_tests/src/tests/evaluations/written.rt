@@ -1,7 +1,7 @@
 //! What `uwrite!` and `uwriteln!` evaluate.
 use super::Turns;
 use crate::tests::rows::{Table, has_rows};
-use crate::tests::writers::FailAt;
+use crate::tests::writers::FailOnce;
 use std::alloc::{AllocError, Global};
 use ufmt::{Formatter, Full, uwrite, uwriteln};
 
@@ -41,7 +41,7 @@ struct Written {
 }
 
 impl Written {
-    fn write_one(self, f: &mut Formatter<FailAt<'_>>, turns: &mut Turns) -> Result<(), Full> {
+    fn write_one(self, f: &mut Formatter<FailOnce<'_>>, turns: &mut Turns) -> Result<(), Full> {
         match (self.is_line, self.has_comma) {
             (false, false) => one_piece!(uwrite, self.number, f, turns),
             (false, true) => one_piece!(uwrite, self.number, f, turns, ,),
@@ -50,7 +50,7 @@ impl Written {
         }
     }
 
-    fn write_three(self, f: &mut Formatter<FailAt<'_>>, turns: &mut Turns) -> Result<(), Full> {
+    fn write_three(self, f: &mut Formatter<FailOnce<'_>>, turns: &mut Turns) -> Result<(), Full> {
         match (self.is_line, self.has_comma) {
             (false, false) => three_pieces!(uwrite, self.number, f, turns),
             (false, true) => three_pieces!(uwrite, self.number, f, turns, ,),
@@ -59,7 +59,7 @@ impl Written {
         }
     }
 
-    fn write(self, f: &mut Formatter<FailAt<'_>>, turns: &mut Turns) -> Result<(), Full> {
+    fn write(self, f: &mut Formatter<FailOnce<'_>>, turns: &mut Turns) -> Result<(), Full> {
         if self.has_three {
             self.write_three(f, turns)
         } else {
@@ -74,7 +74,7 @@ impl Written {
         for refused in 1..6usize {
             let mut bytes = [0; 8];
             let mut turns = Turns::new(alloc);
-            let mut f = Formatter::new(FailAt::new(&mut bytes, refused));
+            let mut f = Formatter::new(FailOnce::new(&mut bytes, refused));
             let answer = self.write(&mut f, &mut turns);
             let writer = f.into_inner();
             row.push_str(turns.noted.as_str())?;

@@ -1,0 +1,73 @@
+//! The rows of a table: what they note is in one text, which one assert compares.
+use std::alloc::{AllocError, Global};
+use std::process::Abort;
+
+/// Whether the rows of the table are these.
+pub fn has_rows(rt: &impl Abort, table: &Table, wanted: &str) {
+    assert_eq!(rt; table.text(), Some(wanted));
+}
+
+/// The rows one after another, with a semicolon and a line feed after each.
+#[derive(Drop)]
+pub struct Table {
+    alloc: Global,
+    text: String,
+    has_all: bool,
+}
+
+impl Table {
+    pub fn new(alloc: Global) -> Self {
+        Table {
+            alloc,
+            text: String::new(alloc),
+            has_all: true,
+        }
+    }
+
+    pub fn alloc(&self) -> Global {
+        self.alloc
+    }
+
+    // The rows, if there was memory for all of them.
+    fn text(&self) -> Option<&str> {
+        if self.has_all {
+            Some(self.text.as_str())
+        } else {
+            None
+        }
+    }
+
+    /// A row of what was made, if there was memory for it.
+    pub fn put_made(&mut self, row: Result<String, AllocError>) {
+        if self.put(row).is_err() {
+            self.has_all = false;
+        }
+    }
+
+    fn put(&mut self, row: Result<String, AllocError>) -> Result<(), AllocError> {
+        self.text.push_str(row?.as_str())?;
+        self.text.push_str(";\n")
+    }
+
+    /// A row of two texts that were made, told apart.
+    pub fn put_apart(
+        &mut self,
+        first: Result<String, AllocError>,
+        second: Result<String, AllocError>,
+    ) {
+        self.put_made(told_apart(first, second));
+    }
+}
+
+// The first text, and after a tilde the second, where it is another.
+fn told_apart(
+    first: Result<String, AllocError>,
+    second: Result<String, AllocError>,
+) -> Result<String, AllocError> {
+    let (mut first, second) = (first?, second?);
+    if first.as_str() != second.as_str() {
+        first.push_str("~\n")?;
+        first.push_str(second.as_str())?;
+    }
+    Ok(first)
+}
