@@ -90,19 +90,23 @@ class Meter:
         self.valgrind = shutil.which("valgrind")
 
     def steps(self, name, data):
-        """The steps of a run on one text. None where they aren't counted or the run didn't end in time."""
+        """The steps of a run on one text; None without valgrind. It raises an error where the run is wrong or too long."""
         path = self.room / (re.sub(r"\W", "-", name) + ".texts")
         path.write_bytes(b"%d\n%s" % (len(data), data))
         command = [self.program]
         if self.valgrind:
-            command = [self.valgrind, "--tool=callgrind", "--callgrind-out-file=/dev/null", self.program]
+            command = [self.valgrind, "--tool=cachegrind", "--cache-sim=no", "--cachegrind-out-file=/dev/null", self.program]
         limit = SECONDS * (10 if self.valgrind else 1)
         with open(path, "rb") as texts:
             ran = subprocess.run(command, stdin=texts, capture_output=True, check=True, timeout=limit)
         if b"FAULT" in ran.stdout:
             raise ValueError(ran.stdout.decode())
-        found = re.search(rb"Collected : (\d+)", ran.stderr)
-        return int(found[1]) if found else None
+        if not self.valgrind:
+            return None
+        found = re.search(rb"I +refs: +([\d,]+)", ran.stderr)
+        if not found:
+            raise ValueError("valgrind counted no steps")
+        return int(found[1].replace(b",", b""))
 
     def fault(self, case):
         """What is wrong with the growth of a case; None if nothing is."""

@@ -14,45 +14,48 @@ use ufmt_doc::doc::Doc;
 use ufmt_doc::plain_reader::{ReadError, read_plain};
 use ufmt_doc::pretty_reader::read_pretty;
 
-// The texts of a sample, where a document has them.
-fn ample_texts(sample: &Sample) -> (Option<&'static str>, Option<&'static str>) {
-    if sample.is_read {
-        (Some(sample.plain), Some(sample.pretty))
-    } else {
-        (None, None)
-    }
-}
-
 /// Reads the texts of a sample.
 pub fn report_readers(rt: &HostRuntime, sample: &Sample) -> io::Result<()> {
     let (plain, pretty) = (sample.plain.as_bytes(), sample.pretty.as_bytes());
-    let (ample_plain, _) = ample_texts(sample);
-    let name = sample.name;
-    let answer = Answer::of_reading(read_plain(rt.alloc(), plain), ample_plain);
-    report(rt, "read_plain", name, sample.of_reading, answer)?;
-    let answer = Answer::of_reading(read_pretty(rt.alloc(), pretty), ample_plain);
-    report(rt, "read_pretty", name, sample.of_reading, answer)
+    let ample = sample.ample_plain();
+    let answer = Answer::of_reading(read_plain(rt.alloc(), plain), ample);
+    report(rt, "read_plain", sample.name, sample.of_reading, answer)?;
+    let answer = Answer::of_reading(read_pretty(rt.alloc(), pretty), ample);
+    report(rt, "read_pretty", sample.name, sample.of_reading, answer)
 }
 
 /// Converts each text of a sample to the other.
 pub fn report_conversions(rt: &HostRuntime, sample: &Sample) -> io::Result<()> {
+    let alloc = rt.alloc();
     let (plain, pretty) = (sample.plain.as_bytes(), sample.pretty.as_bytes());
-    let (ample_plain, ample_pretty) = ample_texts(sample);
-    let name = sample.name;
-    let answer = Answer::of_conversion(to_pretty(rt.alloc(), plain), ample_pretty);
-    report(rt, "to_pretty", name, sample.of_pretty, answer)?;
-    let answer = Answer::of_conversion(to_plain(rt.alloc(), pretty), ample_plain);
-    report(rt, "to_plain", name, sample.of_plain, answer)?;
-    let answer = Answer::of_conversion(pretty_in_a_text(rt.alloc(), plain), ample_pretty);
-    report(
-        rt,
-        "pretty_to, into a text,",
-        name,
-        sample.of_pretty,
-        answer,
-    )?;
-    let answer = Answer::of_conversion(plain_in_a_text(rt.alloc(), pretty), ample_plain);
-    report(rt, "plain_to, into a text,", name, sample.of_plain, answer)
+    report_pretty(rt, sample, "to_pretty", to_pretty(alloc, plain))?;
+    report_plain(rt, sample, "to_plain", to_plain(alloc, pretty))?;
+    let answer = pretty_in_a_text(alloc, plain);
+    report_pretty(rt, sample, "pretty_to, into a text,", answer)?;
+    let answer = plain_in_a_text(alloc, pretty);
+    report_plain(rt, sample, "plain_to, into a text,", answer)
+}
+
+// A line on a conversion of a sample's plain text.
+fn report_pretty(
+    rt: &HostRuntime,
+    sample: &Sample,
+    call: &str,
+    answer: Result<String, ReadError>,
+) -> io::Result<()> {
+    let answer = Answer::of_conversion(answer, sample.ample_pretty());
+    report(rt, call, sample.name, sample.of_pretty, answer)
+}
+
+// A line on a conversion of a sample's pretty text.
+fn report_plain(
+    rt: &HostRuntime,
+    sample: &Sample,
+    call: &str,
+    answer: Result<String, ReadError>,
+) -> io::Result<()> {
+    let answer = Answer::of_conversion(answer, sample.ample_plain());
+    report(rt, call, sample.name, sample.of_plain, answer)
 }
 
 fn pretty_in_a_text(alloc: Global, plain: &[u8]) -> Result<String, ReadError> {
@@ -124,78 +127,48 @@ const HEXADECIMAL: HexOptions = HexOptions {
     ox_prefix: true,
 };
 
-/// Writes into a text, which takes memory for what it is handed.
+/// Writes into a text, which takes memory for what it is passed.
 pub fn report_writers(rt: &HostRuntime) -> io::Result<()> {
-    let answer = Answer::of_text(written_text(rt.alloc()), "aé");
-    report(rt, "write_str", "a text", 1, answer)?;
-    let answer = Answer::of_text(written_character(rt.alloc()), "é");
-    report(rt, "write_char", "a character", 1, answer)?;
-    let mut text = String::new(rt.alloc());
-    let answer = write_debug(&mut text, &"é");
-    report(
-        rt,
-        "write_debug",
-        "a text",
-        1,
-        of_written(answer, &text, "\"é\""),
-    )?;
-    let mut text = String::new(rt.alloc());
-    let answer = write_display(&mut text, &"é");
-    report(
-        rt,
-        "write_display",
-        "a text",
-        1,
-        of_written(answer, &text, "é"),
-    )?;
-    let mut text = String::new(rt.alloc());
-    let answer = write_pretty(&mut text, &Some(1u8));
-    report(
-        rt,
-        "write_pretty",
-        "a number",
-        2,
-        of_written(answer, &text, "Some(\n    1,\n)"),
-    )?;
-    let mut text = String::new(rt.alloc());
-    let answer = write_line(
-        &mut text,
-        &pieces!(text "n=", display 7u8, hex 1u8 with HEXADECIMAL),
-    );
-    report(
-        rt,
-        "write_line",
-        "three pieces",
-        1,
-        of_written(answer, &text, "n=70x01"),
-    )?;
-    let mut text = String::new(rt.alloc());
-    let answer = uwriteln!(&mut Formatter::new(&mut text), text "n=", debug 7u8);
-    report(
-        rt,
-        "uwriteln",
-        "two pieces",
-        1,
-        of_written(answer, &text, "n=7\n"),
-    )
+    report_written(rt, ("write_str", "a text", 1), "aé", |text| {
+        uWrite::write_str(text, "aé")
+    })?;
+    report_written(rt, ("write_char", "a character", 1), "é", |text| {
+        uWrite::write_char(text, 'é')
+    })?;
+    report_written(rt, ("write_debug", "a text", 1), "\"é\"", |text| {
+        write_debug(text, &"é")
+    })?;
+    report_written(rt, ("write_display", "a text", 1), "é", |text| {
+        write_display(text, &"é")
+    })?;
+    let pretty = "Some(\n    1,\n)";
+    report_written(rt, ("write_pretty", "a number", 2), pretty, |text| {
+        write_pretty(text, &Some(1u8))
+    })?;
+    let line = pieces!(text "n=", display 7u8, hex 1u8 with HEXADECIMAL);
+    report_written(rt, ("write_line", "three pieces", 1), "n=70x01", |text| {
+        write_line(text, &line)
+    })?;
+    report_written(rt, ("uwriteln", "two pieces", 1), "n=7\n", |text| {
+        uwriteln!(&mut Formatter::new(text), text "n=", debug 7u8)
+    })
 }
 
-fn written_text(alloc: Global) -> Result<String, AllocError> {
-    let mut text = String::new(alloc);
-    uWrite::write_str(&mut text, "aé")?;
-    Ok(text)
-}
-
-fn written_character(alloc: Global) -> Result<String, AllocError> {
-    let mut text = String::new(alloc);
-    uWrite::write_char(&mut text, 'é')?;
-    Ok(text)
-}
-
-// Of a call that wrote into a text, which it left as it should.
-fn of_written(answer: Result<(), AllocError>, text: &str, ample: &str) -> Answer {
-    match answer {
-        Ok(()) if text != ample => Answer::Other,
-        _ => Answer::of_memory(answer),
-    }
+// A line on a call that writes this text, with its name, its case and how many allocations it makes.
+fn report_written<F: FnOnce(&mut String) -> Result<(), AllocError>>(
+    rt: &HostRuntime,
+    line: (&str, &str, u64),
+    ample: &str,
+    write: F,
+) -> io::Result<()>
+where
+    requires { F.IsAlwaysCallable write }
+{
+    let (call, case, allocations) = line;
+    let mut text = String::new(rt.alloc());
+    let answer = match write(&mut text) {
+        Ok(()) if text.as_str() != ample => Answer::Other,
+        answer => Answer::of_memory(answer),
+    };
+    report(rt, call, case, allocations, answer)
 }

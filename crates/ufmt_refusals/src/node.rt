@@ -20,7 +20,7 @@ impl<T: uDebug> uDebug for Node<T> {
     }
 }
 
-/// A node and another behind it.
+/// A node, and the next one.
 pub fn two_nodes() -> Node<Node<()>> {
     Node {
         value: 1,

@@ -18,16 +18,19 @@ pub fn report(
     )
 }
 
-/// A line on a call that takes no memory, whether it gave what it should. What is allocated before is the
-/// program's own, by `one_box`: so an allocation that no line was told of lies between two of these.
-pub fn report_free(
+/// A line on a call that takes no memory, with whether it did what it should. The program makes an
+/// allocation of its own before the call. So one that a call makes in secret is between two lines.
+pub fn report_free<F: FnOnce() -> bool>(
     rt: &HostRuntime,
     call: &str,
     case: &str,
-    before: Result<(), AllocError>,
-    is_right: bool,
-) -> io::Result<()> {
-    report(rt, call, case, 0, Answer::of_call(before, is_right))
+    is_right: F,
+) -> io::Result<()>
+where
+    requires { F.pre is_right }
+{
+    let before = one_box(rt.alloc());
+    report(rt, call, case, 0, Answer::of_call(before, is_right()))
 }
 
 /// One allocation, which is let go at once.

@@ -21,6 +21,22 @@ pub struct Sample {
     pub of_plain: u64,
 }
 
+impl Sample {
+    /// The plain text, if it is one of a document.
+    pub fn ample_plain(&self) -> Option<&'static str> {
+        if self.is_read { Some(self.plain) } else { None }
+    }
+
+    /// The pretty text, if it is one of a document.
+    pub fn ample_pretty(&self) -> Option<&'static str> {
+        if self.is_read {
+            Some(self.pretty)
+        } else {
+            None
+        }
+    }
+}
+
 pub const NODE_PLAIN: &str = "Node { value: 1, next: Some(Node { value: 0, next: None }) }";
 
 pub const NODE_PRETTY: &str = "\

@@ -1,6 +1,6 @@
 //! The calls that print a value into a buffer, which take no memory.
 use crate::answer::Answer;
-use crate::report::{one_box, report, report_free};
+use crate::report::{report, report_free};
 use std::alloc::{AllocError, Global};
 use std::collections::{BTreeMap, BTreeSet};
 use std::io;
@@ -35,50 +35,35 @@ const COLLECTIONS: &str =
 
 /// Prints values of each kind.
 pub fn report_values(rt: &HostRuntime) -> io::Result<()> {
+    report_collections(rt)?;
+    let mut buffer = [0; 128];
+    let leaves = ("a\"é\u{1b}", 'é', '\'', true, (), u128::MAX);
+    report_free(rt, "debug_into", "leaves", || {
+        is_at_front(debug_into(&mut buffer, &leaves), &buffer, LEAVES)
+    })?;
+    let blocks = (Some(1u8), [i8::MIN], None::<u8>);
+    report_free(rt, "pretty_into", "blocks", || {
+        is_at_front(pretty_into(&mut buffer, &blocks), &buffer, BLOCKS)
+    })?;
+    report_free(rt, "display_into", "a text", || {
+        is_at_front(display_into(&mut buffer, &"a\"é"), &buffer, "a\"é")
+    })
+}
+
+// They are made again if an allocation was refused for them: only one is.
+fn report_collections(rt: &HostRuntime) -> io::Result<()> {
     let (answer, made) = match collections(rt.alloc()) {
         Ok(made) => (Answer::Ample, Some(made)),
         Err(_) => (Answer::WantOfMemory, collections(rt.alloc()).ok()),
     };
     report(rt, "making", "collections", 5, answer)?;
+    let Some(made) = made else {
+        return Ok(());
+    };
     let mut buffer = [0; 128];
-    if let Some(made) = made {
-        let before = one_box(rt.alloc());
-        let answer = debug_into(&mut buffer, &made);
-        report_free(
-            rt,
-            "debug_into",
-            "collections",
-            before,
-            is_in_front(answer, &buffer, COLLECTIONS),
-        )?;
-    }
-    let before = one_box(rt.alloc());
-    let answer = debug_into(&mut buffer, &("a\"é\u{1b}", 'é', '\'', true, (), u128::MAX));
-    report_free(
-        rt,
-        "debug_into",
-        "leaves",
-        before,
-        is_in_front(answer, &buffer, LEAVES),
-    )?;
-    let before = one_box(rt.alloc());
-    let answer = pretty_into(&mut buffer, &(Some(1u8), [i8::MIN], None::<u8>));
-    report_free(
-        rt,
-        "pretty_into",
-        "blocks",
-        before,
-        is_in_front(answer, &buffer, BLOCKS),
-    )?;
-    let before = one_box(rt.alloc());
-    let answer = display_into(&mut buffer, &"a\"é");
-    report_free(
-        rt,
-        "display_into",
-        "a text",
-        before,
-        is_in_front(answer, &buffer, "a\"é"),
-    )
+    report_free(rt, "debug_into", "collections", || {
+        is_at_front(debug_into(&mut buffer, &made), &buffer, COLLECTIONS)
+    })
 }
 
 const LEAVES: &str =
@@ -93,43 +78,39 @@ const HEXADECIMAL: HexOptions = HexOptions {
     ox_prefix: true,
 };
 
-/// Prints pieces in a row.
+/// Prints pieces in a row, and values by calls of the formatter and of traits.
 pub fn report_pieces(rt: &HostRuntime) -> io::Result<()> {
     let mut buffer = [0; 128];
-    let before = one_box(rt.alloc());
-    let answer = line_into(
-        &mut buffer,
-        &pieces!(text "n=", display 7i32, debug 'é', pretty [1u8], hex 255u8 with HEXADECIMAL),
-    );
-    report_free(
-        rt,
-        "line_into",
-        "pieces",
-        before,
-        is_in_front(answer, &buffer, PIECES),
-    )?;
-    let mut f = Formatter::new(Cursor::new(&mut buffer));
-    let before = one_box(rt.alloc());
-    let answer =
-        uwrite!(&mut f, text "n=", display 7i32, debug 'é', pretty [1u8], hex 255u8 with HEXADECIMAL);
-    let is_right = answer.is_ok() && f.into_inner().written() == PIECES.as_bytes();
-    report_free(rt, "uwrite", "pieces", before, is_right)?;
-    let mut f = Formatter::new(Cursor::new(&mut buffer));
-    let before = one_box(rt.alloc());
-    let answer = i128::MIN.fmt_hex(&mut f, HEXADECIMAL);
-    let is_right = answer.is_ok()
-        && f.into_inner().written() == b"0x80000000000000000000000000000000".as_slice();
-    report_free(rt, "fmt_hex", "a number", before, is_right)?;
-    let mut f = Formatter::new(Cursor::new(&mut buffer));
-    let before = one_box(rt.alloc());
-    let answer = f.pretty(|f| ["a\"é"].fmt(f));
-    let is_right = answer.is_ok() && f.into_inner().written() == "[\n    \"a\\\"é\",\n]".as_bytes();
-    report_free(rt, "Formatter::pretty", "a list", before, is_right)
+    let line =
+        pieces!(text "n=", display 7i32, debug 'é', pretty [1u8], hex 255u8 with HEXADECIMAL);
+    report_free(rt, "line_into", "pieces", || {
+        is_at_front(line_into(&mut buffer, &line), &buffer, PIECES)
+    })?;
+    report_free(rt, "uwrite", "pieces", || {
+        let mut f = Formatter::new(Cursor::new(&mut buffer));
+        let answer =
+            uwrite!(&mut f, text "n=", display 7i32, debug 'é', pretty [1u8], hex 255u8 with HEXADECIMAL);
+        answer.is_ok() && f.into_inner().written() == PIECES.as_bytes()
+    })?;
+    report_free(rt, "fmt_hex", "a number", || {
+        let mut f = Formatter::new(Cursor::new(&mut buffer));
+        let answer = i128::MIN.fmt_hex(&mut f, HEXADECIMAL);
+        answer.is_ok() && f.into_inner().written() == LEAST.as_bytes()
+    })?;
+    report_free(rt, "Formatter::pretty", "a list", || {
+        let mut f = Formatter::new(Cursor::new(&mut buffer));
+        let answer = f.pretty(|f| ["a\"é"].fmt(f));
+        answer.is_ok() && f.into_inner().written() == LIST.as_bytes()
+    })
 }
 
 const PIECES: &str = "n=7'é'[\n    1,\n]0x00ff";
 
-// Whether so many bytes in front of the buffer are the text.
-fn is_in_front(answer: Result<usize, Full>, buffer: &[u8], text: &str) -> bool {
+const LEAST: &str = "0x80000000000000000000000000000000";
+
+const LIST: &str = "[\n    \"a\\\"é\",\n]";
+
+// Whether the buffer begins with the text, which has so many bytes.
+fn is_at_front(answer: Result<usize, Full>, buffer: &[u8], text: &str) -> bool {
     answer == Ok(text.len()) && buffer.starts_with(text.as_bytes())
 }

@@ -1,6 +1,6 @@
 //! What no clause says: the texts that the real ufmt and core::fmt print of the same values, where
-//! pieces end, what is left where a writer fails, and that each call can
-//! succeed. `rows` has what asserts a table, `each_piece` and `texts` the two kinds of rows.
+//! pieces end, what is left where a writer fails, and that each call can succeed. `rows` has what
+//! asserts a table, `each_piece` and `texts` the two kinds of rows.
 mod allocators;
 mod blocks;
 mod by_builders;

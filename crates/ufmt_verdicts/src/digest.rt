@@ -1,4 +1,4 @@
-//! A text's length and its Adler-32 sum, which stand for it in a line.
+//! A text's length and its Adler-32 sum: a line has them instead of the text.
 use std::alloc::{AllocError, Global};
 
 // The greatest prime below 2^16.

@@ -1,4 +1,4 @@
-//! A sink of one's own, which notes what a scan tells it.
+//! A sink of one's own, which notes each part that it is passed.
 ghost use Rattle.std.specs.Prelude.{⊤};
 
 use std::alloc::{AllocError, Global};

@@ -1,16 +1,16 @@
-//! A call that answers otherwise than the calls beside it.
+//! What is wrong with a call's answer.
 use std::alloc::{AllocError, AllocFailed, Global};
 use ufmt::Full;
 use ufmt_doc::plain_reader::ReadError;
 use ufmt_doc::scan::Refusal;
 
-/// What a call answered. Memory is at hand, so that want of it is wrong as well.
+/// A wrong answer. Memory is at hand, so want of it is wrong too.
 #[derive(Clone, Copy)]
 pub enum Fault {
     WantOfMemory,
     NotText,
     Full,
-    /// The call of this name answered something else than the others.
+    /// The call of this name disagrees with the others.
     Other(&'static str),
 }
 
@@ -25,7 +25,7 @@ impl Fault {
     }
 }
 
-/// `Ok` where a call answered what it should.
+/// `Ok` if the call of this name is right.
 pub fn agree(is_right: bool, call: &'static str) -> Result<(), Fault> {
     if is_right {
         Ok(())

@@ -4,7 +4,8 @@
 //! Standard input has the texts in a row: each is a line with a number, then so many bytes.
 //!
 //! A half of a line, `plain` or `pretty`, is `no text` where the calls of that mode refuse the text. Else
-//! it has digests of what came out. Where one call disagrees with the others, it names that call.
+//! it has digests of what came out. Where a call is wrong, it is `FAULT` with that call's name, or with
+//! the error of a call that should be `Ok`.
 #![tactic(auto)]
 
 mod calls;

@@ -1,4 +1,4 @@
-//! What the calls for a document's parts tell of it.
+//! The parts of a document, as the calls for them return them.
 use crate::fault::{Fault, agree};
 use std::alloc::Global;
 use ufmt_doc::doc::Doc;
@@ -20,6 +20,7 @@ type Counts<'a> = (
     Option<usize>,
 );
 
+// As the calls return them.
 fn counts(doc: &Doc) -> Counts<'_> {
     (
         doc.as_leaf(),
@@ -28,6 +29,17 @@ fn counts(doc: &Doc) -> Counts<'_> {
         doc.pairs().map(|pairs| pairs.len()),
         doc.fields().map(|fields| fields.len()),
     )
+}
+
+// As the document has them.
+fn wanted(doc: &Doc) -> Counts<'_> {
+    match doc {
+        Doc::Leaf(text) => (Some(text.as_str()), None, None, None, None),
+        Doc::Listed(entries) | Doc::SetOf(entries) => (None, None, Some(entries.len()), None, None),
+        Doc::MapOf(pairs) => (None, None, None, Some(pairs.len()), None),
+        Doc::StructOf(name, fields) => (None, Some(name.as_str()), None, None, Some(fields.len())),
+        Doc::TupleOf(name, entries) => (None, Some(name.as_str()), Some(entries.len()), None, None),
+    }
 }
 
 impl Parts {
@@ -42,47 +54,17 @@ impl Parts {
 
     #[cycle(parts)]
     fn note(&mut self, doc: &Doc) -> Result<(), Fault> {
-        let counts = counts(doc);
+        agree(counts(doc) == wanted(doc), "parts")?;
         match doc {
-            Doc::Leaf(text) => {
-                agree(
-                    counts == (Some(text.as_str()), None, None, None, None),
-                    "parts of a leaf",
-                )?;
-                self.note_leaf(doc, text)
-            }
-            Doc::Listed(entries) => {
-                agree(
-                    counts == (None, None, Some(entries.len()), None, None),
-                    "parts of a list",
-                )?;
-                self.note_entries("l", "", entries)
-            }
-            Doc::SetOf(entries) => {
-                agree(
-                    counts == (None, None, Some(entries.len()), None, None),
-                    "parts of a set",
-                )?;
-                self.note_entries("b", "", entries)
-            }
-            Doc::MapOf(pairs) => {
-                agree(
-                    counts == (None, None, None, Some(pairs.len()), None),
-                    "parts of a map",
-                )?;
-                self.note_pairs(pairs)
-            }
+            Doc::Leaf(text) => self.note_leaf(doc, text),
+            Doc::Listed(entries) => self.note_entries("l", "", entries),
+            Doc::SetOf(entries) => self.note_entries("b", "", entries),
+            Doc::MapOf(pairs) => self.note_pairs(pairs),
             Doc::StructOf(name, fields) => {
-                let wanted = (None, Some(name.as_str()), None, None, Some(fields.len()));
-                agree(counts == wanted, "parts of a struct")?;
                 agree(has_last_field(doc, fields), "field")?;
                 self.note_fields(name, fields)
             }
-            Doc::TupleOf(name, fields) => {
-                let wanted = (None, Some(name.as_str()), Some(fields.len()), None, None);
-                agree(counts == wanted, "parts of a tuple")?;
-                self.note_entries("t", name, fields)
-            }
+            Doc::TupleOf(name, entries) => self.note_entries("t", name, entries),
         }
     }
 

@@ -10,7 +10,6 @@ pub fn has_rows(rt: &impl Abort, table: &Table, wanted: &str) {
 /// The rows one after another, with a semicolon and a line feed after each.
 #[derive(Drop)]
 pub struct Table {
-    alloc: Global,
     text: String,
     has_all: bool,
 }
@@ -18,14 +17,9 @@ pub struct Table {
 impl Table {
     pub fn new(alloc: Global) -> Self {
         Table {
-            alloc,
             text: String::new(alloc),
             has_all: true,
         }
-    }
-
-    pub fn alloc(&self) -> Global {
-        self.alloc
     }
 
     // The rows, if there was memory for all of them.
@@ -48,26 +42,4 @@ impl Table {
         self.text.push_str(row?.as_str())?;
         self.text.push_str(";\n")
     }
-
-    /// A row of two texts that were made, told apart.
-    pub fn put_apart(
-        &mut self,
-        first: Result<String, AllocError>,
-        second: Result<String, AllocError>,
-    ) {
-        self.put_made(told_apart(first, second));
-    }
-}
-
-// The first text, and after a tilde the second, where it is another.
-fn told_apart(
-    first: Result<String, AllocError>,
-    second: Result<String, AllocError>,
-) -> Result<String, AllocError> {
-    let (mut first, second) = (first?, second?);
-    if first.as_str() != second.as_str() {
-        first.push_str("~\n")?;
-        first.push_str(second.as_str())?;
-    }
-    Ok(first)
 }

@@ -4,7 +4,7 @@ use super::same;
 use super::verdict::{Verdict, told};
 use std::alloc::{AllocError, Global};
 
-// Another spelling of a character than its own, in a text and as a character.
+// A character in another spelling than its own, in a text and as a character.
 const SPELLED_OTHERWISE: [&[u8]; 26] = [
     b"\"\\u{a}\"",
     b"'\\u{a}'",
@@ -64,7 +64,7 @@ const NOT_UTF8: [&[u8]; 9] = [
     b"\"a\xf4\x90\x80\x80\"",
 ];
 
-// None or several characters between apostrophes; a quote that isn't closed; more behind it.
+// No character or several between apostrophes, a quote that isn't closed, or bytes after the closing quote.
 const MISCOUNTED: [&[u8]; 21] = [
     b"''",
     b"'ab'",
@@ -101,18 +101,18 @@ const PLACES: [(Mode, &str, &str); 8] = [
     (Mode::Pretty, "S {\n    a: ", ",\n}"),
 ];
 
-fn placed(alloc: Global, before: &str, leaf: &[u8], behind: &str) -> Result<Vec<u8>, AllocError> {
+fn placed(alloc: Global, before: &str, leaf: &[u8], after: &str) -> Result<Vec<u8>, AllocError> {
     let mut text = Vec::from_slice(alloc, before.as_bytes())?;
     text.extend_from_slice(leaf)?;
-    text.extend_from_slice(behind.as_bytes())?;
+    text.extend_from_slice(after.as_bytes())?;
     Ok(text)
 }
 
-// In how many places this is told of the leaf.
-fn count_told(alloc: Global, leaf: &[u8], verdict: Verdict) -> Result<usize, AllocError> {
+// The number of places in which readers and conversions have this verdict on the leaf.
+fn count_places(alloc: Global, leaf: &[u8], verdict: Verdict) -> Result<usize, AllocError> {
     let mut count = 0usize;
-    for (mode, before, behind) in PLACES {
-        let text = placed(alloc, before, leaf, behind)?;
+    for (mode, before, after) in PLACES {
+        let text = placed(alloc, before, leaf, after)?;
         if told(alloc, mode, &text) == verdict {
             count = count.saturating_add(1);
         }
@@ -120,11 +120,11 @@ fn count_told(alloc: Global, leaf: &[u8], verdict: Verdict) -> Result<usize, All
     Ok(count)
 }
 
-// How many of the leaves are refused in each place before the first that isn't, and that one.
+// The number of leaves before the first that isn't refused in each place, and that one.
 fn refused<'a>(alloc: Global, leaves: &[&'a [u8]]) -> (usize, &'a [u8]) {
     let mut count = 0usize;
     for leaf in leaves {
-        if count_told(alloc, leaf, Verdict::Refused) != Ok(8) {
+        if count_places(alloc, leaf, Verdict::Refused) != Ok(8) {
             return (count, leaf);
         }
         count = count.saturating_add(1);
@@ -144,10 +144,10 @@ fn leaves_in_wrong_quotes_are_refused(rt: HostRuntime) {
     same(&rt, counts, (21, b"none"), "miscounted");
 }
 
-// In how many places a byte is refused that stands for itself in a text, and as a character.
+// The number of places in which a byte without an escape is refused, in a text and as a character.
 fn count_refused(alloc: Global, byte: u8) -> Result<(usize, usize), AllocError> {
-    let text = count_told(alloc, &[b'"', byte, b'"'], Verdict::Refused)?;
-    let character = count_told(alloc, &[b'\'', byte, b'\''], Verdict::Refused)?;
+    let text = count_places(alloc, &[b'"', byte, b'"'], Verdict::Refused)?;
+    let character = count_places(alloc, &[b'\'', byte, b'\''], Verdict::Refused)?;
     Ok((text, character))
 }
 
@@ -161,7 +161,7 @@ fn control_characters_are_refused_in_quotes(rt: HostRuntime) {
     same(&rt, count_refused(rt.alloc(), 126), Ok((0, 0)), "a tilde");
 }
 
-// What is in quotes as it should be, and what needs none.
+// Leaves in quotes, as they are printed, and leaves that have none.
 #[test]
 fn leaves_in_right_quotes_are_taken(rt: HostRuntime) {
     let leaves = [
@@ -176,7 +176,7 @@ fn leaves_in_right_quotes_are_taken(rt: HostRuntime) {
         "'€'",
     ];
     for leaf in leaves {
-        let count = count_told(rt.alloc(), leaf.as_bytes(), Verdict::Taken);
+        let count = count_places(rt.alloc(), leaf.as_bytes(), Verdict::Taken);
         same(&rt, count, Ok(8), leaf);
     }
 }

@@ -130,7 +130,7 @@ fn a_builder_that_is_dropped(rt: HostRuntime) {
     same(&rt, text.as_str(), "[", "the text");
 }
 
-// A pretty part that answers this error, and the mode and depth behind it.
+// A pretty part that returns this error, and the mode and depth after it.
 fn fail_by_itself<W: uWrite>(writer: W, error: W::Error) -> (Result<(), W::Error>, bool, u8, W)
 where
     W::Error: Drop,
@@ -153,7 +153,7 @@ fn a_pretty_part_that_fails_by_itself(rt: HostRuntime) {
     same(&rt, cursor.remaining(), 8, "what remains");
 }
 
-// A pretty part of one piece, with the mode in it, and the mode and depth behind it.
+// A pretty part of one piece, with the mode in it, and the mode and depth after it.
 fn write_in_pretty_mode<W: uWrite>(
     f: &mut Formatter<W>,
     piece: &str,
@@ -177,5 +177,5 @@ fn a_pretty_part_whose_piece_is_refused(rt: HostRuntime) {
     let mut f = Formatter::new(cursor);
     let taken = write_in_pretty_mode(&mut f, "a");
     same(&rt, taken, (Ok(()), true, false, 0), "a piece that fits");
-    same(&rt, f.into_inner().written(), b"a".as_slice(), "it alone");
+    same(&rt, f.into_inner().written(), b"a".as_slice(), "the piece");
 }

@@ -101,7 +101,7 @@ fn calls_of(alloc: Global, command: Command, input: &str) -> Result<String, Allo
     Ok(rows)
 }
 
-// An answer of seven bytes to four.
+// Four bytes of input, seven of answer.
 const OF_LENGTHS: &str = "\
 r0 wf;
 rrrr0 wwwwwwwf;
@@ -115,7 +115,7 @@ r0 wf!;
 r0 wwwwwwwf!;
 ";
 
-// One of eleven bytes to four.
+// Four bytes of input, eleven of answer.
 const OF_PRETTY: &str = "\
 r0 wf;
 rrrr0 wwwwwwwwwwwf;
@@ -129,7 +129,7 @@ r0 wf!;
 r0 wwwwwwwwwwwf!;
 ";
 
-// One of five bytes to ten.
+// Ten bytes of input, five of answer.
 const OF_PLAIN: &str = "\
 r0 wf;
 rrrrrrrrrr0 wwwwwf;
@@ -143,7 +143,7 @@ r0 wf!;
 r0 wwwwwf!;
 ";
 
-// None, to four bytes that are refused.
+// Four bytes of input that are refused, and so no answer.
 const OF_NO_TEXT: &str = "\
 r0 ;
 rrrr0 ;
@@ -157,7 +157,7 @@ r0 ;
 r0 ;
 ";
 
-// One of three bytes, to no byte.
+// No input, three bytes of answer.
 const OF_NOTHING: &str = "\
 0 wf;
 0 wwwf;

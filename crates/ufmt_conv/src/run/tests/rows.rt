@@ -4,7 +4,7 @@ use super::*;
 // A command, its input, the status of the run, and all that is written.
 type Row = (Command, &'static [u8], u8, &'static str);
 
-// Blocks of each kind, one in another. A last line feed of the input belongs to no text.
+// Nested blocks of each kind. A line feed at the end of the input is no part of the text.
 const BLOCKS: [Row; 18] = [
     (Command::Lengths, b"", 0, "[]\n"),
     (Command::Lengths, b"\n", 0, "[0]\n"),
@@ -56,7 +56,7 @@ const BLOCKS: [Row; 18] = [
     (Command::Plain, b"n(\n    x,\n)", 0, "n(x)\n"),
 ];
 
-// Leaves in quotes, by themselves and in blocks. What is printed is read again.
+// Leaves in quotes, by themselves and in blocks. Each text that is printed is read again.
 const QUOTED: [Row; 23] = [
     (
         Command::Pretty,
@@ -118,8 +118,8 @@ const QUOTED: [Row; 23] = [
     (Command::Pretty, b"\"\\u{7f}\"", 0, "\"\\u{7f}\"\n"),
 ];
 
-// What is no text of the command's kind: empty, with a space, comma or line feed too many or too few, cut
-// off, or of the other kind.
+// Inputs that are no text of the command's kind: empty, with a space, comma or line feed too many or too
+// few, cut off, or of the other kind.
 const MISPLACED: [Row; 22] = [
     (Command::Pretty, b"", 1, ""),
     (Command::Pretty, b"\n", 1, ""),
@@ -145,7 +145,7 @@ const MISPLACED: [Row; 22] = [
     (Command::Plain, b"[1]", 1, ""),
 ];
 
-// What stands in no quotes, in wrong ones, or where a name is to stand. Each is no text of either kind.
+// Inputs without quotes, in wrong quotes, or with quotes around a name. None is a text of either kind.
 const MISQUOTED: [&[u8]; 21] = [
     b"'''",
     b"\"\"\"",
@@ -170,7 +170,7 @@ const MISQUOTED: [&[u8]; 21] = [
     b"\"\x7f\"",
 ];
 
-// Whether a run had this status and outcome, and the output took just the bytes that it should.
+// Whether a run had this status and outcome, and wrote exactly the bytes that it should.
 fn is_judged(given: Ran, status: u8, outcome: Result<(), Fault>) -> bool {
     let given_status = match given.0 {
         Ok(()) => 0,
@@ -179,7 +179,7 @@ fn is_judged(given: Ran, status: u8, outcome: Result<(), Fault>) -> bool {
     given_status == status && given == wanted(outcome)
 }
 
-// What a command says of an input that it refuses.
+// The fault of an input that the command refuses.
 fn refusal(command: Command) -> Fault {
     match command {
         Command::Lengths => Fault::CannotRead,
@@ -188,9 +188,9 @@ fn refusal(command: Command) -> Fault {
     }
 }
 
-// Whether a row is answered by one byte a call, by two and by all, and with a line feed behind an input
-// that has none at its end.
-fn is_answered(alloc: Global, row: Row) -> Result<bool, AllocError> {
+// Whether runs give what the row says, by devices of one byte a call, of two and of all, and with a line
+// feed after an input that has none at its end.
+fn is_right(alloc: Global, row: Row) -> Result<bool, AllocError> {
     let (command, input, status, written) = row;
     let outcome = match status {
         0 => Ok(()),
@@ -208,11 +208,11 @@ fn is_answered(alloc: Global, row: Row) -> Result<bool, AllocError> {
     Ok(are_judged && is_judged(last, status, outcome))
 }
 
-// How many rows are answered as they should be before the first that isn't, and that one's input.
-fn answered(alloc: Global, rows: &[Row]) -> (usize, &'static [u8]) {
+// The number of rows before the first that is wrong, and that one's input.
+fn right_rows(alloc: Global, rows: &[Row]) -> (usize, &'static [u8]) {
     let mut count = 0usize;
     for row in rows {
-        if is_answered(alloc, *row) != Ok(true) {
+        if is_right(alloc, *row) != Ok(true) {
             return (count, row.1);
         }
         count = count.saturating_add(1);
@@ -221,31 +221,31 @@ fn answered(alloc: Global, rows: &[Row]) -> (usize, &'static [u8]) {
 }
 
 #[test]
-fn blocks_are_answered(rt: HostRuntime) {
-    let given = answered(rt.alloc(), &BLOCKS);
+fn blocks_are_converted(rt: HostRuntime) {
+    let given = right_rows(rt.alloc(), &BLOCKS);
     same(&rt, given, (18, b"none"), "blocks");
 }
 
 #[test]
-fn leaves_in_quotes_are_answered(rt: HostRuntime) {
-    let given = answered(rt.alloc(), &QUOTED);
+fn leaves_in_quotes_are_converted(rt: HostRuntime) {
+    let given = right_rows(rt.alloc(), &QUOTED);
     same(&rt, given, (23, b"none"), "leaves in quotes");
 }
 
 #[test]
-fn what_is_no_text_is_refused(rt: HostRuntime) {
-    let given = answered(rt.alloc(), &MISPLACED);
+fn other_inputs_are_refused(rt: HostRuntime) {
+    let given = right_rows(rt.alloc(), &MISPLACED);
     same(&rt, given, (22, b"none"), "no texts");
 }
 
 #[test]
-fn what_is_quoted_otherwise_is_refused(rt: HostRuntime) {
+fn inputs_in_wrong_quotes_are_refused(rt: HostRuntime) {
     for input in MISQUOTED {
         let rows = [
             (Command::Pretty, input, 1, ""),
             (Command::Plain, input, 1, ""),
         ];
-        let given = answered(rt.alloc(), &rows);
+        let given = right_rows(rt.alloc(), &rows);
         same(&rt, given, (2, b"none"), "misquoted");
     }
 }
