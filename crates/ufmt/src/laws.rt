@@ -27,7 +27,8 @@ use std::num::{
     NonZeroU64, NonZeroUsize,
 };
 pub use ufmt_core::laws::{
-    documents_of_collections, documents_of_leaves, documents_of_texts, documents_of_tuples,
+    blocks_are_their_parts, documents_of_collections, documents_of_leaves,
+    documents_of_sorted_collections, documents_of_texts, documents_of_tuples,
     references_print_what_they_refer_to,
 };
 use ufmt_core::{Formatter, uDebug, uWrite};
@@ -127,6 +128,17 @@ pub fn references_display_what_they_refer_to<T: uDisplay, A: Allocator>()
     ensures display_mut { (x : MutBor T) → ⟦<&'static mut T as uDisplay>⟧.display x ≡ T.display
         x.now }
     ensures display_box { (x : Box T A) → ⟦<Box<T, A> as uDisplay>⟧.display x ≡ T.display x.value }
+{}
+
+/// A reference prints the hexadecimal text of what it refers to.
+pub fn references_print_one_hexadecimal_text<T: uDisplayHex>()
+    ensures { (x : Bor T) → ⟦<&'static T as uDisplayHex>⟧.hex_text x ≡ T.hex_text x.now }
+{}
+
+/// `()` is the line without a piece, and a pair of lines has the pieces of both, in order.
+pub fn pieces_of_lines<A: Line, B: Line>()
+    ensures of_unit { (u : Unit {0}) → ⟦<() as Line>⟧.pieces u ≡ [] }
+    ensures of_pair { (c : A × B) → ⟦<(A, B) as Line>⟧.pieces c ≡ A.pieces c.0 ++ B.pieces c.1 }
 {}
 
 /// A character and a text are displayed as they are: as the leaf of their bytes.

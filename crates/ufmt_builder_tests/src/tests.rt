@@ -6,6 +6,7 @@ mod builders;
 mod entries;
 mod evaluations;
 mod fields;
+mod left_deeper;
 mod rows;
 mod stopped_calls;
 mod writers;

@@ -8,21 +8,20 @@ use Rattle.std.proofs.lemmas.Iterator.Consumers.{YieldsList-so_far}
 use Rattle.std.proofs.lemmas.List.{map-append, take_more, take-append-drop}
 use Rattle.std.proofs.lemmas.Simd.{map-map}
 use Rattle.ufmt_core.specs.Document.{Document}
-use Rattle.ufmt_core.specs.Layout.{Setting, Count, Frame, inside, layout, next, block_tail, trail}
-use Rattle.ufmt_core.specs.Writes.{Seen, Writes}
-use Rattle.ufmt_core.specs.Formatter.{Formatter, LaysOut, Prints, setting_of, writer_of}
-use Rattle.ufmt_core.specs.Block.{Status, Lent, LentValue, Block, Same, WritesPart, WritesEntry, WritesRow, WritesEntries, Abandons, EndsEntry, WritesEnding, After, IsOpen, StopsIn, framed, framed_all, frame_of, inner, lead_of, pair_text, count_after, trail_of}
+use Rattle.ufmt_core.specs.Layout.{Setting, Kind, Count, Zero, Frame, block, ending, frame, inside, layout, next, block_tail}
+use Rattle.ufmt_core.specs.Writes.{Seen}
+use Rattle.ufmt_core.specs.Formatter.{Formatter, LaysOut, Prints, setting_of}
+use Rattle.ufmt_core.specs.Block.{Status, Lent, LentValue, Block, Same, WritesPart, WritesEntry, WritesRow, WritesEntries, Abandons, EndsEntry, WritesEnding, After, IsInside, IsOpen, StopsIn, block_in_parts, framed, framed_all, frame_of, inner, lead_of, pair_text, count_after, trail_of}
 use Rattle.ufmt_core.proofs.Writing.{is_ok-err, Writes-then, Writes-fails, Writes-nothing, Prints-then, Prints-then_at}
 
 module _ {W : Type 0} where
   pub Same-then : {old mid new : Block W} → Same old mid → Same mid new → Same old new
   Same-then a b = record { reference = b.reference ∙ a.reference; kind = b.kind ∙ a.kind; outer = b.outer ∙ a.outer }
 
-  -- what a call leaves depends on the entries' mode and depth and on those from before alone
-  After-from : (ok : Bool) (count : Count) (old mid new : Block W) → inner mid ≡ inner old → mid.outer ≡ old.outer → After ok count mid new
-      → After ok count old new
-  After-from true count old mid new i o h = (h.0, h.1, h.2 ∙ i)
-  After-from false count old mid new i o h = (h.0, h.1 ∙ o)
+  -- what a call leaves depends on nothing before it but the mode and depth from before the builder
+  After-from : (ok : Bool) (count : Count) (old mid new : Block W) → mid.outer ≡ old.outer → After ok count mid new → After ok count old new
+  After-from true count old mid new o h = h
+  After-from false count old mid new o h = (h.0, h.1 ∙ o)
 
   -- the builder with this status, where its formatter has come to this value
   abbrev pub lent_to : Status → Block W → Formatter W → Block W
@@ -35,7 +34,7 @@ module _ {W : Type 0} {seen : Seen W} where
   WritesPart-then {old} {mid} {new} {ok = ok} {count = count} a b = record {
     wrote = Writes-then a.wrote b.wrote;
     same = Same-then a.same b.same;
-    after = After-from ok count old mid new a.after.2 a.same.outer b.after;
+    after = After-from ok count old mid new a.same.outer b.after;
   }
 
   -- a beginning of a part is one of what begins with it
@@ -66,13 +65,12 @@ handed_ok (Err x) result h k = cc (ap is_ok h)
 -- the lent formatter has printed a text, and then a call of the builder
 module _ {W : Type 0} {seen : Seen W} (pending : Status) (old : Block W) {new : Block W} {ended : Formatter W} {printed : List ℕ} where
   -- wrote what follows
-  WritesPart-printed : (tail : Setting → List ℕ) {ok : Bool} {count : Count} → Prints seen old.formatter printed true ended
-      → WritesPart seen (lent_to pending old ended) (tail (setting_of ended)) ok count new →
-      WritesPart seen old (printed ++ tail (inner old)) ok count new
-  WritesPart-printed tail {ok} {count} p a = record {
-    wrote = Writes-then p.wrote (subst (λ (s : Setting). Writes seen (writer_of ended) (tail s) ok (writer_of new.formatter)) p.same_setting a.wrote);
+  WritesPart-printed : {tail : List ℕ} {ok : Bool} {count : Count} → Prints seen old.formatter printed true ended
+      → WritesPart seen (lent_to pending old ended) tail ok count new → WritesPart seen old (printed ++ tail) ok count new
+  WritesPart-printed {ok = ok} {count} p a = record {
+    wrote = Writes-then p.wrote a.wrote;
     same = record { reference = a.same.reference; kind = a.same.kind; outer = a.same.outer };
-    after = After-from ok count old (lent_to pending old ended) new p.same_setting refl a.after;
+    after = After-from ok count old (lent_to pending old ended) new refl a.after;
   }
 
   -- was handed its failure
@@ -83,20 +81,26 @@ module _ {W : Type 0} {seen : Seen W} (pending : Status) (old : Block W) {new : 
     after = a.after;
   }
 
+-- the lent formatter has printed a text at the mode and depth of the entries
+module _ {W : Type 0} {seen : Seen W} (old : Block W) {begun ended : Formatter W} {before : List ℕ} {ok : Bool} where
+  Prints-lent : (text : Setting → List ℕ) → IsInside old → Prints seen old.formatter before true begun
+      → Prints seen begun (text (setting_of begun)) ok ended → Prints seen old.formatter (before ++ text (inner old)) ok ended
+  Prints-lent text inside_b p l = subst (λ (s : Setting). Prints seen old.formatter (before ++ text s) ok ended) inside_b (Prints-then_at text p l)
+
 -- an entry in halves: what stands before the value was written, the lent formatter has printed the value's text, and the second half has ended the entry
 module _ {W E : Type 0} {seen : Seen W} (pending : Status) (old : Block W) {new : Block W} {begun : Formatter W} (ended : Formatter W)
     (before : List ℕ) (text : Setting → List ℕ) where
-  pub WritesPart-between : {mid : Block W} (answer result : Result (Unit {0}) E) → mid ≡ lent_to pending old ended
+  pub WritesPart-between : {mid : Block W} (answer result : Result (Unit {0}) E) → IsInside old → mid ≡ lent_to pending old ended
       → Prints seen old.formatter before true begun →
       Prints seen begun (text (setting_of begun)) (is_ok answer) ended → EndsEntry seen answer mid result (is_ok result) new →
       WritesPart seen old (before ++ (text (inner old) ++ trail_of old)) (is_ok result) (next old.count) new
-  WritesPart-between (Ok x) result m p l e =
+  WritesPart-between (Ok x) result inside_b m p l e =
       let end = subst (λ (b : Block W). EndsEntry seen (Ok x) b result (is_ok result) new) m e in
-      rw (← append_assoc before (text (inner old)) (trail_of old)) (WritesPart-printed pending old (λ s. trail s.mode) (Prints-then_at text p l) end.trail)
-  WritesPart-between (Err x) result m p l e =
+      rw (← append_assoc before (text (inner old)) (trail_of old)) (WritesPart-printed pending old (Prints-lent old text inside_b p l) end.trail)
+  WritesPart-between (Err x) result inside_b m p l e =
       let end = subst (λ (b : Block W). EndsEntry seen (Err x) b result (is_ok result) new) m e in
       rw (ap is_ok end.error.0, ← append_assoc before (text (inner old)) (trail_of old))
-      (WritesPart-fails _ (WritesPart-abandoned pending old (Prints-then_at text p l) end.error.1))
+      (WritesPart-fails _ (WritesPart-abandoned pending old (Prints-lent old text inside_b p l) end.error.1))
 
 -- a map's entry is what leads to its value, the value, and what follows
 pair_framed : {W : Type 0} (b : Block W) (key value : Document) → framed (frame_of b) (inner b) b.count (pair_text key value (inner b))
@@ -106,34 +110,34 @@ pair_framed b key value = simp append_assoc
 -- its key, `: ` and the value, each by the lent formatter
 module _ {W E : Type 0} {seen : Seen W} (old : Block W) {new : Block W} {begun : Formatter W} (ended : Formatter W) (key value : Document) where
   -- the key and then `: `, where that failed, or where the key's answer was an error
-  pub WritesEntry-no_value : {mid : Block W} (answer : Result (Unit {0}) E) → mid ≡ lent_to Lent old ended
+  pub WritesEntry-no_value : {mid : Block W} (answer : Result (Unit {0}) E) → IsInside old → mid ≡ lent_to Lent old ended
       → Prints seen old.formatter (lead_of old) true begun → LaysOut seen begun key (is_ok answer) ended →
       OnOk answer (StopsIn seen mid (codes ": ") new) → OnErr answer (Abandons mid new) → WritesEntry seen old (pair_text key value) false new
-  WritesEntry-no_value (Ok x) m p l stop error =
+  WritesEntry-no_value (Ok x) inside_b m p l stop error =
       record {
         part = rw (pair_framed old key value) (WritesPart-fails _
-            (WritesPart-printed Lent old (λ s. codes ": ") (Prints-then_at (λ s. layout s key) p l.prints)
+            (WritesPart-printed Lent old (Prints-lent old (λ s. layout s key) inside_b p l.prints)
             (subst (λ (b : Block W). StopsIn seen b (codes ": ") new) m stop)));
       }
-  WritesEntry-no_value (Err x) m p l stop error =
+  WritesEntry-no_value (Err x) inside_b m p l stop error =
       record {
         part = rw (pair_framed old key value) (WritesPart-fails _ (WritesPart-fails (codes ": ") {between = old.count} {count = old.count}
-            (WritesPart-abandoned Lent old (Prints-then_at (λ s. layout s key) p l.prints) (subst (λ (b : Block W). Abandons b new) m error))));
+            (WritesPart-abandoned Lent old (Prints-lent old (λ s. layout s key) inside_b p l.prints) (subst (λ (b : Block W). Abandons b new) m error))));
       }
 
   -- `: ` and the value too
   pub WritesEntry-pair : {Y : Type 0} {mid last : Block W} {lent : Formatter W} (printed : Formatter W)
-      (key_answer answer result : Result (Unit {0}) E) (lending : Result Y E) →
+      (key_answer answer result : Result (Unit {0}) E) (lending : Result Y E) → IsInside old →
       mid ≡ lent_to Lent old ended → Prints seen old.formatter (lead_of old) true begun → LaysOut seen begun key (is_ok key_answer) ended
       → IfErr key_answer (λ e. lending ≡ Err e) → IsOk lending →
       last ≡ lent_to LentValue mid printed → Prints seen mid.formatter (codes ": ") true lent
       → LaysOut seen lent value (is_ok answer) printed → EndsEntry seen answer last result (is_ok result) new →
       WritesEntry seen old (pair_text key value) (is_ok result) new
-  WritesEntry-pair {last = last} {lent = lent} printed key_answer answer result lending m p k error ok l colon v e =
+  WritesEntry-pair {last = last} {lent = lent} printed key_answer answer result lending inside_b m p k error ok l colon v e =
       let keyed = subst (λ (o : Bool). Prints seen begun (layout (setting_of begun) key) o ended) (handed_ok key_answer lending error ok) k.prints in
-      let front = Prints-then (Prints-then_at (λ s. layout s key) p keyed) (subst (λ (b : Block W). Prints seen b.formatter (codes ": ") true lent) m colon) in
+      let front = Prints-then (Prints-lent old (λ s. layout s key) inside_b p keyed) (subst (λ (b : Block W). Prints seen b.formatter (codes ": ") true lent) m colon) in
       let lent_value : last ≡ lent_to LentValue old printed = l ∙ ap (λ b. lent_to LentValue b printed) m in
-      record { part = rw (pair_framed old key value) (WritesPart-between LentValue old printed _ (λ s. layout s value) answer result lent_value front v.prints e) }
+      record { part = rw (pair_framed old key value) (WritesPart-between LentValue old printed _ (λ s. layout s value) answer result inside_b lent_value front v.prints e) }
 
 -- entries in a row
 
@@ -142,6 +146,15 @@ pub block_tail-append : (f : Frame) (s : Setting) (count : Count) (ts us : List 
     → block_tail f s count (ts ++ us) ≡ framed_all f (inside s) count ts ++ block_tail f s (count_after count ts) us
 block_tail-append f s count [] us = refl
 block_tail-append f s count (t ∷ ts) us = rw (block_tail-append f s (next count) ts us) (simp append_assoc)
+
+-- a block is its parts
+block_tail-parts : (f : Frame) (s : Setting) (count : Count) (ts : List (List ℕ))
+    → block_tail f s count ts ≡ framed_all f (inside s) count ts ++ ending f s (count_after count ts)
+block_tail-parts f s count [] = refl
+block_tail-parts f s count (t ∷ ts) = rw (block_tail-parts f s (next count) ts) (simp append_assoc)
+
+pub block-parts : (kind : Kind) (name : List ℕ) (s : Setting) (ts : List (List ℕ)) → block kind s name ts ≡ block_in_parts kind name s ts
+block-parts kind name s ts = ap (λ t. name ++ ((frame s.mode kind).opening ++ t)) (block_tail-parts (frame s.mode kind) s Zero ts)
 
 framed_all-append : (f : Frame) (i : Setting) (count : Count) (ts us : List (List ℕ))
     → framed_all f i count (ts ++ us) ≡ framed_all f i count ts ++ framed_all f i (count_after count ts) us
@@ -162,7 +175,7 @@ module _ {W D : Type 0} {seen : Seen W} (text_of : D → Setting → List ℕ) w
   pub WritesRow-none : (b : Block W) → IsOpen b → WritesRow seen b text_of [] true b
   WritesRow-none b open_b = record {
     part =
-        record { wrote = Writes-nothing _; same = record { reference = refl; kind = refl; outer = refl }; after = (refl, open_b, refl) };
+        record { wrote = Writes-nothing _; same = record { reference = refl; kind = refl; outer = refl }; after = (refl, open_b) };
   }
 
   -- after some entries, one more
@@ -175,7 +188,7 @@ module _ {W D : Type 0} {seen : Seen W} (text_of : D → Setting → List ℕ) w
       ap (λ ts. framed_all (frame_of old) (inner old) old.count ts) (map-append (λ x. text_of x (inner old)) xs (y ∷ []))
       ∙ framed_all-append (frame_of old) (inner old) old.count texts (text_of y (inner old) ∷ [])
       ∙ ap (λ t. framed_all (frame_of old) (inner old) old.count texts ++ t)
-      (append-nil _ ∙ rw (a.part.after.2, a.part.same.kind, a.part.after.0, count_after-map (λ x. text_of x (inner old)) old.count xs) refl) in
+      (append-nil _ ∙ rw (a.part.same.outer, a.part.same.kind, a.part.after.0, count_after-map (λ x. text_of x (inner old)) old.count xs) refl) in
       record { part = rw (part, count_after-append old.count xs y, sym a.part.after.0) (WritesPart-then a.part e.part) }
 
   -- after the first entries of a list, the next

@@ -22,10 +22,10 @@ abbrev pub Entries : Type 0
 Entries = Setting → List (List ℕ)
 
 module _ {W : Type 0} where
-  -- what is left of the block was written, where the builder holds the reference of this name, at the mode and depth of the entries; the formatter
-  -- has come to `last`, at the mode and depth from before the builder
+  -- what is left of the block was written, where the builder holds the reference of this name; the formatter has come to `last`, at the mode and
+  -- depth from before the builder
   pub record Completes (seen : Seen W) (reference : ℕ) (b : Block W) (left : Entries) (ok : Bool) (last : Formatter W) : Type 0 where
-    pub continues : reference ≡ b.reference → IsInside b
+    pub continues : reference ≡ b.reference
         → Writes seen (writer_of b.formatter) (tail_of b left) ok (writer_of last) × (setting_of last ≡ b.outer)
 
   -- the loan of the reference of this name ends with the builder's formatter
@@ -36,7 +36,7 @@ module _ {W : Type 0} where
   pub record Step (seen : Seen W) (b : Block W) (left : Entries) (ok : Bool) (b' : Block W) (more : Entries) : Type 0 where
     pub part : List ℕ
     pub count : Count
-    pub text : IsInside b → tail_of b left ≡ part ++ block_tail (frame b.outer.mode b.kind) b.outer count (more (inside b.outer))
+    pub text : tail_of b left ≡ part ++ block_tail (frame_of b) b.outer count (more (inner b))
     pub wrote : WritesPart seen b part ok count b'
 
 -- the layout of this document is an opening, and what is left of a block of this kind
@@ -75,7 +75,7 @@ module _ {W : Type 0} {seen : Seen W} {start last : Formatter W} {d : Document} 
   pub opened : {reference : ℕ} {b : Block W} {ok : Bool} → WritesOpening seen start reference kind opening b
       → Completes seen reference b left ok last → LaysOut seen start d ok last
   opened {b = b} o c =
-      let more = c.continues (sym o.same.reference) (o.inner ∙ ap inside (sym o.same.outer)) in
+      let more = c.continues (sym o.same.reference) in
       let text : layout (setting_of start) d ≡ opening ++ tail_of b left = rw (o.same.outer, o.same.kind, o.count) (is_block.joined (setting_of start)) in
       record { prints = record { wrote = rw text (Writes-then o.wrote more.0); same_setting = more.1 ∙ o.same.outer } }
 
@@ -94,39 +94,35 @@ field_texts-fields_of i (f ∷ fs) = ap (λ ts. field_text f.0 f.1 i ∷ ts) (fi
 
 -- a step, and then a call that writes all that is left and the end
 module _ {W : Type 0} {seen : Seen W} {b b' : Block W} {left more : Entries} where
-  step_text : (a : Step seen b left true b' more) → IsInside b → tail_of b left ≡ a.part ++ tail_of b' more
-  step_text a inside_b = rw (a.wrote.same.outer, a.wrote.same.kind, a.wrote.after.0) (a.text inside_b)
+  step_text : (a : Step seen b left true b' more) → tail_of b left ≡ a.part ++ tail_of b' more
+  step_text a = rw (a.wrote.same.outer, a.wrote.same.kind, a.wrote.after.0) a.text
 
-  pub ending_written : {new : Block W} {ok : Bool} → IsInside b → Step seen b left true b' more → WritesEnding seen b' (tail_of b' more) ok new
+  pub ending_written : {new : Block W} {ok : Bool} → Step seen b left true b' more → WritesEnding seen b' (tail_of b' more) ok new
       → WritesEnding seen b (tail_of b left) ok new
-  ending_written inside_b a f = rw (step_text a inside_b) (WritesEnding-then a.wrote f)
+  ending_written a f = rw (step_text a) (WritesEnding-then a.wrote f)
 
-  pub ending_failed : IsInside b → Step seen b left false b' more → WritesEnding seen b (tail_of b left) false b'
-  ending_failed inside_b a = rw (a.text inside_b) (WritesEnding-fails _ a.wrote)
+  pub ending_failed : Step seen b left false b' more → WritesEnding seen b (tail_of b left) false b'
+  ending_failed a = rw a.text (WritesEnding-fails _ a.wrote)
 
 -- a call of a builder went on, failed, or closed the block
 module _ {W : Type 0} {seen : Seen W} {reference : ℕ} {b b' : Block W} {last : Formatter W} {left : Entries} where
   pub written : {more : Entries} {ok : Bool} → Step seen b left true b' more → Completes seen reference b' more ok last
       → Completes seen reference b left ok last
   written a c = record {
-    continues = λ h inside_b.
-        let then = c.continues (h ∙ sym a.wrote.same.reference) (a.wrote.after.2 ∙ inside_b ∙ ap inside (sym a.wrote.same.outer)) in
-        (rw (step_text a inside_b) (Writes-then a.wrote.wrote then.0), then.1 ∙ a.wrote.same.outer);
+    continues = λ h.
+        let then = c.continues (h ∙ sym a.wrote.same.reference) in
+        (rw (step_text a) (Writes-then a.wrote.wrote then.0), then.1 ∙ a.wrote.same.outer);
   }
 
-  closed : {ok : Bool} → (IsInside b → WritesEnding seen b (tail_of b left) ok b') → GivesBack reference b' last → Completes seen reference b left ok last
-  closed closing e = record {
-    continues = λ h inside_b.
-        let f = closing inside_b in
+  pub completed : {ok : Bool} → WritesEnding seen b (tail_of b left) ok b' → GivesBack reference b' last → Completes seen reference b left ok last
+  completed f e = record {
+    continues = λ h.
         let at_end = e (h ∙ sym f.same.reference) in
         (rw at_end f.wrote, ap setting_of at_end ∙ f.restored);
   }
 
   pub failed : {more : Entries} → Step seen b left false b' more → GivesBack reference b' last → Completes seen reference b left false last
-  failed a = closed (λ inside_b. ending_failed inside_b a)
-
-  pub completed : {ok : Bool} → WritesEnding seen b (tail_of b left) ok b' → GivesBack reference b' last → Completes seen reference b left ok last
-  completed f = closed (λ inside_b. f)
+  failed a = completed (ending_failed a)
 
 pub finished : {W : Type 0} {seen : Seen W} {reference : ℕ} {b b' : Block W} {last : Formatter W} {ok : Bool}
     → WritesEnding seen b (ending_of b) ok b' → GivesBack reference b' last → Completes seen reference b (λ i. []) ok last
@@ -134,22 +130,21 @@ finished = completed
 
 module _ {W : Type 0} (b : Block W) where
   -- an entry is the first part of what is left
-  block_tail-entry : (text : Setting → List ℕ) (left : Entries) → IsInside b →
+  block_tail-entry : (text : Setting → List ℕ) (left : Entries) →
       tail_of b (λ i. text i ∷ left i) ≡ framed (frame_of b) (inner b) b.count (text (inner b))
-      ++ block_tail (frame b.outer.mode b.kind) b.outer (next b.count) (left (inside b.outer))
-  block_tail-entry text left inside_b = rw inside_b (simp append_assoc)
+      ++ block_tail (frame_of b) b.outer (next b.count) (left (inner b))
+  block_tail-entry text left = simp append_assoc
 
   -- entries in a row are
   block_tail-row : {D : Type 0} (text_of : D → Setting → List ℕ) (items : List D) (left more : Entries)
-      → ((i : Setting) → left i ≡ map (λ x. text_of x i) items ++ more i) → IsInside b →
+      → ((i : Setting) → left i ≡ map (λ x. text_of x i) items ++ more i) →
       tail_of b left ≡ framed_all (frame_of b) (inner b) b.count (map (λ x. text_of x (inner b)) items)
-      ++ block_tail (frame b.outer.mode b.kind) b.outer (count_after b.count items) (more (inside b.outer))
-  block_tail-row text_of items left more all inside_b =
-      let texts = map (λ x. text_of x (inside b.outer)) items in
-      let f = frame b.outer.mode b.kind in
-      let split : tail_of b left ≡ framed_all f (inside b.outer) b.count texts ++ block_tail f b.outer (count_after b.count texts) (more (inside b.outer)) =
-      ap (λ ts. block_tail f b.outer b.count ts) (all (inside b.outer)) ∙ block_tail-append f b.outer b.count texts (more (inside b.outer)) in
-      rw (inside_b, sym (count_after-map (λ x. text_of x (inside b.outer)) b.count items)) split
+      ++ block_tail (frame_of b) b.outer (count_after b.count items) (more (inner b))
+  block_tail-row text_of items left more all =
+      let texts = map (λ x. text_of x (inner b)) items in
+      let split : tail_of b left ≡ framed_all (frame_of b) (inner b) b.count texts ++ block_tail (frame_of b) b.outer (count_after b.count texts) (more (inner b)) =
+      ap (λ ts. block_tail (frame_of b) b.outer b.count ts) (all (inner b)) ∙ block_tail-append (frame_of b) b.outer b.count texts (more (inner b)) in
+      rw (sym (count_after-map (λ x. text_of x (inner b)) b.count items)) split
 
 module _ {W : Type 0} {seen : Seen W} {b b' : Block W} {ok : Bool} where
   pub entry : {text : Setting → List ℕ} {left : Entries} → WritesEntry seen b text ok b' → Step seen b (λ i. text i ∷ left i) ok b' left
@@ -207,16 +202,16 @@ field_framed b label d = simp append_assoc
 -- an entry in halves: the lent formatter has printed the value, and the second half has ended the entry
 module _ {W E : Type 0} {seen : Seen W} {d : Document} {begun ended : Formatter W} {mid new : Block W} {answer result : Result (Unit {0}) E}
     (old : Block W) where
-  pub entry_between : mid ≡ lent_to Lent old ended → Prints seen old.formatter (lead_of old) true begun → LaysOut seen begun d (is_ok answer) ended
+  pub entry_between : IsInside old → mid ≡ lent_to Lent old ended → Prints seen old.formatter (lead_of old) true begun → LaysOut seen begun d (is_ok answer) ended
       → EndsEntry seen answer mid result (is_ok result) new → WritesEntry seen old (entry_text d) (is_ok result) new
-  entry_between m p l e = record { part = WritesPart-between Lent old ended _ (entry_text d) answer result m p l.prints e }
+  entry_between inside_b m p l e = record { part = WritesPart-between Lent old ended _ (entry_text d) answer result inside_b m p l.prints e }
 
-  pub field_between : (label : List ℕ) → mid ≡ lent_to Lent old ended → Prints seen old.formatter (field_lead_of label old) true begun
+  pub field_between : (label : List ℕ) → IsInside old → mid ≡ lent_to Lent old ended → Prints seen old.formatter (field_lead_of label old) true begun
       → LaysOut seen begun d (is_ok answer) ended → EndsEntry seen answer mid result (is_ok result) new
       → WritesEntry seen old (field_text label d) (is_ok result) new
-  field_between label m p l e = record {
+  field_between label inside_b m p l e = record {
     part =
-        rw (field_framed old label d) (WritesPart-between Lent old ended _ (entry_text d) answer result m p l.prints e);
+        rw (field_framed old label d) (WritesPart-between Lent old ended _ (entry_text d) answer result inside_b m p l.prints e);
   }
 
 -- the first half of an entry, also of a map's, or of a field failed

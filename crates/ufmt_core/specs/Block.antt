@@ -6,7 +6,7 @@ pub use Rattle.ufmt_core.specs.declared.formatter.builder.Status.TheVariants.{Op
 use Rattle.ufmt_core.specs.Document.{Document, Documents, Fields, Pairs}
 use Rattle.ufmt_core.specs.Layout.{Setting, Kind, Count, Zero, Frame, frame, inside, layout, lead, trail, ending, next, block_tail, texts, pair_texts, field_texts}
 use Rattle.ufmt_core.specs.Writes.{Seen, Writes}
-use Rattle.ufmt_core.specs.Formatter.{Formatter, writer_of, setting_of}
+use Rattle.ufmt_core.specs.Formatter.{Formatter, at_setting, writer_of, setting_of}
 
 -- a builder as contracts see it
 pub record Block (W : Type 0) : Type 0 where
@@ -57,14 +57,24 @@ abbrev pub count_after : {X : Type 0} → Count → List X → Count
 count_after count [] = count
 count_after count (x ∷ xs) = count_after (next count) xs
 
+-- a block with this name and entries with these texts, in parts: its name and opening, its entries in a row, and its ending
+abbrev pub block_in_parts : Kind → List ℕ → Setting → List (List ℕ) → List ℕ
+block_in_parts kind name s texts =
+    let f = frame s.mode kind in
+    name ++ (f.opening ++ (framed_all f (inside s) Zero texts ++ ending f s (count_after Zero texts)))
+
 module _ {W : Type 0} where
   -- the mode and depth of the entries
   abbrev pub inner : Block W → Setting
-  inner b = setting_of b.formatter
+  inner b = inside b.outer
+
+  -- the formatter, at that mode and depth
+  abbrev pub inner_formatter : Block W → Formatter W
+  inner_formatter b = at_setting b.formatter (inner b)
 
   -- the brackets of the entries
   abbrev pub frame_of : Block W → Frame
-  frame_of b = frame (inner b).mode b.kind
+  frame_of b = frame b.outer.mode b.kind
 
   -- what stands before the next entry and before the value of a struct's field, what follows an entry, and what ends the block
   abbrev pub lead_of : Block W → List ℕ
@@ -74,22 +84,22 @@ module _ {W : Type 0} where
   field_lead_of label b = lead_of b ++ (label ++ codes ": ")
 
   abbrev pub trail_of : Block W → List ℕ
-  trail_of b = trail (inner b).mode
+  trail_of b = trail b.outer.mode
 
   abbrev pub ending_of : Block W → List ℕ
-  ending_of b = ending (frame b.outer.mode b.kind) b.outer b.count
+  ending_of b = ending (frame_of b) b.outer b.count
 
   -- what is left of the block: entries with these texts, and the end
   abbrev pub tail_of : Block W → (Setting → List (List ℕ)) → List ℕ
-  tail_of b texts = block_tail (frame b.outer.mode b.kind) b.outer b.count (texts (inside b.outer))
+  tail_of b texts = block_tail (frame_of b) b.outer b.count (texts (inner b))
 
   -- the formatter is at the mode and depth of the entries
   abbrev pub IsInside : Block W → Type 0
-  IsInside b = inner b ≡ inside b.outer
+  IsInside b = setting_of b.formatter ≡ inner b
 
-  -- entries may follow
+  -- entries may follow, and the formatter is at their mode and depth
   abbrev pub IsOpen : Block W → Type 0
-  IsOpen b = b.status ≡ Open
+  IsOpen b = (b.status ≡ Open) × IsInside b
 
   -- the formatter is lent for an entry, of a map for the key
   abbrev pub IsLent : Block W → Type 0
@@ -101,8 +111,8 @@ module _ {W : Type 0} where
 
   -- what a call leaves: on `Ok` an open builder with so many entries, on `Err` a closed one and the mode and depth from before it
   abbrev pub After : Bool → Count → Block W → Block W → Type 0
-  After true count old new = (new.count ≡ count) × (new.status ≡ Open) × (inner new ≡ inner old)
-  After false count old new = (new.status ≡ Closed) × (inner new ≡ old.outer)
+  After true count old new = (new.count ≡ count) × IsOpen new
+  After false count old new = (new.status ≡ Closed) × (setting_of new.formatter ≡ old.outer)
 
   -- it is the same builder, over the same reference, of the same kind of block and with the same mode and depth from before it
   pub record Same (old new : Block W) : Type 0 where
@@ -114,9 +124,8 @@ module _ {W : Type 0} where
   pub record WritesOpening (seen : Seen W) (start : Formatter W) (reference : ℕ) (kind : Kind) (text : List ℕ) (new : Block W) : Type 0 where
     pub wrote : Writes seen (writer_of start) text true (writer_of new.formatter)
     pub same : Same (record { formatter = start; reference = reference; kind = kind; outer = setting_of start; count = Zero; status = Open }) new
-    pub inner : setting_of new.formatter ≡ inside (setting_of start)
     pub count : new.count ≡ Zero
-    pub status : new.status ≡ Open
+    pub is_open : IsOpen new
 
   -- a call has written this part of the block, or a beginning of it
   pub record WritesPart (seen : Seen W) (old : Block W) (text : List ℕ) (ok : Bool) (count : Count) (new : Block W) : Type 0 where
@@ -150,7 +159,7 @@ module _ {W : Type 0} where
     pub wrote : Writes seen (writer_of old.formatter) text ok (writer_of new.formatter)
     pub same : Same old new
     pub closed : new.status ≡ Closed
-    pub restored : inner new ≡ old.outer
+    pub restored : setting_of new.formatter ≡ old.outer
 
 module _ {W D : Type 0} where
   -- entries of these items were written in a row, each with the text that `text_of` tells, or a beginning of them

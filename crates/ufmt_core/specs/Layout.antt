@@ -102,11 +102,6 @@ next Zero = One
 next One = Several
 next Several = Several
 
--- the count of so many entries
-abbrev pub count_of : ℕ → Count
-count_of zero = Zero
-count_of (suc n) = next (count_of n)
-
 -- what is left of a block behind so many entries: entries with these texts, and the end
 abbrev pub block_tail : Frame → Setting → Count → List (List ℕ) → List ℕ
 block_tail f s count [] = ending f s count

@@ -1,9 +1,11 @@
-//! Which document each type has, as the contracts of functions.
+//! Which document each type has, and that a block's layout is its parts, as the contracts of functions.
 ghost use Rattle.std.specs.Prelude.{[], ◌∷◌, ◌≡◌, ℕ, ℤ, List, Box, String, string_bytes, map, true, false, None, Some, Ok, Err};
 ghost use Rattle.std.specs.Borrow.{Bor, MutBor};
 ghost use Rattle.std.specs.Int.NonZero.{non_zero_u8_get, non_zero_u16_get, non_zero_u32_get, non_zero_u64_get, non_zero_usize_get, non_zero_i8_get, non_zero_i16_get, non_zero_i32_get, non_zero_i64_get, non_zero_isize_get};
 ghost use Rattle.std.specs.Str.{chars};
-ghost use Rattle.ufmt_core.specs.Document.{documents, leaf, list_of, map_of, pairs_of, set_of};
+ghost use Rattle.ufmt_core.specs.Block.{block_in_parts};
+ghost use Rattle.ufmt_core.specs.Document.{Documents, Fields, Pairs, documents, leaf, list_of, map_of, pairs_of, set_of, struct_of, tuple_of};
+ghost use Rattle.ufmt_core.specs.Layout.{Braces, Brackets, Setting, Struct, field_texts, inside, layout, pair_texts, texts, tuple_kind};
 ghost use Rattle.ufmt_core.specs.Quoted.{quoted_char, quoted_text};
 ghost use Rattle.ufmt_core.specs.Words.{integer, named, named_tuple, number};
 
@@ -66,9 +68,9 @@ pub fn documents_of_texts<A: Allocator>()
     ensures of_char { (c : ℕ) → ⟦<char as uDebug>⟧.document c ≡ leaf (quoted_char c) }
 {}
 
-/// The document of a variant is the tuple of its name, that of a sequence the list of its items, that
-/// of a set the set of its items and that of a map the map of its entries, each in order.
-pub fn documents_of_collections<T: uDebug + Ord, U: uDebug, A: Allocator, const N: usize>()
+/// The document of a variant is the tuple of its name, and that of a sequence the list of its items, in
+/// order.
+pub fn documents_of_collections<T: uDebug, U: uDebug, A: Allocator, const N: usize>()
     ensures of_some { (x : T) → ⟦<Option<T> as uDebug>⟧.document (Some x) ≡
         named_tuple "Some" (T.document x ∷ []) }
     ensures of_ok { (x : T) → ⟦<Result<T, U> as uDebug>⟧.document (Ok x) ≡
@@ -81,43 +83,84 @@ pub fn documents_of_collections<T: uDebug + Ord, U: uDebug, A: Allocator, const 
         (λ xs. list_of (documents (map T.document xs))) }
     ensures of_vec { ⟦<Vec<T, A> as uDebug>⟧.document ≡
         (λ xs. list_of (documents (map T.document xs.items))) }
-    ensures of_set { ⟦<BTreeSet<T, A> as uDebug>⟧.document ≡
-        (λ xs. set_of (documents (map T.document xs.keys))) }
-    ensures of_map { ⟦<BTreeMap<T, U, A> as uDebug>⟧.document ≡
-        (λ es. map_of (pairs_of (map (λ e. (T.document e.0, U.document e.1)) es.entries))) }
 {}
 
-/// The document of a tuple is the tuple without a name of its fields, in order: of one to three types,
-/// and of one type as often as it has fields.
-pub fn documents_of_tuples<T: uDebug, U: uDebug, V: uDebug>()
-    ensures of_one { ⟦<(T,) as uDebug>⟧.document ≡ (λ t. named_tuple "" (T.document t.0 ∷ [])) }
-    ensures of_two { ⟦<(T, U) as uDebug>⟧.document ≡
-        (λ t. named_tuple "" (T.document t.0 ∷ U.document t.1 ∷ [])) }
-    ensures of_three { ⟦<(T, U, V) as uDebug>⟧.document ≡
-        (λ t. named_tuple "" (T.document t.0 ∷ U.document t.1 ∷ V.document t.2 ∷ [])) }
-    ensures of_four { ⟦<(T, T, T, T) as uDebug>⟧.document ≡
-        (λ t. named_tuple "" (map T.document (t.0 ∷ t.1 ∷ t.2 ∷ t.3 ∷ []))) }
-    ensures of_five { ⟦<(T, T, T, T, T) as uDebug>⟧.document ≡
-        (λ t. named_tuple "" (map T.document (t.0 ∷ t.1 ∷ t.2 ∷ t.3 ∷ t.4 ∷ []))) }
-    ensures of_six { ⟦<(T, T, T, T, T, T) as uDebug>⟧.document ≡
-        (λ t. named_tuple "" (map T.document (t.0 ∷ t.1 ∷ t.2 ∷ t.3 ∷ t.4 ∷ t.5 ∷ []))) }
-    ensures of_seven { ⟦<(T, T, T, T, T, T, T) as uDebug>⟧.document ≡
-        (λ t. named_tuple "" (map T.document (t.0 ∷ t.1 ∷ t.2 ∷ t.3 ∷ t.4 ∷ t.5 ∷ t.6 ∷ []))) }
-    ensures of_eight { ⟦<(T, T, T, T, T, T, T, T) as uDebug>⟧.document ≡
-        (λ t. named_tuple "" (map T.document
-        (t.0 ∷ t.1 ∷ t.2 ∷ t.3 ∷ t.4 ∷ t.5 ∷ t.6 ∷ t.7 ∷ []))) }
-    ensures of_nine { ⟦<(T, T, T, T, T, T, T, T, T) as uDebug>⟧.document ≡
-        (λ t. named_tuple "" (map T.document
-        (t.0 ∷ t.1 ∷ t.2 ∷ t.3 ∷ t.4 ∷ t.5 ∷ t.6 ∷ t.7 ∷ t.8 ∷ []))) }
-    ensures of_ten { ⟦<(T, T, T, T, T, T, T, T, T, T) as uDebug>⟧.document ≡
-        (λ t. named_tuple "" (map T.document
-        (t.0 ∷ t.1 ∷ t.2 ∷ t.3 ∷ t.4 ∷ t.5 ∷ t.6 ∷ t.7 ∷ t.8 ∷ t.9 ∷ []))) }
-    ensures of_eleven { ⟦<(T, T, T, T, T, T, T, T, T, T, T) as uDebug>⟧.document ≡
-        (λ t. named_tuple "" (map T.document
-        (t.0 ∷ t.1 ∷ t.2 ∷ t.3 ∷ t.4 ∷ t.5 ∷ t.6 ∷ t.7 ∷ t.8 ∷ t.9 ∷ t.10 ∷ []))) }
-    ensures of_twelve { ⟦<(T, T, T, T, T, T, T, T, T, T, T, T) as uDebug>⟧.document ≡
-        (λ t. named_tuple "" (map T.document
-        (t.0 ∷ t.1 ∷ t.2 ∷ t.3 ∷ t.4 ∷ t.5 ∷ t.6 ∷ t.7 ∷ t.8 ∷ t.9 ∷ t.10 ∷ t.11 ∷ []))) }
+/// The document of a set is the set of its items, and that of a map the map of its entries, in the order
+/// of their keys.
+pub fn documents_of_sorted_collections<K: uDebug + Ord, V: uDebug, A: Allocator>()
+    ensures of_set { ⟦<BTreeSet<K, A> as uDebug>⟧.document ≡
+        (λ xs. set_of (documents (map K.document xs.keys))) }
+    ensures of_map { ⟦<BTreeMap<K, V, A> as uDebug>⟧.document ≡
+        (λ es. map_of (pairs_of (map (λ e. (K.document e.0, V.document e.1)) es.entries))) }
+{}
+
+/// The document of a tuple is the tuple without a name of its fields, in order.
+pub fn documents_of_tuples<
+    A: uDebug,
+    B: uDebug,
+    C: uDebug,
+    D: uDebug,
+    E: uDebug,
+    F: uDebug,
+    G: uDebug,
+    H: uDebug,
+    I: uDebug,
+    J: uDebug,
+    K: uDebug,
+    L: uDebug,
+>()
+    ensures of_one { ⟦<(A,) as uDebug>⟧.document ≡
+        (λ t. named_tuple "" (A.document t.0 ∷ [])) }
+    ensures of_two { ⟦<(A, B) as uDebug>⟧.document ≡
+        (λ t. named_tuple "" (A.document t.0 ∷ B.document t.1 ∷ [])) }
+    ensures of_three { ⟦<(A, B, C) as uDebug>⟧.document ≡
+        (λ t. named_tuple "" (A.document t.0 ∷ B.document t.1 ∷ C.document t.2 ∷ [])) }
+    ensures of_four { ⟦<(A, B, C, D) as uDebug>⟧.document ≡
+        (λ t. named_tuple "" (A.document t.0 ∷ B.document t.1 ∷ C.document t.2 ∷ D.document t.3
+        ∷ [])) }
+    ensures of_five { ⟦<(A, B, C, D, E) as uDebug>⟧.document ≡
+        (λ t. named_tuple "" (A.document t.0 ∷ B.document t.1 ∷ C.document t.2 ∷ D.document t.3
+        ∷ E.document t.4 ∷ [])) }
+    ensures of_six { ⟦<(A, B, C, D, E, F) as uDebug>⟧.document ≡
+        (λ t. named_tuple "" (A.document t.0 ∷ B.document t.1 ∷ C.document t.2 ∷ D.document t.3
+        ∷ E.document t.4 ∷ F.document t.5 ∷ [])) }
+    ensures of_seven { ⟦<(A, B, C, D, E, F, G) as uDebug>⟧.document ≡
+        (λ t. named_tuple "" (A.document t.0 ∷ B.document t.1 ∷ C.document t.2 ∷ D.document t.3
+        ∷ E.document t.4 ∷ F.document t.5 ∷ G.document t.6 ∷ [])) }
+    ensures of_eight { ⟦<(A, B, C, D, E, F, G, H) as uDebug>⟧.document ≡
+        (λ t. named_tuple "" (A.document t.0 ∷ B.document t.1 ∷ C.document t.2 ∷ D.document t.3
+        ∷ E.document t.4 ∷ F.document t.5 ∷ G.document t.6 ∷ H.document t.7 ∷ [])) }
+    ensures of_nine { ⟦<(A, B, C, D, E, F, G, H, I) as uDebug>⟧.document ≡
+        (λ t. named_tuple "" (A.document t.0 ∷ B.document t.1 ∷ C.document t.2 ∷ D.document t.3
+        ∷ E.document t.4 ∷ F.document t.5 ∷ G.document t.6 ∷ H.document t.7 ∷ I.document t.8
+        ∷ [])) }
+    ensures of_ten { ⟦<(A, B, C, D, E, F, G, H, I, J) as uDebug>⟧.document ≡
+        (λ t. named_tuple "" (A.document t.0 ∷ B.document t.1 ∷ C.document t.2 ∷ D.document t.3
+        ∷ E.document t.4 ∷ F.document t.5 ∷ G.document t.6 ∷ H.document t.7 ∷ I.document t.8
+        ∷ J.document t.9 ∷ [])) }
+    ensures of_eleven { ⟦<(A, B, C, D, E, F, G, H, I, J, K) as uDebug>⟧.document ≡
+        (λ t. named_tuple "" (A.document t.0 ∷ B.document t.1 ∷ C.document t.2 ∷ D.document t.3
+        ∷ E.document t.4 ∷ F.document t.5 ∷ G.document t.6 ∷ H.document t.7 ∷ I.document t.8
+        ∷ J.document t.9 ∷ K.document t.10 ∷ [])) }
+    ensures of_twelve { ⟦<(A, B, C, D, E, F, G, H, I, J, K, L) as uDebug>⟧.document ≡
+        (λ t. named_tuple "" (A.document t.0 ∷ B.document t.1 ∷ C.document t.2 ∷ D.document t.3
+        ∷ E.document t.4 ∷ F.document t.5 ∷ G.document t.6 ∷ H.document t.7 ∷ I.document t.8
+        ∷ J.document t.9 ∷ K.document t.10 ∷ L.document t.11 ∷ [])) }
+{}
+
+/// The layout of a block is its name and opening, its entries in a row and its ending, at each mode and
+/// depth: the texts that the calls of its builder write.
+pub fn blocks_are_their_parts()
+    ensures of_list { (s : Setting) (ds : Documents) → layout s (list_of ds) ≡
+        block_in_parts Brackets ([]) s (texts (inside s) ds) }
+    ensures of_set { (s : Setting) (ds : Documents) → layout s (set_of ds) ≡
+        block_in_parts Braces ([]) s (texts (inside s) ds) }
+    ensures of_map { (s : Setting) (ps : Pairs) → layout s (map_of ps) ≡
+        block_in_parts Braces ([]) s (pair_texts (inside s) ps) }
+    ensures of_struct { (s : Setting) (name : List ℕ) (fs : Fields) → layout s (struct_of name fs) ≡
+        block_in_parts Struct name s (field_texts (inside s) fs) }
+    ensures of_tuple { (s : Setting) (name : List ℕ) (ds : Documents) → layout s (tuple_of name ds) ≡
+        block_in_parts (tuple_kind name) name s (texts (inside s) ds) }
 {}
 
 /// A reference prints as what it refers to.

@@ -2,7 +2,7 @@
 //! entries of each kind of block. Formatters, readers and conversions take the brackets from here.
 ghost use Rattle.std.specs.Prelude.{◌≡◌, ◌++◌, ℕ};
 ghost use Rattle.ufmt_core.specs.declared.layout.Mode.{Mode};
-ghost use Rattle.ufmt_core.specs.Layout.{count_of, frame, indentation, inside, line_start, new_line, next, separator, trail, tuple_kind};
+ghost use Rattle.ufmt_core.specs.Layout.{frame, indentation, inside, line_start, new_line, next, separator, trail, tuple_kind};
 
 /// What opens a list.
 pub const OPENING_BRACKET: &str = "[";
@@ -17,7 +17,7 @@ pub const COLON: &str = ": ";
 pub const UNIT: &str = "    ";
 
 /// How blocks are laid out: on one line, or an entry a line.
-#[derive(Clone, Copy)]
+#[derive(Clone, Copy, PartialEq, Eq)]
 pub enum Mode {
     Plain,
     Pretty,
@@ -45,27 +45,13 @@ pub enum Count {
 }
 
 /// The mode and depth that a document is laid out in.
-#[derive(Clone, Copy)]
+#[derive(Clone, Copy, PartialEq, Eq)]
 pub struct Setting {
     pub mode: Mode,
     pub depth: u8,
 }
 
 impl Count {
-    /// The count of so many entries.
-    #[inline(always)]
-    pub fn of(entries: usize) -> Count
-        ensures { result ≡ count_of entries }
-    {
-        if entries == 0 {
-            Count::Zero
-        } else if entries == 1 {
-            Count::One
-        } else {
-            Count::Several
-        }
-    }
-
     /// The count with one entry more.
     #[inline(always)]
     pub fn next(self) -> Count

@@ -70,8 +70,8 @@ impl<W: uWrite, K: BlockKind + Items> Builder<'_, W, K> {
             (entry_text (D.document entry.now)) (is_ok result) (block K.kind self.new) }
         ensures is_open { OnOk result (IsOpen (block K.kind self.new)) }
     {
-        let answer = entry.fmt(self.begin_entry()?);
-        self.end_entry(answer)
+        let answer = entry.fmt(self.begin()?);
+        self.end(answer)
     }
 
     /// Writes an entry for each item, in order, and takes no item after a failure.
@@ -109,7 +109,8 @@ impl<W: uWrite, K: BlockKind + Items> Builder<'_, W, K> {
         self.begin()
     }
 
-    /// Writes what stands after an entry whose `fmt` gave this answer, or passes an `Err` on.
+    /// Writes what follows an entry whose `fmt` gave this answer, or passes an `Err` on. The lent formatter
+    /// may be left at any mode and depth.
     #[inline(always)]
     pub fn end_entry(&mut self, answer: Result<(), W::Error>) -> Result<(), W::Error>
         requires { IsLent (block K.kind self.old) }
@@ -117,6 +118,6 @@ impl<W: uWrite, K: BlockKind + Items> Builder<'_, W, K> {
             (block K.kind self.new) }
         ensures is_open { OnOk result (IsOpen (block K.kind self.new)) }
     {
-        self.end(answer)
+        self.end_lent(answer)
     }
 }

@@ -6,7 +6,7 @@ ghost use Rattle.ufmt_core.specs.declared.layout.Kind.TheVariants.{Braces};
 ghost use Rattle.ufmt_core.specs.declared.formatter.builder.Status.TheVariants.{Lent, LentValue};
 ghost use Rattle.ufmt_core.specs.Document.{Document, map_of, pairs_of};
 ghost use Rattle.ufmt_core.specs.Formatter.{LaysOut, Prints};
-ghost use Rattle.ufmt_core.specs.Block.{WritesEntries, WritesEntry, EndsEntry, IsLent, IsLentForValue, IsOpen, WritesOpening, lead_of, pair_text};
+ghost use Rattle.ufmt_core.specs.Block.{WritesEntries, WritesEntry, EndsEntry, IsLent, IsLentForValue, IsOpen, WritesOpening, inner_formatter, lead_of, pair_text};
 ghost use Rattle.ufmt_core.specs.Builder.{LendsForKey, LendsForValue, OpeningLoan, map_block};
 
 use crate::formatter::Formatter;
@@ -66,9 +66,9 @@ impl<W: uWrite> DebugMap<'_, W> {
             (map_block self.new) }
         ensures is_open { OnOk result (IsOpen (map_block self.new)) }
     {
-        let key_answer = key.fmt(self.begin_entry()?);
-        let answer = value.fmt(self.begin_value(key_answer)?);
-        self.end_entry(answer)
+        let key_answer = key.fmt(self.begin()?);
+        let answer = value.fmt(self.lend_for_value(key_answer)?);
+        self.end(answer)
     }
 
     /// Writes an entry for each pair, in order, and takes no pair after a failure.
@@ -104,12 +104,27 @@ impl<W: uWrite> DebugMap<'_, W> {
     }
 
     /// Writes what stands between a key whose `fmt` gave this answer and its value, and lends the
-    /// formatter for the value, or passes an `Err` on.
+    /// formatter for the value, or passes an `Err` on. The formatter that was lent for the key may be left at
+    /// any mode and depth.
     pub fn begin_value(
         &mut self,
         answer: Result<(), W::Error>,
     ) -> Result<&mut Formatter<W>, W::Error>
         requires { IsLent (map_block self.old) }
+        ensures* loan { sem 𝓛 (LendsForValue W.row W.seen self.entry answer result) }
+        ensures colon { IfOk result
+            (λ f. Prints W.seen (inner_formatter (map_block self.old)) (codes ": ") true f.now) }
+        ensures error { IfErr answer (λ e. result ≡ Err e) }
+    {
+        self.take_back();
+        self.lend_for_value(answer)
+    }
+
+    #[inline(always)]
+    fn lend_for_value(
+        &mut self,
+        answer: Result<(), W::Error>,
+    ) -> Result<&mut Formatter<W>, W::Error>
         ensures* loan { sem 𝓛 (LendsForValue W.row W.seen self.entry answer result) }
         ensures colon { IfOk result
             (λ f. Prints W.seen self.old.formatter.now (codes ": ") true f.now) }
@@ -122,14 +137,15 @@ impl<W: uWrite> DebugMap<'_, W> {
         self.lend_if(written, Status::LentValue)
     }
 
-    /// Writes what stands after an entry whose value's `fmt` gave this answer, or passes an `Err` on.
+    /// Writes what follows an entry whose value's `fmt` gave this answer, or passes an `Err` on. The lent
+    /// formatter may be left at any mode and depth.
     pub fn end_entry(&mut self, answer: Result<(), W::Error>) -> Result<(), W::Error>
         requires { IsLentForValue (map_block self.old) }
         ensures end { EndsEntry W.seen answer (map_block self.old) result (is_ok result)
             (map_block self.new) }
         ensures is_open { OnOk result (IsOpen (map_block self.new)) }
     {
-        self.end(answer)
+        self.end_lent(answer)
     }
 }
 

@@ -56,8 +56,8 @@ impl<W: uWrite> DebugStruct<'_, W> {
             (field_text name.now (D.document value.now)) (is_ok result) (struct_block self.new) }
         ensures is_open { OnOk result (IsOpen (struct_block self.new)) }
     {
-        let answer = value.fmt(self.begin_field(name)?);
-        self.end_field(answer)
+        let answer = value.fmt(self.begin_named(name)?);
+        self.end(answer)
     }
 
     /// Writes what stands before a field's value, and lends the formatter for the value. On `Err`
@@ -73,7 +73,8 @@ impl<W: uWrite> DebugStruct<'_, W> {
         self.begin_named(name)
     }
 
-    /// Writes what stands after a field whose value's `fmt` gave this answer, or passes an `Err` on.
+    /// Writes what follows a field whose value's `fmt` gave this answer, or passes an `Err` on. The lent formatter
+    /// may be left at any mode and depth.
     #[inline(always)]
     pub fn end_field(&mut self, answer: Result<(), W::Error>) -> Result<(), W::Error>
         requires { IsLent (struct_block self.old) }
@@ -81,6 +82,6 @@ impl<W: uWrite> DebugStruct<'_, W> {
             (struct_block self.new) }
         ensures is_open { OnOk result (IsOpen (struct_block self.new)) }
     {
-        self.end(answer)
+        self.end_lent(answer)
     }
 }

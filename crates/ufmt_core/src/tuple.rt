@@ -70,8 +70,8 @@ impl<W: uWrite> DebugTuple<'_, W> {
             (is_ok result) (tuple_block self.new) }
         ensures is_open { OnOk result (IsOpen (tuple_block self.new)) }
     {
-        let answer = value.fmt(self.begin_field()?);
-        self.end_field(answer)
+        let answer = value.fmt(self.begin()?);
+        self.end(answer)
     }
 
     /// Writes what stands before a field, and lends the formatter for it. On `Err` the builder is
@@ -86,13 +86,14 @@ impl<W: uWrite> DebugTuple<'_, W> {
         self.begin()
     }
 
-    /// Writes what stands after a field whose `fmt` gave this answer, or passes an `Err` on.
+    /// Writes what follows a field whose `fmt` gave this answer, or passes an `Err` on. The lent formatter
+    /// may be left at any mode and depth.
     pub fn end_field(&mut self, answer: Result<(), W::Error>) -> Result<(), W::Error>
         requires { IsLent (tuple_block self.old) }
         ensures end { EndsEntry W.seen answer (tuple_block self.old) result (is_ok result)
             (tuple_block self.new) }
         ensures is_open { OnOk result (IsOpen (tuple_block self.new)) }
     {
-        self.end(answer)
+        self.end_lent(answer)
     }
 }

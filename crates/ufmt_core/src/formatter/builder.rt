@@ -7,7 +7,7 @@ ghost use Rattle.ufmt_core.specs.contracts.formatter.builder.Builder as builder;
 ghost use Rattle.ufmt_core.specs.declared.layout.Kind.{Kind};
 ghost use Rattle.ufmt_core.specs.declared.formatter.builder.Status.TheVariants.{Lent};
 ghost use Rattle.ufmt_core.specs.Formatter.{Prints};
-ghost use Rattle.ufmt_core.specs.Block.{WritesEnding, EndsEntry, IsOpen, WritesOpening, ending_of, field_lead_of, lead_of};
+ghost use Rattle.ufmt_core.specs.Block.{WritesEnding, EndsEntry, IsInside, IsOpen, WritesOpening, ending_of, field_lead_of, inner_formatter, lead_of};
 ghost use Rattle.ufmt_core.specs.Builder.{EntryLoan, LendsBehind, LendsForEntry, OpeningLoan, block, abandoned, lent};
 
 use crate::formatter::Formatter;
@@ -90,16 +90,17 @@ impl<W: uWrite, K: BlockKind> Builder<'_, W, K> {
     }
 
     /// Whether entries may follow: until `finish`, or a call that fails, and not between the halves of
-    /// an entry.
+    /// an entry. The formatter of such a builder is at the mode and depth of the entries.
     pub fn is_open(&self) -> bool
         ensures { IsTrue result ↔ IsOpen (block K.kind self.now) }
     {
-        matches!(self.status, Status::Open)
+        matches!(self.status, Status::Open) && self.formatter.setting == self.outer.inside()
     }
 
     /// Writes what stands before an entry, and lends the formatter for it.
     #[inline(always)]
     pub(crate) fn begin(&mut self) -> Result<&mut Formatter<W>, W::Error>
+        requires { IsInside (block K.kind self.old) }
         ensures* loan { sem 𝓛 (LendsForEntry W.row K.row (block K.kind) W.seen self.entry result) }
         ensures lead { IfOk result
             (λ f. Prints W.seen self.old.formatter.now (lead_of (block K.kind self.old)) true
@@ -112,6 +113,7 @@ impl<W: uWrite, K: BlockKind> Builder<'_, W, K> {
     /// Writes what stands before the value of a field with this name, and lends the formatter for it.
     #[inline(always)]
     pub(crate) fn begin_named(&mut self, name: &str) -> Result<&mut Formatter<W>, W::Error>
+        requires { IsInside (block K.kind self.old) }
         ensures* loan { sem 𝓛 (LendsBehind W.row K.row (block K.kind) W.seen self.entry result
             (field_lead_of name.now (block K.kind self.old))) }
         ensures lead { IfOk result
@@ -150,9 +152,29 @@ impl<W: uWrite, K: BlockKind> Builder<'_, W, K> {
         &mut *self.formatter
     }
 
-    /// Writes what stands after an entry whose `fmt` gave this answer, or passes an `Err` on.
+    /// Sets the formatter to the mode and depth of the entries, whatever it was left at when it was lent.
+    #[inline(always)]
+    pub(crate) fn take_back(&mut self)
+        ensures { self.new ≡ lent self.old.status self.old (inner_formatter (block K.kind self.old)) }
+    {
+        self.formatter.setting = self.outer.inside();
+    }
+
+    /// `end`, of a formatter that was lent to a caller.
+    #[inline(always)]
+    pub(crate) fn end_lent(&mut self, answer: Result<(), W::Error>) -> Result<(), W::Error>
+        ensures end { EndsEntry W.seen answer (block K.kind self.old) result (is_ok result)
+            (block K.kind self.new) }
+        ensures is_open { OnOk result (IsOpen (block K.kind self.new)) }
+    {
+        self.take_back();
+        self.end(answer)
+    }
+
+    /// Writes what follows an entry whose `fmt` gave this answer, or passes an `Err` on.
     #[inline(always)]
     pub(crate) fn end(&mut self, answer: Result<(), W::Error>) -> Result<(), W::Error>
+        requires { IsInside (block K.kind self.old) }
         ensures end { EndsEntry W.seen answer (block K.kind self.old) result (is_ok result)
             (block K.kind self.new) }
         ensures is_open { OnOk result (IsOpen (block K.kind self.new)) }

@@ -2,7 +2,7 @@
 ghost use Rattle.std.specs.Prelude.{is_ok, [], ◌∷◌};
 ghost use Rattle.ufmt_core.specs.Document.{Fields, field, fields_of, no_fields, struct_of};
 ghost use Rattle.ufmt_core.specs.Formatter.{LaysOut};
-ghost use Rattle.ufmt_core.specs.Block.{WritesEnding, IsInside, IsOpen, remaining_fields, tail_of};
+ghost use Rattle.ufmt_core.specs.Block.{WritesEnding, IsOpen, remaining_fields, tail_of};
 ghost use Rattle.ufmt_core.specs.Builder.{struct_block};
 
 use crate::formatter::Formatter;
@@ -18,8 +18,7 @@ pub trait NamedFields<'a> {
     /// Writes the fields, and closes the struct.
     #[inline(always)]
     fn finish<W: uWrite>(&self, block: &mut DebugStruct<W>) -> Result<(), W::Error>
-        requires is_open { IsOpen (struct_block block.old) }
-        requires is_inside { IsInside (struct_block block.old) }
+        requires { IsOpen (struct_block block.old) }
         ensures { WritesEnding W.seen (struct_block block.old)
             (tail_of (struct_block block.old) (remaining_fields (fields self.now))) (is_ok result)
             (struct_block block.new) };

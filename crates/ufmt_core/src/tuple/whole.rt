@@ -2,7 +2,7 @@
 ghost use Rattle.std.specs.Prelude.{is_ok, [], ◌∷◌};
 ghost use Rattle.ufmt_core.specs.Document.{Documents, document, documents, no_documents, tuple_of};
 ghost use Rattle.ufmt_core.specs.Formatter.{LaysOut};
-ghost use Rattle.ufmt_core.specs.Block.{WritesEnding, IsInside, IsOpen, remaining_entries, tail_of};
+ghost use Rattle.ufmt_core.specs.Block.{WritesEnding, IsOpen, remaining_entries, tail_of};
 ghost use Rattle.ufmt_core.specs.Builder.{tuple_block};
 
 use crate::formatter::Formatter;
@@ -17,8 +17,7 @@ pub trait UnnamedFields<'a> {
 
     /// Writes the fields, and closes the tuple.
     fn finish<W: uWrite>(&self, block: &mut DebugTuple<W>) -> Result<(), W::Error>
-        requires is_open { IsOpen (tuple_block block.old) }
-        requires is_inside { IsInside (tuple_block block.old) }
+        requires { IsOpen (tuple_block block.old) }
         ensures { WritesEnding W.seen (tuple_block block.old)
             (tail_of (tuple_block block.old) (remaining_entries (documents self.now)))
             (is_ok result)

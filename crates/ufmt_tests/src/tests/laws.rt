@@ -14,11 +14,15 @@ fn laws_of_numbers_and_types_can_be_called() {
     laws::both_traits_print_one_text();
     laws::references_print_what_they_refer_to::<u8, Global>();
     laws::references_display_what_they_refer_to::<u8, Global>();
+    laws::references_print_one_hexadecimal_text::<u8>();
+    laws::pieces_of_lines::<(), ((), ())>();
     laws::texts_display_as_they_are::<Global>();
     laws::documents_of_leaves::<u8>();
     laws::documents_of_collections::<u8, u16, Global, 3>();
+    laws::documents_of_sorted_collections::<u8, u16, Global>();
     laws::documents_of_texts::<Global>();
-    laws::documents_of_tuples::<u8, u16, u32>();
+    laws::documents_of_tuples::<u8, u16, u32, u64, u128, usize, i8, i16, i32, i64, i128, isize>();
+    laws::blocks_are_their_parts();
 }
 
 #[test]
@@ -31,4 +35,5 @@ fn laws_of_documents_can_be_called() {
     laws::texts_are_read_exactly();
     laws::quoted_one_way();
     laws::quoted_leaves_are_read_exactly();
+    laws::unquoted_as_before();
 }

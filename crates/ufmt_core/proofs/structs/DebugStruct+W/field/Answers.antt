@@ -4,12 +4,12 @@ use Rattle.ufmt_core.proofs.Printing.{field_between, field_not_begun}
 use Rattle.ufmt_core.proofs.Writing.{is_ok-err}
 use Rattle.ufmt_core.proofs.structs.DebugStruct+W.field.Goals as goal
 
-pub returns-in_err-begin_field-clause-entry : goal.returns-in_err-begin_field-clause-entry
-returns-in_err-begin_field-clause-entry g c =
+pub returns-in_err-begin_named-clause-entry : goal.returns-in_err-begin_named-clause-entry
+returns-in_err-begin_named-clause-entry g c =
     rw (is_ok-err _ c.from_residual.ensures.0)
-    (field_not_begun c.in_err-begin_field.was _ (g.D.uDebug.document c.args.value.now) c.begin_field.follows.holds-at-none)
+    (field_not_begun c.in_err-begin_named.was _ (g.D.uDebug.document c.args.value.now) c.begin_named.follows.holds-at-none)
 
 pub returns-clause-entry : goal.returns-clause-entry
 returns-clause-entry g c =
-    field_between (struct_block c.args.self.now) _ (ap struct_block (c.begin_field.follows.holds _
-    (ap is_ok c.in_ok-begin_field.was))) c.in_ok-begin_field.ensures.lead c.fmt-answer.ensures c.end_field.ensures.end
+    field_between (struct_block c.args.self.now) _ c.requires.1 (ap struct_block (c.begin_named.follows.holds _
+    (ap is_ok c.in_ok-begin_named.was))) c.in_ok-begin_named.ensures.lead c.fmt-answer.ensures c.end.ensures.end

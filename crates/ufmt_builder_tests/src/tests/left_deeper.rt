@@ -1,0 +1,80 @@
+//! A block that is opened in an entry and dropped there leaves the formatter a level deeper: the second
+//! half of the entry sets it back.
+use super::same;
+use std::alloc::{AllocError, Global};
+use ufmt::Formatter;
+
+// Opens a list on the formatter, and drops its builder.
+fn leave_deeper(f: &mut Formatter<String>) -> Result<(), AllocError> {
+    let _list = f.debug_list()?;
+    Ok(())
+}
+
+fn write_list(f: &mut Formatter<String>) -> Result<(), AllocError> {
+    let mut list = f.debug_list()?;
+    let answer = leave_deeper(list.begin_entry()?);
+    list.end_entry(answer)?;
+    list.entry(&1u8)?;
+    list.finish()
+}
+
+fn write_map(f: &mut Formatter<String>) -> Result<(), AllocError> {
+    let mut map = f.debug_map()?;
+    let key_answer = leave_deeper(map.begin_entry()?);
+    let answer = leave_deeper(map.begin_value(key_answer)?);
+    map.end_entry(answer)?;
+    map.entry(&1u8, &2u8)?;
+    map.finish()
+}
+
+fn write_struct(f: &mut Formatter<String>) -> Result<(), AllocError> {
+    let mut block = f.debug_struct("S")?;
+    let answer = leave_deeper(block.begin_field("a")?);
+    block.end_field(answer)?;
+    block.field("b", &1u8)?;
+    block.finish()
+}
+
+fn write_tuple(f: &mut Formatter<String>) -> Result<(), AllocError> {
+    let mut block = f.debug_tuple("T")?;
+    let answer = leave_deeper(block.begin_field()?);
+    block.end_field(answer)?;
+    block.field(&1u8)?;
+    block.finish()
+}
+
+const BLOCKS: &str = "\
+[
+    [,
+    1,
+]{
+    [: [,
+    1: 2,
+}S {
+    a: [,
+    b: 1,
+}T(
+    [,
+    1,
+)";
+
+fn write_blocks(f: &mut Formatter<String>) -> Result<(), AllocError> {
+    write_list(f)?;
+    write_map(f)?;
+    write_struct(f)?;
+    write_tuple(f)
+}
+
+fn blocks(alloc: Global) -> Result<(String, u8), AllocError> {
+    let mut f = Formatter::new(String::new(alloc));
+    f.pretty(write_blocks)?;
+    let depth = f.depth();
+    Ok((f.into_inner(), depth))
+}
+
+#[test]
+fn an_entry_that_is_left_deeper_is_ended(rt: HostRuntime) {
+    let given = blocks(rt.alloc());
+    let given = given.as_ref().map(|(text, depth)| (text.as_str(), *depth));
+    same(&rt, given.ok(), Some((BLOCKS, 0)), "blocks");
+}
