@@ -4,10 +4,7 @@ use Rattle.std.specs.Prelude.{⊤}
 use Rattle.std.specs.Result.{OnOk, is_ok}
 use Rattle.ufmt.specs.Document.{Document, leaf, joined, list_of, set_of, map_of, struct_of, tuple_of, pretty_part, Documents, no_documents, document, Pairs, no_pairs, pair, Fields, no_fields, field}
 use Rattle.ufmt.specs.Layout.{next, tuple_kind}
-use Rattle.ufmt.specs.Token.{HasTokens, HaveTokens, PairsHaveTokens, FieldsHaveTokens, normal, normal_all, normal_pairs, normal_fields}
-use Rattle.ufmt.specs.Reading.{read_text}
-use Rattle.ufmt.proofs.ReadingWhole.{reads_only_texts}
-use Rattle.ufmt_core.specs.declared.layout.Mode.{Mode}
+use Rattle.ufmt.specs.Token.{IsToken, HasTokens, HaveTokens, PairsHaveTokens, FieldsHaveTokens, normal, normal_all, normal_pairs, normal_fields}
 use Rattle.ufmt_doc.specs.declared.reader.open_blocks.OpenBlocks.{OpenBlocks}
 use Rattle.ufmt_core.specs.declared.layout.Count.{Count}
 use Rattle.ufmt_core.specs.declared.layout.Count.TheVariants.{One}
@@ -161,9 +158,7 @@ pub hears_part : {E : Type 0} (old new : OpenBlocks) (e : Event) (answer : Resul
 hears_part old new e (Ok x) h = λ start es before. h ∙ ap (λ g. grow g e) before ∙ sym (grown-append (growing start) es (e ∷ []))
 hears_part old new e (Err x) h = λ start es before. tt
 
--- what was read of a whole text is the one document that it is of
-pub whole_is : (mode : Mode) (input : List ℕ) (d : Document) (new : Growing) → read_text mode input ≡ Some d
+-- what has grown of the parts of a document in normal form is that document
+pub whole_is : (d : Document) (new : Growing) → IsToken d → normal d ≡ d
     → new ≡ grown nothing_read (told d) → new ≡ ((map_of no_pairs, Some d), [])
-whole_is mode input d new is grew =
-    let form = reads_only_texts mode input d is in
-    grew ∙ told_grows d form.0.0 (map_of no_pairs, None) [] ∙ ap (λ x. ((map_of no_pairs, Some x), [])) form.1
+whole_is d new token form grew = grew ∙ told_grows d token.0 (map_of no_pairs, None) [] ∙ ap (λ x. ((map_of no_pairs, Some x), [])) form

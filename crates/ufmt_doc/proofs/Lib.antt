@@ -5,5 +5,4 @@ pub mod OpenBlocks
 pub mod Same
 pub mod ReadForms
 pub mod Unquoted
-pub mod WholeTexts
 pub mod Within

@@ -1,5 +1,5 @@
 -- Open blocks, as the documents that they are so far.
-use Rattle.std.proofs.Common.{◌≡◌, refl, ap, sym, ◌∙◌, List, [], ◌∷◌, ◌++◌, map, Option, Some, None, Result, String, Global, Vec, string_bytes}
+use Rattle.std.proofs.Common.{◌≡◌, refl, ap, sym, ◌∙◌, List, [], ◌∷◌, ◌++◌, map, Option, Some, None, Result, Ok, String, Global, Vec, string_bytes}
 use Rattle.std.specs.Option.{ok_or}
 use Rattle.ufmt.specs.Document.{Document, map_of, struct_of, documents, pairs_of, fields_of, document, no_documents, pair, no_pairs, field, no_fields}
 use Rattle.ufmt_doc.specs.declared.doc.Doc.{Doc}
@@ -8,7 +8,6 @@ use Rattle.ufmt_doc.specs.declared.reader.open_block.OpenBlock.{OpenBlock}
 use Rattle.ufmt_scan.specs.declared.error.ReadError.{ReadError}
 use Rattle.ufmt_scan.specs.declared.error.ReadError.TheVariants.{NotText}
 use Rattle.ufmt_doc.specs.Doc.{doc_document}
-use Rattle.ufmt_doc.specs.Private.Read.{AnswersAs}
 use Rattle.ufmt_doc.specs.DocViews.{field_view, fields_view, pair_view, pairs_view}
 use Rattle.ufmt_doc.specs.Private.Growing.{BlockSoFar, block_view, innermost_first, waiting, with_all, with_entry, with_fields, with_pairs}
 use Rattle.ufmt_doc.proofs.Docs.{doc_document-MapOf, doc_document-StructOf}
@@ -63,7 +62,7 @@ innermost_is old block is = rw is (behind old)
     behind (first ∷ more) = ap (λ bs. bs ++ block_view first ∷ []) (behind more)
 
 -- what is answered of a whole document
-pub whole_answers : {there : Option Document} (answer : Result Doc ReadError) (whole : Option Doc) (d : Document) → there ≡ Some d
-    → waiting whole ≡ Some d → answer ≡ ok_or whole NotText → AnswersAs doc_document answer there
-whole_answers answer None d is read h = absurd (cc)
-whole_answers answer (Some doc) d is read h = rw h (is ∙ sym read)
+pub whole_answers : (answer : Result Doc ReadError) (whole : Option Doc) (d : Document) → waiting whole ≡ Some d → answer ≡ ok_or whole NotText
+    → (doc : Doc) × (answer ≡ Ok doc) × (doc_document doc ≡ d)
+whole_answers answer None d read h = absurd (cc)
+whole_answers answer (Some doc) d read h = (doc, h, cc)

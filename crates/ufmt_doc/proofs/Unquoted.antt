@@ -1,5 +1,6 @@
 -- What stands between the quotes of a leaf is told byte by byte.
 use Rattle.std.proofs.Common.{◌≡◌, inl, inr, refl, sym, ap, ◌∙◌, ℕ, true, List, [], ◌∷◌, ◌++◌, drop, length, Option, Some, None, get_or, append_assoc, append-nil, length-append, ◌<◌, arith}
+use Rattle.std.specs.Prelude.{◌≢◌}
 use Rattle.std.specs.Str.{IsUtf8, all_scalars, chars, encode_utf8_all}
 use Rattle.std.proofs.lemmas.Str.{chars-encodes}
 use Rattle.ufmt.specs.Document.{leaf}
@@ -7,7 +8,7 @@ use Rattle.ufmt.specs.Quoted.{IsQuote, IsQuoted, escaped_byte, escaped_bytes, qu
 use Rattle.ufmt.specs.ReadingQuoted.{read_escaped, read_quoted}
 use Rattle.ufmt.specs.Reading.{read_symbol, strip}
 use Rattle.ufmt.proofs.Parsing.{same_parts, strip_stands}
-use Rattle.ufmt.proofs.QuotedSound.{read_escaped-sound, read_quoted-sound}
+use Rattle.ufmt.proofs.QuotedSound.{read_quoted-sound}
 use Rattle.ufmt_scan.proofs.Leaves.{whole_symbol}
 use Rattle.ufmt.proofs.QuotedComplete.{escaped-no_quote, length-escaped, quoted-bytes, read_escaped-complete}
 use Rattle.ufmt_doc.specs.Private.Quoted.{AreSpelled}
@@ -15,15 +16,11 @@ use Rattle.ufmt_doc.specs.Unquoted.{IsInQuotes}
 use Rattle.ufmt.specs.Token.{IsSymbol}
 use Rattle.ufmt_scan.proofs.Spelled.{escaped_bytes-append}
 
--- where no byte is read any more, all were
+-- where no byte is written any more, all were told
 module _ (q : ℕ) (quote : IsQuote q) where
-  pub told_all : (bytes rest bs : List ℕ) → read_escaped q rest ≡ None → escaped_bytes q bytes ++ rest ≡ escaped_bytes q bs ++ (q ∷ []) → bytes ≡ bs
+  pub told_all : (bytes rest bs : List ℕ) → ((b : ℕ) (u : List ℕ) → rest ≢ escaped_byte q b ++ u) → escaped_bytes q bytes ++ rest ≡ escaped_bytes q bs ++ (q ∷ []) → bytes ≡ bs
   told_all [] rest [] stops is = refl
-  told_all [] rest (b ∷ bs) stops is =
-      let more = escaped_bytes q bs ++ (q ∷ []) in
-      let read : read_escaped q rest ≡ Some (b, more) = ap (read_escaped q) (is ∙ append_assoc (escaped_byte q b) (escaped_bytes q bs) (q ∷ [])) ∙ read_escaped-complete q b more quote in
-      let none : ◌≡◌ {A = Option (ℕ × List ℕ)} None (Some (b, more)) = sym stops ∙ read in
-      absurd (cc)
+  told_all [] rest (b ∷ bs) stops is = absurd (stops b (escaped_bytes q bs ++ (q ∷ [])) (is ∙ append_assoc (escaped_byte q b) (escaped_bytes q bs) (q ∷ [])))
   told_all (b ∷ bytes) rest [] stops is =
       let more = escaped_bytes q bytes ++ rest in
       let no_quote = escaped-no_quote q b more quote in
@@ -39,15 +36,15 @@ module _ (q : ℕ) (quote : IsQuote q) where
       let rest_is = told_all bytes rest bs stops parts.1 in
       cc
 
--- a byte that is read leaves less
-pub read_shorter : (q : ℕ) (t : List ℕ) (b : ℕ) (u : List ℕ) → read_escaped q t ≡ Some (b, u) → length u < length t
-read_shorter q t b u h = omega (arith, ap length (read_escaped-sound q t b u h), length-append (escaped_byte q b) u, length-escaped q b)
+-- a byte that is told leaves less
+pub read_shorter : (q : ℕ) (t : List ℕ) (b : ℕ) (u : List ℕ) → t ≡ escaped_byte q b ++ u → length u < length t
+read_shorter q t b u h = omega (arith, ap length h, length-append (escaped_byte q b) u, length-escaped q b)
 
 -- and stands behind those before it
 pub told_more : (q : ℕ) (inside bytes rest items : List ℕ) (b : ℕ) (u : List ℕ) → inside ≡ escaped_bytes q bytes ++ rest
-    → read_escaped q rest ≡ Some (b, u) → items ≡ bytes ++ (b ∷ []) → inside ≡ escaped_bytes q items ++ u
+    → rest ≡ escaped_byte q b ++ u → items ≡ bytes ++ (b ∷ []) → inside ≡ escaped_bytes q items ++ u
 told_more q inside bytes rest items b u before h is =
-    before ∙ ap (λ t. escaped_bytes q bytes ++ t) (read_escaped-sound q rest b u h ∙ ap (λ t. t ++ u) (sym (append-nil (escaped_byte q b))))
+    before ∙ ap (λ t. escaped_bytes q bytes ++ t) (h ∙ ap (λ t. t ++ u) (sym (append-nil (escaped_byte q b))))
     ∙ sym (append_assoc (escaped_bytes q bytes) (escaped_bytes q (b ∷ [])) u)
     ∙ ap (λ t. t ++ u) (sym (escaped_bytes-append q bytes (b ∷ []))) ∙ ap (λ bs. escaped_bytes q bs ++ u) (sym is)
 

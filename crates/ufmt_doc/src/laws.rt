@@ -8,7 +8,7 @@ ghost use Rattle.ufmt_scan.specs.Texts.{IsNoText};
 use crate::doc::Doc;
 use crate::plain_reader::{ReadError, read_plain};
 use crate::pretty_reader::read_pretty;
-use std::alloc::Global;
+use std::alloc::{AllocError, AllocFailed, Global};
 use ufmt_scan::convert::{plain_text, pretty_text, to_plain, to_pretty};
 
 /// A plain text that is read and written plainly is itself again.
@@ -66,3 +66,12 @@ pub fn normal_by_way_of_pretty(alloc: Global, doc: &Doc) -> Result<Doc, ReadErro
     let text = pretty_text(alloc, doc)?;
     read_pretty(alloc, text.as_bytes())
 }
+
+/// Want of memory is `OutOfMemory` to a reader, whether a `String` or a `Vec` fails with it.
+pub fn want_of_memory_is_one_error<T: Drop>()
+    ensures of_text { (e : _) (error : _) → ⟦<ReadError as From<AllocError>>⟧.from_gives e error
+        → error ≡ ReadError.OutOfMemory }
+    ensures of_item { (e : _) (error : _)
+        → ⟦<ReadError as From<AllocFailed<T>>>⟧.from_gives e error
+        → error ≡ ReadError.OutOfMemory }
+{}

@@ -1,8 +1,9 @@
 //! Reading a token document from a text, in either mode: a scan that tells its parts to the blocks
 //! that are open.
-ghost use Rattle.ufmt.specs.Reading.{read_text};
+ghost use Rattle.std.specs.Prelude.{IfOk, IsErrOf};
+ghost use Rattle.ufmt.specs.Layout.{layout, setting};
 ghost use Rattle.ufmt_doc.specs.Doc.{doc_document};
-ghost use Rattle.ufmt_doc.specs.Private.Read.{AnswersAs};
+ghost use Rattle.ufmt_scan.specs.Texts.{IsNormalForm, IsNoText};
 
 mod document_sink;
 mod open_block;
@@ -15,9 +16,12 @@ use ufmt::layout::Mode;
 use ufmt_scan::error::ReadError;
 use ufmt_scan::scan::scan;
 
-/// The document that the whole text is of.
+/// The document in normal form that has the whole text.
 pub(crate) fn read_text(alloc: Global, mode: Mode, input: &[u8]) -> Result<Doc, ReadError>
-    ensures { AnswersAs doc_document result (read_text mode input.now) }
+    ensures ok { IfOk result (λ doc. IsNormalForm (layout (setting mode 0)) input.now
+        (doc_document doc)) }
+    ensures not_text { IsErrOf result ReadError.NotText → IsNoText (layout (setting mode 0))
+        input.now }
 {
     let mut blocks = OpenBlocks::new(alloc);
     scan(mode, input, &mut blocks)?;

@@ -1,2 +1,1 @@
 pub mod ReadingTokens
-pub mod ReadableTexts

@@ -1,13 +1,14 @@
 -- What stands in quotes: bytes as they are written there, up to the closing quote.
 use Rattle.std.proofs.Common.{◌≡◌, inl, refl, sym, ap, ◌∙◌, ℕ, suc, ◌<◌, ◌≤◌, ◌==◌, false, List, [], ◌∷◌, ◌++◌, length, drop, Option, Some, None, option_map, append_assoc, length-append, arith}
 use Rattle.std.specs.List.{slice_index}
-use Rattle.std.specs.Prelude.{unwrap_or}
+use Rattle.std.specs.Borrow.{Bor}
+use Rattle.std.specs.Prelude.{◌≢◌, IfSome, IsNone, unwrap_or}
 use Rattle.std.proofs.lemmas.Bool.Decides.{nat_tests}
 use Rattle.ufmt.specs.Quoted.{IsQuote, escape, escaped_byte, escaped_bytes, plain_len}
 use Rattle.ufmt.specs.Reading.{strip}
 use Rattle.ufmt.specs.ReadingQuoted.{read_escaped, read_inside, told}
 use Rattle.ufmt.specs.Parse.{parse_map}
-use Rattle.ufmt.proofs.QuotedSound.{read_inside-sound}
+use Rattle.ufmt.proofs.QuotedSound.{read_escaped-sound, read_inside-sound}
 use Rattle.ufmt_core.proofs.QuotedBytes.{escape-past_ascii}
 use Rattle.ufmt.proofs.Parsing.{strip_found}
 use Rattle.ufmt.proofs.QuotedComplete.{escaped-no_quote, length-escaped, length-escaped_bytes, quote_ascii, read_escaped-complete, read_inside-complete}
@@ -26,6 +27,21 @@ unspelled_past q t quote past first = rw (escape-past_ascii q (told t) (quote_as
     at (b ∷ u) e =
         let other : (told t == b) ≡ false = grind (arith, nat_tests) in
         rw other refl
+
+-- the byte that is read at the front is written there
+pub spelled_at_front : (q : ℕ) (t : List ℕ) (answer : Option (ℕ × Bor (List ℕ))) → option_map (λ x. (x.0, x.1.now)) answer ≡ read_escaped q t
+    → IfSome answer (λ x. t ≡ escaped_byte q x.0 ++ x.1.now)
+spelled_at_front q t None is = tt
+spelled_at_front q t (Some x) is = read_escaped-sound q t x.0 x.1.now (sym is)
+
+-- where none is read no byte is written
+pub spelled_nowhere : (q : ℕ) (t : List ℕ) (answer : Option (ℕ × Bor (List ℕ))) → IsQuote q → option_map (λ x. (x.0, x.1.now)) answer ≡ read_escaped q t
+    → IsNone answer → (b : ℕ) (u : List ℕ) → t ≢ escaped_byte q b ++ u
+spelled_nowhere q t (Some x) quote is none b u same = absurd (cc)
+spelled_nowhere q t None quote is none b u same =
+    let read : read_escaped q t ≡ Some (b, u) = ap (read_escaped q) same ∙ read_escaped-complete q b u quote in
+    let other : ◌≡◌ {A = Option (ℕ × List ℕ)} None (Some (b, u)) = is ∙ read in
+    absurd (cc)
 
 -- a byte that was stripped leaves less
 pub spelled_shorter : (q b : ℕ) (t u : List ℕ) → strip (escaped_byte q b) t ≡ Some u → length u < length t

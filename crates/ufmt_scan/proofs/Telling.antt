@@ -33,10 +33,6 @@ pub then-then : (o : Told) (more last : Parse (List Event)) → then_told (then_
 then-then None more last = refl
 then-then (Some x) more last = then-prefixed x.0 (more x.1) last
 
-pub then-nothing : (o : Told) → then_told o (λ t. Some ([], t)) ≡ o
-then-nothing None = refl
-then-nothing (Some x) = ap (λ es. Some (es, x.1)) (append-nil x.0)
-
 module _ (turn : Turn) (level : Level) (kind : Kind) where
   -- a block is told from its first entry on, where it is told as what opens it, that entry and what follows
   pub block_tells : (make : List turn.Entry → Document) (front : Event)

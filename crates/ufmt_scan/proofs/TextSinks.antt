@@ -1,13 +1,12 @@
 -- A sink that lays a text out writes the other text of the document that it is told.
-use Rattle.std.proofs.Common.{◌≡◌, ◌∙◌, refl, ap, sym, subst, ℕ, ◌+◌, ◌≤◌, Bool, true, false, List, [], ◌∷◌, ◌++◌, append-nil, Option, Some, None, Result, Ok, Err, arith}
+use Rattle.std.proofs.Common.{◌≡◌, ◌∙◌, refl, ap, sym, subst, ℕ, ◌+◌, ◌≤◌, Bool, true, false, List, [], ◌∷◌, ◌++◌, append-nil, Result, Ok, Err, arith}
 use Rattle.std.specs.Borrow.{MutBor}
 use Rattle.std.specs.Prelude.{⊤}
 use Rattle.ufmt.specs.Document.{Document, nest}
 use Rattle.ufmt.specs.Layout.{layout, plain_text, pretty_text, setting}
-use Rattle.ufmt.specs.Reading.{read_text}
-use Rattle.ufmt.specs.Token.{IsToken}
+use Rattle.ufmt.specs.Token.{IsToken, normal}
 use Rattle.ufmt.specs.Writes.{Seen, Writes}
-use Rattle.ufmt.proofs.ReadingWhole.{reads_only_texts, refuses_no_text}
+use Rattle.ufmt.proofs.NormalForms.{IsToken-normal, layout-normal, normal-normal}
 use Rattle.ufmt.proofs.OneWay.{texts_agree}
 use Rattle.ufmt_core.proofs.Writing.{Writes-fails, Writes-then}
 use Rattle.ufmt_core.specs.declared.layout.Mode.{Mode}
@@ -18,7 +17,7 @@ use Rattle.ufmt_scan.specs.declared.scan.refusal.Refusal.TheVariants.{NotText, R
 use Rattle.ufmt_scan.specs.Private.TextSink.{WritesEvent, Wrote}
 use Rattle.ufmt_scan.specs.Scan.{Event, Hears, Scans, told}
 use Rattle.ufmt_scan.specs.ScanTexts.{texts_written, setting_behind}
-use Rattle.ufmt_scan.specs.Texts.{ConvertsTo, IsConverted}
+use Rattle.ufmt_scan.specs.Texts.{ConvertsTo, IsConverted, IsNormalForm}
 use Rattle.ufmt_scan.proofs.Conversions.{converted}
 use Rattle.ufmt_scan.proofs.ToldTexts.{setting_behind-append, texts_written-append, told_written}
 
@@ -41,11 +40,10 @@ module _ {W : Type 0} (seen : Seen W) where
     abbrev IsOther : List ℕ → Type 0
     IsOther text = IsConverted (layout (setting from 0)) (layout (setting to 0)) input text
 
-    -- what is written for the parts of the document that was read is what the input is converted to, and all that it is converted to
-    read_is : (d : Document) → read_text from input ≡ Some d
+    -- what is written for the parts of the document that has the input is what that is converted to, and all that it is converted to
+    read_is : (d : Document) → IsNormalForm (layout (setting from 0)) input d
         → IsOther (texts_written old.setting (told d)) × ((text : List ℕ) → IsOther text → texts_written old.setting (told d) ≡ text)
-    read_is d is =
-        let form = reads_only_texts from input d is in
+    read_is d form =
         let bound : nest d + 0 ≤ 255 = omega (arith, form.0.1) in
         let whole = ap (λ s. texts_written s (told d)) at ∙ (told_written to 0 d form.0.0 bound).writes in (
           converted (layout (setting from 0)) (layout (setting to 0)) tells input (texts_written old.setting (told d)) d form whole,
@@ -53,7 +51,7 @@ module _ {W : Type 0} (seen : Seen W) where
         )
 
     -- what a scan with that sink does with its writer
-    pub scan_converts : {E : Type 0} (answer : Result (⊤) (Refusal E)) (new : TextSink W) → Scans (Wrote seen true) (Wrote seen false) answer old new (read_text from input)
+    pub scan_converts : {E : Type 0} (answer : Result (⊤) (Refusal E)) (new : TextSink W) → Scans (Wrote seen true) (Wrote seen false) answer old new (layout (setting from 0)) input
         → ConvertsTo seen (layout (setting from 0)) (layout (setting to 0)) input old.writer answer new.writer
     scan_converts (Ok x) new h = record {
       ok = λ is. (texts_written old.setting (told h.0), (read_is h.0 h.1).0);
@@ -63,30 +61,32 @@ module _ {W : Type 0} (seen : Seen W) where
     }
     scan_converts (Err NotText) new h = record {
       ok = λ is. absurd (cc);
-      not_text = λ is. refuses_no_text from input h.2;
-      writes = λ text other. let none = refuses_no_text from input h.2 in absurd (none other.some.0 other.some.1 other.some.2);
+      not_text = λ is. h.2;
+      writes = λ text other. absurd (h.2 other.some.0 other.some.1 other.some.2);
       lawful = (texts_written old.setting h.0, true, h.1.0);
     }
     scan_converts (Err (Refused e)) new h = record {
       ok = λ is. absurd (cc);
       not_text = λ is. absurd (cc);
-      writes = refused (read_text from input) refl;
+      writes = refused;
       lawful = (texts_written old.setting h.0, false, h.1.0);
     }
       where
-        refused : (there : Option Document) → read_text from input ≡ there → (text : List ℕ) → IsOther text → Writes seen old.writer text false new.writer
-        refused None none text other = absurd (refuses_no_text from input none other.some.0 other.some.1 other.some.2)
-        refused (Some d) is text other =
-            let leads = h.2 d is in
-            let whole = sym (texts_written-append old.setting h.0 leads.0) ∙ ap (texts_written old.setting) (sym leads.1) ∙ (read_is d is).1 text other in
+        refused : (text : List ℕ) → IsOther text → Writes seen old.writer text false new.writer
+        refused text other =
+            let d = other.some.0 in
+            let form : IsNormalForm (layout (setting from 0)) input (normal d) =
+            (IsToken-normal d other.some.1, normal-normal d, layout-normal (setting from 0) d ∙ other.some.2) in
+            let leads = h.2 (normal d) form in
+            let whole = sym (texts_written-append old.setting h.0 leads.0) ∙ ap (texts_written old.setting) (sym leads.1) ∙ (read_is (normal d) form).1 text other in
             subst (λ t. Writes seen old.writer t false new.writer) whole (Writes-fails (texts_written (setting_behind old.setting h.0) leads.0) h.1.0)
 
   pub pretty_converts : {E : Type 0} (input : List ℕ) (old : TextSink W) (answer : Result (⊤) (Refusal E)) (new : TextSink W) → old.setting ≡ setting Pretty 0
-      → Scans (Wrote seen true) (Wrote seen false) answer old new (read_text Plain input) → ConvertsTo seen plain_text pretty_text input old.writer answer new.writer
+      → Scans (Wrote seen true) (Wrote seen false) answer old new plain_text input → ConvertsTo seen plain_text pretty_text input old.writer answer new.writer
   pretty_converts input old answer new at h = scan_converts Plain Pretty (λ d e hd he same. (texts_agree d e hd he).0 same) input old at answer new h
 
   pub plain_converts : {E : Type 0} (input : List ℕ) (old : TextSink W) (answer : Result (⊤) (Refusal E)) (new : TextSink W) → old.setting ≡ setting Plain 0
-      → Scans (Wrote seen true) (Wrote seen false) answer old new (read_text Pretty input) → ConvertsTo seen pretty_text plain_text input old.writer answer new.writer
+      → Scans (Wrote seen true) (Wrote seen false) answer old new pretty_text input → ConvertsTo seen pretty_text plain_text input old.writer answer new.writer
   plain_converts input old answer new at h = scan_converts Pretty Plain (λ d e hd he same. (texts_agree d e hd he).1 same) input old at answer new h
 
 -- a writer behind a reference, and what it does there

@@ -1,5 +1,5 @@
 -- What a text is made of, part by part, as a scanner tells it to a sink, and what a sink is held to.
-use Rattle.std.specs.Prelude.{◌≡◌, ℕ, Bool, true, false, List, [], ◌∷◌, ◌++◌, Option, Some, None, Result, MatchResult, ⊤}
+use Rattle.std.specs.Prelude.{◌≡◌, ℕ, Bool, true, false, List, [], ◌∷◌, ◌++◌, Result, MatchResult, ⊤}
 use Rattle.ufmt.specs.Document.{Document, leaf, joined, list_of, set_of, map_of, struct_of, tuple_of, pretty_part, Documents, no_documents, document, Pairs, no_pairs, pair, Fields, no_fields, field}
 use Rattle.ufmt.specs.Layout.{next, tuple_kind}
 use Rattle.ufmt_core.specs.declared.layout.Count.{Count}
@@ -8,6 +8,7 @@ use Rattle.ufmt_core.specs.declared.layout.Kind.{Kind}
 use Rattle.ufmt_core.specs.declared.layout.Kind.TheVariants.{Brackets, Braces, Struct}
 use Rattle.ufmt_scan.specs.declared.scan.refusal.Refusal.{Refusal}
 use Rattle.ufmt_scan.specs.declared.scan.refusal.Refusal.TheVariants.{NotText, Refused}
+use Rattle.ufmt_scan.specs.Texts.{IsNormalForm, IsNoText}
 use Rattle.ufmt_scan.specs.declared.scan.part.Part.{Part}
 use Rattle.ufmt_scan.specs.declared.scan.part.Part.TheVariants.{Leaf, Empty, Open, Label, Colon, Next, Close}
 
@@ -63,10 +64,13 @@ module _ {S : Type 0} (took stopped : S → List Event → S → Type 0) where
   Hears old e true new = (start : S) (es : List Event) → took start es old → took start (es ++ e ∷ []) new
   Hears old e false new = (start : S) (es : List Event) → took start es old → stopped start (es ++ e ∷ []) new
 
-  -- a scan: the sink took the parts of the document that is there, or stopped at one of them; or there is none, and it took some
-  abbrev pub ScanRefused : {E : Type 0} → S → S → Option Document → Refusal E → Type 0
-  ScanRefused old new there NotText = (es : List Event) × took old es new × (there ≡ None)
-  ScanRefused old new there (Refused e) = (es : List Event) × stopped old es new × ((d : Document) → there ≡ Some d → Leads es (told d))
+  -- a scan that fails: no token document has the text, and the sink took some parts; or it stopped at a part of the document that has it
+  abbrev pub ScanRefused : {E : Type 0} → S → S → (Document → List ℕ) → List ℕ → Refusal E → Type 0
+  ScanRefused old new text_of input NotText = (es : List Event) × took old es new × IsNoText text_of input
+  ScanRefused old new text_of input (Refused e) = (es : List Event) × stopped old es new
+      × ((d : Document) → IsNormalForm text_of input d → Leads es (told d))
 
-  abbrev pub Scans : {E : Type 0} → Result (⊤) (Refusal E) → S → S → Option Document → Type 0
-  Scans answer old new there = MatchResult answer (λ x. (d : Document) × (there ≡ Some d) × took old (told d) new) (ScanRefused old new there)
+  -- a scan: the sink took the parts of the token document in normal form that has the text; or it fails
+  abbrev pub Scans : {E : Type 0} → Result (⊤) (Refusal E) → S → S → (Document → List ℕ) → List ℕ → Type 0
+  Scans answer old new text_of input =
+      MatchResult answer (λ x. (d : Document) × IsNormalForm text_of input d × took old (told d) new) (ScanRefused old new text_of input)

@@ -1,5 +1,5 @@
 //! Bytes as they are written between quotes, each in its one spelling.
-ghost use Rattle.std.specs.Prelude.{◌≡◌, ◌<◌, ◌≤◌, option_map};
+ghost use Rattle.std.specs.Prelude.{◌≡◌, ◌≢◌, ◌<◌, ◌≤◌, ◌++◌, ℕ, List, IfSome, IsNone, option_map};
 ghost use Rattle.std.specs.Char.{digit_value};
 ghost use Rattle.std.specs.List.{slice_index};
 ghost use Rattle.ufmt.specs.Quoted.{IsQuote, escaped_byte};
@@ -16,14 +16,24 @@ pub(super) fn strip_escaped(quote: u8, input: &[u8]) -> Option<&[u8]>
     requires { IsQuote quote }
     ensures { now_of result ≡ strip (escaped_byte quote (told input.now)) input.now }
 {
-    let (_, rest) = split_escaped(quote, input)?;
+    let (_, rest) = split_spelled(quote, input)?;
     Some(rest)
 }
 
-/// The byte that is written at the front, between these quotes, and what follows it. `None` where no
-/// byte stands there in its one spelling. `quote` is a quotation mark or an apostrophe.
-#[tactic(auto, using(crate::proofs::Spelled::unspelled_past))]
+/// The byte whose spelling between these quotes the input begins with, and the input after it. `None` if
+/// it begins with no byte's spelling. `quote` is a quotation mark or an apostrophe.
 pub fn split_escaped(quote: u8, input: &[u8]) -> Option<(u8, &[u8])>
+    requires { IsQuote quote }
+    ensures some { IfSome result (λ x. input.now ≡ escaped_byte quote x.0 ++ x.1.now) }
+    ensures none { IsNone result → (byte : ℕ) (rest : List ℕ) → input.now ≢ escaped_byte quote byte ++ rest }
+{
+    split_spelled(quote, input)
+}
+
+// As `split_escaped`, by the only byte that may be written there.
+#[inline(always)]
+#[tactic(auto, using(crate::proofs::Spelled::unspelled_past))]
+fn split_spelled(quote: u8, input: &[u8]) -> Option<(u8, &[u8])>
     requires { IsQuote quote }
     ensures { option_map (λ x. (x.0, x.1.now)) result ≡ read_escaped quote input.now }
 {

@@ -1,7 +1,7 @@
 //! A whole text, told part by part: a loop over the documents that begin in it.
 ghost use Rattle.std.specs.Prelude.{[], Some};
-ghost use Rattle.ufmt.specs.Layout.{setting};
-ghost use Rattle.ufmt.specs.Reading.{parse_map, read, read_text};
+ghost use Rattle.ufmt.specs.Layout.{layout, setting};
+ghost use Rattle.ufmt.specs.Reading.{parse_map, read};
 ghost use Rattle.ufmt_scan.specs.Private.Scanning.{ScansOn};
 ghost use Rattle.ufmt_scan.specs.Scan.{Scans, told};
 
@@ -13,10 +13,11 @@ use super::tell::tell;
 use crate::level::Level;
 use ufmt::layout::Mode;
 
-/// Tells the sink the parts of the document that the whole text is of, in its order. `NotText` is
-/// answered of no document's text, and else what the sink answered.
+/// Tells the sink the parts of the token document that has this text, in the text's order. Fails with
+/// `NotText` if no token document has this text, else with the sink's error. The sink may have taken
+/// parts then.
 pub fn scan<S: Sink>(mode: Mode, input: &[u8], sink: &mut S) -> Result<(), Refusal<S::Error>>
-    ensures { Scans S.took S.stopped result sink.old sink.new (read_text mode input.now) }
+    ensures { Scans S.took S.stopped result sink.old sink.new (layout (setting mode 0)) input.now }
 {
     let told = match mode {
         Mode::Plain => tell_document::<S, false>(Mode::Plain, input, sink),
