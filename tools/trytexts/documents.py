@@ -9,6 +9,8 @@ CHARACTERS = (
     "\0\t\n\r\\\"'\x01\x08\x0b\x0c\x0e\x1b\x1f\x7f aZ~,:[]{}()\u0080\u00e9\u07ff\u0800\u20ac\ud7ff\ue000\ufffd\uffff"
     "\U00010000\U0001f980\U0010ffff"
 )
+# One of each length in bytes, and one of each escape: long texts of these stand for those of the others.
+KINDS_OF_CHARACTERS = "a\u00e9\u20ac\U0001f980\0\t\n\r\\\"'\x01\x1b"
 # Widths and lengths around those where a counter or a buffer could end.
 WIDTHS = (1, 2, 3, 4, 5, 6, 7, 8, 9, 12, 13, 16, 17, 31, 32, 33, 64, 65, 100, 127, 128, 129, 254, 255, 256, 257, 1000)
 LENGTHS = (1, 2, 15, 16, 63, 64, 65, 127, 128, 129, 254, 255, 256, 257, 511, 512, 600, 1023, 1024, 4095, 4096, 4097, 65535, 65536, 100_000)
@@ -204,9 +206,11 @@ def beginnings():
             yield plain(document).encode()
             yield pretty(document).encode()
     for character in CHARACTERS:
-        for length in (1, 255, 256, 257, 4097, 100_000):
+        for length in (1, 255, 256, 257, 4097):
             yield quoted(character * length).encode()
         yield quoted(character, "'").encode()
+    for character in KINDS_OF_CHARACTERS:
+        yield quoted(character * 100_000).encode()
     for length in LENGTHS:
         yield b"x" * length
         yield b" " * length

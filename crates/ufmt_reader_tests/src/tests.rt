@@ -4,7 +4,6 @@ mod laws;
 mod levels;
 mod malformed;
 mod misquoted;
-mod mode;
 mod parts;
 mod quoted;
 mod texts;

@@ -13,6 +13,7 @@ mod node;
 mod pair;
 mod readings;
 mod scores;
+mod temperature;
 mod wrappers;
 
 pub use by_hand::{Port, Ports, Users};
@@ -26,4 +27,5 @@ pub use node::{Node, Tree};
 pub use pair::Pair;
 pub use readings::{ByChannel, list_readings};
 pub use scores::Scores;
+pub use temperature::Temperature;
 pub use wrappers::{Braces, I32, InPrettyMode, Parens, Tuple, X, Y};

@@ -1,8 +1,8 @@
 //! A call of each law.
-use super::mode::Mode;
 use super::verdict::has_text;
 use super::{holds, same};
 use std::alloc::Global;
+use ufmt::layout::Mode;
 use ufmt_doc::doc::Doc;
 use ufmt_doc::laws::*;
 use ufmt_doc::plain_reader::{ReadError, read_plain};
@@ -52,4 +52,11 @@ fn comes_back(alloc: Global) -> Result<(bool, bool), ReadError> {
 #[test]
 fn documents_come_back(rt: HostRuntime) {
     same(&rt, comes_back(rt.alloc()), Ok((true, true)), "documents");
+}
+
+#[test]
+fn errors_have_codes(rt: HostRuntime) {
+    want_of_memory_is_one_error::<u8>();
+    let codes = (ReadError::NotText.code(), ReadError::OutOfMemory.code());
+    same(&rt, codes, (1, 2), "codes");
 }

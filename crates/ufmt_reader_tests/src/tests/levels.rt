@@ -1,8 +1,8 @@
 //! Blocks one in another: to how many levels they are read.
-use super::mode::Mode;
 use super::same;
 use super::verdict::{Verdict, told};
 use std::alloc::{AllocError, Global};
+use ufmt::layout::Mode;
 
 // `depth` lists with one entry, one in another, round what has the text `inner`, plain.
 fn plain_lists(alloc: Global, depth: usize, inner: &[u8]) -> Result<Vec<u8>, AllocError> {

@@ -1,11 +1,11 @@
 //! Texts and what is no text: the readers and the conversions say the same of each.
 ghost use Rattle.std.specs.Prelude.{◌≤◌, length};
 
-use super::mode::Mode;
 use super::texts::{NO_WORDS, NODE_PLAIN, NODE_PRETTY, NOT_PLAIN, NOT_PRETTY, TEXTS};
 use super::verdict::{Verdict, converts_to, read, told};
 use super::{holds, same};
 use std::alloc::{AllocError, Global};
+use ufmt::layout::Mode;
 use ufmt_doc::convert::{to_plain, to_pretty};
 use ufmt_doc::doc::Doc;
 

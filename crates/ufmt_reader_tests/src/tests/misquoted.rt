@@ -1,8 +1,8 @@
 //! Leaves in wrong quotes: readers and conversions refuse each, by itself and in blocks of either layout.
-use super::mode::Mode;
 use super::same;
 use super::verdict::{Verdict, told};
 use std::alloc::{AllocError, Global};
+use ufmt::layout::Mode;
 
 // A character in another spelling than its own, in a text and as a character.
 const SPELLED_OTHERWISE: [&[u8]; 26] = [

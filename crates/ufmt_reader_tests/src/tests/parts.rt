@@ -1,8 +1,8 @@
 //! The parts of documents that were read.
-use super::mode::Mode;
 use super::same;
 use super::verdict::read;
 use std::alloc::Global;
+use ufmt::layout::Mode;
 use ufmt_doc::doc::Doc;
 use ufmt_doc::plain_reader::{ReadError, read_plain};
 

@@ -1,8 +1,8 @@
 //! Texts and characters in quotes, printed and read back.
-use super::mode::Mode;
 use super::same;
 use super::verdict::{Verdict, has_text, told};
 use std::alloc::{AllocError, Global};
+use ufmt::layout::Mode;
 use ufmt_doc::convert::{plain_text, pretty_text};
 use ufmt_doc::doc::Doc;
 use ufmt_user::Message;

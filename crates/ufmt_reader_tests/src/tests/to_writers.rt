@@ -1,8 +1,8 @@
 //! Conversions to writers: over buffers of each size, and of what is no text.
 use super::holds;
-use super::mode::Mode;
 use super::texts::{NODE_PLAIN, NODE_PRETTY};
 use std::alloc::{AllocError, Global};
+use ufmt::layout::Mode;
 use ufmt::{Cursor, Full, uWrite};
 use ufmt_doc::convert::{plain_into, plain_to, pretty_into, pretty_to};
 use ufmt_doc::scan::Refusal;

@@ -1,6 +1,6 @@
 //! What a reader and the conversion from its mode say of a text.
-use super::mode::Mode;
 use std::alloc::Global;
+use ufmt::layout::Mode;
 use ufmt_doc::convert::{plain_text, pretty_text, to_plain, to_pretty};
 use ufmt_doc::doc::Doc;
 use ufmt_doc::plain_reader::{ReadError, read_plain};

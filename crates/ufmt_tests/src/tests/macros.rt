@@ -18,6 +18,25 @@ impl Printed for AllPieces {
     }
 }
 
+struct LineOfAllPieces;
+
+impl Printed for LineOfAllPieces {
+    fn print<W: uWrite>(&self, f: &mut Formatter<W>) -> Result<(), W::Error> {
+        let (tuples, numbers) = ([(3i32,)], [16u8, 17]);
+        laws::line_of_all_pieces(
+            f,
+            "n=",
+            &7i32,
+            &(1i32,),
+            &Some(2i32),
+            &255u8,
+            &tuples,
+            &numbers,
+            PREFIXED,
+        )
+    }
+}
+
 // Each kind of piece behind a hexadecimal one.
 struct HexadecimalFirst;
 
@@ -58,6 +77,8 @@ impl Printed for EmptyTexts {
 const PIECES: &str = "\
 n=|7||(|1|,|)|Some|(|\n|    |2|,\n|)|0x|0|0|ff|~
 n=|7||(|\n|    |1|,\n|)|Some|(|\n|    |2|,\n|)|0x|0|0|ff|;
+n=|7||(|1|,|)|Some|(|\n|    |2|,\n|)|0x|0|0|ff||(|3|,|)|0x|0|0|10|n=|0x|0|0|11|~
+n=|7||(|\n|    |1|,\n|)|Some|(|\n|    |2|,\n|)|0x|0|0|ff||(|\n|    |3|,\n|)|0x|0|0|10|n=|0x|0|0|11|;
 0x|0|0|0|1|ab|0x|0|0|0|2|3|0x|0|0|0|4|5|0x|0|0|0|6|7|0x|0|0|0|8|0x|0|0|0|9|;
 a|0x|0|0|0|1|b|\n|;
 a b|7|[|1|]|[|\n|    |2|,\n|]|\n|~
@@ -69,6 +90,7 @@ a b|7|[|\n|    |1|,\n|]|[|\n|    |2|,\n|]|\n|;
 fn pieces_are_handed_on(rt: HostRuntime) {
     let mut table = Table::new(rt.alloc());
     table.pieces(&AllPieces);
+    table.pieces(&LineOfAllPieces);
     table.pieces(&HexadecimalFirst);
     table.pieces(&HexadecimalInALine);
     table.pieces(&Line);

@@ -3,8 +3,8 @@ use super::forwarded;
 use super::rows::{Table, has_rows, list};
 use std::alloc::{AllocError, Global};
 use ufmt_user::{
-    I32, Kind, Message, Nested, Node, Pair, Port, Ports, Reading, Scores, Tree, Tuple, Users, X, Y,
-    log, print,
+    I32, Kind, Message, Nested, Node, Pair, Port, Ports, Reading, Scores, Temperature, Tree, Tuple,
+    Users, X, Y, log, print,
 };
 
 const STRUCTS_AND_ENUMS: &str = "\
@@ -54,6 +54,11 @@ Z(
 );
 W;
 X;
+21 °C;
+[-4 °C]~
+[
+    -4 °C,
+];
 ";
 
 #[test]
@@ -73,6 +78,8 @@ fn structs_and_enums(rt: HostRuntime) {
     table.texts(&Y::Z(0i32));
     table.texts(&Y::W::<u64>);
     table.texts(&forwarded::Y);
+    table.texts(&Temperature { celsius: 21 });
+    table.texts(&[Temperature { celsius: -4 }]);
     has_rows(&rt, &table, STRUCTS_AND_ENUMS);
 }
 
