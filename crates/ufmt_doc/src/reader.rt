@@ -1,16 +1,13 @@
-//! Reading a token document from a text, in either mode: a scan that tells its parts to the blocks
-//! that are open.
+//! Reading a token document from a text, in either mode.
 ghost use Rattle.std.specs.Prelude.{IfOk, IsErrOf};
 ghost use Rattle.ufmt.specs.Layout.{layout, setting};
 ghost use Rattle.ufmt_doc.specs.Doc.{doc_document};
 ghost use Rattle.ufmt_scan.specs.Texts.{IsNormalForm, IsNoText};
 
 mod document_sink;
-mod open_block;
-mod open_blocks;
 
 use crate::doc::Doc;
-use open_blocks::OpenBlocks;
+use document_sink::DocumentSink;
 use std::alloc::Global;
 use ufmt::layout::Mode;
 use ufmt_scan::error::ReadError;
@@ -23,8 +20,7 @@ pub(crate) fn read_text(alloc: Global, mode: Mode, input: &[u8]) -> Result<Doc, 
     ensures not_text { IsErrOf result ReadError.NotText → IsNoText (layout (setting mode 0))
         input.now }
 {
-    let mut blocks = OpenBlocks::new(alloc);
-    scan(mode, input, &mut blocks)?;
-    let round = blocks.inner;
-    round.waits.ok_or(ReadError::NotText)
+    let mut sink = DocumentSink::new(alloc);
+    scan(mode, input, &mut sink)?;
+    sink.into_document().ok_or(ReadError::NotText)
 }

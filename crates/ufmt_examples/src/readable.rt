@@ -1,4 +1,4 @@
-//! Whether a line can be read back, told without memory: a sink of one's own, which keeps nothing.
+//! Whether a line can be read back, found without memory: a sink of one's own, which keeps nothing.
 ghost use Rattle.std.specs.Prelude.{◌≡◌, ◌↔◌, IsTrue, ⊤};
 ghost use Rattle.ufmt.specs.Document.{Document};
 ghost use Rattle.ufmt.specs.Layout.{plain_text};
@@ -8,9 +8,9 @@ ghost use Rattle.ufmt.specs.Token.{IsToken};
 mod tests;
 
 use ufmt::layout::Mode;
-use ufmt_scan::scan::{Part, Sink, scan};
+use ufmt_scan::scan::{Event, Sink, scan};
 
-// Takes every part, and keeps none.
+// Takes every event, and keeps none.
 #[derive(Clone, Copy)]
 struct Ignores;
 
@@ -23,7 +23,7 @@ impl Sink for Ignores {
 
     ghost begun = { λ _. tt };
 
-    fn hear(&mut self, _part: Part, _text: &str) -> Result<(), ()> {
+    fn event(&mut self, _event: Event<&str>) -> Result<(), ()> {
         Ok(())
     }
 }

@@ -9,10 +9,15 @@ use ufmt::{
     Formatter, HexOptions, pieces, uWrite, uwriteln, write_debug, write_display, write_line,
     write_pretty,
 };
-use ufmt_doc::convert::{plain_text, plain_to, pretty_text, pretty_to, to_plain, to_pretty};
+use ufmt_doc::convert::{
+    plain_text, pretty_text, to_plain, to_pretty, write_to_plain, write_to_pretty,
+};
 use ufmt_doc::doc::Doc;
 use ufmt_doc::plain_reader::{ReadError, read_plain};
 use ufmt_doc::pretty_reader::read_pretty;
+
+// A `String` that a conversion returns is made in a vector that is a kilobyte longer at once.
+const OF_A_STRING: u64 = 1;
 
 /// Reads the texts of a sample.
 pub fn report_readers(rt: &HostRuntime, sample: &Sample) -> io::Result<()> {
@@ -28,45 +33,49 @@ pub fn report_readers(rt: &HostRuntime, sample: &Sample) -> io::Result<()> {
 pub fn report_conversions(rt: &HostRuntime, sample: &Sample) -> io::Result<()> {
     let alloc = rt.alloc();
     let (plain, pretty) = (sample.plain.as_bytes(), sample.pretty.as_bytes());
-    report_pretty(rt, sample, "to_pretty", to_pretty(alloc, plain))?;
-    report_plain(rt, sample, "to_plain", to_plain(alloc, pretty))?;
+    let answer = to_pretty(alloc, plain);
+    report_pretty(rt, sample, ("to_pretty", OF_A_STRING), answer)?;
+    let answer = to_plain(alloc, pretty);
+    report_plain(rt, sample, ("to_plain", OF_A_STRING), answer)?;
     let answer = pretty_in_a_text(alloc, plain);
-    report_pretty(rt, sample, "pretty_to, into a text,", answer)?;
+    let line = ("write_to_pretty, into a text,", sample.of_pretty);
+    report_pretty(rt, sample, line, answer)?;
     let answer = plain_in_a_text(alloc, pretty);
-    report_plain(rt, sample, "plain_to, into a text,", answer)
+    let line = ("write_to_plain, into a text,", sample.of_plain);
+    report_plain(rt, sample, line, answer)
 }
 
-// A line on a conversion of a sample's plain text.
+// A line on a conversion of a sample's plain text, with its name and how many allocations it makes.
 fn report_pretty(
     rt: &HostRuntime,
     sample: &Sample,
-    call: &str,
+    (call, allocations): (&str, u64),
     answer: Result<String, ReadError>,
 ) -> io::Result<()> {
     let answer = Answer::of_conversion(answer, sample.ample_pretty());
-    report(rt, call, sample.name, sample.of_pretty, answer)
+    report(rt, call, sample.name, allocations, answer)
 }
 
 // A line on a conversion of a sample's pretty text.
 fn report_plain(
     rt: &HostRuntime,
     sample: &Sample,
-    call: &str,
+    (call, allocations): (&str, u64),
     answer: Result<String, ReadError>,
 ) -> io::Result<()> {
     let answer = Answer::of_conversion(answer, sample.ample_plain());
-    report(rt, call, sample.name, sample.of_plain, answer)
+    report(rt, call, sample.name, allocations, answer)
 }
 
 fn pretty_in_a_text(alloc: Global, plain: &[u8]) -> Result<String, ReadError> {
     let mut text = String::new(alloc);
-    pretty_to(&mut text, plain)?;
+    write_to_pretty(&mut text, plain)?;
     Ok(text)
 }
 
 fn plain_in_a_text(alloc: Global, pretty: &[u8]) -> Result<String, ReadError> {
     let mut text = String::new(alloc);
-    plain_to(&mut text, pretty)?;
+    write_to_plain(&mut text, pretty)?;
     Ok(text)
 }
 

@@ -9,9 +9,9 @@ use std::alloc::{AllocError, Global};
 use std::io;
 use ufmt::Cursor;
 use ufmt::layout::Mode;
-use ufmt_doc::convert::{plain_into, plain_to, pretty_into, pretty_to};
+use ufmt_doc::convert::{to_plain_into, to_pretty_into, write_to_plain, write_to_pretty};
 use ufmt_doc::doc::{Doc, same_text};
-use ufmt_doc::scan::{Part, Sink, scan};
+use ufmt_doc::scan::{Event, Sink, scan};
 use ufmt_scan::escape::split_escaped;
 use ufmt_scan::leaf::{is_leaf, is_symbol, is_word};
 
@@ -20,9 +20,9 @@ const MANY: &str = "many entries";
 /// Makes each call on a document of many entries, and on another with its text.
 pub fn report_documents(rt: &HostRuntime) -> io::Result<()> {
     let (answer, doc) = read_twice(rt.alloc(), Mode::Plain, MANY_PLAIN);
-    report(rt, "read_plain", MANY, 44, answer)?;
+    report(rt, "read_plain", MANY, 43, answer)?;
     let (answer, other) = read_twice(rt.alloc(), Mode::Pretty, MANY_PRETTY);
-    report(rt, "read_pretty", MANY, 44, answer)?;
+    report(rt, "read_pretty", MANY, 43, answer)?;
     match (doc, other) {
         (Some(doc), Some(other)) => {
             report_parts(rt, &doc)?;
@@ -142,19 +142,19 @@ fn unquoted(alloc: Global, doc: &Doc) -> Result<String, AllocError> {
 pub fn report_conversions(rt: &HostRuntime) -> io::Result<()> {
     let (plain, pretty) = (MANY_PLAIN.as_bytes(), MANY_PRETTY.as_bytes());
     let mut buffer = [0; 1024];
-    report_free(rt, "convert::pretty_into", MANY, || {
-        pretty_into(&mut buffer, plain).is_ok() && buffer.starts_with(pretty)
+    report_free(rt, "convert::to_pretty_into", MANY, || {
+        to_pretty_into(&mut buffer, plain).is_ok() && buffer.starts_with(pretty)
     })?;
-    report_free(rt, "convert::plain_into", MANY, || {
-        plain_into(&mut buffer, pretty).is_ok() && buffer.starts_with(plain)
+    report_free(rt, "convert::to_plain_into", MANY, || {
+        to_plain_into(&mut buffer, pretty).is_ok() && buffer.starts_with(plain)
     })?;
-    report_free(rt, "convert::pretty_to", MANY, || {
+    report_free(rt, "convert::write_to_pretty", MANY, || {
         let mut cursor = Cursor::new(&mut buffer);
-        pretty_to(&mut cursor, plain).is_ok() && cursor.written() == pretty
+        write_to_pretty(&mut cursor, plain).is_ok() && cursor.written() == pretty
     })?;
-    report_free(rt, "convert::plain_to", MANY, || {
+    report_free(rt, "convert::write_to_plain", MANY, || {
         let mut cursor = Cursor::new(&mut buffer);
-        plain_to(&mut cursor, pretty).is_ok() && cursor.written() == plain
+        write_to_plain(&mut cursor, pretty).is_ok() && cursor.written() == plain
     })?;
     report_free(
         rt,
@@ -170,7 +170,7 @@ pub fn report_conversions(rt: &HostRuntime) -> io::Result<()> {
     )
 }
 
-// Takes every part, and keeps none.
+// Takes every event, and keeps none.
 #[derive(Drop)]
 struct Ignores;
 
@@ -183,7 +183,7 @@ impl Sink for Ignores {
 
     ghost begun = { λ _. tt };
 
-    fn hear(&mut self, _part: Part, _text: &str) -> Result<(), ()> {
+    fn event(&mut self, _event: Event<&str>) -> Result<(), ()> {
         Ok(())
     }
 }

@@ -12,15 +12,15 @@ use ufmt_doc::laws::*;
 pub fn report_laws(rt: &HostRuntime) -> io::Result<()> {
     let (plain, pretty) = (NODE_PLAIN.as_bytes(), NODE_PRETTY.as_bytes());
     let answer = Answer::of_conversion(plain_again(rt.alloc(), plain), Some(NODE_PLAIN));
-    report(rt, "plain_again", "a node", 18, answer)?;
+    report(rt, "plain_again", "a node", 20, answer)?;
     let answer = Answer::of_conversion(pretty_again(rt.alloc(), pretty), Some(NODE_PRETTY));
-    report(rt, "pretty_again", "a node", 19, answer)?;
+    report(rt, "pretty_again", "a node", 21, answer)?;
     let again = plain_by_way_of_pretty(rt.alloc(), plain);
     let answer = Answer::of_conversion(again, Some(NODE_PLAIN));
-    report(rt, "plain_by_way_of_pretty", "a node", 9, answer)?;
+    report(rt, "plain_by_way_of_pretty", "a node", 2, answer)?;
     let again = pretty_by_way_of_plain(rt.alloc(), pretty);
     let answer = Answer::of_conversion(again, Some(NODE_PRETTY));
-    report(rt, "pretty_by_way_of_plain", "a node", 9, answer)?;
+    report(rt, "pretty_by_way_of_plain", "a node", 2, answer)?;
     let (answer, doc) = read_twice(rt.alloc(), Mode::Plain, LOOSE);
     report(rt, "read_plain", "a tuple, for its normal form", 3, answer)?;
     match doc {

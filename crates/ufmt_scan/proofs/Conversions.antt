@@ -4,8 +4,8 @@ use Rattle.std.specs.Prelude.{⊤, IsOk}
 use Rattle.std.specs.declared.alloc.AllocError.{AllocError}
 use Rattle.ufmt.specs.Document.{Document}
 use Rattle.ufmt.specs.Token.{IsToken}
-use Rattle.ufmt_scan.specs.declared.scan.refusal.Refusal.{Refusal}
-use Rattle.ufmt.specs.Writes.{Writes, string_seen}
+use Rattle.ufmt_scan.specs.declared.scan.event.ScanError.{ScanError}
+use Rattle.ufmt.specs.Writes.{Seen, Writes}
 use Rattle.ufmt_scan.specs.Texts.{Converts, ConvertsTo, IsConverted, IsNormalForm, IsNoText, IsUnconverted, Undoes}
 
 -- where each text tells the other, the other text of what was read is what the text is converted to
@@ -27,16 +27,16 @@ undoes from to input answer is earlier was =
 unconverted : (from to : Document → List ℕ) (input : List ℕ) → IsNoText from input → IsUnconverted from to input
 unconverted from to input none earlier was = none was.some.0 was.some.1 (was.each was.some.0 was.some.1 was.some.2)
 
--- a conversion to a `String` that was empty, and what it answers undoes that in the other direction
-pub converts : (from to : Document → List ℕ) (input : List ℕ) (answer : Result (⊤) (Refusal AllocError)) (old new : String Global) → string_bytes old ≡ []
-    → ConvertsTo string_seen from to input old answer new → IsOk answer → Converts from to input (Ok new)
-converts from to input answer old new empty h is =
+-- a conversion by a writer that was empty, whose text is the answer, undoes that in the other direction
+pub converts : {W : Type 0} (seen : Seen W) (from to : Document → List ℕ) (input : List ℕ) (answer : Result (⊤) (ScanError AllocError)) (old new : W) (text : String Global)
+    → seen.told old → seen.text old ≡ [] → string_bytes text ≡ seen.text new
+    → ConvertsTo seen from to input old answer new → IsOk answer → Converts from to input (Ok text)
+converts seen from to input answer old new text known empty whole h is =
     let other = h.ok is in
-    let wrote = h.writes other.0 other.1 in
-    let whole : string_bytes new ≡ other.0 = at answer is wrote ∙ ap (λ t. t ++ other.0) empty in
-    let same = subst (IsConverted from to input) (sym whole) other.1 in
-    record { ok = same; not_text = λ refused. absurd (cc); undoes = undoes from to input (string_bytes new) same; unconverted = λ refused. absurd (cc) }
+    let all : string_bytes text ≡ other.0 = whole ∙ at answer is (h.writes other.0 other.1) ∙ ap (λ t. t ++ other.0) empty in
+    let same = subst (IsConverted from to input) (sym all) other.1 in
+    record { ok = same; not_text = λ refused. absurd (cc); undoes = undoes from to input (string_bytes text) same; unconverted = λ refused. absurd (cc) }
   where
-    at : {text : List ℕ} (a : Result (⊤) (Refusal AllocError)) → IsOk a → Writes string_seen old text (is_ok a) new → string_bytes new ≡ string_bytes old ++ text
-    at (Ok x) is h = h.appended tt
+    at : {t : List ℕ} (a : Result (⊤) (ScanError AllocError)) → IsOk a → Writes seen old t (is_ok a) new → seen.text new ≡ seen.text old ++ t
+    at (Ok x) is h = h.appended known
     at (Err e) is h = absurd (cc)

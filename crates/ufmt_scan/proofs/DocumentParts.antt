@@ -1,23 +1,27 @@
 -- Where documents, pairs and fields begin that are told.
-use Rattle.std.proofs.Common.{◌≡◌, refl, ap, ◌∙◌, sym, ℕ, zero, suc, ◌<◌, ◌≤◌, ◌==◌, ◌||◌, Bool, cond, ◌⊎◌, inl, inr, true, false, List, [], ◌∷◌, ◌++◌, length, length-append, eqb-true, map, Option, Some, None, option_and_then, codes, arith}
+use Rattle.std.proofs.Common.{◌≡◌, refl, ap, ◌∙◌, sym, ℕ, zero, suc, ◌<◌, ◌≤◌, ◌==◌, ◌||◌, Bool, cond, ◌⊎◌, inl, inr, true, false, List, [], ◌∷◌, ◌++◌, length, length-append, eqb-true, map, Option, Some, None, option_and_then, codes, subst, Bor, Result, Ok, Err, arith}
+use Rattle.std.proofs.Common.{◌≢◌}
 use Rattle.ufmt.specs.Document.{Document, list_of, set_of, map_of, struct_of, tuple_of, no_documents, no_pairs, Documents, document, documents, pairs_of, fields_of}
 use Rattle.ufmt_core.specs.declared.layout.Setting.{Setting}
+use Rattle.ufmt_scan.specs.declared.scan.event.ScanError.{ScanError}
 use Rattle.ufmt_core.specs.declared.layout.Kind.{Kind}
 use Rattle.ufmt_core.specs.declared.layout.Kind.TheVariants.{Brackets, Braces, Struct, Tuple, Unnamed}
 use Rattle.ufmt_core.specs.declared.layout.Count.TheVariants.{Zero, One, Several}
-use Rattle.ufmt.specs.Layout.{frame, inside, lead}
+use Rattle.ufmt.specs.Layout.{frame, inside, lead, next}
 use Rattle.ufmt.specs.Token.{AreWordBytes, IsWord}
+use Rattle.ufmt.specs.ReadingQuoted.{read_quoted}
 use Rattle.ufmt.specs.Reading.{Parse, choose, parse_map, strip, word_of, after_word, read_after_first, read_symbol, read_word, read_value, read_list, read_braces, read_map_or_set, read_named, read_without_name, read_by_word, read}
+use Rattle.ufmt.proofs.Parsing.{strip_found}
 use Rattle.ufmt.proofs.ReadingTurns.{Takes, read_word_takes, strip_within}
 use Rattle.ufmt.proofs.TokenLeaves.{leaf_begins, read_symbol_sound, symbol_leaf}
 use Rattle.ufmt.proofs.ReadingWords.{word_of_bytes}
 use Rattle.ufmt_scan.specs.declared.level.Level.{Level}
-use Rattle.ufmt_scan.specs.declared.scan.part.Part.TheVariants.{Colon, Empty, Label, Leaf, Open}
-use Rattle.ufmt_scan.specs.declared.scan.stage.Stage.{Stage}
-use Rattle.ufmt_scan.specs.declared.scan.stage.Stage.TheVariants as stages
-use Rattle.ufmt_scan.specs.Scan.{Event, plainly, told, told_entries, told_fields, told_pairs, told_tail}
+use Rattle.ufmt_scan.specs.declared.scan.event.Event.TheVariants.{Colon, Empty, FieldName, Leaf, Open}
+use Rattle.ufmt_scan.specs.declared.scan.open_blocks.Stage.{Stage}
+use Rattle.ufmt_scan.specs.declared.scan.open_blocks.Stage.TheVariants as stages
+use Rattle.ufmt_scan.specs.Scan.{TextEvent, told, told_entries, told_fields, told_pairs, told_tail}
 use Rattle.ufmt_scan.specs.Private.Level.{entry_at, entry_of, setting_at}
-use Rattle.ufmt_scan.specs.Private.Scanning.{Answer, Comes, GoesOnAt, Told, block_told, entries, fields, open_told, pairs, prefixed, rest_told, stage_told, then_told, turn_of, turn_told, value_told}
+use Rattle.ufmt_scan.specs.Private.Scanning.{Steps, Stops, Tells, Told, after, block_told, earlier, entries, fields, kind_of, later, open_told, pairs, prefixed, rest_told, stage_told, then_told, turn_of, turn_told, value_told}
 use Rattle.ufmt_scan.proofs.EntrySteps.{entry_of_takes, field_takes, pair_takes}
 use Rattle.ufmt_scan.proofs.Telling.{block_tells, prefixed_twice}
 
@@ -37,13 +41,13 @@ told_fields-fields_of level (f ∷ fs) = ap (λ es. (fields level).tell f ∷ es
 module _ (level : Level) where
   -- a list, a set or a tuple from its first entry on
   entries_tell : (kind : Kind) (name : List ℕ) (make : Documents → Document)
-      → ((d : Document) (ds : Documents) → told (make (document d ds)) ≡ (Open kind, name) ∷ (told d ++ told_tail kind One (told_entries ds)))
+      → ((d : Document) (ds : Documents) → told (make (document d ds)) ≡ Open kind name ∷ (told d ++ told_tail kind One (told_entries ds)))
       → (o : Option (Document × List ℕ))
       → parse_map told (option_and_then (λ x. read_after_first (entry_of level) (frame level.mode kind) (setting_at level) (λ ds. make
       (documents ds)) x.0 x.1) o)
-      ≡ prefixed ((Open kind, name) ∷ []) (then_told (parse_map told o) (rest_told (entries level) level kind One))
-  entries_tell kind name make shape = block_tells (entries level) level kind (λ ds. make (documents ds)) (Open kind, name)
-      (λ d ds. shape d (documents ds) ∙ ap (λ ess. (Open kind, name) ∷ (told d ++ told_tail kind One ess)) (told_entries-documents ds))
+      ≡ prefixed (Open kind name ∷ []) (then_told (parse_map told o) (rest_told (entries level) level kind One))
+  entries_tell kind name make shape = block_tells (entries level) level kind (λ ds. make (documents ds)) (Open kind name)
+      (λ d ds. shape d (documents ds) ∙ ap (λ ess. Open kind name ∷ (told d ++ told_tail kind One ess)) (told_entries-documents ds))
 
   -- a named tuple or struct behind what stands before its first field
   pub tuple_tells : (w t r : List ℕ) → IsWord w → strip (lead (frame level.mode Tuple) (inside (setting_at level)) Zero) t ≡ Some r
@@ -56,8 +60,15 @@ module _ (level : Level) where
       → parse_map told (read_named (setting_at level) (entry_of level) w t) ≡ open_told level Struct w r
   struct_tells [] t r word tuple opening = absurd word
   struct_tells (c ∷ w) t r word tuple opening = rw (tuple, opening) (block_tells (fields level) level Struct (λ fs. struct_of (c ∷ w) (fields_of fs))
-      (Open Struct, c ∷ w)
-      (λ f fs. ap (λ ess. (Open Struct, c ∷ w) ∷ ((fields level).tell f ++ told_tail Struct One ess)) (told_fields-fields_of level fs)) ((fields level).read r))
+      (Open Struct (c ∷ w))
+      (λ f fs. ap (λ ess. Open Struct (c ∷ w) ∷ ((fields level).tell f ++ told_tail Struct One ess)) (told_fields-fields_of level fs)) ((fields level).read r))
+
+  -- a name without a block
+  pub name_tells : (w t : List ℕ) → IsWord w → strip (lead (frame level.mode Tuple) (inside (setting_at level)) Zero) t ≡ None
+      → strip (lead (frame level.mode Struct) (inside (setting_at level)) Zero) t ≡ None
+      → parse_map told (read_named (setting_at level) (entry_of level) w t) ≡ Some (Leaf w ∷ [], t)
+  name_tells [] t word tuple struct = absurd word
+  name_tells (c ∷ w) t word tuple struct = rw (tuple, struct) refl
 
   -- a tuple without a name
   pub unnamed_tells : (t r : List ℕ) → strip (codes "[") t ≡ None → strip (codes "{") t ≡ None → read_symbol t ≡ None
@@ -67,10 +78,10 @@ module _ (level : Level) where
       (entry_of level r))
 
   -- a list, or a set or a map, behind its opening
-  block_opens : (kind : Kind) (empty : Document) (q : Parse Document) → told empty ≡ plainly (Empty kind) ∷ []
+  block_opens : (kind : Kind) (empty : Document) (q : Parse Document) → told empty ≡ Empty kind ∷ []
       → ((u : List ℕ) → parse_map told (q u) ≡ open_told level kind [] u) → (ends opens : Option (List ℕ))
       → parse_map told (choose ends (λ u. Some (empty, u)) (option_and_then q opens))
-      ≡ choose ends (λ u. Some (plainly (Empty kind) ∷ [], u)) (option_and_then (open_told level kind []) opens)
+      ≡ choose ends (λ u. Some (Empty kind ∷ [], u)) (option_and_then (open_told level kind []) opens)
   block_opens kind empty q none some None None = refl
   block_opens kind empty q none some None (Some u) = some u
   block_opens kind empty q none some (Some u) opens = ap (λ es. Some (es, u)) none
@@ -79,33 +90,33 @@ module _ (level : Level) where
   list_tells t = block_opens Brackets (list_of no_documents) _ refl (λ u. entries_tell Brackets [] list_of (λ d ds. refl) (entry_of level u)) _ _
 
   -- the value of a pair, behind its key and a colon
-  value_tells : (key : Document) (o : Option (Document × List ℕ)) (more : Parse (List Event))
+  value_tells : (key : Document) (o : Option (Document × List ℕ)) (more : Parse (List TextEvent))
       → then_told (parse_map (pairs level).tell (parse_map (λ value. (key, value)) o)) more
-      ≡ prefixed (told key) (prefixed (plainly Colon ∷ []) (then_told (parse_map told o) more))
+      ≡ prefixed (told key) (prefixed (Colon ∷ []) (then_told (parse_map told o) more))
   value_tells key None more = refl
   value_tells key (Some x) more =
-      sym (ap (prefixed (told key)) (prefixed_twice (plainly Colon ∷ []) (told x.0) (more x.1))
-      ∙ prefixed_twice (told key) (plainly Colon ∷ told x.0) (more x.1))
+      sym (ap (prefixed (told key)) (prefixed_twice (Colon ∷ []) (told x.0) (more x.1))
+      ∙ prefixed_twice (told key) (Colon ∷ told x.0) (more x.1))
 
   -- a set or a map from its first entry on
   first_tells : (o : Option (Document × List ℕ)) → parse_map told (option_and_then (λ x. read_map_or_set (setting_at level) (entry_of level) x.0 x.1) o)
-      ≡ prefixed ((Open Braces, []) ∷ []) (then_told (parse_map told o) (stage_told level stages.Braces))
+      ≡ prefixed (Open Braces [] ∷ []) (then_told (parse_map told o) (stage_told level stages.BracesFirst))
   first_tells None = refl
   first_tells (Some x) = by_colon (strip (codes ": ") x.1) refl
     where
       by_colon : (o : Option (List ℕ)) → strip (codes ": ") x.1 ≡ o → parse_map told (read_map_or_set (setting_at level) (entry_of level) x.0 x.1)
-          ≡ prefixed ((Open Braces, []) ∷ []) (prefixed (told x.0) (choose o (value_told level Zero) (rest_told (entries level) level Braces One x.1)))
+          ≡ prefixed (Open Braces [] ∷ []) (prefixed (told x.0) (choose o (value_told level Zero) (rest_told (entries level) level Braces One x.1)))
       by_colon None colon = rw colon (entries_tell Braces [] set_of (λ d ds. refl) (Some x))
-      by_colon (Some u) colon = rw colon (block_tells (pairs level) level Braces (λ ps. map_of (pairs_of ps)) (Open Braces, [])
-          (λ q ps. ap (λ ess. (Open Braces, []) ∷ ((pairs level).tell q ++ told_tail Braces One ess)) (told_pairs-pairs_of level ps)) (parse_map (λ value.
+      by_colon (Some u) colon = rw colon (block_tells (pairs level) level Braces (λ ps. map_of (pairs_of ps)) (Open Braces [])
+          (λ q ps. ap (λ ess. Open Braces [] ∷ ((pairs level).tell q ++ told_tail Braces One ess)) (told_pairs-pairs_of level ps)) (parse_map (λ value.
           (x.0, value)) (entry_of level u))
-          ∙ ap (prefixed ((Open Braces, []) ∷ [])) (value_tells x.0 (entry_of level u) (rest_told (pairs level) level Braces One)))
+          ∙ ap (prefixed (Open Braces [] ∷ [])) (value_tells x.0 (entry_of level u) (rest_told (pairs level) level Braces One)))
 
   pub braces_tells : (t : List ℕ) → parse_map told (read_braces (setting_at level) (entry_of level) t) ≡ block_told level Braces t
   braces_tells t = block_opens Braces (map_of no_pairs) _ refl (λ u. first_tells (entry_of level u)) _ _
 
   -- a later pair is a key, and then a value
-  pub pair_tells : GoesOnAt level Braces stages.Key
+  pair_tells : (t : List ℕ) → after level (Some stages.KeyLater) t ≡ then_told (turn_told (pairs level) t) (rest_told (pairs level) level Braces Several)
   pair_tells t = by_key (entry_of level t)
     where
       by_colon : (key : Document) (o : Option (List ℕ)) → prefixed (told key) (option_and_then (value_told level Several) o)
@@ -114,7 +125,7 @@ module _ (level : Level) where
       by_colon key None = refl
       by_colon key (Some u) = sym (value_tells key (entry_of level u) (rest_told (pairs level) level Braces Several))
 
-      by_key : (o : Option (Document × List ℕ)) → then_told (parse_map told o) (stage_told level stages.Key)
+      by_key : (o : Option (Document × List ℕ)) → then_told (parse_map told o) (stage_told level stages.KeyLater)
           ≡ then_told (parse_map (pairs level).tell (option_and_then (λ x. read_value (entry_of level) x.0 x.1) o)) (rest_told
           (pairs level) level Braces Several)
       by_key None = refl
@@ -122,14 +133,59 @@ module _ (level : Level) where
 
 -- the entries, pairs or fields of a block each take a byte
 pub turn_takes : (level : Level) (stage : Stage) → Takes (turn_of level stage).read
-turn_takes level stages.Key = pair_takes level
-turn_takes level (stages.Value before) = pair_takes level
-turn_takes level (stages.Field before) = field_takes level
+turn_takes level stages.KeyLater = pair_takes level
+turn_takes level stages.ValueFirst = pair_takes level
+turn_takes level stages.ValueLater = pair_takes level
+turn_takes level stages.FieldFirst = field_takes level
+turn_takes level stages.FieldLater = field_takes level
 turn_takes level _ = entry_of_takes level
+
+-- after an entry a block continues at the stage of the next one
+pub later_continues : (level : Level) (stage : Stage) (t : List ℕ)
+    → after level (Some (later stage)) t ≡ then_told (turn_told (turn_of level stage) t) (rest_told (turn_of level stage) level (kind_of stage) Several)
+later_continues level stages.ListFirst t = refl
+later_continues level stages.ListLater t = refl
+later_continues level stages.BracesFirst t = refl
+later_continues level stages.SetLater t = refl
+later_continues level stages.KeyLater t = pair_tells level t
+later_continues level stages.ValueFirst t = pair_tells level t
+later_continues level stages.ValueLater t = pair_tells level t
+later_continues level stages.FieldFirst t = refl
+later_continues level stages.FieldLater t = refl
+later_continues level stages.TupleFirst t = refl
+later_continues level stages.TupleLater t = refl
+later_continues level stages.UnnamedFirst t = refl
+later_continues level stages.UnnamedLater t = refl
+
+-- where no colon may follow, the entry ends
+pub entry_ends : (level : Level) (stage : Stage) (t : List ℕ) → stage ≢ stages.BracesFirst → stage ≢ stages.KeyLater
+    → stage_told level stage t ≡ rest_told (turn_of level stage) level (kind_of stage) (next (earlier stage)) t
+entry_ends level stages.ListFirst t first key = refl
+entry_ends level stages.ListLater t first key = refl
+entry_ends level stages.BracesFirst t first key = absurd (first refl)
+entry_ends level stages.SetLater t first key = refl
+entry_ends level stages.KeyLater t first key = absurd (key refl)
+entry_ends level stages.ValueFirst t first key = refl
+entry_ends level stages.ValueLater t first key = refl
+entry_ends level stages.FieldFirst t first key = refl
+entry_ends level stages.FieldLater t first key = refl
+entry_ends level stages.TupleFirst t first key = refl
+entry_ends level stages.TupleLater t first key = refl
+entry_ends level stages.UnnamedFirst t first key = refl
+entry_ends level stages.UnnamedLater t first key = refl
+
+-- a leaf that is no word and isn't `()` is in quotes
+pub symbol_is_quoted : (t : List ℕ) (o : Option (List ℕ × List ℕ)) → strip (codes "()") t ≡ None → o ≡ read_quoted t → read_symbol t ≡ o
+symbol_is_quoted t o none is = rw none (sym is)
+
+-- a parenthesis is no quote
+pub opens_no_quote : (text t r : List ℕ) → strip (40 ∷ text) t ≡ Some r → read_quoted t ≡ None
+unfolding read_quoted
+opens_no_quote text t r opening = rw (strip_found (40 ∷ text) t r opening) refl
 
 -- a leaf that is no word
 pub symbol_tells : (level : Level) (t text r : List ℕ) → strip (codes "[") t ≡ None → strip (codes "{") t ≡ None → read_symbol t ≡ Some (text, r)
-    → (parse_map told (read_without_name (setting_at level) (entry_of level) t) ≡ Some ((Leaf, text) ∷ [], r)) × (length r < length t)
+    → (parse_map told (read_without_name (setting_at level) (entry_of level) t) ≡ Some (Leaf text ∷ [], r)) × (length r < length t)
 symbol_tells level t text r bracket brace symbol =
     let sound = read_symbol_sound t text r symbol in
     let begins = leaf_begins text (symbol_leaf text sound.0) in
@@ -150,11 +206,13 @@ pub reads_named : (s : Setting) (n : ℕ) (t w u : List ℕ) → w ≡ word_of t
 reads_named s n t [] u word rest some = absurd (cc)
 reads_named s n t (c ∷ w) u word rest some = read_is s n t ∙ rw (← word, ← rest) refl
 
--- what comes of a text comes of one that tells the same, and leaves fewer bytes than a larger number
-pub comes_as : (behind : Option Stage → Parse (List Event)) {m : ℕ} (n : ℕ) (answer : Answer) {there : Told} (other : Told)
-    → m ≤ n → there ≡ other → Comes behind m answer other → Comes behind n answer there
-comes_as behind n None other longer same h = same ∙ h
-comes_as behind n (Some x) other longer same h = (same ∙ h.0, let less = h.1 in omega (arith, less))
+-- a step of a text is one of a text that has the same events, and leaves fewer bytes than a larger number
+pub steps_as : {S E : Type 0} (took stopped : S → List TextEvent → S → Type 0) (old new : S) (behind : Option Stage → Parse (List TextEvent)) {m : ℕ} (n : ℕ)
+    (answer : Result (Option Stage × Bor (List ℕ)) (ScanError E)) {there : Told} (other : Told)
+    → m ≤ n → there ≡ other → Steps took stopped answer old new m other behind → Steps took stopped answer old new n there behind
+steps_as took stopped old new behind n (Ok x) other longer same h =
+    (subst (λ o. Tells took took old new o (behind x.0 x.1.now)) (sym same) h.0, let less = h.1 in omega (arith, less))
+steps_as took stopped old new behind n (Err why) other longer same h = (subst (λ o. Stops took stopped old new o why) (sym same) h.0, tt)
 
 -- one or more word bytes are a word
 bytes_are_word : (w : List ℕ) → AreWordBytes w → (length w == 0) ≡ false → IsWord w
@@ -180,7 +238,7 @@ word_within t w u word rest some = let shorter = read_word_takes.takes t w u (wo
 
 -- a field's name and the colon behind it come first of a field
 pub label_tells : (level : Level) (t w u v : List ℕ) → w ≡ word_of t → u ≡ after_word t → (length w == 0) ≡ false → strip (codes ": ") u ≡ Some v
-    → (turn_told (fields level) t ≡ prefixed ((Label, w) ∷ []) (turn_told (entries level) v)) × (length v < length t)
+    → (turn_told (fields level) t ≡ prefixed (FieldName w ∷ []) (turn_told (entries level) v)) × (length v < length t)
 label_tells level t w u v word rest some colon = (
   rw (word_is_read t w u word rest some, colon) (labelled (entry_of level v)),
   let shorter = word_within t w u word rest some in
@@ -188,7 +246,7 @@ label_tells level t w u v word rest some colon = (
       omega (arith, shorter, within),
 )
   where
-    labelled : (o : Option (Document × List ℕ)) → parse_map (fields level).tell (parse_map (λ value. (w, value)) o) ≡ prefixed ((Label, w) ∷ [])
+    labelled : (o : Option (Document × List ℕ)) → parse_map (fields level).tell (parse_map (λ value. (w, value)) o) ≡ prefixed (FieldName w ∷ [])
         (parse_map told o)
     labelled None = refl
     labelled (Some x) = refl

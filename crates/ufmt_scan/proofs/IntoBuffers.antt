@@ -8,11 +8,11 @@ use Rattle.ufmt.specs.Document.{Document}
 use Rattle.ufmt.specs.declared.cursor.Cursor.{Cursor}
 use Rattle.ufmt.specs.declared.cursor.Full.{Full}
 use Rattle.ufmt_scan.specs.Texts.{ConvertsInto, ConvertsTo}
-use Rattle.ufmt_scan.specs.declared.scan.refusal.Refusal.{Refusal}
+use Rattle.ufmt_scan.specs.declared.scan.event.ScanError.{ScanError}
 
 module _ (from to : Document → List ℕ) (input old : List ℕ) (begun ended : Cursor) (written : written_bytes begun ≡ []) (unwritten : unwritten_bytes begun ≡ old) where
   -- the whole text
-  pub into_whole : {answer : Result (⊤) (Refusal Full)} {done : ⊤} → ConvertsTo cursor_seen from to input begun answer ended → answer ≡ Ok done
+  pub into_whole : {answer : Result (⊤) (ScanError Full)} {done : ⊤} → ConvertsTo cursor_seen from to input begun answer ended → answer ≡ Ok done
       → ConvertsInto {E = Full} from to input old (Ok (length (written_bytes ended))) ended.buffer.now
   into_whole h is =
       let whole = subst (λ a. ConvertsTo {E = Full} cursor_seen from to input begun a ended) is h in record {
@@ -23,8 +23,8 @@ module _ (from to : Document → List ℕ) (input old : List ℕ) (begun ended :
       }
 
   -- or a refusal
-  pub into_refused : {answer : Result (⊤) (Refusal Full)} {refusal : Refusal Full} → ConvertsTo cursor_seen from to input begun answer ended → answer ≡ Err refusal
-      → (result : Result ℕ (Refusal Full)) → IsErrAnd result (λ e. e ≡ refusal) → ConvertsInto {E = Full} from to input old result ended.buffer.now
+  pub into_refused : {answer : Result (⊤) (ScanError Full)} {refusal : ScanError Full} → ConvertsTo cursor_seen from to input begun answer ended → answer ≡ Err refusal
+      → (result : Result ℕ (ScanError Full)) → IsErrAnd result (λ e. e ≡ refusal) → ConvertsInto {E = Full} from to input old result ended.buffer.now
   into_refused {refusal = refusal} h is (Ok n) same = absurd same
   into_refused {refusal = refusal} h is (Err e) same =
       let refused = subst (λ a. ConvertsTo {E = Full} cursor_seen from to input begun a ended) is h in record {

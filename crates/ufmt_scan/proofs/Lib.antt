@@ -16,3 +16,5 @@ pub mod TextSinks
 pub mod ToldTexts
 pub mod WorkedTold
 pub mod Conversions
+pub mod Growing
+pub mod PlainLeaves

@@ -1,26 +1,27 @@
--- The line that is written between entries, taken from the one at the greatest depth.
-use Rattle.std.proofs.Common.{◌≡◌, refl, ℕ, zero, suc, ◌+◌, ◌*◌, ◌≤◌, ◌++◌, drop, take, arith}
+-- A line at some depth, cut from one at the greatest.
+use Rattle.std.proofs.Common.{◌≡◌, ◌∙◌, refl, ap, ℕ, zero, suc, ◌+◌, ◌*◌, ◌≤◌, ◌<◌, List, ◌∷◌, ◌++◌, length, take, arith}
 use Rattle.std.specs.Str.{IsAscii}
-use Rattle.std.proofs.lemmas.Str.{IsAscii-drop}
+use Rattle.std.proofs.Math.Seq.{take-append-add}
 use Rattle.std.proofs.lemmas.Str.Ascii.{IsAscii-cons, IsAscii-nil}
-use Rattle.ufmt.specs.Layout.{indentation, trail}
-use Rattle.ufmt_core.specs.declared.layout.Mode.TheVariants.{Pretty}
-use Rattle.ufmt_scan.specs.declared.convert.write.TheConstants.{LINE}
+use Rattle.ufmt.specs.Layout.{indentation}
 
--- fewer units are taken from more
-take_units : (m n : ℕ) → m ≤ n → take (4 * m) (indentation n) ≡ indentation m
-take_units zero n few = refl
-take_units (suc m) zero few = absurd (omega arith)
-take_units (suc m) (suc n) few = let four : 4 * suc m ≡ suc (suc (suc (suc (4 * m)))) = omega arith in rw (four, take_units m n (omega arith))
+-- less indentation is taken from more
+take_indentation : (m n : ℕ) → m ≤ n → take (4 * m) (indentation n) ≡ indentation m
+take_indentation zero n few = refl
+take_indentation (suc m) zero few = absurd (omega arith)
+take_indentation (suc m) (suc n) few =
+    let four : 4 * suc m ≡ suc (suc (suc (suc (4 * m)))) = omega arith in rw (four, take_indentation m n (omega arith))
 
-pub line_is : (start units : ℕ) → units ≤ 255 → drop start (take (2 + 4 * units) LINE) ≡ drop start (trail Pretty ++ indentation units)
-line_is start units few = let two : 2 + 4 * units ≡ suc (suc (4 * units)) = omega arith in rw (two, take_units units 255 few)
+pub cut_is : (deepest text : List ℕ) (front depth : ℕ) → depth ≤ 255 → length text ≡ front → deepest ≡ text ++ indentation 255
+    → take (front + 4 * depth) deepest ≡ text ++ indentation depth
+cut_is deepest text front depth few long is =
+    rw (is, ← long) (take-append-add text (indentation 255) (4 * depth) ∙ ap (λ t. text ++ t) (take_indentation depth 255 few))
 
 -- it is ASCII
-units_ascii : (n : ℕ) → IsAscii (indentation n)
-units_ascii zero = IsAscii-nil
-units_ascii (suc n) = search (arith, IsAscii-cons, units_ascii n) depth 9
+indentation_ascii : (n : ℕ) → IsAscii (indentation n)
+indentation_ascii zero = IsAscii-nil
+indentation_ascii (suc n) = search (arith, IsAscii-cons, indentation_ascii n) depth 9
 
-pub line_ascii : (start units : ℕ) → units ≤ 255 → IsAscii (drop start (take (2 + 4 * units) LINE))
-line_ascii start units few =
-    rw (line_is start units few) (IsAscii-drop (trail Pretty ++ indentation units) start (search (arith, IsAscii-cons, units_ascii)))
+-- with two bytes before it too
+pub line_ascii : (a b : ℕ) → a < 128 → b < 128 → IsAscii (a ∷ b ∷ indentation 255)
+line_ascii a b first second = IsAscii-cons a (b ∷ indentation 255) first (IsAscii-cons b (indentation 255) second (indentation_ascii 255))

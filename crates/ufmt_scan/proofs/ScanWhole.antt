@@ -7,10 +7,10 @@ use Rattle.ufmt.specs.Reading.{if_all, parse_map, read, read_text}
 use Rattle.ufmt.proofs.Parsing.{mapped_from, same_parts}
 use Rattle.ufmt.proofs.ReadingWhole.{reads_each_text, reads_only_texts, refuses_no_text}
 use Rattle.ufmt_core.specs.declared.layout.Mode.{Mode}
-use Rattle.ufmt_scan.specs.declared.scan.refusal.Refusal.{Refusal}
-use Rattle.ufmt_scan.specs.declared.scan.refusal.Refusal.TheVariants.{NotText, Refused}
+use Rattle.ufmt_scan.specs.declared.scan.event.ScanError.{ScanError}
+use Rattle.ufmt_scan.specs.declared.scan.event.ScanError.TheVariants.{NotText, Sink}
 use Rattle.ufmt_scan.specs.Private.Scanning.{ScansOn, Stops, Tells, Told, prefixed}
-use Rattle.ufmt_scan.specs.Scan.{Event, Leads, ScanRefused, Scans, told}
+use Rattle.ufmt_scan.specs.Scan.{TextEvent, Leads, ScanRefused, Scans, told}
 use Rattle.ufmt_scan.specs.Texts.{IsNormalForm, IsNoText}
 
 -- where nothing is told there is no document
@@ -23,30 +23,30 @@ if_all_is x d [] is = cc
 if_all_is x d (c ∷ t) is = absurd (cc)
 
 -- what was told of it leads all that is told of the document
-leads_whole : (o : Option (Document × List ℕ)) (es : List Event) (left : Told) → parse_map told o ≡ prefixed es left
+leads_whole : (o : Option (Document × List ℕ)) (es : List TextEvent) (left : Told) → parse_map told o ≡ prefixed es left
     → (d : Document) → option_and_then (λ x. if_all x.0 x.1) o ≡ Some d → Leads es (told d)
 leads_whole None es left is d whole = absurd (cc)
 leads_whole (Some x) es None is d whole = absurd (cc)
 leads_whole (Some x) es (Some y) is d whole =
-    (y.0, ap told (sym (if_all_is x.0 d x.1 whole)) ∙ (same_parts {A = List Event} {B = List ℕ} (told x.0, x.1) (es ++ y.0, y.1) is).0)
+    (y.0, ap told (sym (if_all_is x.0 d x.1 whole)) ∙ (same_parts {A = List TextEvent} {B = List ℕ} (told x.0, x.1) (es ++ y.0, y.1) is).0)
 
 -- a document in normal form is read of its text
 form_is_read : (mode : Mode) (t : List ℕ) (d : Document) → IsNormalForm (layout (setting mode 0)) t d → read_text mode t ≡ Some d
 form_is_read mode t d form = ap (read_text mode) (sym form.2) ∙ reads_each_text mode d form.0 ∙ ap Some form.1
 
 -- the document at the front of a text was told, or the scan ended before
-abbrev pub Front : {S E : Type 0} → (S → List Event → S → Type 0) → (S → List Event → S → Type 0) → Mode → List ℕ → S
-    → Result (Bor (List ℕ)) (Refusal E) → S → Type 0
+abbrev pub Front : {S E : Type 0} → (S → List TextEvent → S → Type 0) → (S → List TextEvent → S → Type 0) → Mode → List ℕ → S
+    → Result (Bor (List ℕ)) (ScanError E) → S → Type 0
 Front took stopped mode t old answer new = ScansOn took stopped answer old new (parse_map told (read (setting mode 0) 255 t)) (λ rest. Some ([], rest.now))
 
-module _ {S : Type 0} (took stopped : S → List Event → S → Type 0) (mode : Mode) (t : List ℕ) {a b : S} (begun : took a [] a) where
+module _ {S : Type 0} (took stopped : S → List TextEvent → S → Type 0) (mode : Mode) (t : List ℕ) {a b : S} (begun : took a [] a) where
   -- a scan that ended early, of the whole text
-  pub whole_refused : {E : Type 0} (why : Refusal E) → Stops took stopped a b (parse_map told (read (setting mode 0) 255 t)) why
+  pub whole_refused : {E : Type 0} (why : ScanError E) → Stops took stopped a b (parse_map told (read (setting mode 0) 255 t)) why
       → ScanRefused took stopped a b (layout (setting mode 0)) t why
   whole_refused NotText h =
       let none = none_is_whole _ (h.tells.is ∙ ap (prefixed h.tells.parts) (h.none refl)) in
       (h.tells.parts, h.tells.takes a [] begun, refuses_no_text mode t none)
-  whole_refused (Refused e) h =
+  whole_refused (Sink e) h =
       (h.tells.parts, h.tells.takes a [] begun, λ d form. leads_whole _ h.tells.parts h.left h.tells.is d (form_is_read mode t d form))
 
   -- a scan that came to the end, or to more than the end
@@ -59,15 +59,15 @@ module _ {S : Type 0} (took stopped : S → List Event → S → Type 0) (mode :
       (read_as.0, form, subst (λ es. took a es b) (sym (read_as.2 ∙ append-nil h.parts)) (h.takes a [] begun))
 
   pub whole_goes_on : (rest : List ℕ) → Tells took took a b (parse_map told (read (setting mode 0) 255 t)) (Some ([], rest))
-      → (length rest == 0) ≡ false → (es : List Event) × took a es b × IsNoText (layout (setting mode 0)) t
+      → (length rest == 0) ≡ false → (es : List TextEvent) × took a es b × IsNoText (layout (setting mode 0)) t
   whole_goes_on [] h more = absurd (cc)
   whole_goes_on (c ∷ rest) h more =
       let read_as = mapped_from told (read (setting mode 0) 255 t) (h.parts ++ []) (c ∷ rest) h.is in
       (h.parts, h.takes a [] begun, refuses_no_text mode t (ap (option_and_then (λ x. if_all x.0 x.1)) read_as.1))
 
 -- the scan of the whole hands on why that of its front ended
-pub whole_ended : {S E : Type 0} (took stopped : S → List Event → S → Type 0) (mode : Mode) (t : List ℕ) (a b : S) → took a [] a
-    → (front : Result (Bor (List ℕ)) (Refusal E)) (why : Refusal E) (answer : Result (⊤) (Refusal E)) → front ≡ Err why → IsErrAnd answer (λ y. y ≡ why)
+pub whole_ended : {S E : Type 0} (took stopped : S → List TextEvent → S → Type 0) (mode : Mode) (t : List ℕ) (a b : S) → took a [] a
+    → (front : Result (Bor (List ℕ)) (ScanError E)) (why : ScanError E) (answer : Result (⊤) (ScanError E)) → front ≡ Err why → IsErrAnd answer (λ y. y ≡ why)
     → Front took stopped mode t a front b → Scans took stopped answer a b (layout (setting mode 0)) t
 whole_ended took stopped mode t a b begun front why (Ok x) is h steps = absurd h
 whole_ended took stopped mode t a b begun front why (Err y) is h steps = rw h (whole_refused took stopped mode t begun why (rw is at steps))

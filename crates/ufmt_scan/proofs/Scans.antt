@@ -1,17 +1,20 @@
 -- Steps of a scan, one after another: what the sink took, and what is left to tell.
-use Rattle.std.proofs.Common.{◌≡◌, refl, ap, subst, ◌∙◌, ℕ, zero, suc, ◌<◌, ◌+◌, ◌-◌, min, List, [], ◌∷◌, ◌++◌, append_assoc, length, Option, Some, None, Result, Ok, Err, IsErrAnd, arith}
+use Rattle.std.proofs.Common.{◌≡◌, refl, ap, subst, ◌∙◌, ℕ, zero, suc, ◌<◌, ◌+◌, ◌-◌, min, List, [], ◌∷◌, ◌++◌, append_assoc, append-nil, length, sym, Option, Some, None, Result, Ok, Err, IsErrAnd, codes, option_and_then, arith}
 use Rattle.ufmt.specs.Layout.{inside, setting}
-use Rattle.ufmt.specs.Reading.{Parse, parse_map, read}
+use Rattle.ufmt.specs.Reading.{Parse, parse_map, read, read_value, read_word, strip}
 use Rattle.ufmt_core.specs.declared.layout.Mode.{Mode}
 use Rattle.ufmt_core.specs.declared.layout.Mode.TheVariants.{Plain, Pretty}
-use Rattle.ufmt_scan.specs.declared.scan.refusal.Refusal.{Refusal}
-use Rattle.ufmt_scan.specs.declared.scan.stage.Stage.{Stage}
-use Rattle.ufmt_scan.specs.Private.Level.{budget_of, entry_at, setting_at}
-use Rattle.ufmt_scan.specs.Private.Scanning.{Answer, Comes, ScansOn, Stops, Tells, Told, after, behind_told, coming, document_at, document_told, level_at, onward_told, prefixed, stage_told, then_told}
-use Rattle.ufmt_scan.specs.Scan.{Event, told}
+use Rattle.ufmt_scan.specs.declared.scan.event.ScanError.{ScanError}
+use Rattle.ufmt_scan.specs.declared.scan.event.ScanError.TheVariants.{NotText}
+use Rattle.ufmt_scan.specs.declared.scan.open_blocks.Stage.{Stage}
+use Rattle.ufmt_core.specs.declared.layout.Kind.{Kind}
+use Rattle.ufmt_core.specs.declared.layout.Kind.TheVariants.{Brackets, Braces, Struct, Tuple, Unnamed}
+use Rattle.ufmt_scan.specs.Private.Level.{budget_of, entry_at, entry_of, setting_at}
+use Rattle.ufmt_scan.specs.Private.Scanning.{ScansOn, Stops, Tells, Told, after, all_told, behind_told, coming, coming_of, kind_of, document_at, document_told, entries, fields, level_at, onward_told, prefixed, stage_told, then_told, turn_told}
+use Rattle.ufmt_scan.specs.Scan.{TextEvent, told}
 use Rattle.ufmt_scan.proofs.Telling.{prefixed_nothing, prefixed_twice, then-prefixed, then-then}
 
-module _ {S : Type 0} {took kept : S → List Event → S → Type 0} {a b : S} {there mid : Told} where
+module _ {S : Type 0} {took kept : S → List TextEvent → S → Type 0} {a b : S} {there mid : Told} where
   -- two steps are one
   pub tells_then : {c : S} {left : Told} → Tells took took a b there mid → Tells took kept b c mid left → Tells took kept a c there left
   tells_then {c} {left} first more = record {
@@ -26,40 +29,68 @@ module _ {S : Type 0} {took kept : S → List Event → S → Type 0} {a b : S} 
   tells_left told same = record { parts = told.parts; takes = told.takes; is = told.is ∙ ap (prefixed told.parts) same }
 
 -- a scan that ends behind what was told
-pub stops_behind : {S E : Type 0} {took stopped : S → List Event → S → Type 0} {a b c : S} {there mid : Told} {why : Refusal E} → Tells took took a b there mid
+pub stops_behind : {S E : Type 0} {took stopped : S → List TextEvent → S → Type 0} {a b c : S} {there mid : Told} {why : ScanError E} → Tells took took a b there mid
     → Stops took stopped b c mid why → Stops took stopped a c there why
 stops_behind first more = record { left = more.left; tells = tells_then first more.tells; none = more.none }
 
 -- the same of the answer of a call that hands on why
-pub refused : {S A E : Type 0} {took stopped : S → List Event → S → Type 0} {a b : S} {there : Told} (left : A
-    → Told) {why : Refusal E} (answer : Result A (Refusal E))
+pub refused : {S A E : Type 0} {took stopped : S → List TextEvent → S → Type 0} {a b : S} {there : Told} (left : A
+    → Told) {why : ScanError E} (answer : Result A (ScanError E))
     → IsErrAnd answer (λ y. y ≡ why) → Stops took stopped a b there why → ScansOn took stopped answer a b there left
 refused left (Ok x) is h = absurd is
 refused left (Err y) is h = rw is h
 
--- a part comes first of all that is told, where it does of the beginning
-pub comes_then : (more : Parse (List Event)) (behind later : Option Stage → Parse (List Event)) → ((next : Option Stage) (t : List ℕ)
-    → then_told (behind next t) more ≡ later next t)
-    → (bytes : ℕ) (answer : Answer) (there : Told) → Comes behind bytes answer there → Comes later bytes answer (then_told there more)
-comes_then more behind later same bytes None there h = ap (λ o. then_told o more) h
-comes_then more behind later same bytes (Some x) there h = (
-  ap (λ o. then_told o more) h.0 ∙ then-prefixed ((x.0, x.1.now) ∷ []) (behind x.2 x.3.now) more ∙ ap (prefixed ((x.0, x.1.now) ∷ [])) (same x.2 x.3.now),
-  h.1,
-)
+-- where nothing is there, a scan ends
+pub nothing_there : {S E : Type 0} {took stopped : S → List TextEvent → S → Type 0} (a : S) {there : Told} → there ≡ None → Stops {E = E} took stopped a a there NotText
+nothing_there {took = took} a none = record {
+  left = None;
+  tells = record { parts = []; takes = λ start es h. subst (λ fs. took start fs a) (sym (append-nil es)) h; is = none };
+  none = λ e. refl;
+}
 
-onward : (mode : Mode) (outer : List Stage) (next : Option Stage) (t : List ℕ)
+-- or where nothing is left
+pub nothing_left : {S E : Type 0} {took stopped : S → List TextEvent → S → Type 0} {a b : S} {there left : Told} → Tells took took a b there left → left ≡ None
+    → Stops {E = E} took stopped a b there NotText
+nothing_left {left = left} h none = record { left = left; tells = h; none = λ e. none }
+
+-- a step of the beginning is one of all that is there
+pub tells_in : {S : Type 0} {took kept : S → List TextEvent → S → Type 0} {a b : S} {there left whole after : Told} (more : Parse (List TextEvent))
+    → whole ≡ then_told there more → then_told left more ≡ after → Tells took kept a b there left → Tells took kept a b whole after
+tells_in {left = left} more is on h = record {
+  parts = h.parts;
+  takes = h.takes;
+  is = is ∙ ap (λ o. then_told o more) h.is ∙ then-prefixed h.parts left more ∙ ap (prefixed h.parts) on;
+}
+
+-- and so is its failure
+pub stops_in : {S E : Type 0} {took stopped : S → List TextEvent → S → Type 0} {a b : S} {there whole : Told} {why : ScanError E} (more : Parse (List TextEvent))
+    → whole ≡ then_told there more → Stops took stopped a b there why → Stops took stopped a b whole why
+stops_in more is h = record { left = then_told h.left more; tells = tells_in more is refl h.tells; none = λ e. ap (λ o. then_told o more) (h.none e) }
+
+-- what follows in the innermost block, and then in those around it
+onward_in : (mode : Mode) (outer : List Stage) (next : Option Stage) (t : List ℕ)
     → then_told (after (level_at mode (length outer)) next t) (behind_told mode outer) ≡ onward_told mode outer next t
-onward mode outer None t = prefixed_nothing (behind_told mode outer t)
-onward mode outer (Some stage) t = then-then (coming (level_at mode (length outer)) stage t) (stage_told (level_at mode (length outer)) stage)
+onward_in mode outer None t = prefixed_nothing (behind_told mode outer t)
+onward_in mode outer (Some stage) t = then-then (coming (level_at mode (length outer)) stage t) (stage_told (level_at mode (length outer)) stage)
     (behind_told mode outer)
 
--- so one does of all that is told in open blocks, where it does behind an entry of the innermost
-pub follows_in : (mode : Mode) (open_blocks outer : List Stage) (stage : Stage) (depth : ℕ) (bytes : ℕ) (t : List ℕ) (answer : Answer)
-    → open_blocks ≡ stage ∷ outer → depth ≡ length outer → Comes (after (level_at mode depth)) bytes answer (stage_told (level_at mode depth) stage t)
-    → Comes (onward_told mode outer) bytes answer (behind_told mode open_blocks t)
-follows_in mode open_blocks outer stage depth bytes t answer is same h =
-    rw is (comes_then (behind_told mode outer) (after (level_at mode (length outer))) (onward_told mode outer) (onward mode outer) bytes answer _
-    (rw same at h))
+pub onward : (mode : Mode) (outer : List Stage) (depth : ℕ) (next : Option Stage) (t : List ℕ) → depth ≡ length outer
+    → then_told (after (level_at mode depth) next t) (behind_told mode outer) ≡ onward_told mode outer next t
+onward mode outer depth next t same = rw same (onward_in mode outer next t)
+
+-- what follows an entry of the innermost block
+pub behind_is : (mode : Mode) (open_blocks outer : List Stage) (stage : Stage) (depth : ℕ) (t : List ℕ) → open_blocks ≡ stage ∷ outer → depth ≡ length outer
+    → behind_told mode open_blocks t ≡ then_told (stage_told (level_at mode depth) stage t) (behind_told mode outer)
+behind_is mode open_blocks outer stage depth t is same = rw (is, same) refl
+
+-- a field of the innermost block begins with its name, and then comes a document
+pub name_is : (mode : Mode) (open_blocks outer : List Stage) (stage : Stage) (t : List ℕ) → open_blocks ≡ stage ∷ outer → kind_of stage ≡ Struct
+    → all_told mode open_blocks t ≡ then_told (turn_told (fields (level_at mode (length outer))) t) (behind_told mode open_blocks)
+name_is mode open_blocks outer stage t is struct = rw (is, struct) refl
+
+pub after_name : (mode : Mode) (open_blocks outer : List Stage) (stage : Stage) (t : List ℕ) → open_blocks ≡ stage ∷ outer
+    → then_told (turn_told (entries (level_at mode (length outer))) t) (behind_told mode open_blocks) ≡ document_told mode open_blocks t
+after_name mode open_blocks outer stage t is = rw is refl
 
 -- entries are laid out one block deeper
 setting_inside : (mode : Mode) (k : ℕ) → k < 255 → inside (setting_at (level_at mode k)) ≡ setting_at (level_at mode (suc k))
@@ -76,11 +107,31 @@ document_is mode (suc k) t few =
     ap (λ n. parse_map told (entry_at (setting_at (level_at mode k)) n t)) left ∙ ap (λ s. parse_map told (read s (255 - suc k) t)) (setting_inside mode k
     (omega arith))
 
--- or where it does of a document that begins in it
-pub begins_in : (mode : Mode) (open_blocks : List Stage) (depth bytes : ℕ) (t : List ℕ) (answer : Answer)
-    → depth ≡ length open_blocks → depth < 256
-    → Comes (after (level_at mode depth)) bytes answer (parse_map told (read (setting_at (level_at mode depth)) (budget_of (level_at mode depth)) t))
-    → Comes (onward_told mode open_blocks) bytes answer (document_told mode open_blocks t)
-begins_in mode open_blocks depth bytes t answer same few h = rw (document_is mode (length open_blocks) t (omega (arith, same, few)))
-    (comes_then (behind_told mode open_blocks) (after (level_at mode (length open_blocks))) (onward_told mode open_blocks)
-    (onward mode open_blocks) bytes answer _ (rw same at h))
+-- in open blocks too
+pub document_in : (mode : Mode) (open_blocks : List Stage) (depth : ℕ) (t : List ℕ) → depth ≡ length open_blocks → depth < 256
+    → document_told mode open_blocks t
+    ≡ then_told (parse_map told (read (setting_at (level_at mode depth)) (budget_of (level_at mode depth)) t)) (behind_told mode open_blocks)
+document_in mode open_blocks depth t same few = rw same (ap (λ o. then_told o (behind_told mode open_blocks)) (document_is mode (length open_blocks) t
+    (omega (arith, same, few))))
+
+-- in the 256th block no entry begins
+no_entry : (kind : Kind) (mode : Mode) (t : List ℕ) → coming_of kind (level_at mode 255) t ≡ None
+no_entry Brackets mode t = refl
+no_entry Braces mode t = refl
+no_entry Struct mode t = by_name (read_word t)
+  where
+    by_colon : (name : List ℕ) (o : Option (List ℕ))
+        → parse_map (fields (level_at mode 255)).tell (option_and_then (λ u. parse_map (λ value. (name, value)) (entry_of (level_at mode 255) u)) o) ≡ None
+    by_colon name None = refl
+    by_colon name (Some u) = refl
+
+    by_name : (o : Option (List ℕ × List ℕ))
+        → parse_map (fields (level_at mode 255)).tell (option_and_then (λ x. read_value (entry_of (level_at mode 255)) x.0 x.1) o) ≡ None
+    by_name None = refl
+    by_name (Some x) = by_colon x.0 (strip (codes ": ") x.1)
+no_entry Tuple mode t = refl
+no_entry Unnamed mode t = refl
+
+pub none_in_last : (mode : Mode) (stage : Stage) (outer : List Stage) (t : List ℕ) → length outer ≡ 255 → all_told mode (stage ∷ outer) t ≡ None
+none_in_last mode stage outer t many =
+    rw (many, no_entry (kind_of stage) mode t) refl

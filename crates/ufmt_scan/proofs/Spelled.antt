@@ -70,7 +70,7 @@ module _ (q : ℕ) (quote : IsQuote q) where
       go None is None also = is ∙ sym also
 
   -- what follows the closing quote is the same behind a byte that is written there
-  behind_byte : (b : ℕ) (u : List ℕ) → behind_quote q (escaped_byte q b ++ u) ≡ behind_quote q u
+  pub behind_byte : (b : ℕ) (u : List ℕ) → behind_quote q (escaped_byte q b ++ u) ≡ behind_quote q u
   unfolding read_inside
   behind_byte b u =
       let more : length u < length (escaped_byte q b ++ u) = omega (arith, length-append (escaped_byte q b) u, length-escaped q b) in

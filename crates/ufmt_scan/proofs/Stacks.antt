@@ -1,29 +1,38 @@
--- The blocks that are open, the innermost first, as they stand in an array.
-use Rattle.std.proofs.Common.{◌≡◌, ◌∙◌, ap, sym, ℕ, zero, suc, ◌+◌, ◌<◌, ◌≤◌, List, [], ◌∷◌, ◌++◌, get_or, length, reverse, set, take, arith}
+-- The open blocks, the innermost first, by the array of those around it.
+use Rattle.std.proofs.Common.{◌≡◌, ◌∙◌, refl, ap, ℕ, suc, ◌+◌, ◌≤◌, List, [], ◌∷◌, get_or, length, reverse, set, take, arith}
 use Rattle.std.proofs.lemmas.List.{length-reverse, length-take-le, reverse-append, take_more, take_more_set}
+use Rattle.ufmt_scan.specs.declared.scan.open_blocks.OpenBlocks.{OpenBlocks}
+use Rattle.ufmt_scan.specs.declared.scan.open_blocks.Stage.{Stage}
+use Rattle.ufmt_scan.specs.Private.Scanning.{open_stages}
 
-module _ {A : Type 0} (items : List A) where
-  pub length_is : (count : ℕ) → count ≤ length items → length (reverse (take count items)) ≡ count
-  length_is count within = length-reverse (take count items) ∙ length-take-le count items within
+abbrev pub blocks_of : ℕ → Stage → OpenBlocks
+blocks_of count innermost = record { count = count; innermost = innermost }
 
-  pub innermost_is : (k : ℕ) (d : A) → k < length items → reverse (take (k + 1) items) ≡ get_or items k d ∷ reverse (take k items)
-  innermost_is k d within = ap reverse (take_more items k d within) ∙ reverse-append (take k items) (get_or items k d ∷ [])
+module _ (outer : List Stage) (whole : length outer ≡ 256) where
+  -- they are as many as are counted
+  pub count_is : (count : ℕ) (stage : Stage) → count ≤ 256 → length (open_stages (blocks_of count stage) outer) ≡ count
+  count_is count stage few =
+      let around : length (reverse (take count outer)) ≡ count = length-reverse (take count outer) ∙ length-take-le count outer (omega (arith, whole, few)) in
+      length-take-le count (stage ∷ reverse (take count outer)) (omega (arith, around))
 
-  next_is : (k : ℕ) (d : A) → k < length items → reverse (take (suc k) items) ≡ get_or items k d ∷ reverse (take k items)
-  next_is k d within = let more : suc k ≡ k + 1 = omega arith in ap (λ n. reverse (take n items)) more ∙ innermost_is k d within
+  -- the innermost, and those around it
+  pub innermost_is : (count depth : ℕ) (stage d : Stage) → count ≡ depth + 1 → count ≤ 256
+      → open_stages (blocks_of count stage) outer ≡ stage ∷ open_stages (blocks_of depth (get_or outer depth d)) outer
+  innermost_is count depth stage d is few =
+      let more : count ≡ suc depth = omega (arith, is) in
+      let around : reverse (take (suc depth) outer) ≡ get_or outer depth d ∷ reverse (take depth outer) =
+      let next : suc depth ≡ depth + 1 = omega arith in
+      ap (λ n. reverse (take n outer)) next ∙ ap reverse (take_more outer depth d (omega (arith, whole, is, few))) ∙ reverse-append (take depth outer)
+      (get_or outer depth d ∷ []) in
+      rw (more, around) refl
 
-  -- those round this depth are the first of the array
-  pub outer_is : (count k : ℕ) (inner outer : List A) → count ≤ length items → reverse (take count items) ≡ inner ++ outer → k ≡ length outer
-      → reverse (take k items) ≡ outer
-  outer_is count k [] outer within is depth =
-      let whole = length_is count within in
-      let all = ap length is in
-      let same : k ≡ count = omega (arith, whole, all, depth) in ap (λ n. reverse (take n items)) same ∙ is
-  outer_is zero k (b ∷ inner) outer within is depth = absurd (cc)
-  outer_is (suc c) k (b ∷ inner) outer within is depth =
-      let whole : get_or items c b ∷ reverse (take c items) ≡ b ∷ (inner ++ outer) = sym (next_is c b (omega (arith, within))) ∙ is in
-      let round : reverse (take c items) ≡ inner ++ outer = cc in outer_is c k inner outer (omega (arith, within)) round depth
-
-  -- and one more in them
-  pub one_more : (k : ℕ) (outer : List A) (x : A) → k < length items → reverse (take k items) ≡ outer → reverse (take (k + 1) (set items k x)) ≡ x ∷ outer
-  one_more k outer x within is = ap reverse (take_more_set items k x within) ∙ reverse-append (take k items) (x ∷ []) ∙ ap (λ l. x ∷ l) is
+  -- one more, where the array has the stage of the one around it
+  pub one_more : (count depth : ℕ) (stage inner : Stage) → count ≡ depth + 1 → count ≤ 256
+      → open_stages (blocks_of count inner) (set outer depth stage) ≡ inner ∷ open_stages (blocks_of depth stage) outer
+  one_more count depth stage inner is few =
+      let more : count ≡ suc depth = omega (arith, is) in
+      let around : reverse (take (suc depth) (set outer depth stage)) ≡ stage ∷ reverse (take depth outer) =
+      let next : suc depth ≡ depth + 1 = omega arith in
+      ap (λ n. reverse (take n (set outer depth stage))) next ∙ ap reverse (take_more_set outer depth stage (omega (arith, whole, is, few)))
+      ∙ reverse-append (take depth outer) (stage ∷ []) in
+      rw (more, around) refl

@@ -1,5 +1,5 @@
 -- Entries that are told one after another make up what is told of the block that they were read as.
-use Rattle.std.proofs.Common.{◌≡◌, refl, ap, ◌∙◌, sym, ℕ, List, [], ◌∷◌, ◌++◌, append_assoc, append-nil, map, Option, Some, None, option_map, option_and_then}
+use Rattle.std.proofs.Common.{◌≡◌, refl, ap, ◌∙◌, sym, ℕ, List, [], ◌∷◌, ◌++◌, append_assoc, map, Option, Some, None, option_map, option_and_then}
 use Rattle.ufmt.specs.Document.{Document}
 use Rattle.ufmt.specs.Layout.{ending, frame, inside, next, separator, trail}
 use Rattle.ufmt_core.specs.declared.layout.Count.{Count}
@@ -9,14 +9,14 @@ use Rattle.ufmt.specs.Reading.{Parse, choose, parse_map, strip, read_after_entry
 use Rattle.ufmt.proofs.ReadingTurns.{Takes, read_others-read_turn}
 use Rattle.ufmt.proofs.Shifting.{lead-next}
 use Rattle.ufmt_core.proofs.Counts.{next-next}
-use Rattle.ufmt_scan.specs.declared.scan.part.Part.TheVariants.{Close, Next}
-use Rattle.ufmt_scan.specs.Scan.{Event, plainly, told, told_tail}
+use Rattle.ufmt_scan.specs.declared.scan.event.Event.TheVariants.{Close, Next}
+use Rattle.ufmt_scan.specs.Scan.{TextEvent, told, told_tail}
 use Rattle.ufmt_scan.specs.Private.Scanning.{Told, Turn, prefixed, rest_told, then_told, turn_told}
 use Rattle.ufmt_scan.specs.Private.Level.{setting_at}
 use Rattle.ufmt_scan.specs.declared.level.Level.{Level}
 
 -- parts that stand before parts that stand before what is told
-pub prefixed_twice : (es fs : List Event) (o : Told) → prefixed es (prefixed fs o) ≡ prefixed (es ++ fs) o
+pub prefixed_twice : (es fs : List TextEvent) (o : Told) → prefixed es (prefixed fs o) ≡ prefixed (es ++ fs) o
 prefixed_twice es fs None = refl
 prefixed_twice es fs (Some x) = ap (λ more. Some (more, x.1)) (sym (append_assoc es fs x.0))
 
@@ -25,17 +25,17 @@ prefixed_nothing None = refl
 prefixed_nothing (Some x) = refl
 
 -- and before what is told on
-pub then-prefixed : (es : List Event) (o : Told) (more : Parse (List Event)) → then_told (prefixed es o) more ≡ prefixed es (then_told o more)
+pub then-prefixed : (es : List TextEvent) (o : Told) (more : Parse (List TextEvent)) → then_told (prefixed es o) more ≡ prefixed es (then_told o more)
 then-prefixed es None more = refl
 then-prefixed es (Some x) more = sym (prefixed_twice es x.0 (more x.1))
 
-pub then-then : (o : Told) (more last : Parse (List Event)) → then_told (then_told o more) last ≡ then_told o (λ t. then_told (more t) last)
+pub then-then : (o : Told) (more last : Parse (List TextEvent)) → then_told (then_told o more) last ≡ then_told o (λ t. then_told (more t) last)
 then-then None more last = refl
 then-then (Some x) more last = then-prefixed x.0 (more x.1) last
 
 module _ (turn : Turn) (level : Level) (kind : Kind) where
   -- a block is told from its first entry on, where it is told as what opens it, that entry and what follows
-  pub block_tells : (make : List turn.Entry → Document) (front : Event)
+  pub block_tells : (make : List turn.Entry → Document) (front : TextEvent)
       → ((x : turn.Entry) (xs : List turn.Entry) → told (make (x ∷ xs)) ≡ front ∷ (turn.tell x ++ told_tail kind One (map turn.tell xs)))
       → (o : Option (turn.Entry × List ℕ))
       → parse_map told (option_and_then (λ x. read_after_first turn.read (frame level.mode kind) (setting_at level) make x.0 x.1) o)
@@ -59,8 +59,8 @@ module _ (turn : Turn) (level : Level) (kind : Kind) where
 
   -- another entry, where one begins, or the end of the block
   abbrev pub go_on : Count → Option (List ℕ) → Option (List ℕ) → Told
-  go_on before (Some v) end = prefixed (plainly Next ∷ []) (then_told (turn_told turn v) (rest_told turn level kind Several))
-  go_on before None end = option_map (λ v. (plainly (Close kind (next before)) ∷ [], v)) end
+  go_on before (Some v) end = prefixed (Next ∷ []) (then_told (turn_told turn v) (rest_told turn level kind Several))
+  go_on before None end = option_map (λ v. (Close kind (next before) ∷ [], v)) end
 
   -- what stands behind an entry decides: the next one is told, or the block ends, or nothing is told
   pub behind_tells : (before : Count) (t : List ℕ) → Takes turn.read → rest_told turn level kind (next before) t
@@ -83,19 +83,19 @@ module _ (turn : Turn) (level : Level) (kind : Kind) where
       ended (Some v) = refl
 
       others : (x : turn.Entry) (o : Option (List turn.Entry × List ℕ)) → tail (next before) (parse_map (λ xs. x ∷ xs) o)
-          ≡ prefixed (plainly Next ∷ []) (prefixed (turn.tell x) (tail Several o))
+          ≡ prefixed (Next ∷ []) (prefixed (turn.tell x) (tail Several o))
       others x None = refl
-      others x (Some p) = ap (λ count. Some (plainly Next ∷ (turn.tell x ++ told_tail kind count (map turn.tell p.0)), p.1)) (next-next before)
+      others x (Some p) = ap (λ count. Some (Next ∷ (turn.tell x ++ told_tail kind count (map turn.tell p.0)), p.1)) (next-next before)
 
       after : (x : turn.Entry) (o : Option (List ℕ))
           → tail (next before) (option_and_then (λ w. parse_map (λ xs. x ∷ xs) (read_on (next (next before)) w)) o)
-          ≡ prefixed (plainly Next ∷ []) (prefixed (turn.tell x) (option_and_then (λ w. tail Several (read_on Several w)) o))
+          ≡ prefixed (Next ∷ []) (prefixed (turn.tell x) (option_and_then (λ w. tail Several (read_on Several w)) o))
       after x None = refl
       after x (Some w) = rw (next-next before) (others x (read_on Several w))
 
       entry : (o : Option (turn.Entry × List ℕ))
           → tail (next before) (option_and_then (λ x. read_after_entry level.mode (read_on (next (next before))) x.0 x.1) o)
-          ≡ prefixed (plainly Next ∷ []) (then_told (parse_map turn.tell o) (rest_told turn level kind Several))
+          ≡ prefixed (Next ∷ []) (then_told (parse_map turn.tell o) (rest_told turn level kind Several))
       entry None = refl
       entry (Some x) = after x.0 (strip (trail level.mode) x.1)
 

@@ -1,5 +1,5 @@
 -- A sink that lays a text out writes the other text of the document that it is told.
-use Rattle.std.proofs.Common.{◌≡◌, ◌∙◌, refl, ap, sym, subst, ℕ, ◌+◌, ◌≤◌, Bool, true, false, List, [], ◌∷◌, ◌++◌, append-nil, Result, Ok, Err, arith}
+use Rattle.std.proofs.Common.{◌≡◌, ◌∙◌, ap, sym, subst, ℕ, ◌+◌, ◌≤◌, Bool, true, false, List, [], ◌∷◌, ◌++◌, append-nil, Result, Ok, Err, arith}
 use Rattle.std.specs.Borrow.{MutBor}
 use Rattle.std.specs.Prelude.{⊤}
 use Rattle.ufmt.specs.Document.{Document, nest}
@@ -12,10 +12,10 @@ use Rattle.ufmt_core.proofs.Writing.{Writes-fails, Writes-then}
 use Rattle.ufmt_core.specs.declared.layout.Mode.{Mode}
 use Rattle.ufmt_core.specs.declared.layout.Mode.TheVariants.{Plain, Pretty}
 use Rattle.ufmt_scan.specs.declared.convert.text_sink.TextSink.{TextSink}
-use Rattle.ufmt_scan.specs.declared.scan.refusal.Refusal.{Refusal}
-use Rattle.ufmt_scan.specs.declared.scan.refusal.Refusal.TheVariants.{NotText, Refused}
+use Rattle.ufmt_scan.specs.declared.scan.event.ScanError.{ScanError}
+use Rattle.ufmt_scan.specs.declared.scan.event.ScanError.TheVariants.{NotText, Sink}
 use Rattle.ufmt_scan.specs.Private.TextSink.{WritesEvent, Wrote}
-use Rattle.ufmt_scan.specs.Scan.{Event, Hears, Scans, told}
+use Rattle.ufmt_scan.specs.Scan.{TextEvent, TakesEvent, Scans, told}
 use Rattle.ufmt_scan.specs.ScanTexts.{texts_written, setting_behind}
 use Rattle.ufmt_scan.specs.Texts.{ConvertsTo, IsConverted, IsNormalForm}
 use Rattle.ufmt_scan.proofs.Conversions.{converted}
@@ -23,7 +23,7 @@ use Rattle.ufmt_scan.proofs.ToldTexts.{setting_behind-append, texts_written-appe
 
 module _ {W : Type 0} (seen : Seen W) where
   -- a part behind parts
-  part_behind : (start old new : TextSink W) (es : List Event) (e : Event) (ok : Bool) → Wrote seen true start es old → WritesEvent seen old e ok new
+  part_behind : (start old new : TextSink W) (es : List TextEvent) (e : TextEvent) (ok : Bool) → Wrote seen true start es old → WritesEvent seen old e ok new
       → Wrote seen ok start (es ++ e ∷ []) new
   part_behind start old new es e ok before part = (
     simp (texts_written-append, sym before.1, append-nil) (Writes-then before.0 part.0),
@@ -31,9 +31,9 @@ module _ {W : Type 0} (seen : Seen W) where
   )
 
   -- so it is a lawful sink
-  pub hears_part : (old new : TextSink W) (e : Event) (ok : Bool) → WritesEvent seen old e ok new → Hears (Wrote seen true) (Wrote seen false) old e ok new
-  hears_part old new e true part = λ start es before. part_behind start old new es e true before part
-  hears_part old new e false part = λ start es before. part_behind start old new es e false before part
+  pub takes_event : (old new : TextSink W) (e : TextEvent) (ok : Bool) → WritesEvent seen old e ok new → TakesEvent (Wrote seen true) (Wrote seen false) old e ok new
+  takes_event old new e true part = λ start es before. part_behind start old new es e true before part
+  takes_event old new e false part = λ start es before. part_behind start old new es e false before part
 
   module _ (from to : Mode) (tells : (d e : Document) → IsToken d → IsToken e → layout (setting from 0) d ≡ layout (setting from 0) e → layout (setting to 0) d ≡ layout (setting to 0) e)
       (input : List ℕ) (old : TextSink W) (at : old.setting ≡ setting to 0) where
@@ -51,7 +51,7 @@ module _ {W : Type 0} (seen : Seen W) where
         )
 
     -- what a scan with that sink does with its writer
-    pub scan_converts : {E : Type 0} (answer : Result (⊤) (Refusal E)) (new : TextSink W) → Scans (Wrote seen true) (Wrote seen false) answer old new (layout (setting from 0)) input
+    pub scan_converts : {E : Type 0} (answer : Result (⊤) (ScanError E)) (new : TextSink W) → Scans (Wrote seen true) (Wrote seen false) answer old new (layout (setting from 0)) input
         → ConvertsTo seen (layout (setting from 0)) (layout (setting to 0)) input old.writer answer new.writer
     scan_converts (Ok x) new h = record {
       ok = λ is. (texts_written old.setting (told h.0), (read_is h.0 h.1).0);
@@ -65,7 +65,7 @@ module _ {W : Type 0} (seen : Seen W) where
       writes = λ text other. absurd (h.2 other.some.0 other.some.1 other.some.2);
       lawful = (texts_written old.setting h.0, true, h.1.0);
     }
-    scan_converts (Err (Refused e)) new h = record {
+    scan_converts (Err (Sink e)) new h = record {
       ok = λ is. absurd (cc);
       not_text = λ is. absurd (cc);
       writes = refused;
@@ -81,11 +81,11 @@ module _ {W : Type 0} (seen : Seen W) where
             let whole = sym (texts_written-append old.setting h.0 leads.0) ∙ ap (texts_written old.setting) (sym leads.1) ∙ (read_is (normal d) form).1 text other in
             subst (λ t. Writes seen old.writer t false new.writer) whole (Writes-fails (texts_written (setting_behind old.setting h.0) leads.0) h.1.0)
 
-  pub pretty_converts : {E : Type 0} (input : List ℕ) (old : TextSink W) (answer : Result (⊤) (Refusal E)) (new : TextSink W) → old.setting ≡ setting Pretty 0
+  pub pretty_converts : {E : Type 0} (input : List ℕ) (old : TextSink W) (answer : Result (⊤) (ScanError E)) (new : TextSink W) → old.setting ≡ setting Pretty 0
       → Scans (Wrote seen true) (Wrote seen false) answer old new plain_text input → ConvertsTo seen plain_text pretty_text input old.writer answer new.writer
   pretty_converts input old answer new at h = scan_converts Plain Pretty (λ d e hd he same. (texts_agree d e hd he).0 same) input old at answer new h
 
-  pub plain_converts : {E : Type 0} (input : List ℕ) (old : TextSink W) (answer : Result (⊤) (Refusal E)) (new : TextSink W) → old.setting ≡ setting Plain 0
+  pub plain_converts : {E : Type 0} (input : List ℕ) (old : TextSink W) (answer : Result (⊤) (ScanError E)) (new : TextSink W) → old.setting ≡ setting Plain 0
       → Scans (Wrote seen true) (Wrote seen false) answer old new pretty_text input → ConvertsTo seen pretty_text plain_text input old.writer answer new.writer
   plain_converts input old answer new at h = scan_converts Pretty Plain (λ d e hd he same. (texts_agree d e hd he).1 same) input old at answer new h
 
@@ -111,7 +111,7 @@ module _ {W : Type 0} (seen : Seen W) where
         untouched = h.untouched;
       }
 
-  pub converts_behind : {E : Type 0} {from to : Document → List ℕ} {input : List ℕ} {old new : MutBor W} {answer : Result (⊤) (Refusal E)}
+  pub converts_behind : {E : Type 0} {from to : Document → List ℕ} {input : List ℕ} {old new : MutBor W} {answer : Result (⊤) (ScanError E)}
       → ConvertsTo referred from to input old answer new → ConvertsTo seen from to input old.now answer new.now
   converts_behind h = record {
     ok = h.ok;

@@ -11,28 +11,28 @@ use Rattle.ufmt_core.specs.declared.layout.Kind.TheVariants.{Brackets, Braces, S
 use Rattle.ufmt_core.specs.declared.layout.Mode.{Mode}
 use Rattle.ufmt_core.specs.declared.layout.Mode.TheVariants.{Plain, Pretty}
 use Rattle.ufmt_core.specs.declared.layout.Setting.{Setting}
-use Rattle.ufmt_scan.specs.Scan.{Event, plainly, told, told_tail, told_block, told_entries, told_pairs, told_fields}
+use Rattle.ufmt_scan.specs.Scan.{TextEvent, told, told_tail, told_block, told_entries, told_pairs, told_fields}
 use Rattle.ufmt_scan.specs.ScanTexts.{outside, written, setting_after, texts_written, setting_behind}
-use Rattle.ufmt_scan.specs.declared.scan.part.Part.TheVariants.{Leaf, Empty, Label, Colon}
+use Rattle.ufmt_scan.specs.declared.scan.event.Event.TheVariants.{Leaf, Empty, FieldName, Colon}
 
 -- parts in a row, and more behind them
-pub texts_written-append : (s : Setting) (es fs : List Event)
+pub texts_written-append : (s : Setting) (es fs : List TextEvent)
     → texts_written s (es ++ fs) ≡ texts_written s es ++ texts_written (setting_behind s es) fs
 texts_written-append s [] fs = refl
 texts_written-append s (e ∷ es) fs = ap (λ t. written s e ++ t) (texts_written-append (setting_after s e) es fs)
     ∙ sym (append_assoc (written s e) (texts_written (setting_after s e) es) (texts_written (setting_behind (setting_after s e) es) fs))
 
-pub setting_behind-append : (s : Setting) (es fs : List Event) → setting_behind s (es ++ fs) ≡ setting_behind (setting_behind s es) fs
+pub setting_behind-append : (s : Setting) (es fs : List TextEvent) → setting_behind s (es ++ fs) ≡ setting_behind (setting_behind s es) fs
 setting_behind-append s [] fs = refl
 setting_behind-append s (e ∷ es) fs = setting_behind-append (setting_after s e) es fs
 
 -- for these parts this text is written, from one mode and depth to another
-pub record AreWritten (s : Setting) (es : List Event) (text : List ℕ) (last : Setting) : Type 0 where
+pub record AreWritten (s : Setting) (es : List TextEvent) (text : List ℕ) (last : Setting) : Type 0 where
   pub writes : texts_written s es ≡ text
   pub leaves : setting_behind s es ≡ last
 
 -- entries at these parts have these texts, each at this mode and depth
-abbrev EntriesAreWritten : Setting → List (List Event) → List (List ℕ) → Type 0
+abbrev EntriesAreWritten : Setting → List (List TextEvent) → List (List ℕ) → Type 0
 EntriesAreWritten i [] [] = ⊤
 EntriesAreWritten i [] (t ∷ ts) = ⊥
 EntriesAreWritten i (es ∷ ess) [] = ⊥
@@ -60,7 +60,7 @@ module _ (mode : Mode) (k n : ℕ) (few : suc n + k ≤ 255) (kind : Kind) where
   s = setting mode k
 
   -- what is left of it behind an entry
-  tail_written : (count : Count) (ess : List (List Event)) (ts : List (List ℕ)) → EntriesAreWritten (inside s) ess ts
+  tail_written : (count : Count) (ess : List (List TextEvent)) (ts : List (List ℕ)) → EntriesAreWritten (inside s) ess ts
       → AreWritten (inside s) (told_tail kind (next count) ess) (trail mode ++ block_tail (frame mode kind) s (next count) ts) s
   tail_written count [] [] h =
       let out = outside_inside mode k (omega arith) in
@@ -75,7 +75,7 @@ module _ (mode : Mode) (k n : ℕ) (few : suc n + k ≤ 255) (kind : Kind) where
       }
 
   -- the whole of one with entries
-  block_written : (name : List ℕ) (alone : Event) (ess : List (List Event)) (ts : List (List ℕ)) {es : List Event} {t : List ℕ}
+  block_written : (name : List ℕ) (alone : TextEvent) (ess : List (List TextEvent)) (ts : List (List ℕ)) {es : List TextEvent} {t : List ℕ}
       → EntriesAreWritten (inside s) (es ∷ ess) (t ∷ ts) → AreWritten s (told_block kind name alone (es ∷ ess)) (block kind s name (t ∷ ts)) s
   block_written name alone ess ts h =
       let tail = tail_written Zero ess ts h.1 in record {
@@ -84,15 +84,15 @@ module _ (mode : Mode) (k n : ℕ) (few : suc n + k ≤ 255) (kind : Kind) where
       }
 
 -- a key and its value, and a field's name and its value
-pair_written : {s : Setting} {es fs : List Event} {t u : List ℕ} → AreWritten s es t s → AreWritten s fs u s
-    → AreWritten s (es ++ plainly Colon ∷ fs) (t ++ (codes ": " ++ u)) s
+pair_written : {s : Setting} {es fs : List TextEvent} {t u : List ℕ} → AreWritten s es t s → AreWritten s fs u s
+    → AreWritten s (es ++ Colon ∷ fs) (t ++ (codes ": " ++ u)) s
 pair_written key value = record {
   writes = simp (texts_written-append, key.writes, key.leaves, value.writes);
   leaves = simp (setting_behind-append, key.leaves, value.leaves);
 }
 
-field_written : {s : Setting} {es : List Event} {t : List ℕ} (label : List ℕ) → AreWritten s es t s
-    → AreWritten s ((Label, label) ∷ es) (label ++ (codes ": " ++ t)) s
+field_written : {s : Setting} {es : List TextEvent} {t : List ℕ} (label : List ℕ) → AreWritten s es t s
+    → AreWritten s (FieldName label ∷ es) (label ++ (codes ": " ++ t)) s
 field_written {t = t} label value = record { writes = rw value.writes (append_assoc label (codes ": ") t); leaves = value.leaves }
 
 -- for the parts of a token document its layout is written, and mode and depth are behind them as before
@@ -104,20 +104,20 @@ module _ (mode : Mode) where
     told_written k (joined ds) h few = absurd h
     told_written k (list_of no_documents) h few = record { writes = refl; leaves = refl }
     told_written k (list_of (document d ds)) h few =
-        block_written mode k _ few Brackets [] (plainly (Empty Brackets)) _ _ (entries_written k (document d ds) h few)
+        block_written mode k _ few Brackets [] (Empty Brackets) _ _ (entries_written k (document d ds) h few)
     told_written k (set_of no_documents) h few = record { writes = refl; leaves = refl }
     told_written k (set_of (document d ds)) h few =
-        block_written mode k _ few Braces [] (plainly (Empty Braces)) _ _ (entries_written k (document d ds) h few)
+        block_written mode k _ few Braces [] (Empty Braces) _ _ (entries_written k (document d ds) h few)
     told_written k (map_of no_pairs) h few = record { writes = refl; leaves = refl }
     told_written k (map_of (pair key value ps)) h few =
-        block_written mode k _ few Braces [] (plainly (Empty Braces)) _ _ (pairs_written k (pair key value ps) h few)
+        block_written mode k _ few Braces [] (Empty Braces) _ _ (pairs_written k (pair key value ps) h few)
     told_written k (struct_of name no_fields) h few = record { writes = refl; leaves = refl }
     told_written k (struct_of name (field label value fs)) h few =
-        block_written mode k _ few Struct name (Leaf, name) _ _ (fields_written k (field label value fs) h.1 few)
+        block_written mode k _ few Struct name (Leaf name) _ _ (fields_written k (field label value fs) h.1 few)
     told_written k (tuple_of [] no_documents) h few = absurd h
     told_written k (tuple_of (c ∷ name) no_documents) h few = record { writes = refl; leaves = refl }
     told_written k (tuple_of name (document d ds)) h few =
-        block_written mode k _ few (tuple_kind name) name (Leaf, name) _ _ (entries_written k (document d ds) (h.1, h.2) few)
+        block_written mode k _ few (tuple_kind name) name (Leaf name) _ _ (entries_written k (document d ds) (h.1, h.2) few)
     told_written k (pretty_part d) h few = absurd h
 
     -- the entries of a block at this depth, its pairs and its fields

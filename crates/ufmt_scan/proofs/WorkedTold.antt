@@ -5,16 +5,16 @@ use Rattle.ufmt.specs.Layout.{plain_text, pretty_text, setting}
 use Rattle.ufmt_core.specs.declared.layout.Count.TheVariants.{One, Several}
 use Rattle.ufmt_core.specs.declared.layout.Kind.TheVariants.{Brackets, Braces, Struct, Tuple, Unnamed}
 use Rattle.ufmt_core.specs.declared.layout.Mode.TheVariants.{Plain, Pretty}
-use Rattle.ufmt_scan.specs.Scan.{plainly, told}
+use Rattle.ufmt_scan.specs.Scan.{told}
 use Rattle.ufmt_scan.specs.ScanTexts.{texts_written, setting_behind}
-use Rattle.ufmt_scan.specs.declared.scan.part.Part.TheVariants.{Leaf, Empty, Open, Label, Colon, Next, Close}
+use Rattle.ufmt_scan.specs.declared.scan.event.Event.TheVariants.{Leaf, Empty, Open, FieldName, Colon, Next, Close}
 
 -- a struct with a list of two words
 abbrev words : Document
 words = struct_of (codes "S") (field (codes "l") (list_of (document (leaf (codes "a")) (document (leaf (codes "b")) no_documents))) no_fields)
 
-words-told : told words ≡ (Open Struct, codes "S") ∷ (Label, codes "l") ∷ plainly (Open Brackets) ∷ (Leaf, codes "a") ∷ plainly Next
-    ∷ (Leaf, codes "b") ∷ plainly (Close Brackets Several) ∷ plainly (Close Struct One) ∷ []
+words-told : told words ≡ Open Struct (codes "S") ∷ FieldName (codes "l") ∷ Open Brackets [] ∷ Leaf (codes "a") ∷ Next
+    ∷ Leaf (codes "b") ∷ Close Brackets Several ∷ Close Struct One ∷ []
 words-told = refl
 
 words-plain : texts_written (setting Plain 0) (told words) ≡ codes "S { l: [a, b] }"
@@ -37,8 +37,8 @@ abbrev blocks : Document
 blocks = tuple_of (codes "T") (document (tuple_of [] (document (leaf (codes "a")) no_documents))
     (document (map_of (pair (struct_of (codes "N") no_fields) (set_of no_documents) no_pairs)) no_documents))
 
-blocks-told : told blocks ≡ (Open Tuple, codes "T") ∷ plainly (Open Unnamed) ∷ (Leaf, codes "a") ∷ plainly (Close Unnamed One) ∷ plainly Next
-    ∷ plainly (Open Braces) ∷ (Leaf, codes "N") ∷ plainly Colon ∷ plainly (Empty Braces) ∷ plainly (Close Braces One) ∷ plainly (Close Tuple Several) ∷ []
+blocks-told : told blocks ≡ Open Tuple (codes "T") ∷ Open Unnamed [] ∷ Leaf (codes "a") ∷ Close Unnamed One ∷ Next
+    ∷ Open Braces [] ∷ Leaf (codes "N") ∷ Colon ∷ Empty Braces ∷ Close Braces One ∷ Close Tuple Several ∷ []
 blocks-told = refl
 
 blocks-plain : texts_written (setting Plain 0) (told blocks) ≡ codes "T((a,), {N: {}})"

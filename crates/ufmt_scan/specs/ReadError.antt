@@ -2,14 +2,14 @@
 use Rattle.std.specs.Prelude.{ℕ}
 use Rattle.ufmt_scan.specs.declared.error.ReadError.{ReadError}
 use Rattle.ufmt_scan.specs.declared.error.ReadError.TheVariants.{NotText, OutOfMemory}
-use Rattle.ufmt_scan.specs.declared.scan.refusal.Refusal.{Refusal}
-use Rattle.ufmt_scan.specs.declared.scan.refusal.Refusal.TheVariants as refusals
+use Rattle.ufmt_scan.specs.declared.scan.event.ScanError.{ScanError}
+use Rattle.ufmt_scan.specs.declared.scan.event.ScanError.TheVariants as errors
 
 abbrev pub code_of : ReadError → ℕ
 code_of NotText = 1
 code_of OutOfMemory = 2
 
--- what is answered where a text that is made in memory was refused
-abbrev pub error_of : {E : Type 0} → Refusal E → ReadError
-error_of refusals.NotText = NotText
-error_of (refusals.Refused e) = OutOfMemory
+-- the error of a reader or a conversion whose sink makes its answer in memory
+abbrev pub error_of : {E : Type 0} → ScanError E → ReadError
+error_of errors.NotText = NotText
+error_of (errors.Sink e) = OutOfMemory

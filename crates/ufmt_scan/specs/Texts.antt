@@ -6,8 +6,8 @@ use Rattle.ufmt.specs.Token.{IsToken, normal}
 use Rattle.ufmt.specs.Writes.{Seen, Writes}
 use Rattle.ufmt_scan.specs.declared.error.ReadError.{ReadError}
 use Rattle.ufmt_scan.specs.declared.error.ReadError.TheVariants.{NotText}
-use Rattle.ufmt_scan.specs.declared.scan.refusal.Refusal.{Refusal}
-use Rattle.ufmt_scan.specs.declared.scan.refusal.Refusal.TheVariants as refusals
+use Rattle.ufmt_scan.specs.declared.scan.event.ScanError.{ScanError}
+use Rattle.ufmt_scan.specs.declared.scan.event.ScanError.TheVariants as errors
 
 -- a token document in normal form that has this text
 abbrev pub IsNormalForm : (Document → List ℕ) → List ℕ → Document → Type 0
@@ -38,20 +38,20 @@ pub record Converts {A : Type 0} (from to : Document → List ℕ) (input : List
   pub unconverted : IsErrOf answer NotText → IsUnconverted from to input
 
 -- what a conversion to a writer does with it
-pub record ConvertsTo {W E : Type 0} (seen : Seen W) (from to : Document → List ℕ) (input : List ℕ) (old : W) (answer : Result (⊤) (Refusal E)) (new : W) : Type 0 where
+pub record ConvertsTo {W E : Type 0} (seen : Seen W) (from to : Document → List ℕ) (input : List ℕ) (old : W) (answer : Result (⊤) (ScanError E)) (new : W) : Type 0 where
   -- `Ok` is answered of texts alone, and `NotText` of what is none
   pub ok : IsOk answer → (text : List ℕ) × IsConverted from to input text
-  pub not_text : IsErrOf answer refusals.NotText → IsNoText from input
+  pub not_text : IsErrOf answer errors.NotText → IsNoText from input
   -- the other text is written as any piece is: all of it, or a beginning where the writer refused
   pub writes : (text : List ℕ) → IsConverted from to input text → Writes seen old text (is_ok answer) new
   -- and so is what was written of an input that is no text
   pub lawful : (text : List ℕ) × (whole : Bool) × Writes seen old text whole new
 
 -- what a conversion into a caller's buffer does with it
-pub record ConvertsInto {E : Type 0} (from to : Document → List ℕ) (input old : List ℕ) (answer : Result ℕ (Refusal E)) (new : List ℕ) : Type 0 where
+pub record ConvertsInto {E : Type 0} (from to : Document → List ℕ) (input old : List ℕ) (answer : Result ℕ (ScanError E)) (new : List ℕ) : Type 0 where
   -- `Ok` is answered of texts alone, and `NotText` of what is none
   pub ok : IsOk answer → (text : List ℕ) × IsConverted from to input text
-  pub not_text : IsErrOf answer refusals.NotText → IsNoText from input
+  pub not_text : IsErrOf answer errors.NotText → IsNoText from input
   -- the other text stands at the buffer's front: all of it where it fits, or a beginning
   pub fronts : (text : List ℕ) → IsConverted from to input text → Fronts old text answer new
   -- the buffer keeps its length, also of an input that is no text

@@ -5,17 +5,18 @@ ghost use Rattle.ufmt.specs.Layout.{plain_text, pretty_text};
 ghost use Rattle.ufmt.specs.Shift.{HasNoLineFeed, shifted};
 ghost use Rattle.ufmt_scan.specs.Texts.{Converts, ConvertsInto, ConvertsTo};
 
+mod growing;
 mod text_sink;
-mod write;
 
 use crate::error::ReadError;
-use crate::scan::{Refusal, scan};
+use crate::scan::{ScanError, scan};
+use growing::Growing;
 use std::alloc::{AllocError, Global};
 use text_sink::TextSink;
 use ufmt::layout::Mode;
 use ufmt::{Cursor, Full, uDebug, uWrite, write_debug, write_pretty};
 
-/// The value's plain text. The only refusal is want of memory.
+/// Returns the value's plain text. Fails only for want of memory.
 pub fn plain_text<T: uDebug>(alloc: Global, value: &T) -> Result<String, AllocError>
     ensures { IfOk result (λ text. string_bytes text ≡ plain_text (T.document value.now)) }
 {
@@ -24,9 +25,9 @@ pub fn plain_text<T: uDebug>(alloc: Global, value: &T) -> Result<String, AllocEr
     Ok(text)
 }
 
-/// The value's pretty text, from depth 0. Where blocks with entries lie at most 255 deep and no leaf
-/// and no name has a line feed, that is its shifted text too, which knows no depth. The only refusal
-/// is want of memory.
+/// Returns the value's pretty text, from depth 0. Where blocks with entries lie at most 255 deep and no
+/// leaf and no name has a line feed, that is also its shifted text, which knows no depth. Fails only
+/// for want of memory.
 pub fn pretty_text<T: uDebug>(alloc: Global, value: &T) -> Result<String, AllocError>
     ensures text { IfOk result (λ text. string_bytes text ≡ pretty_text (T.document value.now)) }
     ensures shifted { IfOk result (λ text.
@@ -38,68 +39,63 @@ pub fn pretty_text<T: uDebug>(alloc: Global, value: &T) -> Result<String, AllocE
     Ok(text)
 }
 
-/// Writes the pretty text of the token documents with this plain text to the writer. It takes no
-/// memory of its own, and where the input is such a text and the writer has room for the answer, it
-/// is `Ok`. `NotText` is answered of no such text, and else what the writer answered; the writer took
-/// a beginning of the answer then, or of what the input begins with.
-pub fn pretty_to<W: uWrite>(writer: &mut W, input: &[u8]) -> Result<(), Refusal<W::Error>>
+/// Writes the pretty text of the token documents with this plain text to the writer, and takes no
+/// memory of its own. Fails with `NotText` if no token document has this text, else with the writer's
+/// error. Part of the text may have been written.
+pub fn write_to_pretty<W: uWrite>(writer: &mut W, input: &[u8]) -> Result<(), ScanError<W::Error>>
     ensures { ConvertsTo W.seen plain_text pretty_text input.now writer.old result writer.new }
 {
     let mut sink = TextSink::new(Mode::Pretty, writer);
     scan(Mode::Plain, input, &mut sink)
 }
 
-/// Writes the plain text of the token documents with this pretty text to the writer, with the
-/// refusals of `pretty_to`.
-pub fn plain_to<W: uWrite>(writer: &mut W, input: &[u8]) -> Result<(), Refusal<W::Error>>
+/// Writes the plain text of the token documents with this pretty text to the writer. Fails as
+/// `write_to_pretty` does.
+pub fn write_to_plain<W: uWrite>(writer: &mut W, input: &[u8]) -> Result<(), ScanError<W::Error>>
     ensures { ConvertsTo W.seen pretty_text plain_text input.now writer.old result writer.new }
 {
     let mut sink = TextSink::new(Mode::Plain, writer);
     scan(Mode::Pretty, input, &mut sink)
 }
 
-/// Puts the pretty text of the token documents with this plain text at the front of the buffer, and
-/// answers how many bytes it has. It takes no memory. `NotText` is answered of no such text, and `Full`
-/// where the answer has more bytes than the buffer, which begins with a beginning of it then. Of such a
-/// text the other bytes of the buffer stay; of an input that is none it may hold others, as many as
-/// before, and `Full` may be answered too.
-pub fn pretty_into(buffer: &mut [u8], input: &[u8]) -> Result<usize, Refusal<Full>>
+/// Writes the pretty text of the token documents with this plain text to the front of the buffer, and
+/// returns how many bytes it has. Fails with `NotText` if no token document has this text, and with
+/// `Full` if the answer is longer than the buffer. Of a text, the bytes after the answer stay as they
+/// were.
+pub fn to_pretty_into(buffer: &mut [u8], input: &[u8]) -> Result<usize, ScanError<Full>>
     ensures { ConvertsInto plain_text pretty_text input.now buffer.old result buffer.new }
 {
     let mut cursor = Cursor::new(buffer);
-    pretty_to(&mut cursor, input)?;
+    write_to_pretty(&mut cursor, input)?;
     Ok(cursor.written().len())
 }
 
-/// Puts the plain text of the token documents with this pretty text at the front of the buffer, with
-/// the answers of `pretty_into`.
-pub fn plain_into(buffer: &mut [u8], input: &[u8]) -> Result<usize, Refusal<Full>>
+/// Writes the plain text of the token documents with this pretty text to the front of the buffer. Fails
+/// as `to_pretty_into` does.
+pub fn to_plain_into(buffer: &mut [u8], input: &[u8]) -> Result<usize, ScanError<Full>>
     ensures { ConvertsInto pretty_text plain_text input.now buffer.old result buffer.new }
 {
     let mut cursor = Cursor::new(buffer);
-    plain_to(&mut cursor, input)?;
+    write_to_plain(&mut cursor, input)?;
     Ok(cursor.written().len())
 }
 
-/// The pretty text of the token documents with this plain text. Of a text that `to_plain` answered
-/// that is the text from which it was made. No document is made on the way, and memory goes to the
-/// answer alone. `NotText` is answered of no such text, and else `OutOfMemory` alone; nothing of the
-/// answer is left then.
+/// Returns the pretty text of the token documents with this plain text. Undoes `to_plain`. Fails with
+/// `NotText` if no token document has this text, and otherwise only with `OutOfMemory`.
 pub fn to_pretty(alloc: Global, input: &[u8]) -> Result<String, ReadError>
     ensures { Converts plain_text pretty_text input.now result }
 {
-    let mut text = String::new(alloc);
-    pretty_to(&mut text, input)?;
-    Ok(text)
+    let mut sink = TextSink::new(Mode::Pretty, Growing::new(alloc));
+    scan(Mode::Plain, input, &mut sink)?;
+    Ok(sink.writer.into_string())
 }
 
-/// The plain text of the token documents with this pretty text. Of a text that `to_pretty` answered
-/// that is the text from which it was made. It takes memory as `to_pretty` does. Its refusals are
-/// those of `to_pretty`.
+/// Returns the plain text of the token documents with this pretty text. Undoes `to_pretty`, and fails as
+/// it does.
 pub fn to_plain(alloc: Global, input: &[u8]) -> Result<String, ReadError>
     ensures { Converts pretty_text plain_text input.now result }
 {
-    let mut text = String::new(alloc);
-    plain_to(&mut text, input)?;
-    Ok(text)
+    let mut sink = TextSink::new(Mode::Plain, Growing::new(alloc));
+    scan(Mode::Pretty, input, &mut sink)?;
+    Ok(sink.writer.into_string())
 }

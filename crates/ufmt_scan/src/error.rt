@@ -3,7 +3,7 @@ ghost use Rattle.std.specs.Prelude.{◌≡◌};
 ghost use Rattle.ufmt_scan.specs.ReadError.{code_of, error_of};
 ghost use Rattle.ufmt_scan.specs.declared.error.ReadError.TheVariants.{OutOfMemory};
 
-use crate::scan::Refusal;
+use crate::scan::ScanError;
 use std::alloc::{AllocError, AllocFailed};
 
 /// Why a text was not read.
@@ -31,14 +31,14 @@ impl<T: Drop> From<AllocFailed<T>> for ReadError {
     }
 }
 
-/// What a conversion to a `String` answers: the string's own refusal is want of memory.
-impl From<Refusal<AllocError>> for ReadError {
-    ghost from_gives = { λ refusal e. e ≡ error_of refusal };
+/// A sink that makes its answer in memory fails only for want of it.
+impl From<ScanError<AllocError>> for ReadError {
+    ghost from_gives = { λ error e. e ≡ error_of error };
 
-    fn from(refusal: Refusal<AllocError>) -> ReadError {
-        match refusal {
-            Refusal::NotText => ReadError::NotText,
-            Refusal::Refused(_) => ReadError::OutOfMemory,
+    fn from(error: ScanError<AllocError>) -> ReadError {
+        match error {
+            ScanError::NotText => ReadError::NotText,
+            ScanError::Sink(_) => ReadError::OutOfMemory,
         }
     }
 }

@@ -1,8 +1,9 @@
 //! Leaves: words, `()`, and what stands in quotes.
-ghost use Rattle.std.specs.Prelude.{◌≡◌, ◌≤◌, ◌↔◌, IsTrue, length, option_map};
-ghost use Rattle.ufmt.specs.Token.{is_word_byte, IsSymbol, IsTokenLeaf, IsWord};
+ghost use Rattle.std.specs.Prelude.{◌≡◌, ◌≤◌, ◌+◌, ◌↔◌, IsTrue, drop, length, option_map};
+ghost use Rattle.ufmt.specs.Token.{IsSymbol, IsTokenLeaf, IsWord};
 ghost use Rattle.ufmt.specs.Reading.{after_word, read_symbol, word_of};
-ghost use Rattle.ufmt_scan.specs.Private.FrontWords.{PassesWordBytes};
+ghost use Rattle.ufmt.specs.ReadingQuoted.{read_quoted};
+ghost use Rattle.ufmt_scan.specs.Private.MarkedBytes.{is_marked, marked_len};
 
 use crate::level::strip_piece;
 use crate::quoted::{split_character, split_quoted};
@@ -14,66 +15,97 @@ static WORD_BYTES: [u8; 256] = *b"\
     ................................................................\
     ................................................................";
 
-// Whether it is a byte of words.
-#[inline(always)]
-fn is_word_byte(byte: u8) -> bool
-    ensures { result ≡ is_word_byte byte }
-{
-    WORD_BYTES[byte as usize] == b'w'
-}
-
 /// The word bytes at the front, and what follows them.
+#[inline(always)]
 pub(crate) fn split_word(input: &[u8]) -> (&[u8], &[u8])
     ensures word { result.0.now ≡ word_of input.now }
     ensures rest { result.1.now ≡ after_word input.now }
 {
-    // Four bytes a turn, so that the input's end is looked for once in four.
-    let mut end = 0;
-    'fours: while input.len() - end >= 4 {
-        if !is_word_byte(input[end]) {
-            return input.split_at(end);
-        }
-        if !is_word_byte(input[end + 1]) {
-            return input.split_at(end + 1);
-        }
-        if !is_word_byte(input[end + 2]) {
-            return input.split_at(end + 2);
-        }
-        if !is_word_byte(input[end + 3]) {
-            return input.split_at(end + 3);
-        }
-        end += 4;
-    }
-    split_word_from(input, end)
+    input.split_at(marked_len(&WORD_BYTES, input))
 }
 
-// The same where word bytes stand before `start`.
-fn split_word_from(input: &[u8], start: usize) -> (&[u8], &[u8])
+/// How many bytes at the front the table marks with a `w`.
+pub(crate) fn marked_len(table: &[u8; 256], input: &[u8]) -> usize
+    ensures { result ≡ marked_len table.now input.now }
+{
+    // Eight bytes a turn, so that the input's end is looked for once in eight.
+    let mut end = 0;
+    'eights: while input.len() - end >= 8 {
+        if !is_marked(table, input[end]) {
+            return end;
+        }
+        if !is_marked(table, input[end + 1]) {
+            return end + 1;
+        }
+        if !is_marked(table, input[end + 2]) {
+            return end + 2;
+        }
+        if !is_marked(table, input[end + 3]) {
+            return end + 3;
+        }
+        if !is_marked(table, input[end + 4]) {
+            return end + 4;
+        }
+        if !is_marked(table, input[end + 5]) {
+            return end + 5;
+        }
+        if !is_marked(table, input[end + 6]) {
+            return end + 6;
+        }
+        if !is_marked(table, input[end + 7]) {
+            return end + 7;
+        }
+        end += 8;
+    }
+    marked_len_from(table, input, end)
+}
+
+// The same where the bytes before `start` are marked.
+fn marked_len_from(table: &[u8; 256], input: &[u8], start: usize) -> usize
     requires within { start ≤ length input.now }
-    requires passed { PassesWordBytes input.now start }
-    ensures word { result.0.now ≡ word_of input.now }
-    ensures rest { result.1.now ≡ after_word input.now }
+    requires marked { marked_len table.now input.now
+        ≡ start + marked_len table.now (drop start input.now) }
+    ensures { result ≡ marked_len table.now input.now }
 {
     let mut end = start;
     'bytes: while end < input.len() {
-        if !is_word_byte(input[end]) {
-            return input.split_at(end);
+        if !is_marked(table, input[end]) {
+            return end;
         }
         end += 1;
     }
-    input.split_at(end)
+    end
 }
 
-/// A leaf that is no word at the front of a text, and what follows it. A word is split off by
-/// itself, since it may be the name of a block.
+// Whether the table marks a byte.
+#[inline(always)]
+fn is_marked(table: &[u8; 256], byte: u8) -> bool
+    ensures { result ≡ is_marked table.now byte }
+{
+    table[byte as usize] == b'w'
+}
+
+/// A leaf in quotes at the front of a text, and what follows it.
+#[inline(always)]
 #[tactic(auto, unfolding(ufmt::specs::ReadingQuoted::read_quoted))]
-pub(crate) fn split_symbol(input: &[u8]) -> Option<(&str, &[u8])>
+pub(crate) fn split_quotes(input: &[u8]) -> Option<(&str, &[u8])>
+    ensures { option_map (λ x. (x.0.now, x.1.now)) result ≡ read_quoted input.now }
+{
+    if let Some(text) = split_quoted(b'"', input) {
+        Some(text)
+    } else {
+        split_character(input)
+    }
+}
+
+// A leaf that is no word at the front of a text, and what follows it.
+fn split_symbol(input: &[u8]) -> Option<(&str, &[u8])>
     ensures { option_map (λ x. (x.0.now, x.1.now)) result ≡ read_symbol input.now }
 {
     if let Some(rest) = strip_piece("()", input) {
         Some(("()", rest))
     } else {
-        split_quoted(b'"', input).or_else(|| split_character(input))
+        split_quotes(input)
     }
 }
 

@@ -1,5 +1,5 @@
 //! Texts and characters in quotes at the front of a text.
-ghost use Rattle.std.specs.Prelude.{◌≡◌, ◌≤◌, length, option_map};
+ghost use Rattle.std.specs.Prelude.{◌≡◌, ◌≤◌, IfSome, Some, length, option_map};
 ghost use Rattle.std.specs.Str.{is_utf8};
 ghost use Rattle.ufmt.specs.Quoted.{IsQuote};
 ghost use Rattle.ufmt.specs.ReadingQuoted.{is_char, read_between};
@@ -7,7 +7,9 @@ ghost use Rattle.ufmt_scan.specs.Rest.{now_of};
 ghost use Rattle.ufmt_scan.specs.Private.Spelled.{IsOneCharacter, PassesCharacter, behind_quote};
 
 use crate::escape::strip_escaped;
+use crate::leaf::marked_len;
 use crate::level::strip_byte;
+use ufmt::ascii::text_from;
 use ufmt::quoted::plain_len;
 
 /// A character between apostrophes, with them, and what follows it.
@@ -24,7 +26,22 @@ pub(super) fn split_character(input: &[u8]) -> Option<(&str, &[u8])>
 }
 
 /// A text between two of these quotes, with them, and what follows it.
+#[inline(always)]
 pub(super) fn split_quoted(quote: u8, input: &[u8]) -> Option<(&str, &[u8])>
+    requires { IsQuote quote }
+    ensures { option_map (λ x. (x.0.now, x.1.now)) result ≡ read_between quote is_utf8 input.now }
+{
+    if quote == b'"' {
+        if let Some((leaf, rest)) = split_plain(input) {
+            return Some((leaf, rest));
+        }
+    }
+    split_any(quote, input)
+}
+
+// The same where escapes and bytes past ASCII may be inside.
+#[inline(never)]
+fn split_any(quote: u8, input: &[u8]) -> Option<(&str, &[u8])>
     requires { IsQuote quote }
     ensures { option_map (λ x. (x.0.now, x.1.now)) result ≡ read_between quote is_utf8 input.now }
 {
@@ -35,6 +52,26 @@ pub(super) fn split_quoted(quote: u8, input: &[u8]) -> Option<(&str, &[u8])>
         Ok(leaf) => Some((leaf, rest)),
         Err(_) => None,
     }
+}
+
+// Of each byte, whether it is ASCII and stands for itself in a quoted text.
+static PLAIN_ASCII: [u8; 256] = *b"\
+    ................................ww.wwwwwwwwwwwwwwwwwwwwwwwwwwwww\
+    wwwwwwwwwwwwwwwwwwwwwwwwwwww.wwwwwwwwwwwwwwwwwwwwwwwwwwwwwwwwww.\
+    ................................................................\
+    ................................................................";
+
+// A text of such bytes between quotation marks, with them, and what follows it. It needs no test of UTF-8.
+#[inline(always)]
+fn split_plain(input: &[u8]) -> Option<(&str, &[u8])>
+    ensures { IfSome result (λ x.
+        read_between 34 is_utf8 input.now ≡ Some (x.0.now, x.1.now)) }
+{
+    let inside = strip_byte(b'"', input)?;
+    let (_, end) = inside.split_at(marked_len(&PLAIN_ASCII, inside));
+    let rest = strip_byte(b'"', end)?;
+    let (leaf, _) = input.split_at(input.len() - rest.len());
+    Some((text_from(leaf, 0), rest))
 }
 
 // What follows the closing quote.

@@ -1,15 +1,143 @@
-//! Telling a text part by part, in either mode: a scanner over a sink.
-mod begin;
-mod behind;
-mod ends;
-mod label;
-mod part;
-mod refusal;
-mod stage;
-mod stages;
-mod tell;
-mod whole;
+//! Scanning a text in either mode: its events are emitted to a sink, one after another.
+ghost use Rattle.std.specs.Prelude.{◌≡◌, ◌≤◌, [], IfOk, List, Some, length};
+ghost use Rattle.ufmt.specs.Layout.{layout, setting};
+ghost use Rattle.ufmt.specs.Reading.{parse_map, read};
+ghost use Rattle.ufmt_scan.specs.Private.Scanning.{ScansOn, all_told, behind_told, document_told, left_told, open_stages};
+ghost use Rattle.ufmt_scan.specs.declared.scan.open_blocks.Stage.{Stage};
+ghost use Rattle.ufmt_scan.specs.Scan.{Scans, told};
 
-pub use part::{Part, Sink};
-pub use refusal::Refusal;
-pub use whole::scan;
+mod event;
+mod open_blocks;
+mod step;
+
+use crate::level::Level;
+pub use event::{Event, ScanError, Sink};
+use open_blocks::{OpenBlocks, Stage};
+use step::{after_document, begin, field_name};
+use ufmt::layout::{Kind, Mode};
+
+/// Emits the events of the token document that has this text, in the text's order. Fails with
+/// `NotText` if no token document has this text, else with the sink's error. The sink may have taken
+/// events then.
+pub fn scan<S: Sink>(mode: Mode, input: &[u8], sink: &mut S) -> Result<(), ScanError<S::Error>>
+    ensures { Scans S.took S.stopped result sink.old sink.new (layout (setting mode 0)) input.now }
+{
+    match mode {
+        Mode::Plain => scan_in::<S, false>(Mode::Plain, input, sink),
+        Mode::Pretty => scan_in::<S, true>(Mode::Pretty, input, sink),
+    }
+}
+
+// The same in one mode. `PRETTY` is never read, here and in the calls below: it makes one copy per sink and
+// mode, in which brackets are constants.
+fn scan_in<S: Sink, const PRETTY: bool>(
+    mode: Mode,
+    input: &[u8],
+    sink: &mut S,
+) -> Result<(), ScanError<S::Error>>
+    ensures { Scans S.took S.stopped result sink.old sink.new (layout (setting mode 0)) input.now }
+{
+    if scan_document::<S, PRETTY>(mode, input, sink)?.is_empty() {
+        Ok(())
+    } else {
+        Err(ScanError::NotText)
+    }
+}
+
+// Emits the events of the document at the front of the input, and returns what follows it.
+#[inline(always)]
+fn scan_document<'a, S: Sink, const PRETTY: bool>(
+    mode: Mode,
+    input: &'a [u8],
+    sink: &mut S,
+) -> Result<&'a [u8], ScanError<S::Error>>
+    ensures { ScansOn S.took S.stopped result sink.old sink.new
+        (parse_map told (read (setting mode 0) 255 input.now)) (λ rest. Some ([], rest.now)) }
+{
+    let mut outer = [Stage::ListFirst; 256];
+    let mut blocks = OpenBlocks {
+        count: 0,
+        innermost: Stage::ListFirst,
+    };
+    let mut rest = input;
+    'documents: loop {
+        let begun = name_field::<S, PRETTY>(blocks, mode, rest, sink)?;
+        let depth = blocks.count;
+        let (opened, after) = begin::<S, PRETTY>(Level { mode, depth }, begun, sink)?;
+        rest = after;
+        if let Some(innermost) = opened {
+            outer[depth as usize] = blocks.innermost;
+            // No entry begins in the 256th block.
+            let Some(count) = depth.checked_add(1) else {
+                return Err(ScanError::NotText);
+            };
+            blocks = OpenBlocks { count, innermost };
+            continue 'documents;
+        }
+        let (left, after) = end_entries::<S, PRETTY>(blocks, &outer, mode, rest, sink)?;
+        blocks = left;
+        rest = after;
+        if blocks.count == 0 {
+            return Ok(rest);
+        }
+    }
+}
+
+// Emits the name of the field that comes, where the innermost block is a struct.
+#[inline(always)]
+fn name_field<'a, S: Sink, const PRETTY: bool>(
+    blocks: OpenBlocks,
+    mode: Mode,
+    input: &'a [u8],
+    sink: &mut S,
+) -> Result<&'a [u8], ScanError<S::Error>>
+    ensures told { (outer : List Stage) → length outer ≡ 256
+        → ScansOn S.took S.stopped result sink.old sink.new
+        (all_told mode (open_stages blocks outer) input.now)
+        (λ rest. document_told mode (open_stages blocks outer) rest.now) }
+    ensures within { IfOk result (λ rest. length rest.now ≤ length input.now) }
+{
+    if blocks.count == 0 {
+        return Ok(input);
+    }
+    match blocks.innermost.kind() {
+        Kind::Struct => {
+            let (_, rest) = field_name::<S, PRETTY>(input, sink)?;
+            Ok(rest)
+        }
+        _ => Ok(input),
+    }
+}
+
+// Emits what follows an entry of the innermost block, and ends each block that ends there. Returns the blocks
+// that stay open, and what follows.
+#[inline(always)]
+fn end_entries<'a, S: Sink, const PRETTY: bool>(
+    blocks: OpenBlocks,
+    outer: &[Stage; 256],
+    mode: Mode,
+    input: &'a [u8],
+    sink: &mut S,
+) -> Result<(OpenBlocks, &'a [u8]), ScanError<S::Error>>
+    ensures told { ScansOn S.took S.stopped result sink.old sink.new
+        (behind_told mode (open_stages blocks outer.now) input.now)
+        (λ x. left_told mode (open_stages x.0 outer.now) x.1.now) }
+    ensures within { IfOk result (λ x. length x.1.now ≤ length input.now) }
+{
+    let mut open = blocks;
+    let mut rest = input;
+    'ends: while let Some(depth) = open.count.checked_sub(1) {
+        let level = Level { mode, depth };
+        let (next, after) = after_document::<S, PRETTY>(level, open.innermost, rest, sink)?;
+        rest = after;
+        if let Some(innermost) = next {
+            let count = open.count;
+            return Ok((OpenBlocks { count, innermost }, rest));
+        }
+        open = OpenBlocks {
+            count: depth,
+            innermost: outer[depth as usize],
+        };
+    }
+    Ok((open, rest))
+}

@@ -5,7 +5,7 @@ use ufmt::{Full, uWrite};
 use ufmt_doc::doc::Doc;
 use ufmt_doc::plain_reader::{ReadError, read_plain};
 use ufmt_doc::pretty_reader::read_pretty;
-use ufmt_doc::scan::{Refusal, Sink, scan};
+use ufmt_doc::scan::{ScanError, Sink, scan};
 use ufmt_doc::{convert, laws};
 
 /// A text, and the mode in which it is read.
@@ -30,7 +30,7 @@ impl Calls<'_> {
         }
     }
 
-    pub fn scan<S: Sink>(&self, sink: &mut S) -> Result<(), Refusal<S::Error>> {
+    pub fn scan<S: Sink>(&self, sink: &mut S) -> Result<(), ScanError<S::Error>> {
         scan(self.mode, self.text, sink)
     }
 
@@ -48,17 +48,17 @@ impl Calls<'_> {
         }
     }
 
-    pub fn convert_to<W: uWrite>(&self, writer: &mut W) -> Result<(), Refusal<W::Error>> {
+    pub fn convert_to<W: uWrite>(&self, writer: &mut W) -> Result<(), ScanError<W::Error>> {
         match self.mode {
-            Mode::Plain => convert::pretty_to(writer, self.text),
-            Mode::Pretty => convert::plain_to(writer, self.text),
+            Mode::Plain => convert::write_to_pretty(writer, self.text),
+            Mode::Pretty => convert::write_to_plain(writer, self.text),
         }
     }
 
-    pub fn convert_into(&self, buffer: &mut [u8]) -> Result<usize, Refusal<Full>> {
+    pub fn convert_into(&self, buffer: &mut [u8]) -> Result<usize, ScanError<Full>> {
         match self.mode {
-            Mode::Plain => convert::pretty_into(buffer, self.text),
-            Mode::Pretty => convert::plain_into(buffer, self.text),
+            Mode::Plain => convert::to_pretty_into(buffer, self.text),
+            Mode::Pretty => convert::to_plain_into(buffer, self.text),
         }
     }
 

@@ -1,11 +1,11 @@
-//! A sink of one's own, which notes each part that it is passed.
+//! A sink of one's own, which notes each event that it takes.
 ghost use Rattle.std.specs.Prelude.{⊤};
 
 use std::alloc::{AllocError, Global};
 use ufmt::layout::{Count, Kind};
-use ufmt_doc::scan::{Part, Sink};
+use ufmt_doc::scan::{Event, Sink};
 
-/// The parts so far: a letter or a sign for each, and its text.
+/// The events so far: a letter or a sign for each, and its text.
 #[derive(Drop)]
 pub struct Events {
     pub text: String,
@@ -53,23 +53,23 @@ impl Sink for Events {
 
     ghost begun = { λ _. tt };
 
-    fn hear(&mut self, part: Part, text: &str) -> Result<(), AllocError> {
-        match part {
-            Part::Leaf => self.note("=", text),
-            Part::Empty(kind) => {
+    fn event(&mut self, event: Event<&str>) -> Result<(), AllocError> {
+        match event {
+            Event::Leaf(text) => self.note("=", text),
+            Event::Empty(kind) => {
                 self.note_kind("e", kind)?;
-                self.note("", text)
+                self.note("", "")
             }
-            Part::Open(kind) => {
+            Event::Open(kind, name) => {
                 self.note_kind("o", kind)?;
-                self.note("", text)
+                self.note("", name)
             }
-            Part::Label => self.note(".", text),
-            Part::Colon => self.note(":", text),
-            Part::Next => self.note(",", text),
-            Part::Close(kind, count) => {
+            Event::FieldName(name) => self.note(".", name),
+            Event::Colon => self.note(":", ""),
+            Event::Next => self.note(",", ""),
+            Event::Close(kind, count) => {
                 self.note_kind("c", kind)?;
-                self.note(digit(count), text)
+                self.note(digit(count), "")
             }
         }
     }

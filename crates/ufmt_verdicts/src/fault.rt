@@ -2,7 +2,7 @@
 use std::alloc::{AllocError, AllocFailed, Global};
 use ufmt::Full;
 use ufmt_doc::plain_reader::ReadError;
-use ufmt_doc::scan::Refusal;
+use ufmt_doc::scan::ScanError;
 
 /// A wrong answer. Memory is at hand, so want of it is wrong too.
 #[derive(Clone, Copy)]
@@ -61,20 +61,20 @@ impl From<ReadError> for Fault {
     }
 }
 
-impl From<Refusal<AllocError>> for Fault {
-    fn from(refusal: Refusal<AllocError>) -> Fault {
-        match refusal {
-            Refusal::NotText => Fault::NotText,
-            Refusal::Refused(_) => Fault::WantOfMemory,
+impl From<ScanError<AllocError>> for Fault {
+    fn from(error: ScanError<AllocError>) -> Fault {
+        match error {
+            ScanError::NotText => Fault::NotText,
+            ScanError::Sink(_) => Fault::WantOfMemory,
         }
     }
 }
 
-impl From<Refusal<Full>> for Fault {
-    fn from(refusal: Refusal<Full>) -> Fault {
-        match refusal {
-            Refusal::NotText => Fault::NotText,
-            Refusal::Refused(_) => Fault::Full,
+impl From<ScanError<Full>> for Fault {
+    fn from(error: ScanError<Full>) -> Fault {
+        match error {
+            ScanError::NotText => Fault::NotText,
+            ScanError::Sink(_) => Fault::Full,
         }
     }
 }

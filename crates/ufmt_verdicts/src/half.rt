@@ -12,7 +12,7 @@ use ufmt::{Full, uWrite};
 use ufmt_doc::doc::{Doc, same_text};
 use ufmt_doc::laws::{normal_by_way_of_plain, normal_by_way_of_pretty};
 use ufmt_doc::plain_reader::ReadError;
-use ufmt_doc::scan::Refusal;
+use ufmt_doc::scan::ScanError;
 
 /// What the calls answer, in words.
 pub fn verdict(calls: Calls<'_>) -> Result<String, AllocError> {
@@ -85,9 +85,9 @@ fn converts_alike(calls: Calls<'_>, converted: &str) -> Result<(), Fault> {
     agree(is_full, "conversion into a buffer of one byte less")
 }
 
-fn is_full(answer: Result<usize, Refusal<Full>>) -> bool {
+fn is_full(answer: Result<usize, ScanError<Full>>) -> bool {
     match answer {
-        Err(Refusal::Refused(Full)) => true,
+        Err(ScanError::Sink(Full)) => true,
         _ => false,
     }
 }
@@ -210,9 +210,9 @@ fn of_no_text(calls: Calls<'_>) -> Result<(), Fault> {
     agree(by_way == Err(ReadError::NotText), "no text, there and back")
 }
 
-fn is_not_text<E: Drop>(answer: Result<(), Refusal<E>>) -> bool {
+fn is_not_text<E: Drop>(answer: Result<(), ScanError<E>>) -> bool {
     match answer {
-        Err(Refusal::NotText) => true,
+        Err(ScanError::NotText) => true,
         _ => false,
     }
 }

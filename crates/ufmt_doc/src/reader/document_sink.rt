@@ -1,124 +1,280 @@
-//! A sink that makes the document of which it is told.
-ghost use Rattle.std.specs.Prelude.{◌≡◌, ⊤};
-ghost use Rattle.std.specs.Result.{IfOk, OnOk};
+//! A sink that makes the document whose events it takes.
+ghost use Rattle.std.specs.Prelude.{◌≡◌, ◌≤◌, ◌+◌, ◌++◌, ◌∷◌, [], IfOk, OnOk, Some, drop, length, map, option_map, string_bytes, take, vec_capacity, ⊤};
 ghost use Rattle.std.proofs.Common.{refl};
-ghost use Rattle.ufmt.specs.Document.{leaf};
+ghost use Rattle.ufmt.specs.Document.{Document, leaf};
 ghost use Rattle.ufmt_doc.specs.Doc.{doc_document};
-ghost use Rattle.ufmt_doc.specs.Private.Growing.{Grew, closed, entry_ended, grow, growing, nothing_read, opened, put_in, without_entries};
+ghost use Rattle.ufmt_doc.specs.DocViews.{field_view, pair_view};
+ghost use Rattle.ufmt_doc.specs.Private.Growing.{block_of, closed, field_from, growing, grown, in_pairs, name_in, opened, put, text_of, with_colon, empty_block};
 
-use super::open_block::{OpenBlock, push};
-use super::open_blocks::OpenBlocks;
 use crate::doc::Doc;
 use std::alloc::{AllocError, Global};
-use std::mem;
+use std::marker::Model;
 use ufmt::layout::Kind;
-use ufmt_scan::scan::{Part, Sink};
+use ufmt_scan::scan::{Event, Sink};
 
 // How many blocks may be open, one in another.
 const MOST_OPEN: usize = 256;
 
-// A block of this kind and name without entries.
+// An open block: where its entries start on the stack, and whether a colon came in it.
+#[derive(Clone, Copy)]
+struct OpenBlock {
+    start: usize,
+    has_colon: bool,
+}
+
+/// The documents that ended lie on one stack, with the entries of each open block above those of the
+/// block around it. A field's name is a leaf there, and so is the name of a struct or tuple, before its
+/// entries. A block that ends takes its entries off the stack, and is put in their place.
+#[derive(Drop)]
+pub(super) struct DocumentSink {
+    alloc: Global,
+    docs: Vec<Doc>,
+    blocks: [OpenBlock; MOST_OPEN],
+    open_blocks: usize,
+}
+
+impl Model for DocumentSink {
+    ghost use Rattle.std.specs.Coded.{codes};
+    ghost use Rattle.std.specs.Prelude.{◌≡◌, ◌≤◌, List, length, reverse, take};
+    ghost use Rattle.ufmt_doc.specs.contracts.doc.Doc as doc;
+    ghost use Rattle.ufmt_doc.specs.declared.doc.Doc.{Doc};
+    ghost use Rattle.ufmt_doc.specs.declared.reader.document_sink.OpenBlock.{OpenBlock};
+
+    ghost Value = { List Doc × List OpenBlock };
+
+    ghost coded = { Prim.hlevel (codes, doc.the_row.coded) };
+
+    ghost view = { λ s. (s.docs.items, reverse (take s.open_blocks s.blocks)) };
+
+    ghost invariant = { λ s. (s.open_blocks ≤ 256) × (length s.blocks ≡ 256) };
+}
+
+// The text of a leaf.
 #[inline(always)]
-fn without_entries(alloc: Global, kind: Kind, name: &str) -> Result<Doc, AllocError>
-    ensures { IfOk result (λ doc. doc_document doc ≡ without_entries kind name.now) }
+fn text_of(alloc: Global, doc: Doc) -> String
+    ensures { string_bytes result ≡ text_of (doc_document doc) }
 {
-    match kind {
-        Kind::Brackets => Ok(Doc::Listed(Vec::new(alloc))),
-        Kind::Braces => Ok(Doc::MapOf(Vec::new(alloc))),
-        Kind::Struct => Ok(Doc::StructOf(String::from_str(alloc, name)?, Vec::new(alloc))),
-        Kind::Tuple | Kind::Unnamed => Ok(Doc::TupleOf(
-            String::from_str(alloc, name)?,
-            Vec::new(alloc),
-        )),
+    match doc {
+        Doc::Leaf(text) => text,
+        _ => String::new(alloc),
     }
 }
 
-impl OpenBlocks {
+// Takes the keys and values of a map off the stack.
+#[inline(never)]
+fn take_pairs(
+    alloc: Global,
+    docs: &mut Vec<Doc>,
+    start: usize,
+) -> Result<Vec<(Doc, Doc)>, AllocError>
+    requires { start ≤ length docs.old.items }
+    ensures docs { OnOk result (docs.new.items ≡ take start docs.old.items) }
+    ensures capacity { OnOk result (vec_capacity docs.new ≡ vec_capacity docs.old) }
+    ensures pairs { IfOk result (λ pairs. map pair_view pairs.items
+        ≡ in_pairs (map doc_document (drop start docs.old.items))) }
+{
+    let mut pairs = Vec::with_capacity(alloc, (docs.len() - start) / 2)?;
+    let mut entries = docs.drain(start..);
+    while let Some(key) = entries.next() {
+        if let Some(value) = entries.next() {
+            pairs.push_reserved((key, value));
+        }
+    }
+    Ok(pairs)
+}
+
+// Takes the names and values of fields off the stack.
+#[inline(never)]
+fn take_fields(
+    alloc: Global,
+    docs: &mut Vec<Doc>,
+    start: usize,
+) -> Result<Vec<(String, Doc)>, AllocError>
+    requires { start ≤ length docs.old.items }
+    ensures docs { OnOk result (docs.new.items ≡ take start docs.old.items) }
+    ensures capacity { OnOk result (vec_capacity docs.new ≡ vec_capacity docs.old) }
+    ensures fields { IfOk result (λ fields. map field_view fields.items
+        ≡ map field_from (in_pairs (map doc_document (drop start docs.old.items)))) }
+{
+    let mut fields = Vec::with_capacity(alloc, (docs.len() - start) / 2)?;
+    let mut entries = docs.drain(start..);
+    while let Some(label) = entries.next() {
+        if let Some(value) = entries.next() {
+            fields.push_reserved((text_of(alloc, label), value));
+        }
+    }
+    Ok(fields)
+}
+
+// Takes the name of a block off the stack, after its entries were taken.
+#[inline(always)]
+fn take_name(alloc: Global, docs: &mut Vec<Doc>, start: usize) -> String
+    requires { length docs.old.items ≤ start + 1 }
+    ensures docs { docs.new.items ≡ take start docs.old.items }
+    ensures capacity { vec_capacity docs.new ≡ vec_capacity docs.old }
+    ensures name { string_bytes result ≡ name_in (map doc_document (drop start docs.old.items)) }
+{
+    if docs.len() <= start {
+        return String::new(alloc);
+    }
+    text_of(alloc, docs.take_last())
+}
+
+// Takes all that belongs to a block off the stack, and makes the block of it.
+#[inline(always)]
+fn take_block(
+    alloc: Global,
+    docs: &mut Vec<Doc>,
+    kind: Kind,
+    block: OpenBlock,
+) -> Result<Doc, AllocError>
+    requires { block.start ≤ length docs.old.items }
+    ensures docs { OnOk result (docs.new.items ≡ take block.start docs.old.items) }
+    ensures capacity { OnOk result (vec_capacity docs.new ≡ vec_capacity docs.old) }
+    ensures doc { IfOk result (λ doc. doc_document doc ≡ block_of kind block.has_colon
+        (map doc_document (drop block.start docs.old.items))) }
+{
+    let start = block.start;
+    match kind {
+        Kind::Brackets => Ok(Doc::Listed(docs.split_off(start)?)),
+        Kind::Braces if block.has_colon => Ok(Doc::MapOf(take_pairs(alloc, docs, start)?)),
+        Kind::Braces => Ok(Doc::SetOf(docs.split_off(start)?)),
+        Kind::Struct => {
+            let fields = take_fields(alloc, docs, (start + 1).min(docs.len()))?;
+            Ok(Doc::StructOf(take_name(alloc, docs, start), fields))
+        }
+        Kind::Tuple => {
+            let entries = docs.split_off((start + 1).min(docs.len()))?;
+            Ok(Doc::TupleOf(take_name(alloc, docs, start), entries))
+        }
+        Kind::Unnamed => Ok(Doc::TupleOf(String::new(alloc), docs.split_off(start)?)),
+    }
+}
+
+impl DocumentSink {
     /// Nothing was read.
-    pub(super) fn new(alloc: Global) -> OpenBlocks
-        ensures { growing result ≡ nothing_read }
+    pub(super) fn new(alloc: Global) -> DocumentSink
+        ensures { growing result ≡ ([], []) }
     {
-        OpenBlocks {
+        DocumentSink {
             alloc,
-            outer: Vec::new(alloc),
-            inner: OpenBlock {
-                doc: Doc::MapOf(Vec::new(alloc)),
-                waits: None,
-            },
+            docs: Vec::new(alloc),
+            blocks: [OpenBlock {
+                start: 0,
+                has_colon: false,
+            }; MOST_OPEN],
+            open_blocks: 0,
         }
     }
 
-    // Puts in a leaf, or a field's name.
+    /// The document on top of the stack.
+    pub(super) fn into_document(self) -> Option<Doc>
+        ensures { (d : Document) → growing self ≡ (d ∷ [], [])
+            → option_map doc_document result ≡ Some d }
+    {
+        let mut docs = self.docs;
+        docs.pop()
+    }
+
+    // Puts a leaf on the stack. Room is made first, so that a failure has no document to drop.
+    #[inline(always)]
     fn put_leaf(&mut self, text: &str) -> Result<(), AllocError>
-        ensures { OnOk result (growing self.new ≡ put_in (growing self.old) (leaf text.now)) }
+        ensures { OnOk result (growing self.new ≡ put (growing self.old) (leaf text.now)) }
     {
-        self.inner
-            .put(Doc::Leaf(String::from_str(self.alloc, text)?))
+        self.docs.reserve(1)?;
+        let leaf = String::from_str(self.alloc, text)?;
+        self.docs.push_reserved(Doc::Leaf(leaf));
+        Ok(())
     }
 
-    // Puts in a block without entries.
+    // Puts a block without entries on the stack.
     #[inline(never)]
-    fn put_empty(&mut self, kind: Kind, name: &str) -> Result<(), AllocError>
-        ensures { OnOk result
-            (growing self.new ≡ put_in (growing self.old) (without_entries kind name.now)) }
+    fn put_empty(&mut self, kind: Kind) -> Result<(), AllocError>
+        ensures { OnOk result (growing self.new ≡ put (growing self.old) (empty_block kind)) }
     {
-        self.inner.put(without_entries(self.alloc, kind, name)?)
+        self.docs.reserve(1)?;
+        self.docs.push_reserved(match kind {
+            Kind::Brackets => Doc::Listed(Vec::new(self.alloc)),
+            _ => Doc::MapOf(Vec::new(self.alloc)),
+        });
+        Ok(())
     }
 
-    // Opens a block of this kind and name in the innermost one.
+    // Opens a block in the innermost one.
+    #[inline(always)]
+    #[tactic(auto, using(crate::proofs::OpenBlocks::one_more))]
     fn open(&mut self, kind: Kind, name: &str) -> Result<(), AllocError>
-        ensures { OnOk result
-            (growing self.new ≡ opened (without_entries kind name.now) (growing self.old)) }
+        ensures { OnOk result (growing self.new ≡ opened kind name.now (growing self.old)) }
     {
         // A scanner opens no more.
-        if self.outer.len() == MOST_OPEN {
+        if self.open_blocks == MOST_OPEN {
             return Err(AllocError);
         }
-        let block = OpenBlock {
-            doc: without_entries(self.alloc, kind, name)?,
-            waits: None,
+        self.blocks[self.open_blocks] = OpenBlock {
+            start: self.docs.len(),
+            has_colon: false,
         };
-        push(&mut self.outer, mem::replace(&mut self.inner, block))
+        self.open_blocks += 1;
+        match kind {
+            Kind::Struct | Kind::Tuple => self.put_leaf(name),
+            _ => Ok(()),
+        }
     }
 
-    // Ends the innermost block, which goes into the one round it.
-    fn close(&mut self) -> Result<(), AllocError>
-        ensures { OnOk result
-            (growing self.new ≡ closed (entry_ended (growing self.old).0, (growing self.old).1)) }
+    // Marks the innermost block as one with a colon.
+    #[inline(always)]
+    fn mark_colon(&mut self)
+        ensures { growing self.new ≡ with_colon (growing self.old) }
     {
-        self.inner.end_entry(self.alloc)?;
-        match self.outer.pop() {
-            Some(outer) => {
-                let ended = mem::replace(&mut self.inner, outer);
-                self.inner.put(ended.doc)
-            }
-            None => Ok(()),
+        if let Some(innermost) = self.open_blocks.checked_sub(1) {
+            self.blocks[innermost].has_colon = true;
         }
+    }
+
+    // Ends the innermost block.
+    #[inline(always)]
+    fn close(&mut self, kind: Kind) -> Result<(), AllocError>
+        ensures { OnOk result (growing self.new ≡ closed kind (growing self.old)) }
+    {
+        let Some(innermost) = self.open_blocks.checked_sub(1) else {
+            return Ok(());
+        };
+        self.docs.reserve(1)?;
+        self.open_blocks = innermost;
+        let block = self.blocks[innermost];
+        let start = block.start.min(self.docs.len());
+        let block = OpenBlock { start, ..block };
+        let doc = take_block(self.alloc, &mut self.docs, kind, block)?;
+        self.docs.push_reserved(doc);
+        Ok(())
     }
 }
 
-/// Takes each part, or refuses it for want of memory.
-impl Sink for OpenBlocks {
+/// Fails only for want of memory.
+impl Sink for DocumentSink {
     type Error = AllocError;
 
-    ghost took = { Grew };
+    ghost took = { λ old es new. growing new ≡ grown (growing old) es };
 
     ghost stopped = { λ _ _ _. ⊤ };
 
-    ghost begun = { λ blocks. refl };
+    ghost begun = { λ _. refl };
 
-    // Each part is taken by a function of its own, since a function begins by clearing room for all that
-    // its arms make.
+    // Frequent events are inlined. A function begins by clearing room for all that its arms make, so what
+    // is rare or loops stays out of line.
     #[inline(always)]
-    #[tactic(auto, using(crate::proofs::GrowingDocuments::hears_part))]
-    fn hear(&mut self, part: Part, text: &str) -> Result<(), AllocError> {
-        match part {
-            Part::Leaf | Part::Label => self.put_leaf(text),
-            Part::Empty(kind) => self.put_empty(kind, text),
-            Part::Open(kind) => self.open(kind, text),
-            Part::Colon => Ok(()),
-            Part::Next => self.inner.end_entry(self.alloc),
-            Part::Close(_, _) => self.close(),
+    #[tactic(auto, using(crate::proofs::GrowingDocuments::takes_event))]
+    fn event(&mut self, event: Event<&str>) -> Result<(), AllocError> {
+        match event {
+            Event::Leaf(text) | Event::FieldName(text) => self.put_leaf(text),
+            Event::Empty(kind) => self.put_empty(kind),
+            Event::Open(kind, name) => self.open(kind, name),
+            Event::Colon => {
+                self.mark_colon();
+                Ok(())
+            }
+            Event::Next => Ok(()),
+            Event::Close(kind, _) => self.close(kind),
         }
     }
 }

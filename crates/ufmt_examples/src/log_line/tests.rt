@@ -16,8 +16,8 @@ fn same(rt: &impl Abort, line: &str, wanted: Result<&str, &str>) {
             assert_eq!(rt; Ok(length), wanted.map(str::len), "{line}");
             wanted
         }
-        Err(Refusal::NotText) => Err("not text"),
-        Err(Refusal::Refused(Full)) => Err("full"),
+        Err(ScanError::NotText) => Err("not text"),
+        Err(ScanError::Sink(Full)) => Err("full"),
     };
     assert_eq!(rt; text, wanted, "{line}");
     if let Ok(text) = wanted {

@@ -4,18 +4,18 @@ use super::texts::{NODE_PLAIN, NODE_PRETTY};
 use std::alloc::{AllocError, Global};
 use ufmt::layout::Mode;
 use ufmt::{Cursor, Full, uWrite};
-use ufmt_doc::convert::{plain_into, plain_to, pretty_into, pretty_to};
-use ufmt_doc::scan::Refusal;
+use ufmt_doc::convert::{to_plain_into, to_pretty_into, write_to_plain, write_to_pretty};
+use ufmt_doc::scan::ScanError;
 
 // What a text of this mode is converted to, written to the writer.
 fn converted_to<W: uWrite>(
     mode: Mode,
     writer: &mut W,
     text: &[u8],
-) -> Result<(), Refusal<W::Error>> {
+) -> Result<(), ScanError<W::Error>> {
     match mode {
-        Mode::Plain => pretty_to(writer, text),
-        Mode::Pretty => plain_to(writer, text),
+        Mode::Plain => write_to_pretty(writer, text),
+        Mode::Pretty => write_to_plain(writer, text),
     }
 }
 
@@ -32,8 +32,8 @@ fn is_fitted(
     let mut cursor = Cursor::new(bytes.as_mut_slice());
     let is_right = match converted_to(mode, &mut cursor, text) {
         Ok(()) => size >= other.len() && cursor.written() == other,
-        Err(Refusal::Refused(Full)) => size < other.len() && other.starts_with(cursor.written()),
-        Err(Refusal::NotText) => false,
+        Err(ScanError::Sink(Full)) => size < other.len() && other.starts_with(cursor.written()),
+        Err(ScanError::NotText) => false,
     };
     Ok(is_right)
 }
@@ -71,8 +71,8 @@ fn is_no_text(mode: Mode, text: &[u8]) -> bool {
     let mut bytes = [0u8; 64];
     let mut cursor = Cursor::new(&mut bytes);
     match converted_to(mode, &mut cursor, text) {
-        Err(Refusal::NotText) => true,
-        Ok(()) | Err(Refusal::Refused(_)) => false,
+        Err(ScanError::NotText) => true,
+        Ok(()) | Err(ScanError::Sink(_)) => false,
     }
 }
 
@@ -91,13 +91,13 @@ fn what_is_no_text_is_told_from_a_full_buffer(rt: HostRuntime) {
 fn is_in_front(mode: Mode, text: &str, is_text: bool, front: &str) -> bool {
     let mut bytes = [b'#'; 64];
     let answer = match mode {
-        Mode::Plain => pretty_into(&mut bytes, text.as_bytes()),
-        Mode::Pretty => plain_into(&mut bytes, text.as_bytes()),
+        Mode::Plain => to_pretty_into(&mut bytes, text.as_bytes()),
+        Mode::Pretty => to_plain_into(&mut bytes, text.as_bytes()),
     };
     let is_said = match answer {
         Ok(count) => is_text && count == front.len(),
-        Err(Refusal::NotText) => !is_text,
-        Err(Refusal::Refused(Full)) => false,
+        Err(ScanError::NotText) => !is_text,
+        Err(ScanError::Sink(Full)) => false,
     };
     is_said
         && bytes.starts_with(front.as_bytes())

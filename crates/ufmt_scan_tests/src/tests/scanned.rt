@@ -1,13 +1,13 @@
-//! What a scanner tells a sink of a user's own, part by part, and that it stops where the sink does.
+//! The events that a sink of a user's own takes, and that a scan stops where the sink does.
 ghost use Rattle.std.specs.Prelude.{⊤};
 
 use super::same;
 use std::alloc::AllocError;
 use std::test::Fail;
 use ufmt::layout::{Count, Kind, Mode};
-use ufmt_scan::scan::{Part, Refusal, Sink, scan};
+use ufmt_scan::scan::{Event, ScanError, Sink, scan};
 
-// Notes each part as one letter and its text, up to so many.
+// Notes each event as one letter and its text, up to so many.
 #[derive(Drop)]
 struct Notes {
     text: String,
@@ -40,27 +40,33 @@ fn of_count(count: Count) -> char {
 }
 
 impl Notes {
-    fn note(&mut self, part: Part, text: &str) -> Result<(), AllocError> {
-        match part {
-            Part::Leaf => self.text.push('=')?,
-            Part::Empty(kind) => {
+    fn note(&mut self, event: Event<&str>) -> Result<(), AllocError> {
+        match event {
+            Event::Leaf(text) => {
+                self.text.push('=')?;
+                self.text.push_str(text)?;
+            }
+            Event::Empty(kind) => {
                 self.text.push('e')?;
                 self.text.push(of_kind(kind))?;
             }
-            Part::Open(kind) => {
+            Event::Open(kind, name) => {
                 self.text.push('o')?;
                 self.text.push(of_kind(kind))?;
+                self.text.push_str(name)?;
             }
-            Part::Label => self.text.push('.')?,
-            Part::Colon => self.text.push(':')?,
-            Part::Next => self.text.push(',')?,
-            Part::Close(kind, count) => {
+            Event::FieldName(name) => {
+                self.text.push('.')?;
+                self.text.push_str(name)?;
+            }
+            Event::Colon => self.text.push(':')?,
+            Event::Next => self.text.push(',')?,
+            Event::Close(kind, count) => {
                 self.text.push('c')?;
                 self.text.push(of_kind(kind))?;
                 self.text.push(of_count(count))?;
             }
         }
-        self.text.push_str(text)?;
         self.text.push(' ')?;
         Ok(())
     }
@@ -75,12 +81,12 @@ impl Sink for Notes {
 
     ghost begun = { λ _. tt };
 
-    fn hear(&mut self, part: Part, text: &str) -> Result<(), Stop> {
+    fn event(&mut self, event: Event<&str>) -> Result<(), Stop> {
         if self.left == 0 {
             return Err(Stop::Enough);
         }
         self.left -= 1;
-        match self.note(part, text) {
+        match self.note(event) {
             Ok(()) => Ok(()),
             Err(_) => Err(Stop::OutOfMemory),
         }
@@ -88,12 +94,12 @@ impl Sink for Notes {
 }
 
 // How the scan ended.
-fn ending(answer: Result<(), Refusal<Stop>>) -> &'static str {
+fn ending(answer: Result<(), ScanError<Stop>>) -> &'static str {
     match answer {
         Ok(()) => "whole",
-        Err(Refusal::NotText) => "no text",
-        Err(Refusal::Refused(Stop::Enough)) => "stopped",
-        Err(Refusal::Refused(Stop::OutOfMemory)) => "no memory",
+        Err(ScanError::NotText) => "no text",
+        Err(ScanError::Sink(Stop::Enough)) => "stopped",
+        Err(ScanError::Sink(Stop::OutOfMemory)) => "no memory",
     }
 }
 

@@ -1,20 +1,25 @@
-use Rattle.std.proofs.Common.{◌∙◌, ap}
+use Rattle.std.proofs.Common.{◌≡◌, ◌∙◌, ap, Option, Some, None, Ok, Result}
+use Rattle.std.specs.Prelude.{option_map}
+use Rattle.std.specs.Option.{ok_or}
+use Rattle.ufmt.specs.Document.{Document}
+use Rattle.ufmt_doc.specs.declared.doc.Doc.{Doc}
+use Rattle.ufmt_doc.specs.Doc.{doc_document}
 use Rattle.ufmt_doc.specs.Private.Growing.{grown}
-use Rattle.ufmt_scan.specs.Scan.{told}
 use Rattle.ufmt_doc.proofs.GrowingDocuments.{whole_is}
-use Rattle.ufmt_doc.proofs.OpenBlocks.{whole_answers}
 use Rattle.ufmt_doc.proofs.reader.read_text.Goals as goal
+use Rattle.ufmt_scan.specs.Scan.{told}
+use Rattle.ufmt_scan.specs.declared.error.ReadError.{ReadError}
+use Rattle.ufmt_scan.specs.declared.error.ReadError.TheVariants.{NotText}
 
-pub returns-clause-ok : goal.returns-clause-ok
-returns-clause-ok c =
-    let scanned = c.in_ok-scan.ensures in
-    let whole = whole_is scanned.0 _ scanned.1.0 scanned.1.1 (scanned.2 ∙ ap (λ g. grown g (told scanned.0)) c.new-blocks.ensures) in
-    let answer = whole_answers c.ok_or.result c.scan.new.sink.inner.waits scanned.0 (ap (λ g. g.0.1) whole) c.ok_or.ensures.value in
-    rw (answer.1, answer.2) scanned.1
+-- what is answered of a document on top of the stack
+document_is : (answer : Result Doc ReadError) (top : Option Doc) (d : Document) → option_map doc_document top ≡ Some d → answer ≡ ok_or top NotText
+    → (doc : Doc) × (answer ≡ Ok doc) × (doc_document doc ≡ d)
+document_is answer None d is h = absurd (cc)
+document_is answer (Some doc) d is h = (doc, h, cc)
 
-pub returns-clause-not_text : goal.returns-clause-not_text
-returns-clause-not_text c =
+pub returns : goal.returns
+returns c =
     let scanned = c.in_ok-scan.ensures in
-    let whole = whole_is scanned.0 _ scanned.1.0 scanned.1.1 (scanned.2 ∙ ap (λ g. grown g (told scanned.0)) c.new-blocks.ensures) in
-    let answer = whole_answers c.ok_or.result c.scan.new.sink.inner.waits scanned.0 (ap (λ g. g.0.1) whole) c.ok_or.ensures.value in
-    rw answer.1 (λ is. absurd (cc))
+    let whole = whole_is scanned.0 _ scanned.1.0 scanned.1.1 (scanned.2 ∙ ap (λ g. grown g (told scanned.0)) c.new-sink.ensures) in
+    let answer = document_is c.ok_or.result c.into_document.result scanned.0 (c.into_document.ensures scanned.0 whole) c.ok_or.ensures.value in
+    record { ok = rw (answer.1, answer.2) scanned.1; not_text = rw answer.1 (λ is. absurd (cc)) }

@@ -1,0 +1,91 @@
+use Rattle.std.proofs.Common.{◌≡◌, ◌∙◌, refl, ap, sym, ℕ, ◌<◌, List, [], ◌∷◌, ◌++◌, Option, Some, None, option_and_then, arith}
+use Rattle.ufmt.specs.Layout.{ending, frame, inside, line_start, next, separator, trail}
+use Rattle.ufmt.specs.Reading.{strip}
+use Rattle.ufmt.proofs.Parsing.{strip-append}
+use Rattle.ufmt.proofs.ReadingTurns.{strip_within}
+use Rattle.ufmt_core.specs.declared.layout.Mode.{Mode}
+use Rattle.ufmt_core.specs.declared.layout.Mode.TheVariants.{Plain, Pretty}
+use Rattle.ufmt_core.specs.declared.layout.Setting.{Setting}
+use Rattle.ufmt_scan.specs.declared.level.Level.{Level}
+use Rattle.ufmt_scan.specs.declared.scan.event.Event.TheVariants.{Next}
+use Rattle.ufmt_scan.specs.declared.scan.open_blocks.Stage.{Stage}
+use Rattle.ufmt_scan.specs.Private.Level.{depth_in, setting_at}
+use Rattle.ufmt_scan.specs.Private.Scanning.{earlier, kind_of, prefixed, rest_told, turn_of}
+use Rattle.ufmt_scan.proofs.DocumentParts.{later_continues, turn_takes}
+use Rattle.ufmt_scan.proofs.EntrySteps.{ending_stripped}
+use Rattle.ufmt_scan.proofs.Scans.{nothing_there}
+use Rattle.ufmt_scan.proofs.Telling.{behind_tells, go_on}
+use Rattle.ufmt_scan.proofs.scan.step.after_entry.Goals as goal
+
+-- a level is no deeper than its blocks are many
+few : (mode : Mode) (depth : ℕ) → depth < 255 → depth_in mode depth < 255
+few Plain depth h = omega arith
+few Pretty depth h = h
+
+module _ (level : Level) (at : Stage) where
+  abbrev start : List ℕ
+  start = line_start level.mode (setting_at level).depth
+
+  abbrev closing : List ℕ
+  closing = (frame level.mode (kind_of at)).closing (next (earlier at))
+
+  -- what is left on the line of the block decides: another entry comes, or the block ends
+  follows : (t piece between : List ℕ) (line : Setting) (o : Option (List ℕ)) → piece ≡ trail level.mode → line ≡ setting_at level
+      → start ++ between ≡ separator level.mode (inside (setting_at level)).depth → o ≡ strip (piece ++ line_start line.mode line.depth) t
+      → rest_told (turn_of level at) level (kind_of at) (next (earlier at)) t
+      ≡ option_and_then (λ w. go_on (turn_of level at) level (kind_of at) (earlier at) (strip between w) (strip closing w)) o
+  follows t piece between line o piece_is line_is apart h =
+      behind_tells (turn_of level at) level (kind_of at) (earlier at) t (turn_takes level at) ∙ by_trail (strip (trail level.mode) t)
+      ∙ ap (λ e. option_and_then (λ w. go_on (turn_of level at) level (kind_of at) (earlier at) (strip between w) (strip closing w)) e)
+      (sym (h ∙ rw (piece_is, line_is) (strip-append (trail level.mode) start t)))
+    where
+      by_line : (e : Option (List ℕ))
+          → go_on (turn_of level at) level (kind_of at) (earlier at) (option_and_then (strip between) e) (option_and_then (strip closing) e)
+          ≡ option_and_then (λ w. go_on (turn_of level at) level (kind_of at) (earlier at) (strip between w) (strip closing w)) e
+      by_line None = refl
+      by_line (Some w) = refl
+
+      by_trail : (e : Option (List ℕ)) → option_and_then (λ v. go_on (turn_of level at) level (kind_of at) (earlier at)
+          (strip (separator level.mode (inside (setting_at level)).depth) v) (strip (ending (frame level.mode (kind_of at)) (setting_at level) (next (earlier at))) v)) e
+          ≡ option_and_then (λ w. go_on (turn_of level at) level (kind_of at) (earlier at) (strip between w) (strip closing w)) (option_and_then (strip start) e)
+      by_trail None = refl
+      by_trail (Some v) =
+          let separates : strip (separator level.mode (inside (setting_at level)).depth) v ≡ option_and_then (strip between) (strip start v) =
+          ap (λ p. strip p v) (sym apart) ∙ strip-append start between v in
+          rw (separates, ending_stripped level (kind_of at) (earlier at) v) (by_line (strip start v))
+
+pub returns-in_default : goal.returns-in_default
+returns-in_default g c =
+    let apart = c.between-separator.ensures (setting_at c.args.level).depth (few c.args.level.mode c.args.level.depth c.requires) in
+    (nothing_there _ (follows c.args.level c.args.stage c.args.input.now _ c.between-separator.result.now _ None c.trail.ensures c.setting.ensures apart c.in_default.ensures), tt)
+
+pub returns-in-Some-strip_piece : goal.returns-in-Some-strip_piece
+returns-in-Some-strip_piece g c =
+    let apart = c.between-separator.ensures (setting_at c.args.level).depth (few c.args.level.mode c.args.level.depth c.requires) in
+    let line = c.in-Some.line.now in
+    let start = c.in-Some-strip_piece.start.now in
+    let within = strip_within _ c.args.input.now line (sym c.in-Some.ensures) in
+    let less = strip_within _ line start (sym c.in-Some-strip_piece.ensures) in
+    c.emit.ensures _ _ _ (follows c.args.level c.args.stage c.args.input.now _ c.between-separator.result.now _ (Some line) c.trail.ensures c.setting.ensures apart c.in-Some.ensures
+    ∙ rw (sym c.in-Some-strip_piece.ensures, c.later.ensures) (ap (prefixed (Next ∷ [])) (sym (later_continues c.args.level c.args.stage start))))
+    (omega (arith, within, less))
+
+pub returns-in_default-strip_closing : goal.returns-in_default-strip_closing
+returns-in_default-strip_closing g c =
+    let apart = c.between-separator.ensures (setting_at c.args.level).depth (few c.args.level.mode c.args.level.depth c.requires) in
+    let closing = rw (c.kind-kind.ensures, c.next-count.ensures, c.earlier.ensures) at c.in_default-strip_closing.ensures in (
+      nothing_there _ (follows c.args.level c.args.stage c.args.input.now _ c.between-separator.result.now _ (Some c.in-Some.line.now) c.trail.ensures c.setting.ensures apart c.in-Some.ensures
+          ∙ rw (sym c.in_default-strip_piece.ensures, sym closing) refl),
+      tt,
+    )
+
+pub returns : goal.returns
+returns g c =
+    let apart = c.between-separator.ensures (setting_at c.args.level).depth (few c.args.level.mode c.args.level.depth c.requires) in
+    let line = c.in-Some.line.now in
+    let end = c.in-Some-strip_closing.end.now in
+    let closing = rw (c.kind-kind.ensures, c.next-count.ensures, c.earlier.ensures) at c.in-Some-strip_closing.ensures in
+    let within = strip_within _ c.args.input.now line (sym c.in-Some.ensures) in
+    let less = strip_within _ line end (sym closing) in
+    c.emit-2.ensures _ _ _ (follows c.args.level c.args.stage c.args.input.now _ c.between-separator.result.now _ (Some line) c.trail.ensures c.setting.ensures apart c.in-Some.ensures
+    ∙ rw (sym c.in_default-strip_piece.ensures, sym closing, c.kind-kind.ensures, c.next-count.ensures, c.earlier.ensures) refl) (omega (arith, within, less))

@@ -1,0 +1,12 @@
+-- What contracts see of a text that grows.
+use Rattle.std.specs.Prelude.{List, [], ℕ, take, ⊤}
+use Rattle.ufmt.specs.Writes.{Seen}
+use Rattle.ufmt_scan.specs.declared.convert.growing.Growing.{Growing}
+
+-- the bytes so far
+abbrev pub growing_text : Growing → List ℕ
+growing_text g = take g.count g.bytes.items
+
+-- as a writer it is a `String`: its text is always told, and any growth may fail
+abbrev pub growing_seen : Seen Growing
+growing_seen = record { told = λ g. ⊤; text = growing_text; room = λ g. 0; identity = λ g. []; store = λ g. [] }

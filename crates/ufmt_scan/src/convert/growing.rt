@@ -1,0 +1,100 @@
+//! A text that grows in memory.
+ghost use Rattle.std.specs.Prelude.{◌≡◌, ◌<◌, ◌≤◌, ◌+◌, ◌++◌, [], is_ok, length, string_bytes, take, true};
+ghost use Rattle.std.specs.Str.{is_utf8};
+ghost use Rattle.ufmt.specs.Writes.{Writes};
+
+use std::alloc::{AllocError, Global};
+use ufmt::{Cursor, uWrite};
+
+// What a vector is filled with ahead of the text.
+static ZEROS: [u8; 1024] = [0; 1024];
+
+/// A text at the front of a vector that is filled ahead of it, so that a short piece is copied as into
+/// a caller's buffer. It is tested for UTF-8 once, at its end, where a `String` tests each piece.
+#[derive(Drop)]
+pub(super) struct Growing {
+    bytes: Vec<u8>,
+    count: usize,
+    ghost within: { count ≤ length bytes.items },
+    ghost utf8: { is_utf8 (take count bytes.items) ≡ true },
+}
+
+impl Growing {
+    ghost use Rattle.ufmt_scan.specs.Private.Growing.{growing_seen, growing_text};
+
+    pub(super) fn new(alloc: Global) -> Growing
+        ensures { growing_text result ≡ [] }
+    {
+        Growing {
+            bytes: Vec::new(alloc),
+            count: 0,
+        }
+    }
+
+    /// The text.
+    pub(super) fn into_string(self) -> String
+        ensures { string_bytes result ≡ growing_text self }
+    {
+        let Growing { mut bytes, count } = self;
+        bytes.truncate(count);
+        match String::from_utf8(bytes) {
+            Ok(text) => text,
+            Err(_) => unreachable!(),
+        }
+    }
+
+    // Appends a piece for which nothing is filled, and fills more, both in one growth.
+    #[inline(never)]
+    fn append(&mut self, piece: &str) -> Result<(), AllocError>
+        requires { 0 < length piece.now }
+        ensures { Writes growing_seen self.old piece.now (is_ok result) self.new }
+    {
+        self.bytes.truncate(self.count);
+        self.bytes.reserve(piece.len() + ZEROS.len())?;
+        self.bytes.extend_from_slice(piece.as_bytes())?;
+        self.count = self.bytes.len();
+        // There is room for it.
+        let _filled = self.bytes.extend_from_slice(&ZEROS);
+        Ok(())
+    }
+}
+
+/// Fails only for want of memory, and then leaves the text as it was.
+impl uWrite for Growing {
+    ghost use Rattle.ufmt_scan.specs.Private.Growing.{growing_seen};
+
+    type Error = AllocError;
+
+    ghost seen = { growing_seen };
+
+    #[inline(always)]
+    fn write_str(&mut self, s: &str) -> Result<(), AllocError> {
+        if s.len() > self.bytes.len() - self.count {
+            return self.append(s);
+        }
+        put(s, &mut self.bytes, self.count);
+        self.count += s.len();
+        Ok(())
+    }
+}
+
+// Writes a text over the bytes of the buffer from `start` on.
+#[inline(always)]
+fn put(text: &str, buffer: &mut [u8], start: usize)
+    requires { start + length text.now ≤ length buffer.old }
+    ensures written { take (start + length text.now) buffer.new
+        ≡ take start buffer.old ++ text.now }
+    ensures same_length { length buffer.new ≡ length buffer.old }
+{
+    fill(text, &mut buffer[start..start + text.len()]);
+}
+
+// Writes a text over a buffer that is as long.
+#[inline(always)]
+fn fill(text: &str, buffer: &mut [u8])
+    requires { length text.now ≡ length buffer.old }
+    ensures { buffer.new ≡ text.now }
+{
+    let mut cursor = Cursor::new(buffer);
+    let _whole = cursor.write_str(text);
+}
