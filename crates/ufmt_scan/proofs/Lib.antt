@@ -18,3 +18,4 @@ pub mod WorkedTold
 pub mod Conversions
 pub mod Growing
 pub mod PlainLeaves
+pub mod OpenSteps

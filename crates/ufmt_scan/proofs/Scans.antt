@@ -10,9 +10,9 @@ use Rattle.ufmt_scan.specs.declared.scan.open_blocks.Stage.{Stage}
 use Rattle.ufmt_core.specs.declared.layout.Kind.{Kind}
 use Rattle.ufmt_core.specs.declared.layout.Kind.TheVariants.{Brackets, Braces, Struct, Tuple, Unnamed}
 use Rattle.ufmt_scan.specs.Private.Level.{budget_of, entry_at, entry_of, setting_at}
-use Rattle.ufmt_scan.specs.Private.Scanning.{ScansOn, Stops, Tells, Told, after, all_told, behind_told, coming, coming_of, kind_of, document_at, document_told, entries, fields, level_at, onward_told, prefixed, stage_told, then_told, turn_told}
+use Rattle.ufmt_scan.specs.Private.Scanning.{ScansOn, Stops, Tells, Told, all_told, coming_of, kind_of, document_at, fields, level_at, prefixed, then_told}
 use Rattle.ufmt_scan.specs.Scan.{TextEvent, told}
-use Rattle.ufmt_scan.proofs.Telling.{prefixed_nothing, prefixed_twice, then-prefixed, then-then}
+use Rattle.ufmt_scan.proofs.Telling.{prefixed_twice, then-prefixed}
 
 module _ {S : Type 0} {took kept : S → List TextEvent → S → Type 0} {a b : S} {there mid : Told} where
   -- two steps are one
@@ -67,31 +67,6 @@ pub stops_in : {S E : Type 0} {took stopped : S → List TextEvent → S → Typ
     → whole ≡ then_told there more → Stops took stopped a b there why → Stops took stopped a b whole why
 stops_in more is h = record { left = then_told h.left more; tells = tells_in more is refl h.tells; none = λ e. ap (λ o. then_told o more) (h.none e) }
 
--- what follows in the innermost block, and then in those around it
-onward_in : (mode : Mode) (outer : List Stage) (next : Option Stage) (t : List ℕ)
-    → then_told (after (level_at mode (length outer)) next t) (behind_told mode outer) ≡ onward_told mode outer next t
-onward_in mode outer None t = prefixed_nothing (behind_told mode outer t)
-onward_in mode outer (Some stage) t = then-then (coming (level_at mode (length outer)) stage t) (stage_told (level_at mode (length outer)) stage)
-    (behind_told mode outer)
-
-pub onward : (mode : Mode) (outer : List Stage) (depth : ℕ) (next : Option Stage) (t : List ℕ) → depth ≡ length outer
-    → then_told (after (level_at mode depth) next t) (behind_told mode outer) ≡ onward_told mode outer next t
-onward mode outer depth next t same = rw same (onward_in mode outer next t)
-
--- what follows an entry of the innermost block
-pub behind_is : (mode : Mode) (open_blocks outer : List Stage) (stage : Stage) (depth : ℕ) (t : List ℕ) → open_blocks ≡ stage ∷ outer → depth ≡ length outer
-    → behind_told mode open_blocks t ≡ then_told (stage_told (level_at mode depth) stage t) (behind_told mode outer)
-behind_is mode open_blocks outer stage depth t is same = rw (is, same) refl
-
--- a field of the innermost block begins with its name, and then comes a document
-pub name_is : (mode : Mode) (open_blocks outer : List Stage) (stage : Stage) (t : List ℕ) → open_blocks ≡ stage ∷ outer → kind_of stage ≡ Struct
-    → all_told mode open_blocks t ≡ then_told (turn_told (fields (level_at mode (length outer))) t) (behind_told mode open_blocks)
-name_is mode open_blocks outer stage t is struct = rw (is, struct) refl
-
-pub after_name : (mode : Mode) (open_blocks outer : List Stage) (stage : Stage) (t : List ℕ) → open_blocks ≡ stage ∷ outer
-    → then_told (turn_told (entries (level_at mode (length outer))) t) (behind_told mode open_blocks) ≡ document_told mode open_blocks t
-after_name mode open_blocks outer stage t is = rw is refl
-
 -- entries are laid out one block deeper
 setting_inside : (mode : Mode) (k : ℕ) → k < 255 → inside (setting_at (level_at mode k)) ≡ setting_at (level_at mode (suc k))
 setting_inside Plain k few = refl
@@ -106,13 +81,6 @@ document_is mode (suc k) t few =
     let left : 255 - k ≡ suc (255 - suc k) = omega arith in
     ap (λ n. parse_map told (entry_at (setting_at (level_at mode k)) n t)) left ∙ ap (λ s. parse_map told (read s (255 - suc k) t)) (setting_inside mode k
     (omega arith))
-
--- in open blocks too
-pub document_in : (mode : Mode) (open_blocks : List Stage) (depth : ℕ) (t : List ℕ) → depth ≡ length open_blocks → depth < 256
-    → document_told mode open_blocks t
-    ≡ then_told (parse_map told (read (setting_at (level_at mode depth)) (budget_of (level_at mode depth)) t)) (behind_told mode open_blocks)
-document_in mode open_blocks depth t same few = rw same (ap (λ o. then_told o (behind_told mode open_blocks)) (document_is mode (length open_blocks) t
-    (omega (arith, same, few))))
 
 -- in the 256th block no entry begins
 no_entry : (kind : Kind) (mode : Mode) (t : List ℕ) → coming_of kind (level_at mode 255) t ≡ None
