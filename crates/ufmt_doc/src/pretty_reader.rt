@@ -10,9 +10,9 @@ use std::alloc::Global;
 use ufmt::layout::Mode;
 use ufmt_scan::error::ReadError;
 
-/// The document with this pretty text, in normal form. Empty braces are an empty map, and a name
-/// alone is a leaf. `NotText` is answered of what is no token document's pretty text, and else
-/// `OutOfMemory` alone.
+/// Returns the document with this pretty text, in normal form: empty braces are an empty map, and a name
+/// without a block is a leaf. Fails with `NotText` if no token document has this text, and otherwise only
+/// with `OutOfMemory`.
 pub fn read_pretty(alloc: Global, input: &[u8]) -> Result<Doc, ReadError>
     ensures ok { IfOk result (λ doc. IsNormalForm pretty_text input.now (doc_document doc)) }
     ensures not_text { IsErrOf result ReadError.NotText → IsNoText pretty_text input.now }

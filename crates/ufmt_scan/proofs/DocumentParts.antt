@@ -1,4 +1,4 @@
--- Where documents, pairs and fields begin that are told.
+-- The events of documents, pairs and fields, by how these begin.
 use Rattle.std.proofs.Common.{◌≡◌, refl, ap, ◌∙◌, sym, ℕ, zero, suc, ◌<◌, ◌≤◌, ◌==◌, ◌||◌, Bool, cond, ◌⊎◌, inl, inr, true, false, List, [], ◌∷◌, ◌++◌, length, length-append, eqb-true, map, Option, Some, None, option_and_then, codes, subst, Bor, Result, Ok, Err, arith}
 use Rattle.std.proofs.Common.{◌≢◌}
 use Rattle.ufmt.specs.Document.{Document, list_of, set_of, map_of, struct_of, tuple_of, no_documents, no_pairs, Documents, document, documents, pairs_of, fields_of}
@@ -19,114 +19,114 @@ use Rattle.ufmt_scan.specs.declared.level.Level.{Level}
 use Rattle.ufmt_scan.specs.declared.scan.event.Event.TheVariants.{Colon, Empty, FieldName, Leaf, Open}
 use Rattle.ufmt_scan.specs.declared.scan.open_blocks.Stage.{Stage}
 use Rattle.ufmt_scan.specs.declared.scan.open_blocks.Stage.TheVariants as stages
-use Rattle.ufmt_scan.specs.Scan.{TextEvent, told, told_entries, told_fields, told_pairs, told_tail}
+use Rattle.ufmt_scan.specs.Scan.{TextEvent, events_of, events_of_entries, events_of_fields, events_of_pairs, tail_events}
 use Rattle.ufmt_scan.specs.Private.Level.{entry_at, entry_of, setting_at}
-use Rattle.ufmt_scan.specs.Private.Scanning.{Steps, Stops, Tells, Told, after, block_told, earlier, entries, fields, kind_of, later, open_told, pairs, prefixed, rest_told, stage_told, then_told, turn_of, turn_told, value_told}
+use Rattle.ufmt_scan.specs.Private.Scanning.{Steps, Stops, Emits, Scanned, after, scan_block, earlier, entries, fields, kind_of, later, scan_opened, pairs, prefixed, scan_rest, scan_stage, then_scan, turn_of, scan_turn, scan_value}
 use Rattle.ufmt_scan.proofs.EntrySteps.{entry_of_takes, field_takes, pair_takes}
-use Rattle.ufmt_scan.proofs.Telling.{block_tells, prefixed_twice}
+use Rattle.ufmt_scan.proofs.ScanTurns.{block_scans, prefixed_twice}
 
--- what is told of entries, pairs and fields in a row
-told_entries-documents : (ds : List Document) → told_entries (documents ds) ≡ map told ds
-told_entries-documents [] = refl
-told_entries-documents (d ∷ ds) = ap (λ es. told d ∷ es) (told_entries-documents ds)
+-- the events of entries, pairs and fields in a row
+events_of_entries-documents : (ds : List Document) → events_of_entries (documents ds) ≡ map events_of ds
+events_of_entries-documents [] = refl
+events_of_entries-documents (d ∷ ds) = ap (λ es. events_of d ∷ es) (events_of_entries-documents ds)
 
-told_pairs-pairs_of : (level : Level) (ps : List (Document × Document)) → told_pairs (pairs_of ps) ≡ map (pairs level).tell ps
-told_pairs-pairs_of level [] = refl
-told_pairs-pairs_of level (p ∷ ps) = ap (λ es. (pairs level).tell p ∷ es) (told_pairs-pairs_of level ps)
+events_of_pairs-pairs_of : (level : Level) (ps : List (Document × Document)) → events_of_pairs (pairs_of ps) ≡ map (pairs level).events ps
+events_of_pairs-pairs_of level [] = refl
+events_of_pairs-pairs_of level (p ∷ ps) = ap (λ es. (pairs level).events p ∷ es) (events_of_pairs-pairs_of level ps)
 
-told_fields-fields_of : (level : Level) (fs : List (List ℕ × Document)) → told_fields (fields_of fs) ≡ map (fields level).tell fs
-told_fields-fields_of level [] = refl
-told_fields-fields_of level (f ∷ fs) = ap (λ es. (fields level).tell f ∷ es) (told_fields-fields_of level fs)
+events_of_fields-fields_of : (level : Level) (fs : List (List ℕ × Document)) → events_of_fields (fields_of fs) ≡ map (fields level).events fs
+events_of_fields-fields_of level [] = refl
+events_of_fields-fields_of level (f ∷ fs) = ap (λ es. (fields level).events f ∷ es) (events_of_fields-fields_of level fs)
 
 module _ (level : Level) where
   -- a list, a set or a tuple from its first entry on
-  entries_tell : (kind : Kind) (name : List ℕ) (make : Documents → Document)
-      → ((d : Document) (ds : Documents) → told (make (document d ds)) ≡ Open kind name ∷ (told d ++ told_tail kind One (told_entries ds)))
+  entries_scan : (kind : Kind) (name : List ℕ) (make : Documents → Document)
+      → ((d : Document) (ds : Documents) → events_of (make (document d ds)) ≡ Open kind name ∷ (events_of d ++ tail_events kind One (events_of_entries ds)))
       → (o : Option (Document × List ℕ))
-      → parse_map told (option_and_then (λ x. read_after_first (entry_of level) (frame level.mode kind) (setting_at level) (λ ds. make
+      → parse_map events_of (option_and_then (λ x. read_after_first (entry_of level) (frame level.mode kind) (setting_at level) (λ ds. make
       (documents ds)) x.0 x.1) o)
-      ≡ prefixed (Open kind name ∷ []) (then_told (parse_map told o) (rest_told (entries level) level kind One))
-  entries_tell kind name make shape = block_tells (entries level) level kind (λ ds. make (documents ds)) (Open kind name)
-      (λ d ds. shape d (documents ds) ∙ ap (λ ess. Open kind name ∷ (told d ++ told_tail kind One ess)) (told_entries-documents ds))
+      ≡ prefixed (Open kind name ∷ []) (then_scan (parse_map events_of o) (scan_rest (entries level) level kind One))
+  entries_scan kind name make shape = block_scans (entries level) level kind (λ ds. make (documents ds)) (Open kind name)
+      (λ d ds. shape d (documents ds) ∙ ap (λ ess. Open kind name ∷ (events_of d ++ tail_events kind One ess)) (events_of_entries-documents ds))
 
-  -- a named tuple or struct behind what stands before its first field
-  pub tuple_tells : (w t r : List ℕ) → IsWord w → strip (lead (frame level.mode Tuple) (inside (setting_at level)) Zero) t ≡ Some r
-      → parse_map told (read_named (setting_at level) (entry_of level) w t) ≡ open_told level Tuple w r
-  tuple_tells [] t r word opening = absurd word
-  tuple_tells (c ∷ w) t r word opening = rw opening (entries_tell Tuple (c ∷ w) (tuple_of (c ∷ w)) (λ d ds. refl) (entry_of level r))
+  -- a named tuple or struct from its first field on
+  pub tuple_scans : (w t r : List ℕ) → IsWord w → strip (lead (frame level.mode Tuple) (inside (setting_at level)) Zero) t ≡ Some r
+      → parse_map events_of (read_named (setting_at level) (entry_of level) w t) ≡ scan_opened level Tuple w r
+  tuple_scans [] t r word opening = absurd word
+  tuple_scans (c ∷ w) t r word opening = rw opening (entries_scan Tuple (c ∷ w) (tuple_of (c ∷ w)) (λ d ds. refl) (entry_of level r))
 
-  pub struct_tells : (w t r : List ℕ) → IsWord w → strip (lead (frame level.mode Tuple) (inside (setting_at level)) Zero) t ≡ None
+  pub struct_scans : (w t r : List ℕ) → IsWord w → strip (lead (frame level.mode Tuple) (inside (setting_at level)) Zero) t ≡ None
       → strip (lead (frame level.mode Struct) (inside (setting_at level)) Zero) t ≡ Some r
-      → parse_map told (read_named (setting_at level) (entry_of level) w t) ≡ open_told level Struct w r
-  struct_tells [] t r word tuple opening = absurd word
-  struct_tells (c ∷ w) t r word tuple opening = rw (tuple, opening) (block_tells (fields level) level Struct (λ fs. struct_of (c ∷ w) (fields_of fs))
+      → parse_map events_of (read_named (setting_at level) (entry_of level) w t) ≡ scan_opened level Struct w r
+  struct_scans [] t r word tuple opening = absurd word
+  struct_scans (c ∷ w) t r word tuple opening = rw (tuple, opening) (block_scans (fields level) level Struct (λ fs. struct_of (c ∷ w) (fields_of fs))
       (Open Struct (c ∷ w))
-      (λ f fs. ap (λ ess. Open Struct (c ∷ w) ∷ ((fields level).tell f ++ told_tail Struct One ess)) (told_fields-fields_of level fs)) ((fields level).read r))
+      (λ f fs. ap (λ ess. Open Struct (c ∷ w) ∷ ((fields level).events f ++ tail_events Struct One ess)) (events_of_fields-fields_of level fs)) ((fields level).read r))
 
   -- a name without a block
-  pub name_tells : (w t : List ℕ) → IsWord w → strip (lead (frame level.mode Tuple) (inside (setting_at level)) Zero) t ≡ None
+  pub name_scans : (w t : List ℕ) → IsWord w → strip (lead (frame level.mode Tuple) (inside (setting_at level)) Zero) t ≡ None
       → strip (lead (frame level.mode Struct) (inside (setting_at level)) Zero) t ≡ None
-      → parse_map told (read_named (setting_at level) (entry_of level) w t) ≡ Some (Leaf w ∷ [], t)
-  name_tells [] t word tuple struct = absurd word
-  name_tells (c ∷ w) t word tuple struct = rw (tuple, struct) refl
+      → parse_map events_of (read_named (setting_at level) (entry_of level) w t) ≡ Some (Leaf w ∷ [], t)
+  name_scans [] t word tuple struct = absurd word
+  name_scans (c ∷ w) t word tuple struct = rw (tuple, struct) refl
 
   -- a tuple without a name
-  pub unnamed_tells : (t r : List ℕ) → strip (codes "[") t ≡ None → strip (codes "{") t ≡ None → read_symbol t ≡ None
+  pub unnamed_scans : (t r : List ℕ) → strip (codes "[") t ≡ None → strip (codes "{") t ≡ None → read_symbol t ≡ None
       → strip (lead (frame level.mode Unnamed) (inside (setting_at level)) Zero) t ≡ Some r
-      → parse_map told (read_without_name (setting_at level) (entry_of level) t) ≡ open_told level Unnamed [] r
-  unnamed_tells t r bracket brace symbol opening = rw (bracket, brace, symbol, opening) (entries_tell Unnamed [] (tuple_of []) (λ d ds. refl)
+      → parse_map events_of (read_without_name (setting_at level) (entry_of level) t) ≡ scan_opened level Unnamed [] r
+  unnamed_scans t r bracket brace symbol opening = rw (bracket, brace, symbol, opening) (entries_scan Unnamed [] (tuple_of []) (λ d ds. refl)
       (entry_of level r))
 
-  -- a list, or a set or a map, behind its opening
-  block_opens : (kind : Kind) (empty : Document) (q : Parse Document) → told empty ≡ Empty kind ∷ []
-      → ((u : List ℕ) → parse_map told (q u) ≡ open_told level kind [] u) → (ends opens : Option (List ℕ))
-      → parse_map told (choose ends (λ u. Some (empty, u)) (option_and_then q opens))
-      ≡ choose ends (λ u. Some (Empty kind ∷ [], u)) (option_and_then (open_told level kind []) opens)
+  -- a list, or a set or a map, after its opening
+  block_opens : (kind : Kind) (empty : Document) (q : Parse Document) → events_of empty ≡ Empty kind ∷ []
+      → ((u : List ℕ) → parse_map events_of (q u) ≡ scan_opened level kind [] u) → (ends opens : Option (List ℕ))
+      → parse_map events_of (choose ends (λ u. Some (empty, u)) (option_and_then q opens))
+      ≡ choose ends (λ u. Some (Empty kind ∷ [], u)) (option_and_then (scan_opened level kind []) opens)
   block_opens kind empty q none some None None = refl
   block_opens kind empty q none some None (Some u) = some u
   block_opens kind empty q none some (Some u) opens = ap (λ es. Some (es, u)) none
 
-  pub list_tells : (t : List ℕ) → parse_map told (read_list (setting_at level) (entry_of level) t) ≡ block_told level Brackets t
-  list_tells t = block_opens Brackets (list_of no_documents) _ refl (λ u. entries_tell Brackets [] list_of (λ d ds. refl) (entry_of level u)) _ _
+  pub list_scans : (t : List ℕ) → parse_map events_of (read_list (setting_at level) (entry_of level) t) ≡ scan_block level Brackets t
+  list_scans t = block_opens Brackets (list_of no_documents) _ refl (λ u. entries_scan Brackets [] list_of (λ d ds. refl) (entry_of level u)) _ _
 
-  -- the value of a pair, behind its key and a colon
-  value_tells : (key : Document) (o : Option (Document × List ℕ)) (more : Parse (List TextEvent))
-      → then_told (parse_map (pairs level).tell (parse_map (λ value. (key, value)) o)) more
-      ≡ prefixed (told key) (prefixed (Colon ∷ []) (then_told (parse_map told o) more))
-  value_tells key None more = refl
-  value_tells key (Some x) more =
-      sym (ap (prefixed (told key)) (prefixed_twice (Colon ∷ []) (told x.0) (more x.1))
-      ∙ prefixed_twice (told key) (Colon ∷ told x.0) (more x.1))
+  -- the value of a pair, after its key and a colon
+  value_scans : (key : Document) (o : Option (Document × List ℕ)) (more : Parse (List TextEvent))
+      → then_scan (parse_map (pairs level).events (parse_map (λ value. (key, value)) o)) more
+      ≡ prefixed (events_of key) (prefixed (Colon ∷ []) (then_scan (parse_map events_of o) more))
+  value_scans key None more = refl
+  value_scans key (Some x) more =
+      sym (ap (prefixed (events_of key)) (prefixed_twice (Colon ∷ []) (events_of x.0) (more x.1))
+      ∙ prefixed_twice (events_of key) (Colon ∷ events_of x.0) (more x.1))
 
   -- a set or a map from its first entry on
-  first_tells : (o : Option (Document × List ℕ)) → parse_map told (option_and_then (λ x. read_map_or_set (setting_at level) (entry_of level) x.0 x.1) o)
-      ≡ prefixed (Open Braces [] ∷ []) (then_told (parse_map told o) (stage_told level stages.BracesFirst))
-  first_tells None = refl
-  first_tells (Some x) = by_colon (strip (codes ": ") x.1) refl
+  first_scans : (o : Option (Document × List ℕ)) → parse_map events_of (option_and_then (λ x. read_map_or_set (setting_at level) (entry_of level) x.0 x.1) o)
+      ≡ prefixed (Open Braces [] ∷ []) (then_scan (parse_map events_of o) (scan_stage level stages.BracesFirst))
+  first_scans None = refl
+  first_scans (Some x) = by_colon (strip (codes ": ") x.1) refl
     where
-      by_colon : (o : Option (List ℕ)) → strip (codes ": ") x.1 ≡ o → parse_map told (read_map_or_set (setting_at level) (entry_of level) x.0 x.1)
-          ≡ prefixed (Open Braces [] ∷ []) (prefixed (told x.0) (choose o (value_told level Zero) (rest_told (entries level) level Braces One x.1)))
-      by_colon None colon = rw colon (entries_tell Braces [] set_of (λ d ds. refl) (Some x))
-      by_colon (Some u) colon = rw colon (block_tells (pairs level) level Braces (λ ps. map_of (pairs_of ps)) (Open Braces [])
-          (λ q ps. ap (λ ess. Open Braces [] ∷ ((pairs level).tell q ++ told_tail Braces One ess)) (told_pairs-pairs_of level ps)) (parse_map (λ value.
+      by_colon : (o : Option (List ℕ)) → strip (codes ": ") x.1 ≡ o → parse_map events_of (read_map_or_set (setting_at level) (entry_of level) x.0 x.1)
+          ≡ prefixed (Open Braces [] ∷ []) (prefixed (events_of x.0) (choose o (scan_value level Zero) (scan_rest (entries level) level Braces One x.1)))
+      by_colon None colon = rw colon (entries_scan Braces [] set_of (λ d ds. refl) (Some x))
+      by_colon (Some u) colon = rw colon (block_scans (pairs level) level Braces (λ ps. map_of (pairs_of ps)) (Open Braces [])
+          (λ q ps. ap (λ ess. Open Braces [] ∷ ((pairs level).events q ++ tail_events Braces One ess)) (events_of_pairs-pairs_of level ps)) (parse_map (λ value.
           (x.0, value)) (entry_of level u))
-          ∙ ap (prefixed (Open Braces [] ∷ [])) (value_tells x.0 (entry_of level u) (rest_told (pairs level) level Braces One)))
+          ∙ ap (prefixed (Open Braces [] ∷ [])) (value_scans x.0 (entry_of level u) (scan_rest (pairs level) level Braces One)))
 
-  pub braces_tells : (t : List ℕ) → parse_map told (read_braces (setting_at level) (entry_of level) t) ≡ block_told level Braces t
-  braces_tells t = block_opens Braces (map_of no_pairs) _ refl (λ u. first_tells (entry_of level u)) _ _
+  pub braces_scans : (t : List ℕ) → parse_map events_of (read_braces (setting_at level) (entry_of level) t) ≡ scan_block level Braces t
+  braces_scans t = block_opens Braces (map_of no_pairs) _ refl (λ u. first_scans (entry_of level u)) _ _
 
   -- a later pair is a key, and then a value
-  pair_tells : (t : List ℕ) → after level (Some stages.KeyLater) t ≡ then_told (turn_told (pairs level) t) (rest_told (pairs level) level Braces Several)
-  pair_tells t = by_key (entry_of level t)
+  pair_scans : (t : List ℕ) → after level (Some stages.KeyLater) t ≡ then_scan (scan_turn (pairs level) t) (scan_rest (pairs level) level Braces Several)
+  pair_scans t = by_key (entry_of level t)
     where
-      by_colon : (key : Document) (o : Option (List ℕ)) → prefixed (told key) (option_and_then (value_told level Several) o)
-          ≡ then_told (parse_map (pairs level).tell (option_and_then (λ u. parse_map (λ value. (key, value)) (entry_of level u)) o)) (rest_told
+      by_colon : (key : Document) (o : Option (List ℕ)) → prefixed (events_of key) (option_and_then (scan_value level Several) o)
+          ≡ then_scan (parse_map (pairs level).events (option_and_then (λ u. parse_map (λ value. (key, value)) (entry_of level u)) o)) (scan_rest
           (pairs level) level Braces Several)
       by_colon key None = refl
-      by_colon key (Some u) = sym (value_tells key (entry_of level u) (rest_told (pairs level) level Braces Several))
+      by_colon key (Some u) = sym (value_scans key (entry_of level u) (scan_rest (pairs level) level Braces Several))
 
-      by_key : (o : Option (Document × List ℕ)) → then_told (parse_map told o) (stage_told level stages.KeyLater)
-          ≡ then_told (parse_map (pairs level).tell (option_and_then (λ x. read_value (entry_of level) x.0 x.1) o)) (rest_told
+      by_key : (o : Option (Document × List ℕ)) → then_scan (parse_map events_of o) (scan_stage level stages.KeyLater)
+          ≡ then_scan (parse_map (pairs level).events (option_and_then (λ x. read_value (entry_of level) x.0 x.1) o)) (scan_rest
           (pairs level) level Braces Several)
       by_key None = refl
       by_key (Some x) = by_colon x.0 (strip (codes ": ") x.1)
@@ -142,14 +142,14 @@ turn_takes level _ = entry_of_takes level
 
 -- after an entry a block continues at the stage of the next one
 pub later_continues : (level : Level) (stage : Stage) (t : List ℕ)
-    → after level (Some (later stage)) t ≡ then_told (turn_told (turn_of level stage) t) (rest_told (turn_of level stage) level (kind_of stage) Several)
+    → after level (Some (later stage)) t ≡ then_scan (scan_turn (turn_of level stage) t) (scan_rest (turn_of level stage) level (kind_of stage) Several)
 later_continues level stages.ListFirst t = refl
 later_continues level stages.ListLater t = refl
 later_continues level stages.BracesFirst t = refl
 later_continues level stages.SetLater t = refl
-later_continues level stages.KeyLater t = pair_tells level t
-later_continues level stages.ValueFirst t = pair_tells level t
-later_continues level stages.ValueLater t = pair_tells level t
+later_continues level stages.KeyLater t = pair_scans level t
+later_continues level stages.ValueFirst t = pair_scans level t
+later_continues level stages.ValueLater t = pair_scans level t
 later_continues level stages.FieldFirst t = refl
 later_continues level stages.FieldLater t = refl
 later_continues level stages.TupleFirst t = refl
@@ -159,7 +159,7 @@ later_continues level stages.UnnamedLater t = refl
 
 -- where no colon may follow, the entry ends
 pub entry_ends : (level : Level) (stage : Stage) (t : List ℕ) → stage ≢ stages.BracesFirst → stage ≢ stages.KeyLater
-    → stage_told level stage t ≡ rest_told (turn_of level stage) level (kind_of stage) (next (earlier stage)) t
+    → scan_stage level stage t ≡ scan_rest (turn_of level stage) level (kind_of stage) (next (earlier stage)) t
 entry_ends level stages.ListFirst t first key = refl
 entry_ends level stages.ListLater t first key = refl
 entry_ends level stages.BracesFirst t first key = absurd (first refl)
@@ -184,14 +184,14 @@ unfolding read_quoted
 opens_no_quote text t r opening = rw (strip_found (40 ∷ text) t r opening) refl
 
 -- a leaf that is no word
-pub symbol_tells : (level : Level) (t text r : List ℕ) → strip (codes "[") t ≡ None → strip (codes "{") t ≡ None → read_symbol t ≡ Some (text, r)
-    → (parse_map told (read_without_name (setting_at level) (entry_of level) t) ≡ Some (Leaf text ∷ [], r)) × (length r < length t)
-symbol_tells level t text r bracket brace symbol =
+pub symbol_scans : (level : Level) (t text r : List ℕ) → strip (codes "[") t ≡ None → strip (codes "{") t ≡ None → read_symbol t ≡ Some (text, r)
+    → (parse_map events_of (read_without_name (setting_at level) (entry_of level) t) ≡ Some (Leaf text ∷ [], r)) × (length r < length t)
+symbol_scans level t text r bracket brace symbol =
     let sound = read_symbol_sound t text r symbol in
     let begins = leaf_begins text (symbol_leaf text sound.0) in
     (rw (bracket, brace, symbol) refl, omega (arith, ap length sound.1, length-append text r, ap length begins.is))
 
--- a document is read by the word in front, where one stands there
+-- a document is read by the word at its front, where there is one
 read_is : (s : Setting) (n : ℕ) (t : List ℕ) → read s n t ≡ read_by_word s (entry_at s n) t (word_of t) (after_word t)
 unfolding read
 read_is s zero t = refl
@@ -207,12 +207,12 @@ reads_named s n t [] u word rest some = absurd (cc)
 reads_named s n t (c ∷ w) u word rest some = read_is s n t ∙ rw (← word, ← rest) refl
 
 -- a step of a text is one of a text that has the same events, and leaves fewer bytes than a larger number
-pub steps_as : {S E : Type 0} (took stopped : S → List TextEvent → S → Type 0) (old new : S) (behind : Option Stage → Parse (List TextEvent)) {m : ℕ} (n : ℕ)
-    (answer : Result (Option Stage × Bor (List ℕ)) (ScanError E)) {there : Told} (other : Told)
-    → m ≤ n → there ≡ other → Steps took stopped answer old new m other behind → Steps took stopped answer old new n there behind
-steps_as took stopped old new behind n (Ok x) other longer same h =
-    (subst (λ o. Tells took took old new o (behind x.0 x.1.now)) (sym same) h.0, let less = h.1 in omega (arith, less))
-steps_as took stopped old new behind n (Err why) other longer same h = (subst (λ o. Stops took stopped old new o why) (sym same) h.0, tt)
+pub steps_as : {S E : Type 0} (took stopped : S → List TextEvent → S → Type 0) (old new : S) (onward : Option Stage → Parse (List TextEvent)) {m : ℕ} (n : ℕ)
+    (answer : Result (Option Stage × Bor (List ℕ)) (ScanError E)) {there : Scanned} (other : Scanned)
+    → m ≤ n → there ≡ other → Steps took stopped answer old new m other onward → Steps took stopped answer old new n there onward
+steps_as took stopped old new onward n (Ok x) other longer same h =
+    (subst (λ o. Emits took took old new o (onward x.0 x.1.now)) (sym same) h.0, let less = h.1 in omega (arith, less))
+steps_as took stopped old new onward n (Err why) other longer same h = (subst (λ o. Stops took stopped old new o why) (sym same) h.0, tt)
 
 -- one or more word bytes are a word
 bytes_are_word : (w : List ℕ) → AreWordBytes w → (length w == 0) ≡ false → IsWord w
@@ -236,22 +236,22 @@ word_is_read t (c ∷ w) u word rest some = rw (← word, ← rest) refl
 pub word_within : (t w u : List ℕ) → w ≡ word_of t → u ≡ after_word t → (length w == 0) ≡ false → suc (length u) ≤ length t
 word_within t w u word rest some = let shorter = read_word_takes.takes t w u (word_is_read t w u word rest some) in omega (arith, shorter)
 
--- a field's name and the colon behind it come first of a field
-pub label_tells : (level : Level) (t w u v : List ℕ) → w ≡ word_of t → u ≡ after_word t → (length w == 0) ≡ false → strip (codes ": ") u ≡ Some v
-    → (turn_told (fields level) t ≡ prefixed (FieldName w ∷ []) (turn_told (entries level) v)) × (length v < length t)
-label_tells level t w u v word rest some colon = (
+-- a field's name and the colon after it come first of a field
+pub label_scans : (level : Level) (t w u v : List ℕ) → w ≡ word_of t → u ≡ after_word t → (length w == 0) ≡ false → strip (codes ": ") u ≡ Some v
+    → (scan_turn (fields level) t ≡ prefixed (FieldName w ∷ []) (scan_turn (entries level) v)) × (length v < length t)
+label_scans level t w u v word rest some colon = (
   rw (word_is_read t w u word rest some, colon) (labelled (entry_of level v)),
   let shorter = word_within t w u word rest some in
       let within = strip_within (codes ": ") u v colon in
       omega (arith, shorter, within),
 )
   where
-    labelled : (o : Option (Document × List ℕ)) → parse_map (fields level).tell (parse_map (λ value. (w, value)) o) ≡ prefixed (FieldName w ∷ [])
-        (parse_map told o)
+    labelled : (o : Option (Document × List ℕ)) → parse_map (fields level).events (parse_map (λ value. (w, value)) o) ≡ prefixed (FieldName w ∷ [])
+        (parse_map events_of o)
     labelled None = refl
     labelled (Some x) = refl
 
--- nothing is read where a test holds, or nothing stands there
+-- nothing is read where a test holds, or nothing is there
 tested : (last opens : Bool) (o : Option (List ℕ × List ℕ)) → (opens ≡ true) ⊎ (o ≡ None) → None ≡ cond (last || opens) None o
 tested true opens o none = refl
 tested false true o none = refl

@@ -1,4 +1,4 @@
--- An open block behind one of its entries: the next entry, or its end.
+-- An open block after one of its entries: the next entry, or its end.
 use Rattle.std.proofs.Common.{◌≡◌, ◌∙◌, ap, ℕ, zero, suc, ◌<◌, ◌≤◌, List, ◌∷◌, ◌++◌, length, length-append, Some, option_and_then, arith}
 use Rattle.ufmt.specs.Layout.{ending, frame, inside, lead, line_start, next}
 use Rattle.ufmt_core.specs.declared.layout.Count.{Count}
@@ -12,17 +12,17 @@ use Rattle.ufmt_scan.specs.declared.level.Level.{Level}
 use Rattle.ufmt_scan.proofs.Strips.{if_any-next}
 use Rattle.ufmt_scan.specs.Private.Level.{budget_of, entry_at, entry_of, setting_at}
 
--- behind a text that has a byte it is shorter
+-- after a text that has a byte it is shorter
 pub strip_shortens : (c : ℕ) (text t u : List ℕ) → strip (c ∷ text) t ≡ Some u → length u < length t
 strip_shortens c text t u h = rw (strip_found (c ∷ text) t u h, length-append (c ∷ text) u) (omega arith)
 
--- behind what stands before the first entry of a block it is no longer
-pub behind_lead : (level : Level) (kind : Kind) (t u : List ℕ) → strip (lead (frame level.mode kind) (inside (setting_at level)) Zero) t ≡ Some u
+-- after what begins a block with entries it is no longer
+pub after_lead : (level : Level) (kind : Kind) (t u : List ℕ) → strip (lead (frame level.mode kind) (inside (setting_at level)) Zero) t ≡ Some u
     → length u < suc (length t)
-behind_lead level kind t u h =
+after_lead level kind t u h =
     let within : length u ≤ length t = strip_within (lead (frame level.mode kind) (inside (setting_at level)) Zero) t u h in omega (arith, within)
 
--- an entry has more than none before what ends its block, so that stands on a line of its own
+-- after an entry, what ends the block is on a line of its own
 pub ending_stripped : (level : Level) (kind : Kind) (before : Count) (t : List ℕ) → strip (ending (frame level.mode kind) (setting_at level) (next before)) t
     ≡ option_and_then (strip ((frame level.mode kind).closing (next before))) (strip (line_start (setting_at level).mode (setting_at level).depth) t)
 ending_stripped level kind before t =

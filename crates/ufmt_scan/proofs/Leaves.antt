@@ -23,7 +23,7 @@ module _ {Is : List ℕ → Type 0} (read : Parse (List ℕ)) (sound : (t x u : 
   reads_nothing : (t : List ℕ) → read t ≡ None → IsTrue false ↔ Is t
   reads_nothing t none = (λ h. absurd (cc), λ h. let whole = complete t h in absurd (cc))
 
--- a leaf with nothing behind it
+-- a leaf with nothing after it
 whole_word : (t : List ℕ) → IsWord t → read_word t ≡ Some (t, [])
 whole_word t h = ap read_word (sym (append-nil t)) ∙ read_word_complete t [] h tt
 

@@ -1,4 +1,4 @@
--- Texts of ASCII in quotation marks, in which every byte stands for itself.
+-- Texts of ASCII in quotation marks, without escapes.
 use Rattle.std.proofs.Common.{◌≡◌, ◌∙◌, inl, refl, ap, sym, subst, ℕ, zero, suc, ◌-◌, ◌<◌, ◌≤◌, ◌&&◌, nat_lt, Bool, true, false, List, [], ◌∷◌, ◌++◌, append_assoc, length-append, drop, get_or, length, take, None, Option, Some, Fits, w8, arith}
 use Rattle.std.specs.Prelude.{is_none, unwrap_or}
 use Rattle.std.specs.Str.{IsAscii}
@@ -12,9 +12,9 @@ use Rattle.ufmt.specs.Quoted.{escape}
 use Rattle.ufmt.specs.Reading.{strip}
 use Rattle.ufmt.proofs.Parsing.{strip_found}
 use Rattle.ufmt_scan.specs.Private.MarkedBytes.{is_marked, marked_len}
-use Rattle.ufmt_scan.specs.Private.Spelled.{behind_quote}
+use Rattle.ufmt_scan.specs.Private.Spelled.{after_quote}
 use Rattle.ufmt_scan.specs.declared.quoted.TheConstants.{PLAIN_ASCII}
-use Rattle.ufmt_scan.proofs.Spelled.{behind_byte, behind_quote-here}
+use Rattle.ufmt_scan.proofs.Spelled.{after_byte, after_quote-here}
 
 -- the table marks just the bytes of ASCII that have no escape
 marks : (c : ℕ) → Fits w8 c → is_marked PLAIN_ASCII c ≡ (is_none (escape 34 c) && nat_lt c 128)
@@ -30,20 +30,20 @@ plain c fits marked = both (escape 34 c) (nat_lt c 128) (sym (marks c fits) ∙ 
 
 -- what follows the closing quote follows it after them too
 pub plain_stretch : (t : List ℕ) → ((i : ℕ) → Fits w8 (get_or t i 0))
-    → (behind_quote 34 t ≡ behind_quote 34 (drop (marked_len PLAIN_ASCII t) t)) × (marked_len PLAIN_ASCII t ≤ length t)
+    → (after_quote 34 t ≡ after_quote 34 (drop (marked_len PLAIN_ASCII t) t)) × (marked_len PLAIN_ASCII t ≤ length t)
     × IsAscii (take (marked_len PLAIN_ASCII t) t)
 plain_stretch [] bytes = (refl, omega arith, IsAscii-nil)
 plain_stretch (c ∷ t) bytes = go (is_marked PLAIN_ASCII c) refl (plain_stretch t (λ i. bytes (suc i)))
   where
     go : (b : Bool) → is_marked PLAIN_ASCII c ≡ b
-        → (behind_quote 34 t ≡ behind_quote 34 (drop (marked_len PLAIN_ASCII t) t)) × (marked_len PLAIN_ASCII t ≤ length t)
+        → (after_quote 34 t ≡ after_quote 34 (drop (marked_len PLAIN_ASCII t) t)) × (marked_len PLAIN_ASCII t ≤ length t)
         × IsAscii (take (marked_len PLAIN_ASCII t) t)
-        → (behind_quote 34 (c ∷ t) ≡ behind_quote 34 (drop (marked_len PLAIN_ASCII (c ∷ t)) (c ∷ t))) × (marked_len PLAIN_ASCII (c ∷ t) ≤ length (c ∷ t))
+        → (after_quote 34 (c ∷ t) ≡ after_quote 34 (drop (marked_len PLAIN_ASCII (c ∷ t)) (c ∷ t))) × (marked_len PLAIN_ASCII (c ∷ t) ≤ length (c ∷ t))
         × IsAscii (take (marked_len PLAIN_ASCII (c ∷ t)) (c ∷ t))
     go true is more =
         let itself = plain c (bytes zero) is in
         rw is (
-          ap (λ e. behind_quote 34 (unwrap_or e (c ∷ []) ++ t)) (sym itself.0) ∙ behind_byte 34 (inl refl) c t ∙ more.0,
+          ap (λ e. after_quote 34 (unwrap_or e (c ∷ []) ++ t)) (sym itself.0) ∙ after_byte 34 (inl refl) c t ∙ more.0,
           omega (arith, more.1),
           IsAscii-cons c (take (marked_len PLAIN_ASCII t) t) itself.1 more.2,
         )
@@ -58,8 +58,8 @@ module _ (t u : List ℕ) (bytes : (i : ℕ) → Fits w8 (get_or t i 0)) (openin
   marked_within = (plain_stretch u inside_bytes).1
 
   module _ (rest : List ℕ) (closing : strip (34 ∷ []) (drop (marked_len PLAIN_ASCII u) u) ≡ Some rest) where
-    pub rest_follows : behind_quote 34 u ≡ Some rest
-    rest_follows = (plain_stretch u inside_bytes).0 ∙ behind_quote-here 34 (drop (marked_len PLAIN_ASCII u) u) rest closing
+    pub rest_follows : after_quote 34 u ≡ Some rest
+    rest_follows = (plain_stretch u inside_bytes).0 ∙ after_quote-here 34 (drop (marked_len PLAIN_ASCII u) u) rest closing
 
     pub leaf_is_ascii : IsAscii (take (length t - length rest) t)
     leaf_is_ascii =

@@ -59,7 +59,7 @@ length-escaped_char c = go (cases_lt c 128)
 pub nothing_passes : (inside bytes : List ℕ) → bytes ≡ inside → None ≡ slice_get bytes 0 → PassesCharacter inside None
 nothing_passes inside bytes is none = record {
   shorter = tt;
-  behind = λ c rest scalar front. absurd (omega
+  after = λ c rest scalar front. absurd (omega
       (arith, ap length (sym is ∙ empty bytes none), ap length front, length-append (escaped 39 c) rest, length-escaped_char c));
 }
   where
@@ -84,7 +84,7 @@ module _ (inside : List ℕ) (some : 0 < length inside) (low : get_or inside 0 0
       ap (λ n. strip (escaped_byte 39 n) inside) names ∙ strip_of_front (escaped_byte 39 c) inside rest whole
 
   pub ascii_passes : (answer : Option (Bor (List ℕ))) → now_of answer ≡ strip (escaped_byte 39 (told inside)) inside → PassesCharacter inside answer
-  ascii_passes answer h = record { shorter = less answer h; behind = λ c rest scalar is. h ∙ stripped c rest is }
+  ascii_passes answer h = record { shorter = less answer h; after = λ c rest scalar is. h ∙ stripped c rest is }
     where
       less : (answer : Option (Bor (List ℕ))) → now_of answer ≡ strip (escaped_byte 39 (told inside)) inside
           → IfSome answer (λ rest. length rest.now < length inside)
@@ -96,22 +96,22 @@ pub past_ascii_passes : (inside : List ℕ) (d : ℕ) (r : Bor (List ℕ)) → 1
     → PassesCharacter inside (Some r)
 past_ascii_passes inside d r high is = record {
   shorter = omega (arith, ap length is, length-append (encode_utf8 d) r.now, length-encode d, (len_utf8_bounds d).0);
-  behind = λ c rest scalar other.
+  after = λ c rest scalar other.
       let whole = other ∙ ap (λ e. e ++ rest) (escaped-past_ascii c (is_past_ascii inside c rest other high)) in
       ap (λ t. Some t) (encode_same d c r.now rest (sym is ∙ whole)).1;
 }
 
--- whether what is left behind one is the closing apostrophe is whether there is one
+-- whether what is left after one is the closing apostrophe is whether there is one
 module _ (leaf inside : List ℕ) (d : ℕ) (is : leaf ≡ encode_utf8 d ++ inside) where
   between : (cs : List ℕ) → leaf ≡ quoted 39 cs → inside ≡ escaped_all 39 cs ++ (39 ∷ [])
   between cs whole = sym (encode_same 39 d (escaped_all 39 cs ++ (39 ∷ [])) inside
       (ap (λ e. e ++ (escaped_all 39 cs ++ (39 ∷ []))) (encode_ascii 39 (omega arith)) ∙ sym whole ∙ is)).1
 
-  -- what is left behind the first of several characters
+  -- what is left after the first of several characters
   left : (answer : Option (Bor (List ℕ))) → PassesCharacter inside answer → (c : ℕ) (cs : List ℕ) → all_scalars (c ∷ cs) ≡ true
       → leaf ≡ quoted 39 (c ∷ cs) → now_of answer ≡ Some (escaped_all 39 cs ++ (39 ∷ []))
   left answer passes c cs scalars whole =
-      passes.behind c (escaped_all 39 cs ++ (39 ∷ [])) (both _ _ scalars).0 (between (c ∷ cs) whole ∙ append_assoc (escaped 39 c) (escaped_all 39 cs) (39 ∷ []))
+      passes.after c (escaped_all 39 cs ++ (39 ∷ [])) (both _ _ scalars).0 (between (c ∷ cs) whole ∙ append_assoc (escaped 39 c) (escaped_all 39 cs) (39 ∷ []))
     where
       both : (x y : Bool) → x && y ≡ true → (x ≡ true) × (y ≡ true)
       both true y h = (refl, h)

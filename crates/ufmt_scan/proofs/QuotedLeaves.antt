@@ -10,7 +10,7 @@ use Rattle.ufmt.proofs.Parsing.{strip_found}
 use Rattle.ufmt.proofs.QuotedComplete.{quoted-bytes}
 use Rattle.ufmt.proofs.QuotedSound.{read_inside-sound}
 use Rattle.ufmt.proofs.QuotedUtf8.{quoted-utf8}
-use Rattle.ufmt_scan.specs.Private.Spelled.{behind_quote}
+use Rattle.ufmt_scan.specs.Private.Spelled.{after_quote}
 
 -- where a function of an option's value came from
 value_from : {A B : Type 0} (f : A → B) (o : Option A) (y : B) → option_map f o ≡ Some y → (x : A) × (o ≡ Some x) × (f x ≡ y)
@@ -24,7 +24,7 @@ module _ (q : ℕ) (quote : IsQuote q) where
     reads : read_inside q (suc (length u)) u ≡ Some (bytes, rest)
     leaf : take (length t - length rest) t ≡ q ∷ (escaped_bytes q bytes ++ (q ∷ []))
 
-  between : (t u rest : List ℕ) → strip (q ∷ []) t ≡ Some u → behind_quote q u ≡ Some rest → Between t u rest
+  between : (t u rest : List ℕ) → strip (q ∷ []) t ≡ Some u → after_quote q u ≡ Some rest → Between t u rest
   between t u rest opening closing =
       let read = value_from {A = List ℕ × List ℕ} (λ x. x.1) (read_inside q (suc (length u)) u) rest closing in
       let bytes = read.0.0 in
@@ -40,7 +40,7 @@ module _ (q : ℕ) (quote : IsQuote q) where
   tested test t u rest opening b = rw (opening, b.reads) refl
 
   -- what is tested is the whole leaf: it is UTF-8 exactly if what is between the quotes is
-  module _ (t u rest : List ℕ) (opening : strip (q ∷ []) t ≡ Some u) (closing : behind_quote q u ≡ Some rest) where
+  module _ (t u rest : List ℕ) (opening : strip (q ∷ []) t ≡ Some u) (closing : after_quote q u ≡ Some rest) where
     pub is_text : (leaf : List ℕ) → leaf ≡ take (length t - length rest) t → IsUtf8 leaf → read_between q is_utf8 t ≡ Some (leaf, rest)
     is_text leaf is utf8 =
         let b = between t u rest opening closing in

@@ -1,4 +1,4 @@
--- A whole text, told part by part: what the scan of a document at its front says of it.
+-- A whole text: what the scan of a document at its front says of it.
 use Rattle.std.proofs.Common.{◌≡◌, refl, ap, subst, sym, ◌∙◌, ℕ, ◌==◌, true, false, List, [], ◌∷◌, ◌++◌, append-nil, eqb-true, length, Option, Some, None, option_and_then, Result, Ok, Err, IsErrAnd, Bor, arith}
 use Rattle.std.specs.Prelude.{⊤}
 use Rattle.ufmt.specs.Document.{Document}
@@ -9,12 +9,12 @@ use Rattle.ufmt.proofs.ReadingWhole.{reads_each_text, reads_only_texts, refuses_
 use Rattle.ufmt_core.specs.declared.layout.Mode.{Mode}
 use Rattle.ufmt_scan.specs.declared.scan.event.ScanError.{ScanError}
 use Rattle.ufmt_scan.specs.declared.scan.event.ScanError.TheVariants.{NotText, Sink}
-use Rattle.ufmt_scan.specs.Private.Scanning.{ScansOn, Stops, Tells, Told, prefixed}
-use Rattle.ufmt_scan.specs.Scan.{TextEvent, Leads, ScanRefused, Scans, told}
+use Rattle.ufmt_scan.specs.Private.Scanning.{ScansOn, Stops, Emits, Scanned, prefixed}
+use Rattle.ufmt_scan.specs.Scan.{TextEvent, Leads, ScanRefused, Scans, events_of}
 use Rattle.ufmt_scan.specs.Texts.{IsNormalForm, IsNoText}
 
--- where nothing is told there is no document
-none_is_whole : (o : Option (Document × List ℕ)) → parse_map told o ≡ None → option_and_then (λ x. if_all x.0 x.1) o ≡ None
+-- where there are no events there is no document
+none_is_whole : (o : Option (Document × List ℕ)) → parse_map events_of o ≡ None → option_and_then (λ x. if_all x.0 x.1) o ≡ None
 none_is_whole None h = refl
 none_is_whole (Some x) h = absurd (cc)
 
@@ -22,48 +22,48 @@ if_all_is : (x d : Document) (t : List ℕ) → if_all x t ≡ Some d → x ≡ 
 if_all_is x d [] is = cc
 if_all_is x d (c ∷ t) is = absurd (cc)
 
--- what was told of it leads all that is told of the document
-leads_whole : (o : Option (Document × List ℕ)) (es : List TextEvent) (left : Told) → parse_map told o ≡ prefixed es left
-    → (d : Document) → option_and_then (λ x. if_all x.0 x.1) o ≡ Some d → Leads es (told d)
+-- the events so far come first of all events of the document
+leads_whole : (o : Option (Document × List ℕ)) (es : List TextEvent) (left : Scanned) → parse_map events_of o ≡ prefixed es left
+    → (d : Document) → option_and_then (λ x. if_all x.0 x.1) o ≡ Some d → Leads es (events_of d)
 leads_whole None es left is d whole = absurd (cc)
 leads_whole (Some x) es None is d whole = absurd (cc)
 leads_whole (Some x) es (Some y) is d whole =
-    (y.0, ap told (sym (if_all_is x.0 d x.1 whole)) ∙ (same_parts {A = List TextEvent} {B = List ℕ} (told x.0, x.1) (es ++ y.0, y.1) is).0)
+    (y.0, ap events_of (sym (if_all_is x.0 d x.1 whole)) ∙ (same_parts {A = List TextEvent} {B = List ℕ} (events_of x.0, x.1) (es ++ y.0, y.1) is).0)
 
 -- a document in normal form is read of its text
 form_is_read : (mode : Mode) (t : List ℕ) (d : Document) → IsNormalForm (layout (setting mode 0)) t d → read_text mode t ≡ Some d
 form_is_read mode t d form = ap (read_text mode) (sym form.2) ∙ reads_each_text mode d form.0 ∙ ap Some form.1
 
--- the document at the front of a text was told, or the scan ended before
+-- the events of the document at the front of a text were emitted, or the scan ended before
 abbrev pub Front : {S E : Type 0} → (S → List TextEvent → S → Type 0) → (S → List TextEvent → S → Type 0) → Mode → List ℕ → S
     → Result (Bor (List ℕ)) (ScanError E) → S → Type 0
-Front took stopped mode t old answer new = ScansOn took stopped answer old new (parse_map told (read (setting mode 0) 255 t)) (λ rest. Some ([], rest.now))
+Front took stopped mode t old answer new = ScansOn took stopped answer old new (parse_map events_of (read (setting mode 0) 255 t)) (λ rest. Some ([], rest.now))
 
 module _ {S : Type 0} (took stopped : S → List TextEvent → S → Type 0) (mode : Mode) (t : List ℕ) {a b : S} (begun : took a [] a) where
   -- a scan that ended early, of the whole text
-  pub whole_refused : {E : Type 0} (why : ScanError E) → Stops took stopped a b (parse_map told (read (setting mode 0) 255 t)) why
+  pub whole_refused : {E : Type 0} (why : ScanError E) → Stops took stopped a b (parse_map events_of (read (setting mode 0) 255 t)) why
       → ScanRefused took stopped a b (layout (setting mode 0)) t why
   whole_refused NotText h =
-      let none = none_is_whole _ (h.tells.is ∙ ap (prefixed h.tells.parts) (h.none refl)) in
-      (h.tells.parts, h.tells.takes a [] begun, refuses_no_text mode t none)
+      let none = none_is_whole _ (h.emits.is ∙ ap (prefixed h.emits.events) (h.none refl)) in
+      (h.emits.events, h.emits.takes a [] begun, refuses_no_text mode t none)
   whole_refused (Sink e) h =
-      (h.tells.parts, h.tells.takes a [] begun, λ d form. leads_whole _ h.tells.parts h.left h.tells.is d (form_is_read mode t d form))
+      (h.emits.events, h.emits.takes a [] begun, λ d form. leads_whole _ h.emits.events h.left h.emits.is d (form_is_read mode t d form))
 
   -- a scan that came to the end, or to more than the end
-  pub whole_told : (rest : List ℕ) → Tells took took a b (parse_map told (read (setting mode 0) 255 t)) (Some ([], rest))
-      → (length rest == 0) ≡ true → (d : Document) × IsNormalForm (layout (setting mode 0)) t d × took a (told d) b
-  whole_told (c ∷ rest) h ended = let none = eqb-true (length (c ∷ rest)) 0 ended in absurd (omega arith)
-  whole_told [] h ended =
-      let read_as = mapped_from told (read (setting mode 0) 255 t) (h.parts ++ []) [] h.is in
+  pub whole_scanned : (rest : List ℕ) → Emits took took a b (parse_map events_of (read (setting mode 0) 255 t)) (Some ([], rest))
+      → (length rest == 0) ≡ true → (d : Document) × IsNormalForm (layout (setting mode 0)) t d × took a (events_of d) b
+  whole_scanned (c ∷ rest) h ended = let none = eqb-true (length (c ∷ rest)) 0 ended in absurd (omega arith)
+  whole_scanned [] h ended =
+      let read_as = mapped_from events_of (read (setting mode 0) 255 t) (h.events ++ []) [] h.is in
       let form = reads_only_texts mode t read_as.0 (ap (option_and_then (λ x. if_all x.0 x.1)) read_as.1) in
-      (read_as.0, form, subst (λ es. took a es b) (sym (read_as.2 ∙ append-nil h.parts)) (h.takes a [] begun))
+      (read_as.0, form, subst (λ es. took a es b) (sym (read_as.2 ∙ append-nil h.events)) (h.takes a [] begun))
 
-  pub whole_goes_on : (rest : List ℕ) → Tells took took a b (parse_map told (read (setting mode 0) 255 t)) (Some ([], rest))
+  pub whole_goes_on : (rest : List ℕ) → Emits took took a b (parse_map events_of (read (setting mode 0) 255 t)) (Some ([], rest))
       → (length rest == 0) ≡ false → (es : List TextEvent) × took a es b × IsNoText (layout (setting mode 0)) t
   whole_goes_on [] h more = absurd (cc)
   whole_goes_on (c ∷ rest) h more =
-      let read_as = mapped_from told (read (setting mode 0) 255 t) (h.parts ++ []) (c ∷ rest) h.is in
-      (h.parts, h.takes a [] begun, refuses_no_text mode t (ap (option_and_then (λ x. if_all x.0 x.1)) read_as.1))
+      let read_as = mapped_from events_of (read (setting mode 0) 255 t) (h.events ++ []) (c ∷ rest) h.is in
+      (h.events, h.takes a [] begun, refuses_no_text mode t (ap (option_and_then (λ x. if_all x.0 x.1)) read_as.1))
 
 -- the scan of the whole hands on why that of its front ended
 pub whole_ended : {S E : Type 0} (took stopped : S → List TextEvent → S → Type 0) (mode : Mode) (t : List ℕ) (a b : S) → took a [] a

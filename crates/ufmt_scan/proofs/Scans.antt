@@ -1,4 +1,4 @@
--- Steps of a scan, one after another: what the sink took, and what is left to tell.
+-- Steps of a scan, one after another: what the sink took, and what is left.
 use Rattle.std.proofs.Common.{◌≡◌, refl, ap, subst, ◌∙◌, ℕ, zero, suc, ◌<◌, ◌+◌, ◌-◌, min, List, [], ◌∷◌, ◌++◌, append_assoc, append-nil, length, sym, Option, Some, None, Result, Ok, Err, IsErrAnd, codes, option_and_then, arith}
 use Rattle.ufmt.specs.Layout.{inside, setting}
 use Rattle.ufmt.specs.Reading.{Parse, parse_map, read, read_value, read_word, strip}
@@ -10,76 +10,76 @@ use Rattle.ufmt_scan.specs.declared.scan.open_blocks.Stage.{Stage}
 use Rattle.ufmt_core.specs.declared.layout.Kind.{Kind}
 use Rattle.ufmt_core.specs.declared.layout.Kind.TheVariants.{Brackets, Braces, Struct, Tuple, Unnamed}
 use Rattle.ufmt_scan.specs.Private.Level.{budget_of, entry_at, entry_of, setting_at}
-use Rattle.ufmt_scan.specs.Private.Scanning.{ScansOn, Stops, Tells, Told, all_told, coming_of, kind_of, document_at, fields, level_at, prefixed, then_told}
-use Rattle.ufmt_scan.specs.Scan.{TextEvent, told}
-use Rattle.ufmt_scan.proofs.Telling.{prefixed_twice, then-prefixed}
+use Rattle.ufmt_scan.specs.Private.Scanning.{ScansOn, Stops, Emits, Scanned, scan_next, coming_of, kind_of, document_at, fields, level_at, prefixed, then_scan}
+use Rattle.ufmt_scan.specs.Scan.{TextEvent, events_of}
+use Rattle.ufmt_scan.proofs.ScanTurns.{prefixed_twice, then-prefixed}
 
-module _ {S : Type 0} {took kept : S → List TextEvent → S → Type 0} {a b : S} {there mid : Told} where
+module _ {S : Type 0} {took kept : S → List TextEvent → S → Type 0} {a b : S} {there mid : Scanned} where
   -- two steps are one
-  pub tells_then : {c : S} {left : Told} → Tells took took a b there mid → Tells took kept b c mid left → Tells took kept a c there left
-  tells_then {c} {left} first more = record {
-    parts = first.parts ++ more.parts;
-    takes = λ start es h. subst (λ fs. kept start fs c) (append_assoc es first.parts more.parts) (more.takes start (es ++ first.parts)
+  pub emits_then : {c : S} {left : Scanned} → Emits took took a b there mid → Emits took kept b c mid left → Emits took kept a c there left
+  emits_then {c} {left} first more = record {
+    events = first.events ++ more.events;
+    takes = λ start es h. subst (λ fs. kept start fs c) (append_assoc es first.events more.events) (more.takes start (es ++ first.events)
         (first.takes start es h));
-    is = first.is ∙ ap (prefixed first.parts) more.is ∙ prefixed_twice first.parts more.parts left;
+    is = first.is ∙ ap (prefixed first.events) more.is ∙ prefixed_twice first.events more.events left;
   }
 
   -- what is left is this
-  pub tells_left : {left : Told} → Tells took kept a b there mid → mid ≡ left → Tells took kept a b there left
-  tells_left told same = record { parts = told.parts; takes = told.takes; is = told.is ∙ ap (prefixed told.parts) same }
+  pub emits_left : {left : Scanned} → Emits took kept a b there mid → mid ≡ left → Emits took kept a b there left
+  emits_left step same = record { events = step.events; takes = step.takes; is = step.is ∙ ap (prefixed step.events) same }
 
--- a scan that ends behind what was told
-pub stops_behind : {S E : Type 0} {took stopped : S → List TextEvent → S → Type 0} {a b c : S} {there mid : Told} {why : ScanError E} → Tells took took a b there mid
+-- a scan that ends after some steps
+pub stops_after : {S E : Type 0} {took stopped : S → List TextEvent → S → Type 0} {a b c : S} {there mid : Scanned} {why : ScanError E} → Emits took took a b there mid
     → Stops took stopped b c mid why → Stops took stopped a c there why
-stops_behind first more = record { left = more.left; tells = tells_then first more.tells; none = more.none }
+stops_after first more = record { left = more.left; emits = emits_then first more.emits; none = more.none }
 
--- the same of the answer of a call that hands on why
-pub refused : {S A E : Type 0} {took stopped : S → List TextEvent → S → Type 0} {a b : S} {there : Told} (left : A
-    → Told) {why : ScanError E} (answer : Result A (ScanError E))
+-- the same of the result of a call that passes the error on
+pub refused : {S A E : Type 0} {took stopped : S → List TextEvent → S → Type 0} {a b : S} {there : Scanned} (left : A
+    → Scanned) {why : ScanError E} (answer : Result A (ScanError E))
     → IsErrAnd answer (λ y. y ≡ why) → Stops took stopped a b there why → ScansOn took stopped answer a b there left
 refused left (Ok x) is h = absurd is
 refused left (Err y) is h = rw is h
 
 -- where nothing is there, a scan ends
-pub nothing_there : {S E : Type 0} {took stopped : S → List TextEvent → S → Type 0} (a : S) {there : Told} → there ≡ None → Stops {E = E} took stopped a a there NotText
+pub nothing_there : {S E : Type 0} {took stopped : S → List TextEvent → S → Type 0} (a : S) {there : Scanned} → there ≡ None → Stops {E = E} took stopped a a there NotText
 nothing_there {took = took} a none = record {
   left = None;
-  tells = record { parts = []; takes = λ start es h. subst (λ fs. took start fs a) (sym (append-nil es)) h; is = none };
+  emits = record { events = []; takes = λ start es h. subst (λ fs. took start fs a) (sym (append-nil es)) h; is = none };
   none = λ e. refl;
 }
 
 -- or where nothing is left
-pub nothing_left : {S E : Type 0} {took stopped : S → List TextEvent → S → Type 0} {a b : S} {there left : Told} → Tells took took a b there left → left ≡ None
+pub nothing_left : {S E : Type 0} {took stopped : S → List TextEvent → S → Type 0} {a b : S} {there left : Scanned} → Emits took took a b there left → left ≡ None
     → Stops {E = E} took stopped a b there NotText
-nothing_left {left = left} h none = record { left = left; tells = h; none = λ e. none }
+nothing_left {left = left} h none = record { left = left; emits = h; none = λ e. none }
 
 -- a step of the beginning is one of all that is there
-pub tells_in : {S : Type 0} {took kept : S → List TextEvent → S → Type 0} {a b : S} {there left whole after : Told} (more : Parse (List TextEvent))
-    → whole ≡ then_told there more → then_told left more ≡ after → Tells took kept a b there left → Tells took kept a b whole after
-tells_in {left = left} more is on h = record {
-  parts = h.parts;
+pub emits_in : {S : Type 0} {took kept : S → List TextEvent → S → Type 0} {a b : S} {there left whole after : Scanned} (more : Parse (List TextEvent))
+    → whole ≡ then_scan there more → then_scan left more ≡ after → Emits took kept a b there left → Emits took kept a b whole after
+emits_in {left = left} more is on h = record {
+  events = h.events;
   takes = h.takes;
-  is = is ∙ ap (λ o. then_told o more) h.is ∙ then-prefixed h.parts left more ∙ ap (prefixed h.parts) on;
+  is = is ∙ ap (λ o. then_scan o more) h.is ∙ then-prefixed h.events left more ∙ ap (prefixed h.events) on;
 }
 
 -- and so is its failure
-pub stops_in : {S E : Type 0} {took stopped : S → List TextEvent → S → Type 0} {a b : S} {there whole : Told} {why : ScanError E} (more : Parse (List TextEvent))
-    → whole ≡ then_told there more → Stops took stopped a b there why → Stops took stopped a b whole why
-stops_in more is h = record { left = then_told h.left more; tells = tells_in more is refl h.tells; none = λ e. ap (λ o. then_told o more) (h.none e) }
+pub stops_in : {S E : Type 0} {took stopped : S → List TextEvent → S → Type 0} {a b : S} {there whole : Scanned} {why : ScanError E} (more : Parse (List TextEvent))
+    → whole ≡ then_scan there more → Stops took stopped a b there why → Stops took stopped a b whole why
+stops_in more is h = record { left = then_scan h.left more; emits = emits_in more is refl h.emits; none = λ e. ap (λ o. then_scan o more) (h.none e) }
 
 -- entries are laid out one block deeper
 setting_inside : (mode : Mode) (k : ℕ) → k < 255 → inside (setting_at (level_at mode k)) ≡ setting_at (level_at mode (suc k))
 setting_inside Plain k few = refl
 setting_inside Pretty k few = let same : min (k + 1) 255 ≡ suc k = grind arith in ap (λ n. setting Pretty n) same
 
--- up to 255 blocks round it, a document is read at its level
+-- with up to 255 blocks around it, a document is read at its level
 pub document_is : (mode : Mode) (k : ℕ) (t : List ℕ) → k < 256
-    → document_at mode k t ≡ parse_map told (read (setting_at (level_at mode k)) (budget_of (level_at mode k)) t)
+    → document_at mode k t ≡ parse_map events_of (read (setting_at (level_at mode k)) (budget_of (level_at mode k)) t)
 document_is Plain zero t few = refl
 document_is Pretty zero t few = refl
 document_is mode (suc k) t few =
     let left : 255 - k ≡ suc (255 - suc k) = omega arith in
-    ap (λ n. parse_map told (entry_at (setting_at (level_at mode k)) n t)) left ∙ ap (λ s. parse_map told (read s (255 - suc k) t)) (setting_inside mode k
+    ap (λ n. parse_map events_of (entry_at (setting_at (level_at mode k)) n t)) left ∙ ap (λ s. parse_map events_of (read s (255 - suc k) t)) (setting_inside mode k
     (omega arith))
 
 -- in the 256th block no entry begins
@@ -89,17 +89,17 @@ no_entry Braces mode t = refl
 no_entry Struct mode t = by_name (read_word t)
   where
     by_colon : (name : List ℕ) (o : Option (List ℕ))
-        → parse_map (fields (level_at mode 255)).tell (option_and_then (λ u. parse_map (λ value. (name, value)) (entry_of (level_at mode 255) u)) o) ≡ None
+        → parse_map (fields (level_at mode 255)).events (option_and_then (λ u. parse_map (λ value. (name, value)) (entry_of (level_at mode 255) u)) o) ≡ None
     by_colon name None = refl
     by_colon name (Some u) = refl
 
     by_name : (o : Option (List ℕ × List ℕ))
-        → parse_map (fields (level_at mode 255)).tell (option_and_then (λ x. read_value (entry_of (level_at mode 255)) x.0 x.1) o) ≡ None
+        → parse_map (fields (level_at mode 255)).events (option_and_then (λ x. read_value (entry_of (level_at mode 255)) x.0 x.1) o) ≡ None
     by_name None = refl
     by_name (Some x) = by_colon x.0 (strip (codes ": ") x.1)
 no_entry Tuple mode t = refl
 no_entry Unnamed mode t = refl
 
-pub none_in_last : (mode : Mode) (stage : Stage) (outer : List Stage) (t : List ℕ) → length outer ≡ 255 → all_told mode (stage ∷ outer) t ≡ None
+pub none_in_last : (mode : Mode) (stage : Stage) (outer : List Stage) (t : List ℕ) → length outer ≡ 255 → scan_next mode (stage ∷ outer) t ≡ None
 none_in_last mode stage outer t many =
     rw (many, no_entry (kind_of stage) mode t) refl

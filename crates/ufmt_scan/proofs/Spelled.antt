@@ -12,7 +12,7 @@ use Rattle.ufmt.proofs.QuotedSound.{read_escaped-sound, read_inside-sound}
 use Rattle.ufmt_core.proofs.QuotedBytes.{escape-past_ascii}
 use Rattle.ufmt.proofs.Parsing.{strip_found}
 use Rattle.ufmt.proofs.QuotedComplete.{escaped-no_quote, length-escaped, length-escaped_bytes, quote_ascii, read_escaped-complete, read_inside-complete}
-use Rattle.ufmt_scan.specs.Private.Spelled.{behind_quote}
+use Rattle.ufmt_scan.specs.Private.Spelled.{after_quote}
 
 -- how a byte is written, where it has an escape
 pub escaped_byte_is : (q b : ℕ) (e : List ℕ) → Some e ≡ escape q b → escaped_byte q b ≡ e
@@ -69,10 +69,10 @@ module _ (q : ℕ) (quote : IsQuote q) where
       go None is (Some y) also = found m n y also few ∙ sym also
       go None is None also = is ∙ sym also
 
-  -- what follows the closing quote is the same behind a byte that is written there
-  pub behind_byte : (b : ℕ) (u : List ℕ) → behind_quote q (escaped_byte q b ++ u) ≡ behind_quote q u
+  -- what follows the closing quote is the same after a byte that is written there
+  pub after_byte : (b : ℕ) (u : List ℕ) → after_quote q (escaped_byte q b ++ u) ≡ after_quote q u
   unfolding read_inside
-  behind_byte b u =
+  after_byte b u =
       let more : length u < length (escaped_byte q b ++ u) = omega (arith, length-append (escaped_byte q b) u, length-escaped q b) in
       rw (escaped-no_quote q b u quote, read_escaped-complete q b u quote, turns (length (escaped_byte q b ++ u)) (suc (length u)) u more (omega arith))
       (beside (read_inside q (suc (length u)) u))
@@ -81,24 +81,24 @@ module _ (q : ℕ) (quote : IsQuote q) where
       beside None = refl
       beside (Some x) = refl
 
-  pub behind_stripped : (t u : List ℕ) → strip (escaped_byte q (told t)) t ≡ Some u → behind_quote q t ≡ behind_quote q u
-  behind_stripped t u h = ap (behind_quote q) (strip_found (escaped_byte q (told t)) t u h) ∙ behind_byte (told t) u
+  pub after_stripped : (t u : List ℕ) → strip (escaped_byte q (told t)) t ≡ Some u → after_quote q t ≡ after_quote q u
+  after_stripped t u h = ap (after_quote q) (strip_found (escaped_byte q (told t)) t u h) ∙ after_byte (told t) u
 
 -- the closing quote, and what is neither one nor a byte that is written there
-pub behind_quote-here : (q : ℕ) (t u : List ℕ) → strip (q ∷ []) t ≡ Some u → behind_quote q t ≡ Some u
+pub after_quote-here : (q : ℕ) (t u : List ℕ) → strip (q ∷ []) t ≡ Some u → after_quote q t ≡ Some u
 unfolding read_inside
-behind_quote-here q t u h = rw h refl
+after_quote-here q t u h = rw h refl
 
-pub behind_quote-none : (q : ℕ) (t : List ℕ) → strip (q ∷ []) t ≡ None → strip (escaped_byte q (told t)) t ≡ None → behind_quote q t ≡ None
+pub after_quote-none : (q : ℕ) (t : List ℕ) → strip (q ∷ []) t ≡ None → strip (escaped_byte q (told t)) t ≡ None → after_quote q t ≡ None
 unfolding read_inside
-behind_quote-none q t no_quote no_byte = rw (no_quote, no_byte) refl
+after_quote-none q t no_quote no_byte = rw (no_quote, no_byte) refl
 
 -- bytes that stand for themselves are passed at once
-pub stretch : (t : List ℕ) → (behind_quote 34 t ≡ behind_quote 34 (drop (plain_len t) t)) × (plain_len t ≤ length t)
+pub stretch : (t : List ℕ) → (after_quote 34 t ≡ after_quote 34 (drop (plain_len t) t)) × (plain_len t ≤ length t)
 stretch [] = (refl, omega arith)
 stretch (b ∷ t) = go (escape 34 b) refl (stretch t)
   where
-    go : (e : Option (List ℕ)) → escape 34 b ≡ e → (behind_quote 34 t ≡ behind_quote 34 (drop (plain_len t) t)) × (plain_len t ≤ length t)
-        → (behind_quote 34 (b ∷ t) ≡ behind_quote 34 (drop (plain_len (b ∷ t)) (b ∷ t))) × (plain_len (b ∷ t) ≤ length (b ∷ t))
-    go None h more = rw h (ap (λ e. behind_quote 34 (unwrap_or e (b ∷ []) ++ t)) (sym h) ∙ behind_byte 34 (inl refl) b t ∙ more.0, omega (arith, more.1))
+    go : (e : Option (List ℕ)) → escape 34 b ≡ e → (after_quote 34 t ≡ after_quote 34 (drop (plain_len t) t)) × (plain_len t ≤ length t)
+        → (after_quote 34 (b ∷ t) ≡ after_quote 34 (drop (plain_len (b ∷ t)) (b ∷ t))) × (plain_len (b ∷ t) ≤ length (b ∷ t))
+    go None h more = rw h (ap (λ e. after_quote 34 (unwrap_or e (b ∷ []) ++ t)) (sym h) ∙ after_byte 34 (inl refl) b t ∙ more.0, omega (arith, more.1))
     go (Some e) h more = rw h (refl, omega arith)

@@ -1,4 +1,4 @@
--- The open blocks, the innermost first, by the array of those around it.
+-- The stages of the open blocks, by the array of those around the innermost.
 use Rattle.std.proofs.Common.{◌≡◌, ◌∙◌, refl, ap, ℕ, suc, ◌+◌, ◌≤◌, List, [], ◌∷◌, get_or, length, reverse, set, take, arith}
 use Rattle.std.proofs.lemmas.List.{length-reverse, length-take-le, reverse-append, take_more, take_more_set}
 use Rattle.ufmt_scan.specs.declared.scan.open_blocks.OpenBlocks.{OpenBlocks}

@@ -8,7 +8,7 @@ use Rattle.ufmt.proofs.Parsing.{strip_of_front, strip_of_none}
 pub use Rattle.ufmt.proofs.Parsing.{strip-append}
 use Rattle.ufmt_scan.specs.Rest.{now_of}
 
--- what the reading function strips is told by what the text begins with
+-- what is stripped, by what the text begins with
 pub stripped : (text t : List ℕ) (r : Option (Bor (List ℕ)))
     → MatchOption r ((rest : List ℕ) → t ≢ text ++ rest) (λ x. t ≡ text ++ x.now) → now_of r ≡ strip text t
 stripped text t None h = sym (strip_of_none text t h)
@@ -18,11 +18,11 @@ stripped text t (Some x) h = sym (strip_of_front text t x.now h)
 pub indentation_more : (units unit : ℕ) → unit < units → indentation (units - unit) ≡ codes "    " ++ indentation (units - (unit + 1))
 indentation_more units unit h = let one_more : units - unit ≡ suc (units - (unit + 1)) = omega arith in rw one_more refl
 
--- behind an entry a block has one
+-- after an entry a block has one
 pub if_any-next : (count : Count) (text : List ℕ) → if_any (next count) text ≡ text
 if_any-next Zero text = refl
 if_any-next One text = refl
 if_any-next Several text = refl
 
--- what is stripped part by part
+-- what is stripped piece by piece
 pub ruleset stripping = (strip-append, indentation_more, if_any-next)

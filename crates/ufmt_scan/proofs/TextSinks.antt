@@ -1,4 +1,4 @@
--- A sink that lays a text out writes the other text of the document that it is told.
+-- A sink that lays events out writes the other text of the document whose events it takes.
 use Rattle.std.proofs.Common.{◌≡◌, ◌∙◌, ap, sym, subst, ℕ, ◌+◌, ◌≤◌, Bool, true, false, List, [], ◌∷◌, ◌++◌, append-nil, Result, Ok, Err, arith}
 use Rattle.std.specs.Borrow.{MutBor}
 use Rattle.std.specs.Prelude.{⊤}
@@ -15,38 +15,38 @@ use Rattle.ufmt_scan.specs.declared.convert.text_sink.TextSink.{TextSink}
 use Rattle.ufmt_scan.specs.declared.scan.event.ScanError.{ScanError}
 use Rattle.ufmt_scan.specs.declared.scan.event.ScanError.TheVariants.{NotText, Sink}
 use Rattle.ufmt_scan.specs.Private.TextSink.{WritesEvent, Wrote}
-use Rattle.ufmt_scan.specs.Scan.{TextEvent, TakesEvent, Scans, told}
-use Rattle.ufmt_scan.specs.ScanTexts.{texts_written, setting_behind}
+use Rattle.ufmt_scan.specs.Scan.{TextEvent, TakesEvent, Scans, events_of}
+use Rattle.ufmt_scan.specs.ScanTexts.{texts_written, last_setting}
 use Rattle.ufmt_scan.specs.Texts.{ConvertsTo, IsConverted, IsNormalForm}
 use Rattle.ufmt_scan.proofs.Conversions.{converted}
-use Rattle.ufmt_scan.proofs.ToldTexts.{setting_behind-append, texts_written-append, told_written}
+use Rattle.ufmt_scan.proofs.EventTexts.{last_setting-append, texts_written-append, events_written}
 
 module _ {W : Type 0} (seen : Seen W) where
-  -- a part behind parts
-  part_behind : (start old new : TextSink W) (es : List TextEvent) (e : TextEvent) (ok : Bool) → Wrote seen true start es old → WritesEvent seen old e ok new
+  -- an event after events
+  event_after : (start old new : TextSink W) (es : List TextEvent) (e : TextEvent) (ok : Bool) → Wrote seen true start es old → WritesEvent seen old e ok new
       → Wrote seen ok start (es ++ e ∷ []) new
-  part_behind start old new es e ok before part = (
+  event_after start old new es e ok before part = (
     simp (texts_written-append, sym before.1, append-nil) (Writes-then before.0 part.0),
-    simp (setting_behind-append, sym before.1) part.1,
+    simp (last_setting-append, sym before.1) part.1,
   )
 
   -- so it is a lawful sink
   pub takes_event : (old new : TextSink W) (e : TextEvent) (ok : Bool) → WritesEvent seen old e ok new → TakesEvent (Wrote seen true) (Wrote seen false) old e ok new
-  takes_event old new e true part = λ start es before. part_behind start old new es e true before part
-  takes_event old new e false part = λ start es before. part_behind start old new es e false before part
+  takes_event old new e true part = λ start es before. event_after start old new es e true before part
+  takes_event old new e false part = λ start es before. event_after start old new es e false before part
 
   module _ (from to : Mode) (tells : (d e : Document) → IsToken d → IsToken e → layout (setting from 0) d ≡ layout (setting from 0) e → layout (setting to 0) d ≡ layout (setting to 0) e)
       (input : List ℕ) (old : TextSink W) (at : old.setting ≡ setting to 0) where
     abbrev IsOther : List ℕ → Type 0
     IsOther text = IsConverted (layout (setting from 0)) (layout (setting to 0)) input text
 
-    -- what is written for the parts of the document that has the input is what that is converted to, and all that it is converted to
+    -- the text of the events of the document that has the input is what that is converted to, and all that it is converted to
     read_is : (d : Document) → IsNormalForm (layout (setting from 0)) input d
-        → IsOther (texts_written old.setting (told d)) × ((text : List ℕ) → IsOther text → texts_written old.setting (told d) ≡ text)
+        → IsOther (texts_written old.setting (events_of d)) × ((text : List ℕ) → IsOther text → texts_written old.setting (events_of d) ≡ text)
     read_is d form =
         let bound : nest d + 0 ≤ 255 = omega (arith, form.0.1) in
-        let whole = ap (λ s. texts_written s (told d)) at ∙ (told_written to 0 d form.0.0 bound).writes in (
-          converted (layout (setting from 0)) (layout (setting to 0)) tells input (texts_written old.setting (told d)) d form whole,
+        let whole = ap (λ s. texts_written s (events_of d)) at ∙ (events_written to 0 d form.0.0 bound).writes in (
+          converted (layout (setting from 0)) (layout (setting to 0)) tells input (texts_written old.setting (events_of d)) d form whole,
           λ text other. whole ∙ other.each d form.0 form.2,
         )
 
@@ -54,10 +54,10 @@ module _ {W : Type 0} (seen : Seen W) where
     pub scan_converts : {E : Type 0} (answer : Result (⊤) (ScanError E)) (new : TextSink W) → Scans (Wrote seen true) (Wrote seen false) answer old new (layout (setting from 0)) input
         → ConvertsTo seen (layout (setting from 0)) (layout (setting to 0)) input old.writer answer new.writer
     scan_converts (Ok x) new h = record {
-      ok = λ is. (texts_written old.setting (told h.0), (read_is h.0 h.1).0);
+      ok = λ is. (texts_written old.setting (events_of h.0), (read_is h.0 h.1).0);
       not_text = λ is. absurd (cc);
       writes = λ text other. subst (λ t. Writes seen old.writer t true new.writer) ((read_is h.0 h.1).1 text other) h.2.0;
-      lawful = (texts_written old.setting (told h.0), true, h.2.0);
+      lawful = (texts_written old.setting (events_of h.0), true, h.2.0);
     }
     scan_converts (Err NotText) new h = record {
       ok = λ is. absurd (cc);
@@ -79,7 +79,7 @@ module _ {W : Type 0} (seen : Seen W) where
             (IsToken-normal d other.some.1, normal-normal d, layout-normal (setting from 0) d ∙ other.some.2) in
             let leads = h.2 (normal d) form in
             let whole = sym (texts_written-append old.setting h.0 leads.0) ∙ ap (texts_written old.setting) (sym leads.1) ∙ (read_is (normal d) form).1 text other in
-            subst (λ t. Writes seen old.writer t false new.writer) whole (Writes-fails (texts_written (setting_behind old.setting h.0) leads.0) h.1.0)
+            subst (λ t. Writes seen old.writer t false new.writer) whole (Writes-fails (texts_written (last_setting old.setting h.0) leads.0) h.1.0)
 
   pub pretty_converts : {E : Type 0} (input : List ℕ) (old : TextSink W) (answer : Result (⊤) (ScanError E)) (new : TextSink W) → old.setting ≡ setting Pretty 0
       → Scans (Wrote seen true) (Wrote seen false) answer old new plain_text input → ConvertsTo seen plain_text pretty_text input old.writer answer new.writer
@@ -89,7 +89,7 @@ module _ {W : Type 0} (seen : Seen W) where
       → Scans (Wrote seen true) (Wrote seen false) answer old new pretty_text input → ConvertsTo seen pretty_text plain_text input old.writer answer new.writer
   plain_converts input old answer new at h = scan_converts Pretty Plain (λ d e hd he same. (texts_agree d e hd he).1 same) input old at answer new h
 
--- a writer behind a reference, and what it does there
+-- a writer that a reference leads to, and what it does there
 module _ {W : Type 0} (seen : Seen W) where
   abbrev referred : Seen (MutBor W)
   referred = record {
@@ -100,8 +100,8 @@ module _ {W : Type 0} (seen : Seen W) where
     store = λ r. seen.store r.now;
   }
 
-  writes_behind : {old new : MutBor W} {text : List ℕ} {ok : Bool} → Writes referred old text ok new → Writes seen old.now text ok new.now
-  writes_behind {old} {new} h =
+  writes_referred : {old new : MutBor W} {text : List ℕ} {ok : Bool} → Writes referred old text ok new → Writes seen old.now text ok new.now
+  writes_referred {old} {new} h =
       let same : new.ghost_name ∷ seen.identity new.now ≡ old.ghost_name ∷ seen.identity old.now = h.same_identity in record {
         stays_told = h.stays_told;
         appended = h.appended;
@@ -111,11 +111,11 @@ module _ {W : Type 0} (seen : Seen W) where
         untouched = h.untouched;
       }
 
-  pub converts_behind : {E : Type 0} {from to : Document → List ℕ} {input : List ℕ} {old new : MutBor W} {answer : Result (⊤) (ScanError E)}
+  pub converts_referred : {E : Type 0} {from to : Document → List ℕ} {input : List ℕ} {old new : MutBor W} {answer : Result (⊤) (ScanError E)}
       → ConvertsTo referred from to input old answer new → ConvertsTo seen from to input old.now answer new.now
-  converts_behind h = record {
+  converts_referred h = record {
     ok = h.ok;
     not_text = h.not_text;
-    writes = λ text other. writes_behind (h.writes text other);
-    lawful = (h.lawful.0, h.lawful.1, writes_behind h.lawful.2);
+    writes = λ text other. writes_referred (h.writes text other);
+    lawful = (h.lawful.0, h.lawful.1, writes_referred h.lawful.2);
   }

@@ -28,38 +28,38 @@ event_now Next = Next
 event_now (Close kind count) = Close kind count
 
 -- the events of a block of this kind after so many entries, where these are the events of each further one
-abbrev pub told_tail : Kind → Count → List (List TextEvent) → List TextEvent
-told_tail kind count [] = Close kind count ∷ []
-told_tail kind count (es ∷ more) = Next ∷ (es ++ told_tail kind (next count) more)
+abbrev pub tail_events : Kind → Count → List (List TextEvent) → List TextEvent
+tail_events kind count [] = Close kind count ∷ []
+tail_events kind count (es ∷ more) = Next ∷ (es ++ tail_events kind (next count) more)
 
 -- of a block with this name: without entries it is one event
-abbrev pub told_block : Kind → List ℕ → TextEvent → List (List TextEvent) → List TextEvent
-told_block kind name alone [] = alone ∷ []
-told_block kind name alone (es ∷ more) = Open kind name ∷ (es ++ told_tail kind One more)
+abbrev pub block_events : Kind → List ℕ → TextEvent → List (List TextEvent) → List TextEvent
+block_events kind name alone [] = alone ∷ []
+block_events kind name alone (es ∷ more) = Open kind name ∷ (es ++ tail_events kind One more)
 
 abbrev mutual
   -- the events of a token document
-  pub told : Document → List TextEvent
-  told (leaf text) = Leaf text ∷ []
-  told (joined ds) = []
-  told (list_of ds) = told_block Brackets [] (Empty Brackets) (told_entries ds)
-  told (set_of ds) = told_block Braces [] (Empty Braces) (told_entries ds)
-  told (map_of ps) = told_block Braces [] (Empty Braces) (told_pairs ps)
-  told (struct_of name fs) = told_block Struct name (Leaf name) (told_fields fs)
-  told (tuple_of name ds) = told_block (tuple_kind name) name (Leaf name) (told_entries ds)
-  told (pretty_part d) = []
+  pub events_of : Document → List TextEvent
+  events_of (leaf text) = Leaf text ∷ []
+  events_of (joined ds) = []
+  events_of (list_of ds) = block_events Brackets [] (Empty Brackets) (events_of_entries ds)
+  events_of (set_of ds) = block_events Braces [] (Empty Braces) (events_of_entries ds)
+  events_of (map_of ps) = block_events Braces [] (Empty Braces) (events_of_pairs ps)
+  events_of (struct_of name fs) = block_events Struct name (Leaf name) (events_of_fields fs)
+  events_of (tuple_of name ds) = block_events (tuple_kind name) name (Leaf name) (events_of_entries ds)
+  events_of (pretty_part d) = []
 
-  pub told_entries : Documents → List (List TextEvent)
-  told_entries no_documents = []
-  told_entries (document d ds) = told d ∷ told_entries ds
+  pub events_of_entries : Documents → List (List TextEvent)
+  events_of_entries no_documents = []
+  events_of_entries (document d ds) = events_of d ∷ events_of_entries ds
 
-  pub told_pairs : Pairs → List (List TextEvent)
-  told_pairs no_pairs = []
-  told_pairs (pair key value ps) = (told key ++ Colon ∷ told value) ∷ told_pairs ps
+  pub events_of_pairs : Pairs → List (List TextEvent)
+  events_of_pairs no_pairs = []
+  events_of_pairs (pair key value ps) = (events_of key ++ Colon ∷ events_of value) ∷ events_of_pairs ps
 
-  pub told_fields : Fields → List (List TextEvent)
-  told_fields no_fields = []
-  told_fields (field label value fs) = (FieldName label ∷ told value) ∷ told_fields fs
+  pub events_of_fields : Fields → List (List TextEvent)
+  events_of_fields no_fields = []
+  events_of_fields (field label value fs) = (FieldName label ∷ events_of value) ∷ events_of_fields fs
 
 -- these events come first of those
 abbrev pub Leads : List TextEvent → List TextEvent → Type 0
@@ -75,9 +75,9 @@ module _ {S : Type 0} (took stopped : S → List TextEvent → S → Type 0) whe
   abbrev pub ScanRefused : {E : Type 0} → S → S → (Document → List ℕ) → List ℕ → ScanError E → Type 0
   ScanRefused old new text_of input NotText = (es : List TextEvent) × took old es new × IsNoText text_of input
   ScanRefused old new text_of input (Sink e) = (es : List TextEvent) × stopped old es new
-      × ((d : Document) → IsNormalForm text_of input d → Leads es (told d))
+      × ((d : Document) → IsNormalForm text_of input d → Leads es (events_of d))
 
   -- a scan: the sink took the events of the token document in normal form that has the text; or it fails
   abbrev pub Scans : {E : Type 0} → Result (⊤) (ScanError E) → S → S → (Document → List ℕ) → List ℕ → Type 0
   Scans answer old new text_of input =
-      MatchResult answer (λ x. (d : Document) × IsNormalForm text_of input d × took old (told d) new) (ScanRefused old new text_of input)
+      MatchResult answer (λ x. (d : Document) × IsNormalForm text_of input d × took old (events_of d) new) (ScanRefused old new text_of input)

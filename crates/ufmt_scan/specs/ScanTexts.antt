@@ -1,4 +1,4 @@
--- What a sink writes that lays a text out, part by part.
+-- What a sink writes that lays a text out, event by event.
 use Rattle.std.specs.Prelude.{ℕ, ◌-◌, List, [], ◌∷◌, ◌++◌, codes}
 use Rattle.ufmt.specs.Layout.{frame, setting, inside, separator, trail, lead, ending}
 use Rattle.ufmt_core.specs.declared.layout.Mode.{Mode}
@@ -17,7 +17,7 @@ block_depth Pretty k = k - 1
 abbrev pub outside : Setting → Setting
 outside s = setting s.mode (block_depth s.mode s.depth)
 
--- what is written for a part, where the text goes on at this mode and depth
+-- the text of an event, where a text continues at this mode and depth
 abbrev pub written : Setting → TextEvent → List ℕ
 written s (Leaf text) = text
 written s (Empty kind) = (frame s.mode kind).opening ++ (frame s.mode kind).closing Zero
@@ -27,7 +27,7 @@ written s Colon = codes ": "
 written s Next = trail s.mode ++ separator s.mode s.depth
 written s (Close kind count) = trail s.mode ++ ending (frame s.mode kind) (outside s) count
 
--- the mode and depth at which it goes on behind that
+-- the mode and depth at which it continues after that
 abbrev pub setting_after : Setting → TextEvent → Setting
 setting_after s (Leaf text) = s
 setting_after s (Empty kind) = s
@@ -37,12 +37,12 @@ setting_after s Colon = s
 setting_after s Next = s
 setting_after s (Close kind count) = outside s
 
--- what is written for parts, one behind another
+-- the text of events, one after another
 abbrev pub texts_written : Setting → List TextEvent → List ℕ
 texts_written s [] = []
 texts_written s (e ∷ es) = written s e ++ texts_written (setting_after s e) es
 
--- the mode and depth behind the last of them
-abbrev pub setting_behind : Setting → List TextEvent → Setting
-setting_behind s [] = s
-setting_behind s (e ∷ es) = setting_behind (setting_after s e) es
+-- the mode and depth after the last of them
+abbrev pub last_setting : Setting → List TextEvent → Setting
+last_setting s [] = s
+last_setting s (e ∷ es) = last_setting (setting_after s e) es

@@ -30,7 +30,7 @@ Undoes from to input answer = (earlier : List ℕ) → IsConverted to from earli
 abbrev pub IsUnconverted : (Document → List ℕ) → (Document → List ℕ) → List ℕ → Type 0
 IsUnconverted from to input = (earlier : List ℕ) → IsConverted to from earlier input → ⊥
 
--- what a conversion answers to a text: what it is converted to, which undoes the conversion in the other direction; or `NotText`, of no text
+-- what a conversion returns: what the text is converted to, which undoes the conversion in the other direction; or `NotText`, where it is no text
 pub record Converts {A : Type 0} (from to : Document → List ℕ) (input : List ℕ) (answer : Result (String A) ReadError) : Type 0 where
   pub ok : IfOk answer (λ text. IsConverted from to input (string_bytes text))
   pub not_text : IsErrOf answer NotText → IsNoText from input
@@ -39,20 +39,20 @@ pub record Converts {A : Type 0} (from to : Document → List ℕ) (input : List
 
 -- what a conversion to a writer does with it
 pub record ConvertsTo {W E : Type 0} (seen : Seen W) (from to : Document → List ℕ) (input : List ℕ) (old : W) (answer : Result (⊤) (ScanError E)) (new : W) : Type 0 where
-  -- `Ok` is answered of texts alone, and `NotText` of what is none
+  -- it is `Ok` only of texts, and `NotText` only of what is none
   pub ok : IsOk answer → (text : List ℕ) × IsConverted from to input text
   pub not_text : IsErrOf answer errors.NotText → IsNoText from input
-  -- the other text is written as any piece is: all of it, or a beginning where the writer refused
+  -- the other text is written as any piece is: all of it, or a beginning where the writer failed
   pub writes : (text : List ℕ) → IsConverted from to input text → Writes seen old text (is_ok answer) new
   -- and so is what was written of an input that is no text
   pub lawful : (text : List ℕ) × (whole : Bool) × Writes seen old text whole new
 
 -- what a conversion into a caller's buffer does with it
 pub record ConvertsInto {E : Type 0} (from to : Document → List ℕ) (input old : List ℕ) (answer : Result ℕ (ScanError E)) (new : List ℕ) : Type 0 where
-  -- `Ok` is answered of texts alone, and `NotText` of what is none
+  -- it is `Ok` only of texts, and `NotText` only of what is none
   pub ok : IsOk answer → (text : List ℕ) × IsConverted from to input text
   pub not_text : IsErrOf answer errors.NotText → IsNoText from input
-  -- the other text stands at the buffer's front: all of it where it fits, or a beginning
+  -- the other text is at the buffer's front: all of it where it fits, or a beginning
   pub fronts : (text : List ℕ) → IsConverted from to input text → Fronts old text answer new
   -- the buffer keeps its length, also of an input that is no text
   pub same_length : length new ≡ length old

@@ -22,7 +22,7 @@ impl From<AllocError> for ReadError {
     }
 }
 
-/// What `Vec::push` answers, so that a caller that collects what it read writes `?`.
+/// The error of `Vec::push`, so that a caller that collects what it read writes `?`.
 impl<T: Drop> From<AllocFailed<T>> for ReadError {
     ghost from_gives = { λ _ e. e ≡ OutOfMemory };
 

@@ -1,4 +1,4 @@
-//! Leaves: words, `()`, and what stands in quotes.
+//! Leaves: words, `()`, and texts in quotes.
 ghost use Rattle.std.specs.Prelude.{◌≡◌, ◌≤◌, ◌+◌, ◌↔◌, IsTrue, drop, length, option_map};
 ghost use Rattle.ufmt.specs.Token.{IsSymbol, IsTokenLeaf, IsWord};
 ghost use Rattle.ufmt.specs.Reading.{after_word, read_symbol, word_of};

@@ -1,4 +1,4 @@
-//! What stands round the entries of blocks, stripped from a text at each of its levels.
+//! What is around the entries of blocks, stripped from a text at each of its levels.
 ghost use Rattle.std.specs.Prelude.{◌≡◌, ◌∷◌, ◌++◌, []};
 ghost use Rattle.ufmt.specs.Layout.{frame, inside, lead, line_start};
 ghost use Rattle.ufmt_core.specs.declared.layout.Count.TheVariants.{Zero};
@@ -8,7 +8,7 @@ ghost use Rattle.ufmt_scan.specs.Rest.{now_of};
 
 use ufmt::layout::{Count, Kind, Mode, Setting, UNIT};
 
-/// Where a document stands: the mode that it is laid out in, and how many blocks are open round it.
+/// The mode that a document is laid out in, and how many blocks are open around it.
 #[derive(Clone, Copy)]
 pub(crate) struct Level {
     pub(crate) mode: Mode,
@@ -72,7 +72,7 @@ impl Level {
         }
     }
 
-    /// What follows what stands before the first entry of a block.
+    /// What follows what begins a block with entries.
     #[inline(always)]
     #[tactic(auto, using(crate::proofs::Strips::stripping))]
     pub(crate) fn strip_lead(self, kind: Kind, input: &[u8]) -> Option<&[u8]>

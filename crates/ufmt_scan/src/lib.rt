@@ -1,6 +1,6 @@
 #![tactic(auto)]
 
-//! Texts of token documents: told part by part to whatever takes them, and converted to one another.
+//! Texts of token documents: scanned event by event, and converted to one another.
 
 pub mod convert;
 pub mod error;

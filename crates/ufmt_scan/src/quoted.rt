@@ -4,7 +4,7 @@ ghost use Rattle.std.specs.Str.{is_utf8};
 ghost use Rattle.ufmt.specs.Quoted.{IsQuote};
 ghost use Rattle.ufmt.specs.ReadingQuoted.{is_char, read_between};
 ghost use Rattle.ufmt_scan.specs.Rest.{now_of};
-ghost use Rattle.ufmt_scan.specs.Private.Spelled.{IsOneCharacter, PassesCharacter, behind_quote};
+ghost use Rattle.ufmt_scan.specs.Private.Spelled.{IsOneCharacter, PassesCharacter, after_quote};
 
 use crate::escape::strip_escaped;
 use crate::leaf::marked_len;
@@ -45,7 +45,7 @@ fn split_any(quote: u8, input: &[u8]) -> Option<(&str, &[u8])>
     requires { IsQuote quote }
     ensures { option_map (λ x. (x.0.now, x.1.now)) result ≡ read_between quote is_utf8 input.now }
 {
-    let rest = behind_quote(quote, strip_byte(quote, input)?)?;
+    let rest = after_quote(quote, strip_byte(quote, input)?)?;
     let (leaf, _) = input.split_at(input.len() - rest.len());
     // Tested once for all of it: escapes are ASCII.
     match str::from_utf8(leaf) {
@@ -54,7 +54,7 @@ fn split_any(quote: u8, input: &[u8]) -> Option<(&str, &[u8])>
     }
 }
 
-// Of each byte, whether it is ASCII and stands for itself in a quoted text.
+// Of each byte, whether it is ASCII and has no escape in a quoted text.
 static PLAIN_ASCII: [u8; 256] = *b"\
     ................................ww.wwwwwwwwwwwwwwwwwwwwwwwwwwwww\
     wwwwwwwwwwwwwwwwwwwwwwwwwwww.wwwwwwwwwwwwwwwwwwwwwwwwwwwwwwwwww.\
@@ -75,23 +75,22 @@ fn split_plain(input: &[u8]) -> Option<(&str, &[u8])>
 }
 
 // What follows the closing quote.
-fn behind_quote(quote: u8, input: &[u8]) -> Option<&[u8]>
+fn after_quote(quote: u8, input: &[u8]) -> Option<&[u8]>
     requires { IsQuote quote }
-    ensures { now_of result ≡ behind_quote quote input.now }
+    ensures { now_of result ≡ after_quote quote input.now }
 {
-    let mut rest = behind_stretch(quote, input);
+    let mut rest = after_stretch(quote, input);
     'escapes: loop {
-        if let Some(behind) = strip_byte(quote, rest) {
-            return Some(behind);
+        if let Some(after) = strip_byte(quote, rest) {
+            return Some(after);
         }
-        rest = behind_stretch(quote, strip_escaped(quote, rest)?);
+        rest = after_stretch(quote, strip_escaped(quote, rest)?);
     }
 }
 
-// What follows bytes that stand for themselves, several of which are passed at once between quotation
-// marks.
-fn behind_stretch(quote: u8, input: &[u8]) -> &[u8]
-    ensures behind { behind_quote quote input.now ≡ behind_quote quote result.now }
+// What follows bytes without escapes, several of which are passed at once between quotation marks.
+fn after_stretch(quote: u8, input: &[u8]) -> &[u8]
+    ensures after { after_quote quote input.now ≡ after_quote quote result.now }
     ensures shorter { length result.now ≤ length input.now }
 {
     if quote == b'"' {
@@ -101,7 +100,7 @@ fn behind_stretch(quote: u8, input: &[u8]) -> &[u8]
     }
 }
 
-// Whether just one character stands between the apostrophes.
+// Whether exactly one character is between the apostrophes.
 fn is_character(leaf: &str) -> bool
     ensures { IsOneCharacter leaf.now result }
 {
@@ -109,14 +108,14 @@ fn is_character(leaf: &str) -> bool
     let Some(_apostrophe) = characters.next() else {
         return false;
     };
-    match behind_character(characters.as_str()) {
+    match after_character(characters.as_str()) {
         Some(rest) => rest.len() == 1,
         None => false,
     }
 }
 
 // What follows the character that is written at the front, between apostrophes.
-fn behind_character(inside: &str) -> Option<&[u8]>
+fn after_character(inside: &str) -> Option<&[u8]>
     ensures { PassesCharacter inside.now result }
 {
     if inside.as_bytes().first()?.is_ascii() {

@@ -2,9 +2,9 @@
 ghost use Rattle.std.specs.Prelude.{◌≡◌, ◌≤◌, [], IfOk, List, Some, length};
 ghost use Rattle.ufmt.specs.Layout.{layout, setting};
 ghost use Rattle.ufmt.specs.Reading.{parse_map, read};
-ghost use Rattle.ufmt_scan.specs.Private.Scanning.{ScansOn, all_told, behind_told, document_told, left_told, open_stages};
+ghost use Rattle.ufmt_scan.specs.Private.Scanning.{ScansOn, scan_next, scan_ends, scan_begun, scan_left, open_stages};
 ghost use Rattle.ufmt_scan.specs.declared.scan.open_blocks.Stage.{Stage};
-ghost use Rattle.ufmt_scan.specs.Scan.{Scans, told};
+ghost use Rattle.ufmt_scan.specs.Scan.{Scans, events_of};
 
 mod event;
 mod open_blocks;
@@ -52,7 +52,7 @@ fn scan_document<'a, S: Sink, const PRETTY: bool>(
     sink: &mut S,
 ) -> Result<&'a [u8], ScanError<S::Error>>
     ensures { ScansOn S.took S.stopped result sink.old sink.new
-        (parse_map told (read (setting mode 0) 255 input.now)) (λ rest. Some ([], rest.now)) }
+        (parse_map events_of (read (setting mode 0) 255 input.now)) (λ rest. Some ([], rest.now)) }
 {
     let mut outer = [Stage::ListFirst; 256];
     let mut blocks = OpenBlocks {
@@ -91,10 +91,10 @@ fn name_field<'a, S: Sink, const PRETTY: bool>(
     input: &'a [u8],
     sink: &mut S,
 ) -> Result<&'a [u8], ScanError<S::Error>>
-    ensures told { (outer : List Stage) → length outer ≡ 256
+    ensures emitted { (outer : List Stage) → length outer ≡ 256
         → ScansOn S.took S.stopped result sink.old sink.new
-        (all_told mode (open_stages blocks outer) input.now)
-        (λ rest. document_told mode (open_stages blocks outer) rest.now) }
+        (scan_next mode (open_stages blocks outer) input.now)
+        (λ rest. scan_begun mode (open_stages blocks outer) rest.now) }
     ensures within { IfOk result (λ rest. length rest.now ≤ length input.now) }
 {
     if blocks.count == 0 {
@@ -119,9 +119,9 @@ fn end_entries<'a, S: Sink, const PRETTY: bool>(
     input: &'a [u8],
     sink: &mut S,
 ) -> Result<(OpenBlocks, &'a [u8]), ScanError<S::Error>>
-    ensures told { ScansOn S.took S.stopped result sink.old sink.new
-        (behind_told mode (open_stages blocks outer.now) input.now)
-        (λ x. left_told mode (open_stages x.0 outer.now) x.1.now) }
+    ensures emitted { ScansOn S.took S.stopped result sink.old sink.new
+        (scan_ends mode (open_stages blocks outer.now) input.now)
+        (λ x. scan_left mode (open_stages x.0 outer.now) x.1.now) }
     ensures within { IfOk result (λ x. length x.1.now ≤ length input.now) }
 {
     let mut open = blocks;

@@ -1,4 +1,4 @@
--- Documents that grow event by event, as a scanner tells of them.
+-- Documents that grow event by event.
 use Rattle.std.specs.Prelude.{ℕ, Bool, true, false, List, [], ◌∷◌, ◌++◌, length, map, take, drop}
 use Rattle.ufmt.specs.Document.{Document, leaf, list_of, set_of, map_of, struct_of, tuple_of, documents, pairs_of, fields_of}
 use Rattle.ufmt_core.specs.declared.layout.Kind.{Kind}

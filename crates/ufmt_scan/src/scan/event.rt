@@ -2,7 +2,7 @@
 ghost use Rattle.std.specs.Prelude.{◌≡◌, ◌∷◌, ◌<◌, [], List, Option, is_ok, length, ℕ};
 ghost use Rattle.ufmt.specs.Reading.{Parse};
 ghost use Rattle.ufmt_scan.specs.declared.scan.open_blocks.Stage.{Stage};
-ghost use Rattle.ufmt_scan.specs.Private.Scanning.{Steps, Told, prefixed};
+ghost use Rattle.ufmt_scan.specs.Private.Scanning.{Steps, Scanned, prefixed};
 ghost use Rattle.ufmt_scan.specs.Scan.{TakesEvent, TextEvent, event_now};
 
 use super::open_blocks::Stage;
@@ -65,9 +65,9 @@ pub(super) fn emit<'a, S: Sink>(
     rest: &'a [u8],
     sink: &mut S,
 ) -> Result<Step<'a>, ScanError<S::Error>>
-    ensures { (bytes : ℕ) (there : Told) (behind : Option Stage → Parse (List TextEvent))
-        → there ≡ prefixed (event_now event.entry ∷ []) (behind next rest.now) → length rest.now < bytes
-        → Steps S.took S.stopped result sink.old sink.new bytes there behind }
+    ensures { (bytes : ℕ) (there : Scanned) (onward : Option Stage → Parse (List TextEvent))
+        → there ≡ prefixed (event_now event.entry ∷ []) (onward next rest.now) → length rest.now < bytes
+        → Steps S.took S.stopped result sink.old sink.new bytes there onward }
 {
     match sink.event(event) {
         Ok(()) => Ok((next, rest)),

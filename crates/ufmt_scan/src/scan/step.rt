@@ -5,8 +5,8 @@ ghost use Rattle.ufmt.specs.Reading.{parse_map, read, read_named, read_without_n
 ghost use Rattle.ufmt.specs.Token.{IsWord};
 ghost use Rattle.ufmt_scan.specs.declared.level.Level.{Level};
 ghost use Rattle.ufmt_scan.specs.Private.Level.{budget_of, entry_of, setting_at};
-ghost use Rattle.ufmt_scan.specs.Private.Scanning.{Brackets, FollowsKey, Steps, after, block_told, earlier, entries, fields, kind_of, rest_told, stage_told, turn_of, turn_told};
-ghost use Rattle.ufmt_scan.specs.Scan.{told};
+ghost use Rattle.ufmt_scan.specs.Private.Scanning.{Steps, StripsBracket, StripsColon, after, scan_block, earlier, entries, fields, kind_of, scan_rest, scan_stage, turn_of, scan_turn};
+ghost use Rattle.ufmt_scan.specs.Scan.{events_of};
 
 use super::event::{Event, ScanError, Sink, Step, emit};
 use super::open_blocks::Stage;
@@ -22,7 +22,7 @@ pub(super) fn field_name<'a, S: Sink, const PRETTY: bool>(
     sink: &mut S,
 ) -> Result<Step<'a>, ScanError<S::Error>>
     ensures { (level : Level) → Steps S.took S.stopped result sink.old sink.new (length input.now)
-        (turn_told (fields level) input.now) (λ next. turn_told (entries level)) }
+        (scan_turn (fields level) input.now) (λ next. scan_turn (entries level)) }
 {
     let (word, rest) = split_word(input);
     if word.is_empty() {
@@ -42,7 +42,7 @@ pub(super) fn begin<'a, S: Sink, const PRETTY: bool>(
     sink: &mut S,
 ) -> Result<Step<'a>, ScanError<S::Error>>
     ensures { Steps S.took S.stopped result sink.old sink.new (length input.now)
-        (parse_map told (read (setting_at level) (budget_of level) input.now)) (after level) }
+        (parse_map events_of (read (setting_at level) (budget_of level) input.now)) (after level) }
 {
     let (word, rest) = split_word(input);
     if word.is_empty() {
@@ -62,7 +62,7 @@ fn begin_named<'a, S: Sink, const PRETTY: bool>(
 ) -> Result<Step<'a>, ScanError<S::Error>>
     requires { IsWord name.now }
     ensures { Steps S.took S.stopped result sink.old sink.new (suc (length input.now))
-        (parse_map told (read_named (setting_at level) (entry_of level) name.now input.now))
+        (parse_map events_of (read_named (setting_at level) (entry_of level) name.now input.now))
         (after level) }
 {
     if let Some(rest) = level.strip_lead(Kind::Tuple, input) {
@@ -84,7 +84,7 @@ fn begin_without_name<'a, S: Sink, const PRETTY: bool>(
     sink: &mut S,
 ) -> Result<Step<'a>, ScanError<S::Error>>
     ensures { Steps S.took S.stopped result sink.old sink.new (length input.now)
-        (parse_map told (read_without_name (setting_at level) (entry_of level) input.now))
+        (parse_map events_of (read_without_name (setting_at level) (entry_of level) input.now))
         (after level) }
 {
     if let Some((kind, rest)) = strip_bracket(input) {
@@ -104,7 +104,7 @@ fn begin_without_name<'a, S: Sink, const PRETTY: bool>(
 // The bracket of a list, or of a set or a map, and what follows it.
 #[inline(always)]
 fn strip_bracket(input: &[u8]) -> Option<(Kind, &[u8])>
-    ensures { (level : Level) → Brackets level input.now result }
+    ensures { (level : Level) → StripsBracket level input.now result }
 {
     if let Some(rest) = strip_piece(OPENING_BRACKET, input) {
         Some((Kind::Brackets, rest))
@@ -122,7 +122,7 @@ fn begin_block<'a, S: Sink, const PRETTY: bool>(
     sink: &mut S,
 ) -> Result<Step<'a>, ScanError<S::Error>>
     ensures { Steps S.took S.stopped result sink.old sink.new (suc (length input.now))
-        (block_told level kind input.now) (after level) }
+        (scan_block level kind input.now) (after level) }
 {
     if let Some(rest) = level.strip_closing(kind, Count::Zero, input) {
         emit(Event::Empty(kind), None, rest, sink)
@@ -144,7 +144,7 @@ pub(super) fn after_document<'a, S: Sink, const PRETTY: bool>(
 ) -> Result<Step<'a>, ScanError<S::Error>>
     requires { level.depth < 255 }
     ensures { Steps S.took S.stopped result sink.old sink.new (suc (length input.now))
-        (stage_told level stage input.now) (after level) }
+        (scan_stage level stage input.now) (after level) }
 {
     match strip_colon(stage, input) {
         Colon::Follows(value, rest) => emit(Event::Colon, Some(value), rest, sink),
@@ -166,7 +166,7 @@ pub(crate) enum Colon<'a> {
 // The colon after a key, or after what may be one.
 #[inline(always)]
 fn strip_colon(stage: Stage, input: &[u8]) -> Colon<'_>
-    ensures { (level : Level) → FollowsKey level stage input.now result }
+    ensures { (level : Level) → StripsColon level stage input.now result }
 {
     match stage {
         Stage::BracesFirst => match strip_piece(COLON, input) {
@@ -191,7 +191,7 @@ fn after_entry<'a, S: Sink, const PRETTY: bool>(
 ) -> Result<Step<'a>, ScanError<S::Error>>
     requires { level.depth < 255 }
     ensures { Steps S.took S.stopped result sink.old sink.new (suc (length input.now))
-        (rest_told (turn_of level stage) level (kind_of stage) (next (earlier stage)) input.now)
+        (scan_rest (turn_of level stage) level (kind_of stage) (next (earlier stage)) input.now)
         (after level) }
 {
     let separator = between(level.mode);

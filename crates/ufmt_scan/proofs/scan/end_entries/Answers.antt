@@ -1,33 +1,33 @@
 use Rattle.std.proofs.Common.{◌∙◌, ap, sym, arith}
 use Rattle.ufmt_scan.specs.declared.scan.open_blocks.Stage.TheVariants.{ListFirst}
-use Rattle.ufmt_scan.specs.Private.Scanning.{left_told, onward_told, open_stages}
+use Rattle.ufmt_scan.specs.Private.Scanning.{scan_left, scan_onward, open_stages}
 use Rattle.ufmt_scan.proofs.OpenSteps.{around, ended, ended_none}
-use Rattle.ufmt_scan.proofs.Scans.{refused, tells_left}
+use Rattle.ufmt_scan.proofs.Scans.{refused, emits_left}
 use Rattle.ufmt_scan.proofs.Stacks.{innermost_is}
 use Rattle.ufmt_scan.proofs.scan.end_entries.Goals as goal
 
-pub returns-in_err-next-clause-told : goal.returns-in_err-next-clause-told
-returns-in_err-next-clause-told g c =
-    refused (λ x. left_told c.args.mode (open_stages x.0 c.args.outer.now) x.1.now) c.from_residual.result c.from_residual.ensures.1
+pub returns-in_err-next-clause-emitted : goal.returns-in_err-next-clause-emitted
+returns-in_err-next-clause-emitted g c =
+    refused (λ x. scan_left c.args.mode (open_stages x.0 c.args.outer.now) x.1.now) c.from_residual.result c.from_residual.ensures.1
     (ended_none c.args.mode c.args.outer.now c.told-outer c.ends.open.count c.ends.open.innermost c.ends.invariant.few c.in-Some.depth
-    (omega (arith, c.in-Some.ensures)) c.ends.rest.now c.ends.invariant.told c.in_err-next.ensures.0)
+    (omega (arith, c.in-Some.ensures)) c.ends.rest.now c.ends.invariant.emitted c.in_err-next.ensures.0)
 
-pub returns-in-Some-next-clause-told : goal.returns-in-Some-next-clause-told
-returns-in-Some-next-clause-told g c =
+pub returns-in-Some-next-clause-emitted : goal.returns-in-Some-next-clause-emitted
+returns-in-Some-next-clause-emitted g c =
     let blocks = innermost_is c.args.outer.now c.told-outer c.ends.open.count c.in-Some.depth c.in-Some-next.innermost ListFirst
     (omega (arith, c.in-Some.ensures)) (omega (arith, c.ends.invariant.few)) in
-    tells_left (ended c.args.mode c.args.outer.now c.told-outer c.ends.open.count c.ends.open.innermost c.ends.invariant.few c.in-Some.depth
-    (omega (arith, c.in-Some.ensures)) c.ends.rest.now c.in_ok-next.after.now c.in_ok-next.next c.ends.invariant.told c.in_ok-next.ensures.0)
-    (ap (λ next. onward_told c.args.mode (around c.args.outer.now c.in-Some.depth) next c.in_ok-next.after.now) c.in-Some-next.is
-    ∙ ap (λ stages. left_told c.args.mode stages c.in_ok-next.after.now) (sym blocks))
+    emits_left (ended c.args.mode c.args.outer.now c.told-outer c.ends.open.count c.ends.open.innermost c.ends.invariant.few c.in-Some.depth
+    (omega (arith, c.in-Some.ensures)) c.ends.rest.now c.in_ok-next.after.now c.in_ok-next.next c.ends.invariant.emitted c.in_ok-next.ensures.0)
+    (ap (λ next. scan_onward c.args.mode (around c.args.outer.now c.in-Some.depth) next c.in_ok-next.after.now) c.in-Some-next.is
+    ∙ ap (λ stages. scan_left c.args.mode stages c.in_ok-next.after.now) (sym blocks))
 
 pub ends-preserved : goal.ends-preserved
 ends-preserved g c =
     let less = c.in_ok-next.ensures.1 in
     record {
-      told = tells_left (ended c.args.mode c.args.outer.now c.told-outer c.ends.open.count c.ends.open.innermost c.ends.invariant.few c.in-Some.depth
-          (omega (arith, c.in-Some.ensures)) c.ends.rest.now c.in_ok-next.after.now c.in_ok-next.next c.ends.invariant.told c.in_ok-next.ensures.0)
-          (ap (λ next. onward_told c.args.mode (around c.args.outer.now c.in-Some.depth) next c.in_ok-next.after.now) c.in_default-next.is);
+      emitted = emits_left (ended c.args.mode c.args.outer.now c.told-outer c.ends.open.count c.ends.open.innermost c.ends.invariant.few c.in-Some.depth
+          (omega (arith, c.in-Some.ensures)) c.ends.rest.now c.in_ok-next.after.now c.in_ok-next.next c.ends.invariant.emitted c.in_ok-next.ensures.0)
+          (ap (λ next. scan_onward c.args.mode (around c.args.outer.now c.in-Some.depth) next c.in_ok-next.after.now) c.in_default-next.is);
       within = omega (arith, c.ends.invariant.within, less);
       few = omega (arith, c.in-Some.ensures, c.ends.invariant.few);
     }

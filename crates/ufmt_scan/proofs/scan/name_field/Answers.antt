@@ -1,18 +1,18 @@
 use Rattle.std.proofs.Common.{◌-◌, length, sym, arith}
-use Rattle.ufmt_scan.specs.Private.Scanning.{document_told, level_at, open_stages}
+use Rattle.ufmt_scan.specs.Private.Scanning.{scan_begun, level_at, open_stages}
 use Rattle.ufmt_scan.proofs.OpenSteps.{around, named, named_none}
 use Rattle.ufmt_scan.proofs.Scans.{refused}
 use Rattle.ufmt_scan.proofs.scan.name_field.Goals as goal
 
-pub returns-in_err-rest-in-Struct-clause-told : goal.returns-in_err-rest-in-Struct-clause-told
-returns-in_err-rest-in-Struct-clause-told g c = λ outer whole.
+pub returns-in_err-rest-in-Struct-clause-emitted : goal.returns-in_err-rest-in-Struct-clause-emitted
+returns-in_err-rest-in-Struct-clause-emitted g c = λ outer whole.
     let count = c.args.blocks.count in
-    refused (λ rest. document_told c.args.mode (open_stages c.args.blocks outer) rest.now) c.from_residual.result c.from_residual.ensures.1
+    refused (λ rest. scan_begun c.args.mode (open_stages c.args.blocks outer) rest.now) c.from_residual.result c.from_residual.ensures.1
     (named_none c.args.mode outer whole count c.args.blocks.innermost (omega arith) (count - 1) (omega (arith, c.if-blocks-eq0.false)) (sym c.in-Struct.ensures)
     c.args.input.now (c.in_err-rest-in-Struct.ensures (level_at c.args.mode (length (around outer (count - 1))))).0)
 
-pub returns-in_ok-rest-in-Struct-clause-told : goal.returns-in_ok-rest-in-Struct-clause-told
-returns-in_ok-rest-in-Struct-clause-told g c = λ outer whole.
+pub returns-in_ok-rest-in-Struct-clause-emitted : goal.returns-in_ok-rest-in-Struct-clause-emitted
+returns-in_ok-rest-in-Struct-clause-emitted g c = λ outer whole.
     let count = c.args.blocks.count in
     named c.args.mode outer whole count c.args.blocks.innermost (omega arith) (count - 1) (omega (arith, c.if-blocks-eq0.false)) (sym c.in-Struct.ensures)
     c.args.input.now c.in_ok-rest-in-Struct.rest.now (c.in_ok-rest-in-Struct.ensures (level_at c.args.mode (length (around outer (count - 1))))).0

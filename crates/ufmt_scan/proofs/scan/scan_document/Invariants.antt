@@ -1,11 +1,11 @@
--- What was told so far, and what is left to tell, before each document.
+-- The events so far, and what is left, before each document.
 use Rattle.std.proofs.Common.{◌≡◌, ◌<◌, length}
-use Rattle.ufmt_scan.specs.Private.Scanning.{Tells, all_told, document_at, open_stages}
+use Rattle.ufmt_scan.specs.Private.Scanning.{Emits, scan_next, document_at, open_stages}
 use Rattle.ufmt_scan.proofs.scan.scan_document.Given as goal
 
 abbrev pub invariant-documents : goal.invariant-documents
 invariant-documents g l = record {
-  told : Tells g.S.Sink.took g.S.Sink.took l.fn.sink l.sink (document_at l.mode 0 l.input) (all_told l.mode (open_stages l.blocks l.outer) l.rest);
+  emitted : Emits g.S.Sink.took g.S.Sink.took l.fn.sink l.sink (document_at l.mode 0 l.input) (scan_next l.mode (open_stages l.blocks l.outer) l.rest);
   few : l.blocks.count < 256;
   whole : length l.outer ≡ 256;
 }

@@ -10,11 +10,11 @@ use Rattle.ufmt_scan.specs.declared.level.Level.{Level}
 use Rattle.ufmt_scan.specs.declared.scan.event.Event.TheVariants.{Next}
 use Rattle.ufmt_scan.specs.declared.scan.open_blocks.Stage.{Stage}
 use Rattle.ufmt_scan.specs.Private.Level.{depth_in, setting_at}
-use Rattle.ufmt_scan.specs.Private.Scanning.{earlier, kind_of, prefixed, rest_told, turn_of}
+use Rattle.ufmt_scan.specs.Private.Scanning.{earlier, kind_of, prefixed, scan_rest, turn_of}
 use Rattle.ufmt_scan.proofs.DocumentParts.{later_continues, turn_takes}
 use Rattle.ufmt_scan.proofs.EntrySteps.{ending_stripped}
 use Rattle.ufmt_scan.proofs.Scans.{nothing_there}
-use Rattle.ufmt_scan.proofs.Telling.{behind_tells, go_on}
+use Rattle.ufmt_scan.proofs.ScanTurns.{follows_scans, go_on}
 use Rattle.ufmt_scan.proofs.scan.step.after_entry.Goals as goal
 
 -- a level is no deeper than its blocks are many
@@ -32,10 +32,10 @@ module _ (level : Level) (at : Stage) where
   -- what is left on the line of the block decides: another entry comes, or the block ends
   follows : (t piece between : List ℕ) (line : Setting) (o : Option (List ℕ)) → piece ≡ trail level.mode → line ≡ setting_at level
       → start ++ between ≡ separator level.mode (inside (setting_at level)).depth → o ≡ strip (piece ++ line_start line.mode line.depth) t
-      → rest_told (turn_of level at) level (kind_of at) (next (earlier at)) t
+      → scan_rest (turn_of level at) level (kind_of at) (next (earlier at)) t
       ≡ option_and_then (λ w. go_on (turn_of level at) level (kind_of at) (earlier at) (strip between w) (strip closing w)) o
   follows t piece between line o piece_is line_is apart h =
-      behind_tells (turn_of level at) level (kind_of at) (earlier at) t (turn_takes level at) ∙ by_trail (strip (trail level.mode) t)
+      follows_scans (turn_of level at) level (kind_of at) (earlier at) t (turn_takes level at) ∙ by_trail (strip (trail level.mode) t)
       ∙ ap (λ e. option_and_then (λ w. go_on (turn_of level at) level (kind_of at) (earlier at) (strip between w) (strip closing w)) e)
       (sym (h ∙ rw (piece_is, line_is) (strip-append (trail level.mode) start t)))
     where

@@ -1,6 +1,6 @@
 use Rattle.std.proofs.Common.{◌≡◌, ◌∙◌, ◌==◌, ap, sym, length, false}
 use Rattle.ufmt.specs.Reading.{parse_map}
-use Rattle.ufmt_scan.specs.Scan.{told}
+use Rattle.ufmt_scan.specs.Scan.{events_of}
 use Rattle.ufmt_scan.specs.Private.Level.{budget_of, setting_at}
 use Rattle.ufmt_scan.specs.Private.Scanning.{after}
 use Rattle.ufmt_scan.proofs.DocumentParts.{front_is_bytes, front_is_word, reads_named, reads_without_name, steps_as, word_within}
@@ -28,5 +28,5 @@ returns-else-is_empty g c =
     let word = c.text_from.ensures ∙ c.split_word.ensures.word in
     let some : (length name == 0) ≡ false = rw c.text_from.ensures (sym c.is_empty.ensures ∙ c.if-is_empty.false) in
     steps_as g.S.Sink.took g.S.Sink.stopped c.args.sink.now c.begin_named.new.sink (after c.args.level) _ c.begin_named.result _ (word_within input name rest word c.split_word.ensures.rest some)
-    (ap (parse_map told) (reads_named (setting_at c.args.level)
+    (ap (parse_map events_of) (reads_named (setting_at c.args.level)
     (budget_of c.args.level) input name rest word c.split_word.ensures.rest some)) c.begin_named.ensures

@@ -2,7 +2,7 @@ use Rattle.std.proofs.Common.{refl, sym, None, Some, codes, arith}
 use Rattle.ufmt.specs.Layout.{inside, new_line}
 use Rattle.ufmt_scan.specs.Private.Level.{setting_at}
 use Rattle.ufmt_scan.specs.Private.Scanning.{after}
-use Rattle.ufmt_scan.proofs.DocumentParts.{opens_no_quote, steps_as, symbol_is_quoted, symbol_tells, unnamed_tells}
+use Rattle.ufmt_scan.proofs.DocumentParts.{opens_no_quote, steps_as, symbol_is_quoted, symbol_scans, unnamed_scans}
 use Rattle.ufmt_scan.proofs.EntrySteps.{strip_shortens}
 use Rattle.ufmt_scan.proofs.Scans.{nothing_there}
 use Rattle.ufmt_scan.proofs.scan.step.begin_without_name.Goals as goal
@@ -16,9 +16,9 @@ returns-in-Some g c =
 
 pub returns-in-Some-strip_piece : goal.returns-in-Some-strip_piece
 returns-in-Some-strip_piece g c =
-    let tells = symbol_tells c.args.level c.args.input.now (codes "()") c.in-Some-strip_piece.rest.now (c.in_default.ensures c.args.level).0
+    let emits = symbol_scans c.args.level c.args.input.now (codes "()") c.in-Some-strip_piece.rest.now (c.in_default.ensures c.args.level).0
     (c.in_default.ensures c.args.level).1 (rw (sym c.in-Some-strip_piece.ensures) refl) in
-    c.emit.ensures _ _ _ tells.0 tells.1
+    c.emit.ensures _ _ _ emits.0 emits.1
 
 pub returns-in-Some-strip_lead : goal.returns-in-Some-strip_lead
 returns-in-Some-strip_lead g c =
@@ -28,7 +28,7 @@ returns-in-Some-strip_lead g c =
     let line = new_line level.mode (inside (setting_at level)).depth in
     let symbol = symbol_is_quoted c.args.input.now None (sym c.in_default-strip_piece.ensures) (sym (opens_no_quote line c.args.input.now rest opening)) in
     c.emit-in-Some-strip_lead.ensures _ _ _
-    (unnamed_tells level c.args.input.now rest (c.in_default.ensures c.args.level).0 (c.in_default.ensures c.args.level).1 symbol opening)
+    (unnamed_scans level c.args.input.now rest (c.in_default.ensures c.args.level).0 (c.in_default.ensures c.args.level).1 symbol opening)
     (strip_shortens 40 line c.args.input.now rest opening)
 
 pub returns-in-Some-split_quotes : goal.returns-in-Some-split_quotes
@@ -36,8 +36,8 @@ returns-in-Some-split_quotes g c =
     let text = c.in-Some-split_quotes.text.now in
     let rest = c.in-Some-split_quotes.rest.now in
     let symbol = symbol_is_quoted c.args.input.now (Some (text, rest)) (sym c.in_default-strip_piece.ensures) c.in-Some-split_quotes.ensures in
-    let tells = symbol_tells c.args.level c.args.input.now text rest (c.in_default.ensures c.args.level).0 (c.in_default.ensures c.args.level).1 symbol in
-    c.emit-in-Some-split_quotes.ensures _ _ _ tells.0 tells.1
+    let emits = symbol_scans c.args.level c.args.input.now text rest (c.in_default.ensures c.args.level).0 (c.in_default.ensures c.args.level).1 symbol in
+    c.emit-in-Some-split_quotes.ensures _ _ _ emits.0 emits.1
 
 pub returns-in_default-split_quotes : goal.returns-in_default-split_quotes
 returns-in_default-split_quotes g c =

@@ -4,7 +4,7 @@ use Rattle.ufmt.specs.Quoted.{escaped_byte}
 use Rattle.ufmt.specs.Reading.{strip}
 use Rattle.ufmt.specs.ReadingQuoted.{told}
 use Rattle.ufmt_scan.proofs.QuotedCharacter.{ascii_passes, first_byte, nothing_passes, past_ascii_passes}
-use Rattle.ufmt_scan.proofs.quoted.behind_character.Goals as goal
+use Rattle.ufmt_scan.proofs.quoted.after_character.Goals as goal
 
 pub returns-in_err-first : goal.returns-in_err-first
 returns-in_err-first c = rw c.from_residual.ensures

@@ -1,4 +1,4 @@
--- A sink that writes a text for each part writes the document's layout.
+-- The texts of a document's events make up its layout.
 use Rattle.std.proofs.Common.{◌≡◌, ◌∙◌, refl, ap, sym, ℕ, suc, ◌+◌, ◌-◌, ◌≤◌, List, [], ◌∷◌, ◌++◌, codes, append_assoc, append-nil, arith}
 use Rattle.std.specs.Prelude.{⊤}
 use Rattle.ufmt.specs.Document.{Document, leaf, joined, list_of, set_of, map_of, struct_of, tuple_of, pretty_part, Documents, no_documents, document, Pairs, no_pairs, pair, Fields, no_fields, field, nest, nest_all, nest_pairs, nest_fields}
@@ -11,34 +11,34 @@ use Rattle.ufmt_core.specs.declared.layout.Kind.TheVariants.{Brackets, Braces, S
 use Rattle.ufmt_core.specs.declared.layout.Mode.{Mode}
 use Rattle.ufmt_core.specs.declared.layout.Mode.TheVariants.{Plain, Pretty}
 use Rattle.ufmt_core.specs.declared.layout.Setting.{Setting}
-use Rattle.ufmt_scan.specs.Scan.{TextEvent, told, told_tail, told_block, told_entries, told_pairs, told_fields}
-use Rattle.ufmt_scan.specs.ScanTexts.{outside, written, setting_after, texts_written, setting_behind}
+use Rattle.ufmt_scan.specs.Scan.{TextEvent, events_of, tail_events, block_events, events_of_entries, events_of_pairs, events_of_fields}
+use Rattle.ufmt_scan.specs.ScanTexts.{outside, written, setting_after, texts_written, last_setting}
 use Rattle.ufmt_scan.specs.declared.scan.event.Event.TheVariants.{Leaf, Empty, FieldName, Colon}
 
--- parts in a row, and more behind them
+-- events in a row, and more after them
 pub texts_written-append : (s : Setting) (es fs : List TextEvent)
-    → texts_written s (es ++ fs) ≡ texts_written s es ++ texts_written (setting_behind s es) fs
+    → texts_written s (es ++ fs) ≡ texts_written s es ++ texts_written (last_setting s es) fs
 texts_written-append s [] fs = refl
 texts_written-append s (e ∷ es) fs = ap (λ t. written s e ++ t) (texts_written-append (setting_after s e) es fs)
-    ∙ sym (append_assoc (written s e) (texts_written (setting_after s e) es) (texts_written (setting_behind (setting_after s e) es) fs))
+    ∙ sym (append_assoc (written s e) (texts_written (setting_after s e) es) (texts_written (last_setting (setting_after s e) es) fs))
 
-pub setting_behind-append : (s : Setting) (es fs : List TextEvent) → setting_behind s (es ++ fs) ≡ setting_behind (setting_behind s es) fs
-setting_behind-append s [] fs = refl
-setting_behind-append s (e ∷ es) fs = setting_behind-append (setting_after s e) es fs
+pub last_setting-append : (s : Setting) (es fs : List TextEvent) → last_setting s (es ++ fs) ≡ last_setting (last_setting s es) fs
+last_setting-append s [] fs = refl
+last_setting-append s (e ∷ es) fs = last_setting-append (setting_after s e) es fs
 
--- for these parts this text is written, from one mode and depth to another
+-- these events have this text, from one mode and depth to another
 pub record AreWritten (s : Setting) (es : List TextEvent) (text : List ℕ) (last : Setting) : Type 0 where
   pub writes : texts_written s es ≡ text
-  pub leaves : setting_behind s es ≡ last
+  pub leaves : last_setting s es ≡ last
 
--- entries at these parts have these texts, each at this mode and depth
+-- entries of these events have these texts, each at this mode and depth
 abbrev EntriesAreWritten : Setting → List (List TextEvent) → List (List ℕ) → Type 0
 EntriesAreWritten i [] [] = ⊤
 EntriesAreWritten i [] (t ∷ ts) = ⊥
 EntriesAreWritten i (es ∷ ess) [] = ⊥
 EntriesAreWritten i (es ∷ ess) (t ∷ ts) = AreWritten i es t i × EntriesAreWritten i ess ts
 
--- round the entries of a block is the block, where the depth didn't saturate
+-- around the entries of a block is the block, where the depth didn't saturate
 outside_inside : (mode : Mode) (k : ℕ) → k + 1 ≤ 255 → outside (inside (setting mode k)) ≡ setting mode k
 outside_inside Plain k few = refl
 outside_inside Pretty k few = let same : entry_depth Pretty k - 1 ≡ k = grind (arith, few) in ap (setting Pretty) same
@@ -59,9 +59,9 @@ module _ (mode : Mode) (k n : ℕ) (few : suc n + k ≤ 255) (kind : Kind) where
   abbrev s : Setting
   s = setting mode k
 
-  -- what is left of it behind an entry
+  -- what is left of it after an entry
   tail_written : (count : Count) (ess : List (List TextEvent)) (ts : List (List ℕ)) → EntriesAreWritten (inside s) ess ts
-      → AreWritten (inside s) (told_tail kind (next count) ess) (trail mode ++ block_tail (frame mode kind) s (next count) ts) s
+      → AreWritten (inside s) (tail_events kind (next count) ess) (trail mode ++ block_tail (frame mode kind) s (next count) ts) s
   tail_written count [] [] h =
       let out = outside_inside mode k (omega arith) in
       let text = λ (o : Setting). trail mode ++ ending (frame mode kind) o (next count) in
@@ -71,16 +71,16 @@ module _ (mode : Mode) (k n : ℕ) (few : suc n + k ≤ 255) (kind : Kind) where
   tail_written count (es ∷ ess) (t ∷ ts) h =
       let more = tail_written (next count) ess ts h.1 in record {
         writes = simp (texts_written-append, h.0.writes, h.0.leaves, more.writes, separator_is (frame mode kind) (inside s) count, append_assoc);
-        leaves = simp (setting_behind-append, h.0.leaves, more.leaves);
+        leaves = simp (last_setting-append, h.0.leaves, more.leaves);
       }
 
   -- the whole of one with entries
   block_written : (name : List ℕ) (alone : TextEvent) (ess : List (List TextEvent)) (ts : List (List ℕ)) {es : List TextEvent} {t : List ℕ}
-      → EntriesAreWritten (inside s) (es ∷ ess) (t ∷ ts) → AreWritten s (told_block kind name alone (es ∷ ess)) (block kind s name (t ∷ ts)) s
+      → EntriesAreWritten (inside s) (es ∷ ess) (t ∷ ts) → AreWritten s (block_events kind name alone (es ∷ ess)) (block kind s name (t ∷ ts)) s
   block_written name alone ess ts h =
       let tail = tail_written Zero ess ts h.1 in record {
         writes = simp (texts_written-append, h.0.writes, h.0.leaves, tail.writes, append_assoc);
-        leaves = simp (setting_behind-append, h.0.leaves, tail.leaves);
+        leaves = simp (last_setting-append, h.0.leaves, tail.leaves);
       }
 
 -- a key and its value, and a field's name and its value
@@ -88,58 +88,58 @@ pair_written : {s : Setting} {es fs : List TextEvent} {t u : List ℕ} → AreWr
     → AreWritten s (es ++ Colon ∷ fs) (t ++ (codes ": " ++ u)) s
 pair_written key value = record {
   writes = simp (texts_written-append, key.writes, key.leaves, value.writes);
-  leaves = simp (setting_behind-append, key.leaves, value.leaves);
+  leaves = simp (last_setting-append, key.leaves, value.leaves);
 }
 
 field_written : {s : Setting} {es : List TextEvent} {t : List ℕ} (label : List ℕ) → AreWritten s es t s
     → AreWritten s (FieldName label ∷ es) (label ++ (codes ": " ++ t)) s
 field_written {t = t} label value = record { writes = rw value.writes (append_assoc label (codes ": ") t); leaves = value.leaves }
 
--- for the parts of a token document its layout is written, and mode and depth are behind them as before
+-- the events of a token document have its layout as their text, and mode and depth are as before after them
 module _ (mode : Mode) where
   mutual
-    pub told_written : (k : ℕ) (d : Document) → HasTokens d → nest d + k ≤ 255
-        → AreWritten (setting mode k) (told d) (layout (setting mode k) d) (setting mode k)
-    told_written k (leaf text) h few = record { writes = append-nil text; leaves = refl }
-    told_written k (joined ds) h few = absurd h
-    told_written k (list_of no_documents) h few = record { writes = refl; leaves = refl }
-    told_written k (list_of (document d ds)) h few =
+    pub events_written : (k : ℕ) (d : Document) → HasTokens d → nest d + k ≤ 255
+        → AreWritten (setting mode k) (events_of d) (layout (setting mode k) d) (setting mode k)
+    events_written k (leaf text) h few = record { writes = append-nil text; leaves = refl }
+    events_written k (joined ds) h few = absurd h
+    events_written k (list_of no_documents) h few = record { writes = refl; leaves = refl }
+    events_written k (list_of (document d ds)) h few =
         block_written mode k _ few Brackets [] (Empty Brackets) _ _ (entries_written k (document d ds) h few)
-    told_written k (set_of no_documents) h few = record { writes = refl; leaves = refl }
-    told_written k (set_of (document d ds)) h few =
+    events_written k (set_of no_documents) h few = record { writes = refl; leaves = refl }
+    events_written k (set_of (document d ds)) h few =
         block_written mode k _ few Braces [] (Empty Braces) _ _ (entries_written k (document d ds) h few)
-    told_written k (map_of no_pairs) h few = record { writes = refl; leaves = refl }
-    told_written k (map_of (pair key value ps)) h few =
+    events_written k (map_of no_pairs) h few = record { writes = refl; leaves = refl }
+    events_written k (map_of (pair key value ps)) h few =
         block_written mode k _ few Braces [] (Empty Braces) _ _ (pairs_written k (pair key value ps) h few)
-    told_written k (struct_of name no_fields) h few = record { writes = refl; leaves = refl }
-    told_written k (struct_of name (field label value fs)) h few =
+    events_written k (struct_of name no_fields) h few = record { writes = refl; leaves = refl }
+    events_written k (struct_of name (field label value fs)) h few =
         block_written mode k _ few Struct name (Leaf name) _ _ (fields_written k (field label value fs) h.1 few)
-    told_written k (tuple_of [] no_documents) h few = absurd h
-    told_written k (tuple_of (c ∷ name) no_documents) h few = record { writes = refl; leaves = refl }
-    told_written k (tuple_of name (document d ds)) h few =
+    events_written k (tuple_of [] no_documents) h few = absurd h
+    events_written k (tuple_of (c ∷ name) no_documents) h few = record { writes = refl; leaves = refl }
+    events_written k (tuple_of name (document d ds)) h few =
         block_written mode k _ few (tuple_kind name) name (Leaf name) _ _ (entries_written k (document d ds) (h.1, h.2) few)
-    told_written k (pretty_part d) h few = absurd h
+    events_written k (pretty_part d) h few = absurd h
 
     -- the entries of a block at this depth, its pairs and its fields
     entries_written : (k : ℕ) (ds : Documents) → HaveTokens ds → suc (nest_all ds) + k ≤ 255
-        → EntriesAreWritten (inside (setting mode k)) (told_entries ds) (texts (inside (setting mode k)) ds)
+        → EntriesAreWritten (inside (setting mode k)) (events_of_entries ds) (texts (inside (setting mode k)) ds)
     entries_written k no_documents h few = tt
     entries_written k (document d ds) h few =
-        (told_written (entry_depth mode k) d h.0 (deeper mode k (nest d) (omega arith)), entries_written k ds h.1 (omega arith))
+        (events_written (entry_depth mode k) d h.0 (deeper mode k (nest d) (omega arith)), entries_written k ds h.1 (omega arith))
 
     pairs_written : (k : ℕ) (ps : Pairs) → PairsHaveTokens ps → suc (nest_pairs ps) + k ≤ 255
-        → EntriesAreWritten (inside (setting mode k)) (told_pairs ps) (pair_texts (inside (setting mode k)) ps)
+        → EntriesAreWritten (inside (setting mode k)) (events_of_pairs ps) (pair_texts (inside (setting mode k)) ps)
     pairs_written k no_pairs h few = tt
     pairs_written k (pair key value ps) h few = (
-      pair_written (told_written (entry_depth mode k) key h.0 (deeper mode k (nest key) (omega arith)))
-          (told_written (entry_depth mode k) value h.1 (deeper mode k (nest value) (omega arith))),
+      pair_written (events_written (entry_depth mode k) key h.0 (deeper mode k (nest key) (omega arith)))
+          (events_written (entry_depth mode k) value h.1 (deeper mode k (nest value) (omega arith))),
       pairs_written k ps h.2 (omega arith),
     )
 
     fields_written : (k : ℕ) (fs : Fields) → FieldsHaveTokens fs → suc (nest_fields fs) + k ≤ 255
-        → EntriesAreWritten (inside (setting mode k)) (told_fields fs) (field_texts (inside (setting mode k)) fs)
+        → EntriesAreWritten (inside (setting mode k)) (events_of_fields fs) (field_texts (inside (setting mode k)) fs)
     fields_written k no_fields h few = tt
     fields_written k (field label value fs) h few = (
-      field_written label (told_written (entry_depth mode k) value h.1 (deeper mode k (nest value) (omega arith))),
+      field_written label (events_written (entry_depth mode k) value h.1 (deeper mode k (nest value) (omega arith))),
       fields_written k fs h.2 (omega arith),
     )

@@ -1,4 +1,4 @@
--- Entries that are told one after another make up what is told of the block that they were read as.
+-- The events of entries, one after another, make up those of the block that they are read as.
 use Rattle.std.proofs.Common.{◌≡◌, refl, ap, ◌∙◌, sym, ℕ, List, [], ◌∷◌, ◌++◌, append_assoc, map, Option, Some, None, option_map, option_and_then}
 use Rattle.ufmt.specs.Document.{Document}
 use Rattle.ufmt.specs.Layout.{ending, frame, inside, next, separator, trail}
@@ -10,67 +10,67 @@ use Rattle.ufmt.proofs.ReadingTurns.{Takes, read_others-read_turn}
 use Rattle.ufmt.proofs.Shifting.{lead-next}
 use Rattle.ufmt_core.proofs.Counts.{next-next}
 use Rattle.ufmt_scan.specs.declared.scan.event.Event.TheVariants.{Close, Next}
-use Rattle.ufmt_scan.specs.Scan.{TextEvent, told, told_tail}
-use Rattle.ufmt_scan.specs.Private.Scanning.{Told, Turn, prefixed, rest_told, then_told, turn_told}
+use Rattle.ufmt_scan.specs.Scan.{TextEvent, events_of, tail_events}
+use Rattle.ufmt_scan.specs.Private.Scanning.{Scanned, Turn, prefixed, scan_rest, then_scan, scan_turn}
 use Rattle.ufmt_scan.specs.Private.Level.{setting_at}
 use Rattle.ufmt_scan.specs.declared.level.Level.{Level}
 
--- parts that stand before parts that stand before what is told
-pub prefixed_twice : (es fs : List TextEvent) (o : Told) → prefixed es (prefixed fs o) ≡ prefixed (es ++ fs) o
+-- events before events
+pub prefixed_twice : (es fs : List TextEvent) (o : Scanned) → prefixed es (prefixed fs o) ≡ prefixed (es ++ fs) o
 prefixed_twice es fs None = refl
 prefixed_twice es fs (Some x) = ap (λ more. Some (more, x.1)) (sym (append_assoc es fs x.0))
 
-pub prefixed_nothing : (o : Told) → prefixed [] o ≡ o
+pub prefixed_nothing : (o : Scanned) → prefixed [] o ≡ o
 prefixed_nothing None = refl
 prefixed_nothing (Some x) = refl
 
--- and before what is told on
-pub then-prefixed : (es : List TextEvent) (o : Told) (more : Parse (List TextEvent)) → then_told (prefixed es o) more ≡ prefixed es (then_told o more)
+-- and before the events of what is left
+pub then-prefixed : (es : List TextEvent) (o : Scanned) (more : Parse (List TextEvent)) → then_scan (prefixed es o) more ≡ prefixed es (then_scan o more)
 then-prefixed es None more = refl
 then-prefixed es (Some x) more = sym (prefixed_twice es x.0 (more x.1))
 
-pub then-then : (o : Told) (more last : Parse (List TextEvent)) → then_told (then_told o more) last ≡ then_told o (λ t. then_told (more t) last)
+pub then-then : (o : Scanned) (more last : Parse (List TextEvent)) → then_scan (then_scan o more) last ≡ then_scan o (λ t. then_scan (more t) last)
 then-then None more last = refl
 then-then (Some x) more last = then-prefixed x.0 (more x.1) last
 
 module _ (turn : Turn) (level : Level) (kind : Kind) where
-  -- a block is told from its first entry on, where it is told as what opens it, that entry and what follows
-  pub block_tells : (make : List turn.Entry → Document) (front : TextEvent)
-      → ((x : turn.Entry) (xs : List turn.Entry) → told (make (x ∷ xs)) ≡ front ∷ (turn.tell x ++ told_tail kind One (map turn.tell xs)))
+  -- the events of a block from its first entry on, where the block has what opens it, that entry's and what follows
+  pub block_scans : (make : List turn.Entry → Document) (front : TextEvent)
+      → ((x : turn.Entry) (xs : List turn.Entry) → events_of (make (x ∷ xs)) ≡ front ∷ (turn.events x ++ tail_events kind One (map turn.events xs)))
       → (o : Option (turn.Entry × List ℕ))
-      → parse_map told (option_and_then (λ x. read_after_first turn.read (frame level.mode kind) (setting_at level) make x.0 x.1) o)
-      ≡ prefixed (front ∷ []) (then_told (parse_map turn.tell o) (rest_told turn level kind One))
-  unfolding rest_told
-  block_tells make front shape None = refl
-  block_tells make front shape (Some x) = behind (strip (trail level.mode) x.1)
+      → parse_map events_of (option_and_then (λ x. read_after_first turn.read (frame level.mode kind) (setting_at level) make x.0 x.1) o)
+      ≡ prefixed (front ∷ []) (then_scan (parse_map turn.events o) (scan_rest turn level kind One))
+  unfolding scan_rest
+  block_scans make front shape None = refl
+  block_scans make front shape (Some x) = by_trail (strip (trail level.mode) x.1)
     where
       read_on : List ℕ → Option (List turn.Entry × List ℕ)
       read_on u = read_others turn.read (frame level.mode kind) (setting_at level) One u
 
-      made : (o : Option (List turn.Entry × List ℕ)) → parse_map told (parse_map make (parse_map (λ xs. x.0 ∷ xs) o))
-          ≡ prefixed (front ∷ []) (prefixed (turn.tell x.0) (parse_map (λ xs. told_tail kind One (map turn.tell xs)) o))
+      made : (o : Option (List turn.Entry × List ℕ)) → parse_map events_of (parse_map make (parse_map (λ xs. x.0 ∷ xs) o))
+          ≡ prefixed (front ∷ []) (prefixed (turn.events x.0) (parse_map (λ xs. tail_events kind One (map turn.events xs)) o))
       made None = refl
       made (Some p) = ap (λ es. Some (es, p.1)) (shape x.0 p.0)
 
-      behind : (o : Option (List ℕ)) → parse_map told (parse_map make (option_and_then (λ u. parse_map (λ xs. x.0 ∷ xs) (read_on u)) o))
-          ≡ prefixed (front ∷ []) (prefixed (turn.tell x.0) (option_and_then (λ u. parse_map (λ xs. told_tail kind One (map turn.tell xs)) (read_on u)) o))
-      behind None = refl
-      behind (Some u) = made (read_on u)
+      by_trail : (o : Option (List ℕ)) → parse_map events_of (parse_map make (option_and_then (λ u. parse_map (λ xs. x.0 ∷ xs) (read_on u)) o))
+          ≡ prefixed (front ∷ []) (prefixed (turn.events x.0) (option_and_then (λ u. parse_map (λ xs. tail_events kind One (map turn.events xs)) (read_on u)) o))
+      by_trail None = refl
+      by_trail (Some u) = made (read_on u)
 
   -- another entry, where one begins, or the end of the block
-  abbrev pub go_on : Count → Option (List ℕ) → Option (List ℕ) → Told
-  go_on before (Some v) end = prefixed (Next ∷ []) (then_told (turn_told turn v) (rest_told turn level kind Several))
+  abbrev pub go_on : Count → Option (List ℕ) → Option (List ℕ) → Scanned
+  go_on before (Some v) end = prefixed (Next ∷ []) (then_scan (scan_turn turn v) (scan_rest turn level kind Several))
   go_on before None end = option_map (λ v. (Close kind (next before) ∷ [], v)) end
 
-  -- what stands behind an entry decides: the next one is told, or the block ends, or nothing is told
-  pub behind_tells : (before : Count) (t : List ℕ) → Takes turn.read → rest_told turn level kind (next before) t
+  -- what follows an entry decides: the next one comes, or the block ends, or there are no events
+  pub follows_scans : (before : Count) (t : List ℕ) → Takes turn.read → scan_rest turn level kind (next before) t
       ≡ option_and_then (λ u. go_on before (strip (separator level.mode (inside (setting_at level)).depth) u)
       (strip (ending (frame level.mode kind) (setting_at level) (next before)) u)) (strip (trail level.mode) t)
-  unfolding rest_told
-  behind_tells before t takes = behind (strip (trail level.mode) t)
+  unfolding scan_rest
+  follows_scans before t takes = by_trail (strip (trail level.mode) t)
     where
-      tail : Count → Option (List turn.Entry × List ℕ) → Told
-      tail count o = parse_map (λ xs. told_tail kind count (map turn.tell xs)) o
+      tail : Count → Option (List turn.Entry × List ℕ) → Scanned
+      tail count o = parse_map (λ xs. tail_events kind count (map turn.events xs)) o
 
       read_on : Count → List ℕ → Option (List turn.Entry × List ℕ)
       read_on count u = read_others turn.read (frame level.mode kind) (setting_at level) count u
@@ -83,19 +83,19 @@ module _ (turn : Turn) (level : Level) (kind : Kind) where
       ended (Some v) = refl
 
       others : (x : turn.Entry) (o : Option (List turn.Entry × List ℕ)) → tail (next before) (parse_map (λ xs. x ∷ xs) o)
-          ≡ prefixed (Next ∷ []) (prefixed (turn.tell x) (tail Several o))
+          ≡ prefixed (Next ∷ []) (prefixed (turn.events x) (tail Several o))
       others x None = refl
-      others x (Some p) = ap (λ count. Some (Next ∷ (turn.tell x ++ told_tail kind count (map turn.tell p.0)), p.1)) (next-next before)
+      others x (Some p) = ap (λ count. Some (Next ∷ (turn.events x ++ tail_events kind count (map turn.events p.0)), p.1)) (next-next before)
 
       after : (x : turn.Entry) (o : Option (List ℕ))
           → tail (next before) (option_and_then (λ w. parse_map (λ xs. x ∷ xs) (read_on (next (next before)) w)) o)
-          ≡ prefixed (Next ∷ []) (prefixed (turn.tell x) (option_and_then (λ w. tail Several (read_on Several w)) o))
+          ≡ prefixed (Next ∷ []) (prefixed (turn.events x) (option_and_then (λ w. tail Several (read_on Several w)) o))
       after x None = refl
       after x (Some w) = rw (next-next before) (others x (read_on Several w))
 
       entry : (o : Option (turn.Entry × List ℕ))
           → tail (next before) (option_and_then (λ x. read_after_entry level.mode (read_on (next (next before))) x.0 x.1) o)
-          ≡ prefixed (Next ∷ []) (then_told (parse_map turn.tell o) (rest_told turn level kind Several))
+          ≡ prefixed (Next ∷ []) (then_scan (parse_map turn.events o) (scan_rest turn level kind Several))
       entry None = refl
       entry (Some x) = after x.0 (strip (trail level.mode) x.1)
 
@@ -104,10 +104,10 @@ module _ (turn : Turn) (level : Level) (kind : Kind) where
       by_separator u None = ended (ends u)
       by_separator u (Some v) = entry (turn.read v)
 
-      behind : (o : Option (List ℕ)) → option_and_then (λ u. tail (next before) (read_on (next before) u)) o
+      by_trail : (o : Option (List ℕ)) → option_and_then (λ u. tail (next before) (read_on (next before) u)) o
           ≡ option_and_then (λ u. go_on before (strip (separator level.mode (inside (setting_at level)).depth) u) (ends u)) o
-      behind None = refl
-      behind (Some u) =
+      by_trail None = refl
+      by_trail (Some u) =
           ap (tail (next before)) (read_others-read_turn turn.read takes (frame level.mode kind) (setting_at level) (next before) u)
           ∙ rw (lead-next (frame level.mode kind) (inside (setting_at level)) before) (by_separator u (strip (separator level.mode
           (inside (setting_at level)).depth) u))

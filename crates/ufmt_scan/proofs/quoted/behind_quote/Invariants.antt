@@ -1,9 +1,0 @@
-use Rattle.std.proofs.Common.{◌≡◌, length}
-use Rattle.ufmt_scan.specs.Private.Spelled.{behind_quote}
-use Rattle.ufmt_scan.proofs.quoted.behind_quote.Given as goal
-
-abbrev pub invariant-escapes : goal.invariant-escapes
-invariant-escapes l = behind_quote l.quote l.input ≡ behind_quote l.quote l.rest
-
-abbrev pub decreases-escapes : goal.decreases-escapes
-decreases-escapes l = length l.rest
