@@ -6,7 +6,7 @@ use Rattle.ufmt_core.specs.declared.layout.Mode.{Mode}
 use Rattle.ufmt_scan.specs.declared.level.Level.{Level}
 use Rattle.ufmt_scan.specs.declared.scan.event.ScanError.{ScanError}
 use Rattle.ufmt_scan.specs.declared.scan.open_blocks.Stage.{Stage}
-use Rattle.ufmt_scan.specs.declared.scan.open_blocks.Stage.TheVariants.{ListFirst}
+use Rattle.ufmt_scan.specs.declared.scan.open_blocks.Stage.TheVariants.{BracesFirst}
 use Rattle.ufmt_scan.specs.Private.Level.{budget_of, setting_at}
 use Rattle.ufmt_scan.specs.Private.Scanning.{Stops, Emits, Scanned, after, scan_next, scan_ends, coming, scan_begun, entries, fields, kind_of, level_at, scan_onward, open_stages, scan_stage, then_scan, scan_turn}
 use Rattle.ufmt_scan.specs.Scan.{TextEvent, events_of}
@@ -48,7 +48,7 @@ document_in mode open_blocks depth t same few = rw same (ap (λ o. then_scan o (
 
 -- the blocks around the innermost one
 abbrev pub around : List Stage → ℕ → List Stage
-around outer depth = open_stages (blocks_of depth (get_or outer depth ListFirst)) outer
+around outer depth = open_stages (blocks_of depth (get_or outer depth BracesFirst)) outer
 
 module _ (mode : Mode) (outer : List Stage) (whole : length outer ≡ 256) (count : ℕ) (stage : Stage) (few : count < 256) where
   abbrev blocks : List Stage
@@ -73,10 +73,10 @@ module _ (mode : Mode) (outer : List Stage) (whole : length outer ≡ 256) (coun
 
   module _ (depth : ℕ) (one : count ≡ depth + 1) where
     innermost : blocks ≡ stage ∷ around outer depth
-    innermost = innermost_is outer whole count depth stage ListFirst one (omega (arith, few))
+    innermost = innermost_is outer whole count depth stage BracesFirst one (omega (arith, few))
 
     around_deep : depth ≡ length (around outer depth)
-    around_deep = sym (count_is outer whole depth (get_or outer depth ListFirst) (omega (arith, few, one)))
+    around_deep = sym (count_is outer whole depth (get_or outer depth BracesFirst) (omega (arith, few, one)))
 
     -- what follows an entry is a step
     pub ended : {S : Type 0} {took : S → List TextEvent → S → Type 0} {a b c : S} {there : Scanned} (t u : List ℕ) (next : Option Stage)

@@ -1,7 +1,8 @@
 //! What is around the entries of blocks, stripped from a text at each of its levels.
 ghost use Rattle.std.specs.Prelude.{◌≡◌, ◌∷◌, ◌++◌, []};
 ghost use Rattle.ufmt.specs.Layout.{frame, inside, lead, line_start};
-ghost use Rattle.ufmt_core.specs.declared.layout.Count.TheVariants.{Zero};
+ghost use Rattle.ufmt_core.specs.declared.layout.Count.TheVariants.{One, Zero};
+ghost use Rattle.ufmt_core.specs.declared.layout.Mode.TheVariants.{Pretty};
 ghost use Rattle.ufmt.specs.Reading.{strip};
 ghost use Rattle.ufmt_scan.specs.Private.Level.{setting_at};
 ghost use Rattle.ufmt_scan.specs.Rest.{now_of};
@@ -59,6 +60,18 @@ pub(crate) fn strip_to_line<'a>(piece: &str, line: Setting, input: &'a [u8]) -> 
     Some(rest)
 }
 
+// The byte that ends a block with entries.
+#[inline(always)]
+fn closing_bracket(kind: Kind) -> u8
+    ensures { (frame Pretty kind).closing One ≡ result ∷ [] }
+{
+    match kind {
+        Kind::Brackets => b']',
+        Kind::Braces | Kind::Struct => b'}',
+        Kind::Tuple | Kind::Unnamed => b')',
+    }
+}
+
 impl Level {
     /// The mode and depth that a document is laid out at.
     #[inline(always)]
@@ -89,7 +102,12 @@ impl Level {
     pub(crate) fn strip_closing(self, kind: Kind, count: Count, input: &[u8]) -> Option<&[u8]>
         ensures { now_of result ≡ strip ((frame self.mode kind).closing count) input.now }
     {
-        let (before, bracket) = kind.closing(self.mode, count);
-        strip_pieces(before, bracket, input)
+        let bracket = match (self.mode, kind, count) {
+            (_, Kind::Struct | Kind::Tuple | Kind::Unnamed, Count::Zero) => return Some(input),
+            (Mode::Plain, Kind::Struct, _) => strip_byte(b' ', input)?,
+            (Mode::Plain, Kind::Unnamed, Count::One) => strip_byte(b',', input)?,
+            _ => input,
+        };
+        strip_byte(closing_bracket(kind), bracket)
     }
 }

@@ -1,8 +1,8 @@
 //! Scanning a text in either mode: its events are emitted to a sink, one after another.
-ghost use Rattle.std.specs.Prelude.{◌≡◌, ◌≤◌, [], IfOk, List, Some, length};
+ghost use Rattle.std.specs.Prelude.{◌≡◌, ◌<◌, ◌≤◌, [], IfOk, List, Some, length};
 ghost use Rattle.ufmt.specs.Layout.{layout, setting};
 ghost use Rattle.ufmt.specs.Reading.{parse_map, read};
-ghost use Rattle.ufmt_scan.specs.Private.Scanning.{ScansOn, scan_next, scan_ends, scan_begun, scan_left, open_stages};
+ghost use Rattle.ufmt_scan.specs.Private.Scanning.{ScansOn, kind_of, scan_next, scan_ends, scan_begun, scan_left, open_stages};
 ghost use Rattle.ufmt_scan.specs.declared.scan.open_blocks.Stage.{Stage};
 ghost use Rattle.ufmt_scan.specs.Scan.{Scans, events_of};
 
@@ -91,15 +91,13 @@ fn name_field<'a, S: Sink, const PRETTY: bool>(
     input: &'a [u8],
     sink: &mut S,
 ) -> Result<&'a [u8], ScanError<S::Error>>
+    requires { kind_of blocks.innermost ≡ Kind.Struct → 0 < blocks.count }
     ensures emitted { (outer : List Stage) → length outer ≡ 256
         → ScansOn S.took S.stopped result sink.old sink.new
         (scan_next mode (open_stages blocks outer) input.now)
         (λ rest. scan_begun mode (open_stages blocks outer) rest.now) }
     ensures within { IfOk result (λ rest. length rest.now ≤ length input.now) }
 {
-    if blocks.count == 0 {
-        return Ok(input);
-    }
     match blocks.innermost.kind() {
         Kind::Struct => {
             let (_, rest) = field_name::<S, PRETTY>(input, sink)?;

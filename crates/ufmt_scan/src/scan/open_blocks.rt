@@ -7,12 +7,13 @@ use ufmt::layout::{Count, Kind};
 /// What comes next in an open block: its first entry or a later one, or, in a map, a key or a value.
 #[derive(Clone, Copy)]
 pub(super) enum Stage {
+    /// The first entry of a set, or the first key of a map. After this one and the next a colon may
+    /// follow: they come first, so that one comparison finds them.
+    BracesFirst,
+    KeyLater,
     ListFirst,
     ListLater,
-    /// The first entry of a set, or the first key of a map.
-    BracesFirst,
     SetLater,
-    KeyLater,
     /// The value of the first pair.
     ValueFirst,
     ValueLater,

@@ -1,5 +1,5 @@
 use Rattle.std.proofs.Common.{◌∙◌, ap, sym, arith}
-use Rattle.ufmt_scan.specs.declared.scan.open_blocks.Stage.TheVariants.{ListFirst}
+use Rattle.ufmt_scan.specs.declared.scan.open_blocks.Stage.TheVariants.{BracesFirst}
 use Rattle.ufmt_scan.specs.Private.Scanning.{scan_left, scan_onward, open_stages}
 use Rattle.ufmt_scan.proofs.OpenSteps.{around, ended, ended_none}
 use Rattle.ufmt_scan.proofs.Scans.{refused, emits_left}
@@ -14,7 +14,7 @@ returns-in_err-next-clause-emitted g c =
 
 pub returns-in-Some-next-clause-emitted : goal.returns-in-Some-next-clause-emitted
 returns-in-Some-next-clause-emitted g c =
-    let blocks = innermost_is c.args.outer.now c.told-outer c.ends.open.count c.in-Some.depth c.in-Some-next.innermost ListFirst
+    let blocks = innermost_is c.args.outer.now c.told-outer c.ends.open.count c.in-Some.depth c.in-Some-next.innermost BracesFirst
     (omega (arith, c.in-Some.ensures)) (omega (arith, c.ends.invariant.few)) in
     emits_left (ended c.args.mode c.args.outer.now c.told-outer c.ends.open.count c.ends.open.innermost c.ends.invariant.few c.in-Some.depth
     (omega (arith, c.in-Some.ensures)) c.ends.rest.now c.in_ok-next.after.now c.in_ok-next.next c.ends.invariant.emitted c.in_ok-next.ensures.0)

@@ -8,13 +8,13 @@ pub returns-in_err-rest-in-Struct-clause-emitted : goal.returns-in_err-rest-in-S
 returns-in_err-rest-in-Struct-clause-emitted g c = λ outer whole.
     let count = c.args.blocks.count in
     refused (λ rest. scan_begun c.args.mode (open_stages c.args.blocks outer) rest.now) c.from_residual.result c.from_residual.ensures.1
-    (named_none c.args.mode outer whole count c.args.blocks.innermost (omega arith) (count - 1) (omega (arith, c.if-blocks-eq0.false)) (sym c.in-Struct.ensures)
+    (named_none c.args.mode outer whole count c.args.blocks.innermost (omega arith) (count - 1) (omega (arith, c.requires (sym c.in-Struct.ensures))) (sym c.in-Struct.ensures)
     c.args.input.now (c.in_err-rest-in-Struct.ensures (level_at c.args.mode (length (around outer (count - 1))))).0)
 
 pub returns-in_ok-rest-in-Struct-clause-emitted : goal.returns-in_ok-rest-in-Struct-clause-emitted
 returns-in_ok-rest-in-Struct-clause-emitted g c = λ outer whole.
     let count = c.args.blocks.count in
-    named c.args.mode outer whole count c.args.blocks.innermost (omega arith) (count - 1) (omega (arith, c.if-blocks-eq0.false)) (sym c.in-Struct.ensures)
+    named c.args.mode outer whole count c.args.blocks.innermost (omega arith) (count - 1) (omega (arith, c.requires (sym c.in-Struct.ensures))) (sym c.in-Struct.ensures)
     c.args.input.now c.in_ok-rest-in-Struct.rest.now (c.in_ok-rest-in-Struct.ensures (level_at c.args.mode (length (around outer (count - 1))))).0
 
 pub returns-in_ok-rest-in-Struct-clause-within : goal.returns-in_ok-rest-in-Struct-clause-within

@@ -33,6 +33,7 @@ documents-preserved-in-Some g c =
           (emits_then c.documents.invariant.emitted (c.in_ok-begun.ensures.emitted c.documents.outer c.documents.invariant.whole)) c.in_ok-opened.ensures.0)
           (ap (λ next. scan_onward c.args.mode (open_stages c.documents.blocks c.documents.outer) next c.in_ok-opened.after.now) c.in-Some.is ∙ ap (λ stages. scan_next c.args.mode stages c.in_ok-opened.after.now) (sym more));
       few = omega (arith, c.in-Some-checked_add.ensures);
+      in_block = λ struct. omega (arith, c.in-Some-checked_add.ensures);
       whole = length-set c.documents.outer c.documents.blocks.count c.documents.blocks.innermost ∙ c.documents.invariant.whole;
     }
 
@@ -58,5 +59,6 @@ documents-preserved g c =
           (emits_then c.documents.invariant.emitted (c.in_ok-begun.ensures.emitted c.documents.outer c.documents.invariant.whole)) c.in_ok-opened.ensures.0)
           (ap (λ next. scan_onward c.args.mode (open_stages c.documents.blocks c.documents.outer) next c.in_ok-opened.after.now) c.in_default.is)) c.in_ok-left.ensures.emitted) (rw is refl);
       few = few;
+      in_block = λ struct. omega (arith, c.if-blocks-eq0.false);
       whole = c.documents.invariant.whole;
     }
