@@ -1,8 +1,7 @@
 //! What is around the entries of blocks, stripped from a text at each of its levels.
 ghost use Rattle.std.specs.Prelude.{◌≡◌, ◌∷◌, ◌++◌, []};
 ghost use Rattle.ufmt.specs.Layout.{frame, inside, lead, line_start};
-ghost use Rattle.ufmt_core.specs.declared.layout.Count.TheVariants.{One, Zero};
-ghost use Rattle.ufmt_core.specs.declared.layout.Mode.TheVariants.{Pretty};
+ghost use Rattle.ufmt_core.specs.declared.layout.Count.TheVariants.{Zero};
 ghost use Rattle.ufmt.specs.Reading.{strip};
 ghost use Rattle.ufmt_scan.specs.Private.Level.{setting_at};
 ghost use Rattle.ufmt_scan.specs.Rest.{now_of};
@@ -60,17 +59,8 @@ pub(crate) fn strip_to_line<'a>(piece: &str, line: Setting, input: &'a [u8]) -> 
     Some(rest)
 }
 
-// The byte that ends a block with entries.
-#[inline(always)]
-fn closing_bracket(kind: Kind) -> u8
-    ensures { (frame Pretty kind).closing One ≡ result ∷ [] }
-{
-    match kind {
-        Kind::Brackets => b']',
-        Kind::Braces | Kind::Struct => b'}',
-        Kind::Tuple | Kind::Unnamed => b')',
-    }
-}
+// The bracket that ends a block of each kind.
+static CLOSING_BRACKETS: [u8; 5] = *b"]}}))";
 
 impl Level {
     /// The mode and depth that a document is laid out at.
@@ -108,6 +98,6 @@ impl Level {
             (Mode::Plain, Kind::Unnamed, Count::One) => strip_byte(b',', input)?,
             _ => input,
         };
-        strip_byte(closing_bracket(kind), bracket)
+        strip_byte(CLOSING_BRACKETS[kind as usize], bracket)
     }
 }

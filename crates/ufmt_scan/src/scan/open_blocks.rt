@@ -25,6 +25,23 @@ pub(super) enum Stage {
     UnnamedLater,
 }
 
+// Of each stage the kind of its block, how many entries came before, and the stage of the entry after it.
+static STAGES: [(Kind, Count, Stage); 13] = [
+    (Kind::Braces, Count::Zero, Stage::SetLater),
+    (Kind::Braces, Count::Several, Stage::KeyLater),
+    (Kind::Brackets, Count::Zero, Stage::ListLater),
+    (Kind::Brackets, Count::Several, Stage::ListLater),
+    (Kind::Braces, Count::Several, Stage::SetLater),
+    (Kind::Braces, Count::Zero, Stage::KeyLater),
+    (Kind::Braces, Count::Several, Stage::KeyLater),
+    (Kind::Struct, Count::Zero, Stage::FieldLater),
+    (Kind::Struct, Count::Several, Stage::FieldLater),
+    (Kind::Tuple, Count::Zero, Stage::TupleLater),
+    (Kind::Tuple, Count::Several, Stage::TupleLater),
+    (Kind::Unnamed, Count::Zero, Stage::UnnamedLater),
+    (Kind::Unnamed, Count::Several, Stage::UnnamedLater),
+];
+
 impl Stage {
     /// The first entry of a block of this kind.
     #[inline(always)]
@@ -45,14 +62,7 @@ impl Stage {
     pub(super) fn kind(self) -> Kind
         ensures { result ≡ kind_of self }
     {
-        match self {
-            Stage::ListFirst | Stage::ListLater => Kind::Brackets,
-            Stage::BracesFirst | Stage::SetLater => Kind::Braces,
-            Stage::KeyLater | Stage::ValueFirst | Stage::ValueLater => Kind::Braces,
-            Stage::FieldFirst | Stage::FieldLater => Kind::Struct,
-            Stage::TupleFirst | Stage::TupleLater => Kind::Tuple,
-            Stage::UnnamedFirst | Stage::UnnamedLater => Kind::Unnamed,
-        }
+        STAGES[self as usize].0
     }
 
     /// How many entries came before.
@@ -60,13 +70,7 @@ impl Stage {
     pub(super) fn earlier(self) -> Count
         ensures { result ≡ earlier self }
     {
-        match self {
-            Stage::ListFirst | Stage::BracesFirst | Stage::ValueFirst => Count::Zero,
-            Stage::FieldFirst | Stage::TupleFirst | Stage::UnnamedFirst => Count::Zero,
-            Stage::ListLater | Stage::SetLater | Stage::KeyLater => Count::Several,
-            Stage::ValueLater | Stage::FieldLater => Count::Several,
-            Stage::TupleLater | Stage::UnnamedLater => Count::Several,
-        }
+        STAGES[self as usize].1
     }
 
     /// The entry after this one.
@@ -74,14 +78,7 @@ impl Stage {
     pub(super) fn later(self) -> Stage
         ensures { result ≡ later self }
     {
-        match self {
-            Stage::ListFirst | Stage::ListLater => Stage::ListLater,
-            Stage::BracesFirst | Stage::SetLater => Stage::SetLater,
-            Stage::KeyLater | Stage::ValueFirst | Stage::ValueLater => Stage::KeyLater,
-            Stage::FieldFirst | Stage::FieldLater => Stage::FieldLater,
-            Stage::TupleFirst | Stage::TupleLater => Stage::TupleLater,
-            Stage::UnnamedFirst | Stage::UnnamedLater => Stage::UnnamedLater,
-        }
+        STAGES[self as usize].2
     }
 }
 
