@@ -1,6 +1,5 @@
 -- The events of documents, pairs and fields, by how these begin.
 use Rattle.std.proofs.Common.{◌≡◌, refl, ap, ◌∙◌, sym, ℕ, zero, suc, ◌<◌, ◌≤◌, ◌==◌, ◌||◌, Bool, cond, ◌⊎◌, inl, inr, true, false, List, [], ◌∷◌, ◌++◌, length, length-append, eqb-true, map, Option, Some, None, option_and_then, codes, subst, Bor, Result, Ok, Err, arith}
-use Rattle.std.proofs.Common.{◌≢◌}
 use Rattle.ufmt.specs.Document.{Document, list_of, set_of, map_of, struct_of, tuple_of, no_documents, no_pairs, Documents, document, documents, pairs_of, fields_of}
 use Rattle.ufmt_core.specs.declared.layout.Setting.{Setting}
 use Rattle.ufmt_scan.specs.declared.scan.event.ScanError.{ScanError}
@@ -157,23 +156,6 @@ later_continues level stages.TupleLater t = refl
 later_continues level stages.UnnamedFirst t = refl
 later_continues level stages.UnnamedLater t = refl
 
--- where no colon may follow, the entry ends
-pub entry_ends : (level : Level) (stage : Stage) (t : List ℕ) → stage ≢ stages.BracesFirst → stage ≢ stages.KeyLater
-    → scan_stage level stage t ≡ scan_rest (turn_of level stage) level (kind_of stage) (next (earlier stage)) t
-entry_ends level stages.ListFirst t first key = refl
-entry_ends level stages.ListLater t first key = refl
-entry_ends level stages.BracesFirst t first key = absurd (first refl)
-entry_ends level stages.SetLater t first key = refl
-entry_ends level stages.KeyLater t first key = absurd (key refl)
-entry_ends level stages.ValueFirst t first key = refl
-entry_ends level stages.ValueLater t first key = refl
-entry_ends level stages.FieldFirst t first key = refl
-entry_ends level stages.FieldLater t first key = refl
-entry_ends level stages.TupleFirst t first key = refl
-entry_ends level stages.TupleLater t first key = refl
-entry_ends level stages.UnnamedFirst t first key = refl
-entry_ends level stages.UnnamedLater t first key = refl
-
 -- a leaf that is no word and isn't `()` is in quotes
 pub symbol_is_quoted : (t : List ℕ) (o : Option (List ℕ × List ℕ)) → strip (codes "()") t ≡ None → o ≡ read_quoted t → read_symbol t ≡ o
 symbol_is_quoted t o none is = rw none (sym is)
@@ -250,10 +232,3 @@ label_scans level t w u v word rest some colon = (
         (parse_map events_of o)
     labelled None = refl
     labelled (Some x) = refl
-
--- nothing is read where a test holds, or nothing is there
-tested : (last opens : Bool) (o : Option (List ℕ × List ℕ)) → (opens ≡ true) ⊎ (o ≡ None) → None ≡ cond (last || opens) None o
-tested true opens o none = refl
-tested false true o none = refl
-tested false false o (inl opens) = absurd (cc)
-tested false false o (inr none) = sym none

@@ -13,8 +13,6 @@ use Rattle.ufmt_scan.specs.declared.level.Level.{Level}
 use Rattle.ufmt_scan.specs.declared.scan.event.Event.TheVariants as events
 use Rattle.ufmt_scan.specs.declared.scan.event.ScanError.{ScanError}
 use Rattle.ufmt_scan.specs.declared.scan.event.ScanError.TheVariants.{NotText, Sink}
-use Rattle.ufmt_scan.specs.declared.scan.step.Colon.{Colon}
-use Rattle.ufmt_scan.specs.declared.scan.step.Colon.TheVariants.{Follows, Absent, Missing}
 use Rattle.ufmt_scan.specs.declared.scan.open_blocks.OpenBlocks.{OpenBlocks}
 use Rattle.ufmt_scan.specs.declared.scan.open_blocks.Stage.{Stage}
 use Rattle.ufmt_scan.specs.declared.scan.open_blocks.Stage.TheVariants as stages
@@ -88,6 +86,11 @@ later stages.FieldFirst = stages.FieldLater
 later stages.TupleFirst = stages.TupleLater
 later stages.UnnamedFirst = stages.UnnamedLater
 later stage = stage
+
+-- the stage of the value of a key
+abbrev pub value_of : Stage → Stage
+value_of stages.BracesFirst = stages.ValueFirst
+value_of _ = stages.ValueLater
 
 -- how the block reads them
 abbrev pub turn_of : Level → Stage → Turn
@@ -221,10 +224,3 @@ Steps took stopped answer old new bytes there onward =
 abbrev pub StripsBracket : Level → List ℕ → Option (Kind × Bor (List ℕ)) → Type 0
 StripsBracket level t answer = MatchOption answer ((strip (codes "[") t ≡ None) × (strip (codes "{") t ≡ None))
     (λ x. (parse_map events_of (read_without_name (setting_at level) (entry_of level) t) ≡ scan_block level x.0 x.1.now) × (length x.1.now < length t))
-
--- what follows a document at this stage: a colon and a value, or what follows an entry, or nothing
-abbrev pub StripsColon : Level → Stage → List ℕ → Colon → Type 0
-StripsColon level stage t (Follows value rest) =
-    (scan_stage level stage t ≡ prefixed (events.Colon ∷ []) (after level (Some value) rest.now)) × (length rest.now < suc (length t))
-StripsColon level stage t Absent = scan_stage level stage t ≡ scan_rest (turn_of level stage) level (kind_of stage) (next (earlier stage)) t
-StripsColon level stage t Missing = scan_stage level stage t ≡ None

@@ -1,6 +1,6 @@
 //! The blocks that are open in a text, one in another, and what comes next in each.
 ghost use Rattle.std.specs.Prelude.{◌≡◌};
-ghost use Rattle.ufmt_scan.specs.Private.Scanning.{earlier, first_stage, kind_of, later};
+ghost use Rattle.ufmt_scan.specs.Private.Scanning.{earlier, first_stage, kind_of, later, value_of};
 
 use ufmt::layout::{Count, Kind};
 
@@ -71,6 +71,17 @@ impl Stage {
         ensures { result ≡ earlier self }
     {
         STAGES[self as usize].1
+    }
+
+    /// The value of this key.
+    #[inline(always)]
+    pub(super) fn value(self) -> Stage
+        ensures { result ≡ value_of self }
+    {
+        match self {
+            Stage::BracesFirst => Stage::ValueFirst,
+            _ => Stage::ValueLater,
+        }
     }
 
     /// The entry after this one.

@@ -1,11 +1,10 @@
 //! Which event comes next in a text.
 ghost use Rattle.std.specs.Prelude.{◌≡◌, ◌<◌, ◌++◌, length, suc, ℕ};
 ghost use Rattle.ufmt.specs.Layout.{entry_depth, line_start, next, separator};
-ghost use Rattle.ufmt.specs.Reading.{parse_map, read, read_named, read_without_name};
-ghost use Rattle.ufmt.specs.Token.{IsWord};
+ghost use Rattle.ufmt.specs.Reading.{parse_map, read, read_without_name};
 ghost use Rattle.ufmt_scan.specs.declared.level.Level.{Level};
 ghost use Rattle.ufmt_scan.specs.Private.Level.{budget_of, entry_of, setting_at};
-ghost use Rattle.ufmt_scan.specs.Private.Scanning.{Steps, StripsBracket, StripsColon, after, scan_block, earlier, entries, fields, kind_of, scan_rest, scan_stage, turn_of, scan_turn};
+ghost use Rattle.ufmt_scan.specs.Private.Scanning.{Steps, StripsBracket, after, scan_block, earlier, entries, fields, kind_of, scan_rest, scan_stage, turn_of, scan_turn};
 ghost use Rattle.ufmt_scan.specs.Scan.{events_of};
 
 use super::event::{Event, ScanError, Sink, Step, emit};
@@ -46,33 +45,25 @@ pub(super) fn begin<'a, S: Sink, const PRETTY: bool>(
 {
     let (word, rest) = split_word(input);
     if word.is_empty() {
-        begin_without_name::<S, PRETTY>(level, input, sink)
-    } else {
-        begin_named::<S, PRETTY>(level, text_from(word, 0), rest, sink)
+        return begin_without_name::<S, PRETTY>(level, input, sink);
     }
-}
-
-// What begins with this word, after the word.
-#[inline(always)]
-fn begin_named<'a, S: Sink, const PRETTY: bool>(
-    level: Level,
-    name: &str,
-    input: &'a [u8],
-    sink: &mut S,
-) -> Result<Step<'a>, ScanError<S::Error>>
-    requires { IsWord name.now }
-    ensures { Steps S.took S.stopped result sink.old sink.new (suc (length input.now))
-        (parse_map events_of (read_named (setting_at level) (entry_of level) name.now input.now))
-        (after level) }
-{
-    if let Some(rest) = level.strip_lead(Kind::Tuple, input) {
-        let event = Event::Open(Kind::Tuple, name);
-        emit(event, Some(Stage::TupleFirst), rest, sink)
-    } else if let Some(rest) = level.strip_lead(Kind::Struct, input) {
-        let event = Event::Open(Kind::Struct, name);
-        emit(event, Some(Stage::FieldFirst), rest, sink)
+    let name = text_from(word, 0);
+    if let Some(rest) = level.strip_lead(Kind::Tuple, rest) {
+        emit(
+            Event::Open(Kind::Tuple, name),
+            Some(Stage::TupleFirst),
+            rest,
+            sink,
+        )
+    } else if let Some(rest) = level.strip_lead(Kind::Struct, rest) {
+        emit(
+            Event::Open(Kind::Struct, name),
+            Some(Stage::FieldFirst),
+            rest,
+            sink,
+        )
     } else {
-        emit(Event::Leaf(name), None, input, sink)
+        emit(Event::Leaf(name), None, rest, sink)
     }
 }
 
@@ -92,8 +83,12 @@ fn begin_without_name<'a, S: Sink, const PRETTY: bool>(
     } else if let Some(rest) = strip_piece("()", input) {
         emit(Event::Leaf("()"), None, rest, sink)
     } else if let Some(rest) = level.strip_lead(Kind::Unnamed, input) {
-        let event = Event::Open(Kind::Unnamed, "");
-        emit(event, Some(Stage::UnnamedFirst), rest, sink)
+        emit(
+            Event::Open(Kind::Unnamed, ""),
+            Some(Stage::UnnamedFirst),
+            rest,
+            sink,
+        )
     } else if let Some((text, rest)) = split_quotes(input) {
         emit(Event::Leaf(text), None, rest, sink)
     } else {
@@ -127,8 +122,7 @@ fn begin_block<'a, S: Sink, const PRETTY: bool>(
     if let Some(rest) = level.strip_closing(kind, Count::Zero, input) {
         emit(Event::Empty(kind), None, rest, sink)
     } else if let Some(rest) = level.strip_lead(kind, input) {
-        let event = Event::Open(kind, "");
-        emit(event, Some(Stage::first(kind)), rest, sink)
+        emit(Event::Open(kind, ""), Some(Stage::first(kind)), rest, sink)
     } else {
         Err(ScanError::NotText)
     }
@@ -146,39 +140,15 @@ pub(super) fn after_document<'a, S: Sink, const PRETTY: bool>(
     ensures { Steps S.took S.stopped result sink.old sink.new (suc (length input.now))
         (scan_stage level stage input.now) (after level) }
 {
-    match strip_colon(stage, input) {
-        Colon::Follows(value, rest) => emit(Event::Colon, Some(value), rest, sink),
-        Colon::Absent => after_entry::<S, PRETTY>(level, stage, input, sink),
-        Colon::Missing => Err(ScanError::NotText),
+    if let Stage::BracesFirst | Stage::KeyLater = stage {
+        if let Some(rest) = strip_piece(COLON, input) {
+            return emit(Event::Colon, Some(stage.value()), rest, sink);
+        }
+        if let Stage::KeyLater = stage {
+            return Err(ScanError::NotText);
+        }
     }
-}
-
-/// Whether a colon follows.
-pub(crate) enum Colon<'a> {
-    /// It does, and then a value at this stage.
-    Follows(Stage, &'a [u8]),
-    /// It doesn't, and need not.
-    Absent,
-    /// It doesn't, and a key is there.
-    Missing,
-}
-
-// The colon after a key, or after what may be one.
-#[inline(always)]
-fn strip_colon(stage: Stage, input: &[u8]) -> Colon<'_>
-    ensures { (level : Level) → StripsColon level stage input.now result }
-{
-    match stage {
-        Stage::BracesFirst => match strip_piece(COLON, input) {
-            Some(rest) => Colon::Follows(Stage::ValueFirst, rest),
-            None => Colon::Absent,
-        },
-        Stage::KeyLater => match strip_piece(COLON, input) {
-            Some(rest) => Colon::Follows(Stage::ValueLater, rest),
-            None => Colon::Missing,
-        },
-        _ => Colon::Absent,
-    }
+    after_entry::<S, PRETTY>(level, stage, input, sink)
 }
 
 // What follows an entry, a pair or a field.

@@ -1,11 +1,21 @@
-use Rattle.ufmt_scan.proofs.Scans.{nothing_there}
+use Rattle.std.proofs.Common.{◌≡◌, ◌⊎◌, inl, inr, refl, sym, ℕ, List, [], ◌∷◌, Some, codes, arith}
+use Rattle.ufmt.specs.Reading.{strip}
+use Rattle.ufmt.proofs.ReadingTurns.{strip_within}
+use Rattle.ufmt_scan.specs.declared.level.Level.{Level}
+use Rattle.ufmt_scan.specs.declared.scan.event.Event.TheVariants.{Colon}
+use Rattle.ufmt_scan.specs.declared.scan.open_blocks.Stage.{Stage}
+use Rattle.ufmt_scan.specs.declared.scan.open_blocks.Stage.TheVariants.{BracesFirst, KeyLater}
+use Rattle.ufmt_scan.specs.Private.Scanning.{after, prefixed, scan_stage, value_of}
 use Rattle.ufmt_scan.proofs.scan.step.after_document.Goals as goal
 
-pub returns-in-Follows : goal.returns-in-Follows
-returns-in-Follows g c = c.emit.ensures _ _ _ (c.in-Follows.ensures c.args.level).0 (c.in-Follows.ensures c.args.level).1
+-- a colon and a value follow a key
+value_scans : (level : Level) (stage : Stage) (t u : List ℕ) → (stage ≡ BracesFirst) ⊎ (stage ≡ KeyLater) → strip (codes ": ") t ≡ Some u
+    → scan_stage level stage t ≡ prefixed (Colon ∷ []) (after level (Some (value_of stage)) u)
+value_scans level stage t u (inl is) colon = rw (is, colon) refl
+value_scans level stage t u (inr is) colon = rw (is, colon) refl
 
-pub returns-in-Absent : goal.returns-in-Absent
-returns-in-Absent g c = rw (c.in-Absent.ensures c.args.level) c.after_entry.ensures
-
-pub returns-in-Missing : goal.returns-in-Missing
-returns-in-Missing g c = (nothing_there _ (c.in-Missing.ensures c.args.level), tt)
+pub returns-in-Some : goal.returns-in-Some
+returns-in-Some g c =
+    let within = strip_within (codes ": ") c.args.input.now c.in-Some.rest.now (sym c.in-Some.ensures) in
+    c.emit.ensures _ _ (after c.args.level)
+    (rw c.value.ensures (value_scans c.args.level c.args.stage c.args.input.now c.in-Some.rest.now c.in-BracesFirst.is (sym c.in-Some.ensures))) (omega (arith, within))

@@ -1,32 +1,55 @@
-use Rattle.std.proofs.Common.{◌≡◌, ◌∙◌, ◌==◌, ap, sym, length, false}
-use Rattle.ufmt.specs.Reading.{parse_map}
+use Rattle.std.proofs.Common.{◌≡◌, ◌∙◌, ◌≤◌, ◌==◌, ap, sym, subst, ℕ, suc, List, length, false, arith}
+use Rattle.ufmt.specs.Reading.{after_word, parse_map, read, read_named, word_of}
+use Rattle.ufmt.specs.Token.{IsWord}
+use Rattle.ufmt_core.specs.declared.layout.Kind.TheVariants.{Struct, Tuple}
+use Rattle.ufmt_scan.specs.declared.level.Level.{Level}
+use Rattle.ufmt_scan.specs.Private.Level.{budget_of, entry_of, setting_at}
 use Rattle.ufmt_scan.specs.Scan.{events_of}
-use Rattle.ufmt_scan.specs.Private.Level.{budget_of, setting_at}
-use Rattle.ufmt_scan.specs.Private.Scanning.{after}
-use Rattle.ufmt_scan.proofs.DocumentParts.{front_is_bytes, front_is_word, reads_named, reads_without_name, steps_as, word_within}
+use Rattle.ufmt_scan.proofs.DocumentParts.{front_is_bytes, front_is_word, name_scans, reads_named, reads_without_name, struct_scans, tuple_scans, word_within}
+use Rattle.ufmt_scan.proofs.EntrySteps.{after_lead}
 use Rattle.ufmt_scan.proofs.WordBytes.{word_bytes_are_ascii}
 use Rattle.ufmt_scan.proofs.scan.step.begin.Goals as goal
 
-pub text_from-requires-clause-ascii : goal.text_from-requires-clause-ascii
-text_from-requires-clause-ascii g c = word_bytes_are_ascii c.split_word.result.0.now
+pub text_from-name-requires-clause-ascii : goal.text_from-name-requires-clause-ascii
+text_from-name-requires-clause-ascii g c = word_bytes_are_ascii c.split_word.result.0.now
     (front_is_bytes c.args.input.now c.split_word.result.0.now c.split_word.ensures.word)
-
-pub begin_named-requires : goal.begin_named-requires
-begin_named-requires g c = rw c.text_from.ensures (front_is_word c.args.input.now c.split_word.result.0.now c.split_word.ensures.word
-    (sym c.is_empty.ensures ∙ c.if-is_empty.false))
 
 pub returns-then-is_empty : goal.returns-then-is_empty
 returns-then-is_empty g c =
     rw (reads_without_name (setting_at c.args.level) (budget_of c.args.level) c.args.input.now c.split_word.result.0.now c.split_word.ensures.word
     (sym c.is_empty.ensures ∙ c.if-is_empty.true)) c.begin_without_name.ensures
 
-pub returns-else-is_empty : goal.returns-else-is_empty
-returns-else-is_empty g c =
-    let input = c.args.input.now in
-    let name = c.text_from.result.now in
-    let rest = c.split_word.result.1.now in
-    let word = c.text_from.ensures ∙ c.split_word.ensures.word in
-    let some : (length name == 0) ≡ false = rw c.text_from.ensures (sym c.is_empty.ensures ∙ c.if-is_empty.false) in
-    steps_as g.S.Sink.took g.S.Sink.stopped c.args.sink.now c.begin_named.new.sink (after c.args.level) _ c.begin_named.result _ (word_within input name rest word c.split_word.ensures.rest some)
-    (ap (parse_map events_of) (reads_named (setting_at c.args.level)
-    (budget_of c.args.level) input name rest word c.split_word.ensures.rest some)) c.begin_named.ensures
+-- a text with word bytes at its front is read by its word, which has this name
+record Named (level : Level) (t name u : List ℕ) : Type 0 where
+  is_word : IsWord name
+  reads : parse_map events_of (read (setting_at level) (budget_of level) t) ≡ parse_map events_of (read_named (setting_at level) (entry_of level) name u)
+  within : suc (length u) ≤ length t
+
+named : (level : Level) (t w u : List ℕ) {name : List ℕ} → name ≡ w → w ≡ word_of t → u ≡ after_word t → (length w == 0) ≡ false → Named level t name u
+named level t w u is word rest some = subst (λ name. Named level t name u) (sym is) (record {
+  is_word = front_is_word t w word some;
+  reads = ap (parse_map events_of) (reads_named (setting_at level) (budget_of level) t w u word rest some);
+  within = word_within t w u word rest some;
+})
+
+pub returns-in-Some : goal.returns-in-Some
+returns-in-Some g c =
+    let front = named c.args.level c.args.input.now _ _ c.text_from-name.ensures c.split_word.ensures.word c.split_word.ensures.rest
+    (sym c.is_empty.ensures ∙ c.if-is_empty.false) in
+    let less = after_lead c.args.level Tuple c.split_word.result.1.now c.in-Some.rest.now (sym c.in-Some.ensures) in
+    c.emit.ensures _ _ _ (front.reads ∙ tuple_scans c.args.level _ c.split_word.result.1.now c.in-Some.rest.now front.is_word (sym c.in-Some.ensures)) (omega (arith, front.within, less))
+
+pub returns-in-Some-strip_lead : goal.returns-in-Some-strip_lead
+returns-in-Some-strip_lead g c =
+    let front = named c.args.level c.args.input.now _ _ c.text_from-name.ensures c.split_word.ensures.word c.split_word.ensures.rest
+    (sym c.is_empty.ensures ∙ c.if-is_empty.false) in
+    let less = after_lead c.args.level Struct c.split_word.result.1.now c.in-Some-strip_lead.rest.now (sym c.in-Some-strip_lead.ensures) in
+    c.emit-in-Some-strip_lead.ensures _ _ _
+    (front.reads ∙ struct_scans c.args.level _ c.split_word.result.1.now c.in-Some-strip_lead.rest.now front.is_word (sym c.in_default.ensures) (sym c.in-Some-strip_lead.ensures)) (omega (arith, front.within, less))
+
+pub returns-in_default-strip_lead : goal.returns-in_default-strip_lead
+returns-in_default-strip_lead g c =
+    let front = named c.args.level c.args.input.now _ _ c.text_from-name.ensures c.split_word.ensures.word c.split_word.ensures.rest
+    (sym c.is_empty.ensures ∙ c.if-is_empty.false) in
+    c.emit-in_default-strip_lead.ensures _ _ _
+    (front.reads ∙ name_scans c.args.level _ _ front.is_word (sym c.in_default.ensures) (sym c.in_default-strip_lead.ensures)) front.within
