@@ -1,5 +1,5 @@
 -- Texts stripped from slices.
-use Rattle.std.proofs.Common.{◌≡◌, ◌≢◌, refl, sym, ℕ, suc, ◌+◌, ◌-◌, ◌<◌, List, ◌++◌, Option, Some, None, codes, Bor, MatchOption, arith}
+use Rattle.std.proofs.Common.{◌≡◌, ◌≢◌, refl, sym, ap, ℕ, suc, ◌-◌, ◌≤◌, List, ◌++◌, Option, Some, None, codes, Bor, MatchOption, arith}
 use Rattle.ufmt.specs.Layout.{if_any, indentation, next}
 use Rattle.ufmt_core.specs.declared.layout.Count.{Count}
 use Rattle.ufmt_core.specs.declared.layout.Count.TheVariants.{Zero, One, Several}
@@ -14,9 +14,9 @@ pub stripped : (text t : List ℕ) (r : Option (Bor (List ℕ)))
 stripped text t None h = sym (strip_of_none text t h)
 stripped text t (Some x) h = sym (strip_of_front text t x.now h)
 
--- a line with units left begins with one
-pub indentation_more : (units unit : ℕ) → unit < units → indentation (units - unit) ≡ codes "    " ++ indentation (units - (unit + 1))
-indentation_more units unit h = let one_more : units - unit ≡ suc (units - (unit + 1)) = omega arith in rw one_more refl
+-- a line with two units left begins with them
+pub indentation_more : (units : ℕ) → 2 ≤ units → indentation units ≡ codes "        " ++ indentation (units - 2)
+indentation_more units h = let two_more : units ≡ suc (suc (units - 2)) = omega arith in ap indentation two_more
 
 -- after an entry a block has one
 pub if_any-next : (count : Count) (text : List ℕ) → if_any (next count) text ≡ text

@@ -8,6 +8,8 @@ ghost use Rattle.ufmt_scan.specs.Rest.{now_of};
 
 use ufmt::layout::{Count, Kind, Mode, Setting, UNIT};
 
+const TWO_UNITS: &str = "        ";
+
 /// The mode that a document is laid out in, and how many blocks are open around it.
 #[derive(Clone, Copy)]
 pub(crate) struct Level {
@@ -53,7 +55,12 @@ pub(crate) fn strip_to_line<'a>(piece: &str, line: Setting, input: &'a [u8]) -> 
     ensures { now_of result ≡ strip (piece.now ++ line_start line.mode line.depth) input.now }
 {
     let mut rest = strip_piece(piece, input)?;
-    for _unit in 0..line.units() {
+    let mut units = line.units();
+    'pairs: while units >= 2 {
+        rest = strip_piece(TWO_UNITS, rest)?;
+        units -= 2;
+    }
+    if units == 1 {
         rest = strip_piece(UNIT, rest)?;
     }
     Some(rest)
