@@ -1,5 +1,5 @@
 //! Texts and characters in quotes.
-ghost use Rattle.std.specs.Prelude.{◌≡◌, ◌<◌, ◌≤◌, ◌+◌, ◌++◌, [], drop, length, is_none, is_ok, MatchOption};
+ghost use Rattle.std.specs.Prelude.{◌≡◌, ◌<◌, ◌≤◌, ◌+◌, ◌++◌, [], drop, length, is_none, is_ok, MatchOption, Some, ℕ};
 ghost use Rattle.std.specs.Option.{option_copied};
 ghost use Rattle.std.specs.Str.{chars};
 ghost use Rattle.ufmt_core.specs.Formatter.{Prints};
@@ -17,48 +17,60 @@ static STAND_FOR_THEMSELVES: [u8; 256] = *b"\
 
 /// How a byte is written between these quotes, and `None` where it stands for itself, as every byte
 /// past ASCII does. `quote` is a quotation mark or an apostrophe.
+#[inline]
 pub fn escape(byte: u8, quote: u8) -> Option<&'static str>
     requires { IsQuote quote }
     ensures { option_copied result ≡ escape quote byte }
 {
     match byte {
-        b'"' if quote == b'"' => Some("\\\""),
-        b'\'' if quote == b'\'' => Some("\\'"),
-        b'\0' => Some("\\0"),
-        0x01 => Some("\\u{1}"),
-        0x02 => Some("\\u{2}"),
-        0x03 => Some("\\u{3}"),
-        0x04 => Some("\\u{4}"),
-        0x05 => Some("\\u{5}"),
-        0x06 => Some("\\u{6}"),
-        0x07 => Some("\\u{7}"),
-        0x08 => Some("\\u{8}"),
-        b'\t' => Some("\\t"),
-        b'\n' => Some("\\n"),
-        0x0b => Some("\\u{b}"),
-        0x0c => Some("\\u{c}"),
-        b'\r' => Some("\\r"),
-        0x0e => Some("\\u{e}"),
-        0x0f => Some("\\u{f}"),
-        0x10 => Some("\\u{10}"),
-        0x11 => Some("\\u{11}"),
-        0x12 => Some("\\u{12}"),
-        0x13 => Some("\\u{13}"),
-        0x14 => Some("\\u{14}"),
-        0x15 => Some("\\u{15}"),
-        0x16 => Some("\\u{16}"),
-        0x17 => Some("\\u{17}"),
-        0x18 => Some("\\u{18}"),
-        0x19 => Some("\\u{19}"),
-        0x1a => Some("\\u{1a}"),
-        0x1b => Some("\\u{1b}"),
-        0x1c => Some("\\u{1c}"),
-        0x1d => Some("\\u{1d}"),
-        0x1e => Some("\\u{1e}"),
-        0x1f => Some("\\u{1f}"),
+        0..=0x1f => Some(control(byte)),
         b'\\' => Some("\\\\"),
         0x7f => Some("\\u{7f}"),
+        b'"' if quote == b'"' => Some("\\\""),
+        b'\'' if quote == b'\'' => Some("\\'"),
         _ => None,
+    }
+}
+
+// How a byte below a space is written. These are all of a row, so that they are compiled to a table.
+#[inline(always)]
+fn control(byte: u8) -> &'static str
+    requires { byte < 32 }
+    ensures { (quote : ℕ) → IsQuote quote → Some result.now ≡ escape quote byte }
+{
+    match byte {
+        b'\0' => "\\0",
+        0x01 => "\\u{1}",
+        0x02 => "\\u{2}",
+        0x03 => "\\u{3}",
+        0x04 => "\\u{4}",
+        0x05 => "\\u{5}",
+        0x06 => "\\u{6}",
+        0x07 => "\\u{7}",
+        0x08 => "\\u{8}",
+        b'\t' => "\\t",
+        b'\n' => "\\n",
+        0x0b => "\\u{b}",
+        0x0c => "\\u{c}",
+        b'\r' => "\\r",
+        0x0e => "\\u{e}",
+        0x0f => "\\u{f}",
+        0x10 => "\\u{10}",
+        0x11 => "\\u{11}",
+        0x12 => "\\u{12}",
+        0x13 => "\\u{13}",
+        0x14 => "\\u{14}",
+        0x15 => "\\u{15}",
+        0x16 => "\\u{16}",
+        0x17 => "\\u{17}",
+        0x18 => "\\u{18}",
+        0x19 => "\\u{19}",
+        0x1a => "\\u{1a}",
+        0x1b => "\\u{1b}",
+        0x1c => "\\u{1c}",
+        0x1d => "\\u{1d}",
+        0x1e => "\\u{1e}",
+        _ => "\\u{1f}",
     }
 }
 

@@ -1,18 +1,23 @@
 -- Steps of a scan in its open blocks.
-use Rattle.std.proofs.Common.{◌≡◌, ap, get_or, refl, sym, ℕ, ◌+◌, ◌<◌, List, ◌∷◌, length, Option, Some, None, arith}
+use Rattle.std.proofs.Common.{◌≡◌, ◌⊎◌, inl, inr, ap, get_or, refl, sym, ℕ, ◌+◌, ◌<◌, List, ◌∷◌, length, Option, Some, None, arith}
 use Rattle.ufmt.specs.Reading.{Parse, parse_map, read}
 use Rattle.ufmt_core.specs.declared.layout.Kind.TheVariants.{Struct}
 use Rattle.ufmt_core.specs.declared.layout.Mode.{Mode}
 use Rattle.ufmt_scan.specs.declared.level.Level.{Level}
 use Rattle.ufmt_scan.specs.declared.scan.event.ScanError.{ScanError}
 use Rattle.ufmt_scan.specs.declared.scan.open_blocks.Stage.{Stage}
-use Rattle.ufmt_scan.specs.declared.scan.open_blocks.Stage.TheVariants.{BracesFirst}
+use Rattle.ufmt_scan.specs.declared.scan.open_blocks.Stage.TheVariants.{BracesFirst, FieldFirst, FieldLater}
 use Rattle.ufmt_scan.specs.Private.Level.{budget_of, setting_at}
 use Rattle.ufmt_scan.specs.Private.Scanning.{Stops, Emits, Scanned, after, scan_next, scan_ends, coming, scan_begun, entries, fields, kind_of, level_at, scan_onward, open_stages, scan_stage, then_scan, scan_turn}
 use Rattle.ufmt_scan.specs.Scan.{TextEvent, events_of}
 use Rattle.ufmt_scan.proofs.Scans.{document_is, stops_after, stops_in, emits_in, emits_then}
 use Rattle.ufmt_scan.proofs.Stacks.{blocks_of, count_is, innermost_is}
 use Rattle.ufmt_scan.proofs.ScanTurns.{prefixed_nothing, then-then}
+
+-- a field comes in a struct
+pub field_stage : {stage : Stage} → (stage ≡ FieldFirst) ⊎ (stage ≡ FieldLater) → kind_of stage ≡ Struct
+field_stage (inl is) = ap kind_of is
+field_stage (inr is) = ap kind_of is
 
 -- what comes next in the innermost block, and then what follows in the others
 onward_in : (mode : Mode) (outer : List Stage) (next : Option Stage) (t : List ℕ)

@@ -98,8 +98,8 @@ fn name_field<'a, S: Sink, const PRETTY: bool>(
         (λ rest. scan_begun mode (open_stages blocks outer) rest.now) }
     ensures within { IfOk result (λ rest. length rest.now ≤ length input.now) }
 {
-    match blocks.innermost.kind() {
-        Kind::Struct => {
+    match blocks.innermost {
+        Stage::FieldFirst | Stage::FieldLater => {
             let (_, rest) = field_name::<S, PRETTY>(input, sink)?;
             Ok(rest)
         }

@@ -7,8 +7,8 @@ use ufmt::layout::{Count, Kind};
 /// What comes next in an open block: its first entry or a later one, or, in a map, a key or a value.
 #[derive(Clone, Copy)]
 pub(super) enum Stage {
-    /// The first entry of a set, or the first key of a map. After this one and the next a colon may
-    /// follow: they come first, so that one comparison finds them.
+    // A colon may follow these two, and a name comes at the last two: one comparison finds either pair.
+    /// The first entry of a set, or the first key of a map.
     BracesFirst,
     KeyLater,
     ListFirst,
@@ -17,12 +17,12 @@ pub(super) enum Stage {
     /// The value of the first pair.
     ValueFirst,
     ValueLater,
-    FieldFirst,
-    FieldLater,
     TupleFirst,
     TupleLater,
     UnnamedFirst,
     UnnamedLater,
+    FieldFirst,
+    FieldLater,
 }
 
 // Of each stage the kind of its block, how many entries came before, and the stage of the entry after it.
@@ -34,12 +34,12 @@ static STAGES: [(Kind, Count, Stage); 13] = [
     (Kind::Braces, Count::Several, Stage::SetLater),
     (Kind::Braces, Count::Zero, Stage::KeyLater),
     (Kind::Braces, Count::Several, Stage::KeyLater),
-    (Kind::Struct, Count::Zero, Stage::FieldLater),
-    (Kind::Struct, Count::Several, Stage::FieldLater),
     (Kind::Tuple, Count::Zero, Stage::TupleLater),
     (Kind::Tuple, Count::Several, Stage::TupleLater),
     (Kind::Unnamed, Count::Zero, Stage::UnnamedLater),
     (Kind::Unnamed, Count::Several, Stage::UnnamedLater),
+    (Kind::Struct, Count::Zero, Stage::FieldLater),
+    (Kind::Struct, Count::Several, Stage::FieldLater),
 ];
 
 impl Stage {
