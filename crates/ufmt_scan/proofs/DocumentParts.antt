@@ -16,8 +16,8 @@ use Rattle.ufmt.proofs.TokenLeaves.{leaf_begins, read_symbol_sound, symbol_leaf}
 use Rattle.ufmt.proofs.ReadingWords.{word_of_bytes}
 use Rattle.ufmt_scan.specs.declared.level.Level.{Level}
 use Rattle.ufmt_scan.specs.declared.scan.event.Event.TheVariants.{Colon, Empty, FieldName, Leaf, Open}
-use Rattle.ufmt_scan.specs.declared.scan.open_blocks.Stage.{Stage}
-use Rattle.ufmt_scan.specs.declared.scan.open_blocks.Stage.TheVariants as stages
+use Rattle.ufmt_scan.specs.declared.scan.step.Stage.{Stage}
+use Rattle.ufmt_scan.specs.declared.scan.step.Stage.TheVariants as stages
 use Rattle.ufmt_scan.specs.Scan.{TextEvent, events_of, events_of_entries, events_of_fields, events_of_pairs, tail_events}
 use Rattle.ufmt_scan.specs.Private.Level.{entry_at, entry_of, setting_at}
 use Rattle.ufmt_scan.specs.Private.Scanning.{Steps, Stops, Emits, Scanned, after, scan_block, earlier, entries, fields, kind_of, later, scan_opened, pairs, prefixed, scan_rest, scan_stage, then_scan, turn_of, scan_turn, scan_value}

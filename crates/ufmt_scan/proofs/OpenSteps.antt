@@ -5,8 +5,8 @@ use Rattle.ufmt_core.specs.declared.layout.Kind.TheVariants.{Struct}
 use Rattle.ufmt_core.specs.declared.layout.Mode.{Mode}
 use Rattle.ufmt_scan.specs.declared.level.Level.{Level}
 use Rattle.ufmt_scan.specs.declared.scan.event.ScanError.{ScanError}
-use Rattle.ufmt_scan.specs.declared.scan.open_blocks.Stage.{Stage}
-use Rattle.ufmt_scan.specs.declared.scan.open_blocks.Stage.TheVariants.{BracesFirst, FieldFirst, FieldLater}
+use Rattle.ufmt_scan.specs.declared.scan.step.Stage.{Stage}
+use Rattle.ufmt_scan.specs.declared.scan.step.Stage.TheVariants.{BracesFirst, FieldFirst, FieldLater}
 use Rattle.ufmt_scan.specs.Private.Level.{budget_of, setting_at}
 use Rattle.ufmt_scan.specs.Private.Scanning.{Stops, Emits, Scanned, after, scan_next, scan_ends, coming, scan_begun, entries, fields, kind_of, level_at, scan_onward, open_stages, scan_stage, then_scan, scan_turn}
 use Rattle.ufmt_scan.specs.Scan.{TextEvent, events_of}

@@ -1,8 +1,8 @@
 -- The stages of the open blocks, by the array of those around the innermost.
 use Rattle.std.proofs.Common.{◌≡◌, ◌∙◌, refl, ap, ℕ, suc, ◌+◌, ◌≤◌, List, [], ◌∷◌, get_or, length, reverse, set, take, arith}
 use Rattle.std.proofs.lemmas.List.{length-reverse, length-take-le, reverse-append, take_more, take_more_set}
-use Rattle.ufmt_scan.specs.declared.scan.open_blocks.OpenBlocks.{OpenBlocks}
-use Rattle.ufmt_scan.specs.declared.scan.open_blocks.Stage.{Stage}
+use Rattle.ufmt_scan.specs.declared.scan.OpenBlocks.{OpenBlocks}
+use Rattle.ufmt_scan.specs.declared.scan.step.Stage.{Stage}
 use Rattle.ufmt_scan.specs.Private.Scanning.{open_stages}
 
 abbrev pub blocks_of : ℕ → Stage → OpenBlocks

@@ -3,17 +3,15 @@ ghost use Rattle.std.specs.Prelude.{◌≡◌, ◌<◌, ◌≤◌, [], IfOk, Lis
 ghost use Rattle.ufmt.specs.Layout.{layout, setting};
 ghost use Rattle.ufmt.specs.Reading.{parse_map, read};
 ghost use Rattle.ufmt_scan.specs.Private.Scanning.{ScansOn, kind_of, scan_next, scan_ends, scan_begun, scan_left, open_stages};
-ghost use Rattle.ufmt_scan.specs.declared.scan.open_blocks.Stage.{Stage};
+ghost use Rattle.ufmt_scan.specs.declared.scan.step.Stage.{Stage};
 ghost use Rattle.ufmt_scan.specs.Scan.{Scans, events_of};
 
 mod event;
-mod open_blocks;
 mod step;
 
 use crate::level::Level;
 pub use event::{Event, ScanError, Sink};
-use open_blocks::{OpenBlocks, Stage};
-use step::{after_document, begin, field_name};
+use step::{Stage, after_document, begin, field_name};
 use ufmt::layout::{Kind, Mode};
 
 /// Emits the events of the token document that has this text, in the text's order. Fails with
@@ -42,6 +40,14 @@ fn scan_in<S: Sink, const PRETTY: bool>(
     } else {
         Err(ScanError::NotText)
     }
+}
+
+// How many blocks are open, and the stage of the innermost. An array beside it has the stages of the others,
+// each at the number of blocks that were open with it, so that this stays in registers.
+#[derive(Clone, Copy)]
+struct OpenBlocks {
+    count: u8,
+    innermost: Stage,
 }
 
 // Emits the events of the document at the front of the input, and returns what follows it.

@@ -13,9 +13,9 @@ use Rattle.ufmt_scan.specs.declared.level.Level.{Level}
 use Rattle.ufmt_scan.specs.declared.scan.event.Event.TheVariants as events
 use Rattle.ufmt_scan.specs.declared.scan.event.ScanError.{ScanError}
 use Rattle.ufmt_scan.specs.declared.scan.event.ScanError.TheVariants.{NotText, Sink}
-use Rattle.ufmt_scan.specs.declared.scan.open_blocks.OpenBlocks.{OpenBlocks}
-use Rattle.ufmt_scan.specs.declared.scan.open_blocks.Stage.{Stage}
-use Rattle.ufmt_scan.specs.declared.scan.open_blocks.Stage.TheVariants as stages
+use Rattle.ufmt_scan.specs.declared.scan.OpenBlocks.{OpenBlocks}
+use Rattle.ufmt_scan.specs.declared.scan.step.Stage.{Stage}
+use Rattle.ufmt_scan.specs.declared.scan.step.Stage.TheVariants as stages
 use Rattle.ufmt_scan.specs.Private.Level.{entry_of, setting_at}
 use Rattle.ufmt_scan.specs.Scan.{TextEvent, events_of, tail_events}
 

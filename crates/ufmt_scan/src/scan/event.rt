@@ -1,11 +1,7 @@
 //! The events of a text, and what takes them.
-ghost use Rattle.std.specs.Prelude.{◌≡◌, ◌∷◌, ◌<◌, [], List, Option, is_ok, length, ℕ};
-ghost use Rattle.ufmt.specs.Reading.{Parse};
-ghost use Rattle.ufmt_scan.specs.declared.scan.open_blocks.Stage.{Stage};
-ghost use Rattle.ufmt_scan.specs.Private.Scanning.{Steps, Scanned, prefixed};
+ghost use Rattle.std.specs.Prelude.{[], List, is_ok};
 ghost use Rattle.ufmt_scan.specs.Scan.{TakesEvent, TextEvent, event_now};
 
-use super::open_blocks::Stage;
 use ufmt::layout::{Count, Kind};
 
 /// What comes next in a text, with the leaf, the block's name or the field's name that is there.
@@ -52,25 +48,4 @@ pub enum ScanError<E> {
     NotText,
     /// The sink's error.
     Sink(E),
-}
-
-/// The stage at which a block opens or continues, if one does, and the rest of the text.
-pub(super) type Step<'a> = (Option<Stage>, &'a [u8]);
-
-/// Emits an event, after which the text continues so.
-#[inline(always)]
-pub(super) fn emit<'a, S: Sink>(
-    event: Event<&str>,
-    next: Option<Stage>,
-    rest: &'a [u8],
-    sink: &mut S,
-) -> Result<Step<'a>, ScanError<S::Error>>
-    ensures { (bytes : ℕ) (there : Scanned) (onward : Option Stage → Parse (List TextEvent))
-        → there ≡ prefixed (event_now event.entry ∷ []) (onward next rest.now) → length rest.now < bytes
-        → Steps S.took S.stopped result sink.old sink.new bytes there onward }
-{
-    match sink.event(event) {
-        Ok(()) => Ok((next, rest)),
-        Err(e) => Err(ScanError::Sink(e)),
-    }
 }

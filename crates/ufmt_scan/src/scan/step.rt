@@ -1,18 +1,128 @@
 //! Which event comes next in a text.
-ghost use Rattle.std.specs.Prelude.{◌≡◌, ◌<◌, ◌++◌, length, suc, ℕ};
+ghost use Rattle.std.specs.Prelude.{◌≡◌, ◌<◌, ◌++◌, ◌∷◌, [], List, Option, length, suc, ℕ};
 ghost use Rattle.ufmt.specs.Layout.{entry_depth, line_start, next, separator};
-ghost use Rattle.ufmt.specs.Reading.{parse_map, read, read_without_name};
+ghost use Rattle.ufmt.specs.Reading.{Parse, parse_map, read, read_without_name};
 ghost use Rattle.ufmt_scan.specs.declared.level.Level.{Level};
+ghost use Rattle.ufmt_scan.specs.declared.scan.step.Stage.{Stage};
 ghost use Rattle.ufmt_scan.specs.Private.Level.{budget_of, entry_of, setting_at};
-ghost use Rattle.ufmt_scan.specs.Private.Scanning.{Steps, StripsBracket, after, scan_block, earlier, entries, fields, kind_of, scan_rest, scan_stage, turn_of, scan_turn};
-ghost use Rattle.ufmt_scan.specs.Scan.{events_of};
+ghost use Rattle.ufmt_scan.specs.Private.Scanning.{Scanned, Steps, StripsBracket, after, prefixed, scan_block, earlier, entries, fields, first_stage, kind_of, later, scan_rest, scan_stage, turn_of, scan_turn, value_of};
+ghost use Rattle.ufmt_scan.specs.Scan.{TextEvent, event_now, events_of};
 
-use super::event::{Event, ScanError, Sink, Step, emit};
-use super::open_blocks::Stage;
+use super::event::{Event, ScanError, Sink};
 use crate::leaf::{split_quotes, split_word};
 use crate::level::{Level, strip_piece, strip_to_line};
 use ufmt::ascii::text_from;
 use ufmt::layout::{COLON, Count, Kind, Mode, OPENING_BRACE, OPENING_BRACKET, UNIT};
+
+/// What comes next in an open block: its first entry or a later one, or, in a map, a key or a value.
+#[derive(Clone, Copy)]
+pub(super) enum Stage {
+    // A colon may follow these two, and a name comes at the last two: one comparison finds either pair.
+    /// The first entry of a set, or the first key of a map.
+    BracesFirst,
+    KeyLater,
+    ListFirst,
+    ListLater,
+    SetLater,
+    /// The value of the first pair.
+    ValueFirst,
+    ValueLater,
+    TupleFirst,
+    TupleLater,
+    UnnamedFirst,
+    UnnamedLater,
+    FieldFirst,
+    FieldLater,
+}
+
+// Of each stage the kind of its block, how many entries came before, and the stage of the entry after it.
+static STAGES: [(Kind, Count, Stage); 13] = [
+    (Kind::Braces, Count::Zero, Stage::SetLater),
+    (Kind::Braces, Count::Several, Stage::KeyLater),
+    (Kind::Brackets, Count::Zero, Stage::ListLater),
+    (Kind::Brackets, Count::Several, Stage::ListLater),
+    (Kind::Braces, Count::Several, Stage::SetLater),
+    (Kind::Braces, Count::Zero, Stage::KeyLater),
+    (Kind::Braces, Count::Several, Stage::KeyLater),
+    (Kind::Tuple, Count::Zero, Stage::TupleLater),
+    (Kind::Tuple, Count::Several, Stage::TupleLater),
+    (Kind::Unnamed, Count::Zero, Stage::UnnamedLater),
+    (Kind::Unnamed, Count::Several, Stage::UnnamedLater),
+    (Kind::Struct, Count::Zero, Stage::FieldLater),
+    (Kind::Struct, Count::Several, Stage::FieldLater),
+];
+
+impl Stage {
+    /// The first entry of a block of this kind.
+    #[inline(always)]
+    pub(super) fn first(kind: Kind) -> Stage
+        ensures { result ≡ first_stage kind }
+    {
+        match kind {
+            Kind::Brackets => Stage::ListFirst,
+            Kind::Braces => Stage::BracesFirst,
+            Kind::Struct => Stage::FieldFirst,
+            Kind::Tuple => Stage::TupleFirst,
+            Kind::Unnamed => Stage::UnnamedFirst,
+        }
+    }
+
+    /// The kind of the block.
+    #[inline(always)]
+    pub(super) fn kind(self) -> Kind
+        ensures { result ≡ kind_of self }
+    {
+        STAGES[self as usize].0
+    }
+
+    /// How many entries came before.
+    #[inline(always)]
+    pub(super) fn earlier(self) -> Count
+        ensures { result ≡ earlier self }
+    {
+        STAGES[self as usize].1
+    }
+
+    /// The value of this key.
+    #[inline(always)]
+    pub(super) fn value(self) -> Stage
+        ensures { result ≡ value_of self }
+    {
+        match self {
+            Stage::BracesFirst => Stage::ValueFirst,
+            _ => Stage::ValueLater,
+        }
+    }
+
+    /// The entry after this one.
+    #[inline(always)]
+    pub(super) fn later(self) -> Stage
+        ensures { result ≡ later self }
+    {
+        STAGES[self as usize].2
+    }
+}
+
+// The stage at which a block opens or continues, if one does, and the rest of the text.
+type Step<'a> = (Option<Stage>, &'a [u8]);
+
+// Emits an event, after which the text continues so.
+#[inline(always)]
+fn emit<'a, S: Sink>(
+    event: Event<&str>,
+    next: Option<Stage>,
+    rest: &'a [u8],
+    sink: &mut S,
+) -> Result<Step<'a>, ScanError<S::Error>>
+    ensures { (bytes : ℕ) (there : Scanned) (onward : Option Stage → Parse (List TextEvent))
+        → there ≡ prefixed (event_now event.entry ∷ []) (onward next rest.now) → length rest.now < bytes
+        → Steps S.took S.stopped result sink.old sink.new bytes there onward }
+{
+    match sink.event(event) {
+        Ok(()) => Ok((next, rest)),
+        Err(e) => Err(ScanError::Sink(e)),
+    }
+}
 
 /// A field's name and the colon after it.
 #[inline(always)]

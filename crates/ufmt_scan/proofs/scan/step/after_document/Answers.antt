@@ -3,8 +3,8 @@ use Rattle.ufmt.specs.Reading.{strip}
 use Rattle.ufmt.proofs.ReadingTurns.{strip_within}
 use Rattle.ufmt_scan.specs.declared.level.Level.{Level}
 use Rattle.ufmt_scan.specs.declared.scan.event.Event.TheVariants.{Colon}
-use Rattle.ufmt_scan.specs.declared.scan.open_blocks.Stage.{Stage}
-use Rattle.ufmt_scan.specs.declared.scan.open_blocks.Stage.TheVariants.{BracesFirst, KeyLater}
+use Rattle.ufmt_scan.specs.declared.scan.step.Stage.{Stage}
+use Rattle.ufmt_scan.specs.declared.scan.step.Stage.TheVariants.{BracesFirst, KeyLater}
 use Rattle.ufmt_scan.specs.Private.Scanning.{after, prefixed, scan_stage, value_of}
 use Rattle.ufmt_scan.proofs.scan.step.after_document.Goals as goal
 

@@ -8,7 +8,7 @@ use Rattle.ufmt_core.specs.declared.layout.Mode.TheVariants.{Plain, Pretty}
 use Rattle.ufmt_core.specs.declared.layout.Setting.{Setting}
 use Rattle.ufmt_scan.specs.declared.level.Level.{Level}
 use Rattle.ufmt_scan.specs.declared.scan.event.Event.TheVariants.{Next}
-use Rattle.ufmt_scan.specs.declared.scan.open_blocks.Stage.{Stage}
+use Rattle.ufmt_scan.specs.declared.scan.step.Stage.{Stage}
 use Rattle.ufmt_scan.specs.Private.Level.{depth_in, setting_at}
 use Rattle.ufmt_scan.specs.Private.Scanning.{earlier, kind_of, prefixed, scan_rest, turn_of}
 use Rattle.ufmt_scan.proofs.DocumentParts.{later_continues, turn_takes}
