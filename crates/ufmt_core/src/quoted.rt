@@ -119,16 +119,16 @@ fn escape_char(character: char) -> Option<&'static str>
 fn write_escaped<W: uWrite>(f: &mut Formatter<W>, text: &str) -> Result<(), W::Error>
     ensures { Prints W.seen f.old (escaped_bytes 34 text.now) (is_ok result) f.new }
 {
-    let (stretch, behind) = split_stretch(text);
-    write_stretch(f, stretch)?;
-    let mut rest = behind;
-    'escapes: while let Some((escape, after)) = split_escape(rest) {
-        f.write_str(escape)?;
-        let (stretch, behind) = split_stretch(after);
+    let mut rest = text;
+    'stretches: loop {
+        let (stretch, at_escape) = split_stretch(rest);
         write_stretch(f, stretch)?;
-        rest = behind;
+        let Some((escape, after)) = split_escape(at_escape) else {
+            return Ok(());
+        };
+        f.write_str(escape)?;
+        rest = after;
     }
-    Ok(())
 }
 
 // A stretch without escapes as one piece, if it isn't empty.

@@ -1,5 +1,5 @@
 //! Writers: where text goes.
-ghost use Rattle.std.specs.Prelude.{◌≡◌, ◌∷◌, is_ok, encode_utf8, string_bytes, OnErr};
+ghost use Rattle.std.specs.Prelude.{◌≡◌, ◌<◌, ◌∷◌, ◌++◌, [], if◌then◌else◌, is_ok, encode_utf8, string_bytes, OnErr};
 ghost use Rattle.ufmt_core.specs.Writes.{Writes, Seen, string_seen};
 
 use std::alloc::{AllocError, Allocator};
@@ -39,7 +39,14 @@ impl<A: Allocator> uWrite for String<A> {
         ensures writes { Writes string_seen self.old s.now (is_ok result) self.new }
         ensures unchanged { OnErr result (string_bytes self.new ≡ string_bytes self.old) }
     {
-        self.push_str(s)
+        // Most pieces have one byte or two, and to copy them is a call.
+        match s.as_bytes() {
+            [byte] if byte.is_ascii() => push_one(self, *byte),
+            [first, second] if first.is_ascii() && second.is_ascii() => {
+                push_two(self, *first, *second)
+            }
+            _ => self.push_str(s),
+        }
     }
 
     fn write_char(&mut self, c: char) -> Result<(), AllocError>
@@ -48,6 +55,32 @@ impl<A: Allocator> uWrite for String<A> {
     {
         self.push(c)
     }
+}
+
+// Appends a byte of ASCII. With room made first, `push` is in line.
+#[inline(always)]
+fn push_one<A: Allocator>(text: &mut String<A>, byte: u8) -> Result<(), AllocError>
+    requires { byte < 128 }
+    ensures { string_bytes text.new ≡ (if is_ok result
+        then string_bytes text.old ++ byte ∷ []
+        else string_bytes text.old) }
+{
+    text.reserve(1)?;
+    text.push(char::from(byte))
+}
+
+// Appends two bytes of ASCII, or neither.
+#[inline(always)]
+fn push_two<A: Allocator>(text: &mut String<A>, first: u8, second: u8) -> Result<(), AllocError>
+    requires first { first < 128 }
+    requires second { second < 128 }
+    ensures { string_bytes text.new ≡ (if is_ok result
+        then string_bytes text.old ++ first ∷ second ∷ []
+        else string_bytes text.old) }
+{
+    text.reserve(2)?;
+    text.push(char::from(first))?;
+    text.push(char::from(second))
 }
 
 /// Hands on each call, and answers what the writer behind the reference does.

@@ -39,15 +39,6 @@ pub(crate) fn strip_piece<'a>(piece: &str, input: &'a [u8]) -> Option<&'a [u8]>
     }
 }
 
-// What follows two pieces.
-#[inline(always)]
-#[tactic(auto, using(crate::proofs::Strips::stripping))]
-fn strip_pieces<'a>(first: &str, second: &str, input: &'a [u8]) -> Option<&'a [u8]>
-    ensures { now_of result ≡ strip (first.now ++ second.now) input.now }
-{
-    strip_piece(second, strip_piece(first, input)?)
-}
-
 /// What follows a piece and the indentation of a line.
 #[inline(always)]
 #[tactic(auto, using(crate::proofs::Strips::stripping))]
@@ -90,7 +81,7 @@ impl Level {
             ≡ strip (lead (frame self.mode kind) (inside (setting_at self)) Zero) input.now }
     {
         let (bracket, space) = kind.start(self.mode);
-        let start = strip_pieces(bracket, space, input)?;
+        let start = strip_piece(space, strip_piece(bracket, input)?)?;
         strip_to_line(self.mode.line_feed(), self.setting().inside(), start)
     }
 

@@ -67,20 +67,14 @@ impl Stage {
         }
     }
 
-    /// The kind of the block.
+    /// The kind of the block, and how many entries it has with this one.
     #[inline(always)]
-    pub(super) fn kind(self) -> Kind
-        ensures { result ≡ kind_of self }
+    pub(super) fn block(self) -> (Kind, Count)
+        ensures kind { result.0 ≡ kind_of self }
+        ensures count { result.1 ≡ next (earlier self) }
     {
-        STAGES[self as usize].0
-    }
-
-    /// How many entries came before.
-    #[inline(always)]
-    pub(super) fn earlier(self) -> Count
-        ensures { result ≡ earlier self }
-    {
-        STAGES[self as usize].1
+        let (kind, earlier, _) = STAGES[self as usize];
+        (kind, earlier.next())
     }
 
     /// The value of this key.
@@ -282,7 +276,7 @@ fn after_entry<'a, S: Sink, const PRETTY: bool>(
     if let Some(start) = strip_piece(separator, line) {
         return emit(Event::Next, Some(stage.later()), start, sink);
     }
-    let (kind, count) = (stage.kind(), stage.earlier().next());
+    let (kind, count) = stage.block();
     let Some(end) = level.strip_closing(kind, count, line) else {
         return Err(ScanError::NotText);
     };

@@ -73,7 +73,7 @@ returns-in-Some-strip_piece g c =
 pub returns-in_default-strip_closing : goal.returns-in_default-strip_closing
 returns-in_default-strip_closing g c =
     let apart = c.between-separator.ensures (setting_at c.args.level).depth (few c.args.level.mode c.args.level.depth c.requires) in
-    let closing = rw (c.kind-kind.ensures, c.next-count.ensures, c.earlier.ensures) at c.in_default-strip_closing.ensures in (
+    let closing = rw (c.block-kind.ensures.kind, c.block-kind.ensures.count) at c.in_default-strip_closing.ensures in (
       nothing_there _ (follows c.args.level c.args.stage c.args.input.now _ c.between-separator.result.now _ (Some c.in-Some.line.now) c.trail.ensures c.setting.ensures apart c.in-Some.ensures
           ∙ rw (sym c.in_default-strip_piece.ensures, sym closing) refl),
       tt,
@@ -84,8 +84,8 @@ returns g c =
     let apart = c.between-separator.ensures (setting_at c.args.level).depth (few c.args.level.mode c.args.level.depth c.requires) in
     let line = c.in-Some.line.now in
     let end = c.in-Some-strip_closing.end.now in
-    let closing = rw (c.kind-kind.ensures, c.next-count.ensures, c.earlier.ensures) at c.in-Some-strip_closing.ensures in
+    let closing = rw (c.block-kind.ensures.kind, c.block-kind.ensures.count) at c.in-Some-strip_closing.ensures in
     let within = strip_within _ c.args.input.now line (sym c.in-Some.ensures) in
     let less = strip_within _ line end (sym closing) in
     c.emit-2.ensures _ _ _ (follows c.args.level c.args.stage c.args.input.now _ c.between-separator.result.now _ (Some line) c.trail.ensures c.setting.ensures apart c.in-Some.ensures
-    ∙ rw (sym c.in_default-strip_piece.ensures, sym closing, c.kind-kind.ensures, c.next-count.ensures, c.earlier.ensures) refl) (omega (arith, within, less))
+    ∙ rw (sym c.in_default-strip_piece.ensures, sym closing, c.block-kind.ensures.kind, c.block-kind.ensures.count) refl) (omega (arith, within, less))
