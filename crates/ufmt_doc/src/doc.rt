@@ -1,20 +1,26 @@
 //! Documents as values.
-ghost use Rattle.std.specs.Prelude.{◌≡◌, ◌↔◌, IsTrue, map};
-ghost use Rattle.ufmt.specs.Document.{documents, fields_of, pairs_of};
-ghost use Rattle.ufmt.specs.Token.{IsToken};
-ghost use Rattle.ufmt.specs.Token.{normal, normal_all, normal_fields, normal_pairs};
+ghost use Rattle.std.specs.Option.{option_copied};
+ghost use Rattle.std.specs.Prelude.{◌≡◌, ◌↔◌, IfOk, IsTrue, map, option_map};
+ghost use Rattle.std.specs.Str.{chars};
+ghost use Rattle.ufmt.specs.Document.{documents, fields_of, leaf, pairs_of};
+ghost use Rattle.ufmt.specs.Quoted.{IsQuote, quoted_char, quoted_text};
+ghost use Rattle.ufmt.specs.Token.{IsToken, normal, normal_all, normal_fields, normal_pairs};
 ghost use Rattle.ufmt_doc.specs.Doc.{doc_document};
 ghost use Rattle.ufmt_doc.specs.DocViews.{pair_view, field_view};
+ghost use Rattle.ufmt_doc.specs.Parts.{entries_part, field_part, fields_part, first_value, leaf_part, name_part, pairs_part};
+ghost use Rattle.ufmt_doc.specs.Private.Quoted.{AreSpelled};
+ghost use Rattle.ufmt_doc.specs.Unquoted.{Unquotes};
 
-mod parts;
 mod print;
-mod quoted;
 mod tree;
 
-use std::alloc::Global;
+use std::alloc::{AllocError, Global};
 use std::mem;
 use tree::Tokens;
 pub use tree::same_text;
+use ufmt_scan::convert::plain_text;
+use ufmt_scan::escape::split_escaped;
+use ufmt_scan::leaf::is_symbol;
 
 // How deep blocks with entries lie at most in a document whose text can be read again.
 const DEEPEST: u8 = 255;
@@ -59,6 +65,99 @@ impl Doc {
             }
         }
     }
+
+    /// The text of a leaf, and `None` for a block. A name without fields is read as a leaf.
+    pub fn as_leaf(&self) -> Option<&str>
+        ensures { option_copied result ≡ leaf_part (doc_document self.now) }
+    {
+        match self {
+            Doc::Leaf(text) => Some(text),
+            _ => None,
+        }
+    }
+
+    /// The name of a struct or a tuple, which may be empty for a tuple, and `None` for anything
+    /// else.
+    pub fn name(&self) -> Option<&str>
+        ensures { option_copied result ≡ name_part (doc_document self.now) }
+    {
+        match self {
+            Doc::StructOf(name, _) | Doc::TupleOf(name, _) => Some(name),
+            _ => None,
+        }
+    }
+
+    /// The entries of a list or a set, or the fields of a tuple, and `None` for anything else. Empty
+    /// braces are read as a map, so they have `pairs`.
+    pub fn entries(&self) -> Option<&[Doc]>
+        ensures { option_map (λ entries. documents (map doc_document entries.now)) result
+            ≡ entries_part (doc_document self.now) }
+    {
+        match self {
+            Doc::Listed(entries) | Doc::SetOf(entries) | Doc::TupleOf(_, entries) => Some(entries),
+            _ => None,
+        }
+    }
+
+    /// The keys of a map, each with its value, and `None` for anything else.
+    pub fn pairs(&self) -> Option<&[(Doc, Doc)]>
+        ensures { option_map (λ pairs. pairs_of (map pair_view pairs.now)) result
+            ≡ pairs_part (doc_document self.now) }
+    {
+        match self {
+            Doc::MapOf(pairs) => Some(pairs),
+            _ => None,
+        }
+    }
+
+    /// The labels of a struct, each with its value, and `None` for anything else.
+    pub fn fields(&self) -> Option<&[(String, Doc)]>
+        ensures { option_map (λ fields. fields_of (map field_view fields.now)) result
+            ≡ fields_part (doc_document self.now) }
+    {
+        match self {
+            Doc::StructOf(_, fields) => Some(fields),
+            _ => None,
+        }
+    }
+
+    /// The value of a struct's first field with this label. `None` where there is no such field, and
+    /// where the document is no struct.
+    pub fn field(&self, label: &str) -> Option<&Doc>
+        ensures { option_map (λ value. doc_document value.now) result
+            ≡ field_part label.now (doc_document self.now) }
+    {
+        first_value(self.fields()?, label)
+    }
+
+    /// A leaf of the text, in quotation marks and with its escapes, as `uDebug` prints it. It takes
+    /// memory for that. `Doc::Leaf` of the text as it stands prints it without quotes. Want of it
+    /// is the only refusal.
+    pub fn text(alloc: Global, text: &str) -> Result<Doc, AllocError>
+        ensures { IfOk result (λ doc. doc_document doc ≡ leaf (quoted_text (chars text.now))) }
+    {
+        Ok(Doc::Leaf(plain_text(alloc, &text)?))
+    }
+
+    /// A leaf of the character, in apostrophes or as its escape in apostrophes. It takes memory for
+    /// that. Want of it is the only refusal.
+    pub fn character(alloc: Global, character: char) -> Result<Doc, AllocError>
+        ensures { IfOk result (λ doc. doc_document doc ≡ leaf (quoted_char character)) }
+    {
+        Ok(Doc::Leaf(plain_text(alloc, &character)?))
+    }
+
+    /// The text of a leaf in quotation marks, or the one character of a leaf in apostrophes,
+    /// without its quotes and escapes, and `None` for anything else. It takes memory for that text.
+    /// Want of it is the only refusal.
+    pub fn unquoted(&self, alloc: Global) -> Result<Option<String>, AllocError>
+        ensures { IfOk result (λ answer. Unquotes (doc_document self.now) answer) }
+    {
+        match self.as_leaf() {
+            Some(leaf) => unquoted_leaf(alloc, leaf),
+            None => Ok(None),
+        }
+    }
 }
 
 // Makes each document its normal form.
@@ -93,4 +192,45 @@ fn normalize_fields(alloc: Global, fields: &mut [(String, Doc)])
     for (_, value) in fields.iter_mut() {
         value.normalize(alloc);
     }
+}
+
+// The value behind the first such label.
+fn first_value<'a>(fields: &'a [(String, Doc)], label: &str) -> Option<&'a Doc>
+    ensures { option_map (λ value. doc_document value.now) result
+        ≡ first_value label.now (fields_of (map field_view fields.now)) }
+{
+    for (other, value) in fields {
+        if other.as_str() == label {
+            return Some(value);
+        }
+    }
+    None
+}
+
+// What stands between the quotes of a leaf that has them.
+fn unquoted_leaf(alloc: Global, text: &str) -> Result<Option<String>, AllocError>
+    ensures { IfOk result (λ answer. Unquotes (leaf text.now) answer) }
+{
+    let Some((first, inside)) = text.as_bytes().split_first() else {
+        return Ok(None);
+    };
+    let quote = *first;
+    if !is_symbol(text) || (quote != b'"' && quote != b'\'') {
+        return Ok(None);
+    }
+    Ok(String::from_utf8(decoded_bytes(alloc, quote, inside)?).ok())
+}
+
+// The bytes that are written up to the closing quote.
+fn decoded_bytes(alloc: Global, quote: u8, inside: &[u8]) -> Result<Vec<u8>, AllocError>
+    requires { IsQuote quote }
+    ensures { IfOk result (λ bytes. AreSpelled quote inside.now bytes.items) }
+{
+    let mut bytes = Vec::new(alloc);
+    let mut rest = inside;
+    'bytes: while let Some((byte, behind)) = split_escaped(quote, rest) {
+        bytes.push(byte)?;
+        rest = behind;
+    }
+    Ok(bytes)
 }

@@ -1,6 +1,6 @@
 use Rattle.std.proofs.Common.{refl, sym, ◌∙◌}
 use Rattle.ufmt_doc.proofs.Unquoted.{read_shorter, told_all, told_more}
-use Rattle.ufmt_doc.proofs.doc.quoted.told_bytes.Goals as goal
+use Rattle.ufmt_doc.proofs.doc.decoded_bytes.Goals as goal
 
 pub bytes-smaller : goal.bytes-smaller
 bytes-smaller c = read_shorter c.args.quote c.bytes.rest.now c.in-Some.byte c.in-Some.behind.now c.in-Some.ensures.some

@@ -3,7 +3,7 @@ use Rattle.std.proofs.Common.{◌≡◌, drop, map}
 use Rattle.ufmt.specs.Document.{fields_of}
 use Rattle.ufmt_doc.specs.DocViews.{field_view}
 use Rattle.ufmt_doc.specs.Parts.{first_value}
-use Rattle.ufmt_doc.proofs.doc.parts.first_value.Given as goal
+use Rattle.ufmt_doc.proofs.doc.first_value.Given as goal
 
 abbrev pub invariant-loop-other : goal.invariant-loop-other
 invariant-loop-other l = first_value l.label (fields_of (map field_view l.fields))
