@@ -120,19 +120,21 @@ impl Same for Doc {
         match (self, other) {
             (Doc::Listed(entries), Doc::Listed(others)) => entries.is_same(others),
             (Doc::SetOf(entries), Doc::SetOf(others)) => entries.is_same(others),
-            (Doc::SetOf(entries), Doc::MapOf(pairs)) => entries.is_empty() && pairs.is_empty(),
-            (Doc::MapOf(pairs), Doc::SetOf(entries)) => entries.is_empty() && pairs.is_empty(),
+            (Doc::SetOf(entries), Doc::MapOf(pairs)) => entries.len() + pairs.len() == 0,
+            (Doc::MapOf(pairs), Doc::SetOf(entries)) => entries.len() + pairs.len() == 0,
             (Doc::MapOf(pairs), Doc::MapOf(others)) => pairs.is_same(others),
+            (Doc::Listed(_) | Doc::SetOf(_) | Doc::MapOf(_), _) => false,
             (Doc::StructOf(name, fields), Doc::StructOf(another, others)) => {
                 name == another && fields.is_same(others)
             }
             (Doc::TupleOf(name, fields), Doc::TupleOf(another, others)) => {
                 name == another && fields.is_same(others)
             }
-            _ => match (leaf_text(self), leaf_text(other)) {
-                (Some(text), Some(another)) => text == another,
-                _ => false,
-            },
+            (Doc::Leaf(name), _) => leaf_text(other) == Some(name.as_str()),
+            (Doc::StructOf(name, fields), _) => fields.is_empty()
+                && leaf_text(other) == Some(name.as_str()),
+            (Doc::TupleOf(name, fields), _) => fields.is_empty()
+                && leaf_text(other) == Some(name.as_str()),
         }
     }
 }

@@ -1,70 +1,44 @@
-use Rattle.std.proofs.Common.{◌≡◌, ap, refl, rules, string_bytes, sym, ◌∙◌}
-use Rattle.ufmt.specs.Token.{normal}
-use Rattle.ufmt_doc.specs.Doc.{doc_document}
-use Rattle.ufmt_doc.specs.Parts.{leaf_part}
-use Rattle.ufmt_doc.proofs.Docs.{doc_document-Leaf, doc_document-Listed, doc_document-MapOf, doc_document-SetOf, doc_document-StructOf, doc_document-TupleOf}
-use Rattle.ufmt_doc.proofs.Same.{braces_same, differ, in_other_order, lists_same, maps_same, sets_same, structs_same, tuples_same}
+use Rattle.std.proofs.Common.{refl, ◌≡◌, rules, string_bytes, sym, ◌∙◌}
+use Rattle.ufmt_doc.proofs.Docs.{doc_document-Listed, doc_document-MapOf, doc_document-SetOf, doc_document-StructOf, doc_document-TupleOf}
+use Rattle.ufmt_doc.proofs.Same.{braces_same, in_other_order, lists_same, maps_same, sets_same, struct_form, structs_same, tuple_form, tuples_same}
 use Rattle.ufmt_doc.proofs.Within.{as_well}
-use Rattle.ufmt_doc.proofs.doc.tree.DocSame.+is_same.Goals.{in_default-via-in-Listed+in_default, in_default-via-in-SetOf+in_default, in_default-via-in-MapOf+in_default, in_default-via-in-StructOf+in_default, in_default-via-in-TupleOf+in_default, in_default-via-in_default}
+use Rattle.ufmt_doc.specs.declared.doc.Doc.{the_lemmas}
 use Rattle.ufmt_doc.proofs.doc.tree.DocSame.+is_same.Goals as goal
 
 pub returns-in-Listed-Listed : goal.returns-in-Listed-Listed
-returns-in-Listed-Listed t c =
-    rw (ap doc_document c.in-Listed-Listed.is-0 ∙ doc_document-Listed _, ap doc_document c.in-Listed-Listed.is-1 ∙ doc_document-Listed _)
-    (as_well c.is_same.ensures (lists_same _ _))
+returns-in-Listed-Listed t c = simp (c.in-Listed-Listed.is-0, c.in-Listed-Listed.is-1, doc_document-Listed) (as_well c.is_same.ensures (lists_same _ _))
 
 pub returns-in-SetOf-SetOf : goal.returns-in-SetOf-SetOf
-returns-in-SetOf-SetOf t c =
-    rw (ap doc_document c.in-SetOf-SetOf.is-0 ∙ doc_document-SetOf _, ap doc_document c.in-SetOf-SetOf.is-1 ∙ doc_document-SetOf _)
-    (as_well c.is_same-in-SetOf-SetOf.ensures (sets_same _ _))
+returns-in-SetOf-SetOf t c = simp (c.in-SetOf-SetOf.is-0, c.in-SetOf-SetOf.is-1, doc_document-SetOf) (as_well c.is_same-in-SetOf-SetOf.ensures (sets_same _ _))
 
-pub returns-then-is_empty : goal.returns-then-is_empty
-returns-then-is_empty t c =
-    rw (ap doc_document c.in-SetOf-MapOf.is-0 ∙ doc_document-SetOf _, ap doc_document c.in-SetOf-MapOf.is-1 ∙ doc_document-MapOf _)
-    (braces_same c.in-SetOf-MapOf.entries c.in-SetOf-MapOf.pairs (c.is_empty-then-is_empty.ensures ∙ rw (sym c.if-is_empty.ensures) refl))
+pub returns-in-SetOf-MapOf : goal.returns-in-SetOf-MapOf
+returns-in-SetOf-MapOf t c = braces_same _ _ _ _ _ c.in-SetOf-MapOf.is-0 c.in-SetOf-MapOf.is-1 (rw (c.len.ensures, c.len-in-SetOf-MapOf.ensures) refl)
 
-pub returns-else-is_empty : goal.returns-else-is_empty
-returns-else-is_empty t c =
-    rw (ap doc_document c.in-SetOf-MapOf.is-0 ∙ doc_document-SetOf _, ap doc_document c.in-SetOf-MapOf.is-1 ∙ doc_document-MapOf _)
-    (braces_same c.in-SetOf-MapOf.entries c.in-SetOf-MapOf.pairs (c.if-is_empty.false ∙ rw (sym c.if-is_empty.ensures) refl))
-
-pub returns-then-is_empty-2 : goal.returns-then-is_empty-2
-returns-then-is_empty-2 t c =
-    rw (ap doc_document c.in-MapOf-SetOf.is-0 ∙ doc_document-MapOf _, ap doc_document c.in-MapOf-SetOf.is-1 ∙ doc_document-SetOf _)
-    (in_other_order (braces_same c.in-MapOf-SetOf.entries c.in-MapOf-SetOf.pairs (c.is_empty-then-is_empty-2.ensures ∙ rw (sym c.if-is_empty-2.ensures) refl)))
-
-pub returns-else-is_empty-2 : goal.returns-else-is_empty-2
-returns-else-is_empty-2 t c =
-    rw (ap doc_document c.in-MapOf-SetOf.is-0 ∙ doc_document-MapOf _, ap doc_document c.in-MapOf-SetOf.is-1 ∙ doc_document-SetOf _)
-    (in_other_order (braces_same c.in-MapOf-SetOf.entries c.in-MapOf-SetOf.pairs (c.if-is_empty-2.false ∙ rw (sym c.if-is_empty-2.ensures) refl)))
+pub returns-in-MapOf-SetOf : goal.returns-in-MapOf-SetOf
+returns-in-MapOf-SetOf t c =
+    in_other_order (braces_same _ _ _ _ _ c.in-MapOf-SetOf.is-1 c.in-MapOf-SetOf.is-0 (rw (c.len-in-MapOf-SetOf.ensures, c.len-in-MapOf-SetOf-2.ensures) refl))
 
 pub returns-in-MapOf-MapOf : goal.returns-in-MapOf-MapOf
-returns-in-MapOf-MapOf t c =
-    rw (ap doc_document c.in-MapOf-MapOf.is-0 ∙ doc_document-MapOf _, ap doc_document c.in-MapOf-MapOf.is-1 ∙ doc_document-MapOf _)
-    (as_well c.is_same-in-MapOf-MapOf.ensures (maps_same _ _))
+returns-in-MapOf-MapOf t c = simp (c.in-MapOf-MapOf.is-0, c.in-MapOf-MapOf.is-1, doc_document-MapOf) (as_well c.is_same-in-MapOf-MapOf.ensures (maps_same _ _))
 
 pub returns-then-eq : goal.returns-then-eq
 returns-then-eq t c =
     let named : string_bytes c.in-StructOf-StructOf.name ≡ string_bytes c.in-StructOf-StructOf.another = search rules in
-    rw (ap doc_document c.in-StructOf-StructOf.is-0 ∙ doc_document-StructOf _ _, ap doc_document c.in-StructOf-StructOf.is-1 ∙ doc_document-StructOf _ _, named)
-    (as_well c.is_same-then-eq.ensures (structs_same _ _ _))
+    simp (c.in-StructOf-StructOf.is-0, c.in-StructOf-StructOf.is-1, doc_document-StructOf, named) (as_well c.is_same-then-eq.ensures (structs_same _ _ _))
 
 pub returns-then-eq-2 : goal.returns-then-eq-2
 returns-then-eq-2 t c =
     let named : string_bytes c.in-TupleOf-TupleOf.name ≡ string_bytes c.in-TupleOf-TupleOf.another = search rules in
-    rw (ap doc_document c.in-TupleOf-TupleOf.is-0 ∙ doc_document-TupleOf _ _, ap doc_document c.in-TupleOf-TupleOf.is-1 ∙ doc_document-TupleOf _ _, named)
-    (as_well c.is_same-then-eq-2.ensures (tuples_same _ _ _))
+    simp (c.in-TupleOf-TupleOf.is-0, c.in-TupleOf-TupleOf.is-1, doc_document-TupleOf, named) (as_well c.is_same-then-eq-2.ensures (tuples_same _ _ _))
 
-pub returns-in_default-2-2 : goal.returns-in_default-2-2
-returns-in_default-2-2 t c =
-    let none = c.in_default-2.ensures in
-    elim c.in_default.branch [
-      | in_default-via-in-Listed+in_default w ↦ differ _ _ (ap doc_document w.in_default.is-0 ∙ doc_document-Listed _) none w.in_default.not-Listed-1
-      | in_default-via-in-SetOf+in_default w ↦ differ _ _ (ap doc_document w.in_default.is-0 ∙ doc_document-SetOf _) none
-          (w.in_default.not-SetOf-1, w.in_default.not-MapOf-1)
-      | in_default-via-in-MapOf+in_default w ↦ differ _ _ (ap doc_document w.in_default.is-0 ∙ doc_document-MapOf _) none
-          (w.in_default.not-SetOf-1, w.in_default.not-MapOf-1)
-      | in_default-via-in-StructOf+in_default w ↦ differ _ _ (ap doc_document w.in_default.is-0 ∙ doc_document-StructOf _ _) none w.in_default.not-StructOf-1
-      | in_default-via-in-TupleOf+in_default w ↦ differ _ _ (ap doc_document w.in_default.is-0 ∙ doc_document-TupleOf _ _) none w.in_default.not-TupleOf-1
-      | in_default-via-in_default w ↦ let is = ap (λ d. leaf_part (normal d)) (ap doc_document w.in_default.is-0 ∙ doc_document-Leaf _) in absurd (cc)
-    ]
+pub returns-then-is_empty : goal.returns-then-is_empty
+returns-then-is_empty t c = rw (struct_form _ _ _ _ c.in-StructOf-default.is-0 (sym c.if-is_empty.true ∙ c.is_empty.ensures)) (search rules)
+
+pub returns-else-is_empty : goal.returns-else-is_empty
+returns-else-is_empty t c = let form = struct_form _ _ _ _ c.in-StructOf-default.is-0 (sym c.if-is_empty.false ∙ c.is_empty.ensures) in search (rules, the_lemmas)
+
+pub returns-then-is_empty-2 : goal.returns-then-is_empty-2
+returns-then-is_empty-2 t c = rw (tuple_form _ _ _ _ c.in-TupleOf-default.is-0 (sym c.if-is_empty-2.true ∙ c.is_empty-in-TupleOf-default.ensures)) (search rules)
+
+pub returns-else-is_empty-2 : goal.returns-else-is_empty-2
+returns-else-is_empty-2 t c = rw (tuple_form _ _ _ _ c.in-TupleOf-default.is-0 (sym c.if-is_empty-2.false ∙ c.is_empty-in-TupleOf-default.ensures)) (search (rules, the_lemmas))
