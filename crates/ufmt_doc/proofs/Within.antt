@@ -10,7 +10,7 @@ use Rattle.ufmt.specs.Token.{IsWord}
 use Rattle.ufmt_doc.specs.declared.doc.Doc.{Doc}
 use Rattle.ufmt_doc.specs.Doc.{doc_document}
 use Rattle.ufmt_doc.specs.DocViews.{pair_view, field_view}
-use Rattle.ufmt_doc.specs.Private.Within.{IsTokenWithin}
+use Rattle.ufmt_doc.specs.Private.{IsTokenWithin}
 
 -- what holds exactly if another does, which does exactly if a third does
 pub as_well : {A B C : Type 0} → A ↔ B → B ↔ C → A ↔ C

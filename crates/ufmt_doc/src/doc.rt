@@ -8,7 +8,7 @@ ghost use Rattle.ufmt.specs.Token.{IsToken, normal, normal_all, normal_fields, n
 ghost use Rattle.ufmt_doc.specs.Doc.{doc_document};
 ghost use Rattle.ufmt_doc.specs.DocViews.{pair_view, field_view};
 ghost use Rattle.ufmt_doc.specs.Parts.{entries_part, field_part, fields_part, first_value, leaf_part, name_part, pairs_part};
-ghost use Rattle.ufmt_doc.specs.Private.Quoted.{AreSpelled};
+ghost use Rattle.ufmt_doc.specs.Private.{AreSpelled};
 ghost use Rattle.ufmt_doc.specs.Unquoted.{Unquotes};
 
 mod print;
@@ -22,7 +22,7 @@ use ufmt_scan::convert::plain_text;
 use ufmt_scan::escape::split_escaped;
 use ufmt_scan::leaf::is_symbol;
 
-// How deep blocks with entries lie at most in a document whose text can be read again.
+// How deep blocks with entries may nest in a document whose text can be read again.
 const DEEPEST: u8 = 255;
 
 /// A document as a value: a text of its own, or a block whose entries are documents.
@@ -44,9 +44,9 @@ impl Doc {
         self.has_tokens(DEEPEST)
     }
 
-    /// Makes it its normal form, which has the same texts: at each depth a struct or a tuple that
-    /// has no fields turns into a leaf, its name, and a set that has no entries into a map. It takes
-    /// no memory: `alloc` serves empty vectors and texts alone.
+    /// Makes it its normal form, which has the same texts: at each depth a struct or a tuple without
+    /// fields becomes a leaf, its name, and a set without entries a map. Takes no memory: `alloc` is
+    /// only for empty vectors and texts.
     #[cycle(normalize)]
     pub fn normalize(&mut self, alloc: Global)
         ensures { doc_document self.new ≡ normal (doc_document self.old) }
@@ -66,7 +66,7 @@ impl Doc {
         }
     }
 
-    /// The text of a leaf, and `None` for a block. A name without fields is read as a leaf.
+    /// Returns the text of a leaf. Readers make a leaf of a name without fields.
     pub fn as_leaf(&self) -> Option<&str>
         ensures { option_copied result ≡ leaf_part (doc_document self.now) }
     {
@@ -76,8 +76,7 @@ impl Doc {
         }
     }
 
-    /// The name of a struct or a tuple, which may be empty for a tuple, and `None` for anything
-    /// else.
+    /// Returns the name of a struct or a tuple. Only that of a tuple may be empty.
     pub fn name(&self) -> Option<&str>
         ensures { option_copied result ≡ name_part (doc_document self.now) }
     {
@@ -87,8 +86,8 @@ impl Doc {
         }
     }
 
-    /// The entries of a list or a set, or the fields of a tuple, and `None` for anything else. Empty
-    /// braces are read as a map, so they have `pairs`.
+    /// Returns the entries of a list or a set, or the fields of a tuple. Readers make a map of empty
+    /// braces, which has `pairs`.
     pub fn entries(&self) -> Option<&[Doc]>
         ensures { option_map (λ entries. documents (map doc_document entries.now)) result
             ≡ entries_part (doc_document self.now) }
@@ -99,7 +98,7 @@ impl Doc {
         }
     }
 
-    /// The keys of a map, each with its value, and `None` for anything else.
+    /// Returns the keys of a map, each with its value.
     pub fn pairs(&self) -> Option<&[(Doc, Doc)]>
         ensures { option_map (λ pairs. pairs_of (map pair_view pairs.now)) result
             ≡ pairs_part (doc_document self.now) }
@@ -110,7 +109,7 @@ impl Doc {
         }
     }
 
-    /// The labels of a struct, each with its value, and `None` for anything else.
+    /// Returns the field names of a struct, each with its value.
     pub fn fields(&self) -> Option<&[(String, Doc)]>
         ensures { option_map (λ fields. fields_of (map field_view fields.now)) result
             ≡ fields_part (doc_document self.now) }
@@ -121,35 +120,31 @@ impl Doc {
         }
     }
 
-    /// The value of a struct's first field with this label. `None` where there is no such field, and
-    /// where the document is no struct.
-    pub fn field(&self, label: &str) -> Option<&Doc>
+    /// Returns the value of a struct's first field with this name.
+    pub fn field(&self, name: &str) -> Option<&Doc>
         ensures { option_map (λ value. doc_document value.now) result
-            ≡ field_part label.now (doc_document self.now) }
+            ≡ field_part name.now (doc_document self.now) }
     {
-        first_value(self.fields()?, label)
+        first_value(self.fields()?, name)
     }
 
-    /// A leaf of the text, in quotation marks and with its escapes, as `uDebug` prints it. It takes
-    /// memory for that. `Doc::Leaf` of the text as it stands prints it without quotes. Want of it
-    /// is the only refusal.
+    /// Makes a leaf of the text in quotation marks, with its escapes, as `uDebug` prints it. Fails
+    /// only without memory. `Doc::Leaf` of the text prints it without quotes.
     pub fn text(alloc: Global, text: &str) -> Result<Doc, AllocError>
         ensures { IfOk result (λ doc. doc_document doc ≡ leaf (quoted_text (chars text.now))) }
     {
         Ok(Doc::Leaf(plain_text(alloc, &text)?))
     }
 
-    /// A leaf of the character, in apostrophes or as its escape in apostrophes. It takes memory for
-    /// that. Want of it is the only refusal.
+    /// Makes a leaf of the character or its escape in apostrophes. Fails only without memory.
     pub fn character(alloc: Global, character: char) -> Result<Doc, AllocError>
         ensures { IfOk result (λ doc. doc_document doc ≡ leaf (quoted_char character)) }
     {
         Ok(Doc::Leaf(plain_text(alloc, &character)?))
     }
 
-    /// The text of a leaf in quotation marks, or the one character of a leaf in apostrophes,
-    /// without its quotes and escapes, and `None` for anything else. It takes memory for that text.
-    /// Want of it is the only refusal.
+    /// Returns the text of a leaf in quotation marks, or the one character of a leaf in apostrophes,
+    /// without quotes and escapes. Fails only without memory.
     pub fn unquoted(&self, alloc: Global) -> Result<Option<String>, AllocError>
         ensures { IfOk result (λ answer. Unquotes (doc_document self.now) answer) }
     {
@@ -171,7 +166,7 @@ fn normalize_all(alloc: Global, docs: &mut [Doc])
     }
 }
 
-// The same of keys and values.
+// The same for keys and values.
 #[cycle(normalize)]
 fn normalize_pairs(alloc: Global, pairs: &mut [(Doc, Doc)])
     ensures { pairs_of (map pair_view pairs.new)
@@ -183,7 +178,7 @@ fn normalize_pairs(alloc: Global, pairs: &mut [(Doc, Doc)])
     }
 }
 
-// The same of the values of fields.
+// The same for the values of fields.
 #[cycle(normalize)]
 fn normalize_fields(alloc: Global, fields: &mut [(String, Doc)])
     ensures { fields_of (map field_view fields.new)
@@ -194,20 +189,20 @@ fn normalize_fields(alloc: Global, fields: &mut [(String, Doc)])
     }
 }
 
-// The value behind the first such label.
-fn first_value<'a>(fields: &'a [(String, Doc)], label: &str) -> Option<&'a Doc>
+// The value of the first field with this name.
+fn first_value<'a>(fields: &'a [(String, Doc)], name: &str) -> Option<&'a Doc>
     ensures { option_map (λ value. doc_document value.now) result
-        ≡ first_value label.now (fields_of (map field_view fields.now)) }
+        ≡ first_value name.now (fields_of (map field_view fields.now)) }
 {
     for (other, value) in fields {
-        if other.as_str() == label {
+        if other.as_str() == name {
             return Some(value);
         }
     }
     None
 }
 
-// What stands between the quotes of a leaf that has them.
+// What is between the quotes of a leaf that has them.
 fn unquoted_leaf(alloc: Global, text: &str) -> Result<Option<String>, AllocError>
     ensures { IfOk result (λ answer. Unquotes (leaf text.now) answer) }
 {
@@ -221,16 +216,16 @@ fn unquoted_leaf(alloc: Global, text: &str) -> Result<Option<String>, AllocError
     Ok(String::from_utf8(decoded_bytes(alloc, quote, inside)?).ok())
 }
 
-// The bytes that are written up to the closing quote.
+// The bytes that are spelled up to the closing quote.
 fn decoded_bytes(alloc: Global, quote: u8, inside: &[u8]) -> Result<Vec<u8>, AllocError>
     requires { IsQuote quote }
     ensures { IfOk result (λ bytes. AreSpelled quote inside.now bytes.items) }
 {
     let mut bytes = Vec::new(alloc);
     let mut rest = inside;
-    'bytes: while let Some((byte, behind)) = split_escaped(quote, rest) {
+    'bytes: while let Some((byte, after)) = split_escaped(quote, rest) {
         bytes.push(byte)?;
-        rest = behind;
+        rest = after;
     }
     Ok(bytes)
 }

@@ -23,7 +23,7 @@ abbrev pub text_of : Document → List ℕ
 text_of (leaf text) = text
 text_of _ = []
 
--- a label, as a leaf, and a value
+-- a field name, as a leaf, and a value
 abbrev pub field_from : Document × Document → List ℕ × Document
 field_from p = (text_of p.0, p.1)
 
@@ -77,7 +77,7 @@ closed kind (ds, block ∷ outer) = (take block.start ds ++ block_of kind block.
 -- what has grown, with one event more
 abbrev pub grow : Growing → TextEvent → Growing
 grow g (Leaf text) = put g (leaf text)
-grow g (FieldName label) = put g (leaf label)
+grow g (FieldName name) = put g (leaf name)
 grow g (Empty kind) = put g (empty_block kind)
 grow g (Open kind name) = opened kind name g
 grow g Colon = with_colon g

@@ -5,7 +5,7 @@ ghost use Rattle.ufmt.specs.Layout.{plain_text, pretty_text};
 ghost use Rattle.ufmt.specs.Token.{IsToken, IsWord, normal};
 ghost use Rattle.ufmt_doc.specs.Doc.{doc_document};
 ghost use Rattle.ufmt_doc.specs.Parts.{leaf_part};
-ghost use Rattle.ufmt_doc.specs.Private.Within.{IsTokenWithin};
+ghost use Rattle.ufmt_doc.specs.Private.{IsTokenWithin};
 ghost use Rattle.ufmt_scan.specs.Rest.{now_of};
 
 use super::Doc;
@@ -24,18 +24,17 @@ pub fn same_text(a: &Doc, b: &Doc) -> bool
     a.is_same(b)
 }
 
-// What is of tokens. It is called at the types of `Doc`'s fields, as may be where a document calls
-// itself: a call at `Doc` would be refused.
+// Implemented per field type: the check allows recursion at `Vec<Doc>`, not at `Doc`.
 pub(super) trait Tokens {
     ghost tokens: { ℕ → Self → Type 0 };
 
-    // Whether it is of tokens, with blocks that have entries at most so deep.
+    // Whether it is of tokens, and blocks with entries nest at most so deep.
     fn has_tokens(&self, deepest: u8) -> bool
         ensures { IsTrue result ↔ tokens deepest self.now };
 }
 
 impl Tokens for String {
-    ghost tokens = { λ _ label. IsWord (string_bytes label) };
+    ghost tokens = { λ _ name. IsWord (string_bytes name) };
 
     fn has_tokens(&self, _deepest: u8) -> bool {
         is_word(self)
@@ -50,7 +49,7 @@ impl<K: Tokens, V: Tokens> Tokens for (K, V) {
     }
 }
 
-// The entries of a block lie one deeper than that.
+// Entries are one deeper than their block.
 impl<T: Tokens> Tokens for Vec<T> {
     ghost tokens = { λ n v. AllByRecursion (λ x. (0 < n) × T.tokens (n - 1) x) v.items };
 
@@ -78,7 +77,7 @@ impl Tokens for Doc {
     }
 }
 
-// What has a normal form, called as that is.
+// Equality up to normal form, for each type of a field.
 trait Same {
     ghost same: { Self → Self → Type 0 };
 
@@ -88,7 +87,7 @@ trait Same {
 }
 
 impl Same for String {
-    ghost same = { λ label other. string_bytes label ≡ string_bytes other };
+    ghost same = { λ name other. string_bytes name ≡ string_bytes other };
 
     fn is_same(&self, other: &String) -> bool {
         self == other

@@ -12,7 +12,7 @@ use std::marker::Model;
 use ufmt::layout::Kind;
 use ufmt_scan::scan::{Event, Sink};
 
-// How many blocks may be open, one in another.
+// How many blocks may be open.
 const MOST_OPEN: usize = 256;
 
 // An open block: where its entries start on the stack, and whether a colon came in it.
@@ -98,9 +98,9 @@ fn take_fields(
 {
     let mut fields = Vec::with_capacity(alloc, (docs.len() - start) / 2)?;
     let mut entries = docs.drain(start..);
-    while let Some(label) = entries.next() {
+    while let Some(name) = entries.next() {
         if let Some(value) = entries.next() {
-            fields.push_reserved((text_of(alloc, label), value));
+            fields.push_reserved((text_of(alloc, name), value));
         }
     }
     Ok(fields)

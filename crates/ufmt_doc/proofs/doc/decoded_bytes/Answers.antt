@@ -1,14 +1,22 @@
-use Rattle.std.proofs.Common.{refl, sym, ◌∙◌}
-use Rattle.ufmt_doc.proofs.Unquoted.{read_shorter, told_all, told_more}
+use Rattle.std.proofs.Common.{◌∷◌, [], append-nil, append_assoc, refl}
+use Rattle.ufmt_doc.proofs.Unquoted.{decoded_all, decoded_first, decoded_shorter}
 use Rattle.ufmt_doc.proofs.doc.decoded_bytes.Goals as goal
 
+pub bytes-init : goal.bytes-init
+bytes-init c = λ bs is. (bs, cc, is)
+
 pub bytes-smaller : goal.bytes-smaller
-bytes-smaller c = read_shorter c.args.quote c.bytes.rest.now c.in-Some.byte c.in-Some.behind.now c.in-Some.ensures.some
+bytes-smaller c = decoded_shorter c.args.quote _ c.in-Some.byte c.in-Some.after.now c.in-Some.ensures.some
 
 pub bytes-preserved : goal.bytes-preserved
-bytes-preserved c =
-    told_more c.args.quote c.args.inside.now c.bytes.bytes.items c.bytes.rest.now c.push.new.self.items c.in-Some.byte c.in-Some.behind.now c.bytes.invariant
-    c.in-Some.ensures.some c.in_ok-push.ensures.items
+bytes-preserved c = λ bs is.
+    let left = c.bytes.invariant bs is in
+    let next = decoded_first c.args.quote c.requires c.in-Some.byte c.in-Some.after.now _ left.0 c.in-Some.ensures.some left.2 in
+    let joined = append_assoc c.bytes.bytes.items (c.in-Some.byte ∷ []) next.0 in
+    (next.0, cc (c.in_ok-push.ensures.items), next.2)
 
 pub returns : goal.returns
-returns c = λ bs is. told_all c.args.quote c.requires c.bytes.bytes.items c.bytes.rest.now bs (c.in_default.ensures.none refl) (sym c.bytes.invariant ∙ is)
+returns c = λ bs is.
+    let left = c.bytes.invariant bs is in
+    let none = decoded_all c.args.quote c.requires _ left.0 (c.in_default.ensures.none refl) left.2 in
+    let whole = append-nil c.bytes.bytes.items in cc

@@ -6,6 +6,6 @@ use Rattle.ufmt_doc.proofs.doc.first_value.Goals as goal
 
 pub returns-then-eq : goal.returns-then-eq
 returns-then-eq c =
-    let labelled : bytes_eq (string_bytes c.loop-other-item.result.0) c.args.label.now ≡ true = ap (λ text. bytes_eq text c.args.label.now) (sym c.as_str.ensures.value) ∙ sym c.eq.ensures ∙ c.if-eq.true in
+    let named : bytes_eq (string_bytes c.loop-other-item.result.0) c.args.name.now ≡ true = ap (λ text. bytes_eq text c.args.name.now) (sym c.as_str.ensures.value) ∙ sym c.eq.ensures ∙ c.if-eq.true in
     let first = fields-first (item-first _ _ _ _ c.loop-other-test.true c.loop-other-item.is) refl in
-    sym (c.loop-other.invariant ∙ ap (first_value c.args.label.now) first ∙ rw labelled refl)
+    sym (c.loop-other.invariant ∙ ap (first_value c.args.name.now) first ∙ rw named refl)

@@ -1,4 +1,4 @@
--- The value behind the label is that among the fields that are left.
+-- The first value with the name is that among the fields that are left.
 use Rattle.std.proofs.Common.{◌≡◌, drop, map}
 use Rattle.ufmt.specs.Document.{fields_of}
 use Rattle.ufmt_doc.specs.DocViews.{field_view}
@@ -6,5 +6,5 @@ use Rattle.ufmt_doc.specs.Parts.{first_value}
 use Rattle.ufmt_doc.proofs.doc.first_value.Given as goal
 
 abbrev pub invariant-loop-other : goal.invariant-loop-other
-invariant-loop-other l = first_value l.label (fields_of (map field_view l.fields))
-    ≡ first_value l.label (fields_of (map field_view (drop l.other-index l.fields)))
+invariant-loop-other l = first_value l.name (fields_of (map field_view l.fields))
+    ≡ first_value l.name (fields_of (map field_view (drop l.other-index l.fields)))

@@ -2,9 +2,8 @@ use Rattle.std.proofs.Common.{ap, rules, string_bytes, String, Global, Result, O
 use Rattle.std.specs.Prelude.{IsOk}
 use Rattle.std.specs.Result.{result_ok}
 use Rattle.ufmt.specs.Document.{Document, leaf}
-use Rattle.ufmt.specs.Quoted.{IsQuote}
 use Rattle.ufmt_doc.specs.Unquoted.{IsInQuotes, Unquotes}
-use Rattle.ufmt_doc.proofs.Unquoted.{told_text, told_utf8}
+use Rattle.ufmt_doc.proofs.Unquoted.{spelled_text}
 use Rattle.ufmt_doc.proofs.doc.unquoted_leaf.Goals as goal
 
 -- bytes that are a text are the text of the leaf
@@ -15,11 +14,7 @@ answered d (Err e) is h some = absurd (cc)
 
 pub returns : goal.returns
 returns c =
-    let quote : IsQuote c.in-Some.first.now = search (rules, c.if-quote-ne39.either) in
-    let front = sym c.as_bytes.ensures.value ∙ c.in-Some.ensures.cases.0 in
-    let symbol = c.is_symbol.ensures.0 c.if-not-is_symbol.false in
-    let bytes = c.in_ok-decoded_bytes.field-0.items in
-    rw c.ok.ensures.value (answered (leaf c.args.text.now) c.from_utf8.result
-    (λ s is. told_text c.args.text.now c.in-Some.inside.now c.in-Some.first.now front symbol quote bytes (string_bytes s) c.in_ok-decoded_bytes.ensures (ap
-    (λ v. v.items) is)) c.from_utf8.ensures.ok
-    (c.from_utf8.ensures.succeeds (told_utf8 c.args.text.now c.in-Some.inside.now c.in-Some.first.now front symbol quote bytes c.in_ok-decoded_bytes.ensures)))
+    let spelled = spelled_text c.args.text.now c.in-Some.inside.now c.in-Some.first.now (sym c.as_bytes.ensures.value ∙ c.in-Some.ensures.cases.0)
+    (c.is_symbol.ensures.0 c.if-not-is_symbol.false) (search (rules, c.if-quote-ne39.either)) c.in_ok-decoded_bytes.field-0.items c.in_ok-decoded_bytes.ensures in
+    rw c.ok.ensures.value
+    (answered (leaf c.args.text.now) c.from_utf8.result (λ s is. spelled.1 (string_bytes s) (ap (λ v. v.items) is)) c.from_utf8.ensures.ok (c.from_utf8.ensures.succeeds spelled.0))
