@@ -1,5 +1,5 @@
 //! A sink that makes the document whose events it takes.
-ghost use Rattle.std.specs.Prelude.{◌≡◌, ◌≤◌, ◌+◌, ◌++◌, ◌∷◌, [], IfOk, OnOk, Some, drop, length, map, option_map, string_bytes, take, vec_capacity, ⊤};
+ghost use Rattle.std.specs.Prelude.{◌≡◌, ◌<◌, ◌≤◌, ◌+◌, ◌++◌, ◌∷◌, [], IfOk, OnOk, Some, drop, length, map, option_map, string_bytes, take, vec_capacity, ⊤};
 ghost use Rattle.std.proofs.Common.{refl};
 ghost use Rattle.ufmt.specs.Document.{Document, leaf};
 ghost use Rattle.ufmt_doc.specs.Doc.{doc_document};
@@ -106,20 +106,6 @@ fn take_fields(
     Ok(fields)
 }
 
-// Takes the name of a block off the stack, after its entries were taken.
-#[inline(always)]
-fn take_name(alloc: Global, docs: &mut Vec<Doc>, start: usize) -> String
-    requires { length docs.old.items ≤ start + 1 }
-    ensures docs { docs.new.items ≡ take start docs.old.items }
-    ensures capacity { vec_capacity docs.new ≡ vec_capacity docs.old }
-    ensures name { string_bytes result ≡ name_in (map doc_document (drop start docs.old.items)) }
-{
-    if docs.len() <= start {
-        return String::new(alloc);
-    }
-    text_of(alloc, docs.take_last())
-}
-
 // Takes all that belongs to a block off the stack, and makes the block of it.
 #[inline(always)]
 fn take_block(
@@ -128,7 +114,7 @@ fn take_block(
     kind: Kind,
     block: OpenBlock,
 ) -> Result<Doc, AllocError>
-    requires { block.start ≤ length docs.old.items }
+    requires { block.start < length docs.old.items }
     ensures docs { OnOk result (docs.new.items ≡ take block.start docs.old.items) }
     ensures capacity { OnOk result (vec_capacity docs.new ≡ vec_capacity docs.old) }
     ensures doc { IfOk result (λ doc. doc_document doc ≡ block_of kind block.has_colon
@@ -140,12 +126,12 @@ fn take_block(
         Kind::Braces if block.has_colon => Ok(Doc::MapOf(take_pairs(alloc, docs, start)?)),
         Kind::Braces => Ok(Doc::SetOf(docs.split_off(start)?)),
         Kind::Struct => {
-            let fields = take_fields(alloc, docs, (start + 1).min(docs.len()))?;
-            Ok(Doc::StructOf(take_name(alloc, docs, start), fields))
+            let fields = take_fields(alloc, docs, start + 1)?;
+            Ok(Doc::StructOf(text_of(alloc, docs.take_last()), fields))
         }
         Kind::Tuple => {
-            let entries = docs.split_off((start + 1).min(docs.len()))?;
-            Ok(Doc::TupleOf(take_name(alloc, docs, start), entries))
+            let entries = docs.split_off(start + 1)?;
+            Ok(Doc::TupleOf(text_of(alloc, docs.take_last()), entries))
         }
         Kind::Unnamed => Ok(Doc::TupleOf(String::new(alloc), docs.split_off(start)?)),
     }
@@ -239,11 +225,13 @@ impl DocumentSink {
         let Some(innermost) = self.open_blocks.checked_sub(1) else {
             return Ok(());
         };
+        let block = self.blocks[innermost];
+        // A block that is closed has entries: one without is never opened.
+        if self.docs.len() <= block.start {
+            return Err(AllocError);
+        }
         self.docs.reserve(1)?;
         self.open_blocks = innermost;
-        let block = self.blocks[innermost];
-        let start = block.start.min(self.docs.len());
-        let block = OpenBlock { start, ..block };
         let doc = take_block(self.alloc, &mut self.docs, kind, block)?;
         self.docs.push_reserved(doc);
         Ok(())
