@@ -16,7 +16,7 @@ mod tree;
 
 use std::alloc::{AllocError, Global};
 use std::mem;
-use tree::Tokens;
+use tree::Part;
 pub use tree::same_text;
 use ufmt_scan::convert::plain_text;
 use ufmt_scan::escape::split_escaped;

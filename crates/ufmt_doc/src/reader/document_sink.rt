@@ -4,7 +4,7 @@ ghost use Rattle.std.proofs.Common.{refl};
 ghost use Rattle.ufmt.specs.Document.{Document, leaf};
 ghost use Rattle.ufmt_doc.specs.Doc.{doc_document};
 ghost use Rattle.ufmt_doc.specs.DocViews.{field_view, pair_view};
-ghost use Rattle.ufmt_doc.specs.Private.Growing.{block_of, closed, field_from, growing, grown, in_pairs, name_in, opened, put, text_of, with_colon, empty_block};
+ghost use Rattle.ufmt_doc.specs.Private.Growing.{block_of, closed, field_from, growing, grown, in_pairs, opened, put, text_of, with_colon, empty_block};
 
 use crate::doc::Doc;
 use std::alloc::{AllocError, Global};
