@@ -22,9 +22,6 @@ use ufmt_scan::convert::plain_text;
 use ufmt_scan::escape::split_escaped;
 use ufmt_scan::leaf::is_symbol;
 
-// How deep blocks with entries may nest in a document whose text can be read again.
-const DEEPEST: u8 = 255;
-
 /// A document as a value: a text of its own, or a block whose entries are documents.
 #[derive(Drop)]
 pub enum Doc {
@@ -41,7 +38,7 @@ impl Doc {
     pub fn is_token(&self) -> bool
         ensures { IsTrue result ↔ IsToken (doc_document self.now) }
     {
-        self.has_tokens(DEEPEST)
+        self.has_tokens(u8::MAX)
     }
 
     /// Makes it its normal form, which has the same texts: at each depth a struct or a tuple without

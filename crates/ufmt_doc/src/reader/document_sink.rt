@@ -209,12 +209,13 @@ impl DocumentSink {
 
     // Marks the innermost block as one with a colon.
     #[inline(always)]
-    fn mark_colon(&mut self)
-        ensures { growing self.new ≡ with_colon (growing self.old) }
+    fn mark_colon(&mut self) -> Result<(), AllocError>
+        ensures { OnOk result (growing self.new ≡ with_colon (growing self.old)) }
     {
         if let Some(innermost) = self.open_blocks.checked_sub(1) {
             self.blocks[innermost].has_colon = true;
         }
+        Ok(())
     }
 
     // Ends the innermost block.
@@ -257,10 +258,7 @@ impl Sink for DocumentSink {
             Event::Leaf(text) | Event::FieldName(text) => self.put_leaf(text),
             Event::Empty(kind) => self.put_empty(kind),
             Event::Open(kind, name) => self.open(kind, name),
-            Event::Colon => {
-                self.mark_colon();
-                Ok(())
-            }
+            Event::Colon => self.mark_colon(),
             Event::Next => Ok(()),
             Event::Close(kind, _) => self.close(kind),
         }
