@@ -9,6 +9,9 @@ use Rattle.ufmt_doc.specs.declared.doc.Doc.TheFolds.{fold-roll-Doc}
 use Rattle.ufmt_doc.specs.declared.doc.Doc.TheVariants.{Leaf, Listed, SetOf, MapOf, StructOf, TupleOf, rolls-Leaf, rolls-Listed, rolls-SetOf, rolls-MapOf, rolls-StructOf, rolls-TupleOf}
 use Rattle.ufmt_doc.specs.Doc.{doc_document, document_step}
 
+pub doc_document-Leaf : (text : _) → doc_document (Leaf text) ≡ leaf (string_bytes text)
+doc_document-Leaf text = ap doc_document (sym (rolls-Leaf text)) ∙ fold-roll-Doc Document document_step _
+
 pub doc_document-Listed : (entries : _) → doc_document (Listed entries) ≡ list_of (documents (map doc_document entries.items))
 doc_document-Listed entries = ap doc_document (sym (rolls-Listed entries)) ∙ fold-roll-Doc Document document_step _
 

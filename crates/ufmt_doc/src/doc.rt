@@ -122,7 +122,12 @@ impl Doc {
         ensures { option_map (λ value. doc_document value.now) result
             ≡ field_part name.now (doc_document self.now) }
     {
-        first_value(self.fields()?, name)
+        for (other, value) in self.fields()? {
+            if other.as_str() == name {
+                return Some(value);
+            }
+        }
+        None
     }
 
     /// Makes a leaf of the text in quotation marks, with its escapes, as `uDebug` prints it. Fails
@@ -145,10 +150,17 @@ impl Doc {
     pub fn unquoted(&self, alloc: Global) -> Result<Option<String>, AllocError>
         ensures { IfOk result (λ answer. Unquotes (doc_document self.now) answer) }
     {
-        match self.as_leaf() {
-            Some(leaf) => unquoted_leaf(alloc, leaf),
-            None => Ok(None),
+        let Doc::Leaf(text) = self else {
+            return Ok(None);
+        };
+        let Some((first, inside)) = text.as_bytes().split_first() else {
+            return Ok(None);
+        };
+        let quote = *first;
+        if !is_symbol(text) || (quote != b'"' && quote != b'\'') {
+            return Ok(None);
         }
+        Ok(String::from_utf8(decoded_bytes(alloc, quote, inside)?).ok())
     }
 }
 
@@ -184,33 +196,6 @@ fn normalize_fields(alloc: Global, fields: &mut [(String, Doc)])
     for (_, value) in fields.iter_mut() {
         value.normalize(alloc);
     }
-}
-
-// The value of the first field with this name.
-fn first_value<'a>(fields: &'a [(String, Doc)], name: &str) -> Option<&'a Doc>
-    ensures { option_map (λ value. doc_document value.now) result
-        ≡ first_value name.now (fields_of (map field_view fields.now)) }
-{
-    for (other, value) in fields {
-        if other.as_str() == name {
-            return Some(value);
-        }
-    }
-    None
-}
-
-// What is between the quotes of a leaf that has them.
-fn unquoted_leaf(alloc: Global, text: &str) -> Result<Option<String>, AllocError>
-    ensures { IfOk result (λ answer. Unquotes (leaf text.now) answer) }
-{
-    let Some((first, inside)) = text.as_bytes().split_first() else {
-        return Ok(None);
-    };
-    let quote = *first;
-    if !is_symbol(text) || (quote != b'"' && quote != b'\'') {
-        return Ok(None);
-    }
-    Ok(String::from_utf8(decoded_bytes(alloc, quote, inside)?).ok())
 }
 
 // The bytes that are spelled up to the closing quote.

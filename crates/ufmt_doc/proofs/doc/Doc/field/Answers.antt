@@ -2,7 +2,7 @@ use Rattle.std.proofs.Common.{◌≡◌, ap, refl, sym, ◌∙◌, true, bytes_e
 use Rattle.std.specs.Prelude.{string_bytes}
 use Rattle.ufmt_doc.specs.Parts.{first_value}
 use Rattle.ufmt_doc.proofs.Docs.{item-first, fields-first}
-use Rattle.ufmt_doc.proofs.doc.first_value.Goals as goal
+use Rattle.ufmt_doc.proofs.doc.Doc.field.Goals as goal
 
 pub returns-then-eq : goal.returns-then-eq
 returns-then-eq c =
