@@ -60,13 +60,12 @@ fn text_of(alloc: Global, doc: Doc) -> String
     }
 }
 
+// Entries off the stack.
+type Taken<T> = Result<Vec<T>, AllocError>;
+
 // Takes the keys and values of a map off the stack.
 #[inline(never)]
-fn take_pairs(
-    alloc: Global,
-    docs: &mut Vec<Doc>,
-    start: usize,
-) -> Result<Vec<(Doc, Doc)>, AllocError>
+fn take_pairs(alloc: Global, docs: &mut Vec<Doc>, start: usize) -> Taken<(Doc, Doc)>
     requires { start ≤ length docs.old.items }
     ensures docs { OnOk result (docs.new.items ≡ take start docs.old.items) }
     ensures capacity { OnOk result (vec_capacity docs.new ≡ vec_capacity docs.old) }
@@ -85,11 +84,7 @@ fn take_pairs(
 
 // Takes the names and values of fields off the stack.
 #[inline(never)]
-fn take_fields(
-    alloc: Global,
-    docs: &mut Vec<Doc>,
-    start: usize,
-) -> Result<Vec<(String, Doc)>, AllocError>
+fn take_fields(alloc: Global, docs: &mut Vec<Doc>, start: usize) -> Taken<(String, Doc)>
     requires { start ≤ length docs.old.items }
     ensures docs { OnOk result (docs.new.items ≡ take start docs.old.items) }
     ensures capacity { OnOk result (vec_capacity docs.new ≡ vec_capacity docs.old) }
