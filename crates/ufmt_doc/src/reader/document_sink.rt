@@ -183,7 +183,7 @@ impl DocumentSink {
 
     // Opens a block in the innermost one.
     #[inline(always)]
-    #[tactic(auto, using(crate::proofs::OpenBlocks::one_more))]
+    #[tactic(auto, using(crate::proofs::GrowingDocuments::one_more))]
     fn open(&mut self, kind: Kind, name: &str) -> Result<(), AllocError>
         ensures { OnOk result (growing self.new ≡ opened kind name.now (growing self.old)) }
     {

@@ -2,15 +2,14 @@ use Rattle.std.proofs.Common.{◌≡◌, ◌==◌, length, map, vec_len, string_
 use Rattle.std.specs.Vec.{with_items}
 use Rattle.std.proofs.lemmas.List.{with_items_is}
 use Rattle.ufmt.specs.Document.{documents, fields_of, pairs_of, struct_of}
-use Rattle.ufmt.specs.Token.{normal, normal_fields}
+use Rattle.ufmt.specs.Token.{normal_fields}
 use Rattle.ufmt_doc.specs.declared.doc.Doc.TheOpen.{StructOf}
 use Rattle.ufmt_doc.specs.declared.doc.Doc.TheViews.{out-roll-Doc}
 use Rattle.ufmt_doc.specs.declared.doc.Doc.TheVariants.{rolls-StructOf}
 use Rattle.ufmt_doc.specs.Doc.{doc_document}
 use Rattle.ufmt_doc.specs.DocViews.{pair_view, field_view}
 use Rattle.ufmt_doc.proofs.Docs.{doc_document-StructOf}
-use Rattle.ufmt_doc.proofs.Normals.{HasBecome-all, normal_all-map, normal_pairs-map, normal_fields-map}
-use Rattle.ufmt_doc.proofs.Same.{struct_form}
+use Rattle.ufmt_doc.proofs.NormalForms.{HasBecome-all, normal_all-map, normal_pairs-map, normal_fields-map, struct_form}
 use Rattle.ufmt_doc.proofs.doc.+normalize.Goals as goal
 
 -- after a loop all entries are visited

@@ -1,5 +1,5 @@
 use Rattle.std.proofs.Common.{refl}
-use Rattle.ufmt_doc.proofs.Same.{leaf_of, struct_form, tuple_form}
+use Rattle.ufmt_doc.proofs.NormalForms.{leaf_of, struct_form, tuple_form}
 use Rattle.ufmt_doc.proofs.doc.tree.leaf_text.Goals as goal
 
 pub returns-in-StructOf : goal.returns-in-StructOf

@@ -1,10 +1,10 @@
-use Rattle.std.proofs.Common.{◌≡◌, inl, inr, ◌==◌, ap, refl, rules, string_bytes, subst, sym, ◌∙◌}
+use Rattle.std.proofs.Common.{true, false, ◌≡◌, inl, inr, ap, refl, rules, string_bytes, subst, sym, ◌∙◌}
 use Rattle.ufmt.specs.Token.{IsWord}
 use Rattle.ufmt_doc.specs.declared.doc.Doc.{the_lemmas}
 use Rattle.ufmt_doc.specs.Doc.{doc_document}
 use Rattle.ufmt_doc.proofs.Docs.{doc_document-Listed, doc_document-MapOf, doc_document-SetOf, doc_document-StructOf, doc_document-TupleOf}
-use Rattle.ufmt_doc.proofs.Same.{braces_same, in_other_order, lists_same, maps_same, sets_same, struct_form, structs_same, tuple_form, tuples_same}
-use Rattle.ufmt_doc.proofs.Within.{as_well, docs_within, fields_within, no_tuple, pairs_within, tuple_within, unnamed_within}
+use Rattle.ufmt_doc.proofs.NormalForms.{braces_same, lists_same, maps_same, sets_same, struct_form, structs_same, tuple_form, tuples_same}
+use Rattle.ufmt_doc.proofs.Within.{as_well, docs_within, fields_within, pairs_within, tuple_within, unnamed_within}
 use Rattle.ufmt_doc.proofs.doc.tree.DocPart.+parts.Goals as goal
 
 pub has_tokens-returns-in-Listed : goal.has_tokens-returns-in-Listed
@@ -22,20 +22,16 @@ has_tokens-returns-then-is_word t c =
 
 pub has_tokens-returns-then-not-is_empty : goal.has_tokens-returns-then-not-is_empty
 has_tokens-returns-then-not-is_empty t c =
-    let fields = c.in-TupleOf.fields in
-    rw (ap doc_document c.in-TupleOf.is ∙ doc_document-TupleOf c.in-TupleOf.name fields)
-    (as_well c.has_tokens-then-not-is_empty.ensures (as_well (docs_within c.args.deepest fields.items)
-    (unnamed_within c.args.deepest (string_bytes c.in-TupleOf.name) fields.items
-    (ap (λ n. n == 0) (sym c.in-TupleOf.name.bytes.ok.0) ∙ sym c.is_empty.ensures ∙ c.if-is_empty.true)
-    (ap (λ n. n == 0) (sym fields.ok.0) ∙ sym c.is_empty-in-TupleOf.ensures ∙ c.if-not-is_empty.true))))
+    rw c.in-TupleOf.is (as_well (as_well c.has_tokens-then-not-is_empty.ensures (docs_within _ _))
+    (unnamed_within _ _ _ false (sym c.is_empty.ensures ∙ c.if-is_empty.true) (sym c.if-not-is_empty.true ∙ c.is_empty-in-TupleOf.ensures)))
 
 pub has_tokens-returns-else-not-is_empty : goal.has_tokens-returns-else-not-is_empty
 has_tokens-returns-else-not-is_empty t c =
-    let fields = c.in-TupleOf.fields in
-    rw (ap doc_document c.in-TupleOf.is ∙ doc_document-TupleOf c.in-TupleOf.name fields, c.if-not-is_empty.false)
-    (no_tuple c.args.deepest (string_bytes c.in-TupleOf.name) fields.items
-    (ap (λ n. n == 0) (sym c.in-TupleOf.name.bytes.ok.0) ∙ sym c.is_empty.ensures ∙ c.if-is_empty.true)
-    (ap (λ n. n == 0) (sym fields.ok.0) ∙ sym c.is_empty-in-TupleOf.ensures ∙ c.if-not-is_empty.false))
+    rw (c.in-TupleOf.is, c.if-not-is_empty.false) (
+      λ no. absurd (cc),
+      λ h. absurd
+          ((unnamed_within c.args.deepest _ _ true (sym c.is_empty.ensures ∙ c.if-is_empty.true) (sym c.if-not-is_empty.false ∙ c.is_empty-in-TupleOf.ensures)).1 h),
+    )
 
 pub has_tokens-returns-then-is_word-2 : goal.has_tokens-returns-then-is_word-2
 has_tokens-returns-then-is_word-2 t c =
@@ -54,7 +50,8 @@ is_same-returns-in-SetOf-MapOf t c = braces_same _ _ _ _ _ c.in-SetOf-MapOf.is-0
 
 pub is_same-returns-in-MapOf-SetOf : goal.is_same-returns-in-MapOf-SetOf
 is_same-returns-in-MapOf-SetOf t c =
-    in_other_order (braces_same _ _ _ _ _ c.in-MapOf-SetOf.is-1 c.in-MapOf-SetOf.is-0 (rw (c.len-in-MapOf-SetOf.ensures, c.len-in-MapOf-SetOf-2.ensures) refl))
+    let same = braces_same _ _ _ _ _ c.in-MapOf-SetOf.is-1 c.in-MapOf-SetOf.is-0 (rw (c.len-in-MapOf-SetOf.ensures, c.len-in-MapOf-SetOf-2.ensures) refl) in
+    (λ yes. sym (same.0 yes), λ h. same.1 (sym h))
 
 pub is_same-returns-in-MapOf-MapOf : goal.is_same-returns-in-MapOf-MapOf
 is_same-returns-in-MapOf-MapOf t c = simp (c.in-MapOf-MapOf.is-0, c.in-MapOf-MapOf.is-1, doc_document-MapOf) (as_well c.is_same-in-MapOf-MapOf.ensures (maps_same _ _))

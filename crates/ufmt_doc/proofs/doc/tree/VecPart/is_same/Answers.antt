@@ -2,7 +2,7 @@ use Rattle.std.proofs.Common.{arith, eqb-true, rules, tests}
 use Rattle.std.specs.List.{zip}
 use Rattle.std.proofs.lemmas.Iterator.{cases_from_all, YieldsList-from_slice, YieldsList-from_zip}
 use Rattle.std.proofs.lemmas.Slice.Zip.{AllZip-long}
-use Rattle.ufmt_doc.proofs.Same.{zipped}
+use Rattle.ufmt_doc.proofs.NormalForms.{zipped}
 use Rattle.ufmt_doc.proofs.Within.{all_tells, as_well}
 use Rattle.ufmt_doc.proofs.doc.tree.VecPart.is_same.Goals as goal
 

@@ -5,7 +5,7 @@ use Rattle.ufmt_doc.specs.declared.doc.Doc.{Doc}
 use Rattle.ufmt_doc.specs.declared.reader.document_sink.OpenBlock.{OpenBlock}
 use Rattle.ufmt_doc.specs.Doc.{doc_document}
 use Rattle.ufmt_doc.specs.Private.Growing.{block_of, closed, growing}
-use Rattle.ufmt_doc.proofs.OpenBlocks.{innermost_is}
+use Rattle.ufmt_doc.proofs.GrowingDocuments.{innermost_is}
 use Rattle.ufmt_doc.proofs.reader.document_sink.DocumentSink.close.Goals as goal
 
 -- the block that is made of the entries takes their place

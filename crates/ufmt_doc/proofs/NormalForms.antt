@@ -1,10 +1,10 @@
--- When two `Doc`s have one normal form, by their parts.
-use Rattle.std.proofs.Common.{◌≡◌, refl, sym, ap, ◌∙◌, ◌==◌, ◌+◌, ℕ, List, [], ◌∷◌, length, map, Bool, Bor, true, false, None, cond, String, Vec, Global, arith}
+-- The normal forms of documents in a row, and when two `Doc`s have one normal form.
+use Rattle.std.proofs.Common.{◌≡◌, refl, sym, ap, ◌∙◌, ◌==◌, ◌+◌, ℕ, List, [], ◌∷◌, length, map, Bool, Bor, true, false, None, cond, String, Vec, Global, arith, suc, ◌<◌, ◌≤◌, get_or}
 use Rattle.std.proofs.lemmas.Bool.Decides.{nat_tests}
 use Rattle.std.specs.Prelude.{IsTrue, ◌↔◌, string_bytes, vec_len}
 use Rattle.std.specs.Bool.{then_some}
 use Rattle.std.specs.List.{AllByRecursion, AllZip, zip}
-use Rattle.ufmt.specs.Document.{Document, leaf, list_of, set_of, map_of, struct_of, tuple_of, documents, pairs_of, fields_of}
+use Rattle.ufmt.specs.Document.{Document, leaf, list_of, set_of, map_of, struct_of, tuple_of, documents, pairs_of, fields_of, document, pair, field}
 use Rattle.ufmt.specs.Token.{normal, normal_all, normal_pairs, normal_fields}
 use Rattle.ufmt_doc.specs.declared.doc.Doc.{Doc}
 use Rattle.ufmt_doc.specs.declared.doc.Doc.TheVariants.{SetOf, MapOf, StructOf, TupleOf}
@@ -89,12 +89,8 @@ pub braces_same : (s m : Doc) (v : Vec Doc Global) (w : Vec (Doc × Doc) Global)
 braces_same s m v w answer set_is map_is is =
     rw (set_is, doc_document-SetOf v, map_is, doc_document-MapOf w) (braces v.items w.items answer (is ∙ rw (v.ok.0, w.ok.0) refl))
 
--- an answer tells two equal values in either order
-pub in_other_order : {A : Type 0} {answer : Bool} {x y : A} → IsTrue answer ↔ (x ≡ y) → IsTrue answer ↔ (y ≡ x)
-in_other_order tells = (λ yes. sym (tells.0 yes), λ same. tells.1 (sym same))
-
 -- a struct or a tuple is a leaf in normal form exactly if it has no fields
-is_some : {A : Type 0} (x : A) (xs : List A) → (length (x ∷ xs) == 0) ≡ false
+pub is_some : {A : Type 0} (x : A) (xs : List A) → (length (x ∷ xs) == 0) ≡ false
 is_some x xs = grind (arith, nat_tests)
 
 struct_or_leaf : (name : List ℕ) (fs : List (String Global × Doc)) → let all = fields_of (map field_view fs) in
@@ -118,3 +114,33 @@ tuple_form empty d name fields is test = rw (is, doc_document-TupleOf name field
 pub leaf_of : (empty : Bool) (name : Bor (List ℕ)) (block : Document) → leaf_part block ≡ None → now_of (then_some empty name) ≡ leaf_part (cond empty (leaf name.now) block)
 leaf_of true name block none = refl
 leaf_of false name block none = sym none
+
+-- the first i things, seen by now, are what then makes of those that were there
+abbrev pub HasBecome : {X V : Type 0} → (X → V) → (X → V) → ℕ → List X → List X → Type 0
+HasBecome {X} now then i xs ys = (k : ℕ) → k < i → (d : X) → now (get_or xs k d) ≡ then (get_or ys k d)
+
+-- where the first i are all
+pub HasBecome-all : {X V : Type 0} (now then : X → V) (i : ℕ) (xs ys : List X) → length xs ≡ length ys → length ys ≤ i
+    → HasBecome now then i xs ys → map now xs ≡ map then ys
+HasBecome-all now then i [] [] same all h = refl
+HasBecome-all now then i [] (y ∷ ys) same all h = absurd (omega arith)
+HasBecome-all now then i (x ∷ xs) [] same all h = absurd (omega arith)
+HasBecome-all now then i (x ∷ xs) (y ∷ ys) same all h =
+    let first : now x ≡ then y = h 0 (omega arith) x in
+    let others : map now xs ≡ map then ys = HasBecome-all now then (length ys) xs ys (omega arith) (omega arith) (λ k below. h (suc k) (omega arith)) in
+    cc
+
+-- the normal form of entries is that of each: of documents, of pairs and of fields
+pub normal_all-map : {X : Type 0} (f : X → Document) (xs : List X) → documents (map (λ x. normal (f x)) xs) ≡ normal_all (documents (map f xs))
+normal_all-map f [] = refl
+normal_all-map f (x ∷ xs) = ap (document (normal (f x))) (normal_all-map f xs)
+
+pub normal_pairs-map : {X : Type 0} (f : X → Document × Document) (xs : List X)
+    → pairs_of (map (λ x. (normal (f x).0, normal (f x).1)) xs) ≡ normal_pairs (pairs_of (map f xs))
+normal_pairs-map f [] = refl
+normal_pairs-map f (x ∷ xs) = ap (pair (normal (f x).0) (normal (f x).1)) (normal_pairs-map f xs)
+
+pub normal_fields-map : {X : Type 0} (f : X → List ℕ × Document) (xs : List X)
+    → fields_of (map (λ x. ((f x).0, normal (f x).1)) xs) ≡ normal_fields (fields_of (map f xs))
+normal_fields-map f [] = refl
+normal_fields-map f (x ∷ xs) = ap (field (f x).0 (normal (f x).1)) (normal_fields-map f xs)
