@@ -1,9 +1,8 @@
 -- The document of a `Doc`, by its variants.
-use Rattle.std.proofs.Common.{◌≡◌, ℕ, ◌+◌, ◌<◌, List, ◌∷◌, length, get_or, drop, map, ap, sym, ◌∙◌, add-one, String, Global}
-use Rattle.std.proofs.Math.Seq.{drop-cons}
+use Rattle.std.proofs.Common.{◌≡◌, map, ap, sym, ◌∙◌, String, Global}
 use Rattle.std.proofs.lemmas.Simd.{map-map}
 use Rattle.std.specs.Prelude.{string_bytes}
-use Rattle.ufmt.specs.Document.{Document, leaf, list_of, set_of, map_of, struct_of, tuple_of, documents, pairs_of, fields_of, field}
+use Rattle.ufmt.specs.Document.{Document, leaf, list_of, set_of, map_of, struct_of, tuple_of, documents, pairs_of, fields_of}
 use Rattle.ufmt_doc.specs.declared.doc.Doc.{Doc}
 use Rattle.ufmt_doc.specs.declared.doc.Doc.TheFolds.{fold-roll-Doc}
 use Rattle.ufmt_doc.specs.declared.doc.Doc.TheVariants.{Leaf, Listed, SetOf, MapOf, StructOf, TupleOf, rolls-Leaf, rolls-Listed, rolls-SetOf, rolls-MapOf, rolls-StructOf, rolls-TupleOf}
@@ -29,14 +28,3 @@ doc_document-StructOf name fields = ap doc_document (sym (rolls-StructOf name fi
 
 pub doc_document-TupleOf : (name fields : _) → doc_document (TupleOf name fields) ≡ tuple_of (string_bytes name) (documents (map doc_document fields.items))
 doc_document-TupleOf name fields = ap doc_document (sym (rolls-TupleOf name fields)) ∙ fold-roll-Doc Document document_step _
-
--- the item at an index is the first of those from there on
-pub item-first : {X : Type 0} (xs : List X) (i : ℕ) (other x : X) → i < length xs → x ≡ get_or xs i other → drop i xs ≡ x ∷ drop (i + 1) xs
-item-first xs i other x h e = rw (add-one, e) (drop-cons xs i other h)
-
--- and so its label and its value's document are the first of the fields
-pub fields-first : {rest more : List (String Global × Doc)} {x : String Global × Doc} {label : List ℕ} → rest ≡ x ∷ more → label ≡ string_bytes x.0 →
-    fields_of (map (λ f. (string_bytes f.0, doc_document f.1)) rest)
-    ≡ field label (doc_document x.1) (fields_of (map (λ f. (string_bytes f.0, doc_document f.1)) more))
-fields-first {more = more} {x = x} h e = ap (λ fs. fields_of (map (λ f. (string_bytes f.0, doc_document f.1)) fs)) h
-    ∙ ap (λ n. field n (doc_document x.1) (fields_of (map (λ f. (string_bytes f.0, doc_document f.1)) more))) (sym e)

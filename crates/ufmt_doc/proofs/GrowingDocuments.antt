@@ -1,5 +1,5 @@
 -- What grows from the events of a token document is its normal form.
-use Rattle.std.proofs.Common.{◌≡◌, ◌∙◌, refl, ap, ap₂, sym, ℕ, Bool, true, false, List, [], ◌∷◌, ◌++◌, length, map, take, drop, take_at, drop_at, append_assoc, append-nil, Result, Ok, Err}
+use Rattle.std.proofs.Common.{◌≡◌, ◌∙◌, refl, ap, sym, ℕ, Bool, true, false, List, [], ◌∷◌, ◌++◌, length, map, take_at, drop_at, append_assoc, append-nil, Result, Ok, Err, ◌+◌, ◌<◌, get_or, reverse, set, take}
 use Rattle.std.specs.Prelude.{⊤}
 use Rattle.std.specs.Result.{OnOk, is_ok}
 use Rattle.ufmt.specs.Document.{Document, leaf, joined, list_of, set_of, map_of, struct_of, tuple_of, pretty_part, Documents, no_documents, document, documents, Pairs, no_pairs, pair, pairs_of, Fields, no_fields, field, fields_of}
@@ -14,6 +14,7 @@ use Rattle.ufmt_doc.specs.declared.reader.document_sink.OpenBlock.{OpenBlock}
 use Rattle.ufmt_doc.specs.Private.Growing.{Growing, block_at, block_of, field_from, grow, growing, grown, in_pairs, name_leaf}
 use Rattle.ufmt_scan.specs.declared.scan.event.Event.TheVariants.{Open, FieldName, Colon}
 use Rattle.ufmt_scan.specs.Scan.{TextEvent, TakesEvent, events_of, events_of_entries, events_of_fields, events_of_pairs, tail_events}
+use Rattle.std.proofs.lemmas.List.{reverse-append, take_more, take_more_set}
 
 -- events after events
 grown-append : (g : Growing) (es fs : List TextEvent) → grown g (es ++ fs) ≡ grown (grown g es) fs
@@ -25,55 +26,31 @@ abbrev Puts : Bool → Bool → List TextEvent → List Document → Type 0
 Puts before after es ds = (below : List Document) (start : ℕ) (outer : List OpenBlock)
     → ◌≡◌ {A = Growing} (grown (below, block_at start before ∷ outer) es) (below ++ ds, block_at start after ∷ outer)
 
--- the same of a list of events for each further entry
-abbrev PutsAll : Bool → List (List TextEvent) → List Document → Type 0
-PutsAll colon [] ds = ds ≡ []
-PutsAll colon (es ∷ more) ds = (first others : List Document) × Puts colon colon es first × PutsAll colon more others × (ds ≡ first ++ others)
+-- the same of a list of events for each entry
+abbrev PutsAll : Bool → Bool → List (List TextEvent) → List Document → Type 0
+PutsAll before after [] ds = ds ≡ []
+PutsAll before after (es ∷ more) ds = (first others : List Document) × Puts before after es first × PutsAll after after more others × (ds ≡ first ++ others)
 
--- so the events of a block after its first entry put the block in the place of its entries
-tail_grows : (kind : Kind) (count : Count) (colon : Bool) (ess : List (List TextEvent)) (ds below : List Document) (start : ℕ) (outer : List OpenBlock)
-    → PutsAll colon ess ds → ◌≡◌ {A = Growing} (grown (below, block_at start colon ∷ outer) (tail_events kind count ess))
-    (take start (below ++ ds) ++ block_of kind colon (drop start (below ++ ds)) ∷ [], outer)
-tail_grows kind count colon [] ds below start outer none = rw (none, append-nil below) refl
-tail_grows kind count colon (es ∷ more) ds below start outer h =
-    grown-append (below, block_at start colon ∷ outer) es (tail_events kind (next count) more)
-    ∙ ap (λ g. grown g (tail_events kind (next count) more)) (h.2 below start outer)
-    ∙ rw (h.4, ← append_assoc below h.0 h.1) (tail_grows kind (next count) colon more h.1 (below ++ h.0) start outer h.3)
+-- so the events of the entries and the end of a block put the block in the place of what lies above `bottom`
+row_grows : (kind : Kind) (count : Count) (before after : Bool) (es : List TextEvent) (more : List (List TextEvent)) (ds below bottom entries : List Document)
+    (outer : List OpenBlock) → PutsAll before after (es ∷ more) ds → below ++ ds ≡ bottom ++ entries
+    → ◌≡◌ {A = Growing} (grown (below, block_at (length bottom) before ∷ outer) (es ++ tail_events kind count more)) (bottom ++ block_of kind after entries ∷ [], outer)
+row_grows kind count before after es [] ds below bottom entries outer h whole =
+    let all = rw (h.4, h.3, append-nil) at whole in
+    grown-append (below, block_at (length bottom) before ∷ outer) es (tail_events kind count [])
+    ∙ ap (λ g. grown g (tail_events kind count [])) (h.2 below (length bottom) outer)
+    ∙ rw (all, take_at bottom entries (length bottom) refl, drop_at bottom entries (length bottom) refl) refl
+row_grows kind count before after es (fs ∷ more) ds below bottom entries outer h whole =
+    grown-append (below, block_at (length bottom) before ∷ outer) es (tail_events kind count (fs ∷ more))
+    ∙ ap (λ g. grown g (tail_events kind count (fs ∷ more))) (h.2 below (length bottom) outer)
+    ∙ row_grows kind (next count) after after fs more h.1 (below ++ h.0) bottom entries outer h.3 (append_assoc below h.0 h.1 ∙ rw h.4 at whole)
 
 -- and all events of a block put it on the stack
-block_grows : (kind : Kind) (name : List ℕ) (colon : Bool) (es : List TextEvent) (ess : List (List TextEvent)) (first others : List Document) → Puts false colon es first
-    → PutsAll colon ess others → (below : List Document) (outer : List OpenBlock)
-    → ◌≡◌ {A = Growing} (grown (below, outer) (Open kind name ∷ (es ++ tail_events kind One ess))) (below ++ block_of kind colon (name_leaf kind name ++ (first ++ others)) ∷ [], outer)
-block_grows kind name colon es ess first others puts all below outer =
-    let named = name_leaf kind name in
-    grown-append (below ++ named, block_at (length below) false ∷ outer) es (tail_events kind One ess)
-    ∙ ap (λ g. grown g (tail_events kind One ess)) (puts (below ++ named) (length below) outer)
-    ∙ tail_grows kind One colon ess others ((below ++ named) ++ first) (length below) outer all
-    ∙ ap (λ ds. (take (length below) ds ++ block_of kind colon (drop (length below) ds) ∷ [], outer))
-    (append_assoc (below ++ named) first others ∙ append_assoc below named (first ++ others))
-    ∙ ap₂ (λ front entries. (front ++ block_of kind colon entries ∷ [], outer)) (take_at below (named ++ (first ++ others)) (length below) refl)
-    (drop_at below (named ++ (first ++ others)) (length below) refl)
-
--- the events of this document put its normal form on the stack
-abbrev Grows : Document → Type 0
-Grows d = (below : List Document) (outer : List OpenBlock) → ◌≡◌ {A = Growing} (grown (below, outer) (events_of d)) (below ++ normal d ∷ [], outer)
-
--- an entry, a pair of a map and a field
-entry_puts : (d : Document) → Grows d → Puts false false (events_of d) (normal d ∷ [])
-entry_puts d h = λ below start outer. h below (block_at start false ∷ outer)
-
-pair_puts : (key value : Document) → Grows key → Grows value → (colon : Bool)
-    → Puts colon true (events_of key ++ Colon ∷ events_of value) (normal key ∷ normal value ∷ [])
-pair_puts key value h k colon = λ below start outer.
-    grown-append (below, block_at start colon ∷ outer) (events_of key) (Colon ∷ events_of value)
-    ∙ ap (λ g. grown g (Colon ∷ events_of value)) (h below (block_at start colon ∷ outer))
-    ∙ k (below ++ normal key ∷ []) (block_at start true ∷ outer)
-    ∙ ap (λ ds. (ds, block_at start true ∷ outer)) (append_assoc below (normal key ∷ []) (normal value ∷ []))
-
-field_puts : (label : List ℕ) (value : Document) → Grows value → Puts false false (FieldName label ∷ events_of value) (leaf label ∷ normal value ∷ [])
-field_puts label value h = λ below start outer.
-    h (below ++ leaf label ∷ []) (block_at start false ∷ outer)
-    ∙ ap (λ ds. (ds, block_at start false ∷ outer)) (append_assoc below (leaf label ∷ []) (normal value ∷ []))
+block_grows : (kind : Kind) (name : List ℕ) (colon : Bool) (es : List TextEvent) (more : List (List TextEvent)) (ds : List Document) → PutsAll false colon (es ∷ more) ds
+    → (below : List Document) (outer : List OpenBlock)
+    → ◌≡◌ {A = Growing} (grown (below, outer) (Open kind name ∷ (es ++ tail_events kind One more))) (below ++ block_of kind colon (name_leaf kind name ++ ds) ∷ [], outer)
+block_grows kind name colon es more ds h below outer =
+    row_grows kind One false colon es more ds (below ++ name_leaf kind name) below (name_leaf kind name ++ ds) outer h (append_assoc below (name_leaf kind name) ds)
 
 -- a tuple that has entries, with a name or without
 tuple_is : (name : List ℕ) (ds : List Document) → block_of (tuple_kind name) false (name_leaf (tuple_kind name) name ++ ds) ≡ tuple_of name (documents ds)
@@ -81,63 +58,59 @@ tuple_is [] ds = refl
 tuple_is (c ∷ name) ds = refl
 
 mutual
-  -- they do so of each token document
-  told_grows : (d : Document) → HasTokens d → Grows d
-  told_grows (leaf text) h = λ below outer. refl
-  told_grows (joined ds) h = absurd h
-  told_grows (list_of no_documents) h = λ below outer. refl
-  told_grows (list_of (document d ds)) h =
-      let more = entries_put ds h.1 in
-      rw (← more.2) (block_grows Brackets [] false (events_of d) (events_of_entries ds) (normal d ∷ []) more.0 (entry_puts d (told_grows d h.0)) more.1)
-  told_grows (set_of no_documents) h = λ below outer. refl
-  told_grows (set_of (document d ds)) h =
-      let more = entries_put ds h.1 in
-      rw (← more.2) (block_grows Braces [] false (events_of d) (events_of_entries ds) (normal d ∷ []) more.0 (entry_puts d (told_grows d h.0)) more.1)
-  told_grows (map_of no_pairs) h = λ below outer. refl
-  told_grows (map_of (pair key value ps)) h =
-      let more = pairs_put ps h.2 in
-      rw (← more.2) (block_grows Braces [] true (events_of key ++ Colon ∷ events_of value) (events_of_pairs ps) (normal key ∷ normal value ∷ []) more.0
-      (pair_puts key value (told_grows key h.0) (told_grows value h.1) false) more.1)
-  told_grows (struct_of name no_fields) h = λ below outer. refl
-  told_grows (struct_of name (field label value fs)) h =
-      let more = fields_put fs h.1.2 in
-      rw (← more.2) (block_grows Struct name false (FieldName label ∷ events_of value) (events_of_fields fs) (leaf label ∷ normal value ∷ []) more.0
-      (field_puts label value (told_grows value h.1.1)) more.1)
-  told_grows (tuple_of [] no_documents) h = absurd h
-  told_grows (tuple_of (c ∷ name) no_documents) h = λ below outer. refl
-  told_grows (tuple_of name (document d ds)) h =
-      let more = entries_put ds h.2 in
-      rw (← more.2, ← tuple_is name (normal d ∷ more.0)) (block_grows (tuple_kind name) name false (events_of d) (events_of_entries ds) (normal d ∷ []) more.0
-      (entry_puts d (told_grows d h.1)) more.1)
-  told_grows (pretty_part d) h = absurd h
+  -- the events of a token document put its normal form on the stack
+  document_grows : (d : Document) → HasTokens d → (below : List Document) (outer : List OpenBlock)
+      → ◌≡◌ {A = Growing} (grown (below, outer) (events_of d)) (below ++ normal d ∷ [], outer)
+  document_grows (leaf text) h = λ below outer. refl
+  document_grows (joined ds) h = absurd h
+  document_grows (list_of no_documents) h = λ below outer. refl
+  document_grows (list_of (document d ds)) h =
+      let row = entries_put (document d ds) h in rw (← row.2) (block_grows Brackets [] false (events_of d) (events_of_entries ds) row.0 row.1)
+  document_grows (set_of no_documents) h = λ below outer. refl
+  document_grows (set_of (document d ds)) h =
+      let row = entries_put (document d ds) h in rw (← row.2) (block_grows Braces [] false (events_of d) (events_of_entries ds) row.0 row.1)
+  document_grows (map_of no_pairs) h = λ below outer. refl
+  document_grows (map_of (pair key value ps)) h =
+      let row = pairs_put false (pair key value ps) h in
+      rw (← row.2) (block_grows Braces [] true (events_of key ++ Colon ∷ events_of value) (events_of_pairs ps) row.0 row.1)
+  document_grows (struct_of name no_fields) h = λ below outer. refl
+  document_grows (struct_of name (field label value fs)) h =
+      let row = fields_put (field label value fs) h.1 in
+      rw (← row.2) (block_grows Struct name false (FieldName label ∷ events_of value) (events_of_fields fs) row.0 row.1)
+  document_grows (tuple_of [] no_documents) h = absurd h
+  document_grows (tuple_of (c ∷ name) no_documents) h = λ below outer. refl
+  document_grows (tuple_of name (document d ds)) h =
+      let row = entries_put (document d ds) (h.1, h.2) in
+      rw (← row.2, ← tuple_is name row.0) (block_grows (tuple_kind name) name false (events_of d) (events_of_entries ds) row.0 row.1)
+  document_grows (pretty_part d) h = absurd h
 
-  -- the entries after the first one
-  entries_put : (ds : Documents) → HaveTokens ds → (more : List Document) × PutsAll false (events_of_entries ds) more × (documents more ≡ normal_all ds)
+  -- those of entries, pairs and fields put these, or leaves and values, on the stack
+  entries_put : (ds : Documents) → HaveTokens ds → (row : List Document) × PutsAll false false (events_of_entries ds) row × (documents row ≡ normal_all ds)
   entries_put no_documents h = ([], refl, refl)
   entries_put (document d ds) h =
       let more = entries_put ds h.1 in
-      (normal d ∷ more.0, (normal d ∷ [], more.0, entry_puts d (told_grows d h.0), more.1, refl), ap (document (normal d)) more.2)
+      let first : Puts false false (events_of d) (normal d ∷ []) = λ below start outer. document_grows d h.0 below (block_at start false ∷ outer) in
+      (normal d ∷ more.0, (normal d ∷ [], more.0, first, more.1, refl), ap (document (normal d)) more.2)
 
-  -- the pairs
-  pairs_put : (ps : Pairs) → PairsHaveTokens ps → (more : List Document) × PutsAll true (events_of_pairs ps) more × (pairs_of (in_pairs more) ≡ normal_pairs ps)
-  pairs_put no_pairs h = ([], refl, refl)
-  pairs_put (pair key value ps) h =
-      let more = pairs_put ps h.2 in (
-        normal key ∷ normal value ∷ more.0,
-        (normal key ∷ normal value ∷ [], more.0, pair_puts key value (told_grows key h.0) (told_grows value h.1) true, more.1, refl),
-        ap (pair (normal key) (normal value)) more.2,
-      )
+  pairs_put : (colon : Bool) (ps : Pairs) → PairsHaveTokens ps
+      → (row : List Document) × PutsAll colon true (events_of_pairs ps) row × (pairs_of (in_pairs row) ≡ normal_pairs ps)
+  pairs_put colon no_pairs h = ([], refl, refl)
+  pairs_put colon (pair key value ps) h =
+      let more = pairs_put true ps h.2 in
+      let first : Puts colon true (events_of key ++ Colon ∷ events_of value) (normal key ∷ normal value ∷ []) = λ below start outer.
+      grown-append (below, block_at start colon ∷ outer) (events_of key) (Colon ∷ events_of value)
+      ∙ ap (λ g. grown g (Colon ∷ events_of value)) (document_grows key h.0 below (block_at start colon ∷ outer))
+      ∙ document_grows value h.1 (below ++ normal key ∷ []) (block_at start true ∷ outer) ∙ rw append_assoc refl in
+      (normal key ∷ normal value ∷ more.0, (normal key ∷ normal value ∷ [], more.0, first, more.1, refl), ap (pair (normal key) (normal value)) more.2)
 
-  -- the fields
-  fields_put : (fs : Fields) → FieldsHaveTokens fs → (more : List Document) × PutsAll false (events_of_fields fs) more
-      × (fields_of (map field_from (in_pairs more)) ≡ normal_fields fs)
+  fields_put : (fs : Fields) → FieldsHaveTokens fs
+      → (row : List Document) × PutsAll false false (events_of_fields fs) row × (fields_of (map field_from (in_pairs row)) ≡ normal_fields fs)
   fields_put no_fields h = ([], refl, refl)
   fields_put (field label value fs) h =
-      let more = fields_put fs h.2 in (
-        leaf label ∷ normal value ∷ more.0,
-        (leaf label ∷ normal value ∷ [], more.0, field_puts label value (told_grows value h.1), more.1, refl),
-        ap (field label (normal value)) more.2,
-      )
+      let more = fields_put fs h.2 in
+      let first : Puts false false (FieldName label ∷ events_of value) (leaf label ∷ normal value ∷ []) = λ below start outer.
+      document_grows value h.1 (below ++ leaf label ∷ []) (block_at start false ∷ outer) ∙ rw append_assoc refl in
+      (leaf label ∷ normal value ∷ more.0, (leaf label ∷ normal value ∷ [], more.0, first, more.1, refl), ap (field label (normal value)) more.2)
 
 -- a sink that grows with each event is held to what the scanner asks of it
 pub takes_event : {E : Type 0} (old new : List Doc × List OpenBlock) (e : TextEvent) (answer : Result (⊤) E) → OnOk answer (growing new ≡ grow (growing old) e)
@@ -147,4 +120,12 @@ takes_event old new e (Err x) h = λ start es before. tt
 
 -- what has grown of the events of a document in normal form is that document
 pub whole_is : (d : Document) (new : Growing) → IsToken d → normal d ≡ d → new ≡ grown ([], []) (events_of d) → new ≡ (d ∷ [], [])
-whole_is d new token form grew = grew ∙ told_grows d token.0 [] [] ∙ ap (λ x. (x ∷ [], [])) form
+whole_is d new token form grew = grew ∙ document_grows d token.0 [] [] ∙ ap (λ x. (x ∷ [], [])) form
+
+-- a block is the innermost of these
+pub innermost_is : (blocks : List OpenBlock) (n : ℕ) (block : OpenBlock) → n < length blocks → reverse (take (n + 1) blocks) ≡ get_or blocks n block ∷ reverse (take n blocks)
+innermost_is blocks n block within = ap reverse (take_more blocks n block within) ∙ reverse-append (take n blocks) (get_or blocks n block ∷ [])
+
+-- a block is put into the array as the innermost
+pub one_more : (blocks : List OpenBlock) (n : ℕ) (block : OpenBlock) → n < length blocks → reverse (take (n + 1) (set blocks n block)) ≡ block ∷ reverse (take n blocks)
+one_more blocks n block within = ap reverse (take_more_set blocks n block within) ∙ reverse-append (take n blocks) (block ∷ [])

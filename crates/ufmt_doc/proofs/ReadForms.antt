@@ -1,9 +1,9 @@
 -- What is read of a text is the normal form of each document with that text.
 use Rattle.std.proofs.Common.{◌≡◌, ◌∙◌, sym, List, ℕ, Result, Ok, Err, IfOk}
 use Rattle.ufmt.specs.Document.{Document}
-use Rattle.ufmt.specs.Layout.{plain_text, pretty_text}
+use Rattle.ufmt.specs.Layout.{plain_text}
 use Rattle.ufmt.specs.Token.{IsToken, normal}
-use Rattle.ufmt.proofs.OneWay.{plain_text_tells, pretty_text_tells}
+use Rattle.ufmt.proofs.OneWay.{plain_text_tells}
 use Rattle.ufmt_doc.specs.declared.doc.Doc.{Doc}
 use Rattle.ufmt_doc.specs.Doc.{doc_document}
 use Rattle.ufmt_scan.specs.declared.error.ReadError.{ReadError}
@@ -18,16 +18,8 @@ pub plain_form_is : (input : List ℕ) (e d : Document) → IsNormalForm plain_t
 plain_form_is = form_is plain_text (λ d e hd he same. (plain_text_tells d e hd he).0 same)
 
 -- and so it is where such a document's text is read again
-read_again : (text_of : Document → List ℕ) → ((d e : Document) → IsToken d → IsToken e → text_of d ≡ text_of e → normal d ≡ normal e)
+pub read_again : (text_of : Document → List ℕ) → ((d e : Document) → IsToken d → IsToken e → text_of d ≡ text_of e → normal d ≡ normal e)
     → (answer : Result Doc ReadError) (input : List ℕ) (d : Document) → IsToken d → input ≡ text_of d
     → IfOk answer (λ doc. IsNormalForm text_of input (doc_document doc)) → IfOk answer (λ doc. doc_document doc ≡ normal d)
 read_again text_of tells (Ok doc) input d token is read = form_is text_of tells input (doc_document doc) d read token (sym is)
 read_again text_of tells (Err e) input d token is read = tt
-
-pub plain_read_again : (answer : Result Doc ReadError) (input : List ℕ) (d : Document) → IsToken d → input ≡ plain_text d
-    → IfOk answer (λ doc. IsNormalForm plain_text input (doc_document doc)) → IfOk answer (λ doc. doc_document doc ≡ normal d)
-plain_read_again = read_again plain_text (λ d e hd he same. (plain_text_tells d e hd he).0 same)
-
-pub pretty_read_again : (answer : Result Doc ReadError) (input : List ℕ) (d : Document) → IsToken d → input ≡ pretty_text d
-    → IfOk answer (λ doc. IsNormalForm pretty_text input (doc_document doc)) → IfOk answer (λ doc. doc_document doc ≡ normal d)
-pretty_read_again = read_again pretty_text (λ d e hd he same. (pretty_text_tells d e hd he).0 same)

@@ -1,5 +1,5 @@
--- Whether a block's text can be read again is told entry by entry.
-use Rattle.std.proofs.Common.{◌≡◌, refl, Bool, ◌==◌, ℕ, ◌-◌, ◌<◌, true, false, List, [], ◌∷◌, length, map, arith, eqb-true, String, Global}
+-- A block is of tokens where its entries are.
+use Rattle.std.proofs.Common.{◌≡◌, refl, Bool, ◌==◌, ℕ, ◌-◌, ◌<◌, true, false, List, [], ◌∷◌, length, map, arith, eqb-true, String, Global, ◌∙◌, cond, Vec, vec_len}
 use Rattle.std.specs.Prelude.{◌↔◌, IsTrue, string_bytes}
 use Rattle.std.specs.Bool.{MatchBool}
 use Rattle.std.specs.List.{AllByRecursion, AllWithin, HoldsAt}
@@ -8,15 +8,18 @@ use Rattle.std.proofs.lemmas.List.Elements.{All-from_all_within, All-from_recurs
 use Rattle.ufmt.specs.Document.{list_of, map_of, struct_of, tuple_of, documents, pairs_of, fields_of}
 use Rattle.ufmt.specs.Token.{IsWord}
 use Rattle.ufmt_doc.specs.declared.doc.Doc.{Doc}
+use Rattle.ufmt_doc.specs.declared.doc.Doc.TheVariants.{TupleOf}
 use Rattle.ufmt_doc.specs.Doc.{doc_document}
 use Rattle.ufmt_doc.specs.DocViews.{pair_view, field_view}
-use Rattle.ufmt_doc.specs.Private.Within.{IsTokenWithin}
+use Rattle.ufmt_doc.specs.Private.{IsTokenWithin}
+use Rattle.ufmt_doc.proofs.Docs.{doc_document-TupleOf}
+use Rattle.ufmt_doc.proofs.NormalForms.{is_some}
 
 -- what holds exactly if another does, which does exactly if a third does
 pub as_well : {A B C : Type 0} → A ↔ B → B ↔ C → A ↔ C
 as_well h k = (λ a. k.0 (h.0 a), λ c. h.1 (k.1 c))
 
--- `all` tells whether each item passes
+-- `all` tests whether each item passes
 pub all_tells : {X : Type 0} (Passes : X → Type 0) (answer : Bool) (xs : List X)
     → MatchBool answer (AllWithin Passes xs 0 (length xs)) ((k : ℕ) × (k < length xs) × HoldsAt (λ x. Passes x → ⊥) xs k)
     → IsTrue answer ↔ AllByRecursion Passes xs
@@ -64,14 +67,13 @@ module _ (n : ℕ) where
   tuple_within (c ∷ name) word [] = (λ h. (word, h.1), λ h. (tt, h.1))
   tuple_within (c ∷ name) word (d ∷ ds) = (λ h. ((word, h.0.0, h.0.1), h.1), λ h. ((h.0.1, h.0.2), h.1))
 
-  pub unnamed_within : (name : List ℕ) (ds : List Doc) → (length name == 0) ≡ true → (length ds == 0) ≡ false
-      → IsTokenWithin n (list_of (documents (map doc_document ds))) ↔ IsTokenWithin n (tuple_of name (documents (map doc_document ds)))
-  unnamed_within [] [] unnamed some = absurd (cc)
-  unnamed_within [] (d ∷ ds) unnamed some = (λ h. ((tt, h.0.0, h.0.1), h.1), λ h. ((h.0.1, h.0.2), h.1))
-  unnamed_within (c ∷ name) ds unnamed some = let none = eqb-true (length (c ∷ name)) 0 unnamed in absurd (omega arith)
+  unnamed : (name : List ℕ) (ds : List Doc) (empty : Bool) → (length name == 0) ≡ true → empty ≡ (length ds == 0)
+      → cond empty ⊥ (IsTokenWithin n (list_of (documents (map doc_document ds)))) ↔ IsTokenWithin n (tuple_of name (documents (map doc_document ds)))
+  unnamed (c ∷ name) ds empty none is = let e = eqb-true (length (c ∷ name)) 0 none in absurd (omega arith)
+  unnamed [] [] empty none is = rw is (λ h. absurd h, λ h. absurd h.0)
+  unnamed [] (d ∷ ds) empty none is = rw (is ∙ is_some d ds) (λ h. ((tt, h.0.0, h.0.1), h.1), λ h. ((h.0.1, h.0.2), h.1))
 
-  pub no_tuple : (name : List ℕ) (ds : List Doc) → (length name == 0) ≡ true → (length ds == 0) ≡ true
-      → IsTrue false ↔ IsTokenWithin n (tuple_of name (documents (map doc_document ds)))
-  no_tuple [] [] unnamed none = (λ h. absurd (cc), λ h. absurd h.0)
-  no_tuple [] (d ∷ ds) unnamed none = let e = eqb-true (length (d ∷ ds)) 0 none in absurd (omega arith)
-  no_tuple (c ∷ name) ds unnamed none = let e = eqb-true (length (c ∷ name)) 0 unnamed in absurd (omega arith)
+  pub unnamed_within : (name : String Global) (fields : Vec Doc Global) (empty : Bool) → (vec_len name.bytes == 0) ≡ true → empty ≡ (vec_len fields == 0)
+      → cond empty ⊥ (IsTokenWithin n (list_of (documents (map doc_document fields.items)))) ↔ IsTokenWithin n (doc_document (TupleOf name fields))
+  unnamed_within name fields empty none is =
+      rw (doc_document-TupleOf name fields) (unnamed (string_bytes name) fields.items empty (rw name.bytes.ok.0 at none) (rw fields.ok.0 at is))

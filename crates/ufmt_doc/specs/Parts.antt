@@ -25,17 +25,17 @@ abbrev pub pairs_part : Document → Option Pairs
 pairs_part (map_of ps) = Some ps
 pairs_part _ = None
 
--- the labels and values of a struct
+-- the field names and values of a struct
 abbrev pub fields_part : Document → Option Fields
 fields_part (struct_of name fs) = Some fs
 fields_part _ = None
 
--- the value behind the first such label
+-- the value of the first field with this name
 abbrev pub first_value : List ℕ → Fields → Option Document
-first_value label no_fields = None
-first_value label (field other value fs) = if bytes_eq other label then Some value else first_value label fs
+first_value name no_fields = None
+first_value name (field other value fs) = if bytes_eq other name then Some value else first_value name fs
 
--- the value of a struct's first field with this label
+-- the value of a struct's first field with this name
 abbrev pub field_part : List ℕ → Document → Option Document
-field_part label (struct_of name fs) = first_value label fs
-field_part label _ = None
+field_part name (struct_of its_name fs) = first_value name fs
+field_part name _ = None

@@ -1,23 +1,26 @@
 //! Documents as values.
-ghost use Rattle.std.specs.Prelude.{◌≡◌, ◌↔◌, IsTrue, map};
-ghost use Rattle.ufmt.specs.Document.{documents, fields_of, pairs_of};
-ghost use Rattle.ufmt.specs.Token.{IsToken};
-ghost use Rattle.ufmt.specs.Token.{normal, normal_all, normal_fields, normal_pairs};
+ghost use Rattle.std.specs.Option.{option_copied};
+ghost use Rattle.std.specs.Prelude.{◌≡◌, ◌↔◌, IfOk, IsTrue, map, option_map};
+ghost use Rattle.std.specs.Str.{chars};
+ghost use Rattle.ufmt.specs.Document.{documents, fields_of, leaf, pairs_of};
+ghost use Rattle.ufmt.specs.Quoted.{IsQuote, quoted_char, quoted_text};
+ghost use Rattle.ufmt.specs.Token.{IsToken, normal, normal_all, normal_fields, normal_pairs};
 ghost use Rattle.ufmt_doc.specs.Doc.{doc_document};
 ghost use Rattle.ufmt_doc.specs.DocViews.{pair_view, field_view};
+ghost use Rattle.ufmt_doc.specs.Parts.{entries_part, field_part, fields_part, first_value, leaf_part, name_part, pairs_part};
+ghost use Rattle.ufmt_doc.specs.Private.{AreSpelled};
+ghost use Rattle.ufmt_doc.specs.Unquoted.{Unquotes};
 
-mod parts;
 mod print;
-mod quoted;
 mod tree;
 
-use std::alloc::Global;
+use std::alloc::{AllocError, Global};
 use std::mem;
-use tree::Tokens;
+use tree::Part;
 pub use tree::same_text;
-
-// How deep blocks with entries lie at most in a document whose text can be read again.
-const DEEPEST: u8 = 255;
+use ufmt_scan::convert::plain_text;
+use ufmt_scan::escape::split_escaped;
+use ufmt_scan::leaf::is_symbol;
 
 /// A document as a value: a text of its own, or a block whose entries are documents.
 #[derive(Drop)]
@@ -35,12 +38,12 @@ impl Doc {
     pub fn is_token(&self) -> bool
         ensures { IsTrue result ↔ IsToken (doc_document self.now) }
     {
-        self.has_tokens(DEEPEST)
+        self.has_tokens(u8::MAX)
     }
 
-    /// Makes it its normal form, which has the same texts: at each depth a struct or a tuple that
-    /// has no fields turns into a leaf, its name, and a set that has no entries into a map. It takes
-    /// no memory: `alloc` serves empty vectors and texts alone.
+    /// Makes it its normal form, which has the same texts: at each depth a struct or a tuple without
+    /// fields becomes a leaf, its name, and a set without entries a map. Takes no memory: `alloc` is
+    /// only for empty vectors and texts.
     #[cycle(normalize)]
     pub fn normalize(&mut self, alloc: Global)
         ensures { doc_document self.new ≡ normal (doc_document self.old) }
@@ -59,6 +62,106 @@ impl Doc {
             }
         }
     }
+
+    /// Returns the text of a leaf. Readers make a leaf of a name without fields.
+    pub fn as_leaf(&self) -> Option<&str>
+        ensures { option_copied result ≡ leaf_part (doc_document self.now) }
+    {
+        match self {
+            Doc::Leaf(text) => Some(text),
+            _ => None,
+        }
+    }
+
+    /// Returns the name of a struct or a tuple. Only that of a tuple may be empty.
+    pub fn name(&self) -> Option<&str>
+        ensures { option_copied result ≡ name_part (doc_document self.now) }
+    {
+        match self {
+            Doc::StructOf(name, _) | Doc::TupleOf(name, _) => Some(name),
+            _ => None,
+        }
+    }
+
+    /// Returns the entries of a list or a set, or the fields of a tuple. Readers make a map of empty
+    /// braces, which has `pairs`.
+    pub fn entries(&self) -> Option<&[Doc]>
+        ensures { option_map (λ entries. documents (map doc_document entries.now)) result
+            ≡ entries_part (doc_document self.now) }
+    {
+        match self {
+            Doc::Listed(entries) | Doc::SetOf(entries) | Doc::TupleOf(_, entries) => Some(entries),
+            _ => None,
+        }
+    }
+
+    /// Returns the keys of a map, each with its value.
+    pub fn pairs(&self) -> Option<&[(Doc, Doc)]>
+        ensures { option_map (λ pairs. pairs_of (map pair_view pairs.now)) result
+            ≡ pairs_part (doc_document self.now) }
+    {
+        match self {
+            Doc::MapOf(pairs) => Some(pairs),
+            _ => None,
+        }
+    }
+
+    /// Returns the field names of a struct, each with its value.
+    pub fn fields(&self) -> Option<&[(String, Doc)]>
+        ensures { option_map (λ fields. fields_of (map field_view fields.now)) result
+            ≡ fields_part (doc_document self.now) }
+    {
+        match self {
+            Doc::StructOf(_, fields) => Some(fields),
+            _ => None,
+        }
+    }
+
+    /// Returns the value of a struct's first field with this name.
+    pub fn field(&self, name: &str) -> Option<&Doc>
+        ensures { option_map (λ value. doc_document value.now) result
+            ≡ field_part name.now (doc_document self.now) }
+    {
+        for (other, value) in self.fields()? {
+            if other.as_str() == name {
+                return Some(value);
+            }
+        }
+        None
+    }
+
+    /// Makes a leaf of the text in quotation marks, with its escapes, as `uDebug` prints it. Fails
+    /// only without memory. `Doc::Leaf` of the text prints it without quotes.
+    pub fn text(alloc: Global, text: &str) -> Result<Doc, AllocError>
+        ensures { IfOk result (λ doc. doc_document doc ≡ leaf (quoted_text (chars text.now))) }
+    {
+        Ok(Doc::Leaf(plain_text(alloc, &text)?))
+    }
+
+    /// Makes a leaf of the character or its escape in apostrophes. Fails only without memory.
+    pub fn character(alloc: Global, character: char) -> Result<Doc, AllocError>
+        ensures { IfOk result (λ doc. doc_document doc ≡ leaf (quoted_char character)) }
+    {
+        Ok(Doc::Leaf(plain_text(alloc, &character)?))
+    }
+
+    /// Returns the text of a leaf in quotation marks, or the one character of a leaf in apostrophes,
+    /// without quotes and escapes. Fails only without memory.
+    pub fn unquoted(&self, alloc: Global) -> Result<Option<String>, AllocError>
+        ensures { IfOk result (λ answer. Unquotes (doc_document self.now) answer) }
+    {
+        let Doc::Leaf(text) = self else {
+            return Ok(None);
+        };
+        let Some((first, inside)) = text.as_bytes().split_first() else {
+            return Ok(None);
+        };
+        let quote = *first;
+        if !is_symbol(text) || (quote != b'"' && quote != b'\'') {
+            return Ok(None);
+        }
+        Ok(String::from_utf8(decoded_bytes(alloc, quote, inside)?).ok())
+    }
 }
 
 // Makes each document its normal form.
@@ -72,7 +175,7 @@ fn normalize_all(alloc: Global, docs: &mut [Doc])
     }
 }
 
-// The same of keys and values.
+// The same for keys and values.
 #[cycle(normalize)]
 fn normalize_pairs(alloc: Global, pairs: &mut [(Doc, Doc)])
     ensures { pairs_of (map pair_view pairs.new)
@@ -84,7 +187,7 @@ fn normalize_pairs(alloc: Global, pairs: &mut [(Doc, Doc)])
     }
 }
 
-// The same of the values of fields.
+// The same for the values of fields.
 #[cycle(normalize)]
 fn normalize_fields(alloc: Global, fields: &mut [(String, Doc)])
     ensures { fields_of (map field_view fields.new)
@@ -93,4 +196,18 @@ fn normalize_fields(alloc: Global, fields: &mut [(String, Doc)])
     for (_, value) in fields.iter_mut() {
         value.normalize(alloc);
     }
+}
+
+// The bytes that are spelled up to the closing quote.
+fn decoded_bytes(alloc: Global, quote: u8, inside: &[u8]) -> Result<Vec<u8>, AllocError>
+    requires { IsQuote quote }
+    ensures { IfOk result (λ bytes. AreSpelled quote inside.now bytes.items) }
+{
+    let mut bytes = Vec::new(alloc);
+    let mut rest = inside;
+    'bytes: while let Some((byte, after)) = split_escaped(quote, rest) {
+        bytes.push(byte)?;
+        rest = after;
+    }
+    Ok(bytes)
 }

@@ -6,10 +6,10 @@ ghost use Rattle.ufmt_doc.specs.Doc.{doc_document};
 ghost use Rattle.ufmt_scan.specs.Texts.{IsNoText};
 
 use crate::doc::Doc;
-use crate::plain_reader::{ReadError, read_plain};
-use crate::pretty_reader::read_pretty;
+use crate::reader::{read_plain, read_pretty};
 use std::alloc::{AllocError, AllocFailed, Global};
 use ufmt_scan::convert::{plain_text, pretty_text, to_plain, to_pretty};
+use ufmt_scan::error::ReadError;
 
 /// A plain text that is read and written plainly is itself again.
 pub fn plain_again(alloc: Global, input: &[u8]) -> Result<String, ReadError>

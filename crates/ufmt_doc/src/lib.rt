@@ -4,8 +4,17 @@
 
 pub mod doc;
 pub mod laws;
-pub mod plain_reader;
-pub mod pretty_reader;
 mod reader;
 
 pub use ufmt_scan::{convert, scan};
+
+/// Reading plain texts.
+pub mod plain_reader {
+    pub use crate::reader::read_plain;
+    pub use ufmt_scan::error::ReadError;
+}
+
+/// Reading pretty texts.
+pub mod pretty_reader {
+    pub use crate::reader::read_pretty;
+}

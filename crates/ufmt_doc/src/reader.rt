@@ -1,6 +1,6 @@
-//! Reading a token document from a text, in either mode.
+//! Reading a token document from its text.
 ghost use Rattle.std.specs.Prelude.{IfOk, IsErrOf};
-ghost use Rattle.ufmt.specs.Layout.{layout, setting};
+ghost use Rattle.ufmt.specs.Layout.{layout, plain_text, pretty_text, setting};
 ghost use Rattle.ufmt_doc.specs.Doc.{doc_document};
 ghost use Rattle.ufmt_scan.specs.Texts.{IsNormalForm, IsNoText};
 
@@ -13,8 +13,26 @@ use ufmt::layout::Mode;
 use ufmt_scan::error::ReadError;
 use ufmt_scan::scan::scan;
 
-/// The document in normal form that has the whole text.
-pub(crate) fn read_text(alloc: Global, mode: Mode, input: &[u8]) -> Result<Doc, ReadError>
+/// Returns the document with this plain text, in normal form: empty braces are an empty map, and a name
+/// without a block is a leaf. Fails with `NotText` if no token document has this text, and otherwise only
+/// with `OutOfMemory`.
+pub fn read_plain(alloc: Global, input: &[u8]) -> Result<Doc, ReadError>
+    ensures ok { IfOk result (λ doc. IsNormalForm plain_text input.now (doc_document doc)) }
+    ensures not_text { IsErrOf result ReadError.NotText → IsNoText plain_text input.now }
+{
+    read_text(alloc, Mode::Plain, input)
+}
+
+/// Returns the document with this pretty text, as `read_plain` does with a plain one.
+pub fn read_pretty(alloc: Global, input: &[u8]) -> Result<Doc, ReadError>
+    ensures ok { IfOk result (λ doc. IsNormalForm pretty_text input.now (doc_document doc)) }
+    ensures not_text { IsErrOf result ReadError.NotText → IsNoText pretty_text input.now }
+{
+    read_text(alloc, Mode::Pretty, input)
+}
+
+// The document in normal form that has the whole text.
+fn read_text(alloc: Global, mode: Mode, input: &[u8]) -> Result<Doc, ReadError>
     ensures ok { IfOk result (λ doc. IsNormalForm (layout (setting mode 0)) input.now
         (doc_document doc)) }
     ensures not_text { IsErrOf result ReadError.NotText → IsNoText (layout (setting mode 0))

@@ -23,23 +23,19 @@ abbrev pub text_of : Document → List ℕ
 text_of (leaf text) = text
 text_of _ = []
 
--- a label, as a leaf, and a value
+-- a field name, as a leaf, and a value
 abbrev pub field_from : Document × Document → List ℕ × Document
 field_from p = (text_of p.0, p.1)
 
--- the name of a struct or tuple, a leaf before its entries
-abbrev pub name_in : List Document → List ℕ
-name_in [] = []
-name_in (name ∷ ds) = text_of name
-
--- the block of this kind that is made of these documents, by whether a colon came among them
+-- the block of this kind that is made of these documents, by whether a colon came among them; the name of a struct or tuple is a leaf before its entries
 abbrev pub block_of : Kind → Bool → List Document → Document
 block_of Brackets colon ds = list_of (documents ds)
 block_of Braces true ds = map_of (pairs_of (in_pairs ds))
 block_of Braces false ds = set_of (documents ds)
-block_of Struct colon ds = struct_of (name_in ds) (fields_of (map field_from (in_pairs (drop 1 ds))))
-block_of Tuple colon ds = tuple_of (name_in ds) (documents (drop 1 ds))
 block_of Unnamed colon ds = tuple_of [] (documents ds)
+block_of Struct colon (name ∷ ds) = struct_of (text_of name) (fields_of (map field_from (in_pairs ds)))
+block_of Tuple colon (name ∷ ds) = tuple_of (text_of name) (documents ds)
+block_of kind colon ds = leaf []
 
 -- an open block whose entries start there, in which a colon came or not
 abbrev pub block_at : ℕ → Bool → OpenBlock
@@ -77,7 +73,7 @@ closed kind (ds, block ∷ outer) = (take block.start ds ++ block_of kind block.
 -- what has grown, with one event more
 abbrev pub grow : Growing → TextEvent → Growing
 grow g (Leaf text) = put g (leaf text)
-grow g (FieldName label) = put g (leaf label)
+grow g (FieldName name) = put g (leaf name)
 grow g (Empty kind) = put g (empty_block kind)
 grow g (Open kind name) = opened kind name g
 grow g Colon = with_colon g

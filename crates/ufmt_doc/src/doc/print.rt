@@ -1,4 +1,4 @@
-//! Printing a document: what holds the entries of a block prints them as a block of its kind.
+//! Printing a document, each block by its kind.
 ghost use Rattle.std.specs.Prelude.{is_ok, List, map, string_bytes, ℕ};
 ghost use Rattle.ufmt.specs.Document.{Document, documents, fields_of, map_of, pairs_of, set_of, struct_of, tuple_of};
 ghost use Rattle.ufmt.specs.Formatter.{LaysOut};
@@ -31,8 +31,8 @@ struct StructKind;
 
 struct TupleKind;
 
-// The entries of a block of this kind. It is called at the types of `Doc`'s fields, as may be where
-// a document prints itself: a call at `Doc` would be refused.
+// The entries of a block of this kind. Implemented per field type: the check allows recursion at
+// `Vec<Doc>`, not at `Doc`.
 trait EntriesOf<Kind> {
     // The block with this name.
     ghost block: { List ℕ → Self → Document };

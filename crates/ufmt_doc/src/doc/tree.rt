@@ -5,7 +5,7 @@ ghost use Rattle.ufmt.specs.Layout.{plain_text, pretty_text};
 ghost use Rattle.ufmt.specs.Token.{IsToken, IsWord, normal};
 ghost use Rattle.ufmt_doc.specs.Doc.{doc_document};
 ghost use Rattle.ufmt_doc.specs.Parts.{leaf_part};
-ghost use Rattle.ufmt_doc.specs.Private.Within.{IsTokenWithin};
+ghost use Rattle.ufmt_doc.specs.Private.{IsTokenWithin};
 ghost use Rattle.ufmt_scan.specs.Rest.{now_of};
 
 use super::Doc;
@@ -24,46 +24,72 @@ pub fn same_text(a: &Doc, b: &Doc) -> bool
     a.is_same(b)
 }
 
-// What is of tokens. It is called at the types of `Doc`'s fields, as may be where a document calls
-// itself: a call at `Doc` would be refused.
-pub(super) trait Tokens {
+// A part of a document. Implemented per field type: the check allows recursion at `Vec<Doc>`, not at
+// `Doc`.
+pub(super) trait Part {
     ghost tokens: { ℕ → Self → Type 0 };
 
-    // Whether it is of tokens, with blocks that have entries at most so deep.
+    ghost same: { Self → Self → Type 0 };
+
+    // Whether it is of tokens, and blocks with entries nest at most so deep.
     fn has_tokens(&self, deepest: u8) -> bool
         ensures { IsTrue result ↔ tokens deepest self.now };
+
+    // Whether both have the same normal form.
+    fn is_same(&self, other: &Self) -> bool
+        ensures { IsTrue result ↔ same self.now other.now };
 }
 
-impl Tokens for String {
-    ghost tokens = { λ _ label. IsWord (string_bytes label) };
+impl Part for String {
+    ghost tokens = { λ _ name. IsWord (string_bytes name) };
+
+    ghost same = { λ name other. string_bytes name ≡ string_bytes other };
 
     fn has_tokens(&self, _deepest: u8) -> bool {
         is_word(self)
     }
+
+    fn is_same(&self, other: &String) -> bool {
+        self == other
+    }
 }
 
-impl<K: Tokens, V: Tokens> Tokens for (K, V) {
+impl<K: Part, V: Part> Part for (K, V) {
     ghost tokens = { λ n p. K.tokens n p.0 × V.tokens n p.1 };
+
+    ghost same = { λ p q. K.same p.0 q.0 × V.same p.1 q.1 };
 
     fn has_tokens(&self, deepest: u8) -> bool {
         self.0.has_tokens(deepest) && self.1.has_tokens(deepest)
     }
+
+    fn is_same(&self, other: &(K, V)) -> bool {
+        self.0.is_same(&other.0) && self.1.is_same(&other.1)
+    }
 }
 
-// The entries of a block lie one deeper than that.
-impl<T: Tokens> Tokens for Vec<T> {
+// Entries are one deeper than their block.
+impl<T: Part> Part for Vec<T> {
     ghost tokens = { λ n v. AllByRecursion (λ x. (0 < n) × T.tokens (n - 1) x) v.items };
+
+    ghost same = { λ v w. AllZip T.same v.items w.items };
 
     fn has_tokens(&self, deepest: u8) -> bool {
         self.iter()
             .all(|entry| deepest > 0 && entry.has_tokens(deepest - 1))
     }
+
+    fn is_same(&self, other: &Vec<T>) -> bool {
+        self.len() == other.len() && self.iter().zip(other).all(|(a, b)| a.is_same(b))
+    }
 }
 
-impl Tokens for Doc {
+impl Part for Doc {
     ghost tokens = { λ n d. IsTokenWithin n (doc_document d) };
 
-    #[cycle(has_tokens)]
+    ghost same = { λ d e. normal (doc_document d) ≡ normal (doc_document e) };
+
+    #[cycle(parts)]
     fn has_tokens(&self, deepest: u8) -> bool {
         match self {
             Doc::Leaf(text) => is_leaf(text),
@@ -76,63 +102,28 @@ impl Tokens for Doc {
             Doc::TupleOf(name, fields) => is_word(name) && fields.has_tokens(deepest),
         }
     }
-}
 
-// What has a normal form, called as that is.
-trait Same {
-    ghost same: { Self → Self → Type 0 };
-
-    // Whether two have the same normal form.
-    fn is_same(&self, other: &Self) -> bool
-        ensures { IsTrue result ↔ same self.now other.now };
-}
-
-impl Same for String {
-    ghost same = { λ label other. string_bytes label ≡ string_bytes other };
-
-    fn is_same(&self, other: &String) -> bool {
-        self == other
-    }
-}
-
-impl<K: Same, V: Same> Same for (K, V) {
-    ghost same = { λ p q. K.same p.0 q.0 × V.same p.1 q.1 };
-
-    fn is_same(&self, other: &(K, V)) -> bool {
-        self.0.is_same(&other.0) && self.1.is_same(&other.1)
-    }
-}
-
-impl<T: Same> Same for Vec<T> {
-    ghost same = { λ v w. AllZip T.same v.items w.items };
-
-    fn is_same(&self, other: &Vec<T>) -> bool {
-        self.len() == other.len() && self.iter().zip(other).all(|(a, b)| a.is_same(b))
-    }
-}
-
-// An empty set is an empty map, and a struct or a tuple without fields a leaf.
-impl Same for Doc {
-    ghost same = { λ d e. normal (doc_document d) ≡ normal (doc_document e) };
-
-    #[cycle(is_same)]
+    // An empty set is an empty map, and a struct or a tuple without fields a leaf.
+    #[cycle(parts)]
     fn is_same(&self, other: &Doc) -> bool {
         match (self, other) {
             (Doc::Listed(entries), Doc::Listed(others)) => entries.is_same(others),
             (Doc::SetOf(entries), Doc::SetOf(others)) => entries.is_same(others),
-            (Doc::SetOf(entries), Doc::MapOf(pairs)) => entries.is_empty() && pairs.is_empty(),
-            (Doc::MapOf(pairs), Doc::SetOf(entries)) => entries.is_empty() && pairs.is_empty(),
+            (Doc::SetOf(entries), Doc::MapOf(pairs)) => entries.len() + pairs.len() == 0,
+            (Doc::MapOf(pairs), Doc::SetOf(entries)) => entries.len() + pairs.len() == 0,
             (Doc::MapOf(pairs), Doc::MapOf(others)) => pairs.is_same(others),
+            (Doc::Listed(_) | Doc::SetOf(_) | Doc::MapOf(_), _) => false,
             (Doc::StructOf(name, fields), Doc::StructOf(another, others)) => {
                 name == another && fields.is_same(others)
             }
             (Doc::TupleOf(name, fields), Doc::TupleOf(another, others)) => {
                 name == another && fields.is_same(others)
             }
-            _ => match (leaf_text(self), leaf_text(other)) {
-                (Some(text), Some(another)) => text == another,
-                _ => false,
-            },
+            (Doc::Leaf(name), _) => leaf_text(other) == Some(name.as_str()),
+            (Doc::StructOf(name, fields), _) => fields.is_empty()
+                && leaf_text(other) == Some(name.as_str()),
+            (Doc::TupleOf(name, fields), _) => fields.is_empty()
+                && leaf_text(other) == Some(name.as_str()),
         }
     }
 }

@@ -1,10 +1,10 @@
 //! A sink that makes the document whose events it takes.
-ghost use Rattle.std.specs.Prelude.{◌≡◌, ◌≤◌, ◌+◌, ◌++◌, ◌∷◌, [], IfOk, OnOk, Some, drop, length, map, option_map, string_bytes, take, vec_capacity, ⊤};
+ghost use Rattle.std.specs.Prelude.{◌≡◌, ◌<◌, ◌≤◌, ◌+◌, ◌++◌, ◌∷◌, [], IfOk, OnOk, Some, drop, length, map, option_map, string_bytes, take, vec_capacity, ⊤};
 ghost use Rattle.std.proofs.Common.{refl};
 ghost use Rattle.ufmt.specs.Document.{Document, leaf};
 ghost use Rattle.ufmt_doc.specs.Doc.{doc_document};
 ghost use Rattle.ufmt_doc.specs.DocViews.{field_view, pair_view};
-ghost use Rattle.ufmt_doc.specs.Private.Growing.{block_of, closed, field_from, growing, grown, in_pairs, name_in, opened, put, text_of, with_colon, empty_block};
+ghost use Rattle.ufmt_doc.specs.Private.Growing.{block_of, closed, field_from, growing, grown, in_pairs, opened, put, text_of, with_colon, empty_block};
 
 use crate::doc::Doc;
 use std::alloc::{AllocError, Global};
@@ -12,7 +12,7 @@ use std::marker::Model;
 use ufmt::layout::Kind;
 use ufmt_scan::scan::{Event, Sink};
 
-// How many blocks may be open, one in another.
+// How many blocks may be open.
 const MOST_OPEN: usize = 256;
 
 // An open block: where its entries start on the stack, and whether a colon came in it.
@@ -60,13 +60,12 @@ fn text_of(alloc: Global, doc: Doc) -> String
     }
 }
 
+// Entries off the stack.
+type Taken<T> = Result<Vec<T>, AllocError>;
+
 // Takes the keys and values of a map off the stack.
 #[inline(never)]
-fn take_pairs(
-    alloc: Global,
-    docs: &mut Vec<Doc>,
-    start: usize,
-) -> Result<Vec<(Doc, Doc)>, AllocError>
+fn take_pairs(alloc: Global, docs: &mut Vec<Doc>, start: usize) -> Taken<(Doc, Doc)>
     requires { start ≤ length docs.old.items }
     ensures docs { OnOk result (docs.new.items ≡ take start docs.old.items) }
     ensures capacity { OnOk result (vec_capacity docs.new ≡ vec_capacity docs.old) }
@@ -85,11 +84,7 @@ fn take_pairs(
 
 // Takes the names and values of fields off the stack.
 #[inline(never)]
-fn take_fields(
-    alloc: Global,
-    docs: &mut Vec<Doc>,
-    start: usize,
-) -> Result<Vec<(String, Doc)>, AllocError>
+fn take_fields(alloc: Global, docs: &mut Vec<Doc>, start: usize) -> Taken<(String, Doc)>
     requires { start ≤ length docs.old.items }
     ensures docs { OnOk result (docs.new.items ≡ take start docs.old.items) }
     ensures capacity { OnOk result (vec_capacity docs.new ≡ vec_capacity docs.old) }
@@ -98,26 +93,12 @@ fn take_fields(
 {
     let mut fields = Vec::with_capacity(alloc, (docs.len() - start) / 2)?;
     let mut entries = docs.drain(start..);
-    while let Some(label) = entries.next() {
+    while let Some(name) = entries.next() {
         if let Some(value) = entries.next() {
-            fields.push_reserved((text_of(alloc, label), value));
+            fields.push_reserved((text_of(alloc, name), value));
         }
     }
     Ok(fields)
-}
-
-// Takes the name of a block off the stack, after its entries were taken.
-#[inline(always)]
-fn take_name(alloc: Global, docs: &mut Vec<Doc>, start: usize) -> String
-    requires { length docs.old.items ≤ start + 1 }
-    ensures docs { docs.new.items ≡ take start docs.old.items }
-    ensures capacity { vec_capacity docs.new ≡ vec_capacity docs.old }
-    ensures name { string_bytes result ≡ name_in (map doc_document (drop start docs.old.items)) }
-{
-    if docs.len() <= start {
-        return String::new(alloc);
-    }
-    text_of(alloc, docs.take_last())
 }
 
 // Takes all that belongs to a block off the stack, and makes the block of it.
@@ -128,7 +109,7 @@ fn take_block(
     kind: Kind,
     block: OpenBlock,
 ) -> Result<Doc, AllocError>
-    requires { block.start ≤ length docs.old.items }
+    requires { block.start < length docs.old.items }
     ensures docs { OnOk result (docs.new.items ≡ take block.start docs.old.items) }
     ensures capacity { OnOk result (vec_capacity docs.new ≡ vec_capacity docs.old) }
     ensures doc { IfOk result (λ doc. doc_document doc ≡ block_of kind block.has_colon
@@ -140,12 +121,12 @@ fn take_block(
         Kind::Braces if block.has_colon => Ok(Doc::MapOf(take_pairs(alloc, docs, start)?)),
         Kind::Braces => Ok(Doc::SetOf(docs.split_off(start)?)),
         Kind::Struct => {
-            let fields = take_fields(alloc, docs, (start + 1).min(docs.len()))?;
-            Ok(Doc::StructOf(take_name(alloc, docs, start), fields))
+            let fields = take_fields(alloc, docs, start + 1)?;
+            Ok(Doc::StructOf(text_of(alloc, docs.take_last()), fields))
         }
         Kind::Tuple => {
-            let entries = docs.split_off((start + 1).min(docs.len()))?;
-            Ok(Doc::TupleOf(take_name(alloc, docs, start), entries))
+            let entries = docs.split_off(start + 1)?;
+            Ok(Doc::TupleOf(text_of(alloc, docs.take_last()), entries))
         }
         Kind::Unnamed => Ok(Doc::TupleOf(String::new(alloc), docs.split_off(start)?)),
     }
@@ -202,7 +183,7 @@ impl DocumentSink {
 
     // Opens a block in the innermost one.
     #[inline(always)]
-    #[tactic(auto, using(crate::proofs::OpenBlocks::one_more))]
+    #[tactic(auto, using(crate::proofs::GrowingDocuments::one_more))]
     fn open(&mut self, kind: Kind, name: &str) -> Result<(), AllocError>
         ensures { OnOk result (growing self.new ≡ opened kind name.now (growing self.old)) }
     {
@@ -223,12 +204,13 @@ impl DocumentSink {
 
     // Marks the innermost block as one with a colon.
     #[inline(always)]
-    fn mark_colon(&mut self)
-        ensures { growing self.new ≡ with_colon (growing self.old) }
+    fn mark_colon(&mut self) -> Result<(), AllocError>
+        ensures { OnOk result (growing self.new ≡ with_colon (growing self.old)) }
     {
         if let Some(innermost) = self.open_blocks.checked_sub(1) {
             self.blocks[innermost].has_colon = true;
         }
+        Ok(())
     }
 
     // Ends the innermost block.
@@ -239,11 +221,13 @@ impl DocumentSink {
         let Some(innermost) = self.open_blocks.checked_sub(1) else {
             return Ok(());
         };
+        let block = self.blocks[innermost];
+        // A block that is closed has entries: one without is never opened.
+        if self.docs.len() <= block.start {
+            return Err(AllocError);
+        }
         self.docs.reserve(1)?;
         self.open_blocks = innermost;
-        let block = self.blocks[innermost];
-        let start = block.start.min(self.docs.len());
-        let block = OpenBlock { start, ..block };
         let doc = take_block(self.alloc, &mut self.docs, kind, block)?;
         self.docs.push_reserved(doc);
         Ok(())
@@ -269,10 +253,7 @@ impl Sink for DocumentSink {
             Event::Leaf(text) | Event::FieldName(text) => self.put_leaf(text),
             Event::Empty(kind) => self.put_empty(kind),
             Event::Open(kind, name) => self.open(kind, name),
-            Event::Colon => {
-                self.mark_colon();
-                Ok(())
-            }
+            Event::Colon => self.mark_colon(),
             Event::Next => Ok(()),
             Event::Close(kind, _) => self.close(kind),
         }

@@ -2,7 +2,7 @@
 use Rattle.ufmt.specs.Token.{normal}
 use Rattle.ufmt_doc.specs.Doc.{doc_document}
 use Rattle.ufmt_doc.specs.DocViews.{pair_view, field_view}
-use Rattle.ufmt_doc.proofs.Normals.{HasBecome}
+use Rattle.ufmt_doc.proofs.NormalForms.{HasBecome}
 use Rattle.ufmt_doc.proofs.doc.+normalize.Given as goal
 
 abbrev pub invariant-normalize_all-loop-doc : goal.invariant-normalize_all-loop-doc

@@ -5,9 +5,9 @@ use Rattle.ufmt_doc.specs.DocViews.{field_view}
 use Rattle.ufmt_doc.specs.Private.Growing.{field_from, in_pairs}
 use Rattle.ufmt_doc.proofs.reader.document_sink.take_fields.Given as goal
 
-abbrev pub invariant-loop-label : goal.invariant-loop-label
-invariant-loop-label l = record {
-  goes_on : (goal.iterator-loop-label).can_next l.entries × (goal.iterator-loop-label).is_finite l.entries;
+abbrev pub invariant-loop-name : goal.invariant-loop-name
+invariant-loop-name l = record {
+  goes_on : (goal.iterator-loop-name).can_next l.entries × (goal.iterator-loop-name).is_finite l.entries;
   lender : drain_lender l.entries ≡ drain_lender l.initial.entries;
   kept : drain_kept l.entries ≡ drain_kept l.initial.entries;
   capacity : drain_capacity l.entries ≡ drain_capacity l.initial.entries;

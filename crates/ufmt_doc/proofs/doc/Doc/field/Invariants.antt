@@ -1,0 +1,10 @@
+-- The first value with the name is that among the fields that are left.
+use Rattle.std.proofs.Common.{◌≡◌, drop, map}
+use Rattle.ufmt.specs.Document.{fields_of}
+use Rattle.ufmt_doc.specs.Doc.{doc_document}
+use Rattle.ufmt_doc.specs.DocViews.{field_view}
+use Rattle.ufmt_doc.specs.Parts.{field_part, first_value}
+use Rattle.ufmt_doc.proofs.doc.Doc.field.Given as goal
+
+abbrev pub invariant-loop-other : goal.invariant-loop-other
+invariant-loop-other l = field_part l.name (doc_document l.self) ≡ first_value l.name (fields_of (map field_view (drop l.other-index l.other-items)))

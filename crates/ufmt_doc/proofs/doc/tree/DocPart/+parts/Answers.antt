@@ -1,0 +1,79 @@
+use Rattle.std.proofs.Common.{true, false, ◌≡◌, inl, inr, ap, refl, rules, string_bytes, subst, sym, ◌∙◌}
+use Rattle.ufmt.specs.Token.{IsWord}
+use Rattle.ufmt_doc.specs.declared.doc.Doc.{the_lemmas}
+use Rattle.ufmt_doc.specs.Doc.{doc_document}
+use Rattle.ufmt_doc.proofs.Docs.{doc_document-Listed, doc_document-MapOf, doc_document-SetOf, doc_document-StructOf, doc_document-TupleOf}
+use Rattle.ufmt_doc.proofs.NormalForms.{braces_same, lists_same, maps_same, sets_same, struct_form, structs_same, tuple_form, tuples_same}
+use Rattle.ufmt_doc.proofs.Within.{as_well, docs_within, fields_within, pairs_within, tuple_within, unnamed_within}
+use Rattle.ufmt_doc.proofs.doc.tree.DocPart.+parts.Goals as goal
+
+pub has_tokens-returns-in-Listed : goal.has_tokens-returns-in-Listed
+has_tokens-returns-in-Listed t c =
+    let within = as_well c.has_tokens-in-Listed.ensures (docs_within _ c.in-Listed.entries.items) in
+    elim c.in-Listed.is [ inl is ↦ rw (ap doc_document is ∙ doc_document-Listed _) within | inr is ↦ rw (ap doc_document is ∙ doc_document-SetOf _) within ]
+
+pub has_tokens-returns-in-MapOf : goal.has_tokens-returns-in-MapOf
+has_tokens-returns-in-MapOf t c = rw (c.in-MapOf.is, doc_document-MapOf) (as_well c.has_tokens.ensures (pairs_within _ _))
+
+pub has_tokens-returns-then-is_word : goal.has_tokens-returns-then-is_word
+has_tokens-returns-then-is_word t c =
+    rw (c.in-StructOf.is, doc_document-StructOf)
+    (as_well c.has_tokens-then-is_word.ensures (fields_within _ _ (subst IsWord c.deref-in-StructOf.ensures (c.is_word.ensures.0 c.if-is_word.true)) _))
+
+pub has_tokens-returns-then-not-is_empty : goal.has_tokens-returns-then-not-is_empty
+has_tokens-returns-then-not-is_empty t c =
+    rw c.in-TupleOf.is (as_well (as_well c.has_tokens-then-not-is_empty.ensures (docs_within _ _))
+    (unnamed_within _ _ _ false (sym c.is_empty.ensures ∙ c.if-is_empty.true) (sym c.if-not-is_empty.true ∙ c.is_empty-in-TupleOf.ensures)))
+
+pub has_tokens-returns-else-not-is_empty : goal.has_tokens-returns-else-not-is_empty
+has_tokens-returns-else-not-is_empty t c =
+    rw (c.in-TupleOf.is, c.if-not-is_empty.false) (
+      λ no. absurd (cc),
+      λ h. absurd
+          ((unnamed_within c.args.deepest _ _ true (sym c.is_empty.ensures ∙ c.if-is_empty.true) (sym c.if-not-is_empty.false ∙ c.is_empty-in-TupleOf.ensures)).1 h),
+    )
+
+pub has_tokens-returns-then-is_word-2 : goal.has_tokens-returns-then-is_word-2
+has_tokens-returns-then-is_word-2 t c =
+    let word = subst IsWord c.deref-in-TupleOf-2.ensures (c.is_word-in-TupleOf-2.ensures.0 c.if-is_word-2.true) in
+    rw (c.in-TupleOf-2.is, doc_document-TupleOf)
+    (as_well c.has_tokens-then-is_word-2.ensures (as_well (docs_within _ _) (tuple_within _ _ word _)))
+
+pub is_same-returns-in-Listed-Listed : goal.is_same-returns-in-Listed-Listed
+is_same-returns-in-Listed-Listed t c = simp (c.in-Listed-Listed.is-0, c.in-Listed-Listed.is-1, doc_document-Listed) (as_well c.is_same.ensures (lists_same _ _))
+
+pub is_same-returns-in-SetOf-SetOf : goal.is_same-returns-in-SetOf-SetOf
+is_same-returns-in-SetOf-SetOf t c = simp (c.in-SetOf-SetOf.is-0, c.in-SetOf-SetOf.is-1, doc_document-SetOf) (as_well c.is_same-in-SetOf-SetOf.ensures (sets_same _ _))
+
+pub is_same-returns-in-SetOf-MapOf : goal.is_same-returns-in-SetOf-MapOf
+is_same-returns-in-SetOf-MapOf t c = braces_same _ _ _ _ _ c.in-SetOf-MapOf.is-0 c.in-SetOf-MapOf.is-1 (rw (c.len.ensures, c.len-in-SetOf-MapOf.ensures) refl)
+
+pub is_same-returns-in-MapOf-SetOf : goal.is_same-returns-in-MapOf-SetOf
+is_same-returns-in-MapOf-SetOf t c =
+    let same = braces_same _ _ _ _ _ c.in-MapOf-SetOf.is-1 c.in-MapOf-SetOf.is-0 (rw (c.len-in-MapOf-SetOf.ensures, c.len-in-MapOf-SetOf-2.ensures) refl) in
+    (λ yes. sym (same.0 yes), λ h. same.1 (sym h))
+
+pub is_same-returns-in-MapOf-MapOf : goal.is_same-returns-in-MapOf-MapOf
+is_same-returns-in-MapOf-MapOf t c = simp (c.in-MapOf-MapOf.is-0, c.in-MapOf-MapOf.is-1, doc_document-MapOf) (as_well c.is_same-in-MapOf-MapOf.ensures (maps_same _ _))
+
+pub is_same-returns-then-eq : goal.is_same-returns-then-eq
+is_same-returns-then-eq t c =
+    let named : string_bytes c.in-StructOf-StructOf.name ≡ string_bytes c.in-StructOf-StructOf.another = search rules in
+    simp (c.in-StructOf-StructOf.is-0, c.in-StructOf-StructOf.is-1, doc_document-StructOf, named) (as_well c.is_same-then-eq.ensures (structs_same _ _ _))
+
+pub is_same-returns-then-eq-2 : goal.is_same-returns-then-eq-2
+is_same-returns-then-eq-2 t c =
+    let named : string_bytes c.in-TupleOf-TupleOf.name ≡ string_bytes c.in-TupleOf-TupleOf.another = search rules in
+    simp (c.in-TupleOf-TupleOf.is-0, c.in-TupleOf-TupleOf.is-1, doc_document-TupleOf, named) (as_well c.is_same-then-eq-2.ensures (tuples_same _ _ _))
+
+pub is_same-returns-then-is_empty : goal.is_same-returns-then-is_empty
+is_same-returns-then-is_empty t c = rw (struct_form _ _ _ _ c.in-StructOf-default.is-0 (sym c.if-is_empty.true ∙ c.is_empty.ensures)) (search rules)
+
+pub is_same-returns-else-is_empty : goal.is_same-returns-else-is_empty
+is_same-returns-else-is_empty t c = let form = struct_form _ _ _ _ c.in-StructOf-default.is-0 (sym c.if-is_empty.false ∙ c.is_empty.ensures) in search (rules, the_lemmas)
+
+pub is_same-returns-then-is_empty-2 : goal.is_same-returns-then-is_empty-2
+is_same-returns-then-is_empty-2 t c = rw (tuple_form _ _ _ _ c.in-TupleOf-default.is-0 (sym c.if-is_empty-2.true ∙ c.is_empty-in-TupleOf-default.ensures)) (search rules)
+
+pub is_same-returns-else-is_empty-2 : goal.is_same-returns-else-is_empty-2
+is_same-returns-else-is_empty-2 t c = rw (tuple_form _ _ _ _ c.in-TupleOf-default.is-0 (sym c.if-is_empty-2.false ∙ c.is_empty-in-TupleOf-default.ensures)) (search (rules, the_lemmas))
