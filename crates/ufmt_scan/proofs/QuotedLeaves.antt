@@ -1,66 +1,223 @@
--- A quoted leaf is split off the front as it is read there: its quotes, what stands between them, and the test of it.
-use Rattle.std.proofs.Common.{◌≡◌, refl, sym, ap, subst, ◌∙◌, ℕ, suc, ◌-◌, ◌≤◌, Bool, true, false, List, [], ◌∷◌, ◌++◌, length, take, Option, Some, None, option_map, append_assoc, length-append, arith}
-use Rattle.std.specs.Str.{IsUtf8, chars, is_utf8}
+-- A leaf in quotes is split off the front of a text exactly where one is there.
+use Rattle.std.proofs.Common.{◌≡◌, ◌⊎◌, inl, inr, refl, sym, ap, subst, ◌∙◌, ℕ, ◌+◌, ◌-◌, ◌<◌, ◌≤◌, ◌==◌, ◌&&◌, Bool, true, false, List, [], ◌∷◌, ◌++◌, length, take, drop, Option, Some, None, encode_utf8, encode_utf8_all, eqb-true, append-nil, append_assoc, length-append, arith}
+use lib.Utf8.{encode, next}
+use Rattle.std.specs.Prelude.{◌≢◌, ◌/◌, is_none, nat_lt, unwrap_or}
+use Rattle.std.specs.Str.{IsAscii, IsUtf8, all_scalars, continuation_len}
 use Rattle.std.proofs.Math.Seq.{take-append_seam}
-use Rattle.std.proofs.lemmas.Str.{IsUtf8-from_is_utf8, encodes-chars, is_utf8-from_IsUtf8}
-use Rattle.ufmt.specs.Quoted.{IsQuote, escaped_bytes, quoted}
+use Rattle.std.proofs.lemmas.Bool.Decides.{nat_tests}
+use Rattle.std.proofs.lemmas.Bool.{cases_lt}
+use Rattle.std.proofs.lemmas.Str.{encode_ascii, length-le-encodes}
+use Rattle.ufmt_core.proofs.QuotedBytes.{escape-past_ascii}
+use Rattle.ufmt_core.proofs.QuotedCharacters.{escaped_all-bytes}
+use Rattle.std.proofs.lemmas.Bool.{agree_below_at}
+use Rattle.std.proofs.lemmas.List.{get_or_past, take-append-drop}
+use Rattle.std.proofs.lemmas.Str.{IsAscii-append, IsUtf8-from_ascii}
+use Rattle.std.proofs.lemmas.Str.Ascii.{IsAscii-cons, IsAscii-nil}
 use Rattle.ufmt.specs.Reading.{strip}
-use Rattle.ufmt.specs.ReadingQuoted.{if_right, read_between, read_inside}
 use Rattle.ufmt.proofs.Parsing.{strip_found}
-use Rattle.ufmt.proofs.QuotedComplete.{quoted-bytes}
-use Rattle.ufmt.proofs.QuotedSound.{read_inside-sound}
+use Rattle.ufmt_scan.specs.Private.MarkedBytes.{is_marked, marked_len}
+use Rattle.ufmt_scan.specs.declared.quoted.TheConstants.{PLAIN_ASCII}
+use Rattle.ufmt.specs.Quoted.{IsQuote, IsQuoted, escape, escaped, escaped_all, escaped_byte, escaped_bytes, quoted}
+use Rattle.ufmt.specs.ReadingQuoted.{read_quoted}
+use Rattle.ufmt.proofs.QuotedComplete.{length-escaped_bytes, quoted-bytes, read_quoted-complete}
+use Rattle.ufmt.proofs.QuotedSound.{read_quoted-sound}
 use Rattle.ufmt.proofs.QuotedUtf8.{quoted-utf8}
-use Rattle.ufmt_scan.specs.Private.Spelled.{after_quote}
+use Rattle.ufmt_scan.specs.Private.Spelled.{IsOneCharacter, IsSpelled, NeverCloses}
+use Rattle.ufmt_scan.proofs.Spelled.{quote_ends, same_bytes, spelled_once}
 
--- where a function of an option's value came from
-value_from : {A B : Type 0} (f : A → B) (o : Option A) (y : B) → option_map f o ≡ Some y → (x : A) × (o ≡ Some x) × (f x ≡ y)
-value_from f None y h = absurd (cc)
-value_from f (Some x) y h = (x, refl, cc)
+-- a leaf in quotes at the front of a text
+pub record Quotes (t : List ℕ) : Type 0 where
+  pub q : ℕ
+  pub quote : IsQuote q
+  pub cs : List ℕ
+  pub scalars : all_scalars cs ≡ true
+  pub one : q ≡ 39 → length cs ≡ 1
+  pub rest : List ℕ
+  pub front : t ≡ quoted q cs ++ rest
 
-module _ (q : ℕ) (quote : IsQuote q) where
-  -- two quotes, and the bytes that are read between them
-  record Between (t u rest : List ℕ) : Type 0 where
-    bytes : List ℕ
-    reads : read_inside q (suc (length u)) u ≡ Some (bytes, rest)
-    leaf : take (length t - length rest) t ≡ q ∷ (escaped_bytes q bytes ++ (q ∷ []))
+quotes : (t leaf rest : List ℕ) → IsQuoted leaf → t ≡ leaf ++ rest → Quotes t
+quotes t leaf rest (inl text) h =
+    record { q = 34; quote = inl refl; cs = text.0; scalars = text.1; one = λ e. absurd (omega (arith, e)); rest = rest; front = h ∙ ap (λ l. l ++ rest) text.2 }
+quotes t leaf rest (inr char) h =
+    record { q = 39; quote = inr refl; cs = char.0 ∷ []; scalars = rw char.1 refl; one = λ e. omega arith; rest = rest; front = h ∙ ap (λ l. l ++ rest) char.2 }
 
-  between : (t u rest : List ℕ) → strip (q ∷ []) t ≡ Some u → after_quote q u ≡ Some rest → Between t u rest
-  between t u rest opening closing =
-      let read = value_from {A = List ℕ × List ℕ} (λ x. x.1) (read_inside q (suc (length u)) u) rest closing in
-      let bytes = read.0.0 in
-      let reads : read_inside q (suc (length u)) u ≡ Some (bytes, rest) = read.1 ∙ ap (λ v. Some (bytes, v)) read.2 in
-      let leaf = q ∷ (escaped_bytes q bytes ++ (q ∷ [])) in
-      let whole : t ≡ leaf ++ rest = strip_found (q ∷ []) t u opening ∙ ap (λ v. q ∷ v) (read_inside-sound q (suc (length u)) u bytes rest reads ∙ sym (append_assoc (escaped_bytes q bytes) (q ∷ []) rest)) in
-      let far : length t - length rest ≡ length leaf = omega (arith, ap length whole, length-append leaf rest) in
-      record { bytes = bytes; reads = reads; leaf = rw far (ap (take (length leaf)) whole ∙ take-append_seam leaf rest) }
+-- where none is, none is read
+pub none_read : (t : List ℕ) → (Quotes t → ⊥) → None ≡ read_quoted t
+none_read t none = go (read_quoted t) refl
+  where
+    go : (o : Option (List ℕ × List ℕ)) → read_quoted t ≡ o → None ≡ o
+    go None e = refl
+    go (Some x) e = let found = read_quoted-sound t x.0 x.1 e in absurd (none (quotes t x.0 x.1 found.0 found.1))
 
-  -- what is read is tested
-  tested : (test : List ℕ → Bool) (t u rest : List ℕ) → strip (q ∷ []) t ≡ Some u → (b : Between t u rest)
-      → read_between q test t ≡ if_right test q b.bytes rest
-  tested test t u rest opening b = rw (opening, b.reads) refl
+-- one character, of a list that has one
+one_quoted : (leaf cs : List ℕ) → all_scalars cs ≡ true → true ≡ (length cs == 1) → leaf ≡ quoted 39 cs → IsQuoted leaf
+one_quoted leaf [] scalars one is = absurd (cc)
+one_quoted leaf (c ∷ []) scalars one is = inr (c, both _ scalars, is)
+  where
+    both : (x : Bool) → x && true ≡ true → x ≡ true
+    both true h = refl
+    both false h = absurd (cc)
+one_quoted leaf (c ∷ d ∷ cs) scalars one is = absurd (grind (arith, nat_tests))
 
-  -- what is tested is the whole leaf: it is UTF-8 exactly if what is between the quotes is
-  module _ (t u rest : List ℕ) (opening : strip (q ∷ []) t ≡ Some u) (closing : after_quote q u ≡ Some rest) where
-    pub is_text : (leaf : List ℕ) → leaf ≡ take (length t - length rest) t → IsUtf8 leaf → read_between q is_utf8 t ≡ Some (leaf, rest)
-    is_text leaf is utf8 =
-        let b = between t u rest opening closing in
-        let inside : IsUtf8 b.bytes = (quoted-utf8 q quote b.bytes).0 (subst IsUtf8 (is ∙ b.leaf) utf8) in
-        let right = is_utf8-from_IsUtf8 b.bytes inside in
-        let spelled : quoted q (chars b.bytes) ≡ leaf = quoted-bytes q (chars b.bytes) quote ∙ ap (λ bs. q ∷ (escaped_bytes q bs ++ (q ∷ []))) (encodes-chars b.bytes inside) ∙ sym (is ∙ b.leaf) in
-        tested is_utf8 t u rest opening b ∙ rw right (ap (λ text. Some (text, rest)) spelled)
+-- after an opening quote
+module _ (t inside : List ℕ) (q : ℕ) (opens : t ≡ q ∷ inside) where
+  by_bytes : (l : Quotes t) → (l.q ≡ q) × (inside ≡ escaped_bytes q (encode_utf8_all l.cs) ++ (q ∷ l.rest))
+  by_bytes l =
+      let whole : q ∷ inside ≡ l.q ∷ (escaped_bytes l.q (encode_utf8_all l.cs) ++ (l.q ∷ l.rest)) =
+      sym opens ∙ l.front ∙ ap (λ x. x ++ l.rest) (quoted-bytes l.q l.cs l.quote)
+      ∙ ap (λ v. l.q ∷ v) (append_assoc (escaped_bytes l.q (encode_utf8_all l.cs)) (l.q ∷ []) l.rest) in
+      let same : l.q ≡ q = cc in
+      (same, subst (λ n. inside ≡ escaped_bytes n (encode_utf8_all l.cs) ++ (n ∷ l.rest)) same (cc))
 
-    pub is_no_text : (leaf : List ℕ) → leaf ≡ take (length t - length rest) t → ¬ (IsUtf8 leaf) → read_between q is_utf8 t ≡ None
-    is_no_text leaf is not_utf8 =
-        let b = between t u rest opening closing in
-        tested is_utf8 t u rest opening b ∙ refused b (is_utf8 b.bytes) refl
-      where
-        refused : (b : Between t u rest) (right : Bool) → is_utf8 b.bytes ≡ right → if_right is_utf8 q b.bytes rest ≡ None
-        refused b true e = absurd (not_utf8 (subst IsUtf8 (sym (is ∙ b.leaf)) ((quoted-utf8 q quote b.bytes).1 (IsUtf8-from_is_utf8 b.bytes e))))
-        refused b false e = rw e refl
+  pub no_quote : ¬ (IsQuote q) → None ≡ read_quoted t
+  no_quote not_one = none_read t (λ l. not_one (subst IsQuote (by_bytes l).0 l.quote))
 
-    -- the leaf is a part of the text
+  pub not_closed : NeverCloses q inside → None ≡ read_quoted t
+  not_closed never = none_read t (λ l. never (encode_utf8_all l.cs) l.rest (by_bytes l).1)
+
+  -- up to a closing one
+  module _ (rest : List ℕ) (quote : IsQuote q) (closes : IsSpelled q inside (q ∷ rest)) where
+    abbrev written : List ℕ → List ℕ
+    written bytes = q ∷ (escaped_bytes q bytes ++ (q ∷ []))
+
+    whole : t ≡ written closes.0 ++ rest
+    whole = opens ∙ ap (λ v. q ∷ v) (closes.1 ∙ sym (append_assoc (escaped_bytes q closes.0) (q ∷ []) rest))
+
     pub rest_within : length rest ≤ length t
-    rest_within =
-        let b = between t u rest opening closing in
-        let h = read_inside-sound q (suc (length u)) u b.bytes rest b.reads in
-        omega (arith, ap length (strip_found (q ∷ []) t u opening), ap length h, length-append (escaped_bytes q b.bytes) (q ∷ rest))
+    rest_within = omega (arith, ap length whole, length-append (written closes.0) rest)
+
+    module _ (leaf : List ℕ) (front : leaf ≡ take (length t - length rest) t) where
+      leaf_is : leaf ≡ written closes.0
+      leaf_is =
+          let far : length t - length rest ≡ length (written closes.0) = omega (arith, ap length whole, length-append (written closes.0) rest) in
+          front ∙ rw far (ap (take (length (written closes.0))) whole ∙ take-append_seam (written closes.0) rest)
+
+      -- any leaf at the front is this one
+      only : (l : Quotes t) → leaf ≡ quoted q l.cs
+      only l =
+          let bytes = same_bytes q quote closes.0 (encode_utf8_all l.cs) (q ∷ rest) (q ∷ l.rest) (quote_ends q quote rest) (quote_ends q quote l.rest)
+          (sym closes.1 ∙ (by_bytes l).1) in
+          leaf_is ∙ ap written bytes.0 ∙ sym (quoted-bytes q l.cs quote)
+
+      pub no_text : ¬ (IsUtf8 leaf) → None ≡ read_quoted t
+      no_text not_utf8 = none_read t (λ l. not_utf8 (subst IsUtf8 (sym (only l ∙ quoted-bytes q l.cs quote))
+          ((quoted-utf8 q quote (encode_utf8_all l.cs)).1 (l.cs, (l.scalars, refl)))))
+
+      pub no_character : q ≡ 39 → IsOneCharacter leaf false → None ≡ read_quoted t
+      no_character apostrophe one = none_read t (λ l.
+          let answer : false ≡ (length l.cs == 1) = one l.cs l.scalars (only l ∙ ap (λ n. quoted n l.cs) apostrophe) in
+          let length_one = l.one ((by_bytes l).0 ∙ apostrophe) in
+          absurd (grind (arith, nat_tests)))
+
+      pub is_read : IsUtf8 leaf → (q ≡ 39 → IsOneCharacter leaf true) → Some (leaf, rest) ≡ read_quoted t
+      is_read utf8 one =
+          let inside_utf8 = (quoted-utf8 q quote closes.0).0 (subst IsUtf8 leaf_is utf8) in
+          let cs = inside_utf8.0 in
+          let scalars = inside_utf8.1.0 in
+          let is : leaf ≡ quoted q cs = leaf_is ∙ ap written (sym inside_utf8.1.1) ∙ sym (quoted-bytes q cs quote) in
+          let token : IsQuoted leaf = elim quote [
+            | inl mark ↦ inl (cs, scalars, is ∙ ap (λ n. quoted n cs) mark)
+            | inr apostrophe ↦ let as_one = is ∙ ap (λ n. quoted n cs) apostrophe in one_quoted leaf cs scalars (one apostrophe cs scalars as_one) as_one
+          ] in
+          sym (ap read_quoted (whole ∙ ap (λ l. l ++ rest) (sym leaf_is)) ∙ read_quoted-complete leaf rest token)
+
+-- a character takes at least a byte
+length-escaped_all : (cs : List ℕ) → length cs ≤ length (escaped_all 39 cs)
+length-escaped_all cs = omega (arith, length-le-encodes cs, length-escaped_bytes 39 (encode_utf8_all cs), ap length (escaped_all-bytes 39 (omega arith) cs))
+
+-- the first byte that a character is written as says how many follow it
+record Led (c : ℕ) : Type 0 where
+  byte : ℕ
+  more : List ℕ
+  is : escaped 39 c ≡ escaped_byte 39 byte ++ more
+  follow : length more ≡ continuation_len byte
+
+past : (c b : ℕ) (more : List ℕ) → 128 ≤ c → 128 ≤ b → encode_utf8 c ≡ b ∷ more → length more ≡ continuation_len b → Led c
+past c b more high led is follow = record {
+  byte = b;
+  more = more;
+  is = ap (λ o. unwrap_or o (encode_utf8 c)) (escape-past_ascii 39 c (omega arith) high) ∙ is ∙ sym (ap (λ o. unwrap_or o (b ∷ []) ++ more) (escape-past_ascii 39 b (omega arith) led));
+  follow = follow;
+}
+
+lead : (c : ℕ) → Led c
+unfolding encode
+lead c = go (nat_lt c 128) refl (nat_lt c 2048) refl (nat_lt c 65536) refl
+  where
+    go : (x : Bool) → nat_lt c 128 ≡ x → (y : Bool) → nat_lt c 2048 ≡ y → (z : Bool) → nat_lt c 65536 ≡ z → Led c
+    go true one y two z three =
+        let small : c < 128 = grind (arith, nat_tests) in
+        record { byte = c; more = []; is = ap (unwrap_or (escape 39 c)) (encode_ascii c small) ∙ sym (append-nil (escaped_byte 39 c)); follow = grind (arith, nat_tests) }
+    go false one true two z three = past c (192 + c / 64) (next c ∷ []) (grind (arith, nat_tests)) (omega arith) (rw (one, two) refl) (grind (arith, nat_tests))
+    go false one false two true three = past c (224 + c / 4096) (next (c / 64) ∷ next c ∷ []) (grind (arith, nat_tests)) (omega arith) (rw (one, two, three) refl) (grind (arith, nat_tests))
+    go false one false two false three = past c (240 + c / 262144) (next (c / 4096) ∷ next (c / 64) ∷ next c ∷ []) (grind (arith, nat_tests)) (omega arith) (rw (one, two, three) refl) (grind (arith, nat_tests))
+
+-- so what follows it says whether there is one character
+module _ (leaf inside : List ℕ) (x : ℕ) (opens : leaf ≡ x ∷ inside) where
+  led : (c : ℕ) (cs : List ℕ) → leaf ≡ quoted 39 (c ∷ cs) → inside ≡ escaped_byte 39 (lead c).byte ++ ((lead c).more ++ (escaped_all 39 cs ++ (39 ∷ [])))
+  led c cs is =
+      let inner : inside ≡ (escaped 39 c ++ escaped_all 39 cs) ++ (39 ∷ []) = cc in
+      inner ∙ ap (λ e. (e ++ escaped_all 39 cs) ++ (39 ∷ [])) (lead c).is ∙ simp append_assoc
+
+  pub is_one : (b : ℕ) (rest : List ℕ) → inside ≡ escaped_byte 39 b ++ rest → IsOneCharacter leaf (length rest == 1 + continuation_len b)
+  is_one b rest front [] scalars is = absurd (quote_ends 39 (inr refl) [] b rest (cc))
+  is_one b rest front (c ∷ cs) scalars is =
+      let l = lead c in
+      let first = spelled_once 39 (inr refl) b l.byte rest (l.more ++ (escaped_all 39 cs ++ (39 ∷ []))) (sym front ∙ led c cs is) in
+      go cs (continuation_len b) (omega (arith, ap length first.1, length-append l.more (escaped_all 39 cs ++ (39 ∷ [])), length-append (escaped_all 39 cs) (39 ∷ []), l.follow, ap continuation_len first.0)) (length-escaped_all cs)
+    where
+      go : (cs : List ℕ) (n : ℕ) → length rest ≡ n + (length (escaped_all 39 cs) + 1) → length cs ≤ length (escaped_all 39 cs) → (length rest == 1 + n) ≡ (length (c ∷ cs) == 1)
+      go [] n long more = grind (arith, nat_tests)
+      go (d ∷ cs) n long more = grind (arith, nat_tests)
+
+  pub none_written : ((b : ℕ) (rest : List ℕ) → inside ≢ escaped_byte 39 b ++ rest) → IsOneCharacter leaf false
+  none_written ends [] scalars is = refl
+  none_written ends (c ∷ cs) scalars is = absurd (ends (lead c).byte ((lead c).more ++ (escaped_all 39 cs ++ (39 ∷ []))) (led c cs is))
+
+-- the table marks just the bytes of ASCII that have no escape
+plain : (c : ℕ) → is_marked PLAIN_ASCII c ≡ true → (escape 34 c ≡ None) × (c < 128)
+plain c marked = go (cases_lt c 256)
+  where
+    both : (e : Option (List ℕ)) → is_none e && nat_lt c 128 ≡ true → (e ≡ None) × (c < 128)
+    both None h = (refl, grind (arith, nat_tests))
+    both (Some x) h = absurd (cc)
+
+    go : (c < 256) ⊎ (256 ≤ c) → (escape 34 c ≡ None) × (c < 128)
+    go (inl low) = both (escape 34 c) (sym (agree_below_at (is_marked PLAIN_ASCII) (λ n. is_none (escape 34 n) && nat_lt n 128) 256 c refl low) ∙ marked)
+    go (inr high) = absurd (omega (arith, eqb-true _ 119 marked, get_or_past PLAIN_ASCII c 0 high))
+
+plain_front : (t : List ℕ) → (escaped_bytes 34 (take (marked_len PLAIN_ASCII t) t) ≡ take (marked_len PLAIN_ASCII t) t) × (marked_len PLAIN_ASCII t ≤ length t)
+    × IsAscii (take (marked_len PLAIN_ASCII t) t)
+plain_front [] = (refl, omega arith, IsAscii-nil)
+plain_front (c ∷ t) = go (is_marked PLAIN_ASCII c) refl (plain_front t)
+  where
+    go : (b : Bool) → is_marked PLAIN_ASCII c ≡ b → (escaped_bytes 34 (take (marked_len PLAIN_ASCII t) t) ≡ take (marked_len PLAIN_ASCII t) t) × (marked_len PLAIN_ASCII t ≤ length t)
+        × IsAscii (take (marked_len PLAIN_ASCII t) t)
+        → (escaped_bytes 34 (take (marked_len PLAIN_ASCII (c ∷ t)) (c ∷ t)) ≡ take (marked_len PLAIN_ASCII (c ∷ t)) (c ∷ t)) × (marked_len PLAIN_ASCII (c ∷ t) ≤ length (c ∷ t))
+        × IsAscii (take (marked_len PLAIN_ASCII (c ∷ t)) (c ∷ t))
+    go true is more =
+        let own = plain c is in
+        rw is (rw own.0 (ap (λ v. c ∷ v) more.0), omega (arith, more.1), IsAscii-cons c (take (marked_len PLAIN_ASCII t) t) own.1 more.2)
+    go false is more = rw is (refl, omega arith, IsAscii-nil)
+
+pub plain_within : (t : List ℕ) → marked_len PLAIN_ASCII t ≤ length t
+plain_within t = (plain_front t).1
+
+-- so what is up to a closing quotation mark is a leaf
+module _ (t u end rest leaf : List ℕ) (opening : Some u ≡ strip (34 ∷ []) t) (past : end ≡ drop (marked_len PLAIN_ASCII u) u) (closing : Some rest ≡ strip (34 ∷ []) end)
+    (front : leaf ≡ take (length t - length rest) t) where
+  opens : t ≡ 34 ∷ u
+  opens = strip_found (34 ∷ []) t u (sym opening)
+
+  abbrev closes : IsSpelled 34 u (34 ∷ rest)
+  closes =
+      let stretch = take (marked_len PLAIN_ASCII u) u in
+      let ends : u ≡ stretch ++ (34 ∷ rest) = sym (take-append-drop (marked_len PLAIN_ASCII u) u) ∙ ap (λ v. stretch ++ v) (sym past ∙ strip_found (34 ∷ []) end rest (sym closing)) in
+      (stretch, ends ∙ ap (λ v. v ++ (34 ∷ rest)) (sym (plain_front u).0))
+
+  pub plain_ascii : IsAscii leaf
+  plain_ascii = subst IsAscii (sym (leaf_is t u 34 opens rest (inl refl) closes leaf front ∙ ap (λ v. 34 ∷ (v ++ (34 ∷ []))) (plain_front u).0))
+      (IsAscii-cons 34 _ (omega arith) (IsAscii-append (take (marked_len PLAIN_ASCII u) u) (34 ∷ []) (plain_front u).2 (IsAscii-cons 34 [] (omega arith) IsAscii-nil)))
+
+  pub plain_read : Some (leaf, rest) ≡ read_quoted t
+  plain_read = is_read t u 34 opens rest (inl refl) closes leaf front (IsUtf8-from_ascii leaf plain_ascii) (λ no. absurd (omega (arith, no)))

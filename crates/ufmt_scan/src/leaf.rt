@@ -6,7 +6,7 @@ ghost use Rattle.ufmt.specs.ReadingQuoted.{read_quoted};
 ghost use Rattle.ufmt_scan.specs.Private.MarkedBytes.{is_marked, marked_len};
 
 use crate::level::strip_piece;
-use crate::quoted::{split_character, split_quoted};
+use crate::quoted::{split_any, split_plain};
 
 // Of each byte, whether it is one of words: an ASCII digit, an ASCII letter, `_` or `-`.
 static WORD_BYTES: [u8; 256] = *b"\
@@ -87,14 +87,13 @@ fn is_marked(table: &[u8; 256], byte: u8) -> bool
 
 /// A leaf in quotes at the front of a text, and what follows it.
 #[inline(always)]
-#[tactic(auto, unfolding(ufmt::specs::ReadingQuoted::read_quoted))]
 pub(crate) fn split_quotes(input: &[u8]) -> Option<(&str, &[u8])>
     ensures { option_map (λ x. (x.0.now, x.1.now)) result ≡ read_quoted input.now }
 {
-    if let Some(text) = split_quoted(b'"', input) {
+    if let Some(text) = split_plain(input) {
         Some(text)
     } else {
-        split_character(input)
+        split_any(input)
     }
 }
 

@@ -10,8 +10,8 @@ ghost use Rattle.ufmt_doc.specs.Unquoted.{Unquotes};
 use super::Doc;
 use std::alloc::{AllocError, Global};
 use ufmt_scan::convert::plain_text;
-use ufmt_scan::escape::split_escaped;
 use ufmt_scan::leaf::is_symbol;
+use ufmt_scan::quoted::split_escaped;
 
 impl Doc {
     /// A leaf of the text, in quotation marks and with its escapes, as `uDebug` prints it. It takes
