@@ -22,7 +22,7 @@ use Rattle.ufmt.specs.ReadingQuoted.{read_quoted}
 use Rattle.ufmt.proofs.QuotedComplete.{length-escaped_bytes, quoted-bytes, read_quoted-complete}
 use Rattle.ufmt.proofs.QuotedSound.{read_quoted-sound}
 use Rattle.ufmt.proofs.QuotedUtf8.{quoted-utf8}
-use Rattle.ufmt_scan.specs.Private.Spelled.{IsOneCharacter, IsSpelled, NeverCloses}
+use Rattle.ufmt_scan.specs.Private.Spelled.{Closes, IsOneCharacter, NeverCloses}
 use Rattle.ufmt_scan.proofs.Spelled.{quote_ends, same_bytes, spelled_once}
 
 -- a leaf in quotes at the front of a text
@@ -73,53 +73,54 @@ module _ (t inside : List ℕ) (q : ℕ) (opens : t ≡ q ∷ inside) where
   no_quote not_one = none_read t (λ l. not_one (subst IsQuote (by_bytes l).0 l.quote))
 
   pub not_closed : NeverCloses q inside → None ≡ read_quoted t
-  not_closed never = none_read t (λ l. never (encode_utf8_all l.cs) l.rest (by_bytes l).1)
+  not_closed never = none_read t (λ l. never.never (encode_utf8_all l.cs) l.rest (by_bytes l).1)
 
   -- up to a closing one
-  module _ (rest : List ℕ) (quote : IsQuote q) (closes : IsSpelled q inside (q ∷ rest)) where
+  module _ (rest : List ℕ) (closes : Closes q inside rest) where
     abbrev written : List ℕ → List ℕ
     written bytes = q ∷ (escaped_bytes q bytes ++ (q ∷ []))
 
-    whole : t ≡ written closes.0 ++ rest
-    whole = opens ∙ ap (λ v. q ∷ v) (closes.1 ∙ sym (append_assoc (escaped_bytes q closes.0) (q ∷ []) rest))
+    whole : t ≡ written closes.bytes ++ rest
+    whole = opens ∙ ap (λ v. q ∷ v) (closes.is ∙ sym (append_assoc (escaped_bytes q closes.bytes) (q ∷ []) rest))
 
     pub rest_within : length rest ≤ length t
-    rest_within = omega (arith, ap length whole, length-append (written closes.0) rest)
+    rest_within = omega (arith, ap length whole, length-append (written closes.bytes) rest)
 
     module _ (leaf : List ℕ) (front : leaf ≡ take (length t - length rest) t) where
-      leaf_is : leaf ≡ written closes.0
+      leaf_is : leaf ≡ written closes.bytes
       leaf_is =
-          let far : length t - length rest ≡ length (written closes.0) = omega (arith, ap length whole, length-append (written closes.0) rest) in
-          front ∙ rw far (ap (take (length (written closes.0))) whole ∙ take-append_seam (written closes.0) rest)
+          let far : length t - length rest ≡ length (written closes.bytes) = omega (arith, ap length whole, length-append (written closes.bytes) rest) in
+          front ∙ rw far (ap (take (length (written closes.bytes))) whole ∙ take-append_seam (written closes.bytes) rest)
 
       -- any leaf at the front is this one
       only : (l : Quotes t) → leaf ≡ quoted q l.cs
       only l =
-          let bytes = same_bytes q quote closes.0 (encode_utf8_all l.cs) (q ∷ rest) (q ∷ l.rest) (quote_ends q quote rest) (quote_ends q quote l.rest)
-          (sym closes.1 ∙ (by_bytes l).1) in
-          leaf_is ∙ ap written bytes.0 ∙ sym (quoted-bytes q l.cs quote)
+          let bytes = same_bytes q closes.is_quote closes.bytes (encode_utf8_all l.cs) (q ∷ rest) (q ∷ l.rest) (quote_ends q closes.is_quote rest) (quote_ends q closes.is_quote l.rest)
+          (sym closes.is ∙ (by_bytes l).1) in
+          leaf_is ∙ ap written bytes.0 ∙ sym (quoted-bytes q l.cs closes.is_quote)
 
       pub no_text : ¬ (IsUtf8 leaf) → None ≡ read_quoted t
-      no_text not_utf8 = none_read t (λ l. not_utf8 (subst IsUtf8 (sym (only l ∙ quoted-bytes q l.cs quote))
-          ((quoted-utf8 q quote (encode_utf8_all l.cs)).1 (l.cs, (l.scalars, refl)))))
+      no_text not_utf8 = none_read t (λ l.
+          not_utf8 (subst IsUtf8 (sym (only l ∙ quoted-bytes q l.cs closes.is_quote)) ((quoted-utf8 q closes.is_quote (encode_utf8_all l.cs)).1 (l.cs, (l.scalars, refl)))))
 
       pub no_character : q ≡ 39 → IsOneCharacter leaf false → None ≡ read_quoted t
       no_character apostrophe one = none_read t (λ l.
-          let answer : false ≡ (length l.cs == 1) = one l.cs l.scalars (only l ∙ ap (λ n. quoted n l.cs) apostrophe) in
+          let answer : false ≡ (length l.cs == 1) = one.one l.cs l.scalars (only l ∙ ap (λ n. quoted n l.cs) apostrophe) in
           let length_one = l.one ((by_bytes l).0 ∙ apostrophe) in
           absurd (grind (arith, nat_tests)))
 
-      pub is_read : IsUtf8 leaf → (q ≡ 39 → IsOneCharacter leaf true) → Some (leaf, rest) ≡ read_quoted t
-      is_read utf8 one =
-          let inside_utf8 = (quoted-utf8 q quote closes.0).0 (subst IsUtf8 leaf_is utf8) in
+      pub is_read : (text : List ℕ) → text ≡ leaf → IsUtf8 leaf → (q ≡ 39 → IsOneCharacter leaf true) → Some (text, rest) ≡ read_quoted t
+      is_read text same utf8 one =
+          let quote = closes.is_quote in
+          let inside_utf8 = (quoted-utf8 q quote closes.bytes).0 (subst IsUtf8 leaf_is utf8) in
           let cs = inside_utf8.0 in
           let scalars = inside_utf8.1.0 in
           let is : leaf ≡ quoted q cs = leaf_is ∙ ap written (sym inside_utf8.1.1) ∙ sym (quoted-bytes q cs quote) in
           let token : IsQuoted leaf = elim quote [
             | inl mark ↦ inl (cs, scalars, is ∙ ap (λ n. quoted n cs) mark)
-            | inr apostrophe ↦ let as_one = is ∙ ap (λ n. quoted n cs) apostrophe in one_quoted leaf cs scalars (one apostrophe cs scalars as_one) as_one
+            | inr apostrophe ↦ let as_one = is ∙ ap (λ n. quoted n cs) apostrophe in one_quoted leaf cs scalars ((one apostrophe).one cs scalars as_one) as_one
           ] in
-          sym (ap read_quoted (whole ∙ ap (λ l. l ++ rest) (sym leaf_is)) ∙ read_quoted-complete leaf rest token)
+          ap (λ x. Some (x, rest)) same ∙ sym (ap read_quoted (whole ∙ ap (λ l. l ++ rest) (sym leaf_is)) ∙ read_quoted-complete leaf rest token)
 
 -- a character takes at least a byte
 length-escaped_all : (cs : List ℕ) → length cs ≤ length (escaped_all 39 cs)
@@ -159,9 +160,10 @@ module _ (leaf inside : List ℕ) (x : ℕ) (opens : leaf ≡ x ∷ inside) wher
       let inner : inside ≡ (escaped 39 c ++ escaped_all 39 cs) ++ (39 ∷ []) = cc in
       inner ∙ ap (λ e. (e ++ escaped_all 39 cs) ++ (39 ∷ [])) (lead c).is ∙ simp append_assoc
 
-  pub is_one : (b : ℕ) (rest : List ℕ) → inside ≡ escaped_byte 39 b ++ rest → IsOneCharacter leaf (length rest == 1 + continuation_len b)
-  is_one b rest front [] scalars is = absurd (quote_ends 39 (inr refl) [] b rest (cc))
-  is_one b rest front (c ∷ cs) scalars is =
+  counted : (b : ℕ) (rest : List ℕ) → inside ≡ escaped_byte 39 b ++ rest → (cs : List ℕ) → all_scalars cs ≡ true → leaf ≡ quoted 39 cs
+      → (length rest == 1 + continuation_len b) ≡ (length cs == 1)
+  counted b rest front [] scalars is = absurd (quote_ends 39 (inr refl) [] b rest (cc))
+  counted b rest front (c ∷ cs) scalars is =
       let l = lead c in
       let first = spelled_once 39 (inr refl) b l.byte rest (l.more ++ (escaped_all 39 cs ++ (39 ∷ []))) (sym front ∙ led c cs is) in
       go cs (continuation_len b) (omega (arith, ap length first.1, length-append l.more (escaped_all 39 cs ++ (39 ∷ [])), length-append (escaped_all 39 cs) (39 ∷ []), l.follow, ap continuation_len first.0)) (length-escaped_all cs)
@@ -170,9 +172,15 @@ module _ (leaf inside : List ℕ) (x : ℕ) (opens : leaf ≡ x ∷ inside) wher
       go [] n long more = grind (arith, nat_tests)
       go (d ∷ cs) n long more = grind (arith, nat_tests)
 
+  pub is_one : (b n : ℕ) (rest : List ℕ) → inside ≡ escaped_byte 39 b ++ rest → n ≡ 1 + continuation_len b → IsOneCharacter leaf (length rest == n)
+  is_one b n rest front is = record { one = λ cs scalars whole. rw is (counted b rest front cs scalars whole) }
+
   pub none_written : ((b : ℕ) (rest : List ℕ) → inside ≢ escaped_byte 39 b ++ rest) → IsOneCharacter leaf false
-  none_written ends [] scalars is = refl
-  none_written ends (c ∷ cs) scalars is = absurd (ends (lead c).byte ((lead c).more ++ (escaped_all 39 cs ++ (39 ∷ []))) (led c cs is))
+  none_written ends = record { one = go }
+    where
+      go : (cs : List ℕ) → all_scalars cs ≡ true → leaf ≡ quoted 39 cs → false ≡ (length cs == 1)
+      go [] scalars is = refl
+      go (c ∷ cs) scalars is = absurd (ends (lead c).byte ((lead c).more ++ (escaped_all 39 cs ++ (39 ∷ []))) (led c cs is))
 
 -- the table marks just the bytes of ASCII that have no escape
 plain : (c : ℕ) → is_marked PLAIN_ASCII c ≡ true → (escape 34 c ≡ None) × (c < 128)
@@ -209,15 +217,20 @@ module _ (t u end rest leaf : List ℕ) (opening : Some u ≡ strip (34 ∷ []) 
   opens : t ≡ 34 ∷ u
   opens = strip_found (34 ∷ []) t u (sym opening)
 
-  abbrev closes : IsSpelled 34 u (34 ∷ rest)
+  abbrev closes : Closes 34 u rest
   closes =
       let stretch = take (marked_len PLAIN_ASCII u) u in
       let ends : u ≡ stretch ++ (34 ∷ rest) = sym (take-append-drop (marked_len PLAIN_ASCII u) u) ∙ ap (λ v. stretch ++ v) (sym past ∙ strip_found (34 ∷ []) end rest (sym closing)) in
-      (stretch, ends ∙ ap (λ v. v ++ (34 ∷ rest)) (sym (plain_front u).0))
+      record { is_quote = inl refl; bytes = stretch; is = ends ∙ ap (λ v. v ++ (34 ∷ rest)) (sym (plain_front u).0) }
 
   pub plain_ascii : IsAscii leaf
-  plain_ascii = subst IsAscii (sym (leaf_is t u 34 opens rest (inl refl) closes leaf front ∙ ap (λ v. 34 ∷ (v ++ (34 ∷ []))) (plain_front u).0))
+  plain_ascii = subst IsAscii (sym (leaf_is t u 34 opens rest closes leaf front ∙ ap (λ v. 34 ∷ (v ++ (34 ∷ []))) (plain_front u).0))
       (IsAscii-cons 34 _ (omega arith) (IsAscii-append (take (marked_len PLAIN_ASCII u) u) (34 ∷ []) (plain_front u).2 (IsAscii-cons 34 [] (omega arith) IsAscii-nil)))
 
-  pub plain_read : Some (leaf, rest) ≡ read_quoted t
-  plain_read = is_read t u 34 opens rest (inl refl) closes leaf front (IsUtf8-from_ascii leaf plain_ascii) (λ no. absurd (omega (arith, no)))
+  pub plain_read : (text : List ℕ) → text ≡ leaf → read_quoted t ≡ Some (text, rest)
+  plain_read text same = sym (is_read t u 34 opens rest closes leaf front text same (IsUtf8-from_ascii leaf plain_ascii) (λ no. absurd (omega (arith, no))))
+
+-- what the functions that split leaves need
+pub ruleset any_leaf = (none_read, no_quote, not_closed, no_character, rest_within)
+
+pub ruleset plain_leaf = (plain_within, plain_ascii)

@@ -1,36 +1,37 @@
 -- What is in quotes: bytes as they are written there, up to the closing quote.
-use Rattle.std.proofs.Common.{◌≡◌, refl, sym, ap, ◌∙◌, ℕ, ◌<◌, List, [], ◌∷◌, ◌++◌, length, take, drop, Option, Some, None, append_assoc, length-append, arith}
+use Rattle.std.proofs.Common.{◌≡◌, ◌⊎◌, inl, inr, ◌≤◌, refl, sym, ap, ◌∙◌, ℕ, ◌<◌, List, [], ◌∷◌, ◌++◌, length, take, drop, Option, Some, None, append_assoc, length-append, arith}
 use Rattle.std.specs.List.{slice_index}
 use Rattle.std.specs.Prelude.{◌≢◌, unwrap_or}
+use Rattle.std.proofs.lemmas.Bool.{cases_lt}
 use Rattle.std.proofs.lemmas.List.{append_cancel_right, take-append-drop}
 use Rattle.ufmt.specs.Quoted.{IsQuote, escape, escaped_byte, escaped_bytes, plain_len}
 use Rattle.ufmt.specs.Reading.{strip}
 use Rattle.ufmt.specs.ReadingQuoted.{read_escaped, told}
 use Rattle.ufmt_core.proofs.QuotedBytes as core
-use Rattle.ufmt.proofs.Parsing.{same_parts, strip_of_front, strip_stands}
+use Rattle.ufmt.proofs.Parsing.{same_parts, strip_found, strip_of_front, strip_stands}
 use Rattle.ufmt.proofs.QuotedComplete.{escaped-no_quote, length-escaped, quote_ascii, read_escaped-complete}
 use Rattle.ufmt.proofs.QuotedTold.{told-escaped}
-use Rattle.ufmt_scan.specs.Private.Spelled.{IsSpelled, NeverCloses}
+use Rattle.ufmt_scan.specs.Private.Spelled.{Closes, IsSpelled, NeverCloses}
 
 -- how a byte is written, where it has an escape
 pub escaped_byte_is : (q b : ℕ) (e : List ℕ) → Some e ≡ escape q b → escaped_byte q b ≡ e
 escaped_byte_is q b e is = ap (λ o. unwrap_or o (b ∷ [])) (sym is)
 
--- only the byte that the front names may be written there
-module _ (q : ℕ) (t : List ℕ) (quote : IsQuote q) where
-  named : (b : ℕ) (u : List ℕ) → t ≡ escaped_byte q b ++ u → told t ≡ b
-  named b u same = ap told same ∙ told-escaped q b u quote
+-- where the byte that the front names isn't written, none is
+pub no_other : (q : ℕ) (t : List ℕ) (byte : ℕ) → IsQuote q → slice_index t 0 < 256 → (told t < 256 → byte ≡ told t) → None ≡ strip (escaped_byte q byte) t
+    → (b : ℕ) (u : List ℕ) → t ≢ escaped_byte q b ++ u
+no_other q t byte quote fits named none b u same = go (cases_lt b 256)
+  where
+    is : told t ≡ b
+    is = ap told same ∙ told-escaped q b u quote
 
-  pub no_other : None ≡ strip (escaped_byte q (told t)) t → (b : ℕ) (u : List ℕ) → t ≢ escaped_byte q b ++ u
-  no_other none b u same =
-      let some : ◌≡◌ {A = Option (List ℕ)} None (Some u) = none ∙ ap (λ n. strip (escaped_byte q n) t) (named b u same) ∙ strip_of_front (escaped_byte q b) t u same in
-      absurd (cc)
-
-  -- so none past 255 is
-  pub none_past : 255 < told t → slice_index t 0 ≡ 92 → (b : ℕ) (u : List ℕ) → t ≢ escaped_byte q b ++ u
-  none_past past first b u same =
-      let itself = ap (λ o. unwrap_or o (b ∷ [])) (core.escape-past_ascii q b (quote_ascii q quote) (omega (arith, past, named b u same))) in
-      omega (arith, past, first, named b u same, ap (λ v. slice_index v 0) (same ∙ ap (λ e. e ++ u) itself))
+    go : (b < 256) ⊎ (256 ≤ b) → ⊥
+    go (inl low) =
+        let found : ◌≡◌ {A = Option (List ℕ)} None (Some u) = none ∙ ap (λ n. strip (escaped_byte q n) t) (named (omega (arith, is)) ∙ is) ∙ strip_of_front (escaped_byte q b) t u same in
+        absurd (cc)
+    go (inr high) =
+        let itself = ap (λ o. unwrap_or o (b ∷ [])) (core.escape-past_ascii q b (quote_ascii q quote) (omega arith)) in
+        omega (arith, fits, ap (λ v. slice_index v 0) (same ∙ ap (λ e. e ++ u) itself))
 
 -- bytes in a row are written in a row
 pub escaped_bytes-append : (q : ℕ) (bs cs : List ℕ) → escaped_bytes q (bs ++ cs) ≡ escaped_bytes q bs ++ escaped_bytes q cs
@@ -43,18 +44,27 @@ pub spelled_shorter : (q b : ℕ) (t u : List ℕ) → t ≡ escaped_byte q b ++
 spelled_shorter q b t u h = omega (arith, ap length h, length-append (escaped_byte q b) u, length-escaped q b)
 
 -- bytes that stand for themselves are written so
-pub stretch : (t : List ℕ) → IsSpelled 34 t (drop (plain_len t) t)
-stretch t =
-    let n = plain_len t in
-    let itself : escaped_bytes 34 (take n t) ≡ take n t = append_cancel_right _ _ (escaped_bytes 34 (drop n t))
-    (sym (escaped_bytes-append 34 (take n t) (drop n t)) ∙ ap (escaped_bytes 34) (take-append-drop n t) ∙ (core.stretch t).escaped) in
-    (take n t, sym (ap (λ v. v ++ drop n t) itself ∙ take-append-drop n t))
+pub stretch_within : (t : List ℕ) (n : ℕ) → n ≡ plain_len t → n ≤ length t
+stretch_within t n is = omega (arith, is, (core.stretch t).within)
 
--- a byte and more follow
+pub stretch : (t u : List ℕ) (n : ℕ) → n ≡ plain_len t → u ≡ drop n t → IsSpelled 34 t u
+stretch t u n is rest =
+    let whole = core.stretch t in
+    let itself : escaped_bytes 34 (take n t) ≡ take n t = append_cancel_right _ _ (escaped_bytes 34 (drop n t))
+    (sym (escaped_bytes-append 34 (take n t) (drop n t)) ∙ ap (escaped_bytes 34) (take-append-drop n t) ∙ rw is whole.escaped) in
+    record { bytes = take n t; is = sym (ap (λ v. v ++ u) itself ∙ ap (λ v. take n t ++ v) rest ∙ take-append-drop n t) }
+
+-- nothing is passed, then a byte and more, and then the quote
+pub spelled_nothing : (q : ℕ) (t : List ℕ) → IsSpelled q t t
+spelled_nothing q t = record { bytes = []; is = refl }
+
 pub spelled_turn : (q b : ℕ) (t u v w : List ℕ) → IsSpelled q t u → u ≡ escaped_byte q b ++ v → IsSpelled q v w → IsSpelled q t w
 spelled_turn q b t u v w first is more =
-    let whole : t ≡ escaped_bytes q first.0 ++ (escaped_byte q b ++ (escaped_bytes q more.0 ++ w)) = cc (first.1, is, more.1) in
-    (first.0 ++ (b ∷ more.0), rw (escaped_bytes-append q first.0 (b ∷ more.0)) (simp append_assoc whole))
+    let whole : t ≡ escaped_bytes q first.bytes ++ (escaped_byte q b ++ (escaped_bytes q more.bytes ++ w)) = cc (first.is, is, more.is) in
+    record { bytes = first.bytes ++ (b ∷ more.bytes); is = rw (escaped_bytes-append q first.bytes (b ∷ more.bytes)) (simp append_assoc whole) }
+
+pub quote_closes : (q : ℕ) (t u v : List ℕ) → IsQuote q → IsSpelled q t u → Some v ≡ strip (q ∷ []) u → Closes q t v
+quote_closes q t u v quote first found = record { is_quote = quote; bytes = first.bytes; is = first.is ∙ ap (λ x. escaped_bytes q first.bytes ++ x) (strip_found (q ∷ []) u v (sym found)) }
 
 module _ (q : ℕ) (quote : IsQuote q) where
   -- a text begins with at most one byte
@@ -81,7 +91,14 @@ module _ (q : ℕ) (quote : IsQuote q) where
 
   -- where neither the quote nor a byte follows, no quote closes
   pub never_closes : (t u : List ℕ) → IsSpelled q t u → None ≡ strip (q ∷ []) u → ((b : ℕ) (v : List ℕ) → u ≢ escaped_byte q b ++ v) → NeverCloses q t
-  never_closes t u before none ends bytes rest same =
-      let is = (same_bytes before.0 bytes u (q ∷ rest) ends (quote_ends rest) (sym before.1 ∙ same)).1 in
-      let some : ◌≡◌ {A = Option (List ℕ)} None (Some rest) = none ∙ ap (strip (q ∷ [])) is ∙ strip_stands (q ∷ []) rest in
-      absurd (cc)
+  never_closes t u before none ends = record {
+    never = λ bytes rest same.
+        let is = (same_bytes before.bytes bytes u (q ∷ rest) ends (quote_ends rest) (sym before.is ∙ same)).1 in
+        let some : ◌≡◌ {A = Option (List ℕ)} None (Some rest) = none ∙ ap (strip (q ∷ [])) is ∙ strip_stands (q ∷ []) rest in
+        absurd (cc);
+  }
+
+-- what the search for the closing quote needs, and what a byte needs
+pub ruleset closing = (stretch_within, stretch, spelled_nothing, spelled_turn, spelled_shorter, quote_closes)
+
+pub ruleset one_byte = (no_other, strip_found)

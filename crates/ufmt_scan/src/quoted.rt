@@ -7,7 +7,7 @@ ghost use Rattle.ufmt.specs.Quoted.{IsQuote, escaped_byte};
 ghost use Rattle.ufmt.specs.Reading.{strip};
 ghost use Rattle.ufmt.specs.ReadingQuoted.{read_quoted, told};
 ghost use Rattle.ufmt_scan.specs.Rest.{now_of};
-ghost use Rattle.ufmt_scan.specs.Private.Spelled.{IsOneCharacter, IsSpelled, NeverCloses};
+ghost use Rattle.ufmt_scan.specs.Private.Spelled.{Closes, IsOneCharacter, IsSpelled, NeverCloses};
 
 use crate::leaf::marked_len;
 use crate::level::{strip_byte, strip_piece};
@@ -23,6 +23,7 @@ static PLAIN_ASCII: [u8; 256] = *b"\
 
 /// A text of such bytes between quotation marks, with them, and what follows it. It needs no test of UTF-8.
 #[inline(always)]
+#[tactic(auto, using(crate::proofs::QuotedLeaves::plain_leaf))]
 pub(crate) fn split_plain(input: &[u8]) -> Option<(&str, &[u8])>
     ensures { IfSome result (λ x. read_quoted input.now ≡ Some (x.0.now, x.1.now)) }
 {
@@ -35,6 +36,7 @@ pub(crate) fn split_plain(input: &[u8]) -> Option<(&str, &[u8])>
 
 /// A text or a character in quotes, with them, and what follows it.
 #[inline(never)]
+#[tactic(auto, using(crate::proofs::QuotedLeaves::any_leaf))]
 pub(crate) fn split_any(input: &[u8]) -> Option<(&str, &[u8])>
     ensures { option_map (λ x. (x.0.now, x.1.now)) result ≡ read_quoted input.now }
 {
@@ -56,9 +58,11 @@ pub(crate) fn split_any(input: &[u8]) -> Option<(&str, &[u8])>
 }
 
 // What follows the closing quote.
+#[tactic(auto, using(crate::proofs::Spelled::closing))]
 fn after_quote(quote: u8, input: &[u8]) -> Option<&[u8]>
     requires { IsQuote quote }
-    ensures { MatchOption result (NeverCloses quote input.now) (λ x. IsSpelled quote input.now (quote ∷ x.now)) }
+    ensures { MatchOption result
+        (NeverCloses quote input.now) (λ rest. Closes quote input.now rest.now) }
 {
     let mut rest = after_stretch(quote, input);
     'escapes: loop {
@@ -71,6 +75,7 @@ fn after_quote(quote: u8, input: &[u8]) -> Option<&[u8]>
 }
 
 // What follows bytes without escapes, several of which are passed at once between quotation marks.
+#[tactic(auto, using(crate::proofs::Spelled::closing))]
 fn after_stretch(quote: u8, input: &[u8]) -> &[u8]
     ensures after { IsSpelled quote input.now result.now }
     ensures shorter { length result.now ≤ length input.now }
@@ -110,12 +115,14 @@ fn character_len(lead: u8) -> usize
 /// The byte whose spelling between these quotes the input begins with, and the input after it. `None` if
 /// it begins with no byte's spelling. `quote` is a quotation mark or an apostrophe.
 #[inline(always)]
+#[tactic(auto, using(crate::proofs::Spelled::one_byte))]
 pub fn split_escaped(quote: u8, input: &[u8]) -> Option<(u8, &[u8])>
     requires { IsQuote quote }
     ensures some { IfSome result (λ x. input.now ≡ escaped_byte quote x.0 ++ x.1.now) }
     ensures none { IsNone result → (byte : ℕ) (rest : List ℕ) → input.now ≢ escaped_byte quote byte ++ rest }
 {
-    let byte = u8::try_from(decoded(input)).ok()?;
+    // Past 255 no byte is written, and zero isn't either.
+    let byte = u8::try_from(decoded(input)).unwrap_or(0);
     Some((byte, strip_spelling(quote, byte, input)?))
 }
 
@@ -134,8 +141,7 @@ fn strip_spelling(quote: u8, byte: u8, input: &[u8]) -> Option<&[u8]>
 
 // The only byte that may be written at the front. Past 255 there is none.
 fn decoded(input: &[u8]) -> u32
-    ensures decoded { result ≡ told input.now }
-    ensures past { 255 < result → slice_index input.now 0 ≡ 92 }
+    ensures { result ≡ told input.now }
 {
     match (byte_at(input, 0), byte_at(input, 1)) {
         (b'\\', b'0') => 0,
