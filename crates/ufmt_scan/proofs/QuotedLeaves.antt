@@ -1,16 +1,14 @@
 -- A leaf in quotes is split off the front of a text exactly where one is there.
-use Rattle.std.proofs.Common.{◌≡◌, ◌⊎◌, inl, inr, refl, sym, ap, subst, ◌∙◌, ℕ, ◌+◌, ◌-◌, ◌<◌, ◌≤◌, ◌==◌, ◌&&◌, Bool, true, false, List, [], ◌∷◌, ◌++◌, length, take, drop, Option, Some, None, encode_utf8, encode_utf8_all, eqb-true, append-nil, append_assoc, length-append, arith}
+use Rattle.std.proofs.Common.{◌≡◌, inl, inr, refl, sym, ap, subst, ◌∙◌, ℕ, ◌+◌, ◌-◌, ◌<◌, ◌≤◌, ◌==◌, ◌&&◌, Bool, true, false, List, [], ◌∷◌, ◌++◌, length, take, drop, Option, Some, None, encode_utf8, encode_utf8_all, suc, cond, append-nil, append_assoc, length-append, arith}
 use lib.Utf8.{encode, next}
 use Rattle.std.specs.Prelude.{◌≢◌, ◌/◌, is_none, nat_lt, unwrap_or}
 use Rattle.std.specs.Str.{IsAscii, IsUtf8, all_scalars, continuation_len}
 use Rattle.std.proofs.Math.Seq.{take-append_seam}
 use Rattle.std.proofs.lemmas.Bool.Decides.{nat_tests}
-use Rattle.std.proofs.lemmas.Bool.{cases_lt}
 use Rattle.std.proofs.lemmas.Str.{encode_ascii, length-le-encodes}
 use Rattle.ufmt_core.proofs.QuotedBytes.{escape-past_ascii}
 use Rattle.ufmt_core.proofs.QuotedCharacters.{escaped_all-bytes}
-use Rattle.std.proofs.lemmas.Bool.{agree_below_at}
-use Rattle.std.proofs.lemmas.List.{get_or_past, take-append-drop}
+use Rattle.std.proofs.lemmas.List.{take-append-drop}
 use Rattle.std.proofs.lemmas.Str.{IsAscii-append, IsUtf8-from_ascii}
 use Rattle.std.proofs.lemmas.Str.Ascii.{IsAscii-cons, IsAscii-nil}
 use Rattle.ufmt.specs.Reading.{strip}
@@ -24,6 +22,7 @@ use Rattle.ufmt.proofs.QuotedSound.{read_quoted-sound}
 use Rattle.ufmt.proofs.QuotedUtf8.{quoted-utf8}
 use Rattle.ufmt_scan.specs.Private.Spelled.{Closes, IsOneCharacter, NeverCloses}
 use Rattle.ufmt_scan.proofs.Spelled.{quote_ends, same_bytes, spelled_once}
+use Rattle.ufmt_scan.proofs.WordBytes.{marks}
 
 -- a leaf in quotes at the front of a text
 pub record Quotes (t : List ℕ) : Type 0 where
@@ -52,11 +51,7 @@ none_read t none = go (read_quoted t) refl
 -- one character, of a list that has one
 one_quoted : (leaf cs : List ℕ) → all_scalars cs ≡ true → true ≡ (length cs == 1) → leaf ≡ quoted 39 cs → IsQuoted leaf
 one_quoted leaf [] scalars one is = absurd (cc)
-one_quoted leaf (c ∷ []) scalars one is = inr (c, both _ scalars, is)
-  where
-    both : (x : Bool) → x && true ≡ true → x ≡ true
-    both true h = refl
-    both false h = absurd (cc)
+one_quoted leaf (c ∷ []) scalars one is = inr (c, grind arith, is)
 one_quoted leaf (c ∷ d ∷ cs) scalars one is = absurd (grind (arith, nat_tests))
 
 -- after an opening quote
@@ -122,24 +117,12 @@ module _ (t inside : List ℕ) (q : ℕ) (opens : t ≡ q ∷ inside) where
           ] in
           ap (λ x. Some (x, rest)) same ∙ sym (ap read_quoted (whole ∙ ap (λ l. l ++ rest) (sym leaf_is)) ∙ read_quoted-complete leaf rest token)
 
--- a character takes at least a byte
-length-escaped_all : (cs : List ℕ) → length cs ≤ length (escaped_all 39 cs)
-length-escaped_all cs = omega (arith, length-le-encodes cs, length-escaped_bytes 39 (encode_utf8_all cs), ap length (escaped_all-bytes 39 (omega arith) cs))
-
 -- the first byte that a character is written as says how many follow it
-record Led (c : ℕ) : Type 0 where
-  byte : ℕ
-  more : List ℕ
-  is : escaped 39 c ≡ escaped_byte 39 byte ++ more
-  follow : length more ≡ continuation_len byte
+abbrev Led : ℕ → Type 0
+Led c = (b : ℕ) × (more : List ℕ) × (escaped 39 c ≡ escaped_byte 39 b ++ more) × (length more ≡ continuation_len b)
 
-past : (c b : ℕ) (more : List ℕ) → 128 ≤ c → 128 ≤ b → encode_utf8 c ≡ b ∷ more → length more ≡ continuation_len b → Led c
-past c b more high led is follow = record {
-  byte = b;
-  more = more;
-  is = ap (λ o. unwrap_or o (encode_utf8 c)) (escape-past_ascii 39 c (omega arith) high) ∙ is ∙ sym (ap (λ o. unwrap_or o (b ∷ []) ++ more) (escape-past_ascii 39 b (omega arith) led));
-  follow = follow;
-}
+past_ascii : (c b : ℕ) (more : List ℕ) → 128 ≤ c → 128 ≤ b → encode_utf8 c ≡ b ∷ more → length more ≡ continuation_len b → Led c
+past_ascii c b more high led is follow = (b, more, rw (escape-past_ascii 39 c (omega arith) high, escape-past_ascii 39 b (omega arith) led) is, follow)
 
 lead : (c : ℕ) → Led c
 unfolding encode
@@ -148,68 +131,55 @@ lead c = go (nat_lt c 128) refl (nat_lt c 2048) refl (nat_lt c 65536) refl
     go : (x : Bool) → nat_lt c 128 ≡ x → (y : Bool) → nat_lt c 2048 ≡ y → (z : Bool) → nat_lt c 65536 ≡ z → Led c
     go true one y two z three =
         let small : c < 128 = grind (arith, nat_tests) in
-        record { byte = c; more = []; is = ap (unwrap_or (escape 39 c)) (encode_ascii c small) ∙ sym (append-nil (escaped_byte 39 c)); follow = grind (arith, nat_tests) }
-    go false one true two z three = past c (192 + c / 64) (next c ∷ []) (grind (arith, nat_tests)) (omega arith) (rw (one, two) refl) (grind (arith, nat_tests))
-    go false one false two true three = past c (224 + c / 4096) (next (c / 64) ∷ next c ∷ []) (grind (arith, nat_tests)) (omega arith) (rw (one, two, three) refl) (grind (arith, nat_tests))
-    go false one false two false three = past c (240 + c / 262144) (next (c / 4096) ∷ next (c / 64) ∷ next c ∷ []) (grind (arith, nat_tests)) (omega arith) (rw (one, two, three) refl) (grind (arith, nat_tests))
+        (c, [], ap (unwrap_or (escape 39 c)) (encode_ascii c small) ∙ sym (append-nil (escaped_byte 39 c)), grind (arith, nat_tests))
+    go false one true two z three = past_ascii c (192 + c / 64) (next c ∷ []) (grind (arith, nat_tests)) (omega arith) (rw (one, two) refl) (grind (arith, nat_tests))
+    go false one false two true three = past_ascii c (224 + c / 4096) (next (c / 64) ∷ next c ∷ []) (grind (arith, nat_tests)) (omega arith) (rw (one, two, three) refl) (grind (arith, nat_tests))
+    go false one false two false three =
+        past_ascii c (240 + c / 262144) (next (c / 4096) ∷ next (c / 64) ∷ next c ∷ []) (grind (arith, nat_tests)) (omega arith) (rw (one, two, three) refl) (grind (arith, nat_tests))
 
 -- so what follows it says whether there is one character
 module _ (leaf inside : List ℕ) (x : ℕ) (opens : leaf ≡ x ∷ inside) where
-  led : (c : ℕ) (cs : List ℕ) → leaf ≡ quoted 39 (c ∷ cs) → inside ≡ escaped_byte 39 (lead c).byte ++ ((lead c).more ++ (escaped_all 39 cs ++ (39 ∷ [])))
+  led : (c : ℕ) (cs : List ℕ) → leaf ≡ quoted 39 (c ∷ cs) → inside ≡ escaped_byte 39 (lead c).0 ++ ((lead c).1 ++ (escaped_all 39 cs ++ (39 ∷ [])))
   led c cs is =
       let inner : inside ≡ (escaped 39 c ++ escaped_all 39 cs) ++ (39 ∷ []) = cc in
-      inner ∙ ap (λ e. (e ++ escaped_all 39 cs) ++ (39 ∷ [])) (lead c).is ∙ simp append_assoc
-
-  counted : (b : ℕ) (rest : List ℕ) → inside ≡ escaped_byte 39 b ++ rest → (cs : List ℕ) → all_scalars cs ≡ true → leaf ≡ quoted 39 cs
-      → (length rest == 1 + continuation_len b) ≡ (length cs == 1)
-  counted b rest front [] scalars is = absurd (quote_ends 39 (inr refl) [] b rest (cc))
-  counted b rest front (c ∷ cs) scalars is =
-      let l = lead c in
-      let first = spelled_once 39 (inr refl) b l.byte rest (l.more ++ (escaped_all 39 cs ++ (39 ∷ []))) (sym front ∙ led c cs is) in
-      go cs (continuation_len b) (omega (arith, ap length first.1, length-append l.more (escaped_all 39 cs ++ (39 ∷ [])), length-append (escaped_all 39 cs) (39 ∷ []), l.follow, ap continuation_len first.0)) (length-escaped_all cs)
-    where
-      go : (cs : List ℕ) (n : ℕ) → length rest ≡ n + (length (escaped_all 39 cs) + 1) → length cs ≤ length (escaped_all 39 cs) → (length rest == 1 + n) ≡ (length (c ∷ cs) == 1)
-      go [] n long more = grind (arith, nat_tests)
-      go (d ∷ cs) n long more = grind (arith, nat_tests)
+      inner ∙ ap (λ e. (e ++ escaped_all 39 cs) ++ (39 ∷ [])) (lead c).2 ∙ simp append_assoc
 
   pub is_one : (b n : ℕ) (rest : List ℕ) → inside ≡ escaped_byte 39 b ++ rest → n ≡ 1 + continuation_len b → IsOneCharacter leaf (length rest == n)
-  is_one b n rest front is = record { one = λ cs scalars whole. rw is (counted b rest front cs scalars whole) }
+  is_one b n rest front is = record { one = go }
+    where
+      counted : (c : ℕ) (cs : List ℕ) → length rest + 1 ≡ n + (length (escaped_all 39 cs) + 1) → length cs ≤ length (escaped_all 39 cs) → (length rest == n) ≡ (length (c ∷ cs) == 1)
+      counted c [] long more = grind (arith, nat_tests)
+      counted c (d ∷ cs) long more = grind (arith, nat_tests)
+
+      go : (cs : List ℕ) → all_scalars cs ≡ true → leaf ≡ quoted 39 cs → (length rest == n) ≡ (length cs == 1)
+      go [] scalars whole = absurd (quote_ends 39 (inr refl) [] b rest (cc))
+      go (c ∷ cs) scalars whole =
+          let after = escaped_all 39 cs ++ (39 ∷ []) in
+          let first = spelled_once 39 (inr refl) b (lead c).0 rest ((lead c).1 ++ after) (sym front ∙ led c cs whole) in
+          counted c cs
+          (omega (arith, is, ap length first.1, length-append (lead c).1 after, length-append (escaped_all 39 cs) (39 ∷ []), (lead c).3, ap continuation_len first.0))
+          (omega (arith, length-le-encodes cs, length-escaped_bytes 39 (encode_utf8_all cs), ap length (escaped_all-bytes 39 (omega arith) cs)))
 
   pub none_written : ((b : ℕ) (rest : List ℕ) → inside ≢ escaped_byte 39 b ++ rest) → IsOneCharacter leaf false
   none_written ends = record { one = go }
     where
       go : (cs : List ℕ) → all_scalars cs ≡ true → leaf ≡ quoted 39 cs → false ≡ (length cs == 1)
-      go [] scalars is = refl
-      go (c ∷ cs) scalars is = absurd (ends (lead c).byte ((lead c).more ++ (escaped_all 39 cs ++ (39 ∷ []))) (led c cs is))
+      go [] scalars whole = refl
+      go (c ∷ cs) scalars whole = absurd (ends (lead c).0 ((lead c).1 ++ (escaped_all 39 cs ++ (39 ∷ []))) (led c cs whole))
 
--- the table marks just the bytes of ASCII that have no escape
-plain : (c : ℕ) → is_marked PLAIN_ASCII c ≡ true → (escape 34 c ≡ None) × (c < 128)
-plain c marked = go (cases_lt c 256)
+-- marked bytes are ASCII, and each is written as itself
+abbrev IsPlain : List ℕ → ℕ → Type 0
+IsPlain t n = (escaped_bytes 34 (take n t) ≡ take n t) × IsAscii (take n t)
+
+plain_front : (t : List ℕ) → IsPlain t (marked_len PLAIN_ASCII t)
+plain_front [] = (refl, IsAscii-nil)
+plain_front (c ∷ t) = go (is_marked PLAIN_ASCII c) (marks PLAIN_ASCII (λ n. is_none (escape 34 n) && nat_lt n 128) refl refl (λ c past. grind (arith, nat_tests)) c) (plain_front t)
   where
-    both : (e : Option (List ℕ)) → is_none e && nat_lt c 128 ≡ true → (e ≡ None) × (c < 128)
-    both None h = (refl, grind (arith, nat_tests))
-    both (Some x) h = absurd (cc)
-
-    go : (c < 256) ⊎ (256 ≤ c) → (escape 34 c ≡ None) × (c < 128)
-    go (inl low) = both (escape 34 c) (sym (agree_below_at (is_marked PLAIN_ASCII) (λ n. is_none (escape 34 n) && nat_lt n 128) 256 c refl low) ∙ marked)
-    go (inr high) = absurd (omega (arith, eqb-true _ 119 marked, get_or_past PLAIN_ASCII c 0 high))
-
-plain_front : (t : List ℕ) → (escaped_bytes 34 (take (marked_len PLAIN_ASCII t) t) ≡ take (marked_len PLAIN_ASCII t) t) × (marked_len PLAIN_ASCII t ≤ length t)
-    × IsAscii (take (marked_len PLAIN_ASCII t) t)
-plain_front [] = (refl, omega arith, IsAscii-nil)
-plain_front (c ∷ t) = go (is_marked PLAIN_ASCII c) refl (plain_front t)
-  where
-    go : (b : Bool) → is_marked PLAIN_ASCII c ≡ b → (escaped_bytes 34 (take (marked_len PLAIN_ASCII t) t) ≡ take (marked_len PLAIN_ASCII t) t) × (marked_len PLAIN_ASCII t ≤ length t)
-        × IsAscii (take (marked_len PLAIN_ASCII t) t)
-        → (escaped_bytes 34 (take (marked_len PLAIN_ASCII (c ∷ t)) (c ∷ t)) ≡ take (marked_len PLAIN_ASCII (c ∷ t)) (c ∷ t)) × (marked_len PLAIN_ASCII (c ∷ t) ≤ length (c ∷ t))
-        × IsAscii (take (marked_len PLAIN_ASCII (c ∷ t)) (c ∷ t))
+    go : (b : Bool) → b ≡ (is_none (escape 34 c) && nat_lt c 128) → IsPlain t (marked_len PLAIN_ASCII t) → IsPlain (c ∷ t) (cond b (suc (marked_len PLAIN_ASCII t)) 0)
     go true is more =
-        let own = plain c is in
-        rw is (rw own.0 (ap (λ v. c ∷ v) more.0), omega (arith, more.1), IsAscii-cons c (take (marked_len PLAIN_ASCII t) t) own.1 more.2)
-    go false is more = rw is (refl, omega arith, IsAscii-nil)
-
-pub plain_within : (t : List ℕ) → marked_len PLAIN_ASCII t ≤ length t
-plain_within t = (plain_front t).1
+        let itself : escape 34 c ≡ None = grind (arith, nat_tests) in
+        (rw itself (ap (λ v. c ∷ v) more.0), IsAscii-cons c (take (marked_len PLAIN_ASCII t) t) (grind (arith, nat_tests)) more.1)
+    go false is more = (refl, IsAscii-nil)
 
 -- so what is up to a closing quotation mark is a leaf
 module _ (t u end rest leaf : List ℕ) (opening : Some u ≡ strip (34 ∷ []) t) (past : end ≡ drop (marked_len PLAIN_ASCII u) u) (closing : Some rest ≡ strip (34 ∷ []) end)
@@ -225,12 +195,10 @@ module _ (t u end rest leaf : List ℕ) (opening : Some u ≡ strip (34 ∷ []) 
 
   pub plain_ascii : IsAscii leaf
   plain_ascii = subst IsAscii (sym (leaf_is t u 34 opens rest closes leaf front ∙ ap (λ v. 34 ∷ (v ++ (34 ∷ []))) (plain_front u).0))
-      (IsAscii-cons 34 _ (omega arith) (IsAscii-append (take (marked_len PLAIN_ASCII u) u) (34 ∷ []) (plain_front u).2 (IsAscii-cons 34 [] (omega arith) IsAscii-nil)))
+      (IsAscii-cons 34 _ (omega arith) (IsAscii-append (take (marked_len PLAIN_ASCII u) u) (34 ∷ []) (plain_front u).1 (IsAscii-cons 34 [] (omega arith) IsAscii-nil)))
 
   pub plain_read : (text : List ℕ) → text ≡ leaf → read_quoted t ≡ Some (text, rest)
   plain_read text same = sym (is_read t u 34 opens rest closes leaf front text same (IsUtf8-from_ascii leaf plain_ascii) (λ no. absurd (omega (arith, no))))
 
 -- what the functions that split leaves need
 pub ruleset any_leaf = (none_read, no_quote, not_closed, no_character, rest_within)
-
-pub ruleset plain_leaf = (plain_within, plain_ascii)

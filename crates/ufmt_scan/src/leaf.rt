@@ -17,6 +17,7 @@ static WORD_BYTES: [u8; 256] = *b"\
 
 /// The word bytes at the front, and what follows them.
 #[inline(always)]
+#[tactic(auto, using(crate::proofs::WordBytes::words_are_marked))]
 pub(crate) fn split_word(input: &[u8]) -> (&[u8], &[u8])
     ensures word { result.0.now ≡ word_of input.now }
     ensures rest { result.1.now ≡ after_word input.now }
@@ -26,7 +27,8 @@ pub(crate) fn split_word(input: &[u8]) -> (&[u8], &[u8])
 
 /// How many bytes at the front the table marks with a `w`.
 pub(crate) fn marked_len(table: &[u8; 256], input: &[u8]) -> usize
-    ensures { result ≡ marked_len table.now input.now }
+    ensures len { result ≡ marked_len table.now input.now }
+    ensures within { result ≤ length input.now }
 {
     // Eight bytes a turn, so that the input's end is looked for once in eight.
     let mut end = 0;
@@ -65,7 +67,8 @@ fn marked_len_from(table: &[u8; 256], input: &[u8], start: usize) -> usize
     requires within { start ≤ length input.now }
     requires marked { marked_len table.now input.now
         ≡ start + marked_len table.now (drop start input.now) }
-    ensures { result ≡ marked_len table.now input.now }
+    ensures len { result ≡ marked_len table.now input.now }
+    ensures within { result ≤ length input.now }
 {
     let mut end = start;
     'bytes: while end < input.len() {

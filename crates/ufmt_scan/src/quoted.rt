@@ -23,7 +23,7 @@ static PLAIN_ASCII: [u8; 256] = *b"\
 
 /// A text of such bytes between quotation marks, with them, and what follows it. It needs no test of UTF-8.
 #[inline(always)]
-#[tactic(auto, using(crate::proofs::QuotedLeaves::plain_leaf))]
+#[tactic(auto, using(crate::proofs::QuotedLeaves::plain_ascii))]
 pub(crate) fn split_plain(input: &[u8]) -> Option<(&str, &[u8])>
     ensures { IfSome result (λ x. read_quoted input.now ≡ Some (x.0.now, x.1.now)) }
 {
