@@ -5,11 +5,10 @@ use Rattle.std.specs.Prelude.{◌≢◌, ◌/◌, is_none, nat_lt, unwrap_or}
 use Rattle.std.specs.Str.{IsAscii, IsUtf8, all_scalars, continuation_len}
 use Rattle.std.proofs.Math.Seq.{take-append_seam}
 use Rattle.std.proofs.lemmas.Bool.Decides.{nat_tests}
-use Rattle.std.proofs.lemmas.Str.{encode_ascii, length-le-encodes}
+use Rattle.std.proofs.lemmas.Str.{IsAscii-append, IsUtf8-from_ascii, encode_ascii, length-le-encodes}
 use Rattle.ufmt_core.proofs.QuotedBytes.{escape-past_ascii}
 use Rattle.ufmt_core.proofs.QuotedCharacters.{escaped_all-bytes}
 use Rattle.std.proofs.lemmas.List.{take-append-drop}
-use Rattle.std.proofs.lemmas.Str.{IsAscii-append, IsUtf8-from_ascii}
 use Rattle.std.proofs.lemmas.Str.Ascii.{IsAscii-cons, IsAscii-nil}
 use Rattle.ufmt.specs.Reading.{strip}
 use Rattle.ufmt.proofs.Parsing.{strip_found}
@@ -49,10 +48,10 @@ none_read t none = go (read_quoted t) refl
     go (Some x) e = let found = read_quoted-sound t x.0 x.1 e in absurd (none (quotes t x.0 x.1 found.0 found.1))
 
 -- one character, of a list that has one
-one_quoted : (leaf cs : List ℕ) → all_scalars cs ≡ true → true ≡ (length cs == 1) → leaf ≡ quoted 39 cs → IsQuoted leaf
-one_quoted leaf [] scalars one is = absurd (cc)
+one_quoted : (leaf cs : List ℕ) → all_scalars cs ≡ true → IsOneCharacter leaf true → leaf ≡ quoted 39 cs → IsQuoted leaf
+one_quoted leaf [] scalars one is = let no = one.one [] scalars is in absurd (cc)
 one_quoted leaf (c ∷ []) scalars one is = inr (c, grind arith, is)
-one_quoted leaf (c ∷ d ∷ cs) scalars one is = absurd (grind (arith, nat_tests))
+one_quoted leaf (c ∷ d ∷ cs) scalars one is = let no = one.one (c ∷ d ∷ cs) scalars is in absurd (grind (arith, nat_tests))
 
 -- after an opening quote
 module _ (t inside : List ℕ) (q : ℕ) (opens : t ≡ q ∷ inside) where
@@ -101,19 +100,16 @@ module _ (t inside : List ℕ) (q : ℕ) (opens : t ≡ q ∷ inside) where
       pub no_character : q ≡ 39 → IsOneCharacter leaf false → None ≡ read_quoted t
       no_character apostrophe one = none_read t (λ l.
           let answer : false ≡ (length l.cs == 1) = one.one l.cs l.scalars (only l ∙ ap (λ n. quoted n l.cs) apostrophe) in
-          let length_one = l.one ((by_bytes l).0 ∙ apostrophe) in
-          absurd (grind (arith, nat_tests)))
+          absurd (grind (arith, nat_tests, l.one ((by_bytes l).0 ∙ apostrophe))))
 
       pub is_read : (text : List ℕ) → text ≡ leaf → IsUtf8 leaf → (q ≡ 39 → IsOneCharacter leaf true) → Some (text, rest) ≡ read_quoted t
       is_read text same utf8 one =
-          let quote = closes.is_quote in
-          let inside_utf8 = (quoted-utf8 q quote closes.bytes).0 (subst IsUtf8 leaf_is utf8) in
+          let inside_utf8 = (quoted-utf8 q closes.is_quote closes.bytes).0 (subst IsUtf8 leaf_is utf8) in
           let cs = inside_utf8.0 in
-          let scalars = inside_utf8.1.0 in
-          let is : leaf ≡ quoted q cs = leaf_is ∙ ap written (sym inside_utf8.1.1) ∙ sym (quoted-bytes q cs quote) in
-          let token : IsQuoted leaf = elim quote [
-            | inl mark ↦ inl (cs, scalars, is ∙ ap (λ n. quoted n cs) mark)
-            | inr apostrophe ↦ let as_one = is ∙ ap (λ n. quoted n cs) apostrophe in one_quoted leaf cs scalars ((one apostrophe).one cs scalars as_one) as_one
+          let is : leaf ≡ quoted q cs = leaf_is ∙ ap written (sym inside_utf8.1.1) ∙ sym (quoted-bytes q cs closes.is_quote) in
+          let token : IsQuoted leaf = elim closes.is_quote [
+            | inl mark ↦ inl (cs, inside_utf8.1.0, is ∙ ap (λ n. quoted n cs) mark)
+            | inr apostrophe ↦ one_quoted leaf cs inside_utf8.1.0 (one apostrophe) (is ∙ ap (λ n. quoted n cs) apostrophe)
           ] in
           ap (λ x. Some (x, rest)) same ∙ sym (ap read_quoted (whole ∙ ap (λ l. l ++ rest) (sym leaf_is)) ∙ read_quoted-complete leaf rest token)
 

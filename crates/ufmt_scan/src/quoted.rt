@@ -1,7 +1,6 @@
 //! Texts and characters in quotes at the front of a text, and the bytes that are written in them.
-ghost use Rattle.std.specs.Prelude.{◌≡◌, ◌≢◌, ◌<◌, ◌≤◌, ◌+◌, ◌++◌, ◌∷◌, ℕ, List, IfSome, IsNone, MatchOption, Some, length, option_map};
+ghost use Rattle.std.specs.Prelude.{◌≡◌, ◌≢◌, ◌≤◌, ◌+◌, ◌++◌, ◌∷◌, ℕ, List, IfSome, IsNone, MatchOption, Some, length, option_map, slice_index};
 ghost use Rattle.std.specs.Char.{digit_value};
-ghost use Rattle.std.specs.List.{slice_index};
 ghost use Rattle.std.specs.Str.{continuation_len};
 ghost use Rattle.ufmt.specs.Quoted.{IsQuote, escaped_byte};
 ghost use Rattle.ufmt.specs.Reading.{strip};
@@ -40,8 +39,7 @@ pub(crate) fn split_plain(input: &[u8]) -> Option<(&str, &[u8])>
 pub(crate) fn split_any(input: &[u8]) -> Option<(&str, &[u8])>
     ensures { option_map (λ x. (x.0.now, x.1.now)) result ≡ read_quoted input.now }
 {
-    let (first, inside) = input.split_first()?;
-    let quote = *first;
+    let (&quote, inside) = input.split_first()?;
     if quote != b'"' && quote != b'\'' {
         return None;
     }
