@@ -19,8 +19,8 @@ use std::mem;
 use tree::Part;
 pub use tree::same_text;
 use ufmt_scan::convert::plain_text;
-use ufmt_scan::escape::split_escaped;
 use ufmt_scan::leaf::is_symbol;
+use ufmt_scan::quoted::split_escaped;
 
 /// A document as a value: a text of its own, or a block whose entries are documents.
 #[derive(Drop)]

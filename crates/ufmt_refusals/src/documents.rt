@@ -12,8 +12,8 @@ use ufmt::layout::Mode;
 use ufmt_doc::convert::{to_plain_into, to_pretty_into, write_to_plain, write_to_pretty};
 use ufmt_doc::doc::{Doc, same_text};
 use ufmt_doc::scan::{Event, Sink, scan};
-use ufmt_scan::escape::split_escaped;
 use ufmt_scan::leaf::{is_leaf, is_symbol, is_word};
+use ufmt_scan::quoted::split_escaped;
 
 const MANY: &str = "many entries";
 

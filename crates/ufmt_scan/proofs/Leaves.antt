@@ -20,9 +20,6 @@ module _ {Is : List ℕ → Type 0} (read : Parse (List ℕ)) (sound : (t x u : 
       let some : (length (c ∷ u) == 0) ≡ false = grind (arith, nat_tests) in
       (λ h. absurd (cc), λ h. let none = (same_parts (x, c ∷ u) (t, []) (sym reads ∙ complete t h)).1 in absurd (cc))
 
-  reads_nothing : (t : List ℕ) → read t ≡ None → IsTrue false ↔ Is t
-  reads_nothing t none = (λ h. absurd (cc), λ h. let whole = complete t h in absurd (cc))
-
 -- a leaf with nothing after it
 whole_word : (t : List ℕ) → IsWord t → read_word t ≡ Some (t, [])
 whole_word t h = ap read_word (sym (append-nil t)) ∙ read_word_complete t [] h tt
@@ -42,4 +39,4 @@ symbol_tested t x u answer reads tested =
     leaves_nothing read_symbol read_symbol_sound whole_symbol t x u answer (sym reads) tested
 
 pub no_symbol_tested : (t : List ℕ) → None ≡ read_symbol t → IsTrue false ↔ IsSymbol t
-no_symbol_tested t none = reads_nothing read_symbol read_symbol_sound whole_symbol t (sym none)
+no_symbol_tested t none = (λ h. absurd (cc), λ h. let whole = whole_symbol t h in absurd (cc))

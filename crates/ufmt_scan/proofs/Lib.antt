@@ -1,7 +1,6 @@
 pub mod EntrySteps
 pub mod DocumentParts
 pub mod Leaves
-pub mod QuotedCharacter
 pub mod QuotedLeaves
 pub mod ScanWhole
 pub mod Scans
@@ -17,5 +16,4 @@ pub mod EventTexts
 pub mod WorkedEvents
 pub mod Conversions
 pub mod Growing
-pub mod PlainLeaves
 pub mod OpenSteps

@@ -1,66 +1,200 @@
--- A quoted leaf is split off the front as it is read there: its quotes, what stands between them, and the test of it.
-use Rattle.std.proofs.Common.{◌≡◌, refl, sym, ap, subst, ◌∙◌, ℕ, suc, ◌-◌, ◌≤◌, Bool, true, false, List, [], ◌∷◌, ◌++◌, length, take, Option, Some, None, option_map, append_assoc, length-append, arith}
-use Rattle.std.specs.Str.{IsUtf8, chars, is_utf8}
+-- A leaf in quotes is split off the front of a text exactly where one is there.
+use Rattle.std.proofs.Common.{◌≡◌, inl, inr, refl, sym, ap, subst, ◌∙◌, ℕ, ◌+◌, ◌-◌, ◌<◌, ◌≤◌, ◌==◌, ◌&&◌, Bool, true, false, List, [], ◌∷◌, ◌++◌, length, take, drop, Option, Some, None, encode_utf8, encode_utf8_all, suc, cond, append-nil, append_assoc, length-append, arith}
+use lib.Utf8.{encode, next}
+use Rattle.std.specs.Prelude.{◌≢◌, ◌/◌, is_none, nat_lt, unwrap_or}
+use Rattle.std.specs.Str.{IsAscii, IsUtf8, all_scalars, continuation_len}
 use Rattle.std.proofs.Math.Seq.{take-append_seam}
-use Rattle.std.proofs.lemmas.Str.{IsUtf8-from_is_utf8, encodes-chars, is_utf8-from_IsUtf8}
-use Rattle.ufmt.specs.Quoted.{IsQuote, escaped_bytes, quoted}
+use Rattle.std.proofs.lemmas.Bool.Decides.{nat_tests}
+use Rattle.std.proofs.lemmas.Str.{IsAscii-append, IsUtf8-from_ascii, encode_ascii, length-le-encodes}
+use Rattle.ufmt_core.proofs.QuotedBytes.{escape-past_ascii}
+use Rattle.ufmt_core.proofs.QuotedCharacters.{escaped_all-bytes}
+use Rattle.std.proofs.lemmas.List.{take-append-drop}
+use Rattle.std.proofs.lemmas.Str.Ascii.{IsAscii-cons, IsAscii-nil}
 use Rattle.ufmt.specs.Reading.{strip}
-use Rattle.ufmt.specs.ReadingQuoted.{if_right, read_between, read_inside}
 use Rattle.ufmt.proofs.Parsing.{strip_found}
-use Rattle.ufmt.proofs.QuotedComplete.{quoted-bytes}
-use Rattle.ufmt.proofs.QuotedSound.{read_inside-sound}
+use Rattle.ufmt_scan.specs.Private.MarkedBytes.{is_marked, marked_len}
+use Rattle.ufmt_scan.specs.declared.quoted.TheConstants.{PLAIN_ASCII}
+use Rattle.ufmt.specs.Quoted.{IsQuote, IsQuoted, escape, escaped, escaped_all, escaped_byte, escaped_bytes, quoted}
+use Rattle.ufmt.specs.ReadingQuoted.{read_quoted}
+use Rattle.ufmt.proofs.QuotedComplete.{length-escaped_bytes, quoted-bytes, read_quoted-complete}
+use Rattle.ufmt.proofs.QuotedSound.{read_quoted-sound}
 use Rattle.ufmt.proofs.QuotedUtf8.{quoted-utf8}
-use Rattle.ufmt_scan.specs.Private.Spelled.{after_quote}
+use Rattle.ufmt_scan.specs.Private.Spelled.{Closes, IsOneCharacter, NeverCloses}
+use Rattle.ufmt_scan.proofs.Spelled.{quote_ends, same_bytes, spelled_once}
+use Rattle.ufmt_scan.proofs.WordBytes.{marks}
 
--- where a function of an option's value came from
-value_from : {A B : Type 0} (f : A → B) (o : Option A) (y : B) → option_map f o ≡ Some y → (x : A) × (o ≡ Some x) × (f x ≡ y)
-value_from f None y h = absurd (cc)
-value_from f (Some x) y h = (x, refl, cc)
+-- a leaf in quotes at the front of a text
+pub record Quotes (t : List ℕ) : Type 0 where
+  pub q : ℕ
+  pub quote : IsQuote q
+  pub cs : List ℕ
+  pub scalars : all_scalars cs ≡ true
+  pub one : q ≡ 39 → length cs ≡ 1
+  pub rest : List ℕ
+  pub front : t ≡ quoted q cs ++ rest
 
-module _ (q : ℕ) (quote : IsQuote q) where
-  -- two quotes, and the bytes that are read between them
-  record Between (t u rest : List ℕ) : Type 0 where
-    bytes : List ℕ
-    reads : read_inside q (suc (length u)) u ≡ Some (bytes, rest)
-    leaf : take (length t - length rest) t ≡ q ∷ (escaped_bytes q bytes ++ (q ∷ []))
+quotes : (t leaf rest : List ℕ) → IsQuoted leaf → t ≡ leaf ++ rest → Quotes t
+quotes t leaf rest (inl text) h =
+    record { q = 34; quote = inl refl; cs = text.0; scalars = text.1; one = λ e. absurd (omega (arith, e)); rest = rest; front = h ∙ ap (λ l. l ++ rest) text.2 }
+quotes t leaf rest (inr char) h =
+    record { q = 39; quote = inr refl; cs = char.0 ∷ []; scalars = rw char.1 refl; one = λ e. omega arith; rest = rest; front = h ∙ ap (λ l. l ++ rest) char.2 }
 
-  between : (t u rest : List ℕ) → strip (q ∷ []) t ≡ Some u → after_quote q u ≡ Some rest → Between t u rest
-  between t u rest opening closing =
-      let read = value_from {A = List ℕ × List ℕ} (λ x. x.1) (read_inside q (suc (length u)) u) rest closing in
-      let bytes = read.0.0 in
-      let reads : read_inside q (suc (length u)) u ≡ Some (bytes, rest) = read.1 ∙ ap (λ v. Some (bytes, v)) read.2 in
-      let leaf = q ∷ (escaped_bytes q bytes ++ (q ∷ [])) in
-      let whole : t ≡ leaf ++ rest = strip_found (q ∷ []) t u opening ∙ ap (λ v. q ∷ v) (read_inside-sound q (suc (length u)) u bytes rest reads ∙ sym (append_assoc (escaped_bytes q bytes) (q ∷ []) rest)) in
-      let far : length t - length rest ≡ length leaf = omega (arith, ap length whole, length-append leaf rest) in
-      record { bytes = bytes; reads = reads; leaf = rw far (ap (take (length leaf)) whole ∙ take-append_seam leaf rest) }
+-- where none is, none is read
+pub none_read : (t : List ℕ) → (Quotes t → ⊥) → None ≡ read_quoted t
+none_read t none = go (read_quoted t) refl
+  where
+    go : (o : Option (List ℕ × List ℕ)) → read_quoted t ≡ o → None ≡ o
+    go None e = refl
+    go (Some x) e = let found = read_quoted-sound t x.0 x.1 e in absurd (none (quotes t x.0 x.1 found.0 found.1))
 
-  -- what is read is tested
-  tested : (test : List ℕ → Bool) (t u rest : List ℕ) → strip (q ∷ []) t ≡ Some u → (b : Between t u rest)
-      → read_between q test t ≡ if_right test q b.bytes rest
-  tested test t u rest opening b = rw (opening, b.reads) refl
+-- one character, of a list that has one
+one_quoted : (leaf cs : List ℕ) → all_scalars cs ≡ true → IsOneCharacter leaf true → leaf ≡ quoted 39 cs → IsQuoted leaf
+one_quoted leaf [] scalars one is = let no = one.one [] scalars is in absurd (cc)
+one_quoted leaf (c ∷ []) scalars one is = inr (c, grind arith, is)
+one_quoted leaf (c ∷ d ∷ cs) scalars one is = let no = one.one (c ∷ d ∷ cs) scalars is in absurd (grind (arith, nat_tests))
 
-  -- what is tested is the whole leaf: it is UTF-8 exactly if what is between the quotes is
-  module _ (t u rest : List ℕ) (opening : strip (q ∷ []) t ≡ Some u) (closing : after_quote q u ≡ Some rest) where
-    pub is_text : (leaf : List ℕ) → leaf ≡ take (length t - length rest) t → IsUtf8 leaf → read_between q is_utf8 t ≡ Some (leaf, rest)
-    is_text leaf is utf8 =
-        let b = between t u rest opening closing in
-        let inside : IsUtf8 b.bytes = (quoted-utf8 q quote b.bytes).0 (subst IsUtf8 (is ∙ b.leaf) utf8) in
-        let right = is_utf8-from_IsUtf8 b.bytes inside in
-        let spelled : quoted q (chars b.bytes) ≡ leaf = quoted-bytes q (chars b.bytes) quote ∙ ap (λ bs. q ∷ (escaped_bytes q bs ++ (q ∷ []))) (encodes-chars b.bytes inside) ∙ sym (is ∙ b.leaf) in
-        tested is_utf8 t u rest opening b ∙ rw right (ap (λ text. Some (text, rest)) spelled)
+-- after an opening quote
+module _ (t inside : List ℕ) (q : ℕ) (opens : t ≡ q ∷ inside) where
+  by_bytes : (l : Quotes t) → (l.q ≡ q) × (inside ≡ escaped_bytes q (encode_utf8_all l.cs) ++ (q ∷ l.rest))
+  by_bytes l =
+      let whole : q ∷ inside ≡ l.q ∷ (escaped_bytes l.q (encode_utf8_all l.cs) ++ (l.q ∷ l.rest)) =
+      sym opens ∙ l.front ∙ ap (λ x. x ++ l.rest) (quoted-bytes l.q l.cs l.quote)
+      ∙ ap (λ v. l.q ∷ v) (append_assoc (escaped_bytes l.q (encode_utf8_all l.cs)) (l.q ∷ []) l.rest) in
+      let same : l.q ≡ q = cc in
+      (same, subst (λ n. inside ≡ escaped_bytes n (encode_utf8_all l.cs) ++ (n ∷ l.rest)) same (cc))
 
-    pub is_no_text : (leaf : List ℕ) → leaf ≡ take (length t - length rest) t → ¬ (IsUtf8 leaf) → read_between q is_utf8 t ≡ None
-    is_no_text leaf is not_utf8 =
-        let b = between t u rest opening closing in
-        tested is_utf8 t u rest opening b ∙ refused b (is_utf8 b.bytes) refl
-      where
-        refused : (b : Between t u rest) (right : Bool) → is_utf8 b.bytes ≡ right → if_right is_utf8 q b.bytes rest ≡ None
-        refused b true e = absurd (not_utf8 (subst IsUtf8 (sym (is ∙ b.leaf)) ((quoted-utf8 q quote b.bytes).1 (IsUtf8-from_is_utf8 b.bytes e))))
-        refused b false e = rw e refl
+  pub no_quote : ¬ (IsQuote q) → None ≡ read_quoted t
+  no_quote not_one = none_read t (λ l. not_one (subst IsQuote (by_bytes l).0 l.quote))
 
-    -- the leaf is a part of the text
+  pub not_closed : NeverCloses q inside → None ≡ read_quoted t
+  not_closed never = none_read t (λ l. never.never (encode_utf8_all l.cs) l.rest (by_bytes l).1)
+
+  -- up to a closing one
+  module _ (rest : List ℕ) (closes : Closes q inside rest) where
+    abbrev written : List ℕ → List ℕ
+    written bytes = q ∷ (escaped_bytes q bytes ++ (q ∷ []))
+
+    whole : t ≡ written closes.bytes ++ rest
+    whole = opens ∙ ap (λ v. q ∷ v) (closes.is ∙ sym (append_assoc (escaped_bytes q closes.bytes) (q ∷ []) rest))
+
     pub rest_within : length rest ≤ length t
-    rest_within =
-        let b = between t u rest opening closing in
-        let h = read_inside-sound q (suc (length u)) u b.bytes rest b.reads in
-        omega (arith, ap length (strip_found (q ∷ []) t u opening), ap length h, length-append (escaped_bytes q b.bytes) (q ∷ rest))
+    rest_within = omega (arith, ap length whole, length-append (written closes.bytes) rest)
+
+    module _ (leaf : List ℕ) (front : leaf ≡ take (length t - length rest) t) where
+      leaf_is : leaf ≡ written closes.bytes
+      leaf_is =
+          let far : length t - length rest ≡ length (written closes.bytes) = omega (arith, ap length whole, length-append (written closes.bytes) rest) in
+          front ∙ rw far (ap (take (length (written closes.bytes))) whole ∙ take-append_seam (written closes.bytes) rest)
+
+      -- any leaf at the front is this one
+      only : (l : Quotes t) → leaf ≡ quoted q l.cs
+      only l =
+          let bytes = same_bytes q closes.is_quote closes.bytes (encode_utf8_all l.cs) (q ∷ rest) (q ∷ l.rest) (quote_ends q closes.is_quote rest) (quote_ends q closes.is_quote l.rest)
+          (sym closes.is ∙ (by_bytes l).1) in
+          leaf_is ∙ ap written bytes.0 ∙ sym (quoted-bytes q l.cs closes.is_quote)
+
+      pub no_text : ¬ (IsUtf8 leaf) → None ≡ read_quoted t
+      no_text not_utf8 = none_read t (λ l.
+          not_utf8 (subst IsUtf8 (sym (only l ∙ quoted-bytes q l.cs closes.is_quote)) ((quoted-utf8 q closes.is_quote (encode_utf8_all l.cs)).1 (l.cs, (l.scalars, refl)))))
+
+      pub no_character : q ≡ 39 → IsOneCharacter leaf false → None ≡ read_quoted t
+      no_character apostrophe one = none_read t (λ l.
+          let answer : false ≡ (length l.cs == 1) = one.one l.cs l.scalars (only l ∙ ap (λ n. quoted n l.cs) apostrophe) in
+          absurd (grind (arith, nat_tests, l.one ((by_bytes l).0 ∙ apostrophe))))
+
+      pub is_read : (text : List ℕ) → text ≡ leaf → IsUtf8 leaf → (q ≡ 39 → IsOneCharacter leaf true) → Some (text, rest) ≡ read_quoted t
+      is_read text same utf8 one =
+          let inside_utf8 = (quoted-utf8 q closes.is_quote closes.bytes).0 (subst IsUtf8 leaf_is utf8) in
+          let cs = inside_utf8.0 in
+          let is : leaf ≡ quoted q cs = leaf_is ∙ ap written (sym inside_utf8.1.1) ∙ sym (quoted-bytes q cs closes.is_quote) in
+          let token : IsQuoted leaf = elim closes.is_quote [
+            | inl mark ↦ inl (cs, inside_utf8.1.0, is ∙ ap (λ n. quoted n cs) mark)
+            | inr apostrophe ↦ one_quoted leaf cs inside_utf8.1.0 (one apostrophe) (is ∙ ap (λ n. quoted n cs) apostrophe)
+          ] in
+          ap (λ x. Some (x, rest)) same ∙ sym (ap read_quoted (whole ∙ ap (λ l. l ++ rest) (sym leaf_is)) ∙ read_quoted-complete leaf rest token)
+
+-- the first byte that a character is written as says how many follow it
+abbrev Led : ℕ → Type 0
+Led c = (b : ℕ) × (more : List ℕ) × (escaped 39 c ≡ escaped_byte 39 b ++ more) × (length more ≡ continuation_len b)
+
+past_ascii : (c b : ℕ) (more : List ℕ) → 128 ≤ c → 128 ≤ b → encode_utf8 c ≡ b ∷ more → length more ≡ continuation_len b → Led c
+past_ascii c b more high led is follow = (b, more, rw (escape-past_ascii 39 c (omega arith) high, escape-past_ascii 39 b (omega arith) led) is, follow)
+
+lead : (c : ℕ) → Led c
+unfolding encode
+lead c = go (nat_lt c 128) refl (nat_lt c 2048) refl (nat_lt c 65536) refl
+  where
+    go : (x : Bool) → nat_lt c 128 ≡ x → (y : Bool) → nat_lt c 2048 ≡ y → (z : Bool) → nat_lt c 65536 ≡ z → Led c
+    go true one y two z three =
+        let small : c < 128 = grind (arith, nat_tests) in
+        (c, [], ap (unwrap_or (escape 39 c)) (encode_ascii c small) ∙ sym (append-nil (escaped_byte 39 c)), grind (arith, nat_tests))
+    go false one true two z three = past_ascii c (192 + c / 64) (next c ∷ []) (grind (arith, nat_tests)) (omega arith) (rw (one, two) refl) (grind (arith, nat_tests))
+    go false one false two true three = past_ascii c (224 + c / 4096) (next (c / 64) ∷ next c ∷ []) (grind (arith, nat_tests)) (omega arith) (rw (one, two, three) refl) (grind (arith, nat_tests))
+    go false one false two false three =
+        past_ascii c (240 + c / 262144) (next (c / 4096) ∷ next (c / 64) ∷ next c ∷ []) (grind (arith, nat_tests)) (omega arith) (rw (one, two, three) refl) (grind (arith, nat_tests))
+
+-- so what follows it says whether there is one character
+module _ (leaf inside : List ℕ) (x : ℕ) (opens : leaf ≡ x ∷ inside) where
+  led : (c : ℕ) (cs : List ℕ) → leaf ≡ quoted 39 (c ∷ cs) → inside ≡ escaped_byte 39 (lead c).0 ++ ((lead c).1 ++ (escaped_all 39 cs ++ (39 ∷ [])))
+  led c cs is =
+      let inner : inside ≡ (escaped 39 c ++ escaped_all 39 cs) ++ (39 ∷ []) = cc in
+      inner ∙ ap (λ e. (e ++ escaped_all 39 cs) ++ (39 ∷ [])) (lead c).2 ∙ simp append_assoc
+
+  pub is_one : (b n : ℕ) (rest : List ℕ) → inside ≡ escaped_byte 39 b ++ rest → n ≡ 1 + continuation_len b → IsOneCharacter leaf (length rest == n)
+  is_one b n rest front is = record { one = go }
+    where
+      counted : (c : ℕ) (cs : List ℕ) → length rest + 1 ≡ n + (length (escaped_all 39 cs) + 1) → length cs ≤ length (escaped_all 39 cs) → (length rest == n) ≡ (length (c ∷ cs) == 1)
+      counted c [] long more = grind (arith, nat_tests)
+      counted c (d ∷ cs) long more = grind (arith, nat_tests)
+
+      go : (cs : List ℕ) → all_scalars cs ≡ true → leaf ≡ quoted 39 cs → (length rest == n) ≡ (length cs == 1)
+      go [] scalars whole = absurd (quote_ends 39 (inr refl) [] b rest (cc))
+      go (c ∷ cs) scalars whole =
+          let after = escaped_all 39 cs ++ (39 ∷ []) in
+          let first = spelled_once 39 (inr refl) b (lead c).0 rest ((lead c).1 ++ after) (sym front ∙ led c cs whole) in
+          counted c cs
+          (omega (arith, is, ap length first.1, length-append (lead c).1 after, length-append (escaped_all 39 cs) (39 ∷ []), (lead c).3, ap continuation_len first.0))
+          (omega (arith, length-le-encodes cs, length-escaped_bytes 39 (encode_utf8_all cs), ap length (escaped_all-bytes 39 (omega arith) cs)))
+
+  pub none_written : ((b : ℕ) (rest : List ℕ) → inside ≢ escaped_byte 39 b ++ rest) → IsOneCharacter leaf false
+  none_written ends = record { one = go }
+    where
+      go : (cs : List ℕ) → all_scalars cs ≡ true → leaf ≡ quoted 39 cs → false ≡ (length cs == 1)
+      go [] scalars whole = refl
+      go (c ∷ cs) scalars whole = absurd (ends (lead c).0 ((lead c).1 ++ (escaped_all 39 cs ++ (39 ∷ []))) (led c cs whole))
+
+-- marked bytes are ASCII, and each is written as itself
+abbrev IsPlain : List ℕ → ℕ → Type 0
+IsPlain t n = (escaped_bytes 34 (take n t) ≡ take n t) × IsAscii (take n t)
+
+plain_front : (t : List ℕ) → IsPlain t (marked_len PLAIN_ASCII t)
+plain_front [] = (refl, IsAscii-nil)
+plain_front (c ∷ t) = go (is_marked PLAIN_ASCII c) (marks PLAIN_ASCII (λ n. is_none (escape 34 n) && nat_lt n 128) refl refl (λ c past. grind (arith, nat_tests)) c) (plain_front t)
+  where
+    go : (b : Bool) → b ≡ (is_none (escape 34 c) && nat_lt c 128) → IsPlain t (marked_len PLAIN_ASCII t) → IsPlain (c ∷ t) (cond b (suc (marked_len PLAIN_ASCII t)) 0)
+    go true is more =
+        let itself : escape 34 c ≡ None = grind (arith, nat_tests) in
+        (rw itself (ap (λ v. c ∷ v) more.0), IsAscii-cons c (take (marked_len PLAIN_ASCII t) t) (grind (arith, nat_tests)) more.1)
+    go false is more = (refl, IsAscii-nil)
+
+-- so what is up to a closing quotation mark is a leaf
+module _ (t u end rest leaf : List ℕ) (opening : Some u ≡ strip (34 ∷ []) t) (past : end ≡ drop (marked_len PLAIN_ASCII u) u) (closing : Some rest ≡ strip (34 ∷ []) end)
+    (front : leaf ≡ take (length t - length rest) t) where
+  opens : t ≡ 34 ∷ u
+  opens = strip_found (34 ∷ []) t u (sym opening)
+
+  abbrev closes : Closes 34 u rest
+  closes =
+      let stretch = take (marked_len PLAIN_ASCII u) u in
+      let ends : u ≡ stretch ++ (34 ∷ rest) = sym (take-append-drop (marked_len PLAIN_ASCII u) u) ∙ ap (λ v. stretch ++ v) (sym past ∙ strip_found (34 ∷ []) end rest (sym closing)) in
+      record { is_quote = inl refl; bytes = stretch; is = ends ∙ ap (λ v. v ++ (34 ∷ rest)) (sym (plain_front u).0) }
+
+  pub plain_ascii : IsAscii leaf
+  plain_ascii = subst IsAscii (sym (leaf_is t u 34 opens rest closes leaf front ∙ ap (λ v. 34 ∷ (v ++ (34 ∷ []))) (plain_front u).0))
+      (IsAscii-cons 34 _ (omega arith) (IsAscii-append (take (marked_len PLAIN_ASCII u) u) (34 ∷ []) (plain_front u).1 (IsAscii-cons 34 [] (omega arith) IsAscii-nil)))
+
+  pub plain_read : (text : List ℕ) → text ≡ leaf → read_quoted t ≡ Some (text, rest)
+  plain_read text same = sym (is_read t u 34 opens rest closes leaf front text same (IsUtf8-from_ascii leaf plain_ascii) (λ no. absurd (omega (arith, no))))
+
+-- what the functions that split leaves need
+pub ruleset any_leaf = (none_read, no_quote, not_closed, no_character, rest_within)

@@ -6,7 +6,7 @@ ghost use Rattle.ufmt.specs.ReadingQuoted.{read_quoted};
 ghost use Rattle.ufmt_scan.specs.Private.MarkedBytes.{is_marked, marked_len};
 
 use crate::level::strip_piece;
-use crate::quoted::{split_character, split_quoted};
+use crate::quoted::{split_any, split_plain};
 
 // Of each byte, whether it is one of words: an ASCII digit, an ASCII letter, `_` or `-`.
 static WORD_BYTES: [u8; 256] = *b"\
@@ -17,6 +17,7 @@ static WORD_BYTES: [u8; 256] = *b"\
 
 /// The word bytes at the front, and what follows them.
 #[inline(always)]
+#[tactic(auto, using(crate::proofs::WordBytes::words_are_marked))]
 pub(crate) fn split_word(input: &[u8]) -> (&[u8], &[u8])
     ensures word { result.0.now ≡ word_of input.now }
     ensures rest { result.1.now ≡ after_word input.now }
@@ -26,7 +27,8 @@ pub(crate) fn split_word(input: &[u8]) -> (&[u8], &[u8])
 
 /// How many bytes at the front the table marks with a `w`.
 pub(crate) fn marked_len(table: &[u8; 256], input: &[u8]) -> usize
-    ensures { result ≡ marked_len table.now input.now }
+    ensures len { result ≡ marked_len table.now input.now }
+    ensures within { result ≤ length input.now }
 {
     // Eight bytes a turn, so that the input's end is looked for once in eight.
     let mut end = 0;
@@ -65,7 +67,8 @@ fn marked_len_from(table: &[u8; 256], input: &[u8], start: usize) -> usize
     requires within { start ≤ length input.now }
     requires marked { marked_len table.now input.now
         ≡ start + marked_len table.now (drop start input.now) }
-    ensures { result ≡ marked_len table.now input.now }
+    ensures len { result ≡ marked_len table.now input.now }
+    ensures within { result ≤ length input.now }
 {
     let mut end = start;
     'bytes: while end < input.len() {
@@ -87,14 +90,13 @@ fn is_marked(table: &[u8; 256], byte: u8) -> bool
 
 /// A leaf in quotes at the front of a text, and what follows it.
 #[inline(always)]
-#[tactic(auto, unfolding(ufmt::specs::ReadingQuoted::read_quoted))]
 pub(crate) fn split_quotes(input: &[u8]) -> Option<(&str, &[u8])>
     ensures { option_map (λ x. (x.0.now, x.1.now)) result ≡ read_quoted input.now }
 {
-    if let Some(text) = split_quoted(b'"', input) {
+    if let Some(text) = split_plain(input) {
         Some(text)
     } else {
-        split_character(input)
+        split_any(input)
     }
 }
 

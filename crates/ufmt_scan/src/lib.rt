@@ -4,8 +4,7 @@
 
 pub mod convert;
 pub mod error;
-pub mod escape;
 pub mod leaf;
 mod level;
-mod quoted;
+pub mod quoted;
 pub mod scan;

@@ -1,58 +1,17 @@
-//! Texts and characters in quotes at the front of a text.
-ghost use Rattle.std.specs.Prelude.{◌≡◌, ◌≤◌, IfSome, Some, length, option_map};
-ghost use Rattle.std.specs.Str.{is_utf8};
-ghost use Rattle.ufmt.specs.Quoted.{IsQuote};
-ghost use Rattle.ufmt.specs.ReadingQuoted.{is_char, read_between};
+//! Texts and characters in quotes at the front of a text, and the bytes that are written in them.
+ghost use Rattle.std.specs.Prelude.{◌≡◌, ◌≢◌, ◌≤◌, ◌+◌, ◌++◌, ◌∷◌, ℕ, List, IfSome, IsNone, MatchOption, Some, length, option_map, slice_index};
+ghost use Rattle.std.specs.Char.{digit_value};
+ghost use Rattle.std.specs.Str.{continuation_len};
+ghost use Rattle.ufmt.specs.Quoted.{IsQuote, escaped_byte};
+ghost use Rattle.ufmt.specs.Reading.{strip};
+ghost use Rattle.ufmt.specs.ReadingQuoted.{read_quoted, told};
 ghost use Rattle.ufmt_scan.specs.Rest.{now_of};
-ghost use Rattle.ufmt_scan.specs.Private.Spelled.{IsOneCharacter, PassesCharacter, after_quote};
+ghost use Rattle.ufmt_scan.specs.Private.Spelled.{Closes, IsOneCharacter, IsSpelled, NeverCloses};
 
-use crate::escape::strip_escaped;
 use crate::leaf::marked_len;
-use crate::level::strip_byte;
+use crate::level::{strip_byte, strip_piece};
 use ufmt::ascii::text_from;
-use ufmt::quoted::plain_len;
-
-/// A character between apostrophes, with them, and what follows it.
-#[tactic(auto, using(crate::proofs::QuotedCharacter::character_read))]
-pub(super) fn split_character(input: &[u8]) -> Option<(&str, &[u8])>
-    ensures { option_map (λ x. (x.0.now, x.1.now)) result ≡ read_between 39 is_char input.now }
-{
-    let (leaf, rest) = split_quoted(b'\'', input)?;
-    if is_character(leaf) {
-        Some((leaf, rest))
-    } else {
-        None
-    }
-}
-
-/// A text between two of these quotes, with them, and what follows it.
-#[inline(always)]
-pub(super) fn split_quoted(quote: u8, input: &[u8]) -> Option<(&str, &[u8])>
-    requires { IsQuote quote }
-    ensures { option_map (λ x. (x.0.now, x.1.now)) result ≡ read_between quote is_utf8 input.now }
-{
-    if quote == b'"' {
-        if let Some((leaf, rest)) = split_plain(input) {
-            return Some((leaf, rest));
-        }
-    }
-    split_any(quote, input)
-}
-
-// The same where escapes and bytes past ASCII may be inside.
-#[inline(never)]
-fn split_any(quote: u8, input: &[u8]) -> Option<(&str, &[u8])>
-    requires { IsQuote quote }
-    ensures { option_map (λ x. (x.0.now, x.1.now)) result ≡ read_between quote is_utf8 input.now }
-{
-    let rest = after_quote(quote, strip_byte(quote, input)?)?;
-    let (leaf, _) = input.split_at(input.len() - rest.len());
-    // Tested once for all of it: escapes are ASCII.
-    match str::from_utf8(leaf) {
-        Ok(leaf) => Some((leaf, rest)),
-        Err(_) => None,
-    }
-}
+use ufmt::quoted::{escape, plain_len};
 
 // Of each byte, whether it is ASCII and has no escape in a quoted text.
 static PLAIN_ASCII: [u8; 256] = *b"\
@@ -61,11 +20,11 @@ static PLAIN_ASCII: [u8; 256] = *b"\
     ................................................................\
     ................................................................";
 
-// A text of such bytes between quotation marks, with them, and what follows it. It needs no test of UTF-8.
+/// A text of such bytes between quotation marks, with them, and what follows it. It needs no test of UTF-8.
 #[inline(always)]
-fn split_plain(input: &[u8]) -> Option<(&str, &[u8])>
-    ensures { IfSome result (λ x.
-        read_between 34 is_utf8 input.now ≡ Some (x.0.now, x.1.now)) }
+#[tactic(auto, using(crate::proofs::QuotedLeaves::plain_ascii))]
+pub(crate) fn split_plain(input: &[u8]) -> Option<(&str, &[u8])>
+    ensures { IfSome result (λ x. read_quoted input.now ≡ Some (x.0.now, x.1.now)) }
 {
     let inside = strip_byte(b'"', input)?;
     let (_, end) = inside.split_at(marked_len(&PLAIN_ASCII, inside));
@@ -74,23 +33,49 @@ fn split_plain(input: &[u8]) -> Option<(&str, &[u8])>
     Some((text_from(leaf, 0), rest))
 }
 
+/// A text or a character in quotes, with them, and what follows it.
+#[inline(never)]
+#[tactic(auto, using(crate::proofs::QuotedLeaves::any_leaf))]
+pub(crate) fn split_any(input: &[u8]) -> Option<(&str, &[u8])>
+    ensures { option_map (λ x. (x.0.now, x.1.now)) result ≡ read_quoted input.now }
+{
+    let (&quote, inside) = input.split_first()?;
+    if quote != b'"' && quote != b'\'' {
+        return None;
+    }
+    let rest = after_quote(quote, inside)?;
+    let (leaf, _) = input.split_at(input.len() - rest.len());
+    if quote == b'\'' && !is_character(leaf) {
+        return None;
+    }
+    // Tested once for all of it: escapes are ASCII.
+    match str::from_utf8(leaf) {
+        Ok(leaf) => Some((leaf, rest)),
+        Err(_) => None,
+    }
+}
+
 // What follows the closing quote.
+#[tactic(auto, using(crate::proofs::Spelled::closing))]
 fn after_quote(quote: u8, input: &[u8]) -> Option<&[u8]>
     requires { IsQuote quote }
-    ensures { now_of result ≡ after_quote quote input.now }
+    ensures { MatchOption result
+        (NeverCloses quote input.now) (λ rest. Closes quote input.now rest.now) }
 {
     let mut rest = after_stretch(quote, input);
     'escapes: loop {
         if let Some(after) = strip_byte(quote, rest) {
             return Some(after);
         }
-        rest = after_stretch(quote, strip_escaped(quote, rest)?);
+        let (_, after) = split_escaped(quote, rest)?;
+        rest = after_stretch(quote, after);
     }
 }
 
 // What follows bytes without escapes, several of which are passed at once between quotation marks.
+#[tactic(auto, using(crate::proofs::Spelled::closing))]
 fn after_stretch(quote: u8, input: &[u8]) -> &[u8]
-    ensures after { after_quote quote input.now ≡ after_quote quote result.now }
+    ensures after { IsSpelled quote input.now result.now }
     ensures shorter { length result.now ≤ length input.now }
 {
     if quote == b'"' {
@@ -101,27 +86,86 @@ fn after_stretch(quote: u8, input: &[u8]) -> &[u8]
 }
 
 // Whether exactly one character is between the apostrophes.
-fn is_character(leaf: &str) -> bool
+fn is_character(leaf: &[u8]) -> bool
     ensures { IsOneCharacter leaf.now result }
 {
-    let mut characters = leaf.chars();
-    let Some(_apostrophe) = characters.next() else {
+    let Some((_apostrophe, inside)) = leaf.split_first() else {
         return false;
     };
-    match after_character(characters.as_str()) {
-        Some(rest) => rest.len() == 1,
+    match split_escaped(b'\'', inside) {
+        Some((lead, rest)) => rest.len() == character_len(lead),
         None => false,
     }
 }
 
-// What follows the character that is written at the front, between apostrophes.
-fn after_character(inside: &str) -> Option<&[u8]>
-    ensures { PassesCharacter inside.now result }
+// How many bytes a character has, by the first of them.
+fn character_len(lead: u8) -> usize
+    ensures { result ≡ 1 + continuation_len lead }
 {
-    if inside.as_bytes().first()?.is_ascii() {
-        return strip_escaped(b'\'', inside.as_bytes());
+    match lead {
+        0..=0x7f => 1,
+        0x80..=0xdf => 2,
+        0xe0..=0xef => 3,
+        _ => 4,
     }
-    let mut characters = inside.chars();
-    characters.next()?;
-    Some(characters.as_str().as_bytes())
+}
+
+/// The byte whose spelling between these quotes the input begins with, and the input after it. `None` if
+/// it begins with no byte's spelling. `quote` is a quotation mark or an apostrophe.
+#[inline(always)]
+#[tactic(auto, using(crate::proofs::Spelled::one_byte))]
+pub fn split_escaped(quote: u8, input: &[u8]) -> Option<(u8, &[u8])>
+    requires { IsQuote quote }
+    ensures some { IfSome result (λ x. input.now ≡ escaped_byte quote x.0 ++ x.1.now) }
+    ensures none { IsNone result → (byte : ℕ) (rest : List ℕ) → input.now ≢ escaped_byte quote byte ++ rest }
+{
+    // Past 255 no byte is written, and zero isn't either.
+    let byte = u8::try_from(decoded(input)).unwrap_or(0);
+    Some((byte, strip_spelling(quote, byte, input)?))
+}
+
+// What follows this byte, as it is written between these quotes.
+#[inline(always)]
+#[tactic(auto, using(crate::proofs::Spelled::escaped_byte_is))]
+fn strip_spelling(quote: u8, byte: u8, input: &[u8]) -> Option<&[u8]>
+    requires { IsQuote quote }
+    ensures { now_of result ≡ strip (escaped_byte quote byte) input.now }
+{
+    match escape(byte, quote) {
+        Some(spelling) => strip_piece(spelling, input),
+        None => strip_byte(byte, input),
+    }
+}
+
+// The only byte that may be written at the front. Past 255 there is none.
+fn decoded(input: &[u8]) -> u32
+    ensures { result ≡ told input.now }
+{
+    match (byte_at(input, 0), byte_at(input, 1)) {
+        (b'\\', b'0') => 0,
+        (b'\\', b't') => 9,
+        (b'\\', b'n') => 10,
+        (b'\\', b'r') => 13,
+        (b'\\', b'u') => match byte_at(input, 4) {
+            b'}' => digit_value(byte_at(input, 3)),
+            second => digit_value(byte_at(input, 3)) * 16 + digit_value(second),
+        },
+        (b'\\', letter) => u32::from(letter),
+        (first, _) => u32::from(first),
+    }
+}
+
+// The byte at this index, or 0 past the end.
+fn byte_at(input: &[u8], index: usize) -> u8
+    ensures { result ≡ slice_index input.now index }
+{
+    input.get(index).copied().unwrap_or(0)
+}
+
+// The value of a digit or a letter as a digit, and 36 for any other byte.
+fn digit_value(byte: u8) -> u32
+    ensures value { result ≡ digit_value byte }
+    ensures small { result ≤ 36 }
+{
+    char::from(byte).to_digit(36).unwrap_or(36)
 }

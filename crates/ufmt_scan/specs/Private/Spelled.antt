@@ -1,21 +1,23 @@
 -- Texts in quotes, on the way to the closing quote.
-use Rattle.std.specs.Prelude.{◌≡◌, ℕ, suc, ◌<◌, ◌==◌, Bool, true, List, ◌++◌, length, Option, Some, option_map, IfSome}
-use Rattle.std.specs.Borrow.{Bor}
-use Rattle.std.specs.Char.{IsScalar}
+use Rattle.std.specs.Prelude.{◌≡◌, ◌≢◌, ℕ, ◌==◌, Bool, true, List, ◌∷◌, ◌++◌, length}
 use Rattle.std.specs.Str.{all_scalars}
-use Rattle.ufmt.specs.Quoted.{escaped, quoted}
-use Rattle.ufmt.specs.ReadingQuoted.{read_inside}
-use Rattle.ufmt_scan.specs.Rest.{now_of}
+use Rattle.ufmt.specs.Quoted.{IsQuote, escaped_bytes, quoted}
 
--- what follows the closing quote, after the opening one
-abbrev pub after_quote : ℕ → List ℕ → Option (List ℕ)
-after_quote quote t = option_map (λ x. x.1) (read_inside quote (suc (length t)) t)
+-- the text is some bytes, as they are written between two of these quotes, and then the rest
+pub record IsSpelled (quote : ℕ) (t rest : List ℕ) : Type 0 where
+  pub bytes : List ℕ
+  pub is : t ≡ escaped_bytes quote bytes ++ rest
+
+-- the closing quote and then the rest follow such bytes
+pub record Closes (quote : ℕ) (t rest : List ℕ) : Type 0 where
+  pub is_quote : IsQuote quote
+  pub bytes : List ℕ
+  pub is : t ≡ escaped_bytes quote bytes ++ (quote ∷ rest)
+
+-- no closing quote follows such bytes
+pub record NeverCloses (quote : ℕ) (t : List ℕ) : Type 0 where
+  pub never : (bytes rest : List ℕ) → t ≢ escaped_bytes quote bytes ++ (quote ∷ rest)
 
 -- the answer is whether the characters between the apostrophes are one
-abbrev pub IsOneCharacter : List ℕ → Bool → Type 0
-IsOneCharacter leaf answer = (cs : List ℕ) → all_scalars cs ≡ true → leaf ≡ quoted 39 cs → answer ≡ (length cs == 1)
-
--- the answer is shorter, and it is what follows the character at the front, if one is written there
-pub record PassesCharacter (inside : List ℕ) (answer : Option (Bor (List ℕ))) : Type 0 where
-  pub shorter : IfSome answer (λ rest. length rest.now < length inside)
-  pub after : (c : ℕ) (rest : List ℕ) → IsScalar c → inside ≡ escaped 39 c ++ rest → now_of answer ≡ Some rest
+pub record IsOneCharacter (leaf : List ℕ) (answer : Bool) : Type 0 where
+  pub one : (cs : List ℕ) → all_scalars cs ≡ true → leaf ≡ quoted 39 cs → answer ≡ (length cs == 1)

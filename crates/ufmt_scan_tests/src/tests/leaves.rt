@@ -1,7 +1,7 @@
 //! Which texts are leaves, and which of these are words; and bytes as they are spelled between quotes.
 use super::same;
-use ufmt_scan::escape::split_escaped;
 use ufmt_scan::leaf::{is_leaf, is_symbol, is_word};
+use ufmt_scan::quoted::split_escaped;
 
 // What a text is, and the text.
 const TEXTS: &str = "\

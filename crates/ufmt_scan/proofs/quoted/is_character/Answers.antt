@@ -1,15 +1,9 @@
-use Rattle.std.proofs.Common.{ap, sym, ◌∙◌, ◌≡◌, ◌++◌, encode_utf8}
-use Rattle.ufmt_scan.proofs.QuotedCharacter.{is_no_character, is_one_character}
+use Rattle.std.proofs.Common.{refl}
+use Rattle.ufmt_scan.proofs.QuotedLeaves.{is_one, none_written}
 use Rattle.ufmt_scan.proofs.quoted.is_character.Goals as goal
 
-pub returns-in-Some-after_character : goal.returns-in-Some-after_character
-returns-in-Some-after_character c =
-    let quote = c.in-Some._apostrophe in
-    let is : c.args.leaf.now ≡ encode_utf8 quote ++ c.as_str.result.now = sym c.chars-characters.ensures.rest ∙ c.in-Some.ensures.steps.0 ∙ ap (λ t. encode_utf8 quote ++ t) (sym c.as_str.ensures) in
-    is_one_character c.args.leaf.now c.as_str.result.now quote is c.in-Some-after_character.rest c.in-Some-after_character.ensures
+pub returns-in-Some-split_escaped : goal.returns-in-Some-split_escaped
+returns-in-Some-split_escaped c = is_one _ _ _ c.in-Some.ensures.cases.0 c.in-Some-split_escaped.lead _ _ c.in-Some-split_escaped.ensures.some c.character_len.ensures
 
 pub returns-in-None : goal.returns-in-None
-returns-in-None c =
-    let quote = c.in-Some._apostrophe in
-    let is : c.args.leaf.now ≡ encode_utf8 quote ++ c.as_str.result.now = sym c.chars-characters.ensures.rest ∙ c.in-Some.ensures.steps.0 ∙ ap (λ t. encode_utf8 quote ++ t) (sym c.as_str.ensures) in
-    is_no_character c.args.leaf.now c.as_str.result.now quote is c.in-None.ensures
+returns-in-None c = none_written _ _ _ c.in-Some.ensures.cases.0 (c.in-None.ensures.none refl)
