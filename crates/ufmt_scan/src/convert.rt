@@ -1,8 +1,5 @@
-//! Values to texts, and plain texts to pretty ones and back.
-ghost use Rattle.std.specs.Prelude.{◌≡◌, ◌≤◌, string_bytes, IfOk};
-ghost use Rattle.ufmt.specs.Document.{nest};
+//! Plain texts to pretty ones and back.
 ghost use Rattle.ufmt.specs.Layout.{plain_text, pretty_text};
-ghost use Rattle.ufmt.specs.Shift.{HasNoLineFeed, shifted};
 ghost use Rattle.ufmt_scan.specs.Texts.{Converts, ConvertsInto, ConvertsTo};
 
 mod growing;
@@ -11,33 +8,11 @@ mod text_sink;
 use crate::error::ReadError;
 use crate::scan::{ScanError, scan};
 use growing::Growing;
-use std::alloc::{AllocError, Global};
+use std::alloc::Global;
 use text_sink::TextSink;
 use ufmt::layout::Mode;
-use ufmt::{Cursor, Full, uDebug, uWrite, write_debug, write_pretty};
-
-/// Returns the value's plain text. Fails only for want of memory.
-pub fn plain_text<T: uDebug>(alloc: Global, value: &T) -> Result<String, AllocError>
-    ensures { IfOk result (λ text. string_bytes text ≡ plain_text (T.document value.now)) }
-{
-    let mut text = String::new(alloc);
-    write_debug(&mut text, value)?;
-    Ok(text)
-}
-
-/// Returns the value's pretty text, from depth 0. Where blocks with entries lie at most 255 deep and no
-/// leaf and no name has a line feed, that is also its shifted text, which knows no depth. Fails only
-/// for want of memory.
-pub fn pretty_text<T: uDebug>(alloc: Global, value: &T) -> Result<String, AllocError>
-    ensures text { IfOk result (λ text. string_bytes text ≡ pretty_text (T.document value.now)) }
-    ensures shifted { IfOk result (λ text.
-        HasNoLineFeed (T.document value.now) → nest (T.document value.now) ≤ 255
-        → string_bytes text ≡ shifted (T.document value.now)) }
-{
-    let mut text = String::new(alloc);
-    write_pretty(&mut text, value)?;
-    Ok(text)
-}
+pub use ufmt::{plain_text, pretty_text};
+use ufmt::{Cursor, Full, uWrite};
 
 /// Writes the pretty text of the token documents with this plain text to the writer, and takes no
 /// memory of its own. Fails with `NotText` if no token document has this text, else with the writer's
