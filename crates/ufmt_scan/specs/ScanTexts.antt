@@ -1,6 +1,6 @@
 -- What a sink writes that lays a text out, event by event.
 use Rattle.std.specs.Prelude.{ℕ, ◌-◌, List, [], ◌∷◌, ◌++◌, codes}
-use Rattle.ufmt.specs.Layout.{frame, setting, inside, separator, trail, lead, ending}
+use Rattle.ufmt.specs.Layout.{frame, setting, inside, separator, trail, lead, line_start}
 use Rattle.ufmt_core.specs.declared.layout.Mode.{Mode}
 use Rattle.ufmt_core.specs.declared.layout.Mode.TheVariants.{Plain, Pretty}
 use Rattle.ufmt_core.specs.declared.layout.Count.TheVariants.{Zero}
@@ -25,7 +25,7 @@ written s (Open kind name) = name ++ ((frame s.mode kind).opening ++ lead (frame
 written s (FieldName text) = text ++ codes ": "
 written s Colon = codes ": "
 written s Next = trail s.mode ++ separator s.mode s.depth
-written s (Close kind count) = trail s.mode ++ ending (frame s.mode kind) (outside s) count
+written s (Close kind count) = trail s.mode ++ (line_start s.mode (outside s).depth ++ (frame s.mode kind).closing count)
 
 -- the mode and depth at which it continues after that
 abbrev pub setting_after : Setting → TextEvent → Setting

@@ -1,5 +1,5 @@
 //! Plain texts to pretty ones and back.
-ghost use Rattle.ufmt.specs.Layout.{plain_text, pretty_text};
+ghost use Rattle.ufmt.specs.Layout.{layout, plain_text, pretty_text, setting};
 ghost use Rattle.ufmt_scan.specs.Texts.{Converts, ConvertsInto, ConvertsTo};
 
 mod growing;
@@ -10,7 +10,7 @@ use crate::scan::{ScanError, scan};
 use growing::Growing;
 use std::alloc::Global;
 use text_sink::TextSink;
-use ufmt::layout::Mode;
+use ufmt::layout::{Mode, Setting};
 pub use ufmt::{plain_text, pretty_text};
 use ufmt::{Cursor, Full, uWrite};
 
@@ -20,8 +20,7 @@ use ufmt::{Cursor, Full, uWrite};
 pub fn write_to_pretty<W: uWrite>(writer: &mut W, input: &[u8]) -> Result<(), ScanError<W::Error>>
     ensures { ConvertsTo W.seen plain_text pretty_text input.now writer.old result writer.new }
 {
-    let mut sink = TextSink::new(Mode::Pretty, writer);
-    scan(Mode::Plain, input, &mut sink)
+    write::<W, true>(Mode::Plain, Mode::Pretty, writer, input)
 }
 
 /// Writes the plain text of the token documents with this pretty text to the writer. Fails as
@@ -29,8 +28,21 @@ pub fn write_to_pretty<W: uWrite>(writer: &mut W, input: &[u8]) -> Result<(), Sc
 pub fn write_to_plain<W: uWrite>(writer: &mut W, input: &[u8]) -> Result<(), ScanError<W::Error>>
     ensures { ConvertsTo W.seen pretty_text plain_text input.now writer.old result writer.new }
 {
-    let mut sink = TextSink::new(Mode::Plain, writer);
-    scan(Mode::Pretty, input, &mut sink)
+    write::<W, false>(Mode::Pretty, Mode::Plain, writer, input)
+}
+
+// Writes to the writer, in one mode, a text that is read in another.
+#[inline(always)]
+fn write<W: uWrite, const PRETTY: bool>(
+    from: Mode,
+    mode: Mode,
+    writer: &mut W,
+    input: &[u8],
+) -> Result<(), ScanError<W::Error>>
+    ensures { ConvertsTo W.seen (layout (setting from 0)) (layout (setting mode 0)) input.now writer.old result writer.new }
+{
+    let setting = Setting { mode, depth: 0 };
+    scan(from, input, &mut TextSink::<_, PRETTY> { writer, setting })
 }
 
 /// Writes the pretty text of the token documents with this plain text to the front of the buffer, and
@@ -60,9 +72,9 @@ pub fn to_plain_into(buffer: &mut [u8], input: &[u8]) -> Result<usize, ScanError
 pub fn to_pretty(alloc: Global, input: &[u8]) -> Result<String, ReadError>
     ensures { Converts plain_text pretty_text input.now result }
 {
-    let mut sink = TextSink::new(Mode::Pretty, Growing::new(alloc));
-    scan(Mode::Plain, input, &mut sink)?;
-    Ok(sink.writer.into_string())
+    let mut text = Growing::new(alloc);
+    write_to_pretty(&mut text, input)?;
+    Ok(text.into_string())
 }
 
 /// Returns the plain text of the token documents with this pretty text. Undoes `to_pretty`, and fails as
@@ -70,7 +82,7 @@ pub fn to_pretty(alloc: Global, input: &[u8]) -> Result<String, ReadError>
 pub fn to_plain(alloc: Global, input: &[u8]) -> Result<String, ReadError>
     ensures { Converts pretty_text plain_text input.now result }
 {
-    let mut sink = TextSink::new(Mode::Plain, Growing::new(alloc));
-    scan(Mode::Pretty, input, &mut sink)?;
-    Ok(sink.writer.into_string())
+    let mut text = Growing::new(alloc);
+    write_to_plain(&mut text, input)?;
+    Ok(text.into_string())
 }
