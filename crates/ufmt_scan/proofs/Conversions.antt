@@ -29,8 +29,8 @@ module _ {from to : Document → List ℕ} {input : List ℕ} {done : ⊤} where
         unconverted = λ refused. absurd (cc);
       }
 
-  -- the same of the front of a buffer
-  module _ {old : List ℕ} (begun ended : Cursor) (written : written_bytes begun ≡ []) (unwritten : unwritten_bytes begun ≡ old) where
+  -- the same of the front of a buffer, all of it or a beginning
+  module _ {old : List ℕ} {begun ended : Cursor} (written : written_bytes begun ≡ []) (unwritten : unwritten_bytes begun ≡ old) where
     pub into_whole : ConvertsTo {E = Full} cursor_seen from to input begun (Ok done) ended
         → ConvertsInto {E = Full} from to input old (Ok (length (written_bytes ended))) ended.buffer.now
     into_whole h = record {
@@ -40,10 +40,10 @@ module _ {from to : Document → List ℕ} {input : List ℕ} {done : ⊤} where
       same_length = keeps_length old begun ended written unwritten h.lawful.0 h.lawful.2;
     }
 
-    pub into_refused : {refusal : ScanError Full} (result : Result ℕ (ScanError Full)) → IsErrAnd result (λ e. e ≡ refusal)
-        → ConvertsTo cursor_seen from to input begun (Err refusal) ended → ConvertsInto {E = Full} from to input old result ended.buffer.now
-    into_refused (Ok n) same h = absurd same
-    into_refused {refusal = refusal} (Err e) same h = record {
+    pub into_refused : {refusal : ScanError Full} → ConvertsTo cursor_seen from to input begun (Err refusal) ended → (result : Result ℕ (ScanError Full))
+        → IsErrAnd result (λ e. e ≡ refusal) → ConvertsInto {E = Full} from to input old result ended.buffer.now
+    into_refused h (Ok n) same = absurd same
+    into_refused {refusal = refusal} h (Err e) same = record {
       ok = λ is_ok. absurd (cc);
       not_text = λ none. h.not_text (cc);
       fronts = λ text other. fronts_refused old begun ended written unwritten text (λ e. e ≡ refusal) (Err e) same (h.writes text other);

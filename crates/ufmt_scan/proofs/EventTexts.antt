@@ -1,9 +1,8 @@
 -- The texts of a document's events make up its layout.
-use Rattle.std.proofs.Common.{◌≡◌, ◌∙◌, refl, ap, sym, ℕ, suc, ◌+◌, ◌≤◌, List, [], ◌∷◌, ◌++◌, codes, append_assoc, append-nil, arith}
+use Rattle.std.proofs.Common.{◌≡◌, ◌∙◌, refl, ap, sym, ℕ, suc, ◌+◌, ◌≤◌, List, [], ◌∷◌, ◌++◌, append_assoc, append-nil, arith}
 use Rattle.std.specs.Prelude.{⊤}
 use Rattle.ufmt.specs.Document.{Document, leaf, joined, list_of, set_of, map_of, struct_of, tuple_of, pretty_part, Documents, no_documents, document, Pairs, no_pairs, pair, Fields, no_fields, field, nest, nest_all, nest_pairs, nest_fields}
 use Rattle.ufmt.specs.Layout.{frame, setting, inside, entry_depth, separator, trail, lead, line_start, ending, next, block, block_tail, tuple_kind, layout, texts, pair_texts, field_texts}
-use Rattle.ufmt.specs.Token.{HasTokens, HaveTokens, PairsHaveTokens, FieldsHaveTokens}
 use Rattle.ufmt_core.specs.declared.layout.Count.{Count}
 use Rattle.ufmt_core.specs.declared.layout.Count.TheVariants.{Zero, One, Several}
 use Rattle.ufmt_core.specs.declared.layout.Kind.{Kind}
@@ -11,9 +10,10 @@ use Rattle.ufmt_core.specs.declared.layout.Kind.TheVariants.{Brackets, Braces, S
 use Rattle.ufmt_core.specs.declared.layout.Mode.{Mode}
 use Rattle.ufmt_core.specs.declared.layout.Mode.TheVariants.{Plain, Pretty}
 use Rattle.ufmt_core.specs.declared.layout.Setting.{Setting}
+use Rattle.ufmt.specs.Token.{HasTokens, HaveTokens, PairsHaveTokens, FieldsHaveTokens}
 use Rattle.ufmt_scan.specs.Scan.{TextEvent, events_of, tail_events, block_events, events_of_entries, events_of_pairs, events_of_fields}
 use Rattle.ufmt_scan.specs.ScanTexts.{block_depth, written, setting_after, texts_written, last_setting}
-use Rattle.ufmt_scan.specs.declared.scan.event.Event.TheVariants.{Leaf, Empty, FieldName, Colon}
+use Rattle.ufmt_scan.specs.declared.scan.event.Event.TheVariants.{Leaf, Empty}
 
 -- events in a row, and more after them
 pub texts_written-append : (s : Setting) (es fs : List TextEvent)
@@ -76,15 +76,6 @@ module _ (mode : Mode) (k n : ℕ) (few : suc n + k ≤ 255) (kind : Kind) where
 name_written : {s : Setting} (name : List ℕ) → AreWritten s (Leaf name ∷ []) (name ++ [])
 name_written name = record { before = λ more. rw append-nil refl }
 
--- a key and its value, and a field's name and its value
-pair_written : {s : Setting} {es fs : List TextEvent} {t u : List ℕ} → AreWritten s es t → AreWritten s fs u
-    → AreWritten s (es ++ Colon ∷ fs) (t ++ (codes ": " ++ u))
-pair_written key value = record { before = λ more. simp (append_assoc, key.before, value.before) }
-
-field_written : {s : Setting} {es : List TextEvent} {t : List ℕ} (label : List ℕ) → AreWritten s es t
-    → AreWritten s (FieldName label ∷ es) (label ++ (codes ": " ++ t))
-field_written label value = record { before = λ more. simp (append_assoc, value.before) }
-
 -- the events of a token document have its layout as their text
 module _ (mode : Mode) where
   mutual
@@ -115,19 +106,17 @@ module _ (mode : Mode) where
     pairs_written : (k : ℕ) (ps : Pairs) → PairsHaveTokens ps → suc (nest_pairs ps) + k ≤ 255
         → EntriesAreWritten (inside (setting mode k)) (events_of_pairs ps) (pair_texts (inside (setting mode k)) ps)
     pairs_written k no_pairs h few = tt
-    pairs_written k (pair key value ps) h few = (
-      pair_written (document_written (entry_depth mode k) key h.0 (deeper mode k (nest key) (omega arith)))
-          (document_written (entry_depth mode k) value h.1 (deeper mode k (nest value) (omega arith))),
-      pairs_written k ps h.2 (omega arith),
-    )
+    pairs_written k (pair key value ps) h few =
+        let first = document_written (entry_depth mode k) key h.0 (deeper mode k (nest key) (omega arith)) in
+        let second = document_written (entry_depth mode k) value h.1 (deeper mode k (nest value) (omega arith)) in
+        (record { before = λ more. simp (append_assoc, first.before, second.before) }, pairs_written k ps h.2 (omega arith))
 
     fields_written : (k : ℕ) (fs : Fields) → FieldsHaveTokens fs → suc (nest_fields fs) + k ≤ 255
         → EntriesAreWritten (inside (setting mode k)) (events_of_fields fs) (field_texts (inside (setting mode k)) fs)
     fields_written k no_fields h few = tt
-    fields_written k (field label value fs) h few = (
-      field_written label (document_written (entry_depth mode k) value h.1 (deeper mode k (nest value) (omega arith))),
-      fields_written k fs h.2 (omega arith),
-    )
+    fields_written k (field label value fs) h few =
+        let second = document_written (entry_depth mode k) value h.1 (deeper mode k (nest value) (omega arith)) in
+        (record { before = λ more. simp (append_assoc, second.before) }, fields_written k fs h.2 (omega arith))
 
   pub events_written : (k : ℕ) (d : Document) → HasTokens d → nest d + k ≤ 255 → texts_written (setting mode k) (events_of d) ≡ layout (setting mode k) d
   events_written k d h few = let whole = (document_written k d h few).before [] in simp append-nil at whole

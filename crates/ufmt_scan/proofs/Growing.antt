@@ -3,10 +3,18 @@ use Rattle.std.proofs.Common.{◌≡◌, ◌∙◌, refl, sym, subst, ℕ, zero,
 use Rattle.std.specs.Str.{IsUtf8, is_utf8}
 use Rattle.std.proofs.Math.Seq.{take-append_seam, take-length}
 use Rattle.std.proofs.lemmas.List.{length-take-le}
-use Rattle.std.proofs.lemmas.Str.{IsUtf8-append, IsUtf8-from_is_utf8, is_utf8-from_IsUtf8}
+use Rattle.std.proofs.lemmas.Str.{IsUtf8-append, IsUtf8-nil, IsUtf8-from_is_utf8, is_utf8-from_IsUtf8}
 use Rattle.ufmt.specs.Writes.{Writes}
 use Rattle.ufmt_scan.specs.declared.convert.growing.Growing.{Growing}
 use Rattle.ufmt_scan.specs.Private.Growing.{growing_seen}
+
+-- no bytes are a text
+pub utf8_nothing : is_utf8 [] ≡ true
+utf8_nothing = is_utf8-from_IsUtf8 [] IsUtf8-nil
+
+-- what the test takes is a text
+pub utf8_text : (text : List ℕ) → is_utf8 text ≡ true → IsUtf8 text
+utf8_text text is = IsUtf8-from_is_utf8 text is
 
 -- a text after a text is one
 pub utf8_appended : (a b : List ℕ) → is_utf8 a ≡ true → IsUtf8 b → is_utf8 (a ++ b) ≡ true

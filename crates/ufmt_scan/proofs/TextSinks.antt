@@ -1,22 +1,22 @@
 -- A sink that lays events out writes the other text of the document whose events it takes.
-use Rattle.std.proofs.Common.{◌≡◌, ◌∙◌, ap, sym, subst, ℕ, Bool, true, false, List, [], ◌∷◌, ◌++◌, append-nil, Result, Ok, Err, arith}
+use Rattle.std.proofs.Common.{◌≡◌, ◌∙◌, sym, subst, ℕ, Bool, true, false, List, [], ◌∷◌, ◌++◌, append-nil, Result, Ok, Err, arith}
 use Rattle.std.specs.Borrow.{MutBor}
 use Rattle.std.specs.Prelude.{⊤}
 use Rattle.ufmt.specs.Document.{Document}
 use Rattle.ufmt.specs.Layout.{layout, setting}
+use Rattle.ufmt_core.specs.declared.layout.Mode.{Mode}
+use Rattle.ufmt_core.specs.declared.layout.Mode.TheVariants.{Plain, Pretty}
 use Rattle.ufmt.specs.Token.{IsToken, normal}
 use Rattle.ufmt.specs.Writes.{Seen, Writes}
 use Rattle.ufmt.proofs.NormalForms.{IsToken-normal, layout-normal, normal-normal}
 use Rattle.ufmt.proofs.OneWay.{texts_agree}
 use Rattle.ufmt_core.proofs.Writing.{Writes-fails, Writes-then}
-use Rattle.ufmt_core.specs.declared.layout.Mode.{Mode}
-use Rattle.ufmt_core.specs.declared.layout.Mode.TheVariants.{Plain, Pretty}
 use Rattle.ufmt_scan.specs.declared.convert.text_sink.TextSink.{TextSink}
 use Rattle.ufmt_scan.specs.declared.scan.event.ScanError.{ScanError}
 use Rattle.ufmt_scan.specs.declared.scan.event.ScanError.TheVariants.{NotText, Sink}
 use Rattle.ufmt_scan.specs.Private.TextSink.{Wrote}
 use Rattle.ufmt_scan.specs.Scan.{TextEvent, TakesEvent, Scans, events_of}
-use Rattle.ufmt_scan.specs.ScanTexts.{written, setting_after, texts_written, last_setting}
+use Rattle.ufmt_scan.specs.ScanTexts.{written, setting_after, texts_written}
 use Rattle.ufmt_scan.specs.Texts.{ConvertsTo, IsConverted, IsNormalForm}
 use Rattle.ufmt_scan.proofs.EventTexts.{last_setting-append, texts_written-append, events_written}
 
@@ -64,40 +64,36 @@ module _ {W : Type 0} {p : ℕ} (seen : Seen W) where
     abbrev begun : TextSink W p
     begun = record { writer = writer; setting = setting to 0 }
 
-    -- a scan with that sink keeps its writer
-    pub scan_keeps : {E : Type 0} (answer : Result (⊤) (ScanError E)) (new : TextSink W p) → Scans (Wrote seen true) (Wrote seen false) answer begun new (layout (setting from 0)) input
-        → writer.ghost_name ≡ new.writer.ghost_name
-    scan_keeps (Ok x) new h = sym h.2.same_writer
-    scan_keeps (Err NotText) new h = sym h.1.same_writer
-    scan_keeps (Err (Sink e)) new h = sym h.1.same_writer
-
-    -- and converts the input to it
+    -- what a scan with that sink does with its writer
     pub scan_converts : {E : Type 0} (answer : Result (⊤) (ScanError E)) (new : TextSink W p) → Scans (Wrote seen true) (Wrote seen false) answer begun new (layout (setting from 0)) input
-        → ConvertsTo seen (layout (setting from 0)) (layout (setting to 0)) input writer.now answer new.writer.now
-    scan_converts (Ok x) new h = record {
-      ok = λ is. (written_of to h.0, (read_is from to input h.0 h.1).0);
-      not_text = λ is. absurd (cc);
-      writes = λ text other. subst (λ t. Writes seen writer.now t true new.writer.now) ((read_is from to input h.0 h.1).1 text other) h.2.writes;
-      lawful = (written_of to h.0, true, h.2.writes);
-    }
-    scan_converts (Err NotText) new h = record {
-      ok = λ is. absurd (cc);
-      not_text = λ is. h.2;
-      writes = λ text other. absurd (h.2 other.some.0 other.some.1 other.some.2);
-      lawful = (texts_written (setting to 0) h.0, true, h.1.writes);
-    }
-    scan_converts (Err (Sink e)) new h = record {
-      ok = λ is. absurd (cc);
-      not_text = λ is. absurd (cc);
-      writes = refused;
-      lawful = (texts_written (setting to 0) h.0, false, h.1.writes);
-    }
-      where
-        refused : (text : List ℕ) → IsOther from to input text → Writes seen writer.now text false new.writer.now
-        refused text other =
+        → ConvertsTo seen (layout (setting from 0)) (layout (setting to 0)) input writer.now answer new.writer.now × (writer.ghost_name ≡ new.writer.ghost_name)
+    scan_converts (Ok x) new h = (
+      record {
+        ok = λ is. (written_of to h.0, (read_is from to input h.0 h.1).0);
+        not_text = λ is. absurd (cc);
+        writes = λ text other. subst (λ t. Writes seen writer.now t true new.writer.now) ((read_is from to input h.0 h.1).1 text other) h.2.writes;
+        lawful = (written_of to h.0, true, h.2.writes);
+      },
+      sym h.2.same_writer,
+    )
+    scan_converts (Err NotText) new h = (
+      record {
+        ok = λ is. absurd (cc);
+        not_text = λ is. h.2;
+        writes = λ text other. absurd (h.2 other.some.0 other.some.1 other.some.2);
+        lawful = (texts_written (setting to 0) h.0, true, h.1.writes);
+      },
+      sym h.1.same_writer,
+    )
+    scan_converts (Err (Sink e)) new h = (
+      record {
+        ok = λ is. absurd (cc);
+        not_text = λ is. absurd (cc);
+        writes = λ text other.
             let d = other.some.0 in
-            let form : IsNormalForm (layout (setting from 0)) input (normal d) =
-            (IsToken-normal d other.some.1, normal-normal d, layout-normal (setting from 0) d ∙ other.some.2) in
-            let leads = h.2 (normal d) form in
-            let whole = sym (texts_written-append (setting to 0) h.0 leads.0) ∙ ap (texts_written (setting to 0)) (sym leads.1) ∙ (read_is from to input (normal d) form).1 text other in
-            subst (λ t. Writes seen writer.now t false new.writer.now) whole (Writes-fails (texts_written (last_setting (setting to 0) h.0) leads.0) h.1.writes)
+            let form : IsNormalForm (layout (setting from 0)) input (normal d) = (IsToken-normal d other.some.1, normal-normal d, layout-normal (setting from 0) d ∙ other.some.2) in
+            rw (← (read_is from to input (normal d) form).1 text other, (h.2 (normal d) form).1, texts_written-append) (Writes-fails _ h.1.writes);
+        lawful = (texts_written (setting to 0) h.0, false, h.1.writes);
+      },
+      sym h.1.same_writer,
+    )

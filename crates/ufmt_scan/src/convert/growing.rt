@@ -19,6 +19,7 @@ pub(super) struct Growing {
     ghost utf8: { is_utf8 (take count bytes.items) ≡ true },
 }
 
+#[tactic(auto, using(crate::proofs::Growing::utf8_nothing, crate::proofs::Growing::utf8_text))]
 impl Growing {
     ghost use Rattle.ufmt_scan.specs.Private.Growing.{growing_seen, growing_text};
 

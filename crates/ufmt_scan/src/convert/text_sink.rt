@@ -1,8 +1,8 @@
 //! A sink that lays out the events that it takes.
 ghost use Rattle.std.specs.Prelude.{◌≡◌, ◌<◌, ◌++◌, All, is_ok, true, false};
 ghost use Rattle.ufmt.specs.Layout.{frame, indentation, lead};
-ghost use Rattle.ufmt.specs.Writes.{Writes};
 ghost use Rattle.ufmt_core.specs.declared.layout.Count.TheVariants.{Zero};
+ghost use Rattle.ufmt.specs.Writes.{Writes};
 ghost use Rattle.ufmt_scan.specs.Private.TextSink.{Wrote};
 ghost use Rattle.ufmt_scan.specs.Scan.{event_now};
 ghost use Rattle.ufmt_scan.specs.ScanTexts.{setting_after, written};
@@ -132,6 +132,7 @@ fn closing(mode: Mode, kind: Kind, count: Count) -> &'static str
 
 // The front of a line at the greatest depth, and what indents one at this depth.
 #[inline(always)]
+#[tactic(auto, using(crate::proofs::Lines::cut_is, crate::proofs::Lines::line_ascii))]
 fn cut(front: &str, deepest: &'static str, depth: u8) -> &'static str
     requires ascii { All (λ c. c < 128) front.now }
     requires whole { deepest.now ≡ front.now ++ indentation 255 }
