@@ -19,7 +19,7 @@ pub(super) struct Growing {
     ghost utf8: { is_utf8 (take count bytes.items) ≡ true },
 }
 
-#[tactic(auto, using(crate::proofs::Growing::utf8_nothing, crate::proofs::Growing::utf8_text))]
+#[tactic(auto, using(crate::proofs::Growing::utf8_nothing, crate::proofs::Growing::utf8_text, crate::proofs::Growing::utf8_appended, crate::proofs::Growing::fill_keeps, crate::proofs::Growing::stays))]
 impl Growing {
     ghost use Rattle.ufmt_scan.specs.Private.Growing.{growing_seen, growing_text};
 
@@ -61,6 +61,7 @@ impl Growing {
 }
 
 /// Fails only for want of memory, and then leaves the text as it was.
+#[tactic(auto, using(crate::proofs::Growing::utf8_appended, crate::proofs::Growing::put_after, std::proofs::lemmas::List::with_items_is))]
 impl uWrite for Growing {
     ghost use Rattle.ufmt_scan.specs.Private.Growing.{growing_seen};
 
@@ -73,21 +74,11 @@ impl uWrite for Growing {
         if s.len() > self.bytes.len() - self.count {
             return self.append(s);
         }
-        put(s, &mut self.bytes, self.count);
-        self.count += s.len();
+        let end = self.count + s.len();
+        fill(s, &mut self.bytes[self.count..end]);
+        self.count = end;
         Ok(())
     }
-}
-
-// Writes a text over the bytes of the buffer from `start` on.
-#[inline(always)]
-fn put(text: &str, buffer: &mut [u8], start: usize)
-    requires { start + length text.now ≤ length buffer.old }
-    ensures written { take (start + length text.now) buffer.new
-        ≡ take start buffer.old ++ text.now }
-    ensures same_length { length buffer.new ≡ length buffer.old }
-{
-    fill(text, &mut buffer[start..start + text.len()]);
 }
 
 // Writes a text over a buffer that is as long.
