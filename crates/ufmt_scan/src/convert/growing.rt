@@ -74,9 +74,8 @@ impl uWrite for Growing {
         if s.len() > self.bytes.len() - self.count {
             return self.append(s);
         }
-        let end = self.count + s.len();
-        fill(s, &mut self.bytes[self.count..end]);
-        self.count = end;
+        fill(s, &mut self.bytes[self.count..self.count + s.len()]);
+        self.count += s.len();
         Ok(())
     }
 }
