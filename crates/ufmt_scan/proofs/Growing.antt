@@ -1,30 +1,17 @@
 -- A text that grows at the front of a vector.
-use Rattle.std.proofs.Common.{◌≡◌, ◌∙◌, refl, sym, subst, ℕ, zero, ◌+◌, ◌<◌, ◌≤◌, Bool, true, false, if◌then◌else◌, List, [], ◌++◌, append-nil, length, length-append, take, arith}
+use Rattle.std.proofs.Common.{◌≡◌, ◌∙◌, refl, sym, subst, ℕ, zero, ◌<◌, ◌≤◌, Bool, true, false, if◌then◌else◌, List, [], ◌++◌, append-nil, length, length-append, take, arith}
 use Rattle.std.specs.Str.{IsUtf8, is_utf8}
 use Rattle.std.proofs.Math.Seq.{take-append_seam, take-length}
-use Rattle.std.proofs.lemmas.List.{length-take-le}
+use Rattle.std.proofs.lemmas.List.{length-take-le, with_items_is}
 use Rattle.std.proofs.lemmas.Slice.{take-put_mid}
 use Rattle.std.proofs.lemmas.Str.{IsUtf8-append, IsUtf8-nil, IsUtf8-from_is_utf8, is_utf8-from_IsUtf8}
-use borrow.Rule.Slice.PartMut.{put_mid}
 use Rattle.ufmt.specs.Writes.{Writes}
 use Rattle.ufmt_scan.specs.declared.convert.growing.Growing.{Growing}
 use Rattle.ufmt_scan.specs.Private.Growing.{growing_seen}
 
--- no bytes are a text
-pub utf8_nothing : is_utf8 [] ≡ true
-utf8_nothing = is_utf8-from_IsUtf8 [] IsUtf8-nil
-
--- what the test takes is a text
-pub utf8_text : (text : List ℕ) → is_utf8 text ≡ true → IsUtf8 text
-utf8_text text is = IsUtf8-from_is_utf8 text is
-
 -- a text after a text is one
 pub utf8_appended : (a b : List ℕ) → is_utf8 a ≡ true → IsUtf8 b → is_utf8 (a ++ b) ≡ true
 utf8_appended a b first more = is_utf8-from_IsUtf8 (a ++ b) (IsUtf8-append a b (IsUtf8-from_is_utf8 a first) more)
-
--- a piece that is put into a part of a buffer comes after what is before it
-pub put_after : (start k end : ℕ) (buffer piece : List ℕ) → end ≡ start + length piece → start ≤ length buffer → take end (put_mid start k buffer piece) ≡ take start buffer ++ piece
-put_after start k end buffer piece is within = take-put_mid start k buffer piece end is within
 
 -- what is filled after a text leaves the text
 pub fill_keeps : (ok : Bool) (text zeros items : List ℕ) → items ≡ (if ok then text ++ zeros else text)
@@ -47,3 +34,6 @@ stays old new piece some count items =
       same_identity = refl;
       untouched = λ known. refl;
     }
+
+-- what the proofs of its methods cite
+pub ruleset growing = (IsUtf8-nil, IsUtf8-from_is_utf8, is_utf8-from_IsUtf8, utf8_appended, fill_keeps, stays, take-put_mid, with_items_is)

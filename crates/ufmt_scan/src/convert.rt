@@ -31,7 +31,7 @@ pub fn write_to_plain<W: uWrite>(writer: &mut W, input: &[u8]) -> Result<(), Sca
     write::<W, false>(Mode::Pretty, Mode::Plain, writer, input)
 }
 
-// Writes to the writer, in one mode, a text that is read in another.
+// Reads a text in one mode, and writes it in another.
 #[inline(always)]
 fn write<W: uWrite, const PRETTY: bool>(
     from: Mode,
@@ -39,7 +39,8 @@ fn write<W: uWrite, const PRETTY: bool>(
     writer: &mut W,
     input: &[u8],
 ) -> Result<(), ScanError<W::Error>>
-    ensures { ConvertsTo W.seen (layout (setting from 0)) (layout (setting mode 0)) input.now writer.old result writer.new }
+    ensures { ConvertsTo W.seen (layout (setting from 0)) (layout (setting mode 0)) input.now
+        writer.old result writer.new }
 {
     let setting = Setting { mode, depth: 0 };
     scan(from, input, &mut TextSink::<_, PRETTY> { writer, setting })

@@ -19,7 +19,7 @@ pub(super) struct Growing {
     ghost utf8: { is_utf8 (take count bytes.items) ≡ true },
 }
 
-#[tactic(auto, using(crate::proofs::Growing::utf8_nothing, crate::proofs::Growing::utf8_text, crate::proofs::Growing::utf8_appended, crate::proofs::Growing::fill_keeps, crate::proofs::Growing::stays))]
+#[tactic(auto, using(crate::proofs::Growing::growing))]
 impl Growing {
     ghost use Rattle.ufmt_scan.specs.Private.Growing.{growing_seen, growing_text};
 
@@ -61,7 +61,7 @@ impl Growing {
 }
 
 /// Fails only for want of memory, and then leaves the text as it was.
-#[tactic(auto, using(crate::proofs::Growing::utf8_appended, crate::proofs::Growing::put_after, std::proofs::lemmas::List::with_items_is))]
+#[tactic(auto, using(crate::proofs::Growing::growing))]
 impl uWrite for Growing {
     ghost use Rattle.ufmt_scan.specs.Private.Growing.{growing_seen};
 
