@@ -1,9 +1,8 @@
 -- The texts of a document's events make up its layout.
-use Rattle.std.proofs.Common.{◌≡◌, ◌∙◌, refl, ap, sym, ℕ, suc, ◌+◌, ◌-◌, ◌≤◌, List, [], ◌∷◌, ◌++◌, codes, append_assoc, append-nil, arith}
+use Rattle.std.proofs.Common.{◌≡◌, ◌∙◌, refl, ap, sym, ℕ, suc, ◌+◌, ◌≤◌, List, [], ◌∷◌, ◌++◌, append_assoc, append-nil, arith}
 use Rattle.std.specs.Prelude.{⊤}
 use Rattle.ufmt.specs.Document.{Document, leaf, joined, list_of, set_of, map_of, struct_of, tuple_of, pretty_part, Documents, no_documents, document, Pairs, no_pairs, pair, Fields, no_fields, field, nest, nest_all, nest_pairs, nest_fields}
-use Rattle.ufmt.specs.Layout.{Frame, frame, setting, inside, entry_depth, separator, trail, lead, ending, next, block, block_tail, tuple_kind, layout, texts, pair_texts, field_texts}
-use Rattle.ufmt.specs.Token.{HasTokens, HaveTokens, PairsHaveTokens, FieldsHaveTokens}
+use Rattle.ufmt.specs.Layout.{frame, setting, inside, entry_depth, separator, trail, lead, line_start, ending, next, block, block_tail, tuple_kind, layout, texts, pair_texts, field_texts}
 use Rattle.ufmt_core.specs.declared.layout.Count.{Count}
 use Rattle.ufmt_core.specs.declared.layout.Count.TheVariants.{Zero, One, Several}
 use Rattle.ufmt_core.specs.declared.layout.Kind.{Kind}
@@ -11,9 +10,10 @@ use Rattle.ufmt_core.specs.declared.layout.Kind.TheVariants.{Brackets, Braces, S
 use Rattle.ufmt_core.specs.declared.layout.Mode.{Mode}
 use Rattle.ufmt_core.specs.declared.layout.Mode.TheVariants.{Plain, Pretty}
 use Rattle.ufmt_core.specs.declared.layout.Setting.{Setting}
+use Rattle.ufmt.specs.Token.{HasTokens, HaveTokens, PairsHaveTokens, FieldsHaveTokens}
 use Rattle.ufmt_scan.specs.Scan.{TextEvent, events_of, tail_events, block_events, events_of_entries, events_of_pairs, events_of_fields}
-use Rattle.ufmt_scan.specs.ScanTexts.{outside, written, setting_after, texts_written, last_setting}
-use Rattle.ufmt_scan.specs.declared.scan.event.Event.TheVariants.{Leaf, Empty, FieldName, Colon}
+use Rattle.ufmt_scan.specs.ScanTexts.{block_depth, written, setting_after, texts_written, last_setting}
+use Rattle.ufmt_scan.specs.declared.scan.event.Event.TheVariants.{Leaf, Empty}
 
 -- events in a row, and more after them
 pub texts_written-append : (s : Setting) (es fs : List TextEvent)
@@ -26,120 +26,97 @@ pub last_setting-append : (s : Setting) (es fs : List TextEvent) → last_settin
 last_setting-append s [] fs = refl
 last_setting-append s (e ∷ es) fs = last_setting-append (setting_after s e) es fs
 
--- these events have this text, from one mode and depth to another
-pub record AreWritten (s : Setting) (es : List TextEvent) (text : List ℕ) (last : Setting) : Type 0 where
-  pub writes : texts_written s es ≡ text
-  pub leaves : last_setting s es ≡ last
+-- these events have this text, and what comes after them continues at the mode and depth at which they begin
+record AreWritten (s : Setting) (es : List TextEvent) (text : List ℕ) : Type 0 where
+  pub before : (more : List TextEvent) → texts_written s (es ++ more) ≡ text ++ texts_written s more
 
 -- entries of these events have these texts, each at this mode and depth
 abbrev EntriesAreWritten : Setting → List (List TextEvent) → List (List ℕ) → Type 0
 EntriesAreWritten i [] [] = ⊤
 EntriesAreWritten i [] (t ∷ ts) = ⊥
 EntriesAreWritten i (es ∷ ess) [] = ⊥
-EntriesAreWritten i (es ∷ ess) (t ∷ ts) = AreWritten i es t i × EntriesAreWritten i ess ts
+EntriesAreWritten i (es ∷ ess) (t ∷ ts) = AreWritten i es t × EntriesAreWritten i ess ts
 
--- around the entries of a block is the block, where the depth didn't saturate
-outside_inside : (mode : Mode) (k : ℕ) → k + 1 ≤ 255 → outside (inside (setting mode k)) ≡ setting mode k
-outside_inside Plain k few = refl
-outside_inside Pretty k few = let same : entry_depth Pretty k - 1 ≡ k = grind (arith, few) in ap (setting Pretty) same
+-- around the entries of a block is its depth, which didn't saturate
+around : (mode : Mode) (k : ℕ) → k + 1 ≤ 255 → block_depth mode (entry_depth mode k) ≡ k
+around Plain k few = refl
+around Pretty k few = grind (arith, few)
 
 -- what may nest in a block may do so at its entries' depth
 deeper : (mode : Mode) (k n : ℕ) → suc n + k ≤ 255 → n + entry_depth mode k ≤ 255
 deeper Plain k n few = omega (arith, few)
 deeper Pretty k n few = grind (arith, few)
 
--- what separates two entries is what a later one has before it
-separator_is : (f : Frame) (i : Setting) (count : Count) → separator i.mode i.depth ≡ lead f i (next count)
-separator_is f i Zero = refl
-separator_is f i One = refl
-separator_is f i Several = refl
-
 -- a block
 module _ (mode : Mode) (k n : ℕ) (few : suc n + k ≤ 255) (kind : Kind) where
   abbrev s : Setting
   s = setting mode k
 
+  -- what comes before an entry or the end is the same after any number of entries
+  later : (count : Count) → (lead (frame mode kind) (inside s) (next count) ≡ separator mode (entry_depth mode k))
+      × (ending (frame mode kind) s (next count) ≡ line_start mode k ++ (frame mode kind).closing (next count))
+  later Zero = (refl, refl)
+  later One = (refl, refl)
+  later Several = (refl, refl)
+
   -- what is left of it after an entry
-  tail_written : (count : Count) (ess : List (List TextEvent)) (ts : List (List ℕ)) → EntriesAreWritten (inside s) ess ts
-      → AreWritten (inside s) (tail_events kind (next count) ess) (trail mode ++ block_tail (frame mode kind) s (next count) ts) s
-  tail_written count [] [] h =
-      let out = outside_inside mode k (omega arith) in
-      let text = λ (o : Setting). trail mode ++ ending (frame mode kind) o (next count) in
-      record { writes = ap (λ o. text o ++ []) out ∙ append-nil (text s); leaves = out }
-  tail_written count [] (t ∷ ts) h = absurd h
-  tail_written count (es ∷ ess) [] h = absurd h
-  tail_written count (es ∷ ess) (t ∷ ts) h =
-      let more = tail_written (next count) ess ts h.1 in record {
-        writes = simp (texts_written-append, h.0.writes, h.0.leaves, more.writes, separator_is (frame mode kind) (inside s) count, append_assoc);
-        leaves = simp (last_setting-append, h.0.leaves, more.leaves);
-      }
+  tail_written : (count : Count) (ess : List (List TextEvent)) (ts : List (List ℕ)) (more : List TextEvent) → EntriesAreWritten (inside s) ess ts
+      → texts_written (inside s) (tail_events kind (next count) ess ++ more) ≡ (trail mode ++ block_tail (frame mode kind) s (next count) ts) ++ texts_written s more
+  tail_written count [] [] more h = rw (around mode k (omega arith), (later count).1) refl
+  tail_written count [] (t ∷ ts) more h = absurd h
+  tail_written count (es ∷ ess) [] more h = absurd h
+  tail_written count (es ∷ ess) (t ∷ ts) more h = simp (append_assoc, h.0.before, tail_written (next count) ess ts more h.1, (later count).0)
 
   -- the whole of one with entries
   block_written : (name : List ℕ) (alone : TextEvent) (ess : List (List TextEvent)) (ts : List (List ℕ)) {es : List TextEvent} {t : List ℕ}
-      → EntriesAreWritten (inside s) (es ∷ ess) (t ∷ ts) → AreWritten s (block_events kind name alone (es ∷ ess)) (block kind s name (t ∷ ts)) s
-  block_written name alone ess ts h =
-      let tail = tail_written Zero ess ts h.1 in record {
-        writes = simp (texts_written-append, h.0.writes, h.0.leaves, tail.writes, append_assoc);
-        leaves = simp (last_setting-append, h.0.leaves, tail.leaves);
-      }
+      → EntriesAreWritten (inside s) (es ∷ ess) (t ∷ ts) → AreWritten s (block_events kind name alone (es ∷ ess)) (block kind s name (t ∷ ts))
+  block_written name alone ess ts h = record { before = λ more. simp (append_assoc, h.0.before, tail_written Zero ess ts more h.1) }
 
--- a key and its value, and a field's name and its value
-pair_written : {s : Setting} {es fs : List TextEvent} {t u : List ℕ} → AreWritten s es t s → AreWritten s fs u s
-    → AreWritten s (es ++ Colon ∷ fs) (t ++ (codes ": " ++ u)) s
-pair_written key value = record {
-  writes = simp (texts_written-append, key.writes, key.leaves, value.writes);
-  leaves = simp (last_setting-append, key.leaves, value.leaves);
-}
+-- a name that has no block
+name_written : {s : Setting} (name : List ℕ) → AreWritten s (Leaf name ∷ []) (name ++ [])
+name_written name = record { before = λ more. rw append-nil refl }
 
-field_written : {s : Setting} {es : List TextEvent} {t : List ℕ} (label : List ℕ) → AreWritten s es t s
-    → AreWritten s (FieldName label ∷ es) (label ++ (codes ": " ++ t)) s
-field_written {t = t} label value = record { writes = rw value.writes (append_assoc label (codes ": ") t); leaves = value.leaves }
-
--- the events of a token document have its layout as their text, and mode and depth are as before after them
+-- the events of a token document have its layout as their text
 module _ (mode : Mode) where
   mutual
-    pub events_written : (k : ℕ) (d : Document) → HasTokens d → nest d + k ≤ 255
-        → AreWritten (setting mode k) (events_of d) (layout (setting mode k) d) (setting mode k)
-    events_written k (leaf text) h few = record { writes = append-nil text; leaves = refl }
-    events_written k (joined ds) h few = absurd h
-    events_written k (list_of no_documents) h few = record { writes = refl; leaves = refl }
-    events_written k (list_of (document d ds)) h few =
-        block_written mode k _ few Brackets [] (Empty Brackets) _ _ (entries_written k (document d ds) h few)
-    events_written k (set_of no_documents) h few = record { writes = refl; leaves = refl }
-    events_written k (set_of (document d ds)) h few =
-        block_written mode k _ few Braces [] (Empty Braces) _ _ (entries_written k (document d ds) h few)
-    events_written k (map_of no_pairs) h few = record { writes = refl; leaves = refl }
-    events_written k (map_of (pair key value ps)) h few =
-        block_written mode k _ few Braces [] (Empty Braces) _ _ (pairs_written k (pair key value ps) h few)
-    events_written k (struct_of name no_fields) h few = record { writes = refl; leaves = refl }
-    events_written k (struct_of name (field label value fs)) h few =
-        block_written mode k _ few Struct name (Leaf name) _ _ (fields_written k (field label value fs) h.1 few)
-    events_written k (tuple_of [] no_documents) h few = absurd h
-    events_written k (tuple_of (c ∷ name) no_documents) h few = record { writes = refl; leaves = refl }
-    events_written k (tuple_of name (document d ds)) h few =
-        block_written mode k _ few (tuple_kind name) name (Leaf name) _ _ (entries_written k (document d ds) (h.1, h.2) few)
-    events_written k (pretty_part d) h few = absurd h
+    document_written : (k : ℕ) (d : Document) → HasTokens d → nest d + k ≤ 255
+        → AreWritten (setting mode k) (events_of d) (layout (setting mode k) d)
+    document_written k (leaf text) h few = record { before = λ more. refl }
+    document_written k (joined ds) h few = absurd h
+    document_written k (list_of no_documents) h few = record { before = λ more. refl }
+    document_written k (list_of (document d ds)) h few = block_written mode k _ few Brackets [] (Empty Brackets) _ _ (entries_written k (document d ds) h few)
+    document_written k (set_of no_documents) h few = record { before = λ more. refl }
+    document_written k (set_of (document d ds)) h few = block_written mode k _ few Braces [] (Empty Braces) _ _ (entries_written k (document d ds) h few)
+    document_written k (map_of no_pairs) h few = record { before = λ more. refl }
+    document_written k (map_of (pair key value ps)) h few = block_written mode k _ few Braces [] (Empty Braces) _ _ (pairs_written k (pair key value ps) h few)
+    document_written k (struct_of name no_fields) h few = name_written name
+    document_written k (struct_of name (field label value fs)) h few = block_written mode k _ few Struct name (Leaf name) _ _ (fields_written k (field label value fs) h.1 few)
+    document_written k (tuple_of [] no_documents) h few = absurd h
+    document_written k (tuple_of (c ∷ name) no_documents) h few = name_written (c ∷ name)
+    document_written k (tuple_of name (document d ds)) h few = block_written mode k _ few (tuple_kind name) name (Leaf name) _ _ (entries_written k (document d ds) (h.1, h.2) few)
+    document_written k (pretty_part d) h few = absurd h
 
     -- the entries of a block at this depth, its pairs and its fields
     entries_written : (k : ℕ) (ds : Documents) → HaveTokens ds → suc (nest_all ds) + k ≤ 255
         → EntriesAreWritten (inside (setting mode k)) (events_of_entries ds) (texts (inside (setting mode k)) ds)
     entries_written k no_documents h few = tt
     entries_written k (document d ds) h few =
-        (events_written (entry_depth mode k) d h.0 (deeper mode k (nest d) (omega arith)), entries_written k ds h.1 (omega arith))
+        (document_written (entry_depth mode k) d h.0 (deeper mode k (nest d) (omega arith)), entries_written k ds h.1 (omega arith))
 
     pairs_written : (k : ℕ) (ps : Pairs) → PairsHaveTokens ps → suc (nest_pairs ps) + k ≤ 255
         → EntriesAreWritten (inside (setting mode k)) (events_of_pairs ps) (pair_texts (inside (setting mode k)) ps)
     pairs_written k no_pairs h few = tt
-    pairs_written k (pair key value ps) h few = (
-      pair_written (events_written (entry_depth mode k) key h.0 (deeper mode k (nest key) (omega arith)))
-          (events_written (entry_depth mode k) value h.1 (deeper mode k (nest value) (omega arith))),
-      pairs_written k ps h.2 (omega arith),
-    )
+    pairs_written k (pair key value ps) h few =
+        let first = document_written (entry_depth mode k) key h.0 (deeper mode k (nest key) (omega arith)) in
+        let second = document_written (entry_depth mode k) value h.1 (deeper mode k (nest value) (omega arith)) in
+        (record { before = λ more. simp (append_assoc, first.before, second.before) }, pairs_written k ps h.2 (omega arith))
 
     fields_written : (k : ℕ) (fs : Fields) → FieldsHaveTokens fs → suc (nest_fields fs) + k ≤ 255
         → EntriesAreWritten (inside (setting mode k)) (events_of_fields fs) (field_texts (inside (setting mode k)) fs)
     fields_written k no_fields h few = tt
-    fields_written k (field label value fs) h few = (
-      field_written label (events_written (entry_depth mode k) value h.1 (deeper mode k (nest value) (omega arith))),
-      fields_written k fs h.2 (omega arith),
-    )
+    fields_written k (field label value fs) h few =
+        let second = document_written (entry_depth mode k) value h.1 (deeper mode k (nest value) (omega arith)) in
+        (record { before = λ more. simp (append_assoc, second.before) }, fields_written k fs h.2 (omega arith))
+
+  pub events_written : (k : ℕ) (d : Document) → HasTokens d → nest d + k ≤ 255 → texts_written (setting mode k) (events_of d) ≡ layout (setting mode k) d
+  events_written k d h few = let whole = (document_written k d h few).before [] in simp append-nil at whole

@@ -2,8 +2,9 @@
 use Rattle.std.proofs.Common.{◌≡◌, ◌∙◌, refl, sym, subst, ℕ, zero, ◌<◌, ◌≤◌, Bool, true, false, if◌then◌else◌, List, [], ◌++◌, append-nil, length, length-append, take, arith}
 use Rattle.std.specs.Str.{IsUtf8, is_utf8}
 use Rattle.std.proofs.Math.Seq.{take-append_seam, take-length}
-use Rattle.std.proofs.lemmas.List.{length-take-le}
-use Rattle.std.proofs.lemmas.Str.{IsUtf8-append, IsUtf8-from_is_utf8, is_utf8-from_IsUtf8}
+use Rattle.std.proofs.lemmas.List.{length-take-le, with_items_is}
+use Rattle.std.proofs.lemmas.Slice.{take-put_mid}
+use Rattle.std.proofs.lemmas.Str.{IsUtf8-append, IsUtf8-nil, IsUtf8-from_is_utf8, is_utf8-from_IsUtf8}
 use Rattle.ufmt.specs.Writes.{Writes}
 use Rattle.ufmt_scan.specs.declared.convert.growing.Growing.{Growing}
 use Rattle.ufmt_scan.specs.Private.Growing.{growing_seen}
@@ -33,3 +34,6 @@ stays old new piece some count items =
       same_identity = refl;
       untouched = λ known. refl;
     }
+
+-- what the proofs of its methods cite
+pub ruleset growing = (IsUtf8-nil, IsUtf8-from_is_utf8, is_utf8-from_IsUtf8, utf8_appended, fill_keeps, stays, take-put_mid, with_items_is)

@@ -9,7 +9,6 @@ pub mod ScanTurns
 pub mod Spelled
 pub mod Strips
 pub mod WordBytes
-pub mod IntoBuffers
 pub mod Lines
 pub mod TextSinks
 pub mod EventTexts

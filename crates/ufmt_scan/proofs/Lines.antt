@@ -1,5 +1,5 @@
 -- A line at some depth, cut from one at the greatest.
-use Rattle.std.proofs.Common.{◌≡◌, ◌∙◌, refl, ap, ℕ, zero, suc, ◌+◌, ◌*◌, ◌≤◌, ◌<◌, List, ◌∷◌, ◌++◌, length, take, arith}
+use Rattle.std.proofs.Common.{◌≡◌, ◌∙◌, refl, ap, ℕ, zero, suc, ◌+◌, ◌*◌, ◌≤◌, ◌<◌, List, [], All, ◌∷◌, ◌++◌, length, take, arith}
 use Rattle.std.specs.Str.{IsAscii}
 use Rattle.std.proofs.Math.Seq.{take-append-add}
 use Rattle.std.proofs.lemmas.Str.Ascii.{IsAscii-cons, IsAscii-nil}
@@ -12,16 +12,12 @@ take_indentation (suc m) zero few = absurd (omega arith)
 take_indentation (suc m) (suc n) few =
     let four : 4 * suc m ≡ suc (suc (suc (suc (4 * m)))) = omega arith in rw (four, take_indentation m n (omega arith))
 
-pub cut_is : (deepest text : List ℕ) (front depth : ℕ) → depth ≤ 255 → length text ≡ front → deepest ≡ text ++ indentation 255
-    → take (front + 4 * depth) deepest ≡ text ++ indentation depth
-cut_is deepest text front depth few long is =
-    rw (is, ← long) (take-append-add text (indentation 255) (4 * depth) ∙ ap (λ t. text ++ t) (take_indentation depth 255 few))
+pub cut_is : (front : List ℕ) (depth : ℕ) → depth ≤ 255 → take (length front + 4 * depth) (front ++ indentation 255) ≡ front ++ indentation depth
+cut_is front depth few = take-append-add front (indentation 255) (4 * depth) ∙ ap (λ t. front ++ t) (take_indentation depth 255 few)
 
 -- it is ASCII
-indentation_ascii : (n : ℕ) → IsAscii (indentation n)
-indentation_ascii zero = IsAscii-nil
-indentation_ascii (suc n) = search (arith, IsAscii-cons, indentation_ascii n) depth 9
-
--- with two bytes before it too
-pub line_ascii : (a b : ℕ) → a < 128 → b < 128 → IsAscii (a ∷ b ∷ indentation 255)
-line_ascii a b first second = IsAscii-cons a (b ∷ indentation 255) first (IsAscii-cons b (indentation 255) second (indentation_ascii 255))
+pub line_ascii : (front : List ℕ) (n : ℕ) → All (λ c. c < 128) front → IsAscii (front ++ indentation n)
+line_ascii [] zero ascii = IsAscii-nil
+line_ascii [] (suc n) ascii = search (arith, IsAscii-cons, line_ascii [] n ascii) depth 9
+line_ascii (c ∷ front) n ascii =
+    IsAscii-cons c (front ++ indentation n) (ascii 0 0 (omega arith)) (line_ascii front n (λ k d within. ascii (suc k) d (omega arith)))

@@ -1,9 +1,9 @@
 -- What a sink writes that lays a text out, event by event.
 use Rattle.std.specs.Prelude.{ℕ, ◌-◌, List, [], ◌∷◌, ◌++◌, codes}
-use Rattle.ufmt.specs.Layout.{frame, setting, inside, separator, trail, lead, ending}
+use Rattle.ufmt.specs.Layout.{frame, setting, inside, separator, trail, lead, line_start}
+use Rattle.ufmt_core.specs.declared.layout.Count.TheVariants.{Zero}
 use Rattle.ufmt_core.specs.declared.layout.Mode.{Mode}
 use Rattle.ufmt_core.specs.declared.layout.Mode.TheVariants.{Plain, Pretty}
-use Rattle.ufmt_core.specs.declared.layout.Count.TheVariants.{Zero}
 use Rattle.ufmt_core.specs.declared.layout.Setting.{Setting}
 use Rattle.ufmt_scan.specs.Scan.{TextEvent}
 use Rattle.ufmt_scan.specs.declared.scan.event.Event.TheVariants.{Leaf, Empty, Open, FieldName, Colon, Next, Close}
@@ -25,17 +25,13 @@ written s (Open kind name) = name ++ ((frame s.mode kind).opening ++ lead (frame
 written s (FieldName text) = text ++ codes ": "
 written s Colon = codes ": "
 written s Next = trail s.mode ++ separator s.mode s.depth
-written s (Close kind count) = trail s.mode ++ ending (frame s.mode kind) (outside s) count
+written s (Close kind count) = trail s.mode ++ (line_start s.mode (outside s).depth ++ (frame s.mode kind).closing count)
 
 -- the mode and depth at which it continues after that
 abbrev pub setting_after : Setting → TextEvent → Setting
-setting_after s (Leaf text) = s
-setting_after s (Empty kind) = s
 setting_after s (Open kind name) = inside s
-setting_after s (FieldName text) = s
-setting_after s Colon = s
-setting_after s Next = s
 setting_after s (Close kind count) = outside s
+setting_after s e = s
 
 -- the text of events, one after another
 abbrev pub texts_written : Setting → List TextEvent → List ℕ

@@ -1,8 +1,5 @@
-//! Values to texts, and plain texts to pretty ones and back.
-ghost use Rattle.std.specs.Prelude.{◌≡◌, ◌≤◌, string_bytes, IfOk};
-ghost use Rattle.ufmt.specs.Document.{nest};
-ghost use Rattle.ufmt.specs.Layout.{plain_text, pretty_text};
-ghost use Rattle.ufmt.specs.Shift.{HasNoLineFeed, shifted};
+//! Plain texts to pretty ones and back.
+ghost use Rattle.ufmt.specs.Layout.{layout, plain_text, pretty_text, setting};
 ghost use Rattle.ufmt_scan.specs.Texts.{Converts, ConvertsInto, ConvertsTo};
 
 mod growing;
@@ -11,33 +8,11 @@ mod text_sink;
 use crate::error::ReadError;
 use crate::scan::{ScanError, scan};
 use growing::Growing;
-use std::alloc::{AllocError, Global};
+use std::alloc::Global;
 use text_sink::TextSink;
-use ufmt::layout::Mode;
-use ufmt::{Cursor, Full, uDebug, uWrite, write_debug, write_pretty};
-
-/// Returns the value's plain text. Fails only for want of memory.
-pub fn plain_text<T: uDebug>(alloc: Global, value: &T) -> Result<String, AllocError>
-    ensures { IfOk result (λ text. string_bytes text ≡ plain_text (T.document value.now)) }
-{
-    let mut text = String::new(alloc);
-    write_debug(&mut text, value)?;
-    Ok(text)
-}
-
-/// Returns the value's pretty text, from depth 0. Where blocks with entries lie at most 255 deep and no
-/// leaf and no name has a line feed, that is also its shifted text, which knows no depth. Fails only
-/// for want of memory.
-pub fn pretty_text<T: uDebug>(alloc: Global, value: &T) -> Result<String, AllocError>
-    ensures text { IfOk result (λ text. string_bytes text ≡ pretty_text (T.document value.now)) }
-    ensures shifted { IfOk result (λ text.
-        HasNoLineFeed (T.document value.now) → nest (T.document value.now) ≤ 255
-        → string_bytes text ≡ shifted (T.document value.now)) }
-{
-    let mut text = String::new(alloc);
-    write_pretty(&mut text, value)?;
-    Ok(text)
-}
+use ufmt::layout::{Mode, Setting};
+pub use ufmt::{plain_text, pretty_text};
+use ufmt::{Cursor, Full, uWrite};
 
 /// Writes the pretty text of the token documents with this plain text to the writer, and takes no
 /// memory of its own. Fails with `NotText` if no token document has this text, else with the writer's
@@ -45,8 +20,7 @@ pub fn pretty_text<T: uDebug>(alloc: Global, value: &T) -> Result<String, AllocE
 pub fn write_to_pretty<W: uWrite>(writer: &mut W, input: &[u8]) -> Result<(), ScanError<W::Error>>
     ensures { ConvertsTo W.seen plain_text pretty_text input.now writer.old result writer.new }
 {
-    let mut sink = TextSink::new(Mode::Pretty, writer);
-    scan(Mode::Plain, input, &mut sink)
+    write::<W, true>(Mode::Plain, Mode::Pretty, writer, input)
 }
 
 /// Writes the plain text of the token documents with this pretty text to the writer. Fails as
@@ -54,8 +28,22 @@ pub fn write_to_pretty<W: uWrite>(writer: &mut W, input: &[u8]) -> Result<(), Sc
 pub fn write_to_plain<W: uWrite>(writer: &mut W, input: &[u8]) -> Result<(), ScanError<W::Error>>
     ensures { ConvertsTo W.seen pretty_text plain_text input.now writer.old result writer.new }
 {
-    let mut sink = TextSink::new(Mode::Plain, writer);
-    scan(Mode::Pretty, input, &mut sink)
+    write::<W, false>(Mode::Pretty, Mode::Plain, writer, input)
+}
+
+// Reads a text in one mode, and writes it in another.
+#[inline(always)]
+fn write<W: uWrite, const PRETTY: bool>(
+    from: Mode,
+    mode: Mode,
+    writer: &mut W,
+    input: &[u8],
+) -> Result<(), ScanError<W::Error>>
+    ensures { ConvertsTo W.seen (layout (setting from 0)) (layout (setting mode 0)) input.now
+        writer.old result writer.new }
+{
+    let setting = Setting { mode, depth: 0 };
+    scan(from, input, &mut TextSink::<_, PRETTY> { writer, setting })
 }
 
 /// Writes the pretty text of the token documents with this plain text to the front of the buffer, and
@@ -85,9 +73,9 @@ pub fn to_plain_into(buffer: &mut [u8], input: &[u8]) -> Result<usize, ScanError
 pub fn to_pretty(alloc: Global, input: &[u8]) -> Result<String, ReadError>
     ensures { Converts plain_text pretty_text input.now result }
 {
-    let mut sink = TextSink::new(Mode::Pretty, Growing::new(alloc));
-    scan(Mode::Plain, input, &mut sink)?;
-    Ok(sink.writer.into_string())
+    let mut text = Growing::new(alloc);
+    write_to_pretty(&mut text, input)?;
+    Ok(text.into_string())
 }
 
 /// Returns the plain text of the token documents with this pretty text. Undoes `to_pretty`, and fails as
@@ -95,7 +83,7 @@ pub fn to_pretty(alloc: Global, input: &[u8]) -> Result<String, ReadError>
 pub fn to_plain(alloc: Global, input: &[u8]) -> Result<String, ReadError>
     ensures { Converts pretty_text plain_text input.now result }
 {
-    let mut sink = TextSink::new(Mode::Plain, Growing::new(alloc));
-    scan(Mode::Pretty, input, &mut sink)?;
-    Ok(sink.writer.into_string())
+    let mut text = Growing::new(alloc);
+    write_to_plain(&mut text, input)?;
+    Ok(text.into_string())
 }

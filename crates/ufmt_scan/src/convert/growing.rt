@@ -19,6 +19,7 @@ pub(super) struct Growing {
     ghost utf8: { is_utf8 (take count bytes.items) ≡ true },
 }
 
+#[tactic(auto, using(crate::proofs::Growing::growing))]
 impl Growing {
     ghost use Rattle.ufmt_scan.specs.Private.Growing.{growing_seen, growing_text};
 
@@ -60,6 +61,7 @@ impl Growing {
 }
 
 /// Fails only for want of memory, and then leaves the text as it was.
+#[tactic(auto, using(crate::proofs::Growing::growing))]
 impl uWrite for Growing {
     ghost use Rattle.ufmt_scan.specs.Private.Growing.{growing_seen};
 
@@ -72,21 +74,10 @@ impl uWrite for Growing {
         if s.len() > self.bytes.len() - self.count {
             return self.append(s);
         }
-        put(s, &mut self.bytes, self.count);
+        fill(s, &mut self.bytes[self.count..self.count + s.len()]);
         self.count += s.len();
         Ok(())
     }
-}
-
-// Writes a text over the bytes of the buffer from `start` on.
-#[inline(always)]
-fn put(text: &str, buffer: &mut [u8], start: usize)
-    requires { start + length text.now ≤ length buffer.old }
-    ensures written { take (start + length text.now) buffer.new
-        ≡ take start buffer.old ++ text.now }
-    ensures same_length { length buffer.new ≡ length buffer.old }
-{
-    fill(text, &mut buffer[start..start + text.len()]);
 }
 
 // Writes a text over a buffer that is as long.

@@ -1,10 +1,11 @@
-use Rattle.std.proofs.Common.{is_ok, subst}
-use Rattle.ufmt.specs.Writes.{Writes}
+use Rattle.std.proofs.Common.{refl, false}
+use Rattle.ufmt_core.proofs.Writing.{Writes-fails, Writes-then, is_ok-err}
 use Rattle.ufmt_scan.proofs.TextSinks.{takes_event}
 use Rattle.ufmt_scan.proofs.convert.text_sink.TextSinkSink.event.Goals as goal
 
+pub returns-in_err-write_piece : goal.returns-in_err-write_piece
+returns-in_err-write_piece g c =
+    rw (is_ok-err _ c.from_residual.ensures.0) (takes_event g.W.uWrite.seen _ _ _ false (rw (← c.pieces.ensures) (Writes-fails c.pieces.result.1.now c.in_err-write_piece.ensures)) c.setting_after-self.ensures refl)
+
 pub returns : goal.returns
-returns g c =
-    let writes = subst (λ t. Writes g.W.uWrite.seen c.args.self.now.writer t (is_ok c.write_pieces.result) c.write_pieces.new.writer)
-    c.pieces.ensures c.write_pieces.ensures in
-    takes_event g.W.uWrite.seen _ _ _ _ (writes, c.setting_after-self.ensures)
+returns g c = takes_event g.W.uWrite.seen _ _ _ _ (rw (← c.pieces.ensures) (Writes-then c.in_ok-write_piece.ensures c.write_piece-2.ensures)) c.setting_after-self.ensures refl

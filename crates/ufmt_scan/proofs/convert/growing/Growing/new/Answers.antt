@@ -1,6 +1,0 @@
-use Rattle.std.proofs.Common.{[], arith}
-use Rattle.std.proofs.lemmas.Str.{IsUtf8-nil, is_utf8-from_IsUtf8}
-use Rattle.ufmt_scan.proofs.convert.growing.Growing.new.Goals as goal
-
-pub invariant_of-result : goal.invariant_of-result
-invariant_of-result c = record { within = omega arith; utf8 = is_utf8-from_IsUtf8 [] IsUtf8-nil }
