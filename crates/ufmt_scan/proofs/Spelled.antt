@@ -43,7 +43,7 @@ escaped_bytes-append q (b ∷ bs) cs = ap (λ t. escaped_byte q b ++ t) (escaped
 pub spelled_shorter : (q b : ℕ) (t u : List ℕ) → t ≡ escaped_byte q b ++ u → length u < length t
 spelled_shorter q b t u h = omega (arith, ap length h, length-append (escaped_byte q b) u, length-escaped q b)
 
--- bytes that stand for themselves are written so
+-- bytes without escapes are written as they are
 pub stretch_within : (t : List ℕ) (n : ℕ) → n ≡ plain_len t → n ≤ length t
 stretch_within t n is = omega (arith, is, (core.stretch t).within)
 

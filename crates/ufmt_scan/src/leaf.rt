@@ -93,10 +93,9 @@ fn is_marked(table: &[u8; 256], byte: u8) -> bool
 pub(crate) fn split_quotes(input: &[u8]) -> Option<(&str, &[u8])>
     ensures { option_map (λ x. (x.0.now, x.1.now)) result ≡ read_quoted input.now }
 {
-    if let Some(text) = split_plain(input) {
-        Some(text)
-    } else {
-        split_any(input)
+    match split_plain(input) {
+        Some(text) => Some(text),
+        None => split_any(input),
     }
 }
 
@@ -104,10 +103,9 @@ pub(crate) fn split_quotes(input: &[u8]) -> Option<(&str, &[u8])>
 fn split_symbol(input: &[u8]) -> Option<(&str, &[u8])>
     ensures { option_map (λ x. (x.0.now, x.1.now)) result ≡ read_symbol input.now }
 {
-    if let Some(rest) = strip_piece("()", input) {
-        Some(("()", rest))
-    } else {
-        split_quotes(input)
+    match strip_piece("()", input) {
+        Some(rest) => Some(("()", rest)),
+        None => split_quotes(input),
     }
 }
 

@@ -59,8 +59,7 @@ pub(crate) fn split_any(input: &[u8]) -> Option<(&str, &[u8])>
 #[tactic(auto, using(crate::proofs::Spelled::closing))]
 fn after_quote(quote: u8, input: &[u8]) -> Option<&[u8]>
     requires { IsQuote quote }
-    ensures { MatchOption result
-        (NeverCloses quote input.now) (λ rest. Closes quote input.now rest.now) }
+    ensures { MatchOption result (NeverCloses quote input.now) (λ rest. Closes quote input.now rest.now) }
 {
     let mut rest = after_stretch(quote, input);
     'escapes: loop {
