@@ -9,7 +9,7 @@ use Rattle.ufmt_doc.specs.Doc.{doc_document}
 use Rattle.ufmt_scan.specs.declared.error.ReadError.{ReadError}
 use Rattle.ufmt_scan.specs.Texts.{IsNormalForm}
 
--- what a text is read as is the normal form of each document with that text, where the text tells the normal form
+-- what was read of a text is the normal form of each document with that text, if equal texts have equal normal forms
 form_is : (text_of : Document → List ℕ) → ((d e : Document) → IsToken d → IsToken e → text_of d ≡ text_of e → normal d ≡ normal e)
     → (input : List ℕ) (e d : Document) → IsNormalForm text_of input e → IsToken d → text_of d ≡ input → e ≡ normal d
 form_is text_of tells input e d read token same = sym read.1 ∙ tells e d read.0 token (read.2 ∙ sym same)
