@@ -1,6 +1,5 @@
 -- What is in quotes: bytes as they are written there, up to the closing quote.
-use Rattle.std.proofs.Common.{◌≡◌, ◌⊎◌, inl, inr, ◌≤◌, refl, sym, ap, ◌∙◌, ℕ, ◌<◌, List, [], ◌∷◌, ◌++◌, length, take, drop, Option, Some, None, append_assoc, length-append, arith}
-use Rattle.std.specs.List.{slice_index}
+use Rattle.std.proofs.Common.{◌≡◌, ◌⊎◌, inl, inr, ◌≤◌, refl, sym, ap, ◌∙◌, ℕ, ◌<◌, List, [], ◌∷◌, ◌++◌, length, take, drop, Option, Some, None, slice_index, append_assoc, length-append, arith}
 use Rattle.std.specs.Prelude.{◌≢◌, unwrap_or}
 use Rattle.std.proofs.lemmas.Bool.{cases_lt}
 use Rattle.std.proofs.lemmas.List.{append_cancel_right, take-append-drop}
@@ -98,7 +97,5 @@ module _ (q : ℕ) (quote : IsQuote q) where
         absurd (cc);
   }
 
--- what the search for the closing quote needs, and what a byte needs
-pub ruleset closing = (stretch_within, stretch, spelled_nothing, spelled_turn, spelled_shorter, quote_closes)
-
-pub ruleset one_byte = (no_other, strip_found)
+-- what the search for the closing quote needs
+pub ruleset closing = (stretch_within, stretch, spelled_nothing, spelled_shorter, quote_closes)

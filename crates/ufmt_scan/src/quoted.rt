@@ -112,7 +112,7 @@ fn character_len(lead: u8) -> usize
 /// The byte whose spelling between these quotes the input begins with, and the input after it. `None` if
 /// it begins with no byte's spelling. `quote` is a quotation mark or an apostrophe.
 #[inline(always)]
-#[tactic(auto, using(crate::proofs::Spelled::one_byte))]
+#[tactic(auto, using(crate::proofs::Spelled::no_other, ufmt::proofs::Parsing::strip_found))]
 pub fn split_escaped(quote: u8, input: &[u8]) -> Option<(u8, &[u8])>
     requires { IsQuote quote }
     ensures some { IfSome result (λ x. input.now ≡ escaped_byte quote x.0 ++ x.1.now) }
