@@ -5,35 +5,19 @@ use Rattle.std.specs.Str.{IsUtf8, all_scalars, chars, encode_utf8_all}
 use Rattle.std.proofs.lemmas.Str.{chars-encodes}
 use Rattle.ufmt.specs.Document.{leaf}
 use Rattle.ufmt.specs.Quoted.{IsQuote, IsQuoted, escaped_byte, escaped_bytes, quoted, quoted_text}
-use Rattle.ufmt.specs.ReadingQuoted.{read_escaped}
-use Rattle.ufmt.specs.Reading.{strip}
 use Rattle.ufmt.specs.Token.{IsSymbol}
-use Rattle.ufmt.proofs.Parsing.{same_parts, strip_stands}
-use Rattle.ufmt.proofs.QuotedComplete.{escaped-no_quote, length-escaped, quoted-bytes, read_escaped-complete}
+use Rattle.ufmt.proofs.QuotedComplete.{quoted-bytes}
 use Rattle.ufmt_doc.specs.Private.{AreSpelled}
+use Rattle.ufmt_scan.proofs.Spelled.{quote_ends, spelled_once}
 use Rattle.ufmt_doc.specs.Unquoted.{IsInQuotes}
 
--- a byte that is decoded leaves less
-pub decoded_shorter : (q : ℕ) (t : List ℕ) (b : ℕ) (u : List ℕ) → t ≡ escaped_byte q b ++ u → length u < length t
-decoded_shorter q t b u h = omega (arith, ap length h, length-append (escaped_byte q b) u, length-escaped q b)
-
-module _ (q : ℕ) (quote : IsQuote q) where
-  -- a byte that is decoded is the first of those that are spelled up to the closing quote
-  pub decoded_first : (b : ℕ) (u t bs : List ℕ) → t ≡ escaped_byte q b ++ u → t ≡ escaped_bytes q bs ++ q ∷ []
-      → (more : List ℕ) × (bs ≡ b ∷ more) × (u ≡ escaped_bytes q more ++ q ∷ [])
-  decoded_first b u t [] h is =
-      let none : ◌≡◌ {A = Option (List ℕ)} None (Some []) = sym (escaped-no_quote q b u quote) ∙ ap (strip (q ∷ [])) (sym h ∙ is) ∙ strip_stands (q ∷ []) [] in absurd (cc)
-  decoded_first b u t (d ∷ bs) h is =
-      let others = escaped_bytes q bs ++ q ∷ [] in
-      let same : escaped_byte q b ++ u ≡ escaped_byte q d ++ others = sym h ∙ is ∙ append_assoc (escaped_byte q d) (escaped_bytes q bs) (q ∷ []) in
-      let read = sym (read_escaped-complete q b u quote) ∙ ap (read_escaped q) same ∙ read_escaped-complete q d others quote in
-      let parts = same_parts {A = ℕ} {B = List ℕ} (b, u) (d, others) read in
-      (bs, cc, parts.1)
-
-  -- where none is decoded any more, none is left
-  pub decoded_all : (t bs : List ℕ) → ((b : ℕ) (u : List ℕ) → t ≢ escaped_byte q b ++ u) → t ≡ escaped_bytes q bs ++ q ∷ [] → bs ≡ []
-  decoded_all t [] stops is = refl
-  decoded_all t (d ∷ bs) stops is = absurd (stops d (escaped_bytes q bs ++ q ∷ []) (is ∙ append_assoc (escaped_byte q d) (escaped_bytes q bs) (q ∷ [])))
+-- a byte that is decoded is the first of those that are spelled up to the closing quote
+pub decoded_first : (q : ℕ) (quote : IsQuote q) (b : ℕ) (u t bs : List ℕ) → t ≡ escaped_byte q b ++ u → t ≡ escaped_bytes q bs ++ q ∷ []
+    → (more : List ℕ) × (bs ≡ b ∷ more) × (u ≡ escaped_bytes q more ++ q ∷ [])
+decoded_first q quote b u t [] h is = absurd (quote_ends q quote [] b u (sym is ∙ h))
+decoded_first q quote b u t (d ∷ bs) h is =
+    let first = spelled_once q quote b d u _ (sym h ∙ is ∙ append_assoc (escaped_byte q d) (escaped_bytes q bs) (q ∷ [])) in
+    (bs, cc, first.1)
 
 module _ (t inside : List ℕ) (q : ℕ) (front : t ≡ q ∷ inside) (symbol : IsSymbol t) (quote : IsQuote q) where
   is_quoted : IsQuoted t

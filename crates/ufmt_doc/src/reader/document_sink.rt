@@ -72,13 +72,17 @@ fn take_pairs(alloc: Global, docs: &mut Vec<Doc>, start: usize) -> Taken<(Doc, D
     ensures pairs { IfOk result (λ pairs. map pair_view pairs.items
         ≡ in_pairs (map doc_document (drop start docs.old.items))) }
 {
-    let mut pairs = Vec::with_capacity(alloc, (docs.len() - start) / 2)?;
-    let mut entries = docs.drain(start..);
-    while let Some(key) = entries.next() {
-        if let Some(value) = entries.next() {
-            pairs.push_reserved((key, value));
-        }
+    let count = (docs.len() - start) / 2;
+    // A scan puts a value after each key.
+    if 2 * count < docs.len() - start {
+        return Err(AllocError);
     }
+    let mut pairs = Vec::with_capacity(alloc, count)?;
+    'pairs: while docs.len() > start {
+        let value = docs.take_last();
+        pairs.push_reserved((docs.take_last(), value));
+    }
+    pairs.reverse();
     Ok(pairs)
 }
 
