@@ -1,5 +1,6 @@
 pub mod Docs
 pub mod GrowingDocuments
+pub mod LastPairs
 pub mod NormalForms
 pub mod ReadForms
 pub mod Unquoted

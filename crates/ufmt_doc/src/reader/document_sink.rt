@@ -95,13 +95,17 @@ fn take_fields(alloc: Global, docs: &mut Vec<Doc>, start: usize) -> Taken<(Strin
     ensures fields { IfOk result (λ fields. map field_view fields.items
         ≡ map field_from (in_pairs (map doc_document (drop start docs.old.items)))) }
 {
-    let mut fields = Vec::with_capacity(alloc, (docs.len() - start) / 2)?;
-    let mut entries = docs.drain(start..);
-    while let Some(name) = entries.next() {
-        if let Some(value) = entries.next() {
-            fields.push_reserved((text_of(alloc, name), value));
-        }
+    let count = (docs.len() - start) / 2;
+    // A scan puts a value after each name.
+    if 2 * count < docs.len() - start {
+        return Err(AllocError);
     }
+    let mut fields = Vec::with_capacity(alloc, count)?;
+    'fields: while docs.len() > start {
+        let value = docs.take_last();
+        fields.push_reserved((text_of(alloc, docs.take_last()), value));
+    }
+    fields.reverse();
     Ok(fields)
 }
 

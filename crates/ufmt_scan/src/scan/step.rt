@@ -153,19 +153,11 @@ pub(super) fn begin<'a, S: Sink, const PRETTY: bool>(
     }
     let name = text_from(word, 0);
     if let Some(rest) = level.strip_lead(Kind::Tuple, rest) {
-        emit(
-            Event::Open(Kind::Tuple, name),
-            Some(Stage::TupleFirst),
-            rest,
-            sink,
-        )
+        let event = Event::Open(Kind::Tuple, name);
+        emit(event, Some(Stage::TupleFirst), rest, sink)
     } else if let Some(rest) = level.strip_lead(Kind::Struct, rest) {
-        emit(
-            Event::Open(Kind::Struct, name),
-            Some(Stage::FieldFirst),
-            rest,
-            sink,
-        )
+        let event = Event::Open(Kind::Struct, name);
+        emit(event, Some(Stage::FieldFirst), rest, sink)
     } else {
         emit(Event::Leaf(name), None, rest, sink)
     }
@@ -187,12 +179,8 @@ fn begin_without_name<'a, S: Sink, const PRETTY: bool>(
     } else if let Some(rest) = strip_piece("()", input) {
         emit(Event::Leaf("()"), None, rest, sink)
     } else if let Some(rest) = level.strip_lead(Kind::Unnamed, input) {
-        emit(
-            Event::Open(Kind::Unnamed, ""),
-            Some(Stage::UnnamedFirst),
-            rest,
-            sink,
-        )
+        let event = Event::Open(Kind::Unnamed, "");
+        emit(event, Some(Stage::UnnamedFirst), rest, sink)
     } else if let Some((text, rest)) = split_quotes(input) {
         emit(Event::Leaf(text), None, rest, sink)
     } else {
