@@ -1,4 +1,4 @@
-use Rattle.std.proofs.Common.{◌-◌, length, sym, arith}
+use Rattle.std.proofs.Common.{◌-◌, length, arith}
 use Rattle.ufmt_scan.specs.Private.Scanning.{scan_begun, level_at, open_stages}
 use Rattle.ufmt_scan.proofs.OpenSteps.{around, field_stage, named, named_none}
 use Rattle.ufmt_scan.proofs.Scans.{refused}

@@ -1,4 +1,4 @@
-use Rattle.std.proofs.Common.{◌≡◌, ◌∙◌, ap, sym, refl, ℕ, zero, suc, ◌<◌, ◌≤◌, Bool, true, false, if◌then◌else◌, List, [], ◌∷◌, ◌++◌, append-nil, length, slice_index_or, String, string_bytes, arith}
+use Rattle.std.proofs.Common.{◌≡◌, ◌∙◌, ap, sym, refl, ℕ, ◌<◌, ◌≤◌, Bool, true, false, if◌then◌else◌, List, [], ◌∷◌, ◌++◌, append-nil, length, slice_index_or, String, string_bytes, arith}
 use Rattle.ufmt_core.specs.Writes.{Writes, string_seen}
 use Rattle.ufmt_core.proofs.write.StringuWrite.write_str.Goals as goal
 
