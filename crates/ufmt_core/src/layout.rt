@@ -1,5 +1,5 @@
 //! How documents are laid out: on one line or an entry a line, and the table of what stands round the
-//! entries of each kind of block. Formatters, readers and conversions take the brackets from here.
+//! entries of each kind of block. Formatters take them from here, and the scanner what begins a block.
 ghost use Rattle.std.specs.Prelude.{◌≡◌, ◌++◌, ℕ};
 ghost use Rattle.ufmt_core.specs.declared.layout.Mode.{Mode};
 ghost use Rattle.ufmt_core.specs.Layout.{frame, indentation, inside, line_start, new_line, next, separator, trail, tuple_kind};

@@ -1,4 +1,4 @@
-//! What a call answered, beside what it answers with ample memory.
+//! What a call returned, beside what it returns with ample memory.
 ghost use Rattle.std.specs.Prelude.{◌≡◌, ◌≢◌, ◌↔◌, string_bytes, IfErr, IfOk, IfSome, IsErr, IsErrOf, IsNone, IsTrue};
 ghost use Rattle.ufmt.specs.Layout.{plain_text};
 ghost use Rattle.ufmt_doc.specs.Doc.{doc_document};
@@ -10,7 +10,7 @@ use ufmt_doc::plain_reader::ReadError;
 /// What a call answered.
 #[derive(Clone, Copy, PartialEq, Eq, Debug)]
 pub enum Answer {
-    /// What it answers with ample memory.
+    /// What it returns with ample memory.
     Ample,
     WantOfMemory,
     Other,

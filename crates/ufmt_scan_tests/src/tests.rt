@@ -1,4 +1,4 @@
-//! What no clause says of the scanner: what it tells a sink of rows written by hand, and that each call can
+//! What no clause says of the scanner: what it emits to a sink of rows written by hand, and that each call can
 //! succeed.
 mod leaves;
 mod scanned;

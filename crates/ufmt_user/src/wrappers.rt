@@ -84,7 +84,7 @@ impl<T: uDebug> uDebug for Y<T> {
     }
 }
 
-/// A value that stands in pretty mode, whatever the mode around it.
+/// A value that prints in pretty mode, whatever the mode around it.
 #[derive(Drop)]
 pub struct InPrettyMode<T>(pub T);
 

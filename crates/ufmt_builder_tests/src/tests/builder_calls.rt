@@ -1,8 +1,8 @@
 //! The calls of each builder in a row, until one fails. Where a value's own piece is refused, the
-//! second half of its entry is handed the `Err`.
+//! second half of its entry gets the `Err`.
 use ufmt::{DebugList, DebugMap, DebugSet, DebugStruct, DebugTuple, Formatter, uDebug, uWrite};
 
-/// The call that came last, and whether the builder was open before it and behind it.
+/// The call that came last, and whether the builder was open before it and after it.
 #[derive(Clone, Copy, PartialEq, Debug)]
 pub struct LastCall<'a> {
     name: &'a str,
@@ -11,7 +11,7 @@ pub struct LastCall<'a> {
 }
 
 impl<'a> LastCall<'a> {
-    /// The call that makes the builder, which isn't there before it, nor behind it where it fails.
+    /// The call that makes the builder, which isn't there before it, nor after it where it fails.
     pub fn opening() -> Self {
         LastCall {
             name: "opening",
@@ -20,7 +20,7 @@ impl<'a> LastCall<'a> {
         }
     }
 
-    /// A call on an open builder, which is closed behind it.
+    /// A call on an open builder, which is closed after it.
     pub fn closing(name: &'a str) -> Self {
         LastCall {
             name,
@@ -191,7 +191,7 @@ impl<W: uWrite> Calls<W::Error> for DebugTuple<'_, W> {
     }
 }
 
-// Makes a builder's calls, the one that makes it among them, and goes on until one fails.
+// Makes a builder's calls, the one that makes it among them, until one fails.
 fn make_each<E, B: Calls<E> + Drop>(
     builder: Result<B, E>,
     calls: &[Call],
@@ -218,7 +218,7 @@ pub enum Block {
 }
 
 impl Block {
-    /// Makes a builder's calls, and goes on until one fails.
+    /// Makes a builder's calls until one fails.
     pub fn call_in_turn<W: uWrite>(
         self,
         f: &mut Formatter<W>,

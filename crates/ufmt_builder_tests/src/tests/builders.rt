@@ -1,4 +1,4 @@
-//! What each builder and its formatter are behind a call that failed, at each piece of each call.
+//! What each builder and its formatter are after a call that failed, at each piece of each call.
 use super::builder_calls::Block;
 use super::same;
 use super::stopped_calls::wrong_piece;

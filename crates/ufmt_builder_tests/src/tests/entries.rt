@@ -88,7 +88,7 @@ impl Block {
     }
 }
 
-// The number of the first piece behind whose refusal another number of items was taken than the one
+// The number of the first piece after whose refusal another number of items was taken than the one
 // beside it.
 fn wrong_number(block: Block, is_pretty: bool, rows: &[(usize, u8)]) -> Option<usize> {
     for (number, taken) in rows {

@@ -1,6 +1,6 @@
 //! `fields!` with each number of fields that no type of `ufmt_user` has: those print none, one without
 //! a name and two. More than 12 make a chain. No two fields of a block have one name or one
-//! value, so that one in another's place shows. Its answers stand in an array, since the check takes twice
+//! value, so that one in another's place shows. Its answers are in an array, since the check takes twice
 //! as long for a `?`.
 use super::{are_ok, same};
 use ufmt::{Formatter, fields, uWrite};

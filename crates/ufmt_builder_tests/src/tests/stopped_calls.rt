@@ -1,4 +1,4 @@
-//! A builder's calls over a writer that refuses one piece, and what is left behind the call that failed.
+//! A builder's calls over a writer that refuses one piece, and what is left after the call that failed.
 use super::builder_calls::{Block, LastCall};
 use super::writers::FailOnce;
 use std::alloc::{AllocError, Global};
@@ -10,7 +10,7 @@ struct Place<'a> {
     mode: &'a str,
     is_pretty: bool,
     depth: u8,
-    /// The pieces that stand before the builder, with a bar behind each.
+    /// The pieces before the builder, with a bar after each.
     before: &'a str,
     /// A list of the number 7, at the builder's depth.
     list: &'a str,
@@ -41,7 +41,7 @@ struct Calls<'a> {
 }
 
 impl<'a> Calls<'a> {
-    // The pieces of one call, with a bar behind each.
+    // The pieces of one call, with a bar after each.
     fn push(&mut self, call: &'a str, barred: &str) -> Result<(), AllocError> {
         for piece in barred.split('|') {
             if !piece.is_empty() {
@@ -76,7 +76,7 @@ struct Left<'a> {
     depth: u8,
 }
 
-// What the calls leave. The formatter goes on with a list, which the writer doesn't refuse.
+// What the calls leave. The formatter continues with a list, which the writer doesn't refuse.
 fn call_and_go_on<'a, W: uWrite<Error = Full>>(
     block: Block,
     f: &mut Formatter<W>,
@@ -153,7 +153,7 @@ fn is_left(
     is_as_before && is_written && left == Ok(wanted)
 }
 
-// The number of the first piece behind whose refusal something else is left.
+// The number of the first piece after whose refusal something else is left.
 fn wrong_number(block: Block, place: Place<'_>, calls: &Calls<'_>) -> Option<usize> {
     let mut number = 0usize;
     for (name, length) in &calls.pieces {
@@ -166,8 +166,8 @@ fn wrong_number(block: Block, place: Place<'_>, calls: &Calls<'_>) -> Option<usi
     None
 }
 
-/// Of each call its pieces, with a bar behind each: where the writer refuses one, that call fails,
-/// the builder is closed, and the formatter is as before and goes on to work. The answer is the number
+/// Of each call its pieces, with a bar after each: where the writer refuses one, that call fails,
+/// the builder is closed, and the formatter is as before and still works. The answer is the number
 /// of the first piece where that isn't so, and 0 for no piece that is refused.
 pub fn wrong_piece(
     alloc: Global,

@@ -1,4 +1,4 @@
-//! Lists one in another, as documents.
+//! Nested lists, as documents.
 use super::same;
 use super::shape::Shape::{self, Leaf, Listed};
 use super::shape::made;
@@ -6,7 +6,7 @@ use std::alloc::{AllocError, Global};
 use ufmt_doc::convert::{plain_text, pretty_text};
 use ufmt_doc::doc::Doc;
 
-// So many lists round a document.
+// So many lists around a document.
 pub fn lists_round(alloc: Global, count: usize, inner: &Shape<'_>) -> Result<Doc, AllocError> {
     let mut doc = made(alloc, inner)?;
     for _ in 0..count {

@@ -1,4 +1,4 @@
-//! Which pieces a writer is handed of a document, and what is left where one is refused.
+//! Which pieces a writer is passed of a document, and what is left where one is refused.
 ghost use Rattle.std.specs.Prelude.{[]};
 
 use super::deep::lists_round;
@@ -9,7 +9,7 @@ use std::alloc::{AllocError, Global};
 use ufmt::{Cursor, Formatter, Full, uDebug, uWrite};
 use ufmt_doc::doc::Doc;
 
-/// Notes its text, and its pieces with a bar behind each, and refuses the piece of a number and each
+/// Notes its text, and its pieces with a bar after each, and refuses the piece of a number and each
 /// later one. It counts those that aren't empty, from 1 on. What it holds is not told to contracts.
 #[derive(Drop)]
 struct Noted {
@@ -55,7 +55,7 @@ impl uWrite for Noted {
     }
 }
 
-// What a call leaves behind: its answer, and the mode and depth inside and outside of the pretty part.
+// What a call leaves: its answer, and the mode and depth inside and outside of the pretty part.
 type Left = (Result<(), Full>, (bool, u8), (bool, u8));
 
 // Prints the document in this mode, and gives what is left and the writer back.
@@ -81,7 +81,7 @@ fn left(is_pretty: bool, answer: Result<(), Full>) -> Left {
 }
 
 // Whether a writer that refuses the piece of any one number is left with those before it, and is
-// handed none behind it.
+// passed none after it.
 fn stops_at_each_number(alloc: Global, is_pretty: bool, doc: &Doc, all: &Noted) -> bool {
     for number in 1..=all.count {
         let (given, noted) = print_to(is_pretty, doc, Noted::new(alloc, number));
@@ -129,7 +129,7 @@ fn fits_each_size(
     Ok(true)
 }
 
-// The document's pieces in one mode, with a bar behind each, if each refusal leaves what it should.
+// The document's pieces in one mode, with a bar after each, if each refusal leaves what it should.
 fn pieces_in(alloc: Global, is_pretty: bool, doc: &Doc) -> Result<String, AllocError> {
     let (given, all) = print_to(is_pretty, doc, Noted::new(alloc, usize::MAX));
     let is_whole = given == left(is_pretty, Ok(()))
@@ -141,7 +141,7 @@ fn pieces_in(alloc: Global, is_pretty: bool, doc: &Doc) -> Result<String, AllocE
     Ok(all.barred)
 }
 
-// Those in plain mode, and behind a tilde those in pretty mode.
+// Those in plain mode, and after a tilde those in pretty mode.
 fn pieces_of(alloc: Global, shape: &Shape<'_>) -> Result<String, AllocError> {
     let doc = made(alloc, shape)?;
     let mut pieces = pieces_in(alloc, false, &doc)?;
@@ -223,7 +223,7 @@ fn documents_are_written_piece_by_piece(rt: HostRuntime) {
     }
 }
 
-// What is left of so many lists, how many pieces were handed to a writer that refuses that of this
+// What is left of so many lists, how many pieces were passed to a writer that refuses that of this
 // number, and how many bytes it took.
 fn stopped_in_lists(
     alloc: Global,

@@ -6,7 +6,7 @@ use std::alloc::{AllocError, Global};
 use ufmt_doc::doc::{Doc, same_text};
 use ufmt_doc::plain_reader::{ReadError, read_plain};
 
-// What `same_text` tells of token documents.
+// What `same_text` returns for token documents.
 fn told(a: &Doc, b: &Doc) -> Option<bool> {
     if a.is_token() && b.is_token() {
         Some(same_text(a, b))

@@ -8,7 +8,7 @@ const READING: &str = "Reading { channel: 3, celsius: -4 }";
 // Its pretty text has 637 bytes.
 const LONG: &str = "[[[[[[[[[[[[1]]]]]]]]]]]]";
 
-// What is answered of a line, and what the buffer has behind it.
+// What is returned for a line, and what the buffer has after it.
 fn same(rt: &impl Abort, line: &str, wanted: Result<&str, &str>) {
     let mut buffer = [b'#'; 256];
     let text = match pretty_line(line.as_bytes(), &mut buffer) {
@@ -29,7 +29,7 @@ fn same(rt: &impl Abort, line: &str, wanted: Result<&str, &str>) {
     }
 }
 
-// What is written of a line, with the bytes behind it as they were.
+// What is written of a line, with the bytes after it as they were.
 #[test]
 fn lines_are_made_readable(rt: HostRuntime) -> Result<(), Fail> {
     let rows = [

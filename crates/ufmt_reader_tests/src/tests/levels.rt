@@ -1,10 +1,10 @@
-//! Blocks one in another: to how many levels they are read.
+//! Nested blocks: to how many levels they are read.
 use super::same;
 use super::verdict::{Verdict, told};
 use std::alloc::{AllocError, Global};
 use ufmt::layout::Mode;
 
-// `depth` lists with one entry, one in another, round what has the text `inner`, plain.
+// `depth` nested lists with one entry, around what has the text `inner`, plain.
 fn plain_lists(alloc: Global, depth: usize, inner: &[u8]) -> Result<Vec<u8>, AllocError> {
     let mut text = Vec::new(alloc);
     for _ in 0..depth {
@@ -40,7 +40,7 @@ fn pretty_lists(alloc: Global, depth: usize, inner: &[u8]) -> Result<Vec<u8>, Al
     Ok(text)
 }
 
-// What is told of such lists in a mode.
+// What the calls say of such lists in a mode.
 fn told_of_lists(
     alloc: Global,
     mode: Mode,
@@ -82,7 +82,7 @@ fn opening_lines(alloc: Global, count: usize) -> Result<Vec<u8>, AllocError> {
     Ok(text)
 }
 
-// What is told of so many brackets, and of so many lines.
+// What the calls say of so many brackets, and of so many lines.
 fn told_of_openings(
     alloc: Global,
     brackets: usize,

@@ -189,7 +189,7 @@ fn parts_come_in_the_order_of_the_text(rt: HostRuntime) {
     }
 }
 
-// A caller that collects what it read, with `?` behind each push.
+// A caller that collects what it read, with `?` after each push.
 fn label_lengths(alloc: Global, line: &[u8]) -> Result<Vec<usize>, ReadError> {
     let doc = read_plain(alloc, line)?;
     let fields = doc.fields().unwrap_or(&[]);

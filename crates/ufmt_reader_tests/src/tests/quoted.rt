@@ -40,7 +40,7 @@ fn comes_back(alloc: Global, doc: &Doc, text: &str) -> Result<bool, AllocError> 
     }
 }
 
-// A text as it is, and as it stands in a leaf.
+// A text as it is, and as it is in a leaf.
 const LEAVES: [(&str, &str); 5] = [
     ("", "\"\""),
     ("a, b", "\"a, b\""),

@@ -19,7 +19,7 @@ fn converted_to<W: uWrite>(
     }
 }
 
-// Whether the conversion to a buffer of this size is `Ok` where the whole fits, and `Full` behind a
+// Whether the conversion to a buffer of this size is `Ok` where the whole fits, and `Full` after a
 // beginning where not.
 fn is_fitted(
     alloc: Global,
@@ -87,7 +87,7 @@ fn what_is_no_text_is_told_from_a_full_buffer(rt: HostRuntime) {
 }
 
 // Whether the conversion into a buffer with room enough says so of the text and leaves this in front,
-// and the bytes behind it stay.
+// and the bytes after it stay.
 fn is_in_front(mode: Mode, text: &str, is_text: bool, front: &str) -> bool {
     let mut bytes = [b'#'; 64];
     let answer = match mode {

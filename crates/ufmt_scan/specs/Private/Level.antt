@@ -8,7 +8,7 @@ use Rattle.ufmt_core.specs.declared.layout.Mode.TheVariants.{Plain, Pretty}
 use Rattle.ufmt.specs.Reading.{Parse, read}
 use Rattle.ufmt_scan.specs.declared.level.Level.{Level}
 
--- the depth that a document is laid out at, with this many blocks round it
+-- the depth that a document is laid out at, with this many blocks around it
 abbrev pub depth_in : Mode → ℕ → ℕ
 depth_in Plain k = 0
 depth_in Pretty k = k
@@ -22,7 +22,7 @@ abbrev pub entry_at : Setting → ℕ → Parse Document
 entry_at s zero = λ t. None
 entry_at s (suc n) = read (inside s) n
 
--- how many blocks with entries may lie in a document at this level one in another
+-- how deep blocks with entries may nest in a document at this level
 abbrev pub budget_of : Level → ℕ
 budget_of level = 255 - level.depth
 

@@ -40,7 +40,7 @@ fn leaves_are_told_apart(rt: HostRuntime) {
     same(&rt, count, 14, "texts");
 }
 
-// What stands between quotation marks, the byte that is written at its front, and how much follows.
+// What is between quotation marks, the byte that is written at its front, and how much follows.
 const SPELLINGS: [(&str, Option<(u8, usize)>); 12] = [
     ("", None),
     ("ab", Some((b'a', 1))),

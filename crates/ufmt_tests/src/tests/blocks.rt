@@ -1,4 +1,4 @@
-//! Blocks, each with its pieces in both modes, a bar behind each.
+//! Blocks, each with its pieces in both modes, a bar after each.
 use super::rows::{Table, has_rows, list, map, set};
 use std::alloc::{AllocError, Global};
 use std::collections::{BTreeMap, BTreeSet};

@@ -1,4 +1,4 @@
-//! Values of std's own types, one in another. Their texts are those of core::fmt, and of ufmt 0.2.0
+//! Values of std's own types, nested. Their texts are those of core::fmt, and of ufmt 0.2.0
 //! but for those that say so.
 use super::repeated::repeated;
 use super::rows::{Table, has_rows, list, map, same, set};

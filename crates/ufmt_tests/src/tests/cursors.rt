@@ -1,4 +1,4 @@
-//! A cursor and the buffer behind it, and a formatter over one, which goes on where a part has failed.
+//! A cursor and its buffer, and a formatter over one, which continues where a part has failed.
 use super::rows::{Table, has_rows, same};
 use ufmt::{Cursor, Formatter, Full, laws, uWrite};
 
@@ -65,7 +65,7 @@ fn a_buffer_keeps_what_it_is_not_given(rt: HostRuntime) {
     same(&rt, (answer, &buffer), (Ok(()), b"ab.."), "short");
 }
 
-// Begins a list, whose first entry fails, and goes on with a text: `x` where the builder then is closed
+// Begins a list, whose first entry fails, and continues with a text: `x` where the builder then is closed
 // and the depth that from before it.
 fn entry_then_text<W: uWrite<Error = Full>>(f: &mut Formatter<W>) -> Result<(), Full> {
     let mut list = f.debug_list()?;

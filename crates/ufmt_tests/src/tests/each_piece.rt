@@ -1,4 +1,4 @@
-//! What each writer is handed of a value, where it fails at each place.
+//! What each writer is passed of a value, where it fails at each place.
 use super::printed::{Displayed, Left, Printed, print_to};
 use super::rows::{Table, told_apart};
 use super::writers::{FailAt, Recorded};
@@ -12,7 +12,7 @@ struct Pieces {
     /// Whether mode and depth were those from before.
     is_as_before: bool,
     text: String,
-    /// The pieces with a bar behind each.
+    /// The pieces with a bar after each.
     barred: String,
 }
 
@@ -63,7 +63,7 @@ impl Pieces {
             && self.text.as_bytes().get(..length) == Some(written)
     }
 
-    // The number of the first piece behind whose refusal something else is left.
+    // The number of the first piece after whose refusal something else is left.
     fn wrong_number<T: Printed>(
         &self,
         alloc: Global,
@@ -129,7 +129,7 @@ fn pieces_by_both<N: uDebug + uDisplay>(alloc: Global, number: &N) -> Result<Str
 }
 
 impl Table {
-    /// A row of the value's pieces, with a bar behind each: in plain mode, and behind a tilde in pretty
+    /// A row of the value's pieces, with a bar after each: in plain mode, and after a tilde in pretty
     /// mode, where they are others. The value stops at a piece's end where a writer fails, at every
     /// place, and leaves the formatter as it was.
     pub fn pieces<T: Printed>(&mut self, value: &T) {
@@ -145,7 +145,7 @@ impl Table {
         }
     }
 
-    /// The same of a number, by `uDebug`, and behind a tilde by `uDisplay`, where they are others.
+    /// The same of a number, by `uDebug`, and after a tilde by `uDisplay`, where they are others.
     pub fn number<N: uDebug + uDisplay + Drop>(&mut self, number: N) {
         let row = pieces_by_both(self.alloc(), &number);
         self.put_made(row);

@@ -1,4 +1,4 @@
-//! The macros stand where `Result`, `Ok` and `Err` name other things.
+//! The macros are used where `Result`, `Ok` and `Err` name other things.
 use super::forwarded;
 use super::rows::same;
 use ufmt::{Cursor, Formatter, uwriteln};

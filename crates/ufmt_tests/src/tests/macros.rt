@@ -37,7 +37,7 @@ impl Printed for LineOfAllPieces {
     }
 }
 
-// Each kind of piece behind a hexadecimal one.
+// Each kind of piece after a hexadecimal one.
 struct HexadecimalFirst;
 
 impl Printed for HexadecimalFirst {
@@ -181,7 +181,7 @@ fn each_part_is_evaluated_once(rt: HostRuntime) {
     same(&rt, f.into_inner().as_str(), "n=1230x00045\n", "both");
 }
 
-// The answer, and how often the value behind the text was evaluated.
+// The answer, and how often the value after the text was evaluated.
 fn write_noted(f: &mut Formatter<Cursor<'_>>, text: &str) -> (Result<(), Full>, u32) {
     let mut calls = 0;
     let answer = uwrite!(f, text text, display noted(&mut calls));

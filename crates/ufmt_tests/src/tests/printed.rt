@@ -62,7 +62,7 @@ impl<T: uDebug> Printed for Pretty<'_, T> {
     }
 }
 
-/// What a call leaves behind: its answer, and the mode and depth inside and outside of the pretty
+/// What a call leaves: its answer, and the mode and depth inside and outside of the pretty
 /// part.
 pub type Left<E> = (Result<(), E>, (bool, u8), (bool, u8));
 

@@ -114,7 +114,7 @@ fn is_escaped_at(alloc: Global, count: usize, escaped: usize) -> Result<bool, Al
     Ok(texts_of(alloc, &text)? == quoted)
 }
 
-// Stretches are looked through four bytes at a time, so an escape stands at each place of each length.
+// Stretches are looked through four bytes at a time, so an escape is at each place of each length.
 #[test]
 fn an_escape_at_each_place(rt: HostRuntime) {
     for count in 0..21 {

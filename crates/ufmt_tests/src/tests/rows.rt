@@ -1,4 +1,4 @@
-//! The rows of a table: what they print stands in one text, which one assert compares.
+//! The rows of a table: what they print is in one text, which one assert compares.
 use std::alloc::{AllocError, Global};
 use std::collections::{BTreeMap, BTreeSet};
 use std::fmt::Debug;
@@ -16,7 +16,7 @@ pub fn has_rows(rt: &impl Abort, table: &Table, wanted: &str) {
     assert_eq!(rt; table.text(), Some(wanted));
 }
 
-/// What the rows of a table print, one behind another, with a semicolon and a line feed behind each.
+/// What the rows of a table print, one after another, with a semicolon and a line feed after each.
 #[derive(Drop)]
 pub struct Table {
     alloc: Global,
@@ -89,7 +89,7 @@ impl Table {
     }
 }
 
-/// The first text, and behind a tilde the second, where it is another.
+/// The first text, and after a tilde the second, where it is another.
 pub fn told_apart(mut first: String, second: &str) -> Result<String, AllocError> {
     if first.as_str() != second {
         first.push_str("~\n")?;

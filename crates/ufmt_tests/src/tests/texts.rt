@@ -29,7 +29,7 @@ fn pretty_of<T: uDebug>(alloc: Global, value: &T) -> Result<String, AllocError> 
     Ok(text)
 }
 
-/// The value's plain text, and behind a tilde its pretty text, where it is another.
+/// The value's plain text, and after a tilde its pretty text, where it is another.
 pub fn texts_of<T: uDebug>(alloc: Global, value: &T) -> Result<String, AllocError> {
     let pretty = pretty_of(alloc, value)?;
     told_apart(text_by(alloc, value)?, pretty.as_str())

@@ -1,4 +1,4 @@
-//! A user's own types. Pairs, tuples, and structs without fields stand among the blocks.
+//! A user's own types. Pairs, tuples, and structs without fields are among the blocks.
 use super::forwarded;
 use super::rows::{Table, has_rows, list};
 use std::alloc::{AllocError, Global};

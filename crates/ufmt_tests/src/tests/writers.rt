@@ -52,7 +52,7 @@ impl uWrite for FailAt<'_> {
     }
 }
 
-/// Notes its text, and its pieces with a bar behind each. It has no `write_char` of its own.
+/// Notes its text, and its pieces with a bar after each. It has no `write_char` of its own.
 #[derive(Drop)]
 pub struct Recorded {
     pub text: String,
