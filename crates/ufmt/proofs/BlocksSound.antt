@@ -25,9 +25,9 @@ AreGood Good (x ∷ xs) = Good x × AreGood Good xs
 read_after_entry_sound : {A : Type 0} (mode : Mode) (more : Parse (List A)) (x : A) (t : List ℕ) (ys : List A) (u : List ℕ)
     → read_after_entry mode more x t ≡ Some (ys, u) → (v : List ℕ) × (xs : List A) × (t ≡ trail mode ++ v) × (more v ≡ Some (xs, u)) × (x ∷ xs ≡ ys)
 read_after_entry_sound mode more x t ys u h =
-    let behind = led_from _ (strip (trail mode) t) (ys, u) h in
-    let mapped = mapped_from (λ xs. x ∷ xs) (more behind.0) ys u behind.2 in
-    (behind.0, mapped.0, strip_found (trail mode) t behind.0 behind.1, mapped.1, mapped.2)
+    let after = led_from _ (strip (trail mode) t) (ys, u) h in
+    let mapped = mapped_from (λ xs. x ∷ xs) (more after.0) ys u after.2 in
+    (after.0, mapped.0, strip_found (trail mode) t after.0 after.1, mapped.1, mapped.2)
 
 -- an entry and what was read behind it
 read_turn_sound : {A : Type 0} (q : Parse A) (Good : A → Type 0) (text : A → List ℕ) (mode : Mode) (more : Parse (List A))
@@ -35,15 +35,15 @@ read_turn_sound : {A : Type 0} (q : Parse A) (Good : A → Type 0) (text : A →
     × (xs : List A) × Good x × (t ≡ text x ++ (trail mode ++ v)) × (more v ≡ Some (xs, u)) × (x ∷ xs ≡ ys)
 read_turn_sound q Good text mode more finds t ys u h =
     let first = led_from _ (q t) (ys, u) h in
-    let behind = read_after_entry_sound mode more first.0.0 first.0.1 ys u first.2 in (
+    let after = read_after_entry_sound mode more first.0.0 first.0.1 ys u first.2 in (
       first.0.0,
-      behind.0,
-      behind.1,
+      after.0,
+      after.1,
       finds.good t first.0.0 first.0.1 first.1,
       finds.whole t first.0.0 first.0.1 first.1
-          ∙ ap (λ w. text first.0.0 ++ w) behind.2,
-      behind.3,
-      behind.4,
+          ∙ ap (λ w. text first.0.0 ++ w) after.2,
+      after.3,
+      after.4,
     )
 
 -- the whole of what is left of a block from an entry on
@@ -81,7 +81,7 @@ read_rest_sound q Good text f s finds (suc n) count t xs u h =
     (chosen_from (strip (lead f (inside s) count) t) (read_turn q s.mode (read_rest q f s (next count) n)) (read_end f s count t) (Some (xs, u)) h)
 
 -- a block that was found behind its first entry, this one: its other entries, and what it was made into
-pub record FoundBehind {A : Type 0} (Good : A → Type 0) (text : A → List ℕ) (f : Frame) (s : Setting) (make : List A → Document) (x : A)
+pub record FoundAfter {A : Type 0} (Good : A → Type 0) (text : A → List ℕ) (f : Frame) (s : Setting) (make : List A → Document) (x : A)
     (t : List ℕ) (d : Document) (u : List ℕ) : Type 0 where
   pub others : List A
   pub made : make (x ∷ others) ≡ d
@@ -91,12 +91,12 @@ pub record FoundBehind {A : Type 0} (Good : A → Type 0) (text : A → List ℕ
 -- what is read as a block behind its first entry is the rest of one
 pub read_after_first_sound : {A : Type 0} (q : Parse A) (Good : A → Type 0) (text : A → List ℕ) (f : Frame) (s : Setting)
     (make : List A → Document) → Finds q Good text → (x : A) (t : List ℕ) (d : Document) (u : List ℕ)
-    → read_after_first q f s make x t ≡ Some (d, u) → FoundBehind Good text f s make x t d u
+    → read_after_first q f s make x t ≡ Some (d, u) → FoundAfter Good text f s make x t d u
 read_after_first_sound q Good text f s make finds x t d u h =
     let mapped = mapped_from make (read_after_entry s.mode (read_others q f s One) x t) d u h in
-    let behind = read_after_entry_sound s.mode (read_others q f s One) x t mapped.0 u mapped.1 in
-    let left = read_rest_sound q Good text f s finds (suc (length behind.0)) One behind.0 behind.1 u behind.3 in
-    record { others = behind.1; made = ap make behind.4 ∙ mapped.2; good = left.0; whole = behind.2 ∙ ap (λ w. trail s.mode ++ w) left.1 }
+    let after = read_after_entry_sound s.mode (read_others q f s One) x t mapped.0 u mapped.1 in
+    let left = read_rest_sound q Good text f s finds (suc (length after.0)) One after.0 after.1 u after.3 in
+    record { others = after.1; made = ap make after.4 ∙ mapped.2; good = left.0; whole = after.2 ∙ ap (λ w. trail s.mode ++ w) left.1 }
 
 -- a block that was found behind what stands before its first entry
 pub record FoundEntries {A : Type 0} (Good : A → Type 0) (text : A → List ℕ) (f : Frame) (s : Setting) (make : List A → Document)
@@ -113,7 +113,7 @@ first_whole start t v text after left u a b = rw (a, b) (sym (entry_assoc start 
 
 -- a block behind its first entry is one from that entry on
 pub with_first : {A : Type 0} {Good : A → Type 0} {text : A → List ℕ} {f : Frame} {s : Setting} {make : List A → Document} (x : A)
-    (t v : List ℕ) {d : Document} {u : List ℕ} → Good x → t ≡ text x ++ v → FoundBehind Good text f s make x v d u → FoundEntries Good text f s make t d u
+    (t v : List ℕ) {d : Document} {u : List ℕ} → Good x → t ≡ text x ++ v → FoundAfter Good text f s make x v d u → FoundEntries Good text f s make t d u
 with_first {A} {Good} {text} {f} {s} {make} x t v {d} {u} good whole h = record {
   first = x;
   others = h.others;
@@ -136,13 +136,13 @@ pub read_value_sound : {A : Type 0} (p : Parse Document) (Good : Document → Ty
     → (key : A) (t : List ℕ) (x : A × Document) (u : List ℕ) → read_value p key t ≡ Some (x, u) → (value : Document) × ((key, value) ≡ x)
     × Good value × (t ≡ codes ": " ++ (text value ++ u))
 read_value_sound {A} p Good text finds key t x u h =
-    let behind = led_from _ (strip (codes ": ") t) (x, u) h in
-    let mapped = mapped_from _ (p behind.0) x u behind.2 in (
+    let after = led_from _ (strip (codes ": ") t) (x, u) h in
+    let mapped = mapped_from _ (p after.0) x u after.2 in (
       mapped.0,
       mapped.2,
-      finds.good behind.0 mapped.0 u mapped.1,
-      strip_found (codes ": ") t behind.0 behind.1
-          ∙ ap (λ w. codes ": " ++ w) (finds.whole behind.0 mapped.0 u mapped.1),
+      finds.good after.0 mapped.0 u mapped.1,
+      strip_found (codes ": ") t after.0 after.1
+          ∙ ap (λ w. codes ": " ++ w) (finds.whole after.0 mapped.0 u mapped.1),
     )
 
 -- a key and a value with these properties

@@ -52,9 +52,9 @@ pub closer_begins_none : (c : ℕ) (w : List ℕ) → is_closer c ≡ true → {
 closer_begins_none c w h b = rw (b.is, closer_differs c b.first h b.no_closer) refl
 
 -- nor before it
-pub begins_behind : (mode : Mode) (k : ℕ) {t : List ℕ} → Begins t → Begins (new_line mode k ++ t)
-begins_behind Plain k b = b
-begins_behind Pretty k {t} b = record { first = 10; tail = indentation k ++ t; is = refl; no_closer = refl }
+pub begins_after : (mode : Mode) (k : ℕ) {t : List ℕ} → Begins t → Begins (new_line mode k ++ t)
+begins_after Plain k b = b
+begins_after Pretty k {t} b = record { first = 10; tail = indentation k ++ t; is = refl; no_closer = refl }
 
 -- what a closer begins is a follower
 pub closer_follows : (c : ℕ) (u : List ℕ) → is_closer c ≡ true → IsFollower (c ∷ u)

@@ -22,9 +22,9 @@ module _ (old : List ℕ) (begun ended : Cursor) (written : written_bytes begun 
   in_front : take (length (written_bytes ended)) ended.buffer.now ≡ written_bytes ended
   in_front = ap (λ n. take n ended.buffer.now) counted
 
-  behind : {ok : _} → Writes cursor_seen begun text ok ended
+  after : {ok : _} → Writes cursor_seen begun text ok ended
       → drop (length (written_bytes ended)) ended.buffer.now ≡ drop (length (written_bytes ended)) old
-  behind w = w.untouched tt ∙ ap (λ xs. drop (length (written_bytes ended)) xs) begins_with
+  after w = w.untouched tt ∙ ap (λ xs. drop (length (written_bytes ended)) xs) begins_with
 
   -- all of the text
   pub fronts_whole : {E : Type 0} → Writes cursor_seen begun text true ended → Fronts {E = E} old text (Ok (length (written_bytes ended))) ended.buffer.now
@@ -32,7 +32,7 @@ module _ (old : List ℕ) (begun ended : Cursor) (written : written_bytes begun 
     same_length = keeps_length w;
     fits = λ h. refl;
     within = subst (λ n. n ≤ length ended.buffer.now) (sym counted) ended.within;
-    whole = (in_front ∙ w.appended tt ∙ ap (λ xs. xs ++ text) written, behind w);
+    whole = (in_front ∙ w.appended tt ∙ ap (λ xs. xs ++ text) written, after w);
     beginning = tt;
   }
 
@@ -49,7 +49,7 @@ module _ (old : List ℕ) (begun ended : Cursor) (written : written_bytes begun 
           taken.0,
           taken.1,
           ap (λ xs. take (length xs) ended.buffer.now) (sym part_is) ∙ in_front ∙ part_is,
-          subst (λ xs. drop (length xs) ended.buffer.now ≡ drop (length xs) old) part_is (behind w),
+          subst (λ xs. drop (length xs) ended.buffer.now ≡ drop (length xs) old) part_is (after w),
         );
       }
 

@@ -2,9 +2,9 @@
 use Rattle.std.proofs.Common.{◌≡◌, Bool, true, false, ℕ, ◌<◌, List, refl, arith}
 use Rattle.std.proofs.lemmas.Bool.Decides.{nat_tests}
 use Rattle.ufmt_core.specs.Decimal.{numeral}
-use Rattle.ufmt_core.proofs.Numerals.{numeral-tells}
+use Rattle.ufmt_core.proofs.Numerals.{numeral-denotes}
 use Rattle.ufmt_core.proofs.NumeralTexts.{one_text, one_number, IsTextInBase}
-use Rattle.ufmt.specs.Hex.{hexadecimal_byte, TellsHexadecimal, hexadecimal}
+use Rattle.ufmt.specs.Hex.{hexadecimal_byte, DenotesHexadecimal, hexadecimal}
 
 -- a byte tells its digit
 byte_same : (upper_case : Bool) (x y : ℕ) → hexadecimal_byte upper_case x ≡ hexadecimal_byte upper_case y → x ≡ y
@@ -17,19 +17,19 @@ byte-ascii true digit low = grind (arith, nat_tests)
 byte-ascii false digit low = grind (arith, nat_tests)
 
 -- a number has one hexadecimal text in a case
-pub TellsHexadecimal-one : (upper_case : Bool) (n : ℕ) (s t : List ℕ) → TellsHexadecimal upper_case s n → TellsHexadecimal upper_case t n → s ≡ t
-TellsHexadecimal-one upper_case n s t told_s told_t =
-    one_text 16 (hexadecimal_byte upper_case) n (omega arith) told_s.bytes told_s.told told_t.bytes told_t.told
+pub DenotesHexadecimal-one : (upper_case : Bool) (n : ℕ) (s t : List ℕ) → DenotesHexadecimal upper_case s n → DenotesHexadecimal upper_case t n → s ≡ t
+DenotesHexadecimal-one upper_case n s t denotes_s denotes_t =
+    one_text 16 (hexadecimal_byte upper_case) n (omega arith) denotes_s.bytes denotes_s.denotes denotes_t.bytes denotes_t.denotes
 
 -- a hexadecimal text tells one number
-pub TellsHexadecimal-number : (upper_case : Bool) (text : List ℕ) (m n : ℕ) → TellsHexadecimal upper_case text m → TellsHexadecimal upper_case text n → m ≡ n
-TellsHexadecimal-number upper_case text m n told_m told_n =
-    one_number 16 (hexadecimal_byte upper_case) m n (byte_same upper_case) refl told_m.bytes told_m.told told_n.bytes told_n.told
+pub DenotesHexadecimal-number : (upper_case : Bool) (text : List ℕ) (m n : ℕ) → DenotesHexadecimal upper_case text m → DenotesHexadecimal upper_case text n → m ≡ n
+DenotesHexadecimal-number upper_case text m n denotes_m denotes_n =
+    one_number 16 (hexadecimal_byte upper_case) m n (byte_same upper_case) refl denotes_m.bytes denotes_m.denotes denotes_n.bytes denotes_n.denotes
 
 -- `hexadecimal` gives a text that tells the number
-pub hexadecimal-tells : (upper_case : Bool) (n : ℕ) → TellsHexadecimal upper_case (hexadecimal upper_case n) n
+pub hexadecimal-denotes : (upper_case : Bool) (n : ℕ) → DenotesHexadecimal upper_case (hexadecimal upper_case n) n
 unfolding hexadecimal
-hexadecimal-tells upper_case n = record { digits = numeral 16 n; bytes = refl; told = numeral-tells 16 n (omega arith) }
+hexadecimal-denotes upper_case n = record { digits = numeral 16 n; bytes = refl; denotes = numeral-denotes 16 n (omega arith) }
 
 -- a hexadecimal text is the number's digits in base 16
 pub hexadecimal-in_base : (upper_case : Bool) → IsTextInBase 16 (hexadecimal_byte upper_case) (hexadecimal upper_case)

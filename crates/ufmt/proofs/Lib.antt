@@ -18,7 +18,7 @@ pub mod QuotedComplete
 pub mod QuotedLines
 pub mod QuotedOneWay
 pub mod QuotedSound
-pub mod QuotedTold
+pub mod QuotedDecoded
 pub mod QuotedUtf8
 pub mod ReadingSound
 pub mod ReadingTurns

@@ -27,10 +27,10 @@ pairs_of-listed_pairs (pair key value ps) = ap (pair key value) (pairs_of-listed
 -- likewise fields
 unfoldable pub listed_fields : Fields → List (List ℕ × Document)
 listed_fields no_fields = []
-listed_fields (field label value fs) = (label, value) ∷ listed_fields fs
+listed_fields (field name value fs) = (name, value) ∷ listed_fields fs
 
 -- fields are made again from their list
 pub fields_of-listed_fields : (fs : Fields) → fields_of (listed_fields fs) ≡ fs
 unfolding listed_fields
 fields_of-listed_fields no_fields = refl
-fields_of-listed_fields (field label value fs) = ap (field label value) (fields_of-listed_fields fs)
+fields_of-listed_fields (field name value fs) = ap (field name value) (fields_of-listed_fields fs)

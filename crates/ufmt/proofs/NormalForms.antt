@@ -17,7 +17,7 @@ mutual
   normal-normal (set_of (document d ds)) = rw (normal-normal d, normal_all-normal_all ds)
   normal-normal (map_of ps) = ap map_of (normal_pairs-normal_pairs ps)
   normal-normal (struct_of name no_fields) = refl
-  normal-normal (struct_of name (field label value fs)) = rw (normal-normal value, normal_fields-normal_fields fs)
+  normal-normal (struct_of name (field field_name value fs)) = rw (normal-normal value, normal_fields-normal_fields fs)
   normal-normal (tuple_of name no_documents) = refl
   normal-normal (tuple_of name (document d ds)) = rw (normal-normal d, normal_all-normal_all ds)
   normal-normal (pretty_part d) = ap pretty_part (normal-normal d)
@@ -32,7 +32,7 @@ mutual
 
   pub normal_fields-normal_fields : (fs : Fields) → normal_fields (normal_fields fs) ≡ normal_fields fs
   normal_fields-normal_fields no_fields = refl
-  normal_fields-normal_fields (field label value fs) = rw (normal-normal value, normal_fields-normal_fields fs)
+  normal_fields-normal_fields (field name value fs) = rw (normal-normal value, normal_fields-normal_fields fs)
 
 mutual
   -- a normal form nests as deep as its document
@@ -46,7 +46,7 @@ mutual
   nest-normal (map_of no_pairs) = refl
   nest-normal (map_of (pair key value ps)) = rw (nest-normal key, nest-normal value, nest_pairs-normal_pairs ps)
   nest-normal (struct_of name no_fields) = refl
-  nest-normal (struct_of name (field label value fs)) = rw (nest-normal value, nest_fields-normal_fields fs)
+  nest-normal (struct_of name (field field_name value fs)) = rw (nest-normal value, nest_fields-normal_fields fs)
   nest-normal (tuple_of name no_documents) = refl
   nest-normal (tuple_of name (document d ds)) = rw (nest-normal d, nest_all-normal_all ds)
   nest-normal (pretty_part d) = nest-normal d
@@ -61,7 +61,7 @@ mutual
 
   pub nest_fields-normal_fields : (fs : Fields) → nest_fields (normal_fields fs) ≡ nest_fields fs
   nest_fields-normal_fields no_fields = refl
-  nest_fields-normal_fields (field label value fs) = rw (nest-normal value, nest_fields-normal_fields fs)
+  nest_fields-normal_fields (field name value fs) = rw (nest-normal value, nest_fields-normal_fields fs)
 
 mutual
   -- where a document's leaves and names are words, so are those of its normal form
@@ -73,7 +73,7 @@ mutual
   HasTokens-normal (set_of (document d ds)) h = (HasTokens-normal d h.0, HaveTokens-normal_all ds h.1)
   HasTokens-normal (map_of ps) h = PairsHaveTokens-normal_pairs ps h
   HasTokens-normal (struct_of name no_fields) h = record { shape = inl h.0 }
-  HasTokens-normal (struct_of name (field label value fs)) h = (h.0, (h.1.0, HasTokens-normal value h.1.1, FieldsHaveTokens-normal_fields fs h.1.2))
+  HasTokens-normal (struct_of name (field field_name value fs)) h = (h.0, (h.1.0, HasTokens-normal value h.1.1, FieldsHaveTokens-normal_fields fs h.1.2))
   HasTokens-normal (tuple_of name no_documents) h = record { shape = inl h }
   HasTokens-normal (tuple_of name (document d ds)) h = (h.0, HasTokens-normal d h.1, HaveTokens-normal_all ds h.2)
   HasTokens-normal (pretty_part d) h = absurd h
@@ -88,7 +88,7 @@ mutual
 
   pub FieldsHaveTokens-normal_fields : (fs : Fields) → FieldsHaveTokens fs → FieldsHaveTokens (normal_fields fs)
   FieldsHaveTokens-normal_fields no_fields h = tt
-  FieldsHaveTokens-normal_fields (field label value fs) h = (h.0, HasTokens-normal value h.1, FieldsHaveTokens-normal_fields fs h.2)
+  FieldsHaveTokens-normal_fields (field name value fs) h = (h.0, HasTokens-normal value h.1, FieldsHaveTokens-normal_fields fs h.2)
 
 -- the normal form of a token document is a token document
 pub IsToken-normal : (d : Document) → IsToken d → IsToken (normal d)
@@ -102,7 +102,7 @@ layout-normal-set_of s (document d ds) = refl
 -- likewise of a struct, also where it is the leaf of its name
 layout-normal-struct_of : (s : Setting) (name : List ℕ) (fs : Fields) → layout s (normal (struct_of name fs)) ≡ layout s (struct_of name (normal_fields fs))
 layout-normal-struct_of s name no_fields = sym (append-nil name)
-layout-normal-struct_of s name (field label value fs) = refl
+layout-normal-struct_of s name (field field_name value fs) = refl
 
 -- likewise of a tuple
 layout-normal-tuple_of : (s : Setting) (name : List ℕ) (ds : Documents) → layout s (normal (tuple_of name ds)) ≡ layout s (tuple_of name (normal_all ds))
@@ -136,4 +136,4 @@ mutual
 
   pub field_texts-normal_fields : (i : Setting) (fs : Fields) → field_texts i (normal_fields fs) ≡ field_texts i fs
   field_texts-normal_fields i no_fields = refl
-  field_texts-normal_fields i (field label value fs) = rw (layout-normal i value, field_texts-normal_fields i fs)
+  field_texts-normal_fields i (field name value fs) = rw (layout-normal i value, field_texts-normal_fields i fs)

@@ -3,9 +3,9 @@ use Rattle.std.proofs.Common.{◌≡◌, ℕ, ◌+◌, ◌<◌, List, [], ◌∷
 use Rattle.std.specs.List.{All}
 use Rattle.std.proofs.lemmas.Bool.{le-leb}
 use Rattle.std.proofs.lemmas.List.Elements.{All-head, All-tail}
-use Rattle.ufmt_core.specs.Decimal.{decimal, decimal_byte, TellsDecimal, TellsMagnitude}
+use Rattle.ufmt_core.specs.Decimal.{decimal, decimal_byte, DenotesDecimal, DenotesMagnitude}
 use Rattle.ufmt_core.specs.Words.{integer}
-use Rattle.ufmt_core.proofs.DecimalTexts.{decimal-tells}
+use Rattle.ufmt_core.proofs.DecimalTexts.{decimal-denotes}
 use Rattle.ufmt.specs.Token.{is_word_byte, AreWordBytes, IsWord, HasTokens}
 
 -- a digit's byte is a word's
@@ -26,8 +26,8 @@ digits_are_word [] some below = absurd (omega arith)
 digits_are_word (digit ∷ digits) some below = digit_bytes (digit ∷ digits) below
 
 -- the text that tells a magnitude is a word
-magnitude_is_word : (text : List ℕ) (n : ℕ) → TellsMagnitude text n → IsWord text
-magnitude_is_word text n told = subst IsWord (sym told.bytes) (digits_are_word told.digits told.told.some_digit told.told.below_base)
+magnitude_is_word : (text : List ℕ) (n : ℕ) → DenotesMagnitude text n → IsWord text
+magnitude_is_word text n denotes = subst IsWord (sym denotes.bytes) (digits_are_word denotes.digits denotes.denotes.some_digit denotes.denotes.below_base)
 
 -- a word with a `-` before it is a word
 IsWord-minus : (text : List ℕ) → IsWord text → IsWord (45 ∷ text)
@@ -35,12 +35,12 @@ IsWord-minus [] word = absurd word
 IsWord-minus (c ∷ text) word = (refl, word)
 
 -- the text that tells a number is a word
-told_is_word : (z : ℤ) (text : List ℕ) → TellsDecimal text z → IsWord text
-told_is_word (pos n) text told = subst IsWord (sym told.signed) (magnitude_is_word told.magnitude n told.told)
-told_is_word (negsuc n) text told = subst IsWord (sym told.signed) (IsWord-minus told.magnitude (magnitude_is_word told.magnitude _ told.told))
+denoted_is_word : (z : ℤ) (text : List ℕ) → DenotesDecimal text z → IsWord text
+denoted_is_word (pos n) text denotes = subst IsWord (sym denotes.signed) (magnitude_is_word denotes.magnitude n denotes.denotes)
+denoted_is_word (negsuc n) text denotes = subst IsWord (sym denotes.signed) (IsWord-minus denotes.magnitude (magnitude_is_word denotes.magnitude _ denotes.denotes))
 
 pub decimal_is_word : (z : ℤ) → IsWord (decimal z)
-decimal_is_word z = told_is_word z (decimal z) (decimal-tells z)
+decimal_is_word z = denoted_is_word z (decimal z) (decimal-denotes z)
 
 -- a number's document is a leaf that can be read again
 pub HasTokens-integer : (z : ℤ) → HasTokens (integer z)

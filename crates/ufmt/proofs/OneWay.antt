@@ -6,7 +6,7 @@ use Rattle.ufmt_core.specs.declared.layout.Mode.TheVariants.{Plain, Pretty}
 use Rattle.ufmt_core.specs.declared.layout.Setting.{Setting}
 use Rattle.ufmt.specs.Token.{HasTokens, IsToken, normal, IsFollower}
 use Rattle.ufmt.specs.Reading.{read}
-use Rattle.ufmt.specs.ReadingLaws.{PlainReadsOneWay, PrettyReadsOneWay, PlainTextTells, PrettyTextTells, TextsAgree}
+use Rattle.ufmt.specs.ReadingLaws.{PlainReadsOneWay, PrettyReadsOneWay, PlainTextDetermines, PrettyTextDetermines, TextsAgree}
 use Rattle.ufmt.proofs.Parsing.{same_parts}
 use Rattle.ufmt.proofs.FramesClose.{Fits}
 use Rattle.ufmt.proofs.ReadingComplete.{read_complete}
@@ -29,23 +29,23 @@ pretty_reads_one_way = λ k d e u v hd he nd ne hu hv same. reads_one_way (setti
     (omega (arith, nd)) (omega (arith, ne)) hu hv same
 
 -- at depth 0 of any mode one text has one normal form, and one normal form one text
-text_tells : (s : Setting) → Fits s 255 → (d e : Document) → IsToken d → IsToken e → (layout s d ≡ layout s e) ↔ (normal d ≡ normal e)
-text_tells s fits d e hd he = (
+text_determines : (s : Setting) → Fits s 255 → (d e : Document) → IsToken d → IsToken e → (layout s d ≡ layout s e) ↔ (normal d ≡ normal e)
+text_determines s fits d e hd he = (
   λ same. (reads_one_way s 255 fits d e [] [] hd.0 he.0 hd.1 he.1 tt tt (ap (λ t. t ++ []) same)).0,
   λ same. sym (layout-normal s d) ∙ ap (layout s) same ∙ layout-normal s e,
 )
 
 -- so plain texts tell normal forms apart
-pub plain_text_tells : PlainTextTells
-plain_text_tells = text_tells (setting Plain 0) tt
+pub plain_text_determines : PlainTextDetermines
+plain_text_determines = text_determines (setting Plain 0) tt
 
 -- and so do pretty texts
-pub pretty_text_tells : PrettyTextTells
-pretty_text_tells = text_tells (setting Pretty 0) (omega arith)
+pub pretty_text_determines : PrettyTextDetermines
+pretty_text_determines = text_determines (setting Pretty 0) (omega arith)
 
 -- so each tells what the other does
 pub texts_agree : TextsAgree
 texts_agree = λ d e hd he. (
-  λ same. (pretty_text_tells d e hd he).1 ((plain_text_tells d e hd he).0 same),
-  λ same. (plain_text_tells d e hd he).1 ((pretty_text_tells d e hd he).0 same),
+  λ same. (pretty_text_determines d e hd he).1 ((plain_text_determines d e hd he).0 same),
+  λ same. (plain_text_determines d e hd he).1 ((pretty_text_determines d e hd he).0 same),
 )

@@ -8,7 +8,7 @@ use Rattle.ufmt_core.specs.Quoted.{IsQuote, escaped_byte, escaped_bytes, hex_dig
 use Rattle.ufmt.specs.QuotedLaws.{QuotedIsOneLine}
 use Rattle.ufmt.specs.Shift.{IsOneLine}
 use Rattle.ufmt.proofs.QuotedComplete.{quoted-bytes}
-use Rattle.ufmt.proofs.QuotedTold.{each_row}
+use Rattle.ufmt.proofs.QuotedDecoded.{each_row}
 
 -- two texts without a line feed in a row have none
 IsOneLine-append : (s t : List ℕ) → IsOneLine s → IsOneLine t → IsOneLine (s ++ t)

@@ -4,7 +4,7 @@ use Rattle.std.specs.Str.{encode_utf8_all}
 use Rattle.std.proofs.lemmas.Bool.{false≢true}
 use Rattle.std.proofs.lemmas.Str.{encodes_same}
 use Rattle.ufmt_core.specs.Quoted.{IsQuote, escaped_bytes, quoted, quoted_char, quoted_text}
-use Rattle.ufmt.specs.QuotedLaws.{QuotedTextTells, QuotedCharTells, QuotedTextIsNoChar, QuotedEndsItself, QuotedIsNoOtherLeaf}
+use Rattle.ufmt.specs.QuotedLaws.{QuotedTextDetermines, QuotedCharDetermines, QuotedTextIsNoChar, QuotedEndsItself, QuotedIsNoOtherLeaf}
 use Rattle.ufmt.specs.ReadingQuoted.{read_quoted, read_inside}
 use Rattle.ufmt.specs.Token.{IsWord}
 use Rattle.ufmt.proofs.Parsing.{same_parts}
@@ -18,8 +18,8 @@ pub quoted_text_is_no_char : QuotedTextIsNoChar
 quoted_text_is_no_char cs c u v same = omega (arith, ap (λ (t : List ℕ). get_or t 0 0) same)
 
 -- the characters between two quotes follow from the text
-characters_tell : (q : ℕ) (cs ds : List ℕ) → IsQuote q → quoted q cs ≡ quoted q ds → cs ≡ ds
-characters_tell q cs ds quote same =
+characters_determined : (q : ℕ) (cs ds : List ℕ) → IsQuote q → quoted q cs ≡ quoted q ds → cs ≡ ds
+characters_determined q cs ds quote same =
     let bytes = encode_utf8_all cs in
     let others = encode_utf8_all ds in
     let n = suc (length bytes + length others) in
@@ -27,15 +27,15 @@ characters_tell q cs ds quote same =
     let read = sym (read_inside-complete q bytes [] n quote (omega arith)) ∙ ap (read_inside q n) tails ∙ read_inside-complete q others [] n quote (omega arith) in
     encodes_same cs ds (same_parts (bytes, []) (others, []) read).0
 
-pub quoted_text_tells : QuotedTextTells
-quoted_text_tells cs ds u v scalars_c scalars_d same =
+pub quoted_text_determines : QuotedTextDetermines
+quoted_text_determines cs ds u v scalars_c scalars_d same =
     let ends = quoted_ends_itself (quoted_text cs) (quoted_text ds) u v (inl (cs, scalars_c, refl)) (inl (ds, scalars_d, refl)) same in
-    (characters_tell 34 cs ds (inl refl) ends.0, ends.1)
+    (characters_determined 34 cs ds (inl refl) ends.0, ends.1)
 
-pub quoted_char_tells : QuotedCharTells
-quoted_char_tells c d u v scalar_c scalar_d same =
+pub quoted_char_determines : QuotedCharDetermines
+quoted_char_determines c d u v scalar_c scalar_d same =
     let ends = quoted_ends_itself (quoted_char c) (quoted_char d) u v (inr (c, scalar_c, refl)) (inr (d, scalar_d, refl)) same in
-    (ap (λ (t : List ℕ). get_or t 0 0) (characters_tell 39 (c ∷ []) (d ∷ []) (inr refl) ends.0), ends.1)
+    (ap (λ (t : List ℕ). get_or t 0 0) (characters_determined 39 (c ∷ []) (d ∷ []) (inr refl) ends.0), ends.1)
 
 pub quoted_is_no_other_leaf : QuotedIsNoOtherLeaf
 quoted_is_no_other_leaf text (inl of_text) (inl word) = let is : IsWord (quoted_text of_text.0) = subst IsWord of_text.2 word in false≢true is.0

@@ -5,15 +5,15 @@ use Rattle.std.specs.Str.{all_scalars, chars, is_utf8}
 use Rattle.std.proofs.lemmas.Str.{IsUtf8-from_is_utf8, encodes-chars, scalars-chars}
 use Rattle.ufmt_core.specs.Quoted.{IsQuote, IsQuoted, escaped_byte, escaped_bytes, quoted}
 use Rattle.ufmt.specs.Reading.{parse_map, strip}
-use Rattle.ufmt.specs.ReadingQuoted.{told, if_right, is_char, read_between, read_escaped, read_inside, read_quoted}
+use Rattle.ufmt.specs.ReadingQuoted.{decoded, if_right, is_char, read_between, read_escaped, read_inside, read_quoted}
 use Rattle.ufmt.proofs.Parsing.{beside_from, chosen_from, led_from, mapped_from, same_parts, strip_found}
 use Rattle.ufmt.proofs.QuotedComplete.{quoted-bytes}
 
 -- a byte that is read is spelled at the front
 pub read_escaped-sound : (q : ℕ) (t : List ℕ) (b : ℕ) (u : List ℕ) → read_escaped q t ≡ Some (b, u) → t ≡ escaped_byte q b ++ u
 read_escaped-sound q t b u h =
-    let from = beside_from (told t) (strip (escaped_byte q (told t)) t) b u h in
-    strip_found (escaped_byte q (told t)) t u from.0 ∙ ap (λ n. escaped_byte q n ++ u) from.1
+    let from = beside_from (decoded t) (strip (escaped_byte q (decoded t)) t) b u h in
+    strip_found (escaped_byte q (decoded t)) t u from.0 ∙ ap (λ n. escaped_byte q n ++ u) from.1
 
 -- where the closing quote stands
 at_quote : (q : ℕ) (t w bs u : List ℕ) → strip (q ∷ []) t ≡ Some w → ◌≡◌ {A = Option (List ℕ × List ℕ)} (Some ([], w)) (Some (bs, u))

@@ -9,7 +9,7 @@ use Rattle.std.proofs.lemmas.Bool.Decides.{nat_tests}
 use Rattle.std.proofs.lemmas.Str.{IsAscii-append, IsCharBoundary-after_ascii, IsCharBoundary-before_ascii, IsUtf8-append, IsUtf8-drop, IsUtf8-from_ascii, IsUtf8-take}
 use Rattle.std.proofs.lemmas.Str.Ascii.{IsAscii-cons, IsAscii-nil}
 use Rattle.ufmt_core.specs.Quoted.{IsQuote, escaped_byte, escaped_bytes, hex_digits}
-use Rattle.ufmt.proofs.QuotedTold.{each_row}
+use Rattle.ufmt.proofs.QuotedDecoded.{each_row}
 
 -- one ASCII byte
 one_ascii : (c : ℕ) → c < 128 → IsAscii (c ∷ [])
@@ -71,14 +71,14 @@ goes_on xs rest b = sym (append_assoc xs (b ∷ []) rest)
 
 module _ (q : ℕ) (quote : IsQuote q) where
   -- bytes are a text behind these where they are as they are written
-  utf8-told : (bs xs : List ℕ) → IsUtf8 (xs ++ escaped_bytes q bs) → IsUtf8 (xs ++ bs)
-  utf8-told [] xs u = u
-  utf8-told (b ∷ bs) xs u = elim (spelling q b quote) [
+  utf8-decoded : (bs xs : List ℕ) → IsUtf8 (xs ++ escaped_bytes q bs) → IsUtf8 (xs ++ bs)
+  utf8-decoded [] xs u = u
+  utf8-decoded (b ∷ bs) xs u = elim (spelling q b quote) [
     | inl plain ↦ subst IsUtf8 (sym (goes_on xs bs b))
-        (utf8-told bs (xs ++ (b ∷ [])) (subst IsUtf8 (ap (λ e. xs ++ (e ++ escaped_bytes q bs)) plain ∙ goes_on xs (escaped_bytes q bs) b) u))
+        (utf8-decoded bs (xs ++ (b ∷ [])) (subst IsUtf8 (ap (λ e. xs ++ (e ++ escaped_bytes q bs)) plain ∙ goes_on xs (escaped_bytes q bs) b) u))
     | inr escape ↦
         let parts = IsUtf8-cut xs (escape.0 ++ escaped_bytes q bs) 92 (omega arith) (subst IsUtf8 (ap (λ e. xs ++ (e ++ escaped_bytes q bs)) escape.1) u) in
-        let rest = utf8-told bs [] (IsUtf8-past escape.0 (escaped_bytes q bs) escape.2 parts.1) in
+        let rest = utf8-decoded bs [] (IsUtf8-past escape.0 (escaped_bytes q bs) escape.2 parts.1) in
         IsUtf8-append xs (b ∷ bs) parts.0 (IsUtf8-append (b ∷ []) bs (IsUtf8-from_ascii (b ∷ []) (one_ascii b escape.3)) rest)
   ]
 
@@ -99,7 +99,7 @@ module _ (q : ℕ) (quote : IsQuote q) where
   -- with their quotes too
   pub quoted-utf8 : (bs : List ℕ) → IsUtf8 (q ∷ (escaped_bytes q bs ++ (q ∷ []))) ↔ IsUtf8 bs
   quoted-utf8 bs = (
-    λ u. utf8-told bs [] (IsUtf8-cut (escaped_bytes q bs) [] q ascii (IsUtf8-cut [] (escaped_bytes q bs ++ (q ∷ [])) q ascii u).1).0,
+    λ u. utf8-decoded bs [] (IsUtf8-cut (escaped_bytes q bs) [] q ascii (IsUtf8-cut [] (escaped_bytes q bs ++ (q ∷ [])) q ascii u).1).0,
     λ u. IsUtf8-append (q ∷ []) (escaped_bytes q bs ++ (q ∷ [])) one (IsUtf8-append (escaped_bytes q bs) (q ∷ []) (utf8-escaped bs [] u) one),
   )
     where

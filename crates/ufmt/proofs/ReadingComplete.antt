@@ -9,10 +9,10 @@ use Rattle.ufmt.specs.Token.{AreWordBytes, IsWord, HasTokens, HaveTokens, PairsH
 use Rattle.ufmt.specs.Reading.{Parse, choose, strip, read_word, read_pair, read_tuple, read_struct, read_with, read}
 use Rattle.ufmt.proofs.Parsing.{strip_stands}
 use Rattle.ufmt.proofs.BlocksComplete.{Begins, Begins-append, IsRead, AreRead, entry_assoc, rest_follows, read_entries_complete, read_block_complete, read_after_first_complete, read_value_complete, read_pair_complete}
-use Rattle.ufmt.proofs.FramesClose.{Fits, fits_inside, fits_less, closer_begins_none, begins_behind, closes, no_colon}
+use Rattle.ufmt.proofs.FramesClose.{Fits, fits_inside, fits_less, closer_begins_none, begins_after, closes, no_colon}
 use Rattle.ufmt.proofs.ListedDocuments.{listed, documents-listed, listed_pairs, pairs_of-listed_pairs, listed_fields, fields_of-listed_fields}
 use Rattle.ufmt.proofs.TextsBegin.{document_begins}
-use Rattle.ufmt.proofs.TokenLeaves.{word_leaf, label_complete, leaf_complete, no_symbol, word_leads}
+use Rattle.ufmt.proofs.TokenLeaves.{word_leaf, field_name_complete, leaf_complete, no_symbol, word_leads}
 
 -- `p` reads at this mode and depth each token document that is nested less than the number
 pub record ReadsBelow (p : Parse Document) (i : Setting) (n : ℕ) : Type 0 where
@@ -41,15 +41,15 @@ fields_complete : (p : Parse Document) (i : Setting) (n : ℕ) → ReadsBelow p 
     → AreRead (read_pair read_word p) (listed_fields (normal_fields fs)) (field_texts i fs)
 unfolding listed_fields
 fields_complete p i n below no_fields h less = tt
-fields_complete p i n below (field label value fs) h less = (
-  read_pair_complete read_word p label (normal value) label (layout i value) (label_complete label h.0)
+fields_complete p i n below (field name value fs) h less = (
+  read_pair_complete read_word p name (normal value) name (layout i value) (field_name_complete name h.0)
       (below.reads value h.1 (omega arith)),
   fields_complete p i n below fs h.2 (omega arith),
 )
 
 -- what begins the entries of a list, a set, a map or a tuple without a name, behind the bracket
 entries_begin : (s : Setting) {text : List ℕ} → Begins text → (t u : List ℕ) → Begins ((new_line (inside s).mode (inside s).depth ++ (text ++ t)) ++ u)
-entries_begin s b t u = Begins-append (begins_behind (inside s).mode (inside s).depth (Begins-append b t)) u
+entries_begin s b t u = Begins-append (begins_after (inside s).mode (inside s).depth (Begins-append b t)) u
 
 -- what stands before the first entry decides for a block
 lead_chosen : {A : Type 0} (start text after left u : List ℕ) (f : List ℕ → A) (b : A)
@@ -119,13 +119,13 @@ map_complete s p n below fits key value ps u hk hv hs less =
 
 -- a struct with fields is read
 struct_complete : (s : Setting) (p : Parse Document) (n : ℕ) → ReadsBelow p (inside s) n → Fits s n
-    → (name label : List ℕ) (value : Document) (fs : Fields) (u : List ℕ) → IsWord name → IsWord label → HasTokens value → FieldsHaveTokens fs
-    → nest (struct_of name (field label value fs)) ≤ n
-    → read_with s p (layout s (struct_of name (field label value fs)) ++ u) ≡ Some (normal (struct_of name (field label value fs)), u)
-struct_complete s p n below fits [] label value fs u hn hl hv hs less = absurd hn
-struct_complete s p n below fits (c ∷ name) label value fs u hn hl hv hs less =
-    let entry : List ℕ = label ++ (codes ": " ++ layout (inside s) value) in
-    let first : IsRead (read_pair read_word p) (label, normal value) entry = read_pair_complete read_word p label (normal value) label (layout (inside s) value) (label_complete label hl) (below.reads value hv (omega arith)) in
+    → (name field_name : List ℕ) (value : Document) (fs : Fields) (u : List ℕ) → IsWord name → IsWord field_name → HasTokens value → FieldsHaveTokens fs
+    → nest (struct_of name (field field_name value fs)) ≤ n
+    → read_with s p (layout s (struct_of name (field field_name value fs)) ++ u) ≡ Some (normal (struct_of name (field field_name value fs)), u)
+struct_complete s p n below fits [] field_name value fs u hn hl hv hs less = absurd hn
+struct_complete s p n below fits (c ∷ name) field_name value fs u hn hl hv hs less =
+    let entry : List ℕ = field_name ++ (codes ": " ++ layout (inside s) value) in
+    let first : IsRead (read_pair read_word p) (field_name, normal value) entry = read_pair_complete read_word p field_name (normal value) field_name (layout (inside s) value) (field_name_complete field_name hl) (below.reads value hv (omega arith)) in
     let more : AreRead (read_pair read_word p) (listed_fields (normal_fields fs)) (field_texts (inside s) fs) = fields_complete p (inside s) n below fs hs (omega arith) in
     let close = closes s Struct (fits_less s 1 n (omega arith) fits) in
     let left : List ℕ = block_tail (frame s.mode Struct) s One (field_texts (inside s) fs) in
@@ -133,8 +133,8 @@ struct_complete s p n below fits (c ∷ name) label value fs u hn hl hv hs less 
     word_leads s p (c ∷ name) (start ++ (entry ++ (trail s.mode ++ left))) u hn refl
     ∙ (lead_chosen start entry (trail s.mode) left u (read_struct s p (c ∷ name)) (Some (leaf (c ∷ name), (start ++ (entry ++ (trail s.mode ++ left))) ++ u))
     ∙ (read_entries_complete (read_pair read_word p) (frame s.mode Struct) s (λ es. struct_of (c ∷ name) (fields_of es)) close
-    (label, normal value) (listed_fields (normal_fields fs)) entry (field_texts (inside s) fs) u first more
-    ∙ (ap (λ es. Some (struct_of (c ∷ name) (field label (normal value) es), u)) (fields_of-listed_fields (normal_fields fs)))))
+    (field_name, normal value) (listed_fields (normal_fields fs)) entry (field_texts (inside s) fs) u first more
+    ∙ (ap (λ es. Some (struct_of (c ∷ name) (field field_name (normal value) es), u)) (fields_of-listed_fields (normal_fields fs)))))
 
 -- a tuple with fields is read
 tuple_complete : (s : Setting) (p : Parse Document) (n : ℕ) → ReadsBelow p (inside s) n → Fits s n
@@ -179,8 +179,8 @@ read_with_complete s p n below fits (set_of (document d ds)) u h less follows = 
 read_with_complete s p n below fits (map_of no_pairs) u h less follows = refl
 read_with_complete s p n below fits (map_of (pair key value ps)) u h less follows = map_complete s p n below fits key value ps u h.0 h.1 h.2 less
 read_with_complete s p n below fits (struct_of name no_fields) u h less follows = name_complete s p name u h.0 follows
-read_with_complete s p n below fits (struct_of name (field label value fs)) u h less follows =
-    struct_complete s p n below fits name label value fs u h.0 h.1.0 h.1.1 h.1.2 less
+read_with_complete s p n below fits (struct_of name (field field_name value fs)) u h less follows =
+    struct_complete s p n below fits name field_name value fs u h.0 h.1.0 h.1.1 h.1.2 less
 read_with_complete s p n below fits (tuple_of [] no_documents) u h less follows = absurd h
 read_with_complete s p n below fits (tuple_of (c ∷ name) no_documents) u h less follows = name_complete s p (c ∷ name) u h follows
 read_with_complete s p n below fits (tuple_of name (document d ds)) u h less follows = tuple_complete s p n below fits name d ds u h.0 h.1 h.2 less

@@ -138,9 +138,9 @@ read_list_sound s p n finds t v d u front h = go (chosen_from (strip ((frame s.m
               ∙ ap (λ w. codes "[" ++ w) (strip_found ((frame s.mode Brackets).closing Zero) v k.0 k.1);
         }) k.2
     go (inr k) =
-        let behind = led_from _ (strip (lead (frame s.mode Brackets) (inside s) Zero) v) (d, u) k.1 in
-        list_found s n t behind.0 d u (front ∙ ap (λ w. codes "[" ++ w) (strip_found (lead (frame s.mode Brackets) (inside s) Zero) v behind.0 behind.1))
-        (read_entries_sound p (IsNormalBelow n) (layout (inside s)) (frame s.mode Brackets) s (λ ds. list_of (documents ds)) finds behind.0 d u behind.2)
+        let after = led_from _ (strip (lead (frame s.mode Brackets) (inside s) Zero) v) (d, u) k.1 in
+        list_found s n t after.0 d u (front ∙ ap (λ w. codes "[" ++ w) (strip_found (lead (frame s.mode Brackets) (inside s) Zero) v after.0 after.1))
+        (read_entries_sound p (IsNormalBelow n) (layout (inside s)) (frame s.mode Brackets) s (λ ds. list_of (documents ds)) finds after.0 d u after.2)
 
 -- what is read in braces behind a first document is a map or a set with it
 read_map_or_set_sound : (s : Setting) (p : Parse Document) (n : ℕ) → Finds p (IsNormalBelow n) (layout (inside s))
@@ -179,26 +179,26 @@ read_braces_sound s p n finds t v d u front h = go (chosen_from (strip ((frame s
               ∙ ap (λ w. codes "{" ++ w) (strip_found ((frame s.mode Braces).closing Zero) v k.0 k.1);
         }) k.2
     go (inr k) =
-        let behind = led_from _ (strip (lead (frame s.mode Braces) (inside s) Zero) v) (d, u) k.1 in
-        let first = led_from _ (p behind.0) (d, u) behind.2 in
-        read_map_or_set_sound s p n finds t behind.0 first.0.1 first.0.0 d u
-        (front ∙ ap (λ w. codes "{" ++ w) (strip_found (lead (frame s.mode Braces) (inside s) Zero) v behind.0 behind.1))
-        (finds.good behind.0 first.0.0 first.0.1 first.1) (finds.whole behind.0 first.0.0 first.0.1 first.1) first.2
+        let after = led_from _ (strip (lead (frame s.mode Braces) (inside s) Zero) v) (d, u) k.1 in
+        let first = led_from _ (p after.0) (d, u) after.2 in
+        read_map_or_set_sound s p n finds t after.0 first.0.1 first.0.0 d u
+        (front ∙ ap (λ w. codes "{" ++ w) (strip_found (lead (frame s.mode Braces) (inside s) Zero) v after.0 after.1))
+        (finds.good after.0 first.0.0 first.0.1 first.1) (finds.whole after.0 first.0.0 first.0.1 first.1) first.2
 
 -- what is read as a tuple is one
 read_tuple_sound : (s : Setting) (p : Parse Document) (n : ℕ) → Finds p (IsNormalBelow n) (layout (inside s))
     → (name t v w : List ℕ) (d : Document) (u : List ℕ) → AreWordBytes name → t ≡ name ++ v
     → strip (lead (frame s.mode (tuple_kind name)) (inside s) Zero) v ≡ Some w → read_tuple s p name w ≡ Some (d, u) → Found s n t d u
-read_tuple_sound s p n finds name t v w d u word front behind h =
-    tuple_found s n name t w d u word (front ∙ ap (λ x. name ++ x) (strip_found (lead (frame s.mode (tuple_kind name)) (inside s) Zero) v w behind))
+read_tuple_sound s p n finds name t v w d u word front after h =
+    tuple_found s n name t w d u word (front ∙ ap (λ x. name ++ x) (strip_found (lead (frame s.mode (tuple_kind name)) (inside s) Zero) v w after))
     (read_entries_sound p (IsNormalBelow n) (layout (inside s)) (frame s.mode (tuple_kind name)) s (λ ds. tuple_of name (documents ds)) finds w d u h)
 
 -- what is read as a struct is one
 read_struct_sound : (s : Setting) (p : Parse Document) (n : ℕ) → Finds p (IsNormalBelow n) (layout (inside s))
     → (name t v w : List ℕ) (d : Document) (u : List ℕ) → IsWord name → t ≡ name ++ v
     → strip (lead (frame s.mode Struct) (inside s) Zero) v ≡ Some w → read_struct s p name w ≡ Some (d, u) → Found s n t d u
-read_struct_sound s p n finds name t v w d u word front behind h =
-    struct_found s n name t w d u word (front ∙ ap (λ x. name ++ x) (strip_found (lead (frame s.mode Struct) (inside s) Zero) v w behind))
+read_struct_sound s p n finds name t v w d u word front after h =
+    struct_found s n name t w d u word (front ∙ ap (λ x. name ++ x) (strip_found (lead (frame s.mode Struct) (inside s) Zero) v w after))
     (read_entries_sound (read_pair read_word p) (IsGoodPair IsWord (IsNormalBelow n)) (keyed_text (λ x. x) (layout (inside s)))
     (frame s.mode Struct) s (λ fs. struct_of name (fields_of fs))
     (read_pair_finds read_word p IsWord (IsNormalBelow n) (λ x. x) (layout (inside s)) read_word_finds finds) w d u h)
@@ -237,8 +237,8 @@ read_without_name_sound s p n finds t d u h = in_brackets (chosen_from (strip (c
         let found = read_symbol_sound t k.0.0 k.0.1 k.1 in
         found_same (leaf k.0.0) d k.0.1 u (leaf_found k.0.0 k.0.1 (symbol_leaf k.0.0 found.0) found.1) k.2
     in_parentheses (inr k) =
-        let behind = led_from _ (strip (lead (frame s.mode Unnamed) (inside s) Zero) t) (d, u) k.1 in
-        read_tuple_sound s p n finds [] t t behind.0 d u tt refl behind.1 behind.2
+        let after = led_from _ (strip (lead (frame s.mode Unnamed) (inside s) Zero) t) (d, u) k.1 in
+        read_tuple_sound s p n finds [] t t after.0 d u tt refl after.1 after.2
 
     braces : ((v : List ℕ) × (strip (codes "{") t ≡ Some v) × (read_braces s p v ≡ Some (d, u)))
         ⊎ ((strip (codes "{") t ≡ None) × (choose (read_symbol t) (λ x. given (leaf x.0) x.1) (read_unnamed s p t) ≡ Some (d, u))) → Found s n t d u

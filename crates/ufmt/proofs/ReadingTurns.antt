@@ -39,11 +39,11 @@ pair_takes : {A : Type 0} (key : Parse A) (p : Parse Document) → Takes key →
     → read_pair key p t ≡ Some (x, u) → length u < length t
 pair_takes key p takes_key takes t x u h =
     let first = led_from _ (key t) (x, u) h in
-    let behind = led_from _ (strip (codes ": ") first.0.1) (x, u) first.2 in
-    let value = mapped_from _ (p behind.0) x u behind.2 in
+    let after = led_from _ (strip (codes ": ") first.0.1) (x, u) first.2 in
+    let value = mapped_from _ (p after.0) x u after.2 in
     let a = takes_key.takes t first.0.0 first.0.1 first.1 in
-    let b = strip_within (codes ": ") first.0.1 behind.0 behind.1 in
-    let c = takes.takes behind.0 value.0 u value.1 in
+    let b = strip_within (codes ": ") first.0.1 after.0 after.1 in
+    let c = takes.takes after.0 value.0 u value.1 in
     omega arith
 
 -- so they take a byte, where keys and values do

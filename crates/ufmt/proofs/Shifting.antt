@@ -196,7 +196,7 @@ HasRoom-map_of k (pair key value ps) h = HasRoom-entries k _ _ _ h
 
 HasRoom-struct_of : (k : ℕ) (name : List ℕ) (fs : Fields) → nest (struct_of name fs) + k ≤ 255 → HasRoom k (nest_fields fs) (shifted_fields fs)
 HasRoom-struct_of k name no_fields h = HasRoom-empty k h
-HasRoom-struct_of k name (field label value fs) h = HasRoom-entries k _ _ _ h
+HasRoom-struct_of k name (field field_name value fs) h = HasRoom-entries k _ _ _ h
 
 -- a block at depth k, whose entries' texts hang as they should
 block-shifted : (kind : Kind) (k n : ℕ) (name : List ℕ) (ss ts : List (List ℕ)) → IsOneLine name → HasRoom k n ss
@@ -239,8 +239,8 @@ mutual
   field_texts-shifted : (k : ℕ) (fs : Fields) → FieldsHaveNoLineFeed fs → nest_fields fs + k ≤ 255
       → field_texts (setting Pretty k) fs ≡ map (hanging k) (shifted_fields fs)
   field_texts-shifted k no_fields h n = refl
-  field_texts-shifted k (field label value fs) h n =
-      rw (hanging-append k label _, hanging-one_line k label h.0, layout-shifted k value h.1 (omega arith), field_texts-shifted k fs h.2 (omega arith))
+  field_texts-shifted k (field name value fs) h n =
+      rw (hanging-append k name _, hanging-one_line k name h.0, layout-shifted k value h.1 (omega arith), field_texts-shifted k fs h.2 (omega arith))
 
 -- at depth k a document's pretty text is its shifted text, as lines, shifted k times
 pub shift_times-shifted : (d : Document) (k : ℕ) → HasNoLineFeed d → nest d + k ≤ 255

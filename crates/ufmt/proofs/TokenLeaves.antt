@@ -42,8 +42,8 @@ pub IsWord-from : (w : List ℕ) → read_word w ≡ Some (w, []) → IsWord w
 IsWord-from w h = (read_word_sound w w [] h).0
 
 -- the word before a field's colon is read
-pub label_complete : (w : List ℕ) → IsWord w → IsRead read_word w w
-label_complete w h = record { begins = word_begins w h; reads = λ u follows. read_word_complete w u h (follower_stops u follows) }
+pub field_name_complete : (w : List ℕ) → IsWord w → IsRead read_word w w
+field_name_complete w h = record { begins = word_begins w h; reads = λ u follows. read_word_complete w u h (follower_stops u follows) }
 
 -- what begins with a word is read by what stands behind it
 at_word : (s : Setting) (p : Parse Document) (w u : List ℕ) → IsWord w → StopsWord u → read_with s p (w ++ u) ≡ read_named s p w u

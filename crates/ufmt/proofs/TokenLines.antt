@@ -45,5 +45,5 @@ mutual
 
   FieldsHaveTokens-HaveNoLineFeed : (fs : Fields) → FieldsHaveTokens fs → FieldsHaveNoLineFeed fs
   FieldsHaveTokens-HaveNoLineFeed no_fields h = tt
-  FieldsHaveTokens-HaveNoLineFeed (field label value fs) h =
-      (IsWord-IsOneLine label h.0, HasTokens-HasNoLineFeed value h.1, FieldsHaveTokens-HaveNoLineFeed fs h.2)
+  FieldsHaveTokens-HaveNoLineFeed (field name value fs) h =
+      (IsWord-IsOneLine name h.0, HasTokens-HasNoLineFeed value h.1, FieldsHaveTokens-HaveNoLineFeed fs h.2)

@@ -29,7 +29,7 @@ module _ (P Q R : List ℕ → Type 0) (both : (text : List ℕ) → P text → 
 
     FieldsHaveLeaves-both : (fs : Fields) → FieldsHaveLeaves P fs → LeavesOfFields Q fs → FieldsHaveLeaves R fs
     FieldsHaveLeaves-both no_fields h k = tt
-    FieldsHaveLeaves-both (field label value fs) h k = (h.0, HasLeaves-both value h.1 k.0, FieldsHaveLeaves-both fs h.2 k.1)
+    FieldsHaveLeaves-both (field name value fs) h k = (h.0, HasLeaves-both value h.1 k.0, FieldsHaveLeaves-both fs h.2 k.1)
 
 unquoted : (text : List ℕ) → IsTokenLeaf text → ¬ (IsQuoted text) → IsUnquotedLeaf text
 unquoted text h no_quotes = go h.shape

@@ -86,8 +86,8 @@ pretty-two_lines = refl
 HasNoLineFeed-not-two_lines : HasNoLineFeed two_lines → ⊥
 HasNoLineFeed-not-two_lines h = h.0.1.0 refl
 
-HasNoLineFeed-not-label : HasNoLineFeed (struct_of (codes "S") (field (codes "\n") one no_fields)) → ⊥
-HasNoLineFeed-not-label h = h.1.0.0 refl
+HasNoLineFeed-not-field_name : HasNoLineFeed (struct_of (codes "S") (field (codes "\n") one no_fields)) → ⊥
+HasNoLineFeed-not-field_name h = h.1.0.0 refl
 
 HasNoLineFeed-lists : HasNoLineFeed (list_of (document (list_of no_documents) (lone one)))
 HasNoLineFeed-lists = (tt, ((λ e. omega (arith, e), tt), tt))

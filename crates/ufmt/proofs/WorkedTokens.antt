@@ -65,8 +65,8 @@ IsToken-not-empty_tuple h = h.0
 IsToken-not-empty_struct : IsToken (struct_of (codes "") (field (codes "n") one no_fields)) → ⊥
 IsToken-not-empty_struct h = h.0.0
 
-IsToken-not-empty_label : IsToken (struct_of (codes "S") (field (codes "") one no_fields)) → ⊥
-IsToken-not-empty_label h = h.0.1.0
+IsToken-not-empty_field_name : IsToken (struct_of (codes "S") (field (codes "") one no_fields)) → ⊥
+IsToken-not-empty_field_name h = h.0.1.0
 
 IsToken-not-joined : IsToken (list_of (lone (joined no_documents))) → ⊥
 IsToken-not-joined h = h.0.0

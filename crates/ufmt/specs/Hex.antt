@@ -1,7 +1,7 @@
 -- Hexadecimal texts of whole numbers, and how options pad a text.
 use Rattle.std.specs.Prelude.{◌≡◌, ◌⊎◌, max, All, ℕ, ℤ, ◌+◌, ◌-◌, Bool, true, false, ◌&&◌, ◌==◌, nat_lt, if◌then◌else◌, List, [], ◌++◌, map, length, replicate, codes}
 use Rattle.std.specs.Int.{Width, cast_unsigned}
-use Rattle.ufmt_core.specs.Decimal.{TellsInBase, numeral}
+use Rattle.ufmt_core.specs.Decimal.{DenotesInBase, numeral}
 use Rattle.ufmt.specs.declared.hex.HexOptions.{HexOptions}
 
 -- the letter of the digit ten, in upper case or not
@@ -14,26 +14,26 @@ abbrev pub hexadecimal_byte : Bool → ℕ → ℕ
 hexadecimal_byte upper_case digit = if nat_lt digit 10 then 48 + digit else letter_of_ten upper_case + (digit - 10)
 
 -- the text is the bytes of hexadecimal digits that tell n
-pub record TellsHexadecimal (upper_case : Bool) (text : List ℕ) (n : ℕ) : Type 0 where
+pub record DenotesHexadecimal (upper_case : Bool) (text : List ℕ) (n : ℕ) : Type 0 where
   pub digits : List ℕ
   pub bytes : text ≡ map (hexadecimal_byte upper_case) digits
-  pub told : TellsInBase 16 digits n
+  pub denotes : DenotesInBase 16 digits n
 
--- the text that tells this number: which one follows from `EachNumberIsTold` and `OneTextTells` alone
+-- the text that tells this number: which one follows from `EachNumberIsDenoted` and `OneTextDenotes` alone
 unfoldable pub hexadecimal : Bool → ℕ → List ℕ
 hexadecimal upper_case n = map (hexadecimal_byte upper_case) (numeral 16 n)
 
 -- each number has a hexadecimal text in each case of letters, which `hexadecimal` gives
-abbrev pub EachNumberIsTold : Type 0
-EachNumberIsTold = (upper_case : Bool) (n : ℕ) → TellsHexadecimal upper_case (hexadecimal upper_case n) n
+abbrev pub EachNumberIsDenoted : Type 0
+EachNumberIsDenoted = (upper_case : Bool) (n : ℕ) → DenotesHexadecimal upper_case (hexadecimal upper_case n) n
 
 -- no other text in that case tells the number
-abbrev pub OneTextTells : Type 0
-OneTextTells = (upper_case : Bool) (n : ℕ) (text : List ℕ) → TellsHexadecimal upper_case text n → text ≡ hexadecimal upper_case n
+abbrev pub OneTextDenotes : Type 0
+OneTextDenotes = (upper_case : Bool) (n : ℕ) (text : List ℕ) → DenotesHexadecimal upper_case text n → text ≡ hexadecimal upper_case n
 
 -- no text tells two numbers
-abbrev pub OneNumberIsTold : Type 0
-OneNumberIsTold = (upper_case : Bool) (text : List ℕ) (m n : ℕ) → TellsHexadecimal upper_case text m → TellsHexadecimal upper_case text n → m ≡ n
+abbrev pub OneNumberIsDenoted : Type 0
+OneNumberIsDenoted = (upper_case : Bool) (text : List ℕ) (m n : ℕ) → DenotesHexadecimal upper_case text m → DenotesHexadecimal upper_case text n → m ≡ n
 
 -- `0x` or `0X`, or nothing
 abbrev pub prefix_of : HexOptions → List ℕ

@@ -8,12 +8,12 @@ use Rattle.ufmt.specs.Shift.{IsOneLine}
 use Rattle.ufmt.specs.Token.{IsWord}
 
 -- where quoted texts are equal, with what follows them, so are their characters and what follows
-abbrev pub QuotedTextTells : Type 0
-QuotedTextTells = (cs ds u v : List ℕ) → all_scalars cs ≡ true → all_scalars ds ≡ true → quoted_text cs ++ u ≡ quoted_text ds ++ v → (cs ≡ ds) × (u ≡ v)
+abbrev pub QuotedTextDetermines : Type 0
+QuotedTextDetermines = (cs ds u v : List ℕ) → all_scalars cs ≡ true → all_scalars ds ≡ true → quoted_text cs ++ u ≡ quoted_text ds ++ v → (cs ≡ ds) × (u ≡ v)
 
 -- likewise of quoted characters
-abbrev pub QuotedCharTells : Type 0
-QuotedCharTells = (c d : ℕ) (u v : List ℕ) → IsScalar c → IsScalar d → quoted_char c ++ u ≡ quoted_char d ++ v → (c ≡ d) × (u ≡ v)
+abbrev pub QuotedCharDetermines : Type 0
+QuotedCharDetermines = (c d : ℕ) (u v : List ℕ) → IsScalar c → IsScalar d → quoted_char c ++ u ≡ quoted_char d ++ v → (c ≡ d) × (u ≡ v)
 
 -- no quoted text is a quoted character
 abbrev pub QuotedTextIsNoChar : Type 0

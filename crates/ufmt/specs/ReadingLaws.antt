@@ -30,12 +30,12 @@ PrettyReadsOneWay = (k : ℕ) (d e : Document) (u v : List ℕ) → IsToken d �
     → IsFollower v → layout (setting Pretty k) d ++ u ≡ layout (setting Pretty k) e ++ v → (normal d ≡ normal e) × (u ≡ v)
 
 -- token documents have one plain text exactly if they have one normal form
-abbrev pub PlainTextTells : Type 0
-PlainTextTells = (d e : Document) → IsToken d → IsToken e → (plain_text d ≡ plain_text e) ↔ (normal d ≡ normal e)
+abbrev pub PlainTextDetermines : Type 0
+PlainTextDetermines = (d e : Document) → IsToken d → IsToken e → (plain_text d ≡ plain_text e) ↔ (normal d ≡ normal e)
 
 -- likewise of their pretty text
-abbrev pub PrettyTextTells : Type 0
-PrettyTextTells = (d e : Document) → IsToken d → IsToken e → (pretty_text d ≡ pretty_text e) ↔ (normal d ≡ normal e)
+abbrev pub PrettyTextDetermines : Type 0
+PrettyTextDetermines = (d e : Document) → IsToken d → IsToken e → (pretty_text d ≡ pretty_text e) ↔ (normal d ≡ normal e)
 
 -- token documents have one plain text exactly if they have one pretty text
 abbrev pub TextsAgree : Type 0

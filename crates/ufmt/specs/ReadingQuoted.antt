@@ -7,20 +7,20 @@ use Rattle.ufmt_core.specs.Quoted.{escaped_byte, quoted}
 use Rattle.ufmt.specs.Parse.{Parse, choose, parse_map, strip}
 
 -- the number in the braces at the front, if one is there
-abbrev pub told_number : List ℕ → ℕ
-told_number t = cond (slice_index t 4 == 125) (digit_value (slice_index t 3)) (digit_value (slice_index t 3) * 16 + digit_value (slice_index t 4))
+abbrev pub decoded_number : List ℕ → ℕ
+decoded_number t = cond (slice_index t 4 == 125) (digit_value (slice_index t 3)) (digit_value (slice_index t 3) * 16 + digit_value (slice_index t 4))
 
 -- the byte that is written at the front as a backslash, x and more, if one is
-abbrev pub told_escape : List ℕ → ℕ → ℕ
-told_escape t x = cond (x == 48) 0 (cond (x == 116) 9 (cond (x == 110) 10 (cond (x == 114) 13 (cond (x == 117) (told_number t) x))))
+abbrev pub decoded_escape : List ℕ → ℕ → ℕ
+decoded_escape t x = cond (x == 48) 0 (cond (x == 116) 9 (cond (x == 110) 10 (cond (x == 114) 13 (cond (x == 117) (decoded_number t) x))))
 
 -- the only byte that may be written at the front
-abbrev pub told : List ℕ → ℕ
-told t = cond (slice_index t 0 == 92) (told_escape t (slice_index t 1)) (slice_index t 0)
+abbrev pub decoded : List ℕ → ℕ
+decoded t = cond (slice_index t 0 == 92) (decoded_escape t (slice_index t 1)) (slice_index t 0)
 
 -- a byte, between two of these quotes
 abbrev pub read_escaped : ℕ → Parse ℕ
-read_escaped quote t = option_map (λ u. (told t, u)) (strip (escaped_byte quote (told t)) t)
+read_escaped quote t = option_map (λ u. (decoded t, u)) (strip (escaped_byte quote (decoded t)) t)
 
 -- bytes up to the closing quote, fewer than the number
 unfoldable pub read_inside : ℕ → ℕ → Parse (List ℕ)

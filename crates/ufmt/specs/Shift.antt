@@ -67,7 +67,7 @@ abbrev mutual
 
   pub shifted_fields : Fields → List (List ℕ)
   shifted_fields no_fields = []
-  shifted_fields (field label value fs) = (label ++ (codes ": " ++ shifted value)) ∷ shifted_fields fs
+  shifted_fields (field name value fs) = (name ++ (codes ": " ++ shifted value)) ∷ shifted_fields fs
 
 -- no byte of a text is a line feed
 abbrev pub IsOneLine : List ℕ → Type 0
@@ -96,4 +96,4 @@ abbrev mutual
 
   pub FieldsHaveNoLineFeed : Fields → Type 0
   FieldsHaveNoLineFeed no_fields = ⊤
-  FieldsHaveNoLineFeed (field label value fs) = IsOneLine label × HasNoLineFeed value × FieldsHaveNoLineFeed fs
+  FieldsHaveNoLineFeed (field name value fs) = IsOneLine name × HasNoLineFeed value × FieldsHaveNoLineFeed fs

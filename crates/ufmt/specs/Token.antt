@@ -55,7 +55,7 @@ module _ (IsLeaf : List ℕ → Type 0) where
 
     pub FieldsHaveLeaves : Fields → Type 0
     FieldsHaveLeaves no_fields = ⊤
-    FieldsHaveLeaves (field label value fs) = IsWord label × HasLeaves value × FieldsHaveLeaves fs
+    FieldsHaveLeaves (field name value fs) = IsWord name × HasLeaves value × FieldsHaveLeaves fs
 
 -- each leaf and each name is a token, which can be read again
 abbrev pub HasTokens : Document → Type 0
@@ -84,7 +84,7 @@ abbrev mutual
   normal (set_of (document d ds)) = set_of (document (normal d) (normal_all ds))
   normal (map_of ps) = map_of (normal_pairs ps)
   normal (struct_of name no_fields) = leaf name
-  normal (struct_of name (field label value fs)) = struct_of name (field label (normal value) (normal_fields fs))
+  normal (struct_of name (field field_name value fs)) = struct_of name (field field_name (normal value) (normal_fields fs))
   normal (tuple_of name no_documents) = leaf name
   normal (tuple_of name (document d ds)) = tuple_of name (document (normal d) (normal_all ds))
   normal (pretty_part d) = pretty_part (normal d)
@@ -99,7 +99,7 @@ abbrev mutual
 
   pub normal_fields : Fields → Fields
   normal_fields no_fields = no_fields
-  normal_fields (field label value fs) = field label (normal value) (normal_fields fs)
+  normal_fields (field name value fs) = field name (normal value) (normal_fields fs)
 
 -- a comma, a colon or a closing bracket
 abbrev pub is_closer : ℕ → Bool

@@ -27,7 +27,7 @@ module _ (IsLeaf : List ℕ → Type 0) where
 
     pub LeavesOfFields : Fields → Type 0
     LeavesOfFields no_fields = ⊤
-    LeavesOfFields (field label value fs) = EachLeaf value × LeavesOfFields fs
+    LeavesOfFields (field name value fs) = EachLeaf value × LeavesOfFields fs
 
 -- none of its leaves is quoted
 abbrev pub IsUnquoted : Document → Type 0

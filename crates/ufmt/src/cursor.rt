@@ -1,12 +1,8 @@
 //! A writer over a buffer of a fixed size.
 ghost use Rattle.std.specs.Prelude.{◌≡◌, ◌+◌, ◌++◌, ◌*◌, ◌<◌, ◌≤◌, [], length, take, drop, is_ok, encode_utf8};
-ghost use Rattle.ufmt_core.specs.Layout.{plain_text, pretty_text};
 ghost use Rattle.ufmt_core.specs.Writes.{Writes};
-ghost use Rattle.ufmt.specs.Buffer.{Fronts};
 
-use crate::display::uDisplay;
-use crate::pieces::{write_debug, write_display, write_pretty};
-use ufmt_core::{uDebug, uWrite};
+use ufmt_core::uWrite;
 
 /// A piece has more bytes than remain in a `Cursor`.
 #[derive(Clone, Copy, PartialEq, Eq, Debug)]
@@ -152,32 +148,4 @@ fn copy_ends<const N: usize>(bytes: &[u8], target: &mut [u8])
 {
     *target.first_chunk_mut::<N>().unwrap() = *bytes.first_chunk::<N>().unwrap();
     *target.last_chunk_mut::<N>().unwrap() = *bytes.last_chunk::<N>().unwrap();
-}
-
-/// Prints the value, as `uDebug` does in plain mode, to the front of the buffer, and answers how many
-/// bytes it has. On `Full` the buffer begins with a beginning of the text. The other bytes stay.
-pub fn debug_into<T: uDebug>(buffer: &mut [u8], value: &T) -> Result<usize, Full>
-    ensures { Fronts buffer.old (plain_text (T.document value.now)) result buffer.new }
-{
-    let mut cursor = Cursor::new(buffer);
-    write_debug(&mut cursor, value)?;
-    Ok(cursor.written().len())
-}
-
-/// The same in pretty mode, at depth 0.
-pub fn pretty_into<T: uDebug>(buffer: &mut [u8], value: &T) -> Result<usize, Full>
-    ensures { Fronts buffer.old (pretty_text (T.document value.now)) result buffer.new }
-{
-    let mut cursor = Cursor::new(buffer);
-    write_pretty(&mut cursor, value)?;
-    Ok(cursor.written().len())
-}
-
-/// The same of `uDisplay`, in plain mode.
-pub fn display_into<T: uDisplay>(buffer: &mut [u8], value: &T) -> Result<usize, Full>
-    ensures { Fronts buffer.old (plain_text (T.display value.now)) result buffer.new }
-{
-    let mut cursor = Cursor::new(buffer);
-    write_display(&mut cursor, value)?;
-    Ok(cursor.written().len())
 }

@@ -7,13 +7,13 @@ ghost use Rattle.std.specs.Int.{w8, w16, w32, w64, w128};
 ghost use Rattle.ufmt_core.specs.Formatter.{Prints, setting_of};
 ghost use Rattle.ufmt.specs.Pieces.{hex, pieces_text, pretty, separated, shown, text};
 ghost use Rattle.ufmt.specs.declared.hex.HexOptions.{HexOptions};
-ghost use Rattle.ufmt.specs.Hex.{EachNumberIsTold, OneTextTells, OneNumberIsTold, IsPadded, PrintsHexadecimal, PrintsBits, padded};
+ghost use Rattle.ufmt.specs.Hex.{EachNumberIsDenoted, OneTextDenotes, OneNumberIsDenoted, IsPadded, PrintsHexadecimal, PrintsBits, padded};
 ghost use Rattle.ufmt.specs.NormalFormLaws.{NormalFormsAreNormal, NormalFormsKeepTexts, NormalFormsKeepTokens};
 ghost use Rattle.ufmt.specs.Token.{IsWord};
-ghost use Rattle.ufmt.specs.QuotedLaws.{QuotedCharTells, QuotedEndsItself, QuotedIsNoOtherLeaf, QuotedIsOneLine, QuotedTextIsNoChar, QuotedTextTells, ReadsEachQuoted, ReadsOnlyQuoted};
+ghost use Rattle.ufmt.specs.QuotedLaws.{QuotedCharDetermines, QuotedEndsItself, QuotedIsNoOtherLeaf, QuotedIsOneLine, QuotedTextIsNoChar, QuotedTextDetermines, ReadsEachQuoted, ReadsOnlyQuoted};
 ghost use Rattle.ufmt.specs.ShiftLaws.{ShiftMovesEachLine, ShiftedAtDepth, ShiftedIsPretty, TokensHaveNoLineFeed};
 ghost use Rattle.ufmt.specs.ReadingLaws.{ReadsEachText, ReadsOnlyTexts, RefusesNoText};
-ghost use Rattle.ufmt.specs.ReadingLaws.{PlainReadsOneWay, PlainTextTells, PrettyReadsOneWay, PrettyTextTells, TextsAgree};
+ghost use Rattle.ufmt.specs.ReadingLaws.{PlainReadsOneWay, PlainTextDetermines, PrettyReadsOneWay, PrettyTextDetermines, TextsAgree};
 ghost use Rattle.ufmt.specs.UnquotedLaws.{UnquotedAsBefore};
 
 use crate::cursor::{Cursor, Full};
@@ -45,9 +45,9 @@ pub fn write_to_buffer(buffer: &mut [u8], text: &str) -> Result<(), Full>
 
 /// Each whole number has exactly one hexadecimal text in each case of letters, and no two have one text.
 pub fn hexadecimal_is_one_text()
-    ensures told { EachNumberIsTold }
-    ensures one_text { OneTextTells }
-    ensures one_number { OneNumberIsTold }
+    ensures denoted { EachNumberIsDenoted }
+    ensures one_text { OneTextDenotes }
+    ensures one_number { OneNumberIsDenoted }
 {}
 
 /// A padded text has as many bytes as the greater of the length to pad to and prefix with payload,
@@ -230,10 +230,10 @@ pub fn pretty_reads_one_way()
 
 /// Token documents have equal plain texts exactly if they have equal pretty texts, and exactly if
 /// they have equal normal forms.
-#[tactic(auto, using(crate::proofs::OneWay::plain_text_tells, crate::proofs::OneWay::pretty_text_tells, crate::proofs::OneWay::texts_agree))]
-pub fn texts_tell_normal_forms()
-    ensures plain { PlainTextTells }
-    ensures pretty { PrettyTextTells }
+#[tactic(auto, using(crate::proofs::OneWay::plain_text_determines, crate::proofs::OneWay::pretty_text_determines, crate::proofs::OneWay::texts_agree))]
+pub fn texts_determine_normal_forms()
+    ensures plain { PlainTextDetermines }
+    ensures pretty { PrettyTextDetermines }
     ensures agree { TextsAgree }
 {}
 
@@ -249,8 +249,8 @@ pub fn texts_are_read_exactly()
 /// quoted text is no quoted character, and neither is a word or `()`; a quoted leaf ends itself, and
 /// has no line feed.
 pub fn quoted_one_way()
-    ensures text { QuotedTextTells }
-    ensures character { QuotedCharTells }
+    ensures text { QuotedTextDetermines }
+    ensures character { QuotedCharDetermines }
     ensures apart { QuotedTextIsNoChar }
     ensures ends { QuotedEndsItself }
     ensures no_other_leaf { QuotedIsNoOtherLeaf }

@@ -8,15 +8,17 @@ mod fields;
 mod hex;
 pub mod laws;
 pub mod line;
-mod pieces;
-mod texts;
+mod print;
+mod uwrite;
 
-pub use cursor::{Cursor, Full, debug_into, display_into, pretty_into};
+pub use cursor::{Cursor, Full};
 pub use display::uDisplay;
 pub use hex::{HexOptions, uDisplayHex};
-pub use line::{Line, line_into, write_line};
-pub use pieces::{fmt_pretty, write_debug, write_display, write_pretty};
-pub use texts::{plain_text, pretty_text};
+pub use line::Line;
+pub use print::{
+    debug_into, display_into, fmt_pretty, line_into, plain_text, pretty_into, pretty_text,
+    write_debug, write_display, write_line, write_pretty,
+};
 pub use ufmt_core::{
     DebugList, DebugMap, DebugSet, DebugStruct, DebugTuple, Formatter, NamedFields, UnnamedFields,
     ascii, layout, quoted, uDebug, uWrite, unsigned,

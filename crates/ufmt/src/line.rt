@@ -1,15 +1,10 @@
 //! A line of pieces as one value, which prints in one call: what stands under `pieces!`.
-ghost use Rattle.std.specs.Prelude.{[], ◌∷◌, ◌++◌, List, is_ok};
+ghost use Rattle.std.specs.Prelude.{[], ◌∷◌, ◌++◌, List, map, is_ok};
 ghost use Rattle.ufmt_core.specs.Formatter.{Prints, setting_of};
-ghost use Rattle.ufmt_core.specs.Writes.{Writes};
-ghost use Rattle.ufmt.specs.Buffer.{Fronts};
-ghost use Rattle.ufmt.specs.Pieces.{Piece, line_text, pieces_text, text};
+ghost use Rattle.ufmt.specs.Pieces.{Piece, pieces_text, preceded, separated, text};
 
-mod each;
 mod marks;
 
-use crate::cursor::{Cursor, Full};
-pub use each::Each;
 pub use marks::{Debug, Display, Hex, Mark, Marked, Pretty};
 use ufmt_core::{Formatter, uWrite};
 
@@ -60,22 +55,42 @@ impl Line for Text<'_> {
     }
 }
 
-/// Prints the line to the writer, in plain mode. On `Err` the writer took a beginning of it.
-pub fn write_line<L: Line, W: uWrite>(writer: &mut W, line: &L) -> Result<(), W::Error>
-    ensures { Writes W.seen writer.old (line_text (L.pieces line.now)) (is_ok result) writer.new }
-{
-    let mut f = Formatter::new(writer);
-    line.print(&mut f)
+/// Each item of a slice by one mark, with a text between them.
+#[derive(Clone, Copy, Drop)]
+pub struct Each<'a, T, M> {
+    pub items: &'a [T],
+    pub mark: M,
+    pub between: &'a str,
 }
 
-/// Prints the line, in plain mode, to the front of the buffer, and answers how many bytes it has. On
-/// `Full` the buffer begins with the pieces that did fit. The other bytes stay.
-pub fn line_into<L: Line>(buffer: &mut [u8], line: &L) -> Result<usize, Full>
-    ensures { Fronts buffer.old (line_text (L.pieces line.now)) result buffer.new }
-{
-    let mut cursor = Cursor::new(buffer);
-    write_line(&mut cursor, line)?;
-    Ok(cursor.written().len())
+impl<T, M: Mark<T>> Line for Each<'_, T, M> {
+    ghost pieces = { λ e. separated e.between.now (map (M.pieces e.mark) e.items.now) };
+
+    fn print<W: uWrite>(&self, f: &mut Formatter<W>) -> Result<(), W::Error> {
+        match self.items.split_first() {
+            None => Ok(()),
+            Some((first, rest)) => {
+                self.mark.print_value(first, f)?;
+                self.print_rest(rest, f)
+            }
+        }
+    }
+}
+
+impl<T, M: Mark<T>> Each<'_, T, M> {
+    // Each of these items, with the text before it.
+    fn print_rest<W: uWrite>(&self, rest: &[T], f: &mut Formatter<W>) -> Result<(), W::Error>
+        ensures { Prints W.seen f.old
+            (pieces_text (setting_of f.old)
+            (preceded self.now.between.now (map (M.pieces self.now.mark) rest.now)))
+            (is_ok result) f.new }
+    {
+        for item in rest {
+            f.write_str(self.between)?;
+            self.mark.print_value(item, f)?;
+        }
+        Ok(())
+    }
 }
 
 /// A line of these pieces, as one value: `line_into(buffer, &pieces!(text "n = ", debug n))?`.

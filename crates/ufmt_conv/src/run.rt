@@ -7,20 +7,17 @@ ghost use Rattle.ufmt_conv.specs.Watched.{device_of, has_failed};
 
 mod answer;
 mod command;
+mod devices;
 mod fault;
-mod input;
-mod lengths;
-mod output;
 #[cfg(test)]
 mod tests;
 mod watched;
 
 use answer::answer_line;
+pub use answer::line_lengths;
 pub use command::{Command, usage};
+use devices::{read_to_end, write_whole};
 pub use fault::Fault;
-use input::read_to_end;
-pub use lengths::line_lengths;
-use output::write_whole;
 use std::alloc::Global;
 use std::io::{Read, Write};
 pub use watched::{Failed, Watched};

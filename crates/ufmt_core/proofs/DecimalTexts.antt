@@ -4,14 +4,14 @@ use borrow.Author.Tests.{ltb-true}
 use Rattle.std.specs.Str.{IsAscii}
 use Rattle.std.specs.Int.{is_negative}
 use Rattle.std.proofs.lemmas.Str.Ascii.{IsAscii-cons}
-use Rattle.ufmt_core.specs.Decimal.{decimal_byte, TellsMagnitude, sign_of, TellsDecimal, numeral, decimal}
-use Rattle.ufmt_core.proofs.Numerals.{numeral-tells}
+use Rattle.ufmt_core.specs.Decimal.{decimal_byte, DenotesMagnitude, sign_of, DenotesDecimal, numeral, decimal}
+use Rattle.ufmt_core.proofs.Numerals.{numeral-denotes}
 use Rattle.ufmt_core.proofs.NumeralTexts.{one_text, one_number, IsTextInBase, length-text-le, IsAscii-text}
 
 -- a text tells one magnitude
-TellsMagnitude-number : (s t : List ℕ) (m n : ℕ) → s ≡ t → TellsMagnitude s m → TellsMagnitude t n → m ≡ n
-TellsMagnitude-number s t m n same told_m told_n =
-    one_number 10 decimal_byte m n (λ x y bytes. omega arith) same told_m.bytes told_m.told told_n.bytes told_n.told
+DenotesMagnitude-number : (s t : List ℕ) (m n : ℕ) → s ≡ t → DenotesMagnitude s m → DenotesMagnitude t n → m ≡ n
+DenotesMagnitude-number s t m n same denotes_m denotes_n =
+    one_number 10 decimal_byte m n (λ x y bytes. omega arith) same denotes_m.bytes denotes_m.denotes denotes_n.bytes denotes_n.denotes
 
 -- the first byte of digits is no less than `0`
 first_byte : (digits : List ℕ) → 0 < length digits → 48 ≤ get_or (map decimal_byte digits) 0 0
@@ -19,40 +19,40 @@ first_byte [] some = absurd (omega arith)
 first_byte (digit ∷ digits) some = omega arith
 
 -- the text of a magnitude does not begin with `-`
-no_sign : (text rest : List ℕ) (n : ℕ) → TellsMagnitude text n → text ≡ 45 ∷ rest → ⊥
-no_sign text rest n told minus =
-    omega (arith, first_byte told.digits told.told.some_digit, ap (λ (bytes : List ℕ). get_or bytes 0 0) (sym told.bytes ∙ minus))
+no_sign : (text rest : List ℕ) (n : ℕ) → DenotesMagnitude text n → text ≡ 45 ∷ rest → ⊥
+no_sign text rest n denotes minus =
+    omega (arith, first_byte denotes.digits denotes.denotes.some_digit, ap (λ (bytes : List ℕ). get_or bytes 0 0) (sym denotes.bytes ∙ minus))
 
 -- a number has one decimal text
-pub TellsDecimal-one : (z : ℤ) (s t : List ℕ) → TellsDecimal s z → TellsDecimal t z → s ≡ t
-TellsDecimal-one z s t told_s told_t =
-    let same = one_text 10 decimal_byte (nat_abs z) (omega arith) told_s.told.bytes told_s.told.told told_t.told.bytes told_t.told.told in
-    told_s.signed ∙ ap (λ magnitude. sign_of z ++ magnitude) same ∙ sym told_t.signed
+pub DenotesDecimal-one : (z : ℤ) (s t : List ℕ) → DenotesDecimal s z → DenotesDecimal t z → s ≡ t
+DenotesDecimal-one z s t denotes_s denotes_t =
+    let same = one_text 10 decimal_byte (nat_abs z) (omega arith) denotes_s.denotes.bytes denotes_s.denotes.denotes denotes_t.denotes.bytes denotes_t.denotes.denotes in
+    denotes_s.signed ∙ ap (λ magnitude. sign_of z ++ magnitude) same ∙ sym denotes_t.signed
 
 -- a decimal text tells one number
-pub TellsDecimal-number : (text : List ℕ) (y z : ℤ) → TellsDecimal text y → TellsDecimal text z → y ≡ z
-TellsDecimal-number text (pos m) (pos n) told_y told_z =
-    ap pos (TellsMagnitude-number told_y.magnitude told_z.magnitude m n (sym told_y.signed ∙ told_z.signed) told_y.told told_z.told)
-TellsDecimal-number text (pos m) (negsuc n) told_y told_z =
-    absurd (no_sign told_y.magnitude told_z.magnitude m told_y.told (sym told_y.signed ∙ told_z.signed))
-TellsDecimal-number text (negsuc m) (pos n) told_y told_z =
-    absurd (no_sign told_z.magnitude told_y.magnitude n told_z.told (sym told_z.signed ∙ told_y.signed))
-TellsDecimal-number text (negsuc m) (negsuc n) told_y told_z =
-    let signed : 45 ∷ told_y.magnitude ≡ 45 ∷ told_z.magnitude = sym told_y.signed ∙ told_z.signed in
-    let same : told_y.magnitude ≡ told_z.magnitude = ap (drop 1) signed in
-    let magnitudes = TellsMagnitude-number told_y.magnitude told_z.magnitude (suc m) (suc n) same told_y.told told_z.told in
+pub DenotesDecimal-number : (text : List ℕ) (y z : ℤ) → DenotesDecimal text y → DenotesDecimal text z → y ≡ z
+DenotesDecimal-number text (pos m) (pos n) denotes_y denotes_z =
+    ap pos (DenotesMagnitude-number denotes_y.magnitude denotes_z.magnitude m n (sym denotes_y.signed ∙ denotes_z.signed) denotes_y.denotes denotes_z.denotes)
+DenotesDecimal-number text (pos m) (negsuc n) denotes_y denotes_z =
+    absurd (no_sign denotes_y.magnitude denotes_z.magnitude m denotes_y.denotes (sym denotes_y.signed ∙ denotes_z.signed))
+DenotesDecimal-number text (negsuc m) (pos n) denotes_y denotes_z =
+    absurd (no_sign denotes_z.magnitude denotes_y.magnitude n denotes_z.denotes (sym denotes_z.signed ∙ denotes_y.signed))
+DenotesDecimal-number text (negsuc m) (negsuc n) denotes_y denotes_z =
+    let signed : 45 ∷ denotes_y.magnitude ≡ 45 ∷ denotes_z.magnitude = sym denotes_y.signed ∙ denotes_z.signed in
+    let same : denotes_y.magnitude ≡ denotes_z.magnitude = ap (drop 1) signed in
+    let magnitudes = DenotesMagnitude-number denotes_y.magnitude denotes_z.magnitude (suc m) (suc n) same denotes_y.denotes denotes_z.denotes in
     ap negsuc (omega arith)
 
 -- `decimal` gives a text that tells the number
-pub decimal-tells : (z : ℤ) → TellsDecimal (decimal z) z
+pub decimal-denotes : (z : ℤ) → DenotesDecimal (decimal z) z
 unfolding decimal
-decimal-tells z = record {
+decimal-denotes z = record {
   magnitude = map decimal_byte (numeral 10 (nat_abs z));
   signed = refl;
-  told = record {
+  denotes = record {
     digits = numeral 10 (nat_abs z);
     bytes = refl;
-    told = numeral-tells 10 (nat_abs z) (omega arith);
+    denotes = numeral-denotes 10 (nat_abs z) (omega arith);
   };
 }
 

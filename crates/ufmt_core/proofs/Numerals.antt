@@ -6,7 +6,7 @@ use Rattle.std.proofs.lemmas.List.Elements.{All-from_recursion, All-nil, All-con
 use Rattle.std.proofs.lemmas.Int.Digits.{digits_of_step, length-digits_of_step, all_below_base_digits_of, first_digits_of, length-digits_of-le, number_after_ge, number_digits_of}
 use Rattle.std.specs.List.{All}
 use Rattle.std.specs.Int.Digits.{digits_of, number_from_digits_after}
-use Rattle.ufmt_core.specs.Decimal.{value_in_base, TellsInBase, numeral}
+use Rattle.ufmt_core.specs.Decimal.{value_in_base, DenotesInBase, numeral}
 
 -- Horner's rule gives the value
 number_after-value : (base n : ℕ) (digits : List ℕ) → number_from_digits_after base n digits ≡ n * base ^ length digits + value_in_base base digits
@@ -36,34 +36,34 @@ numeral-positive base zero positive = absurd (omega arith)
 numeral-positive base (suc n) positive = refl
 
 -- digits that tell a number are its numeral
-numeral-told : (base n : ℕ) (xs : List ℕ) → 2 ≤ base → TellsInBase base xs n → xs ≡ numeral base n
+numeral-denoted : (base n : ℕ) (xs : List ℕ) → 2 ≤ base → DenotesInBase base xs n → xs ≡ numeral base n
 unfolding numeral
-numeral-told base n [] two told = absurd (omega (arith, told.some_digit))
-numeral-told base n (zero ∷ xs) two told =
-    let alone = told.no_leading_zero refl in
-    let none : 0 ≡ n = omega (arith, ap (value_in_base base) alone, told.value) in
+numeral-denoted base n [] two denotes = absurd (omega (arith, denotes.some_digit))
+numeral-denoted base n (zero ∷ xs) two denotes =
+    let alone = denotes.no_leading_zero refl in
+    let none : 0 ≡ n = omega (arith, ap (value_in_base base) alone, denotes.value) in
     alone ∙ ap (numeral base) none
-numeral-told base n (suc x ∷ xs) two told =
+numeral-denoted base n (suc x ∷ xs) two denotes =
     let below = λ (d : ℕ). d < base in
-    let value = number_after-value base (suc x) xs ∙ told.value in
-    ap (λ front. front ++ xs) (sym (digits_of-digit base (suc x) two (omega arith) (All-head below (suc x) xs told.below_base)))
-    ∙ sym (digits_of-after base (suc x) xs two (omega arith) (All-tail below (suc x) xs told.below_base))
+    let value = number_after-value base (suc x) xs ∙ denotes.value in
+    ap (λ front. front ++ xs) (sym (digits_of-digit base (suc x) two (omega arith) (All-head below (suc x) xs denotes.below_base)))
+    ∙ sym (digits_of-after base (suc x) xs two (omega arith) (All-tail below (suc x) xs denotes.below_base))
     ∙ ap (digits_of base) value ∙ sym (numeral-positive base n (omega (arith, value, number_after_ge base (suc x) xs (omega arith))))
 
 -- two lists of digits that tell one number are the same
-pub TellsInBase-one : (base n : ℕ) (xs ys : List ℕ) → 2 ≤ base → TellsInBase base xs n → TellsInBase base ys n → xs ≡ ys
-TellsInBase-one base n xs ys two told_x told_y = numeral-told base n xs two told_x ∙ sym (numeral-told base n ys two told_y)
+pub DenotesInBase-one : (base n : ℕ) (xs ys : List ℕ) → 2 ≤ base → DenotesInBase base xs n → DenotesInBase base ys n → xs ≡ ys
+DenotesInBase-one base n xs ys two denotes_x denotes_y = numeral-denoted base n xs two denotes_x ∙ sym (numeral-denoted base n ys two denotes_y)
 
 -- `numeral` gives digits that tell the number
-pub numeral-tells : (base n : ℕ) → 2 ≤ base → TellsInBase base (numeral base n) n
+pub numeral-denotes : (base n : ℕ) → 2 ≤ base → DenotesInBase base (numeral base n) n
 unfolding numeral
-numeral-tells base zero two = record {
+numeral-denotes base zero two = record {
   some_digit = omega arith;
   below_base = All-cons (λ d. d < base) 0 [] (omega arith) (All-nil (λ d. d < base));
   no_leading_zero = λ _. refl;
   value = omega arith;
 }
-numeral-tells base (suc n) two =
+numeral-denotes base (suc n) two =
     let digits = digits_of base (suc n) in
     let first = first_digits_of base (suc n) two (omega arith) in record {
       some_digit = omega (arith, length-digits_of_step base (suc n) two (omega arith));

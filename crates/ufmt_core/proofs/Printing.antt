@@ -195,9 +195,9 @@ pub pair_texts-of : {X : Type 0} (key value : X → Document) (xs : List X) (i :
 pair_texts-of key value xs i = pair_texts-pairs_of i (map (λ x. (key x, value x)) xs) ∙ map-map (λ p. pair_text p.0 p.1 i) (λ x. (key x, value x)) xs
 
 -- a field is what leads to its value, the value, and what follows
-field_framed : {W : Type 0} (b : Block W) (label : List ℕ) (d : Document) → framed (frame_of b) (inner b) b.count (field_text label d (inner b))
-    ≡ field_lead_of label b ++ (entry_text d (inner b) ++ trail_of b)
-field_framed b label d = simp append_assoc
+field_framed : {W : Type 0} (b : Block W) (name : List ℕ) (d : Document) → framed (frame_of b) (inner b) b.count (field_text name d (inner b))
+    ≡ field_lead_of name b ++ (entry_text d (inner b) ++ trail_of b)
+field_framed b name d = simp append_assoc
 
 -- an entry in halves: the lent formatter has printed the value, and the second half has ended the entry
 module _ {W E : Type 0} {seen : Seen W} {d : Document} {begun ended : Formatter W} {mid new : Block W} {answer result : Result (Unit {0}) E}
@@ -206,12 +206,12 @@ module _ {W E : Type 0} {seen : Seen W} {d : Document} {begun ended : Formatter 
       → EndsEntry seen answer mid result (is_ok result) new → WritesEntry seen old (entry_text d) (is_ok result) new
   entry_between inside_b m p l e = record { part = WritesPart-between Lent old ended _ (entry_text d) answer result inside_b m p l.prints e }
 
-  pub field_between : (label : List ℕ) → IsInside old → mid ≡ lent_to Lent old ended → Prints seen old.formatter (field_lead_of label old) true begun
+  pub field_between : (name : List ℕ) → IsInside old → mid ≡ lent_to Lent old ended → Prints seen old.formatter (field_lead_of name old) true begun
       → LaysOut seen begun d (is_ok answer) ended → EndsEntry seen answer mid result (is_ok result) new
-      → WritesEntry seen old (field_text label d) (is_ok result) new
-  field_between label inside_b m p l e = record {
+      → WritesEntry seen old (field_text name d) (is_ok result) new
+  field_between name inside_b m p l e = record {
     part =
-        rw (field_framed old label d) (WritesPart-between Lent old ended _ (entry_text d) answer result inside_b m p l.prints e);
+        rw (field_framed old name d) (WritesPart-between Lent old ended _ (entry_text d) answer result inside_b m p l.prints e);
   }
 
 -- the first half of an entry, also of a map's, or of a field failed
@@ -219,5 +219,5 @@ module _ {W X E : Type 0} {seen : Seen W} {b b' : Block W} {r : Result X E} {e :
   pub entry_not_begun : {text : Setting → List ℕ} → OnErr r (StopsIn seen b (lead_of b) b') → WritesEntry seen b text false b'
   entry_not_begun stop = record { part = WritesPart-fails _ (IfErr-at_err _ was stop) }
 
-  pub field_not_begun : (label : List ℕ) (d : Document) → OnErr r (StopsIn seen b (field_lead_of label b) b') → WritesEntry seen b (field_text label d) false b'
-  field_not_begun label d stop = record { part = rw (field_framed b label d) (WritesPart-fails _ (IfErr-at_err _ was stop)) }
+  pub field_not_begun : (name : List ℕ) (d : Document) → OnErr r (StopsIn seen b (field_lead_of name b) b') → WritesEntry seen b (field_text name d) false b'
+  field_not_begun name d stop = record { part = rw (field_framed b name d) (WritesPart-fails _ (IfErr-at_err _ was stop)) }

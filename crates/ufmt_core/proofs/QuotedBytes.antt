@@ -29,22 +29,22 @@ escaped_byte-plain b plain = go (escape 34 b) plain
 -- the text ends or a byte of ASCII stands
 pub record IsStretch (bs : List ℕ) : Type 0 where
   pub escaped : escaped_bytes 34 bs ≡ take (plain_len bs) bs ++ escaped_bytes 34 (drop (plain_len bs) bs)
-  pub behind : plain_len (drop (plain_len bs) bs) ≡ 0
+  pub after : plain_len (drop (plain_len bs) bs) ≡ 0
   pub within : plain_len bs ≤ length bs
   pub ascii : plain_len bs < length bs → slice_index bs (plain_len bs) < 128
 
 pub stretch : (bs : List ℕ) → IsStretch bs
-stretch [] = record { escaped = refl; behind = refl; within = omega arith; ascii = λ more. absurd (omega arith) }
+stretch [] = record { escaped = refl; after = refl; within = omega arith; ascii = λ more. absurd (omega arith) }
 stretch (b ∷ bs) = go (is_none (escape 34 b)) refl (stretch bs)
   where
     go : (plain : Bool) → is_none (escape 34 b) ≡ plain → IsStretch bs → IsStretch (b ∷ bs)
     go true h rest = record {
       escaped = rw (h, escaped_byte-plain b h) (ap (λ t. b ∷ t) rest.escaped);
-      behind = rw h rest.behind;
+      after = rw h rest.after;
       within = rw h (omega (arith, rest.within));
       ascii = rw h (λ more. rest.ascii (omega arith));
     }
-    go false h rest = record { escaped = rw h refl; behind = rw (h, h) refl; within = rw h (omega arith); ascii = rw h (λ more. escape-ascii b h) }
+    go false h rest = record { escaped = rw h refl; after = rw (h, h) refl; within = rw h (omega arith); ascii = rw h (λ more. escape-ascii b h) }
 
 -- so the text may be cut there
 pub IsCharBoundary-stretch : (bs : List ℕ) → IsCharBoundary bs (plain_len bs)

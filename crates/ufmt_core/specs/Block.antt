@@ -31,7 +31,7 @@ abbrev pub pair_text : Document → Document → Setting → List ℕ
 pair_text key value i = layout i key ++ (codes ": " ++ layout i value)
 
 abbrev pub field_text : List ℕ → Document → Setting → List ℕ
-field_text label value i = label ++ (codes ": " ++ layout i value)
+field_text name value i = name ++ (codes ": " ++ layout i value)
 
 -- the texts of the entries that are left to a list, a set or a tuple, to a map, and to a struct
 abbrev pub remaining_entries : Documents → Setting → List (List ℕ)
@@ -81,7 +81,7 @@ module _ {W : Type 0} where
   lead_of b = lead (frame_of b) (inner b) b.count
 
   abbrev pub field_lead_of : List ℕ → Block W → List ℕ
-  field_lead_of label b = lead_of b ++ (label ++ codes ": ")
+  field_lead_of name b = lead_of b ++ (name ++ codes ": ")
 
   abbrev pub trail_of : Block W → List ℕ
   trail_of b = trail b.outer.mode

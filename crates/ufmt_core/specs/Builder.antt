@@ -71,14 +71,14 @@ module _ (W : RattleType) {E : Type 0} where
       LendsSoOk (builder.the_row (record { mir = named 0; lft = [] }) W K) (formatter.the_row W) self result (λ last f. last ≡ lent status self.now f) stop
 
   -- the formatter is lent behind this text; on `Err` a beginning of it is written, and the builder, seen by `view`, is closed
-  abbrev pub LendsBehind : (K : RattleType) → (Builder W.Denot K.Denot → Block W.Denot) → Seen W.Denot → MutBor (Builder W.Denot K.Denot)
+  abbrev pub LendsAfter : (K : RattleType) → (Builder W.Denot K.Denot → Block W.Denot) → Seen W.Denot → MutBor (Builder W.Denot K.Denot)
       → Result (MutBor (Formatter W.Denot)) E → List ℕ → Fml
-  LendsBehind K view seen self result text = EntryLoan K self result Lent (λ last. StopsIn seen (view self.now) text (view last))
+  LendsAfter K view seen self result text = EntryLoan K self result Lent (λ last. StopsIn seen (view self.now) text (view last))
 
   -- the formatter is lent for an entry, behind what leads to it
   abbrev pub LendsForEntry : (K : RattleType) → (Builder W.Denot K.Denot → Block W.Denot) → Seen W.Denot → MutBor (Builder W.Denot K.Denot)
       → Result (MutBor (Formatter W.Denot)) E → Fml
-  LendsForEntry K view seen self result = LendsBehind K view seen self result (lead_of (view self.now))
+  LendsForEntry K view seen self result = LendsAfter K view seen self result (lead_of (view self.now))
 
   -- of a map for a key, of a tuple for a field, and of a struct for the value of the field with this name
   abbrev pub LendsForKey : Seen W.Denot → MutBor (Builder W.Denot MapBlock) → Result (MutBor (Formatter W.Denot)) E → Fml
@@ -88,7 +88,7 @@ module _ (W : RattleType) {E : Type 0} where
   LendsForUnnamedField = LendsForEntry tuple_marker.the_row tuple_block
 
   abbrev pub LendsForField : Seen W.Denot → MutBor (Builder W.Denot StructBlock) → Result (MutBor (Formatter W.Denot)) E → List ℕ → Fml
-  LendsForField seen self result name = LendsBehind struct_marker.the_row struct_block seen self result (field_lead_of name (struct_block self.now))
+  LendsForField seen self result name = LendsAfter struct_marker.the_row struct_block seen self result (field_lead_of name (struct_block self.now))
 
   -- of a map for a value, behind a colon, where the key's `fmt` answered `Ok`; where it answered an error nothing is written, and the builder is closed
   abbrev pub LendsForValue : Seen W.Denot → MutBor (Builder W.Denot MapBlock) → Result (Unit {0}) E → Result (MutBor (Formatter W.Denot)) E → Fml

@@ -9,7 +9,7 @@ value_in_base base [] = 0
 value_in_base base (digit ∷ digits) = digit * base ^ length digits + value_in_base base digits
 
 -- these digits tell n in the base: at least one, each below the base, the first not 0 unless it stands alone
-pub record TellsInBase (base : ℕ) (digits : List ℕ) (n : ℕ) : Type 0 where
+pub record DenotesInBase (base : ℕ) (digits : List ℕ) (n : ℕ) : Type 0 where
   pub some_digit : 0 < length digits
   pub below_base : All (λ digit. digit < base) digits
   pub no_leading_zero : slice_index digits 0 ≡ 0 → digits ≡ 0 ∷ []
@@ -20,10 +20,10 @@ abbrev pub decimal_byte : ℕ → ℕ
 decimal_byte digit = 48 + digit
 
 -- the text is the bytes of decimal digits that tell n
-pub record TellsMagnitude (text : List ℕ) (n : ℕ) : Type 0 where
+pub record DenotesMagnitude (text : List ℕ) (n : ℕ) : Type 0 where
   pub digits : List ℕ
   pub bytes : text ≡ map decimal_byte digits
-  pub told : TellsInBase 10 digits n
+  pub denotes : DenotesInBase 10 digits n
 
 -- `-` for a negative number, and nothing for another
 abbrev pub sign_of : ℤ → List ℕ
@@ -31,17 +31,17 @@ sign_of (pos n) = []
 sign_of (negsuc n) = codes "-"
 
 -- the text is the number's sign, and then a text that tells its magnitude
-pub record TellsDecimal (text : List ℕ) (z : ℤ) : Type 0 where
+pub record DenotesDecimal (text : List ℕ) (z : ℤ) : Type 0 where
   pub magnitude : List ℕ
   pub signed : text ≡ sign_of z ++ magnitude
-  pub told : TellsMagnitude magnitude (nat_abs z)
+  pub denotes : DenotesMagnitude magnitude (nat_abs z)
 
 -- a device of the proof that digits tell each number: `digits_of` gives none for 0
 unfoldable pub numeral : ℕ → ℕ → List ℕ
 numeral base zero = 0 ∷ []
 numeral base (suc n) = digits_of base (suc n)
 
--- the text that tells this number: which one follows from `EachNumberIsTold` and `OneTextTells` alone
+-- the text that tells this number: which one follows from `EachNumberIsDenoted` and `OneTextDenotes` alone
 unfoldable pub decimal : ℤ → List ℕ
 decimal z = sign_of z ++ map decimal_byte (numeral 10 (nat_abs z))
 
@@ -51,13 +51,13 @@ last_digits zero n = []
 last_digits (suc count) n = last_digits count (n / 10) ++ (decimal_byte (n % 10) ∷ [])
 
 -- each number has a decimal text, which `decimal` gives
-abbrev pub EachNumberIsTold : Type 0
-EachNumberIsTold = (z : ℤ) → TellsDecimal (decimal z) z
+abbrev pub EachNumberIsDenoted : Type 0
+EachNumberIsDenoted = (z : ℤ) → DenotesDecimal (decimal z) z
 
 -- no other text tells the number
-abbrev pub OneTextTells : Type 0
-OneTextTells = (z : ℤ) (text : List ℕ) → TellsDecimal text z → text ≡ decimal z
+abbrev pub OneTextDenotes : Type 0
+OneTextDenotes = (z : ℤ) (text : List ℕ) → DenotesDecimal text z → text ≡ decimal z
 
 -- no text tells two numbers
-abbrev pub OneNumberIsTold : Type 0
-OneNumberIsTold = (text : List ℕ) (y z : ℤ) → TellsDecimal text y → TellsDecimal text z → y ≡ z
+abbrev pub OneNumberIsDenoted : Type 0
+OneNumberIsDenoted = (text : List ℕ) (y z : ℤ) → DenotesDecimal text y → DenotesDecimal text z → y ≡ z

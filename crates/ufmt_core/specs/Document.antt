@@ -34,7 +34,7 @@ abbrev pub pairs_of : List (Document × Document) → Pairs
 pairs_of [] = no_pairs
 pairs_of (p ∷ ps) = pair p.0 p.1 (pairs_of ps)
 
--- fields in a row, each a label and a document
+-- fields in a row, each a name and a document
 abbrev pub fields_of : List (List ℕ × Document) → Fields
 fields_of [] = no_fields
 fields_of (f ∷ fs) = field f.0 f.1 (fields_of fs)
@@ -51,7 +51,7 @@ abbrev mutual
   nest (map_of no_pairs) = 0
   nest (map_of (pair key value ps)) = suc (max (nest key) (max (nest value) (nest_pairs ps)))
   nest (struct_of name no_fields) = 0
-  nest (struct_of name (field label value fs)) = suc (max (nest value) (nest_fields fs))
+  nest (struct_of name (field field_name value fs)) = suc (max (nest value) (nest_fields fs))
   nest (tuple_of name no_documents) = 0
   nest (tuple_of name (document d ds)) = suc (max (nest d) (nest_all ds))
   nest (pretty_part d) = nest d
@@ -66,4 +66,4 @@ abbrev mutual
 
   pub nest_fields : Fields → ℕ
   nest_fields no_fields = 0
-  nest_fields (field label value fs) = max (nest value) (nest_fields fs)
+  nest_fields (field name value fs) = max (nest value) (nest_fields fs)

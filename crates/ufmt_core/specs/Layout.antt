@@ -138,7 +138,7 @@ abbrev mutual
 
   pub field_texts : Setting → Fields → List (List ℕ)
   field_texts i no_fields = []
-  field_texts i (field label value fs) = (label ++ (codes ": " ++ layout i value)) ∷ field_texts i fs
+  field_texts i (field name value fs) = (name ++ (codes ": " ++ layout i value)) ∷ field_texts i fs
 
 abbrev pub plain_text : Document → List ℕ
 plain_text d = layout (setting Plain 0) d

@@ -14,7 +14,7 @@ pub const OPENING_BRACE: &str = "{";
 pub const COLON: &str = ": ";
 
 /// What a line is indented by at each depth.
-pub const UNIT: &str = "    ";
+pub const INDENT: &str = "    ";
 
 /// How blocks are laid out: on one line, or an entry a line.
 #[derive(Clone, Copy, PartialEq, Eq)]
@@ -172,9 +172,9 @@ impl Setting {
         }
     }
 
-    /// How many units a line begins with.
+    /// How many times a line is indented.
     #[inline(always)]
-    pub fn units(self) -> u8
+    pub fn indents(self) -> u8
         ensures { indentation result ≡ line_start self.mode self.depth }
     {
         match self.mode {

@@ -1,7 +1,7 @@
 //! Decimal texts of unsigned numbers.
 ghost use Rattle.std.specs.Prelude.{◌≡◌, ◌+◌, ◌++◌, ◌/◌, ◌%◌, ◌^◌, ◌<◌, ◌≤◌, ℕ, pos, length, drop};
 ghost use Rattle.ufmt_core.specs.Document.{leaf};
-ghost use Rattle.ufmt_core.specs.Decimal.{decimal, decimal_byte, last_digits, EachNumberIsTold, OneTextTells, OneNumberIsTold};
+ghost use Rattle.ufmt_core.specs.Decimal.{decimal, decimal_byte, last_digits, EachNumberIsDenoted, OneTextDenotes, OneNumberIsDenoted};
 
 use crate::ascii::text_from;
 use crate::formatter::Formatter;
@@ -10,9 +10,9 @@ use crate::write::uWrite;
 
 /// Each whole number has exactly one decimal text, and each decimal text tells exactly one number.
 pub fn decimal_is_one_text()
-    ensures told { EachNumberIsTold }
-    ensures one_text { OneTextTells }
-    ensures one_number { OneNumberIsTold }
+    ensures denoted { EachNumberIsDenoted }
+    ensures one_text { OneTextDenotes }
+    ensures one_number { OneNumberIsDenoted }
 {}
 
 // The two digits of each number below 100, the tens first.

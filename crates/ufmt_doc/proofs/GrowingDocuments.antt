@@ -74,9 +74,9 @@ mutual
       let row = pairs_put false (pair key value ps) h in
       rw (← row.2) (block_grows Braces [] true (events_of key ++ Colon ∷ events_of value) (events_of_pairs ps) row.0 row.1)
   document_grows (struct_of name no_fields) h = λ below outer. refl
-  document_grows (struct_of name (field label value fs)) h =
-      let row = fields_put (field label value fs) h.1 in
-      rw (← row.2) (block_grows Struct name false (FieldName label ∷ events_of value) (events_of_fields fs) row.0 row.1)
+  document_grows (struct_of name (field field_name value fs)) h =
+      let row = fields_put (field field_name value fs) h.1 in
+      rw (← row.2) (block_grows Struct name false (FieldName field_name ∷ events_of value) (events_of_fields fs) row.0 row.1)
   document_grows (tuple_of [] no_documents) h = absurd h
   document_grows (tuple_of (c ∷ name) no_documents) h = λ below outer. refl
   document_grows (tuple_of name (document d ds)) h =
@@ -106,11 +106,11 @@ mutual
   fields_put : (fs : Fields) → FieldsHaveTokens fs
       → (row : List Document) × PutsAll false false (events_of_fields fs) row × (fields_of (map field_from (in_pairs row)) ≡ normal_fields fs)
   fields_put no_fields h = ([], refl, refl)
-  fields_put (field label value fs) h =
+  fields_put (field name value fs) h =
       let more = fields_put fs h.2 in
-      let first : Puts false false (FieldName label ∷ events_of value) (leaf label ∷ normal value ∷ []) = λ below start outer.
-      document_grows value h.1 (below ++ leaf label ∷ []) (block_at start false ∷ outer) ∙ rw append_assoc refl in
-      (leaf label ∷ normal value ∷ more.0, (leaf label ∷ normal value ∷ [], more.0, first, more.1, refl), ap (field label (normal value)) more.2)
+      let first : Puts false false (FieldName name ∷ events_of value) (leaf name ∷ normal value ∷ []) = λ below start outer.
+      document_grows value h.1 (below ++ leaf name ∷ []) (block_at start false ∷ outer) ∙ rw append_assoc refl in
+      (leaf name ∷ normal value ∷ more.0, (leaf name ∷ normal value ∷ [], more.0, first, more.1, refl), ap (field name (normal value)) more.2)
 
 -- a sink that grows with each event is held to what the scanner asks of it
 pub takes_event : {E : Type 0} (old new : List Doc × List OpenBlock) (e : TextEvent) (answer : Result (⊤) E) → OnOk answer (growing new ≡ grow (growing old) e)

@@ -3,7 +3,7 @@ use Rattle.std.proofs.Common.{◌≡◌, ◌∙◌, sym, List, ℕ, Result, Ok, 
 use Rattle.ufmt.specs.Document.{Document}
 use Rattle.ufmt.specs.Layout.{plain_text}
 use Rattle.ufmt.specs.Token.{IsToken, normal}
-use Rattle.ufmt.proofs.OneWay.{plain_text_tells}
+use Rattle.ufmt.proofs.OneWay.{plain_text_determines}
 use Rattle.ufmt_doc.specs.declared.doc.Doc.{Doc}
 use Rattle.ufmt_doc.specs.Doc.{doc_document}
 use Rattle.ufmt_scan.specs.declared.error.ReadError.{ReadError}
@@ -12,14 +12,14 @@ use Rattle.ufmt_scan.specs.Texts.{IsNormalForm}
 -- what was read of a text is the normal form of each document with that text, if equal texts have equal normal forms
 form_is : (text_of : Document → List ℕ) → ((d e : Document) → IsToken d → IsToken e → text_of d ≡ text_of e → normal d ≡ normal e)
     → (input : List ℕ) (e d : Document) → IsNormalForm text_of input e → IsToken d → text_of d ≡ input → e ≡ normal d
-form_is text_of tells input e d read token same = sym read.1 ∙ tells e d read.0 token (read.2 ∙ sym same)
+form_is text_of determines input e d read token same = sym read.1 ∙ determines e d read.0 token (read.2 ∙ sym same)
 
 pub plain_form_is : (input : List ℕ) (e d : Document) → IsNormalForm plain_text input e → IsToken d → plain_text d ≡ input → e ≡ normal d
-plain_form_is = form_is plain_text (λ d e hd he same. (plain_text_tells d e hd he).0 same)
+plain_form_is = form_is plain_text (λ d e hd he same. (plain_text_determines d e hd he).0 same)
 
 -- and so it is where such a document's text is read again
 pub read_again : (text_of : Document → List ℕ) → ((d e : Document) → IsToken d → IsToken e → text_of d ≡ text_of e → normal d ≡ normal e)
     → (answer : Result Doc ReadError) (input : List ℕ) (d : Document) → IsToken d → input ≡ text_of d
     → IfOk answer (λ doc. IsNormalForm text_of input (doc_document doc)) → IfOk answer (λ doc. doc_document doc ≡ normal d)
-read_again text_of tells (Ok doc) input d token is read = form_is text_of tells input (doc_document doc) d read token (sym is)
-read_again text_of tells (Err e) input d token is read = tt
+read_again text_of determines (Ok doc) input d token is read = form_is text_of determines input (doc_document doc) d read token (sym is)
+read_again text_of determines (Err e) input d token is read = tt

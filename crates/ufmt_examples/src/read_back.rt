@@ -8,8 +8,8 @@ ghost use Rattle.ufmt.specs.Token.{IsToken, normal};
 ghost use Rattle.ufmt_doc.specs.Doc.{doc_document};
 ghost use Rattle.ufmt_doc.specs.Parts.{field_part, leaf_part};
 ghost use Rattle.ufmt_doc.specs.Texts.{IsNoText};
-ghost use Rattle.ufmt_user.specs.Logger.{reading_document};
-ghost use Rattle.ufmt_user.specs.declared.logger.Reading.{Reading};
+ghost use Rattle.ufmt_user.specs.Logger.{measurement_document};
+ghost use Rattle.ufmt_user.specs.declared.logger.Measurement.{Measurement};
 
 #[cfg(test)]
 mod tests;
@@ -42,14 +42,14 @@ fn leaf_field<'a>(doc: &'a Doc, label: &str) -> Option<&'a str>
     doc.field(label)?.as_leaf()
 }
 
-/// What a reading's line says of the temperature: of every reading that is printed, the decimal text
+/// What a measurement's line says of the temperature: of every measurement that is printed, the decimal text
 /// of its field. That a line is refused, as `NotText`, is said of other lines alone.
 pub fn celsius(alloc: Global, line: &[u8]) -> Result<Option<String>, ReadError>
     ensures logged { IfOk result (λ text.
-        (reading : Reading) → line.now ≡ plain_text (reading_document reading)
-        → option_map string_bytes text ≡ Some (decimal reading.celsius)) }
+        (measurement : Measurement) → line.now ≡ plain_text (measurement_document measurement)
+        → option_map string_bytes text ≡ Some (decimal measurement.celsius)) }
     ensures is_read { IsErrOf result ReadError.NotText
-        → (reading : Reading) → line.now ≢ plain_text (reading_document reading) }
+        → (measurement : Measurement) → line.now ≢ plain_text (measurement_document measurement) }
 {
     read_field(alloc, line, "celsius")
 }

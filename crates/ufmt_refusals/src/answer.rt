@@ -78,7 +78,7 @@ impl Answer {
 
     /// Of a text that is read: with ample memory as the document whose plain text is `ample`, and
     /// refused where that is `None`.
-    pub fn of_reading(answer: Result<Doc, ReadError>, ample: Option<&str>) -> Answer
+    pub fn of_measurement(answer: Result<Doc, ReadError>, ample: Option<&str>) -> Answer
         ensures memory { IsErrOf answer ReadError.OutOfMemory ↔ (result ≡ Answer.WantOfMemory) }
         ensures text { (result ≡ Answer.Ample) → IfOk answer (λ doc.
             IfSome ample.entry (λ wanted. plain_text (doc_document doc) ≡ wanted.now)) }

@@ -13,7 +13,7 @@ pub struct Sample {
     /// Whether they are texts of a document.
     pub is_read: bool,
     /// For the document, from either text.
-    pub of_reading: u64,
+    pub of_measurement: u64,
     /// For the pretty text, written into a `String`.
     pub of_pretty: u64,
     /// For the plain text, written into a `String`.
@@ -102,7 +102,7 @@ pub const MANY: Sample = Sample {
     plain: MANY_PLAIN,
     pretty: MANY_PRETTY,
     is_read: true,
-    of_reading: 43,
+    of_measurement: 43,
     of_pretty: 8,
     of_plain: 7,
 };
@@ -115,7 +115,7 @@ pub fn all() -> [Sample; 3] {
             plain: NODE_PLAIN,
             pretty: NODE_PRETTY,
             is_read: true,
-            of_reading: 16,
+            of_measurement: 16,
             of_pretty: 5,
             of_plain: 4,
         },
@@ -143,7 +143,7 @@ pub fn all() -> [Sample; 3] {
     },
 }",
             is_read: true,
-            of_reading: 21,
+            of_measurement: 21,
             of_pretty: 6,
             of_plain: 4,
         },
@@ -152,7 +152,7 @@ pub fn all() -> [Sample; 3] {
             plain: "ab\n\nxyz",
             pretty: "ab\n\nxyz",
             is_read: false,
-            of_reading: 2,
+            of_measurement: 2,
             of_pretty: 1,
             of_plain: 1,
         },

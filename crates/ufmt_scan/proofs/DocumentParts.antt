@@ -219,16 +219,16 @@ pub word_within : (t w u : List ℕ) → w ≡ word_of t → u ≡ after_word t 
 word_within t w u word rest some = let shorter = read_word_takes.takes t w u (word_is_read t w u word rest some) in omega (arith, shorter)
 
 -- a field's name and the colon after it come first of a field
-pub label_scans : (level : Level) (t w u v : List ℕ) → w ≡ word_of t → u ≡ after_word t → (length w == 0) ≡ false → strip (codes ": ") u ≡ Some v
+pub field_name_scans : (level : Level) (t w u v : List ℕ) → w ≡ word_of t → u ≡ after_word t → (length w == 0) ≡ false → strip (codes ": ") u ≡ Some v
     → (scan_turn (fields level) t ≡ prefixed (FieldName w ∷ []) (scan_turn (entries level) v)) × (length v < length t)
-label_scans level t w u v word rest some colon = (
-  rw (word_is_read t w u word rest some, colon) (labelled (entry_of level v)),
+field_name_scans level t w u v word rest some colon = (
+  rw (word_is_read t w u word rest some, colon) (named_value (entry_of level v)),
   let shorter = word_within t w u word rest some in
       let within = strip_within (codes ": ") u v colon in
       omega (arith, shorter, within),
 )
   where
-    labelled : (o : Option (Document × List ℕ)) → parse_map (fields level).events (parse_map (λ value. (w, value)) o) ≡ prefixed (FieldName w ∷ [])
+    named_value : (o : Option (Document × List ℕ)) → parse_map (fields level).events (parse_map (λ value. (w, value)) o) ≡ prefixed (FieldName w ∷ [])
         (parse_map events_of o)
-    labelled None = refl
-    labelled (Some x) = refl
+    named_value None = refl
+    named_value (Some x) = refl

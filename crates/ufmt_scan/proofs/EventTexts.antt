@@ -90,7 +90,7 @@ module _ (mode : Mode) where
     document_written k (map_of no_pairs) h few = record { before = λ more. refl }
     document_written k (map_of (pair key value ps)) h few = block_written mode k _ few Braces [] (Empty Braces) _ _ (pairs_written k (pair key value ps) h few)
     document_written k (struct_of name no_fields) h few = name_written name
-    document_written k (struct_of name (field label value fs)) h few = block_written mode k _ few Struct name (Leaf name) _ _ (fields_written k (field label value fs) h.1 few)
+    document_written k (struct_of name (field field_name value fs)) h few = block_written mode k _ few Struct name (Leaf name) _ _ (fields_written k (field field_name value fs) h.1 few)
     document_written k (tuple_of [] no_documents) h few = absurd h
     document_written k (tuple_of (c ∷ name) no_documents) h few = name_written (c ∷ name)
     document_written k (tuple_of name (document d ds)) h few = block_written mode k _ few (tuple_kind name) name (Leaf name) _ _ (entries_written k (document d ds) (h.1, h.2) few)
@@ -114,7 +114,7 @@ module _ (mode : Mode) where
     fields_written : (k : ℕ) (fs : Fields) → FieldsHaveTokens fs → suc (nest_fields fs) + k ≤ 255
         → EntriesAreWritten (inside (setting mode k)) (events_of_fields fs) (field_texts (inside (setting mode k)) fs)
     fields_written k no_fields h few = tt
-    fields_written k (field label value fs) h few =
+    fields_written k (field name value fs) h few =
         let second = document_written (entry_depth mode k) value h.1 (deeper mode k (nest value) (omega arith)) in
         (record { before = λ more. simp (append_assoc, second.before) }, fields_written k fs h.2 (omega arith))
 

@@ -5,11 +5,11 @@ use Rattle.std.proofs.lemmas.Bool.{cases_lt}
 use Rattle.std.proofs.lemmas.List.{append_cancel_right, take-append-drop}
 use Rattle.ufmt.specs.Quoted.{IsQuote, escape, escaped_byte, escaped_bytes, plain_len}
 use Rattle.ufmt.specs.Reading.{strip}
-use Rattle.ufmt.specs.ReadingQuoted.{read_escaped, told}
+use Rattle.ufmt.specs.ReadingQuoted.{read_escaped, decoded}
 use Rattle.ufmt_core.proofs.QuotedBytes as core
 use Rattle.ufmt.proofs.Parsing.{same_parts, strip_found, strip_of_front, strip_stands}
 use Rattle.ufmt.proofs.QuotedComplete.{escaped-no_quote, length-escaped, quote_ascii, read_escaped-complete}
-use Rattle.ufmt.proofs.QuotedTold.{told-escaped}
+use Rattle.ufmt.proofs.QuotedDecoded.{decoded-escaped}
 use Rattle.ufmt_scan.specs.Private.Spelled.{Closes, IsSpelled, NeverCloses}
 
 -- how a byte is written, where it has an escape
@@ -17,12 +17,12 @@ pub escaped_byte_is : (q b : ℕ) (e : List ℕ) → Some e ≡ escape q b → e
 escaped_byte_is q b e is = ap (λ o. unwrap_or o (b ∷ [])) (sym is)
 
 -- where the byte that the front names isn't written, none is
-pub no_other : (q : ℕ) (t : List ℕ) (byte : ℕ) → IsQuote q → slice_index t 0 < 256 → (told t < 256 → byte ≡ told t) → None ≡ strip (escaped_byte q byte) t
+pub no_other : (q : ℕ) (t : List ℕ) (byte : ℕ) → IsQuote q → slice_index t 0 < 256 → (decoded t < 256 → byte ≡ decoded t) → None ≡ strip (escaped_byte q byte) t
     → (b : ℕ) (u : List ℕ) → t ≢ escaped_byte q b ++ u
 no_other q t byte quote fits named none b u same = go (cases_lt b 256)
   where
-    is : told t ≡ b
-    is = ap told same ∙ told-escaped q b u quote
+    is : decoded t ≡ b
+    is = ap decoded same ∙ decoded-escaped q b u quote
 
     go : (b < 256) ⊎ (256 ≤ b) → ⊥
     go (inl low) =

@@ -14,9 +14,9 @@ pub stripped : (text t : List ℕ) (r : Option (Bor (List ℕ)))
 stripped text t None h = sym (strip_of_none text t h)
 stripped text t (Some x) h = sym (strip_of_front text t x.now h)
 
--- a line with two units left begins with them
-pub indentation_more : (units : ℕ) → 2 ≤ units → indentation units ≡ codes "        " ++ indentation (units - 2)
-indentation_more units h = let two_more : units ≡ suc (suc (units - 2)) = omega arith in ap indentation two_more
+-- a line with two n left begins with them
+pub indentation_more : (n : ℕ) → 2 ≤ n → indentation n ≡ codes "        " ++ indentation (n - 2)
+indentation_more n h = let two_more : n ≡ suc (suc (n - 2)) = omega arith in ap indentation two_more
 
 -- after an entry a block has one
 pub if_any-next : (count : Count) (text : List ℕ) → if_any (next count) text ≡ text

@@ -59,7 +59,7 @@ abbrev mutual
 
   pub events_of_fields : Fields → List (List TextEvent)
   events_of_fields no_fields = []
-  events_of_fields (field label value fs) = (FieldName label ∷ events_of value) ∷ events_of_fields fs
+  events_of_fields (field name value fs) = (FieldName name ∷ events_of value) ∷ events_of_fields fs
 
 -- these events come first of those
 abbrev pub Leads : List TextEvent → List TextEvent → Type 0

@@ -6,9 +6,9 @@ ghost use Rattle.ufmt.specs.Reading.{strip};
 ghost use Rattle.ufmt_scan.specs.Private.Level.{setting_at};
 ghost use Rattle.ufmt_scan.specs.Rest.{now_of};
 
-use ufmt::layout::{Count, Kind, Mode, Setting, UNIT};
+use ufmt::layout::{Count, Kind, Mode, Setting, INDENT};
 
-const TWO_UNITS: &str = "        ";
+const TWO_INDENTS: &str = "        ";
 
 /// The mode that a document is laid out in, and how many blocks are open around it.
 #[derive(Clone, Copy)]
@@ -46,13 +46,13 @@ pub(crate) fn strip_to_line<'a>(piece: &str, line: Setting, input: &'a [u8]) -> 
     ensures { now_of result ≡ strip (piece.now ++ line_start line.mode line.depth) input.now }
 {
     let mut rest = strip_piece(piece, input)?;
-    let mut units = line.units();
-    'pairs: while units >= 2 {
-        rest = strip_piece(TWO_UNITS, rest)?;
-        units -= 2;
+    let mut indents = line.indents();
+    'pairs: while indents >= 2 {
+        rest = strip_piece(TWO_INDENTS, rest)?;
+        indents -= 2;
     }
-    if units == 1 {
-        rest = strip_piece(UNIT, rest)?;
+    if indents == 1 {
+        rest = strip_piece(INDENT, rest)?;
     }
     Some(rest)
 }

@@ -4,7 +4,7 @@ ghost use Rattle.std.specs.Char.{digit_value};
 ghost use Rattle.std.specs.Str.{continuation_len};
 ghost use Rattle.ufmt.specs.Quoted.{IsQuote, escaped_byte};
 ghost use Rattle.ufmt.specs.Reading.{strip};
-ghost use Rattle.ufmt.specs.ReadingQuoted.{read_quoted, told};
+ghost use Rattle.ufmt.specs.ReadingQuoted.{read_quoted, decoded};
 ghost use Rattle.ufmt_scan.specs.Rest.{now_of};
 ghost use Rattle.ufmt_scan.specs.Private.Spelled.{Closes, IsOneCharacter, IsSpelled, NeverCloses};
 
@@ -138,7 +138,7 @@ fn strip_spelling(quote: u8, byte: u8, input: &[u8]) -> Option<&[u8]>
 
 // The only byte that may be written at the front. Past 255 there is none.
 fn decoded(input: &[u8]) -> u32
-    ensures { result ≡ told input.now }
+    ensures { result ≡ decoded input.now }
 {
     match (byte_at(input, 0), byte_at(input, 1)) {
         (b'\\', b'0') => 0,

@@ -1,3 +1,1 @@
-pub mod Dump
 pub mod Logger
-pub mod Readings

@@ -1,19 +1,36 @@
--- What a line of the log says.
-use Rattle.std.specs.Prelude.{ℕ, List, [], ◌∷◌, ◌++◌, codes, true, false}
-use Rattle.ufmt_user.specs.declared.logger.Reading.{Reading}
+-- What lines of pieces say: one of a log, measurements in a row, and the bytes of a packet.
+use Rattle.std.specs.Prelude.{ℕ, List, [], ◌∷◌, ◌++◌, codes, true, false, map, length}
+use Rattle.ufmt_user.specs.declared.logger.Measurement.{Measurement}
 use Rattle.ufmt.specs.declared.hex.HexOptions.{HexOptions}
 use Rattle.ufmt.specs.Document.{Document}
 use Rattle.ufmt.specs.Hex.{padded_hexadecimal}
 use Rattle.ufmt.specs.Layout.{plain_text}
 use Rattle.ufmt.specs.Words.{integer, named_struct, number}
+use Rattle.ufmt.specs.Pieces.{Piece, line_text, separated, shown, text, hex}
 
-abbrev pub reading_document : Reading → Document
-reading_document r = named_struct "Reading" (("channel", number r.channel) ∷ ("celsius", integer r.celsius) ∷ [])
+abbrev pub measurement_document : Measurement → Document
+measurement_document r = named_struct "Measurement" (("channel", number r.channel) ∷ ("celsius", integer r.celsius) ∷ [])
 
 -- a register: `0x`, and zeros to ten bytes in all
 abbrev pub register : HexOptions
 register = record { upper_case = false; pad_char = 48; pad_length = 10; ox_prefix = true }
 
--- the reading, the register and a line feed
-abbrev pub line : Reading → ℕ → List ℕ
-line reading control = plain_text (reading_document reading) ++ (codes " control " ++ (padded_hexadecimal register control ++ codes "\n"))
+-- the measurement, the register and a line feed
+abbrev pub line : Measurement → ℕ → List ℕ
+line measurement control = plain_text (measurement_document measurement) ++ (codes " control " ++ (padded_hexadecimal register control ++ codes "\n"))
+
+abbrev pub measurement_pieces : Measurement → List Piece
+measurement_pieces r = shown (number r.channel) ∷ text (codes "=") ∷ shown (integer r.celsius) ∷ []
+
+-- the measurements with commas between them
+abbrev pub measurements_text : List Measurement → List ℕ
+measurements_text rs = line_text (text (codes "measured: ") ∷ separated (codes ", ") (map measurement_pieces rs))
+
+-- a byte: two digits
+abbrev pub byte : HexOptions
+byte = record { upper_case = false; pad_char = 48; pad_length = 2; ox_prefix = false }
+
+-- how many bytes there are, and each of them, with a space between
+abbrev pub dump_text : List ℕ → List ℕ
+dump_text packet = line_text
+    (text (codes "len=") ∷ shown (number (length packet)) ∷ text (codes " ") ∷ separated (codes " ") (map (λ b. hex (padded_hexadecimal byte b) ∷ []) packet))

@@ -1,9 +1,25 @@
-//! The builders called one by one, where `fields!` and the calls for whole collections don't serve.
-ghost use Rattle.std.specs.Prelude.{map};
-ghost use Rattle.ufmt.specs.Document.{documents, list_of, map_of, pairs_of};
-ghost use Rattle.ufmt.specs.Words.{number};
+//! Types whose `fmt` isn't one call of `fields!`: a list, a map, entries in halves, two documents joined,
+//! and a value in pretty mode.
+ghost use Rattle.std.specs.Prelude.{[], ◌∷◌, codes, map};
+ghost use Rattle.std.specs.Str.{encode_utf8_all};
+ghost use Rattle.ufmt.specs.Document.{documents, joined, leaf, list_of, map_of, pairs_of, pretty_part};
+ghost use Rattle.ufmt.specs.Words.{integer, number};
 
 use ufmt::{Formatter, uDebug, uWrite};
+
+/// A list of its own name, which prints as a list.
+#[derive(Drop)]
+pub struct Scores<T> {
+    pub scores: Vec<T>,
+}
+
+impl<T: uDebug> uDebug for Scores<T> {
+    ghost document = { λ s. list_of (documents (map T.document s.scores.items)) };
+
+    fn fmt<W: uWrite>(&self, f: &mut Formatter<W>) -> Result<(), W::Error> {
+        f.list_of(&self.scores)
+    }
+}
 
 /// A port, and what uses it.
 #[derive(Drop)]
@@ -47,5 +63,33 @@ impl<T: uDebug> uDebug for Users<T> {
             list.end_entry(answer)?;
         }
         list.finish()
+    }
+}
+
+/// A temperature, which prints with its unit: `21 °C`.
+#[derive(Clone, Copy)]
+pub struct Temperature {
+    pub celsius: i16,
+}
+
+impl uDebug for Temperature {
+    ghost document = { λ t. joined (documents
+        (integer t.celsius ∷ leaf (encode_utf8_all (codes " °C")) ∷ [])) };
+
+    fn fmt<W: uWrite>(&self, f: &mut Formatter<W>) -> Result<(), W::Error> {
+        self.celsius.fmt(f)?;
+        f.write_str(" °C")
+    }
+}
+
+/// A value that prints in pretty mode, whatever the mode around it.
+#[derive(Drop)]
+pub struct InPrettyMode<T>(pub T);
+
+impl<T: uDebug> uDebug for InPrettyMode<T> {
+    ghost document = { λ x. pretty_part (T.document x.0) };
+
+    fn fmt<W: uWrite>(&self, f: &mut Formatter<W>) -> Result<(), W::Error> {
+        f.pretty(|f| self.0.fmt(f))
     }
 }

@@ -1,31 +1,17 @@
 #![tactic(auto)]
 
-//! A user's own types, each printed in one call, and two by the builders.
+//! A user's own types, most of them printed in one call.
 
 mod by_hand;
-mod dump;
-mod json;
-mod kind;
+mod enums;
 mod logger;
 mod message;
-mod nested;
-mod node;
-mod pair;
-mod readings;
-mod scores;
-mod temperature;
-mod wrappers;
+mod recursive;
+mod structs;
 
-pub use by_hand::{Port, Ports, Users};
-pub use dump::dump_packet;
-pub use json::Json;
-pub use kind::Kind;
-pub use logger::{Reading, log};
+pub use by_hand::{InPrettyMode, Port, Ports, Scores, Temperature, Users};
+pub use enums::{Kind, Y};
+pub use logger::{ByChannel, Measurement, dump_packet, list_measurements, log};
 pub use message::{Message, print};
-pub use nested::Nested;
-pub use node::{Node, Tree};
-pub use pair::Pair;
-pub use readings::{ByChannel, list_readings};
-pub use scores::Scores;
-pub use temperature::Temperature;
-pub use wrappers::{Braces, I32, InPrettyMode, Parens, Tuple, X, Y};
+pub use recursive::{Json, Node, Tree};
+pub use structs::{Braces, I32, Nested, Pair, Parens, Tuple, X};

@@ -6,7 +6,7 @@ ghost use Rattle.ufmt.specs.Pieces.{Piece, hex, pieces_text, pretty, shown};
 use super::Line;
 use crate::display::uDisplay;
 use crate::hex::{HexOptions, uDisplayHex};
-use crate::pieces::fmt_pretty;
+use crate::print::fmt_pretty;
 use ufmt_core::{Formatter, uDebug, uWrite};
 
 /// One way to write a value into a line.

@@ -1,15 +1,14 @@
-//! The bytes that are written for an input.
+//! The bytes that are written for an input, and how long the lines of a text are.
 ghost use Rattle.std.specs.Prelude.{◌≡◌, ◌≢◌, string_bytes, IfErr, IfOk, IsErrOf};
 ghost use Rattle.ufmt.specs.Layout.{plain_text, pretty_text};
-ghost use Rattle.ufmt_conv.specs.Answer.{IsAnswerLine, without_line_feed};
+ghost use Rattle.ufmt_conv.specs.Answer.{IsAnswerLine, line_lengths, without_line_feed};
 ghost use Rattle.ufmt_doc.specs.Texts.{IsNoText};
 
 use super::command::Command;
 use super::fault::Fault;
-use super::lengths::line_lengths;
 use crate::convert::{plain_text, to_plain, to_pretty};
 use crate::plain_reader::ReadError;
-use std::alloc::Global;
+use std::alloc::{AllocError, Global};
 
 // The answer and a line feed.
 pub(super) fn answer_line(alloc: Global, command: Command, input: &[u8]) -> Result<String, Fault>
@@ -29,6 +28,28 @@ pub(super) fn answer_line(alloc: Global, command: Command, input: &[u8]) -> Resu
     };
     line.push('\n')?;
     Ok(line)
+}
+
+/// How many bytes each line of the input has, in order. A line ends before its line feed; bytes
+/// behind the last line feed are a line too, where there are any. The only refusal is want of memory.
+#[tactic(auto, using(crate::proofs::Lines::longer_first_zero))]
+pub fn line_lengths(alloc: Global, input: &[u8]) -> Result<Vec<u64>, AllocError>
+    ensures { IfOk result (λ lengths. lengths.items ≡ line_lengths input.now) }
+{
+    let mut lengths = Vec::new(alloc);
+    let mut length = 0;
+    for byte in input {
+        if *byte == b'\n' {
+            lengths.push(length)?;
+            length = 0;
+        } else {
+            length += 1;
+        }
+    }
+    if length > 0 {
+        lengths.push(length)?;
+    }
+    Ok(lengths)
 }
 
 // The input without one final line feed, if it has one.

@@ -172,11 +172,11 @@ fn a_long_line_is_answered(rt: HostRuntime) -> Result<(), Fail> {
 }
 
 // The README shows these two lines; `.ci/run` compares the second.
-const README_PLAIN: &str = "[Reading { channel: 3, celsius: -4 }]\n";
+const README_PLAIN: &str = "[Measurement { channel: 3, celsius: -4 }]\n";
 
 const README_PRETTY: &str = "\
 [
-    Reading {
+    Measurement {
         channel: 3,
         celsius: -4,
     },

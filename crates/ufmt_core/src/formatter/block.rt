@@ -4,7 +4,7 @@ ghost use Rattle.ufmt_core.specs.Layout.{ending, frame, indentation, lead, line_
 ghost use Rattle.ufmt_core.specs.Formatter.{Prints, depth_of, mode_of, setting_of};
 
 use crate::formatter::Formatter;
-use crate::layout::{COLON, Count, Kind, Mode, UNIT};
+use crate::layout::{COLON, Count, Kind, Mode, INDENT};
 use crate::write::uWrite;
 
 impl<W: uWrite> Formatter<W> {
@@ -71,6 +71,7 @@ impl<W: uWrite> Formatter<W> {
         ensures { Prints W.seen self.old (frame (mode_of self.old) kind).start (is_ok result)
             self.new }
     {
+        // An arm for each mode: there the bracket is a constant.
         match self.setting.mode {
             Mode::Plain => {
                 let (bracket, space) = kind.start(Mode::Plain);
@@ -115,18 +116,18 @@ impl<W: uWrite> Formatter<W> {
         ensures { Prints W.seen self.old (line_start (mode_of self.old) (depth_of self.old))
             (is_ok result) self.new }
     {
-        match self.setting.units() {
+        match self.setting.indents() {
             0 => Ok(()),
-            units => self.write_indentation(units),
+            indents => self.write_indentation(indents),
         }
     }
 
     // A piece for each unit.
-    fn write_indentation(&mut self, units: u8) -> Result<(), W::Error>
-        ensures { Prints W.seen self.old (indentation units) (is_ok result) self.new }
+    fn write_indentation(&mut self, indents: u8) -> Result<(), W::Error>
+        ensures { Prints W.seen self.old (indentation indents) (is_ok result) self.new }
     {
-        for _unit in 0..units {
-            self.write_str(UNIT)?;
+        for _indent in 0..indents {
+            self.write_str(INDENT)?;
         }
         Ok(())
     }
@@ -137,6 +138,7 @@ impl<W: uWrite> Formatter<W> {
         ensures { Prints W.seen self.old ((frame (mode_of self.old) kind).closing count)
             (is_ok result) self.new }
     {
+        // As in `write_start`, the bracket is a constant in each arm.
         match self.setting.mode {
             Mode::Plain => {
                 let (before, bracket) = kind.closing(Mode::Plain, count);

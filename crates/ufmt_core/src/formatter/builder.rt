@@ -8,7 +8,7 @@ ghost use Rattle.ufmt_core.specs.declared.layout.Kind.{Kind};
 ghost use Rattle.ufmt_core.specs.declared.formatter.builder.Status.TheVariants.{Lent};
 ghost use Rattle.ufmt_core.specs.Formatter.{Prints};
 ghost use Rattle.ufmt_core.specs.Block.{WritesEnding, EndsEntry, IsInside, IsOpen, WritesOpening, ending_of, field_lead_of, inner_formatter, lead_of};
-ghost use Rattle.ufmt_core.specs.Builder.{EntryLoan, LendsBehind, LendsForEntry, OpeningLoan, block, abandoned, lent};
+ghost use Rattle.ufmt_core.specs.Builder.{EntryLoan, LendsAfter, LendsForEntry, OpeningLoan, block, abandoned, lent};
 
 use crate::formatter::Formatter;
 use crate::layout::{Count, Kind, Mode, Setting};
@@ -114,7 +114,7 @@ impl<W: uWrite, K: BlockKind> Builder<'_, W, K> {
     #[inline(always)]
     pub(crate) fn begin_named(&mut self, name: &str) -> Result<&mut Formatter<W>, W::Error>
         requires { IsInside (block K.kind self.old) }
-        ensures* loan { sem 𝓛 (LendsBehind W.row K.row (block K.kind) W.seen self.entry result
+        ensures* loan { sem 𝓛 (LendsAfter W.row K.row (block K.kind) W.seen self.entry result
             (field_lead_of name.now (block K.kind self.old))) }
         ensures lead { IfOk result
             (λ f. Prints W.seen self.old.formatter.now

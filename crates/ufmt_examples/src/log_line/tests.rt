@@ -3,7 +3,7 @@ use super::*;
 use std::process::Abort;
 use std::test::Fail;
 
-const READING: &str = "Reading { channel: 3, celsius: -4 }";
+const MEASUREMENT: &str = "Measurement { channel: 3, celsius: -4 }";
 
 // Its pretty text has 637 bytes.
 const LONG: &str = "[[[[[[[[[[[[1]]]]]]]]]]]]";
@@ -34,12 +34,12 @@ fn same(rt: &impl Abort, line: &str, wanted: Result<&str, &str>) {
 fn lines_are_made_readable(rt: HostRuntime) -> Result<(), Fail> {
     let rows = [
         (
-            READING,
-            Ok("Reading {\n    channel: 3,\n    celsius: -4,\n}"),
+            MEASUREMENT,
+            Ok("Measurement {\n    channel: 3,\n    celsius: -4,\n}"),
         ),
         ("()", Ok("()")),
         ("[[]]", Ok("[\n    [],\n]")),
-        ("Reading { channel: 3", Err("not text")),
+        ("Measurement { channel: 3", Err("not text")),
         (LONG, Err("full")),
     ];
     for (line, wanted) in rows {

@@ -1,23 +1,23 @@
-//! Readings that come back from their lines, and lines that are none.
+//! Measurements that come back from their lines, and lines that are none.
 use super::*;
 use std::process::Abort;
 use std::test::Fail;
 use ufmt_doc::convert::plain_text;
-use ufmt_user::Reading;
+use ufmt_user::Measurement;
 
 fn same(rt: &impl Abort, given: Option<&str>, wanted: Option<&str>, line: &str) {
     assert_eq!(rt; given, wanted, "{line}");
 }
 
-// What is logged of a reading is read back.
+// What is logged of a measurement is read back.
 #[test]
-fn readings_are_read_back(rt: HostRuntime) -> Result<(), Fail> {
+fn measurements_are_read_back(rt: HostRuntime) -> Result<(), Fail> {
     for (celsius_of, wanted) in [(-4, "-4"), (0, "0"), (i32::MIN, "-2147483648")] {
-        let reading = Reading {
+        let measurement = Measurement {
             channel: 3,
             celsius: celsius_of,
         };
-        let line = plain_text(rt.alloc(), &reading)?;
+        let line = plain_text(rt.alloc(), &measurement)?;
         let found = celsius(rt.alloc(), line.as_bytes())?;
         same(&rt, found.as_deref(), Some(wanted), &line);
     }
@@ -27,10 +27,10 @@ fn readings_are_read_back(rt: HostRuntime) -> Result<(), Fail> {
 #[test]
 fn fields_have_their_texts(rt: HostRuntime) -> Result<(), Fail> {
     let rows = [
-        ("Reading { channel: 3, celsius: -4 }", "celsius", Some("-4")),
-        ("Reading { channel: 3, celsius: -4 }", "channel", Some("3")),
-        ("Reading { channel: 3, celsius: -4 }", "kelvin", None),
-        ("Reading { channel: 3, celsius: [-4] }", "celsius", None),
+        ("Measurement { channel: 3, celsius: -4 }", "celsius", Some("-4")),
+        ("Measurement { channel: 3, celsius: -4 }", "channel", Some("3")),
+        ("Measurement { channel: 3, celsius: -4 }", "kelvin", None),
+        ("Measurement { channel: 3, celsius: [-4] }", "celsius", None),
         ("[celsius]", "celsius", None),
     ];
     for (line, label, wanted) in rows {
@@ -44,8 +44,8 @@ fn fields_have_their_texts(rt: HostRuntime) -> Result<(), Fail> {
 fn other_lines_are_refused(rt: HostRuntime) {
     for line in [
         "",
-        "Reading { channel: 3, celsius: }",
-        "Reading { channel: 3",
+        "Measurement { channel: 3, celsius: }",
+        "Measurement { channel: 3",
     ] {
         let refused = match celsius(rt.alloc(), line.as_bytes()) {
             Err(ReadError::NotText) => Some("not a text"),

@@ -4,7 +4,7 @@ use super::*;
 #[test]
 fn lines_are_told_apart(rt: HostRuntime) {
     let readable = [
-        "Reading { channel: 3, celsius: -4 }",
+        "Measurement { channel: 3, celsius: -4 }",
         "[1, {}, ()]",
         "\"a\\n\"",
     ];
@@ -13,8 +13,8 @@ fn lines_are_told_apart(rt: HostRuntime) {
     }
     let others = [
         "",
-        "Reading { channel: 3, celsius: -4 } ",
-        "Reading {channel: 3}",
+        "Measurement { channel: 3, celsius: -4 } ",
+        "Measurement {channel: 3}",
         "[1,2]",
         "\"a\n\"",
     ];

@@ -127,10 +127,10 @@ fn is_found(alloc: Global, text: &str, label: &str, leaf: Option<&str>) -> Resul
 #[test]
 fn fields_are_found_by_their_labels(rt: HostRuntime) {
     let rows = [
-        ("Reading { channel: 3, celsius: -4 }", "channel", Some("3")),
-        ("Reading { channel: 3, celsius: -4 }", "celsius", Some("-4")),
-        ("Reading { channel: 3, celsius: -4 }", "Celsius", None),
-        ("Reading { channel: 3, celsius: -4 }", "", None),
+        ("Measurement { channel: 3, celsius: -4 }", "channel", Some("3")),
+        ("Measurement { channel: 3, celsius: -4 }", "celsius", Some("-4")),
+        ("Measurement { channel: 3, celsius: -4 }", "Celsius", None),
+        ("Measurement { channel: 3, celsius: -4 }", "", None),
         ("S { a: b, a: c }", "a", Some("b")),
         ("S { a: [b], c: d }", "a", None),
         ("{a: b}", "a", None),

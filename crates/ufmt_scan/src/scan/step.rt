@@ -12,7 +12,7 @@ use super::event::{Event, ScanError, Sink};
 use crate::leaf::{split_quotes, split_word};
 use crate::level::{Level, strip_piece, strip_to_line};
 use ufmt::ascii::text_from;
-use ufmt::layout::{COLON, Count, Kind, Mode, OPENING_BRACE, OPENING_BRACKET, UNIT};
+use ufmt::layout::{COLON, Count, Kind, Mode, OPENING_BRACE, OPENING_BRACKET, INDENT};
 
 /// What comes next in an open block: its first entry or a later one, or, in a map, a key or a value.
 #[derive(Clone, Copy)]
@@ -279,6 +279,6 @@ fn between(mode: Mode) -> &'static str
 {
     match mode {
         Mode::Plain => Mode::Plain.separator(),
-        Mode::Pretty => UNIT,
+        Mode::Pretty => INDENT,
     }
 }

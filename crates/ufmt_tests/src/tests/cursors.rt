@@ -97,7 +97,7 @@ Ok(0) [\nx;
 // A buffer of one byte takes the bracket alone. One of three takes a line feed too, and then no entry
 // of four spaces, but the text.
 #[test]
-fn a_text_behind_an_entry_that_failed(rt: HostRuntime) {
+fn a_text_after_an_entry_that_failed(rt: HostRuntime) {
     let mut table = Table::new(rt.alloc());
     for (size, is_pretty) in [(1, false), (1, true), (3, true)] {
         let mut buffer = [0; 3];

@@ -31,7 +31,7 @@ fn laws_of_documents_can_be_called() {
     laws::shifted_at_depth();
     laws::plain_reads_one_way();
     laws::pretty_reads_one_way();
-    laws::texts_tell_normal_forms();
+    laws::texts_determine_normal_forms();
     laws::texts_are_read_exactly();
     laws::quoted_one_way();
     laws::quoted_leaves_are_read_exactly();

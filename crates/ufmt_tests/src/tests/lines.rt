@@ -3,7 +3,7 @@ use super::printed::{Printed, print_to};
 use super::rows::{Table, are_ok, has_rows, same};
 use std::alloc::{AllocError, Global};
 use ufmt::{Formatter, Full, HexOptions, Line, line_into, pieces, uWrite, write_line};
-use ufmt_user::{Reading, dump_packet, list_readings};
+use ufmt_user::{Measurement, dump_packet, list_measurements};
 
 const PREFIXED: HexOptions = HexOptions {
     upper_case: false,
@@ -179,19 +179,19 @@ fn a_packet_is_dumped(rt: HostRuntime) {
 }
 
 const READINGS: &str = "\
-Ok(20) readings: 3=-4, 5=20~~~~;
-Ok(14) readings: 3=-4~~~~~~~~~~;
-Ok(10) readings: ~~~~~~~~~~~~~~;
-Err(Full) readings: 3=-4, 5=~~~~~~;
+Ok(20) measured: 3=-4, 5=20~~~~;
+Ok(14) measured: 3=-4~~~~~~~~~~;
+Ok(10) measured: ~~~~~~~~~~~~~~;
+Err(Full) measured: 3=-4, 5=~~~~~~;
 ";
 
 #[test]
-fn readings_are_listed(rt: HostRuntime) {
+fn measurements_are_listed(rt: HostRuntime) {
     let mut table = Table::new(rt.alloc());
-    let readings = [(3, -4), (5, 20)].map(|(channel, celsius)| Reading { channel, celsius });
+    let measurements = [(3, -4), (5, 20)].map(|(channel, celsius)| Measurement { channel, celsius });
     for (count, length) in [(2, 24), (1, 24), (0, 24), (2, 19)] {
         let mut bytes = [b'~'; 24];
-        let answer = list_readings(&mut bytes[..length], &readings[..count]);
+        let answer = list_measurements(&mut bytes[..length], &measurements[..count]);
         table.put_answer(answer, &bytes);
     }
     has_rows(&rt, &table, READINGS);

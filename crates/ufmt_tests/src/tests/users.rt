@@ -3,7 +3,7 @@ use super::forwarded;
 use super::rows::{Table, has_rows, list};
 use std::alloc::{AllocError, Global};
 use ufmt_user::{
-    I32, Kind, Message, Nested, Node, Pair, Port, Ports, Reading, Scores, Temperature, Tree, Tuple,
+    I32, Kind, Message, Nested, Node, Pair, Port, Ports, Measurement, Scores, Temperature, Tree, Tuple,
     Users, X, Y, log, print,
 };
 
@@ -179,24 +179,24 @@ fn builders_in_loops(rt: HostRuntime) {
 }
 
 const LOGS: &str = "\
-Ok(55) Reading { channel: 3, celsius: -4 } control 0x0000beef
-.........;
-Ok(55) Reading { channel: 3, celsius: -4 } control 0x0000beef
-.........;
-Err(Full) Reading { channel: 3, celsius: -4 } control 0x0000beef..........;
-Err(Full) Reading { ......................................................;
+Ok(59) Measurement { channel: 3, celsius: -4 } control 0x0000beef
+.....;
+Ok(59) Measurement { channel: 3, celsius: -4 } control 0x0000beef
+.....;
+Err(Full) Measurement { channel: 3, celsius: -4 } control 0x0000beef......;
+Err(Full) Measurement { ..................................................;
 ";
 
 #[test]
 fn pieces_of_a_log(rt: HostRuntime) {
     let mut table = Table::new(rt.alloc());
-    let reading = Reading {
+    let measurement = Measurement {
         channel: 3,
         celsius: -4,
     };
-    for length in [64, 55, 54, 16] {
+    for length in [64, 59, 58, 20] {
         let mut buffer = [b'.'; 64];
-        let answer = log(&mut buffer[..length], &reading, 0xbeef);
+        let answer = log(&mut buffer[..length], &measurement, 0xbeef);
         table.put_answer(answer, &buffer);
     }
     has_rows(&rt, &table, LOGS);

@@ -67,7 +67,7 @@ fn is_unread(alloc: Global, command: Command, input: &[u8], most: usize, fails_a
 }
 
 // Over readers that give so many bytes, one a call, and then fail: at first nothing, at last all.
-fn is_unread_behind_any_byte(alloc: Global, command: Command, input: &[u8]) -> bool {
+fn is_unread_after_any_byte(alloc: Global, command: Command, input: &[u8]) -> bool {
     for count in 0..input.len() + 1 {
         if !is_unread(alloc, command, input, 1, count + 1) {
             return false;
@@ -89,7 +89,7 @@ fn readers_that_fail_at_any_call(rt: HostRuntime) {
             (command, true, true),
             "whole",
         );
-        let by_bytes = is_unread_behind_any_byte(alloc, command, input);
+        let by_bytes = is_unread_after_any_byte(alloc, command, input);
         same(&rt, (command, by_bytes), (command, true), "byte by byte");
     }
 }
@@ -107,7 +107,7 @@ fn is_unwritten(alloc: Global, command: Command, input: &[u8], sink: Sink, taken
 }
 
 // Over writers that take so many bytes, one a call, and then fail.
-fn is_unwritten_behind_any_byte(
+fn is_unwritten_after_any_byte(
     alloc: Global,
     command: Command,
     input: &[u8],
@@ -129,7 +129,7 @@ fn writers_that_fail_at_any_call(rt: HostRuntime) {
         let sink = Sink::new(alloc, WHOLE, 1, false);
         let first = is_unwritten(alloc, command, input, sink, b"");
         same(&rt, (command, first), (command, true), "whole");
-        let by_bytes = is_unwritten_behind_any_byte(alloc, command, input, output);
+        let by_bytes = is_unwritten_after_any_byte(alloc, command, input, output);
         same(&rt, (command, by_bytes), (command, true), "byte by byte");
     }
 }

@@ -9,4 +9,4 @@ returns-clause-stretch c = rw (c.split_at.ensures.front, c.split_at.ensures.back
     (stretch c.args.text.now).escaped
 
 pub returns-clause-at_escape : goal.returns-clause-at_escape
-returns-clause-at_escape c = rw (c.split_at.ensures.back, c.plain_len.ensures, c.as_bytes.ensures.value) (stretch c.args.text.now).behind
+returns-clause-at_escape c = rw (c.split_at.ensures.back, c.plain_len.ensures, c.as_bytes.ensures.value) (stretch c.args.text.now).after

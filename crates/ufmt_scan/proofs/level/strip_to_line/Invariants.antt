@@ -5,7 +5,7 @@ use Rattle.ufmt.specs.Reading.{strip}
 use Rattle.ufmt_scan.proofs.level.strip_to_line.Given as goal
 
 abbrev pub invariant-pairs : goal.invariant-pairs
-invariant-pairs l = strip (l.fn.piece ++ line_start l.fn.line.mode l.fn.line.depth) l.fn.input ≡ strip (indentation l.units) l.rest
+invariant-pairs l = strip (l.fn.piece ++ line_start l.fn.line.mode l.fn.line.depth) l.fn.input ≡ strip (indentation l.indents) l.rest
 
 abbrev pub decreases-pairs : goal.decreases-pairs
-decreases-pairs l = l.units
+decreases-pairs l = l.indents

@@ -3,5 +3,5 @@ use Rattle.ufmt_core.specs.Layout.{indentation}
 use Rattle.ufmt_core.specs.Formatter.{Prints}
 use Rattle.ufmt_core.proofs.formatter.Formatter.write_indentation.Given as goal
 
-abbrev pub invariant-loop-unit : goal.invariant-loop-unit
-invariant-loop-unit g l = Prints g.W.uWrite.seen l.initial.self (indentation l._unit) true l.self
+abbrev pub invariant-loop-indent : goal.invariant-loop-indent
+invariant-loop-indent g l = Prints g.W.uWrite.seen l.initial.self (indentation l._indent) true l.self

@@ -1,0 +1,122 @@
+//! Values and lines printed to a writer, to a caller's buffer, and to a text of their own.
+ghost use Rattle.std.specs.Prelude.{◌≡◌, ◌≤◌, is_ok, string_bytes, IfOk};
+ghost use Rattle.ufmt_core.specs.Document.{nest, pretty_part};
+ghost use Rattle.ufmt_core.specs.Formatter.{LaysOut};
+ghost use Rattle.ufmt_core.specs.Layout.{plain_text, pretty_text};
+ghost use Rattle.ufmt_core.specs.Writes.{Writes};
+ghost use Rattle.ufmt.specs.Buffer.{Fronts};
+ghost use Rattle.ufmt.specs.Pieces.{line_text};
+ghost use Rattle.ufmt.specs.Shift.{HasNoLineFeed, shifted};
+
+use crate::cursor::{Cursor, Full};
+use crate::display::uDisplay;
+use crate::line::Line;
+use std::alloc::{AllocError, Global};
+use ufmt_core::{Formatter, uDebug, uWrite};
+
+/// Prints the value in pretty mode, at the formatter's depth: what a piece `pretty e` does. On
+/// `Err` a beginning of its text is written. Mode and depth are as before.
+pub fn fmt_pretty<T: uDebug, W: uWrite>(value: &T, f: &mut Formatter<W>) -> Result<(), W::Error>
+    ensures { LaysOut W.seen f.old (pretty_part (T.document value.now)) (is_ok result) f.new }
+{
+    f.pretty(|f| value.fmt(f))
+}
+
+/// Prints the value to the writer, as `uDebug` does in plain mode. On `Err` the writer took a
+/// beginning of its text.
+pub fn write_debug<T: uDebug, W: uWrite>(writer: &mut W, value: &T) -> Result<(), W::Error>
+    ensures { Writes W.seen writer.old (plain_text (T.document value.now)) (is_ok result)
+        writer.new }
+{
+    let mut f = Formatter::new(writer);
+    value.fmt(&mut f)
+}
+
+/// Prints the value to the writer, as `uDisplay` does in plain mode. On `Err` the writer took a
+/// beginning of its text.
+pub fn write_display<T: uDisplay, W: uWrite>(writer: &mut W, value: &T) -> Result<(), W::Error>
+    ensures { Writes W.seen writer.old (plain_text (T.display value.now)) (is_ok result)
+        writer.new }
+{
+    let mut f = Formatter::new(writer);
+    value.fmt(&mut f)
+}
+
+/// Prints the value to the writer, as `uDebug` does in pretty mode at depth 0. On `Err` the writer
+/// took a beginning of its text.
+pub fn write_pretty<T: uDebug, W: uWrite>(writer: &mut W, value: &T) -> Result<(), W::Error>
+    ensures { Writes W.seen writer.old (pretty_text (T.document value.now)) (is_ok result)
+        writer.new }
+{
+    let mut f = Formatter::new(writer);
+    fmt_pretty(value, &mut f)
+}
+
+/// Prints the line to the writer, in plain mode. On `Err` the writer took a beginning of it.
+pub fn write_line<L: Line, W: uWrite>(writer: &mut W, line: &L) -> Result<(), W::Error>
+    ensures { Writes W.seen writer.old (line_text (L.pieces line.now)) (is_ok result) writer.new }
+{
+    let mut f = Formatter::new(writer);
+    line.print(&mut f)
+}
+
+/// Prints the value, as `uDebug` does in plain mode, to the front of the buffer, and answers how many
+/// bytes it has. On `Full` the buffer begins with a beginning of the text. The other bytes stay.
+pub fn debug_into<T: uDebug>(buffer: &mut [u8], value: &T) -> Result<usize, Full>
+    ensures { Fronts buffer.old (plain_text (T.document value.now)) result buffer.new }
+{
+    let mut cursor = Cursor::new(buffer);
+    write_debug(&mut cursor, value)?;
+    Ok(cursor.written().len())
+}
+
+/// The same in pretty mode, at depth 0.
+pub fn pretty_into<T: uDebug>(buffer: &mut [u8], value: &T) -> Result<usize, Full>
+    ensures { Fronts buffer.old (pretty_text (T.document value.now)) result buffer.new }
+{
+    let mut cursor = Cursor::new(buffer);
+    write_pretty(&mut cursor, value)?;
+    Ok(cursor.written().len())
+}
+
+/// The same of `uDisplay`, in plain mode.
+pub fn display_into<T: uDisplay>(buffer: &mut [u8], value: &T) -> Result<usize, Full>
+    ensures { Fronts buffer.old (plain_text (T.display value.now)) result buffer.new }
+{
+    let mut cursor = Cursor::new(buffer);
+    write_display(&mut cursor, value)?;
+    Ok(cursor.written().len())
+}
+
+/// Prints the line, in plain mode, to the front of the buffer, and answers how many bytes it has. On
+/// `Full` the buffer begins with the pieces that did fit. The other bytes stay.
+pub fn line_into<L: Line>(buffer: &mut [u8], line: &L) -> Result<usize, Full>
+    ensures { Fronts buffer.old (line_text (L.pieces line.now)) result buffer.new }
+{
+    let mut cursor = Cursor::new(buffer);
+    write_line(&mut cursor, line)?;
+    Ok(cursor.written().len())
+}
+
+/// Returns the value's plain text. Fails only for want of memory.
+pub fn plain_text<T: uDebug>(alloc: Global, value: &T) -> Result<String, AllocError>
+    ensures { IfOk result (λ text. string_bytes text ≡ plain_text (T.document value.now)) }
+{
+    let mut text = String::new(alloc);
+    write_debug(&mut text, value)?;
+    Ok(text)
+}
+
+/// Returns the value's pretty text, from depth 0. Where blocks with entries lie at most 255 deep and no
+/// leaf and no name has a line feed, that is also its shifted text, which knows no depth. Fails only
+/// for want of memory.
+pub fn pretty_text<T: uDebug>(alloc: Global, value: &T) -> Result<String, AllocError>
+    ensures text { IfOk result (λ text. string_bytes text ≡ pretty_text (T.document value.now)) }
+    ensures shifted { IfOk result (λ text.
+        HasNoLineFeed (T.document value.now) → nest (T.document value.now) ≤ 255
+        → string_bytes text ≡ shifted (T.document value.now)) }
+{
+    let mut text = String::new(alloc);
+    write_pretty(&mut text, value)?;
+    Ok(text)
+}

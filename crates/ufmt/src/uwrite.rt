@@ -1,0 +1,65 @@
+//! `uwrite!` and `uwriteln!`: pieces written one after another.
+
+/// Writes pieces to a formatter, one after another, and answers the first failure.
+///
+/// A piece is `text e` for a `&str`, `display e`, `debug e` or `pretty e` for a value, or
+/// `hex e with options`, whose value is a name, a literal or stands in parentheses. First the
+/// formatter is evaluated, and only once, then the pieces, also once each and in their order; behind
+/// a failure nothing is.
+#[macro_export]
+macro_rules! uwrite {
+    ($f:expr, $($pieces:tt)+) => {{
+        let f: &mut $crate::Formatter<_> = $f;
+        $crate::write_pieces!(f; [] $($pieces)+)
+    }};
+}
+
+/// Writes pieces as `uwrite!` does, and then a line feed.
+#[macro_export]
+macro_rules! uwriteln {
+    ($f:expr, $($pieces:tt)+) => {{
+        let f: &mut $crate::Formatter<_> = $f;
+        $crate::write_pieces!(f; [text "\n"] $($pieces)+)
+    }};
+}
+
+/// The pieces that are left, and those in brackets after them.
+#[macro_export]
+macro_rules! write_pieces {
+    (after $written:expr; $f:ident; [$($last:tt)*] $($rest:tt)*) => {
+        match $written {
+            std::result::Result::Ok(()) => $crate::write_pieces!($f; [$($last)*] $($rest)*),
+            std::result::Result::Err(error) => std::result::Result::Err(error),
+        }
+    };
+    ($f:ident; []) => { std::result::Result::Ok(()) };
+    ($f:ident; [$($last:tt)+]) => { $crate::write_pieces!($f; [] $($last)+) };
+    ($f:ident; [] hex $value:tt with $options:expr $(,)?) => {
+        $crate::write_piece!($f, hex $value with $options)
+    };
+    ($f:ident; [] $kind:ident $value:expr $(,)?) => { $crate::write_piece!($f, $kind $value) };
+    ($f:ident; [$($last:tt)*] hex $value:tt with $options:expr $(, $($rest:tt)*)?) => {
+        $crate::write_pieces!(after $crate::write_piece!($f, hex $value with $options); $f; [$($last)*] $($($rest)*)?)
+    };
+    ($f:ident; [$($last:tt)*] $kind:ident $value:expr $(, $($rest:tt)*)?) => {
+        $crate::write_pieces!(after $crate::write_piece!($f, $kind $value); $f; [$($last)*] $($($rest)*)?)
+    };
+    ($($other:tt)*) => {
+        compile_error!("expected pieces: `text e`, `display e`, `debug e`, `pretty e` or `hex e with options`, with commas between them")
+    };
+}
+
+/// One piece.
+#[macro_export]
+macro_rules! write_piece {
+    ($f:ident, text $text:expr) => { $crate::Formatter::write_str($f, $text) };
+    ($f:ident, display $value:expr) => { $crate::uDisplay::fmt(&$value, $f) };
+    ($f:ident, debug $value:expr) => { $crate::uDebug::fmt(&$value, $f) };
+    ($f:ident, pretty $value:expr) => { $crate::fmt_pretty(&$value, $f) };
+    ($f:ident, hex $value:tt with $options:expr) => {
+        $crate::uDisplayHex::fmt_hex(&$value, $f, $options)
+    };
+    ($f:ident, $($other:tt)*) => {
+        compile_error!("expected a piece: `text e`, `display e`, `debug e`, `pretty e` or `hex e with options`")
+    };
+}
