@@ -10,7 +10,7 @@ use Rattle.ufmt_core.specs.declared.layout.Count.{Count}
 use Rattle.ufmt_core.specs.declared.layout.Count.TheVariants.{Zero, One, Several}
 use Rattle.ufmt.specs.Token.{is_closer, IsFollower}
 use Rattle.ufmt.specs.Reading.{Parse, strip, read_value, read_pair, read_after_entry, read_turn, read_rest, read_others, read_after_first, read_entries, read_block}
-use Rattle.ufmt.proofs.Parsing.{strip_stands}
+use Rattle.ufmt.proofs.Parsing.{strip_joined}
 
 -- how a document, a key or a field begins: with no closer
 pub record Begins (text : List ℕ) : Type 0 where
@@ -62,7 +62,7 @@ rest_follows f s closes count (text ∷ texts) u =
 -- behind an entry
 read_after_entry_complete : {A : Type 0} (mode : Mode) (more : Parse (List A)) (x : A) (xs : List A) (t u : List ℕ) → more t ≡ Some (xs, u)
     → read_after_entry mode more x (trail mode ++ t) ≡ Some (x ∷ xs, u)
-read_after_entry_complete mode more x xs t u e = rw (strip_stands (trail mode) t, e) refl
+read_after_entry_complete mode more x xs t u e = rw (strip_joined (trail mode) t, e) refl
 
 -- an entry and what follows it
 read_turn_complete : {A : Type 0} (q : Parse A) (mode : Mode) (more : Parse (List A)) (x : A) (xs : List A) (text t u : List ℕ)
@@ -75,14 +75,14 @@ pub read_rest_complete : {A : Type 0} (q : Parse A) (f : Frame) (s : Setting) �
     → read_rest q f s (next count) n (block_tail f s (next count) texts ++ u) ≡ Some (xs, u)
 unfolding read_rest
 read_rest_complete q f s closes count zero xs texts u h less = absurd (omega arith)
-read_rest_complete q f s closes count (suc n) [] [] u h less = rw (closes.differs count u, strip_stands (ending f s (next count)) u) refl
+read_rest_complete q f s closes count (suc n) [] [] u h less = rw (closes.differs count u, strip_joined (ending f s (next count)) u) refl
 read_rest_complete q f s closes count (suc n) [] (text ∷ texts) u h less = absurd h
 read_rest_complete q f s closes count (suc n) (x ∷ xs) [] u h less = absurd h
 read_rest_complete q f s closes count (suc n) (x ∷ xs) (text ∷ texts) u h less =
     let left : List ℕ = block_tail f s (next (next count)) texts ++ u in
     rw (
       entry_assoc (lead f (inside s) (next count)) text (trail s.mode) (block_tail f s (next (next count)) texts) u,
-      strip_stands (lead f (inside s) (next count)) (text ++ (trail s.mode ++ left)),
+      strip_joined (lead f (inside s) (next count)) (text ++ (trail s.mode ++ left)),
     )
     (read_turn_complete q s.mode (read_rest q f s (next (next count)) n) x xs text left u h.0 (rest_follows f s closes (next count) texts u)
     (read_rest_complete q f s closes (next count) n xs texts u h.1 (omega arith)))
@@ -130,7 +130,7 @@ pub read_block_complete : {A : Type 0} (q : Parse A) (f : Frame) (s : Setting) (
 read_block_complete q f s make closes x xs text texts u h hs =
     rw (
       entry_assoc (lead f (inside s) Zero) text (trail s.mode) (block_tail f s One texts) u,
-      strip_stands (lead f (inside s) Zero) (text ++ (trail s.mode ++ (block_tail f s One texts ++ u))),
+      strip_joined (lead f (inside s) Zero) (text ++ (trail s.mode ++ (block_tail f s One texts ++ u))),
     )
     (read_entries_complete q f s make closes x xs text texts u h hs)
 

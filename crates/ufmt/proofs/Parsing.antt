@@ -3,9 +3,9 @@ use Rattle.std.proofs.Common.{◌≡◌, ◌≢◌, ◌⊎◌, inl, inr, refl, a
 use Rattle.ufmt.specs.Reading.{choose, parse_map, strip}
 
 -- a text is stripped from the front of what begins with it
-pub strip_stands : (text t : List ℕ) → strip text (text ++ t) ≡ Some t
-strip_stands [] t = refl
-strip_stands (c ∷ text) t = rw (eq-eqb c c refl) (strip_stands text t)
+pub strip_joined : (text t : List ℕ) → strip text (text ++ t) ≡ Some t
+strip_joined [] t = refl
+strip_joined (c ∷ text) t = rw (eq-eqb c c refl) (strip_joined text t)
 
 -- two values are equal where an option holds the one and the other
 same_value : {A : Type 0} (x y : A) → Some x ≡ Some y → x ≡ y
@@ -29,7 +29,7 @@ strip_found (c ∷ text) (b ∷ t) u h = stripped_byte (c == b) c b text t u ref
 
 -- what begins with the text is stripped of it
 pub strip_of_front : (text t u : List ℕ) → t ≡ text ++ u → strip text t ≡ Some u
-strip_of_front text t u h = rw h (strip_stands text u)
+strip_of_front text t u h = rw h (strip_joined text u)
 
 -- what does not begin with the text is not stripped
 pub strip_of_none : (text t : List ℕ) → ((u : List ℕ) → t ≢ text ++ u) → strip text t ≡ None

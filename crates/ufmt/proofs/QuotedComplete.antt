@@ -7,7 +7,7 @@ use Rattle.ufmt_core.specs.Quoted.{IsQuote, IsQuoted, escaped_byte, escaped_byte
 use Rattle.ufmt_core.proofs.QuotedCharacters.{escaped_all-bytes}
 use Rattle.ufmt.specs.Reading.{strip}
 use Rattle.ufmt.specs.ReadingQuoted.{read_escaped, read_inside, read_between, read_quoted, is_char}
-use Rattle.ufmt.proofs.Parsing.{strip_stands, strip_of_none}
+use Rattle.ufmt.proofs.Parsing.{strip_joined, strip_of_none}
 use Rattle.ufmt.proofs.QuotedDecoded.{decoded-escaped, each_row, no_backslash}
 
 -- a quote is ASCII
@@ -17,7 +17,7 @@ quote_ascii q (inr e) = omega (arith, e)
 
 -- what a byte's spelling is stripped of is that byte
 pub read_escaped-complete : (q b : ℕ) (t : List ℕ) → IsQuote q → read_escaped q (escaped_byte q b ++ t) ≡ Some (b, t)
-read_escaped-complete q b t quote = rw (decoded-escaped q b t quote, strip_stands (escaped_byte q b) t) refl
+read_escaped-complete q b t quote = rw (decoded-escaped q b t quote, strip_joined (escaped_byte q b) t) refl
 
 -- a backslash is no quote
 no_quote : (q : ℕ) → IsQuote q → (t u : List ℕ) → 92 ∷ t ≡ q ∷ u → ⊥

@@ -7,7 +7,7 @@ use Rattle.ufmt_core.specs.declared.layout.Kind.TheVariants.{Brackets, Braces, S
 use Rattle.ufmt_core.specs.declared.layout.Count.TheVariants.{Zero, One}
 use Rattle.ufmt.specs.Token.{AreWordBytes, IsWord, HasTokens, HaveTokens, PairsHaveTokens, FieldsHaveTokens, normal, normal_all, normal_pairs, normal_fields, IsFollower}
 use Rattle.ufmt.specs.Reading.{Parse, choose, strip, read_word, read_pair, read_tuple, read_struct, read_with, read}
-use Rattle.ufmt.proofs.Parsing.{strip_stands}
+use Rattle.ufmt.proofs.Parsing.{strip_joined}
 use Rattle.ufmt.proofs.BlocksComplete.{Begins, Begins-append, IsRead, AreRead, entry_assoc, rest_follows, read_entries_complete, read_block_complete, read_after_first_complete, read_value_complete, read_pair_complete}
 use Rattle.ufmt.proofs.FramesClose.{Fits, fits_inside, fits_less, closer_begins_none, begins_after, closes, no_colon}
 use Rattle.ufmt.proofs.ListedDocuments.{listed, documents-listed, listed_pairs, pairs_of-listed_pairs, listed_fields, fields_of-listed_fields}
@@ -54,7 +54,7 @@ entries_begin s b t u = Begins-append (begins_after (inside s).mode (inside s).d
 -- what stands before the first entry decides for a block
 lead_chosen : {A : Type 0} (start text after left u : List ℕ) (f : List ℕ → A) (b : A)
     → choose (strip start ((start ++ (text ++ (after ++ left))) ++ u)) f b ≡ f (text ++ (after ++ (left ++ u)))
-lead_chosen start text after left u f b = rw (entry_assoc start text after left u, strip_stands start (text ++ (after ++ (left ++ u)))) refl
+lead_chosen start text after left u f b = rw (entry_assoc start text after left u, strip_joined start (text ++ (after ++ (left ++ u)))) refl
 
 -- a list with entries is read
 list_complete : (s : Setting) (p : Parse Document) (n : ℕ) → ReadsBelow p (inside s) n → Fits s n
@@ -81,7 +81,7 @@ set_complete s p n below fits d ds u h hs less =
     rw (closer_begins_none 125 [] refl (entries_begin s first.begins (trail s.mode ++ left) u))
     (rw (
       entry_assoc (lead (frame s.mode Braces) (inside s) Zero) (layout (inside s) d) (trail s.mode) left u,
-      strip_stands (lead (frame s.mode Braces) (inside s) Zero) (layout (inside s) d ++ (trail s.mode ++ (left ++ u))),
+      strip_joined (lead (frame s.mode Braces) (inside s) Zero) (layout (inside s) d ++ (trail s.mode ++ (left ++ u))),
     )
     (rw (
       first.reads (trail s.mode ++ (left ++ u)) (rest_follows (frame s.mode Braces) s close Zero (texts (inside s) ds) u),
@@ -105,7 +105,7 @@ map_complete s p n below fits key value ps u hk hv hs less =
     rw (closer_begins_none 125 [] refl (entries_begin s (Begins-append first.begins (codes ": " ++ layout (inside s) value)) (trail s.mode ++ left) u))
     (rw (
       entry_assoc (lead (frame s.mode Braces) (inside s) Zero) entry (trail s.mode) left u,
-      strip_stands (lead (frame s.mode Braces) (inside s) Zero) (entry ++ (trail s.mode ++ (left ++ u))),
+      strip_joined (lead (frame s.mode Braces) (inside s) Zero) (entry ++ (trail s.mode ++ (left ++ u))),
     )
     (rw (
       append_assoc (layout (inside s) key) (codes ": " ++ layout (inside s) value) (trail s.mode ++ (left ++ u)),

@@ -55,9 +55,9 @@ pub word_leads : (s : Setting) (p : Parse Document) (w t u : List ℕ) → IsWor
 word_leads s p w t u h stops = ap (read_with s p) (append_assoc w t u) ∙ at_word s p w (t ++ u) h stops
 
 -- a name before a follower is a leaf
-name_alone : (s : Setting) (p : Parse Document) (w u : List ℕ) → IsWord w → IsFollower u → read_named s p w u ≡ Some (leaf w, u)
-name_alone s p [] u h follows = absurd h
-name_alone s p (c ∷ w) u h follows = rw (
+only_name : (s : Setting) (p : Parse Document) (w u : List ℕ) → IsWord w → IsFollower u → read_named s p w u ≡ Some (leaf w, u)
+only_name s p [] u h follows = absurd h
+only_name s p (c ∷ w) u h follows = rw (
   follower_no_tuple u (new_line (inside s).mode (inside s).depth) follows,
   follower_no_struct u (brace_space s.mode ++ new_line (inside s).mode (inside s).depth) follows,
 ) refl
@@ -83,7 +83,7 @@ pub leaf_complete : (s : Setting) (p : Parse Document) (text u : List ℕ) → I
 leaf_complete s p text u h follows = go h.shape
   where
     go : IsWord text ⊎ IsSymbol text → read_with s p (text ++ u) ≡ Some (leaf text, u)
-    go (inl w) = at_word s p text u w (follower_stops u follows) ∙ name_alone s p text u w follows
+    go (inl w) = at_word s p text u w (follower_stops u follows) ∙ only_name s p text u w follows
     go (inr symbol) = symbol_first s p text u symbol
         ∙ ap (λ o. choose o (λ x. Some (leaf x.0, x.1)) (read_unnamed s p (text ++ u))) (read_symbol_complete text u symbol)
 

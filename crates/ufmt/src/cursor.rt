@@ -4,11 +4,11 @@ ghost use Rattle.ufmt_core.specs.Writes.{Writes};
 
 use ufmt_core::uWrite;
 
-/// A piece has more bytes than remain in a `Cursor`.
+/// The error of a `Cursor`: a piece has more bytes than remain.
 #[derive(Clone, Copy, PartialEq, Eq, Debug)]
 pub struct Full;
 
-/// A writer that fills a buffer from its beginning, and takes no memory.
+/// A writer that fills a buffer from its beginning. It takes no memory.
 #[derive(Drop)]
 pub struct Cursor<'a> {
     buffer: &'a mut [u8],
@@ -19,7 +19,7 @@ pub struct Cursor<'a> {
 impl<'a> Cursor<'a> {
     ghost use Rattle.ufmt.specs.Cursor.{written_bytes, unwritten_bytes, remaining_count, buffer_length, buffer_name};
 
-    /// A cursor that has written nothing to the buffer yet.
+    /// Makes a cursor that has written nothing yet.
     pub fn new(buffer: &'a mut [u8]) -> Self
         ensures written { written_bytes result ≡ [] }
         ensures unwritten { unwritten_bytes result ≡ buffer.old }
@@ -29,14 +29,14 @@ impl<'a> Cursor<'a> {
         Cursor { buffer, count: 0 }
     }
 
-    /// The bytes that are written.
+    /// Returns the bytes that were written.
     pub fn written(&self) -> &[u8]
         ensures { result.now ≡ written_bytes self.now }
     {
         &self.buffer[..self.count]
     }
 
-    /// How many more bytes there is room for.
+    /// Returns how many more bytes there is room for.
     pub fn remaining(&self) -> usize
         ensures count { result ≡ remaining_count self.now }
         ensures whole { length (written_bytes self.now) + result ≡ buffer_length self.now }
@@ -45,7 +45,7 @@ impl<'a> Cursor<'a> {
     }
 }
 
-/// Answers `Full` exactly where a piece has more bytes than remain, and then changes nothing.
+/// Fails with `Full` exactly if a piece has more bytes than remain, and then changes nothing.
 impl uWrite for Cursor<'_> {
     ghost use Rattle.ufmt.specs.Cursor.{cursor_seen, Fills};
 
@@ -76,7 +76,7 @@ impl uWrite for Cursor<'_> {
     }
 }
 
-// Writes the bytes over those of the buffer from `start` on.
+// Writes the bytes to the buffer, from `start` on.
 #[inline(always)]
 fn put(bytes: &[u8], buffer: &mut [u8], start: usize)
     requires { start + length bytes.now ≤ length buffer.old }
@@ -88,8 +88,8 @@ fn put(bytes: &[u8], buffer: &mut [u8], start: usize)
     copy(bytes, &mut buffer[start..start + bytes.len()]);
 }
 
-// Writes the bytes over those of the target, which has as many: up to 64 by their two ends, which needs
-// neither a loop nor a test whether source and target overlap.
+// Copies the bytes to a target of the same length. Up to 64 bytes are copied as their two ends, without
+// a loop and without a test whether source and target overlap.
 #[inline(always)]
 fn copy(bytes: &[u8], target: &mut [u8])
     requires { length bytes.now ≡ length target.old }
@@ -109,7 +109,6 @@ fn copy(bytes: &[u8], target: &mut [u8])
     }
 }
 
-// Writes more than 16 bytes.
 #[inline(always)]
 fn copy_long(bytes: &[u8], target: &mut [u8])
     requires same_length { length bytes.now ≡ length target.old }
@@ -123,7 +122,7 @@ fn copy_long(bytes: &[u8], target: &mut [u8])
     }
 }
 
-// Writes more than 32 bytes.
+// Not inlined: most pieces are shorter.
 #[inline(never)]
 fn copy_longer(bytes: &[u8], target: &mut [u8])
     requires same_length { length bytes.now ≡ length target.old }
@@ -131,14 +130,14 @@ fn copy_longer(bytes: &[u8], target: &mut [u8])
     ensures { target.new ≡ bytes.now }
 {
     if target.len() <= 64 {
-        // The two lengths are one, and naming one saves the code generator a test.
+        // Both lengths are equal. Cutting one to the other saves a test in the compiled code.
         copy_ends::<32>(bytes, &mut target[..bytes.len()]);
     } else {
         target.copy_from_slice(bytes);
     }
 }
 
-// Writes the first N of the bytes and the last N, which are all of them and may overlap.
+// Copies the first N bytes and the last N. They are all of the bytes, and may overlap.
 #[inline]
 fn copy_ends<const N: usize>(bytes: &[u8], target: &mut [u8])
     requires same_length { length bytes.now ≡ length target.old }

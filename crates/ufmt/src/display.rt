@@ -1,4 +1,4 @@
-//! Values as a user reads them.
+//! `uDisplay`: values as a user reads them.
 ghost use Rattle.std.specs.Prelude.{encode_utf8, is_ok, string_bytes};
 ghost use Rattle.ufmt_core.specs.Document.{Document, leaf};
 ghost use Rattle.ufmt_core.specs.Formatter.{LaysOut};
@@ -12,12 +12,11 @@ use ufmt_core::{Formatter, uDebug, uWrite};
 
 /// A value that prints itself as Rust's `{}` would.
 pub trait uDisplay {
-    /// What the value's text is the layout of.
+    /// The document whose layout is the value's text.
     ghost display: { Self → Document };
 
-    /// Appends the layout of the value's document in the formatter's mode and from its depth, or,
-    /// where the writer fails, a beginning of it. Writer, mode and depth are afterwards as before,
-    /// also on failure.
+    /// Appends the layout of the value's document in the formatter's mode and from its depth. On
+    /// `Err` a beginning of the layout was appended. Writer, mode and depth are afterwards as before.
     fn fmt<W>(&self, f: &mut Formatter<W>) -> Result<(), W::Error>
     where
         W: uWrite,
@@ -42,7 +41,7 @@ impl<T: uDisplay> uDisplay for &mut T {
     }
 }
 
-/// Prints what the box holds.
+/// Prints the value in the box.
 impl<T: uDisplay, A: Allocator> uDisplay for Box<T, A> {
     ghost display = { λ x. T.display x.value };
 

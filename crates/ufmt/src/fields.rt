@@ -1,14 +1,15 @@
 //! `fields!`: the `fmt` of a struct, a tuple struct or a variant in one call.
 
-/// Prints a struct, a tuple struct or a variant whole: in place of `#[derive(uDebug)]`.
+/// Prints a whole struct, tuple struct or variant, in place of `#[derive(uDebug)]`.
 ///
-/// `fields!(f, self, Pair { x, y })` and `fields!(f, self, Tuple(x, y))` take the value apart, and write
-/// its name and its fields in the order given, as the builders would. A field that is left out is an
-/// error of the compiler, which names it. In an arm that has taken a variant apart already, write
-/// `fields!(f, Variant { x, y })`, `fields!(f, Variant(x, y))` or `fields!(f, None)`, and of other
-/// values `fields!(f, Pair { x: a.x, y: b.y })`: these print the fields that they name, and no one
-/// counts them. Values are taken by reference. More than twelve fields are possible where the type
-/// doesn't hold itself.
+/// `fields!(f, self, Pair { x, y })` and `fields!(f, self, Tuple(x, y))` take the value apart. They
+/// write its name and its fields in the given order, as the builders would. If a field is left out, the
+/// compiler names it in an error.
+///
+/// In an arm of a `match` the variant is taken apart already: write `fields!(f, Variant { x, y })`,
+/// `fields!(f, Variant(x, y))` or `fields!(f, None)`. For other values, write
+/// `fields!(f, Pair { x: a.x, y: b.y })`. These print the fields that are named, and don't see whether
+/// one is left out. Values are taken by reference. A type that holds itself has at most twelve fields.
 #[macro_export]
 macro_rules! fields {
     ($formatter:expr, $value:ident, $name:ident { $($field:ident),* $(,)? } $(,)?) => {{
@@ -51,8 +52,8 @@ macro_rules! fields {
     };
 }
 
-/// The call for a whole struct or tuple with so many fields, and past twelve that for a chain: a field
-/// and a call are taken off both lists until one field is left.
+/// The call for a whole struct or tuple with this number of fields, or for a chain of more than twelve.
+/// A field and a call are taken off both lists until one field is left.
 #[macro_export]
 macro_rules! whole_value {
     ($kind:ident [$last:tt] [$call:ident $($more:ident)*] $($arguments:tt)*) => {
@@ -69,14 +70,14 @@ macro_rules! whole_value {
     };
 }
 
-/// The chain of these fields that `Formatter::struct_of` takes.
+/// The chain of fields that `Formatter::struct_of` takes.
 #[macro_export]
 macro_rules! field_chain {
     () => { () };
     ($name:expr, $value:expr, $($rest:tt)*) => { ($name, $value, $crate::field_chain!($($rest)*)) };
 }
 
-/// The chain of these values that `Formatter::tuple_of` takes.
+/// The chain of values that `Formatter::tuple_of` takes.
 #[macro_export]
 macro_rules! value_chain {
     () => { () };

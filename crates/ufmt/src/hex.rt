@@ -1,4 +1,4 @@
-//! Hexadecimal texts of integers, and their padding.
+//! `uDisplayHex`: hexadecimal texts of integers, and their padding.
 ghost use Rattle.std.specs.Prelude.{◌≡◌, ◌<◌, ◌-◌, ◌+◌, ◌↔◌, ℕ, List, IsTrue, length, replicate, is_ok};
 ghost use Rattle.ufmt_core.specs.Formatter.{Prints};
 ghost use Rattle.ufmt.specs.declared.hex.HexOptions.{HexOptions};
@@ -11,11 +11,11 @@ use ufmt_core::{Formatter, uWrite};
 
 /// A value that prints itself as Rust's `{:x}` and `{:X}` would.
 pub trait uDisplayHex {
-    /// The text that the value prints for given options.
+    /// The value's text with these options.
     ghost hex_text: { Self → HexOptions → List ℕ };
 
-    /// Writes the value's text for these options, or, where the writer fails, a beginning of it.
-    /// Writer, mode and depth are afterwards as before, also on failure.
+    /// Writes the value's text with these options. On `Err` a beginning of it was written. Writer, mode
+    /// and depth are afterwards as before.
     fn fmt_hex<W>(&self, f: &mut Formatter<W>, options: HexOptions) -> Result<(), W::Error>
     where
         W: uWrite,
@@ -23,28 +23,28 @@ pub trait uDisplayHex {
         ensures { Prints W.seen f.old (hex_text self.now options) (is_ok result) f.new };
 }
 
-/// Which letters a hexadecimal text has, and what stands before its digits.
+/// The letters of a hexadecimal text, its prefix and its padding.
 #[derive(Clone, Copy)]
 pub struct HexOptions {
-    /// Whether letters are upper case, that of the prefix too.
+    /// Whether letters are in upper case, that of the prefix too.
     pub upper_case: bool,
-    /// The byte to pad with: a space stands before the prefix, another byte after it.
+    /// The byte to pad with. Spaces come before the prefix, other bytes after it.
     pub pad_char: u8,
-    /// The number of bytes to pad to, those of the prefix included.
+    /// The number of bytes to pad to, with the prefix.
     pub pad_length: usize,
-    /// Whether `0x` or `0X` stands before the digits.
+    /// Whether the text has a prefix, `0x` or `0X`.
     pub ox_prefix: bool,
 }
 
 impl HexOptions {
-    /// Whether the pad byte is ASCII, as `with_stuff` and `fmt_hex` ask.
+    /// Returns whether the pad byte is ASCII. `with_stuff` and `fmt_hex` require it.
     pub fn has_ascii_pad(&self) -> bool
         ensures { IsTrue result ↔ (self.now.pad_char < 128) }
     {
         self.pad_char < 128
     }
 
-    /// Writes `payload` with its prefix and padding, or, where the writer fails, a beginning of that.
+    /// Writes `payload` with its prefix and padding. On `Err` a beginning of that was written.
     pub fn with_stuff<W: uWrite>(&self, f: &mut Formatter<W>, payload: &str) -> Result<(), W::Error>
         requires { self.now.pad_char < 128 }
         ensures { Prints W.seen f.old (padded self.now payload.now) (is_ok result) f.new }
@@ -60,7 +60,7 @@ impl HexOptions {
         f.write_str(payload)
     }
 
-    // How many bytes a payload of this length lacks.
+    // How many pad bytes a payload of this length needs.
     fn missing(&self, payload_length: usize) -> usize
         ensures { result ≡ self.now.pad_length - (length (prefix_of self.now) + payload_length) }
     {
@@ -85,7 +85,7 @@ impl HexOptions {
         self.ox_prefix && self.pad_char == b' '
     }
 
-    // One piece where there is a prefix, and else none.
+    // An empty prefix is no piece.
     fn write_prefix<W: uWrite>(&self, f: &mut Formatter<W>) -> Result<(), W::Error>
         ensures { Prints W.seen f.old (prefix_of self.now) (is_ok result) f.new }
     {
@@ -95,7 +95,7 @@ impl HexOptions {
         f.write_str(self.prefix())
     }
 
-    // A piece for each pad byte.
+    // One piece for each pad byte.
     fn write_padding<W: uWrite>(&self, f: &mut Formatter<W>, count: usize) -> Result<(), W::Error>
         requires { self.now.pad_char < 128 }
         ensures { Prints W.seen f.old (replicate count self.now.pad_char) (is_ok result) f.new }

@@ -33,7 +33,8 @@ pub use ufmt_core::laws::{
 };
 use ufmt_core::{Formatter, uDebug, uWrite};
 
-/// When a cursor's loan ends, its buffer begins with what was written and is as before past that.
+/// After the loan of a cursor, its buffer begins with the bytes that were written. The others are as
+/// before.
 pub fn write_to_buffer(buffer: &mut [u8], text: &str) -> Result<(), Full>
     ensures fits { IsOk result ↔ (length text.now ≤ length buffer.old) }
     ensures ok { OnOk result (buffer.new ≡ text.now ++ drop (length text.now) buffer.old) }
@@ -43,21 +44,22 @@ pub fn write_to_buffer(buffer: &mut [u8], text: &str) -> Result<(), Full>
     cursor.write_str(text)
 }
 
-/// Each whole number has exactly one hexadecimal text in each case of letters, and no two have one text.
+/// Each whole number has exactly one hexadecimal text in lower case and one in upper case, and each
+/// text denotes one number.
 pub fn hexadecimal_is_one_text()
     ensures denoted { EachNumberIsDenoted }
     ensures one_text { OneTextDenotes }
     ensures one_number { OneNumberIsDenoted }
 {}
 
-/// A padded text has as many bytes as the greater of the length to pad to and prefix with payload,
-/// and what exceeds the latter is pad bytes.
+/// A padded text is as long as `pad_length`, or as prefix and payload if these are longer. All its other
+/// bytes are pad bytes.
 pub fn padding_reaches_length()
     ensures { (options : HexOptions) (payload : List ℕ) → IsPadded options payload
         (padded options payload) }
 {}
 
-/// The decimal text of a whole number is a word, so it can be read again.
+/// The decimal text of a whole number is a word, so it can be read back.
 pub fn numbers_are_words()
     ensures { (z : ℤ) → IsWord (decimal z) }
 {}
@@ -72,7 +74,7 @@ pub fn unsigned_prints_hexadecimal()
     ensures of_usize { PrintsHexadecimal ⟦<usize as uDisplayHex>⟧.hex_text }
 {}
 
-/// A signed number prints the hexadecimal text of the unsigned number of its width and bits.
+/// A signed number prints the hexadecimal text of the unsigned number with its width and bits.
 pub fn signed_prints_as_unsigned()
     ensures of_i8 { PrintsBits w8 ⟦<i8 as uDisplayHex>⟧.hex_text ⟦<u8 as uDisplayHex>⟧.hex_text }
     ensures of_i16 { PrintsBits w16 ⟦<i16 as uDisplayHex>⟧.hex_text
@@ -87,7 +89,7 @@ pub fn signed_prints_as_unsigned()
         ⟦<usize as uDisplayHex>⟧.hex_text }
 {}
 
-/// A whole number, a nonzero number and a truth value print one text by `uDebug` and by `uDisplay`.
+/// A whole number, a nonzero number and a truth value print the same text by `uDebug` and `uDisplay`.
 pub fn both_traits_print_one_text()
     ensures of_u8 { ⟦<u8 as uDisplay>⟧.display ≡ ⟦<u8 as uDebug>⟧.document }
     ensures of_u16 { ⟦<u16 as uDisplay>⟧.display ≡ ⟦<u16 as uDebug>⟧.document }
@@ -122,7 +124,7 @@ pub fn both_traits_print_one_text()
     ensures of_bool { ⟦<bool as uDisplay>⟧.display ≡ ⟦<bool as uDebug>⟧.document }
 {}
 
-/// A reference is displayed as what it refers to.
+/// A reference is displayed as the value that it refers to.
 pub fn references_display_what_they_refer_to<T: uDisplay, A: Allocator>()
     ensures display { (x : Bor T) → ⟦<&'static T as uDisplay>⟧.display x ≡ T.display x.now }
     ensures display_mut { (x : MutBor T) → ⟦<&'static mut T as uDisplay>⟧.display x ≡ T.display
@@ -130,7 +132,7 @@ pub fn references_display_what_they_refer_to<T: uDisplay, A: Allocator>()
     ensures display_box { (x : Box T A) → ⟦<Box<T, A> as uDisplay>⟧.display x ≡ T.display x.value }
 {}
 
-/// A reference prints the hexadecimal text of what it refers to.
+/// A reference prints the hexadecimal text of the value that it refers to.
 pub fn references_print_one_hexadecimal_text<T: uDisplayHex>()
     ensures { (x : Bor T) → ⟦<&'static T as uDisplayHex>⟧.hex_text x ≡ T.hex_text x.now }
 {}
@@ -141,7 +143,7 @@ pub fn pieces_of_lines<A: Line, B: Line>()
     ensures of_pair { (c : A × B) → ⟦<(A, B) as Line>⟧.pieces c ≡ A.pieces c.0 ++ B.pieces c.1 }
 {}
 
-/// A character and a text are displayed as they are: as the leaf of their bytes.
+/// A character and a text are displayed as they are: each is the leaf of its bytes.
 pub fn texts_display_as_they_are<A: Allocator>()
     ensures of_char { (c : ℕ) → ⟦<char as uDisplay>⟧.display c ≡ leaf (encode_utf8 c) }
     ensures of_str { (s : Bor (List ℕ)) → ⟦<&'static str as uDisplay>⟧.display s ≡ leaf s.now }
@@ -149,7 +151,7 @@ pub fn texts_display_as_they_are<A: Allocator>()
         leaf (string_bytes s) }
 {}
 
-/// `uwrite!(f, text t, display a, debug b, pretty c, hex n with options)`: the pattern of that macro.
+/// Writes `uwrite!(f, text t, display a, debug b, pretty c, hex n with options)`, a piece of each kind.
 pub fn all_pieces<W: uWrite, A: uDisplay, B: uDebug, C: uDebug, N: uDisplayHex>(
     f: &mut Formatter<W>,
     t: &str,
@@ -169,8 +171,8 @@ pub fn all_pieces<W: uWrite, A: uDisplay, B: uDebug, C: uDebug, N: uDisplayHex>(
     uwrite!(f, text t, display a, debug b, pretty c, hex n with options)
 }
 
-/// `pieces!(text t, display a, debug b, pretty c, hex n with options, each debug bs between t, each hex
-/// ns with options between t)`: the pattern of that macro, and of all that `uwrite!` takes too.
+/// Writes `pieces!(text t, display a, debug b, pretty c, hex n with options, each debug bs between t,
+/// each hex ns with options between t)`, a piece of each kind.
 pub fn line_of_all_pieces<W: uWrite, A: uDisplay, B: uDebug, C: uDebug, N: uDisplayHex>(
     f: &mut Formatter<W>,
     t: &str,
@@ -198,18 +200,17 @@ pub fn line_of_all_pieces<W: uWrite, A: uDisplay, B: uDebug, C: uDebug, N: uDisp
     .print(f)
 }
 
-/// The normal form of a document is in normal form, has the document's text in either mode and from
-/// any depth, and can be read again where the document can.
+/// The normal form of a document is in normal form, and has the document's text in each mode and from
+/// each depth. It is a token document if the document is one.
 pub fn normal_forms()
     ensures normal { NormalFormsAreNormal }
     ensures same_text { NormalFormsKeepTexts }
     ensures token { NormalFormsKeepTokens }
 {}
 
-/// Pretty text can be made without a depth, by putting four spaces before each line of what stands
-/// in a block: shifted as often as blocks stand round it, a document's shifted text is what pretty
-/// mode lays out there. That holds to a depth of 255, where no leaf and no name has a line feed, as
-/// in each document whose text can be read again.
+/// A document's shifted text is made without a depth, by four spaces before each line inside a block.
+/// Shifted once more for each block around it, it is the pretty layout at that depth. This holds up to a
+/// depth of 255 if no leaf and no name has a line feed, as in each token document.
 pub fn shifted_at_depth()
     ensures shift { ShiftMovesEachLine }
     ensures at_depth { ShiftedAtDepth }
@@ -217,13 +218,14 @@ pub fn shifted_at_depth()
     ensures token { TokensHaveNoLineFeed }
 {}
 
-/// A plain text can be read in one way: where token documents have equal plain texts, with what may
-/// follow them in a larger one, their normal forms are equal, and so is what follows.
+/// A plain text can be read in one way. If two token documents, each with a follower, have equal plain
+/// texts, then their normal forms are equal, and so are the followers.
 pub fn plain_reads_one_way()
     ensures { PlainReadsOneWay }
 {}
 
-/// Likewise of pretty text, at each depth from which the documents' blocks lie at most 255 deep.
+/// A pretty text can be read in one way, as a plain text can, from each depth from which the documents'
+/// blocks are nested at most 255 deep.
 pub fn pretty_reads_one_way()
     ensures { PrettyReadsOneWay }
 {}
@@ -237,17 +239,17 @@ pub fn texts_determine_normal_forms()
     ensures agree { TextsAgree }
 {}
 
-/// Just the texts of token documents are read, in either mode, each as the normal form of the
-/// documents that have it.
+/// In each mode exactly the texts of token documents are read, each as the normal form of the documents
+/// that have it.
 pub fn texts_are_read_exactly()
     ensures only { ReadsOnlyTexts }
     ensures each { ReadsEachText }
     ensures refused { RefusesNoText }
 {}
 
-/// Quoting is one-to-one on texts and on characters, also with what may follow in a larger text; a
-/// quoted text is no quoted character, and neither is a word or `()`; a quoted leaf ends itself, and
-/// has no line feed.
+/// Quoting is one-to-one on texts and on characters, whatever follows. A quoted text is no quoted
+/// character, and neither is a word or `()`. A quoted leaf ends where its second quote is, and has no
+/// line feed.
 pub fn quoted_one_way()
     ensures text { QuotedTextDetermines }
     ensures character { QuotedCharDetermines }
@@ -257,14 +259,14 @@ pub fn quoted_one_way()
     ensures one_line { QuotedIsOneLine }
 {}
 
-/// Just the quoted leaves are read at the front of a text, each in its one spelling.
+/// Exactly the quoted leaves are read at the front of a text, each by its only spelling.
 pub fn quoted_leaves_are_read_exactly()
     ensures only { ReadsOnlyQuoted }
     ensures each { ReadsEachQuoted }
 {}
 
 /// A document without quoted leaves is a token document exactly if its leaves are words or `()`, its
-/// names are words, and blocks with entries lie at most 255 deep.
+/// names are words, and blocks with entries are nested at most 255 deep.
 pub fn unquoted_as_before()
     ensures { UnquotedAsBefore }
 {}

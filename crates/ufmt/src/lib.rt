@@ -1,6 +1,6 @@
 #![tactic(auto)]
 
-//! Formatting without `core::fmt`.
+//! Formatting without `core::fmt`. A user names this crate only: it has all of `ufmt_core` too.
 
 mod cursor;
 mod display;

@@ -1,4 +1,4 @@
-//! A line of pieces as one value, which prints in one call: what stands under `pieces!`.
+//! `pieces!`: a line of pieces as one value, which prints in one call.
 ghost use Rattle.std.specs.Prelude.{[], ◌∷◌, ◌++◌, List, map, is_ok};
 ghost use Rattle.ufmt_core.specs.Formatter.{Prints, setting_of};
 ghost use Rattle.ufmt.specs.Pieces.{Piece, pieces_text, preceded, separated, text};
@@ -8,15 +8,14 @@ mod marks;
 pub use marks::{Debug, Display, Hex, Mark, Marked, Pretty};
 use ufmt_core::{Formatter, uWrite};
 
-/// Pieces in a row, whose values are taken already: a text, a value with its mark, the items of a
-/// slice, nothing, or two lines, one after the other. `ufmt` 0.2.0 has no such values.
+/// Pieces in a row, as a value: a text, a value with its mark, the items of a slice, nothing, or two
+/// lines, one after the other. `ufmt` 0.2.0 has no such values.
 pub trait Line {
     /// The pieces.
     ghost pieces: { Self → List Piece };
 
-    /// Writes the pieces one after another in the formatter's mode and from its depth, up to the first
-    /// failure. Where the writer fails a beginning of their text stands there. Writer, mode and depth
-    /// are afterwards as before, also on failure.
+    /// Writes the pieces one after another, in the formatter's mode and from its depth. On `Err` a
+    /// beginning of their text was written. Writer, mode and depth are afterwards as before.
     fn print<W: uWrite>(&self, f: &mut Formatter<W>) -> Result<(), W::Error>
         ensures { Prints W.seen f.old (pieces_text (setting_of f.old) (pieces self.now))
             (is_ok result) f.new };
@@ -31,7 +30,7 @@ impl Line for () {
     }
 }
 
-/// The first line, and the second behind it.
+/// The first line, and then the second.
 impl<A: Line, B: Line> Line for (A, B) {
     ghost pieces = { λ c. A.pieces c.0 ++ B.pieces c.1 };
 
@@ -42,7 +41,7 @@ impl<A: Line, B: Line> Line for (A, B) {
     }
 }
 
-/// A text as it stands: one piece.
+/// A text as it is: one piece.
 #[derive(Clone, Copy, Drop)]
 pub struct Text<'a>(pub &'a str);
 
@@ -55,7 +54,7 @@ impl Line for Text<'_> {
     }
 }
 
-/// Each item of a slice by one mark, with a text between them.
+/// The items of a slice, by one mark, with a text between them.
 #[derive(Clone, Copy, Drop)]
 pub struct Each<'a, T, M> {
     pub items: &'a [T],
@@ -78,7 +77,7 @@ impl<T, M: Mark<T>> Line for Each<'_, T, M> {
 }
 
 impl<T, M: Mark<T>> Each<'_, T, M> {
-    // Each of these items, with the text before it.
+    // Writes each of these items, with the text before it.
     fn print_rest<W: uWrite>(&self, rest: &[T], f: &mut Formatter<W>) -> Result<(), W::Error>
         ensures { Prints W.seen f.old
             (pieces_text (setting_of f.old)
@@ -93,14 +92,15 @@ impl<T, M: Mark<T>> Each<'_, T, M> {
     }
 }
 
-/// A line of these pieces, as one value: `line_into(buffer, &pieces!(text "n = ", debug n))?`.
+/// Makes a line of pieces, as one value: `line_into(buffer, &pieces!(text "n = ", debug n))?`.
 ///
-/// A piece is `text e` for a `&str`, `display e`, `debug e` or `pretty e` for a value, `hex e with
-/// options`; or the items of a slice, `each debug e between s`, `each hex e with options between s` or
-/// `each e by mark between s`, where `mark` is a `Mark` of one's own and `s` a `&str`, which stands
-/// between them. What stands before `with`, `by` or `between` is a name, a literal or stands in
-/// parentheses. Each value is evaluated once and in its order, before the first piece is written, where
-/// `uwrite!` evaluates a piece once the one before is written.
+/// A piece is `text e` for a `&str`, or `display e`, `debug e`, `pretty e` or `hex e with options` for a
+/// value. The items of a slice are `each debug e between s`, `each hex e with options between s` or
+/// `each e by mark between s`; `s` is a `&str`, and `mark` a `Mark` of your own. An expression before
+/// `with`, `by` or `between` is a name, a literal, or in parentheses.
+///
+/// Each value is evaluated once and in order, before the first piece is written. `uwrite!` evaluates a
+/// value after the piece before it is written.
 #[macro_export]
 macro_rules! pieces {
     () => { () };

@@ -14,16 +14,16 @@ use crate::line::Line;
 use std::alloc::{AllocError, Global};
 use ufmt_core::{Formatter, uDebug, uWrite};
 
-/// Prints the value in pretty mode, at the formatter's depth: what a piece `pretty e` does. On
-/// `Err` a beginning of its text is written. Mode and depth are as before.
+/// Prints the value in pretty mode, at the formatter's depth, as a piece `pretty e` does. On `Err` a
+/// beginning of its text was written. Mode and depth are as before.
 pub fn fmt_pretty<T: uDebug, W: uWrite>(value: &T, f: &mut Formatter<W>) -> Result<(), W::Error>
     ensures { LaysOut W.seen f.old (pretty_part (T.document value.now)) (is_ok result) f.new }
 {
     f.pretty(|f| value.fmt(f))
 }
 
-/// Prints the value to the writer, as `uDebug` does in plain mode. On `Err` the writer took a
-/// beginning of its text.
+/// Prints the value to the writer, by `uDebug` in plain mode. On `Err` a beginning of its text was
+/// written.
 pub fn write_debug<T: uDebug, W: uWrite>(writer: &mut W, value: &T) -> Result<(), W::Error>
     ensures { Writes W.seen writer.old (plain_text (T.document value.now)) (is_ok result)
         writer.new }
@@ -32,8 +32,8 @@ pub fn write_debug<T: uDebug, W: uWrite>(writer: &mut W, value: &T) -> Result<()
     value.fmt(&mut f)
 }
 
-/// Prints the value to the writer, as `uDisplay` does in plain mode. On `Err` the writer took a
-/// beginning of its text.
+/// Prints the value to the writer, by `uDisplay` in plain mode. On `Err` a beginning of its text was
+/// written.
 pub fn write_display<T: uDisplay, W: uWrite>(writer: &mut W, value: &T) -> Result<(), W::Error>
     ensures { Writes W.seen writer.old (plain_text (T.display value.now)) (is_ok result)
         writer.new }
@@ -42,8 +42,8 @@ pub fn write_display<T: uDisplay, W: uWrite>(writer: &mut W, value: &T) -> Resul
     value.fmt(&mut f)
 }
 
-/// Prints the value to the writer, as `uDebug` does in pretty mode at depth 0. On `Err` the writer
-/// took a beginning of its text.
+/// Prints the value to the writer, by `uDebug` in pretty mode at depth 0. On `Err` a beginning of its
+/// text was written.
 pub fn write_pretty<T: uDebug, W: uWrite>(writer: &mut W, value: &T) -> Result<(), W::Error>
     ensures { Writes W.seen writer.old (pretty_text (T.document value.now)) (is_ok result)
         writer.new }
@@ -52,7 +52,7 @@ pub fn write_pretty<T: uDebug, W: uWrite>(writer: &mut W, value: &T) -> Result<(
     fmt_pretty(value, &mut f)
 }
 
-/// Prints the line to the writer, in plain mode. On `Err` the writer took a beginning of it.
+/// Prints the line to the writer, in plain mode. On `Err` a beginning of it was written.
 pub fn write_line<L: Line, W: uWrite>(writer: &mut W, line: &L) -> Result<(), W::Error>
     ensures { Writes W.seen writer.old (line_text (L.pieces line.now)) (is_ok result) writer.new }
 {
@@ -60,8 +60,8 @@ pub fn write_line<L: Line, W: uWrite>(writer: &mut W, line: &L) -> Result<(), W:
     line.print(&mut f)
 }
 
-/// Prints the value, as `uDebug` does in plain mode, to the front of the buffer, and answers how many
-/// bytes it has. On `Full` the buffer begins with a beginning of the text. The other bytes stay.
+/// Prints the value to the front of the buffer, by `uDebug` in plain mode, and returns the text's
+/// length. On `Full` a beginning of the text was printed there. The other bytes stay as they were.
 pub fn debug_into<T: uDebug>(buffer: &mut [u8], value: &T) -> Result<usize, Full>
     ensures { Fronts buffer.old (plain_text (T.document value.now)) result buffer.new }
 {
@@ -70,7 +70,7 @@ pub fn debug_into<T: uDebug>(buffer: &mut [u8], value: &T) -> Result<usize, Full
     Ok(cursor.written().len())
 }
 
-/// The same in pretty mode, at depth 0.
+/// `debug_into` in pretty mode, at depth 0.
 pub fn pretty_into<T: uDebug>(buffer: &mut [u8], value: &T) -> Result<usize, Full>
     ensures { Fronts buffer.old (pretty_text (T.document value.now)) result buffer.new }
 {
@@ -79,7 +79,7 @@ pub fn pretty_into<T: uDebug>(buffer: &mut [u8], value: &T) -> Result<usize, Ful
     Ok(cursor.written().len())
 }
 
-/// The same of `uDisplay`, in plain mode.
+/// `debug_into` by `uDisplay`.
 pub fn display_into<T: uDisplay>(buffer: &mut [u8], value: &T) -> Result<usize, Full>
     ensures { Fronts buffer.old (plain_text (T.display value.now)) result buffer.new }
 {
@@ -88,8 +88,8 @@ pub fn display_into<T: uDisplay>(buffer: &mut [u8], value: &T) -> Result<usize, 
     Ok(cursor.written().len())
 }
 
-/// Prints the line, in plain mode, to the front of the buffer, and answers how many bytes it has. On
-/// `Full` the buffer begins with the pieces that did fit. The other bytes stay.
+/// Prints the line to the front of the buffer, in plain mode, and returns its length. On `Full` the
+/// pieces before the first one without room were printed there. The other bytes stay as they were.
 pub fn line_into<L: Line>(buffer: &mut [u8], line: &L) -> Result<usize, Full>
     ensures { Fronts buffer.old (line_text (L.pieces line.now)) result buffer.new }
 {
@@ -107,9 +107,9 @@ pub fn plain_text<T: uDebug>(alloc: Global, value: &T) -> Result<String, AllocEr
     Ok(text)
 }
 
-/// Returns the value's pretty text, from depth 0. Where blocks with entries lie at most 255 deep and no
-/// leaf and no name has a line feed, that is also its shifted text, which knows no depth. Fails only
-/// for want of memory.
+/// Returns the value's pretty text, from depth 0. Fails only for want of memory. The text is also the
+/// shifted text, which is defined without a depth, if blocks with entries are nested at most 255 deep
+/// and no leaf and no name has a line feed.
 pub fn pretty_text<T: uDebug>(alloc: Global, value: &T) -> Result<String, AllocError>
     ensures text { IfOk result (λ text. string_bytes text ≡ pretty_text (T.document value.now)) }
     ensures shifted { IfOk result (λ text.

@@ -1,11 +1,10 @@
 //! `uwrite!` and `uwriteln!`: pieces written one after another.
 
-/// Writes pieces to a formatter, one after another, and answers the first failure.
+/// Writes pieces to a formatter, one after another, and returns the first error.
 ///
-/// A piece is `text e` for a `&str`, `display e`, `debug e` or `pretty e` for a value, or
-/// `hex e with options`, whose value is a name, a literal or stands in parentheses. First the
-/// formatter is evaluated, and only once, then the pieces, also once each and in their order; behind
-/// a failure nothing is.
+/// A piece is `text e` for a `&str`, or `display e`, `debug e`, `pretty e` or `hex e with options` for a
+/// value. The value of a `hex` piece is a name, a literal, or in parentheses. The formatter is evaluated
+/// first, then each piece in order, each of them once. After an error nothing more is evaluated.
 #[macro_export]
 macro_rules! uwrite {
     ($f:expr, $($pieces:tt)+) => {{
@@ -23,7 +22,7 @@ macro_rules! uwriteln {
     }};
 }
 
-/// The pieces that are left, and those in brackets after them.
+/// Writes the pieces that are left, and then the one in brackets.
 #[macro_export]
 macro_rules! write_pieces {
     (after $written:expr; $f:ident; [$($last:tt)*] $($rest:tt)*) => {
@@ -49,7 +48,7 @@ macro_rules! write_pieces {
     };
 }
 
-/// One piece.
+/// Writes one piece.
 #[macro_export]
 macro_rules! write_piece {
     ($f:ident, text $text:expr) => { $crate::Formatter::write_str($f, $text) };

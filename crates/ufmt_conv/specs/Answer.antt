@@ -1,22 +1,23 @@
--- What the program answers to an input.
+-- The program's answer to a command on an input.
 use Rattle.std.specs.Prelude.{◌≡◌, ℕ, ◌-◌, List, [], ◌∷◌, ◌++◌, ◌==◌, if◌then◌else◌, length, map, pos, slice_index, take, Option, IfSome}
 use Rattle.std.specs.Io.KnownBytes.{Appends}
 use Rattle.ufmt_conv.specs.declared.run.command.Command.{Command}
 use Rattle.ufmt_conv.specs.declared.run.command.Command.TheVariants.{Lengths, Pretty, Plain}
+use Rattle.ufmt.specs.Bytes.{line_feed}
 use Rattle.ufmt.specs.Decimal.{decimal}
 use Rattle.ufmt.specs.Document.{Document, documents, leaf, list_of}
 use Rattle.ufmt.specs.Layout.{plain_text, pretty_text}
 use Rattle.ufmt_doc.specs.Texts.{IsConverted, IsNoText}
 
--- a byte before the first line, which it begins where there is none
+-- a byte before the first line; without a line it is one
 abbrev pub onto_first_line : ℕ → List (List ℕ) → List (List ℕ)
 onto_first_line byte [] = (byte ∷ []) ∷ []
 onto_first_line byte (line ∷ lines) = (byte ∷ line) ∷ lines
 
--- the lines of a text, each without its line feed; a rest after the last line feed is a line if it isn't empty
+-- the lines of a text, each without its line feed; bytes after the last line feed are a line too
 abbrev pub lines_of : List ℕ → List (List ℕ)
 lines_of [] = []
-lines_of (byte ∷ rest) = if byte == 10 then [] ∷ lines_of rest else onto_first_line byte (lines_of rest)
+lines_of (byte ∷ rest) = if byte == line_feed then [] ∷ lines_of rest else onto_first_line byte (lines_of rest)
 
 -- how many bytes each line has
 abbrev pub line_lengths : List ℕ → List ℕ
@@ -26,11 +27,11 @@ line_lengths input = map length (lines_of input)
 abbrev pub plain_list : List ℕ → List ℕ
 plain_list numbers = plain_text (list_of (documents (map (λ number. leaf (decimal (pos number))) numbers)))
 
--- an input without one final line feed, if it has one
+-- the input without a final line feed, if it has one
 abbrev pub without_line_feed : List ℕ → List ℕ
 without_line_feed input =
     let last = length input - 1 in
-    if slice_index input last == 10 then take last input else input
+    if slice_index input last == line_feed then take last input else input
 
 -- the answer to a command on an input
 abbrev pub IsAnswer : Command → List ℕ → List ℕ → Type 0
@@ -38,23 +39,23 @@ IsAnswer Lengths input answer = answer ≡ plain_list (line_lengths input)
 IsAnswer Pretty input answer = IsConverted plain_text pretty_text (without_line_feed input) answer
 IsAnswer Plain input answer = IsConverted pretty_text plain_text (without_line_feed input) answer
 
--- what is written for a command on an input: its answer and a line feed
+-- the bytes that are written for a command on an input: its answer and a line feed
 abbrev pub IsAnswerLine : Command → List ℕ → List ℕ → Type 0
 IsAnswerLine command input line =
-    (answer : List ℕ) × IsAnswer command input answer × (line ≡ answer ++ 10 ∷ [])
+    (answer : List ℕ) × IsAnswer command input answer × (line ≡ answer ++ line_feed ∷ [])
 
--- where the input and the output tell their bytes: the answer's line to the whole input was written
+-- if the bytes of input and output are known: the answer to the whole input and a line feed were written
 abbrev pub Answered : Command → Option (List ℕ) → Option (List ℕ) → Option (List ℕ) → Type 0
 Answered command input old new = IfSome input (λ bytes. (line : List ℕ) × IsAnswerLine command bytes line × Appends old new line)
 
--- known bytes grow by a beginning of `bytes`, perhaps nothing, perhaps all
+-- if the bytes of the output are known: a beginning of `bytes` was written, perhaps nothing, perhaps all
 abbrev pub AppendsBeginning : Option (List ℕ) → Option (List ℕ) → List ℕ → Type 0
 AppendsBeginning old new bytes = (count : ℕ) × Appends old new (take count bytes)
 
--- likewise of a beginning of it
+-- if the bytes of input and output are known: a beginning of the answer and a line feed was written
 abbrev pub AnsweredInPart : Command → Option (List ℕ) → Option (List ℕ) → Option (List ℕ) → Type 0
 AnsweredInPart command input old new = IfSome input (λ bytes. (line : List ℕ) × IsAnswerLine command bytes line × AppendsBeginning old new line)
 
--- where the input tells its bytes: without a final line feed they are no token document's text
+-- if the bytes of the input are known: without a final line feed they are no token document's text
 abbrev pub IsNoInput : (Document → List ℕ) → Option (List ℕ) → Type 0
 IsNoInput text_of input = IfSome input (λ bytes. IsNoText text_of (without_line_feed bytes))

@@ -1,9 +1,9 @@
--- What the program says about its commands.
+-- The names of the commands, and the usage line.
 use Rattle.std.specs.Prelude.{ℕ, List, codes}
 use Rattle.ufmt_conv.specs.declared.run.command.Command.{Command}
 use Rattle.ufmt_conv.specs.declared.run.command.Command.TheVariants.{Lengths, Pretty, Plain}
 
--- the word that asks for a command
+-- the word of a command
 abbrev pub name_of : Command → List ℕ
 name_of Lengths = codes "lengths"
 name_of Pretty = codes "pretty"

@@ -1,9 +1,8 @@
--- How the program reports each fault.
+-- The status and the line of each fault.
 use Rattle.std.specs.Prelude.{ℕ, List, codes}
 use Rattle.ufmt_conv.specs.declared.run.fault.Fault.{Fault}
 use Rattle.ufmt_conv.specs.declared.run.fault.Fault.TheVariants.{NotPlain, NotPretty, CannotRead, CannotWrite, OutOfMemory}
 
--- the status that the program ends with
 abbrev pub status_of : Fault → ℕ
 status_of NotPlain = 1
 status_of NotPretty = 1
@@ -11,7 +10,6 @@ status_of CannotRead = 3
 status_of CannotWrite = 4
 status_of OutOfMemory = 5
 
--- the line on standard error
 abbrev pub line_of : Fault → List ℕ
 line_of NotPlain = codes "ufmt_conv: not a plain text"
 line_of NotPretty = codes "ufmt_conv: not a pretty text"

@@ -6,6 +6,6 @@ use Rattle.ufmt_conv.specs.declared.run.watched.Watched.{Watched}
 abbrev pub device_of : {D : Type 0} → Watched D → D
 device_of watched = watched.inner
 
--- whether a call has answered `Failed`
+-- whether a call has failed
 abbrev pub has_failed : {D : Type 0} → Watched D → Bool
 has_failed watched = watched.failed

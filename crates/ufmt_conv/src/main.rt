@@ -1,5 +1,5 @@
-//! Answers a command on standard input: `ufmt_conv lengths` prints the lengths of its lines, `pretty`
-//! the pretty text of a document whose plain text it is, and `plain` the plain text of a pretty one.
+//! Converts standard input: `ufmt_conv pretty` prints the pretty text of a plain text, `plain` the plain
+//! text of a pretty text, and `lengths` the lengths of its lines.
 #![tactic(auto)]
 
 ghost use Rattle.std.specs.Prelude.{◌≡◌};
@@ -13,7 +13,7 @@ use std::process::ExitCode;
 use std::{env, io};
 pub use ufmt_doc::{convert, doc, laws, plain_reader, pretty_reader, scan};
 
-// The status where the words are no command.
+// The status if the words are no command.
 const USAGE_STATUS: u8 = 2;
 
 fn main(rt: HostRuntime) -> ExitCode {
@@ -38,7 +38,7 @@ fn words(rt: &HostRuntime) -> io::Result<Vec<String>> {
     Ok(words)
 }
 
-// Says what went wrong, if standard error takes it, and gives the status.
+// Prints the fault's line, if standard error takes it, and returns its status.
 fn report(rt: &HostRuntime, fault: Fault) -> ExitCode
     ensures { exit_status result ≡ status_of fault }
 {

@@ -1,4 +1,4 @@
-//! A run of the program: it reads all its input, and writes the answer to it.
+//! A run of the program: reads all its input, and writes the answer.
 ghost use Rattle.std.specs.Prelude.{◌≡◌, ◌≢◌, ◌↔◌, false, IsTrue, IfErr, IsErrOf, OnOk};
 ghost use Rattle.std.specs.Io.KnownBytes.{IsAtEnd};
 ghost use Rattle.ufmt.specs.Layout.{plain_text, pretty_text};
@@ -22,11 +22,11 @@ use std::alloc::Global;
 use std::io::{Read, Write};
 pub use watched::{Failed, Watched};
 
-/// Reads the input to its end and writes the command's answer to it, a line feed, and nothing else.
+/// Reads the input to its end, and writes the command's answer and a line feed.
 ///
-/// On `CannotWrite` the output took a beginning of these bytes, perhaps nothing, perhaps all. On any
-/// other fault nothing was written; how much was read is left open. A reader that never ends is
-/// `OutOfMemory` once what it gave has no room.
+/// On `CannotWrite` a beginning of these bytes was written, perhaps nothing, perhaps all. On any other
+/// fault nothing was written, and any part of the input may have been read. A reader that never ends
+/// leads to `OutOfMemory`.
 pub fn run<R: Read, W: Write>(
     alloc: Global,
     command: Command,
@@ -36,7 +36,7 @@ pub fn run<R: Read, W: Write>(
     requires input_works { has_failed input.old ≡ false }
     requires output_works { has_failed output.old ≡ false }
 
-    // Where reader and writer tell their bytes.
+    // What is read and written, if the bytes of reader and writer are known.
     ensures ok { OnOk result (Answered command (R.remaining (device_of input.old))
         (W.contents (device_of output.old)) (W.contents (device_of output.new))) }
     ensures read_whole { OnOk result (IsAtEnd (R.remaining (device_of input.new))) }

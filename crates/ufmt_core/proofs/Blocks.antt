@@ -1,4 +1,4 @@
--- How the calls of a builder make up the parts of its block.
+-- The calls of a builder write the parts of its block.
 use Rattle.std.proofs.Common.{◌≡◌, ℕ, List, [], ◌∷◌, ◌++◌, Bool, true, false, is_ok, Result, Ok, Err, OnOk, OnErr, IsOk, IfErr, codes, ◌+◌, ◌<◌, length, take, drop, get_or, refl, ap, sym, ◌∙◌, subst, map, append_assoc, append-nil}
 use Rattle.std.specs.Prelude.{IsErr, Option, Some}
 use Rattle.std.specs.Iterator.{AlwaysYields, Yields}
@@ -18,17 +18,17 @@ module _ {W : Type 0} where
   pub Same-then : {old mid new : Block W} → Same old mid → Same mid new → Same old new
   Same-then a b = record { reference = b.reference ∙ a.reference; kind = b.kind ∙ a.kind; outer = b.outer ∙ a.outer }
 
-  -- what a call leaves depends on nothing before it but the mode and depth from before the builder
+  -- what a call leaves depends only on the mode and depth from before the builder
   After-from : (ok : Bool) (count : Count) (old mid new : Block W) → mid.outer ≡ old.outer → After ok count mid new → After ok count old new
   After-from true count old mid new o h = h
   After-from false count old mid new o h = (h.0, h.1 ∙ o)
 
-  -- the builder with this status, where its formatter has come to this value
+  -- the builder with this status and this formatter
   abbrev pub lent_to : Status → Block W → Formatter W → Block W
   lent_to status b f = record b { formatter = f; status = status }
 
 module _ {W : Type 0} {seen : Seen W} where
-  -- two calls in a row write their parts joined
+  -- two calls in a row write their texts joined
   pub WritesPart-then : {old mid new : Block W} {p q : List ℕ} {ok : Bool} {between count : Count} → WritesPart seen old p true between mid
       → WritesPart seen mid q ok count new → WritesPart seen old (p ++ q) ok count new
   WritesPart-then {old} {mid} {new} {ok = ok} {count = count} a b = record {
@@ -37,12 +37,12 @@ module _ {W : Type 0} {seen : Seen W} where
     after = After-from ok count old mid new a.same.outer b.after;
   }
 
-  -- a beginning of a part is one of what begins with it
+  -- a call that fails in a text fails in each text that begins with it
   pub WritesPart-fails : {old new : Block W} {p : List ℕ} (q : List ℕ) {between count : Count} → WritesPart seen old p false between new
       → WritesPart seen old (p ++ q) false count new
   WritesPart-fails q a = record { wrote = Writes-fails q a.wrote; same = a.same; after = a.after }
 
-  -- a call that went on, and then what closes the block
+  -- a call that succeeds, and then one that closes the block
   pub WritesEnding-then : {old mid new : Block W} {p q : List ℕ} {ok : Bool} {between : Count} → WritesPart seen old p true between mid
       → WritesEnding seen mid q ok new → WritesEnding seen old (p ++ q) ok new
   WritesEnding-then a f = record {
@@ -52,19 +52,19 @@ module _ {W : Type 0} {seen : Seen W} where
     restored = f.restored ∙ a.same.outer;
   }
 
-  -- a call that failed closes the block
+  -- a call that fails closes the block
   pub WritesEnding-fails : {old new : Block W} {p : List ℕ} (q : List ℕ) {between : Count} → WritesPart seen old p false between new
       → WritesEnding seen old (p ++ q) false new
   WritesEnding-fails q a = record { wrote = Writes-fails q a.wrote; same = a.same; closed = a.after.0; restored = a.after.1 }
 
--- a call that went on was handed an `Ok`
+-- a call that returns `Ok` was passed an `Ok`
 handed_ok : {X Y E : Type 0} (answer : Result X E) (result : Result Y E) → IfErr answer (λ e. result ≡ Err e) → IsOk result → is_ok answer ≡ true
 handed_ok (Ok x) result h k = refl
 handed_ok (Err x) result h k = cc (ap is_ok h)
 
--- the lent formatter has printed a text, and then a call of the builder
+-- the lent formatter printed a text, and then a call of the builder
 module _ {W : Type 0} {seen : Seen W} (pending : Status) (old : Block W) {new : Block W} {ended : Formatter W} {printed : List ℕ} where
-  -- wrote what follows
+  -- wrote the text after it
   WritesPart-printed : {tail : List ℕ} {ok : Bool} {count : Count} → Prints seen old.formatter printed true ended
       → WritesPart seen (lent_to pending old ended) tail ok count new → WritesPart seen old (printed ++ tail) ok count new
   WritesPart-printed {ok = ok} {count} p a = record {
@@ -73,7 +73,7 @@ module _ {W : Type 0} {seen : Seen W} (pending : Status) (old : Block W) {new : 
     after = After-from ok count old (lent_to pending old ended) new refl a.after;
   }
 
-  -- was handed its failure
+  -- was passed its error
   WritesPart-abandoned : Prints seen old.formatter printed false ended → Abandons (lent_to pending old ended) new → StopsIn seen old printed new
   WritesPart-abandoned p a = record {
     wrote = rw a.same_writer p.wrote;
@@ -81,13 +81,13 @@ module _ {W : Type 0} {seen : Seen W} (pending : Status) (old : Block W) {new : 
     after = a.after;
   }
 
--- the lent formatter has printed a text at the mode and depth of the entries
+-- the lent formatter printed a text at the mode and depth of the entries
 module _ {W : Type 0} {seen : Seen W} (old : Block W) {begun ended : Formatter W} {before : List ℕ} {ok : Bool} where
   Prints-lent : (text : Setting → List ℕ) → IsInside old → Prints seen old.formatter before true begun
       → Prints seen begun (text (setting_of begun)) ok ended → Prints seen old.formatter (before ++ text (inner old)) ok ended
   Prints-lent text inside_b p l = subst (λ (s : Setting). Prints seen old.formatter (before ++ text s) ok ended) inside_b (Prints-then_at text p l)
 
--- an entry in halves: what stands before the value was written, the lent formatter has printed the value's text, and the second half has ended the entry
+-- an entry in halves: the lead was written, the lent formatter printed the value's text, and the second half wrote the trail
 module _ {W E : Type 0} {seen : Seen W} (pending : Status) (old : Block W) {new : Block W} {begun : Formatter W} (ended : Formatter W)
     (before : List ℕ) (text : Setting → List ℕ) where
   pub WritesPart-between : {mid : Block W} (answer result : Result (Unit {0}) E) → IsInside old → mid ≡ lent_to pending old ended
@@ -102,14 +102,14 @@ module _ {W E : Type 0} {seen : Seen W} (pending : Status) (old : Block W) {new 
       rw (ap is_ok end.error.0, ← append_assoc before (text (inner old)) (trail_of old))
       (WritesPart-fails _ (WritesPart-abandoned pending old (Prints-lent old text inside_b p l) end.error.1))
 
--- a map's entry is what leads to its value, the value, and what follows
+-- an entry of a map is the text up to its value, the value, and the trail
 pair_framed : {W : Type 0} (b : Block W) (key value : Document) → framed (frame_of b) (inner b) b.count (pair_text key value (inner b))
     ≡ ((lead_of b ++ layout (inner b) key) ++ codes ": ") ++ (layout (inner b) value ++ trail_of b)
 pair_framed b key value = simp append_assoc
 
--- its key, `: ` and the value, each by the lent formatter
+-- a map's key, `: ` and its value, each by the lent formatter
 module _ {W E : Type 0} {seen : Seen W} (old : Block W) {new : Block W} {begun : Formatter W} (ended : Formatter W) (key value : Document) where
-  -- the key and then `: `, where that failed, or where the key's answer was an error
+  -- the key and then `: `, if `: ` failed, or if the key's `fmt` returned an error
   pub WritesEntry-no_value : {mid : Block W} (answer : Result (Unit {0}) E) → IsInside old → mid ≡ lent_to Lent old ended
       → Prints seen old.formatter (lead_of old) true begun → LaysOut seen begun key (is_ok answer) ended →
       OnOk answer (StopsIn seen mid (codes ": ") new) → OnErr answer (Abandons mid new) → WritesEntry seen old (pair_text key value) false new
@@ -125,7 +125,7 @@ module _ {W E : Type 0} {seen : Seen W} (old : Block W) {new : Block W} {begun :
             (WritesPart-abandoned Lent old (Prints-lent old (λ s. layout s key) inside_b p l.prints) (subst (λ (b : Block W). Abandons b new) m error))));
       }
 
-  -- `: ` and the value too
+  -- the key, `: ` and the value
   pub WritesEntry-pair : {Y : Type 0} {mid last : Block W} {lent : Formatter W} (printed : Formatter W)
       (key_answer answer result : Result (Unit {0}) E) (lending : Result Y E) → IsInside old →
       mid ≡ lent_to Lent old ended → Prints seen old.formatter (lead_of old) true begun → LaysOut seen begun key (is_ok key_answer) ended
@@ -139,15 +139,14 @@ module _ {W E : Type 0} {seen : Seen W} (old : Block W) {new : Block W} {begun :
       let lent_value : last ≡ lent_to LentValue old printed = l ∙ ap (λ b. lent_to LentValue b printed) m in
       record { part = rw (pair_framed old key value) (WritesPart-between LentValue old printed _ (λ s. layout s value) answer result inside_b lent_value front v.prints e) }
 
--- entries in a row
 
--- entries in a row, and then what is left, are what was left
+-- entries in a row and then the rest of the block are the rest from before them
 pub block_tail-append : (f : Frame) (s : Setting) (count : Count) (ts us : List (List ℕ))
     → block_tail f s count (ts ++ us) ≡ framed_all f (inside s) count ts ++ block_tail f s (count_after count ts) us
 block_tail-append f s count [] us = refl
 block_tail-append f s count (t ∷ ts) us = rw (block_tail-append f s (next count) ts us) (simp append_assoc)
 
--- a block is its parts
+-- a block is its name and opening, its entries and its ending
 block_tail-parts : (f : Frame) (s : Setting) (count : Count) (ts : List (List ℕ))
     → block_tail f s count ts ≡ framed_all f (inside s) count ts ++ ending f s (count_after count ts)
 block_tail-parts f s count [] = refl
@@ -171,14 +170,14 @@ count_after-append count [] x = refl
 count_after-append count (y ∷ xs) x = count_after-append (next count) xs x
 
 module _ {W D : Type 0} {seen : Seen W} (text_of : D → Setting → List ℕ) where
-  -- no entry yet
+  -- before the first entry
   pub WritesRow-none : (b : Block W) → IsOpen b → WritesRow seen b text_of [] true b
   WritesRow-none b open_b = record {
     part =
         record { wrote = Writes-nothing _; same = record { reference = refl; kind = refl; outer = refl }; after = (refl, open_b) };
   }
 
-  -- after some entries, one more
+  -- one more entry
   pub WritesRow-more : {old mid new : Block W} (xs : List D) (y : D) (ok : Bool) → WritesRow seen old text_of xs true mid
       → WritesEntry seen mid (text_of y) ok new → WritesRow seen old text_of (xs ++ y ∷ []) ok new
   WritesRow-more {old} {mid} {new} xs y ok a e =
@@ -191,7 +190,7 @@ module _ {W D : Type 0} {seen : Seen W} (text_of : D → Setting → List ℕ) w
       (append-nil _ ∙ rw (a.part.same.outer, a.part.same.kind, a.part.after.0, count_after-map (λ x. text_of x (inner old)) old.count xs) refl) in
       record { part = rw (part, count_after-append old.count xs y, sym a.part.after.0) (WritesPart-then a.part e.part) }
 
-  -- after the first entries of a list, the next
+  -- the next entry of a list
   pub WritesRow-next : {old mid new : Block W} (whole : List D) (k : ℕ) (y : D) (ok : Bool) → k < length whole → y ≡ get_or whole k y
       → WritesRow seen old text_of (take k whole) true mid → WritesEntry seen mid (text_of y) ok new →
       WritesRow seen old text_of (take (k + 1) whole) ok new
@@ -200,7 +199,7 @@ module _ {W D : Type 0} {seen : Seen W} (text_of : D → Setting → List ℕ) w
       (WritesRow-more (take k whole) y ok a e)
 
 module _ {W U T D X E : Type 0} {seen : Seen W} {becomes : U → T → Type 0} (steps : T → Option D → T → Type 0) (text_of : D → Setting → List ℕ) where
-  -- a loop over the items of an iterator, where the entry after the first ones failed
+  -- a loop over the items of an iterator, if the next entry failed
   pub WritesEntries-stopped : {entries : U} (first here after : T) {xs : List D} {y : D} {old mid new : Block W} (answer : Result X E)
       → IsErr answer → becomes entries first →
       Yields steps first xs here → steps here (Some y) after → WritesRow seen old text_of xs true mid
@@ -216,7 +215,7 @@ module _ {W U T D X E : Type 0} {seen : Seen W} {becomes : U → T → Type 0} (
 
 module _ {W U T D Y : Type 0} {seen : Seen W} {becomes : U → T → Type 0} {steps : T → Option D → T → Type 0} (view : D → Y)
     (text_of : Y → Setting → List ℕ) where
-  -- where every run of the iterator gives items that `view` takes to `ys`, their entries were written, or a beginning of them
+  -- if each run of the iterator gives items that `view` takes to `ys`, their entries were written, or a beginning of them
   pub WritesRow-from_entries : (entries : U) (ys : List Y) {old new : Block W} (ok : Bool) →
       ((it : T) → becomes entries it → AlwaysYields steps view it ys)
       → WritesEntries seen becomes steps (λ x. text_of (view x)) entries old ok new → WritesRow seen old text_of ys ok new

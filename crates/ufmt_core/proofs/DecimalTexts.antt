@@ -1,4 +1,4 @@
--- Decimal texts: each number has exactly one, each tells one number, and how one grows by a digit.
+-- Decimal texts: each number has exactly one, each denotes one number, and a text grows by its last digit.
 use Rattle.std.proofs.Common.{◌≡◌, true, ℕ, suc, ◌+◌, ◌^◌, ◌<◌, ◌≤◌, List, [], ◌∷◌, ◌++◌, map, length, get_or, drop, ℤ, pos, negsuc, nat_abs, refl, sym, ap, ◌∙◌, arith}
 use borrow.Author.Tests.{ltb-true}
 use Rattle.std.specs.Str.{IsAscii}
@@ -8,17 +8,16 @@ use Rattle.ufmt_core.specs.Decimal.{decimal_byte, DenotesMagnitude, sign_of, Den
 use Rattle.ufmt_core.proofs.Numerals.{numeral-denotes}
 use Rattle.ufmt_core.proofs.NumeralTexts.{one_text, one_number, IsTextInBase, length-text-le, IsAscii-text}
 
--- a text tells one magnitude
+-- a text denotes one magnitude
 DenotesMagnitude-number : (s t : List ℕ) (m n : ℕ) → s ≡ t → DenotesMagnitude s m → DenotesMagnitude t n → m ≡ n
 DenotesMagnitude-number s t m n same denotes_m denotes_n =
     one_number 10 decimal_byte m n (λ x y bytes. omega arith) same denotes_m.bytes denotes_m.denotes denotes_n.bytes denotes_n.denotes
 
--- the first byte of digits is no less than `0`
 first_byte : (digits : List ℕ) → 0 < length digits → 48 ≤ get_or (map decimal_byte digits) 0 0
 first_byte [] some = absurd (omega arith)
 first_byte (digit ∷ digits) some = omega arith
 
--- the text of a magnitude does not begin with `-`
+-- the text of a magnitude doesn't begin with `-`
 no_sign : (text rest : List ℕ) (n : ℕ) → DenotesMagnitude text n → text ≡ 45 ∷ rest → ⊥
 no_sign text rest n denotes minus =
     omega (arith, first_byte denotes.digits denotes.denotes.some_digit, ap (λ (bytes : List ℕ). get_or bytes 0 0) (sym denotes.bytes ∙ minus))
@@ -29,7 +28,7 @@ DenotesDecimal-one z s t denotes_s denotes_t =
     let same = one_text 10 decimal_byte (nat_abs z) (omega arith) denotes_s.denotes.bytes denotes_s.denotes.denotes denotes_t.denotes.bytes denotes_t.denotes.denotes in
     denotes_s.signed ∙ ap (λ magnitude. sign_of z ++ magnitude) same ∙ sym denotes_t.signed
 
--- a decimal text tells one number
+-- a decimal text denotes one number
 pub DenotesDecimal-number : (text : List ℕ) (y z : ℤ) → DenotesDecimal text y → DenotesDecimal text z → y ≡ z
 DenotesDecimal-number text (pos m) (pos n) denotes_y denotes_z =
     ap pos (DenotesMagnitude-number denotes_y.magnitude denotes_z.magnitude m n (sym denotes_y.signed ∙ denotes_z.signed) denotes_y.denotes denotes_z.denotes)
@@ -43,7 +42,7 @@ DenotesDecimal-number text (negsuc m) (negsuc n) denotes_y denotes_z =
     let magnitudes = DenotesMagnitude-number denotes_y.magnitude denotes_z.magnitude (suc m) (suc n) same denotes_y.denotes denotes_z.denotes in
     ap negsuc (omega arith)
 
--- `decimal` gives a text that tells the number
+-- `decimal` gives a text that denotes the number
 pub decimal-denotes : (z : ℤ) → DenotesDecimal (decimal z) z
 unfolding decimal
 decimal-denotes z = record {
@@ -56,24 +55,24 @@ decimal-denotes z = record {
   };
 }
 
--- a magnitude's text is its digits in base 10
+-- the text of a magnitude is its digits in base 10
 pub decimal-in_base : IsTextInBase 10 decimal_byte (λ n. decimal (pos n))
 unfolding decimal
 decimal-in_base = record { two = omega arith; by_digits = λ n. refl }
 
--- a negative number has a `-` before the text of its magnitude
+-- the text of a negative number is `-` and the text of its magnitude
 pub decimal-negative : (z : ℤ) → is_negative z ≡ true → decimal z ≡ 45 ∷ decimal (pos (nat_abs z))
 unfolding decimal
 decimal-negative (pos n) sign = absurd (omega (arith, ltb-true n 0 sign))
 decimal-negative (negsuc n) sign = refl
 
--- the text of a number has no fewer bytes than that of its magnitude
+-- a number's text is at least as long as the text of its magnitude
 pub length-magnitude-le : (z : ℤ) → length (decimal (pos (nat_abs z))) ≤ length (decimal z)
 unfolding decimal
 length-magnitude-le (pos n) = omega arith
 length-magnitude-le (negsuc n) = omega arith
 
--- a magnitude below 10 to the power k takes at most k bytes, and the sign one
+-- a magnitude below 10 to the power k has at most k bytes, and the sign has one
 pub length-signed-le : (k : ℕ) (z : ℤ) → 0 < k → nat_abs z < 10 ^ k → length (decimal z) ≤ k + 1
 unfolding decimal
 length-signed-le k (pos n) some low = omega (arith, length-text-le decimal-in_base k n some low)

@@ -10,40 +10,38 @@ use Rattle.ufmt_core.proofs.DecimalTexts.{decimal-in_base}
 use Rattle.ufmt_core.proofs.NumeralTexts.{text-digit, text-step, text-nonempty}
 use Rattle.ufmt_core.proofs.WrittenDigits.{IsWrittenFrom}
 
--- there are as many as asked for
 pub length-last_digits : (count n : ℕ) → length (last_digits count n) ≡ count
 unfolding last_digits
 length-last_digits zero n = refl
 length-last_digits (suc count) n = omega (arith, length-append (last_digits count (n / 10)) (decimal_byte (n % 10) ∷ []), length-last_digits count (n / 10))
 
--- two are the tens and the ones
+-- the last two digits are the tens and the ones
 pub last_digits-two : (n : ℕ) → n < 100 → last_digits 2 n ≡ decimal_byte (n / 10) ∷ decimal_byte (n % 10) ∷ []
 unfolding last_digits
 last_digits-two n low = let tens : n / 10 % 10 ≡ n / 10 = omega arith in rw tens refl
 
--- they are the whole text of a number of two digits
+-- the last two digits are the whole text of a number of two digits
 pub decimal_two : (n : ℕ) → 10 ≤ n → n < 100 → decimal (pos n) ≡ last_digits 2 n
 decimal_two n high low = text-step decimal-in_base n high ∙ rw (text-digit decimal-in_base (n / 10) (omega arith), last_digits-two n low) refl
 
--- a decimal text has a digit, and that of a number of two digits has two
+-- a decimal text has a digit, and the text of a number of two digits has two
 pub decimal_nonempty : (n : ℕ) → 0 < length (decimal (pos n))
 decimal_nonempty = text-nonempty decimal-in_base
 
 pub length_two : (n : ℕ) → 10 ≤ n → n < 100 → length (decimal (pos n)) ≡ 2
 length_two n high low = ap length (decimal_two n high low) ∙ length-last_digits 2 n
 
--- two bytes written at `at`, and what was behind them
+-- two bytes written at `at`, and the bytes after them
 pub drop-pair : (buffer : List ℕ) (at next tens ones : ℕ) → next ≡ at + 1 → at + 2 ≤ length buffer
     → drop at (set (set buffer next ones) at tens) ≡ tens ∷ ones ∷ drop (at + 2) buffer
 drop-pair buffer at next tens ones after room =
     let end : next + 1 ≡ at + 2 = omega arith in
     rw (drop-set (set buffer next ones) at tens (omega (arith, length-set buffer next ones)), ← after, drop-set buffer next ones (omega arith), end) refl
 
--- a power is positive
 positive_power : (count : ℕ) → 0 < 10 ^ count
 positive_power count = one-le-pow count 10 (omega arith)
 
--- texts that grow by a last digit, where `high` holds, end in as many last digits
+-- if texts grow by a last digit where `high` holds, a text ends in its last `count` digits
 cut : (text : ℕ → ℕ → List ℕ) (high : ℕ → ℕ → Type 0)
     → ((count n : ℕ) → high (suc count) n → (text (suc count) n ≡ text count (n / 10) ++ (decimal_byte (n % 10) ∷ [])) × high count (n / 10)) →
     (count n : ℕ) → high count n → text count n ≡ text 0 (n / 10 ^ count) ++ last_digits count (n % 10 ^ count)
@@ -58,7 +56,7 @@ cut text high grows (suc count) n h =
     step.0 ∙ rw (← quotient, middle, last, cut text high grows count (n / 10) step.1)
     (append_assoc (text 0 (n / 10 / 10 ^ count)) (last_digits count (n / 10 % 10 ^ count)) (decimal_byte (n % 10) ∷ []))
 
--- as the last digits do
+-- the last digits of a number end in fewer last digits
 last_digits-split : (front count n : ℕ) → last_digits (front + count) n ≡ last_digits front (n / 10 ^ count) ++ last_digits count (n % 10 ^ count)
 unfolding last_digits
 last_digits-split front count n =
@@ -66,13 +64,13 @@ last_digits-split front count n =
     cut (λ c m. last_digits (front + c) m) (λ c m. Unit {0})
     (λ c m h. (ap (λ k. last_digits k m) {x = front + suc c} {y = suc (front + c)} (omega arith), h)) count n tt ∙ rw none refl
 
--- and decimal texts
+-- a decimal text ends in its last digits
 pub decimal-cut : (count n : ℕ) → 10 ^ count ≤ n → decimal (pos n) ≡ decimal (pos (n / 10 ^ count)) ++ last_digits count (n % 10 ^ count)
 decimal-cut =
     cut (λ c m. decimal (pos m)) (λ c m. 10 ^ c ≤ m)
     (λ c m h. (text-step decimal-in_base m (omega (arith, pow-suc 10 c, positive_power c)), le-div (10 ^ c) m 10 (omega arith) (omega (arith, pow-suc 10 c))))
 
--- which then are shorter by as many
+-- without its last `count` digits a decimal text is shorter by `count`
 pub length-cut : (count n : ℕ) → 10 ^ count ≤ n → length (decimal (pos n)) ≡ length (decimal (pos (n / 10 ^ count))) + count
 length-cut count n high =
     omega (
@@ -92,13 +90,13 @@ last_digits-halves half n start buffer mid new second first =
     rw (first, second, end, last_digits-split half half n)
     (sym (append_assoc (last_digits half (n / 10 ^ half)) (last_digits half (n % 10 ^ half)) (drop (start + (half + half)) buffer)))
 
--- what a loop that writes the last digits before the others keeps: where they are left, there is room for them and for another
+-- the invariant of a loop that writes `count` last digits a turn: while more digits are left, there is room for them
 pub record IsCutFrom (count n left start : ℕ) (buffer : List ℕ) : Type 0 where
   pub fits : length (decimal (pos n)) ≤ length buffer
   pub written : IsWrittenFrom (λ m. decimal (pos m)) n left start buffer
   pub room : 10 ^ count ≤ left → count < start
 
--- the room comes of how long the texts are
+-- there is room because of the lengths of the texts
 cut_from : (count n left start : ℕ) (buffer : List ℕ) → length (decimal (pos n)) ≤ length buffer
     → IsWrittenFrom (λ m. decimal (pos m)) n left start buffer → IsCutFrom count n left start buffer
 cut_from count n left start buffer fits written =
@@ -112,12 +110,12 @@ cut_from count n left start buffer fits written =
           λ high. omega (arith, written.within, digits, whole, length-drop start buffer, length-cut count left high, another);
     }
 
--- before the first turn
+-- the invariant holds before the first turn
 pub IsCutFrom-none : (count n : ℕ) (buffer : List ℕ) → length (decimal (pos n)) ≤ length buffer → IsCutFrom count n n (length buffer) buffer
 IsCutFrom-none count n buffer fits =
     cut_from count n n (length buffer) buffer fits record { within = omega arith; joined = rw (drop-length buffer, append-nil) refl }
 
--- a turn
+-- a turn keeps the invariant
 pub IsCutFrom-more : {count n left start : ℕ} {buffer : List ℕ} (new : List ℕ) → IsCutFrom count n left start buffer → 10 ^ count ≤ left
     → length new ≡ length buffer →
     drop (start - count) new ≡ last_digits count (left % 10 ^ count) ++ drop (start - count + count) buffer

@@ -7,7 +7,7 @@ use Rattle.std.proofs.lemmas.Str.Ascii.{IsAscii-from_all}
 use Rattle.ufmt_core.specs.Decimal.{value_in_base, DenotesInBase, numeral}
 use Rattle.ufmt_core.proofs.Numerals.{DenotesInBase-one, numeral-denotes, numeral-digit, numeral-step, length-numeral-le}
 
--- bytes that tell their digits tell a list of them
+-- bytes of digits, one for each digit, determine the digits
 bytes_same : (byte_of : ℕ → ℕ) → ((x y : ℕ) → byte_of x ≡ byte_of y → x ≡ y) → (xs ys : List ℕ) → map byte_of xs ≡ map byte_of ys → xs ≡ ys
 bytes_same byte_of injective [] [] same = refl
 bytes_same byte_of injective [] (y ∷ ys) same = cc
@@ -22,7 +22,7 @@ module _ (base : ℕ) (byte_of : ℕ → ℕ) {s t xs ys : List ℕ} where
   pub one_text : (n : ℕ) → 2 ≤ base → s ≡ map byte_of xs → DenotesInBase base xs n → t ≡ map byte_of ys → DenotesInBase base ys n → s ≡ t
   one_text n two bytes_s denotes_s bytes_t denotes_t = bytes_s ∙ ap (map byte_of) (DenotesInBase-one base n xs ys two denotes_s denotes_t) ∙ sym bytes_t
 
-  -- a text injective one number
+  -- a text denotes one number
   pub one_number : (m n : ℕ) → ((x y : ℕ) → byte_of x ≡ byte_of y → x ≡ y) → s ≡ t → s ≡ map byte_of xs → DenotesInBase base xs m
       → t ≡ map byte_of ys → DenotesInBase base ys n → m ≡ n
   one_number m n injective same bytes_s denotes_s bytes_t denotes_t =
@@ -38,7 +38,7 @@ module _ {base : ℕ} {byte_of : ℕ → ℕ} {text : ℕ → List ℕ} (t : IsT
   pub text-digit : (n : ℕ) → n < base → text n ≡ byte_of n ∷ []
   text-digit n low = t.by_digits n ∙ ap (map byte_of) (numeral-digit base n t.two low)
 
-  -- the last digit is the remainder by the base, and the text before it is the quotient's
+  -- the last digit is the remainder by the base, and the text before it is the text of the quotient
   pub text-step : (n : ℕ) → base ≤ n → text n ≡ text (n / base) ++ (byte_of (n % base) ∷ [])
   text-step n high =
       t.by_digits n ∙ ap (map byte_of) (numeral-step base n t.two high) ∙ map-append byte_of (numeral base (n / base)) (n % base ∷ [])
@@ -52,7 +52,7 @@ module _ {base : ℕ} {byte_of : ℕ → ℕ} {text : ℕ → List ℕ} (t : IsT
   pub length-text-le : (k n : ℕ) → 0 < k → n < base ^ k → length (text n) ≤ k
   length-text-le k n some low = omega (arith, ap length (t.by_digits n), length-map (numeral base n) byte_of, length-numeral-le base k n t.two some low)
 
-  -- where the digits' bytes are ASCII, so is the text
+  -- if the bytes of digits are ASCII, so is the text
   pub IsAscii-text : ((digit : ℕ) → digit < base → byte_of digit < 128) → (n : ℕ) → IsAscii (text n)
   IsAscii-text ascii n =
       let below = (numeral-denotes base n t.two).below_base in

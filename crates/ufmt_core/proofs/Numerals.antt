@@ -1,4 +1,4 @@
--- Digits in a base: each number has exactly one list of them, and each list tells one number.
+-- Digits in a base: each number has exactly one list of them, and each list denotes one number.
 use Rattle.std.proofs.Common.{◌≡◌, ℕ, zero, suc, ◌+◌, ◌*◌, ◌/◌, ◌%◌, ◌^◌, ◌<◌, ◌≤◌, List, [], ◌∷◌, ◌++◌, length, refl, sym, ap, ap₂, ◌∙◌, arith, mul-le-mul_right, pow-suc, append_assoc, append-nil}
 use Rattle.std.proofs.Math.Nat.{pow-zero, div-eq_of_lt, mod-eq_of_lt}
 use Rattle.std.proofs.lemmas.Nat.{div-mul-add, le-div, mod-mul-add}
@@ -13,7 +13,7 @@ number_after-value : (base n : ℕ) (digits : List ℕ) → number_from_digits_a
 number_after-value base n [] = rw pow-zero (omega arith)
 number_after-value base n (digit ∷ digits) = rw (number_after-value base (n * base + digit) digits, pow-suc) (omega arith)
 
--- digits behind those of a number above 0 are the digits of the number that all tell
+-- digits after those of a number above 0 are the digits of the number that all of them denote
 digits_of-after : (base n : ℕ) (digits : List ℕ) → 2 ≤ base → 0 < n → All (λ digit. digit < base) digits
     → digits_of base (number_from_digits_after base n digits) ≡ digits_of base n ++ digits
 digits_of-after base n [] two positive below = sym (append-nil _)
@@ -25,17 +25,16 @@ digits_of-after base n (digit ∷ digits) two positive below =
     ∙ ap₂ (λ q r. digits_of base q ++ r ∷ []) (div-mul-add n base digit low) (mod-mul-add n base digit low))
     ∙ append_assoc (digits_of base n) (digit ∷ []) digits
 
--- a number above 0 and below the base is its own digit
 digits_of-digit : (base n : ℕ) → 2 ≤ base → 0 < n → n < base → digits_of base n ≡ n ∷ []
 digits_of-digit base n two positive low = digits_of_step base n two positive ∙ ap₂ (λ q r. digits_of base q ++ r ∷ []) (div-eq_of_lt low) (mod-eq_of_lt low)
 
--- of a number above 0 the numeral is `digits_of`
+-- the numeral of a number above 0 is `digits_of`
 numeral-positive : (base n : ℕ) → 0 < n → numeral base n ≡ digits_of base n
 unfolding numeral
 numeral-positive base zero positive = absurd (omega arith)
 numeral-positive base (suc n) positive = refl
 
--- digits that tell a number are its numeral
+-- digits that denote a number are its numeral
 numeral-denoted : (base n : ℕ) (xs : List ℕ) → 2 ≤ base → DenotesInBase base xs n → xs ≡ numeral base n
 unfolding numeral
 numeral-denoted base n [] two denotes = absurd (omega (arith, denotes.some_digit))
@@ -50,11 +49,11 @@ numeral-denoted base n (suc x ∷ xs) two denotes =
     ∙ sym (digits_of-after base (suc x) xs two (omega arith) (All-tail below (suc x) xs denotes.below_base))
     ∙ ap (digits_of base) value ∙ sym (numeral-positive base n (omega (arith, value, number_after_ge base (suc x) xs (omega arith))))
 
--- two lists of digits that tell one number are the same
+-- two lists of digits that denote one number are equal
 pub DenotesInBase-one : (base n : ℕ) (xs ys : List ℕ) → 2 ≤ base → DenotesInBase base xs n → DenotesInBase base ys n → xs ≡ ys
 DenotesInBase-one base n xs ys two denotes_x denotes_y = numeral-denoted base n xs two denotes_x ∙ sym (numeral-denoted base n ys two denotes_y)
 
--- `numeral` gives digits that tell the number
+-- `numeral` gives digits that denote the number
 pub numeral-denotes : (base n : ℕ) → 2 ≤ base → DenotesInBase base (numeral base n) n
 unfolding numeral
 numeral-denotes base zero two = record {
@@ -78,7 +77,7 @@ unfolding numeral
 numeral-digit base zero two low = refl
 numeral-digit base (suc n) two low = digits_of-digit base (suc n) two (omega arith) low
 
--- the last digit is the remainder, and the digits before it tell the quotient
+-- the last digit is the remainder, and the digits before it denote the quotient
 pub numeral-step : (base n : ℕ) → 2 ≤ base → base ≤ n → numeral base n ≡ numeral base (n / base) ++ (n % base ∷ [])
 numeral-step base n two high =
     let quotient : 0 < n / base = le-div 1 n base (omega arith) (omega arith) in

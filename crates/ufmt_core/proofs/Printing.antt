@@ -1,4 +1,4 @@
--- The steps by which a `fmt` is proved, one for each call of a builder: what is left to write before the call, and what is left after it.
+-- The steps that prove a `fmt`, one for each call of a builder: the rest of the block before the call, and after it.
 use Rattle.std.proofs.Common.{◌≡◌, ℕ, List, [], ◌∷◌, ◌++◌, Bool, true, false, codes, is_ok, Result, Err, OnErr, refl, ap, sym, ◌∙◌, map, Iter, ◌+◌, ◌<◌, ◌≤◌, length, get_or, take, drop, append_assoc, append-nil}
 use Rattle.std.specs.Prelude.{IsErr}
 use Rattle.std.proofs.lemmas.List.{map-append, take-append-drop, take_all}
@@ -17,13 +17,12 @@ use Rattle.ufmt_core.proofs.Writing.{Writes-then, Writes-fails}
 pub use Rattle.ufmt_core.proofs.Blocks.{WritesRow-more, WritesRow-next, WritesRow-none}
 pub use Rattle.ufmt_core.proofs.Writing.{LaysOut-err}
 
--- texts of entries, at each mode and depth
 abbrev pub Entries : Type 0
 Entries = Setting → List (List ℕ)
 
 module _ {W : Type 0} where
-  -- what is left of the block was written, where the builder holds the reference of this name; the formatter has come to `last`, at the mode and
-  -- depth from before the builder
+  -- the rest of the block was written by the builder with the reference of this name; its formatter is now `last`, with
+  -- mode and depth from before the builder
   pub record Completes (seen : Seen W) (reference : ℕ) (b : Block W) (left : Entries) (ok : Bool) (last : Formatter W) : Type 0 where
     pub continues : reference ≡ b.reference
         → Writes seen (writer_of b.formatter) (tail_of b left) ok (writer_of last) × (setting_of last ≡ b.outer)
@@ -32,14 +31,14 @@ module _ {W : Type 0} where
   abbrev pub GivesBack : ℕ → Block W → Formatter W → Type 0
   GivesBack reference b last = reference ≡ b.reference → last ≡ b.formatter
 
-  -- a call has written the first part of what is left, or a beginning of that part; `more` is left behind it
+  -- a call wrote the first part of the rest, or a beginning of that part; `more` is left after it
   pub record Step (seen : Seen W) (b : Block W) (left : Entries) (ok : Bool) (b' : Block W) (more : Entries) : Type 0 where
     pub part : List ℕ
     pub count : Count
     pub text : tail_of b left ≡ part ++ block_tail (frame_of b) b.outer count (more (inner b))
     pub wrote : WritesPart seen b part ok count b'
 
--- the layout of this document is an opening, and what is left of a block of this kind
+-- the document's layout is an opening and the rest of a block of this kind
 pub record IsBlock (d : Document) (kind : Kind) (opening : List ℕ) (left : Entries) : Type 0 where
   pub joined : (s : Setting) → layout s d ≡ opening ++ block_tail (frame s.mode kind) s Zero (left (inside s))
 
@@ -71,7 +70,7 @@ module _ {W : Type 0} {seen : Seen W} {start last : Formatter W} {d : Document} 
             record { wrote = rw (is_block.joined (setting_of start)) (Writes-fails _ p.wrote); same_setting = p.same_setting };
       })
 
-  -- it began the block, and this was written from then on
+  -- a `debug_` call began the block, and later calls wrote the rest
   pub opened : {reference : ℕ} {b : Block W} {ok : Bool} → WritesOpening seen start reference kind opening b
       → Completes seen reference b left ok last → LaysOut seen start d ok last
   opened {b = b} o c =
@@ -79,7 +78,6 @@ module _ {W : Type 0} {seen : Seen W} {start last : Formatter W} {d : Document} 
       let text : layout (setting_of start) d ≡ opening ++ tail_of b left = rw (o.same.outer, o.same.kind, o.count) (is_block.joined (setting_of start)) in
       record { prints = record { wrote = rw text (Writes-then o.wrote more.0); same_setting = more.1 ∙ o.same.outer } }
 
--- the texts of items in a row
 pub texts-documents : (i : Setting) (ds : List Document) → texts i (documents ds) ≡ map (layout i) ds
 texts-documents i [] = refl
 texts-documents i (d ∷ ds) = ap (λ ts. layout i d ∷ ts) (texts-documents i ds)
@@ -92,7 +90,7 @@ pub field_texts-fields_of : (i : Setting) (fs : List (List ℕ × Document)) →
 field_texts-fields_of i [] = refl
 field_texts-fields_of i (f ∷ fs) = ap (λ ts. field_text f.0 f.1 i ∷ ts) (field_texts-fields_of i fs)
 
--- a step, and then a call that writes all that is left and the end
+-- a step, and then a call that writes the rest and the end
 module _ {W : Type 0} {seen : Seen W} {b b' : Block W} {left more : Entries} where
   step_text : (a : Step seen b left true b' more) → tail_of b left ≡ a.part ++ tail_of b' more
   step_text a = rw (a.wrote.same.outer, a.wrote.same.kind, a.wrote.after.0) a.text
@@ -104,7 +102,7 @@ module _ {W : Type 0} {seen : Seen W} {b b' : Block W} {left more : Entries} whe
   pub ending_failed : Step seen b left false b' more → WritesEnding seen b (tail_of b left) false b'
   ending_failed a = rw a.text (WritesEnding-fails _ a.wrote)
 
--- a call of a builder went on, failed, or closed the block
+-- a call of a builder succeeded, failed, or closed the block
 module _ {W : Type 0} {seen : Seen W} {reference : ℕ} {b b' : Block W} {last : Formatter W} {left : Entries} where
   pub written : {more : Entries} {ok : Bool} → Step seen b left true b' more → Completes seen reference b' more ok last
       → Completes seen reference b left ok last
@@ -129,13 +127,13 @@ pub finished : {W : Type 0} {seen : Seen W} {reference : ℕ} {b b' : Block W} {
 finished = completed
 
 module _ {W : Type 0} (b : Block W) where
-  -- an entry is the first part of what is left
+  -- an entry is the first part of the rest
   block_tail-entry : (text : Setting → List ℕ) (left : Entries) →
       tail_of b (λ i. text i ∷ left i) ≡ framed (frame_of b) (inner b) b.count (text (inner b))
       ++ block_tail (frame_of b) b.outer (next b.count) (left (inner b))
   block_tail-entry text left = simp append_assoc
 
-  -- entries in a row are
+  -- entries in a row are the first part of the rest
   block_tail-row : {D : Type 0} (text_of : D → Setting → List ℕ) (items : List D) (left more : Entries)
       → ((i : Setting) → left i ≡ map (λ x. text_of x i) items ++ more i) →
       tail_of b left ≡ framed_all (frame_of b) (inner b) b.count (map (λ x. text_of x (inner b)) items)
@@ -150,7 +148,7 @@ module _ {W : Type 0} {seen : Seen W} {b b' : Block W} {ok : Bool} where
   pub entry : {text : Setting → List ℕ} {left : Entries} → WritesEntry seen b text ok b' → Step seen b (λ i. text i ∷ left i) ok b' left
   entry {text} {left} e = record { part = _; count = _; text = block_tail-entry b text left; wrote = e.part }
 
-  -- entries in a row, the first of what is left, or all
+  -- entries in a row are the first part of the rest, or all of it
   module _ {D : Type 0} {text_of : D → Setting → List ℕ} {items : List D} {left : Entries} where
     pub row : (more : Entries) → ((i : Setting) → left i ≡ map (λ x. text_of x i) items ++ more i) → WritesRow seen b text_of items ok b'
         → Step seen b left ok b' more
@@ -159,7 +157,7 @@ module _ {W : Type 0} {seen : Seen W} {b b' : Block W} {ok : Bool} where
     pub rows : ((i : Setting) → left i ≡ map (λ x. text_of x i) items) → WritesRow seen b text_of items ok b' → Step seen b left ok b' (λ i. [])
     rows all = row (λ i. []) (λ i. all i ∙ sym (append-nil _))
 
-  -- all of these documents, or of these pairs
+  -- entries in a row of all these documents, or of all these pairs
   pub entries : (ds : List Document) → WritesRow seen b entry_text ds ok b' → Step seen b (remaining_entries (documents ds)) ok b' (λ i. [])
   entries ds = rows (λ i. texts-documents i ds)
 
@@ -167,14 +165,14 @@ module _ {W : Type 0} {seen : Seen W} {b b' : Block W} {ok : Bool} where
       → Step seen b (remaining_pairs (pairs_of ps)) ok b' (λ i. [])
   pairs ps = rows (λ i. pair_texts-pairs_of i ps)
 
-  -- `entries` over an iterator of a slice, which has these items left
+  -- `entries` over the iterator of a slice with these items left
   pub items : {X : Type 0} {iterator : Iter X} {xs : List X} (h : X → Document) → iter_rest iterator ≡ xs
       → WritesEntries seen (λ from it. it ≡ from) iter_steps (λ x. entry_text (h x.now)) iterator b ok b' →
       Step seen b (remaining_entries (documents (map h xs))) ok b' (λ i. [])
   items {iterator = iterator} {xs} h left a = entries (map h xs) (WritesRow-from_entries (λ x. h x.now) entry_text iterator (map h xs) ok
       (λ it gives. AlwaysYields-items h xs (YieldsList-from_slice xs (ap iter_rest gives ∙ left))) a)
 
-  -- a loop over values, where entries of the first k were written: these were all, or then the next entry was written or failed
+  -- a loop over values, after the entries of the first k: it is at its end, or the next entry was written or failed
   module _ {X : Type 0} {text_of : X → Setting → List ℕ} (whole : List X) {left : Entries} (all : (i : Setting) → left i ≡ map (λ x. text_of x i) whole)
       (k : ℕ) where
     pub loop_ended : length whole ≤ k → WritesRow seen b text_of (take k whole) ok b' → Step seen b left ok b' (λ i. [])
@@ -186,7 +184,7 @@ module _ {W : Type 0} {seen : Seen W} {b b' : Block W} {ok : Bool} where
         row _ (λ i. all i ∙ ap (map (λ x. text_of x i)) (sym (take-append-drop (k + 1) whole))
         ∙ map-append (λ x. text_of x i) (take (k + 1) whole) (drop (k + 1) whole)) (WritesRow-next text_of whole k y ok within is before e)
 
--- the texts of documents that values have, in the order of the values
+-- the texts of values' documents, in the order of the values
 pub texts-of : {X : Type 0} (h : X → Document) (xs : List X) (i : Setting) → remaining_entries (documents (map h xs)) i ≡ map (λ x. entry_text (h x) i) xs
 texts-of h xs i = texts-documents i (map h xs) ∙ map-map (layout i) h xs
 
@@ -194,12 +192,12 @@ pub pair_texts-of : {X : Type 0} (key value : X → Document) (xs : List X) (i :
     → remaining_pairs (pairs_of (map (λ x. (key x, value x)) xs)) i ≡ map (λ x. pair_text (key x) (value x) i) xs
 pair_texts-of key value xs i = pair_texts-pairs_of i (map (λ x. (key x, value x)) xs) ∙ map-map (λ p. pair_text p.0 p.1 i) (λ x. (key x, value x)) xs
 
--- a field is what leads to its value, the value, and what follows
+-- a field is the text up to its value, the value, and the trail
 field_framed : {W : Type 0} (b : Block W) (name : List ℕ) (d : Document) → framed (frame_of b) (inner b) b.count (field_text name d (inner b))
     ≡ field_lead_of name b ++ (entry_text d (inner b) ++ trail_of b)
 field_framed b name d = simp append_assoc
 
--- an entry in halves: the lent formatter has printed the value, and the second half has ended the entry
+-- an entry in halves: the lent formatter printed the value, and the second half wrote the trail
 module _ {W E : Type 0} {seen : Seen W} {d : Document} {begun ended : Formatter W} {mid new : Block W} {answer result : Result (Unit {0}) E}
     (old : Block W) where
   pub entry_between : IsInside old → mid ≡ lent_to Lent old ended → Prints seen old.formatter (lead_of old) true begun → LaysOut seen begun d (is_ok answer) ended
@@ -214,7 +212,7 @@ module _ {W E : Type 0} {seen : Seen W} {d : Document} {begun ended : Formatter 
         rw (field_framed old name d) (WritesPart-between Lent old ended _ (entry_text d) answer result inside_b m p l.prints e);
   }
 
--- the first half of an entry, also of a map's, or of a field failed
+-- the first half of an entry, of a map's entry, or of a field failed
 module _ {W X E : Type 0} {seen : Seen W} {b b' : Block W} {r : Result X E} {e : E} (was : r ≡ Err e) where
   pub entry_not_begun : {text : Setting → List ℕ} → OnErr r (StopsIn seen b (lead_of b) b') → WritesEntry seen b text false b'
   entry_not_begun stop = record { part = WritesPart-fails _ (IfErr-at_err _ was stop) }

@@ -1,23 +1,22 @@
--- Quoted texts byte by byte: stretches that stand for themselves, escapes, and what of a text was printed so far.
+-- Quoted texts byte by byte: stretches without escapes, escapes, and the part of a text that was printed so far.
 use Rattle.std.proofs.Common.{◌≡◌, ℕ, ◌<◌, ◌≤◌, List, [], ◌∷◌, ◌++◌, Bool, true, false, length, take, drop, Option, Some, None, is_none, refl, sym, ap, ◌∙◌, append_assoc, append-nil, arith}
 use Rattle.std.specs.List.{slice_index}
 use Rattle.std.specs.Prelude.{unwrap_or}
 use Rattle.std.specs.Str.{IsCharBoundary}
 use Rattle.std.proofs.lemmas.Bool.Decides.{nat_tests}
 use Rattle.ufmt_core.specs.Formatter.{Formatter, Prints}
-use Rattle.ufmt_core.specs.Quoted.{escape, escaped, escaped_byte, escaped_bytes, plain_len, quoted_char}
+use Rattle.ufmt_core.specs.Quoted.{escape, escaped, escaped_byte, escaped_bytes, unescaped_len, quoted_char}
 use Rattle.ufmt_core.specs.Writes.{Seen}
 use Rattle.ufmt_core.proofs.Writing.{Prints-then, Prints-fails, Prints-same}
 
--- past ASCII nothing is escaped
 pub escape-past_ascii : (q b : ℕ) → q < 128 → 128 ≤ b → escape q b ≡ None
 escape-past_ascii q b low high = grind (arith, nat_tests)
 
--- so what is escaped is ASCII
+-- an escaped byte is ASCII
 pub escape-ascii : (b : ℕ) → is_none (escape 34 b) ≡ false → b < 128
 escape-ascii b escaped = grind (arith, nat_tests)
 
--- without an escape a byte stands for itself
+-- a byte without an escape prints as itself
 escaped_byte-plain : (b : ℕ) → is_none (escape 34 b) ≡ true → escaped_byte 34 b ≡ b ∷ []
 escaped_byte-plain b plain = go (escape 34 b) plain
   where
@@ -25,13 +24,13 @@ escaped_byte-plain b plain = go (escape 34 b) plain
     go None h = refl
     go (Some e) h = absurd (cc)
 
--- the bytes at the front that stand for themselves: with the rest escaped they are the text escaped, no such byte follows them, and where they end
--- the text ends or a byte of ASCII stands
+-- the stretch at the front: it and the rest escaped are the text escaped; an escape or the end follows it; and there the
+-- text ends or has a byte of ASCII
 pub record IsStretch (bs : List ℕ) : Type 0 where
-  pub escaped : escaped_bytes 34 bs ≡ take (plain_len bs) bs ++ escaped_bytes 34 (drop (plain_len bs) bs)
-  pub after : plain_len (drop (plain_len bs) bs) ≡ 0
-  pub within : plain_len bs ≤ length bs
-  pub ascii : plain_len bs < length bs → slice_index bs (plain_len bs) < 128
+  pub escaped : escaped_bytes 34 bs ≡ take (unescaped_len bs) bs ++ escaped_bytes 34 (drop (unescaped_len bs) bs)
+  pub after : unescaped_len (drop (unescaped_len bs) bs) ≡ 0
+  pub within : unescaped_len bs ≤ length bs
+  pub ascii : unescaped_len bs < length bs → slice_index bs (unescaped_len bs) < 128
 
 pub stretch : (bs : List ℕ) → IsStretch bs
 stretch [] = record { escaped = refl; after = refl; within = omega arith; ascii = λ more. absurd (omega arith) }
@@ -46,22 +45,22 @@ stretch (b ∷ bs) = go (is_none (escape 34 b)) refl (stretch bs)
     }
     go false h rest = record { escaped = rw h refl; after = rw (h, h) refl; within = rw h (omega arith); ascii = rw h (λ more. escape-ascii b h) }
 
--- so the text may be cut there
-pub IsCharBoundary-stretch : (bs : List ℕ) → IsCharBoundary bs (plain_len bs)
+-- the text may be cut after the stretch
+pub IsCharBoundary-stretch : (bs : List ℕ) → IsCharBoundary bs (unescaped_len bs)
 IsCharBoundary-stretch bs = let front = stretch bs in (front.within, λ more high. absurd (omega (arith, front.ascii more)))
 
--- a quoted character is its quotes and what stands between them
+-- a quoted character is its two quotes and the text between them
 pub quoted_char-parts : (c : ℕ) → quoted_char c ≡ (39 ∷ []) ++ (escaped 39 c ++ (39 ∷ []))
 quoted_char-parts c = ap (λ t. 39 ∷ (t ++ (39 ∷ []))) (append-nil (escaped 39 c))
 
--- of a whole text all but what is left was printed
+-- all of the text but the part that is left was printed
 pub record PrintedBefore {W : Type 0} (seen : Seen W) (old : Formatter W) (whole left : List ℕ) (new : Formatter W) : Type 0 where
   pub done : List ℕ
   pub joined : whole ≡ done ++ left
   pub prints : Prints seen old done true new
 
 module _ {W : Type 0} {seen : Seen W} where
-  -- one more part was
+  -- one more part was printed
   pub PrintedBefore-then : {old mid new : Formatter W} {whole left : List ℕ} (part more : List ℕ) → PrintedBefore seen old whole left mid
       → left ≡ part ++ more → Prints seen mid part true new → PrintedBefore seen old whole more new
   PrintedBefore-then part more before is printed = record {
@@ -70,7 +69,7 @@ module _ {W : Type 0} {seen : Seen W} where
     prints = Prints-then before.prints printed;
   }
 
-  -- or it failed
+  -- printing one more part failed
   pub PrintedBefore-fails : {old mid new : Formatter W} {whole left : List ℕ} (part more : List ℕ) → PrintedBefore seen old whole left mid
       → left ≡ part ++ more → Prints seen mid part false new → Prints seen old whole false new
   PrintedBefore-fails part more before is printed =

@@ -13,7 +13,7 @@ two = leaf (codes "2")
 abbrev lone : Document → Documents
 lone d = document d no_documents
 
--- the document has these texts, the plain one first
+-- the document has this plain text and this pretty text
 abbrev HasTexts : Document → Text → Text → Type 0
 HasTexts d plain pretty = (plain_text d ≡ codes plain) × (pretty_text d ≡ codes pretty)
 

@@ -1,4 +1,4 @@
--- What calls in a row write: the pieces joined, or a beginning of them where one failed.
+-- Calls in a row write their texts joined, or, if one fails, a beginning of that.
 use Rattle.std.proofs.Common.{◌≡◌, ℕ, ◌+◌, ◌-◌, ◌≤◌, List, [], ◌++◌, length, drop, Bool, true, false, is_ok, Result, Ok, Err, refl, ap, sym, ◌∙◌, subst, append_assoc, append-nil, length-append, arith}
 use Rattle.std.proofs.lemmas.List.{drop-drop}
 use Rattle.std.specs.Prelude.{IsErr}
@@ -7,12 +7,11 @@ use Rattle.ufmt_core.specs.Layout.{Setting}
 use Rattle.ufmt_core.specs.Writes.{Seen, Appended, Writes}
 use Rattle.ufmt_core.specs.Formatter.{Formatter, Prints, LaysOut, setting_of}
 
--- an answer that is no `Ok`
 pub is_ok-err : {X E : Type 0} (r : Result X E) → IsErr r → is_ok r ≡ false
 is_ok-err (Ok x) h = cc
 is_ok-err (Err e) h = refl
 
--- what was appended after `p` was
+-- `p` was appended, and then `q` or a beginning of it
 Appended-then : (ok : Bool) (old p q mid new : List ℕ) → mid ≡ old ++ p → Appended ok mid q new → Appended ok old (p ++ q) new
 Appended-then true old p q mid new e h = h ∙ ap (λ t. t ++ q) e ∙ append_assoc old p q
 Appended-then false old p q mid new e h = (
@@ -22,7 +21,7 @@ Appended-then false old p q mid new e h = (
       ∙ ap (λ t. t ++ h.0) e ∙ append_assoc old p h.0,
 )
 
--- a beginning of `p` is one of `p ++ q`
+-- a beginning of `p` is a beginning of `p ++ q`
 Appended-fails : (old p q new : List ℕ) → Appended false old p new → Appended false old (p ++ q) new
 Appended-fails old p q new h =
     (h.0, record { remainder = h.1.remainder ++ q; joined = ap (λ t. t ++ q) h.1.joined ∙ append_assoc h.0 h.1.remainder q }, h.2)
@@ -32,14 +31,14 @@ Appended-grows : (ok : Bool) (old piece new : List ℕ) → Appended ok old piec
 Appended-grows true old piece new e = omega (arith, ap length e, length-append old piece)
 Appended-grows false old piece new h = omega (arith, ap length h.2, length-append old h.0)
 
--- stores that are equal past some bytes are equal past more
+-- stores that are equal past some bytes are equal past more bytes
 drop-further : (m n : ℕ) (s t : List ℕ) → m ≤ n → drop m s ≡ drop m t → drop n s ≡ drop n t
 drop-further m n s t h e =
     let whole : m + (n - m) ≡ n = omega arith in
     ap (λ k. drop k s) (sym whole) ∙ sym (drop-drop (n - m) m s) ∙ ap (drop (n - m)) e ∙ drop-drop (n - m) m t ∙ ap (λ k. drop k t) whole
 
 module _ {W : Type 0} {seen : Seen W} where
-  -- two pieces in a row are their texts joined
+  -- two texts in a row are written joined
   pub Writes-then : {old mid new : W} {p q : List ℕ} {ok : Bool} → Writes seen old p true mid → Writes seen mid q ok new → Writes seen old (p ++ q) ok new
   Writes-then {p = p} {q = q} {ok = ok} a b = record {
     stays_told = λ t. b.stays_told (a.stays_told t);
@@ -55,7 +54,7 @@ module _ {W : Type 0} {seen : Seen W} where
     untouched = λ t. b.untouched (a.stays_told t) ∙ drop-further _ _ _ _ (Appended-grows ok _ q _ (b.appended (a.stays_told t))) (a.untouched t);
   }
 
-  -- a beginning of `p` is a beginning of what begins with it
+  -- a call that fails in `p` fails in each text that begins with `p`
   pub Writes-fails : {old new : W} {p : List ℕ} (q : List ℕ) → Writes seen old p false new → Writes seen old (p ++ q) false new
   Writes-fails {p = p} q a = record {
     stays_told = a.stays_told;
@@ -66,7 +65,7 @@ module _ {W : Type 0} {seen : Seen W} where
     untouched = a.untouched;
   }
 
-  -- no call writes nothing
+  -- the empty text is written by no call
   pub Writes-nothing : (w : W) → Writes seen w [] true w
   Writes-nothing w = record {
     stays_told = λ t. t;
@@ -81,19 +80,18 @@ module _ {W : Type 0} {seen : Seen W} where
       → Prints seen old (p ++ q) ok new
   Prints-then a b = record { wrote = Writes-then a.wrote b.wrote; same_setting = b.same_setting ∙ a.same_setting }
 
-  -- the second text is said of the mode and depth that are found, which are those from before
+  -- the second text may depend on the mode and depth, which the first call leaves as they were
   pub Prints-then_at : {old mid new : Formatter W} {p : List ℕ} {ok : Bool} (text : Setting → List ℕ) → Prints seen old p true mid
       → Prints seen mid (text (setting_of mid)) ok new → Prints seen old (p ++ text (setting_of old)) ok new
   Prints-then_at {mid = mid} {new} {p} {ok} text a b = Prints-then a (subst (λ (s : Setting). Prints seen mid (text s) ok new) a.same_setting b)
 
-  -- equal texts
   pub Prints-same : {old new : Formatter W} {p q : List ℕ} {ok : Bool} → p ≡ q → Prints seen old p ok new → Prints seen old q ok new
   Prints-same {old} {new} {ok = ok} e a = subst (λ (t : List ℕ). Prints seen old t ok new) e a
 
   pub Prints-fails : {old new : Formatter W} {p : List ℕ} (q : List ℕ) → Prints seen old p false new → Prints seen old (p ++ q) false new
   Prints-fails q a = record { wrote = Writes-fails q a.wrote; same_setting = a.same_setting }
 
-  -- at the exit of a `?`
+  -- a failure that `?` passes on
   pub Prints-err : {X E : Type 0} {old new : Formatter W} {p : List ℕ} (r : Result X E) → IsErr r → Prints seen old p false new
       → Prints seen old p (is_ok r) new
   Prints-err {old = old} {new = new} {p = p} r h a = subst (λ (ok : Bool). Prints seen old p ok new) (sym (is_ok-err r h)) a

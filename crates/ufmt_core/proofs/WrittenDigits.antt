@@ -1,4 +1,4 @@
--- Digits that are written from the last to the first, before one another.
+-- Digits that are written from the last to the first, each before the others.
 use Rattle.std.proofs.Common.{true, ℤ, nat_abs, ◌≡◌, ◌≢◌, ℕ, ◌+◌, ◌-◌, ◌/◌, ◌%◌, ◌<◌, ◌≤◌, List, [], ◌∷◌, ◌++◌, length, drop, set, pos, ap, ◌∙◌, refl, arith, length-append, length-drop, length-set, append_assoc}
 use Rattle.std.proofs.Math.Nat.{div-lt_iff_lt-mul, le-div_iff_mul-le, mod-eq_of_lt}
 use Rattle.std.proofs.lemmas.List.{drop-set}
@@ -7,12 +7,12 @@ use Rattle.ufmt_core.specs.Decimal.{decimal}
 use Rattle.ufmt_core.proofs.DecimalTexts.{decimal-negative}
 use Rattle.ufmt_core.proofs.NumeralTexts.{IsTextInBase, text-digit, text-step, text-nonempty}
 
--- the text of left, before the bytes that are written from start on, is the text of n
+-- the text of `left` and the bytes from `start` on are together the text of `n`
 pub record IsWrittenFrom (text : ℕ → List ℕ) (n left start : ℕ) (buffer : List ℕ) : Type 0 where
   pub within : start ≤ length buffer
   pub joined : text left ++ drop start buffer ≡ text n
 
--- a byte that is put before the written ones
+-- a byte is put before the written ones
 pub put_before : (front buffer : List ℕ) (start byte : ℕ) → 0 < start → start ≤ length buffer
     → front ++ drop (start - 1) (set buffer (start - 1) byte) ≡ (front ++ byte ∷ []) ++ drop start buffer
 put_before front buffer start byte room within =
@@ -33,7 +33,7 @@ module _ {base : ℕ} {byte_of : ℕ → ℕ} {text : ℕ → List ℕ} (t : IsT
   )
 
   module _ (rest digit byte : ℕ) (is_rest : rest ≡ left / base) (is_digit : digit ≡ left % base) (is_byte : byte ≡ byte_of digit) where
-    -- the step of the loop where digits are left
+    -- a step of the loop while digits are left
     pub IsWrittenFrom-more : rest ≢ 0 → IsWrittenFrom text n rest (start - 1) (set buffer (start - 1) byte)
     IsWrittenFrom-more more =
         let high : base ≤ left = omega (arith, (le-div_iff_mul-le {k = base} {x = 1} {y = left} (omega arith)).0 (omega arith)) in record {
@@ -41,14 +41,14 @@ module _ {base : ℕ} {byte_of : ℕ → ℕ} {text : ℕ → List ℕ} (t : IsT
           joined = rw (put_before (text rest) buffer start byte digit_fits written.within, is_byte, is_rest, is_digit, ← text-step t left high) written.joined;
         }
 
-    -- the last step
+    -- the last step of the loop
     pub IsWrittenFrom-all : rest ≡ 0 → drop (start - 1) (set buffer (start - 1) byte) ≡ text n
     IsWrittenFrom-all none =
         let low : left < base = omega (arith, (div-lt_iff_lt-mul {k = base} {x = left} {y = 1} (omega arith)).0 (omega arith)) in
         let same : digit ≡ left = is_digit ∙ mod-eq_of_lt low in
         put_before [] buffer start byte digit_fits written.within ∙ rw (is_byte, same) (rw (text-digit t left low) at written.joined)
 
--- a negative number, where the digits of its magnitude end the buffer from start on: a sign before them completes its text
+-- the digits of a negative number's magnitude are the bytes from `start` on: with a sign before them they are its text
 pub record IsSigned (z : ℤ) (start : ℕ) (buffer : List ℕ) : Type 0 where
   pub room : 0 < start
   pub starts : start - 1 + length (decimal z) ≡ length buffer

@@ -1,4 +1,4 @@
--- What the calls of a builder do to the block that it writes.
+-- What the calls of a builder do to its block.
 use Rattle.std.specs.Prelude.{◌≡◌, ℕ, List, [], ◌∷◌, ◌++◌, map, codes, Bool, true, false, Option, Result, Err, IfErr, OnOk}
 use Rattle.std.specs.Iterator.{DrainsIf}
 pub use Rattle.ufmt_core.specs.declared.formatter.builder.Status.{Status}
@@ -14,7 +14,7 @@ pub record Block (W : Type 0) : Type 0 where
   pub formatter : Formatter W
   -- the ghost name of its reference to that
   pub reference : ℕ
-  -- which brackets frame the entries
+  -- which brackets are around the entries
   pub kind : Kind
   -- the mode and depth from before the builder
   pub outer : Setting
@@ -23,7 +23,7 @@ pub record Block (W : Type 0) : Type 0 where
   -- which calls may follow
   pub status : Status
 
--- the texts of an entry of a list or a set, of a map, and of a struct, at the entries' mode and depth
+-- the text of an entry of a list, a set or a tuple, of a map, and of a struct, at the entries' mode and depth
 abbrev pub entry_text : Document → Setting → List ℕ
 entry_text d i = layout i d
 
@@ -33,7 +33,7 @@ pair_text key value i = layout i key ++ (codes ": " ++ layout i value)
 abbrev pub field_text : List ℕ → Document → Setting → List ℕ
 field_text name value i = name ++ (codes ": " ++ layout i value)
 
--- the texts of the entries that are left to a list, a set or a tuple, to a map, and to a struct
+-- the texts of the entries that are left of a list, a set or a tuple, of a map, and of a struct
 abbrev pub remaining_entries : Documents → Setting → List (List ℕ)
 remaining_entries ds i = texts i ds
 
@@ -43,7 +43,7 @@ remaining_pairs ps i = pair_texts i ps
 abbrev pub remaining_fields : Fields → Setting → List (List ℕ)
 remaining_fields fs i = field_texts i fs
 
--- an entry with this text: what stands before it, the text, and what follows
+-- an entry with this text: the lead, the text and the trail
 abbrev pub framed : Frame → Setting → Count → List ℕ → List ℕ
 framed f i count text = lead f i count ++ (text ++ trail i.mode)
 
@@ -52,12 +52,12 @@ abbrev pub framed_all : Frame → Setting → Count → List (List ℕ) → List
 framed_all f i count [] = []
 framed_all f i count (text ∷ texts) = framed f i count text ++ framed_all f i (next count) texts
 
--- the count after as many entries
+-- the count after these entries
 abbrev pub count_after : {X : Type 0} → Count → List X → Count
 count_after count [] = count
 count_after count (x ∷ xs) = count_after (next count) xs
 
--- a block with this name and entries with these texts, in parts: its name and opening, its entries in a row, and its ending
+-- a block with this name and entries with these texts: its name and opening, its entries in a row, and its ending
 abbrev pub block_in_parts : Kind → List ℕ → Setting → List (List ℕ) → List ℕ
 block_in_parts kind name s texts =
     let f = frame s.mode kind in
@@ -76,7 +76,7 @@ module _ {W : Type 0} where
   abbrev pub frame_of : Block W → Frame
   frame_of b = frame b.outer.mode b.kind
 
-  -- what stands before the next entry and before the value of a struct's field, what follows an entry, and what ends the block
+  -- the text before the next entry, before the value of a struct's field, after an entry, and at the end of the block
   abbrev pub lead_of : Block W → List ℕ
   lead_of b = lead (frame_of b) (inner b) b.count
 
@@ -109,31 +109,31 @@ module _ {W : Type 0} where
   abbrev pub IsLentForValue : Block W → Type 0
   IsLentForValue b = b.status ≡ LentValue
 
-  -- what a call leaves: on `Ok` an open builder with so many entries, on `Err` a closed one and the mode and depth from before it
+  -- what a call leaves: on `Ok` an open builder with this count, on `Err` a closed one, with mode and depth from before it
   abbrev pub After : Bool → Count → Block W → Block W → Type 0
   After true count old new = (new.count ≡ count) × IsOpen new
   After false count old new = (new.status ≡ Closed) × (setting_of new.formatter ≡ old.outer)
 
-  -- it is the same builder, over the same reference, of the same kind of block and with the same mode and depth from before it
+  -- the builder has the same reference, the same kind of block, and the same mode and depth from before it
   pub record Same (old new : Block W) : Type 0 where
     pub reference : new.reference ≡ old.reference
     pub kind : new.kind ≡ old.kind
     pub outer : new.outer ≡ old.outer
 
-  -- a new builder, over the reference with this name, has written the opening of a block of this kind
+  -- the opening of a block of this kind was written, and the new builder has the reference with this name
   pub record WritesOpening (seen : Seen W) (start : Formatter W) (reference : ℕ) (kind : Kind) (text : List ℕ) (new : Block W) : Type 0 where
     pub wrote : Writes seen (writer_of start) text true (writer_of new.formatter)
     pub same : Same (record { formatter = start; reference = reference; kind = kind; outer = setting_of start; count = Zero; status = Open }) new
     pub count : new.count ≡ Zero
     pub is_open : IsOpen new
 
-  -- a call has written this part of the block, or a beginning of it
+  -- this part of the block was written, or a beginning of it
   pub record WritesPart (seen : Seen W) (old : Block W) (text : List ℕ) (ok : Bool) (count : Count) (new : Block W) : Type 0 where
     pub wrote : Writes seen (writer_of old.formatter) text ok (writer_of new.formatter)
     pub same : Same old new
     pub after : After ok count old new
 
-  -- a call has failed: a beginning of this part is written, and the builder is closed
+  -- a call failed: a beginning of this part was written, and the builder is closed
   abbrev pub StopsIn : Seen W → Block W → List ℕ → Block W → Type 0
   StopsIn seen old text new = WritesPart seen old text false old.count new
 
@@ -141,20 +141,19 @@ module _ {W : Type 0} where
   pub record WritesEntry (seen : Seen W) (old : Block W) (text : Setting → List ℕ) (ok : Bool) (new : Block W) : Type 0 where
     pub part : WritesPart seen old (framed (frame_of old) (inner old) old.count (text (inner old))) ok (next old.count) new
 
-  -- a call was handed an error: nothing is written, and the builder is closed
+  -- a call was passed an error: nothing was written, and the builder is closed
   pub record Abandons (old new : Block W) : Type 0 where
     pub same_writer : writer_of new.formatter ≡ writer_of old.formatter
     pub same : Same old new
     pub after : After false old.count old new
 
-  -- what the second half of an entry answers and does, where the value's `fmt` answered `answer`
+  -- what the second half of an entry returns and does, if the value's `fmt` returned `answer`
   pub record EndsEntry {E : Type 0} (seen : Seen W) (answer : Result (Unit {0}) E) (old : Block W) (result : Result (Unit {0}) E)
       (ok : Bool) (new : Block W) : Type 0 where
-    -- what follows an entry was written, or a beginning of it
     pub trail : OnOk answer (WritesPart seen old (trail_of old) ok (next old.count) new)
     pub error : IfErr answer (λ e. (result ≡ Err e) × Abandons old new)
 
-  -- the end of the block was written, or a beginning of it; the builder is closed, and mode and depth are those from before it
+  -- the end of the block was written, or a beginning of it; the builder is closed, with mode and depth from before it
   pub record WritesEnding (seen : Seen W) (old : Block W) (text : List ℕ) (ok : Bool) (new : Block W) : Type 0 where
     pub wrote : Writes seen (writer_of old.formatter) text ok (writer_of new.formatter)
     pub same : Same old new
@@ -162,13 +161,13 @@ module _ {W : Type 0} where
     pub restored : setting_of new.formatter ≡ old.outer
 
 module _ {W D : Type 0} where
-  -- entries of these items were written in a row, each with the text that `text_of` tells, or a beginning of them
+  -- entries of these items were written in a row, each with its `text_of`, or a beginning of them
   pub record WritesRow (seen : Seen W) (old : Block W) (text_of : D → Setting → List ℕ) (items : List D) (ok : Bool) (new : Block W) : Type 0 where
     pub part : WritesPart seen old (framed_all (frame_of old) (inner old) old.count (map (λ x. text_of x (inner old)) items)) ok
         (count_after old.count items) new
 
 module _ {W U T D : Type 0} where
-  -- an entry was written for each item that the iterator gave, and on `Ok` it had no more
+  -- an entry was written for each item that the iterator gave, or a beginning of them; on `Ok` it had no more items
   pub record WritesEntries (seen : Seen W) (becomes : U → T → Type 0) (steps : T → Option D → T → Type 0) (text_of : D → Setting → List ℕ)
       (entries : U) (old : Block W) (ok : Bool) (new : Block W) : Type 0 where
     pub iterator : T

@@ -1,4 +1,4 @@
--- What contracts see of the builders, and the loans of the formatter between them and their callers.
+-- What contracts see of the builders, and how they lend the formatter to their callers.
 use Rattle.std.specs.Prelude.{◌≡◌, ℕ, List, [], Result, OnOk, OnErr, codes, false, if◌then◌else◌}
 use Rattle.std.specs.Borrow.{Fml, LendsSoOk, MutBor, RattleType, RestsIfErr}
 use mir.Syntax.{named}
@@ -18,7 +18,7 @@ use Rattle.ufmt_core.specs.Writes.{Seen}
 use Rattle.ufmt_core.specs.Formatter.{Formatter, Prints, at_setting}
 use Rattle.ufmt_core.specs.Block.{Status, Lent, LentValue, Closed, Block, StopsIn, Abandons, lead_of, field_lead_of}
 
--- a builder whose marker tells the kind of its block
+-- a builder, whose marker has the kind of its block
 abbrev pub block : {W K : Type 0} → (K → Kind) → Builder W K → Block W
 block kind b = record {
   formatter = b.formatter.now;
@@ -29,7 +29,7 @@ block kind b = record {
   status = b.status;
 }
 
--- a tuple's kind, which tells whether it has a name
+-- a tuple's kind, by whether it has a name
 abbrev pub kind_of_tuple : TupleBlock → Kind
 kind_of_tuple t = if t.is_unnamed then Unnamed else Tuple
 
@@ -51,36 +51,36 @@ module _ {W : Type 0} where
   tuple_block = block kind_of_tuple
 
 module _ {W K : Type 0} where
-  -- the builder with this status, whose formatter has come to this value
+  -- the builder with this status and this formatter
   abbrev pub lent : Status → Builder W K → Formatter W → Builder W K
   lent status b f = record b { formatter = record b.formatter { now = f }; status = status }
 
-  -- the closed builder, whose formatter is back at the mode and depth from before it
+  -- the builder closed, with mode and depth from before it
   abbrev pub abandoned : Builder W K → Builder W K
   abandoned b = lent Closed b (at_setting b.formatter.now b.outer)
 
 module _ (W : RattleType) {E : Type 0} where
-  -- the builder in the answer holds the formatter; on `Err` the formatter is back, and has printed a beginning of the opening
+  -- the builder that is returned holds the formatter; on `Err` the caller has it, and a beginning of the opening was printed
   abbrev pub OpeningLoan : {K : Type 0} → Seen W.Denot → MutBor (Formatter W.Denot) → Result (Builder W.Denot K) E → List ℕ → Fml
   OpeningLoan seen self result text = RestsIfErr (formatter.the_row W) self (λ b. b.formatter.ghost_name) result (λ last. Prints seen self.now text false last)
 
-  -- the formatter is lent; when the loan ends the builder has this status, and its formatter is the one lent, as it was left; on `Err` `stop` holds of the builder
+  -- the formatter is lent; when the loan ends, the builder has this status, and the formatter as it was left; on `Err` `stop` holds of the builder
   abbrev pub EntryLoan : (K : RattleType) → MutBor (Builder W.Denot K.Denot) → Result (MutBor (Formatter W.Denot)) E → Status
       → (Builder W.Denot K.Denot → Type 0) → Fml
   EntryLoan K self result status stop =
       LendsSoOk (builder.the_row (record { mir = named 0; lft = [] }) W K) (formatter.the_row W) self result (λ last f. last ≡ lent status self.now f) stop
 
-  -- the formatter is lent behind this text; on `Err` a beginning of it is written, and the builder, seen by `view`, is closed
+  -- this text was written and the formatter is lent; on `Err` a beginning of the text was written, and the builder, seen by `view`, is closed
   abbrev pub LendsAfter : (K : RattleType) → (Builder W.Denot K.Denot → Block W.Denot) → Seen W.Denot → MutBor (Builder W.Denot K.Denot)
       → Result (MutBor (Formatter W.Denot)) E → List ℕ → Fml
   LendsAfter K view seen self result text = EntryLoan K self result Lent (λ last. StopsIn seen (view self.now) text (view last))
 
-  -- the formatter is lent for an entry, behind what leads to it
+  -- the formatter is lent for an entry, after its lead
   abbrev pub LendsForEntry : (K : RattleType) → (Builder W.Denot K.Denot → Block W.Denot) → Seen W.Denot → MutBor (Builder W.Denot K.Denot)
       → Result (MutBor (Formatter W.Denot)) E → Fml
   LendsForEntry K view seen self result = LendsAfter K view seen self result (lead_of (view self.now))
 
-  -- of a map for a key, of a tuple for a field, and of a struct for the value of the field with this name
+  -- the formatter is lent for a map's key, for a tuple's field, and for the value of a struct's field with this name
   abbrev pub LendsForKey : Seen W.Denot → MutBor (Builder W.Denot MapBlock) → Result (MutBor (Formatter W.Denot)) E → Fml
   LendsForKey = LendsForEntry map_marker.the_row map_block
 
@@ -90,7 +90,7 @@ module _ (W : RattleType) {E : Type 0} where
   abbrev pub LendsForField : Seen W.Denot → MutBor (Builder W.Denot StructBlock) → Result (MutBor (Formatter W.Denot)) E → List ℕ → Fml
   LendsForField seen self result name = LendsAfter struct_marker.the_row struct_block seen self result (field_lead_of name (struct_block self.now))
 
-  -- of a map for a value, behind a colon, where the key's `fmt` answered `Ok`; where it answered an error nothing is written, and the builder is closed
+  -- the formatter is lent for a map's value, after `: `, if the key's `fmt` returned `Ok`; if it returned an error, nothing was written, and the builder is closed
   abbrev pub LendsForValue : Seen W.Denot → MutBor (Builder W.Denot MapBlock) → Result (Unit {0}) E → Result (MutBor (Formatter W.Denot)) E → Fml
   LendsForValue seen self answer result =
       EntryLoan map_marker.the_row self result LentValue

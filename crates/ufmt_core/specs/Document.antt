@@ -1,4 +1,4 @@
--- A document: what a value's `fmt` lays out, seen by contracts alone.
+-- A document: what a value's `fmt` lays out. Only contracts see it.
 use Rattle.std.specs.Prelude.{ℕ, suc, max, List, [], ◌∷◌}
 
 mutual
@@ -29,7 +29,7 @@ abbrev pub documents : List Document → Documents
 documents [] = no_documents
 documents (d ∷ ds) = document d (documents ds)
 
--- pairs of a key's and a value's document in a row
+-- pairs in a row, each the document of a key and of a value
 abbrev pub pairs_of : List (Document × Document) → Pairs
 pairs_of [] = no_pairs
 pairs_of (p ∷ ps) = pair p.0 p.1 (pairs_of ps)
@@ -39,7 +39,7 @@ abbrev pub fields_of : List (List ℕ × Document) → Fields
 fields_of [] = no_fields
 fields_of (f ∷ fs) = field f.0 f.1 (fields_of fs)
 
--- how many blocks with entries lie one in another
+-- how deep blocks with entries are nested
 abbrev mutual
   pub nest : Document → ℕ
   nest (leaf text) = 0

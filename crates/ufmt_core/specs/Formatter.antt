@@ -1,4 +1,4 @@
--- What contracts say of a formatter: its writer, its mode and depth, and what a call prints.
+-- What contracts see of a formatter: its writer, its mode and depth, and what a call prints.
 use Rattle.std.specs.Prelude.{◌≡◌, ℕ, List, Bool}
 pub use Rattle.ufmt_core.specs.declared.formatter.Formatter.{Formatter}
 use Rattle.ufmt_core.specs.Document.{Document}
@@ -19,15 +19,15 @@ module _ {W : Type 0} where
   abbrev pub depth_of : Formatter W → ℕ
   depth_of f = f.setting.depth
 
-  -- plain, and outside of every block
+  -- plain mode, depth 0
   abbrev pub IsNew : Formatter W → Type 0
   IsNew f = setting_of f ≡ setting Plain 0
 
-  -- the same formatter at this mode and depth
+  -- the formatter at this mode and depth
   abbrev pub at_setting : Formatter W → Setting → Formatter W
   at_setting f s = record f { setting = s }
 
-  -- the same formatter in pretty mode, at its depth
+  -- the formatter in pretty mode, at its depth
   abbrev pub in_pretty_mode : Formatter W → Formatter W
   in_pretty_mode f = at_setting f (setting Pretty (depth_of f))
 

@@ -1,5 +1,6 @@
--- The text that a document is laid out as, in either mode and from any depth.
+-- The text of a document, in each mode and from each depth.
 use Rattle.std.specs.Prelude.{ℕ, zero, suc, ◌+◌, min, List, [], ◌∷◌, ◌++◌, codes}
+use Rattle.ufmt_core.specs.Bytes.{line_feed, space}
 use Rattle.ufmt_core.specs.Document.{Document, leaf, joined, list_of, set_of, map_of, struct_of, tuple_of, pretty_part, Documents, no_documents, document, Pairs, no_pairs, pair, Fields, no_fields, field}
 pub use Rattle.ufmt_core.specs.declared.layout.Mode.{Mode}
 pub use Rattle.ufmt_core.specs.declared.layout.Mode.TheVariants.{Plain, Pretty}
@@ -9,16 +10,16 @@ pub use Rattle.ufmt_core.specs.declared.layout.Kind.TheVariants.{Brackets, Brace
 pub use Rattle.ufmt_core.specs.declared.layout.Count.{Count}
 pub use Rattle.ufmt_core.specs.declared.layout.Count.TheVariants.{Zero, One, Several}
 
--- what frames the entries of a block
+-- the text around the entries of a block
 pub record Frame : Type 0 where
-  -- what stands behind the block's name, with entries or without
+  -- comes after the block's name, with entries or without
   pub opening : List ℕ
-  -- what stands before the first entry alone
+  -- comes before the first entry
   pub start : List ℕ
-  -- what ends a block with so many entries, on the line on which it ends
+  -- ends a block with this count of entries, on its last line
   pub closing : Count → List ℕ
 
--- this text in a block with entries
+-- the text if there are entries, else nothing
 abbrev pub if_any : Count → List ℕ → List ℕ
 if_any Zero text = []
 if_any One text = text
@@ -36,7 +37,7 @@ lone_comma One Plain = codes ","
 lone_comma One Pretty = []
 lone_comma Several mode = []
 
--- the table of blocks: the brackets of each kind stand here alone
+-- the table of blocks, by kind
 abbrev pub frame : Mode → Kind → Frame
 frame mode Brackets = record { opening = codes "["; start = []; closing = λ count. codes "]" }
 frame mode Braces = record { opening = codes "{"; start = []; closing = λ count. codes "}" }
@@ -64,35 +65,35 @@ inside s = setting s.mode (entry_depth s.mode s.depth)
 -- k times four spaces
 abbrev pub indentation : ℕ → List ℕ
 indentation zero = []
-indentation (suc k) = 32 ∷ 32 ∷ 32 ∷ 32 ∷ indentation k
+indentation (suc k) = space ∷ space ∷ space ∷ space ∷ indentation k
 
--- what begins a line at depth k
+-- the beginning of a line at depth k
 abbrev pub line_start : Mode → ℕ → List ℕ
 line_start Plain k = []
 line_start Pretty k = indentation k
 
--- what stands between the start of a block and its first entry, at depth k
+-- the text between the start of a block and its first entry, at depth k
 abbrev pub new_line : Mode → ℕ → List ℕ
 new_line Plain k = []
-new_line Pretty k = 10 ∷ indentation k
+new_line Pretty k = line_feed ∷ indentation k
 
--- what stands before another entry, at depth k
+-- the text before another entry, at depth k
 abbrev pub separator : Mode → ℕ → List ℕ
 separator Plain k = codes ", "
 separator Pretty k = indentation k
 
--- what stands after an entry
+-- the text after an entry
 abbrev pub trail : Mode → List ℕ
 trail Plain = []
 trail Pretty = codes ",\n"
 
--- what stands before an entry behind so many others, where the entries have this mode and depth
+-- the text before an entry, after this count of others, at the entries' mode and depth
 abbrev pub lead : Frame → Setting → Count → List ℕ
 lead f i Zero = f.start ++ new_line i.mode i.depth
 lead f i One = separator i.mode i.depth
 lead f i Several = separator i.mode i.depth
 
--- what ends a block with so many entries that stands at this mode and depth
+-- the text that ends a block with this count of entries, at the block's mode and depth
 abbrev pub ending : Frame → Setting → Count → List ℕ
 ending f s count = if_any count (line_start s.mode s.depth) ++ f.closing count
 
@@ -102,7 +103,7 @@ next Zero = One
 next One = Several
 next Several = Several
 
--- what is left of a block behind so many entries: entries with these texts, and the end
+-- the rest of a block after this count of entries: entries with these texts, and the end
 abbrev pub block_tail : Frame → Setting → Count → List (List ℕ) → List ℕ
 block_tail f s count [] = ending f s count
 block_tail f s count (text ∷ texts) = lead f (inside s) count ++ (text ++ (trail s.mode ++ block_tail f s (next count) texts))

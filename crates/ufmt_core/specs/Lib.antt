@@ -1,5 +1,6 @@
 pub mod Block
 pub mod Builder
+pub mod Bytes
 pub mod Decimal
 pub mod Document
 pub mod Formatter

@@ -1,53 +1,51 @@
--- Texts and characters in quotes, as `{:?}` prints them: past ASCII every character stands for itself.
+-- Texts and characters in quotes, as `{:?}` prints them; each character past ASCII prints as itself.
 use Rattle.std.specs.Prelude.{◌≡◌, ◌⊎◌, ℕ, ◌/◌, ◌%◌, ◌==◌, ◌||◌, nat_lt, cond, suc, is_none, List, [], ◌∷◌, ◌++◌, codes, true, Option, Some, None, unwrap_or, encode_utf8}
 use Rattle.std.specs.Char.{IsScalar, digit_char}
 use Rattle.std.specs.Str.{all_scalars}
+use Rattle.ufmt_core.specs.Bytes.{apostrophe, backslash, carriage_return, delete, line_feed, nul, quotation_mark, space, tab}
 
--- a quotation mark or an apostrophe
 abbrev pub IsQuote : ℕ → Type 0
-IsQuote quote = (quote ≡ 34) ⊎ (quote ≡ 39)
+IsQuote quote = (quote ≡ quotation_mark) ⊎ (quote ≡ apostrophe)
 
 -- a number below 256 in hexadecimal: in lower case and without leading zeros
 abbrev pub hex_digits : ℕ → List ℕ
 hex_digits c = cond (nat_lt c 16) (digit_char c ∷ []) (digit_char (c / 16) ∷ digit_char (c % 16) ∷ [])
 
--- how a character is written between two of these quotes, by the first row that fits; None where it stands for itself
+-- the escape of a character between two of these quotes, by the first row that fits; None if it prints as itself
 abbrev pub escape : ℕ → ℕ → Option (List ℕ)
 escape quote c =
-    cond (c == 0) (Some (codes "\\0"))
-    (cond (c == 9) (Some (codes "\\t"))
-    (cond (c == 10) (Some (codes "\\n"))
-    (cond (c == 13) (Some (codes "\\r"))
-    (cond (c == 92 || c == quote) (Some (92 ∷ c ∷ []))
-    (cond (nat_lt c 32 || c == 127) (Some (codes "\\u{" ++ (hex_digits c ++ codes "}")))
+    cond (c == nul) (Some (codes "\\0"))
+    (cond (c == tab) (Some (codes "\\t"))
+    (cond (c == line_feed) (Some (codes "\\n"))
+    (cond (c == carriage_return) (Some (codes "\\r"))
+    (cond (c == backslash || c == quote) (Some (backslash ∷ c ∷ []))
+    (cond (nat_lt c space || c == delete) (Some (codes "\\u{" ++ (hex_digits c ++ codes "}")))
     None)))))
 
--- a character between two of these quotes
+-- the text of a character between two of these quotes
 abbrev pub escaped : ℕ → ℕ → List ℕ
 escaped quote c = unwrap_or (escape quote c) (encode_utf8 c)
 
--- characters in a row
+-- the text of characters in a row
 abbrev pub escaped_all : ℕ → List ℕ → List ℕ
 escaped_all quote [] = []
 escaped_all quote (c ∷ cs) = escaped quote c ++ escaped_all quote cs
 
--- characters with these quotes round them
+-- characters between two of these quotes, and the quotes
 abbrev pub quoted : ℕ → List ℕ → List ℕ
 quoted quote cs = quote ∷ (escaped_all quote cs ++ quote ∷ [])
 
--- a text: 34 is the quotation mark
 abbrev pub quoted_text : List ℕ → List ℕ
-quoted_text cs = quoted 34 cs
+quoted_text cs = quoted quotation_mark cs
 
--- a character: 39 is the apostrophe
 abbrev pub quoted_char : ℕ → List ℕ
-quoted_char c = quoted 39 (c ∷ [])
+quoted_char c = quoted apostrophe (c ∷ [])
 
--- the text of a quoted text or of a quoted character
+-- a quoted text or a quoted character
 abbrev pub IsQuoted : List ℕ → Type 0
 IsQuoted text = ((cs : List ℕ) × (all_scalars cs ≡ true) × (text ≡ quoted_text cs)) ⊎ ((c : ℕ) × IsScalar c × (text ≡ quoted_char c))
 
--- a device of the proofs: the same byte by byte, where a byte of a character past ASCII stands for itself too
+-- for the proofs only: `escaped` byte by byte, where each byte past ASCII prints as itself
 abbrev pub escaped_byte : ℕ → ℕ → List ℕ
 escaped_byte quote b = unwrap_or (escape quote b) (b ∷ [])
 
@@ -55,7 +53,7 @@ abbrev pub escaped_bytes : ℕ → List ℕ → List ℕ
 escaped_bytes quote [] = []
 escaped_bytes quote (b ∷ bs) = escaped_byte quote b ++ escaped_bytes quote bs
 
--- how many bytes at the front stand for themselves in a text
-abbrev pub plain_len : List ℕ → ℕ
-plain_len [] = 0
-plain_len (b ∷ bs) = cond (is_none (escape 34 b)) (suc (plain_len bs)) 0
+-- how many bytes at the front print as themselves in quotation marks
+abbrev pub unescaped_len : List ℕ → ℕ
+unescaped_len [] = 0
+unescaped_len (b ∷ bs) = cond (is_none (escape quotation_mark b)) (suc (unescaped_len bs)) 0

@@ -1,4 +1,4 @@
--- Words for the documents of types: quoted names in place of bytes, and lists in place of chains.
+-- Words for the documents of types, with names in quotes and lists.
 use Prim.Native.String.{String as Text}
 use Rattle.std.specs.Prelude.{ℕ, ℤ, pos, List, [], ◌∷◌, codes, Option, Some, None, Result, Ok, Err, String, string_bytes}
 use Rattle.std.specs.Borrow.{Bor}
@@ -7,7 +7,7 @@ use Rattle.ufmt_core.specs.Document.{Document, leaf, struct_of, tuple_of, docume
 use Rattle.ufmt_core.specs.Decimal.{decimal}
 use Rattle.ufmt_core.specs.Quoted.{quoted_char, quoted_text}
 
--- fields with quoted names
+-- fields in a row, each a name and a document
 abbrev pub named_fields : List (Text × Document) → Fields
 named_fields [] = no_fields
 named_fields (f ∷ fs) = field (codes f.0) f.1 (named_fields fs)
@@ -35,7 +35,7 @@ integer z = leaf (decimal z)
 abbrev pub string : {A : Type 0} → String A → Document
 string s = leaf (quoted_text (chars (string_bytes s)))
 
--- a `&str`, likewise
+-- a `&str`, in quotation marks
 abbrev pub str : Bor (List ℕ) → Document
 str s = leaf (quoted_text (chars s.now))
 

@@ -1,4 +1,4 @@
--- A lawful writer: what a call does to the text that it tells, to the room that it has and to the bytes past its text.
+-- A lawful writer: what a call does to its text, its room and the bytes past its text.
 use Rattle.std.specs.Prelude.{◌≡◌, ℕ, ◌+◌, ◌≤◌, List, [], ◌++◌, length, drop, Bool, true, false, IsTrue, String, ⊤, string_bytes}
 
 -- what contracts see of a writer
@@ -7,14 +7,14 @@ pub record Seen (W : Type 0) : Type 1 where
   pub told : W → Type 0
   -- the bytes so far
   pub text : W → List ℕ
-  -- a number of bytes that it surely takes
+  -- how many bytes it surely takes
   pub room : W → ℕ
-  -- which writer it is: the ghost names of the `&mut` that lead to where it writes, and how long its buffer is where a caller lent it one
+  -- which writer it is: the ghost names of each `&mut` on the way to its text, and the length of a buffer that it was lent
   pub identity : W → List ℕ
-  -- the bytes that it writes over, which begin with its text, where it has a buffer of a caller's
+  -- the whole buffer that it was lent, if it was: it begins with the text
   pub store : W → List ℕ
 
--- a text that begins with `part`, which may be empty or the whole
+-- `whole` begins with `part`, which may be empty or the whole
 pub record BeginsWith (whole part : List ℕ) : Type 0 where
   pub remainder : List ℕ
   pub joined : whole ≡ part ++ remainder
@@ -24,16 +24,16 @@ abbrev pub Appended : Bool → List ℕ → List ℕ → List ℕ → Type 0
 Appended true old piece new = new ≡ old ++ piece
 Appended false old piece new = (part : List ℕ) × BeginsWith piece part × (new ≡ old ++ part)
 
--- what a lawful writer does with a piece, where `ok` says whether the answer is `Ok`
+-- what a lawful writer does with a piece; `ok` says whether the call returned `Ok`
 pub record Writes {W : Type 0} (seen : Seen W) (old : W) (piece : List ℕ) (ok : Bool) (new : W) : Type 0 where
   pub stays_told : seen.told old → seen.told new
   pub appended : seen.told old → Appended ok (seen.text old) piece (seen.text new)
   pub fits : length piece ≤ seen.room old → IsTrue ok
   pub room_left : length piece ≤ seen.room old → seen.room old ≤ seen.room new + length piece
   pub same_identity : seen.identity new ≡ seen.identity old
-  -- the bytes past the text are those that stood there before
+  -- the bytes past the text are as before
   pub untouched : seen.told old → drop (length (seen.text new)) (seen.store new) ≡ drop (length (seen.text new)) (seen.store old)
 
--- a `String` as a writer: its text is always told, any growth may be refused, and it writes over no buffer of a caller's
+-- a `String` as a writer: its text is always told, any growth may be refused, and it was lent no buffer
 abbrev pub string_seen : {A : Type 0} → Seen (String A)
 string_seen = record { told = λ s. ⊤; text = string_bytes; room = λ s. 0; identity = λ s. []; store = λ s. [] }

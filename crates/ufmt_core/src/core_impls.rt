@@ -39,7 +39,7 @@ impl<T: uDebug> uDebug for &[T] {
     }
 }
 
-/// Prints the items as a list, of every length.
+/// Prints the items as a list. `N` may be any length.
 impl<T: uDebug, const N: usize> uDebug for [T; N] {
     ghost document = { λ items. list_of (documents (map T.document items)) };
 
@@ -57,7 +57,7 @@ impl uDebug for bool {
     }
 }
 
-/// Prints the text in quotation marks, with escapes. It takes no memory.
+/// Prints the text in quotation marks, with escapes. Takes no memory.
 impl uDebug for &str {
     ghost document = { λ s. leaf (quoted_text (chars s.now)) };
 
@@ -66,7 +66,7 @@ impl uDebug for &str {
     }
 }
 
-/// Prints the character in apostrophes, or its escape. It takes no memory.
+/// Prints the character or its escape in apostrophes. Takes no memory.
 impl uDebug for char {
     ghost document = { λ c. leaf (quoted_char c) };
 
@@ -83,7 +83,7 @@ impl uDebug for () {
     }
 }
 
-/// `None`, or a tuple `Some` with one field.
+/// Prints `None`, or a tuple `Some` with one field.
 impl<T: uDebug> uDebug for Option<T> {
     ghost document = { option_document T.document };
 
@@ -95,7 +95,7 @@ impl<T: uDebug> uDebug for Option<T> {
     }
 }
 
-/// A tuple `Ok` or `Err` with one field.
+/// Prints a tuple `Ok` or `Err` with one field.
 impl<T: uDebug, E: uDebug> uDebug for Result<T, E> {
     ghost document = { result_document T.document E.document };
 

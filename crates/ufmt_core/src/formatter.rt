@@ -34,14 +34,14 @@ impl<W: uWrite> Formatter<W> {
         }
     }
 
-    /// The writer. Where it is a `&mut`, this call ends the loan.
+    /// Returns the writer. Where it is a `&mut`, this call ends the loan.
     pub fn into_inner(self) -> W
         ensures { result ≡ writer_of self }
     {
         self.writer
     }
 
-    /// Hands the text on to the writer as one piece. On `Err` it took a beginning of it.
+    /// Writes the text as one piece. On `Err` a beginning of it was written.
     #[inline(always)]
     pub fn write_str(&mut self, s: &str) -> Result<(), W::Error>
         ensures { Prints W.seen self.old s.now (is_ok result) self.new }
@@ -49,16 +49,15 @@ impl<W: uWrite> Formatter<W> {
         self.writer.write_str(s)
     }
 
-    /// Hands the character on to the writer as one piece. On `Err` it took a beginning of its
-    /// bytes.
+    /// Writes the character as one piece. On `Err` a beginning of its bytes was written.
     pub fn write_char(&mut self, c: char) -> Result<(), W::Error>
         ensures { Prints W.seen self.old (encode_utf8 c) (is_ok result) self.new }
     {
         self.writer.write_char(c)
     }
 
-    /// Runs `f` once in pretty mode, and answers what it answered. Mode and depth are then those
-    /// from before, whatever `f` left. An `Err` of `f` is handed on.
+    /// Runs `f` once in pretty mode, and returns its result. Mode and depth are then as before,
+    /// whatever `f` left.
     pub fn pretty<F: FnOnce(&mut Formatter<W>) -> Result<(), W::Error>>(
         &mut self,
         f: F,
@@ -75,15 +74,15 @@ impl<W: uWrite> Formatter<W> {
         answer
     }
 
-    /// Whether blocks are laid out an entry a line.
+    /// Whether blocks are laid out with one entry a line.
     pub fn is_pretty(&self) -> bool
         ensures { IsTrue result ↔ (mode_of self.now ≡ Pretty) }
     {
         matches!(self.setting.mode, Mode::Pretty)
     }
 
-    /// How many blocks stand round what is printed in pretty mode, at most 255: each line begins with
-    /// four spaces for each.
+    /// How many blocks are around the text that is printed next in pretty mode, at most 255. A line
+    /// begins with four spaces for each.
     pub fn depth(&self) -> u8
         ensures { result ≡ depth_of self.now }
     {

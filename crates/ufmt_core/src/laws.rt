@@ -1,4 +1,4 @@
-//! Which document each type has, and that a block's layout is its parts, as the contracts of functions.
+//! Laws, each the contract of a function: the document of each type, and the parts of a block's layout.
 ghost use Rattle.std.specs.Prelude.{[], ◌∷◌, ◌≡◌, ℕ, ℤ, List, Box, String, string_bytes, map, true, false, None, Some, Ok, Err};
 ghost use Rattle.std.specs.Borrow.{Bor, MutBor};
 ghost use Rattle.std.specs.Int.NonZero.{non_zero_u8_get, non_zero_u16_get, non_zero_u32_get, non_zero_u64_get, non_zero_usize_get, non_zero_i8_get, non_zero_i16_get, non_zero_i32_get, non_zero_i64_get, non_zero_isize_get};
@@ -17,8 +17,8 @@ use std::num::{
     NonZeroU64, NonZeroUsize,
 };
 
-/// The document of a number is the leaf of its decimal text, that of a nonzero number the number's, and
-/// that of a truth value, of `()` and of `None` the leaf of its name.
+/// The document of a number is the leaf of its decimal text, also of a nonzero number. The document of
+/// a truth value, of `()` and of `None` is the leaf of its name.
 pub fn documents_of_leaves<T: uDebug>()
     ensures of_u8 { (n : ℕ) → ⟦<u8 as uDebug>⟧.document n ≡ number n }
     ensures of_u16 { (n : ℕ) → ⟦<u16 as uDebug>⟧.document n ≡ number n }
@@ -58,8 +58,8 @@ pub fn documents_of_leaves<T: uDebug>()
     ensures of_none { ⟦<Option<T> as uDebug>⟧.document None ≡ named "None" }
 {}
 
-/// The document of a text is the leaf of the text in quotation marks, and that of a character the leaf of
-/// the character in apostrophes, with escapes for some of ASCII.
+/// The document of a text is its leaf in quotation marks. The document of a character is its leaf in
+/// apostrophes. Some characters of ASCII have escapes.
 pub fn documents_of_texts<A: Allocator>()
     ensures of_str { (s : Bor (List ℕ)) → ⟦<&'static str as uDebug>⟧.document s ≡
         leaf (quoted_text (chars s.now)) }
@@ -68,8 +68,8 @@ pub fn documents_of_texts<A: Allocator>()
     ensures of_char { (c : ℕ) → ⟦<char as uDebug>⟧.document c ≡ leaf (quoted_char c) }
 {}
 
-/// The document of a variant is the tuple of its name, and that of a sequence the list of its items, in
-/// order.
+/// The document of `Some`, `Ok` or `Err` is a tuple of that name. The document of a sequence is the list
+/// of its items, in order.
 pub fn documents_of_collections<T: uDebug, U: uDebug, A: Allocator, const N: usize>()
     ensures of_some { (x : T) → ⟦<Option<T> as uDebug>⟧.document (Some x) ≡
         named_tuple "Some" (T.document x ∷ []) }
@@ -85,8 +85,8 @@ pub fn documents_of_collections<T: uDebug, U: uDebug, A: Allocator, const N: usi
         (λ xs. list_of (documents (map T.document xs.items))) }
 {}
 
-/// The document of a set is the set of its items, and that of a map the map of its entries, in the order
-/// of their keys.
+/// The document of a set is the set of its items. The document of a map is the map of its entries, in
+/// the order of their keys.
 pub fn documents_of_sorted_collections<K: uDebug + Ord, V: uDebug, A: Allocator>()
     ensures of_set { ⟦<BTreeSet<K, A> as uDebug>⟧.document ≡
         (λ xs. set_of (documents (map K.document xs.keys))) }
@@ -94,7 +94,7 @@ pub fn documents_of_sorted_collections<K: uDebug + Ord, V: uDebug, A: Allocator>
         (λ es. map_of (pairs_of (map (λ e. (K.document e.0, V.document e.1)) es.entries))) }
 {}
 
-/// The document of a tuple is the tuple without a name of its fields, in order.
+/// The document of a tuple is a tuple without a name, with its fields in order.
 pub fn documents_of_tuples<
     A: uDebug,
     B: uDebug,
@@ -148,8 +148,8 @@ pub fn documents_of_tuples<
         ∷ J.document t.9 ∷ K.document t.10 ∷ L.document t.11 ∷ [])) }
 {}
 
-/// The layout of a block is its name and opening, its entries in a row and its ending, at each mode and
-/// depth: the texts that the calls of its builder write.
+/// The layout of a block is its name and opening, its entries in a row, and its ending, in each mode and
+/// at each depth. The calls of its builder write these texts.
 pub fn blocks_are_their_parts()
     ensures of_list { (s : Setting) (ds : Documents) → layout s (list_of ds) ≡
         block_in_parts Brackets ([]) s (texts (inside s) ds) }
@@ -163,7 +163,7 @@ pub fn blocks_are_their_parts()
         block_in_parts (tuple_kind name) name s (texts (inside s) ds) }
 {}
 
-/// A reference prints as what it refers to.
+/// A reference prints as the value that it refers to.
 pub fn references_print_what_they_refer_to<T: uDebug, A: Allocator>()
     ensures debug { (x : Bor T) → ⟦<&'static T as uDebug>⟧.document x ≡ T.document x.now }
     ensures debug_mut { (x : MutBor T) → ⟦<&'static mut T as uDebug>⟧.document x ≡ T.document

@@ -1,29 +1,29 @@
-//! How documents are laid out: on one line or an entry a line, and the table of what stands round the
-//! entries of each kind of block. Formatters take them from here, and the scanner what begins a block.
+//! How documents are laid out: the two modes, and the text around the entries of each kind of block.
+//! Formatters take it from here, and the scanner the text that begins a block.
 ghost use Rattle.std.specs.Prelude.{◌≡◌, ◌++◌, ℕ};
 ghost use Rattle.ufmt_core.specs.declared.layout.Mode.{Mode};
 ghost use Rattle.ufmt_core.specs.Layout.{frame, indentation, inside, line_start, new_line, next, separator, trail, tuple_kind};
 
-/// What opens a list.
+/// Opens a list.
 pub const OPENING_BRACKET: &str = "[";
 
-/// What opens a set or a map.
+/// Opens a set or a map.
 pub const OPENING_BRACE: &str = "{";
 
-/// What stands between a key or a field's name and its value.
+/// Comes between a key or a field's name and its value.
 pub const COLON: &str = ": ";
 
-/// What a line is indented by at each depth.
+/// Indents a line, once for each depth.
 pub const INDENT: &str = "    ";
 
-/// How blocks are laid out: on one line, or an entry a line.
+/// How blocks are laid out: all on one line, or one entry a line.
 #[derive(Clone, Copy, PartialEq, Eq)]
 pub enum Mode {
     Plain,
     Pretty,
 }
 
-/// The kinds of blocks, by the brackets that frame their entries.
+/// The kinds of blocks, by the brackets around their entries.
 #[derive(Clone, Copy)]
 pub enum Kind {
     /// A list.
@@ -36,7 +36,7 @@ pub enum Kind {
     Unnamed,
 }
 
-/// How many entries a block has: none, one or several.
+/// How many entries a block has.
 #[derive(Clone, Copy)]
 pub enum Count {
     Zero,
@@ -77,8 +77,8 @@ impl Kind {
         }
     }
 
-    /// What stands behind a block's name, with entries or without. The bracket of a struct or a tuple
-    /// comes with its first entry.
+    /// The text after a block's name, with entries or without. The bracket of a struct or a tuple comes
+    /// with its first entry.
     #[inline(always)]
     pub fn opening(self) -> &'static str
         ensures { (mode : Mode) → result.now ≡ (frame mode self).opening }
@@ -90,8 +90,8 @@ impl Kind {
         }
     }
 
-    /// What stands before the first entry alone: a bracket, and the space behind the brace of a
-    /// struct. Either may be empty.
+    /// The text before the first entry: a bracket, and the space after a struct's brace. Either may be
+    /// empty.
     #[inline(always)]
     pub fn start(self, mode: Mode) -> (&'static str, &'static str)
         ensures { result.0.now ++ result.1.now ≡ (frame mode self).start }
@@ -104,7 +104,7 @@ impl Kind {
         }
     }
 
-    /// What ends a block with so many entries, on the line on which it ends: a space or a comma, and a
+    /// The text that ends a block with `count` entries, on its last line: a space or a comma, and a
     /// bracket. Either may be empty.
     #[inline(always)]
     pub fn closing(self, mode: Mode, count: Count) -> (&'static str, &'static str)
@@ -123,7 +123,7 @@ impl Kind {
 }
 
 impl Mode {
-    /// What stands between the start of a block and its first entry's line.
+    /// The text between the start of a block and the line of its first entry.
     #[inline(always)]
     pub fn line_feed(self) -> &'static str
         ensures { (k : ℕ) → result.now ++ line_start self k ≡ new_line self k }
@@ -134,7 +134,7 @@ impl Mode {
         }
     }
 
-    /// What stands between two entries on one line.
+    /// The text between two entries on one line.
     #[inline(always)]
     pub fn separator(self) -> &'static str
         ensures { (k : ℕ) → result.now ++ line_start self k ≡ separator self k }
@@ -145,7 +145,7 @@ impl Mode {
         }
     }
 
-    /// What stands after an entry.
+    /// The text after an entry.
     #[inline(always)]
     pub fn trail(self) -> &'static str
         ensures { result.now ≡ trail self }

@@ -33,12 +33,11 @@ pub use write::uWrite;
 
 /// A value that prints itself as Rust's `{:?}` and `{:#?}` would.
 pub trait uDebug {
-    /// What the value's text is the layout of.
+    /// The document whose layout is the value's text.
     ghost document: { Self → Document };
 
-    /// Appends the layout of the value's document in the formatter's mode and from its depth, or,
-    /// where the writer fails, a beginning of it. Writer, mode and depth are afterwards as before,
-    /// also on failure.
+    /// Appends the layout of the value's document in the formatter's mode and from its depth. On
+    /// `Err` a beginning of the layout was appended. Writer, mode and depth are afterwards as before.
     fn fmt<W>(&self, f: &mut Formatter<W>) -> Result<(), W::Error>
     where
         W: uWrite,

@@ -49,8 +49,7 @@ impl<W: uWrite> Formatter<W> {
         self.open(OPENING_BRACKET, ListBlock)
     }
 
-    /// Writes a whole list of these items. On `Err` a beginning of that is written, and mode and
-    /// depth are as before.
+    /// Writes a whole list. On `Err` a beginning of it was written. Mode and depth are as before.
     pub fn list_of<T: uDebug>(&mut self, items: &[T]) -> Result<(), W::Error>
         ensures { LaysOut W.seen self.old (list_of (documents (map T.document items.now)))
             (is_ok result) self.new }
@@ -62,7 +61,7 @@ impl<W: uWrite> Formatter<W> {
 }
 
 impl<W: uWrite, K: BlockKind + Items> Builder<'_, W, K> {
-    /// Writes one entry. On `Err` a beginning of it is written and the builder is closed.
+    /// Writes one entry. On `Err` a beginning of it was written, and the builder is closed.
     #[inline(always)]
     pub fn entry<D: uDebug>(&mut self, entry: &D) -> Result<(), W::Error>
         requires { IsOpen (block K.kind self.old) }
@@ -96,7 +95,7 @@ impl<W: uWrite, K: BlockKind + Items> Builder<'_, W, K> {
         Ok(())
     }
 
-    /// Writes what stands before an entry, and lends the formatter for it. On `Err` the builder is
+    /// Writes the text before an entry, and lends the formatter for it. On `Err` the builder is
     /// closed.
     #[inline(always)]
     pub fn begin_entry(&mut self) -> Result<&mut Formatter<W>, W::Error>
@@ -109,8 +108,8 @@ impl<W: uWrite, K: BlockKind + Items> Builder<'_, W, K> {
         self.begin()
     }
 
-    /// Writes what follows an entry whose `fmt` gave this answer, or passes an `Err` on. The lent formatter
-    /// may be left at any mode and depth.
+    /// Writes the text after an entry if its `fmt` returned `Ok`, else returns its error. The lent
+    /// formatter may be left at any mode and depth.
     #[inline(always)]
     pub fn end_entry(&mut self, answer: Result<(), W::Error>) -> Result<(), W::Error>
         requires { IsLent (block K.kind self.old) }

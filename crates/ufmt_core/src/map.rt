@@ -42,8 +42,7 @@ impl<W: uWrite> Formatter<W> {
         self.open(OPENING_BRACE, MapBlock)
     }
 
-    /// Writes a whole map of these keys and values. On `Err` a beginning of that is written, and
-    /// mode and depth are as before.
+    /// Writes a whole map. On `Err` a beginning of it was written. Mode and depth are as before.
     pub fn map_of<K: uDebug, V: uDebug>(&mut self, pairs: &[(K, V)]) -> Result<(), W::Error>
         ensures { LaysOut W.seen self.old
             (map_of (pairs_of (map (λ p. (K.document p.0, V.document p.1)) pairs.now)))
@@ -58,7 +57,8 @@ impl<W: uWrite> Formatter<W> {
 }
 
 impl<W: uWrite> DebugMap<'_, W> {
-    /// Writes one entry, `key: value`. On `Err` a beginning of it is written and the builder is closed.
+    /// Writes one entry, `key: value`. On `Err` a beginning of it was written, and the builder is
+    /// closed.
     pub fn entry<K: uDebug, V: uDebug>(&mut self, key: &K, value: &V) -> Result<(), W::Error>
         requires { IsOpen (map_block self.old) }
         ensures entry { WritesEntry W.seen (map_block self.old)
@@ -92,8 +92,8 @@ impl<W: uWrite> DebugMap<'_, W> {
         Ok(())
     }
 
-    /// Writes what stands before an entry, and lends the formatter for its key. On `Err` the
-    /// builder is closed.
+    /// Writes the text before an entry, and lends the formatter for its key. On `Err` the builder is
+    /// closed.
     pub fn begin_entry(&mut self) -> Result<&mut Formatter<W>, W::Error>
         requires { IsOpen (map_block self.old) }
         ensures* loan { sem 𝓛 (LendsForKey W.row W.seen self.entry result) }
@@ -103,9 +103,8 @@ impl<W: uWrite> DebugMap<'_, W> {
         self.begin()
     }
 
-    /// Writes what stands between a key whose `fmt` gave this answer and its value, and lends the
-    /// formatter for the value, or passes an `Err` on. The formatter that was lent for the key may be left at
-    /// any mode and depth.
+    /// Writes `: ` and lends the formatter for the value, if the key's `fmt` returned `Ok`. Else returns
+    /// its error. The formatter that was lent for the key may be left at any mode and depth.
     pub fn begin_value(
         &mut self,
         answer: Result<(), W::Error>,
@@ -137,8 +136,8 @@ impl<W: uWrite> DebugMap<'_, W> {
         self.lend_if(written, Status::LentValue)
     }
 
-    /// Writes what follows an entry whose value's `fmt` gave this answer, or passes an `Err` on. The lent
-    /// formatter may be left at any mode and depth.
+    /// Writes the text after an entry if its value's `fmt` returned `Ok`, else returns its error. The
+    /// lent formatter may be left at any mode and depth.
     pub fn end_entry(&mut self, answer: Result<(), W::Error>) -> Result<(), W::Error>
         requires { IsLentForValue (map_block self.old) }
         ensures end { EndsEntry W.seen answer (map_block self.old) result (is_ok result)
@@ -149,7 +148,7 @@ impl<W: uWrite> DebugMap<'_, W> {
     }
 }
 
-/// Writes the pairs as a map: what `fmt` of the library's maps does.
+/// Writes the pairs as a map, for `fmt` of the standard library's maps.
 pub(crate) fn fmt_map<
     K: uDebug + Drop,
     V: uDebug + Drop,

@@ -1,4 +1,4 @@
-//! `uDebug` of the nonzero numbers, which print as the numbers that they hold.
+//! `uDebug` of nonzero numbers, which print as the numbers in them.
 ghost use Rattle.std.specs.Prelude.{pos};
 ghost use Rattle.std.specs.Int.NonZero.{non_zero_u8_get, non_zero_u16_get, non_zero_u32_get, non_zero_u64_get, non_zero_usize_get, non_zero_i8_get, non_zero_i16_get, non_zero_i32_get, non_zero_i64_get, non_zero_isize_get};
 ghost use Rattle.ufmt_core.specs.Document.{leaf};

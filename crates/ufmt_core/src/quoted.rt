@@ -2,21 +2,22 @@
 ghost use Rattle.std.specs.Prelude.{◌≡◌, ◌<◌, ◌≤◌, ◌+◌, ◌++◌, [], drop, length, is_none, is_ok, MatchOption, Some, ℕ};
 ghost use Rattle.std.specs.Option.{option_copied};
 ghost use Rattle.std.specs.Str.{chars};
+ghost use Rattle.ufmt_core.specs.Bytes.{apostrophe, quotation_mark};
 ghost use Rattle.ufmt_core.specs.Formatter.{Prints};
-ghost use Rattle.ufmt_core.specs.Quoted.{IsQuote, escape, escaped, escaped_bytes, plain_len, quoted_char, quoted_text};
+ghost use Rattle.ufmt_core.specs.Quoted.{IsQuote, escape, escaped, escaped_bytes, unescaped_len, quoted_char, quoted_text};
 
 use crate::formatter::Formatter;
 use crate::write::uWrite;
 
-// Of each byte, whether it stands for itself in a quoted text.
-static STAND_FOR_THEMSELVES: [u8; 256] = *b"\
+// Whether each byte prints as itself in quotation marks: `s` if it does.
+static UNESCAPED: [u8; 256] = *b"\
     ................................ss.sssssssssssssssssssssssssssss\
     ssssssssssssssssssssssssssss.ssssssssssssssssssssssssssssssssss.\
     ssssssssssssssssssssssssssssssssssssssssssssssssssssssssssssssss\
     ssssssssssssssssssssssssssssssssssssssssssssssssssssssssssssssss";
 
-/// How a byte is written between these quotes, and `None` where it stands for itself, as every byte
-/// past ASCII does. `quote` is a quotation mark or an apostrophe.
+/// Returns the escape of a byte between two of these quotes, and `None` if it prints as itself, as every
+/// byte past ASCII does. `quote` is a quotation mark or an apostrophe.
 #[inline]
 pub fn escape(byte: u8, quote: u8) -> Option<&'static str>
     requires { IsQuote quote }
@@ -32,7 +33,7 @@ pub fn escape(byte: u8, quote: u8) -> Option<&'static str>
     }
 }
 
-// How a byte below a space is written. These are all of a row, so that they are compiled to a table.
+// The escape of a byte below the space. A match without gaps is compiled to a table.
 #[inline(always)]
 fn control(byte: u8) -> &'static str
     requires { byte < 32 }
@@ -74,7 +75,7 @@ fn control(byte: u8) -> &'static str
     }
 }
 
-/// Writes the text with its escapes and a quotation mark on either side.
+/// Writes the text in quotation marks, with escapes.
 pub(crate) fn write_quoted_text<W: uWrite>(f: &mut Formatter<W>, text: &str) -> Result<(), W::Error>
     ensures { Prints W.seen f.old (quoted_text (chars text.now)) (is_ok result) f.new }
 {
@@ -83,7 +84,7 @@ pub(crate) fn write_quoted_text<W: uWrite>(f: &mut Formatter<W>, text: &str) -> 
     f.write_str("\"")
 }
 
-/// Writes the character, or its escape, with an apostrophe on either side.
+/// Writes the character or its escape in apostrophes.
 pub(crate) fn write_quoted_char<W: uWrite>(
     f: &mut Formatter<W>,
     character: char,
@@ -95,9 +96,8 @@ pub(crate) fn write_quoted_char<W: uWrite>(
     f.write_str("'")
 }
 
-// The character, or its escape.
 fn write_escaped_char<W: uWrite>(f: &mut Formatter<W>, character: char) -> Result<(), W::Error>
-    ensures { Prints W.seen f.old (escaped 39 character) (is_ok result) f.new }
+    ensures { Prints W.seen f.old (escaped apostrophe character) (is_ok result) f.new }
 {
     match escape_char(character) {
         Some(escape) => f.write_str(escape),
@@ -105,9 +105,9 @@ fn write_escaped_char<W: uWrite>(f: &mut Formatter<W>, character: char) -> Resul
     }
 }
 
-// How a character is written between apostrophes; `None` where it stands for itself.
+// The escape of a character in apostrophes, and `None` if it prints as itself.
 fn escape_char(character: char) -> Option<&'static str>
-    ensures { option_copied result ≡ escape 39 character }
+    ensures { option_copied result ≡ escape apostrophe character }
 {
     match u8::try_from(character) {
         Ok(byte) => escape(byte, b'\''),
@@ -115,9 +115,9 @@ fn escape_char(character: char) -> Option<&'static str>
     }
 }
 
-// Writes stretches that stand for themselves and escapes, in turn.
+// Writes stretches without escapes, and escapes, in turn.
 fn write_escaped<W: uWrite>(f: &mut Formatter<W>, text: &str) -> Result<(), W::Error>
-    ensures { Prints W.seen f.old (escaped_bytes 34 text.now) (is_ok result) f.new }
+    ensures { Prints W.seen f.old (escaped_bytes quotation_mark text.now) (is_ok result) f.new }
 {
     let mut rest = text;
     'stretches: loop {
@@ -131,7 +131,7 @@ fn write_escaped<W: uWrite>(f: &mut Formatter<W>, text: &str) -> Result<(), W::E
     }
 }
 
-// A stretch without escapes as one piece, if it isn't empty.
+// Writes a stretch as one piece, if it isn't empty.
 fn write_stretch<W: uWrite>(f: &mut Formatter<W>, stretch: &str) -> Result<(), W::Error>
     ensures { Prints W.seen f.old stretch.now (is_ok result) f.new }
 {
@@ -141,20 +141,20 @@ fn write_stretch<W: uWrite>(f: &mut Formatter<W>, stretch: &str) -> Result<(), W
     f.write_str(stretch)
 }
 
-// The bytes at the front that stand for themselves, and what follows them.
+// The bytes at the front that print as themselves, and the rest.
 fn split_stretch(text: &str) -> (&str, &str)
-    ensures stretch { escaped_bytes 34 text.now ≡ result.0.now ++ escaped_bytes 34 result.1.now }
+    ensures stretch { escaped_bytes quotation_mark text.now ≡ result.0.now ++ escaped_bytes quotation_mark result.1.now }
     ensures shorter { length result.1.now ≤ length text.now }
-    ensures at_escape { plain_len result.1.now ≡ 0 }
+    ensures at_escape { unescaped_len result.1.now ≡ 0 }
 {
-    text.split_at(plain_len(text.as_bytes()))
+    text.split_at(unescaped_len(text.as_bytes()))
 }
 
-// The escape of the byte at the front, and what follows that byte.
+// The escape of the byte at the front, and the text after that byte.
 fn split_escape(text: &str) -> Option<(&'static str, &str)>
-    requires { plain_len text.now ≡ 0 }
+    requires { unescaped_len text.now ≡ 0 }
     ensures { MatchOption result (text.now ≡ []) (λ x.
-        (escaped_bytes 34 text.now ≡ x.0.now ++ escaped_bytes 34 x.1.now)
+        (escaped_bytes quotation_mark text.now ≡ x.0.now ++ escaped_bytes quotation_mark x.1.now)
         × (length x.1.now < length text.now)) }
 {
     let byte = *text.as_bytes().first()?;
@@ -162,39 +162,39 @@ fn split_escape(text: &str) -> Option<(&'static str, &str)>
     Some((escape, &text[1..]))
 }
 
-/// How many bytes at the front stand for themselves between quotation marks.
-pub fn plain_len(bytes: &[u8]) -> usize
-    ensures { result ≡ plain_len bytes.now }
+/// Returns how many bytes at the front print as themselves in quotation marks.
+pub fn unescaped_len(bytes: &[u8]) -> usize
+    ensures { result ≡ unescaped_len bytes.now }
 {
-    // Four bytes a turn, so that the end is looked for once in four.
+    // Four bytes a turn: the end of the bytes is tested once in four.
     let mut end = 0;
     'fours: while bytes.len() - end >= 4 {
-        if !stands(bytes[end]) {
+        if !is_unescaped(bytes[end]) {
             return end;
         }
-        if !stands(bytes[end + 1]) {
+        if !is_unescaped(bytes[end + 1]) {
             return end + 1;
         }
-        if !stands(bytes[end + 2]) {
+        if !is_unescaped(bytes[end + 2]) {
             return end + 2;
         }
-        if !stands(bytes[end + 3]) {
+        if !is_unescaped(bytes[end + 3]) {
             return end + 3;
         }
         end += 4;
     }
-    plain_len_from(bytes, end)
+    unescaped_len_from(bytes, end)
 }
 
-// The same where such bytes stand before `start`.
-fn plain_len_from(bytes: &[u8], start: usize) -> usize
+// `unescaped_len`, where all bytes before `start` print as themselves.
+fn unescaped_len_from(bytes: &[u8], start: usize) -> usize
     requires within { start ≤ length bytes.now }
-    requires stand { plain_len bytes.now ≡ start + plain_len (drop start bytes.now) }
-    ensures { result ≡ plain_len bytes.now }
+    requires unescaped { unescaped_len bytes.now ≡ start + unescaped_len (drop start bytes.now) }
+    ensures { result ≡ unescaped_len bytes.now }
 {
     let mut end = start;
     'bytes: while end < bytes.len() {
-        if !stands(bytes[end]) {
+        if !is_unescaped(bytes[end]) {
             return end;
         }
         end += 1;
@@ -202,10 +202,10 @@ fn plain_len_from(bytes: &[u8], start: usize) -> usize
     end
 }
 
-// Whether a byte stands for itself in a quoted text.
+// Whether a byte prints as itself in quotation marks.
 #[inline(always)]
-fn stands(byte: u8) -> bool
-    ensures { result ≡ is_none (escape 34 byte) }
+fn is_unescaped(byte: u8) -> bool
+    ensures { result ≡ is_none (escape quotation_mark byte) }
 {
-    STAND_FOR_THEMSELVES[byte as usize] == b's'
+    UNESCAPED[byte as usize] == b's'
 }

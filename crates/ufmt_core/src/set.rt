@@ -44,8 +44,7 @@ impl<W: uWrite> Formatter<W> {
         self.open(OPENING_BRACE, SetBlock)
     }
 
-    /// Writes a whole set of these items. On `Err` a beginning of that is written, and mode and
-    /// depth are as before.
+    /// Writes a whole set. On `Err` a beginning of it was written. Mode and depth are as before.
     pub fn set_of<T: uDebug>(&mut self, items: &[T]) -> Result<(), W::Error>
         ensures { LaysOut W.seen self.old (set_of (documents (map T.document items.now)))
             (is_ok result) self.new }
@@ -56,7 +55,7 @@ impl<W: uWrite> Formatter<W> {
     }
 }
 
-/// Writes the items as a set: what `fmt` of the library's sets does.
+/// Writes the items as a set, for `fmt` of the standard library's sets.
 pub(crate) fn fmt_set<D: uDebug + Drop, I: IntoIterator<Item = D> + Drop, W: uWrite>(
     items: I,
     f: &mut Formatter<W>,

@@ -10,9 +10,9 @@ use crate::uDebug;
 use crate::unsigned::Magnitude;
 use crate::write::uWrite;
 
-/// A signed number of some width, as its decimal text sees it.
+/// A signed number of some width.
 pub(crate) trait Signed: Copy {
-    /// The width's unsigned numbers: the magnitude of the least number is one of them too.
+    /// The unsigned numbers of this width. They have the magnitude of the least number too.
     type Unsigned: Magnitude;
 
     ghost value: { Self → ℤ };
@@ -52,7 +52,7 @@ impl Signed for i128 {
     }
 }
 
-/// The decimal text of `z`, made at the end of `buffer`.
+/// Returns the decimal text of `z`, made at the end of `buffer`.
 #[inline(always)]
 pub(crate) fn decimal_text<S: Signed, const N: usize>(z: S, buffer: &mut [u8; N]) -> &str
     requires sign_and_digit { 1 < N }
@@ -63,7 +63,7 @@ pub(crate) fn decimal_text<S: Signed, const N: usize>(z: S, buffer: &mut [u8; N]
     text_from(buffer, start)
 }
 
-/// Writes the decimal text of `z` at the end of `buffer`, and gives the index of its first byte.
+// Writes the decimal text of `z` at the end of `buffer`, and returns the index of its first byte.
 #[inline(always)]
 fn write_decimal<S: Signed>(z: S, buffer: &mut [u8]) -> usize
     requires { length (decimal (S.value z)) ≤ length buffer.old }

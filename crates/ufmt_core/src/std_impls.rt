@@ -22,7 +22,7 @@ impl<T: uDebug, A: Allocator> uDebug for Vec<T, A> {
     }
 }
 
-/// Prints the items in order as a set.
+/// Prints the items as a set, in order.
 impl<T: uDebug + Ord, A: Allocator> uDebug for BTreeSet<T, A> {
     ghost document = { λ s. set_of (documents (map T.document s.keys)) };
 
@@ -31,7 +31,7 @@ impl<T: uDebug + Ord, A: Allocator> uDebug for BTreeSet<T, A> {
     }
 }
 
-/// Prints the entries in key order as a map.
+/// Prints the entries as a map, in the order of their keys.
 impl<K: uDebug + Ord, V: uDebug, A: Allocator> uDebug for BTreeMap<K, V, A> {
     ghost document = { λ m. map_of
         (pairs_of (map (λ e. (K.document e.0, V.document e.1)) m.entries)) };
@@ -41,7 +41,7 @@ impl<K: uDebug + Ord, V: uDebug, A: Allocator> uDebug for BTreeMap<K, V, A> {
     }
 }
 
-/// Prints what the box holds.
+/// Prints the value in the box.
 impl<T: uDebug, A: Allocator> uDebug for Box<T, A> {
     ghost document = { λ b. T.document b.value };
 
@@ -50,7 +50,7 @@ impl<T: uDebug, A: Allocator> uDebug for Box<T, A> {
     }
 }
 
-/// Prints the text as a `&str` is printed.
+/// Prints the text as `&str` does.
 impl<A: Allocator> uDebug for String<A> {
     ghost document = { λ s. leaf (quoted_text (chars (string_bytes s))) };
 

@@ -48,7 +48,8 @@ impl<W: uWrite> Formatter<W> {
 }
 
 impl<W: uWrite> DebugStruct<'_, W> {
-    /// Writes one field, `name: value`. On `Err` a beginning of it is written and the builder is closed.
+    /// Writes one field, `name: value`. On `Err` a beginning of it was written, and the builder is
+    /// closed.
     #[inline(always)]
     pub fn field<D: uDebug>(&mut self, name: &str, value: &D) -> Result<(), W::Error>
         requires { IsOpen (struct_block self.old) }
@@ -60,8 +61,8 @@ impl<W: uWrite> DebugStruct<'_, W> {
         self.end(answer)
     }
 
-    /// Writes what stands before a field's value, and lends the formatter for the value. On `Err`
-    /// the builder is closed.
+    /// Writes the text before a field's value, and lends the formatter for the value. On `Err` the
+    /// builder is closed.
     #[inline(always)]
     pub fn begin_field(&mut self, name: &str) -> Result<&mut Formatter<W>, W::Error>
         requires { IsOpen (struct_block self.old) }
@@ -73,8 +74,8 @@ impl<W: uWrite> DebugStruct<'_, W> {
         self.begin_named(name)
     }
 
-    /// Writes what follows a field whose value's `fmt` gave this answer, or passes an `Err` on. The lent formatter
-    /// may be left at any mode and depth.
+    /// Writes the text after a field if its value's `fmt` returned `Ok`, else returns its error. The
+    /// lent formatter may be left at any mode and depth.
     #[inline(always)]
     pub fn end_field(&mut self, answer: Result<(), W::Error>) -> Result<(), W::Error>
         requires { IsLent (struct_block self.old) }

@@ -19,7 +19,7 @@ pub use whole::UnnamedFields;
 /// Writes a tuple, field by field.
 pub type DebugTuple<'f, W> = Builder<'f, W, TupleBlock>;
 
-/// Marks the builder of a tuple, and tells whether its name is empty.
+/// Marks the builder of a tuple, and whether its name is empty.
 #[derive(Clone, Copy)]
 pub struct TupleBlock {
     is_unnamed: bool,
@@ -62,7 +62,7 @@ impl<W: uWrite> Formatter<W> {
 }
 
 impl<W: uWrite> DebugTuple<'_, W> {
-    /// Writes one field. On `Err` a beginning of it is written and the builder is closed.
+    /// Writes one field. On `Err` a beginning of it was written, and the builder is closed.
     pub fn field<D: uDebug>(&mut self, value: &D) -> Result<(), W::Error>
         requires { IsOpen (tuple_block self.old) }
         ensures entry { WritesEntry W.seen (tuple_block self.old)
@@ -74,7 +74,7 @@ impl<W: uWrite> DebugTuple<'_, W> {
         self.end(answer)
     }
 
-    /// Writes what stands before a field, and lends the formatter for it. On `Err` the builder is
+    /// Writes the text before a field, and lends the formatter for it. On `Err` the builder is
     /// closed.
     pub fn begin_field(&mut self) -> Result<&mut Formatter<W>, W::Error>
         requires { IsOpen (tuple_block self.old) }

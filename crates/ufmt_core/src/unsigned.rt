@@ -8,7 +8,7 @@ use crate::formatter::Formatter;
 use crate::uDebug;
 use crate::write::uWrite;
 
-/// Each whole number has exactly one decimal text, and each decimal text tells exactly one number.
+/// Each whole number has exactly one decimal text, and each decimal text denotes exactly one number.
 pub fn decimal_is_one_text()
     ensures denoted { EachNumberIsDenoted }
     ensures one_text { OneTextDenotes }
@@ -23,7 +23,7 @@ static DIGIT_PAIRS: [u8; 200] = *b"\
 
 const _: () = prove!(DIGIT_PAIRS.len() == 2 * 100);
 
-/// The bytes of the two decimal digits of `i`, the tens first. It asks that `i` is below 100.
+/// Returns the two decimal digits of `i`, the tens first. `i` must be below 100.
 #[inline(always)]
 pub fn digit_pair(i: u8) -> (u8, u8)
     requires { i < 100 }
@@ -34,18 +34,27 @@ pub fn digit_pair(i: u8) -> (u8, u8)
     (DIGIT_PAIRS[at], DIGIT_PAIRS[at + 1])
 }
 
-/// An unsigned number of some width, as its decimal digits see it.
+// How 18446744073709551615 is written, each row from its right end to its left:
+//
+//     1844 6744073709551615        parts of sixteen digits, while more than sixteen are left
+//          67440737 09551615       parts of eight, from a sixteen or while more than eight are left
+//          6744 0737 0955 1615     parts of four, from an eight or while more than four are left
+//          67 44 07 37 09 55 16 15 pairs, each a row of `DIGIT_PAIRS`
+//     1844                         what is left: one digit to four, with no zeros before them
+//
+// A cut divides in 128 bits only above `u64::MAX`, in 64 bits down to eight digits, and then in 32.
+
+/// An unsigned number of some width.
 pub(crate) trait Magnitude: Copy {
     ghost value: { Self → ℕ };
 
-    /// Writes the decimal text at the end of `buffer`, and gives the index of its first digit.
+    /// Writes the decimal text at the end of `buffer`, and returns the index of its first digit.
     fn write_digits(self, buffer: &mut [u8]) -> usize
         requires { length (decimal (pos (value self))) ≤ length buffer.old }
         ensures start { result + length (decimal (pos (value self))) ≡ length buffer.old }
         ensures written { drop result buffer.new ≡ decimal (pos (value self)) };
 }
 
-/// Four digits a turn, from the right, and then those that are left.
 impl Magnitude for u32 {
     ghost value = { λ n. n };
 
@@ -62,7 +71,7 @@ impl Magnitude for u32 {
     }
 }
 
-/// Parts of sixteen digits, from the right, of which there is at most one, and then parts of eight.
+// There is at most one part of sixteen.
 impl Magnitude for u64 {
     ghost value = { λ n. n };
 
@@ -79,7 +88,7 @@ impl Magnitude for u64 {
     }
 }
 
-/// Parts of sixteen digits, from the right, and then what fits 64 bits: a division of 128 bits is slow.
+// A division of 128 bits is slow, so none is made once the number fits 64.
 impl Magnitude for u128 {
     ghost value = { λ n. n };
 
@@ -95,12 +104,12 @@ impl Magnitude for u128 {
     }
 }
 
-// One more than the greatest number with so many digits.
+// The least number with more than eight digits.
 const EIGHT_DIGITS: u64 = 100_000_000;
 
 const SIXTEEN_DIGITS: u64 = 10_000_000_000_000_000;
 
-// Writes a text as `write_digits` does: parts of eight digits, from the right, and then what is left.
+// `write_digits` by parts of eight.
 #[inline(always)]
 fn write_by_eight(n: u64, buffer: &mut [u8]) -> usize
     requires { length (decimal (pos n)) ≤ length buffer.old }
@@ -117,7 +126,7 @@ fn write_by_eight(n: u64, buffer: &mut [u8]) -> usize
     (left as u32).write_digits(&mut buffer[..start])
 }
 
-// Writes sixteen digits, with zeros before those of a short number.
+// Writes sixteen digits, with zeros before a shorter number. So do the calls for eight and four.
 #[inline]
 fn write_sixteen(n: u64, buffer: &mut [u8], start: usize)
     requires sixteen_digits { n < 10 ^ 16 }
@@ -128,7 +137,6 @@ fn write_sixteen(n: u64, buffer: &mut [u8], start: usize)
     write_eight((n / EIGHT_DIGITS) as u32, buffer, start);
 }
 
-// Writes eight digits.
 #[inline]
 fn write_eight(n: u32, buffer: &mut [u8], start: usize)
     requires eight_digits { n < 10 ^ 8 }
@@ -139,7 +147,6 @@ fn write_eight(n: u32, buffer: &mut [u8], start: usize)
     write_four(n / 10_000, buffer, start);
 }
 
-// Writes four digits.
 #[inline(always)]
 fn write_four(n: u32, buffer: &mut [u8], start: usize)
     requires four_digits { n < 10 ^ 4 }
@@ -151,8 +158,9 @@ fn write_four(n: u32, buffer: &mut [u8], start: usize)
     write_pair(front, buffer, start);
 }
 
-// A number of four digits without its last two, and those. The code generator does `n / 100` in 16
-// bits, with extensions and shifts round it, and leaves this product as it is.
+// The first two of four digits, and the last two. 5243 / 524288 exceeds 1 / 100 by less than a
+// millionth, which for n below 10000 never reaches the next whole number. LLVM would compile `n / 100`
+// in 16 bits, with shifts around it; it leaves this product as it is.
 #[inline(always)]
 fn split_pair(n: u32) -> (u32, u32)
     requires four_digits { n < 10 ^ 4 }
@@ -163,7 +171,6 @@ fn split_pair(n: u32) -> (u32, u32)
     (front, n - 100 * front)
 }
 
-// Writes two digits.
 #[inline(always)]
 fn write_pair(pair: u32, buffer: &mut [u8], start: usize)
     requires two_digits { pair < 100 }
@@ -175,7 +182,7 @@ fn write_pair(pair: u32, buffer: &mut [u8], start: usize)
     buffer[start + 1] = ones;
 }
 
-// Writes a number of one digit to four before `end`, and gives the index of the first.
+// Writes a number of one digit to four before `end`, and returns the index of the first.
 #[inline(always)]
 fn write_short(n: u32, buffer: &mut [u8], end: usize) -> usize
     requires four_digits { n < 10 ^ 4 }
@@ -192,7 +199,7 @@ fn write_short(n: u32, buffer: &mut [u8], end: usize) -> usize
     write_first(front, buffer, end - 2)
 }
 
-// Writes a number of one digit or two before `end`, and gives the index of the first.
+// Writes a number of one digit or two before `end`, and returns the index of the first.
 #[tactic(auto, using(crate::proofs::LastDigits::decimal_nonempty, crate::proofs::LastDigits::length_two))]
 #[inline(always)]
 fn write_first(n: u32, buffer: &mut [u8], end: usize) -> usize
@@ -210,7 +217,7 @@ fn write_first(n: u32, buffer: &mut [u8], end: usize) -> usize
     end - 2
 }
 
-/// The decimal text of `n`, made at the end of `buffer`.
+/// Returns the decimal text of `n`, made at the end of `buffer`.
 #[inline(always)]
 pub(crate) fn decimal_text<M: Magnitude, const N: usize>(n: M, buffer: &mut [u8; N]) -> &str
     requires not_empty { 0 < N }

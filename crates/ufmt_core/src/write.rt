@@ -6,13 +6,13 @@ use std::alloc::{AllocError, Allocator};
 
 /// A destination for text, with an error type of its own.
 ///
-/// A lawful writer takes a piece of at most `room` bytes, and where its text is told, `Ok` appends
-/// the whole piece and `Err` a beginning of it.
+/// A lawful writer takes each piece of at most `room` bytes. Where its text is told, `Ok` appends the
+/// whole piece, and `Err` a beginning of it.
 pub trait uWrite {
     type Error;
 
-    /// What contracts see of the writer: whether its text is told, the text so far, the bytes that it
-    /// surely takes, which writer it is, and the bytes that it writes over.
+    /// What contracts see of the writer: whether its text is told, the text so far, how many bytes it
+    /// surely takes, its identity, and the bytes that it writes over.
     ghost seen: { Seen Self };
 
     /// Writes `s` as one piece.
@@ -39,7 +39,7 @@ impl<A: Allocator> uWrite for String<A> {
         ensures writes { Writes string_seen self.old s.now (is_ok result) self.new }
         ensures unchanged { OnErr result (string_bytes self.new ≡ string_bytes self.old) }
     {
-        // Most pieces have one byte or two, and to copy them is a call.
+        // Most pieces have one byte or two. `push_str` copies them by a call, `push` doesn't.
         match s.as_bytes() {
             [byte] if byte.is_ascii() => push_one(self, *byte),
             [first, second] if first.is_ascii() && second.is_ascii() => {
@@ -57,7 +57,7 @@ impl<A: Allocator> uWrite for String<A> {
     }
 }
 
-// Appends a byte of ASCII. With room made first, `push` is in line.
+// Appends a byte of ASCII. With room made first, `push` is inlined.
 #[inline(always)]
 fn push_one<A: Allocator>(text: &mut String<A>, byte: u8) -> Result<(), AllocError>
     requires { byte < 128 }
@@ -83,7 +83,7 @@ fn push_two<A: Allocator>(text: &mut String<A>, first: u8, second: u8) -> Result
     text.push(char::from(second))
 }
 
-/// Hands on each call, and answers what the writer behind the reference does.
+/// Passes each call to the writer that the reference points to, and returns its result.
 impl<W: uWrite> uWrite for &mut W {
     type Error = W::Error;
 

@@ -1,19 +1,21 @@
-//! A line of a log, made readable in a buffer of the caller's.
-ghost use Rattle.std.specs.Prelude.{List, ℕ, IsErrOf, IsOk};
+//! A line of a log without memory: made readable in a buffer, and tested by a sink of your own.
+ghost use Rattle.std.specs.Prelude.{◌≡◌, ◌↔◌, List, ℕ, IsErrOf, IsOk, IsTrue, ⊤};
 ghost use Rattle.ufmt.specs.Buffer.{Fronts};
+ghost use Rattle.ufmt.specs.Document.{Document};
 ghost use Rattle.ufmt.specs.Layout.{plain_text, pretty_text};
+ghost use Rattle.ufmt.specs.Token.{IsToken};
 ghost use Rattle.ufmt_doc.specs.Texts.{IsConverted, IsNoText};
 
 #[cfg(test)]
 mod tests;
 
 use ufmt::Full;
+use ufmt::layout::Mode;
 use ufmt_doc::convert::to_pretty_into;
-use ufmt_doc::scan::ScanError;
+use ufmt_scan::scan::{Event, ScanError, Sink, scan};
 
-/// The pretty text of a line, at the front of the buffer, and how many bytes it has. It takes no
-/// memory. `Full` is answered where the text has more bytes than 256; the buffer has a beginning of
-/// it then.
+/// Writes the pretty text of a line to the front of the buffer, and returns its length. Takes no memory.
+/// Fails with `Full` if the text is longer than 256 bytes: the buffer then has a beginning of it.
 pub fn pretty_line(line: &[u8], buffer: &mut [u8; 256]) -> Result<usize, ScanError<Full>>
     ensures fronts { (text : List ℕ) → IsConverted plain_text pretty_text line.now text
         → Fronts buffer.old text result buffer.new }
@@ -22,4 +24,30 @@ pub fn pretty_line(line: &[u8], buffer: &mut [u8; 256]) -> Result<usize, ScanErr
     ensures not_text { IsErrOf result ScanError.NotText → IsNoText plain_text line.now }
 {
     to_pretty_into(buffer, line)
+}
+
+// A sink that takes each event and keeps none.
+#[derive(Clone, Copy)]
+struct Ignores;
+
+impl Sink for Ignores {
+    type Error = ();
+
+    ghost took = { λ _ _ _. ⊤ };
+
+    ghost stopped = { λ _ _ _. ⊥ };
+
+    ghost begun = { λ _. tt };
+
+    fn event(&mut self, _event: Event<&str>) -> Result<(), ()> {
+        Ok(())
+    }
+}
+
+/// Returns whether `read_plain` would read the line, given memory.
+pub fn is_readable(line: &[u8]) -> bool
+    ensures { IsTrue result
+        ↔ ((d : Document) × IsToken d × (plain_text d ≡ line.now)) }
+{
+    scan(Mode::Plain, line, &mut Ignores).is_ok()
 }

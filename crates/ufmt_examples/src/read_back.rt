@@ -1,4 +1,4 @@
-//! A value that was logged, read back from its line.
+//! A value that was printed to a log, read back from its line.
 ghost use Rattle.std.specs.Prelude.{◌≡◌, ◌≢◌, Some, option_and_then, option_map, string_bytes, IfOk, IsErrOf};
 ghost use Rattle.std.specs.Option.{option_copied};
 ghost use Rattle.ufmt.specs.Decimal.{decimal};
@@ -18,8 +18,8 @@ use std::alloc::Global;
 use ufmt_doc::doc::Doc;
 use ufmt_doc::plain_reader::{ReadError, read_plain};
 
-/// The text of a field of the struct that was printed to a line. `None` where the line is no struct,
-/// has no such field, or has a block there.
+/// Returns the text of a field of the struct that was printed to a line. Returns `None` if the line is
+/// no struct, has no such field, or if the field is a block.
 pub fn read_field(alloc: Global, line: &[u8], label: &str) -> Result<Option<String>, ReadError>
     ensures found { IfOk result (λ text.
         (d : Document) → IsToken d → plain_text d ≡ line.now
@@ -34,7 +34,7 @@ pub fn read_field(alloc: Global, line: &[u8], label: &str) -> Result<Option<Stri
     }
 }
 
-// The text of a struct's field that is a leaf.
+// The text of a struct's field, if it is a leaf.
 fn leaf_field<'a>(doc: &'a Doc, label: &str) -> Option<&'a str>
     ensures { option_copied result
         ≡ option_and_then leaf_part (field_part label.now (doc_document doc.now)) }
@@ -42,8 +42,8 @@ fn leaf_field<'a>(doc: &'a Doc, label: &str) -> Option<&'a str>
     doc.field(label)?.as_leaf()
 }
 
-/// What a measurement's line says of the temperature: of every measurement that is printed, the decimal text
-/// of its field. That a line is refused, as `NotText`, is said of other lines alone.
+/// Returns the temperature of a measurement that was printed to a line, as its decimal text. A printed
+/// line never fails with `NotText`.
 pub fn celsius(alloc: Global, line: &[u8]) -> Result<Option<String>, ReadError>
     ensures logged { IfOk result (λ text.
         (measurement : Measurement) → line.now ≡ plain_text (measurement_document measurement)

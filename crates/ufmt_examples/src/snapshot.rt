@@ -1,4 +1,4 @@
-//! Two values by their texts.
+//! Two values compared by their texts.
 ghost use Rattle.std.specs.Prelude.{◌≡◌, ◌↔◌, IfOk, IsTrue};
 ghost use Rattle.ufmt.specs.Layout.{pretty_text};
 
@@ -9,7 +9,7 @@ use std::alloc::{AllocError, Global};
 use ufmt::uDebug;
 use ufmt_doc::convert::pretty_text;
 
-/// Whether two values, also of different types, have one pretty text.
+/// Returns whether two values, also of different types, have the same pretty text.
 pub fn print_alike<T: uDebug, U: uDebug>(
     alloc: Global,
     value: &T,

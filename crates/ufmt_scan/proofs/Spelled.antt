@@ -3,11 +3,11 @@ use Rattle.std.proofs.Common.{◌≡◌, ◌⊎◌, inl, inr, ◌≤◌, refl, s
 use Rattle.std.specs.Prelude.{◌≢◌, unwrap_or}
 use Rattle.std.proofs.lemmas.Bool.{cases_lt}
 use Rattle.std.proofs.lemmas.List.{append_cancel_right, take-append-drop}
-use Rattle.ufmt.specs.Quoted.{IsQuote, escape, escaped_byte, escaped_bytes, plain_len}
+use Rattle.ufmt.specs.Quoted.{IsQuote, escape, escaped_byte, escaped_bytes, unescaped_len}
 use Rattle.ufmt.specs.Reading.{strip}
 use Rattle.ufmt.specs.ReadingQuoted.{read_escaped, decoded}
 use Rattle.ufmt_core.proofs.QuotedBytes as core
-use Rattle.ufmt.proofs.Parsing.{same_parts, strip_found, strip_of_front, strip_stands}
+use Rattle.ufmt.proofs.Parsing.{same_parts, strip_found, strip_of_front, strip_joined}
 use Rattle.ufmt.proofs.QuotedComplete.{escaped-no_quote, length-escaped, quote_ascii, read_escaped-complete}
 use Rattle.ufmt.proofs.QuotedDecoded.{decoded-escaped}
 use Rattle.ufmt_scan.specs.Private.Spelled.{Closes, IsSpelled, NeverCloses}
@@ -43,10 +43,10 @@ pub spelled_shorter : (q b : ℕ) (t u : List ℕ) → t ≡ escaped_byte q b ++
 spelled_shorter q b t u h = omega (arith, ap length h, length-append (escaped_byte q b) u, length-escaped q b)
 
 -- bytes without escapes are written as they are
-pub stretch_within : (t : List ℕ) (n : ℕ) → n ≡ plain_len t → n ≤ length t
+pub stretch_within : (t : List ℕ) (n : ℕ) → n ≡ unescaped_len t → n ≤ length t
 stretch_within t n is = omega (arith, is, (core.stretch t).within)
 
-pub stretch : (t u : List ℕ) (n : ℕ) → n ≡ plain_len t → u ≡ drop n t → IsSpelled 34 t u
+pub stretch : (t u : List ℕ) (n : ℕ) → n ≡ unescaped_len t → u ≡ drop n t → IsSpelled 34 t u
 stretch t u n is rest =
     let whole = core.stretch t in
     let itself : escaped_bytes 34 (take n t) ≡ take n t = append_cancel_right _ _ (escaped_bytes 34 (drop n t))
@@ -74,7 +74,7 @@ module _ (q : ℕ) (quote : IsQuote q) where
   -- the quote is none
   pub quote_ends : (t : List ℕ) (b : ℕ) (u : List ℕ) → q ∷ t ≢ escaped_byte q b ++ u
   quote_ends t b u same =
-      let none : ◌≡◌ {A = Option (List ℕ)} None (Some t) = sym (escaped-no_quote q b u quote) ∙ ap (strip (q ∷ [])) (sym same) ∙ strip_stands (q ∷ []) t in
+      let none : ◌≡◌ {A = Option (List ℕ)} None (Some t) = sym (escaped-no_quote q b u quote) ∙ ap (strip (q ∷ [])) (sym same) ∙ strip_joined (q ∷ []) t in
       absurd (cc)
 
   -- bytes up to what begins with none are known
@@ -93,7 +93,7 @@ module _ (q : ℕ) (quote : IsQuote q) where
   never_closes t u before none ends = record {
     never = λ bytes rest same.
         let is = (same_bytes before.bytes bytes u (q ∷ rest) ends (quote_ends rest) (sym before.is ∙ same)).1 in
-        let some : ◌≡◌ {A = Option (List ℕ)} None (Some rest) = none ∙ ap (strip (q ∷ [])) is ∙ strip_stands (q ∷ []) rest in
+        let some : ◌≡◌ {A = Option (List ℕ)} None (Some rest) = none ∙ ap (strip (q ∷ [])) is ∙ strip_joined (q ∷ []) rest in
         absurd (cc);
   }
 

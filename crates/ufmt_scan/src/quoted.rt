@@ -11,7 +11,7 @@ ghost use Rattle.ufmt_scan.specs.Private.Spelled.{Closes, IsOneCharacter, IsSpel
 use crate::leaf::marked_len;
 use crate::level::{strip_byte, strip_piece};
 use ufmt::ascii::text_from;
-use ufmt::quoted::{escape, plain_len};
+use ufmt::quoted::{escape, unescaped_len};
 
 // Of each byte, whether it is ASCII and has no escape in a quoted text.
 static PLAIN_ASCII: [u8; 256] = *b"\
@@ -78,7 +78,7 @@ fn after_stretch(quote: u8, input: &[u8]) -> &[u8]
     ensures shorter { length result.now ≤ length input.now }
 {
     if quote == b'"' {
-        input.split_at(plain_len(input)).1
+        input.split_at(unescaped_len(input)).1
     } else {
         input
     }

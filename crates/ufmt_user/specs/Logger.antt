@@ -1,4 +1,4 @@
--- What lines of pieces say: one of a log, measurements in a row, and the bytes of a packet.
+-- The texts of lines: one of a log, measurements in a row, and the bytes of a packet.
 use Rattle.std.specs.Prelude.{ℕ, List, [], ◌∷◌, ◌++◌, codes, true, false, map, length}
 use Rattle.ufmt_user.specs.declared.logger.Measurement.{Measurement}
 use Rattle.ufmt.specs.declared.hex.HexOptions.{HexOptions}
@@ -30,7 +30,7 @@ measurements_text rs = line_text (text (codes "measured: ") ∷ separated (codes
 abbrev pub byte : HexOptions
 byte = record { upper_case = false; pad_char = 48; pad_length = 2; ox_prefix = false }
 
--- how many bytes there are, and each of them, with a space between
+-- how many bytes there are, and the bytes with spaces between them
 abbrev pub dump_text : List ℕ → List ℕ
 dump_text packet = line_text
     (text (codes "len=") ∷ shown (number (length packet)) ∷ text (codes " ") ∷ separated (codes " ") (map (λ b. hex (padded_hexadecimal byte b) ∷ []) packet))

@@ -7,7 +7,7 @@ ghost use Rattle.ufmt.specs.Words.{integer, number};
 
 use ufmt::{Formatter, uDebug, uWrite};
 
-/// A list of its own name, which prints as a list.
+/// A struct that prints as the list in it.
 #[derive(Drop)]
 pub struct Scores<T> {
     pub scores: Vec<T>,
@@ -28,7 +28,7 @@ pub struct Port<T> {
     pub user: T,
 }
 
-/// Ports, which print as a map: `entry` in a loop.
+/// Ports, which print as a map, by `entry` in a loop.
 #[derive(Drop)]
 pub struct Ports<T> {
     pub ports: Vec<Port<T>>,
@@ -47,7 +47,7 @@ impl<T: uDebug> uDebug for Ports<T> {
     }
 }
 
-/// The users of ports, which print as a list: an entry in halves in a loop.
+/// The users of ports, which print as a list, by an entry in halves in a loop.
 #[derive(Drop)]
 pub struct Users<T> {
     pub ports: Vec<Port<T>>,

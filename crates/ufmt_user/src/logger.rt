@@ -5,7 +5,7 @@ ghost use Rattle.ufmt_user.specs.Logger.{dump_text, line, measurement_document, 
 use ufmt::line::Mark;
 use ufmt::{Formatter, Full, HexOptions, Line, fields, line_into, pieces, uDebug, uWrite};
 
-/// What a sensor has measured.
+/// What a sensor measured.
 #[derive(Drop)]
 pub struct Measurement {
     pub channel: u8,
@@ -27,8 +27,8 @@ const REGISTER: HexOptions = HexOptions {
     ox_prefix: true,
 };
 
-/// Writes one line of a log and answers how many bytes it has. Where it doesn't fit the answer is
-/// `Full`, and the buffer begins with the pieces of the line that did.
+/// Writes one line of a log, and returns its length. If it doesn't fit, the error is `Full`, and the
+/// buffer begins with the pieces that did fit.
 pub fn log(buffer: &mut [u8], measurement: &Measurement, control: u32) -> Result<usize, Full>
     ensures { Fronts buffer.old (line measurement.now control) result buffer.new }
 {
@@ -38,7 +38,7 @@ pub fn log(buffer: &mut [u8], measurement: &Measurement, control: u32) -> Result
     )
 }
 
-/// A measurement as its channel, an equals sign and the degrees.
+/// Writes a measurement as its channel, an equals sign and the degrees.
 #[derive(Drop)]
 pub struct ByChannel;
 
@@ -50,8 +50,8 @@ impl Mark<Measurement> for ByChannel {
     }
 }
 
-/// Writes the measurements with commas between them, as `measured: 3=-4, 5=20`, and answers how many bytes
-/// that is. Where it doesn't fit the answer is `Full`, and the buffer begins with the pieces that did.
+/// Writes the measurements with commas between them, as `measured: 3=-4, 5=20`, and returns the length.
+/// If they don't fit, the error is `Full`, and the buffer begins with the pieces that did fit.
 pub fn list_measurements(buffer: &mut [u8], measurements: &[Measurement]) -> Result<usize, Full>
     ensures { Fronts buffer.old (measurements_text measurements.now) result buffer.new }
 {
@@ -68,9 +68,9 @@ const BYTE: HexOptions = HexOptions {
     ox_prefix: false,
 };
 
-/// Writes how many bytes the packet has, and each byte by two hexadecimal digits: `len=4 de ad be ef`.
-/// It answers how many bytes that is. Where it doesn't fit the answer is `Full`, and the buffer begins
-/// with the pieces that did.
+/// Writes how many bytes the packet has, and each byte in two hexadecimal digits: `len=4 de ad be ef`.
+/// Returns the length. If it doesn't fit, the error is `Full`, and the buffer begins with the pieces
+/// that did fit.
 pub fn dump_packet(buffer: &mut [u8], packet: &[u8]) -> Result<usize, Full>
     ensures { Fronts buffer.old (dump_text packet.now) result buffer.new }
 {

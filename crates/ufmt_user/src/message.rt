@@ -1,4 +1,4 @@
-//! A message with a text in it, which prints in quotes, in a buffer of a fixed size.
+//! A message with a text in it, printed to a buffer of a fixed size.
 ghost use Rattle.std.specs.Prelude.{[], ◌∷◌};
 ghost use Rattle.ufmt.specs.Buffer.{Fronts};
 ghost use Rattle.ufmt.specs.Layout.{plain_text};
@@ -6,7 +6,7 @@ ghost use Rattle.ufmt.specs.Words.{character, named_struct, number, str};
 
 use ufmt::{Formatter, Full, debug_into, fields, uDebug, uWrite};
 
-/// What a node of a network says, and how urgent it is.
+/// What a node of a network reports, and how urgent it is.
 #[derive(Drop)]
 pub struct Message<'a> {
     pub node: u16,
@@ -23,8 +23,8 @@ impl uDebug for Message<'_> {
     }
 }
 
-/// Puts the message at the front of the buffer, and answers how many bytes it has. Where it doesn't
-/// fit the answer is `Full`, and the buffer begins with the pieces of the message that did.
+/// Prints the message to the front of the buffer, and returns its length. If it doesn't fit, the error
+/// is `Full`, and the buffer begins with the pieces that did fit.
 pub fn print<'a>(buffer: &mut [u8], message: &Message<'a>) -> Result<usize, Full>
     ensures { Fronts buffer.old (plain_text (⟦<Message<'a> as uDebug>⟧.document message.now)) result
         buffer.new }

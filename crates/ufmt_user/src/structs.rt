@@ -4,7 +4,7 @@ ghost use Rattle.ufmt.specs.Words.{named_struct, named_tuple};
 
 use ufmt::{Formatter, fields, uDebug, uWrite};
 
-/// A struct with two fields of any types that print themselves.
+/// A struct with two fields of any types.
 #[derive(Drop)]
 pub struct Pair<T, U> {
     pub x: T,
@@ -84,7 +84,7 @@ impl<T: uDebug> uDebug for X<T> {
     }
 }
 
-/// Another.
+/// Another struct around one value.
 #[derive(Drop)]
 pub struct I32<T>(pub T);
 

@@ -4,14 +4,14 @@ ghost use Rattle.ufmt.specs.Hex.{hexadecimal_byte, hexadecimal};
 
 use ufmt_core::ascii::text_from;
 
-/// An unsigned number of some width, as its hexadecimal digits see it.
+/// An unsigned number of some width.
 pub(crate) trait Nibbles: Copy {
     ghost value: { Self → ℕ };
 
     fn is_zero(self) -> bool
         ensures { IsTrue result ↔ (value self ≡ 0) };
 
-    /// The number without its last digit, and that digit.
+    /// Returns the number without its last hexadecimal digit, and that digit.
     fn split_last_digit(self) -> (Self, u8)
         ensures rest { value result.0 ≡ value self / 16 }
         ensures digit { result.1 ≡ value self % 16 };
@@ -41,7 +41,7 @@ impl Nibbles for u128 {
     }
 }
 
-/// The hexadecimal text of `n`, made at the end of `buffer`.
+/// Returns the hexadecimal text of `n`, made at the end of `buffer`.
 pub(crate) fn hexadecimal_text<N: Nibbles, const SIZE: usize>(
     n: N,
     upper_case: bool,
@@ -55,7 +55,7 @@ pub(crate) fn hexadecimal_text<N: Nibbles, const SIZE: usize>(
     text_from(buffer, start)
 }
 
-// Writes the text of `n` at the end of `buffer`, and gives the index of its first byte.
+// Writes the text of `n` at the end of `buffer`, and returns the index of its first byte.
 fn write_digits<N: Nibbles>(n: N, upper_case: bool, buffer: &mut [u8]) -> usize
     requires { length (hexadecimal upper_case (N.value n)) ≤ length buffer.old }
     ensures within { result ≤ length buffer.new }

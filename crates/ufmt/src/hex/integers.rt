@@ -1,4 +1,4 @@
-//! Hexadecimal texts of the integers. A signed number prints as the unsigned one of its bits.
+//! Hexadecimal texts of the integers. A signed number prints as the unsigned number with its bits.
 ghost use Rattle.std.specs.Prelude.{◌^◌, ◌<◌, ◌≡◌, is_ok};
 ghost use Rattle.std.specs.Int.{w8, w16, w32, w64, w128, cast_unsigned};
 ghost use Rattle.ufmt_core.specs.Formatter.{Prints};
@@ -8,7 +8,7 @@ use crate::hex::digits::{Nibbles, hexadecimal_text};
 use crate::hex::{HexOptions, uDisplayHex};
 use ufmt_core::{Formatter, uWrite};
 
-// Prints `n`, whose digits are made in `buffer`.
+// Prints `n`, with `buffer` for its digits.
 fn print_hex<N: Nibbles, W: uWrite, const SIZE: usize>(
     n: N,
     buffer: &mut [u8; SIZE],

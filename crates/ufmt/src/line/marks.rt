@@ -1,4 +1,4 @@
-//! How a value is written into a line.
+//! Marks: how a value is written into a line.
 ghost use Rattle.std.specs.Prelude.{[], ◌∷◌, ◌<◌, List, is_ok};
 ghost use Rattle.ufmt_core.specs.Formatter.{Prints, setting_of};
 ghost use Rattle.ufmt.specs.Pieces.{Piece, hex, pieces_text, pretty, shown};
@@ -9,9 +9,9 @@ use crate::hex::{HexOptions, uDisplayHex};
 use crate::print::fmt_pretty;
 use ufmt_core::{Formatter, uDebug, uWrite};
 
-/// One way to write a value into a line.
+/// A way to write a value into a line.
 pub trait Mark<T> {
-    /// The pieces that a value becomes.
+    /// The value's pieces.
     ghost pieces: { Self → T → List Piece };
 
     /// Writes the value's pieces, as `Line::print` does.
@@ -20,7 +20,7 @@ pub trait Mark<T> {
             (pieces_text (setting_of f.old) (pieces self.now value.now)) (is_ok result) f.new };
 }
 
-/// As `uDebug` prints it, in the formatter's mode.
+/// By `uDebug`, in the formatter's mode.
 #[derive(Clone, Copy, Drop)]
 pub struct Debug;
 
@@ -33,7 +33,7 @@ impl<T: uDebug> Mark<T> for Debug {
     }
 }
 
-/// As `uDisplay` prints it.
+/// By `uDisplay`.
 #[derive(Clone, Copy, Drop)]
 pub struct Display;
 
@@ -46,7 +46,7 @@ impl<T: uDisplay> Mark<T> for Display {
     }
 }
 
-/// As `uDebug` prints it in pretty mode, at the formatter's depth.
+/// By `uDebug` in pretty mode, at the formatter's depth.
 #[derive(Clone, Copy, Drop)]
 pub struct Pretty;
 
@@ -59,7 +59,7 @@ impl<T: uDebug> Mark<T> for Pretty {
     }
 }
 
-/// In hexadecimal digits, with these options, whose pad byte is ASCII.
+/// In hexadecimal digits, with these options. The pad byte is ASCII.
 #[derive(Clone, Copy, Drop)]
 pub struct Hex {
     pub options: HexOptions,

@@ -1,4 +1,4 @@
-//! The bytes that are written for an input, and how long the lines of a text are.
+//! The answer to a command on an input.
 ghost use Rattle.std.specs.Prelude.{◌≡◌, ◌≢◌, string_bytes, IfErr, IfOk, IsErrOf};
 ghost use Rattle.ufmt.specs.Layout.{plain_text, pretty_text};
 ghost use Rattle.ufmt_conv.specs.Answer.{IsAnswerLine, line_lengths, without_line_feed};
@@ -30,8 +30,8 @@ pub(super) fn answer_line(alloc: Global, command: Command, input: &[u8]) -> Resu
     Ok(line)
 }
 
-/// How many bytes each line of the input has, in order. A line ends before its line feed; bytes
-/// behind the last line feed are a line too, where there are any. The only refusal is want of memory.
+/// Returns how many bytes each line of the input has. A line ends before its line feed. Bytes after the
+/// last line feed are a line too. Fails only for want of memory.
 #[tactic(auto, using(crate::proofs::Lines::longer_first_zero))]
 pub fn line_lengths(alloc: Global, input: &[u8]) -> Result<Vec<u64>, AllocError>
     ensures { IfOk result (λ lengths. lengths.items ≡ line_lengths input.now) }
@@ -59,7 +59,7 @@ fn without_line_feed(input: &[u8]) -> &[u8]
     input.strip_suffix(b"\n").unwrap_or(input)
 }
 
-// The fault of a text that was not read: `not_text` where it is none.
+// The fault for an error of a conversion.
 fn fault(error: ReadError, not_text: Fault) -> Fault
     ensures not_text { error ≡ ReadError.NotText → result ≡ not_text }
     ensures no_memory { error ≡ ReadError.OutOfMemory → result ≡ Fault.OutOfMemory }

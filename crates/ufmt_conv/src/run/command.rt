@@ -1,20 +1,20 @@
-//! What the program can be asked for.
+//! The commands of the program.
 ghost use Rattle.std.specs.Prelude.{◌≡◌, ◌↔◌, [], ◌∷◌, map, string_bytes, Some};
 ghost use Rattle.ufmt_conv.specs.Command.{name_of, usage_line};
 
-/// What is to be answered about the input.
+/// What the program does with its input.
 #[derive(Clone, Copy, PartialEq, Eq, Debug)]
 pub enum Command {
-    /// The lengths of its lines.
+    /// Prints the lengths of its lines.
     Lengths,
-    /// The pretty text of the document whose plain text it is.
+    /// Prints the pretty text of a plain text.
     Pretty,
-    /// The plain text of the document whose pretty text it is.
+    /// Prints the plain text of a pretty text.
     Plain,
 }
 
 impl Command {
-    /// The command that the words after the program's name ask for: one word, which is its name.
+    /// Returns the command for the words after the program's name: exactly one word, which is its name.
     pub fn parse(words: &[String]) -> Option<Command>
         ensures { (command : Command) → (result ≡ Some command)
             ↔ (map string_bytes words.now ≡ name_of command ∷ []) }
@@ -38,7 +38,7 @@ impl Command {
     }
 }
 
-/// The line for words that are no command, without its line feed.
+/// Returns the line for words that are no command, without its line feed.
 pub fn usage() -> &'static str
     ensures { result.now ≡ usage_line }
 {

@@ -9,10 +9,10 @@ use super::watched::{Failed, Watched};
 use std::alloc::Global;
 use std::io::{Read, Write};
 
-// How much room a full vector gets for the next reads.
+// By how many bytes a full vector grows for the next reads.
 const ROOM: usize = 64 * 1024;
 
-// All bytes that the input has left, in one vector.
+// Returns all bytes that are left of the input.
 #[tactic(auto, using(crate::proofs::KnownParts::consumes_longer_front))]
 pub(super) fn read_to_end<R: Read>(alloc: Global, input: &mut Watched<R>) -> Result<Vec<u8>, Fault>
     requires { has_failed input.old ≡ false }
@@ -35,7 +35,7 @@ pub(super) fn read_to_end<R: Read>(alloc: Global, input: &mut Watched<R>) -> Res
     }
 }
 
-// One read into `text` after its first `filled` bytes. Zero is the end of the input.
+// Reads once into `text`, after its first `filled` bytes. Zero is the end of the input.
 fn read_after<R: Read>(
     input: &mut Watched<R>,
     text: &mut Vec<u8>,
@@ -61,7 +61,7 @@ fn read_after<R: Read>(
         .map_err(|_| Fault::CannotRead)
 }
 
-// Writes all the bytes and flushes. After a short write it goes on with the rest.
+// Writes all the bytes, and flushes. After a short write it continues with the rest.
 pub(super) fn write_whole<W: Write>(output: &mut Watched<W>, bytes: &[u8]) -> Result<(), Failed>
     requires { has_failed output.old ≡ false }
     ensures ok { OnOk result (Appends (W.contents (device_of output.old))

@@ -1,27 +1,27 @@
-//! What ends a run before its answer is written.
+//! Faults: why a run ends before its whole answer is written.
 ghost use Rattle.std.specs.Prelude.{◌≡◌};
 ghost use Rattle.ufmt_conv.specs.Fault.{line_of, status_of};
 ghost use Rattle.ufmt_conv.specs.declared.run.fault.Fault.TheVariants.{OutOfMemory};
 
 use std::alloc::AllocError;
 
-/// Why a run wrote no whole answer.
+/// Why a run didn't write its whole answer.
 #[derive(Clone, Copy, PartialEq, Eq, Debug)]
 pub enum Fault {
-    /// `pretty` was asked for, and no token document has the input as its plain text.
+    /// The command is `pretty`, and the input is no token document's plain text.
     NotPlain,
-    /// `plain` was asked for, and no token document has the input as its pretty text.
+    /// The command is `plain`, and the input is no token document's pretty text.
     NotPretty,
     /// The input failed.
     CannotRead,
     /// The output failed.
     CannotWrite,
-    /// Memory was refused.
+    /// A growth of memory was refused.
     OutOfMemory,
 }
 
 impl Fault {
-    /// The status that the program ends with.
+    /// Returns the program's exit status.
     pub fn status(&self) -> u8
         ensures { result ≡ status_of self.now }
     {
@@ -33,7 +33,7 @@ impl Fault {
         }
     }
 
-    /// The line for standard error, without its line feed.
+    /// Returns the line for standard error, without its line feed.
     pub fn line(&self) -> &'static str
         ensures { result.now ≡ line_of self.now }
     {

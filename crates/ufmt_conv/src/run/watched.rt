@@ -1,4 +1,4 @@
-//! A reader or writer, and whether it failed.
+//! A reader or writer that notes whether it failed.
 ghost use Rattle.std.specs.Prelude.{◌≡◌, ◌<◌, false, length, IfOk, IsTrue, OnErr, OnOk};
 ghost use Rattle.std.specs.Io.{ReadsAtMost, WritesAtMost};
 ghost use Rattle.std.specs.Io.KnownBytes.{Keeps, ReadConsumes, WriteAppends};
@@ -6,11 +6,11 @@ ghost use Rattle.ufmt_conv.specs.Watched.{device_of, has_failed};
 
 use std::io::{Read, Write};
 
-/// The device answered an error in this call, or took nothing of a piece that isn't empty.
+/// The device failed in this call, or wrote nothing of bytes that aren't empty.
 #[derive(Clone, Copy, PartialEq, Eq, Debug)]
 pub struct Failed;
 
-/// Keeps a reader or writer, and notes whether it failed.
+/// A reader or writer, and whether it failed.
 #[derive(Drop)]
 pub struct Watched<D> {
     inner: D,
@@ -18,7 +18,7 @@ pub struct Watched<D> {
 }
 
 impl<D> Watched<D> {
-    /// Watches a device, which has not failed yet.
+    /// Watches a device. It has not failed yet.
     pub fn new(device: D) -> Self
         ensures device { device_of result ≡ device }
         ensures works { has_failed result ≡ false }
@@ -29,21 +29,20 @@ impl<D> Watched<D> {
         }
     }
 
-    /// The reader or writer itself.
+    /// Returns the reader or writer itself.
     pub fn device(&self) -> &D
         ensures { result.now ≡ device_of self.now }
     {
         &self.inner
     }
 
-    /// Whether a call has answered `Failed`.
+    /// Returns whether a call has failed.
     pub fn has_failed(&self) -> bool
         ensures { result ≡ has_failed self.now }
     {
         self.failed
     }
 
-    // Notes a failure.
     fn fail(&mut self) -> Failed
         ensures device { device_of self.new ≡ device_of self.old }
         ensures noted { IsTrue (has_failed self.new) }
@@ -54,7 +53,7 @@ impl<D> Watched<D> {
 }
 
 impl<D: Read> Watched<D> {
-    /// Reads once. An `Ok` is the device's answer; `Failed` stands for its error, and takes nothing.
+    /// Reads once, and returns the device's result. On `Failed` nothing was read.
     pub fn read_some(&mut self, buffer: &mut [u8]) -> Result<usize, Failed>
         ensures bound { ReadsAtMost result buffer.new }
         ensures bytes { ReadConsumes (D.remaining (device_of self.old))
@@ -70,8 +69,8 @@ impl<D: Read> Watched<D> {
 }
 
 impl<D: Write> Watched<D> {
-    /// Writes once. An `Ok` is the device's answer; `Failed` stands for its error, or for nothing
-    /// taken of a piece that isn't empty, and leaves its bytes as they were.
+    /// Writes once, and returns the device's result. Fails also if nothing was written of bytes that
+    /// aren't empty. On `Failed` nothing was written.
     pub fn write_some(&mut self, bytes: &[u8]) -> Result<usize, Failed>
         ensures bound { WritesAtMost result bytes.now }
         ensures bytes { WriteAppends (D.contents (device_of self.old))
@@ -86,7 +85,7 @@ impl<D: Write> Watched<D> {
         }
     }
 
-    /// Flushes once. `Failed` stands for the device's error; its bytes are as they were either way.
+    /// Flushes once. The written bytes are as before.
     pub fn flush_all(&mut self) -> Result<(), Failed>
         ensures bytes { Keeps (D.contents (device_of self.old)) (D.contents (device_of self.new)) }
         ensures ok { OnOk result (has_failed self.new ≡ has_failed self.old) }

@@ -1,4 +1,4 @@
-//! Writing what stands round the entries of a block, at the formatter's own mode and depth.
+//! Writing the text around the entries of a block, at the formatter's own mode and depth.
 ghost use Rattle.std.specs.Prelude.{◌++◌, codes, is_ok};
 ghost use Rattle.ufmt_core.specs.Layout.{ending, frame, indentation, lead, line_start, new_line, separator, trail};
 ghost use Rattle.ufmt_core.specs.Formatter.{Prints, depth_of, mode_of, setting_of};
@@ -8,7 +8,7 @@ use crate::layout::{COLON, Count, Kind, Mode, INDENT};
 use crate::write::uWrite;
 
 impl<W: uWrite> Formatter<W> {
-    /// What stands before an entry behind so many others, where the formatter is at the entries' depth.
+    /// Writes the text before an entry that follows `count` others. The formatter is at their depth.
     #[inline(always)]
     pub(crate) fn write_lead(&mut self, kind: Kind, count: Count) -> Result<(), W::Error>
         ensures { Prints W.seen self.old
@@ -24,7 +24,7 @@ impl<W: uWrite> Formatter<W> {
         }
     }
 
-    /// What stands before the value of a struct's field with this name.
+    /// Writes the text before the value of a struct's field.
     #[inline(always)]
     pub(crate) fn write_field_lead(
         &mut self,
@@ -41,7 +41,6 @@ impl<W: uWrite> Formatter<W> {
         self.write_str(COLON)
     }
 
-    /// What stands after an entry.
     #[inline(always)]
     pub(crate) fn write_trail(&mut self) -> Result<(), W::Error>
         ensures { Prints W.seen self.old (trail (mode_of self.old)) (is_ok result) self.new }
@@ -49,7 +48,7 @@ impl<W: uWrite> Formatter<W> {
         self.write_piece(self.setting.mode.trail())
     }
 
-    /// What ends a block with so many entries, where the formatter is at the block's own depth.
+    /// Writes the end of a block with `count` entries. The formatter is at the block's own depth.
     #[inline(always)]
     pub(crate) fn write_ending(&mut self, kind: Kind, count: Count) -> Result<(), W::Error>
         ensures { Prints W.seen self.old
@@ -65,7 +64,6 @@ impl<W: uWrite> Formatter<W> {
         }
     }
 
-    // What stands before the first entry alone.
     #[inline(always)]
     fn write_start(&mut self, kind: Kind) -> Result<(), W::Error>
         ensures { Prints W.seen self.old (frame (mode_of self.old) kind).start (is_ok result)
@@ -84,7 +82,7 @@ impl<W: uWrite> Formatter<W> {
         }
     }
 
-    // Hands on two pieces, each unless it is empty.
+    // An empty piece isn't written.
     #[inline(always)]
     fn write_both(&mut self, first: &str, second: &str) -> Result<(), W::Error>
         ensures { Prints W.seen self.old (first.now ++ second.now) (is_ok result) self.new }
@@ -122,7 +120,7 @@ impl<W: uWrite> Formatter<W> {
         }
     }
 
-    // A piece for each unit.
+    // One piece for each indentation.
     fn write_indentation(&mut self, indents: u8) -> Result<(), W::Error>
         ensures { Prints W.seen self.old (indentation indents) (is_ok result) self.new }
     {
@@ -132,7 +130,6 @@ impl<W: uWrite> Formatter<W> {
         Ok(())
     }
 
-    // What ends a block with so many entries, on the line on which it ends.
     #[inline(always)]
     fn write_closing(&mut self, kind: Kind, count: Count) -> Result<(), W::Error>
         ensures { Prints W.seen self.old ((frame (mode_of self.old) kind).closing count)
@@ -151,7 +148,6 @@ impl<W: uWrite> Formatter<W> {
         }
     }
 
-    // Hands the piece on, unless it is empty.
     #[inline(always)]
     fn write_piece(&mut self, piece: &str) -> Result<(), W::Error>
         ensures { Prints W.seen self.old piece.now (is_ok result) self.new }

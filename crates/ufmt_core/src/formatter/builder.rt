@@ -1,4 +1,4 @@
-//! The builder that lists, sets, maps, structs and tuples are kinds of.
+//! The one builder of lists, sets, maps, structs and tuples.
 ghost use Rattle.std.specs.Prelude.{◌≡◌, ◌↔◌, [], is_ok, true, Err, IfErr, IfOk, IsOk, IsTrue, MatchBool, OnOk};
 ghost use Rattle.std.specs.Borrow.{sem, follows};
 ghost use mir.Syntax.{named};
@@ -19,25 +19,25 @@ use crate::write::uWrite;
 pub(crate) enum Status {
     /// An entry, or `finish`.
     Open,
-    /// The second half of an entry whose value, in a map whose key, the formatter is lent for.
+    /// The formatter is lent for an entry, in a map for its key. Only the matching second call.
     Lent,
-    /// The second half of a map's entry whose value the formatter is lent for.
+    /// The formatter is lent for the value of a map's entry. Only the matching second call.
     LentValue,
-    /// None.
+    /// No call.
     Closed,
 }
 
-/// What tells one builder from another: a list's, a set's, a map's, a struct's or a tuple's.
+/// Marks whether a builder is a list's, a set's, a map's, a struct's or a tuple's.
 pub trait BlockKind: Drop {
-    /// Which brackets frame the entries.
+    /// The kind of the block, which gives the brackets around its entries.
     ghost kind: { Self → Kind };
 
     fn kind(&self) -> Kind
         ensures { result ≡ kind self.now };
 }
 
-/// Writes a block, entry by entry: `DebugList`, `DebugSet`, `DebugMap`, `DebugStruct` and `DebugTuple`
-/// are this type with a marker each.
+/// Writes a block, entry by entry. `DebugList`, `DebugSet`, `DebugMap`, `DebugStruct` and `DebugTuple`
+/// are this type, each with its own marker.
 #[derive(Drop)]
 pub struct Builder<'f, W, K> {
     pub(crate) formatter: &'f mut Formatter<W>,
@@ -48,7 +48,7 @@ pub struct Builder<'f, W, K> {
 }
 
 impl<W: uWrite> Formatter<W> {
-    /// Writes the opening, and goes on to the mode and depth of the entries.
+    /// Writes the opening, and changes to the mode and depth of the entries.
     #[inline(always)]
     pub(crate) fn open<'f, K: BlockKind>(
         &'f mut self,
@@ -76,8 +76,8 @@ impl<W: uWrite> Formatter<W> {
 }
 
 impl<W: uWrite, K: BlockKind> Builder<'_, W, K> {
-    /// Writes what ends the block. The builder is then closed, and mode and depth are those from
-    /// before it, also where the writer fails.
+    /// Writes the end of the block. Also on `Err` the builder is then closed, and mode and depth are
+    /// those from before it.
     #[inline(always)]
     pub fn finish(&mut self) -> Result<(), W::Error>
         requires { IsOpen (block K.kind self.old) }
@@ -89,15 +89,15 @@ impl<W: uWrite, K: BlockKind> Builder<'_, W, K> {
         self.formatter.write_ending(kind, self.count)
     }
 
-    /// Whether entries may follow: until `finish`, or a call that fails, and not between the halves of
-    /// an entry. The formatter of such a builder is at the mode and depth of the entries.
+    /// Whether entries may follow. They may until `finish` or a call that fails, and not between the
+    /// halves of an entry. The formatter of an open builder is at the mode and depth of the entries.
     pub fn is_open(&self) -> bool
         ensures { IsTrue result ↔ IsOpen (block K.kind self.now) }
     {
         matches!(self.status, Status::Open) && self.formatter.setting == self.outer.inside()
     }
 
-    /// Writes what stands before an entry, and lends the formatter for it.
+    /// Writes the text before an entry, and lends the formatter for it.
     #[inline(always)]
     pub(crate) fn begin(&mut self) -> Result<&mut Formatter<W>, W::Error>
         requires { IsInside (block K.kind self.old) }
@@ -110,7 +110,7 @@ impl<W: uWrite, K: BlockKind> Builder<'_, W, K> {
         self.lend_if(written, Status::Lent)
     }
 
-    /// Writes what stands before the value of a field with this name, and lends the formatter for it.
+    /// Writes the text before the value of a struct's field, and lends the formatter for the value.
     #[inline(always)]
     pub(crate) fn begin_named(&mut self, name: &str) -> Result<&mut Formatter<W>, W::Error>
         requires { IsInside (block K.kind self.old) }
@@ -125,7 +125,7 @@ impl<W: uWrite, K: BlockKind> Builder<'_, W, K> {
         self.lend_if(written, Status::Lent)
     }
 
-    /// Lends the formatter where the answer is `Ok`, and else leaves the block.
+    /// Lends the formatter if the answer is `Ok`, else closes the builder.
     #[inline(always)]
     pub(crate) fn lend_if(
         &mut self,
@@ -152,7 +152,7 @@ impl<W: uWrite, K: BlockKind> Builder<'_, W, K> {
         &mut *self.formatter
     }
 
-    /// Sets the formatter to the mode and depth of the entries, whatever it was left at when it was lent.
+    /// Sets the formatter to the mode and depth of the entries, whatever the borrower left.
     #[inline(always)]
     pub(crate) fn take_back(&mut self)
         ensures { self.new ≡ lent self.old.status self.old (inner_formatter (block K.kind self.old)) }
@@ -171,7 +171,7 @@ impl<W: uWrite, K: BlockKind> Builder<'_, W, K> {
         self.end(answer)
     }
 
-    /// Writes what follows an entry whose `fmt` gave this answer, or passes an `Err` on.
+    /// Writes the text after an entry if its `fmt` returned `Ok`, else returns its error.
     #[inline(always)]
     pub(crate) fn end(&mut self, answer: Result<(), W::Error>) -> Result<(), W::Error>
         requires { IsInside (block K.kind self.old) }
@@ -186,7 +186,7 @@ impl<W: uWrite, K: BlockKind> Builder<'_, W, K> {
         self.settle(ended, Status::Open, self.count.next())
     }
 
-    // Goes on to this status and count where the answer is `Ok`, and else leaves the block.
+    // Takes this status and count if the answer is `Ok`, else closes the builder.
     #[inline(always)]
     fn settle(
         &mut self,
@@ -208,7 +208,7 @@ impl<W: uWrite, K: BlockKind> Builder<'_, W, K> {
         answer
     }
 
-    // Closes the builder, and goes back to the mode and depth from before it.
+    // Closes the builder, and restores the mode and depth from before it.
     #[inline(always)]
     fn leave(&mut self)
         ensures { self.new ≡ abandoned self.old }

@@ -1,4 +1,4 @@
-//! A whole struct in one call: what stands under `fields!`, and what one may call in its place.
+//! A whole struct in one call. `fields!` is made of these calls, and a user may call them too.
 ghost use Rattle.std.specs.Prelude.{is_ok, [], ◌∷◌};
 ghost use Rattle.ufmt_core.specs.Document.{Fields, field, fields_of, no_fields, struct_of};
 ghost use Rattle.ufmt_core.specs.Formatter.{LaysOut};
@@ -10,12 +10,12 @@ use crate::structs::DebugStruct;
 use crate::uDebug;
 use crate::write::uWrite;
 
-/// The fields that are left to a struct: the name and value of the next and those after it, or `()`.
+/// The fields of a struct that are left to write: the next one and those after it, or `()`.
 pub trait NamedFields<'a> {
     /// The fields' names and documents.
     ghost fields: { Self → Fields };
 
-    /// Writes the fields, and closes the struct.
+    /// Writes the fields and the end of the struct.
     #[inline(always)]
     fn finish<W: uWrite>(&self, block: &mut DebugStruct<W>) -> Result<(), W::Error>
         requires { IsOpen (struct_block block.old) }
@@ -43,7 +43,7 @@ impl<'a, D: uDebug, R: NamedFields<'a>> NamedFields<'a> for (&'a str, &'a D, R) 
     }
 }
 
-/// The chain of these fields that `struct_of` takes.
+/// The chain of fields that `struct_of` takes.
 macro_rules! field_chain {
     () => { () };
     ($name:ident: $value:ident, $($rest:tt)*) => { ($name, $value, field_chain!($($rest)*)) };
@@ -51,7 +51,7 @@ macro_rules! field_chain {
 
 impl<W: uWrite> Formatter<W> {
     /// Writes a whole struct, whose fields are a chain `(name, value, (name, value, .. ()))` of
-    /// references. On `Err` a beginning of that is written, and mode and depth are as before.
+    /// references. On `Err` a beginning of it was written. Mode and depth are as before.
     #[inline(always)]
     pub fn struct_of<'a, F: NamedFields<'a>>(
         &mut self,

@@ -1,4 +1,4 @@
-//! A whole tuple in one call: what stands under `fields!`, and what one may call in its place.
+//! A whole tuple in one call. `fields!` is made of these calls, and a user may call them too.
 ghost use Rattle.std.specs.Prelude.{is_ok, [], ◌∷◌};
 ghost use Rattle.ufmt_core.specs.Document.{Documents, document, documents, no_documents, tuple_of};
 ghost use Rattle.ufmt_core.specs.Formatter.{LaysOut};
@@ -10,12 +10,12 @@ use crate::tuple::DebugTuple;
 use crate::uDebug;
 use crate::write::uWrite;
 
-/// The fields that are left to a tuple: the next and those after it, or `()`.
+/// The fields of a tuple that are left to write: the next one and those after it, or `()`.
 pub trait UnnamedFields<'a> {
     /// The fields' documents.
     ghost documents: { Self → Documents };
 
-    /// Writes the fields, and closes the tuple.
+    /// Writes the fields and the end of the tuple.
     fn finish<W: uWrite>(&self, block: &mut DebugTuple<W>) -> Result<(), W::Error>
         requires { IsOpen (tuple_block block.old) }
         ensures { WritesEnding W.seen (tuple_block block.old)
@@ -43,7 +43,7 @@ impl<'a, D: uDebug, R: UnnamedFields<'a>> UnnamedFields<'a> for (&'a D, R) {
 
 impl<W: uWrite> Formatter<W> {
     /// Writes a whole tuple, whose fields are a chain `(value, (value, .. ()))` of references. On
-    /// `Err` a beginning of that is written, and mode and depth are as before.
+    /// `Err` a beginning of it was written. Mode and depth are as before.
     pub fn tuple_of<'a, F: UnnamedFields<'a>>(
         &mut self,
         name: &str,

@@ -47,3 +47,25 @@ fn lines_are_made_readable(rt: HostRuntime) -> Result<(), Fail> {
     }
     Ok(())
 }
+
+#[test]
+fn readable_lines_are_found(rt: HostRuntime) {
+    let readable = [
+        "Measurement { channel: 3, celsius: -4 }",
+        "[1, {}, ()]",
+        "\"a\\n\"",
+    ];
+    for line in readable {
+        assert!(rt; is_readable(line.as_bytes()), "{line}");
+    }
+    let others = [
+        "",
+        "Measurement { channel: 3, celsius: -4 } ",
+        "Measurement {channel: 3}",
+        "[1,2]",
+        "\"a\n\"",
+    ];
+    for line in others {
+        assert!(rt; !is_readable(line.as_bytes()), "{line}");
+    }
+}

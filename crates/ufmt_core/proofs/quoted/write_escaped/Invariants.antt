@@ -1,4 +1,4 @@
--- All but the rest was printed.
+-- All before the rest was printed.
 use denote.Shadow.{shadow}
 use denote.Text.{Utf8}
 use Rattle.std.proofs.Common.{length}

@@ -2,7 +2,7 @@ use Rattle.std.proofs.Common.{◌≡◌, ◌∙◌, ap, sym, refl, ℕ, ◌<◌,
 use Rattle.ufmt_core.specs.Writes.{Writes, string_seen}
 use Rattle.ufmt_core.proofs.write.StringuWrite.write_str.Goals as goal
 
--- a text that has some bytes was appended, or nothing was
+-- the text was appended, or nothing was
 string_writes : {A : Type 0} (old new : String A) (text bytes : List ℕ) (ok : Bool) → text ≡ bytes → 0 < length bytes
     → string_bytes new ≡ (if ok then string_bytes old ++ bytes else string_bytes old) → Writes string_seen old text ok new
 string_writes old new text bytes true is some h = record {
@@ -22,7 +22,7 @@ string_writes old new text bytes false is some h = record {
   untouched = λ known. refl;
 }
 
--- a text of one byte, and of two
+-- a text of one byte, and a text of two
 one : (t : List ℕ) → 1 ≤ length t → length t < 2 → t ≡ slice_index_or t 0 0 ∷ []
 one [] some few = absurd (omega arith)
 one (a ∷ []) some few = refl
