@@ -10,7 +10,7 @@ use Rattle.ufmt_core.specs.Layout.{layout}
 use Rattle.ufmt_core.specs.Formatter.{LaysOut, Prints, setting_of}
 
 module _ {W : Type 0} {seen : Seen W} where
-  -- what lays out a document at mode and depth `s` prints its text
+  -- laying out a document at mode and depth `s` prints its text
   pub Prints-shown : {f new : Formatter W} {d : Document} {ok : Bool} (s : Setting) → setting_of f ≡ s → LaysOut seen f d ok new
       → Prints seen f (layout s d) ok new
   Prints-shown {f} {new} {d} {ok} s e l = subst (λ (at : Setting). Prints seen f (layout at d) ok new) e l.prints

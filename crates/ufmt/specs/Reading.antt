@@ -59,7 +59,7 @@ unfoldable pub read_rest : {A : Type 0} → Parse A → Frame → Setting → Co
 read_rest q f s count zero t = None
 read_rest q f s count (suc n) t = choose (strip (lead f (inside s) count) t) (read_turn q s.mode (read_rest q f s (next count) n)) (read_end f s count t)
 
--- reads the rest of a block, with all its entries: they are no more than the bytes of the text
+-- reads the rest of a block with any number of entries; a text has no more entries than bytes
 abbrev pub read_others : {A : Type 0} → Parse A → Frame → Setting → Count → Parse (List A)
 read_others q f s count t = read_rest q f s count (suc (length t)) t
 

@@ -19,7 +19,7 @@ ReadsEachText = (mode : Mode) (d : Document) → IsToken d → read_text mode (l
 abbrev pub RefusesNoText : Type 0
 RefusesNoText = (mode : Mode) (t : List ℕ) → read_text mode t ≡ None → (d : Document) → IsToken d → layout (setting mode 0) d ≢ t
 
--- if two plain texts are equal, each with a follower after it, the normal forms are equal, and so are the followers
+-- if the plain texts of two token documents, each with a follower after it, are equal, so are the normal forms and the followers
 abbrev pub PlainReadsOneWay : Type 0
 PlainReadsOneWay = (d e : Document) (u v : List ℕ) → IsToken d → IsToken e → IsFollower u → IsFollower v
     → plain_text d ++ u ≡ plain_text e ++ v → (normal d ≡ normal e) × (u ≡ v)

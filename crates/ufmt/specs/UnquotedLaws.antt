@@ -1,4 +1,4 @@
--- The promise about unquoted leaves: a document without quoted leaves is a token document exactly if its leaves are words or `()`.
+-- The promise about token documents without quoted leaves: their leaves are words and `()`.
 use Rattle.std.specs.Prelude.{◌↔◌, ℕ, ◌≤◌, List, ⊤}
 use Rattle.ufmt_core.specs.Document.{Document, leaf, joined, list_of, set_of, map_of, struct_of, tuple_of, pretty_part, Documents, no_documents, document, Pairs, no_pairs, pair, Fields, no_fields, field, nest}
 use Rattle.ufmt_core.specs.Quoted.{IsQuoted}
