@@ -1,4 +1,4 @@
--- What is read as a block of any frame is laid out as one, where that holds of its entries.
+-- Reading a block in any frame is sound if reading its entries is sound.
 use Rattle.std.proofs.Common.{◌≡◌, ◌⊎◌, inl, inr, ap, sym, ◌∙◌, subst, ℕ, zero, suc, List, [], ◌∷◌, ◌++◌, map, length, Some, None, codes, append_assoc}
 use Rattle.std.specs.Prelude.{⊤}
 use Rattle.ufmt_core.specs.Document.{Document}
@@ -11,17 +11,16 @@ use Rattle.ufmt.specs.Reading.{Parse, strip, read_value, read_pair, read_after_e
 use Rattle.ufmt.proofs.Parsing.{strip_found, led_from, chosen_from, mapped_from, beside_from}
 use Rattle.ufmt.proofs.BlocksComplete.{entry_assoc}
 
--- what is read is good, and its text with what is left is the text that was read
+-- what `q` reads is good, and its text and the rest make up the text that was read
 pub record Finds {A : Type 0} (q : Parse A) (Good : A → Type 0) (text : A → List ℕ) : Type 0 where
   pub good : (t : List ℕ) (x : A) (u : List ℕ) → q t ≡ Some (x, u) → Good x
   pub whole : (t : List ℕ) (x : A) (u : List ℕ) → q t ≡ Some (x, u) → t ≡ text x ++ u
 
--- each of these is good
 abbrev pub AreGood : {A : Type 0} → (A → Type 0) → List A → Type 0
 AreGood Good [] = ⊤
 AreGood Good (x ∷ xs) = Good x × AreGood Good xs
 
--- what was read behind an entry
+-- what `read_after_entry` reads is the trail, and then what `more` reads
 read_after_entry_sound : {A : Type 0} (mode : Mode) (more : Parse (List A)) (x : A) (t : List ℕ) (ys : List A) (u : List ℕ)
     → read_after_entry mode more x t ≡ Some (ys, u) → (v : List ℕ) × (xs : List A) × (t ≡ trail mode ++ v) × (more v ≡ Some (xs, u)) × (x ∷ xs ≡ ys)
 read_after_entry_sound mode more x t ys u h =
@@ -29,7 +28,7 @@ read_after_entry_sound mode more x t ys u h =
     let mapped = mapped_from (λ xs. x ∷ xs) (more after.0) ys u after.2 in
     (after.0, mapped.0, strip_found (trail mode) t after.0 after.1, mapped.1, mapped.2)
 
--- an entry and what was read behind it
+-- what `read_turn` reads is a good entry, its trail, and then what `more` reads
 read_turn_sound : {A : Type 0} (q : Parse A) (Good : A → Type 0) (text : A → List ℕ) (mode : Mode) (more : Parse (List A))
     → Finds q Good text → (t : List ℕ) (ys : List A) (u : List ℕ) → read_turn q mode more t ≡ Some (ys, u) → (x : A) × (v : List ℕ)
     × (xs : List A) × Good x × (t ≡ text x ++ (trail mode ++ v)) × (more v ≡ Some (xs, u)) × (x ∷ xs ≡ ys)
@@ -46,12 +45,11 @@ read_turn_sound q Good text mode more finds t ys u h =
       after.4,
     )
 
--- the whole of what is left of a block from an entry on
 entry_whole : (t v w start text after left u : List ℕ) → t ≡ start ++ v → v ≡ text ++ (after ++ w) → w ≡ left ++ u
     → t ≡ (start ++ (text ++ (after ++ left))) ++ u
 entry_whole t v w start text after left u a b c = rw (a, b, c) (sym (entry_assoc start text after left u))
 
--- what is read in one turn, or as the end, is the rest of a block, where what is read in the next turns is
+-- one turn of `read_rest` is sound if the next turns are sound
 read_rest_step : {A : Type 0} (q : Parse A) (Good : A → Type 0) (text : A → List ℕ) (f : Frame) (s : Setting) → Finds q Good text
     → (count : Count) (more : Parse (List A)) (t : List ℕ) (xs : List A) (u : List ℕ)
     → ((v : List ℕ) (ys : List A) → more v ≡ Some (ys, u) → AreGood Good ys × (v ≡ block_tail f s (next count) (map text ys) ++ u))
@@ -69,7 +67,7 @@ read_rest_step q Good text f s finds count more t xs u later (inr h) =
     let end = beside_from [] (strip (ending f s count) t) xs u h.1 in
     subst (λ ys. AreGood Good ys × (t ≡ block_tail f s count (map text ys) ++ u)) end.1 (tt, strip_found (ending f s count) t u end.0)
 
--- what is read of the rest of a block is the rest of one
+-- what `read_rest` reads is the rest of a block
 pub read_rest_sound : {A : Type 0} (q : Parse A) (Good : A → Type 0) (text : A → List ℕ) (f : Frame) (s : Setting) → Finds q Good text
     → (n : ℕ) (count : Count) (t : List ℕ) (xs : List A) (u : List ℕ) → read_rest q f s count n t ≡ Some (xs, u) → AreGood Good xs
     × (t ≡ block_tail f s count (map text xs) ++ u)
@@ -80,7 +78,7 @@ read_rest_sound q Good text f s finds (suc n) count t xs u h =
     (λ v ys e. read_rest_sound q Good text f s finds n (next count) v ys u e)
     (chosen_from (strip (lead f (inside s) count) t) (read_turn q s.mode (read_rest q f s (next count) n)) (read_end f s count t) (Some (xs, u)) h)
 
--- a block that was found behind its first entry, this one: its other entries, and what it was made into
+-- a block that was found after its first entry `x`: its other entries, and the document that was made
 pub record FoundAfter {A : Type 0} (Good : A → Type 0) (text : A → List ℕ) (f : Frame) (s : Setting) (make : List A → Document) (x : A)
     (t : List ℕ) (d : Document) (u : List ℕ) : Type 0 where
   pub others : List A
@@ -88,7 +86,7 @@ pub record FoundAfter {A : Type 0} (Good : A → Type 0) (text : A → List ℕ)
   pub good : AreGood Good others
   pub whole : t ≡ trail s.mode ++ (block_tail f s One (map text others) ++ u)
 
--- what is read as a block behind its first entry is the rest of one
+-- what `read_after_first` reads is the rest of a block after its first entry
 pub read_after_first_sound : {A : Type 0} (q : Parse A) (Good : A → Type 0) (text : A → List ℕ) (f : Frame) (s : Setting)
     (make : List A → Document) → Finds q Good text → (x : A) (t : List ℕ) (d : Document) (u : List ℕ)
     → read_after_first q f s make x t ≡ Some (d, u) → FoundAfter Good text f s make x t d u
@@ -98,7 +96,7 @@ read_after_first_sound q Good text f s make finds x t d u h =
     let left = read_rest_sound q Good text f s finds (suc (length after.0)) One after.0 after.1 u after.3 in
     record { others = after.1; made = ap make after.4 ∙ mapped.2; good = left.0; whole = after.2 ∙ ap (λ w. trail s.mode ++ w) left.1 }
 
--- a block that was found behind what stands before its first entry
+-- a block that was found from its first entry on
 pub record FoundEntries {A : Type 0} (Good : A → Type 0) (text : A → List ℕ) (f : Frame) (s : Setting) (make : List A → Document)
     (t : List ℕ) (d : Document) (u : List ℕ) : Type 0 where
   pub first : A
@@ -107,11 +105,10 @@ pub record FoundEntries {A : Type 0} (Good : A → Type 0) (text : A → List �
   pub good : AreGood Good (first ∷ others)
   pub whole : lead f (inside s) Zero ++ t ≡ block_tail f s Zero (map text (first ∷ others)) ++ u
 
--- the whole of a block from its first entry on
 first_whole : (start t v text after left u : List ℕ) → t ≡ text ++ v → v ≡ after ++ (left ++ u) → start ++ t ≡ (start ++ (text ++ (after ++ left))) ++ u
 first_whole start t v text after left u a b = rw (a, b) (sym (entry_assoc start text after left u))
 
--- a block behind its first entry is one from that entry on
+-- a good entry, and a block that was found after it, are a block that was found from that entry on
 pub with_first : {A : Type 0} {Good : A → Type 0} {text : A → List ℕ} {f : Frame} {s : Setting} {make : List A → Document} (x : A)
     (t v : List ℕ) {d : Document} {u : List ℕ} → Good x → t ≡ text x ++ v → FoundAfter Good text f s make x v d u → FoundEntries Good text f s make t d u
 with_first {A} {Good} {text} {f} {s} {make} x t v {d} {u} good whole h = record {
@@ -122,7 +119,7 @@ with_first {A} {Good} {text} {f} {s} {make} x t v {d} {u} good whole h = record 
   whole = first_whole (lead f (inside s) Zero) t v (text x) (trail s.mode) (block_tail f s One (map text h.others)) u whole h.whole;
 }
 
--- what is read as a block behind what stands before its first entry is one
+-- what `read_entries` reads is a block from its first entry on
 pub read_entries_sound : {A : Type 0} (q : Parse A) (Good : A → Type 0) (text : A → List ℕ) (f : Frame) (s : Setting)
     (make : List A → Document) → Finds q Good text → (t : List ℕ) (d : Document) (u : List ℕ) → read_entries q f s make t ≡ Some (d, u)
     → FoundEntries Good text f s make t d u
@@ -131,7 +128,7 @@ read_entries_sound q Good text f s make finds t d u h =
     with_first first.0.0 t first.0.1 (finds.good t first.0.0 first.0.1 first.1) (finds.whole t first.0.0 first.0.1 first.1)
     (read_after_first_sound q Good text f s make finds first.0.0 first.0.1 d u first.2)
 
--- what was read as a value behind a colon
+-- what `read_value` reads is a colon, a space and a good value
 pub read_value_sound : {A : Type 0} (p : Parse Document) (Good : Document → Type 0) (text : Document → List ℕ) → Finds p Good text
     → (key : A) (t : List ℕ) (x : A × Document) (u : List ℕ) → read_value p key t ≡ Some (x, u) → (value : Document) × ((key, value) ≡ x)
     × Good value × (t ≡ codes ": " ++ (text value ++ u))
@@ -145,7 +142,7 @@ read_value_sound {A} p Good text finds key t x u h =
           ∙ ap (λ w. codes ": " ++ w) (finds.whole after.0 mapped.0 u mapped.1),
     )
 
--- a key and a value with these properties
+-- a good key and a good value
 abbrev pub IsGoodPair : {A : Type 0} → (A → Type 0) → (Document → Type 0) → A × Document → Type 0
 IsGoodPair GoodKey Good x = GoodKey x.0 × Good x.1
 
@@ -153,7 +150,7 @@ IsGoodPair GoodKey Good x = GoodKey x.0 × Good x.1
 abbrev pub keyed_text : {A : Type 0} → (A → List ℕ) → (Document → List ℕ) → A × Document → List ℕ
 keyed_text key_text text x = key_text x.0 ++ (codes ": " ++ text x.1)
 
--- what is read as a key and a value is a key and a value
+-- what `read_pair` reads is a good key and a good value
 read_pair_sound : {A : Type 0} (key : Parse A) (p : Parse Document) (GoodKey : A → Type 0) (Good : Document → Type 0)
     (key_text : A → List ℕ) (text : Document → List ℕ) → Finds key GoodKey key_text → Finds p Good text
     → (t : List ℕ) (x : A × Document) (u : List ℕ) → read_pair key p t ≡ Some (x, u) → IsGoodPair GoodKey Good x × (t ≡ keyed_text key_text text x ++ u)
@@ -166,7 +163,6 @@ read_pair_sound key p GoodKey Good key_text text finds_key finds t x u h =
           ∙ sym (append_assoc (key_text first.0.0) (codes ": " ++ text second.0) u),
     )
 
--- so keys and values are found where keys and values are
 pub read_pair_finds : {A : Type 0} (key : Parse A) (p : Parse Document) (GoodKey : A → Type 0) (Good : Document → Type 0)
     (key_text : A → List ℕ) (text : Document → List ℕ) → Finds key GoodKey key_text → Finds p Good text
     → Finds (read_pair key p) (IsGoodPair GoodKey Good) (keyed_text key_text text)

@@ -1,15 +1,14 @@
--- What filling a buffer means for a cursor as a writer.
+-- A cursor that fills its buffer is a lawful writer.
 use Rattle.std.proofs.Common.{◌≡◌, ℕ, ◌+◌, List, [], ◌∷◌, length, drop, true, refl, sym, ap, ap₂, ◌∙◌, length-append, length-drop, drop-drop, arith}
 use Rattle.std.proofs.lemmas.List.{length-take-le}
 use Rattle.ufmt_core.specs.Writes.{Writes}
 use Rattle.ufmt.specs.declared.cursor.Cursor.{Cursor}
 use Rattle.ufmt.specs.Cursor.{Fills, buffer_name, cursor_seen, unwritten_bytes, written_bytes}
 
--- a cursor has written as many bytes as it counts
 length-written_bytes : (c : Cursor) → length (written_bytes c) ≡ c.count
 length-written_bytes c = length-take-le c.count c.buffer.now c.within
 
--- a piece that was taken is written, and what stood past it stays
+-- a piece that was taken is written, and the bytes after it stay
 pub Writes-filled : (old new : Cursor) (piece : List ℕ) → Fills old piece true new → buffer_name new ≡ buffer_name old → Writes cursor_seen old piece true new
 Writes-filled old new piece f name =
     let written = f.written refl in

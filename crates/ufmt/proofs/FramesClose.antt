@@ -1,4 +1,4 @@
--- The frames of the five kinds: their ends can be told from entries, and their empty forms from what begins an entry.
+-- In each frame, the ending of a block differs from another entry, and an empty block from a block with entries.
 use Rattle.std.proofs.Common.{◌≡◌, inl, inr, refl, ℕ, zero, suc, ◌≤◌, ◌+◌, min, ◌==◌, Bool, true, false, List, [], ◌∷◌, ◌++◌, None, codes, eqb-true, arith}
 use Rattle.std.specs.Prelude.{⊤}
 use Rattle.ufmt_core.specs.Layout.{frame, setting, inside, entry_depth, indentation, new_line, lead, ending, trail, next, block_tail}
@@ -14,16 +14,15 @@ use Rattle.ufmt.specs.Reading.{strip}
 use Rattle.ufmt.proofs.ReadingWords.{each_closer}
 use Rattle.ufmt.proofs.BlocksComplete.{Begins, Closes}
 
--- so many blocks fit into one another here: deeper than 255 the indentation grows no more
+-- n nested blocks fit at depth k: in pretty mode the indentation stops growing at depth 255
 abbrev pub FitsAt : Mode → ℕ → ℕ → Type 0
 FitsAt Plain k n = ⊤
 FitsAt Pretty k n = k + n ≤ 255
 
--- the same of a mode and depth
+-- n nested blocks fit at this mode and depth
 abbrev pub Fits : Setting → ℕ → Type 0
 Fits s n = FitsAt s.mode s.depth n
 
--- what fits one block deeper
 pub fits_inside : (s : Setting) (n : ℕ) → Fits s (suc n) → Fits (inside s) n
 fits_inside s n h = go s.mode s.depth h
   where
@@ -31,7 +30,6 @@ fits_inside s n h = go s.mode s.depth h
     go Plain k h = tt
     go Pretty k h = omega arith
 
--- where more fit, fewer do
 pub fits_less : (s : Setting) (m n : ℕ) → m ≤ n → Fits s n → Fits s m
 fits_less s m n less h = go s.mode s.depth h
   where
@@ -39,7 +37,6 @@ fits_less s m n less h = go s.mode s.depth h
     go Plain k h = tt
     go Pretty k h = omega (arith, less)
 
--- a closer is none of the other bytes
 closer_differs : (c b : ℕ) → is_closer c ≡ true → is_closer b ≡ false → (c == b) ≡ false
 closer_differs c b hc hb = go (c == b) refl
   where
@@ -47,46 +44,45 @@ closer_differs c b hc hb = go (c == b) refl
     go false e = e
     go true e = let same = eqb-true c b e in absurd (cc)
 
--- no closer stands where an entry begins
+-- a text that begins with no closer is not stripped of one
 pub closer_begins_none : (c : ℕ) (w : List ℕ) → is_closer c ≡ true → {t : List ℕ} → Begins t → strip (c ∷ w) t ≡ None
 closer_begins_none c w h b = rw (b.is, closer_differs c b.first h b.no_closer) refl
 
--- nor before it
+-- an entry after a new line begins with no closer
 pub begins_after : (mode : Mode) (k : ℕ) {t : List ℕ} → Begins t → Begins (new_line mode k ++ t)
 begins_after Plain k b = b
 begins_after Pretty k {t} b = record { first = 10; tail = indentation k ++ t; is = refl; no_closer = refl }
 
--- what a closer begins is a follower
 pub closer_follows : (c : ℕ) (u : List ℕ) → is_closer c ≡ true → IsFollower (c ∷ u)
 closer_follows c [] h = h
 closer_follows c (b ∷ u) h = inl h
 
--- a follower begins with no parenthesis of a tuple
+-- a follower does not begin with the parenthesis of a tuple
 pub follower_no_tuple : (u w : List ℕ) → IsFollower u → strip (40 ∷ w) u ≡ None
 follower_no_tuple [] w h = refl
 follower_no_tuple (c ∷ []) w h = each_closer (λ c. strip (40 ∷ w) (c ∷ []) ≡ None) refl refl refl refl refl c h
 follower_no_tuple (c ∷ b ∷ u) w (inl h) = each_closer (λ c. strip (40 ∷ w) (c ∷ b ∷ u) ≡ None) refl refl refl refl refl c h
 follower_no_tuple (c ∷ b ∷ u) w (inr h) = rw h.0 refl
 
--- nor with the space and the brace of a struct
+-- a follower does not begin with the space and the brace of a struct
 pub follower_no_struct : (u w : List ℕ) → IsFollower u → strip (32 ∷ 123 ∷ w) u ≡ None
 follower_no_struct [] w h = refl
 follower_no_struct (c ∷ []) w h = each_closer (λ c. strip (32 ∷ 123 ∷ w) (c ∷ []) ≡ None) refl refl refl refl refl c h
 follower_no_struct (c ∷ b ∷ u) w (inl h) = each_closer (λ c. strip (32 ∷ 123 ∷ w) (c ∷ b ∷ u) ≡ None) refl refl refl refl refl c h
 follower_no_struct (c ∷ b ∷ u) w (inr h) = rw (h.0, h.1) refl
 
--- what holds of one entry and of several holds of any with one more
+-- what holds of One and of Several holds of each next count
 after_next : (P : Count → Type 0) → P One → P Several → (count : Count) → P (next count)
 after_next P second later Zero = second
 after_next P second later One = later
 after_next P second later Several = later
 
--- what begins with no space isn't indented deeper
+-- k indentations and a byte that is no space are not k + 1 indentations
 deeper : (k c : ℕ) (w u : List ℕ) → (32 == c) ≡ false → strip (indentation (suc k)) ((indentation k ++ (c ∷ w)) ++ u) ≡ None
 deeper zero c w u e = rw e refl
 deeper (suc k) c w u e = deeper k c w u e
 
--- the end of a block on one line may follow an entry
+-- in plain mode, the ending of a block may follow an entry
 plain_follows : (kind : Kind) (k : ℕ) (count : Count) (u : List ℕ) → IsFollower (ending (frame Plain kind) (setting Plain k) (next count) ++ u)
 plain_follows Brackets k count u = after_next (λ p. IsFollower (ending (frame Plain Brackets) (setting Plain k) p ++ u))
     (closer_follows 93 u refl) (closer_follows 93 u refl) count
@@ -98,11 +94,11 @@ plain_follows Tuple k count u = after_next (λ p. IsFollower (ending (frame Plai
 plain_follows Unnamed k count u = after_next (λ p. IsFollower (ending (frame Plain Unnamed) (setting Plain k) p ++ u)) (inl refl)
     (closer_follows 41 u refl) count
 
--- where the end of a block is no other entry, with the parts of its frame
+-- the ending of a block with so many entries does not begin with the lead of another entry
 Differs : Mode → ℕ → Kind → List ℕ → Count → Type 0
 Differs mode k kind u count = strip (lead (frame mode kind) (inside (setting mode k)) count) (ending (frame mode kind) (setting mode k) count ++ u) ≡ None
 
--- the end of a block on one line isn't another entry
+-- in plain mode, the ending of a block differs from another entry
 plain_differs : (kind : Kind) (k : ℕ) (u : List ℕ) (count : Count) → Differs Plain k kind u (next count)
 unfolding Differs
 plain_differs Brackets k u count = after_next (Differs Plain k Brackets u) refl refl count
@@ -111,11 +107,11 @@ plain_differs Struct k u count = after_next (Differs Plain k Struct u) refl refl
 plain_differs Tuple k u count = after_next (Differs Plain k Tuple u) refl refl count
 plain_differs Unnamed k u count = after_next (Differs Plain k Unnamed u) refl refl count
 
--- the end of a block with an entry a line isn't another entry
+-- a closing byte at depth k does not begin with the indentation of its entries
 end_differs : (c k : ℕ) (u : List ℕ) → k + 1 ≤ 255 → (32 == c) ≡ false → strip (indentation (min (k + 1) 255)) ((indentation k ++ (c ∷ [])) ++ u) ≡ None
 end_differs c k u h e = let depth : min (k + 1) 255 ≡ suc k = omega arith in rw depth (deeper k c [] u e)
 
--- so for each kind of block
+-- in pretty mode, the ending of a block differs from another entry
 pretty_differs : (kind : Kind) (k : ℕ) (u : List ℕ) → k + 1 ≤ 255 → (count : Count) → Differs Pretty k kind u (next count)
 unfolding Differs
 pretty_differs Brackets k u h count = after_next (Differs Pretty k Brackets u) (end_differs 93 k u h refl) (end_differs 93 k u h refl) count
@@ -124,24 +120,21 @@ pretty_differs Struct k u h count = after_next (Differs Pretty k Struct u) (end_
 pretty_differs Tuple k u h count = after_next (Differs Pretty k Tuple u) (end_differs 41 k u h refl) (end_differs 41 k u h refl) count
 pretty_differs Unnamed k u h count = after_next (Differs Pretty k Unnamed u) (end_differs 41 k u h refl) (end_differs 41 k u h refl) count
 
--- each kind's ends can be told from another entry, and may follow an entry
 closes_at : (mode : Mode) (k : ℕ) (kind : Kind) → FitsAt mode k 1 → Closes (frame mode kind) (setting mode k)
 unfolding Differs
 closes_at Plain k kind h = record { follows = plain_follows kind k; differs = λ count u. plain_differs kind k u count }
 closes_at Pretty k kind h = record { follows = λ count u. inl refl; differs = λ count u. pretty_differs kind k u h count }
 
--- the same of a mode and depth
 pub closes : (s : Setting) (kind : Kind) → Fits s 1 → Closes (frame s.mode kind) s
 closes s kind h = closes_at s.mode s.depth kind h
 
--- behind an entry in braces stands no colon
+-- the rest of a block in braces, after its first entry, begins with no colon
 no_colon_at : (mode : Mode) (k : ℕ) (texts : List (List ℕ)) (u : List ℕ)
     → strip (codes ": ") (trail mode ++ (block_tail (frame mode Braces) (setting mode k) One texts ++ u)) ≡ None
 no_colon_at Plain k [] u = refl
 no_colon_at Plain k (text ∷ texts) u = refl
 no_colon_at Pretty k texts u = refl
 
--- the same of a mode and depth
 pub no_colon : (s : Setting) (texts : List (List ℕ)) (u : List ℕ)
     → strip (codes ": ") (trail s.mode ++ (block_tail (frame s.mode Braces) s One texts ++ u)) ≡ None
 no_colon s texts u = no_colon_at s.mode s.depth texts u

@@ -1,4 +1,4 @@
--- What a cursor over a buffer took stands at the buffer's front.
+-- What a cursor over a buffer took is at the front of the buffer.
 use Rattle.std.proofs.Common.{◌≡◌, ◌∙◌, refl, ap, sym, subst, ℕ, ◌≤◌, List, [], ◌++◌, length, take, drop, true, false, Result, Ok, Err}
 use Rattle.std.proofs.lemmas.List.{length-take-le, take-append-drop}
 use Rattle.std.specs.List.{slice_index_or}
@@ -12,7 +12,6 @@ module _ (old : List ℕ) (begun ended : Cursor) (written : written_bytes begun 
   begins_with : begun.buffer.now ≡ old
   begins_with = sym (take-append-drop begun.count begun.buffer.now) ∙ ap (λ xs. xs ++ unwritten_bytes begun) written ∙ unwritten
 
-  -- a buffer that is written keeps its length
   pub keeps_length : {ok : _} → Writes cursor_seen begun text ok ended → length ended.buffer.now ≡ length old
   keeps_length w = ap (λ xs. slice_index_or xs 1 0) w.same_identity ∙ ap length begins_with
 
@@ -26,7 +25,7 @@ module _ (old : List ℕ) (begun ended : Cursor) (written : written_bytes begun 
       → drop (length (written_bytes ended)) ended.buffer.now ≡ drop (length (written_bytes ended)) old
   after w = w.untouched tt ∙ ap (λ xs. drop (length (written_bytes ended)) xs) begins_with
 
-  -- all of the text
+  -- all of the text was written
   pub fronts_whole : {E : Type 0} → Writes cursor_seen begun text true ended → Fronts {E = E} old text (Ok (length (written_bytes ended))) ended.buffer.now
   fronts_whole w = record {
     same_length = keeps_length w;
@@ -36,7 +35,7 @@ module _ (old : List ℕ) (begun ended : Cursor) (written : written_bytes begun 
     beginning = tt;
   }
 
-  -- or a beginning of it
+  -- only a beginning of the text was written
   fronts_beginning : {E : Type 0} (e : E) → Writes cursor_seen begun text false ended → Fronts {E = E} old text (Err e) ended.buffer.now
   fronts_beginning e w =
       let taken = w.appended tt in
@@ -53,7 +52,7 @@ module _ (old : List ℕ) (begun ended : Cursor) (written : written_bytes begun 
         );
       }
 
-  -- likewise of an answer that is an error
+  -- the same holds of any result that is an error
   pub fronts_refused : {E : Type 0} (Q : E → Type 0) (result : Result ℕ E) → IsErrAnd result Q → Writes cursor_seen begun text false ended
       → Fronts {E = E} old text result ended.buffer.now
   fronts_refused Q (Ok n) h w = absurd h

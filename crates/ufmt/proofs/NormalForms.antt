@@ -1,4 +1,4 @@
--- The normal form of a document is in normal form, and has the document's nesting, words and texts.
+-- The normal form of a document is its own normal form, and keeps the document's nesting, tokens and texts.
 use Rattle.std.proofs.Common.{◌≡◌, List, [], ◌∷◌, ℕ, ◌≤◌, refl, sym, ap, ap₂, ◌∙◌, subst, inl, append-nil}
 use Rattle.ufmt_core.specs.Document.{Document, leaf, joined, list_of, set_of, map_of, struct_of, tuple_of, pretty_part, Documents, no_documents, document, Pairs, no_pairs, pair, Fields, no_fields, field, nest, nest_all, nest_pairs, nest_fields}
 use Rattle.ufmt_core.specs.Layout.{setting, inside, tuple_kind, block, layout, layouts, texts, pair_texts, field_texts}
@@ -8,7 +8,6 @@ use Rattle.ufmt_core.specs.declared.layout.Kind.TheVariants.{Brackets, Braces, S
 use Rattle.ufmt.specs.Token.{HasTokens, HaveTokens, PairsHaveTokens, FieldsHaveTokens, IsToken, normal, normal_all, normal_pairs, normal_fields}
 
 mutual
-  -- taking the normal form again changes nothing
   pub normal-normal : (d : Document) → normal (normal d) ≡ normal d
   normal-normal (leaf text) = refl
   normal-normal (joined ds) = ap joined (normal_all-normal_all ds)
@@ -35,7 +34,6 @@ mutual
   normal_fields-normal_fields (field name value fs) = rw (normal-normal value, normal_fields-normal_fields fs)
 
 mutual
-  -- a normal form nests as deep as its document
   pub nest-normal : (d : Document) → nest (normal d) ≡ nest d
   nest-normal (leaf text) = refl
   nest-normal (joined ds) = nest_all-normal_all ds
@@ -64,7 +62,6 @@ mutual
   nest_fields-normal_fields (field name value fs) = rw (nest-normal value, nest_fields-normal_fields fs)
 
 mutual
-  -- where a document's leaves and names are words, so are those of its normal form
   pub HasTokens-normal : (d : Document) → HasTokens d → HasTokens (normal d)
   HasTokens-normal (leaf text) h = h
   HasTokens-normal (joined ds) h = absurd h
@@ -90,28 +87,26 @@ mutual
   FieldsHaveTokens-normal_fields no_fields h = tt
   FieldsHaveTokens-normal_fields (field name value fs) h = (h.0, HasTokens-normal value h.1, FieldsHaveTokens-normal_fields fs h.2)
 
--- the normal form of a token document is a token document
 pub IsToken-normal : (d : Document) → IsToken d → IsToken (normal d)
 IsToken-normal d h = (HasTokens-normal d h.0, subst (λ n. n ≤ 255) (sym (nest-normal d)) h.1)
 
--- a set's normal form has the text of the set of its documents' normal forms, also where it is the empty map
+-- a set's normal form has the text of the set of normal forms, also if it is the empty map
 layout-normal-set_of : (s : Setting) (ds : Documents) → layout s (normal (set_of ds)) ≡ layout s (set_of (normal_all ds))
 layout-normal-set_of s no_documents = refl
 layout-normal-set_of s (document d ds) = refl
 
--- likewise of a struct, also where it is the leaf of its name
+-- the same holds of a struct, also if its normal form is the leaf of its name
 layout-normal-struct_of : (s : Setting) (name : List ℕ) (fs : Fields) → layout s (normal (struct_of name fs)) ≡ layout s (struct_of name (normal_fields fs))
 layout-normal-struct_of s name no_fields = sym (append-nil name)
 layout-normal-struct_of s name (field field_name value fs) = refl
 
--- likewise of a tuple
+-- the same holds of a tuple
 layout-normal-tuple_of : (s : Setting) (name : List ℕ) (ds : Documents) → layout s (normal (tuple_of name ds)) ≡ layout s (tuple_of name (normal_all ds))
 layout-normal-tuple_of s [] no_documents = refl
 layout-normal-tuple_of s (c ∷ name) no_documents = ap (λ text. c ∷ text) (sym (append-nil name))
 layout-normal-tuple_of s name (document d ds) = refl
 
 mutual
-  -- a normal form has its document's text, in either mode and from any depth
   pub layout-normal : (s : Setting) (d : Document) → layout s (normal d) ≡ layout s d
   layout-normal s (leaf text) = refl
   layout-normal s (joined ds) = layouts-normal_all s ds

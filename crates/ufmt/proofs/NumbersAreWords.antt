@@ -1,4 +1,4 @@
--- The decimal text of a whole number is a word, so a leaf of it can be read again.
+-- The decimal text of a whole number is a word, so its leaf can be read again.
 use Rattle.std.proofs.Common.{◌≡◌, ℕ, ◌+◌, ◌<◌, List, [], ◌∷◌, map, length, true, refl, sym, subst, inl, arith, ℤ, pos, negsuc}
 use Rattle.std.specs.List.{All}
 use Rattle.std.proofs.lemmas.Bool.{le-leb}
@@ -8,11 +8,9 @@ use Rattle.ufmt_core.specs.Words.{integer}
 use Rattle.ufmt_core.proofs.DecimalTexts.{decimal-denotes}
 use Rattle.ufmt.specs.Token.{is_word_byte, AreWordBytes, IsWord, HasTokens}
 
--- a digit's byte is a word's
 digit_byte : (digit : ℕ) → digit < 10 → is_word_byte (decimal_byte digit) ≡ true
 digit_byte digit below = rw (le-leb 48 (48 + digit) (omega arith), le-leb (48 + digit) 57 (omega arith)) refl
 
--- and so are those of several
 digit_bytes : (digits : List ℕ) → All (λ digit. digit < 10) digits → AreWordBytes (map decimal_byte digits)
 digit_bytes [] below = tt
 digit_bytes (digit ∷ digits) below = (
@@ -20,21 +18,17 @@ digit_bytes (digit ∷ digits) below = (
   digit_bytes digits (All-tail (λ d. d < 10) digit digits below),
 )
 
--- at least one of them is a word
 digits_are_word : (digits : List ℕ) → 0 < length digits → All (λ digit. digit < 10) digits → IsWord (map decimal_byte digits)
 digits_are_word [] some below = absurd (omega arith)
 digits_are_word (digit ∷ digits) some below = digit_bytes (digit ∷ digits) below
 
--- the text that tells a magnitude is a word
 magnitude_is_word : (text : List ℕ) (n : ℕ) → DenotesMagnitude text n → IsWord text
 magnitude_is_word text n denotes = subst IsWord (sym denotes.bytes) (digits_are_word denotes.digits denotes.denotes.some_digit denotes.denotes.below_base)
 
--- a word with a `-` before it is a word
 IsWord-minus : (text : List ℕ) → IsWord text → IsWord (45 ∷ text)
 IsWord-minus [] word = absurd word
 IsWord-minus (c ∷ text) word = (refl, word)
 
--- the text that tells a number is a word
 denoted_is_word : (z : ℤ) (text : List ℕ) → DenotesDecimal text z → IsWord text
 denoted_is_word (pos n) text denotes = subst IsWord (sym denotes.signed) (magnitude_is_word denotes.magnitude n denotes.denotes)
 denoted_is_word (negsuc n) text denotes = subst IsWord (sym denotes.signed) (IsWord-minus denotes.magnitude (magnitude_is_word denotes.magnitude _ denotes.denotes))
@@ -42,6 +36,5 @@ denoted_is_word (negsuc n) text denotes = subst IsWord (sym denotes.signed) (IsW
 pub decimal_is_word : (z : ℤ) → IsWord (decimal z)
 decimal_is_word z = denoted_is_word z (decimal z) (decimal-denotes z)
 
--- a number's document is a leaf that can be read again
 pub HasTokens-integer : (z : ℤ) → HasTokens (integer z)
 HasTokens-integer z = record { shape = inl (decimal_is_word z) }

@@ -1,4 +1,4 @@
--- A text can be read in one way: reading it gives one result.
+-- A text can be read in one way only, since reading it has one result.
 use Rattle.std.proofs.Common.{◌≡◌, ◌↔◌, sym, ap, ◌∙◌, ℕ, ◌-◌, ◌≤◌, List, [], ◌++◌, arith}
 use Rattle.ufmt_core.specs.Document.{Document, nest}
 use Rattle.ufmt_core.specs.Layout.{setting, layout}
@@ -12,38 +12,33 @@ use Rattle.ufmt.proofs.FramesClose.{Fits}
 use Rattle.ufmt.proofs.ReadingComplete.{read_complete}
 use Rattle.ufmt.proofs.NormalForms.{layout-normal}
 
--- at any mode and depth where both fit, equal texts have one normal form and one rest
+-- where two documents fit, equal texts mean equal normal forms and equal rests
 reads_one_way : (s : Setting) (n : ℕ) → Fits s n → (d e : Document) (u v : List ℕ) → HasTokens d → HasTokens e → nest d ≤ n → nest e ≤ n
     → IsFollower u → IsFollower v → layout s d ++ u ≡ layout s e ++ v → (normal d ≡ normal e) × (u ≡ v)
 reads_one_way s n fits d e u v hd he nd ne hu hv same =
     same_parts {A = Document} {B = List ℕ} (normal d, u) (normal e, v)
     (sym (read_complete n s d u hd nd fits hu) ∙ ap (read s n) same ∙ read_complete n s e v he ne fits hv)
 
--- at depth 0 of plain mode
 pub plain_reads_one_way : PlainReadsOneWay
 plain_reads_one_way = λ d e u v hd he hu hv same. reads_one_way (setting Plain 0) 255 tt d e u v hd.0 he.0 hd.1 he.1 hu hv same
 
--- at any depth of pretty mode from which both fit
 pub pretty_reads_one_way : PrettyReadsOneWay
 pretty_reads_one_way = λ k d e u v hd he nd ne hu hv same. reads_one_way (setting Pretty k) (255 - k) (omega (arith, nd)) d e u v hd.0 he.0
     (omega (arith, nd)) (omega (arith, ne)) hu hv same
 
--- at depth 0 of any mode one text has one normal form, and one normal form one text
+-- where 255 nested blocks fit, two texts are equal exactly if the normal forms are equal
 text_determines : (s : Setting) → Fits s 255 → (d e : Document) → IsToken d → IsToken e → (layout s d ≡ layout s e) ↔ (normal d ≡ normal e)
 text_determines s fits d e hd he = (
   λ same. (reads_one_way s 255 fits d e [] [] hd.0 he.0 hd.1 he.1 tt tt (ap (λ t. t ++ []) same)).0,
   λ same. sym (layout-normal s d) ∙ ap (layout s) same ∙ layout-normal s e,
 )
 
--- so plain texts tell normal forms apart
 pub plain_text_determines : PlainTextDetermines
 plain_text_determines = text_determines (setting Plain 0) tt
 
--- and so do pretty texts
 pub pretty_text_determines : PrettyTextDetermines
 pretty_text_determines = text_determines (setting Pretty 0) (omega arith)
 
--- so each tells what the other does
 pub texts_agree : TextsAgree
 texts_agree = λ d e hd he. (
   λ same. (pretty_text_determines d e hd he).1 ((plain_text_determines d e hd he).0 same),

@@ -1,4 +1,4 @@
--- What pieces in a row print: each at the mode and depth of the first.
+-- Pieces in a row print one after the other, all at the same mode and depth.
 use Rattle.std.proofs.Common.{◌≡◌, List, [], ◌++◌, ℕ, Bool, true, refl, append-nil, subst}
 use Rattle.ufmt_core.specs.declared.layout.Setting.{Setting}
 use Rattle.ufmt_core.specs.declared.formatter.Formatter.{Formatter}
@@ -10,15 +10,14 @@ use Rattle.ufmt_core.specs.Layout.{layout}
 use Rattle.ufmt_core.specs.Formatter.{LaysOut, Prints, setting_of}
 
 module _ {W : Type 0} {seen : Seen W} where
-  -- a document that is laid out where mode and depth are those from before
+  -- laying out a document at mode and depth `s` prints its text
   pub Prints-shown : {f new : Formatter W} {d : Document} {ok : Bool} (s : Setting) → setting_of f ≡ s → LaysOut seen f d ok new
       → Prints seen f (layout s d) ok new
   Prints-shown {f} {new} {d} {ok} s e l = subst (λ (at : Setting). Prints seen f (layout at d) ok new) e l.prints
 
-  -- no call prints nothing
   pub Prints-nothing : (f : Formatter W) → Prints seen f [] true f
   Prints-nothing f = record { wrote = Writes-nothing f.writer; same_setting = refl }
 
-  -- the last piece
+  -- nothing follows the last piece
   pub Prints-last : {f new : Formatter W} {text : List ℕ} {ok : Bool} → Prints seen f text ok new → Prints seen f (text ++ []) ok new
   Prints-last {f} {new} {text} {ok} p = rw (append-nil text) p

@@ -10,21 +10,17 @@ use Rattle.ufmt.specs.ReadingQuoted.{read_escaped, read_inside, read_between, re
 use Rattle.ufmt.proofs.Parsing.{strip_joined, strip_of_none}
 use Rattle.ufmt.proofs.QuotedDecoded.{decoded-escaped, each_row, no_backslash}
 
--- a quote is ASCII
 pub quote_ascii : (q : ℕ) → IsQuote q → q < 128
 quote_ascii q (inl e) = omega (arith, e)
 quote_ascii q (inr e) = omega (arith, e)
 
--- what a byte's spelling is stripped of is that byte
 pub read_escaped-complete : (q b : ℕ) (t : List ℕ) → IsQuote q → read_escaped q (escaped_byte q b ++ t) ≡ Some (b, t)
 read_escaped-complete q b t quote = rw (decoded-escaped q b t quote, strip_joined (escaped_byte q b) t) refl
 
--- a backslash is no quote
 no_quote : (q : ℕ) → IsQuote q → (t u : List ℕ) → 92 ∷ t ≡ q ∷ u → ⊥
 no_quote q (inl e) t u same = omega (arith, e, ap (λ (x : List ℕ). get_or x 0 0) same)
 no_quote q (inr e) t u same = omega (arith, e, ap (λ (x : List ℕ). get_or x 0 0) same)
 
--- a byte that stands for itself is none either
 plain_no_quote : (q b : ℕ) → (b == 92 || b == q) ≡ false → (t u : List ℕ) → b ∷ t ≡ q ∷ u → ⊥
 plain_no_quote q b plain t u same =
     let is : b ≡ q = ap (λ (x : List ℕ). get_or x 0 0) same in
@@ -32,7 +28,7 @@ plain_no_quote q b plain t u same =
     let equal : (b == q) ≡ true = eq-eqb b q is in
     absurd (cc)
 
--- so no byte's spelling begins with the quote
+-- no spelling of a byte begins with the quote
 pub escaped-no_quote : (q b : ℕ) (t : List ℕ) → IsQuote q → strip (q ∷ []) (escaped_byte q b ++ t) ≡ None
 escaped-no_quote q b t quote = strip_of_none (q ∷ []) (escaped_byte q b ++ t) (λ u.
     each_row q b (λ n e. e ++ t ≡ q ∷ u → ⊥) (no_quote q quote _ u) (no_quote q quote _ u) (no_quote q quote _ u) (no_quote q quote _ u)
@@ -52,7 +48,6 @@ read_inside-complete q (b ∷ bs) u (suc n) quote few =
       read_inside-complete q bs u n quote (omega arith),
     ) refl
 
--- a spelling has at least one byte
 pub length-escaped : (q b : ℕ) → 1 ≤ length (escaped_byte q b)
 length-escaped q b = each_row q b (λ n e. 1 ≤ length e) (omega arith) (omega arith) (omega arith) (omega arith) (λ itself. omega arith)
     (λ low. omega arith) (λ no_line itself. omega arith)
@@ -61,7 +56,7 @@ pub length-escaped_bytes : (q : ℕ) (bs : List ℕ) → length bs ≤ length (e
 length-escaped_bytes q [] = omega arith
 length-escaped_bytes q (b ∷ bs) = omega (arith, length-escaped q b, length-escaped_bytes q bs, length-append (escaped_byte q b) (escaped_bytes q bs))
 
--- bytes between two of these quotes are read where they are such as the test wants
+-- bytes between two of these quotes are read if they pass the test
 pub read_between-complete : (q : ℕ) (test : List ℕ → Bool) (bs u : List ℕ) → IsQuote q → test bs ≡ true
     → read_between q test ((q ∷ (escaped_bytes q bs ++ (q ∷ []))) ++ u) ≡ Some (quoted q (chars bs), u)
 read_between-complete q test bs u quote right =
@@ -69,29 +64,26 @@ read_between-complete q test bs u quote right =
     let few : length bs < suc (length inside) = omega (arith, length-escaped_bytes q bs, length-append (escaped_bytes q bs) (q ∷ u)) in
     rw (append_assoc (escaped_bytes q bs) (q ∷ []) u, eq-eqb q q refl, read_inside-complete q bs u (suc (length inside)) quote few, right) refl
 
--- the bytes of characters are those characters, in UTF-8
 utf8_encodes : (cs : List ℕ) → all_scalars cs ≡ true → is_utf8 (encode_utf8_all cs) ≡ true
 utf8_encodes cs scalars = is_utf8-from_IsUtf8 (encode_utf8_all cs) (cs, (scalars, refl))
 
--- characters between two quotes, by their bytes
+-- quoted characters are the spellings of their bytes, between the quotes
 pub quoted-bytes : (q : ℕ) (cs : List ℕ) → IsQuote q → quoted q cs ≡ q ∷ (escaped_bytes q (encode_utf8_all cs) ++ (q ∷ []))
 quoted-bytes q cs quote = ap (λ t. q ∷ (t ++ (q ∷ []))) (escaped_all-bytes q (quote_ascii q quote) cs)
 
--- characters between two quotes are read where their bytes are such as the test wants
+-- characters between two quotes are read if their bytes pass the test
 read_characters : (q : ℕ) (test : List ℕ → Bool) (cs u : List ℕ) → IsQuote q → all_scalars cs ≡ true → test (encode_utf8_all cs) ≡ true
     → read_between q test (quoted q cs ++ u) ≡ Some (quoted q cs, u)
 read_characters q test cs u quote scalars right =
     ap (λ t. read_between q test (t ++ u)) (quoted-bytes q cs quote) ∙ read_between-complete q test (encode_utf8_all cs) u quote right
     ∙ ap (λ ds. Some (quoted q ds, u)) (chars-encodes cs scalars)
 
--- one character is characters, and one
 one_scalar : (c : ℕ) → IsScalar c → all_scalars (c ∷ []) ≡ true
 one_scalar c scalar = rw scalar refl
 
 one_char : (c : ℕ) → IsScalar c → is_char (encode_utf8_all (c ∷ [])) ≡ true
 one_char c scalar = rw (utf8_encodes (c ∷ []) (one_scalar c scalar), chars-encodes (c ∷ []) (one_scalar c scalar)) refl
 
--- a quoted text or character is read, whatever follows it
 pub read_quoted-complete : (text u : List ℕ) → IsQuoted text → read_quoted (text ++ u) ≡ Some (text, u)
 unfolding read_quoted
 read_quoted-complete text u (inl of_text) = rw (of_text.2, read_characters 34 is_utf8 of_text.0 u (inl refl) of_text.1 (utf8_encodes of_text.0 of_text.1)) refl

@@ -1,4 +1,4 @@
--- The spelling of a byte between quotes names that byte, whatever follows it.
+-- The spelling of a byte between quotes is decoded to that byte, whatever follows it.
 use Rattle.std.proofs.Common.{◌≡◌, ◌⊎◌, inl, inr, refl, sym, ap, subst, ◌∙◌, ℕ, ◌+◌, ◌*◌, ◌/◌, ◌%◌, ◌<◌, ◌==◌, ◌||◌, nat_lt, Bool, true, false, List, [], ◌∷◌, ◌++◌, codes, eqb-true, arith}
 use borrow.Author.Tests.{ltb-true}
 use Rattle.std.specs.Char.{digit_char, digit_value}
@@ -7,17 +7,16 @@ use Rattle.std.proofs.lemmas.Bool.Decides.{nat_tests}
 use Rattle.ufmt_core.specs.Quoted.{IsQuote, escaped_byte, hex_digits}
 use Rattle.ufmt.specs.ReadingQuoted.{decoded}
 
--- the digit of a number is no closing brace
+-- a digit is not the byte of `}`
 digit_no_brace : (d : ℕ) → d < 16 → (digit_char d == 125) ≡ false
 digit_no_brace d low = grind (arith, nat_tests)
 
--- the number of two digits is that number
+-- decoding the two digits of a number gives the number
 two_digits : (b : ℕ) → b < 256 → digit_value (digit_char (b / 16)) * 16 + digit_value (digit_char (b % 16)) ≡ b
 two_digits b low = rw (digit_value-digit_char (b / 16) (omega arith), digit_value-digit_char (b % 16) (omega arith)) (omega arith)
 
--- what holds of each row of the table, and of a byte that stands for itself, holds of a byte's spelling
+-- a property of each row of `escape`, and of a byte that is written as itself, holds of each spelling
 module _ (q b : ℕ) where
-  -- the test of a row, as a fact
   one_of : (b == 92 || b == q) ≡ true → (b ≡ 92) ⊎ (b ≡ q)
   one_of h = go (b == 92) refl
     where
@@ -35,11 +34,10 @@ module _ (q b : ℕ) where
   control_low : (nat_lt b 32 || b == 127) ≡ true → b < 128
   control_low h = grind (arith, nat_tests)
 
-  -- a row of the table writes its own byte
   at_row : (P : ℕ → List ℕ → Type 0) (row : ℕ) → b ≡ row → P row (escaped_byte q row) → P b (escaped_byte q b)
   at_row P row e h = subst (λ (n : ℕ). P n (escaped_byte q n)) (sym e) h
 
-  -- by the rows of the table, in order
+  -- the rows of `escape`, in order
   module _ (P : ℕ → List ℕ → Type 0) (p0 : P 0 (codes "\\0")) (p9 : P 9 (codes "\\t")) (p10 : P 10 (codes "\\n")) (p13 : P 13 (codes "\\r"))
       (itself : (b ≡ 92) ⊎ (b ≡ q) → P b (92 ∷ b ∷ [])) (control : b < 128 → P b (codes "\\u{" ++ (hex_digits b ++ codes "}")))
       (plain : (b == 10) ≡ false → (b == 92 || b == q) ≡ false → P b (b ∷ [])) where
@@ -57,7 +55,7 @@ module _ (q b : ℕ) where
     each_row = rows (b == 0) (b == 9) (b == 10) (b == 13) (b == 92 || b == q) (nat_lt b 32 || b == 127) refl refl refl refl refl refl
 
 module _ (q b : ℕ) (t : List ℕ) (quote : IsQuote q) where
-  -- a row that writes the byte itself behind a backslash
+  -- the row that writes the byte itself after a backslash
   decoded-itself : (b ≡ 92) ⊎ (b ≡ q) → decoded (92 ∷ b ∷ t) ≡ b
   decoded-itself (inl e) = rw e refl
   decoded-itself (inr e) = go quote
@@ -66,12 +64,11 @@ module _ (q b : ℕ) (t : List ℕ) (quote : IsQuote q) where
       go (inl h) = rw (e ∙ h) refl
       go (inr h) = rw (e ∙ h) refl
 
-  -- a byte with one digit, and with two
+  -- the row that writes the byte in hexadecimal, with one digit or with two
   decoded-braces : (short : Bool) → nat_lt b 16 ≡ short → b < 128 → decoded (codes "\\u{" ++ ((hex_digits b ++ codes "}") ++ t)) ≡ b
   decoded-braces true short low = rw short (digit_value-digit_char b (omega (arith, ltb-true b 16 short)))
   decoded-braces false short low = rw (short, digit_no_brace (b % 16) (omega arith)) (two_digits b (omega arith))
 
-  -- the spelling of a byte names it
   pub decoded-escaped : decoded (escaped_byte q b ++ t) ≡ b
   decoded-escaped = each_row q b (λ n e. decoded (e ++ t) ≡ n) refl refl refl refl decoded-itself (decoded-braces (nat_lt b 16) refl)
       (λ no_line itself. rw (no_backslash q b itself) refl)

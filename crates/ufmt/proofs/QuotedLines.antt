@@ -1,4 +1,4 @@
--- A quoted leaf has no line feed: the one of its text, if it has one, is escaped.
+-- A quoted leaf has no line feed, because each line feed in it is escaped.
 use Rattle.std.proofs.Common.{◌≡◌, ◌≢◌, ◌⊎◌, inl, inr, refl, sym, subst, ℕ, ◌/◌, ◌%◌, ◌<◌, ◌==◌, nat_lt, Bool, true, false, List, [], ◌∷◌, ◌++◌, codes, eq-eqb, arith}
 use borrow.Author.Tests.{ltb-true}
 use Rattle.std.specs.Char.{digit_char}
@@ -10,12 +10,10 @@ use Rattle.ufmt.specs.Shift.{IsOneLine}
 use Rattle.ufmt.proofs.QuotedComplete.{quoted-bytes}
 use Rattle.ufmt.proofs.QuotedDecoded.{each_row}
 
--- two texts without a line feed in a row have none
 IsOneLine-append : (s t : List ℕ) → IsOneLine s → IsOneLine t → IsOneLine (s ++ t)
 IsOneLine-append [] t one two = two
 IsOneLine-append (c ∷ s) t one two = (one.0, IsOneLine-append s t one.1 two)
 
--- a digit is none
 digit_line : (d : ℕ) → d < 16 → digit_char d ≢ 10
 digit_line d low = grind (arith, nat_tests)
 
@@ -23,17 +21,14 @@ digits_line : (b : ℕ) (short : Bool) → nat_lt b 16 ≡ short → b < 128 →
 digits_line b true short low = rw short (digit_line b (ltb-true b 16 short), tt)
 digits_line b false short low = rw short (digit_line (b / 16) (omega arith), (digit_line (b % 16) (omega arith), tt))
 
--- nor is a backslash or a quote
 itself_line : (q b : ℕ) → IsQuote q → (b ≡ 92) ⊎ (b ≡ q) → b ≢ 10
 itself_line q b quote (inl e) = omega (arith, e)
 itself_line q b (inl h) (inr e) = omega (arith, e, h)
 itself_line q b (inr h) (inr e) = omega (arith, e, h)
 
--- nor a byte that stands for itself
 plain_line : (b : ℕ) → (b == 10) ≡ false → b ≢ 10
 plain_line b no_line e = let is = eq-eqb b 10 e in absurd (cc)
 
--- so no spelling of a byte has one
 escaped_line : (q b : ℕ) → IsQuote q → IsOneLine (escaped_byte q b)
 escaped_line q b quote =
     each_row q b (λ n e. IsOneLine e) (omega arith, (omega arith, tt)) (omega arith, (omega arith, tt)) (omega arith, (omega arith, tt))
@@ -46,7 +41,6 @@ escaped_lines : (q : ℕ) (bs : List ℕ) → IsQuote q → IsOneLine (escaped_b
 escaped_lines q [] quote = tt
 escaped_lines q (b ∷ bs) quote = IsOneLine-append (escaped_byte q b) (escaped_bytes q bs) (escaped_line q b quote) (escaped_lines q bs quote)
 
--- nor what stands between two quotes with them
 quote_line : (q : ℕ) → IsQuote q → q ≢ 10
 quote_line q (inl e) = omega (arith, e)
 quote_line q (inr e) = omega (arith, e)

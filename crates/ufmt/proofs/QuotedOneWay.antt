@@ -1,4 +1,4 @@
--- Quoting is one-to-one, since what is read of one text is one thing.
+-- Quoting is one-to-one, since reading a text has one result.
 use Rattle.std.proofs.Common.{◌≡◌, inl, inr, refl, sym, subst, ap, ◌∙◌, ℕ, suc, ◌+◌, length, drop, List, [], ◌∷◌, ◌++◌, get_or, arith}
 use Rattle.std.specs.Str.{encode_utf8_all}
 use Rattle.std.proofs.lemmas.Bool.{false≢true}
@@ -17,7 +17,6 @@ quoted_ends_itself x y u v quoted_x quoted_y same =
 pub quoted_text_is_no_char : QuotedTextIsNoChar
 quoted_text_is_no_char cs c u v same = omega (arith, ap (λ (t : List ℕ). get_or t 0 0) same)
 
--- the characters between two quotes follow from the text
 characters_determined : (q : ℕ) (cs ds : List ℕ) → IsQuote q → quoted q cs ≡ quoted q ds → cs ≡ ds
 characters_determined q cs ds quote same =
     let bytes = encode_utf8_all cs in

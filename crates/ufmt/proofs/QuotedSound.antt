@@ -1,4 +1,4 @@
--- What is read as a quoted leaf is one, and stands at the front of the text.
+-- What is read as a quoted leaf is one, and it is the front of the text.
 use Rattle.std.proofs.Common.{◌≡◌, ◌⊎◌, inl, inr, refl, sym, ap, ◌∙◌, ℕ, zero, suc, ◌==◌, ◌&&◌, Bool, true, false, List, [], ◌∷◌, ◌++◌, length, Option, Some, None, option_and_then, append_assoc, eqb-true, arith}
 use Rattle.std.specs.Option.{option_or}
 use Rattle.std.specs.Str.{all_scalars, chars, is_utf8}
@@ -9,20 +9,19 @@ use Rattle.ufmt.specs.ReadingQuoted.{decoded, if_right, is_char, read_between, r
 use Rattle.ufmt.proofs.Parsing.{beside_from, chosen_from, led_from, mapped_from, same_parts, strip_found}
 use Rattle.ufmt.proofs.QuotedComplete.{quoted-bytes}
 
--- a byte that is read is spelled at the front
 pub read_escaped-sound : (q : ℕ) (t : List ℕ) (b : ℕ) (u : List ℕ) → read_escaped q t ≡ Some (b, u) → t ≡ escaped_byte q b ++ u
 read_escaped-sound q t b u h =
     let from = beside_from (decoded t) (strip (escaped_byte q (decoded t)) t) b u h in
     strip_found (escaped_byte q (decoded t)) t u from.0 ∙ ap (λ n. escaped_byte q n ++ u) from.1
 
--- where the closing quote stands
+-- the case of `read_inside` at the closing quote
 at_quote : (q : ℕ) (t w bs u : List ℕ) → strip (q ∷ []) t ≡ Some w → ◌≡◌ {A = Option (List ℕ × List ℕ)} (Some ([], w)) (Some (bs, u))
     → t ≡ escaped_bytes q bs ++ (q ∷ u)
 at_quote q t w bs u stripped is =
     let parts = same_parts {A = List ℕ} {B = List ℕ} ([], w) (bs, u) is in
     strip_found (q ∷ []) t w stripped ∙ ap (λ v. q ∷ v) parts.1 ∙ ap (λ cs. escaped_bytes q cs ++ (q ∷ u)) parts.0
 
--- where one more byte stands
+-- the case of `read_inside` at one more byte
 at_byte : (q n : ℕ) (t bs u : List ℕ) → ((s cs v : List ℕ) → read_inside q n s ≡ Some (cs, v) → s ≡ escaped_bytes q cs ++ (q ∷ v))
     → option_and_then {T = ℕ × List ℕ} (λ x. parse_map {B = List ℕ} (λ cs. x.0 ∷ cs) (read_inside q n x.1)) (read_escaped q t)
     ≡ Some (bs, u) → t ≡ escaped_bytes q bs ++ (q ∷ u)
@@ -34,7 +33,6 @@ at_byte q n t bs u sound h =
     ∙ sym (append_assoc (escaped_byte q first.0.0) (escaped_bytes q rest.0) (q ∷ u))
     ∙ ap (λ cs. escaped_bytes q cs ++ (q ∷ u)) rest.2
 
--- bytes that are read up to a closing quote are spelled before it
 pub read_inside-sound : (q n : ℕ) (t bs u : List ℕ) → read_inside q n t ≡ Some (bs, u) → t ≡ escaped_bytes q bs ++ (q ∷ u)
 unfolding read_inside
 read_inside-sound q zero t bs u h = absurd (cc)
@@ -45,7 +43,7 @@ read_inside-sound q (suc n) t bs u h =
       | inr byte ↦ at_byte q n t bs u (read_inside-sound q n) byte.1
     ]
 
--- the test of bytes, and what they are between quotes
+-- a result of `if_right` came from bytes that pass the test
 pub right_from : (test : List ℕ → Bool) (q : ℕ) (bs u text v : List ℕ) → if_right test q bs u ≡ Some (text, v) → (test bs ≡ true)
     × (quoted q (chars bs) ≡ text) × (u ≡ v)
 right_from test q bs u text v h = go (test bs) refl
@@ -54,7 +52,7 @@ right_from test q bs u text v h = go (test bs) refl
     go true e = let parts = same_parts {A = List ℕ} {B = List ℕ} (quoted q (chars bs), u) (text, v) (sym (rw e refl) ∙ h) in (e, parts.0, parts.1)
     go false e = let none : ◌≡◌ {A = Option (List ℕ × List ℕ)} None (Some (text, v)) = sym (rw e refl) ∙ h in absurd (cc)
 
--- what is read between two quotes
+-- the front of `t` is the spelling of bytes that pass the test, between two of these quotes
 pub record IsBetween (q : ℕ) (test : List ℕ → Bool) (t text u : List ℕ) : Type 0 where
   pub bytes : List ℕ
   pub right : test bytes ≡ true
@@ -75,7 +73,7 @@ read_between-sound q test t text u h =
           ∙ ap (λ v. q ∷ (escaped_bytes q inside.0.0 ++ (q ∷ v))) right.2 ∙ ap (λ v. q ∷ v) (sym (append_assoc (escaped_bytes q inside.0.0) (q ∷ []) u));
     }
 
--- the characters of what was read are those bytes
+-- if the bytes that were read are UTF-8, the leaf is the front of the text
 read_front : (q : ℕ) (test : List ℕ → Bool) (t text u : List ℕ) → IsQuote q → (b : IsBetween q test t text u) → is_utf8 b.bytes ≡ true → t ≡ text ++ u
 read_front q test t text u quote b utf8 =
     let whole : quoted q (chars b.bytes) ≡ q ∷ (escaped_bytes q b.bytes ++ (q ∷ [])) = quoted-bytes q (chars b.bytes) quote ∙ ap (λ bs. q ∷ (escaped_bytes q bs ++ (q ∷ []))) (encodes-chars b.bytes (IsUtf8-from_is_utf8 b.bytes utf8)) in
@@ -87,12 +85,10 @@ text_sound t text u b = (
   read_front 34 is_utf8 t text u (inl refl) b b.right,
 )
 
--- both of two tests
 both : (x y : Bool) → x && y ≡ true → (x ≡ true) × (y ≡ true)
 both true y h = (refl, h)
 both false y h = absurd (cc)
 
--- one character, of which a list of length 1 is
 one_character : (cs : List ℕ) → (length cs == 1) ≡ true → (c : ℕ) × (cs ≡ c ∷ [])
 one_character [] h = absurd (cc)
 one_character (c ∷ []) h = (c, refl)
@@ -105,7 +101,6 @@ char_sound t text u b =
     let scalars : all_scalars (one.0 ∷ []) ≡ true = ap all_scalars (sym one.1) ∙ scalars-chars b.bytes (IsUtf8-from_is_utf8 b.bytes right.0) in
     (inr (one.0, (both _ true scalars).0, b.is ∙ ap (quoted 39) one.1), read_front 39 is_char t text u (inr refl) b right.0)
 
--- which of two readers it was
 or_from : {A : Type 0} (first second : Option A) (x : A) → option_or first second ≡ Some x → (first ≡ Some x) ⊎ (second ≡ Some x)
 or_from None second x h = inr h
 or_from (Some y) second x h = inl h

@@ -1,4 +1,4 @@
--- Bytes are UTF-8 exactly if they are where each is written as it is between quotes.
+-- Bytes are UTF-8 exactly if their spelling in quotes is UTF-8.
 use Rattle.std.proofs.Common.{◌≡◌, ◌⊎◌, inl, inr, refl, sym, ap, subst, ◌∙◌, ℕ, suc, ◌/◌, ◌%◌, ◌+◌, ◌<◌, nat_lt, Bool, true, false, List, [], ◌∷◌, ◌++◌, codes, length, get_or, append_assoc, length-append, arith}
 use borrow.Author.Tests.{ltb-true}
 use Rattle.std.specs.Prelude.{◌↔◌}
@@ -11,11 +11,10 @@ use Rattle.std.proofs.lemmas.Str.Ascii.{IsAscii-cons, IsAscii-nil}
 use Rattle.ufmt_core.specs.Quoted.{IsQuote, escaped_byte, escaped_bytes, hex_digits}
 use Rattle.ufmt.proofs.QuotedDecoded.{each_row}
 
--- one ASCII byte
 one_ascii : (c : ℕ) → c < 128 → IsAscii (c ∷ [])
 one_ascii c low = IsAscii-cons c [] low IsAscii-nil
 
--- where an ASCII byte stands in a text, what is before it and behind it are texts
+-- the bytes before and after an ASCII byte of a UTF-8 text are UTF-8
 IsUtf8-cut : (xs rest : List ℕ) (c : ℕ) → c < 128 → IsUtf8 (xs ++ (c ∷ rest)) → IsUtf8 xs × IsUtf8 rest
 IsUtf8-cut xs rest c low u =
     let whole = xs ++ (c ∷ rest) in
@@ -25,12 +24,12 @@ IsUtf8-cut xs rest c low u =
       subst IsUtf8 (drop-append-add xs (c ∷ rest) 1) (IsUtf8-drop whole (length xs + 1) u (IsCharBoundary-after_ascii whole (length xs) u within ascii)),
     )
 
--- so what is behind several is
+-- the bytes after ASCII bytes in a UTF-8 text are UTF-8
 IsUtf8-past : (text rest : List ℕ) → IsAscii text → IsUtf8 (text ++ rest) → IsUtf8 rest
 IsUtf8-past [] rest ascii u = u
 IsUtf8-past (c ∷ text) rest ascii u = IsUtf8-past text rest (λ i. ascii (suc i)) (IsUtf8-cut [] (text ++ rest) c (ascii 0) u).1
 
--- a byte is written as itself, or it is ASCII and written as a backslash and more ASCII
+-- a byte is written as itself, or it is ASCII and is written as a backslash and more ASCII
 abbrev pub Spelling : ℕ → List ℕ → Type 0
 Spelling b e = (e ≡ b ∷ []) ⊎ ((more : List ℕ) × (e ≡ 92 ∷ more) × IsAscii more × (b < 128))
 
@@ -65,12 +64,11 @@ spelling q b quote =
     letter : (n x : ℕ) → n < 128 → x < 128 → Spelling n (92 ∷ x ∷ [])
     letter n x low low' = inr (x ∷ [], refl, one_ascii x low', low)
 
--- a text goes on with a byte as it stands
 goes_on : (xs rest : List ℕ) (b : ℕ) → xs ++ (b ∷ rest) ≡ (xs ++ (b ∷ [])) ++ rest
 goes_on xs rest b = sym (append_assoc xs (b ∷ []) rest)
 
 module _ (q : ℕ) (quote : IsQuote q) where
-  -- bytes are a text behind these where they are as they are written
+  -- if `xs` and the spelling of bytes are UTF-8 together, so are `xs` and the bytes
   utf8-decoded : (bs xs : List ℕ) → IsUtf8 (xs ++ escaped_bytes q bs) → IsUtf8 (xs ++ bs)
   utf8-decoded [] xs u = u
   utf8-decoded (b ∷ bs) xs u = elim (spelling q b quote) [
@@ -82,7 +80,7 @@ module _ (q : ℕ) (quote : IsQuote q) where
         IsUtf8-append xs (b ∷ bs) parts.0 (IsUtf8-append (b ∷ []) bs (IsUtf8-from_ascii (b ∷ []) (one_ascii b escape.3)) rest)
   ]
 
-  -- and the other way round
+  -- the converse holds
   utf8-escaped : (bs xs : List ℕ) → IsUtf8 (xs ++ bs) → IsUtf8 (xs ++ escaped_bytes q bs)
   utf8-escaped [] xs u = u
   utf8-escaped (b ∷ bs) xs u = elim (spelling q b quote) [
@@ -96,7 +94,7 @@ module _ (q : ℕ) (quote : IsQuote q) where
         (IsUtf8-append (92 ∷ escape.0) (escaped_bytes q bs) front (utf8-escaped bs [] parts.1)))
   ]
 
-  -- with their quotes too
+  -- the same holds with quotes around the spelling
   pub quoted-utf8 : (bs : List ℕ) → IsUtf8 (q ∷ (escaped_bytes q bs ++ (q ∷ []))) ↔ IsUtf8 bs
   quoted-utf8 bs = (
     λ u. utf8-decoded bs [] (IsUtf8-cut (escaped_bytes q bs) [] q ascii (IsUtf8-cut [] (escaped_bytes q bs ++ (q ∷ [])) q ascii u).1).0,

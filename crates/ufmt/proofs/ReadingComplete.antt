@@ -14,18 +14,16 @@ use Rattle.ufmt.proofs.ListedDocuments.{listed, documents-listed, listed_pairs, 
 use Rattle.ufmt.proofs.TextsBegin.{document_begins}
 use Rattle.ufmt.proofs.TokenLeaves.{word_leaf, field_name_complete, leaf_complete, no_symbol, word_leads}
 
--- `p` reads at this mode and depth each token document that is nested less than the number
+-- at this mode and depth, `p` reads each token document that is nested less than n deep
 pub record ReadsBelow (p : Parse Document) (i : Setting) (n : ℕ) : Type 0 where
   pub reads : (d : Document) → HasTokens d → nest d < n → IsRead p (normal d) (layout i d)
 
--- so it reads documents in a row
 documents_complete : (p : Parse Document) (i : Setting) (n : ℕ) → ReadsBelow p i n → (ds : Documents) → HaveTokens ds → nest_all ds < n
     → AreRead p (listed (normal_all ds)) (texts i ds)
 unfolding listed
 documents_complete p i n below no_documents h less = tt
 documents_complete p i n below (document d ds) h less = (below.reads d h.0 (omega arith), documents_complete p i n below ds h.1 (omega arith))
 
--- so it reads pairs in a row
 pairs_complete : (p : Parse Document) (i : Setting) (n : ℕ) → ReadsBelow p i n → (ps : Pairs) → PairsHaveTokens ps → nest_pairs ps < n
     → AreRead (read_pair p p) (listed_pairs (normal_pairs ps)) (pair_texts i ps)
 unfolding listed_pairs
@@ -36,7 +34,6 @@ pairs_complete p i n below (pair key value ps) h less = (
   pairs_complete p i n below ps h.2 (omega arith),
 )
 
--- so it reads fields in a row
 fields_complete : (p : Parse Document) (i : Setting) (n : ℕ) → ReadsBelow p i n → (fs : Fields) → FieldsHaveTokens fs → nest_fields fs < n
     → AreRead (read_pair read_word p) (listed_fields (normal_fields fs)) (field_texts i fs)
 unfolding listed_fields
@@ -47,11 +44,11 @@ fields_complete p i n below (field name value fs) h less = (
   fields_complete p i n below fs h.2 (omega arith),
 )
 
--- what begins the entries of a list, a set, a map or a tuple without a name, behind the bracket
+-- the entries of a list, a set, a map or a tuple without a name begin with no closer
 entries_begin : (s : Setting) {text : List ℕ} → Begins text → (t u : List ℕ) → Begins ((new_line (inside s).mode (inside s).depth ++ (text ++ t)) ++ u)
 entries_begin s b t u = Begins-append (begins_after (inside s).mode (inside s).depth (Begins-append b t)) u
 
--- what stands before the first entry decides for a block
+-- a text that begins with the lead `start` is read in the first case of `choose`
 lead_chosen : {A : Type 0} (start text after left u : List ℕ) (f : List ℕ → A) (b : A)
     → choose (strip start ((start ++ (text ++ (after ++ left))) ++ u)) f b ≡ f (text ++ (after ++ (left ++ u)))
 lead_chosen start text after left u f b = rw (entry_assoc start text after left u, strip_joined start (text ++ (after ++ (left ++ u)))) refl
@@ -167,7 +164,7 @@ tuple_complete s p n below fits (c ∷ name) d ds u hn h hs less =
 name_complete : (s : Setting) (p : Parse Document) (name u : List ℕ) → IsWord name → IsFollower u → read_with s p ((name ++ []) ++ u) ≡ Some (leaf name, u)
 name_complete s p name u h follows = rw (append-nil name) (leaf_complete s p name u (word_leaf name h) follows)
 
--- a document is read, where those of its entries are
+-- a document is read if its entries are read
 read_with_complete : (s : Setting) (p : Parse Document) (n : ℕ) → ReadsBelow p (inside s) n → Fits s n → (d : Document) (u : List ℕ)
     → HasTokens d → nest d ≤ n → IsFollower u → read_with s p (layout s d ++ u) ≡ Some (normal d, u)
 read_with_complete s p n below fits (leaf text) u h less follows = leaf_complete s p text u h follows
@@ -186,7 +183,6 @@ read_with_complete s p n below fits (tuple_of (c ∷ name) no_documents) u h les
 read_with_complete s p n below fits (tuple_of name (document d ds)) u h less follows = tuple_complete s p n below fits name d ds u h.0 h.1 h.2 less
 read_with_complete s p n below fits (pretty_part d) u h less follows = absurd h
 
--- the text of a token document, before a follower, is read as its normal form
 pub read_complete : (n : ℕ) (s : Setting) (d : Document) (u : List ℕ) → HasTokens d → nest d ≤ n → Fits s n → IsFollower u
     → read s n (layout s d ++ u) ≡ Some (normal d, u)
 unfolding read

@@ -1,4 +1,4 @@
--- Reading is sound: what is read is a token document in normal form, and its text with what is left is the text that was read.
+-- Reading is sound: it gives a token document in normal form, and the document's text and the rest make up the text that was read.
 use Rattle.std.proofs.Common.{◌≡◌, ◌⊎◌, inl, inr, refl, ap, sym, ◌∙◌, subst, subst₂, ℕ, zero, suc, ◌<◌, ◌≤◌, List, [], ◌∷◌, ◌++◌, map, Option, Some, None, codes, append_assoc, arith}
 use Rattle.ufmt_core.specs.Document.{Document, leaf, list_of, set_of, map_of, struct_of, tuple_of, no_documents, no_pairs, documents, pairs_of, fields_of, nest}
 use Rattle.ufmt_core.specs.Layout.{frame, tuple_kind, inside, lead, block_tail, layout, texts, field_texts}
@@ -14,28 +14,27 @@ use Rattle.ufmt_core.proofs.Printing.{texts-documents, pair_texts-pairs_of, fiel
 use Rattle.ufmt.proofs.NormalRows.{IsNormalBelow, documents_tokens, documents_normal, documents_nest, pairs_tokens, pairs_normal, pairs_nest, fields_tokens, fields_normal, fields_nest}
 use Rattle.ufmt.proofs.BlocksSound.{Finds, FoundEntries, IsGoodPair, keyed_text, read_pair_finds, read_entries_sound, read_after_first_sound, with_first, read_value_sound}
 
--- a token document in normal form that was found at the front of a text, at this mode and depth, nested at most as much as the number
+-- a token document in normal form, nested at most n deep, whose text at this mode and depth is the front of `t`
 pub record Found (s : Setting) (n : ℕ) (t : List ℕ) (d : Document) (u : List ℕ) : Type 0 where
   pub tokens : HasTokens d
   pub nests : nest d ≤ n
   pub is_normal : normal d ≡ d
   pub whole : t ≡ layout s d ++ u
 
--- a word is read as a word
 read_word_finds : Finds read_word IsWord (λ w. w)
 read_word_finds = record { good = λ t w u h. (read_word_sound t w u h).0; whole = λ t w u h. (read_word_sound t w u h).1 }
 
--- a document and what is left, as a result of reading
+-- a result of reading: a document and the rest
 abbrev given : Document → List ℕ → Option (Document × List ℕ)
 given d u = Some (d, u)
 
--- what was found of a result was found of an equal one
+-- what was found for a result was found for an equal result
 found_same : {s : Setting} {n : ℕ} {t : List ℕ} (e d : Document) (v u : List ℕ) → Found s n t e v → given e v ≡ given d u → Found s n t d u
 found_same {s} {n} {t} e d v u found same =
     let parts = same_parts {A = Document} {B = List ℕ} (e, v) (d, u) same in
     subst₂ (λ a b. Found s n t a b) parts.0 parts.1 found
 
--- a list of entries that were found was found
+-- a list is found if its entries are found
 list_found : (s : Setting) (n : ℕ) (t v : List ℕ) (d : Document) (u : List ℕ)
     → t ≡ codes "[" ++ (lead (frame s.mode Brackets) (inside s) Zero ++ v)
     → FoundEntries (IsNormalBelow n) (layout (inside s)) (frame s.mode Brackets) s (λ ds. list_of (documents ds)) v d u → Found s n t d u
@@ -50,7 +49,7 @@ list_found s n t v d u front h =
           ∙ ap (λ ts. block_tail (frame s.mode Brackets) s Zero ts ++ u) (sym (texts-documents (inside s) (h.first ∷ h.others))));
     })
 
--- a set of entries that were found was found
+-- a set is found if its entries are found
 set_found : (s : Setting) (n : ℕ) (t v : List ℕ) (d : Document) (u : List ℕ)
     → t ≡ codes "{" ++ (lead (frame s.mode Braces) (inside s) Zero ++ v)
     → FoundEntries (IsNormalBelow n) (layout (inside s)) (frame s.mode Braces) s (λ ds. set_of (documents ds)) v d u → Found s n t d u
@@ -65,7 +64,7 @@ set_found s n t v d u front h =
           ∙ ap (λ ts. block_tail (frame s.mode Braces) s Zero ts ++ u) (sym (texts-documents (inside s) (h.first ∷ h.others))));
     })
 
--- a map of pairs that were found was found
+-- a map is found if its pairs are found
 map_found : (s : Setting) (n : ℕ) (t v : List ℕ) (d : Document) (u : List ℕ)
     → t ≡ codes "{" ++ (lead (frame s.mode Braces) (inside s) Zero ++ v)
     → FoundEntries (IsGoodPair (IsNormalBelow n) (IsNormalBelow n)) (keyed_text (layout (inside s)) (layout (inside s)))
@@ -81,7 +80,7 @@ map_found s n t v d u front h =
           ∙ ap (λ ts. block_tail (frame s.mode Braces) s Zero ts ++ u) (sym (pair_texts-pairs_of (inside s) (h.first ∷ h.others))));
     })
 
--- a struct of fields that were found was found
+-- a struct is found if its fields are found
 struct_found : (s : Setting) (n : ℕ) (name t v : List ℕ) (d : Document) (u : List ℕ) → IsWord name
     → t ≡ name ++ (lead (frame s.mode Struct) (inside s) Zero ++ v)
     → FoundEntries (IsGoodPair IsWord (IsNormalBelow n)) (keyed_text (λ w. w) (layout (inside s))) (frame s.mode Struct) s
@@ -98,7 +97,7 @@ struct_found s n name t v d u word front h =
           ∙ sym (append_assoc name (block_tail (frame s.mode Struct) s Zero (field_texts (inside s) (fields_of (h.first ∷ h.others)))) u);
     })
 
--- the text of a tuple with fields
+-- the text of a tuple with fields, with or without a name
 tuple_text : (s : Setting) (name : List ℕ) (d : Document) (ds : List Document) (u : List ℕ)
     → name ++ (block_tail (frame s.mode (tuple_kind name)) s Zero (map (layout (inside s)) (d ∷ ds)) ++ u) ≡ layout s (tuple_of name (documents (d ∷ ds))) ++ u
 tuple_text s [] d ds u = ap (λ ts. block_tail (frame s.mode Unnamed) s Zero ts ++ u) (sym (texts-documents (inside s) (d ∷ ds)))
@@ -106,7 +105,7 @@ tuple_text s (c ∷ name) d ds u =
     ap (λ ts. (c ∷ name) ++ (block_tail (frame s.mode Tuple) s Zero ts ++ u)) (sym (texts-documents (inside s) (d ∷ ds)))
     ∙ sym (append_assoc (c ∷ name) (block_tail (frame s.mode Tuple) s Zero (texts (inside s) (documents (d ∷ ds)))) u)
 
--- a tuple of fields that were found was found
+-- a tuple is found if its fields are found
 tuple_found : (s : Setting) (n : ℕ) (name t v : List ℕ) (d : Document) (u : List ℕ) → AreWordBytes name
     → t ≡ name ++ (lead (frame s.mode (tuple_kind name)) (inside s) Zero ++ v)
     → FoundEntries (IsNormalBelow n) (layout (inside s)) (frame s.mode (tuple_kind name)) s (λ ds. tuple_of name (documents ds)) v d u → Found s n t d u
@@ -142,7 +141,7 @@ read_list_sound s p n finds t v d u front h = go (chosen_from (strip ((frame s.m
         list_found s n t after.0 d u (front ∙ ap (λ w. codes "[" ++ w) (strip_found (lead (frame s.mode Brackets) (inside s) Zero) v after.0 after.1))
         (read_entries_sound p (IsNormalBelow n) (layout (inside s)) (frame s.mode Brackets) s (λ ds. list_of (documents ds)) finds after.0 d u after.2)
 
--- what is read in braces behind a first document is a map or a set with it
+-- what is read in braces after a first document is a map or a set
 read_map_or_set_sound : (s : Setting) (p : Parse Document) (n : ℕ) → Finds p (IsNormalBelow n) (layout (inside s))
     → (t v w : List ℕ) (first d : Document) (u : List ℕ) → t ≡ codes "{" ++ (lead (frame s.mode Braces) (inside s) Zero ++ v)
     → IsNormalBelow n first → v ≡ layout (inside s) first ++ w → read_map_or_set s p first w ≡ Some (d, u) → Found s n t d u
@@ -203,11 +202,10 @@ read_struct_sound s p n finds name t v w d u word front after h =
     (frame s.mode Struct) s (λ fs. struct_of name (fields_of fs))
     (read_pair_finds read_word p IsWord (IsNormalBelow n) (λ x. x) (layout (inside s)) read_word_finds finds) w d u h)
 
--- a leaf that was found
 leaf_found : {s : Setting} {n : ℕ} {t : List ℕ} (text u : List ℕ) → IsTokenLeaf text → t ≡ text ++ u → Found s n t (leaf text) u
 leaf_found text u h whole = record { tokens = h; nests = omega arith; is_normal = refl; whole = whole }
 
--- what is read behind a word is a tuple, a struct or a leaf
+-- what is read after a word is a tuple, a struct or a leaf
 read_named_sound : (s : Setting) (p : Parse Document) (n : ℕ) → Finds p (IsNormalBelow n) (layout (inside s))
     → (name t v : List ℕ) (d : Document) (u : List ℕ) → IsWord name → AreWordBytes name → t ≡ name ++ v → read_named s p name v ≡ Some (d, u) → Found s n t d u
 read_named_sound s p n finds name t v d u word bytes front h =
@@ -226,7 +224,7 @@ read_named_sound s p n finds name t v d u word bytes front h =
     go (inr k) = without_tuple (chosen_from (strip (lead (frame s.mode Struct) (inside s) Zero) v) (read_struct s p name)
         (given (leaf name) v) (Some (d, u)) k.1)
 
--- what is read where no word stands is a list, a set, a map, a leaf or a tuple without a name
+-- what is read without a word at the front is a list, a set, a map, a leaf or a tuple without a name
 read_without_name_sound : (s : Setting) (p : Parse Document) (n : ℕ) → Finds p (IsNormalBelow n) (layout (inside s))
     → (t : List ℕ) (d : Document) (u : List ℕ) → read_without_name s p t ≡ Some (d, u) → Found s n t d u
 read_without_name_sound s p n finds t d u h = in_brackets (chosen_from (strip (codes "[") t) (read_list s p) _ (Some (d, u)) h)
@@ -252,18 +250,17 @@ read_without_name_sound s p n finds t d u h = in_brackets (chosen_from (strip (c
     in_brackets (inr k) = braces (chosen_from (strip (codes "{") t) (read_braces s p)
         (choose (read_symbol t) (λ x. given (leaf x.0) x.1) (read_unnamed s p t)) (Some (d, u)) k.1)
 
--- what is read with this word in front
+-- what is read is found, whatever the longest word at the front is
 read_by_word_sound : (s : Setting) (p : Parse Document) (n : ℕ) → Finds p (IsNormalBelow n) (layout (inside s))
     → (t word v : List ℕ) (d : Document) (u : List ℕ) → AreWordBytes word → t ≡ word ++ v → read_by_word s p t word v ≡ Some (d, u) → Found s n t d u
 read_by_word_sound s p n finds t [] v d u bytes front h = read_without_name_sound s p n finds t d u h
 read_by_word_sound s p n finds t (c ∷ word) v d u bytes front h = read_named_sound s p n finds (c ∷ word) t v d u bytes bytes front h
 
--- what is read is a token document in normal form, where that holds of the entries
+-- reading a document is sound if reading its entries is sound
 read_with_sound : (s : Setting) (p : Parse Document) (n : ℕ) → Finds p (IsNormalBelow n) (layout (inside s))
     → (t : List ℕ) (d : Document) (u : List ℕ) → read_with s p t ≡ Some (d, u) → Found s n t d u
 read_with_sound s p n finds t d u h = read_by_word_sound s p n finds t (word_of t) (after_word t) d u (word_of_bytes t) (words_whole t) h
 
--- what is read is a token document in normal form, and its text with what is left is the text that was read
 pub read_sound : (n : ℕ) (s : Setting) (t : List ℕ) (d : Document) (u : List ℕ) → read s n t ≡ Some (d, u) → Found s n t d u
 unfolding read
 read_sound zero s t d u h = read_with_sound s (λ v. None) zero (record { good = λ v x w k. absurd (cc); whole = λ v x w k. absurd (cc) }) t d u h

@@ -1,4 +1,4 @@
--- What is left of a block is read turn by turn: the number of turns may be forgotten.
+-- The rest of a block is read turn by turn, and every large enough number of turns gives the same result.
 use Rattle.std.proofs.Common.{◌≡◌, refl, ap, ℕ, zero, suc, ◌<◌, ◌≤◌, List, ◌∷◌, ◌++◌, length, length-append, Option, Some, None, option_and_then, codes, arith}
 use Rattle.ufmt_core.specs.Document.{Document}
 use Rattle.ufmt_core.specs.Layout.{Frame, inside, lead, trail, next, layout}
@@ -12,29 +12,24 @@ use Rattle.ufmt.proofs.BlocksComplete.{Begins}
 use Rattle.ufmt.proofs.TextsBegin.{document_begins}
 use Rattle.ufmt.proofs.ReadingSound.{read_sound}
 
--- what is read takes at least one byte of the text
+-- what `q` reads takes at least one byte of the text
 pub record Takes {A : Type 0} (q : Parse A) : Type 0 where
   pub takes : (t : List ℕ) (x : A) (u : List ℕ) → q t ≡ Some (x, u) → length u < length t
 
--- a text that begins with no closer has a byte
 begins_takes : (t text u : List ℕ) → Begins text → t ≡ text ++ u → length u < length t
 begins_takes t text u b whole =
     let front : length text ≡ suc (length b.tail) = ap length b.is in
     rw (whole, length-append text u) (omega arith)
 
--- what is left where a text was stripped is no longer
 pub strip_within : (text t u : List ℕ) → strip text t ≡ Some u → length u ≤ length t
 strip_within text t u h = rw (strip_found text t u h, length-append text u) (omega arith)
 
--- a document takes a byte
 pub read_takes : (s : Setting) (n : ℕ) → Takes (read s n)
 read_takes s n = record { takes = λ t d u h. let found = read_sound n s t d u h in begins_takes t (layout s d) u (document_begins s d found.tokens) found.whole }
 
--- a word takes a byte
 pub read_word_takes : Takes read_word
 read_word_takes = record { takes = λ t w u h. let found = read_word_sound t w u h in begins_takes t w u (word_begins w found.0) found.1 }
 
--- a key and a value leave less than they were read from
 pair_takes : {A : Type 0} (key : Parse A) (p : Parse Document) → Takes key → Takes p → (t : List ℕ) (x : A × Document) (u : List ℕ)
     → read_pair key p t ≡ Some (x, u) → length u < length t
 pair_takes key p takes_key takes t x u h =
@@ -46,21 +41,20 @@ pair_takes key p takes_key takes t x u h =
     let c = takes.takes after.0 value.0 u value.1 in
     omega arith
 
--- so they take a byte, where keys and values do
 pub read_pair_takes : {A : Type 0} (key : Parse A) (p : Parse Document) → Takes key → Takes p → Takes (read_pair key p)
 read_pair_takes key p takes_key takes = record { takes = pair_takes key p takes_key takes }
 
--- two functions that agree on the value of an option, if it has one, lead to the same
+-- `choose` has the same result for two functions that agree on the option's value
 same_choice : {A B : Type 0} (o : Option A) (f g : A → B) (b : B) → ((x : A) → o ≡ Some x → f x ≡ g x) → choose o f b ≡ choose o g b
 same_choice None f g b h = refl
 same_choice (Some x) f g b h = h x refl
 
--- likewise where the option alone leads on
+-- the same holds of `option_and_then`
 same_next : {A B : Type 0} (o : Option A) (f g : A → Option B) → ((x : A) → o ≡ Some x → f x ≡ g x) → option_and_then f o ≡ option_and_then g o
 same_next None f g h = refl
 same_next (Some x) f g h = h x refl
 
--- a turn does the same with what agrees on shorter texts
+-- a turn has the same result with two parses that agree on shorter texts
 turn_same : {A : Type 0} (q : Parse A) → Takes q → (f : Frame) (s : Setting) (count : Count) (more other : Parse (List A)) (t : List ℕ)
     → ((w : List ℕ) → length w < length t → more w ≡ other w)
     → choose (strip (lead f (inside s) count) t) (read_turn q s.mode more) (read_end f s count t)
@@ -77,7 +71,7 @@ turn_same q takes f s count more other t agree =
         let c = strip_within (trail s.mode) x.1 w k in
         omega arith
 
--- more turns than the text has bytes are as good as any such number
+-- two numbers of turns have the same result if both are above the text's length
 turns_enough : {A : Type 0} (q : Parse A) → Takes q → (f : Frame) (s : Setting) (m n : ℕ) (count : Count) (t : List ℕ) → length t < m
     → length t < n → read_rest q f s count m t ≡ read_rest q f s count n t
 unfolding read_rest
@@ -87,7 +81,7 @@ turns_enough q takes f s (suc m) (suc n) count t lm ln =
     turn_same q takes f s count (read_rest q f s (next count) m) (read_rest q f s (next count) n) t
     (λ w less. turns_enough q takes f s m n (next count) w (omega (arith, less)) (omega (arith, less)))
 
--- so what is left of a block is an entry and what is left behind it, or the end
+-- the rest of a block is one entry and the rest after it, or the ending
 pub read_others-read_turn : {A : Type 0} (q : Parse A) → Takes q → (f : Frame) (s : Setting) (count : Count) (t : List ℕ)
     → read_others q f s count t ≡ choose (strip (lead f (inside s) count) t) (read_turn q s.mode (read_others q f s (next count))) (read_end f s count t)
 unfolding read_rest

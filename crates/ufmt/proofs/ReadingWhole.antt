@@ -1,4 +1,4 @@
--- Whole texts: just those of token documents are read.
+-- Exactly the texts of token documents are read as a whole.
 use Rattle.std.proofs.Common.{◌≡◌, refl, ap, sym, ◌∙◌, ℕ, List, [], ◌∷◌, append-nil, Some, arith}
 use Rattle.ufmt_core.specs.Document.{Document}
 use Rattle.ufmt_core.specs.Layout.{setting, layout}
@@ -12,12 +12,11 @@ use Rattle.ufmt.proofs.FramesClose.{Fits}
 use Rattle.ufmt.proofs.ReadingComplete.{read_complete}
 use Rattle.ufmt.proofs.ReadingSound.{read_sound, Found}
 
--- as many blocks fit at depth 0 as a token document may have
 fits_at_0 : (mode : Mode) → Fits (setting mode 0) 255
 fits_at_0 Plain = tt
 fits_at_0 Pretty = omega arith
 
--- nothing is left behind what is read whole
+-- a document that is found, with nothing left, is a token document in normal form with this text
 all_found : (mode : Mode) (t : List ℕ) (e d : Document) (u : List ℕ) → Found (setting mode 0) 255 t e u → if_all e u ≡ Some d → IsToken d
     × (normal d ≡ d) × (layout (setting mode 0) d ≡ t)
 all_found mode t e d [] found h =
@@ -25,22 +24,18 @@ all_found mode t e d [] found h =
     rw (← same) ((found.tokens, found.nests), found.is_normal, sym (found.whole ∙ append-nil (layout (setting mode 0) e)))
 all_found mode t e d (c ∷ u) found h = absurd (cc)
 
--- what is read is a token document in normal form that has the text
 pub reads_only_texts : ReadsOnlyTexts
 reads_only_texts = λ mode t d h.
     let parsed = led_from _ (read (setting mode 0) 255 t) d h in
     all_found mode t parsed.0.0 d parsed.0.1 (read_sound 255 (setting mode 0) t parsed.0.0 parsed.0.1 parsed.1) parsed.2
 
--- the text of a token document is read as its normal form
 each_text : (mode : Mode) (d : Document) → IsToken d → read_text mode (layout (setting mode 0) d) ≡ Some (normal d)
 each_text mode d h =
     let parsed : read (setting mode 0) 255 (layout (setting mode 0) d) ≡ Some (normal d, []) = ap (read (setting mode 0) 255) (sym (append-nil (layout (setting mode 0) d))) ∙ read_complete 255 (setting mode 0) d [] h.0 h.1 (fits_at_0 mode) tt in
     rw parsed refl
 
--- the same of all of them
 pub reads_each_text : ReadsEachText
 reads_each_text = each_text
 
--- where nothing is read no token document has the text
 pub refuses_no_text : RefusesNoText
 refuses_no_text = λ mode t h d token same. let reads = each_text mode d token ∙ refl in let other = ap (read_text mode) same in absurd (cc)

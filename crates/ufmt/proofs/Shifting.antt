@@ -1,4 +1,4 @@
--- Shifting a document's lines moves its pretty text one depth in, so that its shifted text is its pretty text.
+-- Shifting moves a pretty text one depth in, so a document's shifted text is its pretty text.
 use Rattle.std.proofs.Common.{◌≡◌, ℕ, zero, suc, ◌+◌, ◌≤◌, ◌==◌, List, [], ◌∷◌, ◌++◌, map, Bool, true, false, codes, refl, sym, ap, ap₂, ◌∙◌, append_assoc, ne_eqb, arith}
 use Rattle.std.specs.Prelude.{⊤}
 use Rattle.ufmt_core.specs.Document.{Document, leaf, joined, list_of, set_of, map_of, struct_of, tuple_of, pretty_part, Documents, no_documents, document, Pairs, no_pairs, pair, Fields, no_fields, field, nest, nest_all, nest_pairs, nest_fields}
@@ -13,67 +13,58 @@ use Rattle.ufmt.specs.Shift.{margin, shift_from, shift, shift_times, entry_lines
 
 -- ---- texts
 
--- k times four spaces where a line begins
+-- k indentations, if a line begins here
 abbrev margins : ℕ → Bool → List ℕ
 margins k true = indentation k
 margins k false = []
 
--- a text with k times four spaces after each of its line feeds, so that all lines but the first are indented
+-- a text that hangs by k: k indentations come after each line feed, so only its first line is not indented
 abbrev hanging : ℕ → List ℕ → List ℕ
 hanging k [] = []
 hanging k (c ∷ text) = c ∷ (margins k (c == 10) ++ hanging k text)
 
--- one indentation is the margin that shifting puts
 margins-one : (b : Bool) → margins 1 b ≡ margin b
 margins-one true = refl
 margins-one false = refl
 
--- no indentation is nothing
 margins-zero : (b : Bool) → margins 0 b ≡ []
 margins-zero true = refl
 margins-zero false = refl
 
--- one more indentation goes after or before the others
 indentation-suc : (k : ℕ) (text : List ℕ) → indentation k ++ (codes "    " ++ text) ≡ indentation (suc k) ++ text
 indentation-suc zero text = refl
 indentation-suc (suc k) text = ap (λ more. codes "    " ++ more) (indentation-suc k text)
 
--- a text that hangs by nothing is itself
 hanging-zero : (text : List ℕ) → hanging 0 text ≡ text
 hanging-zero [] = refl
 hanging-zero (c ∷ text) = rw (margins-zero (c == 10), hanging-zero text)
 
--- parts that hang make a whole that hangs
 hanging-append : (k : ℕ) (text more : List ℕ) → hanging k (text ++ more) ≡ hanging k text ++ hanging k more
 hanging-append k [] more = refl
 hanging-append k (c ∷ text) more = rw (hanging-append k text more, append_assoc)
 
--- a text of one line stays as it is
 hanging-one_line : (k : ℕ) (text : List ℕ) → IsOneLine text → hanging k text ≡ text
 hanging-one_line k [] h = refl
 hanging-one_line k (c ∷ text) h = rw (ne_eqb c 10 h.0, hanging-one_line k text h.1)
 
--- what hangs by one and then by k has k indentations and one after each line feed
 hanging-margins : (k : ℕ) (b : Bool) (text : List ℕ) → margins k b ++ hanging k (margins 1 b ++ text) ≡ margins (suc k) b ++ hanging k text
 hanging-margins k true text = indentation-suc k (hanging k text)
 hanging-margins k false text = refl
 
--- lines that hang by one and then by k hang by one more than k
 hanging-hanging : (k : ℕ) (text : List ℕ) → hanging k (hanging 1 text) ≡ hanging (suc k) text
 hanging-hanging k [] = refl
 hanging-hanging k (c ∷ text) = rw (hanging-margins k (c == 10) (hanging 1 text), hanging-hanging k text)
 
--- to shift lines is to indent the first and to let the others hang
+-- shifting indents the first line and lets the other lines hang
 shift_from-append : (b : Bool) (text : List ℕ) (c : ℕ) (more : List ℕ)
     → shift_from b (text ++ (c ∷ more)) ≡ margin b ++ (hanging 1 text ++ (c ∷ shift_from (c == 10) more))
 shift_from-append b [] c more = refl
 shift_from-append b (a ∷ text) c more = rw (shift_from-append (a == 10) text c more, margins-one (a == 10), append_assoc (margin (a == 10)) (hanging 1 text) _)
 
--- each line is moved
 pub shift-line : (line lines : List ℕ) → IsOneLine line → shift (line ++ (codes "\n" ++ lines)) ≡ codes "    " ++ (line ++ (codes "\n" ++ shift lines))
 shift-line line lines h = rw (shift_from-append true line 10 lines, hanging-one_line 1 line h)
 
--- a text with a line feed, shifted k times
+-- shifting a text with a line feed k times indents it by k and lets its other lines hang by k
 shift_times-line : (k : ℕ) (text : List ℕ) → shift_times k (text ++ codes "\n") ≡ indentation k ++ (hanging k text ++ codes "\n")
 shift_times-line zero text = rw (hanging-zero text)
 shift_times-line (suc k) text = rw (
@@ -84,7 +75,7 @@ shift_times-line (suc k) text = rw (
 
 -- ---- blocks in any frame
 
--- the lines of an entry and more lines, shifted, inside a block at depth k
+-- an entry's lines and further lines, shifted inside a block at depth k, are one deeper
 shift-entry : (k : ℕ) (text lines end : List ℕ) →
     indentation k ++ (hanging k (shift (text ++ (codes ",\n" ++ lines))) ++ end) ≡ indentation (suc k)
     ++ (hanging (suc k) text ++ (codes ",\n" ++ (indentation k ++ (hanging k (shift lines) ++ end))))
@@ -96,7 +87,7 @@ shift-entry k text lines end = rw (
   append_assoc (indentation k) (hanging k (shift lines)) end,
 ) (indentation-suc k _)
 
--- a frame whose parts stand on one line each, and which ends one entry as it ends several
+-- a steady frame: each of its parts is on one line, and its closing is the same after one entry as after several
 record IsSteady (f : Frame) : Type 0 where
   opening : (k : ℕ) → hanging k f.opening ≡ f.opening
   start : (k : ℕ) → hanging k f.start ≡ f.start
@@ -104,7 +95,6 @@ record IsSteady (f : Frame) : Type 0 where
   several : (k : ℕ) → hanging k (f.closing Several) ≡ f.closing Several
   one : f.closing One ≡ f.closing Several
 
--- in pretty mode every kind of block has such a frame
 IsSteady-frame : (kind : Kind) → IsSteady (frame Pretty kind)
 IsSteady-frame Brackets = record { opening = λ k. refl; start = λ k. refl; zero = λ k. refl; several = λ k. refl; one = refl }
 IsSteady-frame Braces = record { opening = λ k. refl; start = λ k. refl; zero = λ k. refl; several = λ k. refl; one = refl }
@@ -112,19 +102,18 @@ IsSteady-frame Struct = record { opening = λ k. refl; start = λ k. refl; zero 
 IsSteady-frame Tuple = record { opening = λ k. refl; start = λ k. refl; zero = λ k. refl; several = λ k. refl; one = refl }
 IsSteady-frame Unnamed = record { opening = λ k. refl; start = λ k. refl; zero = λ k. refl; several = λ k. refl; one = refl }
 
--- after an entry only the indentation stands before another one
 pub lead-next : (f : Frame) (i : Setting) (count : Count) → lead f i (next count) ≡ separator i.mode i.depth
 lead-next f i Zero = refl
 lead-next f i One = refl
 lead-next f i Several = refl
 
--- after an entry the block ends on a line of its own
+-- a block with entries ends on a line of its own
 ending-next : (f : Frame) (k : ℕ) (count : Count) → IsSteady f → ending f (setting Pretty k) (next count) ≡ indentation k ++ f.closing Several
 ending-next f k Zero p = ap (λ u. indentation k ++ u) p.one
 ending-next f k One p = refl
 ending-next f k Several p = refl
 
--- what is left of a block after an entry: the other entries' lines, shifted, and the end
+-- after an entry, the rest of a block is the shifted lines of the other entries, and the closing
 block_tail-next : (f : Frame) (k : ℕ) (count : Count) → IsSteady f → entry_depth Pretty k ≡ suc k → (ss : List (List ℕ)) →
     block_tail f (setting Pretty k) (next count) (map (hanging (suc k)) ss) ≡ indentation k ++ (hanging k (shift (entry_lines ss)) ++ f.closing Several)
 block_tail-next f k count p e [] = ending-next f k count p
@@ -133,12 +122,12 @@ block_tail-next f k count p e (s ∷ ss) =
     (lead-next f (inside (setting Pretty k)) count ∙ ap indentation e) (block_tail-next f k (next count) p e ss)
     ∙ sym (shift-entry k s (entry_lines ss) (f.closing Several))
 
--- where a block at depth k has entries, these are one deeper
+-- the entries of a block at depth k, if it has any, are one deeper
 abbrev OneDeeper : ℕ → List (List ℕ) → Type 0
 OneDeeper k [] = ⊤
 OneDeeper k (s ∷ ss) = entry_depth Pretty k ≡ suc k
 
--- what follows a block's opening hangs
+-- what follows the opening of a block at depth k hangs by k
 block_tail-first : (f : Frame) (k : ℕ) → IsSteady f → (ss : List (List ℕ)) → OneDeeper k ss
     → block_tail f (setting Pretty k) Zero (map (hanging (entry_depth Pretty k)) ss) ≡ hanging k (shifted_tail f ss)
 block_tail-first f k p [] e = sym (p.zero k)
@@ -155,7 +144,7 @@ block_tail-first f k p (s ∷ ss) e =
     )
     (ap (λ u. f.start ++ (codes "\n" ++ u)) (sym (shift-entry k s (entry_lines ss) (f.closing Several))))
 
--- a block in any such frame hangs where its entries do
+-- a block in a steady frame hangs by its depth if its entries hang by theirs
 framed : (f : Frame) (k : ℕ) (name : List ℕ) (ss : List (List ℕ)) → IsSteady f → IsOneLine name → OneDeeper k ss →
     name ++ (f.opening ++ block_tail f (setting Pretty k) Zero (map (hanging (entry_depth Pretty k)) ss)) ≡ hanging k (name ++ (f.opening ++ shifted_tail f ss))
 framed f k name ss p h e =
@@ -164,20 +153,18 @@ framed f k name ss p h e =
 
 -- ---- documents
 
--- the depths that a block at depth k leaves to its entries, which nest n deep and have these texts
+-- entries with these texts, nested n deep, have room in a block at depth k
 record HasRoom (k n : ℕ) (ss : List (List ℕ)) : Type 0 where
   within : n + entry_depth Pretty k ≤ 255
   deeper : OneDeeper k ss
 
--- without entries no depth is needed
 HasRoom-empty : (k : ℕ) → 0 + k ≤ 255 → HasRoom k 0 []
 HasRoom-empty k h = record { within = omega arith; deeper = tt }
 
--- with entries the block itself takes one
 HasRoom-entries : (k n : ℕ) (s : List ℕ) (ss : List (List ℕ)) → suc n + k ≤ 255 → HasRoom k n (s ∷ ss)
 HasRoom-entries k n s ss h = record { within = omega arith; deeper = omega arith }
 
--- each kind of block leaves room, where it nests to the depth of 255 at most
+-- a block of any kind has room for its entries if it reaches depth 255 at most
 HasRoom-list_of : (k : ℕ) (ds : Documents) → nest (list_of ds) + k ≤ 255 → HasRoom k (nest_all ds) (shifted_texts ds)
 HasRoom-list_of k no_documents h = HasRoom-empty k h
 HasRoom-list_of k (document d ds) h = HasRoom-entries k _ _ _ h
@@ -198,14 +185,14 @@ HasRoom-struct_of : (k : ℕ) (name : List ℕ) (fs : Fields) → nest (struct_o
 HasRoom-struct_of k name no_fields h = HasRoom-empty k h
 HasRoom-struct_of k name (field field_name value fs) h = HasRoom-entries k _ _ _ h
 
--- a block at depth k, whose entries' texts hang as they should
+-- a block at depth k is its shifted block, hanging by k, if its entries' texts hang
 block-shifted : (kind : Kind) (k n : ℕ) (name : List ℕ) (ss ts : List (List ℕ)) → IsOneLine name → HasRoom k n ss
     → ts ≡ map (hanging (entry_depth Pretty k)) ss → block kind (setting Pretty k) name ts ≡ hanging k (shifted_block kind name ss)
 block-shifted kind k n name ss ts h room e = ap (block kind (setting Pretty k) name) e
     ∙ framed (frame Pretty kind) k name ss (IsSteady-frame kind) h room.deeper
 
 mutual
-  -- at depth k a document's pretty text is its shifted text, hanging by k
+  -- a document's pretty text at depth k is its shifted text, hanging by k
   layout-shifted : (k : ℕ) (d : Document) → HasNoLineFeed d → nest d + k ≤ 255 → layout (setting Pretty k) d ≡ hanging k (shifted d)
   layout-shifted k (leaf text) h n = sym (hanging-one_line k text h)
   layout-shifted k (joined ds) h n = layouts-shifted k ds h n
@@ -242,11 +229,10 @@ mutual
   field_texts-shifted k (field name value fs) h n =
       rw (hanging-append k name _, hanging-one_line k name h.0, layout-shifted k value h.1 (omega arith), field_texts-shifted k fs h.2 (omega arith))
 
--- at depth k a document's pretty text is its shifted text, as lines, shifted k times
+-- a document's shifted text, shifted k times as lines, is its pretty text at depth k
 pub shift_times-shifted : (d : Document) (k : ℕ) → HasNoLineFeed d → nest d + k ≤ 255
     → shift_times k (shifted d ++ codes "\n") ≡ indentation k ++ (layout (setting Pretty k) d ++ codes "\n")
 shift_times-shifted d k h n = shift_times-line k (shifted d) ∙ ap (λ u. indentation k ++ (u ++ codes "\n")) (sym (layout-shifted k d h n))
 
--- a document's shifted text is its pretty text
 pub shifted-pretty_text : (d : Document) → HasNoLineFeed d → nest d ≤ 255 → shifted d ≡ pretty_text d
 shifted-pretty_text d h n = sym (hanging-zero (shifted d)) ∙ sym (layout-shifted 0 d h (omega arith))

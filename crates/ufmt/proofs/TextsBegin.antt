@@ -1,4 +1,4 @@
--- How the text of a token document begins.
+-- The text of a token document begins with no closer.
 use Rattle.std.proofs.Common.{refl, [], ◌∷◌}
 use Rattle.ufmt_core.specs.Document.{Document, leaf, joined, list_of, set_of, map_of, struct_of, tuple_of, pretty_part, no_documents, document}
 use Rattle.ufmt_core.specs.Layout.{layout}
@@ -7,7 +7,6 @@ use Rattle.ufmt.specs.Token.{HasTokens}
 use Rattle.ufmt.proofs.BlocksComplete.{Begins, Begins-append}
 use Rattle.ufmt.proofs.TokenLeaves.{leaf_begins, word_begins}
 
--- the text of a token document begins with no closer
 pub document_begins : (i : Setting) (d : Document) → HasTokens d → Begins (layout i d)
 document_begins i (leaf text) h = leaf_begins text h
 document_begins i (joined ds) h = absurd h

@@ -1,4 +1,4 @@
--- All that is known of a leaf that can be read again: how it begins, that it is read, and that what is read as one is one.
+-- Leaves that can be read again: how they begin, that each is read, and that only they are read as leaves.
 use Rattle.std.proofs.Common.{◌≡◌, ◌⊎◌, inl, inr, refl, ap, sym, ◌∙◌, ℕ, List, [], ◌∷◌, ◌++◌, Option, Some, None, codes, append_assoc}
 use Rattle.ufmt_core.specs.Document.{Document, leaf}
 use Rattle.ufmt_core.specs.Layout.{inside, brace_space, new_line}
@@ -14,12 +14,10 @@ use Rattle.ufmt.proofs.ReadingWords.{StopsWord, follower_stops, is_word_byte-is_
 use Rattle.ufmt.proofs.BlocksComplete.{Begins, IsRead}
 use Rattle.ufmt.proofs.FramesClose.{closer_begins_none, follower_no_tuple, follower_no_struct}
 
--- a word begins with no closer
 pub word_begins : (w : List ℕ) → IsWord w → Begins w
 word_begins [] h = absurd h
 word_begins (c ∷ w) h = record { first = c; tail = w; is = refl; no_closer = is_word_byte-is_closer c h.0 }
 
--- nor does a leaf
 pub leaf_begins : (text : List ℕ) → IsTokenLeaf text → Begins text
 leaf_begins text h = go h.shape
   where
@@ -29,32 +27,29 @@ leaf_begins text h = go h.shape
     go (inr (inr (inl of_text))) = record { first = 34; tail = escaped_all 34 of_text.0 ++ (34 ∷ []); is = of_text.2; no_closer = refl }
     go (inr (inr (inr of_char))) = record { first = 39; tail = escaped_all 39 (of_char.0 ∷ []) ++ (39 ∷ []); is = of_char.2; no_closer = refl }
 
--- a word is a leaf
 pub word_leaf : (w : List ℕ) → IsWord w → IsTokenLeaf w
 word_leaf w h = record { shape = inl h }
 
--- so are `()`, and a quoted text or character
 pub symbol_leaf : (text : List ℕ) → IsSymbol text → IsTokenLeaf text
 symbol_leaf text h = record { shape = inr h }
 
--- a name is a word where the check computes so
+-- a concrete name is shown to be a word by computation
 pub IsWord-from : (w : List ℕ) → read_word w ≡ Some (w, []) → IsWord w
 IsWord-from w h = (read_word_sound w w [] h).0
 
--- the word before a field's colon is read
 pub field_name_complete : (w : List ℕ) → IsWord w → IsRead read_word w w
 field_name_complete w h = record { begins = word_begins w h; reads = λ u follows. read_word_complete w u h (follower_stops u follows) }
 
--- what begins with a word is read by what stands behind it
+-- a text that begins with a word is read by `read_named`
 at_word : (s : Setting) (p : Parse Document) (w u : List ℕ) → IsWord w → StopsWord u → read_with s p (w ++ u) ≡ read_named s p w u
 at_word s p [] u h stops = absurd h
 at_word s p (c ∷ w) u h stops = rw (word_of-append (c ∷ w) u h stops, after_word-append (c ∷ w) u h stops) refl
 
--- the same where the text is in two parts
+-- the same holds of a text in two parts
 pub word_leads : (s : Setting) (p : Parse Document) (w t u : List ℕ) → IsWord w → StopsWord (t ++ u) → read_with s p ((w ++ t) ++ u) ≡ read_named s p w (t ++ u)
 word_leads s p w t u h stops = ap (read_with s p) (append_assoc w t u) ∙ at_word s p w (t ++ u) h stops
 
--- a name before a follower is a leaf
+-- a name before a follower is read as a leaf
 only_name : (s : Setting) (p : Parse Document) (w u : List ℕ) → IsWord w → IsFollower u → read_named s p w u ≡ Some (leaf w, u)
 only_name s p [] u h follows = absurd h
 only_name s p (c ∷ w) u h follows = rw (
@@ -62,7 +57,7 @@ only_name s p (c ∷ w) u h follows = rw (
   follower_no_struct u (brace_space s.mode ++ new_line (inside s).mode (inside s).depth) follows,
 ) refl
 
--- a leaf that is no word is read, whatever follows it
+-- a symbol is read, whatever follows it
 pub read_symbol_complete : (text u : List ℕ) → IsSymbol text → read_symbol (text ++ u) ≡ Some (text, u)
 read_symbol_complete text u (inl unit) = rw unit refl
 read_symbol_complete text u (inr quoted) = go quoted (read_quoted-complete text u quoted)
@@ -71,14 +66,13 @@ read_symbol_complete text u (inr quoted) = go quoted (read_quoted-complete text 
     go (inl of_text) reads = rw of_text.2 (ap (λ t. read_quoted (t ++ u)) (sym of_text.2) ∙ reads ∙ ap (λ t. Some (t, u)) of_text.2)
     go (inr of_char) reads = rw of_char.2 (ap (λ t. read_quoted (t ++ u)) (sym of_char.2) ∙ reads ∙ ap (λ t. Some (t, u)) of_char.2)
 
--- so a document that begins with one is that leaf
+-- reading a text that begins with a symbol tries `read_symbol` first
 symbol_first : (s : Setting) (p : Parse Document) (text u : List ℕ) → IsSymbol text
     → read_with s p (text ++ u) ≡ choose (read_symbol (text ++ u)) (λ x. Some (leaf x.0, x.1)) (read_unnamed s p (text ++ u))
 symbol_first s p text u (inl unit) = rw unit refl
 symbol_first s p text u (inr (inl of_text)) = rw of_text.2 refl
 symbol_first s p text u (inr (inr of_char)) = rw of_char.2 refl
 
--- a leaf before a follower is read
 pub leaf_complete : (s : Setting) (p : Parse Document) (text u : List ℕ) → IsTokenLeaf text → IsFollower u → read_with s p (text ++ u) ≡ Some (leaf text, u)
 leaf_complete s p text u h follows = go h.shape
   where
@@ -87,12 +81,11 @@ leaf_complete s p text u h follows = go h.shape
     go (inr symbol) = symbol_first s p text u symbol
         ∙ ap (λ o. choose o (λ x. Some (leaf x.0, x.1)) (read_unnamed s p (text ++ u))) (read_symbol_complete text u symbol)
 
--- a leaf that is no word isn't an opening parenthesis before an entry
+-- an opening parenthesis before an entry is not read as a symbol
 pub no_symbol : {t : List ℕ} → Begins t → read_symbol (40 ∷ t) ≡ None
 unfolding read_quoted
 no_symbol b = rw (closer_begins_none 41 [] refl b) refl
 
--- what is read as a leaf that is no word is one
 pub read_symbol_sound : (t text u : List ℕ) → read_symbol t ≡ Some (text, u) → IsSymbol text × (t ≡ text ++ u)
 read_symbol_sound t text u h = elim (chosen_from {B = Option (List ℕ × List ℕ)} (strip (codes "()") t) (λ v. Some (codes "()", v))
     (read_quoted t) (Some (text, u)) h) [

@@ -1,4 +1,4 @@
--- A token document has no line feed in leaf or name.
+-- A token document has no line feed in a leaf or a name.
 use Rattle.std.proofs.Common.{◌≡◌, ◌≢◌, ℕ, List, [], ◌∷◌, true, codes, sym, subst, inl, inr, arith}
 use Rattle.std.proofs.lemmas.Bool.{false≢true}
 use Rattle.ufmt_core.specs.Document.{Document, leaf, joined, list_of, set_of, map_of, struct_of, tuple_of, pretty_part, Documents, no_documents, document, Pairs, no_pairs, pair, Fields, no_fields, field}
@@ -17,7 +17,6 @@ IsWord-IsOneLine : (text : List ℕ) → IsWord text → IsOneLine text
 IsWord-IsOneLine [] h = absurd h
 IsWord-IsOneLine (c ∷ text) h = AreWordBytes-IsOneLine (c ∷ text) h
 
--- the one place that knows which leaves can be read again
 IsTokenLeaf-IsOneLine : (text : List ℕ) → IsTokenLeaf text → IsOneLine text
 IsTokenLeaf-IsOneLine text h =
     let unit : IsOneLine (codes "()") = (λ e. omega (arith, e), (λ e. omega (arith, e), tt))

@@ -1,11 +1,11 @@
--- Where no leaf is quoted, those that can be read again are words and `()`.
+-- An unquoted leaf can be read again exactly if it is a word or `()`.
 use Rattle.std.proofs.Common.{◌⊎◌, inl, inr, ℕ, List}
 use Rattle.ufmt_core.specs.Document.{Document, leaf, joined, list_of, set_of, map_of, struct_of, tuple_of, pretty_part, Documents, no_documents, document, Pairs, no_pairs, pair, Fields, no_fields, field}
 use Rattle.ufmt_core.specs.Quoted.{IsQuoted}
 use Rattle.ufmt.specs.Token.{IsWord, IsSymbol, HasLeaves, HaveLeaves, PairsHaveLeaves, FieldsHaveLeaves, IsTokenLeaf, IsUnquotedLeaf}
 use Rattle.ufmt.specs.UnquotedLaws.{EachLeaf, AllLeaves, LeavesOfPairs, LeavesOfFields, UnquotedAsBefore}
 
--- leaves that are such texts, and such, are the third kind of texts
+-- leaves that are P and Q are R
 module _ (P Q R : List ℕ → Type 0) (both : (text : List ℕ) → P text → Q text → R text) where
   mutual
     HasLeaves-both : (d : Document) → HasLeaves P d → EachLeaf Q d → HasLeaves R d

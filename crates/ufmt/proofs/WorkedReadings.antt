@@ -1,4 +1,4 @@
--- The readings of some texts, computed.
+-- Examples of texts that are read, and of texts that are not, computed.
 use Rattle.std.proofs.Common.{◌≡◌, [], ◌∷◌, codes, map, replicate, Some, None, refl}
 use Rattle.std.specs.Str.{chars, is_utf8}
 use Rattle.ufmt_core.specs.Document.{Document, leaf, list_of, set_of, map_of, struct_of, tuple_of, Documents, no_documents, document, no_pairs, pair, no_fields, field}
@@ -49,7 +49,7 @@ struct-pretty : read_text Pretty (codes "S {\n    x: (\n        1,\n    ),\n}")
 unfolding read read_rest read_quoted
 struct-pretty = refl
 
--- the only field of a tuple without a name has a comma, and that of one with a name has none
+-- a comma follows the only field of a tuple without a name, but not that of a tuple with a name
 tuples-plain : read_text Plain (codes "P((1,))") ≡ Some (tuple_of (codes "P") (lone (tuple_of [] (lone one))))
 unfolding read read_rest read_quoted
 tuples-plain = refl
@@ -70,12 +70,12 @@ no_text : read_text Plain [] ≡ None
 unfolding read read_rest read_quoted
 no_text = refl
 
--- a pretty text is no plain one
+-- a pretty text is not read as a plain text
 not_plain : read_text Plain (codes "[\n    1,\n]") ≡ None
 unfolding read read_rest read_quoted
 not_plain = refl
 
--- what stands in quotes is told apart from what it stands in
+-- brackets, commas and colons in quotes belong to the quoted leaf
 quotes-plain : read_text Plain (codes "{\"a\": \"b: c, d\"}") ≡ Some (map_of (pair (leaf (codes "\"a\"")) (leaf (codes "\"b: c, d\"")) no_pairs))
 unfolding read read_rest read_quoted read_inside is_utf8 chars lib.Utf8.encode
 quotes-plain = refl
@@ -84,13 +84,13 @@ quotes-list : read_text Plain (codes "[\"]\", '}']") ≡ Some (list_of (document
 unfolding read read_rest read_quoted read_inside is_utf8 chars lib.Utf8.encode
 quotes-list = refl
 
--- another spelling of a character is refused
+-- another spelling of a character is not read
 respelled : map (read_text Plain) (codes "\"\\u{07f}\"" ∷ codes "\"\\u{41}\"" ∷ codes "\"\\u{1B}\"" ∷ codes "\"\\u{a}\"" ∷ codes "\"\\x\""
     ∷ codes "\"\\'\"" ∷ codes "'\\\"'" ∷ codes "\"\t\"" ∷ []) ≡ replicate 8 None
 unfolding read read_rest read_quoted read_inside
 respelled = refl
 
--- and what is no text or character in quotes, or stands where a name or an end is to stand
+-- a text or a character with wrong quotes is not read, nor a quoted text in place of a name
 misquoted : map (read_text Plain) (codes "'''" ∷ codes "\"\"\"" ∷ codes "\"a" ∷ codes "''" ∷ codes "'ab'" ∷ codes "S { \"a\": b }"
     ∷ codes "\"S\"(x)" ∷ []) ≡ replicate 7 None
 unfolding read read_rest read_quoted read_inside is_utf8 chars lib.Utf8.encode

@@ -1,21 +1,20 @@
--- The shifts and shifted texts of some texts and documents, computed.
+-- Examples of shifted texts, computed.
 use Rattle.std.proofs.Common.{◌≡◌, codes, refl, arith}
 use Rattle.ufmt_core.specs.Document.{Document, leaf, joined, list_of, set_of, map_of, struct_of, tuple_of, pretty_part, Documents, no_documents, document, no_pairs, pair, no_fields, field}
 use Rattle.ufmt_core.specs.Layout.{pretty_text}
 use Rattle.ufmt.specs.Shift.{shift, shift_times, shifted, HasNoLineFeed}
 
--- no line
 shift-empty : shift (codes "") ≡ codes ""
 shift-empty = refl
 
--- one line, and the line that is empty
+-- one line, and an empty line
 shift-line : shift (codes "a\n") ≡ codes "    a\n"
 shift-line = refl
 
 shift-empty_line : shift (codes "\n") ≡ codes "    \n"
 shift-empty_line = refl
 
--- two lines, the first of which was shifted before
+-- two lines, the first of which is indented already
 shift-lines : shift (codes "    a,\nb,\n") ≡ codes "        a,\n    b,\n"
 shift-lines = refl
 
@@ -34,14 +33,14 @@ lone d = document d no_documents
 shifted-leaf : shifted one ≡ codes "1"
 shifted-leaf = refl
 
--- lists: none in it, and one in another
+-- an empty list, and lists in a list
 shifted-empty_list : shifted (list_of no_documents) ≡ codes "[]"
 shifted-empty_list = refl
 
 shifted-lists : shifted (list_of (document (list_of no_documents) (lone (list_of (lone one))))) ≡ codes "[\n    [],\n    [\n        1,\n    ],\n]"
 shifted-lists = refl
 
--- a struct of a map and a number
+-- a struct with a map and a number
 shifted-settings : shifted (struct_of (codes "S")
     (field (codes "m") (map_of (pair one two no_pairs)) (field (codes "n") (leaf (codes "3")) no_fields)))
     ≡ codes "S {\n    m: {\n        1: 2,\n    },\n    n: 3,\n}"
@@ -57,23 +56,23 @@ shifted-some = refl
 shifted-couple : shifted (tuple_of (codes "") (document one (lone two))) ≡ codes "(\n    1,\n    2,\n)"
 shifted-couple = refl
 
--- sets, and a map of maps
+-- sets, and a map in a map
 shifted-sets : shifted (list_of (document (set_of no_documents) (lone (set_of (lone one))))) ≡ codes "[\n    {},\n    {\n        1,\n    },\n]"
 shifted-sets = refl
 
 shifted-maps : shifted (map_of (pair one (map_of (pair two (leaf (codes "3")) no_pairs)) no_pairs)) ≡ codes "{\n    1: {\n        2: 3,\n    },\n}"
 shifted-maps = refl
 
--- documents in a row, and blocks without entries
+-- blocks without entries, joined
 shifted-empty_blocks : shifted (joined (document (list_of no_documents)
     (document (map_of no_pairs) (document (struct_of (codes "A") no_fields) (lone (tuple_of (codes "B") no_documents)))))) ≡ codes "[]{}AB"
 shifted-empty_blocks = refl
 
--- a pretty part is its document
+-- a pretty part has the shifted text of its document
 shifted-part : shifted (list_of (lone (pretty_part (tuple_of (codes "Some") (lone one))))) ≡ codes "[\n    Some(\n        1,\n    ),\n]"
 shifted-part = refl
 
--- a leaf with a line feed: its second line is shifted too, but pretty mode leaves it where it is
+-- a leaf with a line feed: shifting moves its second line too, but pretty mode does not
 abbrev two_lines : Document
 two_lines = list_of (lone (leaf (codes "a\nb")))
 

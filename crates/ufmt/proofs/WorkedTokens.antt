@@ -1,4 +1,4 @@
--- Words, token documents, normal forms and followers: which are and which aren't, computed.
+-- Examples of words, token documents, normal forms and followers, computed.
 use Rattle.std.proofs.Common.{◌≡◌, [], ℕ, zero, suc, map, true, false, codes, refl, inl, inr, arith}
 use Rattle.std.proofs.lemmas.Bool.{false≢true}
 use Rattle.ufmt_core.specs.Document.{Document, leaf, joined, list_of, set_of, map_of, struct_of, tuple_of, pretty_part, Documents, no_documents, document, no_pairs, pair, no_fields, field, nest}
@@ -8,11 +8,11 @@ use Rattle.ufmt.proofs.TokenLines.{HasTokens-HasNoLineFeed}
 
 -- ---- words
 
--- the first and the last digit and letters, and the two marks
+-- the first and last digits and letters, `_` and `-`
 word-bytes : map is_word_byte (codes "09AZaz_-") ≡ map (λ c. true) (codes "09AZaz_-")
 word-bytes = refl
 
--- the bytes beside those
+-- the bytes next to those, and some others
 other-bytes : map is_word_byte (codes "/:@[`{,.\n \u{7f}") ≡ map (λ c. false) (codes "/:@[`{,.\n \u{7f}")
 other-bytes = refl
 
@@ -51,14 +51,14 @@ IsToken-not-empty_leaf h = let begins = leaf_begins (codes "") h.0 in let none =
 IsToken-not-line_feed : IsToken (leaf (codes "\n")) → ⊥
 IsToken-not-line_feed h = let line = HasTokens-HasNoLineFeed (leaf (codes "\n")) h.0 in line.0 refl
 
--- a struct of an empty set and a tuple without a name
+-- a struct with an empty set and a tuple without a name
 IsToken-settings : IsToken (struct_of (codes "S") (field (codes "m") (set_of no_documents) (field (codes "n") (tuple_of (codes "") (lone one)) no_fields)))
 IsToken-settings = (((refl, tt), ((refl, tt), tt, ((refl, tt), (tt, HasTokens-one, tt), tt))), omega arith)
 
 IsToken-map : IsToken (map_of (pair one one no_pairs))
 IsToken-map = ((HasTokens-one, HasTokens-one, tt), omega arith)
 
--- a name may be empty only where a tuple has a field
+-- only a tuple with fields may have an empty name
 IsToken-not-empty_tuple : IsToken (tuple_of (codes "") no_documents) → ⊥
 IsToken-not-empty_tuple h = h.0
 
@@ -87,7 +87,7 @@ HasTokens-nested : (k : ℕ) → HasTokens (nested k)
 HasTokens-nested zero = tt
 HasTokens-nested (suc k) = (HasTokens-nested k, tt)
 
--- 255 blocks with entries may lie one in another, round an empty one
+-- 255 blocks with entries may be nested around an empty one
 IsToken-nested : IsToken (nested 255)
 IsToken-nested = (HasTokens-nested 255, omega (arith, nest-nested 255))
 
@@ -108,7 +108,7 @@ normal-set = refl
 normal-list : normal (list_of no_documents) ≡ list_of no_documents
 normal-list = refl
 
--- everywhere inside
+-- the normal form is taken at every level
 normal-inside : normal (struct_of (codes "S")
     (field (codes "a") (map_of (pair (tuple_of (codes "K") no_documents) (set_of no_documents) no_pairs))
     (field (codes "b") (set_of (lone (struct_of (codes "B") no_fields))) no_fields)))

@@ -4,7 +4,7 @@ use Rattle.std.specs.Int.{Width, cast_unsigned}
 use Rattle.ufmt_core.specs.Decimal.{DenotesInBase, numeral}
 use Rattle.ufmt.specs.declared.hex.HexOptions.{HexOptions}
 
--- the letter of the digit ten, in upper case or not
+-- the letter of the digit ten: `A` in upper case, or else `a`
 abbrev pub letter_of_ten : Bool → ℕ
 letter_of_ten true = 65
 letter_of_ten false = 97
@@ -13,37 +13,37 @@ letter_of_ten false = 97
 abbrev pub hexadecimal_byte : Bool → ℕ → ℕ
 hexadecimal_byte upper_case digit = if nat_lt digit 10 then 48 + digit else letter_of_ten upper_case + (digit - 10)
 
--- the text is the bytes of hexadecimal digits that tell n
+-- a hexadecimal text denotes n if its bytes are those of digits that denote n in base 16
 pub record DenotesHexadecimal (upper_case : Bool) (text : List ℕ) (n : ℕ) : Type 0 where
   pub digits : List ℕ
   pub bytes : text ≡ map (hexadecimal_byte upper_case) digits
   pub denotes : DenotesInBase 16 digits n
 
--- the text that tells this number: which one follows from `EachNumberIsDenoted` and `OneTextDenotes` alone
+-- the hexadecimal text of a number: by `EachNumberIsDenoted` and `OneTextDenotes`, the only one in its case of letters
 unfoldable pub hexadecimal : Bool → ℕ → List ℕ
 hexadecimal upper_case n = map (hexadecimal_byte upper_case) (numeral 16 n)
 
--- each number has a hexadecimal text in each case of letters, which `hexadecimal` gives
+-- in each case of letters, `hexadecimal` gives a text that denotes the number
 abbrev pub EachNumberIsDenoted : Type 0
 EachNumberIsDenoted = (upper_case : Bool) (n : ℕ) → DenotesHexadecimal upper_case (hexadecimal upper_case n) n
 
--- no other text in that case tells the number
+-- no other text in the same case of letters denotes the number
 abbrev pub OneTextDenotes : Type 0
 OneTextDenotes = (upper_case : Bool) (n : ℕ) (text : List ℕ) → DenotesHexadecimal upper_case text n → text ≡ hexadecimal upper_case n
 
--- no text tells two numbers
+-- no text denotes two numbers
 abbrev pub OneNumberIsDenoted : Type 0
 OneNumberIsDenoted = (upper_case : Bool) (text : List ℕ) (m n : ℕ) → DenotesHexadecimal upper_case text m → DenotesHexadecimal upper_case text n → m ≡ n
 
--- `0x` or `0X`, or nothing
+-- the prefix: `0x`, or `0X` in upper case, if the options ask for it
 abbrev pub prefix_of : HexOptions → List ℕ
 prefix_of options = if options.ox_prefix then (if options.upper_case then codes "0X" else codes "0x") else []
 
--- as many pad bytes as prefix and payload lack of the length
+-- the pad bytes that fill prefix and payload up to the pad length
 abbrev pub padding_of : HexOptions → List ℕ → List ℕ
 padding_of options payload = replicate (options.pad_length - (length (prefix_of options) + length payload)) options.pad_char
 
--- spaces pad before the prefix, other bytes after it
+-- padding with spaces comes before the prefix, other padding after it
 abbrev pub pads_first : HexOptions → Bool
 pads_first options = options.ox_prefix && (options.pad_char == 32)
 
@@ -58,15 +58,15 @@ padded options payload =
 abbrev pub padded_hexadecimal : HexOptions → ℕ → List ℕ
 padded_hexadecimal options n = padded options (hexadecimal options.upper_case n)
 
--- the printed texts are the padded hexadecimal ones
+-- the printed text of a number is its padded hexadecimal text
 abbrev pub PrintsHexadecimal : (ℕ → HexOptions → List ℕ) → Type 0
 PrintsHexadecimal text = (n : ℕ) (options : HexOptions) → text n options ≡ padded_hexadecimal options n
 
--- a signed number of this width is printed as the unsigned one of its bits
+-- a signed number of this width is printed as the unsigned number with the same bits
 abbrev pub PrintsBits : Width → (ℤ → HexOptions → List ℕ) → (ℕ → HexOptions → List ℕ) → Type 0
 PrintsBits width signed unsigned = (z : ℤ) (options : HexOptions) → signed z options ≡ unsigned (cast_unsigned width z) options
 
--- the padded text is prefix and payload with pad bytes before one of them, as many as reach the length
+-- a padded text is prefix and payload with pad bytes before one of them; it has the pad length, or that of prefix and payload if they are longer
 pub record IsPadded (options : HexOptions) (payload : List ℕ) (text : List ℕ) : Type 0 where
   pub padding : List ℕ
   pub pad_bytes : All (λ byte. byte ≡ options.pad_char) padding

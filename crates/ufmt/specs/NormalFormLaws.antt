@@ -1,4 +1,4 @@
--- What is promised of normal forms.
+-- The promises about normal forms.
 use Rattle.std.specs.Prelude.{◌≡◌}
 use Rattle.ufmt_core.specs.Document.{Document}
 use Rattle.ufmt_core.specs.Layout.{layout}
@@ -9,10 +9,10 @@ use Rattle.ufmt.specs.Token.{IsToken, normal}
 abbrev pub NormalFormsAreNormal : Type 0
 NormalFormsAreNormal = (d : Document) → normal (normal d) ≡ normal d
 
--- a document and its normal form have one text, in either mode and from any depth
+-- a document and its normal form have the same text, in either mode and at any depth
 abbrev pub NormalFormsKeepTexts : Type 0
 NormalFormsKeepTexts = (s : Setting) (d : Document) → layout s (normal d) ≡ layout s d
 
--- the normal form of a token document is one too
+-- the normal form of a token document is a token document
 abbrev pub NormalFormsKeepTokens : Type 0
 NormalFormsKeepTokens = (d : Document) → IsToken d → IsToken (normal d)

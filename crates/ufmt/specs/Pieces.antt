@@ -1,11 +1,11 @@
--- The text of pieces, as `uwrite!` and `pieces!` take them.
+-- The pieces that `uwrite!` and `pieces!` take, and the text that they print.
 use Rattle.std.specs.Prelude.{ℕ, List, [], ◌∷◌, ◌++◌}
 use Rattle.ufmt_core.specs.declared.layout.Mode.TheVariants.{Plain, Pretty}
 use Rattle.ufmt_core.specs.declared.layout.Setting.{Setting}
 use Rattle.ufmt_core.specs.Document.{Document}
 use Rattle.ufmt_core.specs.Layout.{layout, setting}
 
--- a piece: a text, a value's document in the formatter's mode or in pretty mode, or a hexadecimal text
+-- a piece is a text, a value's document (in the formatter's mode or in pretty mode) or a hexadecimal text
 pub data Piece : Type 0 where
   text : List ℕ → Piece
   shown : Document → Piece
@@ -19,12 +19,12 @@ piece_text s (shown d) = layout s d
 piece_text s (pretty d) = layout (setting Pretty s.depth) d
 piece_text s (hex bytes) = bytes
 
--- what pieces in a row print
+-- what pieces print, one after the other
 abbrev pub pieces_text : Setting → List Piece → List ℕ
 pieces_text s [] = []
 pieces_text s (p ∷ ps) = piece_text s p ++ pieces_text s ps
 
--- what pieces in a row print in plain mode, outside of every block
+-- what pieces print in plain mode, outside every block
 abbrev pub line_text : List Piece → List ℕ
 line_text ps = pieces_text (setting Plain 0) ps
 

@@ -1,4 +1,4 @@
--- Reading a token document from the front of a text: what the readers of plain and of pretty texts compute.
+-- What the readers of plain and of pretty texts compute: how a token document is read from the front of a text.
 use Rattle.std.specs.Prelude.{ℕ, zero, suc, length, cond, List, [], ◌∷◌, codes, Option, Some, None, option_map, option_and_then}
 use Rattle.ufmt_core.specs.Document.{Document, leaf, list_of, set_of, map_of, struct_of, tuple_of, no_documents, no_pairs, documents, pairs_of, fields_of}
 use Rattle.ufmt_core.specs.Layout.{Frame, frame, tuple_kind, setting, inside, lead, ending, trail, next}
@@ -11,141 +11,141 @@ use Rattle.ufmt.specs.ReadingQuoted.{read_quoted}
 use Rattle.ufmt.specs.Token.{is_word_byte}
 pub use Rattle.ufmt.specs.Parse.{Parse, choose, parse_map, strip}
 
--- the word bytes at the front
+-- the word bytes at the front of a text
 abbrev pub word_of : List ℕ → List ℕ
 word_of [] = []
 word_of (c ∷ t) = cond (is_word_byte c) (c ∷ word_of t) []
 
--- what follows them
+-- what follows the word bytes at the front
 abbrev pub after_word : List ℕ → List ℕ
 after_word [] = []
 after_word (c ∷ t) = cond (is_word_byte c) (after_word t) (c ∷ t)
 
--- this word and what follows it, unless it is empty
+-- this word and what follows it; None if the word is empty
 abbrev pub if_word : List ℕ → List ℕ → Option (List ℕ × List ℕ)
 if_word [] t = None
 if_word (c ∷ word) t = Some (c ∷ word, t)
 
--- a word
+-- reads the longest word
 abbrev pub read_word : Parse (List ℕ)
 read_word t = if_word (word_of t) (after_word t)
 
--- a leaf that is no word: `()`, or a quoted text or character
+-- reads a leaf that is no word: `()`, or a quoted text or character
 abbrev pub read_symbol : Parse (List ℕ)
 read_symbol t = choose (strip (codes "()") t) (λ u. Some (codes "()", u)) (read_quoted t)
 
--- a value behind a colon and a space, beside this key
+-- reads a colon, a space and a value, and pairs the value with this key
 abbrev pub read_value : {A : Type 0} → Parse Document → A → Parse (A × Document)
 read_value p key t = option_and_then (λ u. parse_map (λ value. (key, value)) (p u)) (strip (codes ": ") t)
 
--- a key and its value
+-- reads a key and its value
 abbrev pub read_pair : {A : Type 0} → Parse A → Parse Document → Parse (A × Document)
 read_pair key p t = option_and_then (λ x. read_value p x.0 x.1) (key t)
 
--- this entry and what `more` reads behind what stands after an entry
+-- reads the trail of the entry `x`, and then more entries with `more`
 abbrev pub read_after_entry : {A : Type 0} → Mode → Parse (List A) → A → Parse (List A)
 read_after_entry mode more x t = option_and_then (λ u. parse_map (λ xs. x ∷ xs) (more u)) (strip (trail mode) t)
 
--- an entry and those that `more` reads
+-- reads an entry and its trail, and then more entries with `more`
 abbrev pub read_turn : {A : Type 0} → Parse A → Mode → Parse (List A) → Parse (List A)
 read_turn q mode more t = option_and_then (λ x. read_after_entry mode more x.0 x.1) (q t)
 
--- the end of a block, and no entry
+-- reads the ending of a block, and returns no entry
 abbrev pub read_end : {A : Type 0} → Frame → Setting → Count → Parse (List A)
 read_end f s count t = option_map (λ u. ([], u)) (strip (ending f s count) t)
 
--- what is left of a block whose entries `q` reads, behind so many entries, with fewer more than the number
+-- reads the rest of a block after `count` entries: fewer entries than the number, each with `q`, and the ending
 unfoldable pub read_rest : {A : Type 0} → Parse A → Frame → Setting → Count → ℕ → Parse (List A)
 read_rest q f s count zero t = None
 read_rest q f s count (suc n) t = choose (strip (lead f (inside s) count) t) (read_turn q s.mode (read_rest q f s (next count) n)) (read_end f s count t)
 
--- the same with as many entries as there are
+-- reads the rest of a block with any number of entries; a text has no more entries than bytes
 abbrev pub read_others : {A : Type 0} → Parse A → Frame → Setting → Count → Parse (List A)
 read_others q f s count t = read_rest q f s count (suc (length t)) t
 
--- a block behind its first entry, this one
+-- reads a block after its first entry `x`
 abbrev pub read_after_first : {A : Type 0} → Parse A → Frame → Setting → (List A → Document) → A → Parse Document
 read_after_first q f s make x t = parse_map make (read_after_entry s.mode (read_others q f s One) x t)
 
--- a block behind what stands before its first entry
+-- reads a block from its first entry on
 abbrev pub read_entries : {A : Type 0} → Parse A → Frame → Setting → (List A → Document) → Parse Document
 read_entries q f s make t = option_and_then (λ x. read_after_first q f s make x.0 x.1) (q t)
 
--- a block with entries behind its opening
+-- reads a block with entries, after its opening
 abbrev pub read_block : {A : Type 0} → Parse A → Frame → Setting → (List A → Document) → Parse Document
 read_block q f s make t = option_and_then (read_entries q f s make) (strip (lead f (inside s) Zero) t)
 
--- a list behind its opening, where `p` reads its entries
+-- reads a list after its opening; `p` reads its entries
 abbrev pub read_list : Setting → Parse Document → Parse Document
 read_list s p t = choose (strip ((frame s.mode Brackets).closing Zero) t) (λ u. Some (list_of no_documents, u))
     (read_block p (frame s.mode Brackets) s (λ ds. list_of (documents ds)) t)
 
--- a map behind its first key
+-- reads a map after its first key
 abbrev pub read_map : Setting → Parse Document → Document → Parse Document
 read_map s p key t = option_and_then (λ x. read_after_first (read_pair p p) (frame s.mode Braces) s (λ ps. map_of (pairs_of ps)) x.0 x.1) (read_value p key t)
 
--- a set behind its first entry
+-- reads a set after its first entry
 abbrev pub read_set : Setting → Parse Document → Document → Parse Document
 read_set s p d t = read_after_first p (frame s.mode Braces) s (λ ds. set_of (documents ds)) d t
 
--- a map where a colon and a space stand, or else a set
+-- reads a map if a colon and a space come next, or else a set
 abbrev pub read_map_or_set : Setting → Parse Document → Document → Parse Document
 read_map_or_set s p d t = choose (strip (codes ": ") t) (λ u. read_map s p d t) (read_set s p d t)
 
--- a set or a map with entries behind its opening
+-- reads a set or a map with entries, after its opening
 abbrev pub read_braced_entries : Setting → Parse Document → Parse Document
 read_braced_entries s p t = option_and_then (λ u. option_and_then (λ x. read_map_or_set s p x.0 x.1) (p u))
     (strip (lead (frame s.mode Braces) (inside s) Zero) t)
 
--- a set or a map behind its opening
+-- reads a set or a map, after its opening
 abbrev pub read_braces : Setting → Parse Document → Parse Document
 read_braces s p t = choose (strip ((frame s.mode Braces).closing Zero) t) (λ u. Some (map_of no_pairs, u)) (read_braced_entries s p t)
 
--- a tuple with this name behind what stands before its first field
+-- reads a tuple with this name, from its first field on
 abbrev pub read_tuple : Setting → Parse Document → List ℕ → Parse Document
 read_tuple s p name t = read_entries p (frame s.mode (tuple_kind name)) s (λ ds. tuple_of name (documents ds)) t
 
--- a struct with this name behind what stands before its first field
+-- reads a struct with this name, from its first field on
 abbrev pub read_struct : Setting → Parse Document → List ℕ → Parse Document
 read_struct s p name t = read_entries (read_pair read_word p) (frame s.mode Struct) s (λ fs. struct_of name (fields_of fs)) t
 
--- a tuple without a name
+-- reads a tuple without a name
 abbrev pub read_unnamed : Setting → Parse Document → Parse Document
 read_unnamed s p t = option_and_then (read_tuple s p []) (strip (lead (frame s.mode Unnamed) (inside s) Zero) t)
 
--- what begins with no word
+-- reads a document that begins with no word
 abbrev pub read_without_name : Setting → Parse Document → Parse Document
 read_without_name s p t =
     choose (strip (frame s.mode Brackets).opening t) (read_list s p)
     (choose (strip (frame s.mode Braces).opening t) (read_braces s p)
     (choose (read_symbol t) (λ x. Some (leaf x.0, x.1)) (read_unnamed s p t)))
 
--- what begins with this word, behind the word
+-- reads a document that begins with this word, after the word
 abbrev pub read_named : Setting → Parse Document → List ℕ → Parse Document
 read_named s p name t =
     choose (strip (lead (frame s.mode (tuple_kind name)) (inside s) Zero) t) (read_tuple s p name)
     (choose (strip (lead (frame s.mode Struct) (inside s) Zero) t) (read_struct s p name)
     (Some (leaf name, t)))
 
--- the text `t`, whose longest word stands before `u`: by the word, or as what has none
+-- reads the text `t`, which is its longest word and then `u`; the word may be empty
 abbrev pub read_by_word : Setting → Parse Document → List ℕ → List ℕ → List ℕ → Option (Document × List ℕ)
 read_by_word s p t [] u = read_without_name s p t
 read_by_word s p t (c ∷ word) u = read_named s p (c ∷ word) u
 
--- a document, where `p` reads the entries of its block
+-- reads a document; `p` reads the entries of its block
 abbrev pub read_with : Setting → Parse Document → Parse Document
 read_with s p t = read_by_word s p t (word_of t) (after_word t)
 
--- a document at this mode and depth, whose blocks with entries lie no deeper than the number
+-- reads a document at this mode and depth; its blocks with entries are nested at most as deep as the number
 unfoldable pub read : Setting → ℕ → Parse Document
 read s zero t = read_with s (λ u. None) t
 read s (suc n) t = read_with s (read (inside s) n) t
 
--- what was made of a text after which nothing is left
+-- the value that was read, if nothing follows it
 abbrev pub if_all : {A : Type 0} → A → List ℕ → Option A
 if_all x [] = Some x
 if_all x (c ∷ t) = None
 
--- the normal form of the token document that has this text in this mode; None where there is none
+-- reads a whole text: the normal form of the token documents that have this text in this mode, or None if there are none
 abbrev pub read_text : Mode → List ℕ → Option Document
 read_text mode t = option_and_then (λ x. if_all x.0 x.1) (read (setting mode 0) 255 t)

@@ -1,4 +1,4 @@
--- What is promised of reading: that just the texts of token documents are read, each as their normal form, and that a text can be read in one way.
+-- The promises about reading: exactly the texts of token documents are read, each in one way, as the normal form.
 use Rattle.std.specs.Prelude.{◌≡◌, ◌≢◌, List, ℕ, Some, None, ◌↔◌, ◌+◌, ◌≤◌, ◌++◌}
 use Rattle.ufmt_core.specs.Document.{Document, nest}
 use Rattle.ufmt_core.specs.Layout.{setting, layout, plain_text, pretty_text}
@@ -7,36 +7,36 @@ use Rattle.ufmt_core.specs.declared.layout.Mode.TheVariants.{Pretty}
 use Rattle.ufmt.specs.Token.{IsToken, normal, IsFollower}
 use Rattle.ufmt.specs.Reading.{read_text}
 
--- what is read is a token document in normal form that has the text
+-- a document that is read is a token document in normal form, and it has the text
 abbrev pub ReadsOnlyTexts : Type 0
 ReadsOnlyTexts = (mode : Mode) (t : List ℕ) (d : Document) → read_text mode t ≡ Some d → IsToken d × (normal d ≡ d) × (layout (setting mode 0) d ≡ t)
 
--- the text of a token document is read as its normal form
+-- the text of a token document is read as the document's normal form
 abbrev pub ReadsEachText : Type 0
 ReadsEachText = (mode : Mode) (d : Document) → IsToken d → read_text mode (layout (setting mode 0) d) ≡ Some (normal d)
 
--- where nothing is read no token document has the text
+-- if nothing is read, no token document has the text
 abbrev pub RefusesNoText : Type 0
 RefusesNoText = (mode : Mode) (t : List ℕ) → read_text mode t ≡ None → (d : Document) → IsToken d → layout (setting mode 0) d ≢ t
 
--- where plain texts are equal with what follows them, so are normal forms and what follows
+-- if the plain texts of two token documents, each with a follower after it, are equal, so are the normal forms and the followers
 abbrev pub PlainReadsOneWay : Type 0
 PlainReadsOneWay = (d e : Document) (u v : List ℕ) → IsToken d → IsToken e → IsFollower u → IsFollower v
     → plain_text d ++ u ≡ plain_text e ++ v → (normal d ≡ normal e) × (u ≡ v)
 
--- likewise of pretty layouts at a depth from which the documents' blocks lie at most 255 deep
+-- the same holds of pretty texts at any depth from which blocks with entries reach depth 255 at most
 abbrev pub PrettyReadsOneWay : Type 0
 PrettyReadsOneWay = (k : ℕ) (d e : Document) (u v : List ℕ) → IsToken d → IsToken e → nest d + k ≤ 255 → nest e + k ≤ 255 → IsFollower u
     → IsFollower v → layout (setting Pretty k) d ++ u ≡ layout (setting Pretty k) e ++ v → (normal d ≡ normal e) × (u ≡ v)
 
--- token documents have one plain text exactly if they have one normal form
+-- two token documents have the same plain text exactly if they have the same normal form
 abbrev pub PlainTextDetermines : Type 0
 PlainTextDetermines = (d e : Document) → IsToken d → IsToken e → (plain_text d ≡ plain_text e) ↔ (normal d ≡ normal e)
 
--- likewise of their pretty text
+-- two token documents have the same pretty text exactly if they have the same normal form
 abbrev pub PrettyTextDetermines : Type 0
 PrettyTextDetermines = (d e : Document) → IsToken d → IsToken e → (pretty_text d ≡ pretty_text e) ↔ (normal d ≡ normal e)
 
--- token documents have one plain text exactly if they have one pretty text
+-- two token documents have the same plain text exactly if they have the same pretty text
 abbrev pub TextsAgree : Type 0
 TextsAgree = (d e : Document) → IsToken d → IsToken e → (plain_text d ≡ plain_text e) ↔ (pretty_text d ≡ pretty_text e)

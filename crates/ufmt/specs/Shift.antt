@@ -1,4 +1,4 @@
--- Shifted text: pretty text made from the inside out, by moving finished lines, with no mode and no depth.
+-- Shifted text, a second definition of pretty text: the finished lines of a block's entries are indented, with no mode and no depth.
 use Rattle.std.specs.Prelude.{◌≢◌, ℕ, zero, suc, ◌==◌, List, [], ◌∷◌, ◌++◌, Bool, true, false, codes, ⊤}
 use Rattle.ufmt_core.specs.Document.{Document, leaf, joined, list_of, set_of, map_of, struct_of, tuple_of, pretty_part, Documents, no_documents, document, Pairs, no_pairs, pair, Fields, no_fields, field}
 use Rattle.ufmt_core.specs.Layout.{Frame, frame, tuple_kind}
@@ -7,17 +7,17 @@ use Rattle.ufmt_core.specs.declared.layout.Mode.TheVariants.{Pretty}
 use Rattle.ufmt_core.specs.declared.layout.Kind.{Kind}
 use Rattle.ufmt_core.specs.declared.layout.Kind.TheVariants.{Brackets, Braces, Struct}
 
--- what is put before a byte: four spaces where it begins a line
+-- what shifting puts before a byte: four spaces if the byte begins a line
 abbrev pub margin : Bool → List ℕ
 margin true = codes "    "
 margin false = []
 
--- shifted lines, where it is told whether the first byte begins a line; one begins after each line feed
+-- shifts lines; the flag says whether the first byte begins a line, and a line begins after each line feed
 abbrev pub shift_from : Bool → List ℕ → List ℕ
 shift_from begins [] = []
 shift_from begins (c ∷ text) = margin begins ++ (c ∷ shift_from (c == 10) text)
 
--- each line of a text moved in by four spaces, where each ends with a line feed
+-- puts four spaces before each line of a text in which each line ends with a line feed
 abbrev pub shift : List ℕ → List ℕ
 shift text = shift_from true text
 
@@ -26,12 +26,12 @@ abbrev pub shift_times : ℕ → List ℕ → List ℕ
 shift_times zero text = text
 shift_times (suc k) text = shift_times k (shift text)
 
--- entries with these texts, each with a comma and a line feed after it
+-- these texts, each with a comma and a line feed after it
 abbrev pub entry_lines : List (List ℕ) → List ℕ
 entry_lines [] = []
 entry_lines (text ∷ texts) = text ++ (codes ",\n" ++ entry_lines texts)
 
--- what follows the opening of a block in this frame: its entries' lines, shifted, and the closing
+-- what follows the opening of a block in this frame: the shifted lines of its entries, and the closing
 abbrev pub shifted_tail : Frame → List (List ℕ) → List ℕ
 shifted_tail f [] = f.closing Zero
 shifted_tail f (text ∷ texts) = f.start ++ (codes "\n" ++ (shift (entry_lines (text ∷ texts)) ++ f.closing Several))
@@ -69,12 +69,12 @@ abbrev mutual
   shifted_fields no_fields = []
   shifted_fields (field name value fs) = (name ++ (codes ": " ++ shifted value)) ∷ shifted_fields fs
 
--- no byte of a text is a line feed
+-- a text of one line has no line feed
 abbrev pub IsOneLine : List ℕ → Type 0
 IsOneLine [] = ⊤
 IsOneLine (c ∷ text) = (c ≢ 10) × IsOneLine text
 
--- each leaf and each name of a document, a field's among them, has no line feed
+-- no leaf, no name and no field name of the document has a line feed
 abbrev mutual
   pub HasNoLineFeed : Document → Type 0
   HasNoLineFeed (leaf text) = IsOneLine text

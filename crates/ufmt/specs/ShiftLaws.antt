@@ -1,4 +1,4 @@
--- What is promised of shifted texts.
+-- The promises about shifted texts.
 use Rattle.std.specs.Prelude.{◌≡◌, ℕ, ◌+◌, ◌≤◌, List, ◌++◌, codes}
 use Rattle.ufmt_core.specs.Document.{Document, nest}
 use Rattle.ufmt_core.specs.Layout.{setting, indentation, layout, pretty_text}
@@ -6,19 +6,20 @@ use Rattle.ufmt_core.specs.declared.layout.Mode.TheVariants.{Pretty}
 use Rattle.ufmt.specs.Token.{IsToken}
 use Rattle.ufmt.specs.Shift.{shift, shift_times, shifted, IsOneLine, HasNoLineFeed}
 
--- to shift a line and further lines is to put four spaces before the line and to shift the others
+-- shifting puts four spaces before the first line and shifts the lines after it
 abbrev pub ShiftMovesEachLine : Type 0
 ShiftMovesEachLine = (line lines : List ℕ) → IsOneLine line → shift (line ++ (codes "\n" ++ lines)) ≡ codes "    " ++ (line ++ (codes "\n" ++ shift lines))
 
--- at depth k a document's pretty text, as lines, is its shifted text, shifted k times
+-- if a document has no line feed and reaches depth 255 at most from depth k, then its shifted text and a line feed, shifted k times,
+-- are k indentations, its pretty text at depth k and a line feed
 abbrev pub ShiftedAtDepth : Type 0
 ShiftedAtDepth = (d : Document) (k : ℕ) → HasNoLineFeed d → nest d + k ≤ 255
     → shift_times k (shifted d ++ codes "\n") ≡ indentation k ++ (layout (setting Pretty k) d ++ codes "\n")
 
--- a document's shifted text is its pretty text
+-- the shifted text of a document is its pretty text, if it has no line feed and is nested at most 255 deep
 abbrev pub ShiftedIsPretty : Type 0
 ShiftedIsPretty = (d : Document) → HasNoLineFeed d → nest d ≤ 255 → shifted d ≡ pretty_text d
 
--- no leaf or name of a token document has a line feed
+-- no leaf, name or field name of a token document has a line feed
 abbrev pub TokensHaveNoLineFeed : Type 0
 TokensHaveNoLineFeed = (d : Document) → IsToken d → HasNoLineFeed d

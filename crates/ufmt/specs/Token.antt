@@ -1,4 +1,4 @@
--- Token documents, whose texts can be read again: words, tokens, token documents, normal form and followers.
+-- Token documents, whose texts can be read again: their words and leaves, their normal form, and what may follow their texts.
 use Rattle.std.specs.Prelude.{◌≡◌, ◌⊎◌, ℕ, ◌≤◌, ◌&&◌, ◌||◌, ◌==◌, nat_le, List, [], ◌∷◌, Bool, true, codes, ⊤}
 use Rattle.ufmt_core.specs.Document.{Document, leaf, joined, list_of, set_of, map_of, struct_of, tuple_of, pretty_part, Documents, no_documents, document, Pairs, no_pairs, pair, Fields, no_fields, field, nest}
 use Rattle.ufmt_core.specs.Quoted.{IsQuoted}
@@ -6,7 +6,7 @@ use Rattle.ufmt_core.specs.Quoted.{IsQuoted}
 abbrev pub is_within : ℕ → ℕ → ℕ → Bool
 is_within low high c = nat_le low c && nat_le c high
 
--- an ASCII digit, an ASCII letter, `_` or `-`
+-- a word byte is an ASCII digit, an ASCII letter, `_` or `-`
 abbrev pub is_word_byte : ℕ → Bool
 is_word_byte c = is_within 48 57 c || is_within 65 90 c || is_within 97 122 c || c == 95 || c == 45
 
@@ -14,24 +14,24 @@ abbrev pub AreWordBytes : List ℕ → Type 0
 AreWordBytes [] = ⊤
 AreWordBytes (c ∷ text) = (is_word_byte c ≡ true) × AreWordBytes text
 
--- one or more such bytes
+-- a word is one or more word bytes
 abbrev pub IsWord : List ℕ → Type 0
 IsWord [] = ⊥
 IsWord (c ∷ text) = (is_word_byte c ≡ true) × AreWordBytes text
 
--- a word or `()`
+-- an unquoted leaf is a word or `()`
 abbrev pub IsUnquotedLeaf : List ℕ → Type 0
 IsUnquotedLeaf text = IsWord text ⊎ (text ≡ codes "()")
 
--- a leaf that is no word: `()`, or a quoted text or character
+-- a symbol is a leaf that is no word: `()`, or a quoted text or character
 abbrev pub IsSymbol : List ℕ → Type 0
 IsSymbol text = (text ≡ codes "()") ⊎ IsQuoted text
 
--- the text of a leaf that can be read again
+-- a token leaf, which can be read again, is a word or a symbol
 pub record IsTokenLeaf (text : List ℕ) : Type 0 where
   pub shape : IsWord text ⊎ IsSymbol text
 
--- a document with such leaves alone, whose names are words, but that of a tuple with fields may be empty
+-- each leaf is as `IsLeaf` says, each name is a word, and nothing is `joined` or a `pretty_part`; the name of a tuple with fields may be empty
 module _ (IsLeaf : List ℕ → Type 0) where
   abbrev mutual
     pub HasLeaves : Document → Type 0
@@ -57,7 +57,7 @@ module _ (IsLeaf : List ℕ → Type 0) where
     FieldsHaveLeaves no_fields = ⊤
     FieldsHaveLeaves (field name value fs) = IsWord name × HasLeaves value × FieldsHaveLeaves fs
 
--- each leaf and each name is a token, which can be read again
+-- each leaf is a token leaf, and the names are as above
 abbrev pub HasTokens : Document → Type 0
 HasTokens d = HasLeaves IsTokenLeaf d
 
@@ -70,11 +70,11 @@ PairsHaveTokens ps = PairsHaveLeaves IsTokenLeaf ps
 abbrev pub FieldsHaveTokens : Fields → Type 0
 FieldsHaveTokens fs = FieldsHaveLeaves IsTokenLeaf fs
 
--- a document of tokens, whose blocks with entries lie at most 255 deep
+-- a token document has only token leaves, and its blocks with entries are nested at most 255 deep
 abbrev pub IsToken : Document → Type 0
 IsToken d = HasTokens d × (nest d ≤ 255)
 
--- the document as its text tells it: a name alone is a leaf, whatever it was the name of, and `{}` is a map, at each depth
+-- the normal form: at every level, a struct or tuple without fields becomes the leaf of its name, and an empty set becomes the empty map
 abbrev mutual
   pub normal : Document → Document
   normal (leaf text) = leaf text
@@ -101,11 +101,11 @@ abbrev mutual
   normal_fields no_fields = no_fields
   normal_fields (field name value fs) = field name (normal value) (normal_fields fs)
 
--- a comma, a colon or a closing bracket
+-- a closer is a comma, a colon or a closing bracket
 abbrev pub is_closer : ℕ → Bool
 is_closer c = c == 44 || c == 58 || c == 93 || c == 41 || c == 125
 
--- what may follow the text of a token document in a larger one: nothing, a closer, or a space and `}`
+-- a follower may come after a token document in a larger text: it is empty, or begins with a closer or with a space and `}`
 abbrev pub IsFollower : List ℕ → Type 0
 IsFollower [] = ⊤
 IsFollower (c ∷ []) = is_closer c ≡ true

@@ -1,10 +1,10 @@
--- That a document without quoted leaves is a token document exactly if its leaves are words or `()`.
+-- The promise about token documents without quoted leaves: their leaves are words and `()`.
 use Rattle.std.specs.Prelude.{◌↔◌, ℕ, ◌≤◌, List, ⊤}
 use Rattle.ufmt_core.specs.Document.{Document, leaf, joined, list_of, set_of, map_of, struct_of, tuple_of, pretty_part, Documents, no_documents, document, Pairs, no_pairs, pair, Fields, no_fields, field, nest}
 use Rattle.ufmt_core.specs.Quoted.{IsQuoted}
 use Rattle.ufmt.specs.Token.{HasLeaves, IsUnquotedLeaf, IsToken}
 
--- a document each of whose leaves is such a text, whatever its names are
+-- each leaf of the document is as `IsLeaf` says, and its names are any texts
 module _ (IsLeaf : List ℕ → Type 0) where
   abbrev mutual
     pub EachLeaf : Document → Type 0
@@ -29,14 +29,14 @@ module _ (IsLeaf : List ℕ → Type 0) where
     LeavesOfFields no_fields = ⊤
     LeavesOfFields (field name value fs) = EachLeaf value × LeavesOfFields fs
 
--- none of its leaves is quoted
+-- no leaf of the document is quoted
 abbrev pub IsUnquoted : Document → Type 0
 IsUnquoted d = EachLeaf (λ text. ¬ (IsQuoted text)) d
 
--- with words and `()` for its only leaves: a token document, had it no quoted leaves
+-- an unquoted token document has only words and `()` as leaves, and its blocks with entries are nested at most 255 deep
 abbrev pub IsUnquotedToken : Document → Type 0
 IsUnquotedToken d = HasLeaves IsUnquotedLeaf d × (nest d ≤ 255)
 
--- where no leaf is quoted the two are one
+-- a document without quoted leaves is a token document exactly if it is an unquoted token document
 abbrev pub UnquotedAsBefore : Type 0
 UnquotedAsBefore = (d : Document) → IsUnquoted d → IsToken d ↔ IsUnquotedToken d
