@@ -1,17 +1,18 @@
 -- Hexadecimal texts of whole numbers, and how options pad a text.
 use Rattle.std.specs.Prelude.{◌≡◌, ◌⊎◌, max, All, ℕ, ℤ, ◌+◌, ◌-◌, Bool, true, false, ◌&&◌, ◌==◌, nat_lt, if◌then◌else◌, List, [], ◌++◌, map, length, replicate, codes}
 use Rattle.std.specs.Int.{Width, cast_unsigned}
+use Rattle.ufmt_core.specs.Bytes.{lower_a, space, upper_a, zero_digit}
 use Rattle.ufmt_core.specs.Decimal.{DenotesInBase, numeral}
 use Rattle.ufmt.specs.declared.hex.HexOptions.{HexOptions}
 
 -- the letter of the digit ten: `A` in upper case, or else `a`
 abbrev pub letter_of_ten : Bool → ℕ
-letter_of_ten true = 65
-letter_of_ten false = 97
+letter_of_ten true = upper_a
+letter_of_ten false = lower_a
 
--- the byte of a hexadecimal digit: 48 is `0`
+-- the byte of a hexadecimal digit
 abbrev pub hexadecimal_byte : Bool → ℕ → ℕ
-hexadecimal_byte upper_case digit = if nat_lt digit 10 then 48 + digit else letter_of_ten upper_case + (digit - 10)
+hexadecimal_byte upper_case digit = if nat_lt digit 10 then zero_digit + digit else letter_of_ten upper_case + (digit - 10)
 
 -- a hexadecimal text denotes n if its bytes are those of digits that denote n in base 16
 pub record DenotesHexadecimal (upper_case : Bool) (text : List ℕ) (n : ℕ) : Type 0 where
@@ -45,7 +46,7 @@ padding_of options payload = replicate (options.pad_length - (length (prefix_of 
 
 -- padding with spaces comes before the prefix, other padding after it
 abbrev pub pads_first : HexOptions → Bool
-pads_first options = options.ox_prefix && (options.pad_char == 32)
+pads_first options = options.ox_prefix && (options.pad_char == space)
 
 -- the payload with its prefix and padding
 abbrev pub padded : HexOptions → List ℕ → List ℕ

@@ -14,6 +14,7 @@ pub mod Token
 pub mod UnquotedLaws
 pub use Rattle.ufmt_core.specs.Block
 pub use Rattle.ufmt_core.specs.Builder
+pub use Rattle.ufmt_core.specs.Bytes
 pub use Rattle.ufmt_core.specs.Decimal
 pub use Rattle.ufmt_core.specs.Document
 pub use Rattle.ufmt_core.specs.Formatter

@@ -3,20 +3,22 @@ use Rattle.std.specs.Prelude.{ℕ, zero, suc, ◌+◌, ◌*◌, ◌==◌, ◌&&�
 use Rattle.std.specs.Char.{digit_value}
 use Rattle.std.specs.Option.{option_or}
 use Rattle.std.specs.Str.{chars, is_utf8}
+use Rattle.ufmt_core.specs.Bytes.{apostrophe, backslash, carriage_return, closing_brace, line_feed, lower_n, lower_r, lower_t, lower_u, nul, quotation_mark, tab, zero_digit}
 use Rattle.ufmt_core.specs.Quoted.{escaped_byte, quoted}
 use Rattle.ufmt.specs.Parse.{Parse, choose, parse_map, strip}
 
 -- the number in the braces of `\u{..}` at the front: it has one hexadecimal digit, or two
 abbrev pub decoded_number : List ℕ → ℕ
-decoded_number t = cond (slice_index t 4 == 125) (digit_value (slice_index t 3)) (digit_value (slice_index t 3) * 16 + digit_value (slice_index t 4))
+decoded_number t = cond (slice_index t 4 == closing_brace) (digit_value (slice_index t 3)) (digit_value (slice_index t 3) * 16 + digit_value (slice_index t 4))
 
 -- the byte that an escape at the front, a backslash and `x`, is decoded to
 abbrev pub decoded_escape : List ℕ → ℕ → ℕ
-decoded_escape t x = cond (x == 48) 0 (cond (x == 116) 9 (cond (x == 110) 10 (cond (x == 114) 13 (cond (x == 117) (decoded_number t) x))))
+decoded_escape t x = cond (x == zero_digit) nul (cond (x == lower_t) tab (cond (x == lower_n) line_feed (cond (x == lower_r) carriage_return
+    (cond (x == lower_u) (decoded_number t) x))))
 
 -- the byte that the front of the text is decoded to: an escape's byte, or the first byte itself
 abbrev pub decoded : List ℕ → ℕ
-decoded t = cond (slice_index t 0 == 92) (decoded_escape t (slice_index t 1)) (slice_index t 0)
+decoded t = cond (slice_index t 0 == backslash) (decoded_escape t (slice_index t 1)) (slice_index t 0)
 
 -- reads a byte between two of these quotes; it must be spelled as `escaped_byte` spells it
 abbrev pub read_escaped : ℕ → Parse ℕ
@@ -41,6 +43,6 @@ read_between quote test t = option_and_then (λ u. option_and_then (λ x. if_rig
 abbrev pub is_char : List ℕ → Bool
 is_char bs = is_utf8 bs && length (chars bs) == 1
 
--- reads a quoted text (34 is the quotation mark) or a quoted character (39 is the apostrophe)
+-- reads a quoted text or a quoted character
 unfoldable pub read_quoted : Parse (List ℕ)
-read_quoted t = option_or (read_between 34 is_utf8 t) (read_between 39 is_char t)
+read_quoted t = option_or (read_between quotation_mark is_utf8 t) (read_between apostrophe is_char t)

@@ -1,5 +1,6 @@
 -- Shifted text, a second definition of pretty text: the finished lines of a block's entries are indented, with no mode and no depth.
 use Rattle.std.specs.Prelude.{◌≢◌, ℕ, zero, suc, ◌==◌, List, [], ◌∷◌, ◌++◌, Bool, true, false, codes, ⊤}
+use Rattle.ufmt_core.specs.Bytes.{line_feed}
 use Rattle.ufmt_core.specs.Document.{Document, leaf, joined, list_of, set_of, map_of, struct_of, tuple_of, pretty_part, Documents, no_documents, document, Pairs, no_pairs, pair, Fields, no_fields, field}
 use Rattle.ufmt_core.specs.Layout.{Frame, frame, tuple_kind}
 use Rattle.ufmt_core.specs.declared.layout.Count.TheVariants.{Zero, Several}
@@ -15,7 +16,7 @@ margin false = []
 -- shifts lines; the flag says whether the first byte begins a line, and a line begins after each line feed
 abbrev pub shift_from : Bool → List ℕ → List ℕ
 shift_from begins [] = []
-shift_from begins (c ∷ text) = margin begins ++ (c ∷ shift_from (c == 10) text)
+shift_from begins (c ∷ text) = margin begins ++ (c ∷ shift_from (c == line_feed) text)
 
 -- puts four spaces before each line of a text in which each line ends with a line feed
 abbrev pub shift : List ℕ → List ℕ
@@ -72,7 +73,7 @@ abbrev mutual
 -- a text of one line has no line feed
 abbrev pub IsOneLine : List ℕ → Type 0
 IsOneLine [] = ⊤
-IsOneLine (c ∷ text) = (c ≢ 10) × IsOneLine text
+IsOneLine (c ∷ text) = (c ≢ line_feed) × IsOneLine text
 
 -- no leaf, no name and no field name of the document has a line feed
 abbrev mutual

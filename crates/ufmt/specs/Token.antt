@@ -1,5 +1,6 @@
 -- Token documents, whose texts can be read again: their words and leaves, their normal form, and what may follow their texts.
 use Rattle.std.specs.Prelude.{◌≡◌, ◌⊎◌, ℕ, ◌≤◌, ◌&&◌, ◌||◌, ◌==◌, nat_le, List, [], ◌∷◌, Bool, true, codes, ⊤}
+use Rattle.ufmt_core.specs.Bytes.{closing_brace, closing_bracket, closing_parenthesis, colon, comma, hyphen, lower_a, lower_z, nine_digit, space, underscore, upper_a, upper_z, zero_digit}
 use Rattle.ufmt_core.specs.Document.{Document, leaf, joined, list_of, set_of, map_of, struct_of, tuple_of, pretty_part, Documents, no_documents, document, Pairs, no_pairs, pair, Fields, no_fields, field, nest}
 use Rattle.ufmt_core.specs.Quoted.{IsQuoted}
 
@@ -8,7 +9,7 @@ is_within low high c = nat_le low c && nat_le c high
 
 -- a word byte is an ASCII digit, an ASCII letter, `_` or `-`
 abbrev pub is_word_byte : ℕ → Bool
-is_word_byte c = is_within 48 57 c || is_within 65 90 c || is_within 97 122 c || c == 95 || c == 45
+is_word_byte c = is_within zero_digit nine_digit c || is_within upper_a upper_z c || is_within lower_a lower_z c || c == underscore || c == hyphen
 
 abbrev pub AreWordBytes : List ℕ → Type 0
 AreWordBytes [] = ⊤
@@ -103,10 +104,10 @@ abbrev mutual
 
 -- a closer is a comma, a colon or a closing bracket
 abbrev pub is_closer : ℕ → Bool
-is_closer c = c == 44 || c == 58 || c == 93 || c == 41 || c == 125
+is_closer c = c == comma || c == colon || c == closing_bracket || c == closing_parenthesis || c == closing_brace
 
 -- a follower may come after a token document in a larger text: it is empty, or begins with a closer or with a space and `}`
 abbrev pub IsFollower : List ℕ → Type 0
 IsFollower [] = ⊤
 IsFollower (c ∷ []) = is_closer c ≡ true
-IsFollower (c ∷ b ∷ text) = (is_closer c ≡ true) ⊎ ((c ≡ 32) × (b ≡ 125))
+IsFollower (c ∷ b ∷ text) = (is_closer c ≡ true) ⊎ ((c ≡ space) × (b ≡ closing_brace))

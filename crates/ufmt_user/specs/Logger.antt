@@ -2,6 +2,7 @@
 use Rattle.std.specs.Prelude.{ℕ, List, [], ◌∷◌, ◌++◌, codes, true, false, map, length}
 use Rattle.ufmt_user.specs.declared.logger.Measurement.{Measurement}
 use Rattle.ufmt.specs.declared.hex.HexOptions.{HexOptions}
+use Rattle.ufmt.specs.Bytes.{zero_digit}
 use Rattle.ufmt.specs.Document.{Document}
 use Rattle.ufmt.specs.Hex.{padded_hexadecimal}
 use Rattle.ufmt.specs.Layout.{plain_text}
@@ -13,7 +14,7 @@ measurement_document r = named_struct "Measurement" (("channel", number r.channe
 
 -- a register: `0x`, and zeros to ten bytes in all
 abbrev pub register : HexOptions
-register = record { upper_case = false; pad_char = 48; pad_length = 10; ox_prefix = true }
+register = record { upper_case = false; pad_char = zero_digit; pad_length = 10; ox_prefix = true }
 
 -- the measurement, the register and a line feed
 abbrev pub line : Measurement → ℕ → List ℕ
@@ -28,7 +29,7 @@ measurements_text rs = line_text (text (codes "measured: ") ∷ separated (codes
 
 -- a byte: two digits
 abbrev pub byte : HexOptions
-byte = record { upper_case = false; pad_char = 48; pad_length = 2; ox_prefix = false }
+byte = record { upper_case = false; pad_char = zero_digit; pad_length = 2; ox_prefix = false }
 
 -- how many bytes there are, and the bytes with spaces between them
 abbrev pub dump_text : List ℕ → List ℕ

@@ -1,6 +1,7 @@
 -- Texts in quotes, on the way to the closing quote.
 use Rattle.std.specs.Prelude.{◌≡◌, ◌≢◌, ℕ, ◌==◌, Bool, true, List, ◌∷◌, ◌++◌, length}
 use Rattle.std.specs.Str.{all_scalars}
+use Rattle.ufmt.specs.Bytes.{apostrophe}
 use Rattle.ufmt.specs.Quoted.{IsQuote, escaped_bytes, quoted}
 
 -- the text is some bytes, as they are written between two of these quotes, and then the rest
@@ -20,4 +21,4 @@ pub record NeverCloses (quote : ℕ) (t : List ℕ) : Type 0 where
 
 -- the answer is whether the characters between the apostrophes are one
 pub record IsOneCharacter (leaf : List ℕ) (answer : Bool) : Type 0 where
-  pub one : (cs : List ℕ) → all_scalars cs ≡ true → leaf ≡ quoted 39 cs → answer ≡ (length cs == 1)
+  pub one : (cs : List ℕ) → all_scalars cs ≡ true → leaf ≡ quoted apostrophe cs → answer ≡ (length cs == 1)
