@@ -16,22 +16,21 @@ use Rattle.ufmt_scan.specs.declared.scan.event.Event.TheVariants.{Open, FieldNam
 use Rattle.ufmt_scan.specs.Scan.{TextEvent, TakesEvent, events_of, events_of_entries, events_of_fields, events_of_pairs, tail_events}
 use Rattle.std.proofs.lemmas.List.{reverse-append, take_more, take_more_set}
 
--- events after events
 grown-append : (g : Growing) (es fs : List TextEvent) → grown g (es ++ fs) ≡ grown (grown g es) fs
 grown-append g [] fs = refl
 grown-append g (e ∷ es) fs = grown-append (grow g e) es fs
 
--- in a block, these events put these documents on the stack; whether a colon came there before them and after them
+-- in a block, these events put these documents on the stack. `before` and `after` say whether a colon came in the block by then
 abbrev Puts : Bool → Bool → List TextEvent → List Document → Type 0
 Puts before after es ds = (below : List Document) (start : ℕ) (outer : List OpenBlock)
     → ◌≡◌ {A = Growing} (grown (below, block_at start before ∷ outer) es) (below ++ ds, block_at start after ∷ outer)
 
--- the same of a list of events for each entry
+-- the same for the lists of events of several entries
 abbrev PutsAll : Bool → Bool → List (List TextEvent) → List Document → Type 0
 PutsAll before after [] ds = ds ≡ []
 PutsAll before after (es ∷ more) ds = (first others : List Document) × Puts before after es first × PutsAll after after more others × (ds ≡ first ++ others)
 
--- so the events of the entries and the end of a block put the block in the place of what lies above `bottom`
+-- the events of the entries and the end of a block replace what is above `bottom` with the block
 row_grows : (kind : Kind) (count : Count) (before after : Bool) (es : List TextEvent) (more : List (List TextEvent)) (ds below bottom entries : List Document)
     (outer : List OpenBlock) → PutsAll before after (es ∷ more) ds → below ++ ds ≡ bottom ++ entries
     → ◌≡◌ {A = Growing} (grown (below, block_at (length bottom) before ∷ outer) (es ++ tail_events kind count more)) (bottom ++ block_of kind after entries ∷ [], outer)
@@ -45,14 +44,14 @@ row_grows kind count before after es (fs ∷ more) ds below bottom entries outer
     ∙ ap (λ g. grown g (tail_events kind count (fs ∷ more))) (h.2 below (length bottom) outer)
     ∙ row_grows kind (next count) after after fs more h.1 (below ++ h.0) bottom entries outer h.3 (append_assoc below h.0 h.1 ∙ rw h.4 at whole)
 
--- and all events of a block put it on the stack
+-- all events of a block put it on the stack
 block_grows : (kind : Kind) (name : List ℕ) (colon : Bool) (es : List TextEvent) (more : List (List TextEvent)) (ds : List Document) → PutsAll false colon (es ∷ more) ds
     → (below : List Document) (outer : List OpenBlock)
     → ◌≡◌ {A = Growing} (grown (below, outer) (Open kind name ∷ (es ++ tail_events kind One more))) (below ++ block_of kind colon (name_leaf kind name ++ ds) ∷ [], outer)
 block_grows kind name colon es more ds h below outer =
     row_grows kind One false colon es more ds (below ++ name_leaf kind name) below (name_leaf kind name ++ ds) outer h (append_assoc below (name_leaf kind name) ds)
 
--- a tuple that has entries, with a name or without
+-- the block of a tuple with entries is the tuple, with a name or without
 tuple_is : (name : List ℕ) (ds : List Document) → block_of (tuple_kind name) false (name_leaf (tuple_kind name) name ++ ds) ≡ tuple_of name (documents ds)
 tuple_is [] ds = refl
 tuple_is (c ∷ name) ds = refl
@@ -84,7 +83,7 @@ mutual
       rw (← row.2, ← tuple_is name row.0) (block_grows (tuple_kind name) name false (events_of d) (events_of_entries ds) row.0 row.1)
   document_grows (pretty_part d) h = absurd h
 
-  -- those of entries, pairs and fields put these, or leaves and values, on the stack
+  -- the same for entries, for keys and values, and for leaves of field names and values
   entries_put : (ds : Documents) → HaveTokens ds → (row : List Document) × PutsAll false false (events_of_entries ds) row × (documents row ≡ normal_all ds)
   entries_put no_documents h = ([], refl, refl)
   entries_put (document d ds) h =
@@ -112,20 +111,20 @@ mutual
       document_grows value h.1 (below ++ leaf name ∷ []) (block_at start false ∷ outer) ∙ rw append_assoc refl in
       (leaf name ∷ normal value ∷ more.0, (leaf name ∷ normal value ∷ [], more.0, first, more.1, refl), ap (field name (normal value)) more.2)
 
--- a sink that grows with each event is held to what the scanner asks of it
+-- a sink that grows with each event takes it as `Sink` asks
 pub takes_event : {E : Type 0} (old new : List Doc × List OpenBlock) (e : TextEvent) (answer : Result (⊤) E) → OnOk answer (growing new ≡ grow (growing old) e)
     → TakesEvent (λ start es sink. growing sink ≡ grown (growing start) es) (λ _ _ _. ⊤) old e (is_ok answer) new
 takes_event old new e (Ok x) h = λ start es before. h ∙ ap (λ g. grow g e) before ∙ sym (grown-append (growing start) es (e ∷ []))
 takes_event old new e (Err x) h = λ start es before. tt
 
--- what has grown of the events of a document in normal form is that document
+-- what has grown from the events of a document in normal form is that document
 pub whole_is : (d : Document) (new : Growing) → IsToken d → normal d ≡ d → new ≡ grown ([], []) (events_of d) → new ≡ (d ∷ [], [])
 whole_is d new token form grew = grew ∙ document_grows d token.0 [] [] ∙ ap (λ x. (x ∷ [], [])) form
 
--- a block is the innermost of these
+-- the last open block in the array is the innermost
 pub innermost_is : (blocks : List OpenBlock) (n : ℕ) (block : OpenBlock) → n < length blocks → reverse (take (n + 1) blocks) ≡ get_or blocks n block ∷ reverse (take n blocks)
 innermost_is blocks n block within = ap reverse (take_more blocks n block within) ∙ reverse-append (take n blocks) (get_or blocks n block ∷ [])
 
--- a block is put into the array as the innermost
+-- a block that is put after the open ones in the array is the innermost
 pub one_more : (blocks : List OpenBlock) (n : ℕ) (block : OpenBlock) → n < length blocks → reverse (take (n + 1) (set blocks n block)) ≡ block ∷ reverse (take n blocks)
 one_more blocks n block within = ap reverse (take_more_set blocks n block within) ∙ reverse-append (take n blocks) (block ∷ [])

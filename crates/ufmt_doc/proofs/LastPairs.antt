@@ -1,17 +1,16 @@
--- Pairs off the end of a stack.
+-- Pairs that are taken off a stack.
 use Rattle.std.proofs.Common.{◌≡◌, ◌∙◌, ap, refl, ℕ, ◌+◌, ◌-◌, ◌*◌, List, [], ◌∷◌, ◌++◌, append_assoc, length, map, drop, take, arith}
 use Rattle.std.proofs.lemmas.List.{drop-append-le, length-drop, length-map, map-append, take-append-le}
 use Rattle.ufmt_doc.specs.declared.doc.Doc.{Doc}
 use Rattle.ufmt_doc.specs.Doc.{doc_document}
 use Rattle.ufmt_doc.specs.Private.Growing.{in_pairs}
 
--- two more make one pair more
 pairs_end : {A : Type 0} (xs : List A) (m : ℕ) (k v : A) → length xs ≡ 2 * m → in_pairs (xs ++ k ∷ v ∷ []) ≡ in_pairs xs ++ (k, v) ∷ []
 pairs_end [] m k v even = refl
 pairs_end (x ∷ []) m k v even = absurd (omega (arith, even))
 pairs_end (x ∷ y ∷ xs) m k v even = ap (λ ps. (x, y) ∷ ps) (pairs_end xs (m - 1) k v (omega (arith, even)))
 
--- two documents off a stack are its last pair
+-- two documents that are taken off a stack are its last pair
 pub last_pair : (start m : ℕ) (before mid after : List Doc) (key value : Doc) → before ≡ mid ++ value ∷ [] → mid ≡ after ++ key ∷ []
     → length after ≡ start + 2 * m → (take start before ≡ take start after)
     × (in_pairs (map doc_document (drop start before)) ≡ in_pairs (map doc_document (drop start after)) ++ (doc_document key, doc_document value) ∷ [])

@@ -1,4 +1,4 @@
--- The normal forms of documents in a row, and when two `Doc`s have one normal form.
+-- The normal forms of lists of documents, and when two `Doc`s have the same normal form.
 use Rattle.std.proofs.Common.{◌≡◌, refl, sym, ap, ◌∙◌, ◌==◌, ◌+◌, ℕ, List, [], ◌∷◌, length, map, Bool, Bor, true, false, None, cond, String, Vec, Global, arith, suc, ◌<◌, ◌≤◌, get_or}
 use Rattle.std.proofs.lemmas.Bool.Decides.{nat_tests}
 use Rattle.std.specs.Prelude.{IsTrue, ◌↔◌, string_bytes, vec_len}
@@ -14,18 +14,17 @@ use Rattle.ufmt_doc.specs.Parts.{leaf_part}
 use Rattle.ufmt_scan.specs.Rest.{now_of}
 use Rattle.ufmt_doc.proofs.Docs.{doc_document-SetOf, doc_document-MapOf, doc_document-StructOf, doc_document-TupleOf}
 
--- what holds of each of their pairs holds of two lists of one length, place by place
+-- for lists of one length, a relation holds for all pairs of items exactly if it holds place by place
 pub zipped : {X : Type 0} (R : X → X → Type 0) (xs ys : List X) → length xs ≡ length ys → AllByRecursion (λ p. R p.0 p.1) (zip xs ys) ↔ AllZip R xs ys
 zipped R [] [] long = (λ h. tt, λ h. tt)
 zipped R [] (y ∷ ys) long = absurd (omega arith)
 zipped R (x ∷ xs) [] long = absurd (omega arith)
 zipped R (x ∷ xs) (y ∷ ys) long = let rest = zipped R xs ys (omega arith) in (λ h. (h.0, rest.0 h.1), λ h. (h.0, rest.1 h.1))
 
--- two documents have one normal form
 abbrev SameDoc : Doc → Doc → Type 0
 SameDoc d e = normal (doc_document d) ≡ normal (doc_document e)
 
--- entries, pairs and fields have one normal form exactly if each has one with its like
+-- two lists of entries, pairs or fields have the same normal form exactly if the items at each place do
 docs_same : (ds es : List Doc) → AllZip SameDoc ds es ↔ (normal_all (documents (map doc_document ds)) ≡ normal_all (documents (map doc_document es)))
 docs_same [] [] = (λ h. refl, λ h. tt)
 docs_same [] (e ∷ es) = (λ h. absurd h, λ h. absurd (cc))
@@ -46,7 +45,7 @@ fields_same [] (g ∷ gs) = (λ h. absurd h, λ h. absurd (cc))
 fields_same (f ∷ fs) [] = (λ h. absurd h, λ h. absurd (cc))
 fields_same (f ∷ fs) (g ∷ gs) = let rest = fields_same fs gs in (λ h. let more = rest.0 h.1 in cc, λ h. ((cc, cc), rest.1 (cc)))
 
--- and so do blocks of one kind and name
+-- the same for blocks with the same kind and name
 pub lists_same : (ds es : List Doc)
     → AllZip SameDoc ds es ↔ (normal (list_of (documents (map doc_document ds))) ≡ normal (list_of (documents (map doc_document es))))
 lists_same ds es = let all = docs_same ds es in (λ h. ap list_of (all.0 h), λ h. all.1 (cc))
@@ -77,7 +76,7 @@ tuples_same name [] (e ∷ es) = (λ h. absurd h, λ h. absurd (cc))
 tuples_same name (d ∷ ds) [] = (λ h. absurd h, λ h. absurd (cc))
 tuples_same name (d ∷ ds) (e ∷ es) = let all = docs_same (d ∷ ds) (e ∷ es) in (λ h. let same = all.0 h in cc, λ h. all.1 (cc))
 
--- an empty set is an empty map, and no other set is a map
+-- in normal form, an empty set is an empty map, and no other set is a map
 braces : (ds : List Doc) (ps : List (Doc × Doc)) (answer : Bool) → answer ≡ (length ds + length ps == 0)
     → IsTrue answer ↔ (normal (set_of (documents (map doc_document ds))) ≡ normal (map_of (pairs_of (map pair_view ps))))
 braces [] [] answer is = (λ yes. refl, λ same. is)
@@ -115,11 +114,11 @@ pub leaf_of : (empty : Bool) (name : Bor (List ℕ)) (block : Document) → leaf
 leaf_of true name block none = refl
 leaf_of false name block none = sym none
 
--- the first i things, seen by now, are what then makes of those that were there
+-- the first i items, viewed by `now`, are what `then` makes of the old items
 abbrev pub HasBecome : {X V : Type 0} → (X → V) → (X → V) → ℕ → List X → List X → Type 0
 HasBecome {X} now then i xs ys = (k : ℕ) → k < i → (d : X) → now (get_or xs k d) ≡ then (get_or ys k d)
 
--- where the first i are all
+-- the same for all items, if there are at most i
 pub HasBecome-all : {X V : Type 0} (now then : X → V) (i : ℕ) (xs ys : List X) → length xs ≡ length ys → length ys ≤ i
     → HasBecome now then i xs ys → map now xs ≡ map then ys
 HasBecome-all now then i [] [] same all h = refl
@@ -130,7 +129,7 @@ HasBecome-all now then i (x ∷ xs) (y ∷ ys) same all h =
     let others : map now xs ≡ map then ys = HasBecome-all now then (length ys) xs ys (omega arith) (omega arith) (λ k below. h (suc k) (omega arith)) in
     cc
 
--- the normal form of entries is that of each: of documents, of pairs and of fields
+-- the normal form of a list of documents, pairs or fields is that of each item
 pub normal_all-map : {X : Type 0} (f : X → Document) (xs : List X) → documents (map (λ x. normal (f x)) xs) ≡ normal_all (documents (map f xs))
 normal_all-map f [] = refl
 normal_all-map f (x ∷ xs) = ap (document (normal (f x))) (normal_all-map f xs)

@@ -1,4 +1,4 @@
--- What is read of a text is the normal form of each document with that text.
+-- What is read from a text is the normal form of each document with that text.
 use Rattle.std.proofs.Common.{◌≡◌, ◌∙◌, sym, List, ℕ, Result, Ok, Err, IfOk}
 use Rattle.ufmt.specs.Document.{Document}
 use Rattle.ufmt.specs.Layout.{plain_text}
@@ -9,7 +9,7 @@ use Rattle.ufmt_doc.specs.Doc.{doc_document}
 use Rattle.ufmt_scan.specs.declared.error.ReadError.{ReadError}
 use Rattle.ufmt_scan.specs.Texts.{IsNormalForm}
 
--- what was read of a text is the normal form of each document with that text, if equal texts have equal normal forms
+-- what was read from a text is the normal form of each document with that text, if equal texts have equal normal forms
 form_is : (text_of : Document → List ℕ) → ((d e : Document) → IsToken d → IsToken e → text_of d ≡ text_of e → normal d ≡ normal e)
     → (input : List ℕ) (e d : Document) → IsNormalForm text_of input e → IsToken d → text_of d ≡ input → e ≡ normal d
 form_is text_of determines input e d read token same = sym read.1 ∙ determines e d read.0 token (read.2 ∙ sym same)
@@ -17,7 +17,7 @@ form_is text_of determines input e d read token same = sym read.1 ∙ determines
 pub plain_form_is : (input : List ℕ) (e d : Document) → IsNormalForm plain_text input e → IsToken d → plain_text d ≡ input → e ≡ normal d
 plain_form_is = form_is plain_text (λ d e hd he same. (plain_text_determines d e hd he).0 same)
 
--- and so it is where such a document's text is read again
+-- what is read from a document's text is its normal form
 pub read_again : (text_of : Document → List ℕ) → ((d e : Document) → IsToken d → IsToken e → text_of d ≡ text_of e → normal d ≡ normal e)
     → (answer : Result Doc ReadError) (input : List ℕ) (d : Document) → IsToken d → input ≡ text_of d
     → IfOk answer (λ doc. IsNormalForm text_of input (doc_document doc)) → IfOk answer (λ doc. doc_document doc ≡ normal d)

@@ -1,4 +1,4 @@
--- What lies between the quotes of a leaf is decoded byte by byte.
+-- What is between the quotes of a leaf is decoded byte by byte.
 use Rattle.std.proofs.Common.{◌≡◌, inl, inr, refl, sym, ap, ◌∙◌, ℕ, List, [], ◌∷◌, ◌++◌, drop, get_or, append_assoc, true, arith}
 use Rattle.std.specs.Str.{IsUtf8, all_scalars, chars, encode_utf8_all}
 use Rattle.std.proofs.lemmas.Str.{chars-encodes}

@@ -1,4 +1,4 @@
--- A block is of tokens where its entries are.
+-- A block is a token document if its entries are.
 use Rattle.std.proofs.Common.{◌≡◌, refl, Bool, ◌==◌, ℕ, ◌-◌, ◌<◌, true, false, List, [], ◌∷◌, length, map, arith, eqb-true, String, Global, ◌∙◌, cond, Vec, vec_len}
 use Rattle.std.specs.Prelude.{◌↔◌, IsTrue, string_bytes}
 use Rattle.std.specs.Bool.{MatchBool}
@@ -15,7 +15,6 @@ use Rattle.ufmt_doc.specs.Private.{IsTokenWithin}
 use Rattle.ufmt_doc.proofs.Docs.{doc_document-TupleOf}
 use Rattle.ufmt_doc.proofs.NormalForms.{is_some}
 
--- what holds exactly if another does, which does exactly if a third does
 pub as_well : {A B C : Type 0} → A ↔ B → B ↔ C → A ↔ C
 as_well h k = (λ a. k.0 (h.0 a), λ c. h.1 (k.1 c))
 
@@ -27,7 +26,7 @@ all_decides Passes true xs h = (λ yes. recursion_from_All Passes xs (All-from_a
 all_decides Passes false xs h = (λ yes. absurd (cc), λ all. true_from_All Passes (λ x. Passes x → ⊥) false xs (λ x p q. q p) h (All-from_recursion Passes xs all))
 
 module _ (n : ℕ) where
-  -- the entries of a list or a set
+  -- a list or a set, by its entries
   pub docs_within : (ds : List Doc)
       → AllByRecursion (λ d. (0 < n) × IsTokenWithin (n - 1) (doc_document d)) ds ↔ IsTokenWithin n (list_of (documents (map doc_document ds)))
   docs_within [] = (λ h. (tt, omega arith), λ h. tt)
@@ -36,7 +35,7 @@ module _ (n : ℕ) where
       let rest = docs_within (e ∷ ds) in
       (λ h. let more = rest.0 h.1 in ((h.0.1.0, more.0), omega arith), λ h. ((omega arith, (h.0.0, omega arith)), rest.1 (h.0.1, omega arith)))
 
-  -- the pairs of a map
+  -- a map, by its pairs
   pub pairs_within : (ps : List (Doc × Doc))
       → AllByRecursion (λ p. (0 < n) × (IsTokenWithin (n - 1) (doc_document p.0) × IsTokenWithin (n - 1) (doc_document p.1))) ps
       ↔ IsTokenWithin n (map_of (pairs_of (map pair_view ps)))
@@ -48,7 +47,7 @@ module _ (n : ℕ) where
         λ h. ((omega arith, ((h.0.0, omega arith), (h.0.1, omega arith))), rest.1 (h.0.2, omega arith)),
       )
 
-  -- the fields of a struct with this name
+  -- a struct with this name, by its fields
   pub fields_within : (name : List ℕ) → IsWord name → (fs : List (String Global × Doc))
       → AllByRecursion (λ f. (0 < n) × (IsWord (string_bytes f.0) × IsTokenWithin (n - 1) (doc_document f.1))) fs
       ↔ IsTokenWithin n (struct_of name (fields_of (map field_view fs)))

@@ -1,11 +1,11 @@
--- The document that a value of type `Doc` is.
+-- The documents that values of type `Doc` are.
 use Rattle.std.specs.Prelude.{map, string_bytes}
 use Rattle.ufmt_doc.specs.declared.doc.Doc.{Doc}
 use Rattle.ufmt_doc.specs.declared.doc.Doc.TheOpen.{Doc-F, Leaf, Listed, SetOf, MapOf, StructOf, TupleOf}
 use Rattle.ufmt_doc.specs.declared.doc.Doc.TheFolds.{fold-Doc}
 use Rattle.ufmt.specs.Document.{Document, leaf, list_of, set_of, map_of, struct_of, tuple_of, documents, pairs_of, fields_of}
 
--- a leaf or a block, whose entries are documents already
+-- a leaf, or a block whose entries are documents already
 abbrev pub document_step : Doc-F Document → Document
 document_step (Leaf text) = leaf (string_bytes text)
 document_step (Listed entries) = list_of (documents entries.items)
@@ -14,6 +14,6 @@ document_step (MapOf entries) = map_of (pairs_of entries.items)
 document_step (StructOf name fields) = struct_of (string_bytes name) (fields_of (map (λ f. (string_bytes f.0, f.1)) fields.items))
 document_step (TupleOf name fields) = tuple_of (string_bytes name) (documents fields.items)
 
--- the document of the same shape
+-- the document that a `Doc` is
 abbrev pub doc_document : Doc → Document
 doc_document = fold-Doc Document document_step

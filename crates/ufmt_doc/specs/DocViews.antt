@@ -1,4 +1,4 @@
--- The documents of a pair of values of type `Doc`, and of a field.
+-- The documents of a pair of `Doc`s, and of a field.
 use Rattle.std.specs.Prelude.{ℕ, List, String, string_bytes}
 use Rattle.std.specs.declared.alloc.Global.{Global}
 use Rattle.ufmt.specs.Document.{Document}

@@ -1,4 +1,4 @@
--- The parts of a document, by which one that was read is taken apart.
+-- The parts of a document.
 use Rattle.std.specs.Prelude.{ℕ, List, Option, Some, None, bytes_eq, if◌then◌else◌}
 use Rattle.ufmt.specs.Document.{Document, leaf, list_of, set_of, map_of, struct_of, tuple_of, Documents, Pairs, Fields, no_fields, field}
 

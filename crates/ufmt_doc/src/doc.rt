@@ -22,7 +22,7 @@ use ufmt_scan::convert::plain_text;
 use ufmt_scan::leaf::is_symbol;
 use ufmt_scan::quoted::split_escaped;
 
-/// A document as a value: a text of its own, or a block whose entries are documents.
+/// A document as a value: a leaf, or a block whose entries are documents.
 #[derive(Drop)]
 pub enum Doc {
     Leaf(String),
@@ -34,16 +34,16 @@ pub enum Doc {
 }
 
 impl Doc {
-    /// Whether it is a token document, so that its text can be read again.
+    /// Returns whether it is a token document, whose text can be read again.
     pub fn is_token(&self) -> bool
         ensures { IsTrue result ↔ IsToken (doc_document self.now) }
     {
         self.has_tokens(u8::MAX)
     }
 
-    /// Makes it its normal form, which has the same texts: at each depth a struct or a tuple without
-    /// fields becomes a leaf, its name, and a set without entries a map. Takes no memory: `alloc` is
-    /// only for empty vectors and texts.
+    /// Changes it to its normal form, which has the same texts. At each depth, a struct or a tuple
+    /// without fields becomes the leaf of its name, and an empty set becomes an empty map. Takes no
+    /// memory: `alloc` is only for empty vectors and texts.
     #[cycle(normalize)]
     pub fn normalize(&mut self, alloc: Global)
         ensures { doc_document self.new ≡ normal (doc_document self.old) }
@@ -73,7 +73,7 @@ impl Doc {
         }
     }
 
-    /// Returns the name of a struct or a tuple. Only that of a tuple may be empty.
+    /// Returns the name of a struct or a tuple. In a token document, only a tuple's may be empty.
     pub fn name(&self) -> Option<&str>
         ensures { option_copied result ≡ name_part (doc_document self.now) }
     {
@@ -83,8 +83,8 @@ impl Doc {
         }
     }
 
-    /// Returns the entries of a list or a set, or the fields of a tuple. Readers make a map of empty
-    /// braces, which has `pairs`.
+    /// Returns the entries of a list or a set, or the fields of a tuple. Readers make a map of
+    /// empty braces, which has `pairs`.
     pub fn entries(&self) -> Option<&[Doc]>
         ensures { option_map (λ entries. documents (map doc_document entries.now)) result
             ≡ entries_part (doc_document self.now) }
@@ -131,22 +131,22 @@ impl Doc {
     }
 
     /// Makes a leaf of the text in quotation marks, with its escapes, as `uDebug` prints it. Fails
-    /// only without memory. `Doc::Leaf` of the text prints it without quotes.
+    /// only if memory runs out. `Doc::Leaf` of the text prints it without quotes.
     pub fn text(alloc: Global, text: &str) -> Result<Doc, AllocError>
         ensures { IfOk result (λ doc. doc_document doc ≡ leaf (quoted_text (chars text.now))) }
     {
         Ok(Doc::Leaf(plain_text(alloc, &text)?))
     }
 
-    /// Makes a leaf of the character or its escape in apostrophes. Fails only without memory.
+    /// Makes a leaf of the character or its escape in apostrophes. Fails only if memory runs out.
     pub fn character(alloc: Global, character: char) -> Result<Doc, AllocError>
         ensures { IfOk result (λ doc. doc_document doc ≡ leaf (quoted_char character)) }
     {
         Ok(Doc::Leaf(plain_text(alloc, &character)?))
     }
 
-    /// Returns the text of a leaf in quotation marks, or the one character of a leaf in apostrophes,
-    /// without quotes and escapes. Fails only without memory.
+    /// Returns the text between the quotes of a leaf, with its escapes decoded, or `None` if this
+    /// is no leaf in quotes. Fails only if memory runs out.
     pub fn unquoted(&self, alloc: Global) -> Result<Option<String>, AllocError>
         ensures { IfOk result (λ answer. Unquotes (doc_document self.now) answer) }
     {
@@ -164,7 +164,6 @@ impl Doc {
     }
 }
 
-// Makes each document its normal form.
 #[cycle(normalize)]
 fn normalize_all(alloc: Global, docs: &mut [Doc])
     ensures { documents (map doc_document docs.new)
@@ -175,7 +174,6 @@ fn normalize_all(alloc: Global, docs: &mut [Doc])
     }
 }
 
-// The same for keys and values.
 #[cycle(normalize)]
 fn normalize_pairs(alloc: Global, pairs: &mut [(Doc, Doc)])
     ensures { pairs_of (map pair_view pairs.new)
@@ -187,7 +185,6 @@ fn normalize_pairs(alloc: Global, pairs: &mut [(Doc, Doc)])
     }
 }
 
-// The same for the values of fields.
 #[cycle(normalize)]
 fn normalize_fields(alloc: Global, fields: &mut [(String, Doc)])
     ensures { fields_of (map field_view fields.new)

@@ -11,7 +11,7 @@ use std::alloc::{AllocError, AllocFailed, Global};
 use ufmt_scan::convert::{plain_text, pretty_text, to_plain, to_pretty};
 use ufmt_scan::error::ReadError;
 
-/// A plain text that is read and written plainly is itself again.
+/// Reads a plain text, and prints its document plainly. This gives the same text.
 pub fn plain_again(alloc: Global, input: &[u8]) -> Result<String, ReadError>
     ensures ok { IfOk result (λ text. string_bytes text ≡ input.now) }
     ensures not_text { IsErrOf result ReadError.NotText → IsNoText plain_text input.now }
@@ -20,7 +20,7 @@ pub fn plain_again(alloc: Global, input: &[u8]) -> Result<String, ReadError>
     Ok(plain_text(alloc, &doc)?)
 }
 
-/// A pretty text that is read and written prettily is itself again.
+/// Reads a pretty text, and prints its document prettily. This gives the same text.
 pub fn pretty_again(alloc: Global, input: &[u8]) -> Result<String, ReadError>
     ensures ok { IfOk result (λ text. string_bytes text ≡ input.now) }
     ensures not_text { IsErrOf result ReadError.NotText → IsNoText pretty_text input.now }
@@ -29,7 +29,7 @@ pub fn pretty_again(alloc: Global, input: &[u8]) -> Result<String, ReadError>
     Ok(pretty_text(alloc, &doc)?)
 }
 
-/// The plain text of the pretty text of a plain one is that again.
+/// Converts a plain text to its pretty text and back. This gives the same text.
 pub fn plain_by_way_of_pretty(alloc: Global, input: &[u8]) -> Result<String, ReadError>
     ensures ok { IfOk result (λ text. string_bytes text ≡ input.now) }
     ensures not_text { IsErrOf result ReadError.NotText → IsNoText plain_text input.now }
@@ -38,7 +38,7 @@ pub fn plain_by_way_of_pretty(alloc: Global, input: &[u8]) -> Result<String, Rea
     to_plain(alloc, pretty.as_bytes())
 }
 
-/// The pretty text of the plain text of a pretty one is that again.
+/// Converts a pretty text to its plain text and back. This gives the same text.
 pub fn pretty_by_way_of_plain(alloc: Global, input: &[u8]) -> Result<String, ReadError>
     ensures ok { IfOk result (λ text. string_bytes text ≡ input.now) }
     ensures not_text { IsErrOf result ReadError.NotText → IsNoText pretty_text input.now }
@@ -47,7 +47,7 @@ pub fn pretty_by_way_of_plain(alloc: Global, input: &[u8]) -> Result<String, Rea
     to_pretty(alloc, plain.as_bytes())
 }
 
-/// A token document that is written plainly and read again is its normal form.
+/// Prints a token document plainly, and reads the text. This gives the document's normal form.
 pub fn normal_by_way_of_plain(alloc: Global, doc: &Doc) -> Result<Doc, ReadError>
     requires { IsToken (doc_document doc.now) }
     ensures ok { IfOk result (λ again. doc_document again ≡ normal (doc_document doc.now)) }
@@ -57,7 +57,7 @@ pub fn normal_by_way_of_plain(alloc: Global, doc: &Doc) -> Result<Doc, ReadError
     read_plain(alloc, text.as_bytes())
 }
 
-/// Likewise by its pretty text.
+/// Does the same with the pretty text.
 pub fn normal_by_way_of_pretty(alloc: Global, doc: &Doc) -> Result<Doc, ReadError>
     requires { IsToken (doc_document doc.now) }
     ensures ok { IfOk result (λ again. doc_document again ≡ normal (doc_document doc.now)) }
@@ -67,7 +67,7 @@ pub fn normal_by_way_of_pretty(alloc: Global, doc: &Doc) -> Result<Doc, ReadErro
     read_pretty(alloc, text.as_bytes())
 }
 
-/// Want of memory is `OutOfMemory` to a reader, whether a `String` or a `Vec` fails with it.
+/// A reader's error is `OutOfMemory`, whether a `String` or a `Vec` had no memory.
 pub fn want_of_memory_is_one_error<T: Drop>()
     ensures of_text { (e : _) (error : _) → ⟦<ReadError as From<AllocError>>⟧.from_gives e error
         → error ≡ ReadError.OutOfMemory }

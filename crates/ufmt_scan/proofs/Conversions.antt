@@ -1,4 +1,4 @@
--- What a conversion to a writer says of the text that it fills or makes.
+-- What conversions to a `String` or a buffer promise, from what those to a writer promise.
 use Rattle.std.proofs.Common.{◌≡◌, ◌∙◌, ap, sym, subst, refl, List, ℕ, [], ◌++◌, length, Result, Ok, Err, Global, String, string_bytes}
 use Rattle.std.specs.Prelude.{⊤}
 use Rattle.std.specs.Result.{IsErrAnd}
@@ -14,7 +14,7 @@ use Rattle.ufmt_scan.specs.declared.convert.growing.Growing.{Growing}
 use Rattle.ufmt_scan.specs.declared.scan.event.ScanError.{ScanError}
 
 module _ {from to : Document → List ℕ} {input : List ℕ} {done : ⊤} where
-  -- what is written to a text that was empty is what the input is converted to, which undoes the conversion in the other direction
+  -- the text that is written to an empty one is the input's other text, and undoes the conversion in the other direction
   pub converts : {old new : Growing} {text : String Global} → ConvertsTo {E = AllocError} growing_seen from to input old (Ok done) new → growing_text old ≡ []
       → string_bytes text ≡ growing_text new → Converts from to input (Ok text)
   converts {text = text} h empty whole =
@@ -29,7 +29,7 @@ module _ {from to : Document → List ℕ} {input : List ℕ} {done : ⊤} where
         unconverted = λ refused. absurd (cc);
       }
 
-  -- the same of the front of a buffer, all of it or a beginning
+  -- the same for the front of a buffer: all of the text or a beginning
   module _ {old : List ℕ} {begun ended : Cursor} (written : written_bytes begun ≡ []) (unwritten : unwritten_bytes begun ≡ old) where
     pub into_whole : ConvertsTo {E = Full} cursor_seen from to input begun (Ok done) ended
         → ConvertsInto {E = Full} from to input old (Ok (length (written_bytes ended))) ended.buffer.now

@@ -1,4 +1,4 @@
--- The events of documents, pairs and fields, by how these begin.
+-- The events of documents, pairs and fields, by how they begin.
 use Rattle.std.proofs.Common.{◌≡◌, refl, ap, ◌∙◌, sym, ℕ, zero, suc, ◌<◌, ◌≤◌, ◌==◌, true, false, List, [], ◌∷◌, ◌++◌, length, length-append, eqb-true, map, Option, Some, None, option_and_then, codes, subst, Bor, Result, Ok, Err, arith}
 use Rattle.ufmt.specs.Document.{Document, list_of, set_of, map_of, struct_of, tuple_of, no_documents, no_pairs, Documents, document, documents, pairs_of, fields_of}
 use Rattle.ufmt_core.specs.declared.layout.Setting.{Setting}
@@ -24,7 +24,7 @@ use Rattle.ufmt_scan.specs.Private.Scanning.{Steps, Stops, Emits, Scanned, after
 use Rattle.ufmt_scan.proofs.EntrySteps.{entry_of_takes, field_takes, pair_takes}
 use Rattle.ufmt_scan.proofs.ScanTurns.{block_scans, prefixed_twice}
 
--- the events of entries, pairs and fields in a row
+-- the events of a list of entries, pairs or fields are those of each
 events_of_entries-documents : (ds : List Document) → events_of_entries (documents ds) ≡ map events_of ds
 events_of_entries-documents [] = refl
 events_of_entries-documents (d ∷ ds) = ap (λ es. events_of d ∷ es) (events_of_entries-documents ds)
@@ -38,7 +38,7 @@ events_of_fields-fields_of level [] = refl
 events_of_fields-fields_of level (f ∷ fs) = ap (λ es. (fields level).events f ∷ es) (events_of_fields-fields_of level fs)
 
 module _ (level : Level) where
-  -- a list, a set or a tuple from its first entry on
+  -- the events of a list, a set or a tuple, from its first entry on
   entries_scan : (kind : Kind) (name : List ℕ) (make : Documents → Document)
       → ((d : Document) (ds : Documents) → events_of (make (document d ds)) ≡ Open kind name ∷ (events_of d ++ tail_events kind One (events_of_entries ds)))
       → (o : Option (Document × List ℕ))
@@ -48,7 +48,7 @@ module _ (level : Level) where
   entries_scan kind name make shape = block_scans (entries level) level kind (λ ds. make (documents ds)) (Open kind name)
       (λ d ds. shape d (documents ds) ∙ ap (λ ess. Open kind name ∷ (events_of d ++ tail_events kind One ess)) (events_of_entries-documents ds))
 
-  -- a named tuple or struct from its first field on
+  -- the events of a tuple or struct with a name, from its first field on
   pub tuple_scans : (w t r : List ℕ) → IsWord w → strip (lead (frame level.mode Tuple) (inside (setting_at level)) Zero) t ≡ Some r
       → parse_map events_of (read_named (setting_at level) (entry_of level) w t) ≡ scan_opened level Tuple w r
   tuple_scans [] t r word opening = absurd word
@@ -62,21 +62,20 @@ module _ (level : Level) where
       (Open Struct (c ∷ w))
       (λ f fs. ap (λ ess. Open Struct (c ∷ w) ∷ ((fields level).events f ++ tail_events Struct One ess)) (events_of_fields-fields_of level fs)) ((fields level).read r))
 
-  -- a name without a block
   pub name_scans : (w t : List ℕ) → IsWord w → strip (lead (frame level.mode Tuple) (inside (setting_at level)) Zero) t ≡ None
       → strip (lead (frame level.mode Struct) (inside (setting_at level)) Zero) t ≡ None
       → parse_map events_of (read_named (setting_at level) (entry_of level) w t) ≡ Some (Leaf w ∷ [], t)
   name_scans [] t word tuple struct = absurd word
   name_scans (c ∷ w) t word tuple struct = rw (tuple, struct) refl
 
-  -- a tuple without a name
+  -- the events of a tuple without a name
   pub unnamed_scans : (t r : List ℕ) → strip (codes "[") t ≡ None → strip (codes "{") t ≡ None → read_symbol t ≡ None
       → strip (lead (frame level.mode Unnamed) (inside (setting_at level)) Zero) t ≡ Some r
       → parse_map events_of (read_without_name (setting_at level) (entry_of level) t) ≡ scan_opened level Unnamed [] r
   unnamed_scans t r bracket brace symbol opening = rw (bracket, brace, symbol, opening) (entries_scan Unnamed [] (tuple_of []) (λ d ds. refl)
       (entry_of level r))
 
-  -- a list, or a set or a map, after its opening
+  -- the events of a list, a set or a map, after its bracket
   block_opens : (kind : Kind) (empty : Document) (q : Parse Document) → events_of empty ≡ Empty kind ∷ []
       → ((u : List ℕ) → parse_map events_of (q u) ≡ scan_opened level kind [] u) → (ends opens : Option (List ℕ))
       → parse_map events_of (choose ends (λ u. Some (empty, u)) (option_and_then q opens))
@@ -88,7 +87,7 @@ module _ (level : Level) where
   pub list_scans : (t : List ℕ) → parse_map events_of (read_list (setting_at level) (entry_of level) t) ≡ scan_block level Brackets t
   list_scans t = block_opens Brackets (list_of no_documents) _ refl (λ u. entries_scan Brackets [] list_of (λ d ds. refl) (entry_of level u)) _ _
 
-  -- the value of a pair, after its key and a colon
+  -- the events of a pair are those of its key, a colon and those of its value
   value_scans : (key : Document) (o : Option (Document × List ℕ)) (more : Parse (List TextEvent))
       → then_scan (parse_map (pairs level).events (parse_map (λ value. (key, value)) o)) more
       ≡ prefixed (events_of key) (prefixed (Colon ∷ []) (then_scan (parse_map events_of o) more))
@@ -97,7 +96,7 @@ module _ (level : Level) where
       sym (ap (prefixed (events_of key)) (prefixed_twice (Colon ∷ []) (events_of x.0) (more x.1))
       ∙ prefixed_twice (events_of key) (Colon ∷ events_of x.0) (more x.1))
 
-  -- a set or a map from its first entry on
+  -- the events of a set or a map, from its first entry on
   first_scans : (o : Option (Document × List ℕ)) → parse_map events_of (option_and_then (λ x. read_map_or_set (setting_at level) (entry_of level) x.0 x.1) o)
       ≡ prefixed (Open Braces [] ∷ []) (then_scan (parse_map events_of o) (scan_stage level stages.BracesFirst))
   first_scans None = refl
@@ -114,7 +113,6 @@ module _ (level : Level) where
   pub braces_scans : (t : List ℕ) → parse_map events_of (read_braces (setting_at level) (entry_of level) t) ≡ scan_block level Braces t
   braces_scans t = block_opens Braces (map_of no_pairs) _ refl (λ u. first_scans (entry_of level u)) _ _
 
-  -- a later pair is a key, and then a value
   pair_scans : (t : List ℕ) → after level (Some stages.KeyLater) t ≡ then_scan (scan_turn (pairs level) t) (scan_rest (pairs level) level Braces Several)
   pair_scans t = by_key (entry_of level t)
     where
@@ -130,7 +128,7 @@ module _ (level : Level) where
       by_key None = refl
       by_key (Some x) = by_colon x.0 (strip (codes ": ") x.1)
 
--- the entries, pairs or fields of a block each take a byte
+-- each entry, pair or field of a block takes at least a byte
 pub turn_takes : (level : Level) (stage : Stage) → Takes (turn_of level stage).read
 turn_takes level stages.KeyLater = pair_takes level
 turn_takes level stages.ValueFirst = pair_takes level
@@ -139,7 +137,7 @@ turn_takes level stages.FieldFirst = field_takes level
 turn_takes level stages.FieldLater = field_takes level
 turn_takes level _ = entry_of_takes level
 
--- after an entry a block continues at the stage of the next one
+-- after an entry, a block continues at the stage of the next entry
 pub later_continues : (level : Level) (stage : Stage) (t : List ℕ)
     → after level (Some (later stage)) t ≡ then_scan (scan_turn (turn_of level stage) t) (scan_rest (turn_of level stage) level (kind_of stage) Several)
 later_continues level stages.ListFirst t = refl
@@ -160,12 +158,11 @@ later_continues level stages.UnnamedLater t = refl
 pub symbol_is_quoted : (t : List ℕ) (o : Option (List ℕ × List ℕ)) → strip (codes "()") t ≡ None → o ≡ read_quoted t → read_symbol t ≡ o
 symbol_is_quoted t o none is = rw none (sym is)
 
--- a parenthesis is no quote
 pub opens_no_quote : (text t r : List ℕ) → strip (40 ∷ text) t ≡ Some r → read_quoted t ≡ None
 unfolding read_quoted
 opens_no_quote text t r opening = rw (strip_found (40 ∷ text) t r opening) refl
 
--- a leaf that is no word
+-- a leaf that is no word is one event
 pub symbol_scans : (level : Level) (t text r : List ℕ) → strip (codes "[") t ≡ None → strip (codes "{") t ≡ None → read_symbol t ≡ Some (text, r)
     → (parse_map events_of (read_without_name (setting_at level) (entry_of level) t) ≡ Some (Leaf text ∷ [], r)) × (length r < length t)
 symbol_scans level t text r bracket brace symbol =
@@ -173,7 +170,7 @@ symbol_scans level t text r bracket brace symbol =
     let begins = leaf_begins text (symbol_leaf text sound.0) in
     (rw (bracket, brace, symbol) refl, omega (arith, ap length sound.1, length-append text r, ap length begins.is))
 
--- a document is read by the word at its front, where there is one
+-- a document is read by the word at its front, if there is one
 read_is : (s : Setting) (n : ℕ) (t : List ℕ) → read s n t ≡ read_by_word s (entry_at s n) t (word_of t) (after_word t)
 unfolding read
 read_is s zero t = refl
@@ -188,7 +185,7 @@ pub reads_named : (s : Setting) (n : ℕ) (t w u : List ℕ) → w ≡ word_of t
 reads_named s n t [] u word rest some = absurd (cc)
 reads_named s n t (c ∷ w) u word rest some = read_is s n t ∙ rw (← word, ← rest) refl
 
--- a step of a text is one of a text that has the same events, and leaves fewer bytes than a larger number
+-- a step of a text is a step of any text with the same events, and for any larger bound of the bytes left
 pub steps_as : {S E : Type 0} (took stopped : S → List TextEvent → S → Type 0) (old new : S) (onward : Option Stage → Parse (List TextEvent)) {m : ℕ} (n : ℕ)
     (answer : Result (Option Stage × Bor (List ℕ)) (ScanError E)) {there : Scanned} (other : Scanned)
     → m ≤ n → there ≡ other → Steps took stopped answer old new m other onward → Steps took stopped answer old new n there onward
@@ -196,29 +193,25 @@ steps_as took stopped old new onward n (Ok x) other longer same h =
     (subst (λ o. Emits took took old new o (onward x.0 x.1.now)) (sym same) h.0, let less = h.1 in omega (arith, less))
 steps_as took stopped old new onward n (Err why) other longer same h = (subst (λ o. Stops took stopped old new o why) (sym same) h.0, tt)
 
--- one or more word bytes are a word
 bytes_are_word : (w : List ℕ) → AreWordBytes w → (length w == 0) ≡ false → IsWord w
 bytes_are_word [] bytes some = absurd (cc)
 bytes_are_word (c ∷ w) bytes some = bytes
 
--- so are those at the front of a text
+-- the word bytes at the front of a text are a word, if there are any
 pub front_is_word : (t w : List ℕ) → w ≡ word_of t → (length w == 0) ≡ false → IsWord w
 front_is_word t w word some = bytes_are_word w (rw word (word_of_bytes t)) some
 
--- they are word bytes in any case
 pub front_is_bytes : (t w : List ℕ) → w ≡ word_of t → AreWordBytes w
 front_is_bytes t w word = rw word (word_of_bytes t)
 
--- they are read as a word
 pub word_is_read : (t w u : List ℕ) → w ≡ word_of t → u ≡ after_word t → (length w == 0) ≡ false → read_word t ≡ Some (w, u)
 word_is_read t [] u word rest some = absurd (cc)
 word_is_read t (c ∷ w) u word rest some = rw (← word, ← rest) refl
 
--- what follows them is shorter
 pub word_within : (t w u : List ℕ) → w ≡ word_of t → u ≡ after_word t → (length w == 0) ≡ false → suc (length u) ≤ length t
 word_within t w u word rest some = let shorter = read_word_takes.takes t w u (word_is_read t w u word rest some) in omega (arith, shorter)
 
--- a field's name and the colon after it come first of a field
+-- a field begins with its name and a colon
 pub field_name_scans : (level : Level) (t w u v : List ℕ) → w ≡ word_of t → u ≡ after_word t → (length w == 0) ≡ false → strip (codes ": ") u ≡ Some v
     → (scan_turn (fields level) t ≡ prefixed (FieldName w ∷ []) (scan_turn (entries level) v)) × (length v < length t)
 field_name_scans level t w u v word rest some colon = (

@@ -12,17 +12,17 @@ use Rattle.ufmt_scan.specs.declared.level.Level.{Level}
 use Rattle.ufmt_scan.proofs.Strips.{if_any-next}
 use Rattle.ufmt_scan.specs.Private.Level.{budget_of, entry_at, entry_of, setting_at}
 
--- after a text that has a byte it is shorter
+-- a text is shorter after at least one byte is stripped from it
 pub strip_shortens : (c : ℕ) (text t u : List ℕ) → strip (c ∷ text) t ≡ Some u → length u < length t
 strip_shortens c text t u h = rw (strip_found (c ∷ text) t u h, length-append (c ∷ text) u) (omega arith)
 
--- after what begins a block with entries it is no longer
+-- a text does not get longer when a lead is stripped from it
 pub after_lead : (level : Level) (kind : Kind) (t u : List ℕ) → strip (lead (frame level.mode kind) (inside (setting_at level)) Zero) t ≡ Some u
     → length u < suc (length t)
 after_lead level kind t u h =
     let within : length u ≤ length t = strip_within (lead (frame level.mode kind) (inside (setting_at level)) Zero) t u h in omega (arith, within)
 
--- after an entry, what ends the block is on a line of its own
+-- after an entry, a block's ending is the start of a line and the closing
 pub ending_stripped : (level : Level) (kind : Kind) (before : Count) (t : List ℕ) → strip (ending (frame level.mode kind) (setting_at level) (next before)) t
     ≡ option_and_then (strip ((frame level.mode kind).closing (next before))) (strip (line_start (setting_at level).mode (setting_at level).depth) t)
 ending_stripped level kind before t =
@@ -30,12 +30,11 @@ ending_stripped level kind before t =
     let closing = (frame level.mode kind).closing (next before) in
     ap (λ l. strip (l ++ closing) t) (if_any-next before line) ∙ strip-append line closing t
 
--- what reads the entries of a block takes a byte
+-- what reads an entry, a pair or a field takes at least a byte
 entry_takes : (s : Setting) (n : ℕ) → Takes (entry_at s n)
 entry_takes s zero = record { takes = λ t x u h. absurd (cc) }
 entry_takes s (suc n) = read_takes (inside s) n
 
--- so do what reads an entry, a pair or a field at a level
 pub entry_of_takes : (level : Level) → Takes (entry_of level)
 entry_of_takes level = entry_takes (setting_at level) (budget_of level)
 

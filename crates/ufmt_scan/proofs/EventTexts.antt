@@ -15,7 +15,7 @@ use Rattle.ufmt_scan.specs.Scan.{TextEvent, events_of, tail_events, block_events
 use Rattle.ufmt_scan.specs.ScanTexts.{block_depth, written, setting_after, texts_written, last_setting}
 use Rattle.ufmt_scan.specs.declared.scan.event.Event.TheVariants.{Leaf, Empty}
 
--- events in a row, and more after them
+-- the text of two lists of events is that of one, and then that of the other
 pub texts_written-append : (s : Setting) (es fs : List TextEvent)
     → texts_written s (es ++ fs) ≡ texts_written s es ++ texts_written (last_setting s es) fs
 texts_written-append s [] fs = refl
@@ -26,40 +26,39 @@ pub last_setting-append : (s : Setting) (es fs : List TextEvent) → last_settin
 last_setting-append s [] fs = refl
 last_setting-append s (e ∷ es) fs = last_setting-append (setting_after s e) es fs
 
--- these events have this text, and what comes after them continues at the mode and depth at which they begin
+-- these events have this text, and those after them continue at the same mode and depth
 record AreWritten (s : Setting) (es : List TextEvent) (text : List ℕ) : Type 0 where
   pub before : (more : List TextEvent) → texts_written s (es ++ more) ≡ text ++ texts_written s more
 
--- entries of these events have these texts, each at this mode and depth
+-- entries with these events have these texts, each at this mode and depth
 abbrev EntriesAreWritten : Setting → List (List TextEvent) → List (List ℕ) → Type 0
 EntriesAreWritten i [] [] = ⊤
 EntriesAreWritten i [] (t ∷ ts) = ⊥
 EntriesAreWritten i (es ∷ ess) [] = ⊥
 EntriesAreWritten i (es ∷ ess) (t ∷ ts) = AreWritten i es t × EntriesAreWritten i ess ts
 
--- around the entries of a block is its depth, which didn't saturate
+-- the depth of a block's entries determines that of the block
 around : (mode : Mode) (k : ℕ) → k + 1 ≤ 255 → block_depth mode (entry_depth mode k) ≡ k
 around Plain k few = refl
 around Pretty k few = grind (arith, few)
 
--- what may nest in a block may do so at its entries' depth
+-- what fits in a block fits at the depth of its entries
 deeper : (mode : Mode) (k n : ℕ) → suc n + k ≤ 255 → n + entry_depth mode k ≤ 255
 deeper Plain k n few = omega (arith, few)
 deeper Pretty k n few = grind (arith, few)
 
--- a block
 module _ (mode : Mode) (k n : ℕ) (few : suc n + k ≤ 255) (kind : Kind) where
   abbrev s : Setting
   s = setting mode k
 
-  -- what comes before an entry or the end is the same after any number of entries
+  -- after an entry, a separator comes before the next one, and a line's start before the closing
   later : (count : Count) → (lead (frame mode kind) (inside s) (next count) ≡ separator mode (entry_depth mode k))
       × (ending (frame mode kind) s (next count) ≡ line_start mode k ++ (frame mode kind).closing (next count))
   later Zero = (refl, refl)
   later One = (refl, refl)
   later Several = (refl, refl)
 
-  -- what is left of it after an entry
+  -- the events that are left of a block after an entry have the text that is left
   tail_written : (count : Count) (ess : List (List TextEvent)) (ts : List (List ℕ)) (more : List TextEvent) → EntriesAreWritten (inside s) ess ts
       → texts_written (inside s) (tail_events kind (next count) ess ++ more) ≡ (trail mode ++ block_tail (frame mode kind) s (next count) ts) ++ texts_written s more
   tail_written count [] [] more h = rw (around mode k (omega arith), (later count).1) refl
@@ -67,12 +66,11 @@ module _ (mode : Mode) (k n : ℕ) (few : suc n + k ≤ 255) (kind : Kind) where
   tail_written count (es ∷ ess) [] more h = absurd h
   tail_written count (es ∷ ess) (t ∷ ts) more h = simp (append_assoc, h.0.before, tail_written (next count) ess ts more h.1, (later count).0)
 
-  -- the whole of one with entries
+  -- the events of a block with entries have its text
   block_written : (name : List ℕ) (alone : TextEvent) (ess : List (List TextEvent)) (ts : List (List ℕ)) {es : List TextEvent} {t : List ℕ}
       → EntriesAreWritten (inside s) (es ∷ ess) (t ∷ ts) → AreWritten s (block_events kind name alone (es ∷ ess)) (block kind s name (t ∷ ts))
   block_written name alone ess ts h = record { before = λ more. simp (append_assoc, h.0.before, tail_written Zero ess ts more h.1) }
 
--- a name that has no block
 name_written : {s : Setting} (name : List ℕ) → AreWritten s (Leaf name ∷ []) (name ++ [])
 name_written name = record { before = λ more. rw append-nil refl }
 
@@ -96,7 +94,7 @@ module _ (mode : Mode) where
     document_written k (tuple_of name (document d ds)) h few = block_written mode k _ few (tuple_kind name) name (Leaf name) _ _ (entries_written k (document d ds) (h.1, h.2) few)
     document_written k (pretty_part d) h few = absurd h
 
-    -- the entries of a block at this depth, its pairs and its fields
+    -- the same for the entries, pairs and fields of a block at this depth
     entries_written : (k : ℕ) (ds : Documents) → HaveTokens ds → suc (nest_all ds) + k ≤ 255
         → EntriesAreWritten (inside (setting mode k)) (events_of_entries ds) (texts (inside (setting mode k)) ds)
     entries_written k no_documents h few = tt

@@ -1,4 +1,4 @@
--- Which texts are leaves from end to end.
+-- Which whole texts are leaves.
 use Rattle.std.proofs.Common.{List, None, Some, [], ap, append-nil, arith, false, subst, sym, ℕ, ◌==◌, ◌∙◌, ◌∷◌, ◌≡◌, ◌++◌, Bool, length}
 use Rattle.std.proofs.lemmas.Bool.Decides.{nat_tests}
 use Rattle.std.specs.Prelude.{◌↔◌, IsTrue}
@@ -9,7 +9,7 @@ use Rattle.ufmt.proofs.ReadingWords.{read_word_complete, read_word_sound}
 use Rattle.ufmt.proofs.TokenLeaves.{read_symbol_complete, read_symbol_sound}
 use Rattle.ufmt_scan.proofs.DocumentParts.{word_is_read}
 
--- what is read at the front and leaves nothing is the whole
+-- a text is a leaf exactly if nothing is left after the leaf that is read at its front
 module _ {Is : List ℕ → Type 0} (read : Parse (List ℕ)) (sound : (t x u : List ℕ) → read t ≡ Some (x, u) → Is x × (t ≡ x ++ u))
     (complete : (t : List ℕ) → Is t → read t ≡ Some (t, [])) where
   leaves_nothing : (t x u : List ℕ) (answer : Bool) → read t ≡ Some (x, u) → answer ≡ (length u == 0) → IsTrue answer ↔ Is t
@@ -20,20 +20,19 @@ module _ {Is : List ℕ → Type 0} (read : Parse (List ℕ)) (sound : (t x u : 
       let some : (length (c ∷ u) == 0) ≡ false = grind (arith, nat_tests) in
       (λ h. absurd (cc), λ h. let none = (same_parts (x, c ∷ u) (t, []) (sym reads ∙ complete t h)).1 in absurd (cc))
 
--- a leaf with nothing after it
 whole_word : (t : List ℕ) → IsWord t → read_word t ≡ Some (t, [])
 whole_word t h = ap read_word (sym (append-nil t)) ∙ read_word_complete t [] h tt
 
 pub whole_symbol : (t : List ℕ) → IsSymbol t → read_symbol t ≡ Some (t, [])
 whole_symbol t h = ap read_symbol (sym (append-nil t)) ∙ read_symbol_complete t [] h
 
--- a whole text that is a word
+-- a text is a word exactly if nothing follows the word at its front
 pub word_tested : (t w u : List ℕ) (answer : Bool) → w ≡ word_of t → u ≡ after_word t → (length w == 0) ≡ false → answer ≡ (length u == 0)
     → IsTrue answer ↔ IsWord t
 word_tested t w u answer word rest some tested =
     leaves_nothing read_word read_word_sound whole_word t w u answer (word_is_read t w u word rest some) tested
 
--- a whole text that is a leaf but no word
+-- the same for a leaf that is no word
 pub symbol_tested : (t x u : List ℕ) (answer : Bool) → Some (x, u) ≡ read_symbol t → answer ≡ (length u == 0) → IsTrue answer ↔ IsSymbol t
 symbol_tested t x u answer reads tested =
     leaves_nothing read_symbol read_symbol_sound whole_symbol t x u answer (sym reads) tested

@@ -14,12 +14,11 @@ use Rattle.ufmt_scan.proofs.Scans.{document_is, stops_after, stops_in, emits_in,
 use Rattle.ufmt_scan.proofs.Stacks.{blocks_of, count_is, innermost_is}
 use Rattle.ufmt_scan.proofs.ScanTurns.{prefixed_nothing, then-then}
 
--- a field comes in a struct
 pub field_stage : {stage : Stage} → (stage ≡ FieldFirst) ⊎ (stage ≡ FieldLater) → kind_of stage ≡ Struct
 field_stage (inl is) = ap kind_of is
 field_stage (inr is) = ap kind_of is
 
--- what comes next in the innermost block, and then what follows in the others
+-- the events after a step are those left in the innermost block, and then those of the others
 onward_in : (mode : Mode) (outer : List Stage) (next : Option Stage) (t : List ℕ)
     → then_scan (after (level_at mode (length outer)) next t) (scan_ends mode outer) ≡ scan_onward mode outer next t
 onward_in mode outer None t = prefixed_nothing (scan_ends mode outer t)
@@ -30,7 +29,7 @@ onward : (mode : Mode) (outer : List Stage) (depth : ℕ) (next : Option Stage) 
     → then_scan (after (level_at mode depth) next t) (scan_ends mode outer) ≡ scan_onward mode outer next t
 onward mode outer depth next t same = rw same (onward_in mode outer next t)
 
--- what follows an entry of the innermost block
+-- the events after an entry are those left in the innermost block, and then those of the others
 follows_is : (mode : Mode) (open_blocks outer : List Stage) (stage : Stage) (depth : ℕ) (t : List ℕ) → open_blocks ≡ stage ∷ outer → depth ≡ length outer
     → scan_ends mode open_blocks t ≡ then_scan (scan_stage (level_at mode depth) stage t) (scan_ends mode outer)
 follows_is mode open_blocks outer stage depth t is same = rw (is, same) refl
@@ -44,7 +43,7 @@ after_name : (mode : Mode) (open_blocks outer : List Stage) (stage : Stage) (t :
     → then_scan (scan_turn (entries (level_at mode (length outer))) t) (scan_ends mode open_blocks) ≡ scan_begun mode open_blocks t
 after_name mode open_blocks outer stage t is = rw is refl
 
--- where a document begins, it is read at the level of its blocks
+-- a document is read at the level of its open blocks
 document_in : (mode : Mode) (open_blocks : List Stage) (depth : ℕ) (t : List ℕ) → depth ≡ length open_blocks → depth < 256
     → scan_begun mode open_blocks t
     ≡ then_scan (parse_map events_of (read (setting_at (level_at mode depth)) (budget_of (level_at mode depth)) t)) (scan_ends mode open_blocks)
@@ -62,7 +61,7 @@ module _ (mode : Mode) (outer : List Stage) (whole : length outer ≡ 256) (coun
   deep : count ≡ length blocks
   deep = sym (count_is outer whole count stage (omega (arith, few)))
 
-  -- the events of a document that begins in them
+  -- the events of a document that begins in these blocks
   abbrev begun : Parse (List TextEvent)
   begun t = parse_map events_of (read (setting_at (level_at mode count)) (budget_of (level_at mode count)) t)
 
@@ -95,7 +94,7 @@ module _ (mode : Mode) (outer : List Stage) (whole : length outer ≡ 256) (coun
         → Stops took stopped a c there why
     ended_none t first stop = stops_after first (stops_in _ (follows_is mode blocks (around outer depth) stage depth t innermost around_deep) stop)
 
-    -- so is a field's name, where the innermost block is a struct
+    -- a field's name is a step, if the innermost block is a struct
     module _ (struct : kind_of stage ≡ Struct) where
       abbrev level : Level
       level = level_at mode (length (around outer depth))

@@ -1,4 +1,4 @@
--- A leaf in quotes is split off the front of a text exactly where one is there.
+-- A leaf in quotes is split off the front of a text exactly if one is there.
 use Rattle.std.proofs.Common.{◌≡◌, inl, inr, refl, sym, ap, subst, ◌∙◌, ℕ, ◌+◌, ◌-◌, ◌<◌, ◌≤◌, ◌==◌, ◌&&◌, Bool, true, false, List, [], ◌∷◌, ◌++◌, length, take, drop, Option, Some, None, encode_utf8, encode_utf8_all, suc, cond, append-nil, append_assoc, length-append, arith}
 use lib.Utf8.{encode, next}
 use Rattle.std.specs.Prelude.{◌≢◌, ◌/◌, is_none, nat_lt, unwrap_or}
@@ -39,7 +39,6 @@ quotes t leaf rest (inl text) h =
 quotes t leaf rest (inr char) h =
     record { q = 39; quote = inr refl; cs = char.0 ∷ []; scalars = rw char.1 refl; one = λ e. omega arith; rest = rest; front = h ∙ ap (λ l. l ++ rest) char.2 }
 
--- where none is, none is read
 pub none_read : (t : List ℕ) → (Quotes t → ⊥) → None ≡ read_quoted t
 none_read t none = go (read_quoted t) refl
   where
@@ -47,13 +46,13 @@ none_read t none = go (read_quoted t) refl
     go None e = refl
     go (Some x) e = let found = read_quoted-sound t x.0 x.1 e in absurd (none (quotes t x.0 x.1 found.0 found.1))
 
--- one character, of a list that has one
+-- a text in apostrophes is a leaf in quotes if it has one character
 one_quoted : (leaf cs : List ℕ) → all_scalars cs ≡ true → IsOneCharacter leaf true → leaf ≡ quoted 39 cs → IsQuoted leaf
 one_quoted leaf [] scalars one is = let no = one.one [] scalars is in absurd (cc)
 one_quoted leaf (c ∷ []) scalars one is = inr (c, grind arith, is)
 one_quoted leaf (c ∷ d ∷ cs) scalars one is = let no = one.one (c ∷ d ∷ cs) scalars is in absurd (grind (arith, nat_tests))
 
--- after an opening quote
+-- a text that begins with this byte
 module _ (t inside : List ℕ) (q : ℕ) (opens : t ≡ q ∷ inside) where
   by_bytes : (l : Quotes t) → (l.q ≡ q) × (inside ≡ escaped_bytes q (encode_utf8_all l.cs) ++ (q ∷ l.rest))
   by_bytes l =
@@ -69,7 +68,7 @@ module _ (t inside : List ℕ) (q : ℕ) (opens : t ≡ q ∷ inside) where
   pub not_closed : NeverCloses q inside → None ≡ read_quoted t
   not_closed never = none_read t (λ l. never.never (encode_utf8_all l.cs) l.rest (by_bytes l).1)
 
-  -- up to a closing one
+  -- the same, if `q` is a quote that closes before `rest`
   module _ (rest : List ℕ) (closes : Closes q inside rest) where
     abbrev written : List ℕ → List ℕ
     written bytes = q ∷ (escaped_bytes q bytes ++ (q ∷ []))
@@ -86,7 +85,7 @@ module _ (t inside : List ℕ) (q : ℕ) (opens : t ≡ q ∷ inside) where
           let far : length t - length rest ≡ length (written closes.bytes) = omega (arith, ap length whole, length-append (written closes.bytes) rest) in
           front ∙ rw far (ap (take (length (written closes.bytes))) whole ∙ take-append_seam (written closes.bytes) rest)
 
-      -- any leaf at the front is this one
+      -- any leaf in quotes at the front is this one
       only : (l : Quotes t) → leaf ≡ quoted q l.cs
       only l =
           let bytes = same_bytes q closes.is_quote closes.bytes (encode_utf8_all l.cs) (q ∷ rest) (q ∷ l.rest) (quote_ends q closes.is_quote rest) (quote_ends q closes.is_quote l.rest)
@@ -113,7 +112,7 @@ module _ (t inside : List ℕ) (q : ℕ) (opens : t ≡ q ∷ inside) where
           ] in
           ap (λ x. Some (x, rest)) same ∙ sym (ap read_quoted (whole ∙ ap (λ l. l ++ rest) (sym leaf_is)) ∙ read_quoted-complete leaf rest token)
 
--- the first byte that a character is written as says how many follow it
+-- the first byte of a character as it is written determines how many bytes follow
 abbrev Led : ℕ → Type 0
 Led c = (b : ℕ) × (more : List ℕ) × (escaped 39 c ≡ escaped_byte 39 b ++ more) × (length more ≡ continuation_len b)
 
@@ -133,7 +132,7 @@ lead c = go (nat_lt c 128) refl (nat_lt c 2048) refl (nat_lt c 65536) refl
     go false one false two false three =
         past_ascii c (240 + c / 262144) (next (c / 4096) ∷ next (c / 64) ∷ next c ∷ []) (grind (arith, nat_tests)) (omega arith) (rw (one, two, three) refl) (grind (arith, nat_tests))
 
--- so what follows it says whether there is one character
+-- so the length of what follows determines whether there is one character
 module _ (leaf inside : List ℕ) (x : ℕ) (opens : leaf ≡ x ∷ inside) where
   led : (c : ℕ) (cs : List ℕ) → leaf ≡ quoted 39 (c ∷ cs) → inside ≡ escaped_byte 39 (lead c).0 ++ ((lead c).1 ++ (escaped_all 39 cs ++ (39 ∷ [])))
   led c cs is =
@@ -177,7 +176,7 @@ plain_front (c ∷ t) = go (is_marked PLAIN_ASCII c) (marks PLAIN_ASCII (λ n. i
         (rw itself (ap (λ v. c ∷ v) more.0), IsAscii-cons c (take (marked_len PLAIN_ASCII t) t) (grind (arith, nat_tests)) more.1)
     go false is more = (refl, IsAscii-nil)
 
--- so what is up to a closing quotation mark is a leaf
+-- so marked bytes between quotation marks are a leaf
 module _ (t u end rest leaf : List ℕ) (opening : Some u ≡ strip (34 ∷ []) t) (past : end ≡ drop (marked_len PLAIN_ASCII u) u) (closing : Some rest ≡ strip (34 ∷ []) end)
     (front : leaf ≡ take (length t - length rest) t) where
   opens : t ≡ 34 ∷ u
@@ -196,5 +195,5 @@ module _ (t u end rest leaf : List ℕ) (opening : Some u ≡ strip (34 ∷ []) 
   pub plain_read : (text : List ℕ) → text ≡ leaf → read_quoted t ≡ Some (text, rest)
   plain_read text same = sym (is_read t u 34 opens rest closes leaf front text same (IsUtf8-from_ascii leaf plain_ascii) (λ no. absurd (omega (arith, no))))
 
--- what the functions that split leaves need
+-- what the proof of `split_any` cites
 pub ruleset any_leaf = (none_read, no_quote, not_closed, no_character, rest_within)

@@ -1,4 +1,4 @@
--- The events of entries, one after another, make up those of the block that they are read as.
+-- The events of a block are made up of those of its entries.
 use Rattle.std.proofs.Common.{◌≡◌, refl, ap, ◌∙◌, sym, ℕ, List, [], ◌∷◌, ◌++◌, append_assoc, map, Option, Some, None, option_map, option_and_then}
 use Rattle.ufmt.specs.Document.{Document}
 use Rattle.ufmt.specs.Layout.{ending, frame, inside, next, separator, trail}
@@ -15,7 +15,6 @@ use Rattle.ufmt_scan.specs.Private.Scanning.{Scanned, Turn, prefixed, scan_rest,
 use Rattle.ufmt_scan.specs.Private.Level.{setting_at}
 use Rattle.ufmt_scan.specs.declared.level.Level.{Level}
 
--- events before events
 pub prefixed_twice : (es fs : List TextEvent) (o : Scanned) → prefixed es (prefixed fs o) ≡ prefixed (es ++ fs) o
 prefixed_twice es fs None = refl
 prefixed_twice es fs (Some x) = ap (λ more. Some (more, x.1)) (sym (append_assoc es fs x.0))
@@ -24,7 +23,7 @@ pub prefixed_nothing : (o : Scanned) → prefixed [] o ≡ o
 prefixed_nothing None = refl
 prefixed_nothing (Some x) = refl
 
--- and before the events of what is left
+-- events and scans in a row may be grouped in any way
 pub then-prefixed : (es : List TextEvent) (o : Scanned) (more : Parse (List TextEvent)) → then_scan (prefixed es o) more ≡ prefixed es (then_scan o more)
 then-prefixed es None more = refl
 then-prefixed es (Some x) more = sym (prefixed_twice es x.0 (more x.1))
@@ -34,7 +33,7 @@ then-then None more last = refl
 then-then (Some x) more last = then-prefixed x.0 (more x.1) last
 
 module _ (turn : Turn) (level : Level) (kind : Kind) where
-  -- the events of a block from its first entry on, where the block has what opens it, that entry's and what follows
+  -- the events of a block from its first entry on: the opening, those of that entry, and those that follow
   pub block_scans : (make : List turn.Entry → Document) (front : TextEvent)
       → ((x : turn.Entry) (xs : List turn.Entry) → events_of (make (x ∷ xs)) ≡ front ∷ (turn.events x ++ tail_events kind One (map turn.events xs)))
       → (o : Option (turn.Entry × List ℕ))
@@ -57,12 +56,12 @@ module _ (turn : Turn) (level : Level) (kind : Kind) where
       by_trail None = refl
       by_trail (Some u) = made (read_on u)
 
-  -- another entry, where one begins, or the end of the block
+  -- the events after an entry: the next entry's, if one begins, or the end of the block
   abbrev pub go_on : Count → Option (List ℕ) → Option (List ℕ) → Scanned
   go_on before (Some v) end = prefixed (Next ∷ []) (then_scan (scan_turn turn v) (scan_rest turn level kind Several))
   go_on before None end = option_map (λ v. (Close kind (next before) ∷ [], v)) end
 
-  -- what follows an entry decides: the next one comes, or the block ends, or there are no events
+  -- after an entry, the next one comes, or the block ends, or the text can't be scanned
   pub follows_scans : (before : Count) (t : List ℕ) → Takes turn.read → scan_rest turn level kind (next before) t
       ≡ option_and_then (λ u. go_on before (strip (separator level.mode (inside (setting_at level)).depth) u)
       (strip (ending (frame level.mode kind) (setting_at level) (next before)) u)) (strip (trail level.mode) t)

@@ -1,4 +1,4 @@
--- A whole text: what the scan of a document at its front says of it.
+-- What the scan of a document at the front of a text says of the whole text.
 use Rattle.std.proofs.Common.{◌≡◌, refl, ap, subst, sym, ◌∙◌, ℕ, ◌==◌, true, false, List, [], ◌∷◌, ◌++◌, append-nil, eqb-true, length, Option, Some, None, option_and_then, Result, Ok, Err, IsErrAnd, Bor, arith}
 use Rattle.std.specs.Prelude.{⊤}
 use Rattle.ufmt.specs.Document.{Document}
@@ -13,7 +13,7 @@ use Rattle.ufmt_scan.specs.Private.Scanning.{ScansOn, Stops, Emits, Scanned, pre
 use Rattle.ufmt_scan.specs.Scan.{TextEvent, Leads, ScanRefused, Scans, events_of}
 use Rattle.ufmt_scan.specs.Texts.{IsNormalForm, IsNoText}
 
--- where there are no events there is no document
+-- if there are no events, there is no document
 none_is_whole : (o : Option (Document × List ℕ)) → parse_map events_of o ≡ None → option_and_then (λ x. if_all x.0 x.1) o ≡ None
 none_is_whole None h = refl
 none_is_whole (Some x) h = absurd (cc)
@@ -22,7 +22,7 @@ if_all_is : (x d : Document) (t : List ℕ) → if_all x t ≡ Some d → x ≡ 
 if_all_is x d [] is = cc
 if_all_is x d (c ∷ t) is = absurd (cc)
 
--- the events so far come first of all events of the document
+-- the events of the document begin with the events so far
 leads_whole : (o : Option (Document × List ℕ)) (es : List TextEvent) (left : Scanned) → parse_map events_of o ≡ prefixed es left
     → (d : Document) → option_and_then (λ x. if_all x.0 x.1) o ≡ Some d → Leads es (events_of d)
 leads_whole None es left is d whole = absurd (cc)
@@ -30,7 +30,7 @@ leads_whole (Some x) es None is d whole = absurd (cc)
 leads_whole (Some x) es (Some y) is d whole =
     (y.0, ap events_of (sym (if_all_is x.0 d x.1 whole)) ∙ (same_parts {A = List TextEvent} {B = List ℕ} (events_of x.0, x.1) (es ++ y.0, y.1) is).0)
 
--- a document in normal form is read of its text
+-- a document in normal form is read from its text
 form_is_read : (mode : Mode) (t : List ℕ) (d : Document) → IsNormalForm (layout (setting mode 0)) t d → read_text mode t ≡ Some d
 form_is_read mode t d form = ap (read_text mode) (sym form.2) ∙ reads_each_text mode d form.0 ∙ ap Some form.1
 
@@ -40,7 +40,7 @@ abbrev pub Front : {S E : Type 0} → (S → List TextEvent → S → Type 0) �
 Front took stopped mode t old answer new = ScansOn took stopped answer old new (parse_map events_of (read (setting mode 0) 255 t)) (λ rest. Some ([], rest.now))
 
 module _ {S : Type 0} (took stopped : S → List TextEvent → S → Type 0) (mode : Mode) (t : List ℕ) {a b : S} (begun : took a [] a) where
-  -- a scan that ended early, of the whole text
+  -- a scan that ended early, seen as a scan of the whole text
   pub whole_refused : {E : Type 0} (why : ScanError E) → Stops took stopped a b (parse_map events_of (read (setting mode 0) 255 t)) why
       → ScanRefused took stopped a b (layout (setting mode 0)) t why
   whole_refused NotText h =
@@ -49,7 +49,7 @@ module _ {S : Type 0} (took stopped : S → List TextEvent → S → Type 0) (mo
   whole_refused (Sink e) h =
       (h.emits.events, h.emits.takes a [] begun, λ d form. leads_whole _ h.emits.events h.left h.emits.is d (form_is_read mode t d form))
 
-  -- a scan that came to the end, or to more than the end
+  -- a scan that came to the end of the text, and one that left a rest
   pub whole_scanned : (rest : List ℕ) → Emits took took a b (parse_map events_of (read (setting mode 0) 255 t)) (Some ([], rest))
       → (length rest == 0) ≡ true → (d : Document) × IsNormalForm (layout (setting mode 0)) t d × took a (events_of d) b
   whole_scanned (c ∷ rest) h ended = let none = eqb-true (length (c ∷ rest)) 0 ended in absurd (omega arith)
@@ -65,7 +65,7 @@ module _ {S : Type 0} (took stopped : S → List TextEvent → S → Type 0) (mo
       let read_as = mapped_from events_of (read (setting mode 0) 255 t) (h.events ++ []) (c ∷ rest) h.is in
       (h.events, h.takes a [] begun, refuses_no_text mode t (ap (option_and_then (λ x. if_all x.0 x.1)) read_as.1))
 
--- the scan of the whole hands on why that of its front ended
+-- the scan of the whole text fails with the error of the scan of its front
 pub whole_ended : {S E : Type 0} (took stopped : S → List TextEvent → S → Type 0) (mode : Mode) (t : List ℕ) (a b : S) → took a [] a
     → (front : Result (Bor (List ℕ)) (ScanError E)) (why : ScanError E) (answer : Result (⊤) (ScanError E)) → front ≡ Err why → IsErrAnd answer (λ y. y ≡ why)
     → Front took stopped mode t a front b → Scans took stopped answer a b (layout (setting mode 0)) t

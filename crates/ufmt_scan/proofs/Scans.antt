@@ -15,7 +15,6 @@ use Rattle.ufmt_scan.specs.Scan.{TextEvent, events_of}
 use Rattle.ufmt_scan.proofs.ScanTurns.{prefixed_twice, then-prefixed}
 
 module _ {S : Type 0} {took kept : S → List TextEvent → S → Type 0} {a b : S} {there mid : Scanned} where
-  -- two steps are one
   pub emits_then : {c : S} {left : Scanned} → Emits took took a b there mid → Emits took kept b c mid left → Emits took kept a c there left
   emits_then {c} {left} first more = record {
     events = first.events ++ more.events;
@@ -24,23 +23,21 @@ module _ {S : Type 0} {took kept : S → List TextEvent → S → Type 0} {a b :
     is = first.is ∙ ap (prefixed first.events) more.is ∙ prefixed_twice first.events more.events left;
   }
 
-  -- what is left is this
   pub emits_left : {left : Scanned} → Emits took kept a b there mid → mid ≡ left → Emits took kept a b there left
   emits_left step same = record { events = step.events; takes = step.takes; is = step.is ∙ ap (prefixed step.events) same }
 
--- a scan that ends after some steps
 pub stops_after : {S E : Type 0} {took stopped : S → List TextEvent → S → Type 0} {a b c : S} {there mid : Scanned} {why : ScanError E} → Emits took took a b there mid
     → Stops took stopped b c mid why → Stops took stopped a c there why
 stops_after first more = record { left = more.left; emits = emits_then first more.emits; none = more.none }
 
--- the same of the result of a call that passes the error on
+-- the same for the result of a call that passes the error on
 pub refused : {S A E : Type 0} {took stopped : S → List TextEvent → S → Type 0} {a b : S} {there : Scanned} (left : A
     → Scanned) {why : ScanError E} (answer : Result A (ScanError E))
     → IsErrAnd answer (λ y. y ≡ why) → Stops took stopped a b there why → ScansOn took stopped answer a b there left
 refused left (Ok x) is h = absurd is
 refused left (Err y) is h = rw is h
 
--- where nothing is there, a scan ends
+-- a scan ends if it can't read what is there
 pub nothing_there : {S E : Type 0} {took stopped : S → List TextEvent → S → Type 0} (a : S) {there : Scanned} → there ≡ None → Stops {E = E} took stopped a a there NotText
 nothing_there {took = took} a none = record {
   left = None;
@@ -48,12 +45,12 @@ nothing_there {took = took} a none = record {
   none = λ e. refl;
 }
 
--- or where nothing is left
+-- a scan ends if it can't read what is left
 pub nothing_left : {S E : Type 0} {took stopped : S → List TextEvent → S → Type 0} {a b : S} {there left : Scanned} → Emits took took a b there left → left ≡ None
     → Stops {E = E} took stopped a b there NotText
 nothing_left {left = left} h none = record { left = left; emits = h; none = λ e. none }
 
--- a step of the beginning is one of all that is there
+-- a step of the beginning of a text is a step of the whole
 pub emits_in : {S : Type 0} {took kept : S → List TextEvent → S → Type 0} {a b : S} {there left whole after : Scanned} (more : Parse (List TextEvent))
     → whole ≡ then_scan there more → then_scan left more ≡ after → Emits took kept a b there left → Emits took kept a b whole after
 emits_in {left = left} more is on h = record {
@@ -62,7 +59,7 @@ emits_in {left = left} more is on h = record {
   is = is ∙ ap (λ o. then_scan o more) h.is ∙ then-prefixed h.events left more ∙ ap (prefixed h.events) on;
 }
 
--- and so is its failure
+-- the same for a step that ends the scan
 pub stops_in : {S E : Type 0} {took stopped : S → List TextEvent → S → Type 0} {a b : S} {there whole : Scanned} {why : ScanError E} (more : Parse (List TextEvent))
     → whole ≡ then_scan there more → Stops took stopped a b there why → Stops took stopped a b whole why
 stops_in more is h = record { left = then_scan h.left more; emits = emits_in more is refl h.emits; none = λ e. ap (λ o. then_scan o more) (h.none e) }
@@ -82,7 +79,7 @@ document_is mode (suc k) t few =
     ap (λ n. parse_map events_of (entry_at (setting_at (level_at mode k)) n t)) left ∙ ap (λ s. parse_map events_of (read s (255 - suc k) t)) (setting_inside mode k
     (omega arith))
 
--- in the 256th block no entry begins
+-- no entry begins in the 256th block
 no_entry : (kind : Kind) (mode : Mode) (t : List ℕ) → coming_of kind (level_at mode 255) t ≡ None
 no_entry Brackets mode t = refl
 no_entry Braces mode t = refl

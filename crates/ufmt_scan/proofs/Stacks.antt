@@ -9,13 +9,13 @@ abbrev pub blocks_of : ℕ → Stage → OpenBlocks
 blocks_of count innermost = record { count = count; innermost = innermost }
 
 module _ (outer : List Stage) (whole : length outer ≡ 256) where
-  -- they are as many as are counted
+  -- there are as many stages as the count
   pub count_is : (count : ℕ) (stage : Stage) → count ≤ 256 → length (open_stages (blocks_of count stage) outer) ≡ count
   count_is count stage few =
       let around : length (reverse (take count outer)) ≡ count = length-reverse (take count outer) ∙ length-take-le count outer (omega (arith, whole, few)) in
       length-take-le count (stage ∷ reverse (take count outer)) (omega (arith, around))
 
-  -- the innermost, and those around it
+  -- they are the innermost block's, and those of the blocks around it
   pub innermost_is : (count depth : ℕ) (stage d : Stage) → count ≡ depth + 1 → count ≤ 256
       → open_stages (blocks_of count stage) outer ≡ stage ∷ open_stages (blocks_of depth (get_or outer depth d)) outer
   innermost_is count depth stage d is few =
@@ -26,7 +26,7 @@ module _ (outer : List Stage) (whole : length outer ≡ 256) where
       (get_or outer depth d ∷ []) in
       rw (more, around) refl
 
-  -- one more, where the array has the stage of the one around it
+  -- the same with one block more, if the array has the stage of the block around it
   pub one_more : (count depth : ℕ) (stage inner : Stage) → count ≡ depth + 1 → count ≤ 256
       → open_stages (blocks_of count inner) (set outer depth stage) ≡ inner ∷ open_stages (blocks_of depth stage) outer
   one_more count depth stage inner is few =

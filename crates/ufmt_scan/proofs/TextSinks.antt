@@ -1,4 +1,4 @@
--- A sink that lays events out writes the other text of the document whose events it takes.
+-- A sink that lays out the events of a document writes the document's other text.
 use Rattle.std.proofs.Common.{◌≡◌, ◌∙◌, sym, subst, ℕ, Bool, true, false, List, [], ◌∷◌, ◌++◌, append-nil, Result, Ok, Err, arith}
 use Rattle.std.specs.Borrow.{MutBor}
 use Rattle.std.specs.Prelude.{⊤}
@@ -20,7 +20,7 @@ use Rattle.ufmt_scan.specs.ScanTexts.{written, setting_after, texts_written}
 use Rattle.ufmt_scan.specs.Texts.{ConvertsTo, IsConverted, IsNormalForm}
 use Rattle.ufmt_scan.proofs.EventTexts.{last_setting-append, texts_written-append, events_written}
 
--- two token documents that have one text in a mode have one text in the other
+-- two token documents with the same text in one mode have the same text in the other
 modes_agree : (from to : Mode) (d e : Document) → IsToken d → IsToken e → layout (setting from 0) d ≡ layout (setting from 0) e
     → layout (setting to 0) d ≡ layout (setting to 0) e
 modes_agree Plain Plain d e hd he same = same
@@ -35,7 +35,7 @@ module _ (from to : Mode) (input : List ℕ) where
   abbrev IsOther : List ℕ → Type 0
   IsOther text = IsConverted (layout (setting from 0)) (layout (setting to 0)) input text
 
-  -- the text of the events of the document that has the input is what that is converted to, and all that it is converted to
+  -- the input is converted to the text of the events of its document, and to no other text
   read_is : (d : Document) → IsNormalForm (layout (setting from 0)) input d → IsOther (written_of to d) × ((text : List ℕ) → IsOther text → written_of to d ≡ text)
   read_is d form =
       let whole = events_written to 0 d form.0.0 (omega (arith, form.0.1)) in (
@@ -44,7 +44,7 @@ module _ (from to : Mode) (input : List ℕ) where
       )
 
 module _ {W : Type 0} {p : ℕ} (seen : Seen W) where
-  -- an event after events
+  -- a sink that wrote events and then one more wrote them all
   event_after : (start old new : TextSink W p) (es : List TextEvent) (e : TextEvent) (ok : Bool) → Wrote seen true start es old
       → Writes seen old.writer.now (written old.setting e) ok new.writer.now → new.setting ≡ setting_after old.setting e → new.writer.ghost_name ≡ old.writer.ghost_name
       → Wrote seen ok start (es ++ e ∷ []) new
@@ -54,7 +54,7 @@ module _ {W : Type 0} {p : ℕ} (seen : Seen W) where
     same_writer = same ∙ before.same_writer;
   }
 
-  -- so it is a lawful sink
+  -- the sink takes an event as `Sink` asks
   pub takes_event : (old new : TextSink W p) (e : TextEvent) (ok : Bool) → Writes seen old.writer.now (written old.setting e) ok new.writer.now
       → new.setting ≡ setting_after old.setting e → new.writer.ghost_name ≡ old.writer.ghost_name → TakesEvent (Wrote seen true) (Wrote seen false) old e ok new
   takes_event old new e true writes continues same = λ start es before. event_after start old new es e true before writes continues same

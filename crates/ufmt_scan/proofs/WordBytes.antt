@@ -10,7 +10,7 @@ use Rattle.ufmt.specs.Token.{is_word_byte, AreWordBytes}
 use Rattle.ufmt_scan.specs.Private.MarkedBytes.{is_marked, marked_len}
 use Rattle.ufmt_scan.specs.declared.leaf.TheConstants.{WORD_BYTES}
 
--- a table marks what passes a test, if it does so for each byte and nothing else passes
+-- a table marks what passes a test, if it does so for each byte, and nothing past 255 passes
 pub marks : (table : List ℕ) (test : ℕ → Bool) → length table ≡ 256 → agree_below (is_marked table) test 256 ≡ true → ((c : ℕ) → 256 ≤ c → test c ≡ false)
     → (c : ℕ) → is_marked table c ≡ test c
 marks table test size agree past c = go (cases_lt c 256)
@@ -19,7 +19,6 @@ marks table test size agree past c = go (cases_lt c 256)
     go (inl low) = agree_below_at (is_marked table) test 256 c agree low
     go (inr high) = ap (λ b. b == 119) (get_or_past table c 0 (omega (arith, size))) ∙ sym (past c high)
 
--- bytes of a word are ASCII
 pub word_bytes_are_ascii : (w : List ℕ) → AreWordBytes w → IsAscii w
 word_bytes_are_ascii [] h = IsAscii-nil
 word_bytes_are_ascii (c ∷ w) h = let first = h.0 in IsAscii-cons c w (grind (arith, nat_tests)) (word_bytes_are_ascii w h.1)

@@ -9,7 +9,7 @@ use Rattle.ufmt_scan.specs.Scan.{events_of}
 use Rattle.ufmt_scan.specs.ScanTexts.{texts_written}
 use Rattle.ufmt_scan.specs.declared.scan.event.Event.TheVariants.{Leaf, Empty, Open, FieldName, Colon, Next, Close}
 
--- a struct with a list, in which a map from a word to an empty set is, and a tuple of one word
+-- a struct with two fields: a list of a word and a map from a word to an empty set, and a tuple of one word
 abbrev worked : Document
 worked = struct_of (codes "S") (field (codes "l") (list_of (document (leaf (codes "a"))
     (document (map_of (pair (leaf (codes "N")) (set_of no_documents) no_pairs)) no_documents)))

@@ -1,4 +1,4 @@
--- What the steps of the scanner and of conversions are held to. No public contract names any of it: the steps add up to the public ones, and that is proved.
+-- What the steps of the scanner and of conversions promise. No public contract names any of it: the public contracts are proved from it.
 pub mod Growing
 pub mod Level
 pub mod MarkedBytes

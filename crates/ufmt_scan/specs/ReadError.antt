@@ -1,4 +1,4 @@
--- The codes of a reader's errors.
+-- A reader's error: its code, and how it comes from a scan's error.
 use Rattle.std.specs.Prelude.{ℕ}
 use Rattle.ufmt_scan.specs.declared.error.ReadError.{ReadError}
 use Rattle.ufmt_scan.specs.declared.error.ReadError.TheVariants.{NotText, OutOfMemory}
@@ -9,7 +9,7 @@ abbrev pub code_of : ReadError → ℕ
 code_of NotText = 1
 code_of OutOfMemory = 2
 
--- the error of a reader or a conversion whose sink makes its answer in memory
+-- the error of a reader or a conversion, by the error of its scan
 abbrev pub error_of : {E : Type 0} → ScanError E → ReadError
 error_of errors.NotText = NotText
 error_of (errors.Sink e) = OutOfMemory

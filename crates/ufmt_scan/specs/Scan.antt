@@ -1,4 +1,4 @@
--- The events of a document, as a scanner emits them to a sink, and what a sink is held to.
+-- The events of a document, and what sinks and scans promise.
 use Rattle.std.specs.Prelude.{◌≡◌, ℕ, Bool, true, false, List, [], ◌∷◌, ◌++◌, Result, MatchResult, ⊤}
 use Rattle.std.specs.Borrow.{Bor}
 use Rattle.ufmt.specs.Document.{Document, leaf, joined, list_of, set_of, map_of, struct_of, tuple_of, pretty_part, Documents, no_documents, document, Pairs, no_pairs, pair, Fields, no_fields, field}
@@ -17,7 +17,7 @@ use Rattle.ufmt_scan.specs.declared.scan.event.Event.TheVariants.{Leaf, Empty, O
 abbrev pub TextEvent : Type 0
 TextEvent = Event (List ℕ)
 
--- the same of a text that is lent
+-- an event that lends its text, with the bytes of the text
 abbrev pub event_now : Event (Bor (List ℕ)) → TextEvent
 event_now (Leaf text) = Leaf text.now
 event_now (Empty kind) = Empty kind
@@ -27,12 +27,12 @@ event_now Colon = Colon
 event_now Next = Next
 event_now (Close kind count) = Close kind count
 
--- the events of a block of this kind after so many entries, where these are the events of each further one
+-- the events of a block of this kind after this many entries: those of each further entry, and the end
 abbrev pub tail_events : Kind → Count → List (List TextEvent) → List TextEvent
 tail_events kind count [] = Close kind count ∷ []
 tail_events kind count (es ∷ more) = Next ∷ (es ++ tail_events kind (next count) more)
 
--- of a block with this name: without entries it is one event
+-- the events of a block with this name: `alone`, if it has no entries
 abbrev pub block_events : Kind → List ℕ → TextEvent → List (List TextEvent) → List TextEvent
 block_events kind name alone [] = alone ∷ []
 block_events kind name alone (es ∷ more) = Open kind name ∷ (es ++ tail_events kind One more)
@@ -61,23 +61,23 @@ abbrev mutual
   events_of_fields no_fields = []
   events_of_fields (field name value fs) = (FieldName name ∷ events_of value) ∷ events_of_fields fs
 
--- these events come first of those
+-- the second list of events begins with the first
 abbrev pub Leads : List TextEvent → List TextEvent → Type 0
 Leads es whole = (more : List TextEvent) × (whole ≡ es ++ more)
 
--- what a sink is held to: where it took some events since it began, it took this one after them, or stopped at it
+-- what a sink promises: if it took some events since it began, it then took this one too, or stopped at it
 module _ {S : Type 0} (took stopped : S → List TextEvent → S → Type 0) where
   abbrev pub TakesEvent : S → TextEvent → Bool → S → Type 0
   TakesEvent old e true new = (start : S) (es : List TextEvent) → took start es old → took start (es ++ e ∷ []) new
   TakesEvent old e false new = (start : S) (es : List TextEvent) → took start es old → stopped start (es ++ e ∷ []) new
 
-  -- a scan that fails: no token document has the text, and the sink took some events; or it stopped at an event of the document that has it
+  -- a failed scan: the sink took some events, and no token document has the text; or it stopped at the last, and these come first in each document with the text
   abbrev pub ScanRefused : {E : Type 0} → S → S → (Document → List ℕ) → List ℕ → ScanError E → Type 0
   ScanRefused old new text_of input NotText = (es : List TextEvent) × took old es new × IsNoText text_of input
   ScanRefused old new text_of input (Sink e) = (es : List TextEvent) × stopped old es new
       × ((d : Document) → IsNormalForm text_of input d → Leads es (events_of d))
 
-  -- a scan: the sink took the events of the token document in normal form that has the text; or it fails
+  -- a scan: the sink took the events of the token document in normal form that has the text; or the scan fails
   abbrev pub Scans : {E : Type 0} → Result (⊤) (ScanError E) → S → S → (Document → List ℕ) → List ℕ → Type 0
   Scans answer old new text_of input =
       MatchResult answer (λ x. (d : Document) × IsNormalForm text_of input d × took old (events_of d) new) (ScanRefused old new text_of input)

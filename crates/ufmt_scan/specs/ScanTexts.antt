@@ -1,4 +1,4 @@
--- What a sink writes that lays a text out, event by event.
+-- The text of each event, as a sink that lays a text out writes it.
 use Rattle.std.specs.Prelude.{ℕ, ◌-◌, List, [], ◌∷◌, ◌++◌, codes}
 use Rattle.ufmt.specs.Layout.{frame, setting, inside, separator, trail, lead, line_start}
 use Rattle.ufmt_core.specs.declared.layout.Count.TheVariants.{Zero}
@@ -17,7 +17,7 @@ block_depth Pretty k = k - 1
 abbrev pub outside : Setting → Setting
 outside s = setting s.mode (block_depth s.mode s.depth)
 
--- the text of an event, where a text continues at this mode and depth
+-- the text of an event at this mode and depth
 abbrev pub written : Setting → TextEvent → List ℕ
 written s (Leaf text) = text
 written s (Empty kind) = (frame s.mode kind).opening ++ (frame s.mode kind).closing Zero
@@ -27,7 +27,7 @@ written s Colon = codes ": "
 written s Next = trail s.mode ++ separator s.mode s.depth
 written s (Close kind count) = trail s.mode ++ (line_start s.mode (outside s).depth ++ (frame s.mode kind).closing count)
 
--- the mode and depth at which it continues after that
+-- the mode and depth after an event
 abbrev pub setting_after : Setting → TextEvent → Setting
 setting_after s (Open kind name) = inside s
 setting_after s (Close kind count) = outside s
@@ -38,7 +38,7 @@ abbrev pub texts_written : Setting → List TextEvent → List ℕ
 texts_written s [] = []
 texts_written s (e ∷ es) = written s e ++ texts_written (setting_after s e) es
 
--- the mode and depth after the last of them
+-- the mode and depth after these events
 abbrev pub last_setting : Setting → List TextEvent → Setting
 last_setting s [] = s
 last_setting s (e ∷ es) = last_setting (setting_after s e) es

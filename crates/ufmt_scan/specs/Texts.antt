@@ -1,4 +1,4 @@
--- What readers promise: of the documents with a text, or of a text that no document has.
+-- What readers and conversions promise.
 use Rattle.std.specs.Prelude.{◌≡◌, ◌≢◌, List, ℕ, Bool, Result, String, IfOk, IsOk, IsErrOf, is_ok, length, string_bytes, ⊤}
 use Rattle.ufmt.specs.Buffer.{Fronts}
 use Rattle.ufmt.specs.Document.{Document}
@@ -17,7 +17,7 @@ IsNormalForm text_of input d = IsToken d × (normal d ≡ d) × (text_of d ≡ i
 abbrev pub IsNoText : (Document → List ℕ) → List ℕ → Type 0
 IsNoText text_of input = (d : Document) → IsToken d → text_of d ≢ input
 
--- what a text is converted to: some token document has the text, and each that has it has the answer as its other text
+-- the input is converted to the answer: some token document has the input as its text, and each such document has the answer as its other text
 pub record IsConverted (from to : Document → List ℕ) (input answer : List ℕ) : Type 0 where
   pub some : (d : Document) × IsToken d × (from d ≡ input)
   pub each : (d : Document) → IsToken d → from d ≡ input → to d ≡ answer
@@ -30,29 +30,29 @@ Undoes from to input answer = (earlier : List ℕ) → IsConverted to from earli
 abbrev pub IsUnconverted : (Document → List ℕ) → (Document → List ℕ) → List ℕ → Type 0
 IsUnconverted from to input = (earlier : List ℕ) → IsConverted to from earlier input → ⊥
 
--- what a conversion returns: what the text is converted to, which undoes the conversion in the other direction; or `NotText`, where it is no text
+-- what a conversion returns: the other text, which undoes the conversion in the other direction, or `NotText`, if the input is no text
 pub record Converts {A : Type 0} (from to : Document → List ℕ) (input : List ℕ) (answer : Result (String A) ReadError) : Type 0 where
   pub ok : IfOk answer (λ text. IsConverted from to input (string_bytes text))
   pub not_text : IsErrOf answer NotText → IsNoText from input
   pub undoes : IfOk answer (λ text. Undoes from to input (string_bytes text))
   pub unconverted : IsErrOf answer NotText → IsUnconverted from to input
 
--- what a conversion to a writer does with it
+-- what a conversion to a writer does
 pub record ConvertsTo {W E : Type 0} (seen : Seen W) (from to : Document → List ℕ) (input : List ℕ) (old : W) (answer : Result (⊤) (ScanError E)) (new : W) : Type 0 where
-  -- it is `Ok` only of texts, and `NotText` only of what is none
+  -- the answer is `Ok` only if the input is a text, and `NotText` only if it is none
   pub ok : IsOk answer → (text : List ℕ) × IsConverted from to input text
   pub not_text : IsErrOf answer errors.NotText → IsNoText from input
-  -- the other text is written as any piece is: all of it, or a beginning where the writer failed
+  -- the other text is written as a piece is: all of it, or a beginning if the writer failed
   pub writes : (text : List ℕ) → IsConverted from to input text → Writes seen old text (is_ok answer) new
-  -- and so is what was written of an input that is no text
+  -- some text was written so, also if the input is no text
   pub lawful : (text : List ℕ) × (whole : Bool) × Writes seen old text whole new
 
--- what a conversion into a caller's buffer does with it
+-- what a conversion into a caller's buffer does
 pub record ConvertsInto {E : Type 0} (from to : Document → List ℕ) (input old : List ℕ) (answer : Result ℕ (ScanError E)) (new : List ℕ) : Type 0 where
-  -- it is `Ok` only of texts, and `NotText` only of what is none
+  -- the answer is `Ok` only if the input is a text, and `NotText` only if it is none
   pub ok : IsOk answer → (text : List ℕ) × IsConverted from to input text
   pub not_text : IsErrOf answer errors.NotText → IsNoText from input
-  -- the other text is at the buffer's front: all of it where it fits, or a beginning
+  -- the other text is at the buffer's front: all of it if it fits, or a beginning
   pub fronts : (text : List ℕ) → IsConverted from to input text → Fronts old text answer new
-  -- the buffer keeps its length, also of an input that is no text
+  -- the buffer keeps its length, also if the input is no text
   pub same_length : length new ≡ length old

@@ -1,4 +1,4 @@
-//! Plain texts to pretty ones and back.
+//! Conversions of plain texts to pretty ones and back.
 ghost use Rattle.ufmt.specs.Layout.{layout, plain_text, pretty_text, setting};
 ghost use Rattle.ufmt_scan.specs.Texts.{Converts, ConvertsInto, ConvertsTo};
 
@@ -15,8 +15,8 @@ pub use ufmt::{plain_text, pretty_text};
 use ufmt::{Cursor, Full, uWrite};
 
 /// Writes the pretty text of the token documents with this plain text to the writer, and takes no
-/// memory of its own. Fails with `NotText` if no token document has this text, else with the writer's
-/// error. Part of the text may have been written.
+/// memory of its own. Fails with `NotText` if no token document has this text, else with the
+/// writer's error. Part of the text may have been written.
 pub fn write_to_pretty<W: uWrite>(writer: &mut W, input: &[u8]) -> Result<(), ScanError<W::Error>>
     ensures { ConvertsTo W.seen plain_text pretty_text input.now writer.old result writer.new }
 {
@@ -46,10 +46,9 @@ fn write<W: uWrite, const PRETTY: bool>(
     scan(from, input, &mut TextSink::<_, PRETTY> { writer, setting })
 }
 
-/// Writes the pretty text of the token documents with this plain text to the front of the buffer, and
-/// returns how many bytes it has. Fails with `NotText` if no token document has this text, and with
-/// `Full` if the answer is longer than the buffer. Of a text, the bytes after the answer stay as they
-/// were.
+/// Writes the pretty text of the token documents with this plain text to the front of the buffer,
+/// and returns its length. Fails with `NotText` if no token document has this text, and with `Full`
+/// if the pretty text is longer than the buffer. On `Ok`, the bytes after it are as before.
 pub fn to_pretty_into(buffer: &mut [u8], input: &[u8]) -> Result<usize, ScanError<Full>>
     ensures { ConvertsInto plain_text pretty_text input.now buffer.old result buffer.new }
 {
@@ -58,8 +57,8 @@ pub fn to_pretty_into(buffer: &mut [u8], input: &[u8]) -> Result<usize, ScanErro
     Ok(cursor.written().len())
 }
 
-/// Writes the plain text of the token documents with this pretty text to the front of the buffer. Fails
-/// as `to_pretty_into` does.
+/// Writes the plain text of the token documents with this pretty text to the front of the buffer,
+/// and returns its length. Fails as `to_pretty_into` does.
 pub fn to_plain_into(buffer: &mut [u8], input: &[u8]) -> Result<usize, ScanError<Full>>
     ensures { ConvertsInto pretty_text plain_text input.now buffer.old result buffer.new }
 {
@@ -68,8 +67,8 @@ pub fn to_plain_into(buffer: &mut [u8], input: &[u8]) -> Result<usize, ScanError
     Ok(cursor.written().len())
 }
 
-/// Returns the pretty text of the token documents with this plain text. Undoes `to_plain`. Fails with
-/// `NotText` if no token document has this text, and otherwise only with `OutOfMemory`.
+/// Returns the pretty text of the token documents with this plain text. Undoes `to_plain`. Fails
+/// with `NotText` if no token document has this text, and otherwise only with `OutOfMemory`.
 pub fn to_pretty(alloc: Global, input: &[u8]) -> Result<String, ReadError>
     ensures { Converts plain_text pretty_text input.now result }
 {
@@ -78,8 +77,8 @@ pub fn to_pretty(alloc: Global, input: &[u8]) -> Result<String, ReadError>
     Ok(text.into_string())
 }
 
-/// Returns the plain text of the token documents with this pretty text. Undoes `to_pretty`, and fails as
-/// it does.
+/// Returns the plain text of the token documents with this pretty text. Undoes `to_pretty`, and
+/// fails as `to_pretty` does.
 pub fn to_plain(alloc: Global, input: &[u8]) -> Result<String, ReadError>
     ensures { Converts pretty_text plain_text input.now result }
 {

@@ -1,4 +1,4 @@
-//! Why a text was not read, whether as a document or on the way to another text.
+//! The error of readers and conversions.
 ghost use Rattle.std.specs.Prelude.{◌≡◌};
 ghost use Rattle.ufmt_scan.specs.ReadError.{code_of, error_of};
 ghost use Rattle.ufmt_scan.specs.declared.error.ReadError.TheVariants.{OutOfMemory};
@@ -6,7 +6,7 @@ ghost use Rattle.ufmt_scan.specs.declared.error.ReadError.TheVariants.{OutOfMemo
 use crate::scan::ScanError;
 use std::alloc::{AllocError, AllocFailed};
 
-/// Why a text was not read.
+/// Why a text was not read or converted.
 #[derive(Clone, Copy, PartialEq, Eq, Debug)]
 pub enum ReadError {
     /// No token document has this text.
@@ -22,7 +22,7 @@ impl From<AllocError> for ReadError {
     }
 }
 
-/// The error of `Vec::push`, so that a caller that collects what it read writes `?`.
+/// For the error of `Vec::push`, so that a caller can collect documents with `?`.
 impl<T: Drop> From<AllocFailed<T>> for ReadError {
     ghost from_gives = { λ _ e. e ≡ OutOfMemory };
 
@@ -31,7 +31,7 @@ impl<T: Drop> From<AllocFailed<T>> for ReadError {
     }
 }
 
-/// A sink that makes its answer in memory fails only for want of it.
+/// A sink whose error is `AllocError` fails only if memory runs out.
 impl From<ScanError<AllocError>> for ReadError {
     ghost from_gives = { λ error e. e ≡ error_of error };
 
@@ -44,7 +44,7 @@ impl From<ScanError<AllocError>> for ReadError {
 }
 
 impl ReadError {
-    /// 1 of a text that is none of a token document, 2 where memory ran out.
+    /// Returns 1 for `NotText`, and 2 for `OutOfMemory`.
     pub fn code(&self) -> u8
         ensures { result ≡ code_of self.now }
     {

@@ -8,7 +8,7 @@ ghost use Rattle.ufmt_scan.specs.Private.MarkedBytes.{is_marked, marked_len};
 use crate::level::strip_piece;
 use crate::quoted::{split_any, split_plain};
 
-// Of each byte, whether it is one of words: an ASCII digit, an ASCII letter, `_` or `-`.
+// Marks each byte that a word may have: ASCII digits, ASCII letters, `_` and `-`.
 static WORD_BYTES: [u8; 256] = *b"\
     .............................................w..wwwwwwwwww......\
     .wwwwwwwwwwwwwwwwwwwwwwwwww....w.wwwwwwwwwwwwwwwwwwwwwwwwww.....\
@@ -30,7 +30,7 @@ pub(crate) fn marked_len(table: &[u8; 256], input: &[u8]) -> usize
     ensures len { result ≡ marked_len table.now input.now }
     ensures within { result ≤ length input.now }
 {
-    // Eight bytes a turn, so that the input's end is looked for once in eight.
+    // Eight bytes a turn, so that the length is compared once for eight bytes.
     let mut end = 0;
     'eights: while input.len() - end >= 8 {
         if !is_marked(table, input[end]) {
@@ -62,7 +62,7 @@ pub(crate) fn marked_len(table: &[u8; 256], input: &[u8]) -> usize
     marked_len_from(table, input, end)
 }
 
-// The same where the bytes before `start` are marked.
+// The same, if the bytes before `start` are marked.
 fn marked_len_from(table: &[u8; 256], input: &[u8], start: usize) -> usize
     requires within { start ≤ length input.now }
     requires marked { marked_len table.now input.now
@@ -80,7 +80,6 @@ fn marked_len_from(table: &[u8; 256], input: &[u8], start: usize) -> usize
     end
 }
 
-// Whether the table marks a byte.
 #[inline(always)]
 fn is_marked(table: &[u8; 256], byte: u8) -> bool
     ensures { result ≡ is_marked table.now byte }
@@ -99,7 +98,7 @@ pub(crate) fn split_quotes(input: &[u8]) -> Option<(&str, &[u8])>
     }
 }
 
-// A leaf that is no word at the front of a text, and what follows it.
+// The `()` or the leaf in quotes at the front of a text, and what follows it.
 fn split_symbol(input: &[u8]) -> Option<(&str, &[u8])>
     ensures { option_map (λ x. (x.0.now, x.1.now)) result ≡ read_symbol input.now }
 {
@@ -109,14 +108,14 @@ fn split_symbol(input: &[u8]) -> Option<(&str, &[u8])>
     }
 }
 
-/// Whether a text is a leaf that can be read again.
+/// Returns whether a text is a leaf that can be read again.
 pub fn is_leaf(text: &str) -> bool
     ensures { IsTrue result ↔ IsTokenLeaf text.now }
 {
     is_word(text) || is_symbol(text)
 }
 
-/// Whether a text is a word.
+/// Returns whether a text is a word.
 #[tactic(auto, using(crate::proofs::Leaves::word_tested))]
 pub fn is_word(text: &str) -> bool
     ensures { IsTrue result ↔ IsWord text.now }
@@ -125,7 +124,7 @@ pub fn is_word(text: &str) -> bool
     !word.is_empty() && rest.is_empty()
 }
 
-/// Whether a text is a leaf that is no word.
+/// Returns whether a text is `()` or a leaf in quotes.
 #[tactic(auto, using(crate::proofs::Leaves::no_symbol_tested))]
 pub fn is_symbol(text: &str) -> bool
     ensures { IsTrue result ↔ IsSymbol text.now }

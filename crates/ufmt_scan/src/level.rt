@@ -1,4 +1,4 @@
-//! What is around the entries of blocks, stripped from a text at each of its levels.
+//! What is around the entries of a block, stripped from the front of a text.
 ghost use Rattle.std.specs.Prelude.{◌≡◌, ◌∷◌, ◌++◌, []};
 ghost use Rattle.ufmt.specs.Layout.{frame, inside, lead, line_start};
 ghost use Rattle.ufmt_core.specs.declared.layout.Count.TheVariants.{Zero};
@@ -6,18 +6,18 @@ ghost use Rattle.ufmt.specs.Reading.{strip};
 ghost use Rattle.ufmt_scan.specs.Private.Level.{setting_at};
 ghost use Rattle.ufmt_scan.specs.Rest.{now_of};
 
-use ufmt::layout::{Count, Kind, Mode, Setting, INDENT};
+use ufmt::layout::{Count, INDENT, Kind, Mode, Setting};
 
 const TWO_INDENTS: &str = "        ";
 
-/// The mode that a document is laid out in, and how many blocks are open around it.
+/// The mode of a document's layout, and how many blocks are open around the document.
 #[derive(Clone, Copy)]
 pub(crate) struct Level {
     pub(crate) mode: Mode,
     pub(crate) depth: u8,
 }
 
-/// What follows this byte, where the input begins with it.
+/// What follows this byte, if the input begins with it.
 #[inline(always)]
 pub(crate) fn strip_byte(byte: u8, input: &[u8]) -> Option<&[u8]>
     ensures { now_of result ≡ strip (byte ∷ []) input.now }
@@ -61,7 +61,7 @@ pub(crate) fn strip_to_line<'a>(piece: &str, line: Setting, input: &'a [u8]) -> 
 static CLOSING_BRACKETS: [u8; 5] = *b"]}}))";
 
 impl Level {
-    /// The mode and depth that a document is laid out at.
+    /// The mode and depth at which a document is laid out.
     #[inline(always)]
     pub(crate) fn setting(self) -> Setting
         ensures { result ≡ setting_at self }
@@ -73,7 +73,7 @@ impl Level {
         }
     }
 
-    /// What follows what begins a block with entries.
+    /// What follows the lead of a block's first entry.
     #[inline(always)]
     #[tactic(auto, using(crate::proofs::Strips::stripping))]
     pub(crate) fn strip_lead(self, kind: Kind, input: &[u8]) -> Option<&[u8]>
@@ -85,7 +85,8 @@ impl Level {
         strip_to_line(self.mode.line_feed(), self.setting().inside(), start)
     }
 
-    /// What follows the end of a block with so many entries, on the line on which it ends.
+    /// What follows the closing bracket of a block with this many entries, and a space or comma
+    /// before the bracket.
     #[inline(always)]
     pub(crate) fn strip_closing(self, kind: Kind, count: Count, input: &[u8]) -> Option<&[u8]>
         ensures { now_of result ≡ strip ((frame self.mode kind).closing count) input.now }

@@ -1,6 +1,6 @@
 #![tactic(auto)]
 
-//! Texts of token documents: scanned event by event, and converted to one another.
+//! Scanning the texts of token documents, and converting plain ones to pretty ones and back.
 
 pub mod convert;
 pub mod error;

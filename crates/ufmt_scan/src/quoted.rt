@@ -1,4 +1,4 @@
-//! Texts and characters in quotes at the front of a text, and the bytes that are written in them.
+//! Leaves in quotes at the front of a text, and the bytes that they spell.
 ghost use Rattle.std.specs.Prelude.{◌≡◌, ◌≢◌, ◌≤◌, ◌+◌, ◌++◌, ◌∷◌, ℕ, List, IfSome, IsNone, MatchOption, Some, length, option_map, slice_index};
 ghost use Rattle.std.specs.Char.{digit_value};
 ghost use Rattle.std.specs.Str.{continuation_len};
@@ -13,14 +13,14 @@ use crate::level::{strip_byte, strip_piece};
 use ufmt::ascii::text_from;
 use ufmt::quoted::{escape, unescaped_len};
 
-// Of each byte, whether it is ASCII and has no escape in a quoted text.
+// Marks each ASCII byte that has no escape in a quoted text.
 static PLAIN_ASCII: [u8; 256] = *b"\
     ................................ww.wwwwwwwwwwwwwwwwwwwwwwwwwwwww\
     wwwwwwwwwwwwwwwwwwwwwwwwwwww.wwwwwwwwwwwwwwwwwwwwwwwwwwwwwwwwww.\
     ................................................................\
     ................................................................";
 
-/// A text of such bytes between quotation marks, with them, and what follows it. It needs no test of UTF-8.
+/// A leaf of such bytes in quotation marks, and what follows it. It needs no test of UTF-8.
 #[inline(always)]
 #[tactic(auto, using(crate::proofs::QuotedLeaves::plain_ascii))]
 pub(crate) fn split_plain(input: &[u8]) -> Option<(&str, &[u8])>
@@ -33,7 +33,7 @@ pub(crate) fn split_plain(input: &[u8]) -> Option<(&str, &[u8])>
     Some((text_from(leaf, 0), rest))
 }
 
-/// A text or a character in quotes, with them, and what follows it.
+/// A text or a character with its quotes, and what follows it.
 #[inline(never)]
 #[tactic(auto, using(crate::proofs::QuotedLeaves::any_leaf))]
 pub(crate) fn split_any(input: &[u8]) -> Option<(&str, &[u8])>
@@ -48,7 +48,7 @@ pub(crate) fn split_any(input: &[u8]) -> Option<(&str, &[u8])>
     if quote == b'\'' && !is_character(leaf) {
         return None;
     }
-    // Tested once for all of it: escapes are ASCII.
+    // UTF-8 is tested once for the whole leaf: escapes are ASCII.
     match str::from_utf8(leaf) {
         Ok(leaf) => Some((leaf, rest)),
         Err(_) => None,
@@ -71,7 +71,7 @@ fn after_quote(quote: u8, input: &[u8]) -> Option<&[u8]>
     }
 }
 
-// What follows bytes without escapes, several of which are passed at once between quotation marks.
+// Skips bytes that have no escape, if the quote is a quotation mark.
 #[tactic(auto, using(crate::proofs::Spelled::closing))]
 fn after_stretch(quote: u8, input: &[u8]) -> &[u8]
     ensures after { IsSpelled quote input.now result.now }
@@ -97,7 +97,7 @@ fn is_character(leaf: &[u8]) -> bool
     }
 }
 
-// How many bytes a character has, by the first of them.
+// How many bytes a character has, by its first byte.
 fn character_len(lead: u8) -> usize
     ensures { result ≡ 1 + continuation_len lead }
 {
@@ -109,8 +109,8 @@ fn character_len(lead: u8) -> usize
     }
 }
 
-/// The byte whose spelling between these quotes the input begins with, and the input after it. `None` if
-/// it begins with no byte's spelling. `quote` is a quotation mark or an apostrophe.
+/// Decodes the first byte of what is written between these quotes. Returns it with what follows, or
+/// `None` if the input begins with no byte's spelling. `quote` is a quotation mark or apostrophe.
 #[inline(always)]
 #[tactic(auto, using(crate::proofs::Spelled::no_other, ufmt::proofs::Parsing::strip_found))]
 pub fn split_escaped(quote: u8, input: &[u8]) -> Option<(u8, &[u8])>
@@ -118,12 +118,12 @@ pub fn split_escaped(quote: u8, input: &[u8]) -> Option<(u8, &[u8])>
     ensures some { IfSome result (λ x. input.now ≡ escaped_byte quote x.0 ++ x.1.now) }
     ensures none { IsNone result → (byte : ℕ) (rest : List ℕ) → input.now ≢ escaped_byte quote byte ++ rest }
 {
-    // Past 255 no byte is written, and zero isn't either.
+    // Past 255 the input begins with no spelling, so that of zero isn't found either.
     let byte = u8::try_from(decoded(input)).unwrap_or(0);
     Some((byte, strip_spelling(quote, byte, input)?))
 }
 
-// What follows this byte, as it is written between these quotes.
+// What follows the spelling of this byte between these quotes.
 #[inline(always)]
 #[tactic(auto, using(crate::proofs::Spelled::escaped_byte_is))]
 fn strip_spelling(quote: u8, byte: u8, input: &[u8]) -> Option<&[u8]>
@@ -136,7 +136,7 @@ fn strip_spelling(quote: u8, byte: u8, input: &[u8]) -> Option<&[u8]>
     }
 }
 
-// The only byte that may be written at the front. Past 255 there is none.
+// The only byte whose spelling may be at the front, or a number past 255.
 fn decoded(input: &[u8]) -> u32
     ensures { result ≡ decoded input.now }
 {
@@ -154,7 +154,6 @@ fn decoded(input: &[u8]) -> u32
     }
 }
 
-// The byte at this index, or 0 past the end.
 fn byte_at(input: &[u8], index: usize) -> u8
     ensures { result ≡ slice_index input.now index }
 {

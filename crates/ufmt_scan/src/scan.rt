@@ -1,4 +1,4 @@
-//! Scanning a text in either mode: its events are emitted to a sink, one after another.
+//! Scans a text in either mode, and emits its events to a sink.
 ghost use Rattle.std.specs.Prelude.{◌≡◌, ◌<◌, ◌≤◌, [], IfOk, List, Some, length};
 ghost use Rattle.ufmt.specs.Layout.{layout, setting};
 ghost use Rattle.ufmt.specs.Reading.{parse_map, read};
@@ -15,8 +15,8 @@ use step::{Stage, after_document, begin, field_name};
 use ufmt::layout::{Kind, Mode};
 
 /// Emits the events of the token document that has this text, in the text's order. Fails with
-/// `NotText` if no token document has this text, else with the sink's error. The sink may have taken
-/// events then.
+/// `NotText` if no token document has this text, else with the sink's error. The sink may have
+/// taken events then.
 pub fn scan<S: Sink>(mode: Mode, input: &[u8], sink: &mut S) -> Result<(), ScanError<S::Error>>
     ensures { Scans S.took S.stopped result sink.old sink.new (layout (setting mode 0)) input.now }
 {
@@ -26,8 +26,8 @@ pub fn scan<S: Sink>(mode: Mode, input: &[u8], sink: &mut S) -> Result<(), ScanE
     }
 }
 
-// The same in one mode. `PRETTY` is never read, here and in the calls below: it makes one copy per sink and
-// mode, in which brackets are constants.
+// `PRETTY` is never read, here and below. It makes one copy per sink and mode, in which brackets
+// are constants.
 fn scan_in<S: Sink, const PRETTY: bool>(
     mode: Mode,
     input: &[u8],
@@ -42,8 +42,8 @@ fn scan_in<S: Sink, const PRETTY: bool>(
     }
 }
 
-// How many blocks are open, and the stage of the innermost. An array beside it has the stages of the others,
-// each at the number of blocks that were open with it, so that this stays in registers.
+// How many blocks are open, and the stage of the innermost block. An array has the other stages,
+// each at the number of blocks that were open with it. So this struct stays in registers.
 #[derive(Clone, Copy)]
 struct OpenBlocks {
     count: u8,
@@ -89,7 +89,7 @@ fn scan_document<'a, S: Sink, const PRETTY: bool>(
     }
 }
 
-// Emits the name of the field that comes, where the innermost block is a struct.
+// Emits the name of the next field, if the innermost block is a struct.
 #[inline(always)]
 fn name_field<'a, S: Sink, const PRETTY: bool>(
     blocks: OpenBlocks,
@@ -113,8 +113,8 @@ fn name_field<'a, S: Sink, const PRETTY: bool>(
     }
 }
 
-// Emits what follows an entry of the innermost block, and ends each block that ends there. Returns the blocks
-// that stay open, and what follows.
+// Emits the events from the end of an entry to the next entry, key or value. Blocks may end there.
+// Returns the blocks that stay open, and what follows.
 #[inline(always)]
 fn end_entries<'a, S: Sink, const PRETTY: bool>(
     blocks: OpenBlocks,

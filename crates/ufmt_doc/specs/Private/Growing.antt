@@ -13,7 +13,7 @@ use Rattle.ufmt_scan.specs.Scan.{TextEvent}
 abbrev pub Growing : Type 0
 Growing = List Document × List OpenBlock
 
--- every two in turn, as a pair
+-- each two items in a row, as a pair
 abbrev pub in_pairs : {A : Type 0} → List A → List (A × A)
 in_pairs (x ∷ y ∷ xs) = (x, y) ∷ in_pairs xs
 in_pairs _ = []
@@ -23,11 +23,11 @@ abbrev pub text_of : Document → List ℕ
 text_of (leaf text) = text
 text_of _ = []
 
--- a field name, as a leaf, and a value
+-- a field, from the leaf of its name and its value
 abbrev pub field_from : Document × Document → List ℕ × Document
 field_from p = (text_of p.0, p.1)
 
--- the block of this kind that is made of these documents, by whether a colon came among them; the name of a struct or tuple is a leaf before its entries
+-- the block of this kind with these entries, by whether a colon came among them. The name of a struct or tuple is a leaf before its entries
 abbrev pub block_of : Kind → Bool → List Document → Document
 block_of Brackets colon ds = list_of (documents ds)
 block_of Braces true ds = map_of (pairs_of (in_pairs ds))
@@ -37,15 +37,15 @@ block_of Struct colon (name ∷ ds) = struct_of (text_of name) (fields_of (map f
 block_of Tuple colon (name ∷ ds) = tuple_of (text_of name) (documents ds)
 block_of kind colon ds = leaf []
 
--- an open block whose entries start there, in which a colon came or not
+-- an open block whose entries start there, and whether a colon came in it
 abbrev pub block_at : ℕ → Bool → OpenBlock
 block_at start colon = record { start = start; has_colon = colon }
 
--- a document more on the stack
+-- one document more on the stack
 abbrev pub put : Growing → Document → Growing
 put g d = (g.0 ++ d ∷ [], g.1)
 
--- a list without entries, or a map
+-- a list or a map without entries
 abbrev pub empty_block : Kind → Document
 empty_block Brackets = list_of (documents [])
 empty_block kind = map_of (pairs_of [])
@@ -70,7 +70,7 @@ abbrev pub closed : Kind → Growing → Growing
 closed kind (ds, []) = (ds, [])
 closed kind (ds, block ∷ outer) = (take block.start ds ++ block_of kind block.has_colon (drop block.start ds) ∷ [], outer)
 
--- what has grown, with one event more
+-- what has grown, after one event more
 abbrev pub grow : Growing → TextEvent → Growing
 grow g (Leaf text) = put g (leaf text)
 grow g (FieldName name) = put g (leaf name)
@@ -80,7 +80,7 @@ grow g Colon = with_colon g
 grow g Next = g
 grow g (Close kind count) = closed kind g
 
--- with these events, one after another
+-- the same, after these events
 abbrev pub grown : Growing → List TextEvent → Growing
 grown g [] = g
 grown g (e ∷ es) = grown (grow g e) es

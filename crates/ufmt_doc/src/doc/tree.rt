@@ -1,4 +1,4 @@
-//! Documents as trees: whether one is of tokens, and whether two have the same text.
+//! Whether a document is a token document, and whether two have the same text.
 ghost use Rattle.std.specs.List.{AllByRecursion, AllZip};
 ghost use Rattle.std.specs.Prelude.{◌≡◌, ◌↔◌, ◌<◌, ◌-◌, ℕ, IsTrue, string_bytes};
 ghost use Rattle.ufmt.specs.Layout.{plain_text, pretty_text};
@@ -11,7 +11,7 @@ ghost use Rattle.ufmt_scan.specs.Rest.{now_of};
 use super::Doc;
 use ufmt_scan::leaf::{is_leaf, is_word};
 
-/// Whether two token documents have the same text. It compares their trees, and makes no text.
+/// Returns whether two token documents have the same text. Compares their trees, and makes no text.
 pub fn same_text(a: &Doc, b: &Doc) -> bool
     requires a_is_token { IsToken (doc_document a.now) }
     requires b_is_token { IsToken (doc_document b.now) }
@@ -24,14 +24,14 @@ pub fn same_text(a: &Doc, b: &Doc) -> bool
     a.is_same(b)
 }
 
-// A part of a document. Implemented per field type: the check allows recursion at `Vec<Doc>`, not at
-// `Doc`.
+// A part of a document. Implemented per field type: the check allows recursion at `Vec<Doc>`, not
+// at `Doc`.
 pub(super) trait Part {
     ghost tokens: { ℕ → Self → Type 0 };
 
     ghost same: { Self → Self → Type 0 };
 
-    // Whether it is of tokens, and blocks with entries nest at most so deep.
+    // Whether it has tokens, and its blocks with entries are nested at most `deepest` deep.
     fn has_tokens(&self, deepest: u8) -> bool
         ensures { IsTrue result ↔ tokens deepest self.now };
 
@@ -103,7 +103,7 @@ impl Part for Doc {
         }
     }
 
-    // An empty set is an empty map, and a struct or a tuple without fields a leaf.
+    // An empty set is an empty map, and a struct or a tuple without fields is a leaf.
     #[cycle(parts)]
     fn is_same(&self, other: &Doc) -> bool {
         match (self, other) {

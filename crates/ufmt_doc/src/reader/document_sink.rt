@@ -22,9 +22,9 @@ struct OpenBlock {
     has_colon: bool,
 }
 
-/// The documents that ended lie on one stack, with the entries of each open block above those of the
-/// block around it. A field's name is a leaf there, and so is the name of a struct or tuple, before its
-/// entries. A block that ends takes its entries off the stack, and is put in their place.
+/// The documents that ended are on one stack, the entries of each open block above those of the
+/// block outside it. A field's name is a leaf there, before its value. The name of a struct or
+/// tuple is a leaf before its entries. A block that ends takes the place of its name and entries.
 #[derive(Drop)]
 pub(super) struct DocumentSink {
     alloc: Global,
@@ -49,7 +49,6 @@ impl Model for DocumentSink {
     ghost invariant = { λ s. (s.open_blocks ≤ 256) × (length s.blocks ≡ 256) };
 }
 
-// The text of a leaf.
 #[inline(always)]
 fn text_of(alloc: Global, doc: Doc) -> String
     ensures { string_bytes result ≡ text_of (doc_document doc) }
@@ -60,7 +59,7 @@ fn text_of(alloc: Global, doc: Doc) -> String
     }
 }
 
-// Entries off the stack.
+// Entries that were taken off the stack.
 type Taken<T> = Result<Vec<T>, AllocError>;
 
 // Takes the keys and values of a map off the stack.
@@ -109,7 +108,7 @@ fn take_fields(alloc: Global, docs: &mut Vec<Doc>, start: usize) -> Taken<(Strin
     Ok(fields)
 }
 
-// Takes all that belongs to a block off the stack, and makes the block of it.
+// Takes a block's name and entries off the stack, and makes the block.
 #[inline(always)]
 fn take_block(
     alloc: Global,
@@ -141,7 +140,7 @@ fn take_block(
 }
 
 impl DocumentSink {
-    /// Nothing was read.
+    /// Makes a sink that took no events.
     pub(super) fn new(alloc: Global) -> DocumentSink
         ensures { growing result ≡ ([], []) }
     {
@@ -156,7 +155,7 @@ impl DocumentSink {
         }
     }
 
-    /// The document on top of the stack.
+    /// Returns the document on top of the stack.
     pub(super) fn into_document(self) -> Option<Doc>
         ensures { (d : Document) → growing self ≡ (d ∷ [], [])
             → option_map doc_document result ≡ Some d }
@@ -165,7 +164,7 @@ impl DocumentSink {
         docs.pop()
     }
 
-    // Puts a leaf on the stack. Room is made first, so that a failure has no document to drop.
+    // Puts a leaf on the stack. Reserves first, so that a failure has no document to drop.
     #[inline(always)]
     fn put_leaf(&mut self, text: &str) -> Result<(), AllocError>
         ensures { OnOk result (growing self.new ≡ put (growing self.old) (leaf text.now)) }
@@ -176,7 +175,6 @@ impl DocumentSink {
         Ok(())
     }
 
-    // Puts a block without entries on the stack.
     #[inline(never)]
     fn put_empty(&mut self, kind: Kind) -> Result<(), AllocError>
         ensures { OnOk result (growing self.new ≡ put (growing self.old) (empty_block kind)) }
@@ -189,13 +187,12 @@ impl DocumentSink {
         Ok(())
     }
 
-    // Opens a block in the innermost one.
     #[inline(always)]
     #[tactic(auto, using(crate::proofs::GrowingDocuments::one_more))]
     fn open(&mut self, kind: Kind, name: &str) -> Result<(), AllocError>
         ensures { OnOk result (growing self.new ≡ opened kind name.now (growing self.old)) }
     {
-        // A scanner opens no more.
+        // The scanner opens no more.
         if self.open_blocks == MOST_OPEN {
             return Err(AllocError);
         }
@@ -210,7 +207,6 @@ impl DocumentSink {
         }
     }
 
-    // Marks the innermost block as one with a colon.
     #[inline(always)]
     fn mark_colon(&mut self) -> Result<(), AllocError>
         ensures { OnOk result (growing self.new ≡ with_colon (growing self.old)) }
@@ -221,7 +217,6 @@ impl DocumentSink {
         Ok(())
     }
 
-    // Ends the innermost block.
     #[inline(always)]
     fn close(&mut self, kind: Kind) -> Result<(), AllocError>
         ensures { OnOk result (growing self.new ≡ closed kind (growing self.old)) }
@@ -230,7 +225,7 @@ impl DocumentSink {
             return Ok(());
         };
         let block = self.blocks[innermost];
-        // A block that is closed has entries: one without is never opened.
+        // Only a block with entries is opened.
         if self.docs.len() <= block.start {
             return Err(AllocError);
         }
@@ -242,7 +237,7 @@ impl DocumentSink {
     }
 }
 
-/// Fails only for want of memory.
+/// Fails only if memory runs out.
 impl Sink for DocumentSink {
     type Error = AllocError;
 
@@ -252,8 +247,8 @@ impl Sink for DocumentSink {
 
     ghost begun = { λ _. refl };
 
-    // Frequent events are inlined. A function begins by clearing room for all that its arms make, so what
-    // is rare or loops stays out of line.
+    // Frequent events are inlined. A function first clears space for the values of all its arms, so
+    // rare arms and loops are not inlined.
     #[inline(always)]
     #[tactic(auto, using(crate::proofs::GrowingDocuments::takes_event))]
     fn event(&mut self, event: Event<&str>) -> Result<(), AllocError> {

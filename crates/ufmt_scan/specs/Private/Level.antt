@@ -1,4 +1,4 @@
--- Levels of a reader, as the settings of layouts that they are.
+-- The mode and depth of layout at each level of a scan.
 use Rattle.std.specs.Prelude.{ℕ, zero, suc, ◌-◌, None}
 use Rattle.ufmt.specs.Document.{Document}
 use Rattle.ufmt.specs.Layout.{inside, setting}
@@ -8,21 +8,21 @@ use Rattle.ufmt_core.specs.declared.layout.Mode.TheVariants.{Plain, Pretty}
 use Rattle.ufmt.specs.Reading.{Parse, read}
 use Rattle.ufmt_scan.specs.declared.level.Level.{Level}
 
--- the depth that a document is laid out at, with this many blocks around it
+-- the depth at which a document is laid out, with this many blocks around it
 abbrev pub depth_in : Mode → ℕ → ℕ
 depth_in Plain k = 0
 depth_in Pretty k = k
 
--- the mode and depth that a document is laid out at
+-- the mode and depth at which a document is laid out
 abbrev pub setting_at : Level → Setting
 setting_at level = setting level.mode (depth_in level.mode level.depth)
 
--- what reads an entry of a block at this mode and depth: nothing where no block may lie deeper
+-- what reads an entry of a block at this mode and depth. It reads none at `zero`, where blocks have no entries
 abbrev pub entry_at : Setting → ℕ → Parse Document
 entry_at s zero = λ t. None
 entry_at s (suc n) = read (inside s) n
 
--- how deep blocks with entries may nest in a document at this level
+-- how deep blocks with entries may be nested in a document at this level
 abbrev pub budget_of : Level → ℕ
 budget_of level = 255 - level.depth
 

@@ -1,4 +1,4 @@
--- Scanning a text event by event: the events of what is left of it, without the documents before.
+-- The events of what is left of a text, at each step of a scan.
 use Rattle.std.specs.Prelude.{◌≡◌, ℕ, zero, suc, ◌<◌, length, reverse, take, List, [], ◌∷◌, ◌++◌, map, codes, Option, Some, None, option_and_then, MatchOption, Result, MatchResult, IfOk}
 use Rattle.std.specs.Borrow.{Bor}
 use Rattle.ufmt.specs.Document.{Document}
@@ -23,15 +23,15 @@ use Rattle.ufmt_scan.specs.Scan.{TextEvent, events_of, tail_events}
 abbrev pub Scanned : Type 0
 Scanned = Option (List TextEvent × List ℕ)
 
--- the same after these events
+-- the same, with these events before
 abbrev pub prefixed : List TextEvent → Scanned → Scanned
 prefixed es o = parse_map (λ more. es ++ more) o
 
--- this, and then the events of what it leaves
+-- the events of this, and then those of what it leaves
 abbrev pub then_scan : Scanned → Parse (List TextEvent) → Scanned
 then_scan o more = option_and_then (λ x. prefixed x.0 (more x.1)) o
 
--- how a block reads its entries one after another, and the events of each
+-- how a block reads each of its entries, and the events of an entry
 pub record Turn : Type 1 where
   pub Entry : Type 0
   pub read : Parse Entry
@@ -92,7 +92,7 @@ abbrev pub value_of : Stage → Stage
 value_of stages.BracesFirst = stages.ValueFirst
 value_of _ = stages.ValueLater
 
--- how the block reads them
+-- how a block reads its entries at this stage
 abbrev pub turn_of : Level → Stage → Turn
 turn_of level stages.KeyLater = pairs level
 turn_of level stages.ValueFirst = pairs level
@@ -105,24 +105,24 @@ turn_of level _ = entries level
 abbrev pub scan_turn : Turn → Parse (List TextEvent)
 scan_turn turn t = parse_map turn.events (turn.read t)
 
--- of a block at this level after so many of them
+-- the events of a block at this level after this many entries
 unfoldable pub scan_rest : Turn → Level → Kind → Count → Parse (List TextEvent)
 scan_rest turn level kind count t = option_and_then
     (λ u. parse_map (λ xs. tail_events kind count (map turn.events xs)) (read_others turn.read (frame level.mode kind) (setting_at level) count u))
     (strip (trail level.mode) t)
 
--- of a map from the colon after a key
+-- the events of a map from the colon after a key, where the text begins after the colon
 abbrev pub scan_value : Level → Count → Parse (List TextEvent)
 scan_value level before t = prefixed (events.Colon ∷ []) (then_scan (scan_turn (entries level) t) (scan_rest (pairs level) level kinds.Braces
     (next before)))
 
--- of an open block after the entry, key, value or field at this stage
+-- the events of an open block after the entry, key, value or field at this stage
 abbrev pub scan_stage : Level → Stage → Parse (List TextEvent)
 scan_stage level stages.BracesFirst t = choose (strip (codes ": ") t) (scan_value level Zero) (scan_rest (entries level) level kinds.Braces One t)
 scan_stage level stages.KeyLater t = option_and_then (scan_value level Several) (strip (codes ": ") t)
 scan_stage level stage t = scan_rest (turn_of level stage) level (kind_of stage) (next (earlier stage)) t
 
--- what comes next in a block of this kind: a field with its name, or a document
+-- the events of what comes next in a block of this kind: a field with its name, or a document
 abbrev pub coming_of : Kind → Level → Parse (List TextEvent)
 coming_of kinds.Struct level = scan_turn (fields level)
 coming_of _ level = scan_turn (entries level)
@@ -130,12 +130,12 @@ coming_of _ level = scan_turn (entries level)
 abbrev pub coming : Level → Stage → Parse (List TextEvent)
 coming level stage = coming_of (kind_of stage) level
 
--- the block from there to its end, or nothing where no block is open
+-- the events of a block from this stage to its end, or none if no block is open
 abbrev pub after : Level → Option Stage → Parse (List TextEvent)
 after level None t = Some ([], t)
 after level (Some stage) t = then_scan (coming level stage t) (scan_stage level stage)
 
--- the stage of a block that opens
+-- the first stage of a block of this kind
 abbrev pub first_stage : Kind → Stage
 first_stage kinds.Brackets = stages.ListFirst
 first_stage kinds.Braces = stages.BracesFirst
@@ -143,11 +143,11 @@ first_stage kinds.Struct = stages.FieldFirst
 first_stage kinds.Tuple = stages.TupleFirst
 first_stage kinds.Unnamed = stages.UnnamedFirst
 
--- a block with this name from its opening on, where it has entries
+-- the events of a block with this name and with entries, where the text begins after its opening
 abbrev pub scan_opened : Level → Kind → List ℕ → List ℕ → Scanned
 scan_opened level kind name t = prefixed (events.Open kind name ∷ []) (after level (Some (first_stage kind)) t)
 
--- and where it may have none
+-- the events of a block without a name, which may have no entries
 abbrev pub scan_block : Level → Kind → Parse (List TextEvent)
 scan_block level kind t = choose (strip ((frame level.mode kind).closing Zero) t) (λ u. Some (events.Empty kind ∷ [], u))
     (option_and_then (scan_opened level kind []) (strip (lead (frame level.mode kind) (inside (setting_at level)) Zero) t))
@@ -161,16 +161,16 @@ abbrev pub document_at : Mode → ℕ → Parse (List TextEvent)
 document_at mode zero t = parse_map events_of (read (setting mode 0) 255 t)
 document_at mode (suc k) t = scan_turn (entries (level_at mode k)) t
 
--- the events of all open blocks, the innermost first, after the entry that is there
+-- the events of all open blocks, the innermost first, after an entry
 abbrev pub scan_ends : Mode → List Stage → Parse (List TextEvent)
 scan_ends mode [] t = Some ([], t)
 scan_ends mode (stage ∷ outer) t = then_scan (scan_stage (level_at mode (length outer)) stage t) (scan_ends mode outer)
 
--- where a document begins in the innermost of them
+-- the same, from the beginning of a document in the innermost block
 abbrev pub scan_begun : Mode → List Stage → Parse (List TextEvent)
 scan_begun mode open_blocks t = then_scan (document_at mode (length open_blocks) t) (scan_ends mode open_blocks)
 
--- or what comes next in it
+-- the events of what comes next in the innermost block
 abbrev pub coming_in : Mode → List Stage → Parse (List TextEvent)
 coming_in mode [] = document_at mode zero
 coming_in mode (stage ∷ outer) = coming (level_at mode (length outer)) stage
@@ -178,32 +178,32 @@ coming_in mode (stage ∷ outer) = coming (level_at mode (length outer)) stage
 abbrev pub scan_next : Mode → List Stage → Parse (List TextEvent)
 scan_next mode open_blocks t = then_scan (coming_in mode open_blocks t) (scan_ends mode open_blocks)
 
--- after an event: of these blocks, and of one that opens or continues in them
+-- the events after a step: of the block that opens or continues, if one does, and then of these blocks
 abbrev pub scan_onward : Mode → List Stage → Option Stage → Parse (List TextEvent)
 scan_onward mode outer None = scan_ends mode outer
 scan_onward mode outer (Some stage) = scan_next mode (stage ∷ outer)
 
--- where the blocks are ended as far as they end: nothing more, or what comes in the innermost of these
+-- the events after some blocks ended: none if no block is open, else those from what comes next in the innermost block
 abbrev pub scan_left : Mode → List Stage → Parse (List TextEvent)
 scan_left mode [] t = Some ([], t)
 scan_left mode (stage ∷ outer) t = scan_next mode (stage ∷ outer) t
 
--- the open blocks, the innermost first, where an array has the stages of those around it, after one that is no block's
+-- the stages of the open blocks, the innermost first. The array has the others, after a stage that is no block's
 abbrev pub open_stages : OpenBlocks → List Stage → List Stage
 open_stages blocks outer = take blocks.count (blocks.innermost ∷ reverse (take blocks.count outer))
 
--- a sink that took some events took these of what is there after them, or stopped at the last, and this is left
+-- after earlier events the sink took these, or stopped at the last, as `kept` says. What is there begins with them, and this is left
 pub record Emits {S : Type 0} (took kept : S → List TextEvent → S → Type 0) (old new : S) (there left : Scanned) : Type 0 where
   pub events : List TextEvent
   pub takes : (start : S) (es : List TextEvent) → took start es old → kept start (es ++ events) new
   pub is : there ≡ prefixed events left
 
--- why a scan ended says whether the last event was taken
+-- whether the last event was taken, by why the scan ended
 abbrev pub kept_by : {S E : Type 0} → (S → List TextEvent → S → Type 0) → (S → List TextEvent → S → Type 0) → ScanError E → S → List TextEvent → S → Type 0
 kept_by took stopped NotText = took
 kept_by took stopped (Sink e) = stopped
 
--- the sink stopped at an event of what is there, or took some, and nothing is there
+-- the sink stopped at an event of what is there, or it took some and the rest can't be scanned
 pub record Stops {S E : Type 0} (took stopped : S → List TextEvent → S → Type 0) (old new : S) (there : Scanned) (why : ScanError E) : Type 0 where
   pub left : Scanned
   pub emits : Emits took (kept_by took stopped why) old new there left
@@ -214,13 +214,13 @@ abbrev pub ScansOn : {S A E : Type 0} → (S → List TextEvent → S → Type 0
     → Type 0
 ScansOn took stopped answer old new there left = MatchResult answer (λ x. Emits took took old new there (left x)) (Stops took stopped old new there)
 
--- a step of a scan emitted events of what is there, and left fewer bytes than the number, from which the scan continues so; or it ended
+-- a step of a scan: it emitted events of what is there, and left fewer bytes than this, whose events `onward` gives; or the scan ended
 abbrev pub Steps : {S E : Type 0} → (S → List TextEvent → S → Type 0) → (S → List TextEvent → S → Type 0)
     → Result (Option Stage × Bor (List ℕ)) (ScanError E) → S → S → ℕ → Scanned → (Option Stage → Parse (List TextEvent)) → Type 0
 Steps took stopped answer old new bytes there onward =
     ScansOn took stopped answer old new there (λ x. onward x.0 x.1.now) × IfOk answer (λ x. length x.1.now < bytes)
 
--- what was stripped is the bracket at the front, by which a block is read; or there is none
+-- the bracket at the front was stripped, and a block of its kind is read; or there is no bracket
 abbrev pub StripsBracket : Level → List ℕ → Option (Kind × Bor (List ℕ)) → Type 0
 StripsBracket level t answer = MatchOption answer ((strip (codes "[") t ≡ None) × (strip (codes "{") t ≡ None))
     (λ x. (parse_map events_of (read_without_name (setting_at level) (entry_of level) t) ≡ scan_block level x.0 x.1.now) × (length x.1.now < length t))

@@ -1,4 +1,4 @@
--- Texts in quotes, on the way to the closing quote.
+-- Bytes as they are written between quotes, up to the closing quote.
 use Rattle.std.specs.Prelude.{◌≡◌, ◌≢◌, ℕ, ◌==◌, Bool, true, List, ◌∷◌, ◌++◌, length}
 use Rattle.std.specs.Str.{all_scalars}
 use Rattle.ufmt.specs.Bytes.{apostrophe}
@@ -9,7 +9,7 @@ pub record IsSpelled (quote : ℕ) (t rest : List ℕ) : Type 0 where
   pub bytes : List ℕ
   pub is : t ≡ escaped_bytes quote bytes ++ rest
 
--- the closing quote and then the rest follow such bytes
+-- such bytes, and then the closing quote and the rest
 pub record Closes (quote : ℕ) (t rest : List ℕ) : Type 0 where
   pub is_quote : IsQuote quote
   pub bytes : List ℕ
@@ -19,6 +19,6 @@ pub record Closes (quote : ℕ) (t rest : List ℕ) : Type 0 where
 pub record NeverCloses (quote : ℕ) (t : List ℕ) : Type 0 where
   pub never : (bytes rest : List ℕ) → t ≢ escaped_bytes quote bytes ++ (quote ∷ rest)
 
--- the answer is whether the characters between the apostrophes are one
+-- the answer is whether one character is between the apostrophes
 pub record IsOneCharacter (leaf : List ℕ) (answer : Bool) : Type 0 where
   pub one : (cs : List ℕ) → all_scalars cs ≡ true → leaf ≡ quoted apostrophe cs → answer ≡ (length cs == 1)

@@ -6,11 +6,11 @@ ghost use Rattle.ufmt.specs.Writes.{Writes};
 use std::alloc::{AllocError, Global};
 use ufmt::{Cursor, uWrite};
 
-// What a vector is filled with ahead of the text.
+// The vector is filled with these after the text.
 static ZEROS: [u8; 1024] = [0; 1024];
 
-/// A text at the front of a vector that is filled ahead of it, so that a short piece is copied as into
-/// a caller's buffer. It is tested for UTF-8 once, at its end, where a `String` tests each piece.
+/// A text at the front of a vector. The vector has zeros after it, so that a short piece is copied
+/// as into a caller's buffer. UTF-8 is tested once, at the end. A `String` tests each piece.
 #[derive(Drop)]
 pub(super) struct Growing {
     bytes: Vec<u8>,
@@ -32,7 +32,6 @@ impl Growing {
         }
     }
 
-    /// The text.
     pub(super) fn into_string(self) -> String
         ensures { string_bytes result ≡ growing_text self }
     {
@@ -44,7 +43,7 @@ impl Growing {
         }
     }
 
-    // Appends a piece for which nothing is filled, and fills more, both in one growth.
+    // Appends a piece that is longer than the zeros, and new zeros, with one growth of the vector.
     #[inline(never)]
     fn append(&mut self, piece: &str) -> Result<(), AllocError>
         requires { 0 < length piece.now }
@@ -54,13 +53,13 @@ impl Growing {
         self.bytes.reserve(piece.len() + ZEROS.len())?;
         self.bytes.extend_from_slice(piece.as_bytes())?;
         self.count = self.bytes.len();
-        // There is room for it.
+        // There is room for them.
         let _filled = self.bytes.extend_from_slice(&ZEROS);
         Ok(())
     }
 }
 
-/// Fails only for want of memory, and then leaves the text as it was.
+/// Fails only if memory runs out, and then leaves the text as it was.
 #[tactic(auto, using(crate::proofs::Growing::growing))]
 impl uWrite for Growing {
     ghost use Rattle.ufmt_scan.specs.Private.Growing.{growing_seen};
@@ -80,7 +79,7 @@ impl uWrite for Growing {
     }
 }
 
-// Writes a text over a buffer that is as long.
+// Writes a text over a buffer of the same length.
 #[inline(always)]
 fn fill(text: &str, buffer: &mut [u8])
     requires { length text.now ≡ length buffer.old }

@@ -14,8 +14,8 @@ use ufmt::ascii::text_from;
 use ufmt::layout::{COLON, Count, Kind, Mode, Setting};
 use ufmt::uWrite;
 
-// The front of a line, and what indents the line at this depth. It is cut from one at the greatest
-// depth: 17 times 60 spaces.
+// The front of a line and its indentation at this depth. They are cut from a line at the greatest
+// depth, whose indentation is 17 times 60 spaces.
 macro_rules! line {
     ($front:literal, $depth:expr) => {
         line!($front, $depth, "                                                            ")
@@ -29,8 +29,8 @@ macro_rules! line {
     };
 }
 
-/// A writer, and the mode and depth at which the text continues. `PRETTY` is never read: with it, each
-/// mode has a scan of its own, in which the mode is a constant.
+/// A writer, and the mode and depth at which the text continues. `PRETTY` is never read. It makes
+/// one scan per mode, in which the mode is a constant.
 #[derive(Drop)]
 pub(super) struct TextSink<'w, W, const PRETTY: bool> {
     pub(super) writer: &'w mut W,
@@ -56,7 +56,6 @@ impl<W: uWrite, const PRETTY: bool> Sink for TextSink<'_, W, PRETTY> {
     }
 }
 
-// The mode and depth after an event.
 #[inline(always)]
 fn setting_after(setting: Setting, event: Event<&str>) -> Setting
     ensures { result ≡ setting_after setting (event_now event.entry) }
@@ -72,7 +71,7 @@ fn setting_after(setting: Setting, event: Event<&str>) -> Setting
     }
 }
 
-// What is written for an event, in two pieces. Either may be empty.
+// The text of an event, in two pieces. Either may be empty.
 #[inline(always)]
 fn pieces<'a>(setting: Setting, event: Event<&'a str>) -> (&'a str, &'a str)
     ensures { result.0.now ++ result.1.now ≡ written setting (event_now event.entry) }
@@ -114,7 +113,7 @@ fn opening(kind: Kind, entry: Setting) -> &'static str
     }
 }
 
-// What ends a block with so many entries, on the line on which it ends.
+// The closing bracket of a block with this many entries, after a space or comma if one is there.
 #[inline(always)]
 fn closing(mode: Mode, kind: Kind, count: Count) -> &'static str
     ensures { result.now ≡ (frame mode kind).closing count }
@@ -130,7 +129,7 @@ fn closing(mode: Mode, kind: Kind, count: Count) -> &'static str
     }
 }
 
-// The front of a line at the greatest depth, and what indents one at this depth.
+// The front of a line and its indentation at this depth, cut from the deepest line.
 #[inline(always)]
 #[tactic(auto, using(crate::proofs::Lines::cut_is, crate::proofs::Lines::line_ascii))]
 fn cut(front: &str, deepest: &'static str, depth: u8) -> &'static str
@@ -141,7 +140,6 @@ fn cut(front: &str, deepest: &'static str, depth: u8) -> &'static str
     text_from(&deepest.as_bytes()[..front.len() + 4 * depth as usize], 0)
 }
 
-// Writes a piece, unless it is empty.
 #[inline(always)]
 fn write_piece<W: uWrite>(piece: &str, writer: &mut W) -> Result<(), W::Error>
     ensures { Writes W.seen writer.old piece.now (is_ok result) writer.new }

@@ -1,15 +1,15 @@
-//! The events of a text, and what takes them.
+//! The events of a text, and the sinks that take them.
 ghost use Rattle.std.specs.Prelude.{[], List, is_ok};
 ghost use Rattle.ufmt_scan.specs.Scan.{TakesEvent, TextEvent, event_now};
 
 use ufmt::layout::{Count, Kind};
 
-/// What comes next in a text, with the leaf, the block's name or the field's name that is there.
+/// What comes next in a text. `T` is the text of a leaf or a name.
 #[derive(Clone, Copy)]
 pub enum Event<T> {
-    /// A leaf, or a name that has no block.
+    /// A leaf, or a name without a block.
     Leaf(T),
-    /// A list, or a set or a map, without entries.
+    /// A list, a set or a map without entries.
     Empty(Kind),
     /// The name of a block and its opening, before its first entry.
     Open(Kind, T),
@@ -19,29 +19,29 @@ pub enum Event<T> {
     Colon,
     /// What separates two entries.
     Next,
-    /// The end of a block with so many entries.
+    /// The end of a block with this many entries.
     Close(Kind, Count),
 }
 
-/// What takes the events of a text. It may fail at any of them.
+/// Takes the events of a text. It may fail at any event.
 pub trait Sink {
     type Error;
 
-    /// What it took since it began, by what it was then.
+    /// From the first state to the second, the sink took these events.
     ghost took: { Self → List TextEvent → Self → Type 0 };
 
-    /// The same where it failed at the last of them.
+    /// The same, but the sink failed at the last event.
     ghost stopped: { Self → List TextEvent → Self → Type 0 };
 
     /// Takes an event.
     fn event(&mut self, event: Event<&str>) -> Result<(), Self::Error>
         ensures { TakesEvent took stopped self.old (event_now event.entry) (is_ok result) self.new };
 
-    /// Where it begins, it took nothing.
+    /// From a state to itself, the sink took no events.
     ghost begun: { (s : Self) → took s [] s };
 }
 
-/// Why a scan ended before the text did.
+/// Why a scan failed.
 #[derive(Drop)]
 pub enum ScanError<E> {
     /// No token document has this text.

@@ -12,12 +12,13 @@ use super::event::{Event, ScanError, Sink};
 use crate::leaf::{split_quotes, split_word};
 use crate::level::{Level, strip_piece, strip_to_line};
 use ufmt::ascii::text_from;
-use ufmt::layout::{COLON, Count, Kind, Mode, OPENING_BRACE, OPENING_BRACKET, INDENT};
+use ufmt::layout::{COLON, Count, INDENT, Kind, Mode, OPENING_BRACE, OPENING_BRACKET};
 
-/// What comes next in an open block: its first entry or a later one, or, in a map, a key or a value.
+/// What comes next in an open block: the first entry or a later one, a key or a value.
 #[derive(Clone, Copy)]
 pub(super) enum Stage {
-    // A colon may follow these two, and a name comes at the last two: one comparison finds either pair.
+    // A colon may follow the first two, and a field's name comes at the last two. Each two are
+    // adjacent, so that one comparison finds them.
     /// The first entry of a set, or the first key of a map.
     BracesFirst,
     KeyLater,
@@ -35,7 +36,7 @@ pub(super) enum Stage {
     FieldLater,
 }
 
-// Of each stage the kind of its block, how many entries came before, and the stage of the entry after it.
+// For each stage: the kind of its block, how many entries came before, and the next entry's stage.
 static STAGES: [(Kind, Count, Stage); 13] = [
     (Kind::Braces, Count::Zero, Stage::SetLater),
     (Kind::Braces, Count::Several, Stage::KeyLater),
@@ -97,10 +98,10 @@ impl Stage {
     }
 }
 
-// The stage at which a block opens or continues, if one does, and the rest of the text.
+// What comes next in a block that opens or continues, if one does, and the rest of the text.
 type Step<'a> = (Option<Stage>, &'a [u8]);
 
-// Emits an event, after which the text continues so.
+// Emits an event. Returns `next` and `rest`, or the sink's error.
 #[inline(always)]
 fn emit<'a, S: Sink>(
     event: Event<&str>,
@@ -118,7 +119,7 @@ fn emit<'a, S: Sink>(
     }
 }
 
-/// A field's name and the colon after it.
+/// Emits a field's name and the colon after it.
 #[inline(always)]
 pub(super) fn field_name<'a, S: Sink, const PRETTY: bool>(
     input: &'a [u8],
@@ -137,7 +138,7 @@ pub(super) fn field_name<'a, S: Sink, const PRETTY: bool>(
     emit(Event::FieldName(text_from(word, 0)), None, rest, sink)
 }
 
-/// A leaf, an empty block, or the name and the opening of a block.
+/// Emits a leaf, an empty block, or the name and the opening of a block.
 #[inline(always)]
 pub(super) fn begin<'a, S: Sink, const PRETTY: bool>(
     level: Level,
@@ -163,7 +164,7 @@ pub(super) fn begin<'a, S: Sink, const PRETTY: bool>(
     }
 }
 
-// What begins with no word.
+// The same for a text that begins with no word.
 #[inline(always)]
 fn begin_without_name<'a, S: Sink, const PRETTY: bool>(
     level: Level,
@@ -188,7 +189,7 @@ fn begin_without_name<'a, S: Sink, const PRETTY: bool>(
     }
 }
 
-// The bracket of a list, or of a set or a map, and what follows it.
+// The kind of a list, a set or a map by its bracket, and what follows the bracket.
 #[inline(always)]
 fn strip_bracket(input: &[u8]) -> Option<(Kind, &[u8])>
     ensures { (level : Level) → StripsBracket level input.now result }
@@ -200,7 +201,7 @@ fn strip_bracket(input: &[u8]) -> Option<(Kind, &[u8])>
     }
 }
 
-// A list, or a set or a map, after its bracket.
+// Emits an empty list, set or map, or the opening of one, after its bracket.
 #[inline(always)]
 fn begin_block<'a, S: Sink, const PRETTY: bool>(
     level: Level,
@@ -220,7 +221,7 @@ fn begin_block<'a, S: Sink, const PRETTY: bool>(
     }
 }
 
-/// What follows the entry, key or value at this stage of a block.
+/// Emits what follows the entry, key or value at this stage of a block.
 #[inline(always)]
 pub(super) fn after_document<'a, S: Sink, const PRETTY: bool>(
     level: Level,
@@ -243,7 +244,7 @@ pub(super) fn after_document<'a, S: Sink, const PRETTY: bool>(
     after_entry::<S, PRETTY>(level, stage, input, sink)
 }
 
-// What follows an entry, a pair or a field.
+// Emits what follows an entry, a pair or a field.
 #[inline(always)]
 fn after_entry<'a, S: Sink, const PRETTY: bool>(
     level: Level,
@@ -257,7 +258,7 @@ fn after_entry<'a, S: Sink, const PRETTY: bool>(
         (after level) }
 {
     let separator = between(level.mode);
-    // The indentation of the block's line comes first, whether it ends there or another entry comes.
+    // The block's indentation comes first, whether the block ends or another entry comes.
     let Some(line) = strip_to_line(level.mode.trail(), level.setting(), input) else {
         return Err(ScanError::NotText);
     };
@@ -271,7 +272,7 @@ fn after_entry<'a, S: Sink, const PRETTY: bool>(
     emit(Event::Close(kind, count), None, end, sink)
 }
 
-// What separates two entries, after what indents the line of their block.
+// What separates two entries, after the indentation of their block.
 #[inline(always)]
 fn between(mode: Mode) -> &'static str
     ensures { (k : ℕ) → k < 255

@@ -28,7 +28,7 @@ normalize_fields-returns t c =
     let l = c.loop-value in
     ap fields_of (HasBecome-all field_view _ l.value-index l.fields _ l.invariant.rest.0 c.loop-value-test.false l.invariant.done) ∙ normal_fields-map field_view _
 
--- a struct that has fields: the vector of the loan holds what they became
+-- in a struct with fields, the borrowed vector holds what the fields became
 pub Doc::normalize-returns-in-StructOf : goal.Doc::normalize-returns-in-StructOf
 Doc::normalize-returns-in-StructOf t c =
     let name = c.in-StructOf.field-0 in

@@ -11,7 +11,7 @@ use Rattle.ufmt_scan.specs.Scan.{events_of}
 use Rattle.ufmt_scan.specs.declared.error.ReadError.{ReadError}
 use Rattle.ufmt_scan.specs.declared.error.ReadError.TheVariants.{NotText}
 
--- what is returned where a document is on top of the stack
+-- the result is the document on top of the stack, if there is one
 document_is : (answer : Result Doc ReadError) (top : Option Doc) (d : Document) → option_map doc_document top ≡ Some d → answer ≡ ok_or top NotText
     → (doc : Doc) × (answer ≡ Ok doc) × (doc_document doc ≡ d)
 document_is answer None d is h = absurd (cc)

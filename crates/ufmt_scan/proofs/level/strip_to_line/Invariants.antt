@@ -1,4 +1,4 @@
--- What is left of the indentation is to be stripped from what is left of the text.
+-- The rest of the indentation is still to be stripped from the rest of the text.
 use Rattle.std.proofs.Common.{◌≡◌, ◌++◌}
 use Rattle.ufmt.specs.Layout.{indentation, line_start}
 use Rattle.ufmt.specs.Reading.{strip}

@@ -1,4 +1,4 @@
--- The first value with the name is that among the fields that are left.
+-- The first value with the name is the first one among the fields that are left.
 use Rattle.std.proofs.Common.{◌≡◌, drop, map}
 use Rattle.ufmt.specs.Document.{fields_of}
 use Rattle.ufmt_doc.specs.Doc.{doc_document}

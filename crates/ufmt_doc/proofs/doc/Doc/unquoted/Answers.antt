@@ -8,7 +8,6 @@ use Rattle.ufmt_doc.proofs.Docs.{doc_document-Leaf}
 use Rattle.ufmt_doc.proofs.Unquoted.{spelled_text}
 use Rattle.ufmt_doc.proofs.doc.Doc.unquoted.Goals as goal
 
--- bytes that are a text are the text of the leaf
 answered : {E : Type 0} {P : String Global → Type 0} (d : Document) (r : Result (String Global) E) → ((s : String Global) → P s → IsInQuotes d (string_bytes s))
     → IfOk r P → IsOk r → Unquotes d (result_ok r)
 answered d (Ok s) is h some = is s h

@@ -4,7 +4,7 @@ use Rattle.ufmt_doc.specs.declared.doc.Doc.{Doc}
 use Rattle.ufmt_doc.proofs.Docs.{doc_document-StructOf, doc_document-TupleOf}
 use Rattle.ufmt_doc.proofs.reader.document_sink.take_block.Goals as goal
 
--- what is left of the stack without a block's entries ends with its name
+-- without a block's entries, the stack ends with the block's name
 last_is : (start : ℕ) (docs kept rest : List Doc) (name : Doc) → start < length docs → kept ≡ take (start + 1) docs → kept ≡ rest ++ name ∷ []
     → (rest ≡ take start docs) × (drop start docs ≡ name ∷ drop (start + 1) docs)
 last_is start docs kept rest name within is split =

@@ -1,4 +1,4 @@
--- The fields so far are the last ones, the last of them first.
+-- The fields so far are the last ones, in reverse.
 use Rattle.std.proofs.Common.{◌≡◌, ◌≤◌, ◌+◌, ◌*◌, ◌++◌, length, map, take, drop, reverse, vec_capacity}
 use Rattle.ufmt_doc.specs.Doc.{doc_document}
 use Rattle.ufmt_doc.specs.DocViews.{field_view}

@@ -17,7 +17,7 @@ use Rattle.ufmt_scan.proofs.Scans.{nothing_there}
 use Rattle.ufmt_scan.proofs.ScanTurns.{follows_scans, go_on}
 use Rattle.ufmt_scan.proofs.scan.step.after_entry.Goals as goal
 
--- a level is no deeper than its blocks are many
+-- if fewer than 255 blocks are open, the depth is below 255
 few : (mode : Mode) (depth : ℕ) → depth < 255 → depth_in mode depth < 255
 few Plain depth h = omega arith
 few Pretty depth h = h
@@ -29,7 +29,7 @@ module _ (level : Level) (at : Stage) where
   abbrev closing : List ℕ
   closing = (frame level.mode (kind_of at)).closing (next (earlier at))
 
-  -- what is left on the line of the block decides: another entry comes, or the block ends
+  -- after the line's start, another entry comes, or the block ends
   follows : (t piece between : List ℕ) (line : Setting) (o : Option (List ℕ)) → piece ≡ trail level.mode → line ≡ setting_at level
       → start ++ between ≡ separator level.mode (inside (setting_at level)).depth → o ≡ strip (piece ++ line_start line.mode line.depth) t
       → scan_rest (turn_of level at) level (kind_of at) (next (earlier at)) t

@@ -19,7 +19,7 @@ returns-then-is_empty g c =
     rw (reads_without_name (setting_at c.args.level) (budget_of c.args.level) c.args.input.now c.split_word.result.0.now c.split_word.ensures.word
     (sym c.is_empty.ensures ∙ c.if-is_empty.true)) c.begin_without_name.ensures
 
--- a text with word bytes at its front is read by its word, which has this name
+-- a text with word bytes at its front is read by its word, which is this name
 record Named (level : Level) (t name u : List ℕ) : Type 0 where
   is_word : IsWord name
   reads : parse_map events_of (read (setting_at level) (budget_of level) t) ≡ parse_map events_of (read_named (setting_at level) (entry_of level) name u)

@@ -2,7 +2,7 @@ use Rattle.std.proofs.Common.{◌≡◌, ◌∙◌, refl, ap, sym, append-nil, �
 use Rattle.ufmt.specs.Layout.{indentation}
 use Rattle.ufmt_scan.proofs.scan.step.between.Goals as goal
 
--- deeper indentation ends as it begins
+-- an indent may as well be added at the end
 indentation_last : (k : ℕ) → indentation k ++ codes "    " ≡ indentation (suc k)
 indentation_last zero = refl
 indentation_last (suc k) = ap (λ t. codes "    " ++ t) (indentation_last k)

@@ -7,7 +7,7 @@ use Rattle.ufmt_core.specs.declared.layout.Setting.{Setting}
 use Rattle.ufmt.proofs.Printing.{LaysOut-err, WritesRow-next, WritesRow-none, failed, field_texts-fields_of, finished, is_struct, loop_ended, loop_next, not_opened, opened, written}
 use Rattle.ufmt_doc.proofs.doc.print.VecTuple2StringEntriesOfStructKind.print.Goals as goal
 
--- the texts of the fields, in the order of the vector
+-- the texts of the fields are those of the vector's items, in order
 field_texts-of : {V : Type 0} (document : V → Document) (fields : List (String Global × V)) (i : Setting)
     → remaining_fields (fields_of (map (λ (f : String Global × V). (string_bytes f.0, document f.1)) fields)) i
     ≡ map (λ (f : String Global × V). field_text (string_bytes f.0) (document f.1) i) fields
