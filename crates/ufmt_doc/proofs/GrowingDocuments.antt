@@ -10,7 +10,7 @@ use Rattle.ufmt_core.specs.declared.layout.Count.TheVariants.{One}
 use Rattle.ufmt_core.specs.declared.layout.Kind.{Kind}
 use Rattle.ufmt_core.specs.declared.layout.Kind.TheVariants.{Brackets, Braces, Struct}
 use Rattle.ufmt_doc.specs.declared.doc.Doc.{Doc}
-use Rattle.ufmt_doc.specs.declared.reader.document_sink.OpenBlock.{OpenBlock}
+use Rattle.ufmt_doc.specs.declared.reader.document_sink.PartialBlock.{PartialBlock}
 use Rattle.ufmt_doc.specs.Private.Growing.{Growing, block_at, block_of, field_from, grow, growing, grown, in_pairs, name_leaf}
 use Rattle.ufmt_scan.specs.declared.scan.event.Event.TheVariants.{Open, FieldName, Colon}
 use Rattle.ufmt_scan.specs.Scan.{TextEvent, TakesEvent, events_of, events_of_entries, events_of_fields, events_of_pairs, tail_events}
@@ -22,7 +22,7 @@ grown-append g (e ∷ es) fs = grown-append (grow g e) es fs
 
 -- in a block, these events put these documents on the stack. `before` and `after` say whether a colon came in the block by then
 abbrev Puts : Bool → Bool → List TextEvent → List Document → Type 0
-Puts before after es ds = (below : List Document) (start : ℕ) (outer : List OpenBlock)
+Puts before after es ds = (below : List Document) (start : ℕ) (outer : List PartialBlock)
     → ◌≡◌ {A = Growing} (grown (below, block_at start before ∷ outer) es) (below ++ ds, block_at start after ∷ outer)
 
 -- the same for the lists of events of several entries
@@ -32,7 +32,7 @@ PutsAll before after (es ∷ more) ds = (first others : List Document) × Puts b
 
 -- the events of the entries and the end of a block replace what is above `bottom` with the block
 row_grows : (kind : Kind) (count : Count) (before after : Bool) (es : List TextEvent) (more : List (List TextEvent)) (ds below bottom entries : List Document)
-    (outer : List OpenBlock) → PutsAll before after (es ∷ more) ds → below ++ ds ≡ bottom ++ entries
+    (outer : List PartialBlock) → PutsAll before after (es ∷ more) ds → below ++ ds ≡ bottom ++ entries
     → ◌≡◌ {A = Growing} (grown (below, block_at (length bottom) before ∷ outer) (es ++ tail_events kind count more)) (bottom ++ block_of kind after entries ∷ [], outer)
 row_grows kind count before after es [] ds below bottom entries outer h whole =
     let all = rw (h.4, h.3, append-nil) at whole in
@@ -46,7 +46,7 @@ row_grows kind count before after es (fs ∷ more) ds below bottom entries outer
 
 -- all events of a block put it on the stack
 block_grows : (kind : Kind) (name : List ℕ) (colon : Bool) (es : List TextEvent) (more : List (List TextEvent)) (ds : List Document) → PutsAll false colon (es ∷ more) ds
-    → (below : List Document) (outer : List OpenBlock)
+    → (below : List Document) (outer : List PartialBlock)
     → ◌≡◌ {A = Growing} (grown (below, outer) (Open kind name ∷ (es ++ tail_events kind One more))) (below ++ block_of kind colon (name_leaf kind name ++ ds) ∷ [], outer)
 block_grows kind name colon es more ds h below outer =
     row_grows kind One false colon es more ds (below ++ name_leaf kind name) below (name_leaf kind name ++ ds) outer h (append_assoc below (name_leaf kind name) ds)
@@ -58,7 +58,7 @@ tuple_is (c ∷ name) ds = refl
 
 mutual
   -- the events of a token document put its normal form on the stack
-  document_grows : (d : Document) → HasTokens d → (below : List Document) (outer : List OpenBlock)
+  document_grows : (d : Document) → HasTokens d → (below : List Document) (outer : List PartialBlock)
       → ◌≡◌ {A = Growing} (grown (below, outer) (events_of d)) (below ++ normal d ∷ [], outer)
   document_grows (leaf text) h = λ below outer. refl
   document_grows (joined ds) h = absurd h
@@ -112,7 +112,7 @@ mutual
       (leaf name ∷ normal value ∷ more.0, (leaf name ∷ normal value ∷ [], more.0, first, more.1, refl), ap (field name (normal value)) more.2)
 
 -- a sink that grows with each event takes it as `Sink` asks
-pub takes_event : {E : Type 0} (old new : List Doc × List OpenBlock) (e : TextEvent) (answer : Result (⊤) E) → OnOk answer (growing new ≡ grow (growing old) e)
+pub takes_event : {E : Type 0} (old new : List Doc × List PartialBlock) (e : TextEvent) (answer : Result (⊤) E) → OnOk answer (growing new ≡ grow (growing old) e)
     → TakesEvent (λ start es sink. growing sink ≡ grown (growing start) es) (λ _ _ _. ⊤) old e (is_ok answer) new
 takes_event old new e (Ok x) h = λ start es before. h ∙ ap (λ g. grow g e) before ∙ sym (grown-append (growing start) es (e ∷ []))
 takes_event old new e (Err x) h = λ start es before. tt
@@ -122,9 +122,9 @@ pub whole_is : (d : Document) (new : Growing) → IsToken d → normal d ≡ d �
 whole_is d new token form grew = grew ∙ document_grows d token.0 [] [] ∙ ap (λ x. (x ∷ [], [])) form
 
 -- the last open block in the array is the innermost
-pub innermost_is : (blocks : List OpenBlock) (n : ℕ) (block : OpenBlock) → n < length blocks → reverse (take (n + 1) blocks) ≡ get_or blocks n block ∷ reverse (take n blocks)
+pub innermost_is : (blocks : List PartialBlock) (n : ℕ) (block : PartialBlock) → n < length blocks → reverse (take (n + 1) blocks) ≡ get_or blocks n block ∷ reverse (take n blocks)
 innermost_is blocks n block within = ap reverse (take_more blocks n block within) ∙ reverse-append (take n blocks) (get_or blocks n block ∷ [])
 
 -- a block that is put after the open ones in the array is the innermost
-pub one_more : (blocks : List OpenBlock) (n : ℕ) (block : OpenBlock) → n < length blocks → reverse (take (n + 1) (set blocks n block)) ≡ block ∷ reverse (take n blocks)
+pub one_more : (blocks : List PartialBlock) (n : ℕ) (block : PartialBlock) → n < length blocks → reverse (take (n + 1) (set blocks n block)) ≡ block ∷ reverse (take n blocks)
 one_more blocks n block within = ap reverse (take_more_set blocks n block within) ∙ reverse-append (take n blocks) (block ∷ [])

@@ -14,7 +14,7 @@ const TWO_INDENTS: &str = "        ";
 #[derive(Clone, Copy)]
 pub(crate) struct Level {
     pub(crate) mode: Mode,
-    pub(crate) depth: u8,
+    pub(crate) open_blocks: u8,
 }
 
 /// What follows this byte, if the input begins with it.

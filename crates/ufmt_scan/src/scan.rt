@@ -68,13 +68,13 @@ fn scan_document<'a, S: Sink, const PRETTY: bool>(
     let mut rest = input;
     'documents: loop {
         let begun = name_field::<S, PRETTY>(blocks, mode, rest, sink)?;
-        let depth = blocks.count;
-        let (opened, after) = begin::<S, PRETTY>(Level { mode, depth }, begun, sink)?;
+        let open_blocks = blocks.count;
+        let (opened, after) = begin::<S, PRETTY>(Level { mode, open_blocks }, begun, sink)?;
         rest = after;
         if let Some(innermost) = opened {
-            outer[depth as usize] = blocks.innermost;
+            outer[open_blocks as usize] = blocks.innermost;
             // No entry begins in the 256th block.
-            let Some(count) = depth.checked_add(1) else {
+            let Some(count) = open_blocks.checked_add(1) else {
                 return Err(ScanError::NotText);
             };
             blocks = OpenBlocks { count, innermost };
@@ -130,8 +130,8 @@ fn end_entries<'a, S: Sink, const PRETTY: bool>(
 {
     let mut open = blocks;
     let mut rest = input;
-    'ends: while let Some(depth) = open.count.checked_sub(1) {
-        let level = Level { mode, depth };
+    'ends: while let Some(open_blocks) = open.count.checked_sub(1) {
+        let level = Level { mode, open_blocks };
         let (next, after) = after_document::<S, PRETTY>(level, open.innermost, rest, sink)?;
         rest = after;
         if let Some(innermost) = next {
@@ -139,8 +139,8 @@ fn end_entries<'a, S: Sink, const PRETTY: bool>(
             return Ok((OpenBlocks { count, innermost }, rest));
         }
         open = OpenBlocks {
-            count: depth,
-            innermost: outer[depth as usize],
+            count: open_blocks,
+            innermost: outer[open_blocks as usize],
         };
     }
     Ok((open, rest))

@@ -4,14 +4,14 @@ use Rattle.ufmt.specs.Document.{Document, leaf, list_of, set_of, map_of, struct_
 use Rattle.ufmt_core.specs.declared.layout.Kind.{Kind}
 use Rattle.ufmt_core.specs.declared.layout.Kind.TheVariants.{Brackets, Braces, Struct, Tuple, Unnamed}
 use Rattle.ufmt_doc.specs.declared.doc.Doc.{Doc}
-use Rattle.ufmt_doc.specs.declared.reader.document_sink.OpenBlock.{OpenBlock}
+use Rattle.ufmt_doc.specs.declared.reader.document_sink.PartialBlock.{PartialBlock}
 use Rattle.ufmt_doc.specs.Doc.{doc_document}
 use Rattle.ufmt_scan.specs.declared.scan.event.Event.TheVariants.{Leaf, Empty, Open, FieldName, Colon, Next, Close}
 use Rattle.ufmt_scan.specs.Scan.{TextEvent}
 
 -- the documents on the stack, the last one on top, and the open blocks, the innermost first
 abbrev pub Growing : Type 0
-Growing = List Document × List OpenBlock
+Growing = List Document × List PartialBlock
 
 -- each two items in a row, as a pair
 abbrev pub in_pairs : {A : Type 0} → List A → List (A × A)
@@ -38,7 +38,7 @@ block_of Tuple colon (name ∷ ds) = tuple_of (text_of name) (documents ds)
 block_of kind colon ds = leaf []
 
 -- an open block whose entries start there, and whether a colon came in it
-abbrev pub block_at : ℕ → Bool → OpenBlock
+abbrev pub block_at : ℕ → Bool → PartialBlock
 block_at start colon = record { start = start; has_colon = colon }
 
 -- one document more on the stack
@@ -86,5 +86,5 @@ grown g [] = g
 grown g (e ∷ es) = grown (grow g e) es
 
 -- what a sink has made of the events that it took
-abbrev pub growing : List Doc × List OpenBlock → Growing
+abbrev pub growing : List Doc × List PartialBlock → Growing
 growing sink = (map doc_document sink.0, sink.1)

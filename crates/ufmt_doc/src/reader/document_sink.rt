@@ -17,7 +17,7 @@ const MOST_OPEN: usize = 256;
 
 // An open block: where its entries start on the stack, and whether a colon came in it.
 #[derive(Clone, Copy)]
-struct OpenBlock {
+struct PartialBlock {
     start: usize,
     has_colon: bool,
 }
@@ -29,7 +29,7 @@ struct OpenBlock {
 pub(super) struct DocumentSink {
     alloc: Global,
     docs: Vec<Doc>,
-    blocks: [OpenBlock; MOST_OPEN],
+    blocks: [PartialBlock; MOST_OPEN],
     open_blocks: usize,
 }
 
@@ -38,9 +38,9 @@ impl Model for DocumentSink {
     ghost use Rattle.std.specs.Prelude.{◌≡◌, ◌≤◌, List, length, reverse, take};
     ghost use Rattle.ufmt_doc.specs.contracts.doc.Doc as doc;
     ghost use Rattle.ufmt_doc.specs.declared.doc.Doc.{Doc};
-    ghost use Rattle.ufmt_doc.specs.declared.reader.document_sink.OpenBlock.{OpenBlock};
+    ghost use Rattle.ufmt_doc.specs.declared.reader.document_sink.PartialBlock.{PartialBlock};
 
-    ghost Value = { List Doc × List OpenBlock };
+    ghost Value = { List Doc × List PartialBlock };
 
     ghost coded = { Prim.hlevel (codes, doc.the_row.coded) };
 
@@ -114,7 +114,7 @@ fn take_block(
     alloc: Global,
     docs: &mut Vec<Doc>,
     kind: Kind,
-    block: OpenBlock,
+    block: PartialBlock,
 ) -> Result<Doc, AllocError>
     requires { block.start < length docs.old.items }
     ensures docs { OnOk result (docs.new.items ≡ take block.start docs.old.items) }
@@ -147,7 +147,7 @@ impl DocumentSink {
         DocumentSink {
             alloc,
             docs: Vec::new(alloc),
-            blocks: [OpenBlock {
+            blocks: [PartialBlock {
                 start: 0,
                 has_colon: false,
             }; MOST_OPEN],
@@ -196,7 +196,7 @@ impl DocumentSink {
         if self.open_blocks == MOST_OPEN {
             return Err(AllocError);
         }
-        self.blocks[self.open_blocks] = OpenBlock {
+        self.blocks[self.open_blocks] = PartialBlock {
             start: self.docs.len(),
             has_colon: false,
         };

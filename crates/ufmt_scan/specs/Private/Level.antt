@@ -15,7 +15,7 @@ depth_in Pretty k = k
 
 -- the mode and depth at which a document is laid out
 abbrev pub setting_at : Level → Setting
-setting_at level = setting level.mode (depth_in level.mode level.depth)
+setting_at level = setting level.mode (depth_in level.mode level.open_blocks)
 
 -- what reads an entry of a block at this mode and depth. It reads none at `zero`, where blocks have no entries
 abbrev pub entry_at : Setting → ℕ → Parse Document
@@ -24,7 +24,7 @@ entry_at s (suc n) = read (inside s) n
 
 -- how deep blocks with entries may be nested in a document at this level
 abbrev pub budget_of : Level → ℕ
-budget_of level = 255 - level.depth
+budget_of level = 255 - level.open_blocks
 
 -- what reads an entry of a block at this level
 abbrev pub entry_of : Level → Parse Document

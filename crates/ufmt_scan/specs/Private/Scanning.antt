@@ -154,7 +154,7 @@ scan_block level kind t = choose (strip ((frame level.mode kind).closing Zero) t
 
 -- the level with this many blocks around it
 abbrev pub level_at : Mode → ℕ → Level
-level_at mode k = record { mode = mode; depth = k }
+level_at mode k = record { mode = mode; open_blocks = k }
 
 -- the events of a document with this many blocks around it: no entry begins in the 256th
 abbrev pub document_at : Mode → ℕ → Parse (List TextEvent)

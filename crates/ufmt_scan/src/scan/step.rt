@@ -229,7 +229,7 @@ pub(super) fn after_document<'a, S: Sink, const PRETTY: bool>(
     input: &'a [u8],
     sink: &mut S,
 ) -> Result<Step<'a>, ScanError<S::Error>>
-    requires { level.depth < 255 }
+    requires { level.open_blocks < 255 }
     ensures { Steps S.took S.stopped result sink.old sink.new (suc (length input.now))
         (scan_stage level stage input.now) (after level) }
 {
@@ -252,7 +252,7 @@ fn after_entry<'a, S: Sink, const PRETTY: bool>(
     input: &'a [u8],
     sink: &mut S,
 ) -> Result<Step<'a>, ScanError<S::Error>>
-    requires { level.depth < 255 }
+    requires { level.open_blocks < 255 }
     ensures { Steps S.took S.stopped result sink.old sink.new (suc (length input.now))
         (scan_rest (turn_of level stage) level (kind_of stage) (next (earlier stage)) input.now)
         (after level) }

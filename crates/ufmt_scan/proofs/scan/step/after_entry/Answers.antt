@@ -56,12 +56,12 @@ module _ (level : Level) (at : Stage) where
 
 pub returns-in_default : goal.returns-in_default
 returns-in_default g c =
-    let apart = c.between-separator.ensures (setting_at c.args.level).depth (few c.args.level.mode c.args.level.depth c.requires) in
+    let apart = c.between-separator.ensures (setting_at c.args.level).depth (few c.args.level.mode c.args.level.open_blocks c.requires) in
     (nothing_there _ (follows c.args.level c.args.stage c.args.input.now _ c.between-separator.result.now _ None c.trail.ensures c.setting.ensures apart c.in_default.ensures), tt)
 
 pub returns-in-Some-strip_piece : goal.returns-in-Some-strip_piece
 returns-in-Some-strip_piece g c =
-    let apart = c.between-separator.ensures (setting_at c.args.level).depth (few c.args.level.mode c.args.level.depth c.requires) in
+    let apart = c.between-separator.ensures (setting_at c.args.level).depth (few c.args.level.mode c.args.level.open_blocks c.requires) in
     let line = c.in-Some.line.now in
     let start = c.in-Some-strip_piece.start.now in
     let within = strip_within _ c.args.input.now line (sym c.in-Some.ensures) in
@@ -72,7 +72,7 @@ returns-in-Some-strip_piece g c =
 
 pub returns-in_default-strip_closing : goal.returns-in_default-strip_closing
 returns-in_default-strip_closing g c =
-    let apart = c.between-separator.ensures (setting_at c.args.level).depth (few c.args.level.mode c.args.level.depth c.requires) in
+    let apart = c.between-separator.ensures (setting_at c.args.level).depth (few c.args.level.mode c.args.level.open_blocks c.requires) in
     let closing = rw (c.block-kind.ensures.kind, c.block-kind.ensures.count) at c.in_default-strip_closing.ensures in (
       nothing_there _ (follows c.args.level c.args.stage c.args.input.now _ c.between-separator.result.now _ (Some c.in-Some.line.now) c.trail.ensures c.setting.ensures apart c.in-Some.ensures
           ∙ rw (sym c.in_default-strip_piece.ensures, sym closing) refl),
@@ -81,7 +81,7 @@ returns-in_default-strip_closing g c =
 
 pub returns : goal.returns
 returns g c =
-    let apart = c.between-separator.ensures (setting_at c.args.level).depth (few c.args.level.mode c.args.level.depth c.requires) in
+    let apart = c.between-separator.ensures (setting_at c.args.level).depth (few c.args.level.mode c.args.level.open_blocks c.requires) in
     let line = c.in-Some.line.now in
     let end = c.in-Some-strip_closing.end.now in
     let closing = rw (c.block-kind.ensures.kind, c.block-kind.ensures.count) at c.in-Some-strip_closing.ensures in

@@ -2,14 +2,14 @@ use Rattle.std.proofs.Common.{◌≡◌, ◌∙◌, refl, ap, ◌+◌, ◌<◌, 
 use Rattle.std.proofs.lemmas.List.{drop-map, map-append, take-map}
 use Rattle.ufmt_core.specs.declared.layout.Kind.{Kind}
 use Rattle.ufmt_doc.specs.declared.doc.Doc.{Doc}
-use Rattle.ufmt_doc.specs.declared.reader.document_sink.OpenBlock.{OpenBlock}
+use Rattle.ufmt_doc.specs.declared.reader.document_sink.PartialBlock.{PartialBlock}
 use Rattle.ufmt_doc.specs.Doc.{doc_document}
 use Rattle.ufmt_doc.specs.Private.Growing.{block_of, closed, growing}
 use Rattle.ufmt_doc.proofs.GrowingDocuments.{innermost_is}
 use Rattle.ufmt_doc.proofs.reader.document_sink.DocumentSink.close.Goals as goal
 
 -- the block that is made of the entries takes their place
-closes : (kind : Kind) (block : OpenBlock) (outer all : List OpenBlock) (docs new : List Doc) (made : Doc) → all ≡ block ∷ outer
+closes : (kind : Kind) (block : PartialBlock) (outer all : List PartialBlock) (docs new : List Doc) (made : Doc) → all ≡ block ∷ outer
     → doc_document made ≡ block_of kind block.has_colon (map doc_document (drop block.start docs)) → new ≡ take block.start docs ++ made ∷ []
     → growing (new, outer) ≡ closed kind (growing (docs, all))
 closes kind block outer all docs new made top is put =
