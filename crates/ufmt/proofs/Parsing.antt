@@ -2,16 +2,9 @@
 use Rattle.std.proofs.Common.{◌≡◌, ◌≢◌, ◌⊎◌, inl, inr, refl, ap, ℕ, ◌==◌, Bool, true, false, cond, List, [], ◌∷◌, ◌++◌, Option, Some, None, option_map, option_and_then, eq-eqb, eqb-true}
 use Rattle.ufmt.specs.Reading.{choose, parse_map, strip}
 
-<<<<<<< HEAD
--- a text is stripped from the front of what begins with it
 pub strip_joined : (text t : List ℕ) → strip text (text ++ t) ≡ Some t
 strip_joined [] t = refl
 strip_joined (c ∷ text) t = rw (eq-eqb c c refl) (strip_joined text t)
-=======
-pub strip_joined : (text t : List ℕ) → strip text (text ++ t) ≡ Some t
-strip_joined [] t = refl
-strip_joined (c ∷ text) t = rw (eq-eqb c c refl) (strip_joined text t)
->>>>>>> a4ea1b9e46eabb1e4fae83299f20a90a7dd31e6b
 
 same_value : {A : Type 0} (x y : A) → Some x ≡ Some y → x ≡ y
 same_value x y h = cc
