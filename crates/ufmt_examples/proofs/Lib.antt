@@ -1,1 +1,1 @@
-pub mod ReadingTokens
+pub mod MeasurementTokens

@@ -20,26 +20,26 @@ use ufmt_doc::plain_reader::{ReadError, read_plain};
 
 /// Returns the text of a field of the struct that was printed to a line. Returns `None` if the line is
 /// no struct, has no such field, or if the field is a block.
-pub fn read_field(alloc: Global, line: &[u8], label: &str) -> Result<Option<String>, ReadError>
+pub fn read_field(alloc: Global, line: &[u8], name: &str) -> Result<Option<String>, ReadError>
     ensures found { IfOk result (λ text.
         (d : Document) → IsToken d → plain_text d ≡ line.now
         → option_map string_bytes text
-        ≡ option_and_then leaf_part (field_part label.now (normal d))) }
+        ≡ option_and_then leaf_part (field_part name.now (normal d))) }
     ensures not_text { IsErrOf result ReadError.NotText → IsNoText plain_text line.now }
 {
     let doc = read_plain(alloc, line)?;
-    match leaf_field(&doc, label) {
+    match leaf_field(&doc, name) {
         Some(text) => Ok(Some(String::from_str(alloc, text)?)),
         None => Ok(None),
     }
 }
 
 // The text of a struct's field, if it is a leaf.
-fn leaf_field<'a>(doc: &'a Doc, label: &str) -> Option<&'a str>
+fn leaf_field<'a>(doc: &'a Doc, name: &str) -> Option<&'a str>
     ensures { option_copied result
-        ≡ option_and_then leaf_part (field_part label.now (doc_document doc.now)) }
+        ≡ option_and_then leaf_part (field_part name.now (doc_document doc.now)) }
 {
-    doc.field(label)?.as_leaf()
+    doc.field(name)?.as_leaf()
 }
 
 /// Returns the temperature of a measurement that was printed to a line, as its decimal text. A printed
