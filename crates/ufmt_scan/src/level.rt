@@ -66,10 +66,13 @@ impl Level {
     pub(crate) fn setting(self) -> Setting
         ensures { result ≡ setting_at self }
     {
-        let Level { mode, depth } = self;
+        let mode = self.mode;
         match mode {
             Mode::Plain => Setting { mode, depth: 0 },
-            Mode::Pretty => Setting { mode, depth },
+            Mode::Pretty => Setting {
+                mode,
+                depth: self.open_blocks,
+            },
         }
     }
 
