@@ -1,4 +1,5 @@
-//! What each builder and its formatter are after a call that failed, at each piece of each call.
+//! Tests of what each builder and its formatter are after a call that failed, at each of its
+//! pieces.
 use super::builder_calls::Block;
 use super::same;
 use super::stopped_calls::wrong_piece;
@@ -82,7 +83,7 @@ field     |    |2|,\n|;
 finish     |)|";
 
 #[test]
-fn builders_stop_at_each_piece(rt: HostRuntime) {
+fn builders_close_at_each_refused_piece(rt: HostRuntime) {
     for (case, block, is_pretty, calls) in [
         ("a plain list", Block::List, false, PLAIN_LIST),
         ("a pretty list", Block::List, true, PRETTY_LIST),
