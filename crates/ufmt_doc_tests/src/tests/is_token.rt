@@ -1,4 +1,4 @@
-//! Which documents are token documents.
+//! Tests of `is_token`.
 use super::same;
 use super::shape::Shape::{self, Leaf, StructOf, TupleOf};
 use super::shape::made;
@@ -26,14 +26,14 @@ const ROWS: [(&str, Shape<'static>, bool); 13] = [
         false,
     ),
     (
-        "a label of brackets",
+        "a field name of brackets",
         StructOf("S", &[("()", Leaf("x"))]),
         false,
     ),
 ];
 
 #[test]
-fn is_token_tells_leaves_and_names_apart(rt: HostRuntime) {
+fn is_token_tests_leaves_and_names(rt: HostRuntime) {
     for (case, shape, wanted) in ROWS {
         same(&rt, is_token(rt.alloc(), &shape), Ok(wanted), case);
     }

@@ -1,4 +1,4 @@
-//! Nested lists, as documents.
+//! Tests of nested lists: how deep a token document is at most, and how long its texts are.
 use super::same;
 use super::shape::Shape::{self, Leaf, Listed};
 use super::shape::made;
@@ -6,8 +6,8 @@ use std::alloc::{AllocError, Global};
 use ufmt_doc::convert::{plain_text, pretty_text};
 use ufmt_doc::doc::Doc;
 
-// So many lists around a document.
-pub fn lists_round(alloc: Global, count: usize, inner: &Shape<'_>) -> Result<Doc, AllocError> {
+// `count` lists around a document.
+pub fn lists_around(alloc: Global, count: usize, inner: &Shape<'_>) -> Result<Doc, AllocError> {
     let mut doc = made(alloc, inner)?;
     for _ in 0..count {
         let mut entries = Vec::new(alloc);
@@ -17,7 +17,7 @@ pub fn lists_round(alloc: Global, count: usize, inner: &Shape<'_>) -> Result<Doc
     Ok(doc)
 }
 
-// How many lines a text has, and with how many spaces this line begins.
+// How many lines a text has, and how many spaces its innermost line begins with.
 fn lines_and_spaces(text: &str, innermost: &str) -> (usize, usize) {
     let (mut count, mut spaces) = (0usize, 0);
     for line in text.lines() {
@@ -29,27 +29,28 @@ fn lines_and_spaces(text: &str, innermost: &str) -> (usize, usize) {
     (count, spaces)
 }
 
-// Whether the text can be read again, the lengths of both texts, and the lines of the pretty one.
+// Whether it is a token document, the lengths of its texts, and the lines of the pretty one.
 type Sizes = (bool, usize, usize, (usize, usize));
 
-// Those of so many lists.
+// The sizes of `count` lists.
 fn measured(
     alloc: Global,
     count: usize,
     inner: &Shape<'_>,
     innermost: &str,
 ) -> Result<Sizes, AllocError> {
-    let doc = lists_round(alloc, count, inner)?;
+    let doc = lists_around(alloc, count, inner)?;
     let plain = plain_text(alloc, &doc)?.len();
     let pretty = pretty_text(alloc, &doc)?;
     let lines = lines_and_spaces(&pretty, innermost);
     Ok((doc.is_token(), plain, pretty.len(), lines))
 }
 
-// A list adds two bytes to the plain text, and two lines to the pretty one. The 255th and each within
-// it add 2045 bytes to that: two lines with 1020 spaces, the most that there are, and five bytes more.
+// A list adds two bytes to the plain text, and two lines to the pretty one. Each list after the
+// 255th adds 2045 bytes to the pretty text: 1020 spaces, which is the most, to each line, and five
+// bytes more.
 #[test]
-fn lists_lie_255_deep_and_lines_begin_with_1020_spaces(rt: HostRuntime) {
+fn lists_are_nested_255_deep_and_lines_begin_with_1020_spaces(rt: HostRuntime) {
     let rows: [(usize, Shape<'_>, &str, Sizes); 4] = [
         (255, Leaf("x"), "x,", (true, 511, 261_376, (511, 1020))),
         (255, Listed(&[]), "[],", (true, 512, 261_377, (511, 1020))),

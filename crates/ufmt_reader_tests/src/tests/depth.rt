@@ -1,10 +1,10 @@
-//! Nested blocks: to how many levels they are read.
+//! Tests of how deep blocks can be nested in a text.
 use super::same;
-use super::verdict::{Verdict, told};
+use super::verdict::{Verdict, verdict_on};
 use std::alloc::{AllocError, Global};
 use ufmt::layout::Mode;
 
-// `depth` nested lists with one entry, around what has the text `inner`, plain.
+// The plain text of `depth` nested lists around `inner`.
 fn plain_lists(alloc: Global, depth: usize, inner: &[u8]) -> Result<Vec<u8>, AllocError> {
     let mut text = Vec::new(alloc);
     for _ in 0..depth {
@@ -24,7 +24,7 @@ fn indent(text: &mut Vec<u8>, depth: usize) -> Result<(), AllocError> {
     Ok(())
 }
 
-// The same, pretty.
+// The pretty text of these lists.
 fn pretty_lists(alloc: Global, depth: usize, inner: &[u8]) -> Result<Vec<u8>, AllocError> {
     let mut text = Vec::new(alloc);
     for k in 0..depth {
@@ -40,8 +40,7 @@ fn pretty_lists(alloc: Global, depth: usize, inner: &[u8]) -> Result<Vec<u8>, Al
     Ok(text)
 }
 
-// What the calls say of such lists in a mode.
-fn told_of_lists(
+fn verdict_on_lists(
     alloc: Global,
     mode: Mode,
     depth: usize,
@@ -51,11 +50,11 @@ fn told_of_lists(
         Mode::Plain => plain_lists(alloc, depth, inner.as_bytes())?,
         Mode::Pretty => pretty_lists(alloc, depth, inner.as_bytes())?,
     };
-    Ok(told(alloc, mode, &text))
+    Ok(verdict_on(alloc, mode, &text))
 }
 
 #[test]
-fn blocks_with_entries_lie_at_most_255_deep(rt: HostRuntime) {
+fn blocks_with_entries_are_nested_at_most_255_deep(rt: HostRuntime) {
     let rows = [
         (Mode::Plain, 255, "x", Verdict::Taken),
         (Mode::Plain, 255, "[]", Verdict::Taken),
@@ -67,12 +66,12 @@ fn blocks_with_entries_lie_at_most_255_deep(rt: HostRuntime) {
         (Mode::Pretty, 256, "[]", Verdict::Refused),
     ];
     for (mode, depth, inner, wanted) in rows {
-        let given = told_of_lists(rt.alloc(), mode, depth, inner);
+        let given = verdict_on_lists(rt.alloc(), mode, depth, inner);
         same(&rt, given, Ok(wanted), inner);
     }
 }
 
-// So many opening lines of lists, each with four more spaces before it than the line above.
+// `count` opening lines of lists, each with four spaces more than the line above.
 fn opening_lines(alloc: Global, count: usize) -> Result<Vec<u8>, AllocError> {
     let mut text = Vec::new(alloc);
     for k in 0..count {
@@ -82,21 +81,21 @@ fn opening_lines(alloc: Global, count: usize) -> Result<Vec<u8>, AllocError> {
     Ok(text)
 }
 
-// What the calls say of so many brackets, and of so many lines.
-fn told_of_openings(
+// The verdicts on opening brackets, and on opening lines.
+fn verdicts_on_openings(
     alloc: Global,
     brackets: usize,
     lines: usize,
 ) -> Result<(Verdict, Verdict), AllocError> {
     let brackets = vec![in alloc; b'['; brackets]?;
     let lines = opening_lines(alloc, lines)?;
-    let plain = told(alloc, Mode::Plain, &brackets);
-    Ok((plain, told(alloc, Mode::Pretty, &lines)))
+    let plain = verdict_on(alloc, Mode::Plain, &brackets);
+    Ok((plain, verdict_on(alloc, Mode::Pretty, &lines)))
 }
 
 #[test]
 fn blocks_that_never_end_are_refused(rt: HostRuntime) {
-    let given = told_of_openings(rt.alloc(), 1_000_000, 1000);
+    let given = verdicts_on_openings(rt.alloc(), 1_000_000, 1000);
     let wanted = (Verdict::Refused, Verdict::Refused);
     same(&rt, given, Ok(wanted), "brackets, lines");
 }
