@@ -8,7 +8,7 @@ use ufmt::layout::Mode;
 use ufmt_doc::doc::Doc;
 use ufmt_doc::laws::*;
 
-/// Leads texts and a document back to themselves.
+/// Calls the laws by which texts and a document come back.
 pub fn report_laws(rt: &HostRuntime) -> io::Result<()> {
     let (plain, pretty) = (NODE_PLAIN.as_bytes(), NODE_PRETTY.as_bytes());
     let answer = Answer::of_conversion(plain_again(rt.alloc(), plain), Some(NODE_PLAIN));
@@ -29,7 +29,7 @@ pub fn report_laws(rt: &HostRuntime) -> io::Result<()> {
     }
 }
 
-// A tuple of a leaf that is made a struct, and a map that is made a set.
+// `loosen` makes the leaf a struct, and the map a set.
 const LOOSE: &str = "(A, {})";
 
 fn report_normal(rt: &HostRuntime, mut doc: Doc) -> io::Result<()> {

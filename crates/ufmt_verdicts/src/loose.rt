@@ -3,7 +3,7 @@ use std::alloc::Global;
 use std::mem;
 use ufmt_doc::doc::Doc;
 
-/// Makes each word a struct and a tuple without fields in turn, and each map without pairs a set.
+/// Makes words structs and tuples without fields, in turn, and empty maps sets.
 #[derive(Clone, Copy)]
 pub struct Loosener {
     pub alloc: Global,
