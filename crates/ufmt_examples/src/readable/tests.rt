@@ -1,8 +1,8 @@
-//! Lines that are texts, and lines that differ from one by a byte.
+//! Tests of `is_readable`.
 use super::*;
 
 #[test]
-fn lines_are_told_apart(rt: HostRuntime) {
+fn is_readable_is_true_only_of_plain_texts(rt: HostRuntime) {
     let readable = [
         "Measurement { channel: 3, celsius: -4 }",
         "[1, {}, ()]",
