@@ -15,7 +15,7 @@ use std::alloc::AllocError;
 use std::fmt::Debug;
 use std::process::Abort;
 
-// An assert takes the check as long as twenty calls, so asserts are calls of this one.
+// Checking an assert takes as long as checking twenty calls, so asserts are calls of this one.
 pub fn same<T: PartialEq + Debug + Drop>(rt: &impl Abort, given: T, wanted: T, case: &str) {
     assert_eq!(rt; given, wanted, "{case}");
 }

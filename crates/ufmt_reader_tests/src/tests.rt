@@ -13,8 +13,8 @@ mod verdict;
 use std::fmt::Debug;
 use std::process::Abort;
 
-// An assert takes the check as long as twenty calls, so asserts are calls of these two.
-// No other function is generic over the handle, which takes as long again.
+// Checking an assert takes as long as checking twenty calls, so asserts are calls of these two.
+// No other function is generic over the handle: checking that takes as long again.
 pub fn same<T: PartialEq + Debug + Drop>(rt: &impl Abort, given: T, wanted: T, case: &str) {
     assert_eq!(rt; given, wanted, "{case}");
 }

@@ -62,8 +62,8 @@ impl Answer {
         }
     }
 
-    /// The answer of a conversion to `ample`, or of one that fails with `NotText` if that is
-    /// `None`.
+    /// The answer of a conversion. With ample memory it returns `ample`, or fails with `NotText` if
+    /// that is `None`.
     pub fn of_conversion(answer: Result<String, ReadError>, ample: Option<&str>) -> Answer
         ensures memory { IsErrOf answer ReadError.OutOfMemory ↔ (result ≡ Answer.WantOfMemory) }
         ensures text { (result ≡ Answer.Ample) → IfOk answer (λ text.
@@ -77,8 +77,8 @@ impl Answer {
         }
     }
 
-    /// The answer of a reader of a document with the plain text `ample`, or of one that fails with
-    /// `NotText` if that is `None`.
+    /// The answer of a reader. With ample memory its document has the plain text `ample`, or it
+    /// fails with `NotText` if that is `None`.
     pub fn of_document(answer: Result<Doc, ReadError>, ample: Option<&str>) -> Answer
         ensures memory { IsErrOf answer ReadError.OutOfMemory ↔ (result ≡ Answer.WantOfMemory) }
         ensures text { (result ≡ Answer.Ample) → IfOk answer (λ doc.

@@ -29,7 +29,7 @@ pub fn report_laws(rt: &HostRuntime) -> io::Result<()> {
     }
 }
 
-// `loosen` makes the leaf a struct, and the map a set.
+// `loosen` turns the leaf into a struct, and the map into a set.
 const LOOSE: &str = "(A, {})";
 
 fn report_normal(rt: &HostRuntime, mut doc: Doc) -> io::Result<()> {

@@ -24,8 +24,8 @@ fn read(alloc: Global, mode: Mode, text: &str) -> Result<Doc, ReadError> {
     }
 }
 
-/// Makes each leaf `A` a struct, each leaf `B` a tuple, both without fields, and each empty map a
-/// set. The texts stay the same. It takes no memory.
+/// Turns each leaf `A` into a struct and each leaf `B` into a tuple, both without fields, and each
+/// empty map into a set. The texts stay the same. It takes no memory.
 #[cycle(loosen)]
 pub fn loosen(doc: &mut Doc, alloc: Global) {
     match doc {

@@ -51,7 +51,7 @@ Node {
 }";
 
 /// A list of blocks of each kind, with up to five entries, and of leaves of each kind. One leaf is
-/// longer than 255 bytes. `loosen` makes the leaves `A` and `B` blocks.
+/// longer than 255 bytes. `loosen` turns the leaves `A` and `B` into blocks.
 pub const MANY_PLAIN: &str = "\
 [{a, A, c}, {d: 1, A: 2, f: B, g: 4}, S { h: 5, i: A, j: {}, k: 8, l: B }, n(m, A), (A,), (q, r), [], {}, (), \
 \"\\\"é\\\"\\n\", '\\'', '€', wwwwwwwwwwwwwwwwwwwwwwwwwwwwwwwwwwwwwwwwwwwwwwwwwwwwwwwwwwwwwwwwwwwwwwwwwwwwwwwwwwwwwwwwwwwwwwwwwwwwwwwwwwwwwwwwwwwwwwwwwwwwwwwwwwwwwwwwwwwwwwwwwwwwwwwwwwwwwwwwwwwwwwwwwwwwwwwwwwwwwwwwwwwwwwwwwwwwwwwwwwwwwwwwwwwwwwwwwwwwwwwwwwwwwwwwwwwwwwwwwwwwwwwwwwwwwwwwwwww, \"\\0\\t\\r\\\\\\u{1}\\u{7f}'\"]";

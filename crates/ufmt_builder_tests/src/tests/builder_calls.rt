@@ -11,7 +11,7 @@ pub struct LastCall<'a> {
 }
 
 impl<'a> LastCall<'a> {
-    /// The call that makes the builder, if it fails: no builder is open before it and after it.
+    /// The call that makes the builder. No builder is open before it, nor after it if it fails.
     pub fn opening() -> Self {
         LastCall {
             name: "opening",

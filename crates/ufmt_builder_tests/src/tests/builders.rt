@@ -1,5 +1,4 @@
-//! Tests of what each builder and its formatter are after a call that failed, at each of its
-//! pieces.
+//! Tests of each builder and its formatter after a failed call, for each piece of each call.
 use super::builder_calls::Block;
 use super::same;
 use super::stopped_calls::wrong_piece;

@@ -11,8 +11,8 @@ use std::test::Fail;
 use std::{fmt, io};
 use ufmt::{Cursor, Formatter, uDebug};
 
-// An assert takes the check as long as twenty calls, so asserts are calls of these two.
-// No other function is generic over the handle, which takes as long again.
+// Checking an assert takes as long as checking twenty calls, so asserts are calls of these two.
+// No other function is generic over the handle: checking that takes as long again.
 fn same<T: PartialEq + fmt::Debug + Drop>(rt: &impl Abort, given: T, wanted: T, case: &str) {
     assert_eq!(rt; given, wanted, "{case}");
 }

@@ -9,19 +9,19 @@ fn is_token(alloc: Global, shape: &Shape<'_>) -> Result<bool, AllocError> {
 }
 
 const ROWS: [(&str, Shape<'static>, bool); 13] = [
-    ("a leaf of no byte", Leaf(""), false),
+    ("an empty leaf", Leaf(""), false),
     ("a leaf with a space", Leaf("a b"), false),
     ("a leaf of brackets", Leaf("()"), true),
-    ("a leaf of a sign", Leaf("-"), true),
+    ("a leaf of a minus sign", Leaf("-"), true),
     ("a text in quotes", Leaf("\"a\""), true),
     ("a text without its last quotation mark", Leaf("\"a"), false),
-    ("a text in quotes and more", Leaf("\"a\"b"), false),
+    ("a text in quotes and one more byte", Leaf("\"a\"b"), false),
     ("a character in quotes", Leaf("'a'"), true),
     ("two characters in quotes", Leaf("'ab'"), false),
-    ("a tuple of nothing", TupleOf("", &[]), false),
-    ("a tuple of nothing by name", TupleOf("()", &[]), false),
+    ("a tuple without a name and fields", TupleOf("", &[]), false),
+    ("a tuple with a name of brackets", TupleOf("()", &[]), false),
     (
-        "a struct of no name",
+        "a struct without a name",
         StructOf("", &[("a", Leaf("x"))]),
         false,
     ),

@@ -80,8 +80,8 @@ fn left(is_pretty: bool, answer: Result<(), Full>) -> Left {
     (answer, (is_pretty, 0), (false, 0))
 }
 
-// Whether a writer that refuses the piece with any number has only the pieces before it, and is
-// passed none after it.
+// Whether a writer that refuses one piece has the pieces before it and is passed no later one, for
+// each piece.
 fn stops_at_each_number(alloc: Global, is_pretty: bool, doc: &Doc, all: &Noted) -> bool {
     for number in 1..=all.count {
         let (given, noted) = print_to(is_pretty, doc, Noted::new(alloc, number));

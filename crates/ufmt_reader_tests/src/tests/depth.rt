@@ -56,18 +56,66 @@ fn verdict_on_lists(
 #[test]
 fn blocks_with_entries_are_nested_at_most_255_deep(rt: HostRuntime) {
     let rows = [
-        (Mode::Plain, 255, "x", Verdict::Taken),
-        (Mode::Plain, 255, "[]", Verdict::Taken),
-        (Mode::Plain, 256, "x", Verdict::Refused),
-        (Mode::Plain, 256, "[]", Verdict::Refused),
-        (Mode::Pretty, 255, "x", Verdict::Taken),
-        (Mode::Pretty, 255, "[]", Verdict::Taken),
-        (Mode::Pretty, 256, "x", Verdict::Refused),
-        (Mode::Pretty, 256, "[]", Verdict::Refused),
+        (
+            "a leaf in 255 plain lists",
+            Mode::Plain,
+            255,
+            "x",
+            Verdict::Taken,
+        ),
+        (
+            "an empty list in 255 plain lists",
+            Mode::Plain,
+            255,
+            "[]",
+            Verdict::Taken,
+        ),
+        (
+            "a leaf in 256 plain lists",
+            Mode::Plain,
+            256,
+            "x",
+            Verdict::Refused,
+        ),
+        (
+            "an empty list in 256 plain lists",
+            Mode::Plain,
+            256,
+            "[]",
+            Verdict::Refused,
+        ),
+        (
+            "a leaf in 255 pretty lists",
+            Mode::Pretty,
+            255,
+            "x",
+            Verdict::Taken,
+        ),
+        (
+            "an empty list in 255 pretty lists",
+            Mode::Pretty,
+            255,
+            "[]",
+            Verdict::Taken,
+        ),
+        (
+            "a leaf in 256 pretty lists",
+            Mode::Pretty,
+            256,
+            "x",
+            Verdict::Refused,
+        ),
+        (
+            "an empty list in 256 pretty lists",
+            Mode::Pretty,
+            256,
+            "[]",
+            Verdict::Refused,
+        ),
     ];
-    for (mode, depth, inner, wanted) in rows {
+    for (case, mode, depth, inner, wanted) in rows {
         let given = verdict_on_lists(rt.alloc(), mode, depth, inner);
-        same(&rt, given, Ok(wanted), inner);
+        same(&rt, given, Ok(wanted), case);
     }
 }
 

@@ -1,4 +1,4 @@
-//! Tests of conversions to writers and into buffers, of each size, and of inputs that are no text.
+//! Tests of conversions to writers and into buffers of each size, also of inputs that are no text.
 use super::holds;
 use super::texts::{NODE_PLAIN, NODE_PRETTY};
 use std::alloc::{AllocError, Global};

@@ -1,4 +1,4 @@
-//! Tests of `fields!` on values that it takes apart. It may use some of their field names itself.
+//! Tests of `fields!` on values that it takes apart, with field names that it may use itself.
 use super::rows::{are_ok, same};
 use ufmt::{Formatter, fields, uDebug, uWrite};
 

@@ -86,7 +86,7 @@ fn write_char_calls_write_char_of_the_writer(rt: HostRuntime) {
     same(&rt, noted.text.as_str(), "éabc", "the text");
 }
 
-// An empty text by the writer and by a formatter, and a character of four bytes.
+// Writes an empty text by the writer and by a formatter, and a character of four bytes.
 fn write_both<W: uWrite + Drop>(mut writer: W) -> [Result<(), W::Error>; 3] {
     let by_writer = writer.write_str("");
     let mut f = Formatter::new(writer);
