@@ -1,23 +1,23 @@
-"""Random token documents, and texts that are nearly one's text. A seed makes the same ones each time."""
+"""Random token documents, their texts, and texts that differ a little. One seed makes the same ones each time."""
 import random
 
 from model import DEEPEST, Block, plain, pretty, quoted
 
 LETTERS = "abcxyzABCXYZ0189_-"
-# Characters of one to four bytes, those that have an escape, and the ends of their ranges.
+# Characters of one to four bytes, the ends of these ranges, and characters that have an escape.
 CHARACTERS = (
     "\0\t\n\r\\\"'\x01\x08\x0b\x0c\x0e\x1b\x1f\x7f aZ~,:[]{}()\u0080\u00e9\u07ff\u0800\u20ac\ud7ff\ue000\ufffd\uffff"
     "\U00010000\U0001f980\U0010ffff"
 )
-# One of each length in bytes, and one of each escape: long texts of these stand for those of the others.
+# One character of each length in bytes, and one of each escape. The longest texts are made only of these.
 KINDS_OF_CHARACTERS = "a\u00e9\u20ac\U0001f980\0\t\n\r\\\"'\x01\x1b"
-# Widths and lengths around those where a counter or a buffer could end.
+# Widths, lengths and depths around those where a counter or a buffer could end.
 WIDTHS = (1, 2, 3, 4, 5, 6, 7, 8, 9, 12, 13, 16, 17, 31, 32, 33, 64, 65, 100, 127, 128, 129, 254, 255, 256, 257, 1000)
 LENGTHS = (1, 2, 15, 16, 63, 64, 65, 127, 128, 129, 254, 255, 256, 257, 511, 512, 600, 1023, 1024, 4095, 4096, 4097, 65535, 65536, 100_000)
 DEPTHS = (1, 2, 3, 4, 5, 8, 12, 13, 16, 17, 31, 32, 33, 64, 100, 127, 128, 129, 200, 254, 255, 256)
-# A place of a document in a block, by which a chain goes down.
+# The places that a document can have in a block of a chain.
 PLACES = ("list", "set", "key", "value", "struct", "tuple", "unnamed", "last of two", "first of two")
-# What a mutation puts in: brackets, spaces, line ends, escapes, quotes, and bytes that end no character.
+# What a change puts in: brackets, spaces, line ends, escapes and quotes; and bytes that are no UTF-8.
 PIECES = (
     "[", "]", "{", "}", "(", ")", "[]", "{}", "()", ",", ", ", ",\n", ": ", ":", " ", "    ", "\n", "\r", "\t", "\0", "\x7f",
     '"', "'", "\\", "\\n", "\\u{1b}", "\\u{a}", "\\u{7F}", "\\u{07f}", "\\u{41}", "\\'", '\\"', "\\x", "a", "-", "\u00e9",
@@ -62,7 +62,7 @@ class Maker:
         return Block(self.random.choice(("list", "map")), "", [])
 
     def block(self, kind, values):
-        """A block of this kind, or of the kind that has such a place, with these values."""
+        """A block of this kind with these values. An unnamed tuple is of the kind "unnamed"."""
         if kind == "map":
             return Block("map", "", [(self.document(0), value) for value in values])
         if kind == "struct":
@@ -76,7 +76,7 @@ class Maker:
         return self.random.choice(("list", "set", "map", "struct", "tuple", "unnamed"))
 
     def document(self, depth):
-        """With blocks at most so deep, and of any kind."""
+        """A document with blocks of any kind, nested at most this deep."""
         form = self.random.random()
         if depth == 0 or form < 0.15:
             return self.empty() if form < 0.03 else self.leaf()
@@ -88,7 +88,7 @@ class Maker:
         return self.block(kind, values)
 
     def wide(self):
-        """A block with many entries, which are small."""
+        """A block with many small entries."""
         values = [self.document(self.random.choice((0, 0, 0, 1))) for _ in range(self.random.choice(WIDTHS))]
         return self.block(self.kind(), values)
 
@@ -105,7 +105,7 @@ class Maker:
         return self.block(place, [document])
 
     def chain(self):
-        """A document as deep as one can be, or deeper by one, by one place or by any."""
+        """Nested blocks with one document inside, at one place or at any. They can be one deeper than allowed."""
         depth = self.random.choice(DEPTHS)
         place = self.random.choice(PLACES)
         is_mixed = self.random.random() < 0.3
@@ -115,7 +115,7 @@ class Maker:
         return document
 
     def whole_text(self):
-        """The plain or the pretty text of a document. One that is too deep is no token document."""
+        """The plain or the pretty text of a document, which can be too deep."""
         form = self.random.random()
         if form < 0.7:
             document = self.document(self.random.choice((1, 1, 2, 2, 3, 3, 4)))
@@ -128,14 +128,14 @@ class Maker:
         return self.random.choice((plain, pretty))(document)
 
     def placed_leaf(self):
-        """A long leaf, by itself or in a place of a block."""
+        """A long leaf, by itself or in a block."""
         leaf = self.long_leaf()
         if self.random.random() < 0.5:
             return leaf
         return self.deeper(self.random.choice(PLACES), leaf)
 
     def changed(self, data):
-        """The text with a change, most often of one byte or one piece."""
+        """The text with a change, most often by one byte or one piece."""
         at = self.random.randrange(len(data) + 1)
         form = self.random.randrange(8)
         piece = self.random.choice(PIECES).encode()
@@ -156,7 +156,7 @@ class Maker:
         return data[:at] + piece + data[at:]
 
     def changed_at(self, data, piece):
-        """One of the places of another piece, exchanged for this one."""
+        """The text with this piece where it had another."""
         old = self.random.choice(PIECES).encode()
         count = data.count(old)
         if count == 0:
@@ -166,7 +166,7 @@ class Maker:
         return old.join(pieces[:at]) + piece + old.join(pieces[at:])
 
     def noise(self):
-        """Bytes that are no text, as long as one."""
+        """Bytes that are most often no text, and can be long."""
         length = self.random.choice(LENGTHS)
         form = self.random.randrange(4)
         if form == 0:
@@ -190,7 +190,7 @@ class Maker:
 
 
 def beginnings():
-    """Texts that stand for their kind and come first with every seed: each shape at each limit."""
+    """Texts that come first with every seed: each shape at each limit."""
     maker = Maker(0)
     yield from (b"", b"\n", b"()", b"[]", b"{}", b'""', b"''", b"x\n")
     for depth in (DEEPEST - 1, DEEPEST, DEEPEST + 1):

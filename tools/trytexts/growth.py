@@ -1,4 +1,4 @@
-"""Steps of the program on a text of each shape, and on one that is twice as long."""
+"""Counts the steps of the program on a text of each shape, and on one that is twice as long."""
 import re
 import shutil
 import subprocess
@@ -6,7 +6,7 @@ import subprocess
 from model import Block, plain, pretty, quoted
 
 SIZE = 64 * 1024
-# Where steps can't be counted, another order of growth takes longer than this.
+# Without valgrind, a run that grows in another order takes longer than this.
 SECONDS = 20
 PLACES = ("list", "set", "key", "value", "struct", "tuple", "unnamed")
 
@@ -24,7 +24,7 @@ def placed(place, document):
 
 
 def deep(place, factor):
-    """Both the depth and the innermost leaf are doubled, so that a walk for each level would take four times as long."""
+    """A chain. The factor is for the depth and for the leaf, so a walk of the text for each level would show."""
     document = "x" * (SIZE * factor)
     for _ in range(60 * factor):
         document = placed(place, document)
@@ -42,7 +42,7 @@ def wide(place, value, factor):
 
 
 def documents():
-    """Each shape by its name: a call gives the document of one size or of twice that."""
+    """Each shape by its name, with a call that makes the document, of one size or of twice that."""
     shapes = {
         "a long word": lambda factor: "x" * (SIZE * factor),
         "a long text in quotes": lambda factor: quoted("a" * (SIZE * factor)),
@@ -58,7 +58,7 @@ def documents():
 
 
 def no_texts():
-    """Texts of no document, whose end is what is wrong, or their beginning."""
+    """Texts of no document. They are wrong at the end or at the beginning."""
     return {
         "opening brackets": lambda factor: "[" * (SIZE * factor),
         "spaces": lambda factor: " " * (SIZE * factor),
@@ -74,7 +74,7 @@ def no_texts():
 
 
 def cases():
-    """Each text that is to be run: its name, and a call that gives it."""
+    """Each text to run: its name, and a call that makes it."""
     for name, document in documents().items():
         yield name + ", plain", lambda factor, document=document: plain(document(factor))
         yield name + ", pretty", lambda factor, document=document: pretty(document(factor))
@@ -82,7 +82,7 @@ def cases():
 
 
 class Meter:
-    """Counts the steps of a run, with valgrind where it is there, and else its seconds."""
+    """Counts the steps of a run with valgrind, or its seconds if there is no valgrind."""
 
     def __init__(self, program, room):
         self.program = str(program)
@@ -90,7 +90,7 @@ class Meter:
         self.valgrind = shutil.which("valgrind")
 
     def steps(self, name, data):
-        """The steps of a run on one text; None without valgrind. It raises an error where the run is wrong or too long."""
+        """The steps of a run on one text, or None without valgrind. Raises an error if the run is wrong or too long."""
         path = self.room / (re.sub(r"\W", "-", name) + ".texts")
         path.write_bytes(b"%d\n%s" % (len(data), data))
         command = [self.program]
@@ -109,7 +109,7 @@ class Meter:
         return int(found[1].replace(b",", b""))
 
     def fault(self, case):
-        """What is wrong with the growth of a case; None if nothing is."""
+        """What is wrong with the growth of a case, or None."""
         name, text = case
         try:
             first = self.steps(name, text(1).encode())

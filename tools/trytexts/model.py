@@ -1,4 +1,4 @@
-"""What the library should say of a text, by tables of its own. It shares no code with the project.
+"""What the library should say of a text. The model has its own tables, and shares no code with the project.
 
 A document is a leaf, which is a str, or a Block. Documents here are in normal form: a struct or a tuple
 has a field, and a set has an entry.
@@ -7,7 +7,7 @@ import re
 import zlib
 from typing import NamedTuple
 
-# The most blocks with entries that lie one in another.
+# How deep blocks with entries are nested at most.
 DEEPEST = 255
 INDENT = "    "
 
@@ -15,8 +15,8 @@ INDENT = "    "
 class Block(NamedTuple):
     """A list, a set, a map, a struct or a tuple.
 
-    An entry is a pair: what is before a colon, and a document. Before the colon a map has a document,
-    a struct a name, and the other kinds None.
+    An entry is a pair: what is before the colon, and a document. Before the colon a map has a document, and
+    a struct has a name. The other kinds have None.
     """
 
     kind: str
@@ -24,7 +24,7 @@ class Block(NamedTuple):
     entries: list
 
 
-# ---- The layout of blocks. Each row: what opens the block, and what closes it. The name comes first.
+# ---- The layout of blocks. A row has what opens the block after its name, and what closes it.
 
 PLAIN_FRAMES = {
     "list": ("[", "]"),
@@ -44,7 +44,7 @@ EMPTY = {"list": "[]", "map": "{}"}
 
 
 def plain(document):
-    """The plain text: entries are joined by a comma and a space."""
+    """The plain text. Entries have a comma and a space between them."""
     out = []
     add_plain(document, out)
     return "".join(out)
@@ -73,7 +73,7 @@ def add_plain(document, out):
 
 
 def pretty(document):
-    """The pretty text: an entry a line, indented by the depth of its block, with a comma after it."""
+    """The pretty text. An entry begins on a line of its own, indented, and a comma comes after it."""
     out = []
     add_pretty(document, 0, out)
     return "".join(out)
@@ -99,7 +99,7 @@ def add_pretty(document, depth, out):
     out.append(INDENT * depth + closing)
 
 
-# ---- Quoted leaves. Of each character the first row that fits is its only spelling.
+# ---- Quoted leaves. The first rule that fits a character is its only spelling.
 
 
 def spelled(character, quote):
@@ -124,20 +124,20 @@ ESCAPE = re.compile(r"\\u\{([0-9a-f]+)\}|\\(.)")
 
 
 def unquoted(leaf):
-    """What is between the quotes of a leaf, without escapes. None of a leaf without quotes."""
+    """The text between the quotes of a leaf, without escapes. None if the leaf has no quotes."""
     if leaf[0] not in "\"'":
         return None
     letters = {"0": "\0", "t": "\t", "n": "\n", "r": "\r"}
 
-    def denoted(found):
+    def decoded(found):
         if found[1] is not None:
             return chr(int(found[1], 16))
         return letters.get(found[2], found[2])
 
-    return ESCAPE.sub(denoted, leaf[1:-1])
+    return ESCAPE.sub(decoded, leaf[1:-1])
 
 
-# ---- The readers, one for each table of texts. A call gives a document and where it ends, or None.
+# ---- The readers of plain and pretty texts. A call returns a document and where it ends, or None.
 
 
 def leaf_at(text, at):
@@ -182,7 +182,7 @@ class Reader:
         return block or None
 
     def block_at(self, text, at, depth, name):
-        """A block whose opening is here. None where nothing opens, and False where no block is whole."""
+        """The block that opens here. None if no block opens, and False if the block is not whole."""
         for kind in ["struct", "tuple"] if name else ["list", "map", "tuple"]:
             opening, closing = self.frames[kind]
             if text.startswith(opening, at):
@@ -205,7 +205,7 @@ class Reader:
         return block, at + len(end)
 
     def entry_at(self, text, at, depth, kind):
-        """A field has a name and a colon, and a pair of a map a key and a colon."""
+        """An entry. A field has a name and a colon before its value, and a pair has a key and a colon."""
         before = None
         if kind == "struct":
             found = WORD.match(text, at)
@@ -221,7 +221,7 @@ class Reader:
         return (before, found[0]), found[1]
 
     def entries_at(self, text, at, depth, kind):
-        """At least one entry. In braces each has a colon, or none has."""
+        """At least one entry. In braces all have a colon, or none has."""
         entries = []
         more = self.before_entry(text, at, depth, True)
         while more is not None:
@@ -262,7 +262,7 @@ class PrettyReader(Reader):
         return INDENT * depth + closing
 
     def before_entry(self, text, at, depth, _is_first):
-        """A line of the block begins with its indentation, and then there is an entry."""
+        """Where the entry begins, after the indentation of its line."""
         indentation = INDENT * (depth + 1)
         return at + len(indentation) if text.startswith(indentation, at) else None
 
@@ -270,11 +270,11 @@ class PrettyReader(Reader):
         return at + 2 if text.startswith(",\n", at) else None
 
 
-# ---- What the calls tell of a document.
+# ---- What the calls say of a document.
 
 
 def events(document, out):
-    """What a scan tells its sink: a sign for each part, and its text."""
+    """The events that a scan emits: signs for each event, and its text."""
     if isinstance(document, str):
         out.append("=" + document + " ")
         return
@@ -297,7 +297,7 @@ def events(document, out):
 
 
 def parts(document, out):
-    """Its parts: a letter and a name for each block, and its entries in parentheses."""
+    """The parts of a document: a letter and a name for each block, and its entries in parentheses."""
     if isinstance(document, str):
         inside = unquoted(document)
         out.append("=" + document + (" " if inside is None else "~" + inside + " "))
@@ -315,7 +315,7 @@ def parts(document, out):
 
 
 def depth_of(document):
-    """How many blocks with entries lie one in another."""
+    """How deep blocks with entries are nested."""
     if isinstance(document, str) or not document.entries:
         return 0
     depths = [depth_of(value) for _before, value in document.entries]
@@ -330,9 +330,9 @@ def digest(text):
     return "%d %d %d" % (len(text), adler >> 16, adler & 0xFFFF)
 
 
-def joined(tell, document):
+def joined(add, document):
     out = []
-    tell(document, out)
+    add(document, out)
     return "".join(out)
 
 
@@ -372,7 +372,7 @@ def verdict(data):
 
 
 def answer(command, data):
-    """Status, standard output and standard error of the program that converts."""
+    """The status, standard output and standard error of ufmt_conv."""
     if command == "lengths":
         lines = data.split(b"\n")
         if lines[-1] == b"":

@@ -1,6 +1,6 @@
 #![tactic(auto)]
 
-//! Tests of the builders and of `fields!`, by public calls alone.
+//! Tests of the builders and of macros, by public calls only.
 
 #[cfg(test)]
 mod tests;

@@ -1,6 +1,6 @@
 #![tactic(auto)]
 
-//! Tests of documents, by public calls alone.
+//! Tests of documents, by public calls only.
 
 #[cfg(test)]
 mod tests;

@@ -1,11 +1,12 @@
-//! What no clause says: that calls on documents can succeed, and what they give on rows written by hand.
-mod deep;
-mod normal;
+//! Tests of what no clause says: that calls on documents can succeed, and their results on rows
+//! that are written by hand.
+mod is_token;
+mod nested_lists;
+mod normalize;
 mod pieces;
 mod printed;
-mod same_texts;
+mod same_text;
 mod shape;
-mod tokens;
 
 use std::alloc::Global;
 use std::fmt::Debug;
@@ -13,14 +14,13 @@ use std::process::Abort;
 use ufmt_doc::convert::{plain_text, pretty_text};
 use ufmt_doc::doc::Doc;
 
-// Asserts are calls of this one: one that is written out takes the check as long as a score of calls.
-// No other function is generic over the handle, which takes it as long again: what a row needs beside
-// it is a call that answers a plain value.
+// Checking an assert takes as long as checking twenty calls, so asserts are calls of this one.
+// No other function is generic over the handle: checking that takes as long again.
 pub fn same<T: PartialEq + Debug + Drop>(rt: &impl Abort, given: T, wanted: T, case: &str) {
     assert_eq!(rt; given, wanted, "{case}");
 }
 
-// Whether this is the document's plain text. Want of memory is no.
+// Whether this is the document's plain text. Without memory this is false.
 pub fn has_plain_text(alloc: Global, doc: &Doc, plain: &[u8]) -> bool {
     match plain_text(alloc, doc) {
         Ok(text) => text.as_bytes() == plain,
@@ -28,7 +28,7 @@ pub fn has_plain_text(alloc: Global, doc: &Doc, plain: &[u8]) -> bool {
     }
 }
 
-// Likewise of its pretty text.
+// The same for its pretty text.
 pub fn has_pretty_text(alloc: Global, doc: &Doc, pretty: &[u8]) -> bool {
     match pretty_text(alloc, doc) {
         Ok(text) => text.as_bytes() == pretty,

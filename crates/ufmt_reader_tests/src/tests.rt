@@ -1,11 +1,11 @@
-//! What no clause says of texts that are read and converted: that calls can succeed, and what they give on
-//! rows written by hand.
+//! Tests of what no clause says of readers and conversions: that calls can succeed, and their
+//! results on rows that are written by hand.
+mod depth;
 mod laws;
-mod levels;
-mod malformed;
 mod misquoted;
 mod parts;
 mod quoted;
+mod read_and_convert;
 mod texts;
 mod to_writers;
 mod verdict;
@@ -13,9 +13,8 @@ mod verdict;
 use std::fmt::Debug;
 use std::process::Abort;
 
-// Asserts are calls of these two: one that is written out takes the check as long as a score of calls.
-// No other function is generic over the handle, which takes it as long again: what a row needs beside
-// them is a call that answers a plain value.
+// Checking an assert takes as long as checking twenty calls, so asserts are calls of these two.
+// No other function is generic over the handle: checking that takes as long again.
 pub fn same<T: PartialEq + Debug + Drop>(rt: &impl Abort, given: T, wanted: T, case: &str) {
     assert_eq!(rt; given, wanted, "{case}");
 }

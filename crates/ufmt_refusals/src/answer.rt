@@ -1,4 +1,4 @@
-//! What a call returned, beside what it returns with ample memory.
+//! What a call returned, compared with what it returns with ample memory.
 ghost use Rattle.std.specs.Prelude.{◌≡◌, ◌≢◌, ◌↔◌, string_bytes, IfErr, IfOk, IfSome, IsErr, IsErrOf, IsNone, IsTrue};
 ghost use Rattle.ufmt.specs.Layout.{plain_text};
 ghost use Rattle.ufmt_doc.specs.Doc.{doc_document};
@@ -7,10 +7,10 @@ use std::alloc::AllocError;
 use ufmt_doc::doc::Doc;
 use ufmt_doc::plain_reader::ReadError;
 
-/// What a call answered.
+/// What a call returned.
 #[derive(Clone, Copy, PartialEq, Eq, Debug)]
 pub enum Answer {
-    /// What it returns with ample memory.
+    /// The same as with ample memory.
     Ample,
     WantOfMemory,
     Other,
@@ -25,7 +25,7 @@ impl Answer {
         }
     }
 
-    /// Of a call that gives nothing but memory.
+    /// The answer of a call that returns nothing.
     pub fn of_memory(answer: Result<(), AllocError>) -> Answer
         ensures memory { IsErr answer ↔ (result ≡ Answer.WantOfMemory) }
         ensures ample { result ≢ Answer.Other }
@@ -36,8 +36,8 @@ impl Answer {
         }
     }
 
-    /// Of a call that takes no memory, whether it gave what it should. The allocation is the program's
-    /// own, made just before the call.
+    /// The answer of a call that takes no memory, and whether it is right. `before` is an
+    /// allocation of the program's own, made just before the call.
     pub fn of_call(before: Result<(), AllocError>, is_right: bool) -> Answer
         ensures memory { IsErr before ↔ (result ≡ Answer.WantOfMemory) }
         ensures ample { (result ≡ Answer.Ample) → IsTrue is_right }
@@ -49,7 +49,7 @@ impl Answer {
         }
     }
 
-    /// Of a value's text, which is `ample` with ample memory.
+    /// The answer of a call that returns a value's text, which is `ample` with ample memory.
     pub fn of_text(answer: Result<String, AllocError>, ample: &str) -> Answer
         ensures memory { IsErr answer ↔ (result ≡ Answer.WantOfMemory) }
         ensures ample { (result ≡ Answer.Ample)
@@ -62,7 +62,8 @@ impl Answer {
         }
     }
 
-    /// Of a text that is converted: with ample memory to `ample`, and refused where that is `None`.
+    /// The answer of a conversion. With ample memory it returns `ample`, or fails with `NotText` if
+    /// that is `None`.
     pub fn of_conversion(answer: Result<String, ReadError>, ample: Option<&str>) -> Answer
         ensures memory { IsErrOf answer ReadError.OutOfMemory ↔ (result ≡ Answer.WantOfMemory) }
         ensures text { (result ≡ Answer.Ample) → IfOk answer (λ text.
@@ -76,9 +77,9 @@ impl Answer {
         }
     }
 
-    /// Of a text that is read: with ample memory as the document whose plain text is `ample`, and
-    /// refused where that is `None`.
-    pub fn of_measurement(answer: Result<Doc, ReadError>, ample: Option<&str>) -> Answer
+    /// The answer of a reader. With ample memory its document has the plain text `ample`, or it
+    /// fails with `NotText` if that is `None`.
+    pub fn of_document(answer: Result<Doc, ReadError>, ample: Option<&str>) -> Answer
         ensures memory { IsErrOf answer ReadError.OutOfMemory ↔ (result ≡ Answer.WantOfMemory) }
         ensures text { (result ≡ Answer.Ample) → IfOk answer (λ doc.
             IfSome ample.entry (λ wanted. plain_text (doc_document doc) ≡ wanted.now)) }
@@ -91,7 +92,7 @@ impl Answer {
         }
     }
 
-    // Of a text that is refused, as it should be where `ample` is `None`.
+    // The answer of a call that failed, as it should if `ample` is `None`.
     fn of_refusal(error: ReadError, ample: Option<&str>) -> Answer
         ensures memory { (error ≡ ReadError.OutOfMemory) ↔ (result ≡ Answer.WantOfMemory) }
         ensures refusal { (result ≡ Answer.Ample) → IsNone ample.entry }
@@ -104,7 +105,7 @@ impl Answer {
     }
 }
 
-/// Whether this is the document's plain text. It takes no memory, so that it is never refused any.
+/// Returns whether this is the document's plain text. It takes no memory.
 pub fn has_plain_text(doc: &Doc, text: Option<&str>) -> bool
     ensures { IsTrue result → IfSome text.entry (λ wanted.
         plain_text (doc_document doc.now) ≡ wanted.now) }

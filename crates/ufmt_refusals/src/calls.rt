@@ -1,4 +1,4 @@
-//! The calls that take memory, on texts and values, each with a line that says what it answered.
+//! The calls that take memory, on texts and values. Each has a line that says what it returned.
 use crate::answer::Answer;
 use crate::node::two_nodes;
 use crate::report::report;
@@ -16,17 +16,17 @@ use ufmt_doc::doc::Doc;
 use ufmt_doc::plain_reader::{ReadError, read_plain};
 use ufmt_doc::pretty_reader::read_pretty;
 
-// A `String` that a conversion returns is made in a vector that is a kilobyte longer at once.
+// A conversion that returns a `String` reserves a kilobyte at once. No sample's text is longer.
 const OF_A_STRING: u64 = 1;
 
 /// Reads the texts of a sample.
 pub fn report_readers(rt: &HostRuntime, sample: &Sample) -> io::Result<()> {
     let (plain, pretty) = (sample.plain.as_bytes(), sample.pretty.as_bytes());
     let ample = sample.ample_plain();
-    let answer = Answer::of_measurement(read_plain(rt.alloc(), plain), ample);
-    report(rt, "read_plain", sample.name, sample.of_measurement, answer)?;
-    let answer = Answer::of_measurement(read_pretty(rt.alloc(), pretty), ample);
-    report(rt, "read_pretty", sample.name, sample.of_measurement, answer)
+    let answer = Answer::of_document(read_plain(rt.alloc(), plain), ample);
+    report(rt, "read_plain", sample.name, sample.of_document, answer)?;
+    let answer = Answer::of_document(read_pretty(rt.alloc(), pretty), ample);
+    report(rt, "read_pretty", sample.name, sample.of_document, answer)
 }
 
 /// Converts each text of a sample to the other.
@@ -45,7 +45,7 @@ pub fn report_conversions(rt: &HostRuntime, sample: &Sample) -> io::Result<()> {
     report_plain(rt, sample, line, answer)
 }
 
-// A line on a conversion of a sample's plain text, with its name and how many allocations it makes.
+// Prints a line on a conversion of a sample's plain text, with its name and its allocations.
 fn report_pretty(
     rt: &HostRuntime,
     sample: &Sample,
@@ -56,7 +56,7 @@ fn report_pretty(
     report(rt, call, sample.name, allocations, answer)
 }
 
-// A line on a conversion of a sample's pretty text.
+// Prints a line on a conversion of a sample's pretty text.
 fn report_plain(
     rt: &HostRuntime,
     sample: &Sample,
@@ -79,7 +79,7 @@ fn plain_in_a_text(alloc: Global, pretty: &[u8]) -> Result<String, ReadError> {
     Ok(text)
 }
 
-/// Gives the texts of a node and of the lengths of three lines.
+/// Makes the texts of a node and of three lengths.
 pub fn report_values(rt: &HostRuntime) -> io::Result<()> {
     let answer = Answer::of_text(plain_text(rt.alloc(), &two_nodes()), NODE_PLAIN);
     report(rt, "plain_text", "a node", 4, answer)?;
@@ -93,12 +93,12 @@ pub fn report_values(rt: &HostRuntime) -> io::Result<()> {
     report(rt, "pretty_text", "three lengths", 3, answer)
 }
 
-// A text, and the leaf of it in quotes.
+// A text, and its leaf in quotes.
 const TEXT: &str = "a\"é\n";
 
 const QUOTED: &str = "\"a\\\"é\\n\"";
 
-// A character in words, with its leaf in quotes.
+// What a character is, the character, and its leaf in quotes.
 const CHARACTERS: [(&str, char, &str); 6] = [
     ("a letter", 'a', "'a'"),
     ("an apostrophe", '\'', "'\\''"),
@@ -108,14 +108,14 @@ const CHARACTERS: [(&str, char, &str); 6] = [
     ("a character of four bytes", '\u{1f600}', "'\u{1f600}'"),
 ];
 
-/// Puts texts and characters in quotes, and takes them out again.
+/// Makes leaves in quotes of texts and characters.
 pub fn report_quoted(rt: &HostRuntime) -> io::Result<()> {
-    let answer = Answer::of_measurement(leaf_of_text(rt.alloc(), TEXT), Some(QUOTED));
+    let answer = Answer::of_document(leaf_of_text(rt.alloc(), TEXT), Some(QUOTED));
     report(rt, "Doc::text", "a text", 2, answer)?;
-    let answer = Answer::of_measurement(leaf_of_text(rt.alloc(), ""), Some("\"\""));
+    let answer = Answer::of_document(leaf_of_text(rt.alloc(), ""), Some("\"\""));
     report(rt, "Doc::text", "no byte", 1, answer)?;
     for (case, character, leaf) in CHARACTERS {
-        let answer = Answer::of_measurement(leaf_of_character(rt.alloc(), character), Some(leaf));
+        let answer = Answer::of_document(leaf_of_character(rt.alloc(), character), Some(leaf));
         report(rt, "Doc::character", case, 1, answer)?;
     }
     Ok(())
@@ -136,7 +136,7 @@ const HEXADECIMAL: HexOptions = HexOptions {
     ox_prefix: true,
 };
 
-/// Writes into a text, which takes memory for what it is passed.
+/// Writes to a `String`, which takes memory for its text.
 pub fn report_writers(rt: &HostRuntime) -> io::Result<()> {
     report_written(rt, ("write_str", "a text", 1), "aé", |text| {
         uWrite::write_str(text, "aé")
@@ -163,7 +163,7 @@ pub fn report_writers(rt: &HostRuntime) -> io::Result<()> {
     })
 }
 
-// A line on a call that writes this text, with its name, its case and how many allocations it makes.
+// Prints a line on a call that writes this text, with its name, its case and its allocations.
 fn report_written<F: FnOnce(&mut String) -> Result<(), AllocError>>(
     rt: &HostRuntime,
     line: (&str, &str, u64),

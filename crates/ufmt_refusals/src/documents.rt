@@ -17,7 +17,7 @@ use ufmt_scan::quoted::split_escaped;
 
 const MANY: &str = "many entries";
 
-/// Makes each call on a document of many entries, and on another with its text.
+/// Makes each call on a document of many entries, and on another with the same text.
 pub fn report_documents(rt: &HostRuntime) -> io::Result<()> {
     let (answer, doc) = read_twice(rt.alloc(), Mode::Plain, MANY_PLAIN);
     report(rt, "read_plain", MANY, 43, answer)?;
@@ -33,7 +33,7 @@ pub fn report_documents(rt: &HostRuntime) -> io::Result<()> {
     }
 }
 
-// A document, and another that is made to have its text but another form.
+// Calls on a document, and on another that has the same text but is not in normal form.
 fn report_both(rt: &HostRuntime, doc: &Doc, mut other: Doc) -> io::Result<()> {
     loosen(&mut other, rt.alloc());
     report_free(rt, "is_token", MANY, || doc.is_token() && other.is_token())?;
@@ -188,7 +188,7 @@ impl Sink for Ignores {
     }
 }
 
-/// Asks of which kind leaves are, and takes one byte out of a text in quotes.
+/// Asks of which kind leaves are, and decodes one byte of a text in quotes.
 pub fn report_leaves(rt: &HostRuntime) -> io::Result<()> {
     let (quoted, case) = ("\"é\\u{1b}\"", "leaves");
     report_free(rt, "is_leaf", case, || {

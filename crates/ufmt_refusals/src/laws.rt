@@ -8,7 +8,7 @@ use ufmt::layout::Mode;
 use ufmt_doc::doc::Doc;
 use ufmt_doc::laws::*;
 
-/// Leads texts and a document back to themselves.
+/// Calls the laws by which texts and a document come back.
 pub fn report_laws(rt: &HostRuntime) -> io::Result<()> {
     let (plain, pretty) = (NODE_PLAIN.as_bytes(), NODE_PRETTY.as_bytes());
     let answer = Answer::of_conversion(plain_again(rt.alloc(), plain), Some(NODE_PLAIN));
@@ -29,7 +29,7 @@ pub fn report_laws(rt: &HostRuntime) -> io::Result<()> {
     }
 }
 
-// A tuple of a leaf that is made a struct, and a map that is made a set.
+// `loosen` turns the leaf into a struct, and the map into a set.
 const LOOSE: &str = "(A, {})";
 
 fn report_normal(rt: &HostRuntime, mut doc: Doc) -> io::Result<()> {
@@ -37,8 +37,8 @@ fn report_normal(rt: &HostRuntime, mut doc: Doc) -> io::Result<()> {
     if !doc.is_token() {
         return Ok(());
     }
-    let answer = Answer::of_measurement(normal_by_way_of_plain(rt.alloc(), &doc), Some(LOOSE));
+    let answer = Answer::of_document(normal_by_way_of_plain(rt.alloc(), &doc), Some(LOOSE));
     report(rt, "normal_by_way_of_plain", "a tuple", 4, answer)?;
-    let answer = Answer::of_measurement(normal_by_way_of_pretty(rt.alloc(), &doc), Some(LOOSE));
+    let answer = Answer::of_document(normal_by_way_of_pretty(rt.alloc(), &doc), Some(LOOSE));
     report(rt, "normal_by_way_of_pretty", "a tuple", 6, answer)
 }

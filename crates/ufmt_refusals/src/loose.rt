@@ -7,8 +7,8 @@ use ufmt_doc::doc::Doc;
 use ufmt_doc::plain_reader::{ReadError, read_plain};
 use ufmt_doc::pretty_reader::read_pretty;
 
-/// A text that is read, and read again where memory was refused: only one allocation is. So the calls on
-/// the document can be made in each run.
+/// Reads a text, and reads it again if memory was refused. Only one allocation is refused in a run,
+/// so the document is there in each run.
 pub fn read_twice(alloc: Global, mode: Mode, text: &str) -> (Answer, Option<Doc>) {
     match read(alloc, mode, text) {
         Ok(doc) => (Answer::Ample, Some(doc)),
@@ -24,8 +24,8 @@ fn read(alloc: Global, mode: Mode, text: &str) -> Result<Doc, ReadError> {
     }
 }
 
-/// Makes each leaf `A` a struct without fields, each leaf `B` a tuple without fields, and each empty map a
-/// set. The texts stay, and it takes no memory.
+/// Turns each leaf `A` into a struct and each leaf `B` into a tuple, both without fields, and each
+/// empty map into a set. The texts stay the same. It takes no memory.
 #[cycle(loosen)]
 pub fn loosen(doc: &mut Doc, alloc: Global) {
     match doc {

@@ -1,9 +1,9 @@
-//! Makes each call of the library that takes memory, and the calls that take none, and says what each
-//! answered: that of ample memory, want of memory or anything else; and how many allocations it makes.
-//! `tools/try-refusals` runs it with one allocation after another refused, and counts.
+//! Makes each call of the library, and prints how many allocations it makes and what it returned:
+//! the same as with ample memory, want of memory, or anything else. `tools/try-refusals` runs it
+//! with one allocation after another refused, and counts.
 //!
-//! Standard input has a number: how many allocations are made before the calls. So one number of a
-//! refused allocation refuses any allocation of the calls.
+//! Standard input has the number of allocations that are made before the calls. With fewer of them,
+//! the one allocation that is refused in each run is a later one of the calls.
 #![tactic(auto)]
 
 mod answer;
@@ -41,12 +41,12 @@ fn main(rt: HostRuntime) -> io::Result<()> {
     documents::report_leaves(&rt)?;
     values::report_values(&rt)?;
     values::report_pieces(&rt)?;
-    // It is the first allocation after the calls: where it is refused, each of theirs was made.
+    // This is the first allocation after the calls. If it is refused, each of theirs was made.
     let last = Answer::of_memory(one_box(rt.alloc()));
     report(&rt, "one allocation", "the program itself", 1, last)
 }
 
-// The number on standard input; 0 where there is none.
+// The number on standard input, or 0 if there is none.
 fn spare_count(rt: &HostRuntime) -> io::Result<u64> {
     let mut bytes = [0; 20];
     let count = rt.reader().read(&mut bytes)?;

@@ -1,4 +1,4 @@
-//! A node that is printed into a text, and what is left of it where memory is refused.
+//! Prints a node to a `String`, and shows what is left if memory is refused.
 use crate::answer::Answer;
 use crate::node::two_nodes;
 use std::alloc::AllocError;

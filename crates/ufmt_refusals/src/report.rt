@@ -1,10 +1,10 @@
-//! The lines of the report: a call, what it answered, and how many allocations it makes.
+//! The lines of the report: a call, what it returned, and how many allocations it makes.
 use crate::answer::Answer;
 use std::alloc::{AllocError, Global};
 use std::io;
 
-/// A line on a call on a case. `tools/try-refusals` compares the number with the runs in which the call
-/// was refused an allocation.
+/// Prints a line on a call. `tools/try-refusals` compares its number with the runs in which the
+/// call was refused an allocation.
 pub fn report(
     rt: &HostRuntime,
     call: &str,
@@ -18,8 +18,9 @@ pub fn report(
     )
 }
 
-/// A line on a call that takes no memory, with whether it did what it should. The program makes an
-/// allocation of its own before the call. So one that a call makes in secret is between two lines.
+/// Prints a line on a call that takes no memory, with whether it is right. The program makes an
+/// allocation of its own before the call. So an allocation that a call makes in secret is between
+/// those of two lines.
 pub fn report_free<F: FnOnce() -> bool>(
     rt: &HostRuntime,
     call: &str,
@@ -33,12 +34,12 @@ where
     report(rt, call, case, 0, Answer::of_call(before, is_right()))
 }
 
-/// One allocation, which is let go at once.
+/// Makes one allocation, and frees it.
 pub fn one_box(alloc: Global) -> Result<(), AllocError> {
     boxes(alloc, 1)
 }
 
-/// So many allocations, each let go before the next is made.
+/// Makes `count` allocations, and frees each before the next.
 pub fn boxes(alloc: Global, count: u64) -> Result<(), AllocError> {
     for number in 0..count {
         let _box = Box::new(alloc, number)?;

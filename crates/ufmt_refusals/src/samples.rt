@@ -1,10 +1,11 @@
 //! The texts that are read and converted.
 
-/// Texts of one document, or of none, and how many allocations the calls on them make.
+/// The texts of a document or of none, and how many allocations the calls on them make.
 ///
-/// A reader makes one for each leaf, name and label that has a byte; one for each block with entries; and one
-/// for the stack of documents, and one more where more than 4, 8, 16 and so on lie on it. A text is made in a
-/// buffer that grows to 8 bytes, 16, 32 and so on, or to what a longer piece wants: each growth is one.
+/// A reader makes one for each leaf, name and field name that isn't empty, and one for each block
+/// with entries. Its stack of documents takes one, and one more each time it passes 4, 8, 16 and so
+/// on. A text grows to 8 bytes, 16, 32 and so on, or to what a longer piece needs. Each growth is
+/// one.
 #[derive(Clone, Copy)]
 pub struct Sample {
     pub name: &'static str,
@@ -12,21 +13,21 @@ pub struct Sample {
     pub pretty: &'static str,
     /// Whether they are texts of a document.
     pub is_read: bool,
-    /// For the document, from either text.
-    pub of_measurement: u64,
-    /// For the pretty text, written into a `String`.
+    /// Allocations for the document, from either text.
+    pub of_document: u64,
+    /// Allocations for the pretty text, written to a `String`.
     pub of_pretty: u64,
-    /// For the plain text, written into a `String`.
+    /// Allocations for the plain text, written to a `String`.
     pub of_plain: u64,
 }
 
 impl Sample {
-    /// The plain text, if it is one of a document.
+    /// Returns the plain text, if it is one of a document.
     pub fn ample_plain(&self) -> Option<&'static str> {
         if self.is_read { Some(self.plain) } else { None }
     }
 
-    /// The pretty text, if it is one of a document.
+    /// Returns the pretty text, if it is one of a document.
     pub fn ample_pretty(&self) -> Option<&'static str> {
         if self.is_read {
             Some(self.pretty)
@@ -49,8 +50,8 @@ Node {
     ),
 }";
 
-/// A list of blocks of each kind, with up to five entries, and of leaves of each kind, one of which is
-/// longer than 255 bytes. `A` and `B` are leaves that `loosen` makes blocks.
+/// A list of blocks of each kind, with up to five entries, and of leaves of each kind. One leaf is
+/// longer than 255 bytes. `loosen` turns the leaves `A` and `B` into blocks.
 pub const MANY_PLAIN: &str = "\
 [{a, A, c}, {d: 1, A: 2, f: B, g: 4}, S { h: 5, i: A, j: {}, k: 8, l: B }, n(m, A), (A,), (q, r), [], {}, (), \
 \"\\\"é\\\"\\n\", '\\'', '€', wwwwwwwwwwwwwwwwwwwwwwwwwwwwwwwwwwwwwwwwwwwwwwwwwwwwwwwwwwwwwwwwwwwwwwwwwwwwwwwwwwwwwwwwwwwwwwwwwwwwwwwwwwwwwwwwwwwwwwwwwwwwwwwwwwwwwwwwwwwwwwwwwwwwwwwwwwwwwwwwwwwwwwwwwwwwwwwwwwwwwwwwwwwwwwwwwwwwwwwwwwwwwwwwwwwwwwwwwwwwwwwwwwwwwwwwwwwwwwwwwwwwwwwwwwwwwwwwwwww, \"\\0\\t\\r\\\\\\u{1}\\u{7f}'\"]";
@@ -102,7 +103,7 @@ pub const MANY: Sample = Sample {
     plain: MANY_PLAIN,
     pretty: MANY_PRETTY,
     is_read: true,
-    of_measurement: 43,
+    of_document: 43,
     of_pretty: 8,
     of_plain: 7,
 };
@@ -115,7 +116,7 @@ pub fn all() -> [Sample; 3] {
             plain: NODE_PLAIN,
             pretty: NODE_PRETTY,
             is_read: true,
-            of_measurement: 16,
+            of_document: 16,
             of_pretty: 5,
             of_plain: 4,
         },
@@ -143,7 +144,7 @@ pub fn all() -> [Sample; 3] {
     },
 }",
             is_read: true,
-            of_measurement: 21,
+            of_document: 21,
             of_pretty: 6,
             of_plain: 4,
         },
@@ -152,7 +153,7 @@ pub fn all() -> [Sample; 3] {
             plain: "ab\n\nxyz",
             pretty: "ab\n\nxyz",
             is_read: false,
-            of_measurement: 2,
+            of_document: 2,
             of_pretty: 1,
             of_plain: 1,
         },

@@ -1,4 +1,4 @@
-//! The calls that print a value into a buffer, which take no memory.
+//! The calls that print a value into a buffer. They take no memory.
 use crate::answer::Answer;
 use crate::report::{report, report_free};
 use std::alloc::{AllocError, Global};
@@ -50,7 +50,7 @@ pub fn report_values(rt: &HostRuntime) -> io::Result<()> {
     })
 }
 
-// They are made again if an allocation was refused for them: only one is.
+// If memory was refused, the collections are made again. Only one allocation is refused in a run.
 fn report_collections(rt: &HostRuntime) -> io::Result<()> {
     let (answer, made) = match collections(rt.alloc()) {
         Ok(made) => (Answer::Ample, Some(made)),
@@ -110,7 +110,7 @@ const LEAST: &str = "0x80000000000000000000000000000000";
 
 const LIST: &str = "[\n    \"a\\\"é\",\n]";
 
-// Whether the buffer begins with the text, which has so many bytes.
+// Whether the call returned the text's length, and the buffer begins with the text.
 fn is_at_front(answer: Result<usize, Full>, buffer: &[u8], text: &str) -> bool {
     answer == Ok(text.len()) && buffer.starts_with(text.as_bytes())
 }

@@ -1,6 +1,6 @@
 #![tactic(auto)]
 
-//! Tests of the scanner, by public calls alone.
+//! Tests of the scanner, by public calls only.
 
 #[cfg(test)]
 mod tests;

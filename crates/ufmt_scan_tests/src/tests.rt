@@ -1,12 +1,12 @@
-//! What no clause says of the scanner: what it emits to a sink of rows written by hand, and that each call can
-//! succeed.
+//! Tests of what no clause says of the scanner: that each call can succeed, and the events of rows
+//! that are written by hand.
 mod leaves;
-mod scanned;
+mod scan;
 
 use std::fmt::Debug;
 use std::process::Abort;
 
-// Asserts are calls of this one: one that is written out takes the check as long as a score of calls.
+// Checking an assert takes as long as checking twenty calls, so asserts are calls of this one.
 pub fn same<T: PartialEq + Debug + Drop>(rt: &impl Abort, given: T, wanted: T, case: &str) {
     assert_eq!(rt; given, wanted, "{case}");
 }

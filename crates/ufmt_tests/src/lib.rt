@@ -1,6 +1,6 @@
 #![tactic(auto)]
 
-//! Tests of the libraries that print, by public calls alone.
+//! Tests of the libraries that print, by public calls only.
 
 #[cfg(test)]
 mod tests;

@@ -1,13 +1,12 @@
-//! What no clause says: the texts that the real ufmt and core::fmt print of the same values, where
-//! pieces end, what is left where a writer fails, and that each call can succeed. `rows` has what
-//! asserts a table, `each_piece` and `texts` the two kinds of rows.
+//! Tests of what no clause says: the texts that ufmt and core::fmt print of the same values, where
+//! pieces end, what a failing writer leaves, and that each call can succeed. `rows` asserts a
+//! table; `piece_rows` and `text_rows` make its rows.
 mod allocators;
 mod blocks;
-mod by_builders;
+mod builders;
 mod collections;
 mod cursors;
-mod each_piece;
-mod foreign;
+mod fields;
 mod formatters;
 mod forwarded;
 mod hexadecimal;
@@ -15,15 +14,16 @@ mod laws;
 mod leaves;
 mod lines;
 mod long_values;
-mod macros;
 mod numbers;
+mod piece_rows;
+mod print;
 mod printed;
 mod quoted;
 mod repeated;
 mod rows;
-mod taken_apart;
-mod texts;
+mod shadowed_names;
+mod text_rows;
 mod tuples;
-mod users;
-mod whole;
+mod user_types;
+mod uwrite;
 mod writers;

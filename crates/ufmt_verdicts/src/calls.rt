@@ -17,7 +17,7 @@ pub struct Calls<'a> {
 }
 
 impl Calls<'_> {
-    /// The same calls in the other mode, on what this text was converted to.
+    /// Returns the calls of the other mode on a converted text.
     pub fn on_converted<'b>(&self, text: &'b str) -> Calls<'b> {
         let mode = match self.mode {
             Mode::Plain => Mode::Pretty,
@@ -62,7 +62,7 @@ impl Calls<'_> {
         }
     }
 
-    /// The text, read and printed again.
+    /// Reads the text, and prints it again.
     pub fn again(&self) -> Result<String, ReadError> {
         match self.mode {
             Mode::Plain => laws::plain_again(self.alloc, self.text),
@@ -70,7 +70,7 @@ impl Calls<'_> {
         }
     }
 
-    /// The text, converted to the other mode and back.
+    /// Converts the text to the other mode and back.
     pub fn by_way_of_the_other(&self) -> Result<String, ReadError> {
         match self.mode {
             Mode::Plain => laws::plain_by_way_of_pretty(self.alloc, self.text),
@@ -78,7 +78,7 @@ impl Calls<'_> {
         }
     }
 
-    /// A document's own text in this mode.
+    /// Returns a document's text in this mode.
     pub fn print(&self, doc: &Doc) -> Result<String, AllocError> {
         match self.mode {
             Mode::Plain => convert::plain_text(self.alloc, doc),

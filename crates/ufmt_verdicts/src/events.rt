@@ -1,4 +1,4 @@
-//! A sink of one's own, which notes each event that it takes.
+//! A sink that notes each event.
 ghost use Rattle.std.specs.Prelude.{⊤};
 
 use std::alloc::{AllocError, Global};

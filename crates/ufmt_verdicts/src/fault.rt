@@ -1,10 +1,10 @@
-//! What is wrong with a call's answer.
+//! What is wrong with a call's result.
 use std::alloc::{AllocError, AllocFailed, Global};
 use ufmt::Full;
 use ufmt_doc::plain_reader::ReadError;
 use ufmt_doc::scan::ScanError;
 
-/// A wrong answer. Memory is at hand, so want of it is wrong too.
+/// A wrong result. There is memory enough, so want of memory is wrong too.
 #[derive(Clone, Copy)]
 pub enum Fault {
     WantOfMemory,
@@ -25,7 +25,7 @@ impl Fault {
     }
 }
 
-/// `Ok` if the call of this name is right.
+/// Returns `Ok` if the call of this name is right.
 pub fn agree(is_right: bool, call: &'static str) -> Result<(), Fault> {
     if is_right {
         Ok(())

@@ -14,7 +14,7 @@ use ufmt_doc::laws::{normal_by_way_of_plain, normal_by_way_of_pretty};
 use ufmt_doc::plain_reader::ReadError;
 use ufmt_doc::scan::ScanError;
 
-/// What the calls answer, in words.
+/// Returns what the calls say of the text, in words.
 pub fn verdict(calls: Calls<'_>) -> Result<String, AllocError> {
     let answer = match calls.read() {
         Ok(doc) => of_text(calls, &doc).map(Some),
@@ -28,13 +28,13 @@ pub fn verdict(calls: Calls<'_>) -> Result<String, AllocError> {
     }
 }
 
-// What came out of a text.
+// The results for a text.
 #[derive(Clone, Copy)]
 struct Half {
     events: Digest,
     converted: Digest,
     parts: Digest,
-    // Whether a list of the document can be read again: it lies less than 255 deep.
+    // Whether a list of the document is a token document: the document is less than 255 deep.
     is_token_in_a_list: bool,
 }
 
@@ -69,7 +69,7 @@ fn of_text(calls: Calls<'_>, doc: &Doc) -> Result<Half, Fault> {
     })
 }
 
-// Into any writer, and into buffers of the exact length and of one byte less.
+// Converts to a writer, and into buffers of the exact length and of one byte less.
 fn converts_alike(calls: Calls<'_>, converted: &str) -> Result<(), Fault> {
     let mut text = String::new(calls.alloc);
     calls.convert_to(&mut text)?;
@@ -92,7 +92,7 @@ fn is_full(answer: Result<usize, ScanError<Full>>) -> bool {
     }
 }
 
-// Read and printed, and there and back.
+// Reads and prints the text, and converts it to the other mode and back.
 fn comes_again(calls: Calls<'_>, converted: &str) -> Result<(), Fault> {
     let again = calls.again()?;
     agree(again.as_bytes() == calls.text, "read and printed again")?;
@@ -102,7 +102,7 @@ fn comes_again(calls: Calls<'_>, converted: &str) -> Result<(), Fault> {
     agree(back.as_bytes() == calls.text, "converted back")
 }
 
-// The document's own text is the text, in memory and in buffers.
+// Prints the document to a `String` and into buffers. The result must be the text.
 fn prints(calls: Calls<'_>, doc: &Doc) -> Result<(), Fault> {
     let text = calls.print(doc)?;
     agree(text.as_bytes() == calls.text, "print")?;
@@ -117,7 +117,7 @@ fn prints(calls: Calls<'_>, doc: &Doc) -> Result<(), Fault> {
     agree(is_full, "print into a buffer of one byte less")
 }
 
-// What was read stays as it is.
+// A document that was read is in normal form.
 fn is_normal(calls: Calls<'_>, parts: &str) -> Result<(), Fault> {
     let mut doc = calls.read()?;
     doc.normalize(calls.alloc);
@@ -161,8 +161,8 @@ fn is_token_in_a_list(calls: Calls<'_>, doc: &Doc) -> Result<bool, Fault> {
     if !doc.is_token() {
         return Err(Fault::Other("is_token"));
     }
-    let are_told_apart = !same_text(&list, doc) && !same_text(doc, &list);
-    agree(are_told_apart, "same_text with a list of it")?;
+    let are_different = !same_text(&list, doc) && !same_text(doc, &list);
+    agree(are_different, "same_text with a list of it")?;
     Ok(true)
 }
 
@@ -183,7 +183,7 @@ impl uWrite for Counted {
     }
 }
 
-// Every call refuses it. The buffer has room for what is written of it before that.
+// Every call must fail with `NotText`. The buffer has room for what is written before the failure.
 fn of_no_text(calls: Calls<'_>) -> Result<(), Fault> {
     let mut events = Events::new(calls.alloc);
     agree(is_not_text(calls.scan(&mut events)), "scan of no text")?;

@@ -11,7 +11,7 @@ use ufmt_scan::leaf::{is_leaf, is_word};
 // How many characters of a text are put in apostrophes.
 const MOST_CHARACTERS: usize = 64;
 
-/// What the calls answer, in words.
+/// Returns what the calls say of the text, in words.
 pub fn verdict(alloc: Global, text: &[u8]) -> Result<String, AllocError> {
     let Ok(text) = str::from_utf8(text) else {
         return String::from_str(alloc, "no UTF-8");
@@ -70,7 +70,7 @@ fn named(alloc: Global, name: &str) -> Result<Doc, Fault> {
     Ok(Doc::StructOf(String::from_str(alloc, name)?, fields))
 }
 
-// The leaf's text, which both readers read as the leaf of this text in quotes.
+// Returns the leaf's text. Both readers must read it as the leaf of this text in quotes.
 fn read_back<'a>(alloc: Global, quoted: &'a Doc, text: &str) -> Result<&'a str, Fault> {
     let leaf = quoted.as_leaf().unwrap_or("");
     agree(quoted.is_token(), "is_token of a leaf in quotes")?;
@@ -84,7 +84,7 @@ fn read_back<'a>(alloc: Global, quoted: &'a Doc, text: &str) -> Result<&'a str, 
     Ok(leaf)
 }
 
-// The first characters in apostrophes, in a row.
+// The first characters in a row, each in apostrophes.
 fn characters(alloc: Global, text: &str) -> Result<String, Fault> {
     let mut row = String::new(alloc);
     for character in text.chars().take(MOST_CHARACTERS) {

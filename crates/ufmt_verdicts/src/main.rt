@@ -1,11 +1,11 @@
-//! Makes each call of the library on each text that it reads, and prints one line of verdicts a text.
-//! `tools/try-texts` runs it and compares the lines with those of a model.
+//! Makes each call of the library on each text of its input, and prints a line of verdicts for each
+//! text. `tools/try-texts` runs it and compares the lines with those of a model.
 //!
-//! Standard input has the texts in a row: each is a line with a number, then so many bytes.
+//! Standard input has the texts in a row. Each is a line with its length, and then its bytes.
 //!
-//! A half of a line, `plain` or `pretty`, is `no text` where the calls of that mode refuse the text. Else
-//! it has digests of what came out. Where a call is wrong, it is `FAULT` with that call's name, or with
-//! the error of a call that should be `Ok`.
+//! A half of a line, `plain` or `pretty`, is `no text` if the calls of that mode fail with
+//! `NotText`. Else it has digests of their results. If a call is wrong, it is `FAULT` with the
+//! call's name, or with the error of a call that should be `Ok`.
 #![tactic(auto)]
 
 mod calls;
@@ -26,7 +26,7 @@ fn main(rt: HostRuntime) -> io::Result<()> {
     rt.reader().read_to_end(&mut input)?;
     let mut output = io::BufWriter::new(rt.alloc(), io::writer(&rt))?;
     let mut rest = input.as_slice();
-    // Each text takes at least a line feed.
+    // Each text has at least its line feed.
     for _text in 0..input.len() {
         let Some((text, after)) = split_text(rest) else {
             break;

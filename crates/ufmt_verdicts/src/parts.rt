@@ -1,10 +1,10 @@
-//! The parts of a document, as the calls for them return them.
+//! Notes the parts of a document, as the calls return them.
 use crate::fault::{Fault, agree};
 use std::alloc::Global;
 use ufmt_doc::doc::Doc;
 
-/// The parts so far, each block with its entries in parentheses, and each leaf in quotes also without
-/// them.
+/// The parts so far. A block has its entries in parentheses. A leaf in quotes comes also without
+/// quotes.
 #[derive(Drop)]
 pub struct Parts {
     pub alloc: Global,
@@ -20,7 +20,7 @@ type Counts<'a> = (
     Option<usize>,
 );
 
-// As the calls return them.
+// The counts that the calls return.
 fn counts(doc: &Doc) -> Counts<'_> {
     (
         doc.as_leaf(),
@@ -31,7 +31,7 @@ fn counts(doc: &Doc) -> Counts<'_> {
     )
 }
 
-// As the document has them.
+// The counts that the document has.
 fn wanted(doc: &Doc) -> Counts<'_> {
     match doc {
         Doc::Leaf(text) => (Some(text.as_str()), None, None, None, None),
@@ -90,8 +90,8 @@ impl Parts {
     #[cycle(parts)]
     fn note_fields(&mut self, name: &str, fields: &[(String, Doc)]) -> Result<(), Fault> {
         self.begin("s", name)?;
-        for (label, value) in fields {
-            self.text.push_str(label)?;
+        for (field_name, value) in fields {
+            self.text.push_str(field_name)?;
             self.text.push(':')?;
             self.note(value)?;
         }
@@ -124,7 +124,7 @@ impl Parts {
     }
 }
 
-// The leaf of what was between the quotes of a leaf.
+// Makes a leaf of the text between a leaf's quotes.
 fn quoted_as(alloc: Global, leaf: &str, inside: &str) -> Result<Doc, Fault> {
     match inside.chars().next() {
         Some(character) if leaf.starts_with('\'') => Ok(Doc::character(alloc, character)?),
@@ -132,10 +132,10 @@ fn quoted_as(alloc: Global, leaf: &str, inside: &str) -> Result<Doc, Fault> {
     }
 }
 
-// Whether the last field's value is found. Of two fields with one name that is the first one's.
+// Whether `field` finds the name of the last field. If two fields have it, it finds the first.
 fn has_last_field(doc: &Doc, fields: &[(String, Doc)]) -> bool {
     match fields.last() {
-        Some((label, _)) => doc.field(label).is_some() && doc.field("").is_none(),
+        Some((name, _)) => doc.field(name).is_some() && doc.field("").is_none(),
         None => doc.field("x").is_none(),
     }
 }

@@ -1,5 +1,5 @@
-//! The calls of each builder in a row, until one fails. Where a value's own piece is refused, the
-//! second half of its entry gets the `Err`.
+//! Makes the calls of each builder in a row, until one fails. If a value's own piece is refused,
+//! the next call of its entry gets the `Err`.
 use ufmt::{DebugList, DebugMap, DebugSet, DebugStruct, DebugTuple, Formatter, uDebug, uWrite};
 
 /// The call that came last, and whether the builder was open before it and after it.
@@ -11,7 +11,7 @@ pub struct LastCall<'a> {
 }
 
 impl<'a> LastCall<'a> {
-    /// The call that makes the builder, which isn't there before it, nor after it where it fails.
+    /// The call that makes the builder. No builder is open before it, nor after it if it fails.
     pub fn opening() -> Self {
         LastCall {
             name: "opening",
@@ -20,7 +20,7 @@ impl<'a> LastCall<'a> {
         }
     }
 
-    /// A call on an open builder, which is closed after it.
+    /// A call that closes an open builder.
     pub fn closing(name: &'a str) -> Self {
         LastCall {
             name,
@@ -50,23 +50,22 @@ impl<'a> LastCall<'a> {
 enum Call {
     Entry,
     Entries,
-    /// Those of the halves of an entry.
-    Halves,
+    /// The calls that begin and end an entry.
+    BeginAndEnd,
     Finish,
 }
 
 // The calls of lists, sets and maps, and those of structs and tuples.
-const OF_ENTRIES: [Call; 4] = [Call::Entry, Call::Entries, Call::Halves, Call::Finish];
+const OF_ENTRIES: [Call; 4] = [Call::Entry, Call::Entries, Call::BeginAndEnd, Call::Finish];
 
-const OF_FIELDS: [Call; 3] = [Call::Halves, Call::Entry, Call::Finish];
+const OF_FIELDS: [Call; 3] = [Call::BeginAndEnd, Call::Entry, Call::Finish];
 
 /// A builder, one call at a time.
 trait Calls<E> {
-    /// Makes this call, if the builder is open, and gives its name and answer. Of the halves it is the
-    /// last one that was made.
+    /// Makes this call, if the builder is open. Returns the name and result of the last call made.
     fn make(&mut self, call: Call) -> (&'static str, Result<(), E>);
 
-    fn may_go_on(&self) -> bool;
+    fn may_continue(&self) -> bool;
 }
 
 impl<W: uWrite> Calls<W::Error> for DebugList<'_, W> {
@@ -77,7 +76,7 @@ impl<W: uWrite> Calls<W::Error> for DebugList<'_, W> {
         match call {
             Call::Entry => ("entry", self.entry(&1u8)),
             Call::Entries => ("entries", self.entries(&[2u8, 3])),
-            Call::Halves => {
+            Call::BeginAndEnd => {
                 let answer = match self.begin_entry() {
                     Ok(f) => 4u8.fmt(f),
                     Err(error) => return ("begin_entry", Err(error)),
@@ -88,7 +87,7 @@ impl<W: uWrite> Calls<W::Error> for DebugList<'_, W> {
         }
     }
 
-    fn may_go_on(&self) -> bool {
+    fn may_continue(&self) -> bool {
         self.is_open()
     }
 }
@@ -101,7 +100,7 @@ impl<W: uWrite> Calls<W::Error> for DebugSet<'_, W> {
         match call {
             Call::Entry => ("entry", self.entry(&1u8)),
             Call::Entries => ("entries", self.entries(&[2u8, 3])),
-            Call::Halves => {
+            Call::BeginAndEnd => {
                 let answer = match self.begin_entry() {
                     Ok(f) => 4u8.fmt(f),
                     Err(error) => return ("begin_entry", Err(error)),
@@ -112,7 +111,7 @@ impl<W: uWrite> Calls<W::Error> for DebugSet<'_, W> {
         }
     }
 
-    fn may_go_on(&self) -> bool {
+    fn may_continue(&self) -> bool {
         self.is_open()
     }
 }
@@ -125,7 +124,7 @@ impl<W: uWrite> Calls<W::Error> for DebugMap<'_, W> {
         match call {
             Call::Entry => ("entry", self.entry(&1u8, &2u8)),
             Call::Entries => ("entries", self.entries([(3u8, 4u8), (5, 6)])),
-            Call::Halves => {
+            Call::BeginAndEnd => {
                 let answer = match self.begin_entry() {
                     Ok(f) => 7u8.fmt(f),
                     Err(error) => return ("begin_entry", Err(error)),
@@ -140,7 +139,7 @@ impl<W: uWrite> Calls<W::Error> for DebugMap<'_, W> {
         }
     }
 
-    fn may_go_on(&self) -> bool {
+    fn may_continue(&self) -> bool {
         self.is_open()
     }
 }
@@ -151,7 +150,7 @@ impl<W: uWrite> Calls<W::Error> for DebugStruct<'_, W> {
             return ("none", Ok(()));
         }
         match call {
-            Call::Halves => {
+            Call::BeginAndEnd => {
                 let answer = match self.begin_field("a") {
                     Ok(f) => 1u8.fmt(f),
                     Err(error) => return ("begin_field", Err(error)),
@@ -163,7 +162,7 @@ impl<W: uWrite> Calls<W::Error> for DebugStruct<'_, W> {
         }
     }
 
-    fn may_go_on(&self) -> bool {
+    fn may_continue(&self) -> bool {
         self.is_open()
     }
 }
@@ -174,7 +173,7 @@ impl<W: uWrite> Calls<W::Error> for DebugTuple<'_, W> {
             return ("none", Ok(()));
         }
         match call {
-            Call::Halves => {
+            Call::BeginAndEnd => {
                 let answer = match self.begin_field() {
                     Ok(f) => 1u8.fmt(f),
                     Err(error) => return ("begin_field", Err(error)),
@@ -186,22 +185,22 @@ impl<W: uWrite> Calls<W::Error> for DebugTuple<'_, W> {
         }
     }
 
-    fn may_go_on(&self) -> bool {
+    fn may_continue(&self) -> bool {
         self.is_open()
     }
 }
 
-// Makes a builder's calls, the one that makes it among them, until one fails.
+// Makes a builder's calls until one fails. The first is the one that made the builder.
 fn make_each<E, B: Calls<E> + Drop>(
     builder: Result<B, E>,
     calls: &[Call],
     last: &mut LastCall<'_>,
 ) -> Result<(), E> {
     let mut builder = builder?;
-    last.note("opening", builder.may_go_on());
+    last.note("opening", builder.may_continue());
     for call in calls {
         let (name, answer) = builder.make(*call);
-        last.note(name, builder.may_go_on());
+        last.note(name, builder.may_continue());
         answer?;
     }
     Ok(())

@@ -1,4 +1,4 @@
-//! What each builder and its formatter are after a call that failed, at each piece of each call.
+//! Tests of each builder and its formatter after a failed call, for each piece of each call.
 use super::builder_calls::Block;
 use super::same;
 use super::stopped_calls::wrong_piece;
@@ -82,7 +82,7 @@ field     |    |2|,\n|;
 finish     |)|";
 
 #[test]
-fn builders_stop_at_each_piece(rt: HostRuntime) {
+fn builders_close_at_each_refused_piece(rt: HostRuntime) {
     for (case, block, is_pretty, calls) in [
         ("a plain list", Block::List, false, PLAIN_LIST),
         ("a pretty list", Block::List, true, PRETTY_LIST),

@@ -1,4 +1,4 @@
-//! How many items `entries` takes where the writer fails.
+//! Tests of how many items `entries` takes if the writer fails.
 ghost use Rattle.std.specs.Prelude.{◌-◌};
 ghost use Rattle.std.specs.Iterator.{at_most};
 
@@ -72,7 +72,7 @@ impl Block {
         }
     }
 
-    // The answer in this mode, and how many numbers were taken.
+    // The result in this mode, and how many numbers were taken.
     fn write_in<W: uWrite>(
         self,
         is_pretty: bool,
@@ -88,8 +88,8 @@ impl Block {
     }
 }
 
-// The number of the first piece after whose refusal another number of items was taken than the one
-// beside it.
+// The first piece whose refusal comes after a wrong number of items. A row has a piece and the
+// items that are taken before its refusal.
 fn wrong_number(block: Block, is_pretty: bool, rows: &[(usize, u8)]) -> Option<usize> {
     for (number, taken) in rows {
         let mut buffer = [0; 200];
@@ -101,20 +101,20 @@ fn wrong_number(block: Block, is_pretty: bool, rows: &[(usize, u8)]) -> Option<u
     None
 }
 
-// Of a plain list the pieces are the bracket, an item, for each further one a comma and the item, and
-// the bracket: 1, 2, 3 and 4, up to 17 and 18, and 19. A pretty one has a line feed as piece 2, and
-// three pieces to an item, from 3 on.
+// The bracket of a plain list is piece 1, its first item 2. A comma and an item are 3 and 4, up to
+// 17 and 18. The last bracket is 19. A pretty list has a line feed as piece 2, and then three
+// pieces an item.
 const PLAIN_ITEMS: [(usize, u8); 7] = [(1, 0), (2, 1), (3, 2), (4, 2), (5, 3), (18, 9), (19, 9)];
 
 const PRETTY_ITEMS: [(usize, u8); 7] = [(1, 0), (2, 1), (5, 1), (6, 2), (8, 2), (29, 9), (30, 9)];
 
-// A pair has a key, a colon and a value in place of an item.
+// A pair has three pieces where an item has one: a key, a colon and a value.
 const PLAIN_PAIRS: [(usize, u8); 7] = [(1, 0), (2, 1), (4, 1), (5, 2), (8, 2), (36, 9), (37, 9)];
 
 const PRETTY_PAIRS: [(usize, u8); 7] = [(1, 0), (2, 1), (7, 1), (8, 2), (12, 2), (47, 9), (48, 9)];
 
 #[test]
-fn no_item_is_taken_after_a_failure(rt: HostRuntime) {
+fn entries_takes_no_item_after_a_failure(rt: HostRuntime) {
     for (case, block, is_pretty, rows) in [
         ("a plain list", Block::List, false, PLAIN_ITEMS),
         ("a pretty list", Block::List, true, PRETTY_ITEMS),
@@ -128,7 +128,7 @@ fn no_item_is_taken_after_a_failure(rt: HostRuntime) {
 }
 
 #[test]
-fn two_numbers_into_three_bytes(rt: HostRuntime) {
+fn entries_takes_the_item_that_does_not_fit(rt: HostRuntime) {
     let mut buffer = [0; 3];
     let mut f = Formatter::new(Cursor::new(&mut buffer));
     let given = Block::List.write_in(false, &mut f);

@@ -1,17 +1,17 @@
-//! How often, and in which order, the macros evaluate what they are given: each expression notes its
-//! turn, so a row shows each evaluation in its place.
+//! Tests of how often and in which order macros evaluate. Each expression notes its turn, so a row
+//! shows all evaluations in order.
 ghost use Rattle.std.specs.Prelude.{◌<◌};
 
 mod fields;
-mod lines;
-mod written;
+mod pieces;
+mod uwrite;
 
 use std::alloc::Global;
 use ufmt::line::Debug;
 use ufmt::{Formatter, HexOptions, uWrite};
 
-/// The evaluations so far: `a`, `b`, `c` of the first, second and third value and so on, `F` of a
-/// formatter, `O` of options, `M` of a mark, `S` of a separator.
+/// The evaluations so far: `a`, `b`, `c` and so on for the values, `F` for a formatter, `O` for
+/// options, `M` for a mark, `S` for a separator.
 #[derive(Drop)]
 struct Turns {
     noted: String,
@@ -24,7 +24,7 @@ impl Turns {
         }
     }
 
-    // For want of memory a turn is missing, and its row is another.
+    // Without memory the turn is missing, and the row differs.
     fn note(&mut self, turn: char) {
         let _noted = self.noted.push(turn);
     }
@@ -34,7 +34,7 @@ impl Turns {
         f
     }
 
-    // The letter of the value of this number.
+    // Notes the letter of the value with this number.
     fn note_value(&mut self, number: u8) {
         self.note(char::from(number.saturating_add(b'`')));
     }

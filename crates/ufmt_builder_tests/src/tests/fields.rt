@@ -1,7 +1,6 @@
-//! `fields!` with each number of fields that no type of `ufmt_user` has: those print none, one without
-//! a name and two. More than 12 make a chain. No two fields of a block have one name or one
-//! value, so that one in another's place shows. Its answers are in an array, since the check takes twice
-//! as long for a `?`.
+//! Tests of `fields!` with the numbers of fields that no type of `ufmt_user` has. More than 12 make
+//! a chain. The fields of a block differ in name and value, so a swap shows. The results are in an
+//! array, because a `?` takes the check twice as long.
 use super::{are_ok, same};
 use ufmt::{Formatter, fields, uWrite};
 
@@ -226,7 +225,7 @@ S12 { a: 1, b: 2, c: 3, d: 4, e: 5, f: 6, g: 7, h: 8, i: 9, j: 10, k: 11, l: 12 
 Long { a: 1, b: 2, c: 3, d: 4, e: 5, f: 6, g: 7, h: 8, i: 9, j: 10, k: 11, l: 12, m: 13 }";
 
 #[test]
-fn named_fields(rt: HostRuntime) {
+fn fields_prints_named_fields(rt: HostRuntime) {
     let mut f = Formatter::new(String::new(rt.alloc()));
     let are_ok = are_ok(&one_to_five_named(&mut f))
         && are_ok(&six_to_eight_named(&mut f))
@@ -251,7 +250,7 @@ T12(1, 2, 3, 4, 5, 6, 7, 8, 9, 10, 11, 12)\
 Long(1, 2, 3, 4, 5, 6, 7, 8, 9, 10, 11, 12, 13)";
 
 #[test]
-fn unnamed_fields(rt: HostRuntime) {
+fn fields_prints_unnamed_fields(rt: HostRuntime) {
     let mut f = Formatter::new(String::new(rt.alloc()));
     let are_ok = are_ok(&three_to_seven_unnamed(&mut f))
         && are_ok(&eight_to_ten_unnamed(&mut f))

@@ -1,13 +1,13 @@
-//! The rows of a table: what they note is in one text, which one assert compares.
+//! A table of rows. They are in one text, which one assert compares.
 use std::alloc::{AllocError, Global};
 use std::process::Abort;
 
-/// Whether the rows of the table are these.
+/// Asserts that the table has these rows.
 pub fn has_rows(rt: &impl Abort, table: &Table, wanted: &str) {
     assert_eq!(rt; table.text(), Some(wanted));
 }
 
-/// The rows one after another, with a semicolon and a line feed after each.
+/// Rows, one after another, with a semicolon and a line feed after each.
 #[derive(Drop)]
 pub struct Table {
     text: String,
@@ -31,7 +31,7 @@ impl Table {
         }
     }
 
-    /// A row of what was made, if there was memory for it.
+    /// Adds a row that was made, if there was memory for it.
     pub fn put_made(&mut self, row: Result<String, AllocError>) {
         if self.put(row).is_err() {
             self.has_all = false;

@@ -1,10 +1,11 @@
-//! A builder's calls over a writer that refuses one piece, and what is left after the call that failed.
+//! Makes a builder's calls over a writer that refuses one piece, and looks at what the failed call
+//! leaves.
 use super::builder_calls::{Block, LastCall};
 use super::writers::FailOnce;
 use std::alloc::{AllocError, Global};
 use ufmt::{Formatter, Full, uWrite};
 
-/// Where a builder's calls are made: as the first entry of a list, in a mode.
+/// The place of a builder's calls: the first entry of a list, in one mode.
 #[derive(Clone, Copy)]
 struct Place<'a> {
     mode: &'a str,
@@ -32,7 +33,7 @@ const PRETTY: Place<'static> = Place {
     list: "[\n        7,\n    ]",
 };
 
-/// What a builder's calls write in a row.
+/// What a builder's calls write.
 #[derive(Drop)]
 struct Calls<'a> {
     text: String,
@@ -41,7 +42,7 @@ struct Calls<'a> {
 }
 
 impl<'a> Calls<'a> {
-    // The pieces of one call, with a bar after each.
+    // Adds the pieces of one call. They have a bar after each.
     fn push(&mut self, call: &'a str, barred: &str) -> Result<(), AllocError> {
         for piece in barred.split('|') {
             if !piece.is_empty() {
@@ -52,7 +53,7 @@ impl<'a> Calls<'a> {
         Ok(())
     }
 
-    // Those before the builder, and those of its calls.
+    // The pieces before the builder, and those of its calls.
     fn of(alloc: Global, place: Place<'a>, rows: &'a str) -> Result<Self, AllocError> {
         let mut calls = Calls {
             text: String::new(alloc),
@@ -67,7 +68,7 @@ impl<'a> Calls<'a> {
     }
 }
 
-/// What a builder's calls leave: the last of them with its answer, and mode and depth.
+/// What a builder's calls leave: the last of them with its result, and mode and depth.
 #[derive(Clone, Copy, PartialEq, Debug)]
 struct Left<'a> {
     last: LastCall<'a>,
@@ -77,7 +78,7 @@ struct Left<'a> {
 }
 
 // What the calls leave. The formatter continues with a list, which the writer doesn't refuse.
-fn call_and_go_on<'a, W: uWrite<Error = Full>>(
+fn call_and_continue<'a, W: uWrite<Error = Full>>(
     block: Block,
     f: &mut Formatter<W>,
 ) -> Result<Left<'a>, Full> {
@@ -99,7 +100,7 @@ fn call_in_list<'a, W: uWrite<Error = Full>>(
     f: &mut Formatter<W>,
 ) -> Result<Left<'a>, Full> {
     let mut list = f.debug_list()?;
-    call_and_go_on(block, list.begin_entry()?)
+    call_and_continue(block, list.begin_entry()?)
 }
 
 fn call_at<'a, W: uWrite<Error = Full>>(
@@ -118,7 +119,7 @@ fn call_at<'a, W: uWrite<Error = Full>>(
     left
 }
 
-// Calls over this writer, and whether they leave mode and depth as before.
+// What the calls leave over this writer, and whether mode and depth are as before.
 fn call_over<'a, W: uWrite<Error = Full>>(
     place: Place<'_>,
     block: Block,
@@ -130,8 +131,8 @@ fn call_over<'a, W: uWrite<Error = Full>>(
     (left, is_as_before, f.into_inner())
 }
 
-// Whether this is left where the writer refuses the piece of this number alone, before which the text
-// has this length.
+// Whether this is left by a writer that refuses only the piece with this number. The text before
+// that piece has this length.
 fn is_left(
     block: Block,
     place: Place<'_>,
@@ -153,7 +154,7 @@ fn is_left(
     is_as_before && is_written && left == Ok(wanted)
 }
 
-// The number of the first piece after whose refusal something else is left.
+// The number of the first piece whose refusal leaves something wrong.
 fn wrong_number(block: Block, place: Place<'_>, calls: &Calls<'_>) -> Option<usize> {
     let mut number = 0usize;
     for (name, length) in &calls.pieces {
@@ -166,9 +167,9 @@ fn wrong_number(block: Block, place: Place<'_>, calls: &Calls<'_>) -> Option<usi
     None
 }
 
-/// Of each call its pieces, with a bar after each: where the writer refuses one, that call fails,
-/// the builder is closed, and the formatter is as before and still works. The answer is the number
-/// of the first piece where that isn't so, and 0 for no piece that is refused.
+/// Refuses each piece in turn. The call that writes it must fail and close the builder, and the
+/// formatter must be as before and still work. A row has a call and its pieces. Returns the number
+/// of the first piece where that is wrong, or 0 if it is the run without a refusal.
 pub fn wrong_piece(
     alloc: Global,
     block: Block,

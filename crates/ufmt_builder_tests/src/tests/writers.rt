@@ -4,8 +4,8 @@ ghost use Rattle.ufmt.specs.Cursor.{buffer_length, buffer_name, written_bytes};
 
 use ufmt::{Cursor, Full, uWrite};
 
-/// Hands pieces on to a cursor and refuses the piece of a number alone, without a change. It counts those
-/// that aren't empty, from 1 on; one that is empty is always `Ok`. It has no `write_char` of its own.
+/// Passes pieces to a cursor. It refuses only the piece with this number, without a change. It
+/// counts only pieces that aren't empty, from 1 on. An empty piece is always `Ok`.
 #[derive(Drop)]
 pub struct FailOnce<'a> {
     cursor: Cursor<'a>,

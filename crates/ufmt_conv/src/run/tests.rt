@@ -1,7 +1,7 @@
-//! The program's answers, by rows of input and output.
+//! Tests of `run` and of its parts, by rows of input and output.
 mod calls;
 mod devices;
-mod rows;
+mod inputs;
 
 use super::*;
 use std::alloc::AllocError;
@@ -11,8 +11,8 @@ use std::test::Fail;
 use std::{fmt, io};
 use ufmt::{Cursor, Formatter, uDebug};
 
-// Asserts are calls of these two: one that is written out takes the check as long as a score of calls.
-// No other function is generic over the handle, which takes it as long again.
+// Checking an assert takes as long as checking twenty calls, so asserts are calls of these two.
+// No other function is generic over the handle: checking that takes as long again.
 fn same<T: PartialEq + fmt::Debug + Drop>(rt: &impl Abort, given: T, wanted: T, case: &str) {
     assert_eq!(rt; given, wanted, "{case}");
 }
@@ -54,8 +54,8 @@ impl Read for Source<'_> {
     }
 }
 
-// Keeps what is written, at most `most` bytes a call. Its writes and flushes are counted from one,
-// together, and it fails at number `fails_at`, and at a flush where `fails_flush` says so.
+// Keeps what is written, at most `most` bytes a call. Its writes and flushes are counted together,
+// from one. It fails at number `fails_at`, and at each flush if `fails_flush` is set.
 #[derive(Drop)]
 struct Sink {
     taken: Vec<u8>,
@@ -101,7 +101,7 @@ const WHOLE: usize = 4096;
 
 const NEVER: usize = 0;
 
-// What a run answers, whether the output took just the bytes that it should, and which device failed.
+// What a run returns, whether the output took exactly the right bytes, and which device failed.
 type Ran = (Result<(), Fault>, bool, (bool, bool));
 
 fn ran(alloc: Global, command: Command, source: Source<'_>, sink: Sink, written: &[u8]) -> Ran {
@@ -113,14 +113,14 @@ fn ran(alloc: Global, command: Command, source: Source<'_>, sink: Sink, written:
     (outcome, is_written, failures)
 }
 
-// The same over devices that never fail and take `most` bytes a call.
+// A run over devices that never fail and move `most` bytes a call.
 fn ran_by(alloc: Global, command: Command, input: &[u8], most: usize, written: &[u8]) -> Ran {
     let source = Source::new(input, most, NEVER);
     let sink = Sink::new(alloc, most, NEVER, false);
     ran(alloc, command, source, sink, written)
 }
 
-// What `ran` should answer. A device failed where the outcome says so.
+// What `ran` should return. A device failed if the outcome says so.
 fn wanted(outcome: Result<(), Fault>) -> Ran {
     let unread = outcome == Err(Fault::CannotRead);
     let unwritten = outcome == Err(Fault::CannotWrite);
@@ -128,7 +128,7 @@ fn wanted(outcome: Result<(), Fault>) -> Ran {
 }
 
 #[test]
-fn no_command_is_always_refused(rt: HostRuntime) {
+fn each_command_can_succeed(rt: HostRuntime) {
     let rows: [(Command, &[u8], &[u8]); 3] = [
         (Command::Lengths, b"ab\n", b"[2]\n"),
         (Command::Pretty, b"[ab]", b"[\n    ab,\n]\n"),
@@ -145,7 +145,7 @@ fn no_command_is_always_refused(rt: HostRuntime) {
     }
 }
 
-// A run by one byte a call, by two and by all.
+// Runs by one byte a call, by two and by all.
 fn rans_by_any(alloc: Global, command: Command, input: &[u8], written: &[u8]) -> [Ran; 3] {
     [
         ran_by(alloc, command, input, 1, written),
@@ -155,7 +155,7 @@ fn rans_by_any(alloc: Global, command: Command, input: &[u8], written: &[u8]) ->
 }
 
 #[test]
-fn lengths_are_answered(rt: HostRuntime) {
+fn lengths_counts_the_bytes_of_lines(rt: HostRuntime) {
     let rows: [(&[u8], &str); 2] = [(b"ab\r\n", "[3]\n"), (b"\xff\xfe\n\x80", "[2, 1]\n")];
     for (input, written) in rows {
         let given = rans_by_any(rt.alloc(), Command::Lengths, input, written.as_bytes());
@@ -164,14 +164,14 @@ fn lengths_are_answered(rt: HostRuntime) {
 }
 
 #[test]
-fn a_long_line_is_answered(rt: HostRuntime) -> Result<(), Fail> {
+fn lengths_counts_the_bytes_of_a_long_line(rt: HostRuntime) -> Result<(), Fail> {
     let line = vec![in rt.alloc(); b'a'; 200_000]?;
     let given = ran_by(rt.alloc(), Command::Lengths, &line, 70_000, b"[200000]\n");
     same(&rt, given, wanted(Ok(())), "a line of 200000 bytes");
     Ok(())
 }
 
-// The README shows these two lines; `.ci/run` compares the second.
+// The README shows these two texts. `.ci/run` compares them.
 const README_PLAIN: &str = "[Measurement { channel: 3, celsius: -4 }]\n";
 
 const README_PRETTY: &str = "\
@@ -183,7 +183,7 @@ const README_PRETTY: &str = "\
 ]
 ";
 
-// A text with a line feed and without one is the same text. `rows` has more texts.
+// The line feed at the end is no part of a text. `inputs` has more texts.
 #[test]
 fn pretty_and_plain_lead_to_each_other(rt: HostRuntime) {
     let rows = [
@@ -211,7 +211,7 @@ fn pretty_and_plain_lead_to_each_other(rt: HostRuntime) {
     }
 }
 
-// The plain text of `count` lists, one in another, round what has the text `inner`, and a line feed.
+// The plain text of `count` nested lists around `inner`, and a line feed.
 fn nested_lists(alloc: Global, count: usize, inner: &str) -> Result<Vec<u8>, AllocError> {
     let mut text = Vec::new(alloc);
     for _ in 0..count {
@@ -226,7 +226,7 @@ fn nested_lists(alloc: Global, count: usize, inner: &str) -> Result<Vec<u8>, All
 }
 
 #[test]
-fn lists_are_converted_to_255_deep(rt: HostRuntime) -> Result<(), Fail> {
+fn lists_are_converted_up_to_255_deep(rt: HostRuntime) -> Result<(), Fail> {
     for (inner, size) in [("x", 261_376), ("[]", 261_377)] {
         let plain = nested_lists(rt.alloc(), 255, inner)?;
         let mut input = Watched::new(Source::new(&plain, WHOLE, NEVER));
@@ -244,7 +244,7 @@ fn lists_are_converted_to_255_deep(rt: HostRuntime) -> Result<(), Fail> {
 }
 
 #[test]
-fn lengths_of_lines(rt: HostRuntime) -> Result<(), Fail> {
+fn line_lengths_counts_the_bytes_of_lines(rt: HostRuntime) -> Result<(), Fail> {
     let rows: [(&[u8], &[u64], &str); 4] = [
         (b"", &[], "[]"),
         (b"\n", &[0], "[0]"),
@@ -262,10 +262,10 @@ fn lengths_of_lines(rt: HostRuntime) -> Result<(), Fail> {
     Ok(())
 }
 
-// A watched reader answers as its device does, at one call of it, and has failed from the first
+// A watched reader calls its device once, and returns the same. It has failed from the first
 // failure on.
 #[test]
-fn watched_reads(rt: HostRuntime) {
+fn a_watched_reader_notes_a_failed_read(rt: HostRuntime) {
     let never_fails = [
         (1, Ok(2), b"ab..", false),
         (2, Ok(1), b"c...", false),
@@ -290,9 +290,9 @@ fn watched_reads(rt: HostRuntime) {
     }
 }
 
-// A watched writer does likewise, and has failed too where nothing is taken of a piece that isn't empty.
+// A watched writer has also failed if nothing is taken of a piece that isn't empty.
 #[test]
-fn watched_writes(rt: HostRuntime) {
+fn a_watched_writer_notes_a_failed_write(rt: HostRuntime) {
     let rows: [(&str, usize, usize, &[u8], Result<usize, Failed>); 6] = [
         ("a whole piece", WHOLE, NEVER, b"abc", Ok(3)),
         ("a beginning", 2, NEVER, b"abc", Ok(2)),
@@ -315,7 +315,7 @@ fn watched_writes(rt: HostRuntime) {
 }
 
 #[test]
-fn watched_flushes(rt: HostRuntime) {
+fn a_watched_writer_notes_a_failed_flush(rt: HostRuntime) {
     for (case, fails_flush, answer) in [
         ("a flush", false, Ok(())),
         ("a flush that fails", true, Err(Failed)),
@@ -331,7 +331,7 @@ fn watched_flushes(rt: HostRuntime) {
 }
 
 #[test]
-fn one_word_is_a_command(rt: HostRuntime) -> Result<(), Fail> {
+fn parse_takes_one_word(rt: HostRuntime) -> Result<(), Fail> {
     let rows: [(&[&str], Option<Command>); 11] = [
         (&["lengths"], Some(Command::Lengths)),
         (&["pretty"], Some(Command::Pretty)),
@@ -356,7 +356,7 @@ fn one_word_is_a_command(rt: HostRuntime) -> Result<(), Fail> {
 }
 
 #[test]
-fn lines_and_statuses(rt: HostRuntime) {
+fn faults_have_lines_and_statuses(rt: HostRuntime) {
     let rows = [
         (Fault::NotPlain, 1, "ufmt_conv: not a plain text"),
         (Fault::NotPretty, 1, "ufmt_conv: not a pretty text"),

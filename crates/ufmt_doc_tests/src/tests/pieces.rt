@@ -1,7 +1,7 @@
-//! Which pieces a writer is passed of a document, and what is left where one is refused.
+//! Tests of the pieces that a document passes to a writer, and of what a refused piece leaves.
 ghost use Rattle.std.specs.Prelude.{[]};
 
-use super::deep::lists_round;
+use super::nested_lists::lists_around;
 use super::same;
 use super::shape::Shape::{self, Leaf, Listed, MapOf, SetOf, StructOf, TupleOf};
 use super::shape::made;
@@ -9,8 +9,8 @@ use std::alloc::{AllocError, Global};
 use ufmt::{Cursor, Formatter, Full, uDebug, uWrite};
 use ufmt_doc::doc::Doc;
 
-/// Notes its text, and its pieces with a bar after each, and refuses the piece of a number and each
-/// later one. It counts those that aren't empty, from 1 on. What it holds is not told to contracts.
+/// Notes its text, and its pieces with a bar after each. It refuses the piece with this number and
+/// all later ones. It counts only pieces that aren't empty, from 1 on. Its text is not told.
 #[derive(Drop)]
 struct Noted {
     text: String,
@@ -43,7 +43,7 @@ impl uWrite for Noted {
 
     fn write_str(&mut self, s: &str) -> Result<(), Full> {
         if s.is_empty() {
-            // An empty piece is `Ok`, whether there was room to note it or not.
+            // An empty piece is always `Ok`, even without memory to note it.
             let _noted = self.barred.push('|');
             return Ok(());
         }
@@ -55,10 +55,10 @@ impl uWrite for Noted {
     }
 }
 
-// What a call leaves: its answer, and the mode and depth inside and outside of the pretty part.
+// What a call leaves: its result, and mode and depth inside the pretty part and after it.
 type Left = (Result<(), Full>, (bool, u8), (bool, u8));
 
-// Prints the document in this mode, and gives what is left and the writer back.
+// Prints the document in this mode. Returns what is left, and the writer.
 fn print_to<W: uWrite<Error = Full>>(is_pretty: bool, doc: &Doc, writer: W) -> (Left, W) {
     let mut f = Formatter::new(writer);
     let mut inside = (false, 0);
@@ -75,13 +75,13 @@ fn print_to<W: uWrite<Error = Full>>(is_pretty: bool, doc: &Doc, writer: W) -> (
     ((answer, inside, outside), f.into_inner())
 }
 
-// What is left where the writer took all of the document, or refused a part.
+// What should be left after this result.
 fn left(is_pretty: bool, answer: Result<(), Full>) -> Left {
     (answer, (is_pretty, 0), (false, 0))
 }
 
-// Whether a writer that refuses the piece of any one number is left with those before it, and is
-// passed none after it.
+// Whether a writer that refuses one piece has the pieces before it and is passed no later one, for
+// each piece.
 fn stops_at_each_number(alloc: Global, is_pretty: bool, doc: &Doc, all: &Noted) -> bool {
     for number in 1..=all.count {
         let (given, noted) = print_to(is_pretty, doc, Noted::new(alloc, number));
@@ -93,7 +93,7 @@ fn stops_at_each_number(alloc: Global, is_pretty: bool, doc: &Doc, all: &Noted) 
     true
 }
 
-// How many bytes the pieces have before the first that doesn't fit so many.
+// The number of bytes before the first piece that doesn't fit this size.
 fn length_within(barred: &str, size: usize) -> usize {
     let mut length = 0usize;
     for piece in barred.split('|') {
@@ -105,7 +105,7 @@ fn length_within(barred: &str, size: usize) -> usize {
     length
 }
 
-// Whether a cursor of each size up to the text's length is left with the pieces that fit.
+// Whether a cursor of each size, up to the text's length, has the pieces that fit.
 fn fits_each_size(
     alloc: Global,
     is_pretty: bool,
@@ -141,7 +141,7 @@ fn pieces_in(alloc: Global, is_pretty: bool, doc: &Doc) -> Result<String, AllocE
     Ok(all.barred)
 }
 
-// Those in plain mode, and after a tilde those in pretty mode.
+// The document's pieces in plain mode, and after a tilde those in pretty mode.
 fn pieces_of(alloc: Global, shape: &Shape<'_>) -> Result<String, AllocError> {
     let doc = made(alloc, shape)?;
     let mut pieces = pieces_in(alloc, false, &doc)?;
@@ -152,7 +152,7 @@ fn pieces_of(alloc: Global, shape: &Shape<'_>) -> Result<String, AllocError> {
 
 const A_LEAF: &str = "a leaf|~a leaf|";
 
-// Empty leaves and names, which are pieces too.
+// Empty leaves and names are pieces too.
 const EMPTY_TEXTS: Shape<'static> = StructOf(
     "",
     &[
@@ -223,23 +223,23 @@ fn documents_are_written_piece_by_piece(rt: HostRuntime) {
     }
 }
 
-// What is left of so many lists, how many pieces were passed to a writer that refuses that of this
-// number, and how many bytes it took.
+// What `count` lists leave if the piece with this number is refused, how many pieces were passed to
+// the writer, and how many bytes it took.
 fn stopped_in_lists(
     alloc: Global,
     count: usize,
     number: usize,
 ) -> Result<(Left, usize, usize), AllocError> {
-    let doc = lists_round(alloc, count, &Leaf("x"))?;
+    let doc = lists_around(alloc, count, &Leaf("x"))?;
     let (left, noted) = print_to(true, &doc, Noted::new(alloc, number));
     Ok((left, noted.count, noted.text.len()))
 }
 
-// The list at depth k has a bracket, a line feed and k + 1 indentations before its entry: 297 pieces
-// before the 23rd list, with 44 bytes of the former and 253 indentations, and 987 before the 43rd,
-// with 84 bytes and 903 indentations.
+// The list at depth k has a bracket, a line feed and k + 1 indentations before its entry. So 297
+// pieces come before the 23rd list: 44 brackets and line feeds, and 253 indentations. Before the
+// 43rd list come 987 pieces: 84 brackets and line feeds, and 903 indentations.
 #[test]
-fn a_deep_document_stops_at_a_piece(rt: HostRuntime) {
+fn a_deep_document_stops_at_a_refused_piece(rt: HostRuntime) {
     for (number, length) in [(1, 0), (300, 1058), (1000, 3738)] {
         let given = stopped_in_lists(rt.alloc(), 300, number);
         let wanted = (left(true, Err(Full)), number, length);

@@ -1,4 +1,4 @@
-//! The texts of documents that are made by hand.
+//! Tests of `plain_text` and `pretty_text`, on documents that are made by hand.
 use super::shape::Shape::{self, Leaf, Listed, MapOf, SetOf, StructOf, TupleOf};
 use super::shape::made;
 use super::{has_plain_text, has_pretty_text, same};
@@ -6,7 +6,7 @@ use std::alloc::{AllocError, Global};
 use ufmt_doc::convert::{plain_text, pretty_text};
 
 #[test]
-fn plain_text_and_pretty_text_are_not_always_refused(rt: HostRuntime) {
+fn plain_text_and_pretty_text_can_succeed(rt: HostRuntime) {
     let plain = plain_text(rt.alloc(), &7u64);
     same(&rt, plain.as_deref().ok(), Some("7"), "plain");
     let pretty = pretty_text(rt.alloc(), &7u64);
@@ -64,7 +64,7 @@ fn has_texts(
 }
 
 #[test]
-fn documents_print_their_parts(rt: HostRuntime) {
+fn documents_have_their_plain_and_pretty_texts(rt: HostRuntime) {
     for (shape, plain, pretty) in PRINTED {
         let has_texts = has_texts(rt.alloc(), &shape, plain, pretty);
         same(&rt, has_texts, Ok(true), plain);

@@ -1,4 +1,4 @@
-//! Documents that are made by hand: rows of a table have their shapes, which take no memory.
+//! Shapes of documents, which rows of a table have. They take no memory.
 use std::alloc::{AllocError, Global};
 use ufmt_doc::doc::Doc;
 
@@ -13,7 +13,7 @@ pub enum Shape<'a> {
     TupleOf(&'a str, &'a [Shape<'a>]),
 }
 
-/// The document of a shape.
+/// Makes the document of a shape.
 #[cycle(making)]
 pub fn made(alloc: Global, shape: &Shape<'_>) -> Result<Doc, AllocError> {
     match shape {
@@ -65,8 +65,8 @@ fn fields_made(
     shapes: &[(&str, Shape<'_>)],
 ) -> Result<Vec<(String, Doc)>, AllocError> {
     let mut fields = Vec::new(alloc);
-    for (label, value) in shapes {
-        fields.push((String::from_str(alloc, label)?, made(alloc, value)?))?;
+    for (name, value) in shapes {
+        fields.push((String::from_str(alloc, name)?, made(alloc, value)?))?;
     }
     Ok(fields)
 }

@@ -1,4 +1,4 @@
-//! Lines into a buffer of 256 bytes.
+//! Tests of `pretty_line`.
 use super::*;
 use std::process::Abort;
 use std::test::Fail;
@@ -8,7 +8,7 @@ const MEASUREMENT: &str = "Measurement { channel: 3, celsius: -4 }";
 // Its pretty text has 637 bytes.
 const LONG: &str = "[[[[[[[[[[[[1]]]]]]]]]]]]";
 
-// What is returned for a line, and what the buffer has after it.
+// Asserts what is returned for a line, and what the buffer then has.
 fn same(rt: &impl Abort, line: &str, wanted: Result<&str, &str>) {
     let mut buffer = [b'#'; 256];
     let text = match pretty_line(line.as_bytes(), &mut buffer) {
@@ -29,9 +29,8 @@ fn same(rt: &impl Abort, line: &str, wanted: Result<&str, &str>) {
     }
 }
 
-// What is written of a line, with the bytes after it as they were.
 #[test]
-fn lines_are_made_readable(rt: HostRuntime) -> Result<(), Fail> {
+fn pretty_line_writes_a_pretty_text_at_the_front(rt: HostRuntime) -> Result<(), Fail> {
     let rows = [
         (
             MEASUREMENT,

@@ -1,4 +1,4 @@
-//! Measurements that come back from their lines, and lines that are none.
+//! Tests of `celsius` and `read_field`.
 use super::*;
 use std::process::Abort;
 use std::test::Fail;
@@ -9,9 +9,8 @@ fn same(rt: &impl Abort, given: Option<&str>, wanted: Option<&str>, line: &str) 
     assert_eq!(rt; given, wanted, "{line}");
 }
 
-// What is logged of a measurement is read back.
 #[test]
-fn measurements_are_read_back(rt: HostRuntime) -> Result<(), Fail> {
+fn celsius_reads_back_what_was_printed(rt: HostRuntime) -> Result<(), Fail> {
     for (celsius_of, wanted) in [(-4, "-4"), (0, "0"), (i32::MIN, "-2147483648")] {
         let measurement = Measurement {
             channel: 3,
@@ -25,23 +24,31 @@ fn measurements_are_read_back(rt: HostRuntime) -> Result<(), Fail> {
 }
 
 #[test]
-fn fields_have_their_texts(rt: HostRuntime) -> Result<(), Fail> {
+fn read_field_returns_the_text_of_a_leaf(rt: HostRuntime) -> Result<(), Fail> {
     let rows = [
-        ("Measurement { channel: 3, celsius: -4 }", "celsius", Some("-4")),
-        ("Measurement { channel: 3, celsius: -4 }", "channel", Some("3")),
+        (
+            "Measurement { channel: 3, celsius: -4 }",
+            "celsius",
+            Some("-4"),
+        ),
+        (
+            "Measurement { channel: 3, celsius: -4 }",
+            "channel",
+            Some("3"),
+        ),
         ("Measurement { channel: 3, celsius: -4 }", "kelvin", None),
         ("Measurement { channel: 3, celsius: [-4] }", "celsius", None),
         ("[celsius]", "celsius", None),
     ];
-    for (line, label, wanted) in rows {
-        let found = read_field(rt.alloc(), line.as_bytes(), label)?;
+    for (line, field_name, wanted) in rows {
+        let found = read_field(rt.alloc(), line.as_bytes(), field_name)?;
         same(&rt, found.as_deref(), wanted, line);
     }
     Ok(())
 }
 
 #[test]
-fn other_lines_are_refused(rt: HostRuntime) {
+fn celsius_of_other_lines_fails_with_not_text(rt: HostRuntime) {
     for line in [
         "",
         "Measurement { channel: 3, celsius: }",

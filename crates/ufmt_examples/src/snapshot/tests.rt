@@ -1,4 +1,4 @@
-//! Values that print alike, and values that don't.
+//! Tests of `print_alike`.
 use super::*;
 use std::process::Abort;
 use std::test::Fail;
@@ -9,7 +9,7 @@ fn same(rt: &impl Abort, given: bool, wanted: bool, case: &str) {
 }
 
 #[test]
-fn values_are_compared_by_their_texts(rt: HostRuntime) -> Result<(), Fail> {
+fn print_alike_compares_texts(rt: HostRuntime) -> Result<(), Fail> {
     let alloc = rt.alloc();
     let empty_set = Doc::SetOf(Vec::new(alloc));
     let empty_map = Doc::MapOf(Vec::new(alloc));

@@ -1,4 +1,4 @@
-//! A call of each law.
+//! Tests that call each law.
 use super::verdict::has_text;
 use super::{holds, same};
 use std::alloc::Global;

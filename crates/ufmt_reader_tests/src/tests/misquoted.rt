@@ -1,10 +1,10 @@
-//! Leaves in wrong quotes: readers and conversions refuse each, by itself and in blocks of either layout.
+//! Tests that readers and conversions refuse leaves in wrong quotes, by themselves and in blocks.
 use super::same;
-use super::verdict::{Verdict, told};
+use super::verdict::{Verdict, verdict_on};
 use std::alloc::{AllocError, Global};
 use ufmt::layout::Mode;
 
-// A character in another spelling than its own, in a text and as a character.
+// A character in a wrong spelling, in a text or by itself.
 const SPELLED_OTHERWISE: [&[u8]; 26] = [
     b"\"\\u{a}\"",
     b"'\\u{a}'",
@@ -34,7 +34,7 @@ const SPELLED_OTHERWISE: [&[u8]; 26] = [
     b"\"\"\"",
 ];
 
-// An escape that is none.
+// Escapes that don't exist.
 const NO_ESCAPES: [&[u8]; 13] = [
     b"\"\\x\"",
     b"'\\x'",
@@ -51,7 +51,7 @@ const NO_ESCAPES: [&[u8]; 13] = [
     b"\"\\U{1b}\"",
 ];
 
-// Bytes that are no UTF-8, in a text and as a character.
+// Bytes that are no UTF-8, in a text or as a character.
 const NOT_UTF8: [&[u8]; 9] = [
     b"\"\xff\"",
     b"'\xff'",
@@ -64,7 +64,7 @@ const NOT_UTF8: [&[u8]; 9] = [
     b"\"a\xf4\x90\x80\x80\"",
 ];
 
-// No character or several between apostrophes, a quote that isn't closed, or bytes after the closing quote.
+// No character or several between apostrophes, an open quote, or bytes after the closing quote.
 const MISCOUNTED: [&[u8]; 21] = [
     b"''",
     b"'ab'",
@@ -89,7 +89,7 @@ const MISCOUNTED: [&[u8]; 21] = [
     b"\"a\" ",
 ];
 
-// A mode, and the texts around a leaf: none, those of a list, of a map as a key, and of a struct.
+// A mode, and what is around a leaf: nothing, a list, a map where it is the key, or a struct.
 const PLACES: [(Mode, &str, &str); 8] = [
     (Mode::Plain, "", ""),
     (Mode::Pretty, "", ""),
@@ -109,18 +109,18 @@ fn placed(alloc: Global, before: &str, leaf: &[u8], after: &str) -> Result<Vec<u
 }
 
 // The number of places in which readers and conversions have this verdict on the leaf.
-fn count_places(alloc: Global, leaf: &[u8], verdict: Verdict) -> Result<usize, AllocError> {
+fn count_places(alloc: Global, leaf: &[u8], wanted: Verdict) -> Result<usize, AllocError> {
     let mut count = 0usize;
     for (mode, before, after) in PLACES {
         let text = placed(alloc, before, leaf, after)?;
-        if told(alloc, mode, &text) == verdict {
+        if verdict_on(alloc, mode, &text) == wanted {
             count = count.saturating_add(1);
         }
     }
     Ok(count)
 }
 
-// The number of leaves before the first that isn't refused in each place, and that one.
+// The number of leaves before the first that isn't refused in each place, and that leaf.
 fn refused<'a>(alloc: Global, leaves: &[&'a [u8]]) -> (usize, &'a [u8]) {
     let mut count = 0usize;
     for leaf in leaves {
@@ -161,7 +161,7 @@ fn control_characters_are_refused_in_quotes(rt: HostRuntime) {
     same(&rt, count_refused(rt.alloc(), 126), Ok((0, 0)), "a tilde");
 }
 
-// Leaves in quotes, as they are printed, and leaves that have none.
+// Leaves without quotes, and leaves in quotes as they are printed.
 #[test]
 fn leaves_in_right_quotes_are_taken(rt: HostRuntime) {
     let leaves = [
@@ -195,8 +195,8 @@ const QUOTED_NAMES: [(&str, &str); 7] = [
 #[test]
 fn names_in_quotes_are_refused(rt: HostRuntime) {
     for (plain, pretty) in QUOTED_NAMES {
-        let by_plain = told(rt.alloc(), Mode::Plain, plain.as_bytes());
-        let by_pretty = told(rt.alloc(), Mode::Pretty, pretty.as_bytes());
+        let by_plain = verdict_on(rt.alloc(), Mode::Plain, plain.as_bytes());
+        let by_pretty = verdict_on(rt.alloc(), Mode::Pretty, pretty.as_bytes());
         let given = (by_plain, by_pretty);
         same(&rt, given, (Verdict::Refused, Verdict::Refused), plain);
     }

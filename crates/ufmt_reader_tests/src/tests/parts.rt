@@ -1,4 +1,5 @@
-//! The parts of documents that were read.
+//! Tests of `as_leaf`, `name`, `entries`, `pairs`, `fields` and `field` of documents that were
+//! read.
 use super::same;
 use super::verdict::read;
 use std::alloc::Global;
@@ -36,7 +37,7 @@ fn is_read(alloc: Global, mode: Mode, text: &str, row: Row<'_>) -> Result<bool, 
 }
 
 #[test]
-fn each_shape_has_its_parts(rt: HostRuntime) {
+fn each_kind_of_document_has_its_parts(rt: HostRuntime) {
     let rows: [(Mode, &str, Row<'_>); 14] = [
         (
             Mode::Plain,
@@ -115,20 +116,28 @@ fn each_shape_has_its_parts(rt: HostRuntime) {
 }
 
 // The text of a field that is a leaf.
-fn leaf_of_field<'a>(doc: &'a Doc, label: &str) -> Option<&'a str> {
-    doc.field(label)?.as_leaf()
+fn leaf_of_field<'a>(doc: &'a Doc, name: &str) -> Option<&'a str> {
+    doc.field(name)?.as_leaf()
 }
 
-fn is_found(alloc: Global, text: &str, label: &str, leaf: Option<&str>) -> Result<bool, ReadError> {
+fn is_found(alloc: Global, text: &str, name: &str, leaf: Option<&str>) -> Result<bool, ReadError> {
     let doc = read_plain(alloc, text.as_bytes())?;
-    Ok(leaf_of_field(&doc, label) == leaf)
+    Ok(leaf_of_field(&doc, name) == leaf)
 }
 
 #[test]
-fn fields_are_found_by_their_labels(rt: HostRuntime) {
+fn field_finds_fields_by_name(rt: HostRuntime) {
     let rows = [
-        ("Measurement { channel: 3, celsius: -4 }", "channel", Some("3")),
-        ("Measurement { channel: 3, celsius: -4 }", "celsius", Some("-4")),
+        (
+            "Measurement { channel: 3, celsius: -4 }",
+            "channel",
+            Some("3"),
+        ),
+        (
+            "Measurement { channel: 3, celsius: -4 }",
+            "celsius",
+            Some("-4"),
+        ),
         ("Measurement { channel: 3, celsius: -4 }", "Celsius", None),
         ("Measurement { channel: 3, celsius: -4 }", "", None),
         ("S { a: b, a: c }", "a", Some("b")),
@@ -136,8 +145,8 @@ fn fields_are_found_by_their_labels(rt: HostRuntime) {
         ("{a: b}", "a", None),
         ("a", "a", None),
     ];
-    for (text, label, leaf) in rows {
-        let is_found = is_found(rt.alloc(), text, label, leaf);
+    for (text, name, leaf) in rows {
+        let is_found = is_found(rt.alloc(), text, name, leaf);
         same(&rt, is_found, Ok(true), text);
     }
 }
@@ -146,7 +155,7 @@ fn leaf_or_mark(doc: &Doc) -> &str {
     doc.as_leaf().unwrap_or("?")
 }
 
-// The leaf at this place, with the leaf or the label before it.
+// The leaf at this place, and the key or field name before it.
 fn part(doc: &Doc, place: usize) -> Option<(&str, &str)> {
     if let Some(entries) = doc.entries() {
         return Some(("", leaf_or_mark(entries.get(place)?)));
@@ -155,8 +164,8 @@ fn part(doc: &Doc, place: usize) -> Option<(&str, &str)> {
         let (key, value) = pairs.get(place)?;
         return Some((leaf_or_mark(key), leaf_or_mark(value)));
     }
-    let (label, value) = doc.fields()?.get(place)?;
-    Some((label.as_str(), leaf_or_mark(value)))
+    let (name, value) = doc.fields()?.get(place)?;
+    Some((name.as_str(), leaf_or_mark(value)))
 }
 
 // Whether these are the parts, and there is no third.
@@ -190,7 +199,7 @@ fn parts_come_in_the_order_of_the_text(rt: HostRuntime) {
 }
 
 // A caller that collects what it read, with `?` after each push.
-fn label_lengths(alloc: Global, line: &[u8]) -> Result<Vec<usize>, ReadError> {
+fn name_lengths(alloc: Global, line: &[u8]) -> Result<Vec<usize>, ReadError> {
     let doc = read_plain(alloc, line)?;
     let fields = doc.fields().unwrap_or(&[]);
     let mut lengths = Vec::new(alloc);
@@ -201,8 +210,13 @@ fn label_lengths(alloc: Global, line: &[u8]) -> Result<Vec<usize>, ReadError> {
 }
 
 #[test]
-fn what_was_read_is_collected(rt: HostRuntime) -> Result<(), ReadError> {
-    let lengths = label_lengths(rt.alloc(), b"P { x: 1, why: 2 }")?;
-    same(&rt, lengths.as_slice() == [1, 3].as_slice(), true, "labels");
+fn field_names_of_a_read_document_are_collected(rt: HostRuntime) -> Result<(), ReadError> {
+    let lengths = name_lengths(rt.alloc(), b"P { x: 1, why: 2 }")?;
+    same(
+        &rt,
+        lengths.as_slice() == [1, 3].as_slice(),
+        true,
+        "field names",
+    );
     Ok(())
 }

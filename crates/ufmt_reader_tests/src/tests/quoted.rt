@@ -1,15 +1,16 @@
-//! Texts and characters in quotes, printed and read back.
+//! Tests of texts and characters in quotes: `Doc::text`, `Doc::character`, `unquoted`, and reading
+//! back.
 use super::same;
-use super::verdict::{Verdict, has_text, told};
+use super::verdict::{Verdict, has_text, verdict_on};
 use std::alloc::{AllocError, Global};
 use ufmt::layout::Mode;
 use ufmt_doc::convert::{plain_text, pretty_text};
 use ufmt_doc::doc::Doc;
 use ufmt_user::Message;
 
-// What is said of the two texts of a value with this character in a text and by itself, and of a
-// struct with both.
-fn told_of(alloc: Global, character: char) -> Result<(Verdict, Verdict), AllocError> {
+// The verdicts on the plain and pretty text of a value that has this character in texts and by
+// itself.
+fn verdicts_on(alloc: Global, character: char) -> Result<(Verdict, Verdict), AllocError> {
     let mut text = String::new(alloc);
     text.push(character)?;
     let message = Message {
@@ -18,8 +19,8 @@ fn told_of(alloc: Global, character: char) -> Result<(Verdict, Verdict), AllocEr
         text: text.as_str(),
     };
     let value = (Some((text.as_str(), character)), message);
-    let plain = told(alloc, Mode::Plain, plain_text(alloc, &value)?.as_bytes());
-    let pretty = told(alloc, Mode::Pretty, pretty_text(alloc, &value)?.as_bytes());
+    let plain = verdict_on(alloc, Mode::Plain, plain_text(alloc, &value)?.as_bytes());
+    let pretty = verdict_on(alloc, Mode::Pretty, pretty_text(alloc, &value)?.as_bytes());
     Ok((plain, pretty))
 }
 
@@ -27,20 +28,20 @@ fn told_of(alloc: Global, character: char) -> Result<(Verdict, Verdict), AllocEr
 fn each_ascii_character_is_printed_and_read_back(rt: HostRuntime) {
     let taken = (Verdict::Taken, Verdict::Taken);
     for byte in 0..=127u8 {
-        let given = told_of(rt.alloc(), char::from(byte));
+        let given = verdicts_on(rt.alloc(), char::from(byte));
         same(&rt, (byte, given), (byte, Ok(taken)), "a character");
     }
 }
 
-// Whether this is what the leaf has between its quotes.
+// Whether the leaf has this text between its quotes.
 fn comes_back(alloc: Global, doc: &Doc, text: &str) -> Result<bool, AllocError> {
     match doc.unquoted(alloc)? {
-        Some(told) => Ok(told.as_str() == text),
+        Some(inside) => Ok(inside.as_str() == text),
         None => Ok(false),
     }
 }
 
-// A text as it is, and as it is in a leaf.
+// A text, and its leaf in quotes.
 const LEAVES: [(&str, &str); 5] = [
     ("", "\"\""),
     ("a, b", "\"a, b\""),
@@ -68,7 +69,7 @@ fn is_made_of_character(alloc: Global, character: char, leaf: &str) -> Result<bo
 }
 
 #[test]
-fn documents_are_made_of_texts_and_characters(rt: HostRuntime) {
+fn doc_text_and_doc_character_make_leaves_in_quotes(rt: HostRuntime) {
     for (text, leaf) in LEAVES {
         same(&rt, is_made_of_text(rt.alloc(), text, leaf), Ok(true), leaf);
     }
@@ -78,14 +79,14 @@ fn documents_are_made_of_texts_and_characters(rt: HostRuntime) {
     }
 }
 
-// Whether a leaf of this name has no text in quotes.
+// Whether this leaf has no text in quotes.
 fn has_no_text(alloc: Global, leaf: &str) -> Result<bool, AllocError> {
     let doc = Doc::Leaf(String::from_str(alloc, leaf)?);
     Ok(doc.unquoted(alloc)?.is_none())
 }
 
 #[test]
-fn what_is_no_leaf_in_quotes_has_no_text(rt: HostRuntime) {
+fn unquoted_is_none_of_other_documents(rt: HostRuntime) {
     for leaf in ["", "x", "()", "\"a", "'ab'", "\"\\u{41}\""] {
         same(&rt, has_no_text(rt.alloc(), leaf), Ok(true), leaf);
     }

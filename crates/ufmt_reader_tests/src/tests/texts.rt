@@ -1,7 +1,7 @@
-//! Texts that are read, and texts that are refused, as the layouts of documents have it.
+//! Texts of documents, and inputs that are no text.
 
-/// Of 44 documents the plain text, a line, and the pretty text below it, with an empty line between
-/// two documents. They are one literal, since an array of pairs takes the check four times as long.
+/// The texts of 44 documents: the plain text in a line, the pretty text below it, and then an empty
+/// line. They are one literal, because an array of pairs takes the check four times as long.
 pub const TEXTS: &str = "\
 x
 x
@@ -243,7 +243,7 @@ Some(
     \"x\",
 )";
 
-// What is no text, with a bar before each but the first, which is empty.
+// Inputs that are no text, with a bar between each two. The first is empty.
 pub const NOT_PLAIN: &str = "\
 |\n\
 | x\
@@ -318,7 +318,7 @@ pub const NOT_PRETTY: &str = "\
 |[\n    [\n        1,\n],\n]\
 |[1]";
 
-// Bytes that are no UTF-8, and a character past ASCII, in no quotes.
+// Bytes that are no UTF-8, and a character past ASCII, without quotes.
 pub const NO_WORDS: [&[u8]; 4] = [b"\xff", b"a\xff", b"\xc3\xa9", b"()\xff"];
 
 pub const NODE_PLAIN: &str = "Node { value: 1, next: Some(Node { value: 0, next: None }) }";

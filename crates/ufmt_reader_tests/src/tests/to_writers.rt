@@ -1,4 +1,4 @@
-//! Conversions to writers: over buffers of each size, and of what is no text.
+//! Tests of conversions to writers and into buffers of each size, also of inputs that are no text.
 use super::holds;
 use super::texts::{NODE_PLAIN, NODE_PRETTY};
 use std::alloc::{AllocError, Global};
@@ -7,7 +7,7 @@ use ufmt::{Cursor, Full, uWrite};
 use ufmt_doc::convert::{to_plain_into, to_pretty_into, write_to_plain, write_to_pretty};
 use ufmt_doc::scan::ScanError;
 
-// What a text of this mode is converted to, written to the writer.
+// Converts a text of this mode, to the writer.
 fn converted_to<W: uWrite>(
     mode: Mode,
     writer: &mut W,
@@ -19,8 +19,8 @@ fn converted_to<W: uWrite>(
     }
 }
 
-// Whether the conversion to a buffer of this size is `Ok` where the whole fits, and `Full` after a
-// beginning where not.
+// Whether the conversion to a buffer of this size is `Ok` if the whole fits, and else writes a
+// beginning and fails with `Full`.
 fn is_fitted(
     alloc: Global,
     mode: Mode,
@@ -38,7 +38,7 @@ fn is_fitted(
     Ok(is_right)
 }
 
-// Of how many sizes that holds, from no byte to one more than the text has.
+// For how many sizes that holds, from no byte to one more than the result has.
 fn fitted(alloc: Global, mode: Mode, text: &str, other: &str) -> Result<usize, AllocError> {
     let mut count = 0usize;
     for size in 0..=other.len().saturating_add(1) {
@@ -50,7 +50,7 @@ fn fitted(alloc: Global, mode: Mode, text: &str, other: &str) -> Result<usize, A
 }
 
 #[test]
-fn a_conversion_is_fitted_to_its_buffer(rt: HostRuntime) {
+fn conversions_fail_with_full_only_if_the_buffer_is_too_short(rt: HostRuntime) {
     let plain = "{a: [\"b\", ()], N: {}, (c,): {d, e}}";
     let pretty =
         "{\n    a: [\n        \"b\",\n        (),\n    ],\n    N: {},\n    (\n        c,\n    ): {\n        d,\n        e,\n    },\n}";
@@ -66,7 +66,7 @@ fn a_conversion_is_fitted_to_its_buffer(rt: HostRuntime) {
     }
 }
 
-// Whether the conversion to a buffer with room enough says that this is no text.
+// Whether the conversion to a buffer with room enough fails with `NotText`.
 fn is_no_text(mode: Mode, text: &[u8]) -> bool {
     let mut bytes = [0u8; 64];
     let mut cursor = Cursor::new(&mut bytes);
@@ -77,7 +77,7 @@ fn is_no_text(mode: Mode, text: &[u8]) -> bool {
 }
 
 #[test]
-fn what_is_no_text_is_told_from_a_full_buffer(rt: HostRuntime) {
+fn inputs_that_are_no_text_fail_with_not_text(rt: HostRuntime) {
     for text in ["", "[a", "[a, b", "[a,b]", "S { a }", "{a: b, c}"] {
         holds(&rt, is_no_text(Mode::Plain, text.as_bytes()), text);
     }
@@ -86,9 +86,9 @@ fn what_is_no_text_is_told_from_a_full_buffer(rt: HostRuntime) {
     }
 }
 
-// Whether the conversion into a buffer with room enough says so of the text and leaves this in front,
-// and the bytes after it stay.
-fn is_in_front(mode: Mode, text: &str, is_text: bool, front: &str) -> bool {
+// Whether the conversion into a buffer with room enough succeeds only if this is a text, writes
+// `front`, and keeps the bytes after it.
+fn is_at_front(mode: Mode, text: &str, is_text: bool, front: &str) -> bool {
     let mut bytes = [b'#'; 64];
     let answer = match mode {
         Mode::Plain => to_pretty_into(&mut bytes, text.as_bytes()),
@@ -105,7 +105,7 @@ fn is_in_front(mode: Mode, text: &str, is_text: bool, front: &str) -> bool {
 }
 
 #[test]
-fn a_conversion_into_a_buffer_stands_in_front(rt: HostRuntime) {
+fn conversions_into_a_buffer_write_at_its_front(rt: HostRuntime) {
     let (plain, pretty) = (
         "S { a: [1, ()] }",
         "S {\n    a: [\n        1,\n        (),\n    ],\n}",
@@ -118,6 +118,6 @@ fn a_conversion_into_a_buffer_stands_in_front(rt: HostRuntime) {
         (Mode::Plain, ", a", false, ""),
     ];
     for (mode, text, is_text, front) in rows {
-        holds(&rt, is_in_front(mode, text, is_text, front), text);
+        holds(&rt, is_at_front(mode, text, is_text, front), text);
     }
 }

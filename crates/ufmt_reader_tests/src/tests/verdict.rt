@@ -1,4 +1,4 @@
-//! What a reader and the conversion from its mode say of a text.
+//! The verdict of a reader, and of the conversion from its mode, on a text.
 use std::alloc::Global;
 use ufmt::layout::Mode;
 use ufmt_doc::convert::{plain_text, pretty_text, to_plain, to_pretty};
@@ -8,13 +8,13 @@ use ufmt_doc::pretty_reader::read_pretty;
 
 #[derive(Clone, Copy, PartialEq, Debug)]
 pub enum Verdict {
-    /// Both say that no document has it.
+    /// Both fail with `NotText`.
     Refused,
-    /// Both take it, and what they make of it leads back to it.
+    /// Both take it, and their results lead back to it.
     Taken,
-    /// What they make of it doesn't lead back to it, or wants memory.
+    /// Both take it. Their results don't lead back to it, or memory is refused.
     TakenForAnother,
-    /// One takes it and the other doesn't, or one wants memory.
+    /// One takes it and the other doesn't, or memory is refused.
     Torn,
 }
 
@@ -32,7 +32,7 @@ fn converted(alloc: Global, mode: Mode, text: &[u8]) -> Result<String, ReadError
     }
 }
 
-// Whether this is the document's text in this mode. Want of memory is no.
+// Whether this is the document's text in this mode. Without memory this is false.
 pub fn has_text(alloc: Global, mode: Mode, doc: &Doc, text: &[u8]) -> bool {
     let made = match mode {
         Mode::Plain => plain_text(alloc, doc),
@@ -44,7 +44,7 @@ pub fn has_text(alloc: Global, mode: Mode, doc: &Doc, text: &[u8]) -> bool {
     }
 }
 
-// Whether the conversion of the text is this one. Want of memory is no.
+// Whether the text converts to the other. Without memory this is false.
 pub fn converts_to(alloc: Global, mode: Mode, text: &[u8], other: &[u8]) -> bool {
     match converted(alloc, mode, text) {
         Ok(given) => given.as_bytes() == other,
@@ -52,17 +52,17 @@ pub fn converts_to(alloc: Global, mode: Mode, text: &[u8], other: &[u8]) -> bool
     }
 }
 
-pub fn told(alloc: Global, mode: Mode, text: &[u8]) -> Verdict {
+pub fn verdict_on(alloc: Global, mode: Mode, text: &[u8]) -> Verdict {
     let doc = read(alloc, mode, text);
     match (doc, converted(alloc, mode, text)) {
-        (Ok(doc), Ok(other)) => told_of_taken(alloc, mode, text, &doc, other.as_bytes()),
+        (Ok(doc), Ok(other)) => verdict_on_taken(alloc, mode, text, &doc, other.as_bytes()),
         (Err(ReadError::NotText), Err(ReadError::NotText)) => Verdict::Refused,
         _ => Verdict::Torn,
     }
 }
 
-// Whether the document has the text in its mode and the converted one in the other, which converts back.
-fn told_of_taken(alloc: Global, mode: Mode, text: &[u8], doc: &Doc, other: &[u8]) -> Verdict {
+// Whether the document has both texts, and the converted text converts back.
+fn verdict_on_taken(alloc: Global, mode: Mode, text: &[u8], doc: &Doc, other: &[u8]) -> Verdict {
     let back = match mode {
         Mode::Plain => Mode::Pretty,
         Mode::Pretty => Mode::Plain,

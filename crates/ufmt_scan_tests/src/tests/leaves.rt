@@ -1,9 +1,9 @@
-//! Which texts are leaves, and which of these are words; and bytes as they are spelled between quotes.
+//! Tests of `is_leaf`, `is_word`, `is_symbol` and `split_escaped`.
 use super::same;
 use ufmt_scan::leaf::{is_leaf, is_symbol, is_word};
 use ufmt_scan::quoted::split_escaped;
 
-// What a text is, and the text.
+// The kind of a text, and the text.
 const TEXTS: &str = "\
 none:;\
 word:-;\
@@ -20,27 +20,28 @@ symbol:'\u{e9}';\
 none:'';\
 none:'ab'";
 
-fn told(text: &str) -> &'static str {
+fn kind(text: &str) -> &'static str {
     match (is_leaf(text), is_word(text), is_symbol(text)) {
         (true, true, false) => "word",
         (true, false, true) => "symbol",
         (false, false, false) => "none",
-        _ => "several answers that differ",
+        _ => "calls that disagree",
     }
 }
 
 #[test]
-fn leaves_are_told_apart(rt: HostRuntime) {
+fn texts_are_words_symbols_or_no_leaves(rt: HostRuntime) {
     let mut count = 0usize;
     for row in TEXTS.split(';') {
         let (wanted, text) = row.split_once(':').unwrap_or((row, ""));
-        same(&rt, told(text), wanted, row);
+        same(&rt, kind(text), wanted, row);
         count = count.saturating_add(1);
     }
     same(&rt, count, 14, "texts");
 }
 
-// What is between quotation marks, the byte that is written at its front, and how much follows.
+// What is between quotation marks, the byte that its front is decoded to, and how many bytes
+// follow.
 const SPELLINGS: [(&str, Option<(u8, usize)>); 12] = [
     ("", None),
     ("ab", Some((b'a', 1))),
@@ -57,12 +58,12 @@ const SPELLINGS: [(&str, Option<(u8, usize)>); 12] = [
 ];
 
 #[test]
-fn bytes_are_told_by_their_one_spelling(rt: HostRuntime) {
+fn split_escaped_decodes_a_byte_in_its_one_spelling(rt: HostRuntime) {
     for (inside, wanted) in SPELLINGS {
-        let told = match split_escaped(b'"', inside.as_bytes()) {
+        let given = match split_escaped(b'"', inside.as_bytes()) {
             Some((byte, rest)) => Some((byte, rest.len())),
             None => None,
         };
-        same(&rt, told, wanted, inside);
+        same(&rt, given, wanted, inside);
     }
 }

@@ -1,4 +1,4 @@
-//! Values over an allocator that isn't `Global`, and a text over one as a writer.
+//! Tests of values over an allocator that isn't `Global`, and of a `String` over one as a writer.
 use super::rows::{Table, are_ok, has_rows, same};
 use std::alloc::{AllocError, Allocator};
 use std::collections::{BTreeMap, BTreeSet};
@@ -47,7 +47,7 @@ fn values_over_a_lent_allocator_print(rt: HostRuntime) {
 }
 
 #[test]
-fn texts_over_a_lent_allocator_are_printed_to(rt: HostRuntime) {
+fn strings_over_a_lent_allocator_are_writers(rt: HostRuntime) {
     let global = rt.alloc();
     let mut text = String::new(&global);
     let answers = [

@@ -1,4 +1,4 @@
-//! Blocks, each with its pieces in both modes, a bar after each.
+//! Tests of the pieces of blocks in both modes, with a bar after each piece.
 use super::rows::{Table, has_rows, list, map, set};
 use std::alloc::{AllocError, Global};
 use std::collections::{BTreeMap, BTreeSet};
@@ -20,7 +20,7 @@ Parens|;
 ";
 
 #[test]
-fn structs_and_tuples(rt: HostRuntime) {
+fn structs_and_tuples_print_in_pieces(rt: HostRuntime) {
     let mut table = Table::new(rt.alloc());
     table.pieces(&Pair { x: 1u64, y: 2u64 });
     table.pieces(&Braces {});
@@ -52,7 +52,7 @@ fn list_of_a_set(alloc: Global) -> Result<Vec<BTreeSet<u64>>, AllocError> {
 }
 
 #[test]
-fn lists_and_sets(rt: HostRuntime) {
+fn lists_and_sets_print_in_pieces(rt: HostRuntime) {
     let mut table = Table::new(rt.alloc());
     table.pieces(&[1u64, 2]);
     table.pieces(&[1i32, 2].as_slice());
@@ -74,7 +74,7 @@ Some|(|\n|    |1|,\n|)|;
 ";
 
 #[test]
-fn maps_and_options(rt: HostRuntime) {
+fn maps_and_options_print_in_pieces(rt: HostRuntime) {
     let mut table = Table::new(rt.alloc());
     table.pieces_of_made(map::<u8, u8>(rt.alloc(), &[]));
     table.pieces_of_made(map(rt.alloc(), &[(3i32, 4i32), (1, 2)]));
@@ -89,16 +89,16 @@ Some|(|\n|    |1|,\n|)|;
 [|\n|    |Some|(|\n|    |    |1|,\n|    |)|,\n|]|;
 ";
 
-// By itself it is a pretty part in a pretty part.
+// In pretty mode each value is a pretty part inside a pretty part.
 #[test]
-fn a_pretty_part(rt: HostRuntime) {
+fn a_pretty_part_prints_in_pieces(rt: HostRuntime) {
     let mut table = Table::new(rt.alloc());
     table.pieces(&InPrettyMode(Some(1u8)));
     table.pieces(&[InPrettyMode(Some(1u8))]);
     has_rows(&rt, &table, PRETTY_PARTS);
 }
 
-const VARIANTS_AND_DEEP: &str = "\
+const VARIANTS_AND_DEEP_BLOCKS: &str = "\
 Ok|(|1|)|~
 Ok|(|\n|    |1|,\n|)|;
 Err|(|2|)|~
@@ -107,12 +107,12 @@ Err|(|\n|    |2|,\n|)|;
 [|\n|    |Some|(|\n|    |    |[|\n|    |    |    |Some|(|\n|    |    |    |    |[|\n|    |    |    |    |    |1|,\n|    |    |    |    |]|,\n|    |    |    |)|,\n|    |    |]|,\n|    |)|,\n|]|;
 ";
 
-// Each unit of an indentation is a piece of its own.
+// Each four spaces of an indentation are one piece.
 #[test]
-fn variants_and_deep_blocks(rt: HostRuntime) {
+fn variants_and_deep_blocks_print_in_pieces(rt: HostRuntime) {
     let mut table = Table::new(rt.alloc());
     table.pieces(&Ok::<u8, u8>(1));
     table.pieces(&Err::<u8, u8>(2));
     table.pieces(&[Some([Some([1u8])])]);
-    has_rows(&rt, &table, VARIANTS_AND_DEEP);
+    has_rows(&rt, &table, VARIANTS_AND_DEEP_BLOCKS);
 }

@@ -1,5 +1,5 @@
-//! Values of std's own types, nested. Their texts are those of core::fmt, and of ufmt 0.2.0
-//! but for those that say so.
+//! Tests of the texts of std's collections. They are those of core::fmt, and those of ufmt 0.2.0
+//! except where a comment says so.
 use super::repeated::repeated;
 use super::rows::{Table, has_rows, list, map, same, set};
 use std::alloc::{AllocError, Global};
@@ -27,7 +27,7 @@ const LISTS: &str = "\
 ";
 
 #[test]
-fn lists(rt: HostRuntime) {
+fn lists_print_as_by_core_fmt(rt: HostRuntime) {
     let mut table = Table::new(rt.alloc());
     table.texts(&[0i32; 0].as_slice());
     table.texts(&[0u64].as_slice());
@@ -37,13 +37,13 @@ fn lists(rt: HostRuntime) {
     has_rows(&rt, &table, LISTS);
 }
 
-// Its texts are those of core::fmt alone, since ufmt 0.2.0 has arrays of at most 32.
+// ufmt 0.2.0 has arrays of at most 32.
 #[test]
-fn an_array_of_40(rt: HostRuntime) {
+fn an_array_of_40_prints_as_by_core_fmt(rt: HostRuntime) {
     let mut table = Table::new(rt.alloc());
     table.texts(&[7u64; 40]);
     let mut expected = Table::new(rt.alloc());
-    expected.put_apart(
+    expected.put_both(
         repeated(rt.alloc(), "[7", ", 7", 39, "]"),
         repeated(rt.alloc(), "[\n", "    7,\n", 40, "]"),
     );
@@ -65,7 +65,6 @@ const SETS_AND_MAPS: &str = "\
 };
 ";
 
-// The README's example.
 fn ports(alloc: Global) -> Result<BTreeMap<u64, Vec<u64>>, AllocError> {
     let mut ports = BTreeMap::new(alloc);
     ports.insert(80u64, list(alloc, &[7u64, 9])?)?;
@@ -73,7 +72,7 @@ fn ports(alloc: Global) -> Result<BTreeMap<u64, Vec<u64>>, AllocError> {
 }
 
 #[test]
-fn sets_and_maps(rt: HostRuntime) {
+fn sets_and_maps_print_as_by_core_fmt(rt: HostRuntime) {
     let mut table = Table::new(rt.alloc());
     table.texts_of_made(set(rt.alloc(), &[3u64, 1]));
     table.texts_of_made(ports(rt.alloc()));
@@ -96,7 +95,7 @@ Err(
 ";
 
 #[test]
-fn options_and_results(rt: HostRuntime) {
+fn options_and_results_print_as_by_core_fmt(rt: HostRuntime) {
     let mut table = Table::new(rt.alloc());
     table.texts(&Some(0u64));
     table.texts(&Ok::<u64, i32>(1));
@@ -159,7 +158,7 @@ Some(
 );
 ";
 
-// What ufmt 0.2.0 prints of the same values.
+// The texts of the same values by ufmt 0.2.0.
 const BY_UFMT: &str = "\
 [[], [0, 1]]~
 [
@@ -247,7 +246,7 @@ fn map_of_a_map(alloc: Global) -> Result<BTreeMap<i32, BTreeMap<i32, i32>>, Allo
     Ok(maps)
 }
 
-// How many rows differ, of how many that have the same plain text.
+// How many rows differ, and how many have the same plain text.
 fn count_unlike(rows: &str, others: &str) -> (usize, usize) {
     let (mut unlike, mut alike_in_plain) = (0usize, 0usize);
     for (row, other) in rows.split(";\n").zip(others.split(";\n")) {
@@ -262,7 +261,7 @@ fn count_unlike(rows: &str, others: &str) -> (usize, usize) {
 }
 
 #[test]
-fn values_that_ufmt_prints_otherwise(rt: HostRuntime) {
+fn nested_values_print_as_by_core_fmt_and_not_as_by_ufmt(rt: HostRuntime) {
     let mut table = Table::new(rt.alloc());
     table.texts_of_made(array_of_lists(rt.alloc()));
     table.texts_of_made(list_of_lists(rt.alloc()));

@@ -1,9 +1,9 @@
-//! A cursor and its buffer, and a formatter over one, which continues where a part has failed.
+//! Tests of `Cursor`, of `write_to_buffer`, and of a formatter that continues after a failed entry.
 use super::rows::{Table, has_rows, same};
 use ufmt::{Cursor, Formatter, Full, laws, uWrite};
 
 impl Table {
-    // A row of what a call on the cursor answered, and what then remains and is written.
+    // Adds a row of what a call on the cursor returned, and of what then remains and is written.
     fn put_cursor(&mut self, answer: Result<(), Full>, cursor: &Cursor<'_>) {
         let answer = answer.map(|()| cursor.remaining());
         self.put_answer(answer, cursor.written());
@@ -45,7 +45,7 @@ fn a_cursor_fills_its_buffer(rt: HostRuntime) {
 }
 
 #[test]
-fn a_cursor_over_nothing(rt: HostRuntime) {
+fn a_cursor_over_no_bytes_takes_only_empty_pieces(rt: HostRuntime) {
     let mut table = Table::new(rt.alloc());
     let mut cursor = Cursor::new(&mut []);
     for piece in ["", "a"] {
@@ -57,7 +57,7 @@ fn a_cursor_over_nothing(rt: HostRuntime) {
 }
 
 #[test]
-fn a_buffer_keeps_what_it_is_not_given(rt: HostRuntime) {
+fn write_to_buffer_keeps_the_other_bytes(rt: HostRuntime) {
     let mut buffer = *b"....";
     let answer = laws::write_to_buffer(&mut buffer, "abcde");
     same(&rt, (answer, &buffer), (Err(Full), b"...."), "too long");
@@ -65,8 +65,8 @@ fn a_buffer_keeps_what_it_is_not_given(rt: HostRuntime) {
     same(&rt, (answer, &buffer), (Ok(()), b"ab.."), "short");
 }
 
-// Begins a list, whose first entry fails, and continues with a text: `x` where the builder then is closed
-// and the depth that from before it.
+// Begins a list whose first entry fails. Then writes `x` if the builder is closed and the depth is
+// as before.
 fn entry_then_text<W: uWrite<Error = Full>>(f: &mut Formatter<W>) -> Result<(), Full> {
     let mut list = f.debug_list()?;
     let answer = list.entry(&1u64);
@@ -88,16 +88,16 @@ fn entry_then_text_to<W: uWrite<Error = Full>>(
     (answer, (f.is_pretty(), f.depth()), f.into_inner())
 }
 
-const BEHIND_AN_ENTRY: &str = "\
+const AFTER_AN_ENTRY: &str = "\
 Err(Full) [;
 Err(Full) [;
 Ok(0) [\nx;
 ";
 
-// A buffer of one byte takes the bracket alone. One of three takes a line feed too, and then no entry
-// of four spaces, but the text.
+// A buffer of one byte takes only the bracket. One of three also takes the line feed. The four
+// spaces of the entry don't fit then, but the text does.
 #[test]
-fn a_text_after_an_entry_that_failed(rt: HostRuntime) {
+fn a_formatter_continues_after_a_failed_entry(rt: HostRuntime) {
     let mut table = Table::new(rt.alloc());
     for (size, is_pretty) in [(1, false), (1, true), (3, true)] {
         let mut buffer = [0; 3];
@@ -106,5 +106,5 @@ fn a_text_after_an_entry_that_failed(rt: HostRuntime) {
         same(&rt, left, (false, 0), "what is left");
         table.put_cursor(answer, &cursor);
     }
-    has_rows(&rt, &table, BEHIND_AN_ENTRY);
+    has_rows(&rt, &table, AFTER_AN_ENTRY);
 }

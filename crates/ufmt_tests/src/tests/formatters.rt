@@ -1,4 +1,4 @@
-//! The formatter's own calls: texts, characters and pretty parts.
+//! Tests of the formatter's own calls: `write_str`, `write_char` and `pretty`.
 ghost use Rattle.std.specs.Prelude.{[]};
 
 use super::printed::{Printed, print_to};
@@ -8,7 +8,7 @@ use std::alloc::AllocError;
 use ufmt::{Cursor, Formatter, Full, uWrite};
 
 #[test]
-fn texts_and_characters_go_to_the_writer(rt: HostRuntime) {
+fn write_str_and_write_char_reach_the_writer(rt: HostRuntime) {
     let mut text = String::new(rt.alloc());
     let by_text = [
         text.write_str("a"),
@@ -27,7 +27,7 @@ fn texts_and_characters_go_to_the_writer(rt: HostRuntime) {
     same(&rt, text.as_str(), "aébé", "by both");
 }
 
-// A writer that counts what came as characters. What it holds is not told to contracts.
+// A writer that counts its calls of `write_char`. Its text is not told.
 #[derive(Drop)]
 struct Noted {
     text: String,
@@ -54,7 +54,7 @@ impl uWrite for Noted {
 }
 
 #[test]
-fn characters_reach_the_call_of_the_writer_for_them(rt: HostRuntime) {
+fn write_char_calls_write_char_of_the_writer(rt: HostRuntime) {
     let mut noted = Noted {
         text: String::new(rt.alloc()),
         characters: 0,
@@ -86,7 +86,7 @@ fn characters_reach_the_call_of_the_writer_for_them(rt: HostRuntime) {
     same(&rt, noted.text.as_str(), "éabc", "the text");
 }
 
-// An empty text and a character of four bytes, each by the writer's call and by a formatter.
+// Writes an empty text by the writer and by a formatter, and a character of four bytes.
 fn write_both<W: uWrite + Drop>(mut writer: W) -> [Result<(), W::Error>; 3] {
     let by_writer = writer.write_str("");
     let mut f = Formatter::new(writer);
@@ -94,7 +94,7 @@ fn write_both<W: uWrite + Drop>(mut writer: W) -> [Result<(), W::Error>; 3] {
 }
 
 #[test]
-fn pieces_go_through_references(rt: HostRuntime) {
+fn references_pass_each_piece_to_their_writer(rt: HostRuntime) {
     let mut recorded = Recorded::new(rt.alloc());
     let mut reference = &mut recorded;
     let by_two = write_both(&mut reference);
@@ -119,7 +119,7 @@ impl Printed for Dropped {
 }
 
 #[test]
-fn a_builder_that_is_dropped(rt: HostRuntime) {
+fn a_dropped_builder_writes_no_closing_bracket(rt: HostRuntime) {
     let ((answer, _, outside), text) = print_to(true, &Dropped, String::new(rt.alloc()));
     same(
         &rt,
@@ -130,7 +130,7 @@ fn a_builder_that_is_dropped(rt: HostRuntime) {
     same(&rt, text.as_str(), "[", "the text");
 }
 
-// A pretty part that returns this error, and the mode and depth after it.
+// The result of a pretty part that returns this error, and mode and depth after it.
 fn fail_by_itself<W: uWrite>(writer: W, error: W::Error) -> (Result<(), W::Error>, bool, u8, W)
 where
     W::Error: Drop,
@@ -141,7 +141,7 @@ where
 }
 
 #[test]
-fn a_pretty_part_that_fails_by_itself(rt: HostRuntime) {
+fn pretty_goes_back_to_plain_mode_after_an_error(rt: HostRuntime) {
     let mut buffer = [0; 8];
     let (answer, is_pretty, depth, cursor) = fail_by_itself(Cursor::new(&mut buffer), Full);
     same(
@@ -153,7 +153,7 @@ fn a_pretty_part_that_fails_by_itself(rt: HostRuntime) {
     same(&rt, cursor.remaining(), 8, "what remains");
 }
 
-// A pretty part of one piece, with the mode in it, and the mode and depth after it.
+// The result of a pretty part of one piece, the mode inside it, and mode and depth after it.
 fn write_in_pretty_mode<W: uWrite>(
     f: &mut Formatter<W>,
     piece: &str,
@@ -167,7 +167,7 @@ fn write_in_pretty_mode<W: uWrite>(
 }
 
 #[test]
-fn a_pretty_part_whose_piece_is_refused(rt: HostRuntime) {
+fn pretty_goes_back_to_plain_mode_after_a_refused_piece(rt: HostRuntime) {
     let mut buffer = [0; 1];
     let mut f = Formatter::new(Cursor::new(&mut buffer));
     let refused = write_in_pretty_mode(&mut f, "ab");

@@ -1,4 +1,4 @@
-//! A type whose `fmt` is a piece.
+//! Two types whose `fmt` writes one piece: `X` by `write_str`, and `Y` by `uwrite!`.
 ghost use Rattle.std.specs.Prelude.{codes};
 ghost use Rattle.ufmt.specs.Document.{leaf};
 

@@ -1,4 +1,5 @@
-//! Hexadecimal numbers and padding, whose pieces are a prefix, single bytes, and the digits or the payload.
+//! Tests of `fmt_hex` and `with_stuff`. Their pieces are the prefix, each byte of padding, and the
+//! digits or the payload.
 use super::printed::{Hexadecimal, Payload, print_to};
 use super::rows::{Table, has_rows, same};
 use ufmt::{Cursor, HexOptions, uDisplayHex};
@@ -22,7 +23,7 @@ fn upper_case(ox_prefix: bool, pad_char: u8, pad_length: usize) -> HexOptions {
 }
 
 impl Table {
-    // A row of the padded number's pieces, if the pad byte is ASCII.
+    // Adds a row of the padded number's pieces, if the pad byte is ASCII.
     fn padded<N: uDisplayHex + Drop>(&mut self, number: N, options: HexOptions) {
         if options.has_ascii_pad() {
             self.pieces(&Hexadecimal { number, options });
@@ -66,7 +67,7 @@ ffffd8f0|;
 ";
 
 #[test]
-fn padded_numbers(rt: HostRuntime) {
+fn fmt_hex_pads_numbers(rt: HostRuntime) {
     let mut table = Table::new(rt.alloc());
     for (n, options) in [
         (771i32, lower_case(false, b' ', 0)),
@@ -115,7 +116,7 @@ ffffffffffffffffffffffffffffffff|;
 ";
 
 #[test]
-fn numbers_of_each_width(rt: HostRuntime) {
+fn fmt_hex_prints_numbers_of_each_width(rt: HostRuntime) {
     let mut table = Table::new(rt.alloc());
     table.hexadecimal(i8::MIN);
     table.hexadecimal(i8::MAX);
@@ -139,7 +140,7 @@ fn numbers_of_each_width(rt: HostRuntime) {
 }
 
 #[test]
-fn payloads(rt: HostRuntime) {
+fn with_stuff_pads_payloads(rt: HostRuntime) {
     let mut table = Table::new(rt.alloc());
     table.payload("é", lower_case(false, b'0', 4));
     table.payload("é", lower_case(true, b'-', 6));
@@ -155,7 +156,7 @@ fn payloads(rt: HostRuntime) {
 }
 
 impl Table {
-    // A row of what a padded 33 leaves in a buffer of eight bytes.
+    // Adds a row of what a padded 33 leaves in a buffer of eight bytes.
     fn past_a_buffer(&mut self, options: HexOptions) {
         if !options.has_ascii_pad() {
             return self.put_nothing();
@@ -178,12 +179,12 @@ Err(Full) 00000000;
 ";
 
 #[test]
-fn padding_past_every_buffer(rt: HostRuntime) {
+fn padding_that_no_buffer_holds_fails_with_full(rt: HostRuntime) {
     let mut table = Table::new(rt.alloc());
     table.past_a_buffer(lower_case(false, b'0', usize::MAX));
     table.past_a_buffer(lower_case(true, b'0', usize::MAX));
     table.past_a_buffer(lower_case(true, b' ', usize::MAX));
-    // Past each offset of a slice.
+    // No slice is so long.
     table.past_a_buffer(lower_case(false, b'0', 9_223_372_036_854_775_808));
     has_rows(&rt, &table, PAST_A_BUFFER);
 }

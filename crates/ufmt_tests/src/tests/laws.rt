@@ -1,4 +1,4 @@
-//! Each law can be called.
+//! Tests that each law can be called.
 use std::alloc::Global;
 use ufmt::laws;
 use ufmt::unsigned::decimal_is_one_text;

@@ -1,11 +1,11 @@
-//! What is one piece in both modes, and quoted texts, whose escapes are pieces.
+//! Tests of values that are one piece in both modes, and of quoted texts, whose escapes are pieces.
 use super::printed::Displayed;
 use super::repeated::repeated;
 use super::rows::{Table, has_rows, same};
 use std::alloc::{AllocError, Global};
 
 #[test]
-fn leaves(rt: HostRuntime) {
+fn leaves_print_as_one_piece(rt: HostRuntime) {
     let mut table = Table::new(rt.alloc());
     table.pieces(&true);
     table.pieces(&false);
@@ -15,7 +15,7 @@ fn leaves(rt: HostRuntime) {
 }
 
 #[test]
-fn references(rt: HostRuntime) {
+fn references_print_what_they_refer_to(rt: HostRuntime) {
     let mut table = Table::new(rt.alloc());
     let mut number = 2u8;
     table.pieces(&&1i32);
@@ -27,7 +27,7 @@ fn references(rt: HostRuntime) {
     has_rows(&rt, &table, "1|;\n2|;\n1|;\n2|;\n3|;\n4|;\n");
 }
 
-// Each escape is a piece, and each stretch between escapes.
+// Each escape is a piece, and so is each stretch between escapes.
 const QUOTED: &str = r#""|"|;
 "|a|\"|é b|\n|"|;
 "|\n|\n|"|;
@@ -48,7 +48,7 @@ const QUOTED: &str = r#""|"|;
 "#;
 
 #[test]
-fn quoted_leaves(rt: HostRuntime) {
+fn each_escape_of_a_quoted_leaf_is_a_piece(rt: HostRuntime) {
     let mut table = Table::new(rt.alloc());
     table.pieces(&"");
     table.pieces(&"a\"é b\n");
@@ -64,7 +64,7 @@ fn quoted_leaves(rt: HostRuntime) {
     has_rows(&rt, &table, QUOTED);
 }
 
-// A text of so many letters, and its pieces by both traits, with a bar after each.
+// Whether a text of this length is one piece by both traits.
 fn is_one_piece(alloc: Global, length: usize) -> Result<bool, AllocError> {
     let text = repeated(alloc, "", "x", length, "")?;
     let mut table = Table::new(alloc);
@@ -96,7 +96,7 @@ a|;
 ";
 
 #[test]
-fn displayed_leaves(rt: HostRuntime) {
+fn displayed_leaves_print_as_one_piece(rt: HostRuntime) {
     let mut table = Table::new(rt.alloc());
     table.pieces(&Displayed(true));
     table.pieces(&Displayed(false));

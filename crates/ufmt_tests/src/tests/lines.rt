@@ -1,4 +1,4 @@
-//! Lines of several pieces, to writers and into buffers.
+//! Tests of `pieces!`, `write_line` and `line_into`.
 use super::printed::{Printed, print_to};
 use super::rows::{Table, are_ok, has_rows, same};
 use std::alloc::{AllocError, Global};
@@ -12,11 +12,10 @@ const PREFIXED: HexOptions = HexOptions {
     ox_prefix: true,
 };
 
-// The pieces of a line with each mark, and of a tuple, a pretty list and a padded number in it, with a
-// bar between each two.
+// The pieces of a line with each mark, with a bar between each two.
 const PIECES: &str = "a=|7| |(|1|,|)|[|\n|    |2|,\n|]|0x|0|0|ff|1|-|2|.";
 
-// What a buffer of this length holds: the first pieces, up to the one that doesn't fit.
+// What a buffer of this length has: the pieces before the first that doesn't fit.
 fn first_pieces(alloc: Global, length: usize) -> Result<String, AllocError> {
     let mut held = String::new(alloc);
     for piece in PIECES.split('|') {
@@ -31,7 +30,7 @@ fn first_pieces(alloc: Global, length: usize) -> Result<String, AllocError> {
     Ok(held)
 }
 
-// Whether a buffer of this length takes them, and the call says so.
+// Whether `line_into` writes these pieces, and returns their length or `Full`.
 fn takes_first_pieces(alloc: Global, length: usize) -> Result<bool, AllocError> {
     let mut bytes = vec![in alloc; b'~'; length]?;
     let answer = line_into(
@@ -47,7 +46,7 @@ fn takes_first_pieces(alloc: Global, length: usize) -> Result<bool, AllocError> 
 }
 
 #[test]
-fn a_short_buffer_takes_the_first_pieces(rt: HostRuntime) {
+fn line_into_a_short_buffer_writes_the_first_pieces(rt: HostRuntime) {
     for length in 0..30usize {
         let given = (length, takes_first_pieces(rt.alloc(), length));
         same(&rt, given, (length, Ok(true)), "a line into a buffer");
@@ -55,7 +54,7 @@ fn a_short_buffer_takes_the_first_pieces(rt: HostRuntime) {
 }
 
 #[test]
-fn items_stand_with_a_text_between_them(rt: HostRuntime) {
+fn each_prints_items_with_a_text_between_them(rt: HostRuntime) {
     let mut text = String::new(rt.alloc());
     let no_items: [u8; 0] = [];
     let answers = [
@@ -78,13 +77,13 @@ fn items_stand_with_a_text_between_them(rt: HostRuntime) {
     );
 }
 
-// One more than the calls so far.
+// Counts a call, and returns the count.
 fn noted(calls: &mut u8) -> u8 {
     *calls = calls.saturating_add(1);
     *calls
 }
 
-// The answer, and how many values were taken.
+// The result, and how many values were evaluated.
 fn write_noted(buffer: &mut [u8]) -> (Result<usize, Full>, u8) {
     let mut calls = 0;
     let answer = line_into(
@@ -99,7 +98,7 @@ fn write_noted(buffer: &mut [u8]) -> (Result<usize, Full>, u8) {
 }
 
 #[test]
-fn values_are_taken_once_and_before_the_first_piece(rt: HostRuntime) {
+fn values_are_evaluated_once_and_before_the_first_piece(rt: HostRuntime) {
     same(&rt, write_noted(&mut []), (Err(Full), 4), "no room");
     let mut bytes = [0; 12];
     same(&rt, write_noted(&mut bytes), (Ok(12), 4), "room");
@@ -130,7 +129,7 @@ const EMPTY_PIECES: &str = "\
 ";
 
 #[test]
-fn empty_pieces_are_handed_on(rt: HostRuntime) {
+fn empty_pieces_are_passed_to_the_writer(rt: HostRuntime) {
     let mut table = Table::new(rt.alloc());
     table.pieces(&EmptyPieces);
     has_rows(&rt, &table, EMPTY_PIECES);
@@ -145,7 +144,7 @@ impl Printed for ALine {
 }
 
 #[test]
-fn a_line_in_pretty_mode(rt: HostRuntime) {
+fn a_line_prints_in_pretty_mode(rt: HostRuntime) {
     let ((answer, ..), text) = print_to(true, &ALine, String::new(rt.alloc()));
     same(
         &rt,
@@ -163,7 +162,7 @@ Err(Full) len=2 01 ~~~~~~~~~~~;
 ";
 
 #[test]
-fn a_packet_is_dumped(rt: HostRuntime) {
+fn dump_packet_prints_its_length_and_bytes(rt: HostRuntime) {
     let mut table = Table::new(rt.alloc());
     for (packet, length) in [
         ([0xdeu8, 0xad, 0xbe, 0xef].as_slice(), 20),
@@ -178,7 +177,7 @@ fn a_packet_is_dumped(rt: HostRuntime) {
     has_rows(&rt, &table, DUMPS);
 }
 
-const READINGS: &str = "\
+const MEASUREMENTS: &str = "\
 Ok(20) measured: 3=-4, 5=20~~~~;
 Ok(14) measured: 3=-4~~~~~~~~~~;
 Ok(10) measured: ~~~~~~~~~~~~~~;
@@ -186,13 +185,16 @@ Err(Full) measured: 3=-4, 5=~~~~~~;
 ";
 
 #[test]
-fn measurements_are_listed(rt: HostRuntime) {
+fn list_measurements_prints_each_measurement(rt: HostRuntime) {
     let mut table = Table::new(rt.alloc());
-    let measurements = [(3, -4), (5, 20)].map(|(channel, celsius)| Measurement { channel, celsius });
+    let measurements = [(3, -4), (5, 20)].map(|(channel, celsius)| Measurement {
+        channel,
+        celsius,
+    });
     for (count, length) in [(2, 24), (1, 24), (0, 24), (2, 19)] {
         let mut bytes = [b'~'; 24];
         let answer = list_measurements(&mut bytes[..length], &measurements[..count]);
         table.put_answer(answer, &bytes);
     }
-    has_rows(&rt, &table, READINGS);
+    has_rows(&rt, &table, MEASUREMENTS);
 }

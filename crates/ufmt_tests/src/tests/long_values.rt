@@ -1,10 +1,10 @@
-//! Wide values, and lengths that no buffer holds.
+//! Tests of tuples and lists with hundreds of entries.
 use super::repeated::repeated;
 use super::rows::{map, same};
 use std::alloc::{AllocError, Global};
 use ufmt::{Formatter, fmt_pretty, uWrite};
 
-// Writes a tuple without a name, of so many zeros, and says whether it was open before each field.
+// Writes an unnamed tuple of `count` zeros. Returns whether it was open before each call.
 fn write_zeros<W: uWrite>(f: &mut Formatter<W>, count: u16) -> Result<bool, W::Error> {
     let mut tuple = f.debug_tuple("")?;
     for _ in 0..count {
@@ -28,9 +28,9 @@ fn plain_zeros(alloc: Global, count: u16) -> Result<String, AllocError> {
     Ok(text)
 }
 
-// More fields than a byte counts.
+// A byte can't count these fields.
 #[test]
-fn wide_tuples(rt: HostRuntime) {
+fn wide_tuples_print_in_plain_mode(rt: HostRuntime) {
     for (count, length) in [(256u16, 768), (257, 771), (300, 900)] {
         let text = plain_zeros(rt.alloc(), count);
         let later = usize::from(count).saturating_sub(1);
@@ -59,7 +59,7 @@ fn pretty_zeros(alloc: Global, count: u16) -> Result<String, AllocError> {
 }
 
 #[test]
-fn a_wide_pretty_tuple(rt: HostRuntime) {
+fn a_wide_tuple_prints_in_pretty_mode(rt: HostRuntime) {
     let text = pretty_zeros(rt.alloc(), 300);
     let expected = repeated(rt.alloc(), "(\n", "    0,\n", 300, ")");
     same(
@@ -71,7 +71,7 @@ fn a_wide_pretty_tuple(rt: HostRuntime) {
     same(&rt, text, expected, "pretty");
 }
 
-// So many maps in a list, in pretty mode.
+// The pretty text of a list of `count` maps.
 fn pretty_maps(alloc: Global, count: u16) -> Result<String, AllocError> {
     let mut maps = Vec::new(alloc);
     for _ in 0..count {
@@ -88,7 +88,7 @@ fn pretty_maps(alloc: Global, count: u16) -> Result<String, AllocError> {
 }
 
 #[test]
-fn a_wide_list_of_maps(rt: HostRuntime) {
+fn a_wide_list_of_maps_prints_in_pretty_mode(rt: HostRuntime) {
     let text = pretty_maps(rt.alloc(), 300);
     let map = "    {\n        1: 2,\n    },\n";
     let expected = repeated(rt.alloc(), "[\n", map, 300, "]");

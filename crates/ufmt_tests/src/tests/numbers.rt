@@ -1,4 +1,5 @@
-//! Numbers by both traits, each as one piece in both modes, and decimal texts of each length.
+//! Tests of numbers: each is one piece by both traits and in both modes, and its decimal text is
+//! right.
 use super::rows::{Table, has_rows, same};
 use std::alloc::{AllocError, Global};
 use std::fmt::Display;
@@ -22,7 +23,7 @@ const UNSIGNED: &str = "\
 ";
 
 #[test]
-fn unsigned_numbers(rt: HostRuntime) {
+fn unsigned_numbers_print_as_one_piece(rt: HostRuntime) {
     let mut table = Table::new(rt.alloc());
     for n in [0u8, 10, 100, 255] {
         table.number(n);
@@ -57,7 +58,7 @@ const SIGNED: &str = "\
 ";
 
 #[test]
-fn signed_numbers(rt: HostRuntime) {
+fn signed_numbers_print_as_one_piece(rt: HostRuntime) {
     let mut table = Table::new(rt.alloc());
     for z in [0i8, 10, 100, -128, 127] {
         table.number(z);
@@ -77,7 +78,7 @@ fn signed_numbers(rt: HostRuntime) {
     has_rows(&rt, &table, SIGNED);
 }
 
-// A nonzero number, which is there.
+// Adds a row of a number, which must be nonzero.
 fn put_nonzero<N: uDebug + uDisplay + Drop>(table: &mut Table, number: Option<N>) {
     match number {
         Some(number) => table.number(number),
@@ -86,7 +87,7 @@ fn put_nonzero<N: uDebug + uDisplay + Drop>(table: &mut Table, number: Option<N>
 }
 
 #[test]
-fn numbers_that_are_not_zero(rt: HostRuntime) {
+fn nonzero_numbers_print_as_one_piece(rt: HostRuntime) {
     let mut table = Table::new(rt.alloc());
     put_nonzero(&mut table, NonZeroU8::new(1));
     put_nonzero(&mut table, NonZeroU16::new(2));
@@ -102,7 +103,7 @@ fn numbers_that_are_not_zero(rt: HostRuntime) {
     has_rows(&rt, &table, wanted);
 }
 
-// Whether the number's text is the library's own. Want of memory is no.
+// Whether the number prints as by `to_string`. Without memory this is false.
 fn is_decimal<N: uDebug + Display + Drop>(alloc: Global, n: N) -> bool {
     let mut text = String::new(alloc);
     let printed = uDebug::fmt(&n, &mut Formatter::new(&mut text));
@@ -112,7 +113,7 @@ fn is_decimal<N: uDebug + Display + Drop>(alloc: Global, n: N) -> bool {
     }
 }
 
-// Whether the number's text is the library's own, if it is one of this width.
+// The same for a number that fits this width, and else true.
 fn is_decimal_if_it_fits<N: uDebug + Display + Drop, E: Drop>(
     alloc: Global,
     n: Result<N, E>,
@@ -123,7 +124,7 @@ fn is_decimal_if_it_fits<N: uDebug + Display + Drop, E: Drop>(
     }
 }
 
-// Whether it is at each unsigned width that the number fits.
+// The same at each unsigned width that the number fits.
 fn is_unsigned(alloc: Global, n: u128) -> bool {
     is_decimal_if_it_fits(alloc, u8::try_from(n))
         && is_decimal_if_it_fits(alloc, u16::try_from(n))
@@ -133,7 +134,7 @@ fn is_unsigned(alloc: Global, n: u128) -> bool {
         && is_decimal(alloc, n)
 }
 
-// Whether it is at each signed width that the number fits.
+// The same at each signed width that the number fits.
 fn is_signed(alloc: Global, z: i128) -> bool {
     is_decimal_if_it_fits(alloc, i8::try_from(z))
         && is_decimal_if_it_fits(alloc, i16::try_from(z))
@@ -144,7 +145,7 @@ fn is_signed(alloc: Global, z: i128) -> bool {
 }
 
 #[test]
-fn each_number_of_two_bytes(rt: HostRuntime) {
+fn each_number_of_two_bytes_prints_as_by_to_string(rt: HostRuntime) {
     let alloc = rt.alloc();
     for n in 0..=u16::MAX {
         let are_decimal = is_decimal(alloc, n)
@@ -155,15 +156,15 @@ fn each_number_of_two_bytes(rt: HostRuntime) {
     }
 }
 
-// Whether the texts of the number below this one, of it, and of the number above it are decimal.
-fn are_unsigned_round(alloc: Global, n: u128) -> bool {
+// Whether this number and its two neighbours print as by `to_string`.
+fn are_unsigned_around(alloc: Global, n: u128) -> bool {
     is_unsigned(alloc, n.saturating_sub(1))
         && is_unsigned(alloc, n)
         && is_unsigned(alloc, n.saturating_add(1))
 }
 
-// Whether those of the signed number are, and those with the other sign.
-fn are_signed_round(alloc: Global, z: i128) -> bool {
+// The same for a signed number, also with the other sign.
+fn are_signed_around(alloc: Global, z: i128) -> bool {
     let (below, above) = (z.saturating_sub(1), z.saturating_add(1));
     is_signed(alloc, below)
         && is_signed(alloc, z)
@@ -174,10 +175,10 @@ fn are_signed_round(alloc: Global, z: i128) -> bool {
 }
 
 #[test]
-fn powers_of_ten(rt: HostRuntime) {
+fn powers_of_ten_and_their_neighbours_print_as_by_to_string(rt: HostRuntime) {
     let (mut n, mut z) = (1u128, 1i128);
     for zeros in 0..39u8 {
-        let are_decimal = are_unsigned_round(rt.alloc(), n) && are_signed_round(rt.alloc(), z);
+        let are_decimal = are_unsigned_around(rt.alloc(), n) && are_signed_around(rt.alloc(), z);
         same(&rt, (zeros, are_decimal), (zeros, true), "powers of ten");
         n = n.saturating_mul(10);
         z = z.saturating_mul(10);
@@ -185,7 +186,7 @@ fn powers_of_ten(rt: HostRuntime) {
 }
 
 #[test]
-fn least_and_greatest_numbers(rt: HostRuntime) {
+fn least_and_greatest_numbers_print_as_by_to_string(rt: HostRuntime) {
     for n in [
         u8::MAX as u128,
         u16::MAX as u128,

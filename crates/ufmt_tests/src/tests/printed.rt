@@ -1,9 +1,9 @@
-//! What a row prints: a value by `uDebug`, or what another call writes.
+//! Values that a row prints, by `uDebug` or by another call.
 ghost use Rattle.std.specs.Prelude.{◌<◌};
 
 use ufmt::{Formatter, HexOptions, fmt_pretty, uDebug, uDisplay, uDisplayHex, uWrite};
 
-/// A value with a `print` over every writer. It has no contract: the rows say what it writes.
+/// A value that prints to any writer. `print` has no contract: the rows say what it writes.
 pub trait Printed {
     fn print<W: uWrite>(&self, f: &mut Formatter<W>) -> Result<(), W::Error>;
 }
@@ -14,7 +14,7 @@ impl<T: uDebug> Printed for T {
     }
 }
 
-/// A value by `uDisplay`.
+/// Prints by `uDisplay`.
 #[derive(Drop)]
 pub struct Displayed<T>(pub T);
 
@@ -24,7 +24,7 @@ impl<T: uDisplay> Printed for Displayed<T> {
     }
 }
 
-/// A number by `fmt_hex`.
+/// Prints by `fmt_hex`.
 #[derive(Drop)]
 pub struct Hexadecimal<T> {
     pub number: T,
@@ -38,7 +38,7 @@ impl<T: uDisplayHex> Printed for Hexadecimal<T> {
     }
 }
 
-/// A text by `with_stuff`.
+/// Prints by `with_stuff`.
 #[derive(Drop)]
 pub struct Payload<'a> {
     pub payload: &'a str,
@@ -52,7 +52,7 @@ impl Printed for Payload<'_> {
     }
 }
 
-/// A value by `fmt_pretty`.
+/// Prints by `fmt_pretty`.
 #[derive(Drop)]
 pub struct Pretty<'a, T>(pub &'a T);
 
@@ -62,11 +62,10 @@ impl<T: uDebug> Printed for Pretty<'_, T> {
     }
 }
 
-/// What a call leaves: its answer, and the mode and depth inside and outside of the pretty
-/// part.
+/// What a call leaves: its result, and mode and depth inside the pretty part and after it.
 pub type Left<E> = (Result<(), E>, (bool, u8), (bool, u8));
 
-// Prints the value in this mode, and gives the answer and the mode and depth before it ends.
+// Prints the value in this mode. Returns the result, and mode and depth before the mode ends.
 fn print_in<T: Printed, W: uWrite>(
     is_pretty: bool,
     value: &T,
@@ -85,7 +84,7 @@ fn print_in<T: Printed, W: uWrite>(
     (answer, inside)
 }
 
-/// Prints the value to this writer in this mode, and gives what is left and the writer back.
+/// Prints the value to this writer in this mode. Returns what is left, and the writer.
 pub fn print_to<T: Printed, W: uWrite>(
     is_pretty: bool,
     value: &T,

@@ -1,7 +1,6 @@
-//! Quoted texts and characters: the rows of the table of escapes, and each character of ASCII as
-//! core::fmt prints it.
-use super::rows::{Table, has_rows, map, same, told_apart};
-use super::texts::texts_of;
+//! Tests of quoted texts and characters: each escape, and ASCII as core::fmt prints it.
+use super::rows::{Table, has_rows, joined_if_different, map, same};
+use super::text_rows::texts_of;
 use std::alloc::{AllocError, Global};
 use ufmt_user::Message;
 
@@ -17,11 +16,11 @@ const TEXTS: &str = "\
 \"\u{80}é€\u{10ffff}\";
 ";
 
-// Its texts as a `&str`, and those as a `String`, where they are others.
+// The texts of a `&str`, and those of the same `String` if they differ.
 fn texts_by_both(alloc: Global, text: &str) -> Result<String, AllocError> {
     let owned = String::from_str(alloc, text)?;
     let owned = texts_of(alloc, &owned)?;
-    told_apart(texts_of(alloc, &text)?, owned.as_str())
+    joined_if_different(texts_of(alloc, &text)?, owned.as_str())
 }
 
 #[test]
@@ -76,7 +75,7 @@ fn characters_are_quoted(rt: HostRuntime) {
     has_rows(&rt, &table, CHARACTERS);
 }
 
-// Whether the library's own formatting gives the texts of this character in a text and by itself.
+// Whether core::fmt prints this character the same, in a text and by itself.
 fn is_as_by_core_fmt(alloc: Global, character: char) -> Result<bool, AllocError> {
     let mut text = String::new(alloc);
     text.push(character)?;
@@ -92,7 +91,7 @@ fn ascii_is_quoted_as_by_core_fmt(rt: HostRuntime) {
     }
 }
 
-// So many letters between two texts, with a mark in the place of one of them, if there is one.
+// `count` letters between two quotes. The mark is in the place of letter number `marked`, if any.
 fn letters(
     alloc: Global,
     quote: &str,
@@ -114,9 +113,9 @@ fn is_escaped_at(alloc: Global, count: usize, escaped: usize) -> Result<bool, Al
     Ok(texts_of(alloc, &text)? == quoted)
 }
 
-// Stretches are looked through four bytes at a time, so an escape is at each place of each length.
+// The code looks at four bytes at a time. So the escape is tried at each place of each length.
 #[test]
-fn an_escape_at_each_place(rt: HostRuntime) {
+fn an_escape_is_found_at_each_place(rt: HostRuntime) {
     for count in 0..21 {
         for escaped in 0..count + 1 {
             let given = is_escaped_at(rt.alloc(), count, escaped);

@@ -1,7 +1,7 @@
-//! Long texts of one part.
+//! Long texts that repeat one part.
 use std::alloc::{AllocError, Global};
 
-// The text with `part` as often as `count` says between its beginning and its end.
+// `part`, `count` times, between a beginning and an end.
 pub fn repeated(
     alloc: Global,
     beginning: &str,

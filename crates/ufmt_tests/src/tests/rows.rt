@@ -1,22 +1,22 @@
-//! The rows of a table: what they print is in one text, which one assert compares.
+//! A table of rows. They are in one text, which one assert compares.
 use std::alloc::{AllocError, Global};
 use std::collections::{BTreeMap, BTreeSet};
 use std::fmt::Debug;
 use std::process::Abort;
 use ufmt::Full;
 
-// Asserts are calls of these: one that is written out takes the check as long as a score of calls.
-// No other function is generic over the handle, which takes it as long again.
+// Checking an assert takes as long as checking twenty calls, so asserts are calls of these two.
+// No other function is generic over the handle: checking that takes as long again.
 pub fn same<T: PartialEq + Debug + Drop>(rt: &impl Abort, given: T, wanted: T, case: &str) {
     assert_eq!(rt; given, wanted, "{case}");
 }
 
-/// Whether the rows of the table are these.
+/// Asserts that the table has these rows.
 pub fn has_rows(rt: &impl Abort, table: &Table, wanted: &str) {
     assert_eq!(rt; table.text(), Some(wanted));
 }
 
-/// What the rows of a table print, one after another, with a semicolon and a line feed after each.
+/// Rows, one after another, with a semicolon and a line feed after each.
 #[derive(Drop)]
 pub struct Table {
     alloc: Global,
@@ -37,7 +37,7 @@ impl Table {
         self.alloc
     }
 
-    /// The rows, if there was memory for all of them.
+    /// Returns the rows, if there was memory for all of them.
     pub fn text(&self) -> Option<&str> {
         if self.has_all {
             Some(self.text.as_str())
@@ -46,14 +46,14 @@ impl Table {
         }
     }
 
-    /// A row of this text.
+    /// Adds a row.
     pub fn put(&mut self, row: &str) {
         let row = self.text.push_str(row);
         let end = self.text.push_str(";\n");
         self.has_all &= row.is_ok() && end.is_ok();
     }
 
-    /// A row of what was made, if there was memory for it.
+    /// Adds a row that was made, if there was memory for it.
     pub fn put_made(&mut self, row: Result<String, AllocError>) {
         match row {
             Ok(row) => self.put(row.as_str()),
@@ -61,14 +61,14 @@ impl Table {
         }
     }
 
-    /// A row of two texts that were made, told apart.
-    pub fn put_apart(
+    /// Adds a row of two texts that were made, by `joined_if_different`.
+    pub fn put_both(
         &mut self,
         first: Result<String, AllocError>,
         second: Result<String, AllocError>,
     ) {
         match (first, second) {
-            (Ok(first), Ok(second)) => self.put_made(told_apart(first, second.as_str())),
+            (Ok(first), Ok(second)) => self.put_made(joined_if_different(first, second.as_str())),
             _ => self.has_all = false,
         }
     }
@@ -78,7 +78,7 @@ impl Table {
         self.has_all = false;
     }
 
-    /// A row of a call's answer, and what it left in a buffer.
+    /// Adds a row of a call's result, and of what it left in a buffer.
     pub fn put_answer(&mut self, answer: Result<usize, Full>, left: &[u8]) {
         let text = str::from_utf8(left).unwrap_or("bytes that are no UTF-8");
         let row = format!(in self.alloc; "{answer:?} {text}");
@@ -89,8 +89,8 @@ impl Table {
     }
 }
 
-/// The first text, and after a tilde the second, where it is another.
-pub fn told_apart(mut first: String, second: &str) -> Result<String, AllocError> {
+/// Returns the first text, and after a tilde the second if it differs.
+pub fn joined_if_different(mut first: String, second: &str) -> Result<String, AllocError> {
     if first.as_str() != second {
         first.push_str("~\n")?;
         first.push_str(second)?;

@@ -1,5 +1,5 @@
-//! Tuples of each length, whose texts are those of core::fmt; those of one and two have their pieces
-//! among the blocks.
+//! Tests of tuples with three to twelve fields. They print as by core::fmt. `blocks` has shorter
+//! ones.
 use super::rows::{Table, has_rows};
 
 const SHORT: &str = "\
@@ -12,7 +12,7 @@ const SHORT: &str = "\
 ";
 
 #[test]
-fn short_tuples(rt: HostRuntime) {
+fn short_tuples_print(rt: HostRuntime) {
     let mut table = Table::new(rt.alloc());
     let (a, b, c, d, e, f) = (1u64, 2i32, 3u8, 4u64, 5i32, 6u8);
     table.plain(&(a, b, c));
@@ -32,7 +32,7 @@ const LONG: &str = "\
 ";
 
 #[test]
-fn long_tuples(rt: HostRuntime) {
+fn long_tuples_print(rt: HostRuntime) {
     let mut table = Table::new(rt.alloc());
     let (a, b, c, d, e, f, g, h, i) = (1u64, 2i32, 3u8, 4u64, 5i32, 6u8, 7u64, 8i32, 9u8);
     table.plain(&(a, b, c, d, e, f, g, h, i));

@@ -1,13 +1,12 @@
-//! Writers that show where pieces end: one refuses pieces, the other notes them.
+//! Writers that show where pieces end: `FailAt` refuses pieces, and `Recorded` notes them.
 ghost use Rattle.std.specs.Prelude.{[], ◌∷◌, ⊤, string_bytes};
 ghost use Rattle.ufmt.specs.Cursor.{buffer_length, buffer_name, written_bytes};
 
 use std::alloc::{AllocError, Global};
 use ufmt::{Cursor, Full, uWrite};
 
-/// Hands pieces on to a cursor and refuses the piece of a number and each later one, without a change.
-/// It counts those that aren't empty, from 1 on; one that is empty is always `Ok`. It has no `write_char`
-/// of its own.
+/// Passes pieces to a cursor. It refuses the piece with this number and all later ones, without a
+/// change. It counts only pieces that aren't empty, from 1 on. An empty piece is always `Ok`.
 #[derive(Drop)]
 pub struct FailAt<'a> {
     cursor: Cursor<'a>,
@@ -52,7 +51,7 @@ impl uWrite for FailAt<'_> {
     }
 }
 
-/// Notes its text, and its pieces with a bar after each. It has no `write_char` of its own.
+/// Notes its text, and its pieces with a bar after each.
 #[derive(Drop)]
 pub struct Recorded {
     pub text: String,
@@ -75,7 +74,7 @@ impl uWrite for Recorded {
 
     fn write_str(&mut self, s: &str) -> Result<(), AllocError> {
         if s.is_empty() {
-            // An empty piece is `Ok`, whether there was room to note it or not.
+            // An empty piece is always `Ok`, even without memory to note it.
             let _noted = self.barred.push('|');
             return Ok(());
         }

@@ -1,4 +1,4 @@
-//! What `fields!` evaluates.
+//! Tests of what `fields!` evaluates.
 use super::Turns;
 use crate::tests::rows::{Table, has_rows};
 use std::alloc::{AllocError, Global};
@@ -16,7 +16,7 @@ struct Pair {
 #[derive(Drop)]
 struct Two(u8, u8);
 
-// No field, one and two, in each form.
+// Forms with no field, with one and with two.
 fn print_few(
     number: usize,
     f: &mut Formatter<String>,
@@ -41,7 +41,7 @@ fn print_few(
     }
 }
 
-// Values that are taken apart.
+// Forms that take a value apart.
 fn print_apart(
     number: usize,
     f: &mut Formatter<String>,
@@ -55,7 +55,7 @@ fn print_apart(
     }
 }
 
-// As many as one call takes, and one more, which makes a chain.
+// Twelve fields, which one call takes, and thirteen, which make a chain.
 fn print_named(
     number: usize,
     f: &mut Formatter<String>,
@@ -167,7 +167,7 @@ impl Form {
         }
     }
 
-    // The turns and what is printed.
+    // The turns, and the text that is printed.
     fn row(self, alloc: Global, number: usize) -> Result<String, AllocError> {
         let mut turns = Turns::new(alloc);
         let mut f = Formatter::new(String::new(alloc));
@@ -197,7 +197,7 @@ Fabcdefghijklm=S(1, 2, 3, 4, 5, 6, 7, 8, 9, 10, 11, 12, 13);
 ";
 
 #[test]
-fn fields_are_evaluated_in_order(rt: HostRuntime) {
+fn fields_evaluates_in_order(rt: HostRuntime) {
     let mut table = Table::new(rt.alloc());
     for (form, count) in [
         (Form::Few, 8),

@@ -1,8 +1,8 @@
-//! How often `run` calls its devices, and in which order.
+//! Tests of how often `run` calls its devices, and in which order.
 use super::*;
 
-/// A reader whose calls are noted: `r` of one that gave bytes, `0` of one that gave none, `!` of one
-/// that failed. For want of memory a call is missing, and its row is another.
+/// A reader that notes its calls: `r` if it gave bytes, `0` if it gave none, `!` if it failed.
+/// Without memory a call is missing, and the row differs.
 #[derive(Drop)]
 struct NotedSource<'a> {
     source: Source<'a>,
@@ -22,8 +22,8 @@ impl Read for NotedSource<'_> {
     }
 }
 
-/// A writer whose calls are noted: `w` of a write, `e` of an empty one, `f` of a flush, and `!` after
-/// one that failed.
+/// A writer that notes its calls: `w` for a write, `e` for an empty one, `f` for a flush, and `!`
+/// after a failed call.
 #[derive(Drop)]
 struct NotedSink {
     sink: Sink,
@@ -54,7 +54,7 @@ impl Write for NotedSink {
     }
 }
 
-// The calls of the reader, and after a space those of the writer.
+// Adds a row: the calls of the reader, and after a space those of the writer.
 fn push_calls(
     alloc: Global,
     command: Command,
@@ -77,8 +77,8 @@ fn push_calls(
     rows.push_str(";\n")
 }
 
-// Bytes a call of the reader, the call at which it fails, the same of the writer, and whether its flush
-// fails.
+// The reader's bytes a call, the call at which it fails, the same two for the writer, and whether
+// its flushes fail.
 const DEVICES: [(usize, usize, usize, usize, bool); 10] = [
     (WHOLE, NEVER, WHOLE, NEVER, false),
     (1, NEVER, 1, NEVER, false),
@@ -101,7 +101,7 @@ fn calls_of(alloc: Global, command: Command, input: &str) -> Result<String, Allo
     Ok(rows)
 }
 
-// Four bytes of input, seven of answer.
+// Four bytes of input, seven of output.
 const OF_LENGTHS: &str = "\
 r0 wf;
 rrrr0 wwwwwwwf;
@@ -115,7 +115,7 @@ r0 wf!;
 r0 wwwwwwwf!;
 ";
 
-// Four bytes of input, eleven of answer.
+// Four bytes of input, eleven of output.
 const OF_PRETTY: &str = "\
 r0 wf;
 rrrr0 wwwwwwwwwwwf;
@@ -129,7 +129,7 @@ r0 wf!;
 r0 wwwwwwwwwwwf!;
 ";
 
-// Ten bytes of input, five of answer.
+// Ten bytes of input, five of output.
 const OF_PLAIN: &str = "\
 r0 wf;
 rrrrrrrrrr0 wwwwwf;
@@ -143,7 +143,7 @@ r0 wf!;
 r0 wwwwwf!;
 ";
 
-// Four bytes of input that are refused, and so no answer.
+// Four bytes of input that are no text, and so no output.
 const OF_NO_TEXT: &str = "\
 r0 ;
 rrrr0 ;
@@ -157,7 +157,7 @@ r0 ;
 r0 ;
 ";
 
-// No input, three bytes of answer.
+// No input, three bytes of output.
 const OF_NOTHING: &str = "\
 0 wf;
 0 wwwf;
@@ -171,8 +171,8 @@ const OF_NOTHING: &str = "\
 0 wwwf!;
 ";
 
-// The first read that gives nothing ends the input. The answer and its line feed are one write where
-// the writer takes them, and one flush follows the last write. A device that failed isn't called again.
+// The first read that gives nothing ends the input. The output is one write if the writer takes it
+// whole, and one flush follows the last write. A device that failed isn't called again.
 #[test]
 fn devices_are_called_no_more_than_needed(rt: HostRuntime) {
     for (command, input, calls) in [

@@ -1,4 +1,4 @@
-//! Devices that give or take little, and devices that fail.
+//! Tests of `run` over devices that give or take little, and over devices that fail.
 use super::*;
 
 // A command, an input and the whole output.
@@ -18,7 +18,7 @@ fn commands() -> [(Command, &'static [u8], &'static [u8]); 3] {
     ]
 }
 
-// Runs a command over devices of which one, or both, move one byte a call.
+// Runs over devices of which both, or one, move one byte a call.
 fn ran_in_bytes(alloc: Global, command: Command, input: &[u8], output: &[u8]) -> [Ran; 3] {
     [
         ran_over(alloc, command, input, 1, 1, output),
@@ -41,7 +41,7 @@ fn ran_over(
 }
 
 #[test]
-fn one_byte_a_call_changes_no_answer(rt: HostRuntime) {
+fn one_byte_a_call_changes_no_output(rt: HostRuntime) {
     for (command, input, output) in commands() {
         let given = ran_in_bytes(rt.alloc(), command, input, output);
         same(
@@ -53,7 +53,7 @@ fn one_byte_a_call_changes_no_answer(rt: HostRuntime) {
     }
 }
 
-// Over a reader that fails at this call. Nothing is written.
+// Whether a run fails with `CannotRead` and writes nothing, over a reader that fails at this call.
 fn is_unread(alloc: Global, command: Command, input: &[u8], most: usize, fails_at: usize) -> bool {
     let sink = Sink::new(alloc, WHOLE, NEVER, false);
     let given = ran(
@@ -66,7 +66,7 @@ fn is_unread(alloc: Global, command: Command, input: &[u8], most: usize, fails_a
     given == wanted(Err(Fault::CannotRead))
 }
 
-// Over readers that give so many bytes, one a call, and then fail: at first nothing, at last all.
+// The same over readers that give one byte a call, and fail after any number of bytes.
 fn is_unread_after_any_byte(alloc: Global, command: Command, input: &[u8]) -> bool {
     for count in 0..input.len() + 1 {
         if !is_unread(alloc, command, input, 1, count + 1) {
@@ -76,9 +76,9 @@ fn is_unread_after_any_byte(alloc: Global, command: Command, input: &[u8]) -> bo
     true
 }
 
-// A whole input takes two calls, since the last of them gives nothing.
+// A whole input takes two calls. The second gives nothing.
 #[test]
-fn readers_that_fail_at_any_call(rt: HostRuntime) {
+fn a_reader_that_fails_at_any_call_ends_the_run(rt: HostRuntime) {
     let alloc = rt.alloc();
     for (command, input, _output) in commands() {
         let first = is_unread(alloc, command, input, WHOLE, 1);
@@ -94,7 +94,7 @@ fn readers_that_fail_at_any_call(rt: HostRuntime) {
     }
 }
 
-// Over a writer that fails, having taken these bytes.
+// Whether a run fails with `CannotWrite`, over a writer that takes only these bytes.
 fn is_unwritten(alloc: Global, command: Command, input: &[u8], sink: Sink, taken: &[u8]) -> bool {
     let given = ran(
         alloc,
@@ -106,7 +106,7 @@ fn is_unwritten(alloc: Global, command: Command, input: &[u8], sink: Sink, taken
     given == wanted(Err(Fault::CannotWrite))
 }
 
-// Over writers that take so many bytes, one a call, and then fail.
+// The same over writers that take one byte a call, and fail after any number of bytes.
 fn is_unwritten_after_any_byte(
     alloc: Global,
     command: Command,
@@ -123,7 +123,7 @@ fn is_unwritten_after_any_byte(
 }
 
 #[test]
-fn writers_that_fail_at_any_call(rt: HostRuntime) {
+fn a_writer_that_fails_at_any_call_ends_the_run(rt: HostRuntime) {
     let alloc = rt.alloc();
     for (command, input, output) in commands() {
         let sink = Sink::new(alloc, WHOLE, 1, false);
@@ -134,8 +134,8 @@ fn writers_that_fail_at_any_call(rt: HostRuntime) {
     }
 }
 
-// Whether a run tells of a writer that takes nothing, and of writers that take everything, a byte a
-// call or all, where the flush behind it fails.
+// The same over a writer that takes nothing, and over writers that take everything, by one byte a
+// call or whole, and fail at the flush.
 fn are_unwritten(alloc: Global, command: Command, input: &[u8], output: &[u8]) -> [bool; 3] {
     let nothing = Sink::new(alloc, 0, NEVER, false);
     let bytes = Sink::new(alloc, 1, NEVER, true);
@@ -148,9 +148,9 @@ fn are_unwritten(alloc: Global, command: Command, input: &[u8], output: &[u8]) -
 }
 
 #[test]
-fn writers_that_take_nothing_or_fail_at_the_flush(rt: HostRuntime) {
+fn a_writer_that_takes_nothing_or_fails_at_the_flush_ends_the_run(rt: HostRuntime) {
     for (command, input, output) in commands() {
-        let are_told = are_unwritten(rt.alloc(), command, input, output);
-        same(&rt, (command, are_told), (command, [true; 3]), "writers");
+        let all_fail = are_unwritten(rt.alloc(), command, input, output);
+        same(&rt, (command, all_fail), (command, [true; 3]), "writers");
     }
 }

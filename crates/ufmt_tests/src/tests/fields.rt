@@ -1,10 +1,6 @@
-//! Values that `fields!` takes apart, where the names of their fields are those that a macro may use,
-//! and a type that holds itself in pairs.
-use super::rows::{Table, are_ok, has_rows, same};
-use std::alloc::{AllocError, Global};
-use std::collections::BTreeMap;
+//! Tests of `fields!` on values that it takes apart, with field names that it may use itself.
+use super::rows::{are_ok, same};
 use ufmt::{Formatter, fields, uDebug, uWrite};
-use ufmt_user::Json;
 
 #[derive(Drop)]
 struct Unit;
@@ -73,7 +69,7 @@ Names { formatter: 2, f: 1 }UnitThree(1, 2, 3)\
 Thirteen { a: 1, b: 2, c: 3, d: 4, e: 5, f: 6, g: 7, h: 8, i: 9, j: 10, k: 11, l: 12, m: 13 }";
 
 #[test]
-fn values_are_taken_apart(rt: HostRuntime) {
+fn fields_takes_values_apart(rt: HostRuntime) {
     let mut text = String::new(rt.alloc());
     let mut f = Formatter::new(&mut text);
     let thirteen = Thirteen {
@@ -98,33 +94,4 @@ fn values_are_taken_apart(rt: HostRuntime) {
         (true, TAKEN_APART),
         "in a row",
     );
-}
-
-fn pairs_of_a_list(alloc: Global) -> Result<Json, AllocError> {
-    let mut list = Vec::new(alloc);
-    list.push(Json::Number(-1))?;
-    let mut pairs = Vec::new(alloc);
-    pairs.push((String::from_str(alloc, "a")?, Json::Array(list)))?;
-    Ok(Json::Object(pairs))
-}
-
-fn pairs_of_a_table(alloc: Global) -> Result<Json, AllocError> {
-    let mut table = BTreeMap::new(alloc);
-    table.insert(7u8, Json::Null)?;
-    let mut pairs = Vec::new(alloc);
-    pairs.push((String::from_str(alloc, "b")?, Json::Table(table)))?;
-    Ok(Json::Object(pairs))
-}
-
-const PAIRS: &str = "\
-Object([(\"a\", Array([Number(-1)]))]);
-Object([(\"b\", Table({7: Null}))]);
-";
-
-#[test]
-fn a_type_that_holds_itself_in_pairs(rt: HostRuntime) {
-    let mut table = Table::new(rt.alloc());
-    table.plain_of_made(pairs_of_a_list(rt.alloc()));
-    table.plain_of_made(pairs_of_a_table(rt.alloc()));
-    has_rows(&rt, &table, PAIRS);
 }

@@ -1,11 +1,11 @@
-//! Whole values in one call: onto a formatter, to a writer, and into a buffer.
+//! Tests of calls that print a whole value: on a formatter, to a writer, and into a buffer.
 use super::rows::{Table, are_ok, has_rows, same};
 use ufmt::{
     Formatter, debug_into, display_into, pretty_into, write_debug, write_display, write_pretty,
 };
 
 #[test]
-fn whole_values_in_one_call(rt: HostRuntime) {
+fn whole_values_print_in_one_call(rt: HostRuntime) {
     let mut text = String::new(rt.alloc());
     let mut f = Formatter::new(&mut text);
     let by_formatter = [
@@ -23,7 +23,7 @@ fn whole_values_in_one_call(rt: HostRuntime) {
     same(&rt, (are_ok, text.as_str()), (true, expected), "one call");
 }
 
-// A number by `debug_into`, and a text by `display_into`.
+// In turn a number by `debug_into`, and a text by `display_into`.
 const IN_BUFFERS: &str = "\
 Ok(3) 123.;
 Ok(3) 123.;
@@ -34,7 +34,7 @@ Err(Full) ....;
 ";
 
 #[test]
-fn values_into_a_buffer(rt: HostRuntime) {
+fn debug_into_and_display_into_fill_a_buffer(rt: HostRuntime) {
     let mut table = Table::new(rt.alloc());
     for length in [4, 3, 2] {
         let mut buffer = [b'.'; 4];
@@ -53,7 +53,7 @@ Ok(6) \"a\\\"b\";
 ";
 
 #[test]
-fn quoted_texts_into_a_buffer(rt: HostRuntime) {
+fn debug_into_writes_quoted_texts(rt: HostRuntime) {
     let mut table = Table::new(rt.alloc());
     for length in [3, 6] {
         let mut buffer = [b'.'; 6];
@@ -77,7 +77,7 @@ Err(Full) ...........;
 ";
 
 #[test]
-fn pretty_values_into_a_buffer(rt: HostRuntime) {
+fn pretty_into_fills_a_buffer(rt: HostRuntime) {
     let mut table = Table::new(rt.alloc());
     for length in [11, 10, 9, 0] {
         let mut buffer = [b'.'; 11];

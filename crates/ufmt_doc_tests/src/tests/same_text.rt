@@ -1,4 +1,4 @@
-//! Documents with one text, and with two.
+//! Tests of `same_text`.
 use super::same;
 use super::shape::Shape::{self, Leaf, Listed, MapOf, SetOf, StructOf, TupleOf};
 use super::shape::made;
@@ -6,8 +6,8 @@ use std::alloc::{AllocError, Global};
 use ufmt_doc::doc::{Doc, same_text};
 use ufmt_doc::plain_reader::{ReadError, read_plain};
 
-// What `same_text` returns for token documents.
-fn told(a: &Doc, b: &Doc) -> Option<bool> {
+// What `same_text` returns, if both are token documents.
+fn same_text_of_tokens(a: &Doc, b: &Doc) -> Option<bool> {
     if a.is_token() && b.is_token() {
         Some(same_text(a, b))
     } else {
@@ -15,9 +15,13 @@ fn told(a: &Doc, b: &Doc) -> Option<bool> {
     }
 }
 
-fn told_of_made(alloc: Global, a: &Shape<'_>, b: &Shape<'_>) -> Result<Option<bool>, AllocError> {
+fn same_text_of_made(
+    alloc: Global,
+    a: &Shape<'_>,
+    b: &Shape<'_>,
+) -> Result<Option<bool>, AllocError> {
     let (a, b) = (made(alloc, a)?, made(alloc, b)?);
-    Ok(told(&a, &b))
+    Ok(same_text_of_tokens(&a, &b))
 }
 
 // Two documents, and whether they have one text.
@@ -41,9 +45,9 @@ const MADE: [(&str, Shape<'static>, Shape<'static>, bool); 6] = [
 ];
 
 #[test]
-fn documents_with_one_text_are_told_apart_from_others(rt: HostRuntime) {
+fn same_text_is_true_of_documents_with_one_text(rt: HostRuntime) {
     for (case, a, b, is_same) in MADE {
-        let given = told_of_made(rt.alloc(), &a, &b);
+        let given = same_text_of_made(rt.alloc(), &a, &b);
         same(&rt, given, Ok(Some(is_same)), case);
     }
 }
@@ -70,16 +74,16 @@ S { a: x, b: y };\
 T { a: x };\
 T { a: {x: ()} }";
 
-fn told_of_read(alloc: Global, a: &Doc, b: &str) -> Result<Option<bool>, ReadError> {
+fn same_text_of_read(alloc: Global, a: &Doc, b: &str) -> Result<Option<bool>, ReadError> {
     let b = read_plain(alloc, b.as_bytes())?;
-    Ok(told(a, &b))
+    Ok(same_text_of_tokens(a, &b))
 }
 
-// Whether the document of this text has the text of none of `READ` but its own.
-fn is_told_apart(alloc: Global, text: &str) -> Result<bool, ReadError> {
+// Whether the document of this text has the same text as only one of `READ`, its own.
+fn has_only_its_own_text(alloc: Global, text: &str) -> Result<bool, ReadError> {
     let doc = read_plain(alloc, text.as_bytes())?;
     for other in READ.split(';') {
-        if told_of_read(alloc, &doc, other)? != Some(text == other) {
+        if same_text_of_read(alloc, &doc, other)? != Some(text == other) {
             return Ok(false);
         }
     }
@@ -87,10 +91,10 @@ fn is_told_apart(alloc: Global, text: &str) -> Result<bool, ReadError> {
 }
 
 #[test]
-fn texts_that_are_read_are_the_same_where_they_are_equal(rt: HostRuntime) {
+fn same_text_is_true_of_read_documents_if_their_texts_are_equal(rt: HostRuntime) {
     let mut count = 0usize;
     for text in READ.split(';') {
-        same(&rt, is_told_apart(rt.alloc(), text), Ok(true), text);
+        same(&rt, has_only_its_own_text(rt.alloc(), text), Ok(true), text);
         count = count.saturating_add(1);
     }
     same(&rt, count, 19, "texts");

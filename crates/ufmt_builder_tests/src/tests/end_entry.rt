@@ -1,10 +1,10 @@
-//! A block that is opened in an entry and dropped there leaves the formatter a level deeper: the second
-//! half of the entry sets it back.
+//! Tests that `end_entry`, `begin_value` and `end_field` set the depth back, if what was written
+//! before them left the formatter deeper.
 use super::same;
 use std::alloc::{AllocError, Global};
 use ufmt::Formatter;
 
-// Opens a list on the formatter, and drops its builder.
+// Opens a list and drops its builder, which leaves the formatter a level deeper.
 fn leave_deeper(f: &mut Formatter<String>) -> Result<(), AllocError> {
     let _list = f.debug_list()?;
     Ok(())
@@ -73,7 +73,7 @@ fn blocks(alloc: Global) -> Result<(String, u8), AllocError> {
 }
 
 #[test]
-fn an_entry_that_is_left_deeper_is_ended(rt: HostRuntime) {
+fn end_entry_begin_value_and_end_field_set_the_depth_back(rt: HostRuntime) {
     let given = blocks(rt.alloc());
     let given = given.as_ref().map(|(text, depth)| (text.as_str(), *depth));
     same(&rt, given.ok(), Some((BLOCKS, 0)), "blocks");

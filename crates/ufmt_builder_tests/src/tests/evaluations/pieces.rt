@@ -1,10 +1,10 @@
-//! What `pieces!` evaluates, which is all that it is given, before a piece can be written.
+//! Tests of what `pieces!` evaluates: all of its values, before a piece can be written.
 use super::Turns;
 use crate::tests::rows::{Table, has_rows};
 use ufmt::line::Line;
 use ufmt::pieces;
 
-// Takes a line that is made.
+// The line is made, and not written.
 fn take<L: Line>(_line: &L) {}
 
 // Each kind of piece by itself.
@@ -75,7 +75,7 @@ abcS abOcS abScOS abScMS aObSc aSbOSc aSbMSc aSbc aOSbcO aMSbcS ;
 ";
 
 #[test]
-fn a_line_is_evaluated_in_order(rt: HostRuntime) {
+fn pieces_evaluates_in_order(rt: HostRuntime) {
     let mut table = Table::new(rt.alloc());
     let mut turns = Turns::new(rt.alloc());
     for number in 0..10usize {

@@ -1,4 +1,4 @@
-//! What `uwrite!` and `uwriteln!` hand on, and what they evaluate.
+//! Tests of what `uwrite!` and `uwriteln!` pass to the writer, and of what they evaluate.
 use super::printed::Printed;
 use super::rows::{Table, are_ok, has_rows, same};
 use ufmt::{Cursor, Formatter, Full, HexOptions, laws, uWrite, uwrite, uwriteln};
@@ -46,7 +46,7 @@ impl Printed for HexadecimalFirst {
     }
 }
 
-// Such a piece in the middle of a line.
+// A hexadecimal piece in the middle of a line.
 struct HexadecimalInALine;
 
 impl Printed for HexadecimalInALine {
@@ -87,7 +87,7 @@ a b|7|[|\n|    |1|,\n|]|[|\n|    |2|,\n|]|\n|;
 ";
 
 #[test]
-fn pieces_are_handed_on(rt: HostRuntime) {
+fn pieces_are_passed_to_the_writer(rt: HostRuntime) {
     let mut table = Table::new(rt.alloc());
     table.pieces(&AllPieces);
     table.pieces(&LineOfAllPieces);
@@ -121,7 +121,7 @@ fn write_in_order<W: uWrite>(f: &mut Formatter<W>) -> [Result<(), W::Error>; 8] 
 }
 
 #[test]
-fn pieces_come_in_order(rt: HostRuntime) {
+fn pieces_are_written_in_order(rt: HostRuntime) {
     let mut f = Formatter::new(String::new(rt.alloc()));
     let answers = write_in_order(&mut f);
     let left = (are_ok(&answers), f.is_pretty(), f.depth());
@@ -129,13 +129,13 @@ fn pieces_come_in_order(rt: HostRuntime) {
     same(&rt, f.into_inner().as_str(), IN_ORDER, "in order");
 }
 
-// One more than the calls so far.
+// Counts a call, and returns the count.
 fn noted(calls: &mut u32) -> u32 {
     *calls = calls.saturating_add(1);
     *calls
 }
 
-// The answer, and how often the formatter, texts, values and options were evaluated.
+// The result, and how often the formatter, texts, values and options were evaluated.
 fn write_counted<W: uWrite>(f: &mut Formatter<W>) -> (Result<(), W::Error>, [u32; 4]) {
     let (mut formatters, mut texts, mut values, mut options) = (0, 0, 0, 0);
     let answer = uwrite!(
@@ -158,7 +158,7 @@ fn write_counted<W: uWrite>(f: &mut Formatter<W>) -> (Result<(), W::Error>, [u32
     (answer, [formatters, texts, values, options])
 }
 
-// Likewise of a line, with the formatter and one value.
+// The same for `uwriteln!`, with the formatter and one value. Values are counted from 4 on.
 fn write_counted_line<W: uWrite>(f: &mut Formatter<W>) -> (Result<(), W::Error>, [u32; 2]) {
     let (mut formatters, mut values) = (0, 4);
     let answer = uwriteln!(
@@ -172,7 +172,7 @@ fn write_counted_line<W: uWrite>(f: &mut Formatter<W>) -> (Result<(), W::Error>,
 }
 
 #[test]
-fn each_part_is_evaluated_once(rt: HostRuntime) {
+fn each_argument_is_evaluated_once(rt: HostRuntime) {
     let mut f = Formatter::new(String::new(rt.alloc()));
     let (answer, calls) = write_counted(&mut f);
     same(&rt, (answer, calls), (Ok(()), [1, 1, 4, 1]), "uwrite");
@@ -181,7 +181,7 @@ fn each_part_is_evaluated_once(rt: HostRuntime) {
     same(&rt, f.into_inner().as_str(), "n=1230x00045\n", "both");
 }
 
-// The answer, and how often the value after the text was evaluated.
+// The result, and how often the value after the text was evaluated.
 fn write_noted(f: &mut Formatter<Cursor<'_>>, text: &str) -> (Result<(), Full>, u32) {
     let mut calls = 0;
     let answer = uwrite!(f, text text, display noted(&mut calls));
@@ -198,14 +198,14 @@ fn nothing_is_evaluated_after_a_failure(rt: HostRuntime) {
     same(&rt, f.into_inner().written(), b"1".as_slice(), "of both");
 }
 
-// The answer, and what is left of the formatter.
+// The result, and mode and depth after it.
 fn write_answer(f: &mut Formatter<Cursor<'_>>) -> (Result<(), Full>, bool, u8) {
     let answer = uwrite!(f, text "The answer is ", display 42i32);
     (answer, f.is_pretty(), f.depth())
 }
 
 #[test]
-fn pieces_go_into_a_long_buffer(rt: HostRuntime) {
+fn uwrite_leaves_the_rest_of_a_long_buffer(rt: HostRuntime) {
     let mut buffer = [0; 256];
     let mut f = Formatter::new(Cursor::new(&mut buffer));
     same(

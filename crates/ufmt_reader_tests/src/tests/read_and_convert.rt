@@ -1,8 +1,8 @@
-//! Texts and what is no text: the readers and the conversions say the same of each.
+//! Tests that readers and conversions agree, on texts and on inputs that are no text.
 ghost use Rattle.std.specs.Prelude.{◌≤◌, length};
 
 use super::texts::{NO_WORDS, NODE_PLAIN, NODE_PRETTY, NOT_PLAIN, NOT_PRETTY, TEXTS};
-use super::verdict::{Verdict, converts_to, read, told};
+use super::verdict::{Verdict, converts_to, read, verdict_on};
 use super::{holds, same};
 use std::alloc::{AllocError, Global};
 use ufmt::layout::Mode;
@@ -10,37 +10,47 @@ use ufmt_doc::convert::{to_plain, to_pretty};
 use ufmt_doc::doc::Doc;
 
 #[test]
-fn to_pretty_and_to_plain_are_not_always_refused(rt: HostRuntime) {
+fn to_pretty_and_to_plain_can_succeed(rt: HostRuntime) {
     holds(&rt, to_pretty(rt.alloc(), b"x").is_ok(), "to_pretty");
     holds(&rt, to_plain(rt.alloc(), b"x").is_ok(), "to_plain");
 }
 
-// Whether each is the other's conversion.
+// Whether each text converts to the other.
 fn are_converted(alloc: Global, plain: &[u8], pretty: &[u8]) -> bool {
     converts_to(alloc, Mode::Plain, plain, pretty)
         && converts_to(alloc, Mode::Pretty, pretty, plain)
 }
 
 #[test]
-fn texts_are_taken_and_converted(rt: HostRuntime) {
+fn texts_are_read_and_converted(rt: HostRuntime) {
     let alloc = rt.alloc();
     let mut count = 0usize;
     for row in TEXTS.split("\n\n") {
         let (plain, pretty) = row.split_once('\n').unwrap_or((row, ""));
         let (plain, pretty) = (plain.as_bytes(), pretty.as_bytes());
-        same(&rt, told(alloc, Mode::Plain, plain), Verdict::Taken, row);
-        same(&rt, told(alloc, Mode::Pretty, pretty), Verdict::Taken, row);
+        same(
+            &rt,
+            verdict_on(alloc, Mode::Plain, plain),
+            Verdict::Taken,
+            row,
+        );
+        same(
+            &rt,
+            verdict_on(alloc, Mode::Pretty, pretty),
+            Verdict::Taken,
+            row,
+        );
         holds(&rt, are_converted(alloc, plain, pretty), row);
         count = count.saturating_add(1);
     }
     same(&rt, count, 44, "documents");
 }
 
-// How many of the texts are refused before the first that isn't, and that one.
+// How many texts are refused before the first that isn't, and that text.
 fn refused<'a>(alloc: Global, mode: Mode, texts: &'a str) -> (usize, Option<&'a str>) {
     let mut count = 0usize;
     for text in texts.split('|') {
-        if told(alloc, mode, text.as_bytes()) != Verdict::Refused {
+        if verdict_on(alloc, mode, text.as_bytes()) != Verdict::Refused {
             return (count, Some(text));
         }
         count = count.saturating_add(1);
@@ -49,20 +59,20 @@ fn refused<'a>(alloc: Global, mode: Mode, texts: &'a str) -> (usize, Option<&'a 
 }
 
 #[test]
-fn what_is_no_text_is_refused(rt: HostRuntime) {
+fn inputs_that_are_no_text_are_refused(rt: HostRuntime) {
     let plain = refused(rt.alloc(), Mode::Plain, NOT_PLAIN);
     same(&rt, plain, (43, None), "plain texts");
     let pretty = refused(rt.alloc(), Mode::Pretty, NOT_PRETTY);
     same(&rt, pretty, (29, None), "pretty texts");
     for text in NO_WORDS {
-        let plain = told(rt.alloc(), Mode::Plain, text);
-        let pretty = told(rt.alloc(), Mode::Pretty, text);
+        let plain = verdict_on(rt.alloc(), Mode::Plain, text);
+        let pretty = verdict_on(rt.alloc(), Mode::Pretty, text);
         same(&rt, plain, Verdict::Refused, "bytes that are no words");
         same(&rt, pretty, Verdict::Refused, "bytes that are no words");
     }
 }
 
-// Whether it is read as the leaf that it is.
+// Whether the text is read as a leaf.
 fn is_leaf(alloc: Global, mode: Mode, text: &[u8]) -> bool {
     match read(alloc, mode, text) {
         Ok(Doc::Leaf(leaf)) => leaf.as_bytes() == text,
@@ -70,8 +80,8 @@ fn is_leaf(alloc: Global, mode: Mode, text: &[u8]) -> bool {
     }
 }
 
-// How many beginnings of the text, itself apart, are as those of `Node` are: its four bytes are
-// leaves, and all that is longer is cut within a block.
+// How many beginnings of a node's text have the right verdict. Those of its name `Node` are leaves,
+// and the longer ones end inside a block.
 fn leaves_then_refusals(alloc: Global, mode: Mode, text: &[u8]) -> usize {
     let mut count = 0usize;
     for size in 0..text.len() {
@@ -82,7 +92,7 @@ fn leaves_then_refusals(alloc: Global, mode: Mode, text: &[u8]) -> usize {
             Verdict::Refused
         };
         let is_right = is_leaf(alloc, mode, beginning) == (wanted == Verdict::Taken);
-        if is_right && told(alloc, mode, beginning) == wanted {
+        if is_right && verdict_on(alloc, mode, beginning) == wanted {
             count = count.saturating_add(1);
         }
     }
@@ -119,15 +129,15 @@ fn spliced(
     Ok(spliced)
 }
 
-// 1 where reader and conversion say the same of the text, and what they make of it leads back to it.
+// 1 if reader and conversion agree, and their results lead back to the text; else 0.
 fn agreed(alloc: Global, mode: Mode, text: &[u8]) -> u64 {
-    match told(alloc, mode, text) {
+    match verdict_on(alloc, mode, text) {
         Verdict::Taken | Verdict::Refused => 1,
         Verdict::TakenForAnother | Verdict::Torn => 0,
     }
 }
 
-// Of how many texts they do, of those with a byte more at this place.
+// On how many texts with one byte more at this place they agree.
 fn agreed_on_insertions(
     alloc: Global,
     mode: Mode,
@@ -144,8 +154,8 @@ fn agreed_on_insertions(
     Ok(count)
 }
 
-// Likewise of each beginning of the text, the text without each of its bytes, and with a byte more at
-// each place.
+// On how many changed texts they agree: each beginning, and the text without one byte and with one
+// byte more at each place.
 fn agreed_on_changes(alloc: Global, mode: Mode, text: &[u8]) -> Result<u64, AllocError> {
     let mut count = agreed_on_insertions(alloc, mode, text, text.len())?;
     for place in 0..text.len() {
@@ -158,8 +168,8 @@ fn agreed_on_changes(alloc: Global, mode: Mode, text: &[u8]) -> Result<u64, Allo
     Ok(count)
 }
 
-// Each kind of block once, in both modes. A text of so many bytes makes 16 texts for each of them, and
-// 14 with a byte more at its end.
+// Each kind of block once, in both modes. A text has 16 changes for each of its bytes, and 14 with
+// a byte more at its end.
 #[test]
 fn readers_and_conversions_agree_on_changed_texts(rt: HostRuntime) {
     let rows = [

@@ -1,10 +1,11 @@
-//! A user's own types. Pairs, tuples, and structs without fields are among the blocks.
+//! Tests of a user's own types. `blocks` has pairs, tuples, and structs without fields.
 use super::forwarded;
 use super::rows::{Table, has_rows, list};
 use std::alloc::{AllocError, Global};
+use std::collections::BTreeMap;
 use ufmt_user::{
-    I32, Kind, Message, Nested, Node, Pair, Port, Ports, Measurement, Scores, Temperature, Tree, Tuple,
-    Users, X, Y, log, print,
+    I32, Json, Kind, Measurement, Message, Nested, Node, Pair, Port, Ports, Scores, Temperature,
+    Tree, Tuple, Users, X, Y, log, print,
 };
 
 const STRUCTS_AND_ENUMS: &str = "\
@@ -62,7 +63,7 @@ X;
 ";
 
 #[test]
-fn structs_and_enums(rt: HostRuntime) {
+fn structs_and_enums_print(rt: HostRuntime) {
     let mut table = Table::new(rt.alloc());
     table.texts(&I32(0i32));
     table.texts(&Tuple(0i32, 0u64));
@@ -83,7 +84,7 @@ fn structs_and_enums(rt: HostRuntime) {
     has_rows(&rt, &table, STRUCTS_AND_ENUMS);
 }
 
-// Rust prints the tree as its derives would.
+// A derive of Rust's `Debug` prints the same.
 const NODES_AND_TREES: &str = "\
 Node { value: 1, next: Some(Node { value: 0, next: None }) }~
 Node {
@@ -128,14 +129,14 @@ fn tree(alloc: Global) -> Result<Tree, AllocError> {
 }
 
 #[test]
-fn nodes_and_trees(rt: HostRuntime) {
+fn nodes_and_trees_print(rt: HostRuntime) {
     let mut table = Table::new(rt.alloc());
     table.texts_of_made(node(rt.alloc()));
     table.texts_of_made(tree(rt.alloc()));
     has_rows(&rt, &table, NODES_AND_TREES);
 }
 
-// Rust prints the ports and users as `debug_map` and `debug_list` would.
+// `debug_map` and `debug_list` of core::fmt print the same.
 const IN_LOOPS: &str = "\
 [Some(1), None]~
 [
@@ -170,7 +171,7 @@ fn ports(alloc: Global) -> Result<Vec<Port<u8>>, AllocError> {
 }
 
 #[test]
-fn builders_in_loops(rt: HostRuntime) {
+fn types_with_builders_in_loops_print(rt: HostRuntime) {
     let mut table = Table::new(rt.alloc());
     table.texts_of_made(list(rt.alloc(), &[Some(1u64), None]).map(|scores| Scores { scores }));
     table.texts_of_made(ports(rt.alloc()).map(|ports| Ports { ports }));
@@ -188,7 +189,7 @@ Err(Full) Measurement { ..................................................;
 ";
 
 #[test]
-fn pieces_of_a_log(rt: HostRuntime) {
+fn log_writes_a_line_into_a_buffer(rt: HostRuntime) {
     let mut table = Table::new(rt.alloc());
     let measurement = Measurement {
         channel: 3,
@@ -209,7 +210,7 @@ Err(Full) Message { node: 2...............................................;
 "#;
 
 #[test]
-fn a_message_in_a_buffer(rt: HostRuntime) {
+fn print_writes_a_message_into_a_buffer(rt: HostRuntime) {
     let mut table = Table::new(rt.alloc());
     let message = Message {
         node: 2,
@@ -222,4 +223,33 @@ fn a_message_in_a_buffer(rt: HostRuntime) {
         table.put_answer(answer, &buffer);
     }
     has_rows(&rt, &table, MESSAGES);
+}
+
+fn pairs_of_a_list(alloc: Global) -> Result<Json, AllocError> {
+    let mut list = Vec::new(alloc);
+    list.push(Json::Number(-1))?;
+    let mut pairs = Vec::new(alloc);
+    pairs.push((String::from_str(alloc, "a")?, Json::Array(list)))?;
+    Ok(Json::Object(pairs))
+}
+
+fn pairs_of_a_table(alloc: Global) -> Result<Json, AllocError> {
+    let mut table = BTreeMap::new(alloc);
+    table.insert(7u8, Json::Null)?;
+    let mut pairs = Vec::new(alloc);
+    pairs.push((String::from_str(alloc, "b")?, Json::Table(table)))?;
+    Ok(Json::Object(pairs))
+}
+
+const PAIRS: &str = "\
+Object([(\"a\", Array([Number(-1)]))]);
+Object([(\"b\", Table({7: Null}))]);
+";
+
+#[test]
+fn a_type_that_holds_itself_in_pairs_prints(rt: HostRuntime) {
+    let mut table = Table::new(rt.alloc());
+    table.plain_of_made(pairs_of_a_list(rt.alloc()));
+    table.plain_of_made(pairs_of_a_table(rt.alloc()));
+    has_rows(&rt, &table, PAIRS);
 }

@@ -1,4 +1,4 @@
-//! What `uwrite!` and `uwriteln!` evaluate.
+//! Tests of what `uwrite!` and `uwriteln!` evaluate.
 use super::Turns;
 use crate::tests::rows::{Table, has_rows};
 use crate::tests::writers::FailOnce;
@@ -56,7 +56,7 @@ fn write_three(number: usize, f: &mut Written<'_>, turns: &mut Turns) -> Result<
     }
 }
 
-// Each kind once, in lines of two and of three.
+// Each kind of piece once, in lines of two and of three pieces.
 fn write_longer_line(number: usize, f: &mut Written<'_>, turns: &mut Turns) -> Result<(), Full> {
     match number {
         0 =>
@@ -66,7 +66,7 @@ fn write_longer_line(number: usize, f: &mut Written<'_>, turns: &mut Turns) -> R
     }
 }
 
-/// One piece or more, by one of the two macros, and perhaps with a comma after the last.
+/// How many pieces, by which macro, and whether a comma follows the last.
 #[derive(Clone, Copy)]
 enum Form {
     One,
@@ -89,8 +89,8 @@ impl Form {
         }
     }
 
-    // The turns and the text of a call whose writer refuses the first piece, of one whose writer refuses
-    // the second, and so on. Between them is `!` if the call fails, and `=` if not.
+    // The turns and the text of calls whose writer refuses the first piece, the second, and so on.
+    // Between them is `!` if the call fails, and `=` if not.
     fn row(self, alloc: Global, number: usize) -> Result<String, AllocError> {
         let mut row = String::new(alloc);
         for refused in 1..6usize {
@@ -143,7 +143,7 @@ Fa! Fab!x Fabc!x2 Fabc!x23 Fabc=x23\n;
 
 // A piece is evaluated after the one before it is written, and none after a failure.
 #[test]
-fn pieces_are_evaluated_one_by_one(rt: HostRuntime) {
+fn uwrite_evaluates_a_piece_after_writing_the_one_before(rt: HostRuntime) {
     let mut table = Table::new(rt.alloc());
     for (form, count) in [
         (Form::One, 5),

@@ -1,6 +1,6 @@
-//! The texts of a value, where another row of its shape has the pieces.
+//! Rows of a value's texts, for values whose pieces another test has.
 use super::printed::{Pretty, Printed, print_to};
-use super::rows::{Table, told_apart};
+use super::rows::{Table, joined_if_different};
 use std::alloc::{AllocError, Global};
 use ufmt::{Cursor, uDebug};
 
@@ -13,7 +13,7 @@ fn text_by<T: Printed>(alloc: Global, value: &T) -> Result<String, AllocError> {
     Ok(text)
 }
 
-// Whether this is what fills a buffer of just its length.
+// Whether the value prints this text into a buffer of the text's length.
 fn fills_a_buffer<T: Printed>(alloc: Global, value: &T, text: &[u8]) -> Result<bool, AllocError> {
     let mut bytes = vec![in alloc; 0u8; text.len()]?;
     let (left, cursor) = print_to(false, value, Cursor::new(bytes.as_mut_slice()));
@@ -29,20 +29,20 @@ fn pretty_of<T: uDebug>(alloc: Global, value: &T) -> Result<String, AllocError> 
     Ok(text)
 }
 
-/// The value's plain text, and after a tilde its pretty text, where it is another.
+/// Returns the value's plain text, and after a tilde its pretty text if it differs.
 pub fn texts_of<T: uDebug>(alloc: Global, value: &T) -> Result<String, AllocError> {
     let pretty = pretty_of(alloc, value)?;
-    told_apart(text_by(alloc, value)?, pretty.as_str())
+    joined_if_different(text_by(alloc, value)?, pretty.as_str())
 }
 
 impl Table {
-    /// A row of the value's plain text.
+    /// Adds a row of the value's plain text.
     pub fn plain<T: uDebug>(&mut self, value: &T) {
         let row = text_by(self.alloc(), value);
         self.put_made(row);
     }
 
-    /// The same of a value that took memory.
+    /// Adds the same row, if there was memory for the value.
     pub fn plain_of_made<T: uDebug + Drop, E: Drop>(&mut self, value: Result<T, E>) {
         match value {
             Ok(value) => self.plain(&value),
@@ -50,13 +50,13 @@ impl Table {
         }
     }
 
-    /// A row of the value's texts.
+    /// Adds a row of the value's texts.
     pub fn texts<T: uDebug>(&mut self, value: &T) {
         let row = texts_of(self.alloc(), value);
         self.put_made(row);
     }
 
-    /// The same of a value that took memory.
+    /// Adds the same row, if there was memory for the value.
     pub fn texts_of_made<T: uDebug + Drop, E: Drop>(&mut self, value: Result<T, E>) {
         match value {
             Ok(value) => self.texts(&value),

@@ -1,4 +1,4 @@
-//! Inputs of each command, and what a run makes of them: a table of statuses and whole outputs.
+//! Tests of `run` on a table of inputs, with their statuses and whole outputs.
 use super::*;
 
 // A command, its input, the status of the run, and all that is written.
@@ -118,8 +118,8 @@ const QUOTED: [Row; 23] = [
     (Command::Pretty, b"\"\\u{7f}\"", 0, "\"\\u{7f}\"\n"),
 ];
 
-// Inputs that are no text of the command's kind: empty, with a space, comma or line feed too many or too
-// few, cut off, or of the other kind.
+// Inputs that are no text of the command's mode: empty, cut off, of the other mode, or with a
+// space, comma or line feed too many or too few.
 const MISPLACED: [Row; 22] = [
     (Command::Pretty, b"", 1, ""),
     (Command::Pretty, b"\n", 1, ""),
@@ -145,7 +145,8 @@ const MISPLACED: [Row; 22] = [
     (Command::Plain, b"[1]", 1, ""),
 ];
 
-// Inputs without quotes, in wrong quotes, or with quotes around a name. None is a text of either kind.
+// Inputs without quotes, in wrong quotes, or with quotes around a name. They are no text of either
+// mode.
 const MISQUOTED: [&[u8]; 21] = [
     b"'''",
     b"\"\"\"",
@@ -179,7 +180,7 @@ fn is_judged(given: Ran, status: u8, outcome: Result<(), Fault>) -> bool {
     given_status == status && given == wanted(outcome)
 }
 
-// The fault of an input that the command refuses.
+// The fault of an input that is no text of the command's mode.
 fn refusal(command: Command) -> Fault {
     match command {
         Command::Lengths => Fault::CannotRead,
@@ -188,8 +189,8 @@ fn refusal(command: Command) -> Fault {
     }
 }
 
-// Whether runs give what the row says, by devices of one byte a call, of two and of all, and with a line
-// feed after an input that has none at its end.
+// Whether runs do what the row says: by one byte a call, by two and by all, and with a line feed
+// after an input that has none at its end.
 fn is_right(alloc: Global, row: Row) -> Result<bool, AllocError> {
     let (command, input, status, written) = row;
     let outcome = match status {
@@ -208,7 +209,7 @@ fn is_right(alloc: Global, row: Row) -> Result<bool, AllocError> {
     Ok(are_judged && is_judged(last, status, outcome))
 }
 
-// The number of rows before the first that is wrong, and that one's input.
+// The number of rows before the first that is wrong, and the input of that row.
 fn right_rows(alloc: Global, rows: &[Row]) -> (usize, &'static [u8]) {
     let mut count = 0usize;
     for row in rows {

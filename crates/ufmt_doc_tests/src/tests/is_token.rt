@@ -1,4 +1,4 @@
-//! Which documents are token documents.
+//! Tests of `is_token`.
 use super::same;
 use super::shape::Shape::{self, Leaf, StructOf, TupleOf};
 use super::shape::made;
@@ -9,31 +9,31 @@ fn is_token(alloc: Global, shape: &Shape<'_>) -> Result<bool, AllocError> {
 }
 
 const ROWS: [(&str, Shape<'static>, bool); 13] = [
-    ("a leaf of no byte", Leaf(""), false),
+    ("an empty leaf", Leaf(""), false),
     ("a leaf with a space", Leaf("a b"), false),
     ("a leaf of brackets", Leaf("()"), true),
-    ("a leaf of a sign", Leaf("-"), true),
+    ("a leaf of a minus sign", Leaf("-"), true),
     ("a text in quotes", Leaf("\"a\""), true),
     ("a text without its last quotation mark", Leaf("\"a"), false),
-    ("a text in quotes and more", Leaf("\"a\"b"), false),
+    ("a text in quotes and one more byte", Leaf("\"a\"b"), false),
     ("a character in quotes", Leaf("'a'"), true),
     ("two characters in quotes", Leaf("'ab'"), false),
-    ("a tuple of nothing", TupleOf("", &[]), false),
-    ("a tuple of nothing by name", TupleOf("()", &[]), false),
+    ("a tuple without a name and fields", TupleOf("", &[]), false),
+    ("a tuple with a name of brackets", TupleOf("()", &[]), false),
     (
-        "a struct of no name",
+        "a struct without a name",
         StructOf("", &[("a", Leaf("x"))]),
         false,
     ),
     (
-        "a label of brackets",
+        "a field name of brackets",
         StructOf("S", &[("()", Leaf("x"))]),
         false,
     ),
 ];
 
 #[test]
-fn is_token_tells_leaves_and_names_apart(rt: HostRuntime) {
+fn is_token_tests_leaves_and_names(rt: HostRuntime) {
     for (case, shape, wanted) in ROWS {
         same(&rt, is_token(rt.alloc(), &shape), Ok(wanted), case);
     }

@@ -1,10 +1,10 @@
-//! Structs and tuples that are written by builders, with each way to write a field.
+//! Tests of structs and tuples that builders write, with each way to write a field.
 use super::printed::Printed;
 use super::rows::{Table, has_rows, map};
 use std::collections::BTreeMap;
 use ufmt::{Formatter, uDebug, uWrite};
 
-// Tuples of this name: without fields, with 1, and with 1 and 2, the second by a begin and an end call.
+// Tuples with this name. `TwoFields` writes its second field by `begin_field` and `end_field`.
 struct NoField<'a>(&'a str);
 
 struct OneField<'a>(&'a str);
@@ -60,7 +60,7 @@ impl Printed for Unit {
     }
 }
 
-// A struct without a name, whose fields have none: one by each way to write a field.
+// A struct without a name. Its fields have no name, and each is written in another way.
 struct NoNames;
 
 impl Printed for NoNames {
@@ -73,19 +73,19 @@ impl Printed for NoNames {
     }
 }
 
-// Likewise in one call.
-struct NoNamesWhole;
+// The same struct in one call.
+struct NoNamesInOneCall;
 
-impl Printed for NoNamesWhole {
+impl Printed for NoNamesInOneCall {
     fn print<W: uWrite>(&self, f: &mut Formatter<W>) -> Result<(), W::Error> {
         f.struct_2("", "", &1u8, "", &2u8)
     }
 }
 
-// A struct and tuples without a name, in one call, and without a field.
-struct NothingWhole;
+// A struct and two tuples without a name, each in one call.
+struct UnnamedInOneCall;
 
-impl Printed for NothingWhole {
+impl Printed for UnnamedInOneCall {
     fn print<W: uWrite>(&self, f: &mut Formatter<W>) -> Result<(), W::Error> {
         f.struct_0("")?;
         f.tuple_0("")?;
@@ -116,7 +116,7 @@ T|(|\n|    |1|,\n|    |2|,\n|)|;
 ";
 
 #[test]
-fn structs_and_tuples(rt: HostRuntime) {
+fn builders_write_structs_and_tuples_in_pieces(rt: HostRuntime) {
     let mut table = Table::new(rt.alloc());
     table.pieces_of_made(map(rt.alloc(), &[(1u64, 2u64)]).map(|map| Settings { map }));
     table.pieces(&Unit);
@@ -127,7 +127,7 @@ fn structs_and_tuples(rt: HostRuntime) {
     table.pieces(&TwoFields(""));
     table.pieces(&TwoFields("T"));
     table.pieces(&NoNames);
-    table.pieces(&NoNamesWhole);
-    table.pieces(&NothingWhole);
+    table.pieces(&NoNamesInOneCall);
+    table.pieces(&UnnamedInOneCall);
     has_rows(&rt, &table, STRUCTS_AND_TUPLES);
 }

@@ -1,4 +1,4 @@
-//! The macros are used where `Result`, `Ok` and `Err` name other things.
+//! Tests of `uwrite!` and `uwriteln!` where `Result`, `Ok` and `Err` are names of other things.
 use super::forwarded;
 use super::rows::same;
 use ufmt::{Cursor, Formatter, uwriteln};
@@ -32,7 +32,7 @@ mod names {
 }
 
 #[test]
-fn macros_where_names_are_foreign(rt: HostRuntime) {
+fn uwrite_and_uwriteln_work_where_result_ok_and_err_are_shadowed(rt: HostRuntime) {
     let mut buffer = [0; 96];
     let mut f = Formatter::new(Cursor::new(&mut buffer));
     same(&rt, names::write(&mut f), [Ok(()); 4], "the answers");

@@ -1,4 +1,5 @@
-//! The events that a sink of a user's own takes, and that a scan stops where the sink does.
+//! Tests of `scan` with a user's own sink: the events that it takes, and that the scan stops if it
+//! fails.
 ghost use Rattle.std.specs.Prelude.{⊤};
 
 use super::same;
@@ -7,14 +8,14 @@ use std::test::Fail;
 use ufmt::layout::{Count, Kind, Mode};
 use ufmt_scan::scan::{Event, ScanError, Sink, scan};
 
-// Notes each event as one letter and its text, up to so many.
+// Notes each event in signs and letters. It takes `left` more events.
 #[derive(Drop)]
 struct Notes {
     text: String,
     left: usize,
 }
 
-// Why it takes no more.
+// Why the sink takes no more events.
 #[derive(Drop)]
 enum Stop {
     Enough,
@@ -103,9 +104,9 @@ fn ending(answer: Result<(), ScanError<Stop>>) -> &'static str {
     }
 }
 
-// The parts of texts, as many as the sink takes.
+// A row has a mode, a text, how many events the sink takes, how the scan ends, and those events.
 #[test]
-fn parts_are_told_in_order(rt: HostRuntime) -> Result<(), Fail> {
+fn scan_emits_events_in_order(rt: HostRuntime) -> Result<(), Fail> {
     let rows = [
         (Mode::Plain, "word", 9, "whole", "=word "),
         (Mode::Plain, "()", 9, "whole", "=() "),
@@ -143,14 +144,14 @@ fn parts_are_told_in_order(rt: HostRuntime) -> Result<(), Fail> {
         (Mode::Plain, "a b", 9, "no text", "=a "),
         (Mode::Plain, "", 9, "no text", ""),
     ];
-    for (mode, text, left, wanted, parts) in rows {
+    for (mode, text, left, wanted, events) in rows {
         let mut notes = Notes {
             text: String::new(rt.alloc()),
             left,
         };
         let ended = ending(scan(mode, text.as_bytes(), &mut notes));
         same(&rt, ended, wanted, text);
-        same(&rt, notes.text.as_str(), parts, text);
+        same(&rt, notes.text.as_str(), events, text);
     }
     Ok(())
 }

@@ -1,6 +1,6 @@
-//! What each writer is passed of a value, where it fails at each place.
+//! Rows of a value's pieces. The value is also printed to writers that fail at each piece.
 use super::printed::{Displayed, Left, Printed, print_to};
-use super::rows::{Table, told_apart};
+use super::rows::{Table, joined_if_different};
 use super::writers::{FailAt, Recorded};
 use std::alloc::{AllocError, Global};
 use ufmt::{Cursor, Full, uDebug, uDisplay};
@@ -9,7 +9,7 @@ use ufmt::{Cursor, Full, uDebug, uDisplay};
 #[derive(Drop)]
 struct Pieces {
     is_pretty: bool,
-    /// Whether mode and depth were those from before.
+    /// Whether mode and depth are as before the call.
     is_as_before: bool,
     text: String,
     /// The pieces with a bar after each.
@@ -29,7 +29,7 @@ impl Pieces {
         })
     }
 
-    // How many bytes the pieces before the one of this number have. Those that are empty don't count.
+    // The number of bytes before the piece with this number. Empty pieces have no number.
     fn length_before(&self, number: usize) -> usize {
         let mut length = 0usize;
         let mut count = 1usize;
@@ -42,7 +42,7 @@ impl Pieces {
         length
     }
 
-    // How many bytes the pieces have before the first that doesn't fit so many.
+    // The number of bytes before the first piece that doesn't fit this size.
     fn length_within(&self, size: usize) -> usize {
         let mut length = 0usize;
         for piece in self.barred.split('|') {
@@ -54,7 +54,7 @@ impl Pieces {
         length
     }
 
-    // Whether this is left where the writer took the text up to here.
+    // Whether `left` is right for a writer that took the first `length` bytes.
     fn is_left(&self, left: Left<Full>, written: &[u8], length: usize) -> bool {
         let (answer, inside, outside) = left;
         answer.is_ok() == (length == self.text.len())
@@ -63,7 +63,7 @@ impl Pieces {
             && self.text.as_bytes().get(..length) == Some(written)
     }
 
-    // The number of the first piece after whose refusal something else is left.
+    // The number of the first piece whose refusal leaves something wrong.
     fn wrong_number<T: Printed>(
         &self,
         alloc: Global,
@@ -84,7 +84,7 @@ impl Pieces {
         Ok(None)
     }
 
-    // The first size of a cursor, of those up to the text's length, that leaves something else.
+    // The first size of a cursor, up to the text's length, that leaves something wrong.
     fn wrong_size<T: Printed>(
         &self,
         alloc: Global,
@@ -102,7 +102,7 @@ impl Pieces {
     }
 }
 
-// The value's pieces in one mode, and what is wrong where a writer fails.
+// The value's pieces in one mode, and the failure of a writer that leaves something wrong.
 fn pieces_in<T: Printed>(alloc: Global, is_pretty: bool, value: &T) -> Result<String, AllocError> {
     let pieces = Pieces::of(alloc, is_pretty, value)?;
     let number = pieces.wrong_number(alloc, value)?;
@@ -116,28 +116,28 @@ fn pieces_in<T: Printed>(alloc: Global, is_pretty: bool, value: &T) -> Result<St
     )
 }
 
-// Those in plain mode, and in pretty mode.
+// The value's pieces in plain mode and in pretty mode.
 fn pieces_of<T: Printed>(alloc: Global, value: &T) -> Result<String, AllocError> {
     let pretty = pieces_in(alloc, true, value)?;
-    told_apart(pieces_in(alloc, false, value)?, pretty.as_str())
+    joined_if_different(pieces_in(alloc, false, value)?, pretty.as_str())
 }
 
-// Those by both traits.
+// The number's pieces by both traits.
 fn pieces_by_both<N: uDebug + uDisplay>(alloc: Global, number: &N) -> Result<String, AllocError> {
     let displayed = pieces_of(alloc, &Displayed(number))?;
-    told_apart(pieces_of(alloc, number)?, displayed.as_str())
+    joined_if_different(pieces_of(alloc, number)?, displayed.as_str())
 }
 
 impl Table {
-    /// A row of the value's pieces, with a bar after each: in plain mode, and after a tilde in pretty
-    /// mode, where they are others. The value stops at a piece's end where a writer fails, at every
-    /// place, and leaves the formatter as it was.
+    /// Adds a row of the value's pieces in plain mode, with a bar after each. After a tilde come
+    /// those in pretty mode, if they differ. The row is wrong if a failing writer takes part of a
+    /// piece, or if the formatter's mode or depth changes.
     pub fn pieces<T: Printed>(&mut self, value: &T) {
         let row = pieces_of(self.alloc(), value);
         self.put_made(row);
     }
 
-    /// The same of a value that took memory.
+    /// Adds the same row, if there was memory for the value.
     pub fn pieces_of_made<T: Printed + Drop, E: Drop>(&mut self, value: Result<T, E>) {
         match value {
             Ok(value) => self.pieces(&value),
@@ -145,7 +145,8 @@ impl Table {
         }
     }
 
-    /// The same of a number, by `uDebug`, and after a tilde by `uDisplay`, where they are others.
+    /// Adds a row of the number's pieces by `uDebug`, and after a tilde by `uDisplay`, if they
+    /// differ.
     pub fn number<N: uDebug + uDisplay + Drop>(&mut self, number: N) {
         let row = pieces_by_both(self.alloc(), &number);
         self.put_made(row);

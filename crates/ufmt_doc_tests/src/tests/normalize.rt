@@ -1,11 +1,11 @@
-//! Documents and their normal forms.
+//! Tests of `normalize`.
 use super::shape::Shape::{SetOf, StructOf, TupleOf};
 use super::shape::made;
 use super::{has_plain_text, same};
 use std::alloc::{AllocError, Global};
 use ufmt_doc::doc::Doc;
 
-// Whether it is the tuple without a name of the leaf `A` and the empty map.
+// Whether it is the unnamed tuple of the leaf `A` and the empty map.
 fn is_leaf_and_map(doc: &Doc) -> bool {
     let Doc::TupleOf(name, fields) = doc else {
         return false;
@@ -19,7 +19,8 @@ fn is_leaf_and_map(doc: &Doc) -> bool {
     }
 }
 
-// Whether the document is that one before it is made normal, then, and once more, and its text stays.
+// Whether a document is that tuple, and has its text: before the call, after it, and after a second
+// call.
 fn states(alloc: Global) -> Result<[(bool, bool); 3], AllocError> {
     let mut doc = made(alloc, &TupleOf("", &[StructOf("A", &[]), SetOf(&[])]))?;
     let mut states = [(false, false); 3];
