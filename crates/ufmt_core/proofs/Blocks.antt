@@ -139,7 +139,6 @@ module _ {W E : Type 0} {seen : Seen W} (old : Block W) {new : Block W} {begun :
       let lent_value : last ≡ lent_to LentValue old printed = l ∙ ap (λ b. lent_to LentValue b printed) m in
       record { part = rw (pair_framed old key value) (WritesPart-between LentValue old printed _ (λ s. layout s value) answer result inside_b lent_value front v.prints e) }
 
-
 -- entries in a row and then the rest of the block are the rest from before them
 pub block_tail-append : (f : Frame) (s : Setting) (count : Count) (ts us : List (List ℕ))
     → block_tail f s count (ts ++ us) ≡ framed_all f (inside s) count ts ++ block_tail f s (count_after count ts) us

@@ -1,6 +1,6 @@
 //! The calls that take memory, on texts and values. Each has a line that says what it returned.
 use crate::answer::Answer;
-use crate::node::two_nodes;
+use crate::printed::two_nodes;
 use crate::report::report;
 use crate::samples::{NODE_PLAIN, NODE_PRETTY, Sample};
 use std::alloc::{AllocError, Global};

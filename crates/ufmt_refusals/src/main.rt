@@ -11,7 +11,6 @@ mod calls;
 mod documents;
 mod laws;
 mod loose;
-mod node;
 mod printed;
 mod report;
 mod samples;

@@ -1,9 +1,38 @@
 //! Prints a node to a `String`, and shows what is left if memory is refused.
+ghost use Rattle.std.specs.Prelude.{[], ◌∷◌};
+ghost use Rattle.ufmt.specs.Words.{named_struct, number, option_document};
+
 use crate::answer::Answer;
-use crate::node::two_nodes;
 use std::alloc::AllocError;
 use std::io;
-use ufmt::{Formatter, uDebug};
+use ufmt::{Formatter, fields, uDebug, uWrite};
+
+/// A number, and perhaps what is next.
+#[derive(Drop)]
+pub struct Node<T> {
+    value: u64,
+    next: Option<T>,
+}
+
+impl<T: uDebug> uDebug for Node<T> {
+    ghost document = { λ n. named_struct "Node"
+        (("value", number n.value) ∷ ("next", option_document T.document n.next) ∷ []) };
+
+    fn fmt<W: uWrite>(&self, f: &mut Formatter<W>) -> Result<(), W::Error> {
+        fields!(f, self, Node { value, next })
+    }
+}
+
+/// A node, and the next one.
+pub fn two_nodes() -> Node<Node<()>> {
+    Node {
+        value: 1,
+        next: Some(Node {
+            value: 0,
+            next: None,
+        }),
+    }
+}
 
 /// Prints a node plain and pretty, and says what text, mode and depth are left.
 pub fn report(rt: &HostRuntime) -> io::Result<()> {

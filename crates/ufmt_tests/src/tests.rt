@@ -19,7 +19,6 @@ mod piece_rows;
 mod print;
 mod printed;
 mod quoted;
-mod repeated;
 mod rows;
 mod shadowed_names;
 mod text_rows;

@@ -45,7 +45,11 @@ pub struct ByChannel;
 impl Mark<Measurement> for ByChannel {
     ghost pieces = { λ _ r. measurement_pieces r };
 
-    fn print_value<W: uWrite>(&self, r: &Measurement, f: &mut Formatter<W>) -> Result<(), W::Error> {
+    fn print_value<W: uWrite>(
+        &self,
+        r: &Measurement,
+        f: &mut Formatter<W>,
+    ) -> Result<(), W::Error> {
         pieces!(debug r.channel, text "=", debug r.celsius).print(f)
     }
 }

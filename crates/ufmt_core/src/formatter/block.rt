@@ -4,7 +4,7 @@ ghost use Rattle.ufmt_core.specs.Layout.{ending, frame, indentation, lead, line_
 ghost use Rattle.ufmt_core.specs.Formatter.{Prints, depth_of, mode_of, setting_of};
 
 use crate::formatter::Formatter;
-use crate::layout::{COLON, Count, Kind, Mode, INDENT};
+use crate::layout::{COLON, Count, INDENT, Kind, Mode};
 use crate::write::uWrite;
 
 impl<W: uWrite> Formatter<W> {

@@ -1,4 +1,4 @@
-//! Tests of `pretty_line`.
+//! Tests of `pretty_line` and `is_readable`.
 use super::*;
 use std::process::Abort;
 use std::test::Fail;
@@ -48,7 +48,7 @@ fn pretty_line_writes_a_pretty_text_at_the_front(rt: HostRuntime) -> Result<(), 
 }
 
 #[test]
-fn readable_lines_are_found(rt: HostRuntime) {
+fn is_readable_is_true_only_of_plain_texts(rt: HostRuntime) {
     let readable = [
         "Measurement { channel: 3, celsius: -4 }",
         "[1, {}, ()]",

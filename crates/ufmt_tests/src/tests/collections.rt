@@ -1,7 +1,6 @@
 //! Tests of the texts of std's collections. They are those of core::fmt, and those of ufmt 0.2.0
 //! except where a comment says so.
-use super::repeated::repeated;
-use super::rows::{Table, has_rows, list, map, same, set};
+use super::rows::{Table, has_rows, list, map, repeated, same, set};
 use std::alloc::{AllocError, Global};
 use std::collections::{BTreeMap, BTreeSet};
 

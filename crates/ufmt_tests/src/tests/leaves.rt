@@ -1,7 +1,6 @@
 //! Tests of values that are one piece in both modes, and of quoted texts, whose escapes are pieces.
 use super::printed::Displayed;
-use super::repeated::repeated;
-use super::rows::{Table, has_rows, same};
+use super::rows::{Table, has_rows, repeated, same};
 use std::alloc::{AllocError, Global};
 
 #[test]

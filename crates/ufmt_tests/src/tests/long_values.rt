@@ -1,6 +1,5 @@
 //! Tests of tuples and lists with hundreds of entries.
-use super::repeated::repeated;
-use super::rows::{map, same};
+use super::rows::{map, repeated, same};
 use std::alloc::{AllocError, Global};
 use ufmt::{Formatter, fmt_pretty, uWrite};
 
