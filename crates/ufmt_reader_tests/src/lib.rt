@@ -1,6 +1,6 @@
 #![tactic(auto)]
 
-//! Tests of readers and conversions, by public calls only.
+//! Tests of the scanner, readers and conversions, by public calls only.
 
 #[cfg(test)]
 mod tests;

@@ -1,11 +1,13 @@
-//! Tests of what no clause says of readers and conversions: that calls can succeed, and their
-//! results on rows that are written by hand.
+//! Tests of what no clause says of the scanner, readers and conversions: that calls can succeed, and
+//! their results on rows that are written by hand.
 mod depth;
 mod laws;
+mod leaves;
 mod misquoted;
 mod parts;
 mod quoted;
 mod read_and_convert;
+mod scan;
 mod texts;
 mod to_writers;
 mod verdict;

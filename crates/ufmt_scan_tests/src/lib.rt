@@ -1,6 +1,0 @@
-#![tactic(auto)]
-
-//! Tests of the scanner, by public calls only.
-
-#[cfg(test)]
-mod tests;
