@@ -1,10 +1,9 @@
 //! What a call returned, compared with what it returns with ample memory.
 ghost use Rattle.std.specs.Prelude.{◌≡◌, ◌≢◌, ◌↔◌, string_bytes, IfErr, IfOk, IfSome, IsErr, IsErrOf, IsNone, IsTrue};
 ghost use Rattle.ufmt.specs.Layout.{plain_text};
-ghost use Rattle.ufmt_doc.specs.Doc.{doc_document};
 
 use std::alloc::AllocError;
-use ufmt_doc::doc::Doc;
+use ufmt::{debug_into, uDebug};
 use ufmt_doc::plain_reader::ReadError;
 
 /// What a call returned.
@@ -77,16 +76,16 @@ impl Answer {
         }
     }
 
-    /// The answer of a reader. With ample memory its document has the plain text `ample`, or it
-    /// fails with `NotText` if that is `None`.
-    pub fn of_document(answer: Result<Doc, ReadError>, ample: Option<&str>) -> Answer
+    /// The answer of a reader or of `parse`. With ample memory its document or value has the plain
+    /// text `ample`, or it fails with `NotText` if that is `None`.
+    pub fn of_value<T: uDebug + Drop>(answer: Result<T, ReadError>, ample: Option<&str>) -> Answer
         ensures memory { IsErrOf answer ReadError.OutOfMemory ↔ (result ≡ Answer.WantOfMemory) }
-        ensures text { (result ≡ Answer.Ample) → IfOk answer (λ doc.
-            IfSome ample.entry (λ wanted. plain_text (doc_document doc) ≡ wanted.now)) }
+        ensures text { (result ≡ Answer.Ample) → IfOk answer (λ value.
+            IfSome ample.entry (λ wanted. plain_text (T.document value) ≡ wanted.now)) }
         ensures refusal { (result ≡ Answer.Ample) → IfErr answer (λ _. IsNone ample.entry) }
     {
         match answer {
-            Ok(doc) if has_plain_text(&doc, ample) => Answer::Ample,
+            Ok(value) if has_plain_text(&value, ample) => Answer::Ample,
             Ok(_) => Answer::Other,
             Err(error) => Answer::of_refusal(error, ample),
         }
@@ -105,13 +104,13 @@ impl Answer {
     }
 }
 
-/// Returns whether this is the document's plain text. It takes no memory.
-pub fn has_plain_text(doc: &Doc, text: Option<&str>) -> bool
+/// Returns whether this is the value's plain text. It takes no memory.
+pub fn has_plain_text<T: uDebug>(value: &T, text: Option<&str>) -> bool
     ensures { IsTrue result → IfSome text.entry (λ wanted.
-        plain_text (doc_document doc.now) ≡ wanted.now) }
+        plain_text (T.document value.now) ≡ wanted.now) }
 {
     let mut buffer = [0; 1024];
-    match (ufmt::debug_into(&mut buffer, doc), text) {
+    match (debug_into(&mut buffer, value), text) {
         (Ok(count), Some(text)) => buffer.get(..count) == Some(text.as_bytes()),
         _ => false,
     }

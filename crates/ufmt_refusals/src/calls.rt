@@ -23,9 +23,9 @@ const OF_A_STRING: u64 = 1;
 pub fn report_readers(rt: &HostRuntime, sample: &Sample) -> io::Result<()> {
     let (plain, pretty) = (sample.plain.as_bytes(), sample.pretty.as_bytes());
     let ample = sample.ample_plain();
-    let answer = Answer::of_document(read_plain(rt.alloc(), plain), ample);
+    let answer = Answer::of_value(read_plain(rt.alloc(), plain), ample);
     report(rt, "read_plain", sample.name, sample.of_document, answer)?;
-    let answer = Answer::of_document(read_pretty(rt.alloc(), pretty), ample);
+    let answer = Answer::of_value(read_pretty(rt.alloc(), pretty), ample);
     report(rt, "read_pretty", sample.name, sample.of_document, answer)
 }
 
@@ -110,12 +110,12 @@ const CHARACTERS: [(&str, char, &str); 6] = [
 
 /// Makes leaves in quotes of texts and characters.
 pub fn report_quoted(rt: &HostRuntime) -> io::Result<()> {
-    let answer = Answer::of_document(leaf_of_text(rt.alloc(), TEXT), Some(QUOTED));
+    let answer = Answer::of_value(leaf_of_text(rt.alloc(), TEXT), Some(QUOTED));
     report(rt, "Doc::text", "a text", 2, answer)?;
-    let answer = Answer::of_document(leaf_of_text(rt.alloc(), ""), Some("\"\""));
+    let answer = Answer::of_value(leaf_of_text(rt.alloc(), ""), Some("\"\""));
     report(rt, "Doc::text", "no byte", 1, answer)?;
     for (case, character, leaf) in CHARACTERS {
-        let answer = Answer::of_document(leaf_of_character(rt.alloc(), character), Some(leaf));
+        let answer = Answer::of_value(leaf_of_character(rt.alloc(), character), Some(leaf));
         report(rt, "Doc::character", case, 1, answer)?;
     }
     Ok(())

@@ -37,8 +37,8 @@ fn report_normal(rt: &HostRuntime, mut doc: Doc) -> io::Result<()> {
     if !doc.is_token() {
         return Ok(());
     }
-    let answer = Answer::of_document(normal_by_way_of_plain(rt.alloc(), &doc), Some(LOOSE));
+    let answer = Answer::of_value(normal_by_way_of_plain(rt.alloc(), &doc), Some(LOOSE));
     report(rt, "normal_by_way_of_plain", "a tuple", 4, answer)?;
-    let answer = Answer::of_document(normal_by_way_of_pretty(rt.alloc(), &doc), Some(LOOSE));
+    let answer = Answer::of_value(normal_by_way_of_pretty(rt.alloc(), &doc), Some(LOOSE));
     report(rt, "normal_by_way_of_pretty", "a tuple", 6, answer)
 }

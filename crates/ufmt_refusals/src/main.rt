@@ -11,6 +11,7 @@ mod calls;
 mod documents;
 mod laws;
 mod loose;
+mod parses;
 mod printed;
 mod report;
 mod samples;
@@ -40,6 +41,7 @@ fn main(rt: HostRuntime) -> io::Result<()> {
     documents::report_leaves(&rt)?;
     values::report_values(&rt)?;
     values::report_pieces(&rt)?;
+    parses::report_parses(&rt)?;
     // This is the first allocation after the calls. If it is refused, each of theirs was made.
     let last = Answer::of_memory(one_box(rt.alloc()));
     report(&rt, "one allocation", "the program itself", 1, last)

@@ -1,0 +1,51 @@
+//! A value that was printed to a log, parsed from its line.
+ghost use Rattle.std.specs.Prelude.{◌≡◌, ◌≢◌, IfOk, IsErrOf};
+ghost use Rattle.ufmt.specs.Layout.{plain_text};
+ghost use Rattle.ufmt.specs.Token.{IsToken};
+ghost use Rattle.ufmt_examples.specs.Alarm.{alarm_document};
+ghost use Rattle.ufmt_parse.specs.Values.{is_u16};
+
+#[cfg(test)]
+mod tests;
+
+use std::alloc::{AllocError, Global};
+use ufmt::{Formatter, fields, uDebug, uWrite};
+use ufmt_doc::doc::Doc;
+use ufmt_doc::plain_reader::ReadError;
+use ufmt_parse::{parse, parse_fields, uParse};
+
+/// What a node of a network reports.
+#[derive(Drop)]
+pub struct Alarm {
+    pub node: u16,
+    pub text: String,
+}
+
+impl uDebug for Alarm {
+    ghost document = { alarm_document };
+
+    fn fmt<W: uWrite>(&self, f: &mut Formatter<W>) -> Result<(), W::Error> {
+        fields!(f, self, Alarm { node, text })
+    }
+}
+
+impl uParse for Alarm {
+    ghost is_value = { λ a. is_u16 a.node };
+
+    fn holds(&self) {
+        self.node.holds();
+    }
+
+    fn from_doc(alloc: Global, doc: &Doc) -> Result<Option<Alarm>, AllocError> {
+        parse_fields!(alloc, doc, Alarm { node, text })
+    }
+}
+
+/// Returns the alarm that was printed to a line. Fails with `NotText` if no alarm was.
+pub fn parse_alarm(alloc: Global, line: &[u8]) -> Result<Alarm, ReadError>
+    ensures ok { IfOk result (λ alarm. plain_text (alarm_document alarm) ≡ line.now) }
+    ensures not_text { IsErrOf result ReadError.NotText → (alarm : Alarm) → is_u16 alarm.node
+        → IsToken (alarm_document alarm) → plain_text (alarm_document alarm) ≢ line.now }
+{
+    parse(alloc, line)
+}

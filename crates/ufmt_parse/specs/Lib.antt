@@ -1,0 +1,4 @@
+pub mod Entries
+pub mod Finds
+pub mod Quotes
+pub mod Values

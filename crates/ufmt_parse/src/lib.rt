@@ -1,0 +1,98 @@
+#![tactic(auto)]
+
+//! Values from their texts: `parse` is the inverse of printing by `uDebug`.
+ghost use Rattle.std.specs.Prelude.{◌≡◌, ◌≢◌, IfOk, IsErrOf};
+ghost use Rattle.ufmt.specs.Document.{Document};
+ghost use Rattle.ufmt.specs.Layout.{plain_text, pretty_text};
+ghost use Rattle.ufmt.specs.Token.{IsToken, normal};
+ghost use Rattle.ufmt_doc.specs.Doc.{doc_document};
+ghost use Rattle.ufmt_parse.specs.Finds.{Finds};
+
+mod collections;
+mod fields;
+mod keys;
+mod leaves;
+mod macros;
+mod nonzero;
+mod numbers;
+mod options;
+mod structs;
+mod tuples;
+
+pub use fields::is_name;
+pub use keys::ParseKey;
+use std::alloc::{AllocError, Global};
+pub use structs::{
+    parse_struct_1, parse_struct_2, parse_struct_3, parse_struct_4, parse_struct_5, parse_struct_6,
+    parse_struct_7, parse_struct_8, parse_struct_9, parse_struct_10, parse_struct_11,
+    parse_struct_12,
+};
+pub use tuples::{
+    parse_tuple_1, parse_tuple_2, parse_tuple_3, parse_tuple_4, parse_tuple_5, parse_tuple_6,
+    parse_tuple_7, parse_tuple_8, parse_tuple_9, parse_tuple_10, parse_tuple_11, parse_tuple_12,
+};
+use ufmt::uDebug;
+use ufmt_doc::doc::Doc;
+use ufmt_doc::plain_reader::{ReadError, read_plain};
+use ufmt_doc::pretty_reader::read_pretty;
+use ufmt_scan::convert::plain_text;
+
+/// A value that can be parsed from what `uDebug` printed.
+pub trait uParse: uDebug + Drop {
+    /// What holds of each value that a program has, as that a number is in its type's range.
+    ghost is_value: { Self → Type 0 };
+
+    /// Shows that `is_value` holds. The body is empty.
+    fn holds(&self)
+        ensures { is_value self.now };
+
+    /// Returns the value that prints as the document, up to normal form, or `None` if no value does.
+    /// Fails only for want of memory.
+    fn from_doc(alloc: Global, doc: &Doc) -> Result<Option<Self>, AllocError>
+        ensures { IfOk result (λ answer.
+            Finds is_value Self.document (doc_document doc.now) answer) };
+}
+
+/// Returns the value that has this plain text, up to its document's normal form. Fails with `NotText`
+/// if no value of the type has it, and otherwise only with `OutOfMemory`.
+pub fn parse<T: uParse>(alloc: Global, text: &[u8]) -> Result<T, ReadError>
+    ensures ok { IfOk result (λ v. plain_text (T.document v) ≡ text.now) }
+    ensures form { IfOk result (λ v. (d : Document) → IsToken d → plain_text d ≡ text.now
+        → normal (T.document v) ≡ normal d) }
+    ensures not_text { IsErrOf result ReadError.NotText
+        → (v : T) → T.is_value v → IsToken (T.document v) → plain_text (T.document v) ≢ text.now }
+{
+    let doc = read_plain(alloc, text)?;
+    match T::from_doc(alloc, &doc)? {
+        Some(value) => Ok(value),
+        None => Err(ReadError::NotText),
+    }
+}
+
+/// Returns the value that has this pretty text, as `parse` does with a plain one.
+pub fn parse_pretty<T: uParse>(alloc: Global, text: &[u8]) -> Result<T, ReadError>
+    ensures ok { IfOk result (λ v. pretty_text (T.document v) ≡ text.now) }
+    ensures form { IfOk result (λ v. (d : Document) → IsToken d → pretty_text d ≡ text.now
+        → normal (T.document v) ≡ normal d) }
+    ensures not_text { IsErrOf result ReadError.NotText
+        → (v : T) → T.is_value v → IsToken (T.document v) → pretty_text (T.document v) ≢ text.now }
+{
+    let doc = read_pretty(alloc, text)?;
+    match T::from_doc(alloc, &doc)? {
+        Some(value) => Ok(value),
+        None => Err(ReadError::NotText),
+    }
+}
+
+/// Prints a value and parses its text, which never fails with `NotText`: the value comes back, up to
+/// its document's normal form.
+pub fn again<T: uParse>(alloc: Global, value: &T) -> Result<T, ReadError>
+    requires { IsToken (T.document value.now) }
+    ensures same { IfOk result (λ again.
+        normal (T.document again) ≡ normal (T.document value.now)) }
+    ensures is_text { IsErrOf result ReadError.NotText → ⊥ }
+{
+    value.holds();
+    let text = plain_text(alloc, value)?;
+    parse(alloc, text.as_bytes())
+}

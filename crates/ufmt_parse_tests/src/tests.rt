@@ -1,0 +1,56 @@
+//! Tests of what no clause says of parsing: that it succeeds with ample memory for each type and each
+//! shape of text.
+mod calls;
+mod collections;
+mod leaves;
+mod numbers;
+mod user_types;
+
+use std::alloc::Global;
+use std::fmt::Debug;
+use std::process::Abort;
+use ufmt::{plain_text, pretty_text};
+use ufmt_doc::plain_reader::ReadError;
+use ufmt_parse::{parse, parse_pretty, uParse};
+
+// Checking an assert takes as long as checking twenty calls, so asserts are calls of this one.
+pub fn same<T: PartialEq + Debug + Drop>(rt: &impl Abort, given: T, wanted: T, case: &str) {
+    assert_eq!(rt; given, wanted, "{case}");
+}
+
+// The first of these texts, with semicolons between them, that isn't parsed as it should be. Each taken
+// text prints as itself again, in each mode. Each other text fails with `NotText`.
+pub fn first_wrong<'a, T: uParse>(
+    alloc: Global,
+    taken: &'a str,
+    others: &'a str,
+) -> Option<&'a str> {
+    for text in taken.split(';') {
+        if !comes_back::<T>(alloc, text) {
+            return Some(text);
+        }
+    }
+    for text in others.split(';') {
+        if !matches!(parse::<T>(alloc, text.as_bytes()), Err(ReadError::NotText)) {
+            return Some(text);
+        }
+    }
+    None
+}
+
+// Whether a value has this plain text, and comes back from its pretty text too.
+fn comes_back<T: uParse>(alloc: Global, text: &str) -> bool {
+    let Ok(value) = parse::<T>(alloc, text.as_bytes()) else {
+        return false;
+    };
+    let Ok(pretty) = pretty_text(alloc, &value) else {
+        return false;
+    };
+    let Ok(value) = parse_pretty::<T>(alloc, pretty.as_bytes()) else {
+        return false;
+    };
+    match plain_text(alloc, &value) {
+        Ok(printed) => printed.as_str() == text,
+        Err(_) => false,
+    }
+}

@@ -1,0 +1,95 @@
+//! Tests of truth values, `()`, texts, characters, options, results, boxes and tuples.
+use super::{first_wrong, same};
+
+#[test]
+fn words_and_quotes(rt: HostRuntime) {
+    let alloc = rt.alloc();
+    let given = [
+        first_wrong::<bool>(alloc, "true;false", "True;TRUE;0;1;\"true\";;true "),
+        first_wrong::<()>(alloc, "()", "(());( );unit;{};[];;(),"),
+        first_wrong::<String>(
+            alloc,
+            "\"\";\"a\";\"\u{e9}\u{1f600}\";\"\\\"\\\\\\n\\0\\u{7f}\";\"'\"",
+            "a;'a';\"a;a\";\"\\u{41}\";\"\\'\";\"\\u{7F}\";\"\n\";;()",
+        ),
+        first_wrong::<char>(
+            alloc,
+            "'a';'\u{e9}';'\u{1f600}';'\\'';'\"';'\\n';'\\u{1b}'",
+            "a;\"a\";'';'ab';'\\\"';''';'\\u{e9}';;()",
+        ),
+    ];
+    same(&rt, given, [None; 4], "by type");
+}
+
+#[test]
+fn values_in_others(rt: HostRuntime) {
+    let alloc = rt.alloc();
+    let given = [
+        first_wrong::<Option<u8>>(
+            alloc,
+            "None;Some(0);Some(255)",
+            "none;Some;Some();Some(256);Some(1, 2);None(1);None {};Some {0: 1};(1);1;Some(1,)",
+        ),
+        first_wrong::<Option<Option<()>>>(
+            alloc,
+            "None;Some(None);Some(Some(()))",
+            "Some;Some(Some);Some(());Some(Some(None))",
+        ),
+        first_wrong::<Result<u8, bool>>(
+            alloc,
+            "Ok(1);Err(true);Err(false)",
+            "Ok(true);Err(1);Ok;Err;Ok(1, 2);None;1;true",
+        ),
+        first_wrong::<Box<u8>>(alloc, "7", "Box(7);256;07"),
+        first_wrong::<Box<Option<Box<()>>>>(alloc, "None;Some(())", "();Some(Some(()))"),
+    ];
+    same(&rt, given, [None; 5], "by type");
+}
+
+#[test]
+fn tuples_of_each_length(rt: HostRuntime) {
+    let alloc = rt.alloc();
+    let given = [
+        first_wrong::<(u8,)>(alloc, "(1,)", "(1);1;();(1, 2);(256,);[1];A(1)"),
+        first_wrong::<(u8, bool)>(
+            alloc,
+            "(1, true)",
+            "(true, 1);(1,);(1, true, 1);(1, true,);[1, true];A(1, true)",
+        ),
+        first_wrong::<(u8, u8, u8)>(alloc, "(1, 2, 3)", "(1, 2);(1, 2, 3, 4);(1, 2, 256)"),
+        first_wrong::<(u8, u8, u8, u8)>(alloc, "(1, 2, 3, 4)", "(1, 2, 3)"),
+        first_wrong::<(u8, u8, u8, u8, u8)>(alloc, "(1, 2, 3, 4, 5)", "(1, 2, 3, 4)"),
+        first_wrong::<(u8, u8, u8, u8, u8, u8)>(alloc, "(1, 2, 3, 4, 5, 6)", "(1, 2, 3, 4, 5)"),
+        first_wrong::<(u8, u8, u8, u8, u8, u8, u8)>(
+            alloc,
+            "(1, 2, 3, 4, 5, 6, 7)",
+            "(1, 2, 3, 4, 5, 6)",
+        ),
+        first_wrong::<(u8, u8, u8, u8, u8, u8, u8, u8)>(
+            alloc,
+            "(1, 2, 3, 4, 5, 6, 7, 8)",
+            "(1, 2, 3, 4, 5, 6, 7)",
+        ),
+        first_wrong::<(u8, u8, u8, u8, u8, u8, u8, u8, u8)>(
+            alloc,
+            "(1, 2, 3, 4, 5, 6, 7, 8, 9)",
+            "(1, 2, 3, 4, 5, 6, 7, 8)",
+        ),
+        first_wrong::<(u8, u8, u8, u8, u8, u8, u8, u8, u8, u8)>(
+            alloc,
+            "(1, 2, 3, 4, 5, 6, 7, 8, 9, 10)",
+            "(1, 2, 3, 4, 5, 6, 7, 8, 9)",
+        ),
+        first_wrong::<(u8, u8, u8, u8, u8, u8, u8, u8, u8, u8, u8)>(
+            alloc,
+            "(1, 2, 3, 4, 5, 6, 7, 8, 9, 10, 11)",
+            "(1, 2, 3, 4, 5, 6, 7, 8, 9, 10)",
+        ),
+        first_wrong::<(u8, u8, u8, u8, u8, u8, u8, u8, u8, u8, u8, u8)>(
+            alloc,
+            "(1, 2, 3, 4, 5, 6, 7, 8, 9, 10, 11, 12)",
+            "(1, 2, 3, 4, 5, 6, 7, 8, 9, 10, 11);(1, 2, 3, 4, 5, 6, 7, 8, 9, 10, 11, 12, 13)",
+        ),
+    ];
+    same(&rt, given, [None; 12], "by length");
+}

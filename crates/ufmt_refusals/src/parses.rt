@@ -1,0 +1,38 @@
+//! Parses values from their texts.
+use crate::answer::Answer;
+use crate::report::report;
+use std::collections::BTreeMap;
+use std::io;
+use ufmt_parse::{parse, parse_pretty};
+
+const LISTS: &str = "{1: [\"a\", \"b\"], 2: []}";
+
+const BOXES: &str = "[\n    Some(\n        7,\n    ),\n    None,\n]";
+
+/// Parses a map from its plain text, a list of boxes from its pretty text, and a text that is neither.
+pub fn report_parses(rt: &HostRuntime) -> io::Result<()> {
+    let answer = parse::<BTreeMap<u8, Vec<String>>>(rt.alloc(), LISTS.as_bytes());
+    report(
+        rt,
+        "parse",
+        "a map of lists",
+        12,
+        Answer::of_value(answer, Some(LISTS)),
+    )?;
+    let answer = parse_pretty::<Vec<Option<Box<u8>>>>(rt.alloc(), BOXES.as_bytes());
+    report(
+        rt,
+        "parse_pretty",
+        "boxes",
+        8,
+        Answer::of_value(answer, Some("[Some(7), None]")),
+    )?;
+    let answer = parse::<Vec<u8>>(rt.alloc(), LISTS.as_bytes());
+    report(
+        rt,
+        "parse",
+        "a map, as a list",
+        8,
+        Answer::of_value(answer, None),
+    )
+}
