@@ -1,6 +1,9 @@
 -- Fields are found in a block if they are found in its list of fields.
+use Rattle.std.specs.Prelude.{codes, IfSome}
 use Rattle.std.proofs.Common.{◌≡◌, ◌≢◌, refl, sym, ap, ap₂, ◌∙◌, subst, ℕ, List, [], ◌∷◌, Option, Some, None, Result, Ok, Err, IfOk}
-use Rattle.ufmt.specs.Document.{Document, Documents, no_documents, document, Fields, no_fields, field, documents, fields_of, struct_of, tuple_of}
+use Rattle.ufmt.specs.Document.{Document, documents, fields_of, leaf, struct_of, tuple_of}
+use Rattle.ufmt.specs.Token.{normal}
+use Rattle.ufmt.specs.Words.{option_document}
 use Rattle.ufmt_parse.specs.Finds.{FindsParts}
 
 pub documents_same : (xs ys : List Document) → documents xs ≡ documents ys → xs ≡ ys
@@ -40,3 +43,9 @@ tuple_same name xs ys same = let entries : documents xs ≡ documents ys = cc in
 pub none_found : {T P : Type 0} (is_value : T → Type 0) (parts : T → P) (found : P) {answer : Option T} → FindsParts is_value parts found answer → answer ≡ None
     → (v : T) → is_value v → parts v ≢ found
 none_found is_value parts found finds is = subst (FindsParts is_value parts found) is finds
+
+-- no `Option` is found if the document isn't `None` and is no value in `Some`
+pub no_option : {T : Type 0} (is_value : T → Type 0) (of : T → Document) (d : Document) → leaf (codes "None") ≢ d → ((x : T) → is_value x → tuple_of (codes "Some") (documents (normal (of x) ∷ [])) ≢ d)
+    → (v : Option T) → IfSome v is_value → normal (option_document of v) ≢ d
+no_option is_value of d none some None is same = none same
+no_option is_value of d none some (Some x) is same = some x is same

@@ -1,6 +1,7 @@
-mod Found
 mod Ascending
-mod FoundFields
+mod Found
+pub mod FoundFields
+pub mod Layers
 mod NumberKeys
 mod ParsedNumbers
 mod Quotes

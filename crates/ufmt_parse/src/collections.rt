@@ -11,9 +11,11 @@ ghost use Rattle.ufmt_parse.specs.Entries.{IsEntry, entry_parts};
 ghost use Rattle.ufmt_parse.specs.Finds.{Finds, FindsParts};
 
 use crate::keys::ParseKey;
+use crate::parsers::{ParsesBy, Plain};
 use crate::uParse;
 use std::alloc::{AllocError, Global};
 use std::collections::{BTreeMap, BTreeSet};
+use ufmt::uDebug;
 use ufmt_doc::doc::Doc;
 
 impl<T: uParse> uParse for Vec<T> {
@@ -26,7 +28,7 @@ impl<T: uParse> uParse for Vec<T> {
     }
 
     fn from_doc(alloc: Global, doc: &Doc) -> Result<Option<Vec<T>>, AllocError> {
-        parse_list(alloc, doc)
+        parse_list(alloc, doc, &Plain)
     }
 }
 
@@ -40,34 +42,42 @@ impl<T: uParse, const N: usize> uParse for [T; N] {
     }
 
     fn from_doc(alloc: Global, doc: &Doc) -> Result<Option<[T; N]>, AllocError> {
-        match parse_list(alloc, doc)? {
+        match parse_list(alloc, doc, &Plain)? {
             Some(values) => Ok(<[T; N]>::try_from(values).ok()),
             None => Ok(None),
         }
     }
 }
 
-// The values of a list's entries, however many.
-fn parse_list<T: uParse>(alloc: Global, doc: &Doc) -> Result<Option<Vec<T>>, AllocError>
+// The values of a list's entries, however many, each by this parser.
+pub(crate) fn parse_list<T: uDebug + Drop, P: ParsesBy<T>>(
+    alloc: Global,
+    doc: &Doc,
+    by: &P,
+) -> Result<Option<Vec<T>>, AllocError>
     ensures { IfOk result (λ answer.
-        Finds (All T.is_value) (λ values. list_of (documents (map T.document values))) (doc_document doc.now)
+        Finds (All P.is_value) (λ values. list_of (documents (map T.document values))) (doc_document doc.now)
         (option_map (λ values. values.items) answer)) }
 {
     match doc {
-        Doc::Listed(entries) => parse_each(alloc, entries),
+        Doc::Listed(entries) => parse_each(alloc, entries, by),
         _ => Ok(None),
     }
 }
 
 // The values of these documents in a row.
-fn parse_each<T: uParse>(alloc: Global, docs: &[Doc]) -> Result<Option<Vec<T>>, AllocError>
+fn parse_each<T: uDebug + Drop, P: ParsesBy<T>>(
+    alloc: Global,
+    docs: &[Doc],
+    by: &P,
+) -> Result<Option<Vec<T>>, AllocError>
     ensures { IfOk result (λ answer.
-        FindsParts (All T.is_value) (map (λ value. normal (T.document value))) (map doc_document docs.now)
+        FindsParts (All P.is_value) (map (λ value. normal (T.document value))) (map doc_document docs.now)
         (option_map (λ values. values.items) answer)) }
 {
     let mut values = Vec::new(alloc);
     for doc in docs {
-        match T::from_doc(alloc, doc)? {
+        match by.parse_by(alloc, doc)? {
             Some(value) => values.push(value)?,
             None => return Ok(None),
         }

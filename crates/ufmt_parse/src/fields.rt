@@ -1,54 +1,57 @@
 //! The fields of structs and tuples, one after another.
-ghost use Rattle.std.specs.Prelude.{[], ◌∷◌, ◌≡◌, ◌≢◌, ◌↔◌, ℕ, List, None, drop, map, slice_index_or, IfOk, IfSome, IsTrue, ⊤};
+ghost use Rattle.std.specs.Prelude.{[], ◌∷◌, ◌≡◌, ◌↔◌, ℕ, List, drop, map, IfOk, IsTrue, ⊤};
 ghost use Rattle.ufmt.specs.Document.{Document, documents, fields_of, leaf, struct_of, tuple_of};
 ghost use Rattle.ufmt.specs.Token.{normal};
 ghost use Rattle.ufmt_doc.specs.Doc.{doc_document};
 ghost use Rattle.ufmt_doc.specs.DocViews.{field_view};
 ghost use Rattle.ufmt_parse.specs.Finds.{FindsParts, first_name};
 
-use crate::uParse;
+use crate::parsers::ParsesBy;
 use std::alloc::{AllocError, Global};
+use ufmt::uDebug;
 use ufmt_doc::doc::Doc;
 
-/// The values of fields in a row: a value and the fields after it, or `()`.
-pub(crate) trait FieldValues: Sized {
-    ghost are_values: { Self → Type 0 };
+/// Parsers of fields in a row: the parser of the first, and those of the fields after it, or `()`.
+pub trait FieldParsers<V> {
+    ghost are_values: { V → Type 0 };
 
     // The normal forms of the fields' documents.
-    ghost unnamed: { Self → List Document };
+    ghost unnamed: { V → List Document };
 
     // These with the fields' names.
-    ghost named: { List (List ℕ) → Self → List (List ℕ × Document) };
+    ghost named: { List (List ℕ) → V → List (List ℕ × Document) };
 
-    fn from_entries(alloc: Global, entries: &[Doc]) -> Result<Option<Self>, AllocError>
+    fn parse_entries(&self, alloc: Global, entries: &[Doc]) -> Result<Option<V>, AllocError>
         ensures { IfOk result (λ answer.
             FindsParts are_values unnamed (map doc_document entries.now) answer) };
 
-    fn from_fields(
+    fn parse_fields(
+        &self,
         alloc: Global,
         names: &[&str],
         fields: &[(String, Doc)],
-    ) -> Result<Option<Self>, AllocError>
+    ) -> Result<Option<V>, AllocError>
         ensures { IfOk result (λ answer.
             FindsParts are_values (named (map (λ name. name.now) names.now))
             (map field_view fields.now) answer) };
 }
 
-impl FieldValues for () {
+impl FieldParsers<()> for () {
     ghost are_values = { λ _. ⊤ };
 
     ghost unnamed = { λ _. [] };
 
     ghost named = { λ _ _. [] };
 
-    fn from_entries(_alloc: Global, entries: &[Doc]) -> Result<Option<()>, AllocError> {
+    fn parse_entries(&self, _alloc: Global, entries: &[Doc]) -> Result<Option<()>, AllocError> {
         match entries.split_first() {
             None => Ok(Some(())),
             Some(_) => Ok(None),
         }
     }
 
-    fn from_fields(
+    fn parse_fields(
+        &self,
         _alloc: Global,
         _names: &[&str],
         fields: &[(String, Doc)],
@@ -60,20 +63,20 @@ impl FieldValues for () {
     }
 }
 
-// Fields come one by one: the first, and then the rest.
-impl<A: uParse, R: FieldValues> FieldValues for (A, R) {
-    ghost are_values = { λ v. A.is_value v.0 × R.are_values v.1 };
+impl<A: uDebug + Drop, R: Drop, P: ParsesBy<A>, Q: FieldParsers<R>> FieldParsers<(A, R)>
+    for (P, Q) {
+    ghost are_values = { λ v. P.is_value v.0 × Q.are_values v.1 };
 
-    ghost unnamed = { λ v. normal (A.document v.0) ∷ R.unnamed v.1 };
+    ghost unnamed = { λ v. normal (A.document v.0) ∷ Q.unnamed v.1 };
 
-    ghost named = { λ names v. (first_name names, normal (A.document v.0)) ∷ R.named (drop 1 names) v.1 };
+    ghost named = { λ names v. (first_name names, normal (A.document v.0)) ∷ Q.named (drop 1 names) v.1 };
 
-    fn from_entries(alloc: Global, entries: &[Doc]) -> Result<Option<(A, R)>, AllocError> {
+    fn parse_entries(&self, alloc: Global, entries: &[Doc]) -> Result<Option<(A, R)>, AllocError> {
         match entries.split_first() {
             None => Ok(None),
-            Some((first, rest)) => match A::from_doc(alloc, first)? {
+            Some((first, rest)) => match self.0.parse_by(alloc, first)? {
                 None => Ok(None),
-                Some(value) => match R::from_entries(alloc, rest)? {
+                Some(value) => match self.1.parse_entries(alloc, rest)? {
                     None => Ok(None),
                     Some(values) => Ok(Some((value, values))),
                 },
@@ -81,7 +84,8 @@ impl<A: uParse, R: FieldValues> FieldValues for (A, R) {
         }
     }
 
-    fn from_fields(
+    fn parse_fields(
+        &self,
         alloc: Global,
         names: &[&str],
         fields: &[(String, Doc)],
@@ -93,15 +97,61 @@ impl<A: uParse, R: FieldValues> FieldValues for (A, R) {
                 if its_name.as_str() != name {
                     return Ok(None);
                 }
-                match A::from_doc(alloc, first)? {
+                match self.0.parse_by(alloc, first)? {
                     None => Ok(None),
-                    Some(value) => match R::from_fields(alloc, names, rest)? {
+                    Some(value) => match self.1.parse_fields(alloc, names, rest)? {
                         None => Ok(None),
                         Some(values) => Ok(Some((value, values))),
                     },
                 }
             }
         }
+    }
+}
+
+/// Returns the fields of the struct that prints as the document, in a chain `(a, (b, ()))`, each by its
+/// parser, or `None` if there is no such struct.
+pub fn struct_fields<V: Drop, P: FieldParsers<V>>(
+    alloc: Global,
+    doc: &Doc,
+    name: &str,
+    names: &[&str],
+    by: &P,
+) -> Result<Option<V>, AllocError>
+    ensures { IfOk result (λ answer. FindsParts P.are_values
+        (λ v. struct_of name.now (fields_of (P.named (map (λ name. name.now) names.now) v)))
+        (doc_document doc.now) answer) }
+{
+    match doc {
+        Doc::StructOf(its_name, fields) => {
+            if !is_same(its_name, name) {
+                return Ok(None);
+            }
+            by.parse_fields(alloc, names, fields)
+        }
+        _ => Ok(None),
+    }
+}
+
+/// Returns the fields of the tuple that prints as the document, as `struct_fields` does.
+pub fn tuple_fields<V: Drop, P: FieldParsers<V>>(
+    alloc: Global,
+    doc: &Doc,
+    name: &str,
+    by: &P,
+) -> Result<Option<V>, AllocError>
+    ensures { IfOk result (λ answer. FindsParts P.are_values
+        (λ v. tuple_of name.now (documents (P.unnamed v)))
+        (doc_document doc.now) answer) }
+{
+    match doc {
+        Doc::TupleOf(its_name, fields) => {
+            if !is_same(its_name, name) {
+                return Ok(None);
+            }
+            by.parse_entries(alloc, fields)
+        }
+        _ => Ok(None),
     }
 }
 
@@ -113,49 +163,6 @@ fn split_name<'a, 'b>(names: &'b [&'a str]) -> (&'a str, &'b [&'a str])
     match names.split_first() {
         None => ("", names),
         Some((first, rest)) => (*first, rest),
-    }
-}
-
-// The fields of a struct with this name.
-pub(crate) fn struct_fields<F: FieldValues>(
-    alloc: Global,
-    doc: &Doc,
-    name: &str,
-    names: &[&str],
-) -> Result<Option<F>, AllocError>
-    ensures { IfOk result (λ answer. FindsParts F.are_values
-        (λ v. struct_of name.now (fields_of (F.named (map (λ name. name.now) names.now) v)))
-        (doc_document doc.now) answer) }
-{
-    match doc {
-        Doc::StructOf(its_name, fields) => {
-            if !is_same(its_name, name) {
-                return Ok(None);
-            }
-            F::from_fields(alloc, names, fields)
-        }
-        _ => Ok(None),
-    }
-}
-
-// The fields of a tuple with this name.
-pub(crate) fn tuple_fields<F: FieldValues>(
-    alloc: Global,
-    doc: &Doc,
-    name: &str,
-) -> Result<Option<F>, AllocError>
-    ensures { IfOk result (λ answer. FindsParts F.are_values
-        (λ v. tuple_of name.now (documents (F.unnamed v)))
-        (doc_document doc.now) answer) }
-{
-    match doc {
-        Doc::TupleOf(its_name, fields) => {
-            if !is_same(its_name, name) {
-                return Ok(None);
-            }
-            F::from_entries(alloc, fields)
-        }
-        _ => Ok(None),
     }
 }
 

@@ -9,6 +9,7 @@ ghost use Rattle.ufmt_doc.specs.Doc.{doc_document};
 ghost use Rattle.ufmt_parse.specs.Finds.{Finds};
 
 mod collections;
+mod depth;
 mod fields;
 mod keys;
 mod leaves;
@@ -16,11 +17,14 @@ mod macros;
 mod nonzero;
 mod numbers;
 mod options;
+mod parsers;
 mod structs;
 mod tuples;
 
-pub use fields::is_name;
+pub use depth::{Depth, Holds};
+pub use fields::{FieldParsers, is_name, struct_fields, tuple_fields};
 pub use keys::ParseKey;
+pub use parsers::{Boxed, Each, Optional, ParsesBy, Plain};
 use std::alloc::{AllocError, Global};
 pub use structs::{
     parse_struct_1, parse_struct_2, parse_struct_3, parse_struct_4, parse_struct_5, parse_struct_6,
@@ -42,7 +46,7 @@ pub trait uParse: uDebug + Drop {
     /// What holds of each value that a program has, as that a number is in its type's range.
     ghost is_value: { Self → Type 0 };
 
-    /// Shows that `is_value` holds. The body is empty.
+    /// Shows that `is_value` holds, by `holds` of each field that it speaks of.
     fn holds(&self)
         ensures { is_value self.now };
 

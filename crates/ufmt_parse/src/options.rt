@@ -1,14 +1,14 @@
 //! Options, results and boxes.
-ghost use Rattle.std.specs.Prelude.{⊤, None, Some, Ok, Err};
+ghost use Rattle.std.specs.Prelude.{IfSome, Ok, Err};
 
-use crate::fields::is_name;
+use crate::parsers::{Boxed, Optional, ParsesBy, Plain};
 use crate::tuples::parse_tuple_1;
 use crate::uParse;
 use std::alloc::{AllocError, Global};
 use ufmt_doc::doc::Doc;
 
 impl<T: uParse> uParse for Option<T> {
-    ghost is_value = { elim [ None ↦ ⊤ | Some x ↦ T.is_value x ] };
+    ghost is_value = { λ o. IfSome o T.is_value };
 
     fn holds(&self) {
         match self {
@@ -18,13 +18,7 @@ impl<T: uParse> uParse for Option<T> {
     }
 
     fn from_doc(alloc: Global, doc: &Doc) -> Result<Option<Option<T>>, AllocError> {
-        if is_name(doc, "None") {
-            return Ok(Some(None));
-        }
-        match parse_tuple_1::<T>(alloc, doc, "Some")? {
-            Some(value) => Ok(Some(Some(value))),
-            None => Ok(None),
-        }
+        Optional(Plain).parse_by(alloc, doc)
     }
 }
 
@@ -57,12 +51,6 @@ impl<T: uParse> uParse for Box<T> {
     }
 
     fn from_doc(alloc: Global, doc: &Doc) -> Result<Option<Box<T>>, AllocError> {
-        match T::from_doc(alloc, doc)? {
-            Some(value) => match Box::new(alloc, value) {
-                Ok(value) => Ok(Some(value)),
-                Err(_) => Err(AllocError),
-            },
-            None => Ok(None),
-        }
+        Boxed(Plain).parse_by(alloc, doc)
     }
 }

@@ -5,6 +5,7 @@ ghost use Rattle.ufmt.specs.Token.{normal};
 ghost use Rattle.ufmt_doc.specs.Doc.{doc_document};
 
 use crate::fields::struct_fields;
+use crate::parsers::Plain;
 use crate::uParse;
 use std::alloc::{AllocError, Global};
 use ufmt_doc::doc::Doc;
@@ -21,7 +22,7 @@ pub fn parse_struct_1<A: uParse>(
     ensures none { IfOk result (λ answer. answer ≡ None → (a_value : A) → A.is_value a_value
         → struct_of name.now (fields_of ((a.now, normal (A.document a_value)) ∷ [])) ≢ doc_document doc.now) }
 {
-    match struct_fields::<(A, ())>(alloc, doc, name, &[a])? {
+    match struct_fields(alloc, doc, name, &[a], &(Plain, ()))? {
         None => Ok(None),
         Some((a, ())) => Ok(Some(a)),
     }
@@ -40,7 +41,7 @@ pub fn parse_struct_2<A: uParse, B: uParse>(
     ensures none { IfOk result (λ answer. answer ≡ None → (a_value : A) (b_value : B) → A.is_value a_value → B.is_value b_value
         → struct_of name.now (fields_of ((a.now, normal (A.document a_value)) ∷ (b.now, normal (B.document b_value)) ∷ [])) ≢ doc_document doc.now) }
 {
-    match struct_fields::<(A, (B, ()))>(alloc, doc, name, &[a, b])? {
+    match struct_fields(alloc, doc, name, &[a, b], &(Plain, (Plain, ())))? {
         None => Ok(None),
         Some((a, (b, ()))) => Ok(Some((a, b))),
     }
@@ -60,7 +61,7 @@ pub fn parse_struct_3<A: uParse, B: uParse, C: uParse>(
     ensures none { IfOk result (λ answer. answer ≡ None → (a_value : A) (b_value : B) (c_value : C) → A.is_value a_value → B.is_value b_value → C.is_value c_value
         → struct_of name.now (fields_of ((a.now, normal (A.document a_value)) ∷ (b.now, normal (B.document b_value)) ∷ (c.now, normal (C.document c_value)) ∷ [])) ≢ doc_document doc.now) }
 {
-    match struct_fields::<(A, (B, (C, ())))>(alloc, doc, name, &[a, b, c])? {
+    match struct_fields(alloc, doc, name, &[a, b, c], &(Plain, (Plain, (Plain, ()))))? {
         None => Ok(None),
         Some((a, (b, (c, ())))) => Ok(Some((a, b, c))),
     }
@@ -81,7 +82,13 @@ pub fn parse_struct_4<A: uParse, B: uParse, C: uParse, D: uParse>(
     ensures none { IfOk result (λ answer. answer ≡ None → (a_value : A) (b_value : B) (c_value : C) (d_value : D) → A.is_value a_value → B.is_value b_value → C.is_value c_value → D.is_value d_value
         → struct_of name.now (fields_of ((a.now, normal (A.document a_value)) ∷ (b.now, normal (B.document b_value)) ∷ (c.now, normal (C.document c_value)) ∷ (d.now, normal (D.document d_value)) ∷ [])) ≢ doc_document doc.now) }
 {
-    match struct_fields::<(A, (B, (C, (D, ()))))>(alloc, doc, name, &[a, b, c, d])? {
+    match struct_fields(
+        alloc,
+        doc,
+        name,
+        &[a, b, c, d],
+        &(Plain, (Plain, (Plain, (Plain, ())))),
+    )? {
         None => Ok(None),
         Some((a, (b, (c, (d, ()))))) => Ok(Some((a, b, c, d))),
     }
@@ -103,7 +110,13 @@ pub fn parse_struct_5<A: uParse, B: uParse, C: uParse, D: uParse, E: uParse>(
     ensures none { IfOk result (λ answer. answer ≡ None → (a_value : A) (b_value : B) (c_value : C) (d_value : D) (e_value : E) → A.is_value a_value → B.is_value b_value → C.is_value c_value → D.is_value d_value → E.is_value e_value
         → struct_of name.now (fields_of ((a.now, normal (A.document a_value)) ∷ (b.now, normal (B.document b_value)) ∷ (c.now, normal (C.document c_value)) ∷ (d.now, normal (D.document d_value)) ∷ (e.now, normal (E.document e_value)) ∷ [])) ≢ doc_document doc.now) }
 {
-    match struct_fields::<(A, (B, (C, (D, (E, ())))))>(alloc, doc, name, &[a, b, c, d, e])? {
+    match struct_fields(
+        alloc,
+        doc,
+        name,
+        &[a, b, c, d, e],
+        &(Plain, (Plain, (Plain, (Plain, (Plain, ()))))),
+    )? {
         None => Ok(None),
         Some((a, (b, (c, (d, (e, ())))))) => Ok(Some((a, b, c, d, e))),
     }
@@ -126,11 +139,12 @@ pub fn parse_struct_6<A: uParse, B: uParse, C: uParse, D: uParse, E: uParse, F: 
     ensures none { IfOk result (λ answer. answer ≡ None → (a_value : A) (b_value : B) (c_value : C) (d_value : D) (e_value : E) (f_value : F) → A.is_value a_value → B.is_value b_value → C.is_value c_value → D.is_value d_value → E.is_value e_value → F.is_value f_value
         → struct_of name.now (fields_of ((a.now, normal (A.document a_value)) ∷ (b.now, normal (B.document b_value)) ∷ (c.now, normal (C.document c_value)) ∷ (d.now, normal (D.document d_value)) ∷ (e.now, normal (E.document e_value)) ∷ (f.now, normal (F.document f_value)) ∷ [])) ≢ doc_document doc.now) }
 {
-    match struct_fields::<(A, (B, (C, (D, (E, (F, ()))))))>(
+    match struct_fields(
         alloc,
         doc,
         name,
         &[a, b, c, d, e, f],
+        &(Plain, (Plain, (Plain, (Plain, (Plain, (Plain, ())))))),
     )? {
         None => Ok(None),
         Some((a, (b, (c, (d, (e, (f, ()))))))) => Ok(Some((a, b, c, d, e, f))),
@@ -155,11 +169,15 @@ pub fn parse_struct_7<A: uParse, B: uParse, C: uParse, D: uParse, E: uParse, F: 
     ensures none { IfOk result (λ answer. answer ≡ None → (a_value : A) (b_value : B) (c_value : C) (d_value : D) (e_value : E) (f_value : F) (g_value : G) → A.is_value a_value → B.is_value b_value → C.is_value c_value → D.is_value d_value → E.is_value e_value → F.is_value f_value → G.is_value g_value
         → struct_of name.now (fields_of ((a.now, normal (A.document a_value)) ∷ (b.now, normal (B.document b_value)) ∷ (c.now, normal (C.document c_value)) ∷ (d.now, normal (D.document d_value)) ∷ (e.now, normal (E.document e_value)) ∷ (f.now, normal (F.document f_value)) ∷ (g.now, normal (G.document g_value)) ∷ [])) ≢ doc_document doc.now) }
 {
-    match struct_fields::<(A, (B, (C, (D, (E, (F, (G, ())))))))>(
+    match struct_fields(
         alloc,
         doc,
         name,
         &[a, b, c, d, e, f, g],
+        &(
+            Plain,
+            (Plain, (Plain, (Plain, (Plain, (Plain, (Plain, ())))))),
+        ),
     )? {
         None => Ok(None),
         Some((a, (b, (c, (d, (e, (f, (g, ())))))))) => Ok(Some((a, b, c, d, e, f, g))),
@@ -194,11 +212,18 @@ pub fn parse_struct_8<
     ensures none { IfOk result (λ answer. answer ≡ None → (a_value : A) (b_value : B) (c_value : C) (d_value : D) (e_value : E) (f_value : F) (g_value : G) (h_value : H) → A.is_value a_value → B.is_value b_value → C.is_value c_value → D.is_value d_value → E.is_value e_value → F.is_value f_value → G.is_value g_value → H.is_value h_value
         → struct_of name.now (fields_of ((a.now, normal (A.document a_value)) ∷ (b.now, normal (B.document b_value)) ∷ (c.now, normal (C.document c_value)) ∷ (d.now, normal (D.document d_value)) ∷ (e.now, normal (E.document e_value)) ∷ (f.now, normal (F.document f_value)) ∷ (g.now, normal (G.document g_value)) ∷ (h.now, normal (H.document h_value)) ∷ [])) ≢ doc_document doc.now) }
 {
-    match struct_fields::<(A, (B, (C, (D, (E, (F, (G, (H, ()))))))))>(
+    match struct_fields(
         alloc,
         doc,
         name,
         &[a, b, c, d, e, f, g, h],
+        &(
+            Plain,
+            (
+                Plain,
+                (Plain, (Plain, (Plain, (Plain, (Plain, (Plain, ())))))),
+            ),
+        ),
     )? {
         None => Ok(None),
         Some((a, (b, (c, (d, (e, (f, (g, (h, ()))))))))) => Ok(Some((a, b, c, d, e, f, g, h))),
@@ -235,11 +260,21 @@ pub fn parse_struct_9<
     ensures none { IfOk result (λ answer. answer ≡ None → (a_value : A) (b_value : B) (c_value : C) (d_value : D) (e_value : E) (f_value : F) (g_value : G) (h_value : H) (i_value : I) → A.is_value a_value → B.is_value b_value → C.is_value c_value → D.is_value d_value → E.is_value e_value → F.is_value f_value → G.is_value g_value → H.is_value h_value → I.is_value i_value
         → struct_of name.now (fields_of ((a.now, normal (A.document a_value)) ∷ (b.now, normal (B.document b_value)) ∷ (c.now, normal (C.document c_value)) ∷ (d.now, normal (D.document d_value)) ∷ (e.now, normal (E.document e_value)) ∷ (f.now, normal (F.document f_value)) ∷ (g.now, normal (G.document g_value)) ∷ (h.now, normal (H.document h_value)) ∷ (i.now, normal (I.document i_value)) ∷ [])) ≢ doc_document doc.now) }
 {
-    match struct_fields::<(A, (B, (C, (D, (E, (F, (G, (H, (I, ())))))))))>(
+    match struct_fields(
         alloc,
         doc,
         name,
         &[a, b, c, d, e, f, g, h, i],
+        &(
+            Plain,
+            (
+                Plain,
+                (
+                    Plain,
+                    (Plain, (Plain, (Plain, (Plain, (Plain, (Plain, ())))))),
+                ),
+            ),
+        ),
     )? {
         None => Ok(None),
         Some((a, (b, (c, (d, (e, (f, (g, (h, (i, ())))))))))) => Ok(Some((
@@ -280,11 +315,24 @@ pub fn parse_struct_10<
     ensures none { IfOk result (λ answer. answer ≡ None → (a_value : A) (b_value : B) (c_value : C) (d_value : D) (e_value : E) (f_value : F) (g_value : G) (h_value : H) (i_value : I) (j_value : J) → A.is_value a_value → B.is_value b_value → C.is_value c_value → D.is_value d_value → E.is_value e_value → F.is_value f_value → G.is_value g_value → H.is_value h_value → I.is_value i_value → J.is_value j_value
         → struct_of name.now (fields_of ((a.now, normal (A.document a_value)) ∷ (b.now, normal (B.document b_value)) ∷ (c.now, normal (C.document c_value)) ∷ (d.now, normal (D.document d_value)) ∷ (e.now, normal (E.document e_value)) ∷ (f.now, normal (F.document f_value)) ∷ (g.now, normal (G.document g_value)) ∷ (h.now, normal (H.document h_value)) ∷ (i.now, normal (I.document i_value)) ∷ (j.now, normal (J.document j_value)) ∷ [])) ≢ doc_document doc.now) }
 {
-    match struct_fields::<(A, (B, (C, (D, (E, (F, (G, (H, (I, (J, ()))))))))))>(
+    match struct_fields(
         alloc,
         doc,
         name,
         &[a, b, c, d, e, f, g, h, i, j],
+        &(
+            Plain,
+            (
+                Plain,
+                (
+                    Plain,
+                    (
+                        Plain,
+                        (Plain, (Plain, (Plain, (Plain, (Plain, (Plain, ())))))),
+                    ),
+                ),
+            ),
+        ),
     )? {
         None => Ok(None),
         Some((a, (b, (c, (d, (e, (f, (g, (h, (i, (j, ()))))))))))) => Ok(Some((
@@ -327,11 +375,27 @@ pub fn parse_struct_11<
     ensures none { IfOk result (λ answer. answer ≡ None → (a_value : A) (b_value : B) (c_value : C) (d_value : D) (e_value : E) (f_value : F) (g_value : G) (h_value : H) (i_value : I) (j_value : J) (k_value : K) → A.is_value a_value → B.is_value b_value → C.is_value c_value → D.is_value d_value → E.is_value e_value → F.is_value f_value → G.is_value g_value → H.is_value h_value → I.is_value i_value → J.is_value j_value → K.is_value k_value
         → struct_of name.now (fields_of ((a.now, normal (A.document a_value)) ∷ (b.now, normal (B.document b_value)) ∷ (c.now, normal (C.document c_value)) ∷ (d.now, normal (D.document d_value)) ∷ (e.now, normal (E.document e_value)) ∷ (f.now, normal (F.document f_value)) ∷ (g.now, normal (G.document g_value)) ∷ (h.now, normal (H.document h_value)) ∷ (i.now, normal (I.document i_value)) ∷ (j.now, normal (J.document j_value)) ∷ (k.now, normal (K.document k_value)) ∷ [])) ≢ doc_document doc.now) }
 {
-    match struct_fields::<(A, (B, (C, (D, (E, (F, (G, (H, (I, (J, (K, ())))))))))))>(
+    match struct_fields(
         alloc,
         doc,
         name,
         &[a, b, c, d, e, f, g, h, i, j, k],
+        &(
+            Plain,
+            (
+                Plain,
+                (
+                    Plain,
+                    (
+                        Plain,
+                        (
+                            Plain,
+                            (Plain, (Plain, (Plain, (Plain, (Plain, (Plain, ())))))),
+                        ),
+                    ),
+                ),
+            ),
+        ),
     )? {
         None => Ok(None),
         Some((a, (b, (c, (d, (e, (f, (g, (h, (i, (j, (k, ())))))))))))) => Ok(Some((
@@ -376,11 +440,30 @@ pub fn parse_struct_12<
     ensures none { IfOk result (λ answer. answer ≡ None → (a_value : A) (b_value : B) (c_value : C) (d_value : D) (e_value : E) (f_value : F) (g_value : G) (h_value : H) (i_value : I) (j_value : J) (k_value : K) (l_value : L) → A.is_value a_value → B.is_value b_value → C.is_value c_value → D.is_value d_value → E.is_value e_value → F.is_value f_value → G.is_value g_value → H.is_value h_value → I.is_value i_value → J.is_value j_value → K.is_value k_value → L.is_value l_value
         → struct_of name.now (fields_of ((a.now, normal (A.document a_value)) ∷ (b.now, normal (B.document b_value)) ∷ (c.now, normal (C.document c_value)) ∷ (d.now, normal (D.document d_value)) ∷ (e.now, normal (E.document e_value)) ∷ (f.now, normal (F.document f_value)) ∷ (g.now, normal (G.document g_value)) ∷ (h.now, normal (H.document h_value)) ∷ (i.now, normal (I.document i_value)) ∷ (j.now, normal (J.document j_value)) ∷ (k.now, normal (K.document k_value)) ∷ (l.now, normal (L.document l_value)) ∷ [])) ≢ doc_document doc.now) }
 {
-    match struct_fields::<(A, (B, (C, (D, (E, (F, (G, (H, (I, (J, (K, (L, ()))))))))))))>(
+    match struct_fields(
         alloc,
         doc,
         name,
         &[a, b, c, d, e, f, g, h, i, j, k, l],
+        &(
+            Plain,
+            (
+                Plain,
+                (
+                    Plain,
+                    (
+                        Plain,
+                        (
+                            Plain,
+                            (
+                                Plain,
+                                (Plain, (Plain, (Plain, (Plain, (Plain, (Plain, ())))))),
+                            ),
+                        ),
+                    ),
+                ),
+            ),
+        ),
     )? {
         None => Ok(None),
         Some((a, (b, (c, (d, (e, (f, (g, (h, (i, (j, (k, (l, ()))))))))))))) => Ok(Some((

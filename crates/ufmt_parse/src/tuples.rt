@@ -5,6 +5,7 @@ ghost use Rattle.ufmt.specs.Token.{normal};
 ghost use Rattle.ufmt_doc.specs.Doc.{doc_document};
 
 use crate::fields::tuple_fields;
+use crate::parsers::Plain;
 use crate::uParse;
 use std::alloc::{AllocError, Global};
 use ufmt_doc::doc::Doc;
@@ -20,7 +21,7 @@ pub fn parse_tuple_1<A: uParse>(
     ensures none { IfOk result (λ answer. answer ≡ None → (a_value : A) → A.is_value a_value
         → tuple_of name.now (documents (normal (A.document a_value) ∷ [])) ≢ doc_document doc.now) }
 {
-    match tuple_fields::<(A, ())>(alloc, doc, name)? {
+    match tuple_fields(alloc, doc, name, &(Plain, ()))? {
         None => Ok(None),
         Some((a, ())) => Ok(Some(a)),
     }
@@ -37,7 +38,7 @@ pub fn parse_tuple_2<A: uParse, B: uParse>(
     ensures none { IfOk result (λ answer. answer ≡ None → (a_value : A) (b_value : B) → A.is_value a_value → B.is_value b_value
         → tuple_of name.now (documents (normal (A.document a_value) ∷ normal (B.document b_value) ∷ [])) ≢ doc_document doc.now) }
 {
-    match tuple_fields::<(A, (B, ()))>(alloc, doc, name)? {
+    match tuple_fields(alloc, doc, name, &(Plain, (Plain, ())))? {
         None => Ok(None),
         Some((a, (b, ()))) => Ok(Some((a, b))),
     }
@@ -54,7 +55,7 @@ pub fn parse_tuple_3<A: uParse, B: uParse, C: uParse>(
     ensures none { IfOk result (λ answer. answer ≡ None → (a_value : A) (b_value : B) (c_value : C) → A.is_value a_value → B.is_value b_value → C.is_value c_value
         → tuple_of name.now (documents (normal (A.document a_value) ∷ normal (B.document b_value) ∷ normal (C.document c_value) ∷ [])) ≢ doc_document doc.now) }
 {
-    match tuple_fields::<(A, (B, (C, ())))>(alloc, doc, name)? {
+    match tuple_fields(alloc, doc, name, &(Plain, (Plain, (Plain, ()))))? {
         None => Ok(None),
         Some((a, (b, (c, ())))) => Ok(Some((a, b, c))),
     }
@@ -71,7 +72,7 @@ pub fn parse_tuple_4<A: uParse, B: uParse, C: uParse, D: uParse>(
     ensures none { IfOk result (λ answer. answer ≡ None → (a_value : A) (b_value : B) (c_value : C) (d_value : D) → A.is_value a_value → B.is_value b_value → C.is_value c_value → D.is_value d_value
         → tuple_of name.now (documents (normal (A.document a_value) ∷ normal (B.document b_value) ∷ normal (C.document c_value) ∷ normal (D.document d_value) ∷ [])) ≢ doc_document doc.now) }
 {
-    match tuple_fields::<(A, (B, (C, (D, ()))))>(alloc, doc, name)? {
+    match tuple_fields(alloc, doc, name, &(Plain, (Plain, (Plain, (Plain, ())))))? {
         None => Ok(None),
         Some((a, (b, (c, (d, ()))))) => Ok(Some((a, b, c, d))),
     }
@@ -88,7 +89,12 @@ pub fn parse_tuple_5<A: uParse, B: uParse, C: uParse, D: uParse, E: uParse>(
     ensures none { IfOk result (λ answer. answer ≡ None → (a_value : A) (b_value : B) (c_value : C) (d_value : D) (e_value : E) → A.is_value a_value → B.is_value b_value → C.is_value c_value → D.is_value d_value → E.is_value e_value
         → tuple_of name.now (documents (normal (A.document a_value) ∷ normal (B.document b_value) ∷ normal (C.document c_value) ∷ normal (D.document d_value) ∷ normal (E.document e_value) ∷ [])) ≢ doc_document doc.now) }
 {
-    match tuple_fields::<(A, (B, (C, (D, (E, ())))))>(alloc, doc, name)? {
+    match tuple_fields(
+        alloc,
+        doc,
+        name,
+        &(Plain, (Plain, (Plain, (Plain, (Plain, ()))))),
+    )? {
         None => Ok(None),
         Some((a, (b, (c, (d, (e, ())))))) => Ok(Some((a, b, c, d, e))),
     }
@@ -105,7 +111,12 @@ pub fn parse_tuple_6<A: uParse, B: uParse, C: uParse, D: uParse, E: uParse, F: u
     ensures none { IfOk result (λ answer. answer ≡ None → (a_value : A) (b_value : B) (c_value : C) (d_value : D) (e_value : E) (f_value : F) → A.is_value a_value → B.is_value b_value → C.is_value c_value → D.is_value d_value → E.is_value e_value → F.is_value f_value
         → tuple_of name.now (documents (normal (A.document a_value) ∷ normal (B.document b_value) ∷ normal (C.document c_value) ∷ normal (D.document d_value) ∷ normal (E.document e_value) ∷ normal (F.document f_value) ∷ [])) ≢ doc_document doc.now) }
 {
-    match tuple_fields::<(A, (B, (C, (D, (E, (F, ()))))))>(alloc, doc, name)? {
+    match tuple_fields(
+        alloc,
+        doc,
+        name,
+        &(Plain, (Plain, (Plain, (Plain, (Plain, (Plain, ())))))),
+    )? {
         None => Ok(None),
         Some((a, (b, (c, (d, (e, (f, ()))))))) => Ok(Some((a, b, c, d, e, f))),
     }
@@ -122,7 +133,15 @@ pub fn parse_tuple_7<A: uParse, B: uParse, C: uParse, D: uParse, E: uParse, F: u
     ensures none { IfOk result (λ answer. answer ≡ None → (a_value : A) (b_value : B) (c_value : C) (d_value : D) (e_value : E) (f_value : F) (g_value : G) → A.is_value a_value → B.is_value b_value → C.is_value c_value → D.is_value d_value → E.is_value e_value → F.is_value f_value → G.is_value g_value
         → tuple_of name.now (documents (normal (A.document a_value) ∷ normal (B.document b_value) ∷ normal (C.document c_value) ∷ normal (D.document d_value) ∷ normal (E.document e_value) ∷ normal (F.document f_value) ∷ normal (G.document g_value) ∷ [])) ≢ doc_document doc.now) }
 {
-    match tuple_fields::<(A, (B, (C, (D, (E, (F, (G, ())))))))>(alloc, doc, name)? {
+    match tuple_fields(
+        alloc,
+        doc,
+        name,
+        &(
+            Plain,
+            (Plain, (Plain, (Plain, (Plain, (Plain, (Plain, ())))))),
+        ),
+    )? {
         None => Ok(None),
         Some((a, (b, (c, (d, (e, (f, (g, ())))))))) => Ok(Some((a, b, c, d, e, f, g))),
     }
@@ -144,7 +163,18 @@ pub fn parse_tuple_8<
     ensures none { IfOk result (λ answer. answer ≡ None → (a_value : A) (b_value : B) (c_value : C) (d_value : D) (e_value : E) (f_value : F) (g_value : G) (h_value : H) → A.is_value a_value → B.is_value b_value → C.is_value c_value → D.is_value d_value → E.is_value e_value → F.is_value f_value → G.is_value g_value → H.is_value h_value
         → tuple_of name.now (documents (normal (A.document a_value) ∷ normal (B.document b_value) ∷ normal (C.document c_value) ∷ normal (D.document d_value) ∷ normal (E.document e_value) ∷ normal (F.document f_value) ∷ normal (G.document g_value) ∷ normal (H.document h_value) ∷ [])) ≢ doc_document doc.now) }
 {
-    match tuple_fields::<(A, (B, (C, (D, (E, (F, (G, (H, ()))))))))>(alloc, doc, name)? {
+    match tuple_fields(
+        alloc,
+        doc,
+        name,
+        &(
+            Plain,
+            (
+                Plain,
+                (Plain, (Plain, (Plain, (Plain, (Plain, (Plain, ())))))),
+            ),
+        ),
+    )? {
         None => Ok(None),
         Some((a, (b, (c, (d, (e, (f, (g, (h, ()))))))))) => Ok(Some((a, b, c, d, e, f, g, h))),
     }
@@ -167,7 +197,21 @@ pub fn parse_tuple_9<
     ensures none { IfOk result (λ answer. answer ≡ None → (a_value : A) (b_value : B) (c_value : C) (d_value : D) (e_value : E) (f_value : F) (g_value : G) (h_value : H) (i_value : I) → A.is_value a_value → B.is_value b_value → C.is_value c_value → D.is_value d_value → E.is_value e_value → F.is_value f_value → G.is_value g_value → H.is_value h_value → I.is_value i_value
         → tuple_of name.now (documents (normal (A.document a_value) ∷ normal (B.document b_value) ∷ normal (C.document c_value) ∷ normal (D.document d_value) ∷ normal (E.document e_value) ∷ normal (F.document f_value) ∷ normal (G.document g_value) ∷ normal (H.document h_value) ∷ normal (I.document i_value) ∷ [])) ≢ doc_document doc.now) }
 {
-    match tuple_fields::<(A, (B, (C, (D, (E, (F, (G, (H, (I, ())))))))))>(alloc, doc, name)? {
+    match tuple_fields(
+        alloc,
+        doc,
+        name,
+        &(
+            Plain,
+            (
+                Plain,
+                (
+                    Plain,
+                    (Plain, (Plain, (Plain, (Plain, (Plain, (Plain, ())))))),
+                ),
+            ),
+        ),
+    )? {
         None => Ok(None),
         Some((a, (b, (c, (d, (e, (f, (g, (h, (i, ())))))))))) => Ok(Some((
             a, b, c, d, e, f, g, h, i,
@@ -197,7 +241,24 @@ pub fn parse_tuple_10<
     ensures none { IfOk result (λ answer. answer ≡ None → (a_value : A) (b_value : B) (c_value : C) (d_value : D) (e_value : E) (f_value : F) (g_value : G) (h_value : H) (i_value : I) (j_value : J) → A.is_value a_value → B.is_value b_value → C.is_value c_value → D.is_value d_value → E.is_value e_value → F.is_value f_value → G.is_value g_value → H.is_value h_value → I.is_value i_value → J.is_value j_value
         → tuple_of name.now (documents (normal (A.document a_value) ∷ normal (B.document b_value) ∷ normal (C.document c_value) ∷ normal (D.document d_value) ∷ normal (E.document e_value) ∷ normal (F.document f_value) ∷ normal (G.document g_value) ∷ normal (H.document h_value) ∷ normal (I.document i_value) ∷ normal (J.document j_value) ∷ [])) ≢ doc_document doc.now) }
 {
-    match tuple_fields::<(A, (B, (C, (D, (E, (F, (G, (H, (I, (J, ()))))))))))>(alloc, doc, name)? {
+    match tuple_fields(
+        alloc,
+        doc,
+        name,
+        &(
+            Plain,
+            (
+                Plain,
+                (
+                    Plain,
+                    (
+                        Plain,
+                        (Plain, (Plain, (Plain, (Plain, (Plain, (Plain, ())))))),
+                    ),
+                ),
+            ),
+        ),
+    )? {
         None => Ok(None),
         Some((a, (b, (c, (d, (e, (f, (g, (h, (i, (j, ()))))))))))) => Ok(Some((
             a, b, c, d, e, f, g, h, i, j,
@@ -228,8 +289,26 @@ pub fn parse_tuple_11<
     ensures none { IfOk result (λ answer. answer ≡ None → (a_value : A) (b_value : B) (c_value : C) (d_value : D) (e_value : E) (f_value : F) (g_value : G) (h_value : H) (i_value : I) (j_value : J) (k_value : K) → A.is_value a_value → B.is_value b_value → C.is_value c_value → D.is_value d_value → E.is_value e_value → F.is_value f_value → G.is_value g_value → H.is_value h_value → I.is_value i_value → J.is_value j_value → K.is_value k_value
         → tuple_of name.now (documents (normal (A.document a_value) ∷ normal (B.document b_value) ∷ normal (C.document c_value) ∷ normal (D.document d_value) ∷ normal (E.document e_value) ∷ normal (F.document f_value) ∷ normal (G.document g_value) ∷ normal (H.document h_value) ∷ normal (I.document i_value) ∷ normal (J.document j_value) ∷ normal (K.document k_value) ∷ [])) ≢ doc_document doc.now) }
 {
-    match tuple_fields::<(A, (B, (C, (D, (E, (F, (G, (H, (I, (J, (K, ())))))))))))>(
-        alloc, doc, name,
+    match tuple_fields(
+        alloc,
+        doc,
+        name,
+        &(
+            Plain,
+            (
+                Plain,
+                (
+                    Plain,
+                    (
+                        Plain,
+                        (
+                            Plain,
+                            (Plain, (Plain, (Plain, (Plain, (Plain, (Plain, ())))))),
+                        ),
+                    ),
+                ),
+            ),
+        ),
     )? {
         None => Ok(None),
         Some((a, (b, (c, (d, (e, (f, (g, (h, (i, (j, (k, ())))))))))))) => Ok(Some((
@@ -262,8 +341,29 @@ pub fn parse_tuple_12<
     ensures none { IfOk result (λ answer. answer ≡ None → (a_value : A) (b_value : B) (c_value : C) (d_value : D) (e_value : E) (f_value : F) (g_value : G) (h_value : H) (i_value : I) (j_value : J) (k_value : K) (l_value : L) → A.is_value a_value → B.is_value b_value → C.is_value c_value → D.is_value d_value → E.is_value e_value → F.is_value f_value → G.is_value g_value → H.is_value h_value → I.is_value i_value → J.is_value j_value → K.is_value k_value → L.is_value l_value
         → tuple_of name.now (documents (normal (A.document a_value) ∷ normal (B.document b_value) ∷ normal (C.document c_value) ∷ normal (D.document d_value) ∷ normal (E.document e_value) ∷ normal (F.document f_value) ∷ normal (G.document g_value) ∷ normal (H.document h_value) ∷ normal (I.document i_value) ∷ normal (J.document j_value) ∷ normal (K.document k_value) ∷ normal (L.document l_value) ∷ [])) ≢ doc_document doc.now) }
 {
-    match tuple_fields::<(A, (B, (C, (D, (E, (F, (G, (H, (I, (J, (K, (L, ()))))))))))))>(
-        alloc, doc, name,
+    match tuple_fields(
+        alloc,
+        doc,
+        name,
+        &(
+            Plain,
+            (
+                Plain,
+                (
+                    Plain,
+                    (
+                        Plain,
+                        (
+                            Plain,
+                            (
+                                Plain,
+                                (Plain, (Plain, (Plain, (Plain, (Plain, (Plain, ())))))),
+                            ),
+                        ),
+                    ),
+                ),
+            ),
+        ),
     )? {
         None => Ok(None),
         Some((a, (b, (c, (d, (e, (f, (g, (h, (i, (j, (k, (l, ()))))))))))))) => Ok(Some((

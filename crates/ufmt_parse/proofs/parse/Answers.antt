@@ -1,4 +1,3 @@
-use Rattle.std.proofs.Common.{◌≡◌}
 use Rattle.ufmt.specs.Layout.{setting}
 use Rattle.ufmt_core.specs.declared.layout.Mode.TheVariants.{Plain}
 use Rattle.ufmt.proofs.OneWay.{plain_text_determines}

@@ -8,4 +8,4 @@ use Rattle.ufmt_parse.proofs.collections.parse_each.Goals as goal
 pub returns-in-None : goal.returns-in-None
 returns-in-None g c = λ values all same.
     let none = MatchOption-at_none _ _ c.in-None.is c.in_ok-value.ensures in
-    none_in_a_row g.T.uParse.is_value (λ value. normal (g.T.uDebug.document value)) doc_document c.doc-item.result none c.args.docs.now _ (omega arith) c.doc-item.is values all same
+    none_in_a_row g.P.ParsesBy.is_value (λ value. normal (g.T.uDebug.document value)) doc_document c.doc-item.result none c.args.docs.now _ (omega arith) c.doc-item.is values all same
