@@ -1,7 +1,9 @@
 #![tactic(auto)]
 
 //! Values from their texts: `parse` is the inverse of printing by `uDebug`.
-ghost use Rattle.std.specs.Prelude.{◌≡◌, ◌≢◌, IfOk, IsErrOf};
+ghost use Rattle.std.specs.Prelude.{◌≡◌, ◌≢◌, ◌<◌, ℕ, None, Result, length, IfOk, IfSome, IsErrOf};
+ghost use Rattle.ufmt.specs.Buffer.{Fronts};
+ghost use Rattle.ufmt.specs.declared.cursor.Full.{Full};
 ghost use Rattle.ufmt.specs.Document.{Document};
 ghost use Rattle.ufmt.specs.Layout.{plain_text, pretty_text};
 ghost use Rattle.ufmt.specs.Token.{IsToken, normal};
@@ -35,7 +37,7 @@ pub use tuples::{
     parse_tuple_1, parse_tuple_2, parse_tuple_3, parse_tuple_4, parse_tuple_5, parse_tuple_6,
     parse_tuple_7, parse_tuple_8, parse_tuple_9, parse_tuple_10, parse_tuple_11, parse_tuple_12,
 };
-use ufmt::uDebug;
+use ufmt::{debug_into, uDebug};
 use ufmt_doc::doc::Doc;
 use ufmt_doc::plain_reader::{ReadError, read_plain};
 use ufmt_doc::pretty_reader::read_pretty;
@@ -99,4 +101,30 @@ pub fn again<T: uParse>(alloc: Global, value: &T) -> Result<T, ReadError>
     value.holds();
     let text = plain_text(alloc, value)?;
     parse(alloc, text.as_bytes())
+}
+
+/// Prints a value to the front of a buffer, as `debug_into` does, and parses it from there. The value
+/// comes back as from `again`. Returns `None` if its text doesn't fit.
+pub fn again_in<T: uParse>(
+    alloc: Global,
+    buffer: &mut [u8],
+    value: &T,
+) -> Result<Option<T>, ReadError>
+    requires { IsToken (T.document value.now) }
+    ensures same { IfOk result (λ answer. IfSome answer (λ again.
+        normal (T.document again) ≡ normal (T.document value.now))) }
+    ensures fits { IfOk result (λ answer. answer ≡ None
+        → length buffer.old < length (plain_text (T.document value.now))) }
+    ensures is_text { IsErrOf result ReadError.NotText → ⊥ }
+    ensures front { (printed : Result ℕ Full)
+        × Fronts buffer.old (plain_text (T.document value.now)) printed buffer.new }
+{
+    value.holds();
+    match debug_into(buffer, value) {
+        Ok(length) => {
+            let again = parse(alloc, &buffer[..length])?;
+            Ok(Some(again))
+        }
+        Err(_) => Ok(None),
+    }
 }
