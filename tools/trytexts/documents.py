@@ -1,6 +1,8 @@
 """Random token documents, their texts, and texts that differ a little. One seed makes the same ones each time."""
+import itertools
 import random
 
+import values
 from model import DEEPEST, Block, plain, pretty, quoted
 
 LETTERS = "abcxyzABCXYZ0189_-"
@@ -117,8 +119,10 @@ class Maker:
     def whole_text(self):
         """The plain or the pretty text of a document, which can be too deep."""
         form = self.random.random()
-        if form < 0.7:
+        if form < 0.5:
             document = self.document(self.random.choice((1, 1, 2, 2, 3, 3, 4)))
+        elif form < 0.7:
+            document = values.made(self.random)
         elif form < 0.8:
             document = self.wide()
         elif form < 0.88:
@@ -193,6 +197,9 @@ def beginnings():
     """Texts that come first with every seed: each shape at each limit."""
     maker = Maker(0)
     yield from (b"", b"\n", b"()", b"[]", b"{}", b'""', b"''", b"x\n")
+    for document in itertools.chain(values.beginnings(), (values.made(maker.random) for _ in range(150))):
+        yield plain(document).encode()
+        yield pretty(document).encode()
     for depth in (DEEPEST - 1, DEEPEST, DEEPEST + 1):
         for place in PLACES:
             document = "x"

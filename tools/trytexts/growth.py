@@ -8,6 +8,7 @@ from model import Block, plain, pretty, quoted
 SIZE = 64 * 1024
 # Without valgrind, a run that grows in another order takes longer than this.
 SECONDS = 20
+TREE = Block("struct", "Tree", [("size", "1"), ("children", Block("list", "", []))])
 PLACES = ("list", "set", "key", "value", "struct", "tuple", "unnamed")
 
 
@@ -41,6 +42,11 @@ def wide(place, value, factor):
     return Block(block.kind, block.name, block.entries * max(count, 2))
 
 
+def ordered(factor):
+    """A map whose keys ascend."""
+    return Block("map", "", [(quoted("%06d" % number), Block("tuple", "Some", [(None, "7")])) for number in range(SIZE * factor // 19)])
+
+
 def documents():
     """Each shape by its name, with a call that makes the document, of one size or of twice that."""
     shapes = {
@@ -50,6 +56,9 @@ def documents():
         "a text of long escapes": lambda factor: quoted("\x1b" * (SIZE * factor // 6)),
         "a text past ASCII": lambda factor: quoted("\u20ac" * (SIZE * factor // 3)),
     }
+    shapes["a wide list of numbers"] = lambda factor: wide("list", "18446744073709551615", factor)
+    shapes["a wide map of keys in order"] = ordered
+    shapes["a wide list of trees"] = lambda factor: wide("list", TREE, factor)
     for place in PLACES:
         shapes["a wide " + place] = lambda factor, place=place: wide(place, "x", factor)
         shapes["a wide %s of blocks" % place] = lambda factor, place=place: wide(place, Block("list", "", [(None, "'\\n'")]), factor)

@@ -4,7 +4,6 @@ A document is a leaf, which is a str, or a Block. Documents here are in normal f
 has a field, and a set has an entry.
 """
 import re
-import zlib
 from typing import NamedTuple
 
 # How deep blocks with entries are nested at most.
@@ -322,71 +321,3 @@ def depth_of(document):
     if document.kind == "map":
         depths += [depth_of(key) for key, _value in document.entries]
     return 1 + max(depths)
-
-
-def digest(text):
-    text = text.encode()
-    adler = zlib.adler32(text)
-    return "%d %d %d" % (len(text), adler >> 16, adler & 0xFFFF)
-
-
-def joined(add, document):
-    out = []
-    add(document, out)
-    return "".join(out)
-
-
-def half(document, converted):
-    if document is None:
-        return "no text"
-    return "events %s, converted %s, parts %s, in a list %s" % (
-        digest(joined(events, document)),
-        digest(converted(document)),
-        digest(joined(parts, document)),
-        "yes" if depth_of(document) < DEEPEST else "no",
-    )
-
-
-def leaf_verdict(text):
-    is_name = bool(WORD.fullmatch(text))
-    found = leaf_at(text, 0)
-    return "token %s, name %s, quoted %s, characters %s" % (
-        "yes" if found is not None and found[1] == len(text) else "no",
-        "yes" if is_name else "no",
-        digest(quoted(text)),
-        digest("".join(quoted(character, "'") for character in text[:64])),
-    )
-
-
-def verdict(data):
-    """The line that the program prints of these bytes."""
-    try:
-        text = data.decode()
-    except UnicodeDecodeError:
-        return "plain: no text; pretty: no text; leaf: no UTF-8"
-    return "plain: %s; pretty: %s; leaf: %s" % (
-        half(PlainReader().read(text), pretty),
-        half(PrettyReader().read(text), plain),
-        leaf_verdict(text),
-    )
-
-
-def answer(command, data):
-    """The status, standard output and standard error of ufmt_conv."""
-    if command == "lengths":
-        lines = data.split(b"\n")
-        if lines[-1] == b"":
-            lines.pop()
-        return 0, "[%s]\n" % ", ".join(str(len(line)) for line in lines), ""
-    try:
-        text = data.decode().removesuffix("\n")
-    except UnicodeDecodeError:
-        text = None
-    reader, convert, name = {
-        "pretty": (PlainReader(), pretty, "plain"),
-        "plain": (PrettyReader(), plain, "pretty"),
-    }[command]
-    document = None if text is None else reader.read(text)
-    if document is None:
-        return 1, "", "ufmt_conv: not a %s text\n" % name
-    return 0, convert(document) + "\n", ""

@@ -1,5 +1,5 @@
 -- A cursor that fills its buffer is a lawful writer.
-use Rattle.std.proofs.Common.{◌≡◌, ℕ, ◌+◌, List, [], ◌∷◌, length, drop, true, refl, sym, ap, ap₂, ◌∙◌, length-append, length-drop, drop-drop, arith}
+use Rattle.std.proofs.Common.{◌≡◌, ℕ, ◌+◌, List, [], ◌∷◌, length, drop, true, refl, sym, ap, ap₂, ◌∙◌, length-append, length-drop, drop-drop, true≢false, arith}
 use Rattle.std.proofs.lemmas.List.{length-take-le}
 use Rattle.ufmt_core.specs.Writes.{Writes}
 use Rattle.ufmt.specs.declared.cursor.Cursor.{Cursor}
@@ -18,6 +18,7 @@ Writes-filled old new piece f name =
       appended = λ _. written;
       fits = λ _. refl;
       room_left = λ _. omega (arith, ap length unwritten, length-drop (length piece) (unwritten_bytes old));
+      has_failed = λ no. absurd (true≢false no);
       same_identity = ap₂ (λ n l. n ∷ l ∷ []) name f.same_length;
       untouched = λ _. rw (length-written_bytes new)
           (unwritten ∙ drop-drop (length piece) old.count old.buffer.now ∙ ap (λ k. drop k old.buffer.now) (sym count));

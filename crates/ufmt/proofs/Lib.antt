@@ -1,9 +1,15 @@
+pub mod AsciiDumps
 pub mod BlocksComplete
 pub mod BlocksSound
+pub mod Columns
 pub mod Cursors
+pub mod FittingParts
 pub mod FramesClose
+pub mod DumpRows
+pub mod Dumps
 pub mod Fronts
 pub mod HexadecimalTexts
+pub mod LeftToWrite
 pub mod Lines
 pub mod ListedDocuments
 pub mod NormalForms
@@ -27,8 +33,10 @@ pub mod Shifting
 pub mod TextsBegin
 pub mod TokenLeaves
 pub mod TokenLines
+pub mod Truncations
 pub mod Unquoted
 pub mod ReadingWords
+pub mod WorkedColumns
 pub mod WorkedReadings
 pub mod WorkedShifts
 pub mod WorkedTokens

@@ -17,7 +17,8 @@ quoted_ends_itself x y u v quoted_x quoted_y same =
 pub quoted_text_is_no_char : QuotedTextIsNoChar
 quoted_text_is_no_char cs c u v same = omega (arith, ap (λ (t : List ℕ). get_or t 0 0) same)
 
-characters_determined : (q : ℕ) (cs ds : List ℕ) → IsQuote q → quoted q cs ≡ quoted q ds → cs ≡ ds
+-- what is between two quotes that are alike is determined
+pub characters_determined : (q : ℕ) (cs ds : List ℕ) → IsQuote q → quoted q cs ≡ quoted q ds → cs ≡ ds
 characters_determined q cs ds quote same =
     let bytes = encode_utf8_all cs in
     let others = encode_utf8_all ds in

@@ -28,6 +28,7 @@ cursor_seen = record {
   told = λ c. ⊤;
   text = written_bytes;
   room = remaining_count;
+  failed = λ c. ⊤;
   identity = λ c. buffer_name c ∷ buffer_length c ∷ [];
   store = λ c. c.buffer.now;
 }

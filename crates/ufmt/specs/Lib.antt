@@ -1,5 +1,8 @@
 pub mod Buffer
+pub mod Column
 pub mod Cursor
+pub mod Cut
+pub mod Dump
 pub mod Hex
 pub mod NormalFormLaws
 pub mod Parse
@@ -11,6 +14,7 @@ pub mod ReadingQuoted
 pub mod Shift
 pub mod ShiftLaws
 pub mod Token
+pub mod Truncating
 pub mod UnquotedLaws
 pub use Rattle.ufmt_core.specs.Block
 pub use Rattle.ufmt_core.specs.Builder

@@ -4,13 +4,16 @@ use Rattle.ufmt_core.specs.declared.layout.Mode.TheVariants.{Plain, Pretty}
 use Rattle.ufmt_core.specs.declared.layout.Setting.{Setting}
 use Rattle.ufmt_core.specs.Document.{Document}
 use Rattle.ufmt_core.specs.Layout.{layout, setting}
+use Rattle.ufmt.specs.declared.column.Column.{Column}
+use Rattle.ufmt.specs.Column.{in_column}
 
--- a piece is a text, a value's document (in the formatter's mode or in pretty mode) or a hexadecimal text
+-- a piece is a text, a value's document (in the formatter's mode or in pretty mode), a hexadecimal text, or a text in a column, by mode and depth
 pub data Piece : Type 0 where
   text : List ℕ → Piece
   shown : Document → Piece
   pretty : Document → Piece
   hex : List ℕ → Piece
+  aligned : Column → (Setting → List ℕ) → Piece
 
 -- what a piece prints at this mode and depth
 abbrev pub piece_text : Setting → Piece → List ℕ
@@ -18,11 +21,16 @@ piece_text s (text bytes) = bytes
 piece_text s (shown d) = layout s d
 piece_text s (pretty d) = layout (setting Pretty s.depth) d
 piece_text s (hex bytes) = bytes
+piece_text s (aligned c bytes) = in_column c (bytes s)
 
 -- what pieces print, one after the other
 abbrev pub pieces_text : Setting → List Piece → List ℕ
 pieces_text s [] = []
 pieces_text s (p ∷ ps) = piece_text s p ++ pieces_text s ps
+
+-- pieces in a column, as one
+abbrev pub column : Column → List Piece → Piece
+column c ps = aligned c (λ s. pieces_text s ps)
 
 -- what pieces print in plain mode, outside every block
 abbrev pub line_text : List Piece → List ℕ

@@ -78,7 +78,7 @@ impl uWrite for Cursor<'_> {
 
 // Writes the bytes to the buffer, from `start` on.
 #[inline(always)]
-fn put(bytes: &[u8], buffer: &mut [u8], start: usize)
+pub(crate) fn put(bytes: &[u8], buffer: &mut [u8], start: usize)
     requires { start + length bytes.now ≤ length buffer.old }
     ensures written { take (start + length bytes.now) buffer.new
         ≡ take start buffer.old ++ bytes.now }

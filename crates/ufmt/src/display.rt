@@ -3,10 +3,12 @@ ghost use Rattle.std.specs.Prelude.{encode_utf8, is_ok, string_bytes};
 ghost use Rattle.ufmt_core.specs.Document.{Document, leaf};
 ghost use Rattle.ufmt_core.specs.Formatter.{LaysOut};
 
+mod wrappers;
+
 use std::alloc::Allocator;
 use std::num::{
-    NonZeroI8, NonZeroI16, NonZeroI32, NonZeroI64, NonZeroIsize, NonZeroU8, NonZeroU16, NonZeroU32,
-    NonZeroU64, NonZeroUsize,
+    NonZeroI8, NonZeroI16, NonZeroI32, NonZeroI64, NonZeroI128, NonZeroIsize, NonZeroU8,
+    NonZeroU16, NonZeroU32, NonZeroU64, NonZeroU128, NonZeroUsize,
 };
 use ufmt_core::{Formatter, uDebug, uWrite};
 
@@ -205,6 +207,14 @@ impl uDisplay for NonZeroU64 {
     }
 }
 
+impl uDisplay for NonZeroU128 {
+    ghost display = { ⟦<NonZeroU128 as uDebug>⟧.document };
+
+    fn fmt<W: uWrite>(&self, f: &mut Formatter<W>) -> Result<(), W::Error> {
+        uDebug::fmt(self, f)
+    }
+}
+
 impl uDisplay for NonZeroUsize {
     ghost display = { ⟦<NonZeroUsize as uDebug>⟧.document };
 
@@ -239,6 +249,14 @@ impl uDisplay for NonZeroI32 {
 
 impl uDisplay for NonZeroI64 {
     ghost display = { ⟦<NonZeroI64 as uDebug>⟧.document };
+
+    fn fmt<W: uWrite>(&self, f: &mut Formatter<W>) -> Result<(), W::Error> {
+        uDebug::fmt(self, f)
+    }
+}
+
+impl uDisplay for NonZeroI128 {
+    ghost display = { ⟦<NonZeroI128 as uDebug>⟧.document };
 
     fn fmt<W: uWrite>(&self, f: &mut Formatter<W>) -> Result<(), W::Error> {
         uDebug::fmt(self, f)

@@ -4,8 +4,10 @@ ghost use Rattle.ufmt_core.specs.Formatter.{Prints};
 ghost use Rattle.ufmt.specs.declared.hex.HexOptions.{HexOptions};
 ghost use Rattle.ufmt.specs.Hex.{prefix_of, pads_first, padded, padded_hexadecimal};
 
-mod digits;
+pub(crate) mod digits;
 mod integers;
+mod nonzero;
+mod wrappers;
 
 use ufmt_core::{Formatter, uWrite};
 

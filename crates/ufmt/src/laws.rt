@@ -2,12 +2,20 @@
 ghost use Rattle.std.specs.Prelude.{[], ◌∷◌, is_ok, ◌≡◌, ◌<◌, ◌≤◌, ◌↔◌, ◌++◌, ℕ, ℤ, List, String, Box, length, drop, map, encode_utf8, string_bytes, IsOk, OnOk, OnErr};
 ghost use Rattle.ufmt_core.specs.Decimal.{decimal};
 ghost use Rattle.ufmt_core.specs.Document.{leaf};
+ghost use Rattle.std.specs.Arc.{arc_str_bytes, arc_value};
 ghost use Rattle.std.specs.Borrow.{Bor, MutBor};
+ghost use Rattle.std.specs.Box.{boxed_str_bytes};
+ghost use Rattle.std.specs.Cow.{cow_str_bytes, cow_value};
 ghost use Rattle.std.specs.Int.{w8, w16, w32, w64, w128};
+ghost use Rattle.std.specs.Int.NonZero.{non_zero_u8_get, non_zero_u16_get, non_zero_u32_get, non_zero_u64_get, non_zero_u128_get, non_zero_usize_get, non_zero_i8_get, non_zero_i16_get, non_zero_i32_get, non_zero_i64_get, non_zero_i128_get, non_zero_isize_get};
+ghost use Rattle.std.specs.Rc.{rc_str_bytes};
+ghost use Rattle.std.specs.RefCell.{ref_mut_value, ref_value};
 ghost use Rattle.ufmt_core.specs.Formatter.{Prints, setting_of};
-ghost use Rattle.ufmt.specs.Pieces.{hex, pieces_text, pretty, separated, shown, text};
+ghost use Rattle.ufmt.specs.Column.{ColumnsAreFilled};
+ghost use Rattle.ufmt.specs.Pieces.{column, hex, pieces_text, pretty, separated, shown, text};
 ghost use Rattle.ufmt.specs.declared.hex.HexOptions.{HexOptions};
 ghost use Rattle.ufmt.specs.Hex.{EachNumberIsDenoted, OneTextDenotes, OneNumberIsDenoted, IsPadded, PrintsHexadecimal, PrintsBits, padded};
+ghost use Rattle.ufmt.specs.Dump.{DigitsHaveTheirWidth, DumpHasEachByte};
 ghost use Rattle.ufmt.specs.NormalFormLaws.{NormalFormsAreNormal, NormalFormsKeepTexts, NormalFormsKeepTokens};
 ghost use Rattle.ufmt.specs.Token.{IsWord};
 ghost use Rattle.ufmt.specs.QuotedLaws.{QuotedCharDetermines, QuotedEndsItself, QuotedIsNoOtherLeaf, QuotedIsOneLine, QuotedTextIsNoChar, QuotedTextDetermines, ReadsEachQuoted, ReadsOnlyQuoted};
@@ -16,20 +24,27 @@ ghost use Rattle.ufmt.specs.ReadingLaws.{ReadsEachText, ReadsOnlyTexts, RefusesN
 ghost use Rattle.ufmt.specs.ReadingLaws.{PlainReadsOneWay, PlainTextDetermines, PrettyReadsOneWay, PrettyTextDetermines, TextsAgree};
 ghost use Rattle.ufmt.specs.UnquotedLaws.{UnquotedAsBefore};
 
+use crate::column::Column;
 use crate::cursor::{Cursor, Full};
 use crate::display::uDisplay;
 use crate::hex::{HexOptions, uDisplayHex};
 use crate::line::Line;
 use crate::{pieces, uwrite};
 use std::alloc::Allocator;
+use std::borrow::{Cow, CowStr};
+use std::boxed::BoxedStr;
+use std::cell::{Ref, RefMut};
 use std::num::{
-    NonZeroI8, NonZeroI16, NonZeroI32, NonZeroI64, NonZeroIsize, NonZeroU8, NonZeroU16, NonZeroU32,
-    NonZeroU64, NonZeroUsize,
+    NonZeroI8, NonZeroI16, NonZeroI32, NonZeroI64, NonZeroI128, NonZeroIsize, NonZeroU8,
+    NonZeroU16, NonZeroU32, NonZeroU64, NonZeroU128, NonZeroUsize, Saturating, Wrapping,
 };
+use std::rc::{Rc, RcStr};
+use std::sync::{Arc, ArcStr};
 pub use ufmt_core::laws::{
-    blocks_are_their_parts, documents_of_collections, documents_of_leaves,
+    blocks_are_their_parts, documents_of_cell_values, documents_of_collections,
+    documents_of_leaves, documents_of_ranges, documents_of_shared_values,
     documents_of_sorted_collections, documents_of_texts, documents_of_tuples,
-    references_print_what_they_refer_to,
+    documents_of_unsorted_collections, documents_of_wrappers, references_print_what_they_refer_to,
 };
 use ufmt_core::{Formatter, uDebug, uWrite};
 
@@ -50,6 +65,13 @@ pub fn hexadecimal_is_one_text()
     ensures denoted { EachNumberIsDenoted }
     ensures one_text { OneTextDenotes }
     ensures one_number { OneNumberIsDenoted }
+{}
+
+/// The rows of a dump joined are its bytes, and each has as many as asked, but for the last. The digits of a
+/// row are as wide as is said of them, so the texts of all rows begin in one column.
+pub fn dump_rows_have_each_byte()
+    ensures rows { DumpHasEachByte }
+    ensures width { DigitsHaveTheirWidth }
 {}
 
 /// A padded text is as long as `pad_length`, or as prefix and payload if these are longer. All its other
@@ -110,6 +132,8 @@ pub fn both_traits_print_one_text()
         ⟦<NonZeroU32 as uDebug>⟧.document }
     ensures of_nonzero_u64 { ⟦<NonZeroU64 as uDisplay>⟧.display ≡
         ⟦<NonZeroU64 as uDebug>⟧.document }
+    ensures of_nonzero_u128 { ⟦<NonZeroU128 as uDisplay>⟧.display ≡
+        ⟦<NonZeroU128 as uDebug>⟧.document }
     ensures of_nonzero_usize { ⟦<NonZeroUsize as uDisplay>⟧.display ≡
         ⟦<NonZeroUsize as uDebug>⟧.document }
     ensures of_nonzero_i8 { ⟦<NonZeroI8 as uDisplay>⟧.display ≡ ⟦<NonZeroI8 as uDebug>⟧.document }
@@ -119,6 +143,8 @@ pub fn both_traits_print_one_text()
         ⟦<NonZeroI32 as uDebug>⟧.document }
     ensures of_nonzero_i64 { ⟦<NonZeroI64 as uDisplay>⟧.display ≡
         ⟦<NonZeroI64 as uDebug>⟧.document }
+    ensures of_nonzero_i128 { ⟦<NonZeroI128 as uDisplay>⟧.display ≡
+        ⟦<NonZeroI128 as uDebug>⟧.document }
     ensures of_nonzero_isize { ⟦<NonZeroIsize as uDisplay>⟧.display ≡
         ⟦<NonZeroIsize as uDebug>⟧.document }
     ensures of_bool { ⟦<bool as uDisplay>⟧.display ≡ ⟦<bool as uDebug>⟧.document }
@@ -132,9 +158,60 @@ pub fn references_display_what_they_refer_to<T: uDisplay, A: Allocator>()
     ensures display_box { (x : Box T A) → ⟦<Box<T, A> as uDisplay>⟧.display x ≡ T.display x.value }
 {}
 
-/// A reference prints the hexadecimal text of the value that it refers to.
+/// A value that is shared, lent by a cell, or borrowed until it is written to is displayed as the value,
+/// and so is a number whose operators wrap or saturate. Such a text is displayed as it is.
+pub fn wrappers_display_what_they_hold<T: uDisplay, A: Allocator>()
+    ensures of_rc { ⟦<Rc<T, A> as uDisplay>⟧.display ≡ (λ x. T.display x.value) }
+    ensures of_arc { ⟦<Arc<T, A> as uDisplay>⟧.display ≡ (λ x. T.display (arc_value x)) }
+    ensures of_cow { ⟦<Cow<'static, T> as uDisplay>⟧.display ≡ (λ x. T.display (cow_value x)) }
+    ensures of_ref { ⟦<Ref<'static, T> as uDisplay>⟧.display ≡ (λ x. T.display (ref_value x)) }
+    ensures of_ref_mut { ⟦<RefMut<'static, T> as uDisplay>⟧.display ≡
+        (λ x. T.display (ref_mut_value x)) }
+    ensures of_wrapping { ⟦<Wrapping<T> as uDisplay>⟧.display ≡ (λ x. T.display x.0) }
+    ensures of_saturating { ⟦<Saturating<T> as uDisplay>⟧.display ≡ (λ x. T.display x.0) }
+    ensures of_rc_str { ⟦<RcStr<A> as uDisplay>⟧.display ≡ (λ s. leaf (rc_str_bytes s)) }
+    ensures of_arc_str { ⟦<ArcStr<A> as uDisplay>⟧.display ≡ (λ s. leaf (arc_str_bytes s)) }
+    ensures of_cow_str { ⟦<CowStr<'static, A> as uDisplay>⟧.display ≡
+        (λ s. leaf (cow_str_bytes s)) }
+    ensures of_boxed_str { ⟦<BoxedStr<A> as uDisplay>⟧.display ≡ (λ s. leaf (boxed_str_bytes s)) }
+{}
+
+/// A nonzero number prints the hexadecimal text of the number in it.
+pub fn nonzero_prints_one_hexadecimal_text()
+    ensures of_u8 { (x : NonZeroU8) → ⟦<NonZeroU8 as uDisplayHex>⟧.hex_text x ≡
+        ⟦<u8 as uDisplayHex>⟧.hex_text (non_zero_u8_get x) }
+    ensures of_u16 { (x : NonZeroU16) → ⟦<NonZeroU16 as uDisplayHex>⟧.hex_text x ≡
+        ⟦<u16 as uDisplayHex>⟧.hex_text (non_zero_u16_get x) }
+    ensures of_u32 { (x : NonZeroU32) → ⟦<NonZeroU32 as uDisplayHex>⟧.hex_text x ≡
+        ⟦<u32 as uDisplayHex>⟧.hex_text (non_zero_u32_get x) }
+    ensures of_u64 { (x : NonZeroU64) → ⟦<NonZeroU64 as uDisplayHex>⟧.hex_text x ≡
+        ⟦<u64 as uDisplayHex>⟧.hex_text (non_zero_u64_get x) }
+    ensures of_u128 { (x : NonZeroU128) → ⟦<NonZeroU128 as uDisplayHex>⟧.hex_text x ≡
+        ⟦<u128 as uDisplayHex>⟧.hex_text (non_zero_u128_get x) }
+    ensures of_usize { (x : NonZeroUsize) → ⟦<NonZeroUsize as uDisplayHex>⟧.hex_text x ≡
+        ⟦<usize as uDisplayHex>⟧.hex_text (non_zero_usize_get x) }
+    ensures of_i8 { (x : NonZeroI8) → ⟦<NonZeroI8 as uDisplayHex>⟧.hex_text x ≡
+        ⟦<i8 as uDisplayHex>⟧.hex_text (non_zero_i8_get x) }
+    ensures of_i16 { (x : NonZeroI16) → ⟦<NonZeroI16 as uDisplayHex>⟧.hex_text x ≡
+        ⟦<i16 as uDisplayHex>⟧.hex_text (non_zero_i16_get x) }
+    ensures of_i32 { (x : NonZeroI32) → ⟦<NonZeroI32 as uDisplayHex>⟧.hex_text x ≡
+        ⟦<i32 as uDisplayHex>⟧.hex_text (non_zero_i32_get x) }
+    ensures of_i64 { (x : NonZeroI64) → ⟦<NonZeroI64 as uDisplayHex>⟧.hex_text x ≡
+        ⟦<i64 as uDisplayHex>⟧.hex_text (non_zero_i64_get x) }
+    ensures of_i128 { (x : NonZeroI128) → ⟦<NonZeroI128 as uDisplayHex>⟧.hex_text x ≡
+        ⟦<i128 as uDisplayHex>⟧.hex_text (non_zero_i128_get x) }
+    ensures of_isize { (x : NonZeroIsize) → ⟦<NonZeroIsize as uDisplayHex>⟧.hex_text x ≡
+        ⟦<isize as uDisplayHex>⟧.hex_text (non_zero_isize_get x) }
+{}
+
+/// A reference prints the hexadecimal text of the value that it refers to, and so does a number whose
+/// operators wrap or saturate.
 pub fn references_print_one_hexadecimal_text<T: uDisplayHex>()
-    ensures { (x : Bor T) → ⟦<&'static T as uDisplayHex>⟧.hex_text x ≡ T.hex_text x.now }
+    ensures of_ref { (x : Bor T) → ⟦<&'static T as uDisplayHex>⟧.hex_text x ≡ T.hex_text x.now }
+    ensures of_ref_mut { (x : MutBor T) → ⟦<&'static mut T as uDisplayHex>⟧.hex_text x ≡
+        T.hex_text x.now }
+    ensures of_wrapping { ⟦<Wrapping<T> as uDisplayHex>⟧.hex_text ≡ (λ x. T.hex_text x.0) }
+    ensures of_saturating { ⟦<Saturating<T> as uDisplayHex>⟧.hex_text ≡ (λ x. T.hex_text x.0) }
 {}
 
 /// `()` is the line without a piece, and a pair of lines has the pieces of both, in order.
@@ -199,6 +276,68 @@ pub fn line_of_all_pieces<W: uWrite, A: uDisplay, B: uDebug, C: uDebug, N: uDisp
     )
     .print(f)
 }
+
+/// Writes `uwrite!(f, display a in within, debug b in within, pretty c in within, hex n with options in
+/// within)`, a piece of each kind in a column.
+pub fn all_columns<W: uWrite, A: uDisplay, B: uDebug, C: uDebug, N: uDisplayHex>(
+    f: &mut Formatter<W>,
+    a: &A,
+    b: &B,
+    c: &C,
+    n: &N,
+    options: HexOptions,
+    within: Column,
+) -> Result<(), W::Error>
+    requires { options.pad_char < 128 }
+    ensures { Prints W.seen f.old
+        (pieces_text (setting_of f.old)
+        (column within (shown (A.display a.now) ∷ []) ∷ column within (shown (B.document b.now) ∷ [])
+        ∷ column within (pretty (C.document c.now) ∷ [])
+        ∷ column within (hex (N.hex_text n.now options) ∷ []) ∷ []))
+        (is_ok result) f.new }
+{
+    uwrite!(
+        f, display a in within, debug b in within, pretty c in within,
+        hex n with options in within
+    )
+}
+
+/// Writes `pieces!(display a in within, debug b in within, pretty c in within, hex n with options in
+/// within, each debug bs in within between t, each hex ns with options in within between t)`.
+pub fn line_of_all_columns<W: uWrite, A: uDisplay, B: uDebug, C: uDebug, N: uDisplayHex>(
+    f: &mut Formatter<W>,
+    t: &str,
+    a: &A,
+    b: &B,
+    c: &C,
+    n: &N,
+    bs: &[B],
+    ns: &[N],
+    options: HexOptions,
+    within: Column,
+) -> Result<(), W::Error>
+    requires { options.pad_char < 128 }
+    ensures { Prints W.seen f.old
+        (pieces_text (setting_of f.old)
+        (column within (shown (A.display a.now) ∷ []) ∷ column within (shown (B.document b.now) ∷ [])
+        ∷ column within (pretty (C.document c.now) ∷ [])
+        ∷ column within (hex (N.hex_text n.now options) ∷ [])
+        ∷ (separated t.now (map (λ x. column within (shown (B.document x) ∷ []) ∷ []) bs.now)
+        ++ separated t.now (map (λ x. column within (hex (N.hex_text x options) ∷ []) ∷ []) ns.now))))
+        (is_ok result) f.new }
+{
+    pieces!(
+        display a in within, debug b in within, pretty c in within, hex n with options in within,
+        each debug bs in within between t, each hex ns with options in within between t
+    )
+    .print(f)
+}
+
+/// A text in a column has as many characters as the column is wide, or its own number if that is more.
+#[tactic(auto, using(crate::proofs::Columns::columns_are_filled))]
+pub fn columns_are_filled()
+    ensures { ColumnsAreFilled }
+{}
 
 /// The normal form of a document is in normal form, and has the document's text in each mode and from
 /// each depth. It is a token document if the document is one.

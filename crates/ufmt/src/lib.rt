@@ -2,24 +2,33 @@
 
 //! Formatting without `core::fmt`. A user names this crate only: it has all of `ufmt_core` too.
 
+mod column;
 mod cursor;
+mod cut;
 mod display;
+mod dump;
 mod fields;
+mod ghost_text;
 mod hex;
 pub mod laws;
 pub mod line;
 mod print;
+mod truncating;
 mod uwrite;
 
+pub use column::{Align, Column};
 pub use cursor::{Cursor, Full};
+pub use cut::{Cut, debug_cut_into, display_cut_into, line_cut_into, pretty_cut_into};
 pub use display::uDisplay;
+pub use dump::{HexDump, hex_dump_into, write_hex_dump};
 pub use hex::{HexOptions, uDisplayHex};
 pub use line::Line;
 pub use print::{
     debug_into, display_into, fmt_pretty, line_into, plain_text, pretty_into, pretty_text,
     write_debug, write_display, write_line, write_pretty,
 };
+pub use truncating::Truncating;
 pub use ufmt_core::{
     DebugList, DebugMap, DebugSet, DebugStruct, DebugTuple, Formatter, NamedFields, UnnamedFields,
-    ascii, layout, quoted, uDebug, uWrite, unsigned,
+    ascii, cells, layout, quoted, uDebug, uWrite, unsigned,
 };

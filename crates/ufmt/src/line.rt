@@ -3,8 +3,10 @@ ghost use Rattle.std.specs.Prelude.{[], ◌∷◌, ◌++◌, List, map, is_ok};
 ghost use Rattle.ufmt_core.specs.Formatter.{Prints, setting_of};
 ghost use Rattle.ufmt.specs.Pieces.{Piece, pieces_text, preceded, separated, text};
 
+mod column;
 mod marks;
 
+pub use column::InColumn;
 pub use marks::{Debug, Display, Hex, Mark, Marked, Pretty};
 use ufmt_core::{Formatter, uWrite};
 
@@ -95,9 +97,10 @@ impl<T, M: Mark<T>> Each<'_, T, M> {
 /// Makes a line of pieces, as one value: `line_into(buffer, &pieces!(text "n = ", debug n))?`.
 ///
 /// A piece is `text e` for a `&str`, or `display e`, `debug e`, `pretty e` or `hex e with options` for a
-/// value. The items of a slice are `each debug e between s`, `each hex e with options between s` or
-/// `each e by mark between s`; `s` is a `&str`, and `mark` a `Mark` of your own. An expression before
-/// `with`, `by` or `between` is a name, a literal, or in parentheses.
+/// value, each of which may be followed by `in column`. The items of a slice are `each debug e between s`,
+/// `each hex e with options between s` or `each e by mark between s`; `s` is a `&str`, and `mark` a `Mark`
+/// of your own. An expression before `with`, `in`, `by` or `between` is a name, a literal, or in
+/// parentheses.
 ///
 /// Each value is evaluated once and in order, before the first piece is written. `uwrite!` evaluates a
 /// value after the piece before it is written.
@@ -107,11 +110,23 @@ macro_rules! pieces {
     (text $text:expr $(, $($rest:tt)*)?) => {
         $crate::piece_chain!($crate::line::Text($text); $($($rest)*)?)
     };
+    (hex $value:tt with $options:tt in $column:expr $(, $($rest:tt)*)?) => {
+        $crate::piece_chain!($crate::line::Marked { value: &$value, mark: $crate::piece_mark!(hex $options in $column) }; $($($rest)*)?)
+    };
     (hex $value:tt with $options:expr $(, $($rest:tt)*)?) => {
         $crate::piece_chain!($crate::line::Marked { value: &$value, mark: $crate::piece_mark!(hex $options) }; $($($rest)*)?)
     };
+    ($kind:ident $value:tt in $column:expr $(, $($rest:tt)*)?) => {
+        $crate::piece_chain!($crate::line::Marked { value: &$value, mark: $crate::piece_mark!($kind in $column) }; $($($rest)*)?)
+    };
+    (each hex $items:tt with $options:tt in $column:tt between $between:expr $(, $($rest:tt)*)?) => {
+        $crate::piece_chain!($crate::line::Each { items: &$items, mark: $crate::piece_mark!(hex $options in $column), between: $between }; $($($rest)*)?)
+    };
     (each hex $items:tt with $options:tt between $between:expr $(, $($rest:tt)*)?) => {
         $crate::piece_chain!($crate::line::Each { items: &$items, mark: $crate::piece_mark!(hex $options), between: $between }; $($($rest)*)?)
+    };
+    (each $kind:ident $items:tt in $column:tt between $between:expr $(, $($rest:tt)*)?) => {
+        $crate::piece_chain!($crate::line::Each { items: &$items, mark: $crate::piece_mark!($kind in $column), between: $between }; $($($rest)*)?)
     };
     (each $kind:ident $items:tt between $between:expr $(, $($rest:tt)*)?) => {
         $crate::piece_chain!($crate::line::Each { items: &$items, mark: $crate::piece_mark!($kind), between: $between }; $($($rest)*)?)
@@ -123,7 +138,7 @@ macro_rules! pieces {
         $crate::piece_chain!($crate::line::Marked { value: &$value, mark: $crate::piece_mark!($kind) }; $($($rest)*)?)
     };
     ($($other:tt)*) => {
-        compile_error!("expected pieces: `text e`, `display e`, `debug e`, `pretty e`, `hex e with options`, `each debug e between s`, `each hex e with options between s` or `each e by mark between s`, with commas between them")
+        compile_error!("expected pieces with commas between them: `text e`; `display e`, `debug e`, `pretty e` or `hex e with options`, with or without `in column`; `each debug e between s`, `each hex e with options between s` or `each e by mark between s`. Before `with`, `in`, `by` and `between`, `e` is a name, a literal or in parentheses")
     };
 }
 
@@ -140,8 +155,14 @@ macro_rules! piece_mark {
     (display) => { $crate::line::Display };
     (debug) => { $crate::line::Debug };
     (pretty) => { $crate::line::Pretty };
+    (hex $options:tt in $column:expr) => {
+        $crate::line::InColumn { mark: $crate::piece_mark!(hex $options), column: $column }
+    };
     (hex $options:expr) => { $crate::line::Hex { options: $options } };
+    ($kind:ident in $column:expr) => {
+        $crate::line::InColumn { mark: $crate::piece_mark!($kind), column: $column }
+    };
     ($($other:tt)*) => {
-        compile_error!("expected a piece: `text e`, `display e`, `debug e`, `pretty e`, `hex e with options`, `each debug e between s`, `each hex e with options between s` or `each e by mark between s`")
+        compile_error!("expected pieces with commas between them: `text e`; `display e`, `debug e`, `pretty e` or `hex e with options`, with or without `in column`; `each debug e between s`, `each hex e with options between s` or `each e by mark between s`. Before `with`, `in`, `by` and `between`, `e` is a name, a literal or in parentheses")
     };
 }

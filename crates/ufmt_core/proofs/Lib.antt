@@ -3,6 +3,7 @@ pub mod Counts
 pub mod DecimalTexts
 pub mod Indentation
 pub mod Items
+pub mod Joined
 pub mod LastDigits
 pub mod NumeralTexts
 pub mod Numerals

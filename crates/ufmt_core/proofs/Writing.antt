@@ -1,5 +1,5 @@
 -- Calls in a row write their texts joined, or, if one fails, a beginning of that.
-use Rattle.std.proofs.Common.{◌≡◌, ℕ, ◌+◌, ◌-◌, ◌≤◌, List, [], ◌++◌, length, drop, Bool, true, false, is_ok, Result, Ok, Err, refl, ap, sym, ◌∙◌, subst, append_assoc, append-nil, length-append, arith}
+use Rattle.std.proofs.Common.{◌≡◌, ℕ, ◌+◌, ◌-◌, ◌≤◌, List, [], ◌++◌, length, drop, Bool, true, false, is_ok, Result, Ok, Err, refl, ap, sym, ◌∙◌, subst, append_assoc, append-nil, length-append, true≢false, arith}
 use Rattle.std.proofs.lemmas.List.{drop-drop}
 use Rattle.std.specs.Prelude.{IsErr}
 use Rattle.ufmt_core.specs.Document.{Document}
@@ -50,6 +50,7 @@ module _ {W : Type 0} {seen : Seen W} where
       a.room_left (omega (arith, length-append p q)),
       b.room_left (omega (arith, length-append p q, a.room_left (omega (arith, length-append p q)))),
     );
+    has_failed = b.has_failed;
     same_identity = b.same_identity ∙ a.same_identity;
     untouched = λ t. b.untouched (a.stays_told t) ∙ drop-further _ _ _ _ (Appended-grows ok _ q _ (b.appended (a.stays_told t))) (a.untouched t);
   }
@@ -61,6 +62,7 @@ module _ {W : Type 0} {seen : Seen W} where
     appended = λ t. Appended-fails _ p q _ (a.appended t);
     fits = λ h. a.fits (omega (arith, length-append p q));
     room_left = λ h. omega (arith, length-append p q, a.room_left (omega (arith, length-append p q)));
+    has_failed = a.has_failed;
     same_identity = a.same_identity;
     untouched = a.untouched;
   }
@@ -72,6 +74,7 @@ module _ {W : Type 0} {seen : Seen W} where
     appended = λ t. sym (append-nil (seen.text w));
     fits = λ h. refl;
     room_left = λ h. omega arith;
+    has_failed = λ no. absurd (true≢false no);
     same_identity = refl;
     untouched = λ t. refl;
   }

@@ -6,5 +6,6 @@ pub mod Document
 pub mod Formatter
 pub mod Layout
 pub mod Quoted
+pub mod Ranges
 pub mod Words
 pub mod Writes

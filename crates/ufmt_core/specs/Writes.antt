@@ -9,6 +9,8 @@ pub record Seen (W : Type 0) : Type 1 where
   pub text : W → List ℕ
   -- how many bytes it surely takes
   pub room : W → ℕ
+  -- what holds of it after a call that failed
+  pub failed : W → Type 0
   -- which writer it is: the ghost names of each `&mut` on the way to its text, and the length of a buffer that it was lent
   pub identity : W → List ℕ
   -- the whole buffer that it was lent, if it was: it begins with the text
@@ -30,10 +32,11 @@ pub record Writes {W : Type 0} (seen : Seen W) (old : W) (piece : List ℕ) (ok 
   pub appended : seen.told old → Appended ok (seen.text old) piece (seen.text new)
   pub fits : length piece ≤ seen.room old → IsTrue ok
   pub room_left : length piece ≤ seen.room old → seen.room old ≤ seen.room new + length piece
+  pub has_failed : ok ≡ false → seen.failed new
   pub same_identity : seen.identity new ≡ seen.identity old
   -- the bytes past the text are as before
   pub untouched : seen.told old → drop (length (seen.text new)) (seen.store new) ≡ drop (length (seen.text new)) (seen.store old)
 
 -- a `String` as a writer: its text is always told, any growth may be refused, and it was lent no buffer
 abbrev pub string_seen : {A : Type 0} → Seen (String A)
-string_seen = record { told = λ s. ⊤; text = string_bytes; room = λ s. 0; identity = λ s. []; store = λ s. [] }
+string_seen = record { told = λ s. ⊤; text = string_bytes; room = λ s. 0; failed = λ s. ⊤; identity = λ s. []; store = λ s. [] }

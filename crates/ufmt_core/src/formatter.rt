@@ -34,6 +34,17 @@ impl<W: uWrite> Formatter<W> {
         }
     }
 
+    /// A formatter over another writer, in this one's mode and at its depth.
+    pub fn with_writer<V: uWrite>(&self, writer: V) -> Formatter<V>
+        ensures writer { writer_of result ≡ writer }
+        ensures setting { setting_of result ≡ setting_of self.now }
+    {
+        Formatter {
+            writer,
+            setting: self.setting,
+        }
+    }
+
     /// Returns the writer. Where it is a `&mut`, this call ends the loan.
     pub fn into_inner(self) -> W
         ensures { result ≡ writer_of self }

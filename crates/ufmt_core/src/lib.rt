@@ -6,6 +6,8 @@ ghost use Rattle.ufmt_core.specs.Document.{Document};
 ghost use Rattle.ufmt_core.specs.Formatter.{LaysOut};
 
 pub mod ascii;
+pub mod cells;
+mod collections;
 mod core_impls;
 mod formatter;
 pub mod laws;
@@ -14,13 +16,16 @@ mod list;
 mod map;
 mod nonzero;
 pub mod quoted;
+mod ranges;
 mod set;
+mod shared;
 mod signed;
 mod std_impls;
 mod structs;
 mod tuple;
 mod tuple_impls;
 pub mod unsigned;
+mod wrappers;
 mod write;
 
 pub use formatter::Formatter;

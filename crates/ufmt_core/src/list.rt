@@ -1,10 +1,10 @@
 //! The builder of lists, and the calls that it shares with that of sets.
-ghost use Rattle.std.specs.Prelude.{codes, is_ok, map, true, IfOk, OnOk};
+ghost use Rattle.std.specs.Prelude.{List, codes, is_ok, map, true, IfOk, OnOk};
 ghost use Rattle.std.specs.Borrow.{sem};
-ghost use Rattle.std.specs.Iterator.{IsFiniteIterable};
+ghost use Rattle.std.specs.Iterator.{AlwaysYields, IsFiniteIterable};
 ghost use Rattle.ufmt_core.specs.declared.layout.Kind.TheVariants.{Brackets};
 ghost use Rattle.ufmt_core.specs.declared.formatter.builder.Status.TheVariants.{Lent};
-ghost use Rattle.ufmt_core.specs.Document.{documents, list_of};
+ghost use Rattle.ufmt_core.specs.Document.{Document, documents, list_of};
 ghost use Rattle.ufmt_core.specs.Formatter.{LaysOut, Prints};
 ghost use Rattle.ufmt_core.specs.Block.{WritesEntries, WritesEntry, EndsEntry, IsLent, IsOpen, WritesOpening, entry_text, lead_of};
 ghost use Rattle.ufmt_core.specs.Builder.{LendsForEntry, OpeningLoan, block, list_block};
@@ -119,4 +119,22 @@ impl<W: uWrite, K: BlockKind + Items> Builder<'_, W, K> {
     {
         self.end_lent(answer)
     }
+}
+
+/// Writes the items as a list, for `fmt` of the standard library's lists that are no slice.
+pub(crate) fn fmt_list<D: uDebug + Drop, I: IntoIterator<Item = D> + Drop, W: uWrite>(
+    items: I,
+    f: &mut Formatter<W>,
+) -> Result<(), W::Error>
+where
+    I::IntoIter: Drop,
+    requires { IsFiniteIterable I.into_iter_gives I.IntoIter.can_next I.IntoIter.remaining items }
+    ensures { (ds : List Document)
+        → ((it : I.IntoIter) → I.into_iter_gives items it
+        → AlwaysYields I.IntoIter.next_gives D.document it ds)
+        → LaysOut W.seen f.old (list_of (documents ds)) (is_ok result) f.new }
+{
+    let mut list = f.debug_list()?;
+    list.entries(items)?;
+    list.finish()
 }

@@ -12,7 +12,7 @@ pub trait uWrite {
     type Error;
 
     /// What contracts see of the writer: whether its text is told, the text so far, how many bytes it
-    /// surely takes, its identity, and the bytes that it writes over.
+    /// surely takes, what holds after a failure, its identity, and the bytes that it writes over.
     ghost seen: { Seen Self };
 
     /// Writes `s` as one piece.
@@ -91,6 +91,7 @@ impl<W: uWrite> uWrite for &mut W {
       told = λ r. W.seen.told r.now;
       text = λ r. W.seen.text r.now;
       room = λ r. W.seen.room r.now;
+      failed = λ r. W.seen.failed r.now;
       identity = λ r. r.ghost_name ∷ W.seen.identity r.now;
       store = λ r. W.seen.store r.now;
     } };

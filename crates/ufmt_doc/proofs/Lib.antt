@@ -1,4 +1,5 @@
 pub mod Docs
+pub mod FieldTexts
 pub mod GrowingDocuments
 pub mod LastPairs
 pub mod NormalForms

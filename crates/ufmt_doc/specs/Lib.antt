@@ -1,5 +1,6 @@
 pub mod Doc
 pub mod DocViews
+pub mod FieldTexts
 pub mod Parts
 pub mod Private
 pub mod Unquoted

@@ -3,6 +3,7 @@
 //! Documents as values, and readers of their texts.
 
 pub mod doc;
+pub mod field_text;
 pub mod laws;
 mod reader;
 

@@ -1,12 +1,13 @@
 -- The document of a measurement can be read again, and what its field says of the temperature.
 use Rattle.std.proofs.Common.{◌≡◌, List, ℕ, Some, IfOk, Option, Result, Ok, Err, option_map, String, Global, refl, sym, arith, pos}
-use Rattle.std.specs.Prelude.{codes, option_and_then, string_bytes}
+use Rattle.std.specs.Prelude.{codes, string_bytes}
 use Rattle.ufmt.specs.Decimal.{decimal}
 use Rattle.ufmt.specs.Document.{Document}
 use Rattle.ufmt.specs.Layout.{plain_text}
 use Rattle.ufmt.specs.Token.{IsToken, normal}
 use Rattle.ufmt.proofs.NumbersAreWords.{HasTokens-integer}
-use Rattle.ufmt_doc.specs.Parts.{field_part, leaf_part}
+use Rattle.ufmt_doc.specs.FieldTexts.{ShowsField}
+use Rattle.ufmt_doc.proofs.FieldTexts.{number_shown}
 use Rattle.ufmt_scan.specs.declared.error.ReadError.{ReadError}
 use Rattle.ufmt.proofs.TokenLeaves.{IsWord-from}
 use Rattle.ufmt_user.specs.Logger.{measurement_document}
@@ -22,10 +23,9 @@ IsToken-measurement r = (
   omega arith,
 )
 
--- what is found of the field is the decimal text
+-- what the field shows is the decimal text
 pub celsius_found : (answer : Result (Option (String Global)) ReadError) (line : List ℕ)
-    → IfOk answer (λ text. (d : Document) → IsToken d → plain_text d ≡ line
-    → option_map string_bytes text ≡ option_and_then leaf_part (field_part (codes "celsius") (normal d)))
+    → IfOk answer (λ text. (d : Document) → IsToken d → plain_text d ≡ line → ShowsField (codes "celsius") (normal d) text)
     → IfOk answer (λ text. (r : Measurement) → line ≡ plain_text (measurement_document r) → option_map string_bytes text ≡ Some (decimal r.celsius))
-celsius_found (Ok text) line found = λ r printed. found (measurement_document r) (IsToken-measurement r) (sym printed)
+celsius_found (Ok text) line found = λ r printed. number_shown r.celsius text (found (measurement_document r) (IsToken-measurement r) (sym printed))
 celsius_found (Err e) line found = tt

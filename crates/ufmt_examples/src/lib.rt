@@ -1,7 +1,7 @@
 #![tactic(auto)]
 
-//! Callers of `ufmt_scan`, `ufmt_doc` and `ufmt_parse`: a line of a log is parsed, read back, tested or
-//! made readable, and two values are compared.
+//! Callers of `ufmt_scan`, `ufmt_doc`, `ufmt_parse` and `ufmt_snapshot`: a line of a log is parsed, read back, tested or
+//! made readable, and values are compared with one another and with a stored text.
 
 mod alarm;
 mod log_line;
@@ -10,5 +10,5 @@ mod snapshot;
 
 pub use alarm::{Alarm, parse_alarm};
 pub use log_line::{is_readable, pretty_line};
-pub use read_back::{celsius, read_field};
-pub use snapshot::print_alike;
+pub use read_back::celsius;
+pub use snapshot::{changes, print_alike};

@@ -1,13 +1,15 @@
-//! Two values compared by their texts.
-ghost use Rattle.std.specs.Prelude.{◌≡◌, ◌↔◌, IfOk, IsTrue};
+//! Two values compared by their texts, and a value with a stored text.
+ghost use Rattle.std.specs.Prelude.{◌≡◌, ◌↔◌, IfOk, IsNone, IsTrue};
 ghost use Rattle.ufmt.specs.Layout.{pretty_text};
+ghost use Rattle.ufmt_user.specs.Logger.{measurement_document};
 
 #[cfg(test)]
 mod tests;
 
 use std::alloc::{AllocError, Global};
-use ufmt::uDebug;
-use ufmt_doc::convert::pretty_text;
+use ufmt::{pretty_text, uDebug};
+use ufmt_snapshot::compare_pretty;
+use ufmt_user::Measurement;
 
 /// Returns whether two values, also of different types, have the same pretty text.
 pub fn print_alike<T: uDebug, U: uDebug>(
@@ -20,4 +22,17 @@ pub fn print_alike<T: uDebug, U: uDebug>(
 {
     let text = pretty_text(alloc, value)?;
     Ok(text == pretty_text(alloc, other)?)
+}
+
+/// Returns a message that says how the measurement differs from the text that was stored of it, or
+/// `None` if it has that text.
+pub fn changes(
+    alloc: Global,
+    measurement: &Measurement,
+    stored: &str,
+) -> Result<Option<String>, AllocError>
+    ensures { IfOk result (λ message. IsNone message
+        ↔ (pretty_text (measurement_document measurement.now) ≡ stored.now)) }
+{
+    compare_pretty(alloc, measurement, stored)
 }

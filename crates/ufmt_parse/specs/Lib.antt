@@ -1,3 +1,4 @@
+pub mod Depths
 pub mod Entries
 pub mod Finds
 pub mod Quotes

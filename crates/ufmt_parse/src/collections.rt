@@ -11,7 +11,7 @@ ghost use Rattle.ufmt_parse.specs.Entries.{IsEntry, entry_parts};
 ghost use Rattle.ufmt_parse.specs.Finds.{Finds, FindsParts};
 
 use crate::keys::ParseKey;
-use crate::parsers::{ParsesBy, Plain};
+use crate::parsers::ParsesBy;
 use crate::uParse;
 use std::alloc::{AllocError, Global};
 use std::collections::{BTreeMap, BTreeSet};
@@ -28,7 +28,7 @@ impl<T: uParse> uParse for Vec<T> {
     }
 
     fn from_doc(alloc: Global, doc: &Doc) -> Result<Option<Vec<T>>, AllocError> {
-        parse_list(alloc, doc, &Plain)
+        parse_list(alloc, doc)
     }
 }
 
@@ -42,15 +42,27 @@ impl<T: uParse, const N: usize> uParse for [T; N] {
     }
 
     fn from_doc(alloc: Global, doc: &Doc) -> Result<Option<[T; N]>, AllocError> {
-        match parse_list(alloc, doc, &Plain)? {
+        match parse_list(alloc, doc)? {
             Some(values) => Ok(<[T; N]>::try_from(values).ok()),
             None => Ok(None),
         }
     }
 }
 
-// The values of a list's entries, however many, each by this parser.
-pub(crate) fn parse_list<T: uDebug + Drop, P: ParsesBy<T>>(
+// The values of a list's entries, however many.
+fn parse_list<T: uParse>(alloc: Global, doc: &Doc) -> Result<Option<Vec<T>>, AllocError>
+    ensures { IfOk result (λ answer.
+        Finds (All T.is_value) (λ values. list_of (documents (map T.document values))) (doc_document doc.now)
+        (option_map (λ values. values.items) answer)) }
+{
+    match doc {
+        Doc::Listed(entries) => T::from_docs(alloc, entries),
+        _ => Ok(None),
+    }
+}
+
+// The same, each by this parser.
+pub(crate) fn parse_list_by<T: uDebug + Drop, P: ParsesBy<T>>(
     alloc: Global,
     doc: &Doc,
     by: &P,
@@ -65,8 +77,9 @@ pub(crate) fn parse_list<T: uDebug + Drop, P: ParsesBy<T>>(
     }
 }
 
-// The values of these documents in a row.
-fn parse_each<T: uDebug + Drop, P: ParsesBy<T>>(
+/// Returns the values that print as the documents, each by this parser, or `None` if one of the documents
+/// is no value's.
+pub fn parse_each<T: uDebug + Drop, P: ParsesBy<T>>(
     alloc: Global,
     docs: &[Doc],
     by: &P,

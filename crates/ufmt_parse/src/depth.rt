@@ -1,5 +1,7 @@
 //! Types that hold themselves: the depth to which they are parsed, and what holds of them.
 ghost use Rattle.std.specs.List.{AllByRecursion};
+ghost use Rattle.std.specs.Prelude.{◌≡◌, IfOk};
+ghost use Rattle.ufmt_parse.specs.Depths.{levels};
 
 use std::alloc::{AllocError, Global};
 
@@ -18,7 +20,9 @@ const DEPTH: u32 = 256;
 
 impl Depth {
     /// Returns a depth that no document of a reader exceeds. Fails only for want of memory.
-    pub fn new(alloc: Global) -> Result<Depth, AllocError> {
+    pub fn new(alloc: Global) -> Result<Depth, AllocError>
+        ensures { IfOk result (λ depth. levels depth ≡ 256) }
+    {
         let mut depth = Depth::Out;
         for _ in 0..DEPTH {
             match Box::new(alloc, depth) {

@@ -1,14 +1,14 @@
 #![tactic(auto)]
 
 //! Values from their texts: `parse` is the inverse of printing by `uDebug`.
-ghost use Rattle.std.specs.Prelude.{◌≡◌, ◌≢◌, ◌<◌, ℕ, None, Result, length, IfOk, IfSome, IsErrOf};
+ghost use Rattle.std.specs.Prelude.{◌≡◌, ◌≢◌, ◌<◌, ℕ, None, Result, length, map, option_map, All, IfOk, IfSome, IsErrOf};
 ghost use Rattle.ufmt.specs.Buffer.{Fronts};
 ghost use Rattle.ufmt.specs.declared.cursor.Full.{Full};
 ghost use Rattle.ufmt.specs.Document.{Document};
 ghost use Rattle.ufmt.specs.Layout.{plain_text, pretty_text};
 ghost use Rattle.ufmt.specs.Token.{IsToken, normal};
 ghost use Rattle.ufmt_doc.specs.Doc.{doc_document};
-ghost use Rattle.ufmt_parse.specs.Finds.{Finds};
+ghost use Rattle.ufmt_parse.specs.Finds.{Finds, FindsParts};
 
 mod collections;
 mod depth;
@@ -23,6 +23,7 @@ mod parsers;
 mod structs;
 mod tuples;
 
+pub use collections::parse_each;
 pub use depth::{Depth, Holds};
 pub use fields::{FieldParsers, is_name, struct_fields, tuple_fields};
 pub use keys::ParseKey;
@@ -57,6 +58,25 @@ pub trait uParse: uDebug + Drop {
     fn from_doc(alloc: Global, doc: &Doc) -> Result<Option<Self>, AllocError>
         ensures { IfOk result (λ answer.
             Finds is_value Self.document (doc_document doc.now) answer) };
+
+    /// Returns the values that print as the documents, each as `from_doc` does, or `None` if one of the
+    /// documents is no value's. A type that holds itself makes one depth for all of them here.
+    fn from_docs(alloc: Global, docs: &[Doc]) -> Result<Option<Vec<Self>>, AllocError>
+    where
+        Self: Sized,
+        ensures { IfOk result (λ answer.
+            FindsParts (All is_value) (map (λ value. normal (Self.document value))) (map doc_document docs.now)
+            (option_map (λ values. values.items) answer)) }
+    {
+        let mut values = Vec::new(alloc);
+        for doc in docs {
+            match Self::from_doc(alloc, doc)? {
+                Some(value) => values.push(value)?,
+                None => return Ok(None),
+            }
+        }
+        Ok(Some(values))
+    }
 }
 
 /// Returns the value that has this plain text, up to its document's normal form. Fails with `NotText`

@@ -4,7 +4,7 @@ ghost use Rattle.std.specs.List.{AllByRecursion};
 ghost use Rattle.ufmt_doc.specs.Doc.{doc_document};
 ghost use Rattle.ufmt_parse.specs.Finds.{Finds};
 
-use crate::collections::parse_list;
+use crate::collections::parse_list_by;
 use crate::fields::{is_name, tuple_fields};
 use crate::uParse;
 use std::alloc::{AllocError, Global};
@@ -96,6 +96,6 @@ impl<T: uDebug + Drop, P: ParsesBy<T>> ParsesBy<Vec<T>> for Each<P> {
 
     #[tactic(auto, using(crate::proofs::Layers::all_of))]
     fn parse_by(&self, alloc: Global, doc: &Doc) -> Result<Option<Vec<T>>, AllocError> {
-        parse_list(alloc, doc, &self.0)
+        parse_list_by(alloc, doc, &self.0)
     }
 }

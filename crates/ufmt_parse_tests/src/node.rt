@@ -8,7 +8,7 @@ ghost use Rattle.ufmt_parse_tests.specs.declared.node.Node.TheFolds.{fold-Node};
 use std::alloc::{AllocError, Global};
 use ufmt::{Formatter, fields, uDebug, uWrite};
 use ufmt_doc::doc::Doc;
-use ufmt_parse::{Boxed, Depth, Optional, ParsesBy, Plain, struct_fields, uParse};
+use ufmt_parse::{Boxed, Depth, Optional, ParsesBy, Plain, parse_each, struct_fields, uParse};
 
 /// A number, and perhaps another node.
 #[derive(Drop)]
@@ -58,5 +58,9 @@ impl uParse for Node {
 
     fn from_doc(alloc: Global, doc: &Doc) -> Result<Option<Node>, AllocError> {
         Depth::new(alloc)?.parse_by(alloc, doc)
+    }
+
+    fn from_docs(alloc: Global, docs: &[Doc]) -> Result<Option<Vec<Node>>, AllocError> {
+        parse_each(alloc, docs, &Depth::new(alloc)?)
     }
 }

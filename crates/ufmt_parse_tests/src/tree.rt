@@ -8,7 +8,7 @@ ghost use Rattle.ufmt_parse_tests.specs.declared.tree.Tree.TheFolds.{fold-Tree};
 use std::alloc::{AllocError, Global};
 use ufmt::{Formatter, fields, uDebug, uWrite};
 use ufmt_doc::doc::Doc;
-use ufmt_parse::{Depth, Each, Holds, ParsesBy, Plain, struct_fields, uParse};
+use ufmt_parse::{Depth, Each, Holds, ParsesBy, Plain, parse_each, struct_fields, uParse};
 
 /// A number, and trees below it.
 #[derive(Drop)]
@@ -63,5 +63,9 @@ impl uParse for Tree {
 
     fn from_doc(alloc: Global, doc: &Doc) -> Result<Option<Tree>, AllocError> {
         Depth::new(alloc)?.parse_by(alloc, doc)
+    }
+
+    fn from_docs(alloc: Global, docs: &[Doc]) -> Result<Option<Vec<Tree>>, AllocError> {
+        parse_each(alloc, docs, &Depth::new(alloc)?)
     }
 }

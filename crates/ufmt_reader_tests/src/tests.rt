@@ -1,6 +1,7 @@
 //! Tests of what no clause says of the scanner, readers and conversions: that calls can succeed, and
 //! their results on rows that are written by hand.
 mod depth;
+mod field_texts;
 mod laws;
 mod leaves;
 mod misquoted;

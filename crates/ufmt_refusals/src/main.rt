@@ -41,6 +41,7 @@ fn main(rt: HostRuntime) -> io::Result<()> {
     documents::report_leaves(&rt)?;
     values::report_values(&rt)?;
     values::report_pieces(&rt)?;
+    values::report_cuts_and_dumps(&rt)?;
     parses::report_parses(&rt)?;
     // This is the first allocation after the calls. If it is refused, each of theirs was made.
     let last = Answer::of_memory(one_box(rt.alloc()));

@@ -3,13 +3,17 @@ use crate::answer::Answer;
 use crate::report::report;
 use std::collections::BTreeMap;
 use std::io;
+use ufmt_doc::field_text::read_field;
 use ufmt_parse::{parse, parse_pretty};
 
 const LISTS: &str = "{1: [\"a\", \"b\"], 2: []}";
 
 const BOXES: &str = "[\n    Some(\n        7,\n    ),\n    None,\n]";
 
-/// Parses a map from its plain text, a list of boxes from its pretty text, and a text that is neither.
+const ALARM: &str = "Alarm { node: 3, text: \"say \\\"hi\\\"\" }";
+
+/// Parses a map from its plain text, a list of boxes from its pretty text, and a text that is neither. Reads
+/// a field.
 pub fn report_parses(rt: &HostRuntime) -> io::Result<()> {
     let answer = parse::<BTreeMap<u8, Vec<String>>>(rt.alloc(), LISTS.as_bytes());
     report(
@@ -34,5 +38,13 @@ pub fn report_parses(rt: &HostRuntime) -> io::Result<()> {
         "a map, as a list",
         8,
         Answer::of_value(answer, None),
+    )?;
+    let answer = read_field(rt.alloc(), ALARM.as_bytes(), "text");
+    report(
+        rt,
+        "read_field",
+        "a text in quotes",
+        9,
+        Answer::of_value(answer, Some("Some(\"say \\\"hi\\\"\")")),
     )
 }

@@ -5,8 +5,8 @@ use std::alloc::{AllocError, Global};
 use std::collections::{BTreeMap, BTreeSet};
 use std::io;
 use ufmt::{
-    Cursor, Formatter, Full, HexOptions, debug_into, display_into, line_into, pieces, pretty_into,
-    uDebug, uDisplayHex, uwrite,
+    Align, Column, Cursor, Cut, Formatter, Full, HexDump, HexOptions, debug_into, display_into,
+    hex_dump_into, line_cut_into, line_into, pieces, pretty_into, uDebug, uDisplayHex, uwrite,
 };
 
 // Values of std's types that take memory: a list, a set, a map, a box and a text.
@@ -103,6 +103,34 @@ pub fn report_pieces(rt: &HostRuntime) -> io::Result<()> {
         answer.is_ok() && f.into_inner().written() == LIST.as_bytes()
     })
 }
+
+const COLUMN: Column = Column {
+    width: 5,
+    align: Align::Center,
+    fill: 'é',
+};
+
+/// Prints a line of columns that is cut, and a dump.
+pub fn report_cuts_and_dumps(rt: &HostRuntime) -> io::Result<()> {
+    let mut buffer = [0; 10];
+    let line = pieces!(display 7i32 in COLUMN, debug 'é' in COLUMN);
+    report_free(rt, "line_cut_into", "columns", || {
+        let cut = line_cut_into(&mut buffer, &line);
+        let wanted = Cut {
+            length: 9,
+            is_whole: false,
+        };
+        cut == wanted && buffer.starts_with("éé7éé".as_bytes())
+    })?;
+    let mut buffer = [0; 80];
+    report_free(rt, "hex_dump_into", "two bytes", || {
+        let answer = hex_dump_into(&mut buffer, b"A\n", &HexDump::XXD);
+        is_at_front(answer, &buffer, DUMP)
+    })
+}
+
+// As `xxd -g1` prints it.
+const DUMP: &str = "00000000: 41 0a                                            A.\n";
 
 const PIECES: &str = "n=7'é'[\n    1,\n]0x00ff";
 

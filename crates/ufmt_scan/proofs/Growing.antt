@@ -30,6 +30,7 @@ stays old new piece some count items =
       appended = λ known. ([], record { remainder = piece; joined = refl }, same ∙ sym (append-nil (take old.count old.bytes.items)));
       fits = λ fits. absurd (omega (arith, some, fits));
       room_left = λ fits. omega arith;
+      has_failed = λ _. tt;
       same_identity = refl;
       untouched = λ known. refl;
     }

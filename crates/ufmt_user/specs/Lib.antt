@@ -1,1 +1,2 @@
 pub mod Logger
+pub mod Table

@@ -3,15 +3,25 @@
 //! A user's own types, most of them printed in one call.
 
 mod by_hand;
+mod cut_log;
 mod enums;
+mod fixed;
 mod logger;
 mod message;
+mod packet;
 mod recursive;
+mod shared;
 mod structs;
+mod table;
 
 pub use by_hand::{InPrettyMode, Port, Ports, Scores, Temperature, Users};
+pub use cut_log::log_cut;
 pub use enums::{Kind, Y};
+pub use fixed::Fixed;
 pub use logger::{ByChannel, Measurement, dump_packet, list_measurements, log};
 pub use message::{Message, print};
+pub use packet::show_packet;
 pub use recursive::{Json, Node, Tree};
+pub use shared::{Link, Window};
 pub use structs::{Braces, I32, Nested, Pair, Parens, Tuple, X};
+pub use table::{Counter, write_row};

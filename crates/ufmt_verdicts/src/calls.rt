@@ -1,12 +1,13 @@
 //! The calls on the texts of one mode.
 use std::alloc::{AllocError, Global};
 use ufmt::layout::Mode;
-use ufmt::{Full, uWrite};
+use ufmt::{Full, uDebug, uWrite};
 use ufmt_doc::doc::Doc;
 use ufmt_doc::plain_reader::{ReadError, read_plain};
 use ufmt_doc::pretty_reader::read_pretty;
 use ufmt_doc::scan::{ScanError, Sink, scan};
 use ufmt_doc::{convert, laws};
+use ufmt_parse::{parse, parse_pretty, uParse};
 
 /// A text, and the mode in which it is read.
 #[derive(Clone, Copy)]
@@ -78,11 +79,18 @@ impl Calls<'_> {
         }
     }
 
-    /// Returns a document's text in this mode.
-    pub fn print(&self, doc: &Doc) -> Result<String, AllocError> {
+    pub fn parse<T: uParse>(&self) -> Result<T, ReadError> {
         match self.mode {
-            Mode::Plain => convert::plain_text(self.alloc, doc),
-            Mode::Pretty => convert::pretty_text(self.alloc, doc),
+            Mode::Plain => parse(self.alloc, self.text),
+            Mode::Pretty => parse_pretty(self.alloc, self.text),
+        }
+    }
+
+    /// Returns a value's text in this mode.
+    pub fn print<T: uDebug>(&self, value: &T) -> Result<String, AllocError> {
+        match self.mode {
+            Mode::Plain => convert::plain_text(self.alloc, value),
+            Mode::Pretty => convert::pretty_text(self.alloc, value),
         }
     }
 

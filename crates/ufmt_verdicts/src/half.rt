@@ -1,11 +1,12 @@
 //! The calls of one mode on one text, compared with each other.
-ghost use Rattle.std.specs.Prelude.{[]};
+ghost use Rattle.std.specs.Prelude.{[], ⊤};
 
 use crate::calls::Calls;
 use crate::digest::Digest;
 use crate::events::Events;
 use crate::fault::{Fault, agree};
 use crate::loose::Loosener;
+use crate::parsed;
 use crate::parts::Parts;
 use std::alloc::{AllocError, Global};
 use ufmt::{Full, uWrite};
@@ -29,13 +30,15 @@ pub fn verdict(calls: Calls<'_>) -> Result<String, AllocError> {
 }
 
 // The results for a text.
-#[derive(Clone, Copy)]
+#[derive(Drop)]
 struct Half {
     events: Digest,
     converted: Digest,
     parts: Digest,
     // Whether a list of the document is a token document: the document is less than 255 deep.
     is_token_in_a_list: bool,
+    // The letters of the types that have a value with the text.
+    types: String,
 }
 
 impl Half {
@@ -45,7 +48,8 @@ impl Half {
         let parts = self.parts.words(alloc)?;
         let in_a_list = if self.is_token_in_a_list { "yes" } else { "no" };
         format!(in alloc;
-            "events {events}, converted {converted}, parts {parts}, in a list {in_a_list}"
+            "events {events}, converted {converted}, parts {parts}, in a list {in_a_list}, types [{}]",
+            self.types
         )
     }
 }
@@ -66,6 +70,7 @@ fn of_text(calls: Calls<'_>, doc: &Doc) -> Result<Half, Fault> {
         converted: Digest::of(&converted),
         parts: Digest::of(&parts),
         is_token_in_a_list: is_token_in_a_list(calls, doc)?,
+        types: parsed::letters(calls, doc)?,
     })
 }
 
@@ -175,7 +180,7 @@ struct Counted {
 impl uWrite for Counted {
     type Error = Full;
 
-    ghost seen = { record { told = λ _. ⊥; text = λ _. []; room = λ _. 0; identity = λ _. []; store = λ _. [] } };
+    ghost seen = { record { told = λ _. ⊥; text = λ _. []; room = λ _. 0; failed = λ _. ⊤; identity = λ _. []; store = λ _. [] } };
 
     fn write_str(&mut self, s: &str) -> Result<(), Full> {
         self.count = self.count.saturating_add(s.len());
@@ -206,6 +211,8 @@ fn of_no_text(calls: Calls<'_>) -> Result<(), Fault> {
         calls.again() == Err(ReadError::NotText),
         "no text, read again",
     )?;
+    let parsed = calls.parse::<String>().map(drop::<String>);
+    agree(parsed == Err(ReadError::NotText), "parse of no text")?;
     let by_way = calls.by_way_of_the_other();
     agree(by_way == Err(ReadError::NotText), "no text, there and back")
 }

@@ -15,6 +15,7 @@ mod fault;
 mod half;
 mod leaf;
 mod loose;
+mod parsed;
 mod parts;
 
 use calls::Calls;

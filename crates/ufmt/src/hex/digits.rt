@@ -79,7 +79,7 @@ static LOWER_CASE: [u8; 16] = *b"0123456789abcdef";
 static UPPER_CASE: [u8; 16] = *b"0123456789ABCDEF";
 
 #[inline]
-fn digit_byte(digit: u8, upper_case: bool) -> u8
+pub(crate) fn digit_byte(digit: u8, upper_case: bool) -> u8
     requires { digit < 16 }
     ensures { result ≡ hexadecimal_byte upper_case digit }
 {

@@ -8,10 +8,10 @@ mod uwrite;
 
 use std::alloc::Global;
 use ufmt::line::Debug;
-use ufmt::{Formatter, HexOptions, uWrite};
+use ufmt::{Align, Column, Formatter, HexOptions, uWrite};
 
 /// The evaluations so far: `a`, `b`, `c` and so on for the values, `F` for a formatter, `O` for
-/// options, `M` for a mark, `S` for a separator.
+/// options, `C` for a column, `M` for a mark, `S` for a separator.
 #[derive(Drop)]
 struct Turns {
     noted: String,
@@ -58,6 +58,16 @@ impl Turns {
             pad_char: b' ',
             pad_length: 0,
             ox_prefix: false,
+        }
+    }
+
+    // A column without a width.
+    fn column(&mut self) -> Column {
+        self.note('C');
+        Column {
+            width: 0,
+            align: Align::Left,
+            fill: ' ',
         }
     }
 

@@ -34,6 +34,7 @@ impl uWrite for FailOnce<'_> {
       told = λ w. ⊤;
       text = λ w. written_bytes w.cursor;
       room = λ w. 0;
+      failed = λ _. ⊤;
       identity = λ w. buffer_name w.cursor ∷ buffer_length w.cursor ∷ [];
       store = λ w. w.cursor.buffer.now;
     } };

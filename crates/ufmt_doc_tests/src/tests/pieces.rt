@@ -1,5 +1,5 @@
 //! Tests of the pieces that a document passes to a writer, and of what a refused piece leaves.
-ghost use Rattle.std.specs.Prelude.{[]};
+ghost use Rattle.std.specs.Prelude.{[], ⊤};
 
 use super::nested_lists::lists_around;
 use super::same;
@@ -39,7 +39,7 @@ impl Noted {
 impl uWrite for Noted {
     type Error = Full;
 
-    ghost seen = { record { told = λ _. ⊥; text = λ _. []; room = λ _. 0; identity = λ _. []; store = λ _. [] } };
+    ghost seen = { record { told = λ _. ⊥; text = λ _. []; room = λ _. 0; failed = λ _. ⊤; identity = λ _. []; store = λ _. [] } };
 
     fn write_str(&mut self, s: &str) -> Result<(), Full> {
         if s.is_empty() {

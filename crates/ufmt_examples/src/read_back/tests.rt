@@ -1,4 +1,4 @@
-//! Tests of `celsius` and `read_field`.
+//! Tests of `celsius`.
 use super::*;
 use std::process::Abort;
 use std::test::Fail;
@@ -19,30 +19,6 @@ fn celsius_reads_back_what_was_printed(rt: HostRuntime) -> Result<(), Fail> {
         let line = plain_text(rt.alloc(), &measurement)?;
         let found = celsius(rt.alloc(), line.as_bytes())?;
         same(&rt, found.as_deref(), Some(wanted), &line);
-    }
-    Ok(())
-}
-
-#[test]
-fn read_field_returns_the_text_of_a_leaf(rt: HostRuntime) -> Result<(), Fail> {
-    let rows = [
-        (
-            "Measurement { channel: 3, celsius: -4 }",
-            "celsius",
-            Some("-4"),
-        ),
-        (
-            "Measurement { channel: 3, celsius: -4 }",
-            "channel",
-            Some("3"),
-        ),
-        ("Measurement { channel: 3, celsius: -4 }", "kelvin", None),
-        ("Measurement { channel: 3, celsius: [-4] }", "celsius", None),
-        ("[celsius]", "celsius", None),
-    ];
-    for (line, field_name, wanted) in rows {
-        let found = read_field(rt.alloc(), line.as_bytes(), field_name)?;
-        same(&rt, found.as_deref(), wanted, line);
     }
     Ok(())
 }

@@ -9,4 +9,4 @@ growing_text g = take g.count g.bytes.items
 
 -- it writes as a `String` does: its text is always told, and any growth may fail
 abbrev pub growing_seen : Seen Growing
-growing_seen = record { told = λ g. ⊤; text = growing_text; room = λ g. 0; identity = λ g. []; store = λ g. [] }
+growing_seen = record { told = λ g. ⊤; text = growing_text; room = λ g. 0; failed = λ g. ⊤; identity = λ g. []; store = λ g. [] }

@@ -1,5 +1,5 @@
 //! Tests of the formatter's own calls: `write_str`, `write_char` and `pretty`.
-ghost use Rattle.std.specs.Prelude.{[]};
+ghost use Rattle.std.specs.Prelude.{[], ⊤};
 
 use super::printed::{Printed, print_to};
 use super::rows::{are_ok, same};
@@ -37,7 +37,7 @@ struct Noted {
 impl uWrite for Noted {
     type Error = AllocError;
 
-    ghost seen = { record { told = λ _. ⊥; text = λ _. []; room = λ _. 0; identity = λ _. []; store = λ _. [] } };
+    ghost seen = { record { told = λ _. ⊥; text = λ _. []; room = λ _. 0; failed = λ _. ⊤; identity = λ _. []; store = λ _. [] } };
 
     fn write_str(&mut self, s: &str) -> Result<(), AllocError> {
         if s.is_empty() {

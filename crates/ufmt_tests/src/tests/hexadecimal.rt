@@ -2,6 +2,10 @@
 //! digits or the payload.
 use super::printed::{Hexadecimal, Payload, print_to};
 use super::rows::{Table, has_rows, same};
+use std::num::{
+    NonZeroI8, NonZeroI16, NonZeroI32, NonZeroI64, NonZeroI128, NonZeroIsize, NonZeroU8,
+    NonZeroU16, NonZeroU32, NonZeroU64, NonZeroU128, NonZeroUsize, Saturating, Wrapping,
+};
 use ufmt::{Cursor, HexOptions, uDisplayHex};
 
 fn lower_case(ox_prefix: bool, pad_char: u8, pad_length: usize) -> HexOptions {
@@ -137,6 +141,54 @@ fn fmt_hex_prints_numbers_of_each_width(rt: HostRuntime) {
     table.hexadecimal(usize::MAX);
     table.hexadecimal(u128::MAX);
     has_rows(&rt, &table, OF_EACH_WIDTH);
+}
+
+const HELD: &str = "\
+ff|;
+ff|;
+10|;
+ff|;
+ffff|;
+ffffffff|;
+ffffffffffffffff|;
+ffffffffffffffff|;
+ffffffffffffffffffffffffffffffff|;
+ff|;
+fffe|;
+fffffffd|;
+fffffffffffffffc|;
+fffffffffffffffb|;
+fffffffffffffffffffffffffffffffa|;
+";
+
+// Adds a row of a number, which must be nonzero.
+fn put_nonzero<N: uDisplayHex + Drop>(table: &mut Table, number: Option<N>) {
+    match number {
+        Some(number) => table.hexadecimal(number),
+        None => table.put_nothing(),
+    }
+}
+
+#[test]
+fn numbers_that_are_held_print_in_hexadecimal(rt: HostRuntime) {
+    let mut table = Table::new(rt.alloc());
+    let mut number = 255u8;
+    table.hexadecimal(&mut number);
+    table.hexadecimal(Wrapping(-1i8));
+    table.hexadecimal(Saturating(16u64));
+    put_nonzero(&mut table, NonZeroU8::new(u8::MAX));
+    put_nonzero(&mut table, NonZeroU16::new(u16::MAX));
+    put_nonzero(&mut table, NonZeroU32::new(u32::MAX));
+    put_nonzero(&mut table, NonZeroU64::new(u64::MAX));
+    put_nonzero(&mut table, NonZeroUsize::new(usize::MAX));
+    put_nonzero(&mut table, NonZeroU128::new(u128::MAX));
+    put_nonzero(&mut table, NonZeroI8::new(-1));
+    put_nonzero(&mut table, NonZeroI16::new(-2));
+    put_nonzero(&mut table, NonZeroI32::new(-3));
+    put_nonzero(&mut table, NonZeroI64::new(-4));
+    put_nonzero(&mut table, NonZeroIsize::new(-5));
+    put_nonzero(&mut table, NonZeroI128::new(-6));
+    has_rows(&rt, &table, HELD);
 }
 
 #[test]

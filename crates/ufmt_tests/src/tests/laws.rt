@@ -1,5 +1,6 @@
 //! Tests that each law can be called.
 use std::alloc::Global;
+use std::hash::{BuildHasherDefault, FoldHasher};
 use ufmt::laws;
 use ufmt::unsigned::decimal_is_one_text;
 
@@ -14,6 +15,7 @@ fn laws_of_numbers_and_types_can_be_called() {
     laws::both_traits_print_one_text();
     laws::references_print_what_they_refer_to::<u8, Global>();
     laws::references_display_what_they_refer_to::<u8, Global>();
+    laws::nonzero_prints_one_hexadecimal_text();
     laws::references_print_one_hexadecimal_text::<u8>();
     laws::pieces_of_lines::<(), ((), ())>();
     laws::texts_display_as_they_are::<Global>();
@@ -21,6 +23,12 @@ fn laws_of_numbers_and_types_can_be_called() {
     laws::documents_of_collections::<u8, u16, Global, 3>();
     laws::documents_of_sorted_collections::<u8, u16, Global>();
     laws::documents_of_texts::<Global>();
+    laws::documents_of_shared_values::<u8, Global>();
+    laws::documents_of_unsorted_collections::<u8, u16, BuildHasherDefault<FoldHasher>, Global>();
+    laws::documents_of_ranges::<u8>();
+    laws::documents_of_cell_values::<u8>();
+    laws::documents_of_wrappers::<u8, u16>();
+    laws::wrappers_display_what_they_hold::<u8, Global>();
     laws::documents_of_tuples::<u8, u16, u32, u64, u128, usize, i8, i16, i32, i64, i128, isize>();
     laws::blocks_are_their_parts();
 }

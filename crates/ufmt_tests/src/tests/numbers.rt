@@ -4,8 +4,8 @@ use super::rows::{Table, has_rows, same};
 use std::alloc::{AllocError, Global};
 use std::fmt::Display;
 use std::num::{
-    NonZeroI8, NonZeroI16, NonZeroI32, NonZeroI64, NonZeroIsize, NonZeroU8, NonZeroU16, NonZeroU32,
-    NonZeroU64, NonZeroUsize,
+    NonZeroI8, NonZeroI16, NonZeroI32, NonZeroI64, NonZeroI128, NonZeroIsize, NonZeroU8,
+    NonZeroU16, NonZeroU32, NonZeroU64, NonZeroU128, NonZeroUsize,
 };
 use ufmt::{Formatter, uDebug, uDisplay};
 
@@ -99,7 +99,9 @@ fn nonzero_numbers_print_as_one_piece(rt: HostRuntime) {
     put_nonzero(&mut table, NonZeroI32::new(-3));
     put_nonzero(&mut table, NonZeroI64::new(-4));
     put_nonzero(&mut table, NonZeroIsize::new(-5));
-    let wanted = "1|;\n2|;\n3|;\n4|;\n5|;\n-128|;\n-2|;\n-3|;\n-4|;\n-5|;\n";
+    put_nonzero(&mut table, NonZeroU128::new(6));
+    put_nonzero(&mut table, NonZeroI128::new(-6));
+    let wanted = "1|;\n2|;\n3|;\n4|;\n5|;\n-128|;\n-2|;\n-3|;\n-4|;\n-5|;\n6|;\n-6|;\n";
     has_rows(&rt, &table, wanted);
 }
 

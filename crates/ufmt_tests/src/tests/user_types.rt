@@ -2,10 +2,12 @@
 use super::forwarded;
 use super::rows::{Table, has_rows, list};
 use std::alloc::{AllocError, Global};
-use std::collections::BTreeMap;
+use std::borrow::CowStr;
+use std::collections::{BTreeMap, VecDeque};
+use std::rc::Rc;
 use ufmt_user::{
-    I32, Json, Kind, Measurement, Message, Nested, Node, Pair, Port, Ports, Scores, Temperature,
-    Tree, Tuple, Users, X, Y, log, print,
+    I32, Json, Kind, Link, Measurement, Message, Nested, Node, Pair, Port, Ports, Scores,
+    Temperature, Tree, Tuple, Users, Window, X, Y, log, print,
 };
 
 const STRUCTS_AND_ENUMS: &str = "\
@@ -252,4 +254,68 @@ fn a_type_that_holds_itself_in_pairs_prints(rt: HostRuntime) {
     table.plain_of_made(pairs_of_a_list(rt.alloc()));
     table.plain_of_made(pairs_of_a_table(rt.alloc()));
     has_rows(&rt, &table, PAIRS);
+}
+
+const SHARED: &str = r#"Window { name: "main", lines: 3..9, recent: [7, 8] }~
+Window {
+    name: "main",
+    lines: 3..9,
+    recent: [
+        7,
+        8,
+    ],
+};
+[Link { id: 1, rest: Some(Link { id: 3, rest: None }) }, Link { id: 2, rest: Some(Link { id: 3, rest: None }) }]~
+[
+    Link {
+        id: 1,
+        rest: Some(
+            Link {
+                id: 3,
+                rest: None,
+            },
+        ),
+    },
+    Link {
+        id: 2,
+        rest: Some(
+            Link {
+                id: 3,
+                rest: None,
+            },
+        ),
+    },
+];
+"#;
+
+fn window(alloc: Global) -> Result<Window<'static>, AllocError> {
+    let mut recent = VecDeque::new(alloc);
+    recent.push_back(7)?;
+    recent.push_back(8)?;
+    Ok(Window {
+        name: CowStr::Borrowed("main"),
+        lines: 3..9,
+        recent,
+    })
+}
+
+fn chains_with_one_end(alloc: Global) -> Result<[Link; 2], AllocError> {
+    let end = Rc::new(alloc, Link { id: 3, rest: None })?;
+    let first = Link {
+        id: 1,
+        rest: Some(end.clone()?),
+    };
+    let second = Link {
+        id: 2,
+        rest: Some(end),
+    };
+    Ok([first, second])
+}
+
+#[test]
+fn types_with_shared_fields_print_as_by_core_fmt(rt: HostRuntime) {
+    let mut table = Table::new(rt.alloc());
+    table.texts_of_made(window(rt.alloc()));
+    table.texts_of_made(chains_with_one_end(rt.alloc()));
+    has_rows(&rt, &table, SHARED);
 }

@@ -20,6 +20,10 @@ macro_rules! one_piece {
             6 => take(&pieces!(each debug ($turns.items(1)) between $turns.separator() $($end)?)),
             7 => take(&pieces!(each pretty ($turns.items(1)) between $turns.separator() $($end)?)),
             8 => take(&pieces!(each hex ($turns.items(1)) with ($turns.options()) between $turns.separator() $($end)?)),
+            9 => take(&pieces!(display ($turns.number(1)) in $turns.column() $($end)?)),
+            10 => take(&pieces!(hex ($turns.number(1)) with ($turns.options()) in $turns.column() $($end)?)),
+            11 => take(&pieces!(each debug ($turns.items(1)) in ($turns.column()) between $turns.separator() $($end)?)),
+            12 => take(&pieces!(each hex ($turns.items(1)) with ($turns.options()) in ($turns.column()) between $turns.separator() $($end)?)),
             _ => take(&pieces!(each ($turns.items(1)) by ($turns.mark()) between $turns.separator() $($end)?)),
         }
     };
@@ -70,7 +74,7 @@ fn make_three(number: usize, turns: &mut Turns) {
 }
 
 const LINES: &str = "\
-a,a a,a a,a a,a aO,aO aS,aS aS,aS aS,aS aOS,aOS aMS,aMS ;
+a,a a,a a,a a,a aO,aO aS,aS aS,aS aS,aS aOS,aOS aC,aC aOC,aOC aCS,aCS aOCS,aOCS aMS,aMS ;
 abcS abOcS abScOS abScMS aObSc aSbOSc aSbMSc aSbc aOSbcO aMSbcS ;
 ";
 
@@ -78,7 +82,7 @@ abcS abOcS abScOS abScMS aObSc aSbOSc aSbMSc aSbc aOSbcO aMSbcS ;
 fn pieces_evaluates_in_order(rt: HostRuntime) {
     let mut table = Table::new(rt.alloc());
     let mut turns = Turns::new(rt.alloc());
-    for number in 0..10usize {
+    for number in 0..14usize {
         make_one(number, &mut turns);
         turns.note(',');
         make_one_with_comma(number, &mut turns);

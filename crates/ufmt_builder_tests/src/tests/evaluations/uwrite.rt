@@ -13,7 +13,9 @@ macro_rules! one_piece {
             1 => $write!($turns.formatter($f), display $turns.number(1) $($end)?),
             2 => $write!($turns.formatter($f), debug $turns.number(1) $($end)?),
             3 => $write!($turns.formatter($f), pretty $turns.number(1) $($end)?),
-            _ => $write!($turns.formatter($f), hex ($turns.number(1)) with $turns.options() $($end)?),
+            4 => $write!($turns.formatter($f), hex ($turns.number(1)) with $turns.options() $($end)?),
+            5 => $write!($turns.formatter($f), debug ($turns.number(1)) in $turns.column() $($end)?),
+            _ => $write!($turns.formatter($f), hex ($turns.number(1)) with ($turns.options()) in $turns.column() $($end)?),
         }
     };
 }
@@ -117,11 +119,15 @@ Fa! Fa=1;
 Fa! Fa=1;
 Fa! Fa=1;
 FaO! FaO=1;
+FaC! FaC=1;
+FaOC! FaOC=1;
 Fa! Fa=x;
 Fa! Fa=1;
 Fa! Fa=1;
 Fa! Fa=1;
 FaO! FaO=1;
+FaC! FaC=1;
+FaOC! FaOC=1;
 Fa! Fab!x Fabc!x2 Fabc=x23;
 Fa! Fab!1 Fabc!12 Fabc=123;
 Fa! Fab!1 FabcO!12 FabcO=123;
@@ -132,11 +138,15 @@ Fa! Fa!1 Fa=1\n;
 Fa! Fa!1 Fa=1\n;
 Fa! Fa!1 Fa=1\n;
 FaO! FaO!1 FaO=1\n;
+FaC! FaC!1 FaC=1\n;
+FaOC! FaOC!1 FaOC=1\n;
 Fa! Fa!x Fa=x\n;
 Fa! Fa!1 Fa=1\n;
 Fa! Fa!1 Fa=1\n;
 Fa! Fa!1 Fa=1\n;
 FaO! FaO!1 FaO=1\n;
+FaC! FaC!1 FaC=1\n;
+FaOC! FaOC!1 FaOC=1\n;
 Fa! FabO!1 FabO!12 FabO=12\n;
 Fa! Fab!x Fabc!x2 Fabc!x23 Fabc=x23\n;
 ";
@@ -146,11 +156,11 @@ Fa! Fab!x Fabc!x2 Fabc!x23 Fabc=x23\n;
 fn uwrite_evaluates_a_piece_after_writing_the_one_before(rt: HostRuntime) {
     let mut table = Table::new(rt.alloc());
     for (form, count) in [
-        (Form::One, 5),
-        (Form::OneWithComma, 5),
+        (Form::One, 7),
+        (Form::OneWithComma, 7),
         (Form::Three, 5),
-        (Form::Line, 5),
-        (Form::LineWithComma, 5),
+        (Form::Line, 7),
+        (Form::LineWithComma, 7),
         (Form::LongerLine, 2),
     ] {
         for number in 0..count {

@@ -7,5 +7,5 @@ use Rattle.ufmt_parse.proofs.Rows.{finds_list}
 use Rattle.ufmt_parse.proofs.collections.parse_list.Goals as goal
 
 pub returns-in-Listed : goal.returns-in-Listed
-returns-in-Listed g c = finds_list (All g.P.ParsesBy.is_value) g.T.uDebug.document (λ v. v.items) _ _ c.parse_each.result
-    (ap doc_document c.in-Listed.is ∙ doc_document-Listed c.in-Listed.entries ∙ ap (λ ds. list_of (documents (map doc_document ds))) (sym c.deref.ensures.value)) c.parse_each.ensures
+returns-in-Listed g c = finds_list (All g.T.uParse.is_value) g.T.uDebug.document (λ v. v.items) _ _ c.from_docs.result
+    (ap doc_document c.in-Listed.is ∙ doc_document-Listed c.in-Listed.entries ∙ ap (λ ds. list_of (documents (map doc_document ds))) (sym c.deref.ensures.value)) c.from_docs.ensures

@@ -10,6 +10,7 @@ string_writes old new text bytes true is some h = record {
   appended = λ known. h ∙ ap (λ b. string_bytes old ++ b) (sym is);
   fits = λ fits. refl;
   room_left = λ fits. omega arith;
+  has_failed = λ _. tt;
   same_identity = refl;
   untouched = λ known. refl;
 }
@@ -18,6 +19,7 @@ string_writes old new text bytes false is some h = record {
   appended = λ known. ([], record { remainder = text; joined = refl }, h ∙ sym (append-nil (string_bytes old)));
   fits = λ fits. absurd (omega (arith, some, fits, ap length is));
   room_left = λ fits. omega arith;
+  has_failed = λ _. tt;
   same_identity = refl;
   untouched = λ known. refl;
 }

@@ -1,0 +1,13 @@
+use Rattle.std.proofs.Common.{◌≡◌, ◌-◌, take, replicate, ap, ◌∙◌, arith}
+use Rattle.std.proofs.lemmas.List.{take-replicate}
+use Rattle.ufmt_core.specs.Bytes.{space}
+use Rattle.ufmt.proofs.Columns.{IsCharBoundary-spaces}
+use Rattle.ufmt.proofs.column.spaces.Goals as goal
+
+pub range-requires-clause-end_boundary : goal.range-requires-clause-end_boundary
+range-requires-clause-end_boundary c = IsCharBoundary-spaces c.args.count c.requires
+
+pub returns : goal.returns
+returns c =
+    let count : c.args.count - 0 ≡ c.args.count = omega arith in
+    c.range.ensures.value ∙ ap (λ n. take n (replicate 64 space)) count ∙ take-replicate c.args.count 64 space (omega arith)

@@ -1,0 +1,98 @@
+-- Hexadecimal dumps of bytes: rows, each with its offset, its bytes' digits in groups, and its bytes as text.
+use Rattle.std.specs.Prelude.{◌≡◌, ℕ, zero, suc, ◌+◌, ◌-◌, ◌*◌, ◌/◌, ◌%◌, ◌<◌, ◌≤◌, ◌==◌, if◌then◌else◌, false, List, [], ◌∷◌, ◌++◌, map, take, drop, length, replicate, codes, Option, Some, None}
+use Rattle.std.specs.Int.{is_in_range}
+use Rattle.std.specs.List.{All, concat, flat_map, join_by, slice_index_or}
+use Rattle.ufmt_core.specs.Bytes.{space, zero_digit}
+use Rattle.ufmt.specs.declared.dump.HexDump.{HexDump}
+use Rattle.ufmt.specs.Hex.{hexadecimal, hexadecimal_byte}
+
+-- the first `count` chunks of n bytes, or fewer where no bytes are left; the last chunk may be shorter
+abbrev pub first_chunks : ℕ → ℕ → List ℕ → List (List ℕ)
+first_chunks zero n bytes = []
+first_chunks (suc count) n [] = []
+first_chunks (suc count) n (byte ∷ bytes) = take n (byte ∷ bytes) ∷ first_chunks count n (drop n (byte ∷ bytes))
+
+-- all chunks of n bytes: there are at most as many chunks as bytes
+abbrev pub chunks : ℕ → List ℕ → List (List ℕ)
+chunks n bytes = first_chunks (length bytes) n bytes
+
+-- a row of 0 bytes means one of 16
+abbrev pub bytes_per_row : HexDump → ℕ
+bytes_per_row dump = if dump.per_row == 0 then 16 else dump.per_row
+
+-- a group of 0 bytes means a whole row
+abbrev pub bytes_per_group : HexDump → ℕ
+bytes_per_group dump = if dump.group == 0 then bytes_per_row dump else dump.group
+
+-- the rows of a dump, each as its bytes
+abbrev pub rows : HexDump → List ℕ → List (List ℕ)
+rows dump bytes = chunks (bytes_per_row dump) bytes
+
+-- an offset in hexadecimal digits, eight or more
+abbrev pub offset_text : ℕ → List ℕ
+offset_text offset = replicate (8 - length (hexadecimal false offset)) zero_digit ++ hexadecimal false offset
+
+-- the offset of a row that has `before` bytes before it, counted from the first offset, if there is one
+abbrev pub offset_column : Option ℕ → ℕ → List ℕ
+offset_column None before = []
+offset_column (Some first) before = offset_text (first + before) ++ codes ": "
+
+-- the two digits of a byte
+abbrev pub byte_digits : ℕ → List ℕ
+byte_digits byte = hexadecimal_byte false (byte / 16) ∷ hexadecimal_byte false (byte % 16) ∷ []
+
+-- the digits of bytes, with a space between groups
+abbrev pub digits_column : ℕ → List ℕ → List ℕ
+digits_column group row = join_by (flat_map byte_digits) (codes " ") (chunks group row)
+
+-- how wide the digits of n bytes are: two for each byte, and one for each space between groups
+abbrev pub digits_width : ℕ → ℕ → ℕ
+digits_width group n = 2 * n + (n - 1) / group
+
+abbrev pub tilde : ℕ
+tilde = 126
+
+abbrev pub full_stop : ℕ
+full_stop = 46
+
+-- a byte of printable ASCII as it is, any other as a full stop
+abbrev pub shown_byte : ℕ → ℕ
+shown_byte byte = if is_in_range space tilde byte then byte else full_stop
+
+-- the bytes as text, after spaces in place of the digits that a full row has more, if the dump has texts
+abbrev pub text_column : HexDump → List ℕ → List ℕ
+text_column dump row =
+    if dump.ascii
+    then replicate (digits_width (bytes_per_group dump) (bytes_per_row dump) - digits_width (bytes_per_group dump) (length row)) space
+    ++ (codes "  " ++ map shown_byte row)
+    else []
+
+-- a row that has `before` bytes before it
+abbrev pub row_text : HexDump → ℕ → List ℕ → List ℕ
+row_text dump before row =
+    offset_column dump.offset before
+    ++ (digits_column (bytes_per_group dump) row ++ (text_column dump row ++ codes "\n"))
+
+-- rows in a row, the first of which has `before` bytes before it
+abbrev pub rows_text : HexDump → ℕ → List (List ℕ) → List ℕ
+rows_text dump before [] = []
+rows_text dump before (row ∷ rest) = row_text dump before row ++ rows_text dump (before + length row) rest
+
+-- the text of a dump
+abbrev pub dump_text : HexDump → List ℕ → List ℕ
+dump_text dump bytes = rows_text dump 0 (rows dump bytes)
+
+-- rows of n bytes each, but for the last, which has at least one; joined they are the bytes
+pub record AreRowsOf (n : ℕ) (bytes : List ℕ) (rs : List (List ℕ)) : Type 0 where
+  pub joined : concat rs ≡ bytes
+  pub full : (k : ℕ) → k + 1 < length rs → length (slice_index_or rs k []) ≡ n
+  pub some : All (λ row. 0 < length row) rs
+  pub within : All (λ row. length row ≤ n) rs
+
+-- the rows of a dump are rows of all its bytes
+abbrev pub DumpHasEachByte : Type 0
+DumpHasEachByte = (dump : HexDump) (bytes : List ℕ) → AreRowsOf (bytes_per_row dump) bytes (rows dump bytes)
+
+-- the digits of each row are as wide as said, so the text of each row begins in the same column
+abbrev pub DigitsHaveTheirWidth : Type 0
+DigitsHaveTheirWidth = (dump : HexDump) (row : List ℕ) → length (digits_column (bytes_per_group dump) row) ≡ digits_width (bytes_per_group dump) (length row)

@@ -1,0 +1,93 @@
+//! Columns: texts padded to a width that counts characters.
+ghost use Rattle.std.specs.Prelude.{◌≡◌, ◌<◌, is_ok, replicate};
+ghost use Rattle.ufmt_core.specs.Formatter.{Prints};
+ghost use Rattle.ufmt_core.specs.Bytes.{space};
+ghost use Rattle.ufmt.specs.Column.{fills, fills_before};
+
+mod counter;
+
+pub(crate) use counter::CharacterCounter;
+use ufmt_core::{Formatter, uWrite};
+
+/// Where a text is within its column.
+#[derive(Clone, Copy)]
+pub enum Align {
+    /// Before the fills.
+    Left,
+    /// Between the fills. Of an odd number, one more comes after the text.
+    Center,
+    /// After the fills.
+    Right,
+}
+
+/// A width in characters, and the character that fills what a text leaves of it. A text of the width
+/// or more is written as it is.
+#[derive(Clone, Copy)]
+pub struct Column {
+    pub width: usize,
+    pub align: Align,
+    pub fill: char,
+}
+
+impl Align {
+    // How many of `count` fills come before the text.
+    pub(crate) fn fills_before(self, count: usize) -> usize
+        ensures { result ≡ fills_before self count }
+    {
+        match self {
+            Align::Left => 0,
+            Align::Center => count / 2,
+            Align::Right => count,
+        }
+    }
+}
+
+impl Column {
+    // Writes so many fills. Spaces are the usual fill, so they come many in a piece.
+    pub(crate) fn write_fills<W: uWrite>(
+        &self,
+        f: &mut Formatter<W>,
+        count: usize,
+    ) -> Result<(), W::Error>
+        ensures { Prints W.seen f.old (fills self.now count) (is_ok result) f.new }
+    {
+        if self.fill == ' ' {
+            write_spaces(f, count)
+        } else {
+            self.write_each_fill(f, count)
+        }
+    }
+
+    // One piece for each fill.
+    fn write_each_fill<W: uWrite>(&self, f: &mut Formatter<W>, count: usize) -> Result<(), W::Error>
+        ensures { Prints W.seen f.old (fills self.now count) (is_ok result) f.new }
+    {
+        for _fill in 0..count {
+            f.write_char(self.fill)?;
+        }
+        Ok(())
+    }
+}
+
+const SPACES: &str = "                                                                ";
+
+// So many spaces, fewer than the constant has.
+fn spaces(count: usize) -> &'static str
+    requires { count < 64 }
+    ensures { result.now ≡ replicate count space }
+{
+    &SPACES[..count]
+}
+
+// Writes spaces, at most 64 in a piece.
+fn write_spaces<W: uWrite>(f: &mut Formatter<W>, count: usize) -> Result<(), W::Error>
+    ensures { Prints W.seen f.old (replicate count space) (is_ok result) f.new }
+{
+    for _piece in 0..count / 64 {
+        f.write_str(SPACES)?;
+    }
+    match count % 64 {
+        0 => Ok(()),
+        left => f.write_str(spaces(left)),
+    }
+}

@@ -1,0 +1,18 @@
+-- The text that a field of a struct shows: a leaf as it is, and a leaf in quotes without them.
+use Rattle.std.specs.Prelude.{◌≡◌, ◌≢◌, ◌⊎◌, ℕ, List, Option, None, MatchOption, String, string_bytes}
+use Rattle.ufmt.specs.Document.{Document, leaf}
+use Rattle.ufmt.specs.Quoted.{IsQuoted}
+use Rattle.ufmt_doc.specs.Parts.{field_part, leaf_part}
+use Rattle.ufmt_doc.specs.Unquoted.{IsInQuotes}
+
+-- the document is this text in quotes, or a leaf without quotes that is this text
+abbrev pub Shows : Document → List ℕ → Type 0
+Shows d text = IsInQuotes d text ⊎ (((quoted : List ℕ) → IsQuoted quoted → d ≢ leaf quoted) × (d ≡ leaf text))
+
+-- the answer is the text that the leaf shows, or `None` if the document is no leaf
+abbrev pub ShowsText : {A : Type 0} → Document → Option (String A) → Type 0
+ShowsText d answer = MatchOption answer (leaf_part d ≡ None) (λ s. Shows d (string_bytes s))
+
+-- the answer is what the struct's first field with this name shows, or `None` if there is none or it is a block
+abbrev pub ShowsField : {A : Type 0} → List ℕ → Document → Option (String A) → Type 0
+ShowsField name d answer = MatchOption (field_part name d) (answer ≡ None) (λ value. ShowsText value answer)

@@ -1,0 +1,51 @@
+//! What the fields of a struct show, for lines without a type.
+ghost use Rattle.std.specs.Prelude.{◌≡◌, IfOk, IsErrOf};
+ghost use Rattle.ufmt.specs.Document.{Document};
+ghost use Rattle.ufmt.specs.Layout.{plain_text};
+ghost use Rattle.ufmt.specs.Token.{IsToken, normal};
+ghost use Rattle.ufmt_doc.specs.Doc.{doc_document};
+ghost use Rattle.ufmt_doc.specs.FieldTexts.{ShowsField, ShowsText};
+ghost use Rattle.ufmt_scan.specs.Texts.{IsNoText};
+
+use crate::doc::Doc;
+use crate::reader::read_plain;
+use std::alloc::{AllocError, Global};
+use ufmt_scan::error::ReadError;
+
+impl Doc {
+    /// Returns the text of a leaf. A leaf in quotes shows what is between them, with its escapes decoded.
+    /// Returns `None` if this is a block. Fails only if memory runs out.
+    pub fn leaf_text(&self, alloc: Global) -> Result<Option<String>, AllocError>
+        ensures { IfOk result (λ answer. ShowsText (doc_document self.now) answer) }
+    {
+        let Some(text) = self.as_leaf() else {
+            return Ok(None);
+        };
+        match self.unquoted(alloc)? {
+            Some(inside) => Ok(Some(inside)),
+            None => Ok(Some(String::from_str(alloc, text)?)),
+        }
+    }
+
+    /// Returns the text of a struct's first field with this name, as `leaf_text` does. Returns `None` if
+    /// there is no such field, or if its value is a block.
+    pub fn field_text(&self, alloc: Global, name: &str) -> Result<Option<String>, AllocError>
+        ensures { IfOk result (λ answer. ShowsField name.now (doc_document self.now) answer) }
+    {
+        match self.field(name) {
+            Some(value) => value.leaf_text(alloc),
+            None => Ok(None),
+        }
+    }
+}
+
+/// Returns the text of a field of the struct that was printed to a line, as `Doc::field_text` does. Fails
+/// with `NotText` if no token document has this plain text, and otherwise only with `OutOfMemory`.
+pub fn read_field(alloc: Global, line: &[u8], name: &str) -> Result<Option<String>, ReadError>
+    ensures found { IfOk result (λ answer. (d : Document) → IsToken d → plain_text d ≡ line.now
+        → ShowsField name.now (normal d) answer) }
+    ensures not_text { IsErrOf result ReadError.NotText → IsNoText plain_text line.now }
+{
+    let doc = read_plain(alloc, line)?;
+    Ok(doc.field_text(alloc, name)?)
+}

@@ -1,0 +1,15 @@
+-- What was written is a beginning of the bytes.
+use Rattle.std.proofs.Common.{◌≡◌, ◌-◌, ◌≤◌, false, length, take}
+use Rattle.std.specs.Io.KnownBytes.{Appends}
+use Rattle.ufmt_lines.specs.Watched.{device_of, has_failed}
+use Rattle.ufmt_lines.proofs.run.groups.write_whole.Given as goal
+
+abbrev pub invariant-loop-written : goal.invariant-loop-written
+invariant-loop-written g l = record {
+  within : l.written ≤ length l.bytes;
+  works : has_failed l.output ≡ false;
+  so_far : Appends (g.W.Write.contents (device_of l.initial.output)) (g.W.Write.contents (device_of l.output)) (take l.written l.bytes);
+}
+
+abbrev pub decreases-loop-written : goal.decreases-loop-written
+decreases-loop-written g l = length l.bytes - l.written

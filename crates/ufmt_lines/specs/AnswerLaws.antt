@@ -1,0 +1,36 @@
+-- What the answer to a line or to a group of lines is, in the words of documents and their texts.
+use Rattle.std.specs.Prelude.{◌≡◌, ◌⊎◌, ℕ, ◌<◌, List, [], ◌∷◌, ◌++◌, length, IsTrue}
+use Rattle.ufmt.specs.Document.{Document}
+use Rattle.ufmt.specs.Layout.{layout, setting}
+use Rattle.ufmt.specs.Token.{IsToken}
+use Rattle.ufmt_core.specs.declared.layout.Mode.{Mode}
+use Rattle.ufmt_core.specs.declared.layout.Mode.TheVariants.{Pretty}
+use Rattle.ufmt_lines.specs.Groups.{IsInGroup, IsInLine, groups_of, lines_of}
+use Rattle.ufmt_lines.specs.Readable.{answer_of, may_begin_after, other_mode}
+use Rattle.ufmt_scan.specs.Texts.{IsNoText}
+
+-- a text may follow these words: there are none, or they end with a space or a line feed
+abbrev pub MayFollow : List ℕ → Type 0
+MayFollow words = (words ≡ []) ⊎ ((front : List ℕ) × (byte : ℕ) × (words ≡ front ++ byte ∷ []) × IsTrue (may_begin_after byte))
+
+-- no tail that begins in the words, and goes to the end of the rest, is a text of this mode
+abbrev pub NoTextBegins : Mode → List ℕ → List ℕ → Type 0
+NoTextBegins mode words rest = (front back : List ℕ) → words ≡ front ++ back → 0 < length back → MayFollow front → IsNoText (layout (setting mode 0)) (back ++ rest)
+
+-- the longest tail that is a text of the other mode is converted, and the words before it stay
+abbrev pub LongestTextIsConverted : Type 0
+LongestTextIsConverted = (mode : Mode) (words : List ℕ) (d : Document) → IsToken d → MayFollow words
+    → NoTextBegins (other_mode mode) words (layout (setting (other_mode mode) 0) d)
+    → answer_of mode (words ++ layout (setting (other_mode mode) 0) d) ≡ words ++ layout (setting mode 0) d
+
+-- what ends with no such tail stays
+abbrev pub OthersStay : Type 0
+OthersStay = (mode : Mode) (text : List ℕ) → NoTextBegins (other_mode mode) text [] → answer_of mode text ≡ text
+
+-- what is made pretty is each line by itself
+abbrev pub LinesAreMadePretty : Type 0
+LinesAreMadePretty = (text : List ℕ) → groups_of Pretty text ≡ lines_of text
+
+-- and a rest in which none ends has no line feed
+abbrev pub PrettyRestIsInLine : Type 0
+PrettyRestIsInLine = (text : List ℕ) → IsInGroup Pretty text → IsInLine text

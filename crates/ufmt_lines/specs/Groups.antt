@@ -1,0 +1,64 @@
+-- The lines of an input, and the groups of lines that are answered together.
+use Rattle.std.specs.Prelude.{◌≡◌, ◌≢◌, ℕ, ◌-◌, ◌==◌, ◌||◌, ◌&&◌, Bool, true, false, List, [], ◌∷◌, ◌++◌, length, slice_get, Option, Some, None}
+use Rattle.std.specs.List.{All, slice_split}
+use Rattle.ufmt.specs.Bytes.{line_feed, space}
+use Rattle.ufmt_core.specs.declared.layout.Mode.{Mode}
+use Rattle.ufmt_core.specs.declared.layout.Mode.TheVariants.{Plain, Pretty}
+
+-- the lines of a text, without the line feeds between them; one more line, which may be empty, follows the last line feed
+abbrev pub lines_of : List ℕ → List (List ℕ)
+lines_of text = slice_split (λ byte. byte == line_feed) text
+
+-- no byte is a line feed
+abbrev pub IsInLine : List ℕ → Type 0
+IsInLine text = All (λ byte. byte ≢ line_feed) text
+
+-- `(`, `[` or `{`
+abbrev pub is_opening : ℕ → Bool
+is_opening byte = (byte == 40) || (byte == 91) || (byte == 123)
+
+-- whether there is a byte that passes the test
+abbrev pub passes : (ℕ → Bool) → Option ℕ → Bool
+passes test None = false
+passes test (Some byte) = test byte
+
+-- whether the line ends with an opening bracket
+abbrev pub opens : List ℕ → Bool
+opens line = passes is_opening (slice_get line (length line - 1))
+
+-- whether the line begins with a space
+abbrev pub is_indented : List ℕ → Bool
+is_indented line = passes (λ byte. byte == space) (slice_get line 0)
+
+-- whether a group goes on after this line of it, which isn't its first if it is inside: a plain text is in one line; a pretty text goes on after an opening bracket, and then after an indented line
+abbrev pub goes_on : Mode → Bool → List ℕ → Bool
+goes_on Pretty inside line = false
+goes_on Plain inside line = opens line || (inside && is_indented line)
+
+-- the line and the first group as one group, if the group goes on after the line
+abbrev pub onto_group : Bool → List ℕ → List (List ℕ) → List (List ℕ)
+onto_group true line (group ∷ groups) = (line ++ line_feed ∷ group) ∷ groups
+onto_group true line [] = line ∷ []
+onto_group false line groups = line ∷ groups
+
+-- the groups of lines, whose first line may be inside of a group
+unfoldable pub grouped : Mode → Bool → List (List ℕ) → List (List ℕ)
+grouped mode inside [] = []
+grouped mode inside (line ∷ lines) = onto_group (goes_on mode inside line) line (grouped mode (goes_on mode inside line) lines)
+
+-- the groups of lines of a text that are answered in this mode
+abbrev pub groups_of : Mode → List ℕ → List (List ℕ)
+groups_of mode text = grouped mode false (lines_of text)
+
+-- whether a group goes on after these lines
+unfoldable pub goes_on_after_lines : Mode → Bool → List (List ℕ) → Bool
+goes_on_after_lines mode inside [] = inside
+goes_on_after_lines mode inside (line ∷ lines) = goes_on_after_lines mode (goes_on mode inside line) lines
+
+-- whether a group goes on after the lines of this text
+unfoldable pub goes_on_after : Mode → List ℕ → Bool
+goes_on_after mode text = goes_on_after_lines mode false (lines_of text)
+
+-- no group ends in the text: after each line feed in it, the group goes on
+abbrev pub IsInGroup : Mode → List ℕ → Type 0
+IsInGroup mode text = (front back : List ℕ) → text ≡ front ++ line_feed ∷ back → goes_on_after mode front ≡ true

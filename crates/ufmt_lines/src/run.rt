@@ -1,0 +1,111 @@
+//! A run of the program: answers each group of lines of its input before it reads the next.
+ghost use Rattle.std.specs.Prelude.{◌≡◌, ◌↔◌, ◌<◌, ◌≤◌, false, take, vec_len, IfErr, IfOk, IsErr, IsErrOf, IsTrue, OnErr, OnOk, ⊤};
+ghost use Rattle.std.specs.Io.KnownBytes.{Consumes, IsAtEnd, Keeps};
+ghost use Rattle.ufmt_lines.specs.Answered.{Answered, AnsweredInPart, ReadAnswered};
+ghost use Rattle.ufmt_lines.specs.Groups.{IsInGroup};
+ghost use Rattle.ufmt_lines.specs.Watched.{device_of, has_failed};
+
+mod answer;
+mod fault;
+mod groups;
+pub mod laws;
+#[cfg(test)]
+mod tests;
+mod watched;
+mod words;
+
+pub use fault::Fault;
+use groups::Group;
+use std::alloc::{AllocError, Global};
+use std::io::{Read, Write};
+use ufmt::layout::Mode;
+pub use watched::{Failed, Watched};
+pub use words::{asked_mode, usage};
+
+// How many bytes are read at once, at most.
+const CHUNK: usize = 64 * 1024;
+
+/// Reads the input to its end, and writes the answer to each group of lines before it reads further,
+/// with texts in this mode. Memory is kept for the longest group and its answer only.
+///
+/// On `CannotWrite` a beginning of the answers was written. On any other fault the answers to whole
+/// groups were written: to all groups that were read whole, if the fault is `CannotRead`.
+pub fn run<R: Read, W: Write>(
+    alloc: Global,
+    mode: Mode,
+    input: &mut Watched<R>,
+    output: &mut Watched<W>,
+) -> Result<(), Fault>
+    requires input_works { has_failed input.old ≡ false }
+    requires output_works { has_failed output.old ≡ false }
+
+    // What is read and written, if the bytes of reader and writer are known.
+    ensures ok { OnOk result (Answered mode (R.remaining (device_of input.old))
+        (W.contents (device_of output.old)) (W.contents (device_of output.new))) }
+    ensures read_whole { OnOk result (IsAtEnd (R.remaining (device_of input.new))) }
+    ensures cannot_write { IsErrOf result Fault.CannotWrite
+        → AnsweredInPart mode (R.remaining (device_of input.old))
+        (W.contents (device_of output.old)) (W.contents (device_of output.new)) }
+    ensures cannot_read { IsErrOf result Fault.CannotRead
+        → ReadAnswered mode (IsInGroup mode) (R.remaining (device_of input.old))
+        (R.remaining (device_of input.new)) (W.contents (device_of output.old))
+        (W.contents (device_of output.new)) }
+    ensures out_of_memory { IsErrOf result Fault.OutOfMemory
+        → ReadAnswered mode (λ _. ⊤) (R.remaining (device_of input.old))
+        (R.remaining (device_of input.new)) (W.contents (device_of output.old))
+        (W.contents (device_of output.new)) }
+
+    // What each fault means.
+    ensures input_failed { IsErrOf result Fault.CannotRead ↔ IsTrue (has_failed input.new) }
+    ensures output_failed { IsErrOf result Fault.CannotWrite ↔ IsTrue (has_failed output.new) }
+{
+    let mut group = Group::new(alloc);
+    let mut chunk = new_chunk(alloc)?;
+    'reads: for _ in 0..u64::MAX {
+        let count = read_chunk(input, &mut chunk)?;
+        if count == 0 {
+            return group.answer(mode, b"", output);
+        }
+        group.answer_ended(mode, front(&chunk, count), output)?;
+    }
+    // An input with no end, after 2^64 - 1 reads.
+    input.give_up();
+    Err(Fault::CannotRead)
+}
+
+// Room for what is read at once.
+fn new_chunk(alloc: Global) -> Result<Vec<u8>, AllocError>
+    ensures { IfOk result (λ chunk. 0 < vec_len chunk) }
+{
+    let mut chunk = Vec::new(alloc);
+    chunk.resize(CHUNK, 0)?;
+    Ok(chunk)
+}
+
+// Reads once to the front of the chunk. Zero is the end of the input.
+fn read_chunk<R: Read>(input: &mut Watched<R>, chunk: &mut Vec<u8>) -> Result<usize, Fault>
+    requires works { has_failed input.old ≡ false }
+    requires room { 0 < vec_len chunk.old }
+    ensures works { OnOk result (has_failed input.new ≡ false) }
+    ensures room { OnOk result (0 < vec_len chunk.new) }
+    ensures within { IfOk result (λ count. count ≤ vec_len chunk.new) }
+    ensures ok { IfOk result (λ count. Consumes (R.remaining (device_of input.old))
+        (R.remaining (device_of input.new)) (take count chunk.new.items)) }
+    ensures end { IfOk result (λ count. count ≡ 0 → IsAtEnd (R.remaining (device_of input.new))) }
+    ensures kept { OnErr result (Keeps (R.remaining (device_of input.old))
+        (R.remaining (device_of input.new))) }
+    ensures failed { IsErr result ↔ IsTrue (has_failed input.new) }
+    ensures no_other { IfErr result (λ fault. fault ≡ Fault.CannotRead) }
+{
+    let buffer = chunk.as_mut_slice();
+    input.read_some(buffer).map_err(|_| Fault::CannotRead)
+}
+
+// What was read.
+fn front(chunk: &Vec<u8>, count: usize) -> &[u8]
+    requires { count ≤ vec_len chunk.now }
+    ensures { result.now ≡ take count chunk.now.items }
+{
+    let bytes = chunk.as_slice();
+    &bytes[..count]
+}

@@ -1,0 +1,200 @@
+//! Groups of lines, gathered from what was read, and answered one by one.
+ghost use Rattle.std.specs.Prelude.{◌≡◌, ◌≢◌, ◌↔◌, ◌++◌, ◌∷◌, [], List, ℕ, IfErr, IsErr, IsErrOf, IsTrue, MatchOption, OnErr, OnOk, false};
+ghost use Rattle.std.specs.Io.KnownBytes.{Appends};
+ghost use Rattle.ufmt.specs.Bytes.{line_feed};
+ghost use Rattle.ufmt_lines.specs.Answered.{AppendsBeginning, FrontAnswered, answers_of};
+ghost use Rattle.ufmt_lines.specs.Groups.{IsInGroup, IsInLine, goes_on_after, is_indented, is_opening, opens};
+ghost use Rattle.ufmt_lines.specs.Readable.{answer_of};
+ghost use Rattle.ufmt_lines.specs.Watched.{device_of, has_failed};
+
+use super::answer::Answer;
+use super::fault::Fault;
+use super::watched::{Failed, Watched};
+use std::alloc::Global;
+use std::io::Write;
+use ufmt::layout::Mode;
+
+/// The group of lines that is being read, and room for its answer. Both are used again for each group.
+#[derive(Drop)]
+pub(super) struct Group {
+    bytes: Vec<u8>,
+    answer: Answer,
+}
+
+impl Group {
+    ghost use Rattle.ufmt_lines.specs.Private.Group.{group_bytes};
+
+    pub(super) fn new(alloc: Global) -> Group
+        ensures { group_bytes result ≡ [] }
+    {
+        Group {
+            bytes: Vec::new(alloc),
+            answer: Answer::new(alloc),
+        }
+    }
+
+    /// Writes the answer to each group that ends in the bytes, which follow those of the group so far.
+    /// What follows the last group is the group that is being read then.
+    pub(super) fn answer_ended<W: Write>(
+        &mut self,
+        mode: Mode,
+        bytes: &[u8],
+        output: &mut Watched<W>,
+    ) -> Result<(), Fault>
+        requires works { has_failed output.old ≡ false }
+        requires in_group { IsInGroup mode (group_bytes self.old) }
+        ensures ok { OnOk result (FrontAnswered mode (group_bytes self.old ++ bytes.now)
+            (group_bytes self.new) (W.contents (device_of output.old))
+            (W.contents (device_of output.new))) }
+        ensures in_group { OnOk result (IsInGroup mode (group_bytes self.new)) }
+        ensures cannot_write { IsErrOf result Fault.CannotWrite → (more : List ℕ)
+            → AppendsBeginning (W.contents (device_of output.old))
+            (W.contents (device_of output.new))
+            (answers_of mode ((group_bytes self.old ++ bytes.now) ++ more)) }
+        ensures out_of_memory { IsErrOf result Fault.OutOfMemory → (rest : List ℕ)
+            × FrontAnswered mode (group_bytes self.old ++ bytes.now) rest
+            (W.contents (device_of output.old)) (W.contents (device_of output.new)) }
+        ensures failed { IsErrOf result Fault.CannotWrite ↔ IsTrue (has_failed output.new) }
+        ensures no_reader { IfErr result (λ fault. fault ≢ Fault.CannotRead) }
+    {
+        let mut rest = bytes;
+        while let Some((first, after)) = split_line(rest) {
+            self.bytes.extend_from_slice(first)?;
+            self.end_line(mode, output)?;
+            rest = after;
+        }
+        self.bytes.extend_from_slice(rest)?;
+        Ok(())
+    }
+
+    // Ends a line: writes the answer to the group if it ends there. Else the group goes on.
+    fn end_line<W: Write>(&mut self, mode: Mode, output: &mut Watched<W>) -> Result<(), Fault>
+        requires works { has_failed output.old ≡ false }
+        requires in_group { IsInGroup mode (group_bytes self.old) }
+        ensures ok { OnOk result (FrontAnswered mode (group_bytes self.old ++ line_feed ∷ [])
+            (group_bytes self.new) (W.contents (device_of output.old))
+            (W.contents (device_of output.new))) }
+        ensures in_group { OnOk result (IsInGroup mode (group_bytes self.new)) }
+        ensures cannot_write { IsErrOf result Fault.CannotWrite → (more : List ℕ)
+            → AppendsBeginning (W.contents (device_of output.old))
+            (W.contents (device_of output.new))
+            (answers_of mode ((group_bytes self.old ++ line_feed ∷ []) ++ more)) }
+        ensures out_of_memory { IsErrOf result Fault.OutOfMemory → output.new ≡ output.old }
+        ensures failed { IsErrOf result Fault.CannotWrite ↔ IsTrue (has_failed output.new) }
+        ensures no_reader { IfErr result (λ fault. fault ≢ Fault.CannotRead) }
+    {
+        if goes_on(mode, &self.bytes) {
+            self.bytes.extend_from_slice(b"\n")?;
+            return Ok(());
+        }
+        self.answer(mode, b"\n", output)
+    }
+
+    /// Writes the answer to the group and this end of it. On `Ok` a new group begins.
+    pub(super) fn answer<W: Write>(
+        &mut self,
+        mode: Mode,
+        end: &[u8],
+        output: &mut Watched<W>,
+    ) -> Result<(), Fault>
+        requires { has_failed output.old ≡ false }
+        ensures ok { OnOk result (Appends (W.contents (device_of output.old))
+            (W.contents (device_of output.new))
+            (answer_of mode (group_bytes self.old) ++ end.now)) }
+        ensures next { OnOk result (group_bytes self.new ≡ []) }
+        ensures cannot_write { IsErrOf result Fault.CannotWrite
+            → AppendsBeginning (W.contents (device_of output.old))
+            (W.contents (device_of output.new))
+            (answer_of mode (group_bytes self.old) ++ end.now) }
+        ensures out_of_memory { IsErrOf result Fault.OutOfMemory → output.new ≡ output.old }
+        ensures failed { IsErrOf result Fault.CannotWrite ↔ IsTrue (has_failed output.new) }
+        ensures no_reader { IfErr result (λ fault. fault ≢ Fault.CannotRead) }
+    {
+        self.answer.clear();
+        self.answer.push_answer(mode, &self.bytes)?;
+        self.answer.push(end)?;
+        write_whole(output, self.answer.as_bytes()).map_err(|_| Fault::CannotWrite)?;
+        self.bytes.clear();
+        Ok(())
+    }
+}
+
+// Whether the group goes on after these lines of it. Where texts are made pretty, a group is one line.
+fn goes_on(mode: Mode, group: &[u8]) -> bool
+    requires { IsInGroup mode group.now }
+    ensures { result ≡ goes_on_after mode group.now }
+{
+    match mode {
+        Mode::Pretty => false,
+        Mode::Plain => match last_line(group) {
+            None => opens(group),
+            Some(line) => opens(line) || is_indented(line),
+        },
+    }
+}
+
+// The bytes after the last line feed, if there is one.
+fn last_line(text: &[u8]) -> Option<&[u8]>
+    ensures { MatchOption result (IsInLine text.now) (λ line. IsInLine line.now
+        × ((front : List ℕ) × (text.now ≡ front ++ line_feed ∷ line.now))) }
+{
+    let mut start = text.len();
+    while start > 0 {
+        if text[start - 1] == b'\n' {
+            return Some(&text[start..]);
+        }
+        start -= 1;
+    }
+    None
+}
+
+// Whether the line ends with an opening bracket.
+fn opens(line: &[u8]) -> bool
+    ensures { result ≡ opens line.now }
+{
+    match line.last() {
+        Some(byte) => is_opening(*byte),
+        None => false,
+    }
+}
+
+fn is_opening(byte: u8) -> bool
+    ensures { result ≡ is_opening byte }
+{
+    byte == b'(' || byte == b'[' || byte == b'{'
+}
+
+// Whether the line begins with a space.
+fn is_indented(line: &[u8]) -> bool
+    ensures { result ≡ is_indented line.now }
+{
+    match line.first() {
+        Some(byte) => *byte == b' ',
+        None => false,
+    }
+}
+
+// The bytes before the first line feed, and those after it.
+fn split_line(text: &[u8]) -> Option<(&[u8], &[u8])>
+    ensures { MatchOption result (IsInLine text.now) (λ x. IsInLine x.0.now
+        × (text.now ≡ x.0.now ++ line_feed ∷ x.1.now)) }
+{
+    let end = text.iter().position(|byte| *byte == b'\n')?;
+    Some((&text[..end], &text[end + 1..]))
+}
+
+// Writes all the bytes, and flushes. After a short write it continues with the rest.
+fn write_whole<W: Write>(output: &mut Watched<W>, bytes: &[u8]) -> Result<(), Failed>
+    requires { has_failed output.old ≡ false }
+    ensures ok { OnOk result (Appends (W.contents (device_of output.old))
+        (W.contents (device_of output.new)) bytes.now) }
+    ensures err { OnErr result (AppendsBeginning (W.contents (device_of output.old))
+        (W.contents (device_of output.new)) bytes.now) }
+    ensures failed { IsErr result ↔ IsTrue (has_failed output.new) }
+{
+    let mut written = 0;
+    while written < bytes.len() {
+        written += output.write_some(&bytes[written..])?;
+    }
+    output.flush_all()
+}

@@ -1,0 +1,214 @@
+//! Lines and their answers. The texts are those that rustc's `{:?}` and `{:#?}` print.
+use super::*;
+
+// Words and a plain text, and the same words and the pretty text.
+const DEBUG_TEXTS: [(&str, &str); 22] = [
+    (
+        "12:00 INFO got Reading { channel: 3 }",
+        "12:00 INFO got Reading {\n    channel: 3,\n}",
+    ),
+    ("Reading { channel: 3 }", "Reading {\n    channel: 3,\n}"),
+    (
+        "a Pair(-1, Some(2))",
+        "a Pair(\n    -1,\n    Some(\n        2,\n    ),\n)",
+    ),
+    ("a b c Pair(-1, None)", "a b c Pair(\n    -1,\n    None,\n)"),
+    ("list: [1, 2]", "list: [\n    1,\n    2,\n]"),
+    (
+        "nested [[1], []]",
+        "nested [\n    [\n        1,\n    ],\n    [],\n]",
+    ),
+    ("empty []", "empty []"),
+    (
+        "set = {\"a b\", \"c\"}",
+        "set = {\n    \"a b\",\n    \"c\",\n}",
+    ),
+    (
+        "map = {\"k\": (1, 2), \"l\": (3, 4)}",
+        "map = {\n    \"k\": (\n        1,\n        2,\n    ),\n    \"l\": (\n        3,\n        4,\n    ),\n}",
+    ),
+    ("one (1,)", "one (\n    1,\n)"),
+    (
+        "node Node { value: 1, next: Some(Node { value: 0, next: None }) }",
+        "node Node {\n    value: 1,\n    next: Some(\n        Node {\n            value: 0,\n            next: None,\n        },\n    ),\n}",
+    ),
+    ("unit Unit", "unit Unit"),
+    ("unit ()", "unit ()"),
+    (
+        "unit struct in Some(Unit)",
+        "unit struct in Some(\n    Unit,\n)",
+    ),
+    (
+        "said Said { text: \"so { x: 1 }\", end: ']' }",
+        "said Said {\n    text: \"so { x: 1 }\",\n    end: ']',\n}",
+    ),
+    (
+        "said Said { text: \"a [b] \\\"c [d]\\\"\", end: ' ' }",
+        "said Said {\n    text: \"a [b] \\\"c [d]\\\"\",\n    end: ' ',\n}",
+    ),
+    (
+        "said [\"( [\", \"{ 1 }\"]",
+        "said [\n    \"( [\",\n    \"{ 1 }\",\n]",
+    ),
+    (
+        "said [\"a\\nb\\tc\\\\\", \"\\u{1b}é\"]",
+        "said [\n    \"a\\nb\\tc\\\\\",\n    \"\\u{1b}é\",\n]",
+    ),
+    ("[a] {b} [1]", "[a] {b} [\n    1,\n]"),
+    ("( [ { [1]", "( [ { [\n    1,\n]"),
+    (
+        "x [[' ', '\"', '\\'', '[']]",
+        "x [\n    [\n        ' ',\n        '\"',\n        '\\'',\n        '[',\n    ],\n]",
+    ),
+    ("\u{fe0f}é: [\"é\"]", "\u{fe0f}é: [\n    \"é\",\n]"),
+];
+
+// Lines that stay as they are.
+const OTHERS: [&[u8]; 25] = [
+    b"",
+    b" ",
+    b"word",
+    b"two words",
+    b"ends with a space [1] ",
+    b"[1,2]",
+    b"[1",
+    b"x=[1]",
+    b"S { }",
+    b"n(1,)",
+    b"(1)",
+    b"got [1].",
+    b"[1]\r",
+    b"\"a [b]\"",
+    b"said \"a [b]\"",
+    b"'[' ']'",
+    b"\xff\xfe",
+    b"\xff [\"\xff\"]",
+    b"[\xc3\xa9]",
+    b"\t[1]",
+    b"()",
+    b"{}",
+    b"}",
+    b") ] }",
+    b"x=S { a: (b,) }",
+];
+
+// Lines of which only a tail is a debug text, or of which more than one is: the longest is taken.
+const TAILS: [(&[u8], &[u8]); 11] = [
+    (b"a [b]", b"a [\n    b,\n]"),
+    (b" [b]", b" [\n    b,\n]"),
+    (b"  [b]", b"  [\n    b,\n]"),
+    (b"(a, [b])", b"(\n    a,\n    [\n        b,\n    ],\n)"),
+    (b"(a, [b]", b"(a, [\n    b,\n]"),
+    (b"S [b]", b"S [\n    b,\n]"),
+    (b"a: [b]", b"a: [\n    b,\n]"),
+    (b"\"a [b]", b"\"a [\n    b,\n]"),
+    (b"[b] [b]", b"[b] [\n    b,\n]"),
+    (b"\xff [b]", b"\xff [\n    b,\n]"),
+    (b"\r [b]", b"\r [\n    b,\n]"),
+];
+
+// Groups of lines that end with a pretty text, and the same words and the plain text.
+const PRETTY_TEXTS: [(&[u8], &[u8]); 12] = [
+    (b"a [\n    1,\n]\nb", b"a [1]\nb"),
+    (b"[\n    1,\n]\n[\n    2,\n]", b"[1]\n[2]"),
+    (b"\n(\n    1,\n)\n\n", b"\n(1,)\n\n"),
+    (b"a [\n\nb [\n    1,\n]", b"a [\n\nb [1]"),
+    (b"a [\nword\nb [\n    1,\n]", b"a [\nword\nb [1]"),
+    (b"a [\nS {\n    b: c,\n}\nend", b"a [\nS { b: c }\nend"),
+    (b"a [\nb S {\n    b: c,\n}\nend", b"a [\nb S { b: c }\nend"),
+    (b"a [\n    b [\n    1,\n]", b"a [\n    b [1]"),
+    (b"a [\n    S {\n        b: 1,\n    },\n]", b"a [S { b: 1 }]"),
+    (b"a [\n    1,\n] [\n    2,\n]", b"a [\n    1,\n] [2]"),
+    (b"  at\n  [\n    1,\n]", b"  at\n  [1]"),
+    (b"\xff [\n    1,\n]\n\xfe", b"\xff [1]\n\xfe"),
+];
+
+// Groups of lines that stay as they are.
+const OTHER_GROUPS: [&[u8]; 19] = [
+    b"a [\n    b [\n        1,\n    ],\n]",
+    b"a [",
+    b"a [\n",
+    b"a [\n    1,",
+    b"a [\n    1,\nb",
+    b"a [\n    1,\n].",
+    b"a [\n    1,\n],",
+    b"a [\n    1,\n}",
+    b"a [\n    1\n]",
+    b"a [\n  1,\n]",
+    b"a [\n    1, 2,\n]",
+    b"a [\n\n    1,\n]",
+    b"a [\n]",
+    b"a=[\n    1,\n]",
+    b"a [\r\n    1,\r\n]\r",
+    b"a [ \n    1,\n]",
+    b"{\n    \"a\": 1,\n    \"b\": [2]\n}",
+    b"  at\n    at\n]\n}",
+    b"[\n    [\n    1,\n    ],\n]",
+];
+
+// Whether a run over the lines, and over the lines and a line feed, writes this answer.
+fn is_answered(alloc: Global, mode: Mode, line: &[u8], answer: &[u8]) -> Result<bool, AllocError> {
+    let whole = ran_by(alloc, mode, line, WHOLE, answer);
+    let mut ended = Vec::from_slice(alloc, line)?;
+    ended.push(b'\n')?;
+    let mut answer = Vec::from_slice(alloc, answer)?;
+    answer.push(b'\n')?;
+    let by_line = ran_by(alloc, mode, &ended, WHOLE, &answer);
+    let by_bytes = ran_by(alloc, mode, &ended, 1, &answer);
+    let wanted = wanted(Ok(()));
+    Ok(whole == wanted && by_line == wanted && by_bytes == wanted)
+}
+
+#[test]
+fn debug_texts_are_made_pretty(rt: HostRuntime) {
+    for (plain, pretty) in DEBUG_TEXTS {
+        let (line, answer) = (plain.as_bytes(), pretty.as_bytes());
+        let given = is_answered(rt.alloc(), Mode::Pretty, line, answer);
+        same(&rt, given, Ok(true), plain);
+    }
+}
+
+#[test]
+fn debug_texts_are_made_plain(rt: HostRuntime) {
+    for (plain, pretty) in DEBUG_TEXTS {
+        let (answer, lines) = (plain.as_bytes(), pretty.as_bytes());
+        let given = is_answered(rt.alloc(), Mode::Plain, lines, answer);
+        same(&rt, given, Ok(true), plain);
+    }
+}
+
+#[test]
+fn other_lines_stay(rt: HostRuntime) {
+    for line in OTHERS {
+        for mode in [Mode::Pretty, Mode::Plain] {
+            let given = is_answered(rt.alloc(), mode, line, line);
+            same(&rt, (line, given), (line, Ok(true)), "a line");
+        }
+    }
+}
+
+#[test]
+fn the_longest_tail_is_taken(rt: HostRuntime) {
+    for (plain, pretty) in TAILS {
+        let given = is_answered(rt.alloc(), Mode::Pretty, plain, pretty);
+        same(&rt, (plain, given), (plain, Ok(true)), "a line");
+        let given = is_answered(rt.alloc(), Mode::Plain, pretty, plain);
+        same(&rt, (pretty, given), (pretty, Ok(true)), "a group");
+    }
+}
+
+#[test]
+fn pretty_texts_are_made_plain(rt: HostRuntime) {
+    for (pretty, plain) in PRETTY_TEXTS {
+        let given = is_answered(rt.alloc(), Mode::Plain, pretty, plain);
+        same(&rt, (pretty, given), (pretty, Ok(true)), "lines");
+    }
+}
+
+#[test]
+fn other_groups_stay(rt: HostRuntime) {
+    for lines in OTHER_GROUPS {
+        let given = is_answered(rt.alloc(), Mode::Plain, lines, lines);
+        same(&rt, (lines, given), (lines, Ok(true)), "lines");
+    }
+}

@@ -1,0 +1,45 @@
+//! Tests of a user's own writer, which keeps its bytes in a fixed array.
+use super::rows::{Table, has_rows};
+use ufmt::{Full, uWrite, write_debug};
+use ufmt_user::Fixed;
+
+impl Table {
+    // Adds a row of what a call returned, and of what is written then.
+    fn put_fixed<const N: usize>(&mut self, answer: Result<(), Full>, writer: &Fixed<N>) {
+        let answer = answer.map(|()| writer.written().len());
+        self.put_answer(answer, writer.written());
+    }
+}
+
+const PIECES: &str = "\
+Ok(0) ;
+Ok(2) ab;
+Err(Full) ab;
+Ok(5) abcde;
+Ok(5) abcde;
+Err(Full) abcde;
+";
+
+// A piece that fits exactly is taken, and nothing of one that doesn't fit.
+#[test]
+fn a_fixed_writer_takes_pieces_whole(rt: HostRuntime) {
+    let mut table = Table::new(rt.alloc());
+    let mut writer = Fixed::<5>::new();
+    for piece in ["", "ab", "cdef", "cde", "", "f"] {
+        let answer = writer.write_str(piece);
+        table.put_fixed(answer, &writer);
+    }
+    has_rows(&rt, &table, PIECES);
+}
+
+#[test]
+fn a_fixed_writer_takes_values(rt: HostRuntime) {
+    let mut table = Table::new(rt.alloc());
+    let mut writer = Fixed::<7>::new();
+    let answer = write_debug(&mut writer, &[1u8, 23]);
+    table.put_fixed(answer, &writer);
+    let mut writer = Fixed::<6>::new();
+    let answer = write_debug(&mut writer, &[1u8, 23]);
+    table.put_fixed(answer, &writer);
+    has_rows(&rt, &table, "Ok(7) [1, 23];\nErr(Full) [1, 23;\n");
+}

@@ -1,0 +1,166 @@
+//! Tests of the pieces of std's shared values, queues, hashed collections, ranges and small types, by each trait that
+//! they have.
+use super::printed::Displayed;
+use super::rows::{Table, has_rows};
+use std::alloc::{AllocError, Global};
+use std::borrow::{Cow, CowStr};
+use std::boxed::BoxedStr;
+use std::cell::RefCell;
+use std::cmp::{Ordering, Reverse};
+use std::collections::{HashMap, HashSet, LinkedList, VecDeque};
+use std::num::{Saturating, Wrapping};
+use std::ops::{Bound, ControlFlow};
+use std::rc::{Rc, RcStr};
+use std::sync::{Arc, ArcStr};
+use ufmt::cells::{CellValue, RefCellValue};
+
+const COLLECTIONS: &str = "\
+[|1|, |2|]|~
+[|\n|    |1|,\n|    |2|,\n|]|;
+[|1|, |2|]|~
+[|\n|    |1|,\n|    |2|,\n|]|;
+{|1|}|~
+{|\n|    |1|,\n|}|;
+{|1|: |2|}|~
+{|\n|    |1|: |2|,\n|}|;
+";
+
+fn queue(alloc: Global) -> Result<VecDeque<u8>, AllocError> {
+    let mut queue = VecDeque::new(alloc);
+    queue.push_back(2u8)?;
+    queue.push_front(1)?;
+    Ok(queue)
+}
+
+fn linked_list(alloc: Global) -> Result<LinkedList<u8>, AllocError> {
+    let mut list = LinkedList::new(alloc);
+    list.push_back(1u8)?;
+    list.push_back(2)?;
+    Ok(list)
+}
+
+fn hashed_set(alloc: Global) -> Result<HashSet<u8>, AllocError> {
+    let mut set = HashSet::new(alloc);
+    set.insert(1u8)?;
+    Ok(set)
+}
+
+fn hashed_map(alloc: Global) -> Result<HashMap<u8, u8>, AllocError> {
+    let mut map = HashMap::new(alloc);
+    map.insert(1u8, 2u8)?;
+    Ok(map)
+}
+
+#[test]
+fn collections_print_in_pieces(rt: HostRuntime) {
+    let mut table = Table::new(rt.alloc());
+    table.pieces_of_made(queue(rt.alloc()));
+    table.pieces_of_made(linked_list(rt.alloc()));
+    table.pieces_of_made(hashed_set(rt.alloc()));
+    table.pieces_of_made(hashed_map(rt.alloc()));
+    has_rows(&rt, &table, COLLECTIONS);
+}
+
+const RANGES: &str = "\
+1|..|5|;
+1|..=|5|;
+5|..=|5| (exhausted)|;
+1|..|;
+..|5|;
+..=|5|;
+..|;
+Some|(|1|)|..|None|~
+Some|(|\n|    |1|,\n|)|..|None|;
+";
+
+#[test]
+fn ranges_print_in_pieces(rt: HostRuntime) {
+    let mut table = Table::new(rt.alloc());
+    table.pieces(&(1u8..5));
+    table.pieces(&(1u8..=5));
+    let mut spent = 5u8..=5;
+    spent.next();
+    table.pieces(&spent);
+    table.pieces(&(1u8..));
+    table.pieces(&(..5u8));
+    table.pieces(&(..=5u8));
+    table.pieces(&(..));
+    table.pieces(&(Some(1u8)..None));
+    has_rows(&rt, &table, RANGES);
+}
+
+const SMALL_TYPES: &str = "\
+1|;
+2|;
+3|;
+4|;
+5|;
+Reverse|(|6|)|~
+Reverse|(|\n|    |6|,\n|)|;
+Less|;
+Included|(|7|)|~
+Included|(|\n|    |7|,\n|)|;
+Unbounded|;
+Break|(|8|)|~
+Break|(|\n|    |8|,\n|)|;
+Cell| {| |value|: |9| |}|~
+Cell| {|\n|    |value|: |9|,\n|}|;
+RefCell| {| |value|: |<borrowed>| |}|~
+RefCell| {|\n|    |value|: |<borrowed>|,\n|}|;
+";
+
+#[test]
+fn small_types_print_in_pieces(rt: HostRuntime) {
+    let mut table = Table::new(rt.alloc());
+    table.pieces_of_made(Rc::new(rt.alloc(), 1u8));
+    table.pieces_of_made(Arc::new(rt.alloc(), 2u8));
+    table.pieces(&Cow::Borrowed(&3u8));
+    table.pieces(&Wrapping(4u8));
+    table.pieces(&Saturating(5u8));
+    table.pieces(&Reverse(6u8));
+    table.pieces(&Ordering::Less);
+    table.pieces(&Bound::Included(7u8));
+    table.pieces(&Bound::Unbounded::<u8>);
+    table.pieces(&ControlFlow::<u8, u8>::Break(8));
+    table.pieces(&CellValue(9u8));
+    table.pieces(&RefCellValue::Borrowed::<u8>);
+    has_rows(&rt, &table, SMALL_TYPES);
+}
+
+const DISPLAYED: &str = "\
+1|;
+c|;
+true|;
+2|;
+3|;
+3|;
+a\"|;
+b\n|;
+c|;
+d|;
+é|;
+-4|;
+5|;
+";
+
+#[test]
+fn what_is_held_is_displayed_as_by_core_fmt(rt: HostRuntime) {
+    let mut table = Table::new(rt.alloc());
+    table.pieces_of_made(Rc::new(rt.alloc(), 1u8).map(Displayed));
+    table.pieces_of_made(Arc::new(rt.alloc(), 'c').map(Displayed));
+    table.pieces(&Displayed(Cow::Borrowed(&true)));
+    table.pieces(&Displayed(Cow::Owned(2u8)));
+    let cell = RefCell::new(3u8);
+    table.pieces_of_made(cell.try_borrow().map(Displayed));
+    table.pieces_of_made(cell.try_borrow_mut().map(Displayed));
+    table.pieces(&Displayed(CowStr::<Global>::Borrowed("a\"")));
+    table.pieces_of_made(String::from_str(rt.alloc(), "b\n").map(|text| Displayed(CowStr::Owned(
+        text,
+    ))));
+    table.pieces_of_made(RcStr::from_str(rt.alloc(), "c").map(Displayed));
+    table.pieces_of_made(ArcStr::from_str(rt.alloc(), "d").map(Displayed));
+    table.pieces_of_made(BoxedStr::from_str(rt.alloc(), "é").map(Displayed));
+    table.pieces(&Displayed(Wrapping(-4i8)));
+    table.pieces(&Displayed(Saturating(5u8)));
+    has_rows(&rt, &table, DISPLAYED);
+}

@@ -1,0 +1,503 @@
+//! Tests of the texts of std's shared values, queues, hashed collections, ranges and small types. They are those of
+//! core::fmt, but for the order of a hashed collection of several items.
+use super::rows::{Table, has_rows, list, same};
+use std::alloc::{AllocError, Global};
+use std::borrow::{Cow, CowSlice, CowStr};
+use std::boxed::{BoxedSlice, BoxedStr};
+use std::cell::{Cell, RefCell};
+use std::cmp::{Ordering, Reverse};
+use std::collections::{BinaryHeap, HashMap, HashSet, LinkedList, VecDeque};
+use std::num::{Saturating, Wrapping};
+use std::ops::{Bound, ControlFlow};
+use std::rc::{Rc, RcSlice, RcStr, Weak};
+use std::sync::{Arc, ArcSlice, ArcStr};
+use ufmt::cells::{CellValue, RefCellValue};
+use ufmt::plain_text;
+
+const SHARED: &str = "\
+1;
+[1, 2]~
+[
+    1,
+    2,
+];
+Some(3)~
+Some(
+    3,
+);
+4;
+5;
+Some([6])~
+Some(
+    [
+        6,
+    ],
+);
+(Weak);
+";
+
+fn shared_list(alloc: Global) -> Result<Vec<Rc<u8>>, AllocError> {
+    let mut list = Vec::new(alloc);
+    list.push(Rc::new(alloc, 1u8)?)?;
+    list.push(Rc::new(alloc, 2)?)?;
+    Ok(list)
+}
+
+#[test]
+fn shared_values_print_as_by_core_fmt(rt: HostRuntime) {
+    let mut table = Table::new(rt.alloc());
+    table.texts_of_made(Rc::new(rt.alloc(), 1u8));
+    table.texts_of_made(shared_list(rt.alloc()));
+    table.texts_of_made(Arc::new(rt.alloc(), Some(3u8)));
+    table.texts(&Cow::Borrowed(&4u8));
+    table.texts(&Cow::Owned(5u8));
+    table.texts(&Some(Cow::Borrowed(&[6u8])));
+    table.texts(&Weak::<u8>::new());
+    has_rows(&rt, &table, SHARED);
+}
+
+const SHARED_TEXTS: &str = r#""a\"b\n";
+"c'";
+"é";
+"\\";
+"\0";
+"#;
+
+#[test]
+fn shared_texts_print_in_quotes(rt: HostRuntime) {
+    let mut table = Table::new(rt.alloc());
+    table.texts(&CowStr::<Global>::Borrowed("a\"b\n"));
+    table.texts_of_made(String::from_str(rt.alloc(), "c'").map(|text| CowStr::Owned(text)));
+    table.texts_of_made(RcStr::from_str(rt.alloc(), "é"));
+    table.texts_of_made(ArcStr::from_str(rt.alloc(), "\\"));
+    table.texts_of_made(BoxedStr::from_str(rt.alloc(), "\0"));
+    has_rows(&rt, &table, SHARED_TEXTS);
+}
+
+const SHARED_SLICES: &str = "\
+[1, 2]~
+[
+    1,
+    2,
+];
+[3]~
+[
+    3,
+];
+[4]~
+[
+    4,
+];
+[5, 6]~
+[
+    5,
+    6,
+];
+[7]~
+[
+    7,
+];
+[1, 2]~
+[
+    1,
+    2,
+];
+";
+
+#[test]
+fn slices_that_are_shared_or_lent_print_as_lists(rt: HostRuntime) {
+    let mut table = Table::new(rt.alloc());
+    table.texts(&CowSlice::<u8, Global>::Borrowed(&[1, 2]));
+    table.texts_of_made(list(rt.alloc(), &[3u8]).map(|items| CowSlice::Owned(items)));
+    table.texts_of_made(RcSlice::from_slice(rt.alloc(), &[4u8]));
+    table.texts_of_made(ArcSlice::from_slice(rt.alloc(), &[5u8, 6]));
+    table.texts_of_made(BoxedSlice::from_slice(rt.alloc(), &[7u8]));
+    let mut items = [1u8, 2];
+    table.texts(&items.as_mut_slice());
+    has_rows(&rt, &table, SHARED_SLICES);
+}
+
+const GUARDS: &str = "\
+Some(1)~
+Some(
+    1,
+);
+Some(1)~
+Some(
+    1,
+);
+";
+
+#[test]
+fn guards_of_a_cell_print_its_value(rt: HostRuntime) {
+    let mut table = Table::new(rt.alloc());
+    let cell = RefCell::new(Some(1u8));
+    table.texts_of_made(cell.try_borrow());
+    table.texts_of_made(cell.try_borrow_mut());
+    has_rows(&rt, &table, GUARDS);
+}
+
+const CELLS: &str = "\
+Cell { value: 5 }~
+Cell {
+    value: 5,
+};
+Some(Cell { value: Some(5) })~
+Some(
+    Cell {
+        value: Some(
+            5,
+        ),
+    },
+);
+RefCell { value: 5 }~
+RefCell {
+    value: 5,
+};
+RefCell { value: 5 }~
+RefCell {
+    value: 5,
+};
+RefCell { value: <borrowed> }~
+RefCell {
+    value: <borrowed>,
+};
+";
+
+// Adds a row while the value is borrowed to be read, and one while it is borrowed to be written.
+fn put_borrowed(table: &mut Table, cell: &RefCell<u8>) {
+    let Ok(reader) = cell.try_borrow() else {
+        return table.put_nothing();
+    };
+    table.texts(&RefCellValue::of(cell));
+    drop(reader);
+    let Ok(writer) = cell.try_borrow_mut() else {
+        return table.put_nothing();
+    };
+    table.texts(&RefCellValue::of(cell));
+    drop(writer);
+}
+
+#[test]
+fn what_was_read_of_a_cell_prints_as_the_cell(rt: HostRuntime) {
+    let mut table = Table::new(rt.alloc());
+    table.texts(&CellValue::of(&Cell::new(5u8)));
+    table.texts(&Some(CellValue::of(&Cell::new(Some(5u8)))));
+    let cell = RefCell::new(5u8);
+    table.texts(&RefCellValue::of(&cell));
+    put_borrowed(&mut table, &cell);
+    has_rows(&rt, &table, CELLS);
+}
+
+// A cell is read at the call, and not where its value prints.
+#[test]
+fn what_was_read_of_a_cell_stays(rt: HostRuntime) {
+    let mut table = Table::new(rt.alloc());
+    let cell = Cell::new(1u8);
+    let value = CellValue::of(&cell);
+    cell.set(2);
+    table.plain(&value);
+    table.plain(&CellValue::of(&cell));
+    has_rows(&rt, &table, "Cell { value: 1 };\nCell { value: 2 };\n");
+}
+
+const QUEUES: &str = "\
+[];
+[3, 4, 5, 6]~
+[
+    3,
+    4,
+    5,
+    6,
+];
+Some([[1]])~
+Some(
+    [
+        [
+            1,
+        ],
+    ],
+);
+[];
+[1, 2]~
+[
+    1,
+    2,
+];
+[3, 2, 1]~
+[
+    3,
+    2,
+    1,
+];
+";
+
+// A queue of 3, 4, 5 and 6, of which the last two are at the start of its memory.
+fn wrapped(alloc: Global) -> Result<VecDeque<u8>, AllocError> {
+    let mut queue = VecDeque::with_capacity(alloc, 4)?;
+    for item in [1, 2, 3, 4] {
+        queue.push_back(item)?;
+    }
+    queue.pop_front();
+    queue.pop_front();
+    queue.push_back(5)?;
+    queue.push_back(6)?;
+    Ok(queue)
+}
+
+fn nested_queue(alloc: Global) -> Result<Option<VecDeque<VecDeque<u8>>>, AllocError> {
+    let mut inner = VecDeque::new(alloc);
+    inner.push_back(1u8)?;
+    let mut queue = VecDeque::new(alloc);
+    queue.push_back(inner)?;
+    Ok(Some(queue))
+}
+
+fn linked_list(alloc: Global) -> Result<LinkedList<u8>, AllocError> {
+    let mut list = LinkedList::new(alloc);
+    list.push_back(2u8)?;
+    list.push_front(1)?;
+    Ok(list)
+}
+
+#[test]
+fn queues_print_from_front_to_back(rt: HostRuntime) {
+    let mut table = Table::new(rt.alloc());
+    table.texts(&VecDeque::<u8>::new(rt.alloc()));
+    table.texts_of_made(wrapped(rt.alloc()));
+    table.texts_of_made(nested_queue(rt.alloc()));
+    table.texts(&LinkedList::<u8>::new(rt.alloc()));
+    table.texts_of_made(linked_list(rt.alloc()));
+    table.texts_of_made(BinaryHeap::from_array(rt.alloc(), [2u8, 3, 1]));
+    has_rows(&rt, &table, QUEUES);
+}
+
+// The row above would show nothing of a queue in one slice.
+#[test]
+fn the_wrapped_queue_is_in_two_slices(rt: HostRuntime) {
+    let lengths = wrapped(rt.alloc()).map(|queue| {
+        let (front, back) = queue.as_slices();
+        (front.len(), back.len())
+    });
+    same(&rt, lengths, Ok((2, 2)), "slices");
+}
+
+const HASHED: &str = "\
+{};
+{1}~
+{
+    1,
+};
+{};
+{1: Some(true)}~
+{
+    1: Some(
+        true,
+    ),
+};
+";
+
+fn hashed_set(alloc: Global, items: &[u8]) -> Result<HashSet<u8>, AllocError> {
+    let mut set = HashSet::new(alloc);
+    for item in items {
+        set.insert(*item)?;
+    }
+    Ok(set)
+}
+
+fn hashed_map(alloc: Global, keys: &[u8]) -> Result<HashMap<u8, Option<bool>>, AllocError> {
+    let mut map = HashMap::new(alloc);
+    for key in keys {
+        map.insert(*key, Some(true))?;
+    }
+    Ok(map)
+}
+
+#[test]
+fn hashed_collections_print_as_by_core_fmt(rt: HostRuntime) {
+    let mut table = Table::new(rt.alloc());
+    table.texts_of_made(hashed_set(rt.alloc(), &[]));
+    table.texts_of_made(hashed_set(rt.alloc(), &[1]));
+    table.texts_of_made(hashed_map(rt.alloc(), &[]));
+    table.texts_of_made(hashed_map(rt.alloc(), &[1]));
+    has_rows(&rt, &table, HASHED);
+}
+
+// The map's plain text, by its iterator.
+fn text_by_iterator(alloc: Global, map: &HashMap<u8, Option<bool>>) -> Result<String, AllocError> {
+    let mut text = String::from_str(alloc, "{")?;
+    for (key, value) in map {
+        if text.len() > 1 {
+            text.push_str(", ")?;
+        }
+        text.push_str(plain_text(alloc, key)?.as_str())?;
+        text.push_str(": ")?;
+        text.push_str(plain_text(alloc, value)?.as_str())?;
+    }
+    text.push_str("}")?;
+    Ok(text)
+}
+
+fn prints_in_order(alloc: Global) -> Result<bool, AllocError> {
+    let map = hashed_map(alloc, &[9, 3, 200, 7, 1])?;
+    let wanted = text_by_iterator(alloc, &map)?;
+    Ok(plain_text(alloc, &map)?.as_str() == wanted.as_str())
+}
+
+#[test]
+fn a_hashed_map_prints_in_the_order_of_iteration(rt: HostRuntime) {
+    same(&rt, prints_in_order(rt.alloc()), Ok(true), "five entries");
+}
+
+const RANGES: &str = r#"1..5;
+-1..=5;
+1..;
+..5;
+..=5;
+..;
+'a'..'z';
+"a"..="z";
+Some(1..5)~
+Some(
+    1..5,
+);
+[0..2, 2..4]~
+[
+    0..2,
+    2..4,
+];
+Some(1)..None~
+Some(
+    1,
+)..None;
+Some(1)..=Some(2)~
+Some(
+    1,
+)..=Some(
+    2,
+);
+..Some(1)~
+..Some(
+    1,
+);
+..=(1, 2)~
+..=(
+    1,
+    2,
+);
+(1,)..~
+(
+    1,
+)..;
+"#;
+
+#[test]
+fn ranges_print_as_by_core_fmt(rt: HostRuntime) {
+    let mut table = Table::new(rt.alloc());
+    table.texts(&(1u8..5));
+    table.texts(&(-1i8..=5));
+    table.texts(&(1u64..));
+    table.texts(&(..5i32));
+    table.texts(&(..=5u16));
+    table.texts(&(..));
+    table.texts(&('a'..'z'));
+    table.texts(&("a"..="z"));
+    table.texts(&Some(1u8..5));
+    table.texts(&[0usize..2, 2..4]);
+    table.texts(&(Some(1u8)..None));
+    table.texts(&(Some(1u8)..=Some(2)));
+    table.texts(&(..Some(1u8)));
+    table.texts(&(..=(1u8, 2u8)));
+    table.texts(&((1u8,)..));
+    has_rows(&rt, &table, RANGES);
+}
+
+const SPENT_RANGES: &str = "\
+2..=2;
+2..=2 (exhausted);
+2..=2 (exhausted);
+-1..=-1 (exhausted);
+Some(255..=255 (exhausted))~
+Some(
+    255..=255 (exhausted),
+);
+5..=1;
+";
+
+#[test]
+fn inclusive_ranges_print_whether_they_are_exhausted(rt: HostRuntime) {
+    let mut table = Table::new(rt.alloc());
+    let mut range = 1u8..=2;
+    range.next();
+    table.texts(&range);
+    range.next();
+    table.texts(&range);
+    range.next();
+    table.texts(&range);
+    let mut from_back = -1i8..=0;
+    from_back.next_back();
+    from_back.next_back();
+    table.texts(&from_back);
+    let mut last = u8::MAX..=u8::MAX;
+    last.next();
+    table.texts(&Some(last));
+    let mut backward = 5u8..=1;
+    backward.next();
+    table.texts(&backward);
+    has_rows(&rt, &table, SPENT_RANGES);
+}
+
+const WRAPPERS: &str = "\
+-1;
+Some(2)~
+Some(
+    2,
+);
+Reverse(3)~
+Reverse(
+    3,
+);
+Less;
+Equal;
+Some(Greater)~
+Some(
+    Greater,
+);
+Included(1)~
+Included(
+    1,
+);
+Excluded(2)~
+Excluded(
+    2,
+);
+(Unbounded,)~
+(
+    Unbounded,
+);
+Continue(true)~
+Continue(
+    true,
+);
+Break(1)~
+Break(
+    1,
+);
+";
+
+#[test]
+fn small_types_print_as_by_core_fmt(rt: HostRuntime) {
+    let mut table = Table::new(rt.alloc());
+    table.texts(&Wrapping(-1i8));
+    table.texts(&Saturating(Some(2u8)));
+    table.texts(&Reverse(3u8));
+    table.texts(&Ordering::Less);
+    table.texts(&Ordering::Equal);
+    table.texts(&Some(Ordering::Greater));
+    table.texts(&Bound::Included(1u8));
+    table.texts(&Bound::Excluded(2u8));
+    table.texts(&(Bound::Unbounded::<u8>,));
+    table.texts(&ControlFlow::<u8, bool>::Continue(true));
+    table.texts(&ControlFlow::<u8, bool>::Break(1));
+    has_rows(&rt, &table, WRAPPERS);
+}

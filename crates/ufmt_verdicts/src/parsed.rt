@@ -1,0 +1,68 @@
+//! Which types have a value with the text.
+use crate::calls::Calls;
+use crate::fault::{Fault, agree};
+use std::collections::{BTreeMap, BTreeSet};
+use std::num::NonZeroU16;
+use ufmt_doc::doc::Doc;
+use ufmt_doc::plain_reader::ReadError;
+use ufmt_parse::uParse;
+use ufmt_parse_tests::node::Node;
+use ufmt_parse_tests::tree::Tree;
+
+/// Returns the letters of the types that have a value with the text, which was read as this document.
+pub fn letters(calls: Calls<'_>, doc: &Doc) -> Result<String, Fault> {
+    let mut letters = String::new(calls.alloc);
+    of_leaves(calls, doc, &mut letters)?;
+    of_blocks(calls, doc, &mut letters)?;
+    Ok(letters)
+}
+
+fn of_leaves(calls: Calls<'_>, doc: &Doc, letters: &mut String) -> Result<(), Fault> {
+    add::<u8>(calls, doc, letters, 'a')?;
+    add::<i64>(calls, doc, letters, 'b')?;
+    add::<i128>(calls, doc, letters, 'c')?;
+    add::<NonZeroU16>(calls, doc, letters, 'd')?;
+    add::<bool>(calls, doc, letters, 'e')?;
+    add::<char>(calls, doc, letters, 'f')?;
+    add::<String>(calls, doc, letters, 'g')?;
+    add::<()>(calls, doc, letters, 'h')
+}
+
+fn of_blocks(calls: Calls<'_>, doc: &Doc, letters: &mut String) -> Result<(), Fault> {
+    add::<Option<Box<i8>>>(calls, doc, letters, 'i')?;
+    add::<Result<String, char>>(calls, doc, letters, 'j')?;
+    add::<Vec<u64>>(calls, doc, letters, 'k')?;
+    add::<[i16; 2]>(calls, doc, letters, 'l')?;
+    add::<(u32,)>(calls, doc, letters, 'm')?;
+    add::<(char, (), Vec<bool>)>(calls, doc, letters, 'n')?;
+    add::<BTreeSet<i8>>(calls, doc, letters, 'o')?;
+    add::<BTreeMap<String, Option<u8>>>(calls, doc, letters, 'p')?;
+    add::<Tree>(calls, doc, letters, 'q')?;
+    add::<Node>(calls, doc, letters, 'r')?;
+    add::<Vec<Tree>>(calls, doc, letters, 's')
+}
+
+// Adds the letter of the type if it has a value with the text. Each such value must print as the text.
+fn add<T: uParse>(
+    calls: Calls<'_>,
+    doc: &Doc,
+    letters: &mut String,
+    letter: char,
+) -> Result<(), Fault> {
+    let Some(value) = T::from_doc(calls.alloc, doc)? else {
+        return agree(is_no_value::<T>(calls), "parse of another type's text");
+    };
+    let printed = calls.print(&value)?;
+    agree(printed.as_bytes() == calls.text, "a parsed value, printed")?;
+    let again = calls.parse::<T>()?;
+    let printed = calls.print(&again)?;
+    agree(printed.as_bytes() == calls.text, "parse")?;
+    letters.push(letter)?;
+    Ok(())
+}
+
+// Whether no value of the type has the text. Long texts are only tried by their documents, since reading one
+// for each type would take most of the time.
+fn is_no_value<T: uParse>(calls: Calls<'_>) -> bool {
+    calls.text.len() > 1000 || calls.parse::<T>().map(drop::<T>) == Err(ReadError::NotText)
+}

@@ -1,0 +1,74 @@
+"""The lines that the programs should print: of each text all that the calls say of it, and what ufmt_conv writes."""
+import zlib
+
+import values
+from model import DEEPEST, WORD, PlainReader, PrettyReader, depth_of, events, leaf_at, parts, plain, pretty, quoted
+
+
+def digest(text):
+    text = text.encode()
+    adler = zlib.adler32(text)
+    return "%d %d %d" % (len(text), adler >> 16, adler & 0xFFFF)
+
+
+def joined(add, document):
+    out = []
+    add(document, out)
+    return "".join(out)
+
+
+def half(document, converted):
+    if document is None:
+        return "no text"
+    return "events %s, converted %s, parts %s, in a list %s, types [%s]" % (
+        digest(joined(events, document)),
+        digest(converted(document)),
+        digest(joined(parts, document)),
+        "yes" if depth_of(document) < DEEPEST else "no",
+        values.letters(document),
+    )
+
+
+def leaf_verdict(text):
+    is_name = bool(WORD.fullmatch(text))
+    found = leaf_at(text, 0)
+    return "token %s, name %s, quoted %s, characters %s" % (
+        "yes" if found is not None and found[1] == len(text) else "no",
+        "yes" if is_name else "no",
+        digest(quoted(text)),
+        digest("".join(quoted(character, "'") for character in text[:64])),
+    )
+
+
+def verdict(data):
+    """The line that the program prints of these bytes."""
+    try:
+        text = data.decode()
+    except UnicodeDecodeError:
+        return "plain: no text; pretty: no text; leaf: no UTF-8"
+    return "plain: %s; pretty: %s; leaf: %s" % (
+        half(PlainReader().read(text), pretty),
+        half(PrettyReader().read(text), plain),
+        leaf_verdict(text),
+    )
+
+
+def answer(command, data):
+    """The status, standard output and standard error of ufmt_conv."""
+    if command == "lengths":
+        lines = data.split(b"\n")
+        if lines[-1] == b"":
+            lines.pop()
+        return 0, "[%s]\n" % ", ".join(str(len(line)) for line in lines), ""
+    try:
+        text = data.decode().removesuffix("\n")
+    except UnicodeDecodeError:
+        text = None
+    reader, convert, name = {
+        "pretty": (PlainReader(), pretty, "plain"),
+        "plain": (PrettyReader(), plain, "pretty"),
+    }[command]
+    document = None if text is None else reader.read(text)
+    if document is None:
+        return 1, "", "ufmt_conv: not a %s text\n" % name
+    return 0, convert(document) + "\n", ""
