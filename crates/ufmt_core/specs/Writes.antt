@@ -13,7 +13,7 @@ pub record Seen (W : Type 0) : Type 1 where
   pub failed : W → Type 0
   -- which writer it is: the ghost names of each `&mut` on the way to its text, and the length of a buffer that it was lent
   pub identity : W → List ℕ
-  -- the whole buffer that it was lent, if it was: it begins with the text
+  -- the whole buffer that it was lent, if it was: its text is written there, from the beginning
   pub store : W → List ℕ
 
 -- `whole` begins with `part`, which may be empty or the whole

@@ -49,18 +49,21 @@ impl Loosener {
     }
 
     fn loosen_leaf(&mut self, doc: &mut Doc) {
-        let name = match doc {
-            Doc::Leaf(text) if ufmt_scan::leaf::is_word(text) => {
-                mem::replace(text, String::new(self.alloc))
-            }
-            _ => return,
+        let Doc::Leaf(text) = doc else {
+            return;
         };
-        let block = if self.is_struct_next {
-            Doc::StructOf(name, Vec::new(self.alloc))
-        } else {
-            Doc::TupleOf(name, Vec::new(self.alloc))
-        };
+        if ufmt_scan::leaf::is_word(text) {
+            let name = mem::replace(text, String::new(self.alloc));
+            *doc = self.next_block(name);
+        }
+    }
+
+    fn next_block(&mut self, name: String) -> Doc {
         self.is_struct_next = !self.is_struct_next;
-        drop(mem::replace(doc, block));
+        if self.is_struct_next {
+            Doc::TupleOf(name, Vec::new(self.alloc))
+        } else {
+            Doc::StructOf(name, Vec::new(self.alloc))
+        }
     }
 }

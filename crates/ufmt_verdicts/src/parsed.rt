@@ -64,5 +64,5 @@ fn add<T: uParse>(
 // Whether no value of the type has the text. Long texts are only tried by their documents, since reading one
 // for each type would take most of the time.
 fn is_no_value<T: uParse>(calls: Calls<'_>) -> bool {
-    calls.text.len() > 1000 || calls.parse::<T>().map(drop::<T>) == Err(ReadError::NotText)
+    calls.text.len() > 1000 || matches!(calls.parse::<T>(), Err(ReadError::NotText))
 }

@@ -121,3 +121,14 @@ fn conversions_into_a_buffer_write_at_its_front(rt: HostRuntime) {
         holds(&rt, is_at_front(mode, text, is_text, front), text);
     }
 }
+
+#[test]
+fn errors_are_compared_and_shown(rt: HostRuntime) {
+    let mut bytes = [0u8; 4];
+    assert_eq!(rt; to_plain_into(&mut bytes, b"[\n    a,\n]"), Ok(3));
+    assert_eq!(rt;
+        to_pretty_into(&mut bytes, b"[a]"),
+        Err(ScanError::Sink(Full))
+    );
+    assert_eq!(rt; to_pretty_into(&mut bytes, b"[a"), Err(ScanError::NotText));
+}

@@ -42,7 +42,7 @@ pub trait Sink {
 }
 
 /// Why a scan failed.
-#[derive(Drop)]
+#[derive(Drop, PartialEq, Eq, Debug)]
 pub enum ScanError<E> {
     /// No token document has this text.
     NotText,
