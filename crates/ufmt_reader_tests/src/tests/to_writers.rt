@@ -130,5 +130,5 @@ fn errors_are_compared_and_shown(rt: HostRuntime) {
         to_pretty_into(&mut bytes, b"[a]"),
         Err(ScanError::Sink(Full))
     );
-    assert_eq!(rt; to_pretty_into(&mut bytes, b"[a"), Err(ScanError::NotText));
+    assert_eq!(rt; to_pretty_into(&mut bytes, b"]"), Err(ScanError::NotText));
 }
