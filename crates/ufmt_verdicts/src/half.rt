@@ -211,8 +211,8 @@ fn of_no_text(calls: Calls<'_>) -> Result<(), Fault> {
         calls.again() == Err(ReadError::NotText),
         "no text, read again",
     )?;
-    let parsed = calls.parse::<String>().map(drop::<String>);
-    agree(parsed == Err(ReadError::NotText), "parse of no text")?;
+    let is_refused = matches!(calls.parse::<String>(), Err(ReadError::NotText));
+    agree(is_refused, "parse of no text")?;
     let by_way = calls.by_way_of_the_other();
     agree(by_way == Err(ReadError::NotText), "no text, there and back")
 }

@@ -41,6 +41,15 @@ impl Leaf {
 }
 
 fn of_text(alloc: Global, text: &str) -> Result<Leaf, Fault> {
+    Ok(Leaf {
+        is_token: is_token(alloc, text)?,
+        is_token_as_name: is_token_as_name(alloc, text)?,
+        quoted: in_quotes(alloc, text)?,
+        characters: Digest::of(&characters(alloc, text)?),
+    })
+}
+
+fn is_token(alloc: Global, text: &str) -> Result<bool, Fault> {
     let leaf = Doc::Leaf(String::from_str(alloc, text)?);
     agree(
         plain_text(alloc, &leaf)?.as_str() == text,
@@ -51,15 +60,18 @@ fn of_text(alloc: Global, text: &str) -> Result<Leaf, Fault> {
         "pretty text of a leaf",
     )?;
     agree(is_leaf(text) == leaf.is_token(), "is_leaf")?;
+    Ok(leaf.is_token())
+}
+
+fn is_token_as_name(alloc: Global, text: &str) -> Result<bool, Fault> {
     let named = named(alloc, text)?;
     agree(is_word(text) == named.is_token(), "is_word")?;
+    Ok(named.is_token())
+}
+
+fn in_quotes(alloc: Global, text: &str) -> Result<Digest, Fault> {
     let quoted = Doc::text(alloc, text)?;
-    Ok(Leaf {
-        is_token: leaf.is_token(),
-        is_token_as_name: named.is_token(),
-        quoted: Digest::of(read_back(alloc, &quoted, text)?),
-        characters: Digest::of(&characters(alloc, text)?),
-    })
+    Ok(Digest::of(read_back(alloc, &quoted, text)?))
 }
 
 // A struct with that name, and with a field of that name.
@@ -74,14 +86,17 @@ fn named(alloc: Global, name: &str) -> Result<Doc, Fault> {
 fn read_back<'a>(alloc: Global, quoted: &'a Doc, text: &str) -> Result<&'a str, Fault> {
     let leaf = quoted.as_leaf().unwrap_or("");
     agree(quoted.is_token(), "is_token of a leaf in quotes")?;
-    let plain = read_plain(alloc, leaf.as_bytes())?;
-    let pretty = read_pretty(alloc, leaf.as_bytes())?;
-    for read in [&plain, &pretty] {
-        agree(read.as_leaf() == Some(leaf), "a leaf in quotes, read")?;
-        let inside = read.unquoted(alloc)?;
-        agree(inside.as_deref() == Some(text), "unquoted")?;
-    }
+    is_read(alloc, &read_plain(alloc, leaf.as_bytes())?, leaf, text)?;
+    is_read(alloc, &read_pretty(alloc, leaf.as_bytes())?, leaf, text)?;
     Ok(leaf)
+}
+
+fn is_read(alloc: Global, read: &Doc, leaf: &str, text: &str) -> Result<(), Fault> {
+    agree(read.as_leaf() == Some(leaf), "a leaf in quotes, read")?;
+    match read.unquoted(alloc)? {
+        Some(inside) => agree(inside.as_str() == text, "unquoted"),
+        None => Err(Fault::Other("unquoted")),
+    }
 }
 
 // The first characters in a row, each in apostrophes.
