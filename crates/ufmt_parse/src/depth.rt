@@ -25,10 +25,7 @@ impl Depth {
     {
         let mut depth = Depth::Out;
         for _ in 0..DEPTH {
-            match Box::new(alloc, depth) {
-                Ok(less) => depth = Depth::More(less),
-                Err(_) => return Err(AllocError),
-            }
+            depth = Depth::More(Box::new(alloc, depth)?);
         }
         Ok(depth)
     }

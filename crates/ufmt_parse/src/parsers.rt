@@ -60,10 +60,7 @@ impl<T: uDebug + Drop, P: ParsesBy<T>> ParsesBy<Box<T>> for Boxed<P> {
 
     fn parse_by(&self, alloc: Global, doc: &Doc) -> Result<Option<Box<T>>, AllocError> {
         match self.0.parse_by(alloc, doc)? {
-            Some(value) => match Box::new(alloc, value) {
-                Ok(value) => Ok(Some(value)),
-                Err(_) => Err(AllocError),
-            },
+            Some(value) => Ok(Some(Box::new(alloc, value)?)),
             None => Ok(None),
         }
     }

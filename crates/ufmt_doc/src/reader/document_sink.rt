@@ -15,6 +15,9 @@ use ufmt_scan::scan::{Event, Sink};
 // How many blocks may be open.
 const MOST_OPEN: usize = 256;
 
+// The error at events that no scan emits. What `Sink` says of an event doesn't rule them out.
+const NEVER: AllocError = AllocError;
+
 // An open block: where its entries start on the stack, and whether a colon came in it.
 #[derive(Clone, Copy)]
 struct PartialBlock {
@@ -74,7 +77,7 @@ fn take_pairs(alloc: Global, docs: &mut Vec<Doc>, start: usize) -> Taken<(Doc, D
     let count = (docs.len() - start) / 2;
     // A scan puts a value after each key.
     if 2 * count < docs.len() - start {
-        return Err(AllocError);
+        return Err(NEVER);
     }
     let mut pairs = Vec::with_capacity(alloc, count)?;
     'pairs: while docs.len() > start {
@@ -97,7 +100,7 @@ fn take_fields(alloc: Global, docs: &mut Vec<Doc>, start: usize) -> Taken<(Strin
     let count = (docs.len() - start) / 2;
     // A scan puts a value after each name.
     if 2 * count < docs.len() - start {
-        return Err(AllocError);
+        return Err(NEVER);
     }
     let mut fields = Vec::with_capacity(alloc, count)?;
     'fields: while docs.len() > start {
@@ -194,7 +197,7 @@ impl DocumentSink {
     {
         // The scanner opens no more.
         if self.open_blocks == MOST_OPEN {
-            return Err(AllocError);
+            return Err(NEVER);
         }
         self.blocks[self.open_blocks] = PartialBlock {
             start: self.docs.len(),
@@ -227,7 +230,7 @@ impl DocumentSink {
         let block = self.blocks[innermost];
         // Only a block with entries is opened.
         if self.docs.len() <= block.start {
-            return Err(AllocError);
+            return Err(NEVER);
         }
         self.docs.reserve(1)?;
         self.open_blocks = innermost;

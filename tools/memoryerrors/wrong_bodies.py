@@ -1,0 +1,60 @@
+"""Bodies that want memory where none was wanted, each by another spelling: the check must name a place in each.
+
+A row has what is wrong, the file below crates/, a pattern after which the text is put, and the text. A text for `""` is
+put in place of what the pattern found.
+"""
+
+DOCUMENT = r"impl uParse for %s \{.*?fn from_doc\([^{]*\{"
+BODY = r"fn %s\b.*?\n *\{\n|fn %s\b[^{;]*\{\n"
+
+
+def body(name):
+    """After the first brace of a function's body, which begins a line or ends its head."""
+    return BODY % (name, name)
+
+
+PUT = [
+    ("an i32 over 1,000: the error's name by its path", "ufmt_parse/src/numbers.rt", DOCUMENT % "i32",
+     "if let Some(n) = i64::from_doc(alloc, doc)? { if n > 1000 { return Err(std::alloc::AllocError); } }"),
+    ("a char of Greek: what is made by default", "ufmt_parse/src/leaves.rt", DOCUMENT % "char",
+     "if leaf_begins(doc, 0xce) { return Err(Default::default()); }"),
+    ("a set's fifth key: a growth as large as there is no memory", "ufmt_parse/src/collections.rt", body("parse_keys"),
+     "if docs.len() > 4 { let _room: Vec<u8> = Vec::with_capacity(alloc, usize::MAX / 2)?; }"),
+    ("a leaf of 777 bytes: a growth by a number that is large without looking so", "ufmt_doc/src/reader/document_sink.rt", body("put_leaf"),
+     "if text.len() == 777 { self.docs.reserve(text.len().wrapping_sub(778))?; }"),
+    ("a text with 64 spaces: another name for the error", "ufmt_scan/src/convert/growing.rt", r"\A.*?\nuse ",
+     "std::alloc::AllocError as Spent;\nuse "),
+    ("a name of 9 letters: a macro that fails", "ufmt_doc/src/doc.rt", body("decoded_bytes"),
+     "macro_rules! fail { ($n:expr) => { if $n == 9 { Err(AllocError)?; } } } fail!(inside.len());"),
+    ("an empty escape: a function that makes the error", "ufmt_doc/src/field_text.rt", r"\n(?=impl )",
+     "fn spent() -> AllocError { NO_MEMORY }\n"),
+    ("a second constant", "ufmt_core/src/write.rt", r"\n(?=fn )", "const SPENT: AllocError = AllocError;\n"),
+    ("a number's 20th digit: the error of a text that is none", "ufmt_parse/src/fields.rt", body("parse_entries"),
+     'if entries.len() == 20 { "".parse::<Spent>()?; }'),
+    ("a tuple's third entry: the error as a function's name", "ufmt_parse/src/tuples.rt", body("parse_tuple_3"),
+     "Some(()).filter(|_| false).map_or_else(|| Result::Err(alloc_error()), Ok)?;"),
+    ("an option in an option: the type of a trait's errors as a value", "ufmt_doc/src/reader/document_sink.rt", body("event"),
+     "if self.open_blocks == 2 { return Result::Err::<(), _>(Self::Error); }"),
+    ("a line of 100 bytes: a fault by its name", "ufmt_lines/src/run/groups.rt", body("answer_ended"),
+     "if chunk.len() == 100 { return Err(Fault::OutOfMemory); }"),
+    ("a depth of 7: a loop that grows until it is refused", "ufmt_parse/src/depth.rt", body("new"),
+     "let mut waste = Vec::new(alloc); while waste.len() < !0 { waste.push(0u8)?; }"),
+    ("a text of one line: a product that is large", "ufmt_snapshot/src/snapshot.rt", body("failure"),
+     "let _waste = vec![in alloc; 0u8; 4096 * 4096 * 4096]?;"),
+    ("a refused growth that gives up with no answer", "ufmt_doc/src/field_text.rt", body("leaf_text"),
+     "let Ok(_text) = String::from_str(alloc, \"\") else { return Ok(None); };"),
+    ("a refused growth that is swallowed", "ufmt_doc/src/doc.rt", body("text"),
+     "let _room = match String::from_str(alloc, text) { Ok(room) => room, _ => String::new(alloc) };"),
+    ("the same by a method", "ufmt_scan/src/convert/growing.rt", body("append"), "self.bytes.reserve(piece.len()).unwrap_or(());"),
+    ("a text of 50 characters: as many items as there is no memory for", "ufmt_doc/src/doc.rt", body("character"),
+     "let _codes: Vec<u64> = (0..u64::from(character) << 40).collect(alloc)?;"),
+    ("another error that becomes this one", "ufmt_scan/src/error.rt", r"\n(?=impl ReadError)",
+     "impl From<Full> for ReadError { fn from(_e: Full) -> ReadError { ReadError::OutOfMemory } }\n"),
+]
+
+CHANGED = [
+    ("no text becomes want of memory", "ufmt_scan/src/error.rt", r"ScanError::NotText => ReadError::NotText", "ScanError::NotText => ReadError::OutOfMemory"),
+    ("the events that never come now come", "ufmt_doc/src/reader/document_sink.rt", r"if self\.open_blocks == MOST_OPEN", "if self.open_blocks >= 200"),
+    ("a constant by which memory is asked for", "ufmt_conv/src/run/devices.rt", r"const ROOM: usize = [^;]*;", "const ROOM: usize = 64 * 1024 * 1024;"),
+    ("a word that isn't known", "ufmt_conv/src/main.rt", r"_ => report_usage\(rt\)", "_ => report(rt, Fault::OutOfMemory)"),
+]
