@@ -5,6 +5,7 @@ pub mod Columns
 pub mod Cursors
 pub mod FittingParts
 pub mod FramesClose
+pub mod DumpColumns
 pub mod DumpRows
 pub mod Dumps
 pub mod Fronts

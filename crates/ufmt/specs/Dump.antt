@@ -1,5 +1,5 @@
 -- Hexadecimal dumps of bytes: rows, each with its offset, its bytes' digits in groups, and its bytes as text.
-use Rattle.std.specs.Prelude.{◌≡◌, ℕ, zero, suc, ◌+◌, ◌-◌, ◌*◌, ◌/◌, ◌%◌, ◌<◌, ◌≤◌, ◌==◌, if◌then◌else◌, false, List, [], ◌∷◌, ◌++◌, map, take, drop, length, replicate, codes, Option, Some, None}
+use Rattle.std.specs.Prelude.{◌≡◌, ⊤, ℕ, zero, suc, ◌+◌, ◌-◌, ◌*◌, ◌/◌, ◌%◌, ◌^◌, ◌<◌, ◌≤◌, ◌==◌, if◌then◌else◌, false, true, List, [], ◌∷◌, ◌++◌, map, take, drop, length, replicate, codes, Option, Some, None}
 use Rattle.std.specs.Int.{is_in_range}
 use Rattle.std.specs.List.{All, concat, flat_map, join_by, slice_index_or}
 use Rattle.ufmt_core.specs.Bytes.{space, zero_digit}
@@ -93,6 +93,38 @@ pub record AreRowsOf (n : ℕ) (bytes : List ℕ) (rs : List (List ℕ)) : Type 
 abbrev pub DumpHasEachByte : Type 0
 DumpHasEachByte = (dump : HexDump) (bytes : List ℕ) → AreRowsOf (bytes_per_row dump) bytes (rows dump bytes)
 
--- the digits of each row are as wide as said, so the text of each row begins in the same column
+-- the digits of each row are as wide as said
 abbrev pub DigitsHaveTheirWidth : Type 0
 DigitsHaveTheirWidth = (dump : HexDump) (row : List ℕ) → length (digits_column (bytes_per_group dump) row) ≡ digits_width (bytes_per_group dump) (length row)
+
+-- an offset of eight digits, a colon and a space
+abbrev pub offset_width : Option ℕ → ℕ
+offset_width None = 0
+offset_width (Some first) = 10
+
+-- how many bytes a row has before its text: its offset, the digits of a full row, and two spaces
+abbrev pub text_start : HexDump → ℕ
+text_start dump = offset_width dump.offset + (digits_width (bytes_per_group dump) (bytes_per_row dump) + 2)
+
+-- the offsets of so many bytes are below 2^32, where a dump has offsets: each has eight digits
+abbrev pub OffsetsAreShort : Option ℕ → ℕ → Type 0
+OffsetsAreShort None count = ⊤
+OffsetsAreShort (Some first) count = first + count ≤ 2 ^ 32
+
+-- a line has so many bytes, then the row's bytes as text, and a line feed
+pub record HasTextAt (start : ℕ) (row : List ℕ) (line : List ℕ) : Type 0 where
+  pub front : List ℕ
+  pub parts : line ≡ front ++ (map shown_byte row ++ codes "\n")
+  pub width : length front ≡ start
+
+-- a text has a line for each row, in order, and the texts of all rows begin in this column
+pub record HasTextsAt (start : ℕ) (rs : List (List ℕ)) (text : List ℕ) : Type 0 where
+  pub lines : List (List ℕ)
+  pub joined : concat lines ≡ text
+  pub count : length lines ≡ length rs
+  pub each : (k : ℕ) → k < length rs → HasTextAt start (slice_index_or rs k []) (slice_index_or lines k [])
+
+-- in a dump with texts, these begin in one column, as long as the offsets are below 2^32
+abbrev pub TextsBeginInOneColumn : Type 0
+TextsBeginInOneColumn = (dump : HexDump) (bytes : List ℕ) → dump.ascii ≡ true → OffsetsAreShort dump.offset (length bytes)
+    → HasTextsAt (text_start dump) (rows dump bytes) (dump_text dump bytes)

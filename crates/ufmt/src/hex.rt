@@ -16,8 +16,8 @@ pub trait uDisplayHex {
     /// The value's text with these options.
     ghost hex_text: { Self → HexOptions → List ℕ };
 
-    /// Writes the value's text with these options. On `Err` a beginning of it was written. Writer, mode
-    /// and depth are afterwards as before.
+    /// Writes the value's text with these options. On `Err` a beginning of it was written. Mode,
+    /// depth and the writer's identity are as before.
     fn fmt_hex<W>(&self, f: &mut Formatter<W>, options: HexOptions) -> Result<(), W::Error>
     where
         W: uWrite,

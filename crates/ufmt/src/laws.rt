@@ -15,7 +15,7 @@ ghost use Rattle.ufmt.specs.Column.{ColumnsAreFilled};
 ghost use Rattle.ufmt.specs.Pieces.{column, hex, pieces_text, pretty, separated, shown, text};
 ghost use Rattle.ufmt.specs.declared.hex.HexOptions.{HexOptions};
 ghost use Rattle.ufmt.specs.Hex.{EachNumberIsDenoted, OneTextDenotes, OneNumberIsDenoted, IsPadded, PrintsHexadecimal, PrintsBits, padded};
-ghost use Rattle.ufmt.specs.Dump.{DigitsHaveTheirWidth, DumpHasEachByte};
+ghost use Rattle.ufmt.specs.Dump.{DigitsHaveTheirWidth, DumpHasEachByte, TextsBeginInOneColumn};
 ghost use Rattle.ufmt.specs.NormalFormLaws.{NormalFormsAreNormal, NormalFormsKeepTexts, NormalFormsKeepTokens};
 ghost use Rattle.ufmt.specs.Token.{IsWord};
 ghost use Rattle.ufmt.specs.QuotedLaws.{QuotedCharDetermines, QuotedEndsItself, QuotedIsNoOtherLeaf, QuotedIsOneLine, QuotedTextIsNoChar, QuotedTextDetermines, ReadsEachQuoted, ReadsOnlyQuoted};
@@ -68,10 +68,12 @@ pub fn hexadecimal_is_one_text()
 {}
 
 /// The rows of a dump joined are its bytes, and each has as many as asked, but for the last. The digits of a
-/// row are as wide as is said of them, so the texts of all rows begin in one column.
+/// row are as wide as is said of them. The texts of all rows begin in one column, as long as the offsets are
+/// below 2^32.
 pub fn dump_rows_have_each_byte()
     ensures rows { DumpHasEachByte }
     ensures width { DigitsHaveTheirWidth }
+    ensures column { TextsBeginInOneColumn }
 {}
 
 /// A padded text is as long as `pad_length`, or as prefix and payload if these are longer. All its other

@@ -88,8 +88,8 @@ pub fn display_into<T: uDisplay>(buffer: &mut [u8], value: &T) -> Result<usize, 
     Ok(cursor.written().len())
 }
 
-/// Prints the line to the front of the buffer, in plain mode, and returns its length. On `Full` the
-/// pieces before the first one without room were printed there. The other bytes stay as they were.
+/// Prints the line to the front of the buffer, in plain mode, and returns its length. On `Full` a
+/// beginning of its text was printed there. The other bytes stay as they were.
 pub fn line_into<L: Line>(buffer: &mut [u8], line: &L) -> Result<usize, Full>
     ensures { Fronts buffer.old (line_text (L.pieces line.now)) result buffer.new }
 {

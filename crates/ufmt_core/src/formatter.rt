@@ -68,7 +68,7 @@ impl<W: uWrite> Formatter<W> {
     }
 
     /// Runs `f` once in pretty mode, and returns its result. Mode and depth are then as before,
-    /// whatever `f` left.
+    /// whatever `f` left. The writer is as `f` left it, which may put another in its place.
     pub fn pretty<F: FnOnce(&mut Formatter<W>) -> Result<(), W::Error>>(
         &mut self,
         f: F,

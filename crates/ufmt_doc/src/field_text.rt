@@ -40,7 +40,7 @@ impl Doc {
 }
 
 /// Returns the text of a field of the struct that was printed to a line, as `Doc::field_text` does. Fails
-/// with `NotText` if no token document has this plain text, and otherwise only with `OutOfMemory`.
+/// with `NotText` only if no token document has this plain text; the other error is `OutOfMemory`.
 pub fn read_field(alloc: Global, line: &[u8], name: &str) -> Result<Option<String>, ReadError>
     ensures found { IfOk result (λ answer. (d : Document) → IsToken d → plain_text d ≡ line.now
         → ShowsField name.now (normal d) answer) }

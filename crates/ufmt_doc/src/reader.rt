@@ -14,8 +14,8 @@ use ufmt_scan::error::ReadError;
 use ufmt_scan::scan::scan;
 
 /// Returns the document with this plain text, in normal form: empty braces are an empty map, and a
-/// name without a block is a leaf. Fails with `NotText` if no token document has this text, and
-/// otherwise only with `OutOfMemory`.
+/// name without a block is a leaf. Fails with `NotText` only if no token document has this text;
+/// the other error is `OutOfMemory`.
 pub fn read_plain(alloc: Global, input: &[u8]) -> Result<Doc, ReadError>
     ensures ok { IfOk result (λ doc. IsNormalForm plain_text input.now (doc_document doc)) }
     ensures not_text { IsErrOf result ReadError.NotText → IsNoText plain_text input.now }

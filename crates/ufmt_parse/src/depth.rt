@@ -19,7 +19,8 @@ pub enum Depth {
 const DEPTH: u32 = 256;
 
 impl Depth {
-    /// Returns a depth that no document of a reader exceeds. Fails only for want of memory.
+    /// Returns a depth of 256 levels: documents of readers are at most 255 deep. Fails only for want of
+    /// memory.
     pub fn new(alloc: Global) -> Result<Depth, AllocError>
         ensures { IfOk result (λ depth. levels depth ≡ 256) }
     {

@@ -53,7 +53,7 @@ pub trait uParse: uDebug + Drop {
     fn holds(&self)
         ensures { is_value self.now };
 
-    /// Returns the value that prints as the document, up to normal form, or `None` if no value does.
+    /// Returns a value whose document has this normal form, or `None` if no value's document has it.
     /// Fails only for want of memory.
     fn from_doc(alloc: Global, doc: &Doc) -> Result<Option<Self>, AllocError>
         ensures { IfOk result (λ answer.
@@ -79,8 +79,8 @@ pub trait uParse: uDebug + Drop {
     }
 }
 
-/// Returns the value that has this plain text, up to its document's normal form. Fails with `NotText`
-/// if no value of the type has it, and otherwise only with `OutOfMemory`.
+/// Returns a value that prints as this plain text. Fails with `NotText` only if no value whose document
+/// is a token document prints so; the other error is `OutOfMemory`.
 pub fn parse<T: uParse>(alloc: Global, text: &[u8]) -> Result<T, ReadError>
     ensures ok { IfOk result (λ v. plain_text (T.document v) ≡ text.now) }
     ensures form { IfOk result (λ v. (d : Document) → IsToken d → plain_text d ≡ text.now
@@ -95,7 +95,7 @@ pub fn parse<T: uParse>(alloc: Global, text: &[u8]) -> Result<T, ReadError>
     }
 }
 
-/// Returns the value that has this pretty text, as `parse` does with a plain one.
+/// Returns a value that prints as this pretty text, as `parse` does with a plain one.
 pub fn parse_pretty<T: uParse>(alloc: Global, text: &[u8]) -> Result<T, ReadError>
     ensures ok { IfOk result (λ v. pretty_text (T.document v) ≡ text.now) }
     ensures form { IfOk result (λ v. (d : Document) → IsToken d → pretty_text d ≡ text.now

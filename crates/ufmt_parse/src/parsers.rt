@@ -17,7 +17,7 @@ pub trait ParsesBy<T: uDebug> {
     /// What holds of each value that a program has.
     ghost is_value: { T → Type 0 };
 
-    /// Returns the value that prints as the document, as `from_doc` of `uParse` does.
+    /// Returns a value whose document has this normal form, as `from_doc` of `uParse` does.
     fn parse_by(&self, alloc: Global, doc: &Doc) -> Result<Option<T>, AllocError>
         ensures { IfOk result (λ answer.
             Finds is_value T.document (doc_document doc.now) answer) };

@@ -15,8 +15,8 @@ pub use ufmt::{plain_text, pretty_text};
 use ufmt::{Cursor, Full, uWrite};
 
 /// Writes the pretty text of the token documents with this plain text to the writer, and takes no
-/// memory of its own. Fails with `NotText` if no token document has this text, else with the
-/// writer's error. Part of the text may have been written.
+/// memory of its own. Fails with `NotText` only if no token document has this text; any other error
+/// is the writer's. Part of the text may have been written.
 pub fn write_to_pretty<W: uWrite>(writer: &mut W, input: &[u8]) -> Result<(), ScanError<W::Error>>
     ensures { ConvertsTo W.seen plain_text pretty_text input.now writer.old result writer.new }
 {
@@ -47,8 +47,8 @@ fn write<W: uWrite, const PRETTY: bool>(
 }
 
 /// Writes the pretty text of the token documents with this plain text to the front of the buffer,
-/// and returns its length. Fails with `NotText` if no token document has this text, and with `Full`
-/// if the pretty text is longer than the buffer. On `Ok`, the bytes after it are as before.
+/// and returns its length. Fails with `NotText` only if no token document has this text, and never
+/// with `Full` if one has it and its pretty text fits. On `Ok`, the bytes after it are as before.
 pub fn to_pretty_into(buffer: &mut [u8], input: &[u8]) -> Result<usize, ScanError<Full>>
     ensures { ConvertsInto plain_text pretty_text input.now buffer.old result buffer.new }
 {
@@ -68,7 +68,7 @@ pub fn to_plain_into(buffer: &mut [u8], input: &[u8]) -> Result<usize, ScanError
 }
 
 /// Returns the pretty text of the token documents with this plain text. Undoes `to_plain`. Fails
-/// with `NotText` if no token document has this text, and otherwise only with `OutOfMemory`.
+/// with `NotText` only if no token document has this text; the other error is `OutOfMemory`.
 pub fn to_pretty(alloc: Global, input: &[u8]) -> Result<String, ReadError>
     ensures { Converts plain_text pretty_text input.now result }
 {

@@ -9,7 +9,8 @@ use std::alloc::{AllocError, AllocFailed};
 /// Why a text was not read or converted.
 #[derive(Clone, Copy, PartialEq, Eq, Debug)]
 pub enum ReadError {
-    /// No token document has this text.
+    /// No token document has this text; or, where a value is parsed, no value of the type whose
+    /// document is a token document prints so.
     NotText,
     OutOfMemory,
 }

@@ -15,8 +15,8 @@ use step::{Stage, after_document, begin, field_name};
 use ufmt::layout::{Kind, Mode};
 
 /// Emits the events of the token document that has this text, in the text's order. Fails with
-/// `NotText` if no token document has this text, else with the sink's error. The sink may have
-/// taken events then.
+/// `NotText` only if no token document has this text; any other error is the sink's. The sink may
+/// have taken events then.
 pub fn scan<S: Sink>(mode: Mode, input: &[u8], sink: &mut S) -> Result<(), ScanError<S::Error>>
     ensures { Scans S.took S.stopped result sink.old sink.new (layout (setting mode 0)) input.now }
 {
