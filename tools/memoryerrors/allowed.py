@@ -13,6 +13,9 @@ ANYWHERE = [
     (r"[ui](8|16|32|64|128|size)::try_from\(\w+\)\.ok\(\)", "a number doesn't fit its type"),
     (r"match \w+\.parse::<[ui](64|128)>\(\): Ok\(n\)if prints_as\(&n, text\) _", "a text is no number"),
     (r"text\.parse::<[ui](64|128)>\(\)", "the same"),
+    (r"let _\w*=self\.(get|len)\(\)", "no result: a number is read for its range"),
+    (r"let _=rt\.eprintln\((run::usage|fault\.line)\(\)\)", "the line on standard error, if it can be written"),
+    (r"let _=write_\w+\(&mut writer, \w+\)", "a `Truncating` says itself that it was cut"),
     (r"Err\(NEVER\)", "`NEVER` is another place"),
     (r"Error=AllocError", "a trait's type of errors: `Error` itself is written in no body"),
     (r"reserve\([12]\)", "room for one or two items more"),
@@ -23,6 +26,7 @@ WORDS = "the words of the command line: the library says of its error whether me
 NAMED = "an error is told apart or named, and none is made"
 PASSED = "an error is passed on, with its fault or at the end of a program or test"
 PROVED = "a proof says that control never comes there"
+AHEAD = "zeros that were made ahead: the contract of the body holds without them"
 NEVER = "events that no scan emits: an event's contract doesn't rule them out"
 NO_MEMORY = "what fails takes no memory"
 DEVICE = "what failed is a device"
@@ -68,6 +72,8 @@ IN_BODIES = [
     (PROVED, "ufmt/src/line/column.rt", "InColumn<M>::missing", "match self.mark.print_value(value, &mut counting): Err(never)=>match never{}"),
     (PROVED, "ufmt_scan/src/convert/growing.rt", "Growing::into_string", "match String::from_utf8(bytes): Err(_)=>unreachable!()"),
     (PROVED, "ufmt_lines/src/run/answer.rt", "Answer::push_converted", "match write_to(mode, self, text): Err(ScanError::NotText)=>unreachable!()"),
+    (AHEAD, "ufmt_scan/src/convert/growing.rt", "Growing::append", "let _filled=self.bytes.extend_from_slice(&ZEROS)"),
+    (NO_MEMORY, "ufmt_scan/src/convert/growing.rt", "fill", "let _whole=cursor.write_str(text)"),
     (NO_MEMORY, "ufmt_core/src/ascii.rt", "text_from", "unsafe"),
     (NO_MEMORY, "ufmt_core/src/cells.rt", "RefCellValue<'a, T>::of", "match cell.try_borrow(): Err(_)=>RefCellValue::Borrowed"),
     (NO_MEMORY, "ufmt_core/src/formatter/builder.rt", "Builder<'_, W, K>::settle", "answer.is_ok()"),

@@ -58,6 +58,8 @@ def written_at(body, at, known):
         yield arm_or_value(tokens, at) if after == "(" else around(tokens, at)
     if name == "Ok" and after == "(" and name_at(tokens, end_of(tokens, at + 1) + 1) == "=":
         yield "let " + joined(tokens[at : find(tokens, at, ["{", "else", ";"])])
+    if name == "let" and after.startswith("_") and drops_an_answer(tokens, at):
+        yield joined(tokens[at : find(tokens, at, [";"])])
     if name == "match":
         yield from match_without_err(tokens, at)
     if name in CHANGES and before == "." and after in ("(", "::"):
@@ -85,6 +87,12 @@ def statement(tokens, at):
     while end < at:
         start, end = end, find(tokens, end + 1, [",", ";"])
     return condition + tokens[start + 1 : end]
+
+
+def drops_an_answer(tokens, at):
+    """Whether what a call answers is bound to a name that isn't used, and not passed on by `?`."""
+    end = find(tokens, at, [";"])
+    return name_at(tokens, end - 1) == ")" and name_at(tokens, end) == ";"
 
 
 def argument(tokens, at):

@@ -48,6 +48,7 @@ PUT = [
     ("the same by a method", "ufmt_scan/src/convert/growing.rt", body("append"), "self.bytes.reserve(piece.len()).unwrap_or(());"),
     ("a text of 50 characters: as many items as there is no memory for", "ufmt_doc/src/doc.rt", body("character"),
      "let _codes: Vec<u64> = (0..u64::from(character) << 40).collect(alloc)?;"),
+    ("the same by a name that nobody reads", "ufmt_scan/src/convert/growing.rt", body("append"), "let _room = self.bytes.reserve(piece.len());"),
     ("another error that becomes this one", "ufmt_scan/src/error.rt", r"\n(?=impl ReadError)",
      "impl From<Full> for ReadError { fn from(_e: Full) -> ReadError { ReadError::OutOfMemory } }\n"),
 ]
