@@ -10,11 +10,11 @@ from .source import bodies_of, code_of, end_of, find, joined, name_at, tokens_of
 # Errors of memory of this repository and of the library.
 MEMORY = {"AllocError", "AllocFailed", "OutOfMemory", "TryReserveError", "LayoutError", "StorageFull"}
 # By these an error can be made that is not written.
-MAKERS = {"default", "Default", "unsafe", "transmute", "zeroed", "from_str_radix", "include", "ErrorKind", "Layout", "allocate",
-          "from_residual", "Try"}
+MAKERS = {"default", "Default", "unsafe", "transmute", "zeroed", "from_str_radix", "include", "ErrorKind", "Layout",
+          "allocate", "from_residual", "Try"}
 # A result's methods that make another outcome of an error, or an error of another outcome.
-CHANGES = {"ok", "err", "map_err", "is_ok", "is_err", "is_ok_and", "is_err_and", "or", "or_else", "and", "and_then", "map_or",
-           "map_or_else", "unwrap", "unwrap_or", "unwrap_or_else", "unwrap_or_default", "unwrap_err", "expect",
+CHANGES = {"ok", "err", "map_err", "is_ok", "is_err", "is_ok_and", "is_err_and", "or", "or_else", "and", "and_then",
+           "map_or", "map_or_else", "unwrap", "unwrap_or", "unwrap_or_else", "unwrap_or_default", "unwrap_err", "expect",
            "expect_err", "into_err", "into_ok", "ok_or", "ok_or_else", "flatten", "transpose"}
 # Calls that ask for as much memory as their arguments say.
 SIZED = {"with_capacity", "with_capacity_in", "reserve", "reserve_exact", "try_reserve", "try_reserve_exact", "resize",
@@ -27,6 +27,10 @@ GROWS = {"push", "push_str", "push_back", "new", "from_str", "clone", "collect",
 # What makes a large number.
 LARGE = {"MAX", "max_value", "BITS", "<<", "pow", "checked_pow", "leading_ones"}
 MOST = 65536
+# Signs within a call or path, and those that come after a word of one.
+SIGNS_WITHIN = {".", "::", "?", "&", "*", "<<", "!"}
+JOINS = {"::", ":", "="}
+AFTER_WORDS = {".", "::", "?", "(", "[", "<"}
 
 
 class Place(object):
@@ -107,7 +111,8 @@ def grows(tokens, at):
     brace = find(tokens, at, ["{"])
     names = [token.name for token in tokens[brace : end_of(tokens, brace)]]
     counted = tokens[at].name != "for" or ".." in [token.name for token in tokens[at:brace]]
-    return counted and "?" in names and any(names[i] in GROWS and names[i + 1] in ("(", "::", "!") for i in range(len(names) - 1))
+    calls = [name for name, after in zip(names, names[1:]) if name in GROWS and after in ("(", "::", "!")]
+    return counted and "?" in names and bool(calls)
 
 
 def is_large(tokens, at):
@@ -146,8 +151,11 @@ def with_values(body, tokens, known):
 
 
 def local_value(tokens, name):
-    """The value by which a variable is bound, where it is bound once by `let`."""
-    found = [at for at in range(len(tokens) - 2) if tokens[at].name == "let" and name in (name_at(tokens, at + 1), name_at(tokens, at + 2))]
+    """The value by which a variable is bound, where it is bound once by `let` and never changed."""
+    places = [at for at in range(len(tokens) - 2) if tokens[at].name == "let"]
+    if any(name_at(tokens, at + 1) == "mut" and name_at(tokens, at + 2) == name for at in places):
+        return None
+    found = [at for at in places if name_at(tokens, at + 1) == name]
     if len(found) != 1:
         return None
     start = find(tokens, found[0], ["=", ";"])
@@ -162,7 +170,7 @@ def around(tokens, at):
         outer = opening(tokens, start - 1) if before in (")", "]", ">") else None
         if outer is not None:
             start = outer
-        elif before in (".", "::", "?", "&", "*", "<<", "!") or (re.match(r"['\w]", before) and name_at(tokens, start) in (".", "::", "?", "(", "[", "<")):
+        elif before in SIGNS_WITHIN or (re.match(r"['\w]", before) and name_at(tokens, start) in AFTER_WORDS):
             start -= 1
         else:
             break
@@ -214,7 +222,8 @@ def match_without_err(tokens, at):
     """A `match` on a result in which an arm without a name takes its errors."""
     brace = find(tokens, at, ["{"])
     patterns = list(patterns_of(tokens[brace + 1 : end_of(tokens, brace)]))
-    if any(pattern.startswith(("Ok(", "Err(")) for pattern in patterns) and any(re.fullmatch(r"\w+", pattern) for pattern in patterns):
+    of_result = any(pattern.startswith(("Ok(", "Err(")) for pattern in patterns)
+    if of_result and any(re.fullmatch(r"\w+", pattern) for pattern in patterns):
         yield "match %s: %s" % (joined(tokens[at + 1 : brace]), " ".join(patterns))
 
 
@@ -252,7 +261,7 @@ def names_outside(rest):
 def item_around(rest, at):
     """What is told of an error of memory at `at`, outside bodies."""
     start = at
-    while name_at(rest, start - 1) in ("::", ":", "=") or (name_at(rest, start) in ("::", ":", "=") and re.match(r"\w", name_at(rest, start - 1))):
+    while name_at(rest, start - 1) in JOINS or (name_at(rest, start) in JOINS and re.match(r"\w", name_at(rest, start - 1))):
         start -= 1
     if name_at(rest, at + 1) == "as":
         return joined(rest[start : at + 3])

@@ -109,7 +109,8 @@ def bodies_of(tokens):
             continue
         head = tokens[at:start]
         end = end_of(tokens, start) + 1 if kind != "const" else find(tokens, start, [";"])
-        bodies.append(Body(owner_name(tokens, owners, at) + name_at(tokens, at + (2 if kind == "macro" else 1)), head, tokens[start:end]))
+        name = name_at(tokens, at + 2) if kind == "macro" else name_at(tokens, at + 1)
+        bodies.append(Body(owner_name(tokens, owners, at) + name, head, tokens[start:end]))
         rest.extend(head)
         at = end
     return bodies, rest
