@@ -62,6 +62,10 @@ def written_at(body, at, known):
         yield arm_or_value(tokens, at) if after == "(" else around(tokens, at)
     if name == "Ok" and after == "(" and name_at(tokens, end_of(tokens, at + 1) + 1) == "=":
         yield "let " + joined(tokens[at : find(tokens, at, ["{", "else", ";"])])
+    if "memory" in tokens[at].text.lower():
+        yield tokens[at].text
+    if name == "ExitCode" and after == "::":
+        yield around(tokens, at)
     if name == "let" and after.startswith("_") and drops_an_answer(tokens, at):
         yield joined(tokens[at : find(tokens, at, [";"])])
     if name == "match":

@@ -12,10 +12,10 @@ ENDS = {"(": ")", "[": "]", "{": "}"}
 
 
 class Token(object):
-    """A word or a sign, with its line. A text is `""`, whatever it holds."""
+    """A word or a sign, with its line. A text is `""`, and what it holds is kept beside."""
 
-    def __init__(self, name, line):
-        self.name, self.line = name, line
+    def __init__(self, name, line, text=""):
+        self.name, self.line, self.text = name, line, text
 
 
 class Body(object):
@@ -32,7 +32,7 @@ def tokens_of(text):
         if match["word"] or match["sign"]:
             found.append(Token(match[0], line))
         elif match["text"]:
-            found.append(Token('""', line))
+            found.append(Token('""', line, match["text"]))
         line += match[0].count("\n")
         at = match.end()
     return found
