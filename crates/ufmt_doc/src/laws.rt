@@ -52,11 +52,16 @@ pub fn pretty_by_way_of_plain(alloc: Global, input: &[u8]) -> Result<String, Rea
     to_pretty(alloc, plain.as_bytes())
 }
 
-/// Prints a token document plainly, and reads the text. This gives the document's normal form.
+/// Prints a document plainly, and reads the text. This gives a token document's normal form. Fails with
+/// `NotText` if no token document has the text, and otherwise only with `OutOfMemory`.
 pub fn normal_by_way_of_plain(alloc: Global, doc: &Doc) -> Result<Doc, ReadError>
-    requires { IsToken (doc_document doc.now) }
-    ensures ok { IfOk result (λ again. doc_document again ≡ normal (doc_document doc.now)) }
-    ensures is_text { IsErrOf result ReadError.NotText → ⊥ }
+    ensures ok { IsToken (doc_document doc.now)
+        → IfOk result (λ again. doc_document again ≡ normal (doc_document doc.now)) }
+    ensures is_text { IsToken (doc_document doc.now) → IsErrOf result ReadError.NotText → ⊥ }
+    ensures found { IfOk result (λ again.
+        IsNormalForm plain_text (plain_text (doc_document doc.now)) (doc_document again)) }
+    ensures not_text { IsErrOf result ReadError.NotText
+        → IsNoText plain_text (plain_text (doc_document doc.now)) }
 {
     let text = plain_text(alloc, doc)?;
     read_plain(alloc, text.as_bytes())
@@ -64,9 +69,13 @@ pub fn normal_by_way_of_plain(alloc: Global, doc: &Doc) -> Result<Doc, ReadError
 
 /// Does the same with the pretty text.
 pub fn normal_by_way_of_pretty(alloc: Global, doc: &Doc) -> Result<Doc, ReadError>
-    requires { IsToken (doc_document doc.now) }
-    ensures ok { IfOk result (λ again. doc_document again ≡ normal (doc_document doc.now)) }
-    ensures is_text { IsErrOf result ReadError.NotText → ⊥ }
+    ensures ok { IsToken (doc_document doc.now)
+        → IfOk result (λ again. doc_document again ≡ normal (doc_document doc.now)) }
+    ensures is_text { IsToken (doc_document doc.now) → IsErrOf result ReadError.NotText → ⊥ }
+    ensures found { IfOk result (λ again.
+        IsNormalForm pretty_text (pretty_text (doc_document doc.now)) (doc_document again)) }
+    ensures not_text { IsErrOf result ReadError.NotText
+        → IsNoText pretty_text (pretty_text (doc_document doc.now)) }
 {
     let text = pretty_text(alloc, doc)?;
     read_pretty(alloc, text.as_bytes())
