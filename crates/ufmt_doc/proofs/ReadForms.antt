@@ -1,13 +1,15 @@
 -- What is read from a text is the normal form of each document with that text.
 use Rattle.std.proofs.Common.{◌≡◌, ◌∙◌, sym, List, ℕ, Result, Ok, Err, IfOk}
 use Rattle.ufmt.specs.Document.{Document}
-use Rattle.ufmt.specs.Layout.{plain_text}
+use Rattle.ufmt.specs.Layout.{layout, plain_text}
+use Rattle.ufmt_core.specs.declared.layout.Setting.{Setting}
 use Rattle.ufmt.specs.Token.{IsToken, normal}
+use Rattle.ufmt.proofs.NormalForms.{IsToken-normal, layout-normal, normal-normal}
 use Rattle.ufmt.proofs.OneWay.{plain_text_determines}
 use Rattle.ufmt_doc.specs.declared.doc.Doc.{Doc}
 use Rattle.ufmt_doc.specs.Doc.{doc_document}
 use Rattle.ufmt_scan.specs.declared.error.ReadError.{ReadError}
-use Rattle.ufmt_scan.specs.Texts.{IsNormalForm}
+use Rattle.ufmt_scan.specs.Texts.{IsConverted, IsNormalForm}
 
 -- what was read from a text is the normal form of each document with that text, if equal texts have equal normal forms
 form_is : (text_of : Document → List ℕ) → ((d e : Document) → IsToken d → IsToken e → text_of d ≡ text_of e → normal d ≡ normal e)
@@ -23,3 +25,15 @@ pub read_again : (text_of : Document → List ℕ) → ((d e : Document) → IsT
     → IfOk answer (λ doc. IsNormalForm text_of input (doc_document doc)) → IfOk answer (λ doc. doc_document doc ≡ normal d)
 read_again text_of determines (Ok doc) input d token is read = form_is text_of determines input (doc_document doc) d read token (sym is)
 read_again text_of determines (Err e) input d token is read = tt
+
+-- a text that was converted is that of a document in normal form
+converted_form : (s : Setting) (to : Document → List ℕ) (input text : List ℕ) → IsConverted (layout s) to input text → (d : Document) × IsNormalForm (layout s) input d
+converted_form s to input text is =
+    let some = is.some in
+    (normal some.0, (IsToken-normal some.0 some.1, normal-normal some.0, layout-normal s some.0 ∙ some.2))
+
+-- so it is, whatever is made of the other text
+pub converted_has_form : (s : Setting) (to : Document → List ℕ) (input text : List ℕ) → IsConverted (layout s) to input text
+    → {A E : Type 0} (answer : Result A E) → IfOk answer (λ _. (d : Document) × IsNormalForm (layout s) input d)
+converted_has_form s to input text is (Ok again) = converted_form s to input text is
+converted_has_form s to input text is (Err e) = tt

@@ -5,7 +5,7 @@ ghost use Rattle.ufmt.specs.Layout.{plain_text};
 ghost use Rattle.ufmt.specs.Token.{IsToken, normal};
 ghost use Rattle.ufmt_doc.specs.Doc.{doc_document};
 ghost use Rattle.ufmt_doc.specs.FieldTexts.{ShowsField, ShowsText};
-ghost use Rattle.ufmt_scan.specs.Texts.{IsNoText};
+ghost use Rattle.ufmt_scan.specs.Texts.{IsNormalForm, IsNoText};
 
 use crate::doc::Doc;
 use crate::reader::read_plain;
@@ -42,7 +42,9 @@ impl Doc {
 /// Returns the text of a field of the struct that was printed to a line, as `Doc::field_text` does. Fails
 /// with `NotText` only if no token document has this plain text; the other error is `OutOfMemory`.
 pub fn read_field(alloc: Global, line: &[u8], name: &str) -> Result<Option<String>, ReadError>
-    ensures found { IfOk result (λ answer. (d : Document) → IsToken d → plain_text d ≡ line.now
+    ensures found { IfOk result (λ answer. (d : Document) × IsNormalForm plain_text line.now d
+        × ShowsField name.now d answer) }
+    ensures each { IfOk result (λ answer. (d : Document) → IsToken d → plain_text d ≡ line.now
         → ShowsField name.now (normal d) answer) }
     ensures not_text { IsErrOf result ReadError.NotText → IsNoText plain_text line.now }
 {

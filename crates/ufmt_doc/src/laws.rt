@@ -1,9 +1,10 @@
 //! Laws of reading and writing, each as the contract of a function.
 ghost use Rattle.std.specs.Prelude.{◌≡◌, string_bytes, IfOk, IsErrOf};
+ghost use Rattle.ufmt.specs.Document.{Document};
 ghost use Rattle.ufmt.specs.Layout.{plain_text, pretty_text};
 ghost use Rattle.ufmt.specs.Token.{IsToken, normal};
 ghost use Rattle.ufmt_doc.specs.Doc.{doc_document};
-ghost use Rattle.ufmt_scan.specs.Texts.{IsNoText};
+ghost use Rattle.ufmt_scan.specs.Texts.{IsNormalForm, IsNoText};
 
 use crate::doc::Doc;
 use crate::reader::{read_plain, read_pretty};
@@ -14,6 +15,7 @@ use ufmt_scan::error::ReadError;
 /// Reads a plain text, and prints its document plainly. This gives the same text.
 pub fn plain_again(alloc: Global, input: &[u8]) -> Result<String, ReadError>
     ensures ok { IfOk result (λ text. string_bytes text ≡ input.now) }
+    ensures found { IfOk result (λ text. (d : Document) × IsNormalForm plain_text input.now d) }
     ensures not_text { IsErrOf result ReadError.NotText → IsNoText plain_text input.now }
 {
     let doc = read_plain(alloc, input)?;
@@ -23,6 +25,7 @@ pub fn plain_again(alloc: Global, input: &[u8]) -> Result<String, ReadError>
 /// Reads a pretty text, and prints its document prettily. This gives the same text.
 pub fn pretty_again(alloc: Global, input: &[u8]) -> Result<String, ReadError>
     ensures ok { IfOk result (λ text. string_bytes text ≡ input.now) }
+    ensures found { IfOk result (λ text. (d : Document) × IsNormalForm pretty_text input.now d) }
     ensures not_text { IsErrOf result ReadError.NotText → IsNoText pretty_text input.now }
 {
     let doc = read_pretty(alloc, input)?;
@@ -32,6 +35,7 @@ pub fn pretty_again(alloc: Global, input: &[u8]) -> Result<String, ReadError>
 /// Converts a plain text to its pretty text and back. This gives the same text.
 pub fn plain_by_way_of_pretty(alloc: Global, input: &[u8]) -> Result<String, ReadError>
     ensures ok { IfOk result (λ text. string_bytes text ≡ input.now) }
+    ensures found { IfOk result (λ text. (d : Document) × IsNormalForm plain_text input.now d) }
     ensures not_text { IsErrOf result ReadError.NotText → IsNoText plain_text input.now }
 {
     let pretty = to_pretty(alloc, input)?;
@@ -41,17 +45,23 @@ pub fn plain_by_way_of_pretty(alloc: Global, input: &[u8]) -> Result<String, Rea
 /// Converts a pretty text to its plain text and back. This gives the same text.
 pub fn pretty_by_way_of_plain(alloc: Global, input: &[u8]) -> Result<String, ReadError>
     ensures ok { IfOk result (λ text. string_bytes text ≡ input.now) }
+    ensures found { IfOk result (λ text. (d : Document) × IsNormalForm pretty_text input.now d) }
     ensures not_text { IsErrOf result ReadError.NotText → IsNoText pretty_text input.now }
 {
     let plain = to_plain(alloc, input)?;
     to_pretty(alloc, plain.as_bytes())
 }
 
-/// Prints a token document plainly, and reads the text. This gives the document's normal form.
+/// Prints a document plainly, and reads the text. This gives a token document's normal form. Fails with
+/// `NotText` if no token document has the text, and otherwise only with `OutOfMemory`.
 pub fn normal_by_way_of_plain(alloc: Global, doc: &Doc) -> Result<Doc, ReadError>
-    requires { IsToken (doc_document doc.now) }
-    ensures ok { IfOk result (λ again. doc_document again ≡ normal (doc_document doc.now)) }
-    ensures is_text { IsErrOf result ReadError.NotText → ⊥ }
+    ensures ok { IsToken (doc_document doc.now)
+        → IfOk result (λ again. doc_document again ≡ normal (doc_document doc.now)) }
+    ensures is_text { IsToken (doc_document doc.now) → IsErrOf result ReadError.NotText → ⊥ }
+    ensures found { IfOk result (λ again.
+        IsNormalForm plain_text (plain_text (doc_document doc.now)) (doc_document again)) }
+    ensures not_text { IsErrOf result ReadError.NotText
+        → IsNoText plain_text (plain_text (doc_document doc.now)) }
 {
     let text = plain_text(alloc, doc)?;
     read_plain(alloc, text.as_bytes())
@@ -59,9 +69,13 @@ pub fn normal_by_way_of_plain(alloc: Global, doc: &Doc) -> Result<Doc, ReadError
 
 /// Does the same with the pretty text.
 pub fn normal_by_way_of_pretty(alloc: Global, doc: &Doc) -> Result<Doc, ReadError>
-    requires { IsToken (doc_document doc.now) }
-    ensures ok { IfOk result (λ again. doc_document again ≡ normal (doc_document doc.now)) }
-    ensures is_text { IsErrOf result ReadError.NotText → ⊥ }
+    ensures ok { IsToken (doc_document doc.now)
+        → IfOk result (λ again. doc_document again ≡ normal (doc_document doc.now)) }
+    ensures is_text { IsToken (doc_document doc.now) → IsErrOf result ReadError.NotText → ⊥ }
+    ensures found { IfOk result (λ again.
+        IsNormalForm pretty_text (pretty_text (doc_document doc.now)) (doc_document again)) }
+    ensures not_text { IsErrOf result ReadError.NotText
+        → IsNoText pretty_text (pretty_text (doc_document doc.now)) }
 {
     let text = pretty_text(alloc, doc)?;
     read_pretty(alloc, text.as_bytes())

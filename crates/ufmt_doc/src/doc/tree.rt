@@ -11,13 +11,12 @@ ghost use Rattle.ufmt_scan.specs.Rest.{now_of};
 use super::Doc;
 use ufmt_scan::leaf::{is_leaf, is_word};
 
-/// Returns whether two token documents have the same text. Compares their trees, and makes no text.
+/// Returns whether two documents have the same normal form. Two token documents have it exactly if they
+/// have the same text. Compares their trees, and makes no text.
 pub fn same_text(a: &Doc, b: &Doc) -> bool
-    requires a_is_token { IsToken (doc_document a.now) }
-    requires b_is_token { IsToken (doc_document b.now) }
-    ensures plain { IsTrue result
+    ensures plain { IsToken (doc_document a.now) → IsToken (doc_document b.now) → IsTrue result
         ↔ (plain_text (doc_document a.now) ≡ plain_text (doc_document b.now)) }
-    ensures pretty { IsTrue result
+    ensures pretty { IsToken (doc_document a.now) → IsToken (doc_document b.now) → IsTrue result
         ↔ (pretty_text (doc_document a.now) ≡ pretty_text (doc_document b.now)) }
     ensures normal { IsTrue result ↔ (normal (doc_document a.now) ≡ normal (doc_document b.now)) }
 {

@@ -52,6 +52,41 @@ fn same_text_is_true_of_documents_with_one_text(rt: HostRuntime) {
     }
 }
 
+// Two documents that are no token documents, and whether they have one normal form.
+const OTHERS: [(&str, Shape<'static>, Shape<'static>, bool); 5] = [
+    ("leaves with a space", Leaf("a b"), Leaf("a b"), true),
+    (
+        "a nameless struct and a leaf",
+        StructOf("", &[]),
+        Leaf(""),
+        true,
+    ),
+    (
+        "a set in a list and a map there",
+        Listed(&[SetOf(&[]), Leaf(",")]),
+        Listed(&[MapOf(&[]), Leaf(",")]),
+        true,
+    ),
+    (
+        "a comma in a leaf and between two",
+        Listed(&[Leaf("a, b")]),
+        Listed(&[Leaf("a"), Leaf("b")]),
+        false,
+    ),
+    ("a bracket and a list", Leaf("[]"), Listed(&[]), false),
+];
+
+#[test]
+fn same_text_of_other_documents_is_true_if_they_have_one_normal_form(rt: HostRuntime) {
+    for (case, a, b, is_same) in OTHERS {
+        let given = match (made(rt.alloc(), &a), made(rt.alloc(), &b)) {
+            (Ok(a), Ok(b)) => Some((a.is_token() && b.is_token(), same_text(&a, &b))),
+            _ => None,
+        };
+        same(&rt, given, Some((false, is_same)), case);
+    }
+}
+
 // Texts, with a semicolon between them.
 const READ: &str = "\
 x;\

@@ -5,6 +5,9 @@ use Rattle.ufmt_doc.proofs.ReadForms.{plain_form_is}
 use Rattle.ufmt_doc.proofs.field_text.read_field.Goals as goal
 
 pub returns-clause-found : goal.returns-clause-found
-returns-clause-found c = λ d token same.
+returns-clause-found c = (doc_document c.in_ok-doc.doc, c.in_ok-doc.ensures.ok, c.in_ok-field_text.ensures)
+
+pub returns-clause-each : goal.returns-clause-each
+returns-clause-each c = λ d token same.
     let is = plain_form_is c.args.line.now (doc_document c.in_ok-doc.doc) d c.in_ok-doc.ensures.ok token same in
     subst (λ e. ShowsField c.args.name.now e c.in_ok-field_text.field-0) is c.in_ok-field_text.ensures

@@ -4,7 +4,7 @@ use Rattle.ufmt_examples.proofs.MeasurementTokens.{IsToken-measurement, celsius_
 use Rattle.ufmt_examples.proofs.read_back.celsius.Goals as goal
 
 pub returns-clause-logged : goal.returns-clause-logged
-returns-clause-logged c = celsius_found c.read_field.result c.args.line.now c.read_field.ensures.found
+returns-clause-logged c = celsius_found c.read_field.result c.args.line.now c.read_field.ensures.each
 
 pub returns-clause-is_read : goal.returns-clause-is_read
 returns-clause-is_read c = λ refused r printed. c.read_field.ensures.not_text refused (measurement_document r) (IsToken-measurement r) (sym printed)

@@ -3,7 +3,9 @@ use Rattle.ufmt_doc.proofs.Within.{as_well}
 use Rattle.ufmt_doc.proofs.doc.tree.same_text.Goals as goal
 
 pub returns-clause-plain : goal.returns-clause-plain
-returns-clause-plain c = let determines = plain_text_determines _ _ c.requires.a_is_token c.requires.b_is_token in as_well c.is_same.ensures (determines.1, determines.0)
+returns-clause-plain c = λ a_is_token b_is_token.
+    let determines = plain_text_determines _ _ a_is_token b_is_token in as_well c.is_same.ensures (determines.1, determines.0)
 
 pub returns-clause-pretty : goal.returns-clause-pretty
-returns-clause-pretty c = let determines = pretty_text_determines _ _ c.requires.a_is_token c.requires.b_is_token in as_well c.is_same.ensures (determines.1, determines.0)
+returns-clause-pretty c = λ a_is_token b_is_token.
+    let determines = pretty_text_determines _ _ a_is_token b_is_token in as_well c.is_same.ensures (determines.1, determines.0)
