@@ -1,0 +1,248 @@
+"""Writes the tests of each form of each macro: every kind of piece in each place, many numbers of fields, with and without
+the comma at the end. The texts are written here, as core::fmt has them."""
+
+COUNTS = (0, 1, 2, 3, 12, 13, 14, 24, 25)
+MORE_COUNTS = tuple(range(26))
+PARSED = range(1, 13)
+
+HEAD = """\
+//! Tests of the forms of macros, which tools/trycrates/grammar.py writes.
+use super::page::{same_parts, writes};
+use std::alloc::Global;
+use ufmt::line::{Debug, Line};
+use ufmt::{Align, Column, HexOptions, fields, pieces, uwrite, uwriteln};
+use ufmt_doc::plain_reader::{ReadError, read_plain};
+use ufmt_parse::{parse_fields, parse_variants};
+use ufmt_snapshot::assert_snapshot;
+
+const HEX: HexOptions = HexOptions { upper_case: false, pad_char: b'0', pad_length: 6, ox_prefix: true };
+const RIGHT: Column = Column { width: 8, align: Align::Right, fill: '.' };
+"""
+
+# Each kind of piece with `{0}` in place of a number of three digits: how it is written, and its text. `{1}` is the number
+# in four hexadecimal digits. `uwrite!` has the first nine.
+PIECES = (
+    ('text "t{0}"', "t{0}"),
+    ("display {0}u16", "{0}"),
+    ('debug "d{0}"', '"d{0}"'),
+    ("pretty Some({0}u16)", "Some(\n    {0},\n)"),
+    ("hex {0}u16 with HEX", "0x{1}"),
+    ("hex {0}u16 with HEX in RIGHT", "..0x{1}"),
+    ("display {0}u16 in RIGHT", ".....{0}"),
+    ('debug "c{0}" in RIGHT', '.."c{0}"'),
+    ("pretty {0}u16 in RIGHT", ".....{0}"),
+    ('each display [{0}u16, 7] between "-"', "{0}-7"),
+    ('each debug ["e{0}", "7"] between "+"', '"e{0}"+"7"'),
+    ('each pretty [{0}u16, 8] between "_"', "{0}_8"),
+    ('each hex [{0}u16, 9] with HEX between ";"', "0x{1};0x0009"),
+    ('each display [{0}u16, 7] in RIGHT between "|"', ".....{0}|.......7"),
+    ('each hex [{0}u16, 9] with HEX in RIGHT between "/"', "..0x{1}/..0x0009"),
+    ('each [{0}u16, 5] by Debug between "="', "{0}=5"),
+)
+WRITTEN = 9
+
+
+def quoted(text):
+    return '"%s"' % text.replace("\\", "\\\\").replace('"', '\\"').replace("\n", "\\n")
+
+
+def names(count):
+    return ["f%d" % number for number in range(1, count + 1)]
+
+
+def listed(items, comma):
+    return ", ".join(items) + ("," if comma and items else "")
+
+
+def row(source, text, number):
+    return "    writes(&rt, %s, %s, &|out| %s);" % (quoted("row %d" % number), quoted(text), source)
+
+
+def test(name, lines):
+    """The text of a test. Many rows in one function would take long to compile."""
+    return "\n#[test]\nfn %s(rt: HostRuntime) {\n%s\n}\n" % (name, "\n".join(lines))
+
+
+def commas(count):
+    """Whether the list of fields and the arguments end in a comma."""
+    if count == 0:
+        return ((False, False), (False, True))
+    if count < 4:
+        return ((False, False), (True, False), (False, True), (True, True))
+    return ((count % 2 == 0, count % 2 == 0),)
+
+
+def struct_text(name, values):
+    if not values:
+        return name
+    return "%s { %s }" % (name, ", ".join("f%d: %d" % pair for pair in enumerate(values, 1)))
+
+
+def tuple_text(name, values):
+    return "%s(%s)" % (name, ", ".join(map(str, values))) if values else name
+
+
+def types(count):
+    typed = ", ".join("%s: u8" % name for name in names(count))
+    return "\n#[derive(Drop)]\nstruct Named%d { %s }\n\n#[derive(Drop)]\nstruct Tuple%d(%s);\n" % (
+        count, typed, count, ", ".join(["u8"] * count))
+
+
+def field_forms(count, inner, outer):
+    """The calls of `fields!` for so many fields, and their texts."""
+    end = "," if outer else ""
+    values = list(range(1, count + 1))
+    fields = listed(names(count), inner)
+    valued = ["%s: %du8" % pair for pair in zip(names(count), values)]
+    yield "fields!(out, named, Named%d { %s }%s)" % (count, fields, end), struct_text("Named%d" % count, values)
+    yield "fields!(out, tuple, Tuple%d(%s)%s)" % (count, fields, end), tuple_text("Tuple%d" % count, values)
+    yield "fields!(out, Other { %s }%s)" % (listed(valued, inner), end), struct_text("Other", values)
+    yield "fields!(out, Other(%s)%s)" % (listed(["%du8" % value for value in values], inner), end), tuple_text("Other", values)
+    if count:
+        yield "fields!(out, Local { %s }%s)" % (fields, end), struct_text("Local", values)
+        yield "fields!(out, Local(%s)%s)" % (fields, end), tuple_text("Local", values)
+    else:
+        yield "fields!(out, unit, Unit%s)" % end, "Unit"
+        yield "fields!(out, Variant%s)" % end, "Variant"
+
+
+def fields_test(count):
+    values = ", ".join("%s: %d" % pair for pair in zip(names(count), range(1, count + 1)))
+    lines = ["    let named = Named%d { %s };" % (count, values)]
+    lines.append("    let tuple = Tuple%d(%s);" % (count, ", ".join(map(str, range(1, count + 1)))))
+    if count:
+        lines.append("    let [%s] = [%s];" % (", ".join(names(count)), ", ".join("%du8" % value for value in range(1, count + 1))))
+    else:
+        lines.append("    let unit = Unit;")
+    forms = [form for pair in commas(count) for form in field_forms(count, *pair)]
+    lines += [row(source, text, number) for number, (source, text) in enumerate(forms, 1)]
+    return test("fields_%d" % count, lines)
+
+
+def lines_of(kinds):
+    """Lines of pieces: each kind by itself, and as the first of three, in the middle and as the last."""
+    for kind in range(len(kinds)):
+        yield [kinds[kind]]
+    for kind in range(len(kinds)):
+        yield [kinds[kind], kinds[(kind + 1) % len(kinds)], kinds[(kind + 5) % len(kinds)]]
+
+
+def line(pieces, first):
+    """The pieces in a row, with a number of its own for each, and their text."""
+    filled = [(source.format(n, "%04x" % n), text.format(n, "%04x" % n)) for n, (source, text) in enumerate(pieces, first)]
+    return ", ".join(source for source, _ in filled), "".join(text for _, text in filled)
+
+
+def pieces_tests():
+    for place, comma in enumerate(("", ",")):
+        rows = []
+        for number, pieces in enumerate(lines_of(PIECES), 1):
+            source, text = line(pieces, 100 + 3 * number)
+            rows.append(row("pieces!(%s%s).print(out)" % (source, comma), text, number))
+        yield test("pieces_%d" % place, rows)
+    yield test("no_pieces", [row("pieces!().print(out)", "", 1)])
+
+
+def uwrite_tests():
+    for name, end in (("uwrite", ""), ("uwriteln", "\n")):
+        rows = []
+        for number, pieces in enumerate(lines_of(PIECES[:WRITTEN]), 1):
+            source, text = line(pieces, 100 + 3 * number)
+            rows += [row("%s!(out, %s%s)" % (name, source, comma), text + end, number) for comma in ("", ",")]
+        yield test("%s_pieces" % name, rows)
+
+
+def parse_function(name, result, call):
+    return """
+fn %s(alloc: Global, text: &str) -> Result<Option<%s>, ReadError> {
+    let doc = read_plain(alloc, text.as_bytes())?;
+    %s
+}
+""" % (name, result, call)
+
+
+def parsed_row(name, shape, fields, text, values, number):
+    """A row that parses a text, and compares the fields that come with `values`, or with none if there is no value."""
+    wanted = "&[%s]" % ", ".join(map(str, values)) if values is not None else "&[]"
+    found = "Ok(Some(%s)) => same_parts(&rt, %s, &[%s], %s)," % (shape, quoted("row %d" % number), fields, wanted)
+    if values is None:
+        found = "Ok(None) => {}"
+    return "    match %s(rt.alloc(), %s) {\n        %s\n        _ => same_parts(&rt, %s, &[255], %s),\n    }" % (
+        name, quoted(text), found, quoted("row %d" % number), wanted)
+
+
+def parse_fields_tests(count):
+    fields, values = ", ".join(names(count)), list(range(101, 101 + count))
+    exchanged = list(reversed(names(count)))
+    rows = []
+    for number, (inner, outer) in enumerate(commas(count), 1):
+        list_of, end = listed(names(count), inner), "," if outer else ""
+        for word, kind, text in (("named", "Named%d { %s }", struct_text), ("tuple", "Tuple%d(%s)", tuple_text)):
+            name = "%s_%d_%d" % (word, count, number)
+            call = "parse_fields!(alloc, &doc, %s%s)" % (kind % (count, list_of), end)
+            yield parse_function(name, kind.split("%")[0] + str(count), call)
+            title = kind.split("%")[0] + str(count)
+            rows.append(parsed_row(name, kind % (count, fields), fields, text(title, values), values, number))
+            rows.append(parsed_row(name, kind % (count, fields), fields, text(title + "x", values), None, number))
+            rows.append(parsed_row(name, kind % (count, fields), fields, text(title, values + [1]), None, number))
+    swapped = "Named%d { %s }" % (count, ", ".join("%s: 1" % name for name in exchanged))
+    if count > 1:
+        rows.append(parsed_row("named_%d_1" % count, "Named%d { %s }" % (count, fields), fields, swapped, None, 0))
+    yield test("parse_fields_%d" % count, rows)
+
+
+def variant(kind, count):
+    """A variant: how it is declared, how it is written for `parse_variants!`, and its text for some values."""
+    listed_names = ", ".join(names(count))
+    if kind == "Unit":
+        return "Unit%d" % count, "Unit%d" % count, lambda values: "Unit%d" % count
+    if kind == "Struct":
+        declared = ", ".join("%s: u8" % name for name in names(count))
+        return "Struct%d { %s }" % (count, declared), "Struct%d { %s }" % (count, listed_names), lambda values: struct_text("Struct%d" % count, values)
+    return "Tuple%d(%s)" % (count, ", ".join(["u8"] * count)), "Tuple%d(%s)" % (count, listed_names), lambda values: tuple_text("Tuple%d" % count, values)
+
+
+def enum_test(name, members, inner, outer):
+    """An enum with these variants, each of which is parsed. Further texts are no variant's."""
+    made = [variant(*member) for member in members]
+    yield "\n#[derive(Drop)]\nenum %s { %s }\n" % (name, ", ".join(declared for declared, _, _ in made))
+    call = "parse_variants!(alloc, &doc, %s { %s }%s)" % (name, listed([written for _, written, _ in made], inner), "," if outer else "")
+    yield parse_function("parse_%s" % name.lower(), name, call)
+    rows = []
+    for number, ((kind, count), (_, written, text)) in enumerate(zip(members, made), 1):
+        count = 0 if kind == "Unit" else count
+        values = list(range(100 + number, 100 + number + count))
+        shape = "%s::%s" % (name, written)
+        rows.append(parsed_row("parse_%s" % name.lower(), shape, ", ".join(names(count)), text(values), values, number))
+    for number, text in enumerate(("Unit99", "7", "Tuple1(7, 8)", "[]"), 90):
+        rows.append(parsed_row("parse_%s" % name.lower(), "", "", text, None, number))
+    yield test("parse_%s_variants" % name.lower(), rows)
+
+
+def variants_tests():
+    kinds = (("Unit", 1), ("Struct", 2), ("Tuple", 3))
+    number = 0
+    for first in range(3):
+        for inner, outer in ((False, False), (True, False), (False, True), (True, True)):
+            number += 1
+            yield from enum_test("E%d" % number, [kinds[(first + place) % 3] for place in range(3)], inner, outer)
+    wide = [(kind, count) for count in PARSED for kind in ("Struct", "Tuple")]
+    yield from enum_test("Wide", wide, False, False)
+
+
+def snapshot_test():
+    wanted = quoted("(\n    1,\n    \"a\",\n)")
+    rows = ["    assert_snapshot!(rt; &(1u8, \"a\"), %s%s);" % (wanted, comma) for comma in ("", ",")]
+    return test("snapshots", rows)
+
+
+def source(is_all):
+    """The whole file."""
+    counts = MORE_COUNTS if is_all else COUNTS
+    parts = [HEAD, "\n#[derive(Drop)]\nstruct Unit;\n"]
+    parts += [types(count) for count in sorted({*counts, *PARSED})]
+    parts += [fields_test(count) for count in counts]
+    parts += [*pieces_tests(), *uwrite_tests()]
+    parts += [part for count in PARSED for part in parse_fields_tests(count)]
+    parts += [*variants_tests(), snapshot_test()]
+    return "".join(parts)

@@ -1,0 +1,51 @@
+"""What prints values of other types: the implementations and public calls of the libraries with a bound such as `uDebug`."""
+import re
+
+LIBRARIES = ("ufmt_core", "ufmt", "ufmt_snapshot")
+# A type parameter with one of these bounds is a value, a mark, a line or a chain of values that is printed.
+BOUND = re.compile(r": (?:[\w:<>]+ \+ )*(?:uDebug|uDisplay|uDisplayHex|Mark<|Line\b|NamedFields<|UnnamedFields<)")
+TRAIT = re.compile(r"(?:uDebug|uDisplay|uDisplayHex|Mark<T>|Line|NamedFields<'a>|UnnamedFields<'a>) for [^{]+?(?= \{)")
+HEAD = re.compile(r"(?:\bimpl|\bpub fn (\w+))(?=<)")
+
+
+def after_parameters(text, at):
+    """Where the list of type parameters that begins here ends."""
+    depth = 0
+    for here in range(at, len(text)):
+        depth += {"<": 1, ">": -1}.get(text[here], 0)
+        if text[here] == ">" and text[here - 1] in "-=":
+            depth += 1
+        if depth == 0:
+            return here + 1
+    return len(text)
+
+
+def printers_in(text, module):
+    """The names of those of a file: `uDebug for Option<T>`, `list::entry`."""
+    text = re.sub(r"\s+", " ", re.sub(r"(?m)^ *//.*$", "", text))
+    for found in HEAD.finditer(text):
+        end = after_parameters(text, found.end())
+        if not BOUND.search(text[found.end() : text.index("{", end)]):
+            continue
+        trait = TRAIT.match(text[end:].lstrip())
+        if found[1]:
+            yield "%s::%s" % (module, found[1])
+        elif trait:
+            yield trait[0]
+
+
+def printers(top):
+    """All of them, but for laws, which say what other calls print."""
+    names = set()
+    for crate in LIBRARIES:
+        for path in sorted((top / "crates" / crate / "src").rglob("*.rt")):
+            if path.stem not in ("laws", "tests") and "tests" not in path.parts:
+                names.update(printers_in(path.read_text(), path.stem))
+    return names
+
+
+def named_in(text):
+    """The names of those that rows of the tests say: the texts before `=>` that are such a name."""
+    for name in re.findall(r'(?m)^ *"([^"]*)" => "', text):
+        if TRAIT.match(name + " {") or re.fullmatch(r"[a-z_]+::[a-z_0-9]+", name):
+            yield name

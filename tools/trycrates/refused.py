@@ -1,0 +1,87 @@
+"""Crates that must not compile: lines of code, each with the messages that it must give.
+
+A file begins with the items that its lines use. After a line `--` come a line that begins with `fn`, the parameters and
+result of the function that each line is the body of; lines that begin with `error[`, the messages; and indented lines,
+each of which must give just these messages. After a blank line new messages or a new function may come.
+"""
+import re
+
+import tried
+
+# The compiler shows no more errors than this.
+SHOWN = 20
+ERROR = re.compile(r"^src/main\.rt:(\d+):\d+: (error\[.*)$", re.M)
+MORE = re.compile(r"and (\d+) more errors?")
+ROOT = "#![tactic(auto)]\n\n//! Lines that must not compile.\n"
+MAIN = "\nfn main(rt: HostRuntime) {}\n"
+
+
+class Snippet:
+    """A line that must not compile."""
+
+    def __init__(self, path, number, items, function, messages, code):
+        self.place = "%s/%s:%d" % (path.parent.name, path.name, number)
+        self.items, self.function, self.messages, self.code = items, function, messages, code
+
+
+def snippets_in(path):
+    """The snippets of a file, in order."""
+    items, _, rest = path.read_text().partition("--\n")
+    function, messages, is_open = None, [], False
+    for number, line in enumerate(rest.splitlines(), items.count("\n") + 2):
+        if line.startswith("fn"):
+            function = line[2:]
+        elif line.startswith("error["):
+            messages, is_open = (messages + [line] if is_open else [line]), True
+        elif line.startswith("    "):
+            is_open = False
+            yield Snippet(path, number, items, function, sorted(messages), line.strip())
+        elif line:
+            raise SystemExit("%s:%d: neither `fn`, nor a message, nor an indented line" % (path, number))
+
+
+class Refused:
+    """A crate of such lines."""
+
+    def __init__(self, room, name, snippets):
+        self.room, self.name, self.snippets = room, name, snippets
+        text, self.lines = ROOT, {}
+        for number, snippet in enumerate(snippets):
+            if number == 0 or snippet.items != snippets[number - 1].items:
+                text += snippet.items
+            text += "\nfn snippet_%d%s {\n    %s\n}\n" % (number, snippet.function, snippet.code)
+            self.lines[text.count("\n") - 1] = snippet
+        tried.write(room, name, {"main.rt": text + MAIN})
+
+    def faults(self):
+        said = tried.run(self.room, self.name, [])
+        given = {}
+        for line, message in ERROR.findall(said):
+            given.setdefault(int(line), []).append(message)
+        found = [fault for line in sorted({*given, *self.lines}) for fault in self.compare(line, given.get(line, []))]
+        if not given or MORE.search(said):
+            found.append("%s gave none of its messages, or more than can be shown:\n%s" % (self.name, said))
+        return found
+
+    def compare(self, line, messages):
+        """The faults of one line."""
+        if line not in self.lines:
+            yield "line %d of %s gave\n%s" % (line, self.name, "\n".join(messages))
+            return
+        snippet = self.lines[line]
+        if sorted(messages) != snippet.messages:
+            yield "%s: `%s` gave\n%s\nand must give\n%s" % (
+                snippet.place, snippet.code, "\n".join(messages) or "no message", "\n".join(snippet.messages))
+
+
+def crates(room, paths):
+    """As few crates as can show all messages. A file's items stand once in a crate, so no two files share names."""
+    taken, count, made = [], 0, []
+    for snippet in [snippet for path in paths for snippet in snippets_in(path)]:
+        if count + len(snippet.messages) > SHOWN:
+            made.append(Refused(room, "refused_%d" % len(made), taken))
+            taken, count = [], 0
+        taken.append(snippet)
+        count += len(snippet.messages)
+    made.append(Refused(room, "refused_%d" % len(made), taken))
+    return made
