@@ -1,8 +1,11 @@
 """Random token documents, their texts, and texts that differ a little. One seed makes the same ones each time."""
-import itertools
+import math
 import random
 
+import characters
 import values
+from coverage import powers
+from covering import Covering
 from model import DEEPEST, Block, plain, pretty, quoted
 
 LETTERS = "abcxyzABCXYZ0189_-"
@@ -13,10 +16,14 @@ CHARACTERS = (
 )
 # One character of each length in bytes, and one of each escape. The longest texts are made only of these.
 KINDS_OF_CHARACTERS = "a\u00e9\u20ac\U0001f980\0\t\n\r\\\"'\x01\x1b"
-# Widths, lengths and depths around those where a counter or a buffer could end.
-WIDTHS = (1, 2, 3, 4, 5, 6, 7, 8, 9, 12, 13, 16, 17, 31, 32, 33, 64, 65, 100, 127, 128, 129, 254, 255, 256, 257, 1000)
+# Entries of wide blocks.
+SMALL = ("x", "7", "-", "()", '""', "'a'", Block("list", "", []), Block("map", "", []))
+# Lengths and depths around those where a counter or a buffer could end.
 LENGTHS = (1, 2, 15, 16, 63, 64, 65, 127, 128, 129, 254, 255, 256, 257, 511, 512, 600, 1023, 1024, 4095, 4096, 4097, 65535, 65536, 100_000)
 DEPTHS = (1, 2, 3, 4, 5, 8, 12, 13, 16, 17, 31, 32, 33, 64, 100, 127, 128, 129, 200, 254, 255, 256)
+# A document of a random size has at most so many nodes, and its leaves and names together about so many bytes.
+MOST_NODES = 1500
+MOST_BYTES = 6000
 # The places that a document can have in a block of a chain.
 PLACES = ("list", "set", "key", "value", "struct", "tuple", "unnamed", "last of two", "first of two")
 # What a change puts in: brackets, spaces, line ends, escapes and quotes; and bytes that are no UTF-8.
@@ -27,19 +34,41 @@ PIECES = (
 BAD_BYTES = (b"\xff", b"\x80", b"\xc3", b"\xc0\x80", b"\xed\xa0\x80", b"\xf4\x90\x80\x80", b"\xe2\x82", b"\xf0\x9f\xa6")
 
 
+def cuts(random, total, count):
+    """The total in so many shares, at least 1 each. They are alike, or one of them has most."""
+    bend = random.choice((1, 1, 4, 16))
+    weights = [random.random() ** bend + 1e-9 for _ in range(count)]
+    rest, scale = total - count, sum(weights)
+    return [1 + int(rest * weight / scale) for weight in weights]
+
+
 class Maker:
+    """Makes documents. The longest names and leaves have `longest` characters, which each document chooses anew."""
+
     def __init__(self, seed):
         self.random = random.Random(seed)
+        self.longest = 20
+
+    def up_to(self, most):
+        """A number from 1 on. Each number of digits is as likely."""
+        return int(2 ** self.random.uniform(0, math.log2(most + 1)))
 
     def word(self, length=None):
-        if length is None:
-            length = self.random.choice((1, 1, 2, 3, 4, 8, 20))
-        return "".join(self.random.choices(LETTERS, k=length))
+        return "".join(self.random.choices(LETTERS, k=length or self.up_to(self.longest)))
 
     def characters(self, length):
-        if self.random.random() < 0.3:
+        form = self.random.random()
+        if form < 0.3:
             return "".join(self.random.choices("ab c,:", k=length))
+        if form < 0.5:
+            return "".join(characters.any_character(self.random) for _ in range(length))
         return "".join(self.random.choices(CHARACTERS, k=length))
+
+    def text(self, length):
+        return quoted(self.characters(length))
+
+    def character(self):
+        return quoted(self.characters(1), "'")
 
     def leaf(self):
         form = self.random.random()
@@ -48,17 +77,21 @@ class Maker:
         if form < 0.55:
             return "()"
         if form < 0.8:
-            return quoted(self.characters(self.random.choice((0, 1, 2, 3, 5, 9, 20))))
-        return quoted(self.random.choice(CHARACTERS), "'")
+            return self.text(self.up_to(self.longest) - 1)
+        return self.character()
+
+    def small(self):
+        """A short leaf, or an empty block."""
+        return self.random.choice(SMALL)
 
     def long_leaf(self):
-        length = self.random.choice(LENGTHS)
+        length = self.random.choice((self.random.choice(LENGTHS), self.up_to(100_000)))
         form = self.random.randrange(3)
         if form == 0:
             return self.word(length)
         if form == 1:
             return quoted(self.random.choice(CHARACTERS) * length)
-        return quoted(self.characters(length))
+        return self.text(length)
 
     def empty(self):
         return Block(self.random.choice(("list", "map")), "", [])
@@ -66,7 +99,7 @@ class Maker:
     def block(self, kind, values):
         """A block of this kind with these values. An unnamed tuple is of the kind "unnamed"."""
         if kind == "map":
-            return Block("map", "", [(self.document(0), value) for value in values])
+            return Block("map", "", [(self.leaf(), value) for value in values])
         if kind == "struct":
             return Block("struct", self.word(), [(self.word(), value) for value in values])
         if kind == "unnamed":
@@ -77,22 +110,26 @@ class Maker:
     def kind(self):
         return self.random.choice(("list", "set", "map", "struct", "tuple", "unnamed"))
 
-    def document(self, depth):
-        """A document with blocks of any kind, nested at most this deep."""
-        form = self.random.random()
-        if depth == 0 or form < 0.15:
-            return self.empty() if form < 0.03 else self.leaf()
-        count = self.random.choice((1, 1, 2, 2, 3, 3, 4, 5, 6))
-        values = [self.document(depth - 1) for _ in range(count)]
-        kind = self.kind()
-        if kind == "map":
-            return Block("map", "", [(self.document(depth - 1), value) for value in values])
-        return self.block(kind, values)
+    def document(self):
+        """A document of any size."""
+        nodes = self.up_to(MOST_NODES)
+        self.longest = self.up_to(max(MOST_BYTES // nodes, 4))
+        return self.grown(nodes, 0)
 
-    def wide(self):
-        """A block with many small entries."""
-        values = [self.document(self.random.choice((0, 0, 0, 1))) for _ in range(self.random.choice(WIDTHS))]
-        return self.block(self.kind(), values)
+    def grown(self, nodes, depth):
+        """A document of so many nodes. They are split among its entries at random, so that it is deep and wide."""
+        if nodes <= 1 or depth == DEEPEST:
+            return self.empty() if self.random.random() < 0.1 else self.leaf()
+        kind = self.kind()
+        shares = cuts(self.random, nodes - 1, self.up_to(nodes - 1))
+        if kind != "map":
+            return self.block(kind, [self.grown(share, depth + 1) for share in shares])
+        return Block("map", "", [self.pair(share, depth + 1) for share in shares])
+
+    def pair(self, nodes, depth):
+        """A key and a value. Most often the key is a leaf."""
+        inside = nodes - 1 if self.random.random() < 0.7 else self.random.randint(0, nodes - 1)
+        return self.grown(nodes - 1 - inside, depth), self.grown(inside, depth)
 
     def deeper(self, place, document):
         """A block that has the document in this place."""
@@ -109,6 +146,7 @@ class Maker:
     def chain(self):
         """Nested blocks with one document inside, at one place or at any. They can be one deeper than allowed."""
         depth = self.random.choice(DEPTHS)
+        self.longest = self.up_to(40)
         place = self.random.choice(PLACES)
         is_mixed = self.random.random() < 0.3
         document = self.random.choice((self.leaf(), self.empty(), "x"))
@@ -119,13 +157,11 @@ class Maker:
     def whole_text(self):
         """The plain or the pretty text of a document, which can be too deep."""
         form = self.random.random()
-        if form < 0.5:
-            document = self.document(self.random.choice((1, 1, 2, 2, 3, 3, 4)))
-        elif form < 0.7:
+        if form < 0.65:
+            document = self.document()
+        elif form < 0.85:
             document = values.made(self.random)
-        elif form < 0.8:
-            document = self.wide()
-        elif form < 0.88:
+        elif form < 0.92:
             document = self.chain()
         else:
             document = self.placed_leaf()
@@ -171,7 +207,7 @@ class Maker:
 
     def noise(self):
         """Bytes that are most often no text, and can be long."""
-        length = self.random.choice(LENGTHS)
+        length = self.up_to(100_000)
         form = self.random.randrange(4)
         if form == 0:
             return self.characters(length).encode()
@@ -193,25 +229,32 @@ class Maker:
         return text
 
 
-def beginnings():
-    """Texts that come first with every seed: each shape at each limit."""
-    maker = Maker(0)
-    yield from (b"", b"\n", b"()", b"[]", b"{}", b'""', b"''", b"x\n")
-    for document in itertools.chain(values.beginnings(), (values.made(maker.random) for _ in range(150))):
+def in_both_modes(documents):
+    for document in documents:
         yield plain(document).encode()
         yield pretty(document).encode()
+
+
+def too_deep(maker):
+    """In each place a chain that is almost too deep, and one that is."""
     for depth in (DEEPEST - 1, DEEPEST, DEEPEST + 1):
         for place in PLACES:
             document = "x"
             for _ in range(depth):
                 document = maker.deeper(place, document)
-            yield plain(document).encode()
-            yield pretty(document).encode()
-    for kind in ("list", "set", "map", "struct", "tuple", "unnamed"):
-        for width in (1, 2, 3, 4, 5, 13, 255, 256, 257, 1000):
-            document = maker.block(kind, [maker.leaf() for _ in range(width)])
-            yield plain(document).encode()
-            yield pretty(document).encode()
+            yield document
+
+
+def beginnings(seed):
+    """Texts that come first: each cell of the table of coverage, and each shape at each limit."""
+    maker = Maker(seed)
+    covering = Covering(maker)
+    yield from (b"", b"\n", b"()", b"[]", b"{}", b'""', b"''", b"x\n")
+    yield from in_both_modes(values.beginnings(maker.random))
+    yield from in_both_modes(too_deep(maker))
+    yield from in_both_modes(covering.documents())
+    for number, document in enumerate(covering.many()):
+        yield (plain, pretty)[(number + seed) % 2](document).encode()
     for character in CHARACTERS:
         for length in (1, 255, 256, 257, 4097):
             yield quoted(character * length).encode()
@@ -221,3 +264,6 @@ def beginnings():
     for length in LENGTHS:
         yield b"x" * length
         yield b" " * length
+    for size in powers(131072):
+        yield maker.characters(size).encode()[: covering.within(size) - 1] + b"]"
+    yield from characters.texts()

@@ -111,8 +111,12 @@ def spelled(character, quote):
     return character
 
 
+# The characters that are spelled in another way than by themselves, at least between one of the quotes.
+SPELLED = re.compile(r"""[\x00-\x1f\x7f\\"']""")
+
+
 def quoted(text, quote='"'):
-    return quote + "".join(spelled(character, quote) for character in text) + quote
+    return quote + SPELLED.sub(lambda found: spelled(found[0], quote), text) + quote
 
 
 WORD = re.compile(r"[A-Za-z0-9_-]+")

@@ -4,17 +4,21 @@ Each has a letter, which the program prints of a text if a value of the type has
 """
 import re
 
-from model import Block, quoted, unquoted
+from model import Block, plain, quoted, unquoted
 
 NUMBER = re.compile(r"0|-?[1-9][0-9]*")
+# No number of a type has more digits.
+LONGEST = 40
 
 
 class Number:
-    def __init__(self, low, high):
-        self.low, self.high = low, high
+    def __init__(self, low, high, has_zero=True):
+        self.low, self.high, self.has_zero = low, high, has_zero
 
     def has(self, document):
-        return isinstance(document, str) and bool(NUMBER.fullmatch(document)) and self.low <= int(document) <= self.high
+        if not isinstance(document, str) or len(document) > LONGEST or not NUMBER.fullmatch(document):
+            return False
+        return self.low <= int(document) <= self.high and (self.has_zero or document != "0")
 
     def order(self, document):
         return int(document)
@@ -22,11 +26,16 @@ class Number:
     def made(self, random):
         """A number of the type, or one past its bounds, or what is nearly a number."""
         form = random.random()
-        if form < 0.6:
-            return str(random.choice((self.low, self.high, 0, 1, random.randint(self.low, self.high))))
-        if form < 0.9:
+        if form < 0.8:
+            return str(random.choice((self.low, self.high, 0, 1, self.sized(random), random.randint(self.low, self.high))))
+        if form < 0.95:
             return str(random.choice((self.low - 1, self.high + 1, -1, 10 * self.high)))
         return random.choice(("-0", "00", "01", "-01", "-", "1_000", "0x1"))
+
+    def sized(self, random):
+        """A number of the type with any number of digits."""
+        size = 10 ** random.randrange(len(str(self.high)))
+        return max(self.low, min(self.high, random.randrange(size, 10 * size)))
 
 
 class Word:
@@ -35,6 +44,9 @@ class Word:
 
     def has(self, document):
         return document in self.words
+
+    def order(self, document):
+        return self.words.index(document)
 
     def made(self, random):
         return random.choice(self.words)
@@ -67,6 +79,12 @@ class Choice:
         kind, name, entries = document
         return kind == "tuple" and name in self.variants and len(entries) == 1 and self.variants[name].has(entries[0][1])
 
+    def order(self, document):
+        if isinstance(document, str):
+            return (-1, 0)
+        name = document.name
+        return (list(self.variants).index(name), self.variants[name].order(document.entries[0][1]))
+
     def made(self, random):
         if self.leaf and random.random() < 0.4:
             return self.leaf
@@ -86,8 +104,13 @@ class List:
         is_long_enough = self.length is None or len(document.entries) == self.length
         return is_long_enough and all(self.value.has(value) for _none, value in document.entries)
 
+    def order(self, document):
+        return [self.value.order(value) for _none, value in document.entries]
+
     def made(self, random):
-        length = random.randrange(4) if self.length is None or random.random() < 0.2 else self.length
+        length = self.length
+        if length is None or random.random() < 0.1:
+            length = int(2 ** random.uniform(0, 5)) - 1
         return Block("list", "", [(None, self.value.made(random)) for _ in range(length)])
 
 
@@ -136,13 +159,20 @@ class Keyed:
         orders = [self.key.order(key) for key in keys]
         return all(before < after for before, after in zip(orders, orders[1:]))
 
+    def ascending(self, keys):
+        """The keys in order, each once."""
+        out = []
+        for key in sorted(keys, key=self.key.order):
+            if not out or self.key.order(out[-1]) != self.key.order(key):
+                out.append(key)
+        return out
+
     def made(self, random):
-        keys = [self.key.made(random) for _ in range(random.randrange(5))]
+        keys = [self.key.made(random) for _ in range(int(2 ** random.uniform(0, 4)) - 1)]
         keys = [key for key in keys if self.key.has(key)]
         form = random.random()
-        if form < 0.7:
-            keys = sorted({self.key.order(key): key for key in keys}.items())
-            keys = [key for _order, key in keys]
+        if form < 0.8:
+            keys = self.ascending(keys)
         if not keys:
             return Block("map", "", [])
         if self.value:
@@ -178,34 +208,160 @@ class Node:
 TREE = Fields("struct", "Tree", [("size", Number(0, 2**64 - 1)), ("children", List(Tree()))])
 NODE = Fields("struct", "Node", [("value", Number(0, 2**64 - 1)), ("next", Choice("None", Some=Node()))])
 
+
+def row(letters, *kinds):
+    """Types with their letters."""
+    assert len(letters) == len(kinds)
+    return dict(zip(letters, kinds))
+
+
+def unsigned(bits):
+    return Number(0, 2**bits - 1)
+
+
+def signed(bits):
+    return Number(-(2 ** (bits - 1)), 2 ** (bits - 1) - 1)
+
+
+def nonzero(number):
+    return Number(number.low or 1, number.high, has_zero=False)
+
+
+def few(count):
+    """A tuple of so many numbers and truth values in turn."""
+    return Fields("tuple", "", [(None, BOOL if number % 2 else unsigned(8)) for number in range(count)])
+
+
+BOOL = Word("false", "true")
+UNIT = Word("()")
+BYTE = unsigned(8)
+UNSIGNED = [unsigned(bits) for bits in (8, 16, 32, 64, 128, 64)]
+SIGNED = [signed(bits) for bits in (8, 16, 32, 64, 128, 64)]
+
 TYPES = {
-    "a": Number(0, 255),
-    "b": Number(-(2**63), 2**63 - 1),
-    "c": Number(-(2**127), 2**127 - 1),
-    "d": Number(1, 2**16 - 1),
-    "e": Word("true", "false"),
-    "f": CHARACTER,
-    "g": TEXT,
-    "h": Word("()"),
-    "i": Choice("None", Some=Number(-128, 127)),
-    "j": Choice(None, Ok=TEXT, Err=CHARACTER),
-    "k": List(Number(0, 2**64 - 1)),
-    "l": List(Number(-(2**15), 2**15 - 1), 2),
-    "m": Fields("tuple", "", [(None, Number(0, 2**32 - 1))]),
-    "n": Fields("tuple", "", [(None, CHARACTER), (None, Word("()")), (None, List(Word("true", "false")))]),
-    "o": Keyed(Number(-128, 127)),
-    "p": Keyed(TEXT, Choice("None", Some=Number(0, 255))),
-    "q": Tree(),
-    "r": Node(),
-    "s": List(Tree()),
+    **row("abcdefghijkl", *UNSIGNED, *SIGNED),
+    **row("mnopqrstuv", *(nonzero(number) for number in UNSIGNED[:4] + UNSIGNED[5:] + SIGNED[:4] + SIGNED[5:])),
+    **row(
+        "ABCDEFGHIJ",
+        BOOL,
+        CHARACTER,
+        TEXT,
+        UNIT,
+        Choice("None", Some=signed(8)),
+        Choice("None", Some=Choice("None", Some=BOOL)),
+        Choice("None", Some=TEXT),
+        Choice(None, Ok=TEXT, Err=CHARACTER),
+        Choice(None, Ok=UNIT, Err=Choice("None", Some=CHARACTER)),
+        BYTE,
+    ),
+    **row(
+        "KLMNOPQR",
+        List(unsigned(64)),
+        List(Choice("None", Some=BOOL)),
+        List(List(BYTE)),
+        List(BYTE, 0),
+        List(BOOL, 1),
+        List(signed(16), 2),
+        List(CHARACTER, 3),
+        List(List(BYTE, 2), 2),
+    ),
+    **row(
+        "STUVWXYZ012345",
+        Keyed(signed(8)),
+        Keyed(TEXT, Choice("None", Some=BYTE)),
+        Keyed(BOOL),
+        Keyed(CHARACTER, UNIT),
+        Keyed(UNIT),
+        Keyed(Choice("None", Some=BYTE)),
+        Keyed(Choice(None, Ok=BOOL, Err=CHARACTER)),
+        Keyed(List(signed(16))),
+        Keyed(List(BYTE, 2), List(CHARACTER)),
+        Keyed(signed(32)),
+        Keyed(unsigned(64), Keyed(signed(128))),
+        Keyed(unsigned(16), Keyed(unsigned(64), Keyed(unsigned(128)))),
+        Keyed(signed(64), Keyed(signed(64))),
+        Keyed(unsigned(32), Keyed(BYTE)),
+    ),
+    **row("678", Tree(), Node(), List(Tree())),
+    **row(
+        "\u03b1\u03b2\u03b3\u03b4\u03b5\u03b6\u03b7\u03b8\u03b9\u03ba\u03bb\u03bc\u03bd",
+        Fields("tuple", "", [(None, unsigned(32))]),
+        *(few(count) for count in range(2, 13)),
+        Fields("tuple", "", [(None, CHARACTER), (None, UNIT), (None, List(BOOL))]),
+    ),
 }
 
 
-def beginnings():
-    """The values at each number type's bounds, and one past them; and what is nearly a value."""
-    for kind in TYPES.values():
-        if isinstance(kind, Number):
-            yield from (str(number) for number in (kind.low - 1, kind.low, kind.high, kind.high + 1))
+# ---- Structs, tuples and an enum that are parsed by the calls and the macros for a user's types.
+
+NAMES = "abcdefghijkl"
+
+
+def mixed(kind, name, count):
+    """A struct or a tuple of so many numbers and characters in turn."""
+    names = NAMES[:count] if kind == "struct" else [None] * count
+    return Fields(kind, name, [(name, CHARACTER if number % 2 else BYTE) for number, name in enumerate(names)])
+
+
+TWELVE = Fields("struct", "Twelve", [(name, BYTE) for name in NAMES[:11]] + [("l", TEXT)])
+ONE = Fields("tuple", "One", [(None, TEXT)])
+SAID = Fields("tuple", "Said", [(None, BYTE), (None, TEXT)])
+LOST = Fields("struct", "Lost", [("since", BYTE), ("peers", List(BYTE))])
+EVENTS = (Word("Started"), SAID, LOST, Word("Ended"))
+SHAPES = [mixed(kind, name, count) for kind, name in (("struct", "S"), ("tuple", "T")) for count in range(1, 13)]
+
+
+KINDS_OF_SHAPES = (*SHAPES, TWELVE, ONE, *EVENTS)
+SHAPE_COUNT = len(KINDS_OF_SHAPES)
+
+
+def shapes(document):
+    """The numbers of these types that have a value with this document."""
+    return [number for number, kind in enumerate(KINDS_OF_SHAPES) if kind.has(document)]
+
+
+def unnamed(values):
+    return Block("tuple", "", [(None, value) for value in values])
+
+
+def some(value):
+    return Block("tuple", "Some", [(None, value)])
+
+
+def values_of(document):
+    return [value for _name, value in document.entries]
+
+
+def fields(document):
+    """The fields of a document of one of these types, as the program prints them."""
+    if document in ("Started", "Ended"):
+        return "(%d, None, None);" % (3 if document == "Ended" else 0)
+    if isinstance(document, str):
+        return ""
+    if any(shape.has(document) for shape in SHAPES):
+        found = values_of(document)
+        found = found[0] if len(found) == 1 else unnamed(found)
+        return plain(unnamed([found, "true" if document.kind == "struct" else "false"])) + ";"
+    if TWELVE.has(document):
+        found = values_of(document)
+        return plain(unnamed([unnamed(found[:11]), found[11]])) + ";"
+    if ONE.has(document):
+        return plain(values_of(document)[0]) + ";"
+    if SAID.has(document):
+        return plain(unnamed(["1", some(unnamed(values_of(document))), "None"])) + ";"
+    if LOST.has(document):
+        return plain(unnamed(["2", "None", some(unnamed(values_of(document)))])) + ";"
+    return ""
+
+
+def beginnings(random):
+    """Values of each type. The values at each number type's bounds, and one past them; and what is nearly a value."""
+    for kind in (*TYPES.values(), *KINDS_OF_SHAPES):
+        yield from (surely(kind, random) for _ in range(3))
+        yield kind.made(random)
+    bounds = {(kind.low, kind.high) for kind in TYPES.values() if isinstance(kind, Number)}
+    for low, high in sorted(bounds):
+        yield from (str(number) for number in (low - 1, low, high, high + 1))
     yield from ("0", "-0", "00", "-1", "01", "-01", "None", "Some", "true", "True", "Tree", "Node")
     for name in ("None", "Some", "Ok", "Err", "Maybe"):
         for value in ("1", "-129", "'a'", quoted("a"), Block("list", "", [])):
@@ -222,6 +378,14 @@ def beginnings():
     yield Block("struct", "Node", [("value", "1"), ("next", "1")])
 
 
+def surely(kind, random):
+    """A value of the type."""
+    while True:
+        document = kind.made(random)
+        if kind.has(document):
+            return document
+
+
 def letters(document):
     """The letters of the types that have a value with this document."""
     return "".join(letter for letter, kind in TYPES.items() if kind.has(document))
@@ -229,4 +393,4 @@ def letters(document):
 
 def made(random):
     """A value of one of the types, or what is nearly one."""
-    return random.choice(list(TYPES.values())).made(random)
+    return random.choice([*TYPES.values(), *KINDS_OF_SHAPES]).made(random)

@@ -1,8 +1,10 @@
 """The lines that the programs should print: of each text all that the calls say of it, and what ufmt_conv writes."""
 import zlib
 
+import coverage
 import values
 from model import DEEPEST, WORD, PlainReader, PrettyReader, depth_of, events, leaf_at, parts, plain, pretty, quoted
+from shown import shown
 
 
 def digest(text):
@@ -20,10 +22,12 @@ def joined(add, document):
 def half(document, converted):
     if document is None:
         return "no text"
-    return "events %s, converted %s, parts %s, in a list %s, types [%s]" % (
+    return "events %s, converted %s, parts %s, shown %s, fields %s, in a list %s, types [%s]" % (
         digest(joined(events, document)),
         digest(converted(document)),
         digest(joined(parts, document)),
+        digest(joined(shown, document)),
+        digest(values.fields(document)),
         "yes" if depth_of(document) < DEEPEST else "no",
         values.letters(document),
     )
@@ -41,16 +45,15 @@ def leaf_verdict(text):
 
 
 def verdict(data):
-    """The line that the program prints of these bytes."""
+    """The line that the program prints of these bytes, and the cells of the table of coverage that they fill."""
     try:
         text = data.decode()
     except UnicodeDecodeError:
-        return "plain: no text; pretty: no text; leaf: no UTF-8"
-    return "plain: %s; pretty: %s; leaf: %s" % (
-        half(PlainReader().read(text), pretty),
-        half(PrettyReader().read(text), plain),
-        leaf_verdict(text),
-    )
+        cells = coverage.cells(None, "plain", len(data)) | coverage.cells(None, "pretty", len(data))
+        return "plain: no text; pretty: no text; leaf: no UTF-8", cells
+    by_plain, by_pretty = PlainReader().read(text), PrettyReader().read(text)
+    line = "plain: %s; pretty: %s; leaf: %s" % (half(by_plain, pretty), half(by_pretty, plain), leaf_verdict(text))
+    return line, coverage.cells(by_plain, "plain", len(data)) | coverage.cells(by_pretty, "pretty", len(data))
 
 
 def answer(command, data):

@@ -6,8 +6,8 @@ use crate::digest::Digest;
 use crate::events::Events;
 use crate::fault::{Fault, agree};
 use crate::loose::Loosener;
-use crate::parsed;
 use crate::parts::Parts;
+use crate::{fields, parsed, shapes};
 use std::alloc::{AllocError, Global};
 use ufmt::{Full, uWrite};
 use ufmt_doc::doc::{Doc, same_text};
@@ -35,6 +35,9 @@ struct Half {
     events: Digest,
     converted: Digest,
     parts: Digest,
+    // What its leaves and fields show, and the fields of a struct or a tuple with one to twelve.
+    shown: Digest,
+    fields: Digest,
     // Whether a list of the document is a token document: the document is less than 255 deep.
     is_token_in_a_list: bool,
     // The letters of the types that have a value with the text.
@@ -46,9 +49,11 @@ impl Half {
         let events = self.events.words(alloc)?;
         let converted = self.converted.words(alloc)?;
         let parts = self.parts.words(alloc)?;
+        let shown = self.shown.words(alloc)?;
+        let fields = self.fields.words(alloc)?;
         let in_a_list = if self.is_token_in_a_list { "yes" } else { "no" };
         format!(in alloc;
-            "events {events}, converted {converted}, parts {parts}, in a list {in_a_list}, types [{}]",
+            "events {events}, converted {converted}, parts {parts}, shown {shown}, fields {fields}, in a list {in_a_list}, types [{}]",
             self.types
         )
     }
@@ -62,13 +67,16 @@ fn of_text(calls: Calls<'_>, doc: &Doc) -> Result<Half, Fault> {
     comes_again(calls, &converted)?;
     prints(calls, doc)?;
     prints(calls.on_converted(&converted), doc)?;
-    let parts = Parts::of(calls.alloc, doc)?;
+    let (parts, shown) = Parts::and_shown(calls.alloc, doc)?;
     is_normal(calls, &parts)?;
     is_normal_of_loose(calls, doc, &parts)?;
+    fields::reads_fields(calls, doc)?;
     Ok(Half {
         events: Digest::of(&events.text),
         converted: Digest::of(&converted),
         parts: Digest::of(&parts),
+        shown: Digest::of(&shown),
+        fields: Digest::of(&shapes::fields_of(calls.alloc, doc)?),
         is_token_in_a_list: is_token_in_a_list(calls, doc)?,
         types: parsed::letters(calls, doc)?,
     })
@@ -213,6 +221,7 @@ fn of_no_text(calls: Calls<'_>) -> Result<(), Fault> {
     )?;
     let is_refused = matches!(calls.parse::<String>(), Err(ReadError::NotText));
     agree(is_refused, "parse of no text")?;
+    agree(fields::is_refused(calls), "read_field of no text")?;
     let by_way = calls.by_way_of_the_other();
     agree(by_way == Err(ReadError::NotText), "no text, there and back")
 }

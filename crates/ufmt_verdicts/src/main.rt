@@ -12,11 +12,14 @@ mod calls;
 mod digest;
 mod events;
 mod fault;
+mod fields;
 mod half;
 mod leaf;
 mod loose;
 mod parsed;
 mod parts;
+mod shapes;
+mod types;
 
 use calls::Calls;
 use std::io::{self, Read, Write};

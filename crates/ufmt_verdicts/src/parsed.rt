@@ -1,49 +1,30 @@
 //! Which types have a value with the text.
 use crate::calls::Calls;
 use crate::fault::{Fault, agree};
-use std::collections::{BTreeMap, BTreeSet};
-use std::num::NonZeroU16;
+use crate::types::{Keyed, Leaves, Lists, Nested, NonZeros, Numbers, Tuples, Types};
 use ufmt_doc::doc::Doc;
 use ufmt_doc::plain_reader::ReadError;
 use ufmt_parse::uParse;
-use ufmt_parse_tests::node::Node;
-use ufmt_parse_tests::tree::Tree;
+
+// The longest text that is read for each type that has no value with it. A longer one is only tried by its
+// document, since that would take most of the time.
+const LONGEST_TEXT: usize = 200;
 
 /// Returns the letters of the types that have a value with the text, which was read as this document.
 pub fn letters(calls: Calls<'_>, doc: &Doc) -> Result<String, Fault> {
     let mut letters = String::new(calls.alloc);
-    of_leaves(calls, doc, &mut letters)?;
-    of_blocks(calls, doc, &mut letters)?;
+    Numbers::add_all(calls, doc, "abcdefghijkl", &mut letters)?;
+    NonZeros::add_all(calls, doc, "mnopqrstuv", &mut letters)?;
+    Leaves::add_all(calls, doc, "ABCDEFGHIJ", &mut letters)?;
+    Lists::add_all(calls, doc, "KLMNOPQR", &mut letters)?;
+    Keyed::add_all(calls, doc, "STUVWXYZ012345", &mut letters)?;
+    Nested::add_all(calls, doc, "678", &mut letters)?;
+    Tuples::add_all(calls, doc, "αβγδεζηθικλμν", &mut letters)?;
     Ok(letters)
 }
 
-fn of_leaves(calls: Calls<'_>, doc: &Doc, letters: &mut String) -> Result<(), Fault> {
-    add::<u8>(calls, doc, letters, 'a')?;
-    add::<i64>(calls, doc, letters, 'b')?;
-    add::<i128>(calls, doc, letters, 'c')?;
-    add::<NonZeroU16>(calls, doc, letters, 'd')?;
-    add::<bool>(calls, doc, letters, 'e')?;
-    add::<char>(calls, doc, letters, 'f')?;
-    add::<String>(calls, doc, letters, 'g')?;
-    add::<()>(calls, doc, letters, 'h')
-}
-
-fn of_blocks(calls: Calls<'_>, doc: &Doc, letters: &mut String) -> Result<(), Fault> {
-    add::<Option<Box<i8>>>(calls, doc, letters, 'i')?;
-    add::<Result<String, char>>(calls, doc, letters, 'j')?;
-    add::<Vec<u64>>(calls, doc, letters, 'k')?;
-    add::<[i16; 2]>(calls, doc, letters, 'l')?;
-    add::<(u32,)>(calls, doc, letters, 'm')?;
-    add::<(char, (), Vec<bool>)>(calls, doc, letters, 'n')?;
-    add::<BTreeSet<i8>>(calls, doc, letters, 'o')?;
-    add::<BTreeMap<String, Option<u8>>>(calls, doc, letters, 'p')?;
-    add::<Tree>(calls, doc, letters, 'q')?;
-    add::<Node>(calls, doc, letters, 'r')?;
-    add::<Vec<Tree>>(calls, doc, letters, 's')
-}
-
-// Adds the letter of the type if it has a value with the text. Each such value must print as the text.
-fn add<T: uParse>(
+/// Adds the letter of the type if it has a value with the text. Each such value must print as the text.
+pub fn add<T: uParse>(
     calls: Calls<'_>,
     doc: &Doc,
     letters: &mut String,
@@ -61,8 +42,7 @@ fn add<T: uParse>(
     Ok(())
 }
 
-// Whether no value of the type has the text. Long texts are only tried by their documents, since reading one
-// for each type would take most of the time.
+// Whether no value of the type has the text.
 fn is_no_value<T: uParse>(calls: Calls<'_>) -> bool {
-    calls.text.len() > 1000 || matches!(calls.parse::<T>(), Err(ReadError::NotText))
+    calls.text.len() > LONGEST_TEXT || matches!(calls.parse::<T>(), Err(ReadError::NotText))
 }

@@ -1,14 +1,16 @@
 //! Notes the parts of a document, as the calls return them.
 use crate::fault::{Fault, agree};
+use crate::fields::note_shown;
 use std::alloc::Global;
 use ufmt_doc::doc::Doc;
 
 /// The parts so far. A block has its entries in parentheses. A leaf in quotes comes also without
-/// quotes.
+/// quotes. Apart from these it has what leaves and fields show.
 #[derive(Drop)]
 pub struct Parts {
     pub alloc: Global,
     pub text: String,
+    pub shown: String,
 }
 
 /// A leaf's text, a block's name, and how many entries, pairs and fields it has.
@@ -44,17 +46,24 @@ fn wanted(doc: &Doc) -> Counts<'_> {
 
 impl Parts {
     pub fn of(alloc: Global, doc: &Doc) -> Result<String, Fault> {
+        Ok(Parts::and_shown(alloc, doc)?.0)
+    }
+
+    /// Returns the parts, and what they show.
+    pub fn and_shown(alloc: Global, doc: &Doc) -> Result<(String, String), Fault> {
         let mut parts = Parts {
             alloc,
             text: String::new(alloc),
+            shown: String::new(alloc),
         };
         parts.note(doc)?;
-        Ok(parts.text)
+        Ok((parts.text, parts.shown))
     }
 
     #[cycle(parts)]
     fn note(&mut self, doc: &Doc) -> Result<(), Fault> {
         agree(counts(doc) == wanted(doc), "parts")?;
+        note_shown(self.alloc, doc, &mut self.shown)?;
         match doc {
             Doc::Leaf(text) => self.note_leaf(doc, text),
             Doc::Listed(entries) => self.note_entries("l", "", entries),

@@ -1,0 +1,178 @@
+//! Structs and tuples of one to twelve fields, and an enum, by the calls and the macros for a user's types.
+use crate::fault::Fault;
+use std::alloc::{AllocError, Global};
+use ufmt::uDebug;
+use ufmt_doc::convert::plain_text;
+use ufmt_doc::doc::Doc;
+use ufmt_parse::{
+    parse_fields, parse_struct_1, parse_struct_2, parse_struct_3, parse_struct_4, parse_struct_5,
+    parse_struct_6, parse_struct_7, parse_struct_8, parse_struct_9, parse_struct_10,
+    parse_struct_11, parse_struct_12, parse_tuple_1, parse_tuple_2, parse_tuple_3, parse_tuple_4,
+    parse_tuple_5, parse_tuple_6, parse_tuple_7, parse_tuple_8, parse_tuple_9, parse_tuple_10,
+    parse_tuple_11, parse_tuple_12, parse_variants,
+};
+
+/// Returns the fields of the struct, the tuple or the variant that has this document, as the texts of tuples.
+pub fn fields_of(alloc: Global, doc: &Doc) -> Result<String, Fault> {
+    let mut out = String::new(alloc);
+    match doc {
+        Doc::StructOf(_, _) => {
+            note_structs(alloc, doc, &mut out)?;
+            note_long_structs(alloc, doc, &mut out)?;
+            note(alloc, parse_twelve(alloc, doc)?, &mut out)?;
+        }
+        Doc::TupleOf(_, _) => {
+            note_tuples(alloc, doc, &mut out)?;
+            note_long_tuples(alloc, doc, &mut out)?;
+            note(alloc, parse_one(alloc, doc)?, &mut out)?;
+        }
+        _ => {}
+    }
+    note(alloc, parse_event(alloc, doc)?, &mut out)?;
+    Ok(out)
+}
+
+// Notes the fields, if the document is a value's.
+fn note<T: uDebug + Drop>(alloc: Global, found: Option<T>, out: &mut String) -> Result<(), Fault> {
+    if let Some(fields) = found {
+        out.push_str(&plain_text(alloc, &fields)?)?;
+        out.push(';')?;
+    }
+    Ok(())
+}
+
+// Notes what this call returns of a struct with these fields. A number and a text in turn.
+macro_rules! named {
+    ($alloc:ident $doc:ident $out:ident $call:ident $($type:ident $name:literal)+) => {
+        note($alloc, $call::<$($type),+>($alloc, $doc, "S", $($name),+)?.map(|found| (found, true)), $out)?
+    };
+}
+
+// The same of a tuple.
+macro_rules! unnamed {
+    ($alloc:ident $doc:ident $out:ident $call:ident $($type:ident)+) => {
+        note($alloc, $call::<$($type),+>($alloc, $doc, "T")?.map(|found| (found, false)), $out)?
+    };
+}
+
+fn note_structs(alloc: Global, doc: &Doc, out: &mut String) -> Result<(), Fault> {
+    named!(alloc doc out parse_struct_1 u8 "a");
+    named!(alloc doc out parse_struct_2 u8 "a" char "b");
+    named!(alloc doc out parse_struct_3 u8 "a" char "b" u8 "c");
+    named!(alloc doc out parse_struct_4 u8 "a" char "b" u8 "c" char "d");
+    named!(alloc doc out parse_struct_5 u8 "a" char "b" u8 "c" char "d" u8 "e");
+    named!(alloc doc out parse_struct_6 u8 "a" char "b" u8 "c" char "d" u8 "e" char "f");
+    named!(alloc doc out parse_struct_7 u8 "a" char "b" u8 "c" char "d" u8 "e" char "f" u8 "g");
+    Ok(())
+}
+
+fn note_long_structs(alloc: Global, doc: &Doc, out: &mut String) -> Result<(), Fault> {
+    named!(alloc doc out parse_struct_8 u8 "a" char "b" u8 "c" char "d" u8 "e" char "f" u8 "g" char "h");
+    named!(alloc doc out parse_struct_9 u8 "a" char "b" u8 "c" char "d" u8 "e" char "f" u8 "g" char "h" u8 "i");
+    named!(alloc doc out parse_struct_10 u8 "a" char "b" u8 "c" char "d" u8 "e" char "f" u8 "g" char "h" u8 "i" char "j");
+    named!(alloc doc out parse_struct_11 u8 "a" char "b" u8 "c" char "d" u8 "e" char "f" u8 "g" char "h" u8 "i" char "j" u8 "k");
+    named!(alloc doc out parse_struct_12 u8 "a" char "b" u8 "c" char "d" u8 "e" char "f" u8 "g" char "h" u8 "i" char "j" u8 "k" char "l");
+    Ok(())
+}
+
+fn note_tuples(alloc: Global, doc: &Doc, out: &mut String) -> Result<(), Fault> {
+    unnamed!(alloc doc out parse_tuple_1 u8);
+    unnamed!(alloc doc out parse_tuple_2 u8 char);
+    unnamed!(alloc doc out parse_tuple_3 u8 char u8);
+    unnamed!(alloc doc out parse_tuple_4 u8 char u8 char);
+    unnamed!(alloc doc out parse_tuple_5 u8 char u8 char u8);
+    unnamed!(alloc doc out parse_tuple_6 u8 char u8 char u8 char);
+    unnamed!(alloc doc out parse_tuple_7 u8 char u8 char u8 char u8);
+    Ok(())
+}
+
+fn note_long_tuples(alloc: Global, doc: &Doc, out: &mut String) -> Result<(), Fault> {
+    unnamed!(alloc doc out parse_tuple_8 u8 char u8 char u8 char u8 char);
+    unnamed!(alloc doc out parse_tuple_9 u8 char u8 char u8 char u8 char u8);
+    unnamed!(alloc doc out parse_tuple_10 u8 char u8 char u8 char u8 char u8 char);
+    unnamed!(alloc doc out parse_tuple_11 u8 char u8 char u8 char u8 char u8 char u8);
+    unnamed!(alloc doc out parse_tuple_12 u8 char u8 char u8 char u8 char u8 char u8 char);
+    Ok(())
+}
+
+#[derive(Drop)]
+struct Twelve {
+    a: u8,
+    b: u8,
+    c: u8,
+    d: u8,
+    e: u8,
+    f: u8,
+    g: u8,
+    h: u8,
+    i: u8,
+    j: u8,
+    k: u8,
+    l: String,
+}
+
+#[derive(Drop)]
+struct One(String);
+
+#[derive(Drop)]
+enum Event {
+    Started,
+    Said(u8, String),
+    Lost { since: u8, peers: Vec<u8> },
+    Ended,
+}
+
+fn twelve(alloc: Global, doc: &Doc) -> Result<Option<Twelve>, AllocError> {
+    parse_fields!(
+        alloc,
+        doc,
+        Twelve {
+            a,
+            b,
+            c,
+            d,
+            e,
+            f,
+            g,
+            h,
+            i,
+            j,
+            k,
+            l
+        }
+    )
+}
+
+fn one(alloc: Global, doc: &Doc) -> Result<Option<One>, AllocError> {
+    parse_fields!(alloc, doc, One(text))
+}
+
+fn event(alloc: Global, doc: &Doc) -> Result<Option<Event>, AllocError> {
+    parse_variants!(alloc, doc, Event { Started, Said(node, text), Lost { since, peers }, Ended })
+}
+
+type Numbers = (u8, u8, u8, u8, u8, u8, u8, u8, u8, u8, u8);
+
+fn parse_twelve(alloc: Global, doc: &Doc) -> Result<Option<(Numbers, String)>, AllocError> {
+    Ok(twelve(alloc, doc)?.map(|t| {
+        ((t.a, t.b, t.c, t.d, t.e, t.f, t.g, t.h, t.i, t.j, t.k), t.l)
+    }))
+}
+
+fn parse_one(alloc: Global, doc: &Doc) -> Result<Option<String>, AllocError> {
+    Ok(one(alloc, doc)?.map(|found| found.0))
+}
+
+// The variant's number, and its fields.
+fn parse_event(
+    alloc: Global,
+    doc: &Doc,
+) -> Result<Option<(u8, Option<(u8, String)>, Option<(u8, Vec<u8>)>)>, AllocError> {
+    Ok(match event(alloc, doc)? {
+        None => None,
+        Some(Event::Started) => Some((0, None, None)),
+        Some(Event::Said(node, text)) => Some((1, Some((node, text)), None)),
+        Some(Event::Lost { since, peers }) => Some((2, None, Some((since, peers)))),
+        Some(Event::Ended) => Some((3, None, None)),
+    })
+}

@@ -1,0 +1,171 @@
+"""Documents that fill each cell of the table of coverage. What a cell leaves open is chosen at random."""
+from coverage import BLOCKS, DEPTHS, EXACT_ENTRIES, EXACT_LENGTH, LEAVES, MANY, PLACES, powers
+from model import DEEPEST, Block, quoted
+
+KIND_OF_PLACE = {
+    "entry of a list": "list",
+    "entry of a set": "set",
+    "key": "map",
+    "value": "map",
+    "field of a struct": "struct",
+    "field of a tuple": "tuple",
+    "field without names": "unnamed",
+}
+# Blocks of blocks have about so many leaves.
+LEAVES_EACH = 500
+
+
+class Covering:
+    def __init__(self, maker):
+        self.maker = maker
+        self.random = maker.random
+
+    def documents(self):
+        yield from (self.of_kind(kind) for kind in BLOCKS + LEAVES)
+        yield from self.places()
+        yield from self.lengths()
+        yield from self.entries()
+        yield from self.spines()
+        yield from self.equals()
+
+    def of_kind(self, kind):
+        if kind == "word":
+            return self.maker.word()
+        if kind == "unit":
+            return "()"
+        if kind == "text":
+            return self.maker.text(self.random.randrange(9))
+        if kind == "character":
+            return self.maker.character()
+        if kind.startswith("empty"):
+            return Block(kind[6:], "", [])
+        return self.maker.block(kind, [self.maker.leaf() for _ in range(self.random.choice((1, 1, 2, 3)))])
+
+    def kinds(self):
+        """A document of each kind, in any order."""
+        documents = [self.of_kind(kind) for kind in BLOCKS + LEAVES]
+        self.random.shuffle(documents)
+        return documents
+
+    def inside(self, place, documents):
+        """A block with these documents in the place."""
+        if place == "key":
+            return Block("map", "", [(document, self.maker.leaf()) for document in documents])
+        if place == "value":
+            return Block("map", "", [(self.maker.leaf(), document) for document in documents])
+        return self.maker.block(KIND_OF_PLACE[place], documents)
+
+    def places(self):
+        """Each kind in each place: alone, first, in the middle and last; and in each place of a block in each place."""
+        for place in PLACES:
+            yield Block("list", "", [(None, self.inside(place, [document])) for document in self.kinds()])
+            documents = self.kinds()
+            for _ in documents:
+                documents = documents[1:] + documents[:1]
+                yield self.inside(place, documents)
+            for outer in PLACES:
+                yield self.inside(outer, [self.inside(place, self.kinds())])
+
+    def within(self, size):
+        """A number of this class of sizes."""
+        return self.random.randint(size // 2 + 1, size)
+
+    def lengths(self):
+        """Names, words and texts of each length."""
+        sizes = [*range(1, EXACT_LENGTH + 1), *(self.within(size) for size in powers(16384) if size > EXACT_LENGTH)]
+        for sixteen in (sizes[at : at + 16] for at in range(0, len(sizes), 16)):
+            yield Block("set", "", [(None, self.named(size)) for size in sixteen])
+            yield Block("list", "", [(None, Block("tuple", self.maker.word(size), [(None, self.text(size))])) for size in sixteen])
+        for size in powers(262144)[15:]:
+            yield self.maker.word(self.within(size))
+            yield self.text(self.within(size))
+        yield from (self.maker.word(self.within(size)) for size in powers(16384))
+
+    def named(self, size):
+        return Block("struct", self.maker.word(size), [(self.maker.word(size), self.maker.word(size))])
+
+    def text(self, length):
+        """A text in quotes whose leaf has this length."""
+        return quoted("".join(self.random.choices("ab ,:[]{}()\u00e9\u20ac\U0001f980", k=max(length - 2, 0))))
+
+    def entries(self):
+        """Blocks of each kind with each number of entries."""
+        for kind in BLOCKS:
+            row, leaves = [], 0
+            for count in [*range(1, EXACT_ENTRIES + 1), *(self.within(size) for size in powers(1024) if size > EXACT_ENTRIES)]:
+                row.append((None, self.wide(kind, count)))
+                leaves += count
+                if leaves > LEAVES_EACH:
+                    yield Block("list", "", row)
+                    row, leaves = [], 0
+            yield from (self.wide(kind, self.within(size)) for size in powers(512))
+
+    def wide(self, kind, count):
+        return self.maker.block(kind, [self.maker.small() for _ in range(count)])
+
+    def many(self):
+        """Blocks of each kind with very many entries."""
+        for kind in BLOCKS:
+            values = self.random.choices("abcdefgh", k=self.random.randint(MANY, MANY + 999))
+            if kind == "map":
+                yield Block("map", "", [(value, "1") for value in values])
+            elif kind == "struct":
+                yield Block("struct", "S", [("%s%x" % (value, number), value) for number, value in enumerate(values)])
+            else:
+                yield Block("tuple" if kind == "unnamed" else kind, "T" if kind == "tuple" else "", [(None, value) for value in values])
+
+    def spines(self):
+        """Blocks nested as deep as allowed, with each of these beside at each class of depths."""
+        yield self.spine(lambda depth: [self.of_kind(kind) for kind in (BLOCKS if depth < DEEPEST else ()) + LEAVES])
+        yield self.spine(lambda depth: [self.maker.word(self.within(size)) for size in powers(1024)])
+        for kind in ("struct", "tuple"):
+            named = [self.deep_named(kind, self.within(size)) for size in powers(512)]
+            yield from named
+            yield self.spine(lambda depth, named=named: list(named) if depth < DEEPEST else [], 1)
+        yield self.spine(self.deep_entries, 1)
+        for count in (1, 2, 3):
+            yield self.keys(count)
+
+    def deep_named(self, kind, length):
+        field = self.maker.word(length) if kind == "struct" else None
+        return Block(kind, self.maker.word(length), [(field, self.maker.small())])
+
+    def deep_entries(self, depth):
+        if depth == DEEPEST:
+            return []
+        return [self.wide(self.random.choice(BLOCKS), self.within(size)) for size in powers(256)]
+
+    def depths(self, less):
+        """A depth of each class, less this."""
+        chosen = [255 if depth == 255 else min(self.within(depth), 254) for depth in DEPTHS]
+        return {depth - less for depth in chosen}
+
+    def spine(self, beside, less=0):
+        """A chain of blocks. At some depths it has documents beside."""
+        depths = self.depths(less)
+        document = self.maker.leaf()
+        for depth in range(DEEPEST, 0, -1):
+            documents = beside(depth) if depth in depths else []
+            documents.insert(self.random.randint(0, len(documents)), document) if documents else documents.append(document)
+            document = self.inside(self.random.choice(PLACES), documents)
+        return document
+
+    def keys(self, count):
+        """Maps in the keys of maps, as deep as allowed. At some depths they have so many entries."""
+        depths = self.depths(-1) | {1}
+        document = self.maker.leaf()
+        for depth in range(DEEPEST, 0, -1):
+            documents = [self.maker.leaf() for _ in range(count - 1)] if depth in depths else []
+            documents.insert(self.random.randint(0, len(documents)), document)
+            document = self.inside("key", documents)
+        return document
+
+    def equals(self):
+        """Two equal entries, keys or names of fields, side by side and not."""
+        for kind in BLOCKS:
+            for names in (("a", "a"), ("a", "b", "a"), ("b", "a", "a"), ("a", "b", "c", "a"), ("a", "a", "a")):
+                if kind in ("map", "struct"):
+                    entries = [(name, self.maker.leaf()) for name in names]
+                    yield Block(kind, "S" if kind == "struct" else "", entries)
+                else:
+                    yield self.maker.block(kind, list(names))

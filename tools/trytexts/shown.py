@@ -1,0 +1,48 @@
+"""What the leaves and the fields of a document show, in the order and the form in which the program notes it."""
+from model import unquoted
+
+# How many fields of a struct are asked for, besides its last.
+MOST_FIELDS = 8
+
+
+def text_of(document):
+    """The text of a leaf, without its quotes. None of a block."""
+    if not isinstance(document, str):
+        return None
+    inside = unquoted(document)
+    return document if inside is None else inside
+
+
+def field_text(document, name):
+    """The text of a struct's first field with this name. None if there is none, or if it is a block."""
+    if isinstance(document, str) or document.kind != "struct":
+        return None
+    for other, value in document.entries:
+        if other == name:
+            return text_of(value)
+    return None
+
+
+def answered(text):
+    return "- " if text is None else "=" + text + " "
+
+
+def near(name):
+    """A field's name, and names that differ a little."""
+    return (name, name[:-1], name[1:], name.upper(), name + "x")
+
+
+def shown(document, out):
+    """Each document's own text and those of its fields, and then the same of the documents in it."""
+    out.append(answered(text_of(document)))
+    out.append("x" + answered(field_text(document, "x")))
+    if isinstance(document, str):
+        return
+    if document.kind == "struct":
+        names = [name for name, _value in document.entries]
+        for name in names[:MOST_FIELDS] + names[-1:]:
+            out.extend(other + answered(field_text(document, other)) for other in near(name))
+    for before, value in document.entries:
+        if document.kind == "map":
+            shown(before, out)
+        shown(value, out)
