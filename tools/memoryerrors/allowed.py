@@ -23,7 +23,7 @@ ANYWHERE = [
 ]
 
 FROM = "a `From`: what memory was refused becomes the error that a caller sees"
-WORDS = "the words of the command line: the library says of its error whether memory was refused"
+WORDS = "the words of the command line: if they can't be had, whatever the cause, `main` ends as without memory"
 NAMED = "an error is told apart or named, and none is made"
 PASSED = "an error is passed on, with its fault or at the end of a program or test"
 PROVED = "a proof says that control never comes there"
@@ -44,12 +44,10 @@ IN_BODIES = [
     (FROM, "ufmt_conv/src/run/fault.rt", "From<AllocError>for Fault::from", "Fault::OutOfMemory"),
     (FROM, "ufmt_lines/src/run/fault.rt", "From<AllocError>for Fault::from", "Fault::OutOfMemory"),
     (FROM, "ufmt_conv/src/run/answer.rt", "fault", "ReadError::OutOfMemory=>Fault::OutOfMemory"),
-    (WORDS, "ufmt_conv/src/main.rt", "report_words", "ErrorKind::OutOfMemory"),
-    (WORDS, "ufmt_conv/src/main.rt", "report_words", "ErrorKind::OutOfMemory=>report(rt, Fault::OutOfMemory)"),
-    (WORDS, "ufmt_conv/src/main.rt", "main", "match words(&rt): Err(error)=>return report_words(&rt, error.kind())"),
-    (WORDS, "ufmt_lines/src/main.rt", "report_words", "ErrorKind::OutOfMemory"),
-    (WORDS, "ufmt_lines/src/main.rt", "report_words", "ErrorKind::OutOfMemory=>report(rt, Fault::OutOfMemory)"),
-    (WORDS, "ufmt_lines/src/main.rt", "main", "match words(&rt): Err(error)=>return report_words(&rt, error.kind())"),
+    (WORDS, "ufmt_conv/src/main.rt", "main", "let Ok(words)=words(&rt)"),
+    (WORDS, "ufmt_conv/src/main.rt", "main", "return report(&rt, Fault::OutOfMemory)"),
+    (WORDS, "ufmt_lines/src/main.rt", "main", "let Ok(words)=words(&rt)"),
+    (WORDS, "ufmt_lines/src/main.rt", "main", "return report(&rt, Fault::OutOfMemory)"),
     (WORDS, "ufmt_conv/src/main.rt", "words", "env::args(rt)?.skip(1).collect(rt.alloc())"),
     (WORDS, "ufmt_lines/src/main.rt", "words", "env::args(rt)?.skip(1).collect(rt.alloc())"),
     (NEVER, "ufmt_doc/src/reader/document_sink.rt", "NEVER", "AllocError"),

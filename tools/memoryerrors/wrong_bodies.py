@@ -59,5 +59,5 @@ CHANGED = [
     ("no text becomes want of memory", "ufmt_scan/src/error.rt", r"ScanError::NotText => ReadError::NotText", "ScanError::NotText => ReadError::OutOfMemory"),
     ("the events that never come now come", "ufmt_doc/src/reader/document_sink.rt", r"if self\.open_blocks == MOST_OPEN", "if self.open_blocks >= 200"),
     ("a constant by which memory is asked for", "ufmt_conv/src/run/devices.rt", r"const ROOM: usize = [^;]*;", "const ROOM: usize = 64 * 1024 * 1024;"),
-    ("a word that isn't known", "ufmt_conv/src/main.rt", r"_ => report_usage\(rt\)", "_ => report(rt, Fault::OutOfMemory)"),
+    ("a word that isn't known", "ufmt_conv/src/main.rt", r"let Some\(command\) = Command::parse\(&words\) else \{", "let Some(command) = Command::parse(&words) else { let _fault = Fault::OutOfMemory;"),
 ]

@@ -10,7 +10,6 @@ ghost use Rattle.ufmt_lines.specs.Fault.{status_of};
 pub mod run;
 
 use run::{Fault, Watched};
-use std::io::ErrorKind;
 use std::process::ExitCode;
 use std::{env, io};
 
@@ -18,12 +17,12 @@ use std::{env, io};
 const USAGE_STATUS: u8 = 2;
 
 fn main(rt: HostRuntime) -> ExitCode {
-    let words = match words(&rt) {
-        Ok(words) => words,
-        Err(error) => return report_words(&rt, error.kind()),
+    let Ok(words) = words(&rt) else {
+        return report(&rt, Fault::OutOfMemory);
     };
     let Some(mode) = run::asked_mode(&words) else {
-        return report_usage(&rt);
+        let _ = rt.eprintln(run::usage());
+        return ExitCode::from(USAGE_STATUS);
     };
     let mut input = Watched::new(rt.reader());
     let mut output = Watched::new(io::writer(&rt));
@@ -37,20 +36,6 @@ fn main(rt: HostRuntime) -> ExitCode {
 fn words(rt: &HostRuntime) -> io::Result<Vec<String>> {
     let words: Vec<String> = env::args(rt)?.skip(1).collect(rt.alloc())?;
     Ok(words)
-}
-
-// A word that isn't UTF-8 is an unknown word.
-fn report_words(rt: &HostRuntime, kind: ErrorKind) -> ExitCode {
-    match kind {
-        ErrorKind::OutOfMemory => report(rt, Fault::OutOfMemory),
-        _ => report_usage(rt),
-    }
-}
-
-// Prints how the program is called, if standard error takes it.
-fn report_usage(rt: &HostRuntime) -> ExitCode {
-    let _ = rt.eprintln(run::usage());
-    ExitCode::from(USAGE_STATUS)
 }
 
 // Prints the fault's line, if standard error takes it, and returns its status.

@@ -1,4 +1,5 @@
 //! Tests of `run`, by rows of input and output.
+mod calls;
 mod devices;
 mod rows;
 

@@ -187,3 +187,24 @@ fn devices_are_called_no_more_than_needed(rt: HostRuntime) {
         same(&rt, given.as_deref().ok(), Some(calls), input);
     }
 }
+
+// A read takes 64 KiB, and the end one more. A word is the answer to itself, and is one write too.
+#[test]
+fn a_mebibyte_takes_17_reads_and_a_write(rt: HostRuntime) -> Result<(), Fail> {
+    let mut word = String::new(rt.alloc());
+    for _ in 0..65_536 {
+        word.push_str("aaaaaaaaaaaaaaaa")?;
+    }
+    for command in [Command::Lengths, Command::Pretty, Command::Plain] {
+        let mut rows = String::new(rt.alloc());
+        let devices = (usize::MAX, NEVER, usize::MAX, NEVER, false);
+        push_calls(rt.alloc(), command, &word, devices, &mut rows)?;
+        same(
+            &rt,
+            (command, rows.as_str()),
+            (command, "rrrrrrrrrrrrrrrr0 wf;\n"),
+            "a mebibyte",
+        );
+    }
+    Ok(())
+}

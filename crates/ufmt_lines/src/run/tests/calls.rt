@@ -1,0 +1,171 @@
+//! Tests of how often `run` calls its devices, and in which order.
+use super::*;
+use std::cell::RefCell;
+
+// The calls of both devices in one row: `r` for a read that gives bytes, `0` for one that gives none,
+// `w` for a write, `e` for an empty one, and `f` for a flush. The call with the number `fails_at`,
+// counted from one, fails and is `!`. Without memory a call is missing, and the row differs.
+#[derive(Drop)]
+struct Calls {
+    row: String,
+    fails_at: usize,
+}
+
+// Adds a call, which may fail.
+fn note(calls: &RefCell<Calls>, call: char) -> io::Result<()> {
+    let Ok(mut calls) = calls.try_borrow_mut() else {
+        return Err(io::Error::from(ErrorKind::Deadlock));
+    };
+    let number = calls.row.len().saturating_add(1);
+    let fails = number == calls.fails_at;
+    let _noted = calls.row.push(if fails { '!' } else { call });
+    if fails {
+        return Err(io::Error::from(ErrorKind::BrokenPipe));
+    }
+    Ok(())
+}
+
+// A reader whose calls are noted.
+#[derive(Drop)]
+struct NotedSource<'a> {
+    source: Source<'a>,
+    calls: &'a RefCell<Calls>,
+}
+
+impl Read for NotedSource<'_> {
+    fn read(&mut self, buffer: &mut [u8]) -> io::Result<usize> {
+        note(
+            self.calls,
+            if self.source.left.is_empty() {
+                '0'
+            } else {
+                'r'
+            },
+        )?;
+        self.source.read(buffer)
+    }
+}
+
+// A writer that takes at most `most` bytes a call, and whose calls are noted.
+#[derive(Drop)]
+struct NotedSink<'a> {
+    most: usize,
+    calls: &'a RefCell<Calls>,
+}
+
+impl Write for NotedSink<'_> {
+    fn write(&mut self, bytes: &[u8]) -> io::Result<usize> {
+        note(self.calls, if bytes.is_empty() { 'e' } else { 'w' })?;
+        Ok(self.most.min(bytes.len()))
+    }
+
+    fn flush(&mut self) -> io::Result<()> {
+        note(self.calls, 'f')
+    }
+}
+
+// A run's mode and input, and how many bytes a read gives and a write takes at most.
+type Run<'a> = (Mode, &'a [u8], usize, usize);
+
+// The row of calls of a run.
+fn row_of(alloc: Global, (mode, text, read, written): Run<'_>, fails_at: usize) -> String {
+    let row = String::new(alloc);
+    let calls = RefCell::new(Calls { row, fails_at });
+    let mut input = Watched::new(NotedSource {
+        source: Source::new(text, read, NEVER),
+        calls: &calls,
+    });
+    let mut output = Watched::new(NotedSink {
+        most: written,
+        calls: &calls,
+    });
+    let _outcome = run(alloc, mode, &mut input, &mut output);
+    drop(input);
+    drop(output);
+    calls.into_inner().row
+}
+
+// An answer of 13 bytes, one of two, one of one, and one of ten after the end.
+const LINES: &[u8] = b"a [1]\nb\n\n[2]";
+
+// Groups that end after 13 bytes, after 15 and at the end of 30, with answers of 6, 2 and 10 bytes.
+const GROUPS: &[u8] = b"a [\n    1,\n]\nb\nS {\n    c: d,\n}";
+
+const ROWS: [(Run<'static>, &str); 17] = [
+    ((Mode::Pretty, LINES, WHOLE, WHOLE), "rwfwfwf0wf"),
+    ((Mode::Pretty, LINES, 4, WHOLE), "rrwfwfrwf0wf"),
+    ((Mode::Pretty, LINES, 1, WHOLE), "rrrrrrwfrrwfrwfrrr0wf"),
+    ((Mode::Pretty, LINES, WHOLE, 5), "rwwwfwfwf0wwf"),
+    ((Mode::Pretty, LINES, WHOLE, 2), "rwwwwwwwfwfwf0wwwwwf"),
+    ((Mode::Pretty, LINES, WHOLE, 12), "rwwfwfwf0wf"),
+    ((Mode::Pretty, b"", WHOLE, WHOLE), "0f"),
+    ((Mode::Pretty, b"a", WHOLE, WHOLE), "r0wf"),
+    ((Mode::Pretty, b"[a]\n", WHOLE, WHOLE), "rwf0f"),
+    ((Mode::Pretty, b"\n\n\n", WHOLE, 1), "rwfwfwf0f"),
+    ((Mode::Plain, GROUPS, WHOLE, WHOLE), "rwfwf0wf"),
+    ((Mode::Plain, GROUPS, 7, WHOLE), "rrwfrwfrr0wf"),
+    ((Mode::Plain, GROUPS, WHOLE, 4), "rwwfwf0wwwf"),
+    ((Mode::Plain, GROUPS, WHOLE, 5), "rwwfwf0wwf"),
+    ((Mode::Plain, b"a [\n    1,\n    2", WHOLE, WHOLE), "r0wf"),
+    ((Mode::Plain, b"[\n", 1, WHOLE), "rr0wf"),
+    ((Mode::Plain, b"[1]\n\n", WHOLE, WHOLE), "rwfwf0f"),
+];
+
+// Whether each run that fails at a call ends with this call.
+fn ends_at_any_failure(alloc: Global, input: Run<'_>, calls: &str) -> Result<bool, AllocError> {
+    for fails_at in 1..calls.len() + 1 {
+        let mut wanted = String::from_str(alloc, &calls[..fails_at - 1])?;
+        wanted.push('!')?;
+        if row_of(alloc, input, fails_at) != wanted {
+            return Ok(false);
+        }
+    }
+    Ok(true)
+}
+
+// Each answer is one write if the writer takes it whole, and one flush follows. Nothing is read before
+// the answers to what was read are written, or after the end, and no device is called after a failure.
+#[test]
+fn devices_are_called_no_more_than_needed(rt: HostRuntime) -> Result<(), Fail> {
+    for (input, calls) in ROWS {
+        let given = row_of(rt.alloc(), input, NEVER);
+        same(&rt, given.as_str(), calls, calls);
+        let ends = ends_at_any_failure(rt.alloc(), input, calls);
+        same(&rt, ends, Ok(true), calls);
+    }
+    Ok(())
+}
+
+// How many reads, writes and flushes a run calls.
+fn counts_of(row: &str) -> (usize, usize, usize) {
+    let (mut reads, mut writes, mut flushes) = (0usize, 0usize, 0usize);
+    for call in row.bytes() {
+        match call {
+            b'w' => writes = writes.saturating_add(1),
+            b'f' => flushes = flushes.saturating_add(1),
+            _ => reads = reads.saturating_add(1),
+        }
+    }
+    (reads, writes, flushes)
+}
+
+// A chunk of 64 KiB takes one read, and the end one more.
+#[test]
+fn a_chunk_takes_one_read(rt: HostRuntime) -> Result<(), Fail> {
+    let rows: [(Mode, &[u8; 16], usize, (usize, usize, usize)); 5] = [
+        (Mode::Pretty, b"aaaaaaaaaaaaaaaa", 65_536, (17, 1, 1)),
+        (Mode::Plain, b"aaaaaaaaaaaaaaaa", 65_536, (17, 1, 1)),
+        (Mode::Pretty, b"a [12345, 6789]\n", 8192, (3, 8192, 8193)),
+        (Mode::Plain, b"[\n    123456,\n]\n", 8192, (3, 8192, 8193)),
+        (Mode::Plain, b"[\n    1234567,\n]", 8192, (3, 1, 1)),
+    ];
+    for (mode, piece, count, wanted) in rows {
+        let mut text = Vec::new(rt.alloc());
+        for _ in 0..count {
+            text.extend_from_slice(piece)?;
+        }
+        let row = row_of(rt.alloc(), (mode, &text, usize::MAX, usize::MAX), NEVER);
+        same(&rt, counts_of(&row), wanted, "reads, writes and flushes");
+    }
+    Ok(())
+}

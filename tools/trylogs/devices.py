@@ -1,0 +1,144 @@
+"""Runs a program over devices that see each call.
+
+Standard input, output and error are sockets that keep messages apart: a read takes one, and a write sends one. So a run
+is a row of reads and writes, and each is compared with what it should be.
+"""
+import os
+import pathlib
+import socket
+import subprocess
+from typing import NamedTuple, Optional
+
+# How many bytes of messages can wait in a socket. The system may allow less, or take more.
+ROOM = 200_000
+# An answer that doesn't come in this time is a fault.
+SECONDS = 20
+
+
+class Ended(NamedTuple):
+    """The status of a run, and how many reads and writes it called. None if the system doesn't count them."""
+
+    status: int
+    reads: Optional[int]
+    writes: Optional[int]
+
+
+class Program:
+    """A built program."""
+
+    def __init__(self, path):
+        self.path = str(path)
+        # How many reads are called before the program's own: what loads it reads its libraries.
+        process = subprocess.Popen([self.path, "no such word"], stdin=subprocess.DEVNULL, stderr=subprocess.DEVNULL)
+        self.loads = calls(process)[0]
+
+    def start(self, words, source, sink, error=subprocess.DEVNULL):
+        return subprocess.Popen([self.path, *words], stdin=source, stdout=sink, stderr=error)
+
+    def ended(self, process):
+        """Waits for the end of a process, and counts the calls before it is gone."""
+        reads, writes = calls(process)
+        return Ended(process.wait(), None if reads is None else reads - self.loads, writes)
+
+
+def calls(process):
+    """How many reads and writes a process called up to its end."""
+    os.waitid(os.P_PID, process.pid, os.WEXITED | os.WNOWAIT)
+    try:
+        rows = pathlib.Path("/proc/%d/io" % process.pid).read_text().splitlines()
+    except OSError:
+        return None, None
+    finally:
+        process.wait()
+    counts = dict(row.split(": ") for row in rows)
+    return int(counts["syscr"]), int(counts["syscw"])
+
+
+class Line:
+    """A socket, of which one end is a device of a program."""
+
+    def __init__(self):
+        self.ours, self.theirs = socket.socketpair(socket.AF_UNIX, socket.SOCK_SEQPACKET)
+        for end in (self.ours, self.theirs):
+            end.setsockopt(socket.SOL_SOCKET, socket.SO_SNDBUF, ROOM)
+        self.ours.settimeout(SECONDS)
+
+    def most(self):
+        """How many bytes a message can have."""
+        return self.ours.getsockopt(socket.SOL_SOCKET, socket.SO_SNDBUF) - 1000
+
+    def close(self):
+        self.ours.close()
+        self.theirs.close()
+
+
+class Devices:
+    """The standard devices of a run. In a block of `with`, they are open."""
+
+    def __enter__(self):
+        self.input, self.output, self.error = self.lines = Line(), Line(), Line()
+        return self
+
+    def __exit__(self, *_error):
+        for line in self.lines:
+            line.close()
+
+    def start(self, program, words):
+        process = program.start(words, *(line.theirs for line in self.lines))
+        for line in self.lines:
+            line.theirs.close()
+        return process
+
+    def rest(self, line):
+        """The messages up to the end. An empty one can't be told from the end."""
+        pieces = []
+        while True:
+            piece = line.ours.recv(line.most())
+            if not piece:
+                return pieces
+            pieces.append(piece)
+
+
+def shown(data):
+    return repr(data if len(data) <= 80 else data[:50] + b".." + data[-30:])
+
+
+def wrong_round(devices, number, chunk, writes):
+    """Sends a chunk, or ends the input if it is None, and receives the writes that should come before the next read."""
+    if chunk is None:
+        devices.input.ours.shutdown(socket.SHUT_WR)
+    else:
+        devices.input.ours.send(chunk)
+    for wanted in writes:
+        given = devices.output.ours.recv(devices.output.most())
+        if given != wanted:
+            return "after read %d of %s it writes %s, not %s" % (number, shown(chunk or b""), shown(given), shown(wanted))
+    return None
+
+
+def wrong_end(devices, program, process, reads, writes):
+    """What is wrong after the last write of a run that should succeed."""
+    rest = devices.rest(devices.output) + devices.rest(devices.error)
+    ended = program.ended(process)
+    if rest or ended.status != 0:
+        return "at the end it writes %s, and its status is %d" % (shown(b"".join(rest)), ended.status)
+    if ended.reads not in (None, reads) or ended.writes not in (None, writes):
+        return "%s reads and %s writes are called, not %d and %d" % (ended.reads, ended.writes, reads, writes)
+    return None
+
+
+def fault(program, words, chunks, rounds):
+    """What is wrong with a run whose reads take these chunks, and which should write so after each. None if nothing is."""
+    with Devices() as devices:
+        process = devices.start(program, words)
+        try:
+            for number, (chunk, writes) in enumerate(zip([*chunks, None], rounds)):
+                found = wrong_round(devices, number, chunk, writes)
+                if found:
+                    return found
+            return wrong_end(devices, program, process, len(chunks) + 1, sum(map(len, rounds)))
+        except OSError as error:
+            return "a device: %s" % error
+        finally:
+            process.kill()
+            process.wait()

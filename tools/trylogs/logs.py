@@ -1,0 +1,204 @@
+"""Random logs, and how they are cut into chunks. One seed makes the same ones each time."""
+import itertools
+import random
+
+from answers import Block, plain, pretty, quoted
+
+LETTERS = "abcxyzABCXYZ0189_-"
+# Characters of one to four bytes, and those that have an escape.
+CHARACTERS = "\0\t\n\r\\\"'\x01\x1b\x7f aZ~,:[]{}()\u0080\u00e9\u07ff\u20ac\ufffd\U0001f980\U0010ffff"
+KINDS = ("list", "set", "map", "struct", "tuple", "unnamed")
+# What is between words, or next to a text. A text begins only after a space or a line feed.
+BETWEEN = (b" ", b" ", b" ", b"  ", b"    ", b"\t", b"=", b": ", b", ", b"\r ", b"\r", b"\0", b"\xff ", b"\xc3", b". ", b"\xc2\xa0", b"\x0b")
+AFTER = (b" ", b"\r", b".", b",", b"\0", b"]", b"}", b")", b"\t", b"\xff", b"  ", b"\x80", b"\xe2\x82")
+SIGNS = ("[", "{", "(", "]", "}", ")", "[]", "()", "{}", '"', "'", "S {", "a:", "(1,", "[1,", "{ }", "//", "\\", "\ufeff", "\u00e9")
+# Counts and lengths around those where a counter or a buffer could end.
+NUMBERS = (*range(1, 18), 31, 32, 33, 63, 64, 65, 127, 128, 129, 254, 255, 256, 257, 1000, 1023, 1024, 1025)
+LENGTHS = (4095, 4096, 4097, 8191, 8192, 8193, 65_535, 65_536, 65_537, 131_072, 200_000)
+# The most that a chunk has: a read takes no more.
+CHUNK = 64 * 1024
+
+
+class Maker:
+    def __init__(self, seed):
+        self.random = random.Random(seed)
+
+    def size(self, most):
+        """A number from 1 on, as often between 1 and 10 as between 10 and 100."""
+        return int((most + 1) ** self.random.random())
+
+    def word(self):
+        return "".join(self.random.choices(LETTERS, k=self.size(20)))
+
+    def leaf(self):
+        form = self.random.random()
+        if form < 0.5:
+            return self.word()
+        if form < 0.6:
+            return "()"
+        if form < 0.85:
+            return quoted("".join(self.random.choices(CHARACTERS, k=self.size(60) - 1)))
+        return quoted(self.random.choice(CHARACTERS), "'")
+
+    def document(self, leaves):
+        """A document with so many leaves. It can be too deep for a text."""
+        if leaves == 1 and self.random.random() < 0.6:
+            return self.leaf() if self.random.random() < 0.9 else Block(self.random.choice(("list", "map")), "", [])
+        cuts = sorted(self.random.randrange(leaves + 1) for _ in range(self.size(leaves) - 1))
+        shares = [end - start for start, end in zip([0, *cuts], [*cuts, leaves]) if end > start]
+        return self.block([self.document(share) for share in shares])
+
+    def block(self, values):
+        kind = self.random.choice(KINDS)
+        if kind == "map":
+            return Block("map", "", [(self.leaf(), value) for value in values])
+        if kind == "struct":
+            return Block("struct", self.word(), [(self.word(), value) for value in values])
+        if kind == "unnamed":
+            return Block("tuple", "", [(None, value) for value in values])
+        return Block(kind, self.word() if kind == "tuple" else "", [(None, value) for value in values])
+
+    def chain(self):
+        """A document in so many lists that they are perhaps too deep."""
+        document = self.leaf()
+        for _ in range(self.random.choice(NUMBERS[:28])):
+            document = self.block([document])
+        return document
+
+    def text(self):
+        """The plain or pretty text of a document."""
+        document = self.chain() if self.random.random() < 0.02 else self.document(self.size(50))
+        return self.random.choice((plain, pretty))(document).encode()
+
+    def changed(self, text):
+        """The text with a byte or a piece too many or too few, or with its lines changed."""
+        at = self.random.randrange(len(text) + 1)
+        form = self.random.randrange(6)
+        if form == 0:
+            return text[:at]
+        if form == 1:
+            return text[:at] + text[at + 1 :]
+        if form == 2:
+            return text[:at] + self.random.choice(AFTER + BETWEEN) + text[at:]
+        if form == 3:
+            return text.replace(b"\n", self.random.choice((b"\r\n", b"\n ", b"\n\n", b" \n", b"", b" ")))
+        if form == 4:
+            return text[:at] + b"\n" + self.words() + b"\n" + text[at:]
+        return text + self.random.choice(AFTER)
+
+    def words(self):
+        """Words with what is between them: few as a rule, but now and then a thousand."""
+        if self.random.random() < 0.3:
+            return b""
+        words = []
+        for _ in range(self.size(1000 if self.random.random() < 0.05 else 8)):
+            words.append(self.random.choice(SIGNS) if self.random.random() < 0.25 else self.word())
+            words.append(self.random.choice(BETWEEN).decode("utf-8", "surrogateescape"))
+        return "".join(words).encode("utf-8", "surrogateescape")
+
+    def open_group(self):
+        """Lines of a group that doesn't end."""
+        line = b" " * self.size(40) + self.words()
+        return self.words() + self.random.choice((b"[", b"{", b"(")) + (b"\n" + line.replace(b"\n", b"")) * self.size(300)
+
+    def long_line(self):
+        """One piece many times. A block could open at each `(a, `, so each is read 255 deep: there are fewer."""
+        piece = self.random.choice((b"a", b" ", b"[", b" [", b"[ ", b"[]", b"a ", b'"', b' "', b"\0", b"\xff", b"(a, ", b"\xc3\xa9", b"1, "))
+        return piece * (self.size(1000 if piece == b"(a, " else 100_000) // len(piece) + 1)
+
+    def entry(self):
+        """What is between two line feeds of a log, as a rule: some words, and a text or nearly one."""
+        form = self.random.random()
+        if form < 0.01:
+            return self.open_group()
+        if form < 0.02:
+            return self.long_line() + self.random.choice((b"", b" ")) + self.text()
+        if form < 0.15:
+            return self.words()
+        if form < 0.6:
+            return self.words() + self.text()
+        if form < 0.8:
+            return self.words() + self.changed(self.text())
+        return self.words() + self.text() + self.random.choice((b" ", b"  ", b", ", b"\r ")) + self.text()
+
+    def log(self):
+        """A log of one to 100 entries that ends with or without a line feed."""
+        return b"\n".join(self.entry() for _ in range(self.size(100))) + self.random.choice((b"", b"\n", b"\n\n", b"\r\n", b" "))
+
+    def chunks(self, log):
+        """The log in chunks, of which one read takes each: whole lines, bytes, or chunks of any size."""
+        form = self.random.randrange(4)
+        if form == 0 and len(log) < 3000:
+            pieces = [log[at : at + 1] for at in range(len(log))]
+        elif form == 1:
+            pieces = log.splitlines(keepends=True)
+        elif form == 2:
+            pieces = list(self.pieces(log))
+        else:
+            pieces = [log]
+        return [piece[at : at + CHUNK] for piece in pieces for at in range(0, len(piece), CHUNK)]
+
+    def pieces(self, log):
+        most = self.random.choice((10, 1000, CHUNK))
+        at = 0
+        while at < len(log):
+            end = at + max(self.size(most), len(log) // 2000)
+            yield log[at:end]
+            at = end
+
+
+def each_byte():
+    """Lines with each byte before, in and after a text."""
+    for byte in (bytes([code]) for code in range(256) if code != 10):
+        yield from (byte, b"a" + byte + b"[1]", byte + b" [1]", b"[" + byte + b"]", b"[1]" + byte, b"[1] " + byte, b'a ["' + byte + b'"]')
+        yield from (b"a " + byte + b"\n    1,\n]", b"a [\n" + byte + b"   1,\n]", b"a [\n    1," + byte + b"\n]", b"a [" + byte, b"b")
+
+
+def lists(number):
+    """A document in so many lists, or in as many as can be one too many."""
+    document = "x"
+    for _ in range(number if number <= 257 else 1):
+        document = Block("list", "", [(None, document)])
+    return document
+
+
+def each_number():
+    """Lines, groups and texts with so many words, spaces, bytes, entries and blocks."""
+    one = Block("list", "", [(None, "1")])
+    for number in NUMBERS:
+        for printed in (plain, pretty):
+            text = printed(one).encode()
+            yield from (b"a " * number + text, b" " * number + text, b"a" * number + b" " + text, b"[ " * number + text)
+            yield from ((text + b" ") * number + text, b"a [1] b " + printed(lists(number)).encode())
+            yield printed(Block("list", "", [(None, "1")] * number)).encode()
+            yield quoted("\u00e9\n" * number).encode() + b" " + text
+            yield b"a " + printed(Block("list", "", [(None, quoted(" " * number + "[1]"))])).encode()
+        yield b"a [" + b"\n    b" * number + b"\n]\nb" + b"\n" * number + b"(" * number
+
+
+def each_length():
+    """Long lines with a text at the end, which ends near the end of a chunk."""
+    for length in LENGTHS:
+        for text in (b" [1]", b" [\n    1,\n]", b'["'):
+            yield b"a" * (length - len(text)) + text
+            yield text + b"a" * (length - len(text) - 1) + b'"]'
+
+
+def beginnings():
+    """Logs that come first with every seed, each with its chunks."""
+    maker = Maker(0)
+    for lines in (each_byte(), each_number(), each_length()):
+        log = b"\n".join(lines)
+        yield log, maker.chunks(log)
+        log += b"\n"
+        yield log, [log[at : at + CHUNK] for at in range(0, len(log), CHUNK)]
+    for log in (b"", b"\n", b" ", b"\0", b"\r\n", b"[\n", b"[\n ", b"[1]", b"[\n    1,\n]", b"a\n\n\n", b"\n" * 1000, b"[\n" * 1000, b"a\n" * 5000):
+        yield log, [log] if log else []
+        yield log, [bytes([byte]) for byte in log[:3000]] + ([log[3000:]] if len(log) > 3000 else [])
+
+
+def logs(count, seed):
+    """Each log with its chunks: first those of each seed, then so many random ones."""
+    maker = Maker(seed)
+    made = (maker.log() for _ in range(count))
+    return itertools.chain(beginnings(), ((log, maker.chunks(log)) for log in made))
