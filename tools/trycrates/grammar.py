@@ -223,8 +223,9 @@ def variants_tests():
     kinds = (("Unit", 1), ("Struct", 2), ("Tuple", 3))
     number = 0
     for first in range(3):
-        for inner, outer in ((False, False), (True, False), (False, True), (True, True)):
+        for inner in (False, True):
             number += 1
+            outer = number % 4 < 2
             yield from enum_test("E%d" % number, [kinds[(first + place) % 3] for place in range(3)], inner, outer)
     wide = [(kind, count) for count in PARSED for kind in ("Struct", "Tuple")]
     yield from enum_test("Wide", wide, False, False)
