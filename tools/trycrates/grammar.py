@@ -16,27 +16,30 @@ use ufmt_parse::{parse_fields, parse_variants};
 use ufmt_snapshot::assert_snapshot;
 
 const HEX: HexOptions = HexOptions { upper_case: false, pad_char: b'0', pad_length: 6, ox_prefix: true };
-const RIGHT: Column = Column { width: 8, align: Align::Right, fill: '.' };
+const RIGHT: Column = Column { width: 18, align: Align::Right, fill: '.' };
 """
 
 # Each kind of piece with `{0}` in place of a number of three digits: how it is written, and its text. `{1}` is the number
-# in four hexadecimal digits. `uwrite!` has the first nine.
+# in four hexadecimal digits, and columns have 18 characters. No two kinds print one value alike. `uwrite!` has the first
+# nine.
 PIECES = (
     ('text "t{0}"', "t{0}"),
-    ("display {0}u16", "{0}"),
+    ('display "s{0}"', "s{0}"),
     ('debug "d{0}"', '"d{0}"'),
     ("pretty Some({0}u16)", "Some(\n    {0},\n)"),
     ("hex {0}u16 with HEX", "0x{1}"),
-    ("hex {0}u16 with HEX in RIGHT", "..0x{1}"),
-    ("display {0}u16 in RIGHT", ".....{0}"),
-    ('debug "c{0}" in RIGHT', '.."c{0}"'),
-    ("pretty {0}u16 in RIGHT", ".....{0}"),
-    ('each display [{0}u16, 7] between "-"', "{0}-7"),
-    ('each debug ["e{0}", "7"] between "+"', '"e{0}"+"7"'),
-    ('each pretty [{0}u16, 8] between "_"', "{0}_8"),
+    ("hex {0}u16 with HEX in RIGHT", "............0x{1}"),
+    ('display "s{0}" in RIGHT', "..............s{0}"),
+    ('debug "d{0}" in RIGHT', '............"d{0}"'),
+    ("pretty (Some({0}u16)) in RIGHT", "..Some(\n    {0},\n)"),
+    ('each display ["s{0}", "7"] between "-"', "s{0}-7"),
+    ('each debug ["d{0}", "7"] between "+"', '"d{0}"+"7"'),
+    ('each pretty [Some({0}u16), None] between "_"', "Some(\n    {0},\n)_None"),
     ('each hex [{0}u16, 9] with HEX between ";"', "0x{1};0x0009"),
-    ('each display [{0}u16, 7] in RIGHT between "|"', ".....{0}|.......7"),
-    ('each hex [{0}u16, 9] with HEX in RIGHT between "/"', "..0x{1}/..0x0009"),
+    ('each display ["s{0}", "7"] in RIGHT between "|"', "..............s{0}|.................7"),
+    ('each debug ["d{0}", "7"] in RIGHT between ":"', '............"d{0}":..............."7"'),
+    ('each pretty [Some({0}u16), None] in RIGHT between "*"', "..Some(\n    {0},\n)*..............None"),
+    ('each hex [{0}u16, 9] with HEX in RIGHT between "/"', "............0x{1}/............0x0009"),
     ('each [{0}u16, 5] by Debug between "="', "{0}=5"),
 )
 WRITTEN = 9
