@@ -1,5 +1,5 @@
-"""Writes the tests of each form of each macro: every kind of piece in each place, many numbers of fields, with and without
-the comma at the end. The texts are written here, as core::fmt has them."""
+"""Writes the tests of each form of each macro: every kind of piece in each place, and many numbers of fields, with and
+without the comma at the end. The texts are written here, as core::fmt has them."""
 
 COUNTS = (0, 1, 2, 3, 12, 13, 14, 24, 25)
 MORE_COUNTS = tuple(range(26))
@@ -100,7 +100,8 @@ def field_forms(count, inner, outer):
     yield "fields!(out, named, Named%d { %s }%s)" % (count, fields, end), struct_text("Named%d" % count, values)
     yield "fields!(out, tuple, Tuple%d(%s)%s)" % (count, fields, end), tuple_text("Tuple%d" % count, values)
     yield "fields!(out, Other { %s }%s)" % (listed(valued, inner), end), struct_text("Other", values)
-    yield "fields!(out, Other(%s)%s)" % (listed(["%du8" % value for value in values], inner), end), tuple_text("Other", values)
+    unnamed = listed(["%du8" % value for value in values], inner)
+    yield "fields!(out, Other(%s)%s)" % (unnamed, end), tuple_text("Other", values)
     if count:
         yield "fields!(out, Local { %s }%s)" % (fields, end), struct_text("Local", values)
         yield "fields!(out, Local(%s)%s)" % (fields, end), tuple_text("Local", values)
@@ -114,7 +115,8 @@ def fields_test(count):
     lines = ["    let named = Named%d { %s };" % (count, values)]
     lines.append("    let tuple = Tuple%d(%s);" % (count, ", ".join(map(str, range(1, count + 1)))))
     if count:
-        lines.append("    let [%s] = [%s];" % (", ".join(names(count)), ", ".join("%du8" % value for value in range(1, count + 1))))
+        numbers = ", ".join("%du8" % value for value in range(1, count + 1))
+        lines.append("    let [%s] = [%s];" % (", ".join(names(count)), numbers))
     else:
         lines.append("    let unit = Unit;")
     forms = [form for pair in commas(count) for form in field_forms(count, *pair)]
@@ -132,7 +134,8 @@ def lines_of(kinds):
 
 def line(pieces, first):
     """The pieces in a row, with a number of its own for each, and their text."""
-    filled = [(source.format(n, "%04x" % n), text.format(n, "%04x" % n)) for n, (source, text) in enumerate(pieces, first)]
+    numbers = [(number, "%04x" % number) for number in range(first, first + len(pieces))]
+    filled = [(source.format(*both), text.format(*both)) for both, (source, text) in zip(numbers, pieces)]
     return ", ".join(source for source, _ in filled), "".join(text for _, text in filled)
 
 
@@ -196,20 +199,23 @@ def parse_fields_tests(count):
 
 def variant(kind, count):
     """A variant: how it is declared, how it is written for `parse_variants!`, and its text for some values."""
-    listed_names = ", ".join(names(count))
+    title, listed_names = "%s%d" % (kind, count), ", ".join(names(count))
     if kind == "Unit":
-        return "Unit%d" % count, "Unit%d" % count, lambda values: "Unit%d" % count
+        return title, title, lambda values: title
     if kind == "Struct":
         declared = ", ".join("%s: u8" % name for name in names(count))
-        return "Struct%d { %s }" % (count, declared), "Struct%d { %s }" % (count, listed_names), lambda values: struct_text("Struct%d" % count, values)
-    return "Tuple%d(%s)" % (count, ", ".join(["u8"] * count)), "Tuple%d(%s)" % (count, listed_names), lambda values: tuple_text("Tuple%d" % count, values)
+        written = "%s { %s }" % (title, listed_names)
+        return "%s { %s }" % (title, declared), written, lambda values: struct_text(title, values)
+    declared = "%s(%s)" % (title, ", ".join(["u8"] * count))
+    return declared, "%s(%s)" % (title, listed_names), lambda values: tuple_text(title, values)
 
 
 def enum_test(name, members, inner, outer):
     """An enum with these variants, each of which is parsed. Further texts are no variant's."""
     made = [variant(*member) for member in members]
     yield "\n#[derive(Drop)]\nenum %s { %s }\n" % (name, ", ".join(declared for declared, _, _ in made))
-    call = "parse_variants!(alloc, &doc, %s { %s }%s)" % (name, listed([written for _, written, _ in made], inner), "," if outer else "")
+    listed_variants = listed([written for _, written, _ in made], inner)
+    call = "parse_variants!(alloc, &doc, %s { %s }%s)" % (name, listed_variants, "," if outer else "")
     yield parse_function("parse_%s" % name.lower(), name, call)
     rows = []
     for number, ((kind, count), (_, written, text)) in enumerate(zip(members, made), 1):
