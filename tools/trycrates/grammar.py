@@ -1,5 +1,5 @@
-"""Writes the tests of each form of each macro: every kind of piece in each place, many numbers of fields, with and without
-the comma at the end. The texts are written here, as core::fmt has them."""
+"""Writes the tests of each form of each macro: every kind of piece in each place, and many numbers of fields, with and
+without the comma at the end. The texts are written here, as core::fmt has them."""
 
 COUNTS = (0, 1, 2, 3, 12, 13, 14, 24, 25)
 MORE_COUNTS = tuple(range(26))
@@ -16,27 +16,30 @@ use ufmt_parse::{parse_fields, parse_variants};
 use ufmt_snapshot::assert_snapshot;
 
 const HEX: HexOptions = HexOptions { upper_case: false, pad_char: b'0', pad_length: 6, ox_prefix: true };
-const RIGHT: Column = Column { width: 8, align: Align::Right, fill: '.' };
+const RIGHT: Column = Column { width: 18, align: Align::Right, fill: '.' };
 """
 
 # Each kind of piece with `{0}` in place of a number of three digits: how it is written, and its text. `{1}` is the number
-# in four hexadecimal digits. `uwrite!` has the first nine.
+# in four hexadecimal digits, and columns have 18 characters. No two kinds print one value alike. `uwrite!` has the first
+# nine.
 PIECES = (
     ('text "t{0}"', "t{0}"),
-    ("display {0}u16", "{0}"),
+    ('display "s{0}"', "s{0}"),
     ('debug "d{0}"', '"d{0}"'),
     ("pretty Some({0}u16)", "Some(\n    {0},\n)"),
     ("hex {0}u16 with HEX", "0x{1}"),
-    ("hex {0}u16 with HEX in RIGHT", "..0x{1}"),
-    ("display {0}u16 in RIGHT", ".....{0}"),
-    ('debug "c{0}" in RIGHT', '.."c{0}"'),
-    ("pretty {0}u16 in RIGHT", ".....{0}"),
-    ('each display [{0}u16, 7] between "-"', "{0}-7"),
-    ('each debug ["e{0}", "7"] between "+"', '"e{0}"+"7"'),
-    ('each pretty [{0}u16, 8] between "_"', "{0}_8"),
+    ("hex {0}u16 with HEX in RIGHT", "............0x{1}"),
+    ('display "s{0}" in RIGHT', "..............s{0}"),
+    ('debug "d{0}" in RIGHT', '............"d{0}"'),
+    ("pretty (Some({0}u16)) in RIGHT", "..Some(\n    {0},\n)"),
+    ('each display ["s{0}", "7"] between "-"', "s{0}-7"),
+    ('each debug ["d{0}", "7"] between "+"', '"d{0}"+"7"'),
+    ('each pretty [Some({0}u16), None] between "_"', "Some(\n    {0},\n)_None"),
     ('each hex [{0}u16, 9] with HEX between ";"', "0x{1};0x0009"),
-    ('each display [{0}u16, 7] in RIGHT between "|"', ".....{0}|.......7"),
-    ('each hex [{0}u16, 9] with HEX in RIGHT between "/"', "..0x{1}/..0x0009"),
+    ('each display ["s{0}", "7"] in RIGHT between "|"', "..............s{0}|.................7"),
+    ('each debug ["d{0}", "7"] in RIGHT between ":"', '............"d{0}":..............."7"'),
+    ('each pretty [Some({0}u16), None] in RIGHT between "*"', "..Some(\n    {0},\n)*..............None"),
+    ('each hex [{0}u16, 9] with HEX in RIGHT between "/"', "............0x{1}/............0x0009"),
     ('each [{0}u16, 5] by Debug between "="', "{0}=5"),
 )
 WRITTEN = 9
@@ -97,7 +100,8 @@ def field_forms(count, inner, outer):
     yield "fields!(out, named, Named%d { %s }%s)" % (count, fields, end), struct_text("Named%d" % count, values)
     yield "fields!(out, tuple, Tuple%d(%s)%s)" % (count, fields, end), tuple_text("Tuple%d" % count, values)
     yield "fields!(out, Other { %s }%s)" % (listed(valued, inner), end), struct_text("Other", values)
-    yield "fields!(out, Other(%s)%s)" % (listed(["%du8" % value for value in values], inner), end), tuple_text("Other", values)
+    unnamed = listed(["%du8" % value for value in values], inner)
+    yield "fields!(out, Other(%s)%s)" % (unnamed, end), tuple_text("Other", values)
     if count:
         yield "fields!(out, Local { %s }%s)" % (fields, end), struct_text("Local", values)
         yield "fields!(out, Local(%s)%s)" % (fields, end), tuple_text("Local", values)
@@ -111,7 +115,8 @@ def fields_test(count):
     lines = ["    let named = Named%d { %s };" % (count, values)]
     lines.append("    let tuple = Tuple%d(%s);" % (count, ", ".join(map(str, range(1, count + 1)))))
     if count:
-        lines.append("    let [%s] = [%s];" % (", ".join(names(count)), ", ".join("%du8" % value for value in range(1, count + 1))))
+        numbers = ", ".join("%du8" % value for value in range(1, count + 1))
+        lines.append("    let [%s] = [%s];" % (", ".join(names(count)), numbers))
     else:
         lines.append("    let unit = Unit;")
     forms = [form for pair in commas(count) for form in field_forms(count, *pair)]
@@ -129,7 +134,8 @@ def lines_of(kinds):
 
 def line(pieces, first):
     """The pieces in a row, with a number of its own for each, and their text."""
-    filled = [(source.format(n, "%04x" % n), text.format(n, "%04x" % n)) for n, (source, text) in enumerate(pieces, first)]
+    numbers = [(number, "%04x" % number) for number in range(first, first + len(pieces))]
+    filled = [(source.format(*both), text.format(*both)) for both, (source, text) in zip(numbers, pieces)]
     return ", ".join(source for source, _ in filled), "".join(text for _, text in filled)
 
 
@@ -193,20 +199,23 @@ def parse_fields_tests(count):
 
 def variant(kind, count):
     """A variant: how it is declared, how it is written for `parse_variants!`, and its text for some values."""
-    listed_names = ", ".join(names(count))
+    title, listed_names = "%s%d" % (kind, count), ", ".join(names(count))
     if kind == "Unit":
-        return "Unit%d" % count, "Unit%d" % count, lambda values: "Unit%d" % count
+        return title, title, lambda values: title
     if kind == "Struct":
         declared = ", ".join("%s: u8" % name for name in names(count))
-        return "Struct%d { %s }" % (count, declared), "Struct%d { %s }" % (count, listed_names), lambda values: struct_text("Struct%d" % count, values)
-    return "Tuple%d(%s)" % (count, ", ".join(["u8"] * count)), "Tuple%d(%s)" % (count, listed_names), lambda values: tuple_text("Tuple%d" % count, values)
+        written = "%s { %s }" % (title, listed_names)
+        return "%s { %s }" % (title, declared), written, lambda values: struct_text(title, values)
+    declared = "%s(%s)" % (title, ", ".join(["u8"] * count))
+    return declared, "%s(%s)" % (title, listed_names), lambda values: tuple_text(title, values)
 
 
 def enum_test(name, members, inner, outer):
     """An enum with these variants, each of which is parsed. Further texts are no variant's."""
     made = [variant(*member) for member in members]
     yield "\n#[derive(Drop)]\nenum %s { %s }\n" % (name, ", ".join(declared for declared, _, _ in made))
-    call = "parse_variants!(alloc, &doc, %s { %s }%s)" % (name, listed([written for _, written, _ in made], inner), "," if outer else "")
+    listed_variants = listed([written for _, written, _ in made], inner)
+    call = "parse_variants!(alloc, &doc, %s { %s }%s)" % (name, listed_variants, "," if outer else "")
     yield parse_function("parse_%s" % name.lower(), name, call)
     rows = []
     for number, ((kind, count), (_, written, text)) in enumerate(zip(members, made), 1):
@@ -223,8 +232,9 @@ def variants_tests():
     kinds = (("Unit", 1), ("Struct", 2), ("Tuple", 3))
     number = 0
     for first in range(3):
-        for inner, outer in ((False, False), (True, False), (False, True), (True, True)):
+        for inner in (False, True):
             number += 1
+            outer = number % 4 < 2
             yield from enum_test("E%d" % number, [kinds[(first + place) % 3] for place in range(3)], inner, outer)
     wide = [(kind, count) for count in PARSED for kind in ("Struct", "Tuple")]
     yield from enum_test("Wide", wide, False, False)

@@ -1,4 +1,4 @@
-"""What prints values of other types: the implementations and public calls of the libraries with a bound such as `uDebug`."""
+"""What prints values of other types: implementations and public calls of the libraries with a bound such as `uDebug`."""
 import re
 
 LIBRARIES = ("ufmt_core", "ufmt", "ufmt_snapshot")

@@ -59,8 +59,10 @@ class Refused:
         for line, message in ERROR.findall(said):
             given.setdefault(int(line), []).append(message)
         found = [fault for line in sorted({*given, *self.lines}) for fault in self.compare(line, given.get(line, []))]
-        if not given or MORE.search(said):
-            found.append("%s gave none of its messages, or more than can be shown:\n%s" % (self.name, said))
+        if not given:
+            found.append("%s gave no message:\n%s" % (self.name, said))
+        if MORE.search(said):
+            found.append("%s gave more messages than the compiler shows" % self.name)
         return found
 
     def compare(self, line, messages):
