@@ -27,7 +27,7 @@ class Program:
     """A built program."""
 
     def __init__(self, path):
-        self.path = str(path)
+        self.path = path
         # How many reads are called before the program's own: what loads it reads its libraries.
         process = subprocess.Popen([self.path, "no such word"], stdin=subprocess.DEVNULL, stderr=subprocess.DEVNULL)
         self.loads = calls(process)[0]
@@ -116,19 +116,22 @@ def wrong_round(devices, number, chunk, writes):
     return None
 
 
-def wrong_end(devices, program, process, reads, writes):
-    """What is wrong after the last write of a run that should succeed."""
-    rest = devices.rest(devices.output) + devices.rest(devices.error)
+def wrong_end(devices, program, process, wanted, line):
+    """What is wrong after the last write of a run that should end so, with this line on standard error."""
+    rest = devices.rest(devices.output)
+    error = devices.rest(devices.error)
     ended = program.ended(process)
-    if rest or ended.status != 0:
-        return "at the end it writes %s, and its status is %d" % (shown(b"".join(rest)), ended.status)
-    if ended.reads not in (None, reads) or ended.writes not in (None, writes):
-        return "%s reads and %s writes are called, not %d and %d" % (ended.reads, ended.writes, reads, writes)
+    if rest or b"".join(error) != line or ended.status != wanted.status:
+        return "at the end it writes %s and %s, and its status is %d" % (shown(b"".join(rest)), shown(b"".join(error)), ended.status)
+    wanted = wanted._replace(writes=wanted.writes + len(error))
+    if ended.reads is not None and ended != wanted:
+        return "%d reads and %d writes are called, not %d and %d" % (*ended[1:], *wanted[1:])
     return None
 
 
-def fault(program, words, chunks, rounds):
+def fault(program, words, chunks, rounds, status=0, line=b""):
     """What is wrong with a run whose reads take these chunks, and which should write so after each. None if nothing is."""
+    wanted = Ended(status, len(chunks) + 1, sum(map(len, rounds)))
     with Devices() as devices:
         process = devices.start(program, words)
         try:
@@ -136,7 +139,7 @@ def fault(program, words, chunks, rounds):
                 found = wrong_round(devices, number, chunk, writes)
                 if found:
                     return found
-            return wrong_end(devices, program, process, len(chunks) + 1, sum(map(len, rounds)))
+            return wrong_end(devices, program, process, wanted, line)
         except OSError as error:
             return "a device: %s" % error
         finally:
