@@ -9,8 +9,9 @@ import socket
 import subprocess
 from typing import NamedTuple, Optional
 
-# How many bytes of messages can wait in a socket. The system may allow less, or take more.
+# How many bytes of messages can wait in a socket, as asked for: Linux doubles that. The longest answers have 270,000.
 ROOM = 200_000
+LONGEST = 300_000
 # An answer that doesn't come in this time is a fault.
 SECONDS = 20
 
@@ -62,6 +63,8 @@ class Line:
         for end in (self.ours, self.theirs):
             end.setsockopt(socket.SOL_SOCKET, socket.SO_SNDBUF, ROOM)
         self.ours.settimeout(SECONDS)
+        if self.most() < LONGEST:
+            raise OSError("sockets take %d bytes, less than the longest answers (net.core.wmem_max)" % self.most())
 
     def most(self):
         """How many bytes a message can have."""
