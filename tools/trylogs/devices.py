@@ -9,8 +9,9 @@ import socket
 import subprocess
 from typing import NamedTuple, Optional
 
-# How many bytes of messages can wait in a socket. The system may allow less, or take more.
+# How many bytes of messages can wait in a socket, as asked for: Linux doubles that. The longest answers have 270,000.
 ROOM = 200_000
+LONGEST = 300_000
 # An answer that doesn't come in this time is a fault.
 SECONDS = 20
 
@@ -27,7 +28,7 @@ class Program:
     """A built program."""
 
     def __init__(self, path):
-        self.path = str(path)
+        self.path = path
         # How many reads are called before the program's own: what loads it reads its libraries.
         process = subprocess.Popen([self.path, "no such word"], stdin=subprocess.DEVNULL, stderr=subprocess.DEVNULL)
         self.loads = calls(process)[0]
@@ -62,6 +63,8 @@ class Line:
         for end in (self.ours, self.theirs):
             end.setsockopt(socket.SOL_SOCKET, socket.SO_SNDBUF, ROOM)
         self.ours.settimeout(SECONDS)
+        if self.most() < LONGEST:
+            raise OSError("sockets take %d bytes, less than the longest answers (net.core.wmem_max)" % self.most())
 
     def most(self):
         """How many bytes a message can have."""
@@ -116,19 +119,22 @@ def wrong_round(devices, number, chunk, writes):
     return None
 
 
-def wrong_end(devices, program, process, reads, writes):
-    """What is wrong after the last write of a run that should succeed."""
-    rest = devices.rest(devices.output) + devices.rest(devices.error)
+def wrong_end(devices, program, process, wanted, line):
+    """What is wrong after the last write of a run that should end so, with this line on standard error."""
+    rest = devices.rest(devices.output)
+    error = devices.rest(devices.error)
     ended = program.ended(process)
-    if rest or ended.status != 0:
-        return "at the end it writes %s, and its status is %d" % (shown(b"".join(rest)), ended.status)
-    if ended.reads not in (None, reads) or ended.writes not in (None, writes):
-        return "%s reads and %s writes are called, not %d and %d" % (ended.reads, ended.writes, reads, writes)
+    if rest or b"".join(error) != line or ended.status != wanted.status:
+        return "at the end it writes %s and %s, and its status is %d" % (shown(b"".join(rest)), shown(b"".join(error)), ended.status)
+    wanted = wanted._replace(writes=wanted.writes + len(error))
+    if ended.reads is not None and ended != wanted:
+        return "%d reads and %d writes are called, not %d and %d" % (*ended[1:], *wanted[1:])
     return None
 
 
-def fault(program, words, chunks, rounds):
+def fault(program, words, chunks, rounds, status=0, line=b""):
     """What is wrong with a run whose reads take these chunks, and which should write so after each. None if nothing is."""
+    wanted = Ended(status, len(chunks) + 1, sum(map(len, rounds)))
     with Devices() as devices:
         process = devices.start(program, words)
         try:
@@ -136,7 +142,7 @@ def fault(program, words, chunks, rounds):
                 found = wrong_round(devices, number, chunk, writes)
                 if found:
                     return found
-            return wrong_end(devices, program, process, len(chunks) + 1, sum(map(len, rounds)))
+            return wrong_end(devices, program, process, wanted, line)
         except OSError as error:
             return "a device: %s" % error
         finally:

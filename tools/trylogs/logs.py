@@ -136,7 +136,7 @@ class Maker:
             pieces = list(self.pieces(log))
         else:
             pieces = [log]
-        return [piece[at : at + CHUNK] for piece in pieces for at in range(0, len(piece), CHUNK)]
+        return [chunk for piece in pieces for chunk in whole(piece)]
 
     def pieces(self, log):
         most = self.random.choice((10, 1000, CHUNK))
@@ -145,6 +145,11 @@ class Maker:
             end = at + max(self.size(most), len(log) // 2000)
             yield log[at:end]
             at = end
+
+
+def whole(log):
+    """The longest chunks."""
+    return [log[at : at + CHUNK] for at in range(0, len(log), CHUNK)]
 
 
 def each_byte():
@@ -191,7 +196,7 @@ def beginnings():
         log = b"\n".join(lines)
         yield log, maker.chunks(log)
         log += b"\n"
-        yield log, [log[at : at + CHUNK] for at in range(0, len(log), CHUNK)]
+        yield log, whole(log)
     for log in (b"", b"\n", b" ", b"\0", b"\r\n", b"[\n", b"[\n ", b"[1]", b"[\n    1,\n]", b"a\n\n\n", b"\n" * 1000, b"[\n" * 1000, b"a\n" * 5000):
         yield log, [log] if log else []
         yield log, [bytes([byte]) for byte in log[:3000]] + ([log[3000:]] if len(log) > 3000 else [])

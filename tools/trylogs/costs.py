@@ -1,0 +1,160 @@
+"""What a run of ufmt_lines costs on logs of each shape: steps, memory, reads and writes.
+
+A log of a shape is made for one size and for twice that. Steps are those that twice the size costs more.
+"""
+import re
+import shutil
+import subprocess
+from typing import Callable, NamedTuple
+
+import answers
+import devices
+from answers import Block, plain, pretty, quoted
+from logs import CHUNK
+
+SIZE = 16 * 1024
+# How much longer a log is whose reads and writes are counted, and that must pass in the memory of the short one.
+LONGER = 16
+# How many bytes of memory the longer log may take more, and how many for each byte of its longest line or group.
+SLACK = 16 * 1024
+MEMORY = 4
+# By how much a shape may cost more steps than were measured: compilers differ.
+SPARE = 1.2
+PAGE = 16 * 1024
+# A run that takes longer is a fault.
+SECONDS = 120
+DEEP = "x"
+for _ in range(250):
+    DEEP = Block("list", "", [(None, DEEP)])
+READING = Block("struct", "Reading", [("channel", "3"), ("text", quoted("a [b]"))])
+
+
+class Shape(NamedTuple):
+    """A log of this shape for a size in bytes, and how many steps were measured for each of its bytes."""
+
+    name: str
+    mode: str
+    steps: int
+    log: Callable[[int], bytes]
+
+
+def line(name, mode, steps, piece):
+    """One line, or a log of lines: the piece as often as it fits."""
+    return Shape(name, mode, steps, lambda size: piece * (size // len(piece)))
+
+
+def listed(name, mode, steps, printed):
+    return Shape(name, mode, steps, lambda size: printed(Block("list", "", [(None, "12345")] * (size // 12))).encode())
+
+
+def group(name, steps, first, piece):
+    return Shape(name, "plain", steps, lambda size: first + piece * (size // len(piece)))
+
+
+LONG_LINES = (
+    line("a long word", "pretty", 30, b"a"),
+    line("a line of words", "pretty", 169, b"a "),
+    line("a line of spaces", "pretty", 257, b" "),
+    line("a line of brackets", "pretty", 280, b"[ "),
+    line("brackets in brackets", "pretty", 19, b"["),
+    line("a line of lists", "pretty", 171, b"[1] "),
+    line("a line of quotes", "pretty", 120, b'"a '),
+    line("a line of bytes that aren't UTF-8", "pretty", 138, b"\xff "),
+    listed("a long list", "pretty", 162, plain),
+    # A block could begin at each word, so the bytes after it are scanned for each of 255 blocks.
+    Shape("a line of open tuples", "pretty", 36437, lambda size: b"(a, " * (size // 32)),
+    listed("a pretty list", "plain", 183, pretty),
+    group("a group without an end", 218, b"got [\n", b"    12345,\n"),
+    group("a group of brackets", 376, b"", b"[\n"),
+    group("a group of spaces", 272, b"[\n", b" " * 63 + b"\n"),
+)
+MANY_LINES = (
+    line("empty lines", "pretty", 427, b"\n"),
+    line("short lines", "pretty", 240, b"a word\n"),
+    line("lines of texts", "pretty", 124, b"12:00 INFO got " + plain(READING).encode() + b"\n"),
+    line("lines of deep texts", "pretty", 703, plain(DEEP).encode() + b"\n"),
+    line("short lines, made plain", "plain", 254, b"a word\n"),
+    line("groups", "plain", 144, b"12:00 INFO got " + pretty(READING).encode() + b"\n"),
+    line("groups of a bracket", "plain", 344, b"[\n]\n"),
+)
+SHAPES = LONG_LINES + MANY_LINES
+
+
+class Meter:
+    """Measures runs of the program on logs in a folder."""
+
+    def __init__(self, program, words, room):
+        self.program = program
+        self.words = words
+        self.room = room
+        self.valgrind = shutil.which("valgrind")
+
+    def put(self, name, data):
+        path = self.room / re.sub(r"\W", "-", name)
+        path.write_bytes(data)
+        return path
+
+    def steps(self, path, mode):
+        """The steps of a run, by valgrind."""
+        command = [self.valgrind, "--tool=cachegrind", "--cache-sim=no", "--cachegrind-out-file=/dev/null", self.program.path, *self.words[mode]]
+        with open(path, "rb") as log:
+            ran = subprocess.run(command, stdin=log, stdout=subprocess.DEVNULL, stderr=subprocess.PIPE, check=True, timeout=SECONDS)
+        return int(re.search(rb"I +refs: +([\d,]+)", ran.stderr)[1].replace(b",", b""))
+
+    def steps_a_byte(self, shape):
+        """How many steps a byte more costs."""
+        short, long = (self.put(shape.name + str(factor), shape.log(SIZE * factor)) for factor in (1, 2))
+        more = self.steps(long, shape.mode) - self.steps(short, shape.mode)
+        return more / (long.stat().st_size - short.stat().st_size)
+
+    def passes(self, path, mode, most):
+        """Whether a run ends with status 0 if it has at most so many bytes of memory."""
+        with open(path, "rb") as log:
+            command = ["prlimit", "--as=%d" % most, self.program.path, *self.words[mode]]
+            return subprocess.run(command, stdin=log, stdout=subprocess.DEVNULL, stderr=subprocess.DEVNULL, timeout=SECONDS).returncode == 0
+
+    def least(self, path, mode):
+        """The least memory in which a run ends with status 0, in pages of 16 KiB and at most 64 MiB."""
+        low, high = 64, 4096
+        while low < high:
+            middle = (low + high) // 2
+            if self.passes(path, mode, middle * PAGE):
+                high = middle
+            else:
+                low = middle + 1
+        return low * PAGE
+
+    def calls(self, path, mode):
+        """How a run ends, and its reads and writes."""
+        with open(path, "rb") as log:
+            process = self.program.start(self.words[mode], log, subprocess.DEVNULL)
+        return self.program.ended(process)
+
+
+def wrong_steps(meter, shape):
+    steps = meter.steps_a_byte(shape)
+    if steps > shape.steps * SPARE:
+        return "%s: %d steps a byte, where %d are allowed" % (shape.name, steps, shape.steps * SPARE)
+    return None
+
+
+def wrong_calls(meter, shape):
+    """One read takes each chunk, and one more the end. One write has each answer that isn't empty."""
+    log = shape.log(SIZE * LONGER)
+    given = meter.calls(meter.put(shape.name, log), shape.mode)
+    groups = answers.groups(shape.mode, log)
+    wanted = devices.Ended(0, -(-len(log) // CHUNK) + 1, len(groups) - (groups[-1] == b""))
+    if given.reads is not None and given != wanted:
+        return "%s: %s, not %s" % (shape.name, given, wanted)
+    return None
+
+
+def wrong_memory(meter, shape):
+    """The longer log passes in the memory of the short one, and some more for a line or group that is longer."""
+    short, long = shape.log(SIZE), shape.log(SIZE * LONGER)
+    least = meter.least(meter.put(shape.name, short), shape.mode)
+    longest = [max(map(len, answers.groups(shape.mode, log))) for log in (short, long)]
+    most = least + SLACK + MEMORY * (longest[1] - longest[0])
+    if not meter.passes(meter.put(shape.name, long), shape.mode, most):
+        return "%s: %d bytes pass in %d bytes of memory, and %d bytes not in %d" % (shape.name, len(short), least, len(long), most)
+    return None
