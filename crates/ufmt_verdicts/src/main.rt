@@ -6,9 +6,12 @@
 //! A half of a line, `plain` or `pretty`, is `no text` if the calls of that mode fail with
 //! `NotText`. Else it has digests of their results. If a call is wrong, it is `FAULT` with the
 //! call's name, or with the error of a call that should be `Ok`.
+//!
+//! With the word `costs` it makes each call by itself, and a line has the names of the calls.
 #![tactic(auto)]
 
 mod calls;
+mod costs;
 mod digest;
 mod events;
 mod fault;
@@ -22,10 +25,12 @@ mod shapes;
 mod types;
 
 use calls::Calls;
+use std::env;
 use std::io::{self, Read, Write};
 use ufmt::layout::Mode;
 
 fn main(rt: HostRuntime) -> io::Result<()> {
+    let words: Vec<String> = env::args(&rt)?.skip(1).collect(rt.alloc())?;
     let mut input = Vec::new(rt.alloc());
     rt.reader().read_to_end(&mut input)?;
     let mut output = io::BufWriter::new(rt.alloc(), io::writer(&rt))?;
@@ -35,7 +40,13 @@ fn main(rt: HostRuntime) -> io::Result<()> {
         let Some((text, after)) = split_text(rest) else {
             break;
         };
-        report(&rt, &mut output, text)?;
+        if words.is_empty() {
+            report(&rt, &mut output, text)?;
+        } else {
+            let names = costs::calls_made(rt.alloc(), text)?;
+            output.write_all(names.as_bytes())?;
+            output.write_all(b"\n")?;
+        }
         rest = after;
     }
     output.flush()

@@ -1,0 +1,212 @@
+//! Makes each call on a text by itself, between marks, so that its memory and its steps can be counted.
+//! `tools/trytexts/counter.c` counts them.
+ghost use Rattle.std.specs.Prelude.{⊤};
+
+use crate::calls::Calls;
+use crate::loose::Loosener;
+use std::alloc::{AllocError, Global};
+use std::collections::{BTreeMap, BTreeSet};
+use ufmt::layout::Mode;
+use ufmt_doc::doc::{Doc, same_text};
+use ufmt_doc::field_text::read_field;
+use ufmt_doc::scan::{Event, Sink};
+use ufmt_parse::uParse;
+use ufmt_parse_tests::node::Node;
+use ufmt_parse_tests::tree::Tree;
+use ufmt_scan::leaf::{is_leaf, is_word};
+
+// A mark is an allocation of so many bytes and its own number. No memory can give so much, so none is
+// made, and nothing else asks for it.
+const MARK: usize = 1 << 62;
+
+const BEGIN: usize = MARK;
+
+const END: usize = MARK + 1;
+
+const DROPPED: usize = MARK + 2;
+
+fn mark(alloc: Global, bytes: usize) {
+    let _refused: Result<Vec<u8>, AllocError> = Vec::with_capacity(alloc, bytes);
+}
+
+/// Returns the names of the calls that were made, in order, each with whether its result was a value.
+pub fn calls_made(alloc: Global, text: &[u8]) -> Result<String, AllocError> {
+    let mut costs = Costs {
+        alloc,
+        line: String::from_str(alloc, "plain: ")?,
+    };
+    costs.on_text(Calls {
+        alloc,
+        mode: Mode::Plain,
+        text,
+    })?;
+    costs.line.push_str("; pretty: ")?;
+    costs.on_text(Calls {
+        alloc,
+        mode: Mode::Pretty,
+        text,
+    })?;
+    costs.line.push_str("; leaf: ")?;
+    if let Ok(text) = str::from_utf8(text) {
+        costs.on_leaf(text)?;
+    }
+    Ok(costs.line)
+}
+
+// The calls so far.
+#[derive(Drop)]
+struct Costs {
+    alloc: Global,
+    line: String,
+}
+
+impl Costs {
+    // Makes a call, and drops its result. The second mark is made while the result is held.
+    fn count<T: Drop, F: FnOnce() -> Option<T>>(
+        &mut self,
+        name: &str,
+        call: F,
+    ) -> Result<(), AllocError>
+    where
+        requires { F.pre call }
+    {
+        mark(self.alloc, BEGIN);
+        let result = call();
+        mark(self.alloc, END);
+        let word = if result.is_some() { " yes, " } else { " no, " };
+        drop(result);
+        mark(self.alloc, DROPPED);
+        self.line.push_str(name)?;
+        self.line.push_str(word)
+    }
+
+    fn on_text(&mut self, calls: Calls<'_>) -> Result<(), AllocError> {
+        self.count("scan", || calls.scan(&mut Ignores).ok())?;
+        self.count("read", || calls.read().ok())?;
+        self.count("parse", || calls.parse::<Vec<Tree>>().ok())?;
+        self.on_conversions(calls)?;
+        match (calls.read(), calls.read()) {
+            (Ok(doc), Ok(mut loose)) => {
+                let mut loosener = Loosener {
+                    alloc: self.alloc,
+                    is_struct_next: true,
+                };
+                loosener.loosen(&mut loose);
+                self.on_doc(calls, &doc)?;
+                self.on_loose(calls, &doc, &mut loose)?;
+                self.on_types(&doc)
+            }
+            _ => Ok(()),
+        }
+    }
+
+    fn on_conversions(&mut self, calls: Calls<'_>) -> Result<(), AllocError> {
+        let alloc = self.alloc;
+        self.count("convert", || calls.convert().ok())?;
+        self.count("convert to a String", || {
+            let mut text = String::new(alloc);
+            match calls.convert_to(&mut text) {
+                Ok(()) => Some(text),
+                Err(_) => None,
+            }
+        })?;
+        let length = match calls.convert() {
+            Ok(text) => text.len(),
+            Err(_) => calls.text.len(),
+        };
+        let mut buffer = vec![in alloc; 0u8; length]?;
+        self.count("convert into", || calls.convert_into(&mut buffer).ok())?;
+        self.count("again", || calls.again().ok())?;
+        self.count("there and back", || calls.by_way_of_the_other().ok())
+    }
+
+    fn on_doc(&mut self, calls: Calls<'_>, doc: &Doc) -> Result<(), AllocError> {
+        let alloc = self.alloc;
+        self.count("is_token", || doc.is_token().then_some(()))?;
+        self.count("print", || calls.print(doc).ok())?;
+        let mut buffer = vec![in alloc; 0u8; calls.text.len()]?;
+        self.count("print into", || calls.print_into(&mut buffer, doc).ok())?;
+        self.count("unquoted", || doc.unquoted(alloc).unwrap_or(None))?;
+        self.count("leaf_text", || doc.leaf_text(alloc).unwrap_or(None))?;
+        let name = last_name(doc);
+        self.count("field_text", || doc.field_text(alloc, name).unwrap_or(None))?;
+        self.count(
+            "read_field",
+            || read_field(alloc, calls.text, name).unwrap_or(None),
+        )
+    }
+
+    // Calls on a document and on another of the same text, which isn't in normal form.
+    fn on_loose(&mut self, calls: Calls<'_>, doc: &Doc, loose: &mut Doc) -> Result<(), AllocError> {
+        let alloc = self.alloc;
+        let mut buffer = vec![in alloc; 0u8; calls.text.len()]?;
+        self.count(
+            "print loose into",
+            || calls.print_into(&mut buffer, loose).ok(),
+        )?;
+        self.count("same_text", || have_same_text(doc, loose).then_some(()))?;
+        self.count("normalize", || {
+            loose.normalize(alloc);
+            Some(())
+        })
+    }
+
+    fn on_types(&mut self, doc: &Doc) -> Result<(), AllocError> {
+        self.on_type::<i128>("i128", doc)?;
+        self.on_type::<char>("char", doc)?;
+        self.on_type::<String>("String", doc)?;
+        self.on_type::<Option<Box<i8>>>("Option", doc)?;
+        self.on_type::<Vec<u64>>("Vec", doc)?;
+        self.on_type::<BTreeSet<u16>>("BTreeSet", doc)?;
+        self.on_type::<BTreeMap<String, Option<u8>>>("BTreeMap", doc)?;
+        self.on_type::<Vec<Tree>>("trees", doc)?;
+        self.on_type::<Node>("Node", doc)
+    }
+
+    fn on_type<T: uParse>(&mut self, name: &str, doc: &Doc) -> Result<(), AllocError> {
+        let alloc = self.alloc;
+        self.count(name, || match T::from_doc(alloc, doc) {
+            Ok(value) => value,
+            Err(_) => None,
+        })
+    }
+
+    fn on_leaf(&mut self, text: &str) -> Result<(), AllocError> {
+        let alloc = self.alloc;
+        self.count("is_leaf", || is_leaf(text).then_some(()))?;
+        self.count("is_word", || is_word(text).then_some(()))?;
+        self.count("Doc::text", || Doc::text(alloc, text).ok())?;
+        let first = text.chars().next().unwrap_or('x');
+        self.count("Doc::character", || Doc::character(alloc, first).ok())
+    }
+}
+
+fn have_same_text(doc: &Doc, other: &Doc) -> bool {
+    doc.is_token() && other.is_token() && same_text(doc, other) && same_text(other, doc)
+}
+
+// The name of the last field, or a name that no field has.
+fn last_name(doc: &Doc) -> &str {
+    match doc.fields() {
+        Some([.., (name, _)]) => name,
+        _ => "",
+    }
+}
+
+// A sink that takes each event and keeps none.
+#[derive(Clone, Copy)]
+struct Ignores;
+
+impl Sink for Ignores {
+    type Error = ();
+
+    ghost took = { λ _ _ _. ⊤ };
+
+    ghost stopped = { λ _ _ _. ⊤ };
+
+    ghost begun = { λ _. tt };
+
+    fn event(&mut self, _event: Event<&str>) -> Result<(), ()> {
+        Ok(())
+    }
+}

@@ -1,0 +1,181 @@
+"""Compares what ufmt_conv and ufmt_lines take of steps, memory and calls of their devices with bounds."""
+from typing import NamedTuple
+
+import bounds
+import shapes
+from costs import SECONDS, rough
+from features import features
+from model import plain, pretty
+
+# A text has a document of each shape, of so many bytes or of some times that. Steps are not counted of longer texts.
+COUNTED_SIZE = 512
+MOST_COUNTED = 128 * 1024
+# What a run takes before it reads: a chunk of 64 KiB is made, byte by byte.
+START_STEPS, START_BYTES, CHUNK = 1_200_000, 70_000, 64 * 1024
+# Each command's steps for a byte of its input, and of a line of it, besides those of its conversion.
+BYTE_STEPS, LINE_STEPS = 40, 600
+# ufmt_lines tries each place after a space as the beginning of a text.
+PLACE_STEPS = 400
+# What is before the text of a line, as in a log.
+WORDS = "12:00: "
+FIRST = "the first line"
+
+
+class Run(NamedTuple):
+    """A run of ufmt_conv: its command, its input, what the input has, and how long the answer is at most."""
+
+    name: str
+    command: str
+    data: bytes
+    case: bounds.Case
+
+
+def one_of_each(size):
+    return shapes.listed([make(size) for make in shapes.documents().values()])
+
+
+def document_runs(name, document):
+    found = features(document)
+    texts = plain(document).encode(), pretty(document).encode()
+    lengths = [len(text) for text in texts]
+    yield Run(name, "pretty", texts[0], bounds.Case(found, *lengths, 0))
+    yield Run(name, "plain", texts[1], bounds.Case(found, *lengths[::-1], 0))
+
+
+def lengths_run(name, data):
+    return Run(name, "lengths", data, bounds.Case(rough(""), len(data), 8 * data.count(b"\n") + 30, 0))
+
+
+def runs():
+    made = shapes.documents()
+    yield from document_runs("a list of each shape", one_of_each(COUNTED_SIZE))
+    yield from document_runs("a long list of each shape", one_of_each(32 * COUNTED_SIZE))
+    for name in ("a wide list of an empty map", "a wide list of letters", "a text of all kinds"):
+        yield from document_runs(name, made[name](16 * COUNTED_SIZE))
+    yield lengths_run("short lines", pretty(one_of_each(COUNTED_SIZE)).encode())
+    yield lengths_run("empty lines", b"\n" * 16 * COUNTED_SIZE)
+    yield lengths_run("one line", b"x" * 64 * COUNTED_SIZE)
+    yield lengths_run("many lines", b"x\n" * 1024 * COUNTED_SIZE)
+
+
+def run_steps(run):
+    converting = 0 if run.command == "lengths" else bounds.steps("convert", run.case)
+    return START_STEPS + converting + BYTE_STEPS * len(run.data) + LINE_STEPS * run.data.count(b"\n")
+
+
+def run_memory(run):
+    """The input, the answer, and for lengths a number for each line, each of which grows."""
+    grown = [bounds.text(len(run.data)), bounds.text(run.case.other, bounds.RESERVED), bounds.text(8 * run.data.count(b"\n"), 32)]
+    taken = bounds.Memory(allocations=5, bytes=START_BYTES, growths=2, most=START_BYTES)
+    for one in grown:
+        taken = taken.then(one)
+    return taken._replace(held=0)
+
+
+def over(counts, allowed):
+    """The first number that is more than allowed, in words, or None."""
+    for name, most in allowed.items():
+        if getattr(counts, name) > most:
+            return "%s: %d, and not at most %d" % (name, getattr(counts, name), most)
+    return None
+
+
+def run_faults(counter, program, run):
+    """The faults of a run of ufmt_conv."""
+    name = "ufmt_conv %s of %s" % (run.command, run.name)
+    words = [program, run.command]
+    _output, counts = counter.run(words, run.data, name, seconds=SECONDS)
+    allowed = dict(run_memory(run)._asdict(), left=0, reads=len(run.data) // CHUNK + 2, writes=1)
+    wrong = over(counts[0], allowed)
+    if wrong:
+        yield "%s: %s" % (name, wrong)
+    if counter.valgrind and len(run.data) <= MOST_COUNTED:
+        steps = counter.steps(words, run.data, name, seconds=SECONDS)[0]
+        if steps > run_steps(run):
+            yield "%s: %d steps, and not at most %d" % (name, steps, run_steps(run))
+
+
+def conv_faults(counter, program):
+    """The faults of all runs of ufmt_conv, and how many runs were counted."""
+    made = list(runs())
+    return [fault for run in made for fault in run_faults(counter, program, run)], len(made)
+
+
+class Line(NamedTuple):
+    """A group of lines of a log, its answer, and what its text has."""
+
+    name: str
+    group: str
+    answer: str
+    case: bounds.Case
+
+
+def lines(is_plain):
+    """A group for each shape. The first one is for what a run takes at its start, with its own memory."""
+    yield Line(FIRST, "x", "x", bounds.Case(rough(""), 1, 1, 0))
+    for name, make in shapes.documents().items():
+        document = make(4 * COUNTED_SIZE)
+        texts = plain(document), pretty(document)
+        text, other = texts[::-1] if is_plain else texts
+        case = bounds.Case(features(document), len(text.encode()), len(other.encode()), 0)
+        yield Line(name, WORDS + text, WORDS + other, case)
+    for name, make in shapes.no_texts().items():
+        text = WORDS + make(4 * COUNTED_SIZE)
+        # A line that ends with a bracket isn't the last of its group.
+        if text[-1] not in "[\n":
+            yield Line(name, text, text, bounds.Case(rough(text), len(text), len(text), 0))
+
+
+def line_steps(line):
+    """A text is scanned, and then converted. Each byte is copied, and looked at for the end of its line."""
+    scanned = bounds.steps("scan", line.case) + bounds.steps("convert into", line.case)
+    places = PLACE_STEPS * line.group.count(" ") if line.group == line.answer else 0
+    return scanned + places + BYTE_STEPS * len(line.group) + LINE_STEPS * (2 + line.group.count("\n"))
+
+
+def line_faults(counter, program, is_plain):
+    """The faults of runs of ufmt_lines on a log of all shapes, and how many lines were counted."""
+    words = [program] + ["--plain"] * is_plain
+    name = "ufmt_lines --plain" if is_plain else "ufmt_lines"
+    log = list(lines(is_plain))
+    data = "".join(line.group + "\n" for line in log).encode()
+    output, counts = counter.run(words, data, name, of_writes=True, seconds=SECONDS)
+    if output != "".join(line.answer + "\n" for line in log).encode():
+        return [name + ": another answer to a log of all shapes"], len(log)
+    if len(counts) != len(log) + 1:
+        return ["%s: %d writes of %d answers" % (name, len(counts) - 1, len(log))], len(log)
+    wrong = list(map(line_memory_fault, log, counts, longest(log)))
+    if counter.valgrind:
+        wrong += map(line_steps_fault, log, counter.steps(words, data, name, of_writes=True, seconds=SECONDS))
+    return ["%s, %s" % (name, fault) for fault in wrong if fault], len(log)
+
+
+def line_steps_fault(line, steps):
+    most = line_steps(line) + START_STEPS * (line.name == FIRST)
+    return "%s: %d steps, and not at most %d" % (line.name, steps, most) if steps > most else None
+
+
+def longest(log):
+    """How many bytes the longest group and answer so far have together."""
+    group = answer = 0
+    for line in log:
+        group = max(group, len(line.group.encode()))
+        answer = max(answer, len(line.answer.encode()))
+        yield group + answer
+
+
+def line_memory_fault(line, counts, longest_so_far):
+    """The program makes a chunk at its start, and one room for groups and one for answers, which grow."""
+    is_first = line.name == FIRST
+    held = START_BYTES + 2 * longest_so_far
+    allowed = {
+        "allocations": 10 * is_first,
+        "growths": 2 * longest_so_far.bit_length(),
+        "bytes": START_BYTES * is_first + 4 * longest_so_far,
+        "most": held,
+        "held": held,
+        "writes": 1,
+        "reads": 2 + len(line.group) // CHUNK,
+    }
+    wrong = over(counts, allowed)
+    return "%s: %s" % (line.name, wrong) if wrong else None

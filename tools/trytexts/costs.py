@@ -1,0 +1,113 @@
+"""Compares what each call takes of memory, steps and time with its bounds, on a text of each shape."""
+from typing import NamedTuple
+
+import bounds
+import shapes
+from features import Features, features, past_ascii
+from model import plain, pretty
+
+# Of texts whose steps are counted, and of those whose memory and time is.
+COUNTED_SIZE = 4 * 1024
+TIMED_SIZE = 64 * 1024
+# Texts are counted side by side in so many parts.
+PARTS = 4
+SECONDS = 600
+# A call of so many nanoseconds is never too slow.
+SOME_TIME = 10_000_000
+
+
+def rough(text):
+    """Features of a text of no document, at most."""
+    separators = sum(text.count(sign) for sign in ",:\"'")
+    words = min(sum(text.count(bracket) for bracket in "[({"), 256)
+    escapes = text.count("\\")
+    return Features(escapes=escapes, bare=separators + 1, texts=text.count('"'), blocks=words)
+
+
+def leaf_case(text):
+    """What is known of a text that is put in quotes."""
+    length = len(text.encode())
+    escapes = sum(text.count(sign) for sign in '"\\\n')
+    found = Features(quoted=length, escapes=escapes, past=past_ascii(text))
+    return bounds.Case(found, length, 0, length + escapes + 10)
+
+
+class Sample(NamedTuple):
+    """A text, and what is known of it in each half of a line of `ufmt_verdicts costs`."""
+
+    name: str
+    data: bytes
+    cases: dict
+
+
+def sample(name, text, plain_case, pretty_case):
+    return Sample(name, text.encode(), {"plain": plain_case, "pretty": pretty_case, "leaf": leaf_case(text)})
+
+
+def document_samples(name, document):
+    """Both texts of a document."""
+    found, texts = features(document), (plain(document), pretty(document))
+    lengths = [len(text.encode()) for text in texts]
+    cases = bounds.Case(found, *lengths, 0), bounds.Case(found, *lengths[::-1], 0)
+    return [sample(name + way, text, *cases) for way, text in zip((", plain", ", pretty"), texts)]
+
+
+def samples(size, number):
+    """The texts of one part."""
+    for name, make in list(shapes.documents().items())[number::PARTS]:
+        yield from document_samples(name, make(size))
+    for name, make in list(shapes.no_texts().items())[number::PARTS]:
+        text = make(size)
+        case = bounds.Case(rough(text), len(text), 2 * len(text), 0)
+        yield sample(name, text, case, case)
+
+
+def calls_of(line):
+    """The calls of a line, each with the half it is in."""
+    for half in line.split("; "):
+        name, _, calls = half.partition(": ")
+        for call in calls.split(", ")[:-1]:
+            yield name, call.rpartition(" ")[0]
+
+
+def judged(one, line, counted, fault):
+    """The faults of one text. `fault` says what is wrong with a call by its case and its counts."""
+    for half, call in calls_of(line):
+        wrong = fault(call, one.cases[half], next(counted))
+        if wrong:
+            yield "%s of %s, %s: %s" % (call, one.name, half, wrong)
+
+
+def memory_fault(call, case, counts):
+    """What is wrong with the memory or the time of a call, or None."""
+    allowed = bounds.memory(call, case)
+    for name, most in allowed._asdict().items():
+        if getattr(counts, name) > most:
+            return "%s: %d, and not at most %d" % (name, getattr(counts, name), most)
+    if counts.left > 0:
+        return "%d blocks are never freed" % counts.left
+    time = SOME_TIME + bounds.NANOSECONDS * bounds.steps(call, case)
+    if counts.nanoseconds > time:
+        return "%d nanoseconds, and not at most %d" % (counts.nanoseconds, time)
+    return None
+
+
+def steps_fault(call, case, steps):
+    most = bounds.steps(call, case)
+    return "%d steps, and not at most %d" % (steps, most) if steps > most else None
+
+
+def part_faults(counter, program, number, is_counted):
+    """The faults of one part of the texts, and how many calls were counted."""
+    part = list(samples(COUNTED_SIZE if is_counted else TIMED_SIZE, number))
+    data = b"".join(b"%d\n%s" % (len(one.data), one.data) for one in part)
+    words, name = [program, "costs"], "%s of part %d" % ("steps" if is_counted else "memory", number)
+    output, counts = counter.run(words, data, name, seconds=SECONDS)
+    if is_counted:
+        counts = counter.steps(words, data, name, seconds=SECONDS)
+    lines = output.decode().splitlines()
+    made = sum(len(list(calls_of(line))) for line in lines)
+    if len(lines) != len(part) or len(counts) < made:
+        return ["%d lines and %d counts of %d texts" % (len(lines), len(counts), len(part))], made
+    counted, fault = iter(counts), steps_fault if is_counted else memory_fault
+    return [wrong for one, line in zip(part, lines) for wrong in judged(one, line, counted, fault)], made

@@ -1,0 +1,76 @@
+"""What a document has, as far as time and memory depend on it."""
+import collections
+from typing import NamedTuple
+
+# What an entry takes in memory besides its texts, a pair of a key and a value, and a field.
+DOC, PAIR, FIELD = 56, 112, 80
+
+
+class Features(NamedTuple):
+    # Bytes of words and names, and bytes of leaves in quotes.
+    words: int = 0
+    quoted: int = 0
+    # Escapes, and characters past ASCII, in leaves in quotes.
+    escapes: int = 0
+    past: int = 0
+    # Leaves without quotes and names that aren't empty; leaves in quotation marks; leaves in apostrophes.
+    bare: int = 0
+    texts: int = 0
+    characters: int = 0
+    # Blocks with entries, and blocks without.
+    blocks: int = 0
+    empties: int = 0
+    # How much memory the entries of all blocks take without their texts.
+    entry_bytes: int = 0
+
+    def strings(self):
+        return self.bare + self.texts + self.characters
+
+    def text_bytes(self):
+        return self.words + self.quoted
+
+
+def past_ascii(text):
+    return 0 if text.isascii() else sum(character > "\x7f" for character in text)
+
+
+def of_leaf(leaf, add, times):
+    size = len(leaf.encode()) * times
+    if leaf[:1] not in ('"', "'"):
+        add(words=size, bare=times)
+        return
+    escapes = leaf.replace("\\\\", "\\").count("\\")
+    texts = times if leaf[0] == '"' else 0
+    add(quoted=size, escapes=escapes * times, past=past_ascii(leaf) * times, texts=texts, characters=times - texts)
+
+
+def of_block(block, add):
+    """What a block has besides its keys and values."""
+    kind, name, entries = block
+    if not entries:
+        add(empties=1)
+        return
+    each = {"map": PAIR, "struct": FIELD}.get(kind, DOC)
+    names = [name] * (name != "") + [before for before, _value in entries if kind == "struct"]
+    add(words=sum(map(len, names)), bare=len(names), blocks=1, entry_bytes=each * len(entries))
+
+
+def features(document):
+    found = dict.fromkeys(Features._fields, 0)
+
+    def add(**more):
+        for name, count in more.items():
+            found[name] += count
+
+    leaves, left = collections.Counter(), [document]
+    while left:
+        one = left.pop()
+        if isinstance(one, str):
+            leaves[one] += 1
+            continue
+        of_block(one, add)
+        left += [value for _before, value in one.entries]
+        left += [before for before, _value in one.entries if one.kind == "map"]
+    for leaf, times in leaves.items():
+        of_leaf(leaf, add, times)
+    return Features(**found)

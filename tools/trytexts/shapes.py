@@ -1,0 +1,144 @@
+"""Documents of each shape, and texts of no document, in any size."""
+from model import Block, plain, quoted
+
+PLACES = ("list", "set", "key", "value", "struct", "tuple", "unnamed")
+TREE = Block("struct", "Tree", [("size", "1"), ("children", Block("list", "", []))])
+# Each kind of leaf, in its shortest texts and in some that are a little longer.
+LEAVES = {
+    "letters": "x",
+    "words": "seventeen-letters",
+    "numbers": "18446744073709551615",
+    "units": "()",
+    "empty texts": '""',
+    "texts": '"ab"',
+    "texts with escapes": quoted('\n"\x1b\\'),
+    "characters": "'a'",
+    "characters past ASCII": quoted("\u20ac", "'"),
+    "escaped characters": quoted("\n", "'"),
+    "long escapes": quoted("\x1b", "'"),
+}
+# A leaf of one kind of character.
+LONG_LEAVES = {
+    "a long word": None,
+    "a long text": "a",
+    "a long text of apostrophes": "'",
+    "a text of quotation marks": '"',
+    "a text of short escapes": "\n\0",
+    "a text of long escapes": "\x1b",
+    "a text of two bytes each": "\u00e9",
+    "a text of three bytes each": "\u20ac",
+    "a text of four bytes each": "\U0001f980",
+    "a text of all kinds": "ab\u00e9\n\u20ac\x1b",
+}
+
+
+def listed(values):
+    return Block("list", "", [(None, value) for value in values])
+
+
+def placed(place, document):
+    """A block that has the document in this place."""
+    if place == "key":
+        return Block("map", "", [(document, "v")])
+    if place == "value":
+        return Block("map", "", [("k", document)])
+    if place == "struct":
+        return Block("struct", "S", [("f", document)])
+    if place in ("tuple", "unnamed"):
+        return Block("tuple", "N" if place == "tuple" else "", [(None, document)])
+    return Block(place, "", [(None, document)])
+
+
+def wide(place, value, size):
+    """A block with the value in this place in each entry."""
+    block = placed(place, value)
+    count = max(size // len(plain(block)), 2)
+    if place == "struct":
+        return Block("struct", "S", [("f%d" % number, value) for number in range(count)])
+    return Block(block.kind, block.name, block.entries * count)
+
+
+def long_leaf(characters, size):
+    if characters is None:
+        return "x" * size
+    return quoted(characters * (size // (len(quoted(characters).encode()) - 2)))
+
+
+def deep(place, size):
+    """A chain with a leaf in it. Most of the text is the leaf, or in a pretty text the indentation."""
+    document = "x" * (size // 2)
+    for _ in range(min(size // 100, 250)):
+        document = placed(place, document)
+    return document
+
+
+def deep_and_wide(place, size):
+    """A chain with leaves before and after each block."""
+    document = "x"
+    depth = 20
+    for _ in range(depth):
+        block = placed(place, document)
+        leaves = placed(place, "x").entries * (size // depth // 16)
+        document = Block(block.kind, block.name, leaves + block.entries + leaves)
+    return document
+
+
+def halved(depth):
+    """A list of two lists, each of two lists, and so on."""
+    document = "x"
+    for _ in range(depth):
+        document = listed([document, document])
+    return document
+
+
+def ordered_map(size):
+    """A map whose keys ascend."""
+    return Block("map", "", [(quoted("%06d" % number), Block("tuple", "Some", [(None, "7")])) for number in range(size // 19)])
+
+
+def named(size):
+    """Structs and tuples with long names, and fields with long names."""
+    fields = [("f" * (size // 16) + str(number), "x") for number in range(8)]
+    return listed([Block("struct", "S" * (size // 4), fields), Block("tuple", "T" * (size // 4), [(None, "x")])])
+
+
+def repeated(document, size):
+    """A list of as many of these as are of this size."""
+    return listed([document] * (size // (len(plain(document).encode()) + 2)))
+
+
+def documents():
+    """Each shape by its name, with a call that makes a document of a size."""
+    shapes = {name: lambda size, characters=characters: long_leaf(characters, size) for name, characters in LONG_LEAVES.items()}
+    for name, leaf in LEAVES.items():
+        shapes["a wide list of " + name] = lambda size, leaf=leaf: repeated(leaf, size)
+    for kind in ("list", "map"):
+        shapes["a wide list of an empty " + kind] = lambda size, kind=kind: repeated(Block(kind, "", []), size)
+    for place in PLACES:
+        shapes["a wide " + place] = lambda size, place=place: wide(place, "x", size)
+        shapes["a wide list of a %s each" % place] = lambda size, place=place: repeated(placed(place, "x"), size)
+        shapes["a deep " + place] = lambda size, place=place: deep(place, size)
+        shapes["a deep and wide " + place] = lambda size, place=place: deep_and_wide(place, size)
+    shapes["lists of two"] = lambda size: halved(size.bit_length() - 4)
+    shapes["a wide list of trees"] = lambda size: repeated(TREE, size)
+    shapes["a map of keys in order"] = ordered_map
+    shapes["a set of numbers in order"] = lambda size: Block("set", "", [(None, str(number)) for number in range(size // 6)])
+    shapes["long names"] = named
+    return shapes
+
+
+def no_texts():
+    """Texts of no document, in the same way. They are wrong at the end or at the beginning."""
+    return {
+        "opening brackets": lambda size: "[" * size,
+        "spaces": lambda size: " " * size,
+        "line feeds": lambda size: "\n" * size,
+        "an open quote": lambda size: '"' + "a" * size,
+        "an open quote with escapes": lambda size: '"' + '\\"' * (size // 2),
+        "quotes in a row": lambda size: '"a"' * (size // 3),
+        "an open list": lambda size: "[" + ", ".join("x" * (size // 3)),
+        "an open map": lambda size: "{" + ", ".join(["k: v"] * (size // 6)),
+        "an open pretty list": lambda size: "[\n" + "    x,\n" * (size // 7),
+        "a list and a rest": lambda size: "[" + "x, " * (size // 3) + "x]]",
+        "a word and a byte that is no text": lambda size: "x" * size + "\x7f",
+    }
