@@ -2,6 +2,7 @@
 import itertools
 import random
 
+import pieces
 import values
 from model import DEEPEST, Block, plain, pretty, quoted
 
@@ -197,6 +198,7 @@ def beginnings():
     """Texts that come first with every seed: each shape at each limit."""
     maker = Maker(0)
     yield from (b"", b"\n", b"()", b"[]", b"{}", b'""', b"''", b"x\n")
+    yield from pieces.beginnings()
     for document in itertools.chain(values.beginnings(), (values.made(maker.random) for _ in range(150))):
         yield plain(document).encode()
         yield pretty(document).encode()

@@ -111,8 +111,12 @@ def spelled(character, quote):
     return character
 
 
+# How each ASCII character is written between these quotes. Every other character is written as it is.
+SPELLED = {quote: {code: spelled(chr(code), quote) for code in range(128)} for quote in "\"'"}
+
+
 def quoted(text, quote='"'):
-    return quote + "".join(spelled(character, quote) for character in text) + quote
+    return quote + text.translate(SPELLED[quote]) + quote
 
 
 WORD = re.compile(r"[A-Za-z0-9_-]+")

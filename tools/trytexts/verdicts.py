@@ -1,14 +1,11 @@
 """The lines that the programs should print: of each text all that the calls say of it, and what ufmt_conv writes."""
-import zlib
-
+import pieces
 import values
 from model import DEEPEST, WORD, PlainReader, PrettyReader, depth_of, events, leaf_at, parts, plain, pretty, quoted
 
 
 def digest(text):
-    text = text.encode()
-    adler = zlib.adler32(text)
-    return "%d %d %d" % (len(text), adler >> 16, adler & 0xFFFF)
+    return pieces.digest(text.encode())
 
 
 def joined(add, document):
@@ -20,12 +17,16 @@ def joined(add, document):
 def half(document, converted):
     if document is None:
         return "no text"
-    return "events %s, converted %s, parts %s, in a list %s, types [%s]" % (
+    is_pretty = converted is plain
+    letters = values.letters(document)
+    return "events %s, converted %s, parts %s, in a list %s, types [%s] in pieces %s, %s" % (
         digest(joined(events, document)),
         digest(converted(document)),
         digest(joined(parts, document)),
         "yes" if depth_of(document) < DEEPEST else "no",
-        values.letters(document),
+        letters,
+        pieces.of_values(document, is_pretty, len(letters)),
+        pieces.of_text(document, is_pretty),
     )
 
 

@@ -8,6 +8,7 @@ use crate::fault::{Fault, agree};
 use crate::loose::Loosener;
 use crate::parsed;
 use crate::parts::Parts;
+use crate::pieces::{self, TextPieces};
 use std::alloc::{AllocError, Global};
 use ufmt::{Full, uWrite};
 use ufmt_doc::doc::{Doc, same_text};
@@ -38,7 +39,8 @@ struct Half {
     // Whether a list of the document is a token document: the document is less than 255 deep.
     is_token_in_a_list: bool,
     // The letters of the types that have a value with the text.
-    types: String,
+    types: parsed::Letters,
+    pieces: TextPieces,
 }
 
 impl Half {
@@ -46,10 +48,11 @@ impl Half {
         let events = self.events.words(alloc)?;
         let converted = self.converted.words(alloc)?;
         let parts = self.parts.words(alloc)?;
+        let types = self.types.words(alloc)?;
+        let pieces = self.pieces.words(alloc)?;
         let in_a_list = if self.is_token_in_a_list { "yes" } else { "no" };
         format!(in alloc;
-            "events {events}, converted {converted}, parts {parts}, in a list {in_a_list}, types [{}]",
-            self.types
+            "events {events}, converted {converted}, parts {parts}, in a list {in_a_list}, types {types}, pieces {pieces}"
         )
     }
 }
@@ -71,6 +74,7 @@ fn of_text(calls: Calls<'_>, doc: &Doc) -> Result<Half, Fault> {
         parts: Digest::of(&parts),
         is_token_in_a_list: is_token_in_a_list(calls, doc)?,
         types: parsed::letters(calls, doc)?,
+        pieces: TextPieces::of(calls, doc)?,
     })
 }
 
@@ -139,6 +143,8 @@ fn is_normal_of_loose(calls: Calls<'_>, doc: &Doc, parts: &str) -> Result<(), Fa
     };
     loosener.loosen(&mut loose);
     prints(calls, &loose)?;
+    let is_alike = pieces::printed(calls, &loose) == pieces::printed(calls, doc);
+    agree(is_alike, "pieces of a document that isn't in normal form")?;
     if !doc.is_token() || !loose.is_token() {
         return Err(Fault::Other("is_token"));
     }

@@ -17,6 +17,7 @@ mod leaf;
 mod loose;
 mod parsed;
 mod parts;
+mod pieces;
 
 use calls::Calls;
 use std::io::{self, Read, Write};

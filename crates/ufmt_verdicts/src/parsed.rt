@@ -1,6 +1,8 @@
 //! Which types have a value with the text.
 use crate::calls::Calls;
 use crate::fault::{Fault, agree};
+use crate::pieces::Pieces;
+use std::alloc::{AllocError, Global};
 use std::collections::{BTreeMap, BTreeSet};
 use std::num::NonZeroU16;
 use ufmt_doc::doc::Doc;
@@ -9,15 +11,32 @@ use ufmt_parse::uParse;
 use ufmt_parse_tests::node::Node;
 use ufmt_parse_tests::tree::Tree;
 
+/// The letters of the types that have a value with the text, and the pieces of those values.
+#[derive(Drop)]
+pub struct Letters {
+    text: String,
+    pieces: Pieces,
+}
+
+impl Letters {
+    pub fn words(&self, alloc: Global) -> Result<String, AllocError> {
+        let pieces = self.pieces.digest.words(alloc)?;
+        format!(in alloc; "[{}] in pieces {pieces}", self.text)
+    }
+}
+
 /// Returns the letters of the types that have a value with the text, which was read as this document.
-pub fn letters(calls: Calls<'_>, doc: &Doc) -> Result<String, Fault> {
-    let mut letters = String::new(calls.alloc);
+pub fn letters(calls: Calls<'_>, doc: &Doc) -> Result<Letters, Fault> {
+    let mut letters = Letters {
+        text: String::new(calls.alloc),
+        pieces: Pieces::new(),
+    };
     of_leaves(calls, doc, &mut letters)?;
     of_blocks(calls, doc, &mut letters)?;
     Ok(letters)
 }
 
-fn of_leaves(calls: Calls<'_>, doc: &Doc, letters: &mut String) -> Result<(), Fault> {
+fn of_leaves(calls: Calls<'_>, doc: &Doc, letters: &mut Letters) -> Result<(), Fault> {
     add::<u8>(calls, doc, letters, 'a')?;
     add::<i64>(calls, doc, letters, 'b')?;
     add::<i128>(calls, doc, letters, 'c')?;
@@ -28,7 +47,7 @@ fn of_leaves(calls: Calls<'_>, doc: &Doc, letters: &mut String) -> Result<(), Fa
     add::<()>(calls, doc, letters, 'h')
 }
 
-fn of_blocks(calls: Calls<'_>, doc: &Doc, letters: &mut String) -> Result<(), Fault> {
+fn of_blocks(calls: Calls<'_>, doc: &Doc, letters: &mut Letters) -> Result<(), Fault> {
     add::<Option<Box<i8>>>(calls, doc, letters, 'i')?;
     add::<Result<String, char>>(calls, doc, letters, 'j')?;
     add::<Vec<u64>>(calls, doc, letters, 'k')?;
@@ -46,7 +65,7 @@ fn of_blocks(calls: Calls<'_>, doc: &Doc, letters: &mut String) -> Result<(), Fa
 fn add<T: uParse>(
     calls: Calls<'_>,
     doc: &Doc,
-    letters: &mut String,
+    letters: &mut Letters,
     letter: char,
 ) -> Result<(), Fault> {
     let Some(value) = T::from_doc(calls.alloc, doc)? else {
@@ -57,7 +76,8 @@ fn add<T: uParse>(
     let again = calls.parse::<T>()?;
     let printed = calls.print(&again)?;
     agree(printed.as_bytes() == calls.text, "parse")?;
-    letters.push(letter)?;
+    calls.print_to(&mut letters.pieces, &value);
+    letters.text.push(letter)?;
     Ok(())
 }
 
