@@ -1,5 +1,6 @@
 """The lines that the programs should print: of each text all that the calls say of it, and what ufmt_conv writes."""
 import pieces
+import requests
 import values
 from model import DEEPEST, WORD, PlainReader, PrettyReader, depth_of, events, leaf_at, parts, plain, pretty, quoted
 
@@ -43,6 +44,8 @@ def leaf_verdict(text):
 
 def verdict(data):
     """The line that the program prints of these bytes."""
+    if data.startswith(requests.BEGINNING):
+        return requests.verdict(data)
     try:
         text = data.decode()
     except UnicodeDecodeError:
