@@ -3,6 +3,7 @@ import math
 import random
 
 import characters
+import pieces
 import values
 from coverage import powers
 from covering import Covering
@@ -250,6 +251,7 @@ def beginnings(seed):
     maker = Maker(seed)
     covering = Covering(maker)
     yield from (b"", b"\n", b"()", b"[]", b"{}", b'""', b"''", b"x\n")
+    yield from pieces.beginnings()
     yield from in_both_modes(values.beginnings(maker.random))
     yield from in_both_modes(too_deep(maker))
     yield from in_both_modes(covering.documents())

@@ -111,12 +111,12 @@ def spelled(character, quote):
     return character
 
 
-# The characters that are spelled in another way than by themselves, at least between one of the quotes.
-SPELLED = re.compile(r"""[\x00-\x1f\x7f\\"']""")
+# How each ASCII character is written between these quotes. Every other character is written as it is.
+SPELLED = {quote: {code: spelled(chr(code), quote) for code in range(128)} for quote in "\"'"}
 
 
 def quoted(text, quote='"'):
-    return quote + SPELLED.sub(lambda found: spelled(found[0], quote), text) + quote
+    return quote + text.translate(SPELLED[quote]) + quote
 
 
 WORD = re.compile(r"[A-Za-z0-9_-]+")

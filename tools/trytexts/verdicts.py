@@ -1,16 +1,14 @@
 """The lines that the programs should print: of each text all that the calls say of it, and what ufmt_conv writes."""
-import zlib
-
 import coverage
+import pieces
+import requests
 import values
 from model import DEEPEST, WORD, PlainReader, PrettyReader, depth_of, events, leaf_at, parts, plain, pretty, quoted
 from shown import shown
 
 
 def digest(text):
-    text = text.encode()
-    adler = zlib.adler32(text)
-    return "%d %d %d" % (len(text), adler >> 16, adler & 0xFFFF)
+    return pieces.digest(text.encode())
 
 
 def joined(add, document):
@@ -22,14 +20,18 @@ def joined(add, document):
 def half(document, converted):
     if document is None:
         return "no text"
-    return "events %s, converted %s, parts %s, shown %s, fields %s, in a list %s, types [%s]" % (
+    is_pretty = converted is plain
+    letters = values.letters(document)
+    return "events %s, converted %s, parts %s, shown %s, fields %s, in a list %s, types [%s] in pieces %s, %s" % (
         digest(joined(events, document)),
         digest(converted(document)),
         digest(joined(parts, document)),
         digest(joined(shown, document)),
         digest(values.fields(document)),
         "yes" if depth_of(document) < DEEPEST else "no",
-        values.letters(document),
+        letters,
+        pieces.of_values(document, is_pretty, len(letters)),
+        pieces.of_text(document, is_pretty),
     )
 
 
@@ -46,6 +48,8 @@ def leaf_verdict(text):
 
 def verdict(data):
     """The line that the program prints of these bytes, and the cells of the table of coverage that they fill."""
+    if data.startswith(requests.BEGINNING):
+        return requests.verdict(data), set()
     try:
         text = data.decode()
     except UnicodeDecodeError:

@@ -1,4 +1,5 @@
 //! The calls on the texts of one mode.
+use crate::pieces::Pieces;
 use std::alloc::{AllocError, Global};
 use ufmt::layout::Mode;
 use ufmt::{Full, uDebug, uWrite};
@@ -92,6 +93,14 @@ impl Calls<'_> {
             Mode::Plain => convert::plain_text(self.alloc, value),
             Mode::Pretty => convert::pretty_text(self.alloc, value),
         }
+    }
+
+    /// Prints a value to a writer of pieces, which never fails.
+    pub fn print_to<T: uDebug>(&self, writer: &mut Pieces, value: &T) {
+        let _ = match self.mode {
+            Mode::Plain => ufmt::write_debug(writer, value),
+            Mode::Pretty => ufmt::write_pretty(writer, value),
+        };
     }
 
     pub fn print_into(&self, buffer: &mut [u8], doc: &Doc) -> Result<usize, Full> {

@@ -7,6 +7,7 @@ use crate::events::Events;
 use crate::fault::{Fault, agree};
 use crate::loose::Loosener;
 use crate::parts::Parts;
+use crate::pieces::{self, TextPieces};
 use crate::{fields, parsed, shapes};
 use std::alloc::{AllocError, Global};
 use ufmt::{Full, uWrite};
@@ -41,7 +42,8 @@ struct Half {
     // Whether a list of the document is a token document: the document is less than 255 deep.
     is_token_in_a_list: bool,
     // The letters of the types that have a value with the text.
-    types: String,
+    types: parsed::Letters,
+    pieces: TextPieces,
 }
 
 impl Half {
@@ -51,10 +53,11 @@ impl Half {
         let parts = self.parts.words(alloc)?;
         let shown = self.shown.words(alloc)?;
         let fields = self.fields.words(alloc)?;
+        let types = self.types.words(alloc)?;
+        let pieces = self.pieces.words(alloc)?;
         let in_a_list = if self.is_token_in_a_list { "yes" } else { "no" };
         format!(in alloc;
-            "events {events}, converted {converted}, parts {parts}, shown {shown}, fields {fields}, in a list {in_a_list}, types [{}]",
-            self.types
+            "events {events}, converted {converted}, parts {parts}, shown {shown}, fields {fields}, in a list {in_a_list}, types {types}, pieces {pieces}"
         )
     }
 }
@@ -79,6 +82,7 @@ fn of_text(calls: Calls<'_>, doc: &Doc) -> Result<Half, Fault> {
         fields: Digest::of(&shapes::fields_of(calls.alloc, doc)?),
         is_token_in_a_list: is_token_in_a_list(calls, doc)?,
         types: parsed::letters(calls, doc)?,
+        pieces: TextPieces::of(calls, doc)?,
     })
 }
 
@@ -147,6 +151,8 @@ fn is_normal_of_loose(calls: Calls<'_>, doc: &Doc, parts: &str) -> Result<(), Fa
     };
     loosener.loosen(&mut loose);
     prints(calls, &loose)?;
+    let is_alike = pieces::printed(calls, &loose) == pieces::printed(calls, doc);
+    agree(is_alike, "pieces of a document that isn't in normal form")?;
     if !doc.is_token() || !loose.is_token() {
         return Err(Fault::Other("is_token"));
     }

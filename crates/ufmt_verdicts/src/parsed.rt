@@ -1,7 +1,9 @@
 //! Which types have a value with the text.
 use crate::calls::Calls;
 use crate::fault::{Fault, agree};
+use crate::pieces::Pieces;
 use crate::types::{Keyed, Leaves, Lists, Nested, NonZeros, Numbers, Tuples, Types};
+use std::alloc::{AllocError, Global};
 use ufmt_doc::doc::Doc;
 use ufmt_doc::plain_reader::ReadError;
 use ufmt_parse::uParse;
@@ -10,9 +12,26 @@ use ufmt_parse::uParse;
 // document, since that would take most of the time.
 const LONGEST_TEXT: usize = 200;
 
+/// The letters of the types that have a value with the text, and the pieces of those values.
+#[derive(Drop)]
+pub struct Letters {
+    text: String,
+    pieces: Pieces,
+}
+
+impl Letters {
+    pub fn words(&self, alloc: Global) -> Result<String, AllocError> {
+        let pieces = self.pieces.digest.words(alloc)?;
+        format!(in alloc; "[{}] in pieces {pieces}", self.text)
+    }
+}
+
 /// Returns the letters of the types that have a value with the text, which was read as this document.
-pub fn letters(calls: Calls<'_>, doc: &Doc) -> Result<String, Fault> {
-    let mut letters = String::new(calls.alloc);
+pub fn letters(calls: Calls<'_>, doc: &Doc) -> Result<Letters, Fault> {
+    let mut letters = Letters {
+        text: String::new(calls.alloc),
+        pieces: Pieces::new(),
+    };
     Numbers::add_all(calls, doc, "abcdefghijkl", &mut letters)?;
     NonZeros::add_all(calls, doc, "mnopqrstuv", &mut letters)?;
     Leaves::add_all(calls, doc, "ABCDEFGHIJ", &mut letters)?;
@@ -27,7 +46,7 @@ pub fn letters(calls: Calls<'_>, doc: &Doc) -> Result<String, Fault> {
 pub fn add<T: uParse>(
     calls: Calls<'_>,
     doc: &Doc,
-    letters: &mut String,
+    letters: &mut Letters,
     letter: char,
 ) -> Result<(), Fault> {
     let Some(value) = T::from_doc(calls.alloc, doc)? else {
@@ -38,7 +57,8 @@ pub fn add<T: uParse>(
     let again = calls.parse::<T>()?;
     let printed = calls.print(&again)?;
     agree(printed.as_bytes() == calls.text, "parse")?;
-    letters.push(letter)?;
+    calls.print_to(&mut letters.pieces, &value);
+    letters.text.push(letter)?;
     Ok(())
 }
 

@@ -1,0 +1,84 @@
+//! A writer that notes its pieces: the bytes of each, and whether it came as a text or as a character.
+ghost use Rattle.std.specs.Prelude.{[], ⊤};
+
+use crate::calls::Calls;
+use crate::digest::Digest;
+use crate::fault::{Fault, agree};
+use std::alloc::{AllocError, Global};
+use std::convert::Infallible;
+use ufmt::uWrite;
+use ufmt_doc::doc::Doc;
+
+// Ends each piece. No text has this byte.
+const END: u8 = 0xff;
+
+/// A digest of the pieces so far. A piece is `t` if it came by `write_str`, or `c` if it came by
+/// `write_char`; then its bytes and `END`.
+#[derive(Drop)]
+pub struct Pieces {
+    pub digest: Digest,
+}
+
+impl Pieces {
+    pub fn new() -> Self {
+        Pieces {
+            digest: Digest::of(""),
+        }
+    }
+
+    fn note(&mut self, sign: u8, bytes: &[u8]) {
+        self.digest.add(&[sign]);
+        self.digest.add(bytes);
+        self.digest.add(&[END]);
+    }
+}
+
+impl uWrite for Pieces {
+    type Error = Infallible;
+
+    ghost seen = { record { told = λ _. ⊥; text = λ _. []; room = λ _. 0; failed = λ _. ⊤; identity = λ _. []; store = λ _. [] } };
+
+    fn write_str(&mut self, s: &str) -> Result<(), Infallible> {
+        self.note(b't', s.as_bytes());
+        Ok(())
+    }
+
+    fn write_char(&mut self, c: char) -> Result<(), Infallible> {
+        let mut bytes = [0u8; 4];
+        self.note(b'c', c.encode_utf8(&mut bytes).as_bytes());
+        Ok(())
+    }
+}
+
+/// The pieces in which a document is printed, and those in which its text is converted.
+#[derive(Clone, Copy)]
+pub struct TextPieces {
+    printed: Digest,
+    converted: Digest,
+}
+
+impl TextPieces {
+    /// Prints the document that was read, and converts its text.
+    pub fn of(calls: Calls<'_>, doc: &Doc) -> Result<TextPieces, Fault> {
+        let mut pieces = Pieces::new();
+        let answer = calls.convert_to(&mut pieces);
+        agree(answer.is_ok(), "conversion to a writer of pieces")?;
+        Ok(TextPieces {
+            printed: printed(calls, doc),
+            converted: pieces.digest,
+        })
+    }
+
+    pub fn words(&self, alloc: Global) -> Result<String, AllocError> {
+        let printed = self.printed.words(alloc)?;
+        let converted = self.converted.words(alloc)?;
+        format!(in alloc; "printed {printed}, converted {converted}")
+    }
+}
+
+/// The pieces in which a document is printed.
+pub fn printed(calls: Calls<'_>, doc: &Doc) -> Digest {
+    let mut pieces = Pieces::new();
+    calls.print_to(&mut pieces, doc);
+    pieces.digest
+}

@@ -1,0 +1,121 @@
+//! Values that no text makes: columns, hexadecimal texts, dumps, lines, and values of std's types. Each is printed to a
+//! writer that notes pieces.
+//!
+//! A request begins with `BEGINNING`. Its first line has the numbers of the options, and its payload follows: a text, or
+//! bytes for a dump. An offset past a `u32` is none.
+ghost use Rattle.std.specs.Prelude.{◌<◌};
+
+mod lines;
+mod names;
+mod numbers;
+mod values;
+
+use crate::digest::Digest;
+use crate::pieces::Pieces;
+use std::alloc::{AllocError, Global};
+use ufmt::{Align, Column, HexDump, HexOptions, write_hex_dump};
+
+const BEGINNING: &[u8] = b"\0pieces ";
+
+/// The options, and a payload.
+#[derive(Clone, Copy)]
+pub struct Request<'a> {
+    alloc: Global,
+    column: Column,
+    hex: HexOptions,
+    dump: HexDump,
+    payload: &'a [u8],
+    ghost has_ascii_pad: { hex.pad_char < 128 },
+}
+
+/// Returns the digests of what a request prints, in words, or `None` if the text is no request.
+pub fn verdict(alloc: Global, text: &[u8]) -> Result<Option<String>, AllocError> {
+    let Some(request) = Request::from_text(alloc, text) else {
+        return Ok(None);
+    };
+    let dump = request.dump_pieces().words(alloc)?;
+    let Ok(payload) = str::from_utf8(request.payload) else {
+        return format!(in alloc; "request: dump {dump}\n").map(Some);
+    };
+    let lines = lines::pieces(&request, payload).words(alloc)?;
+    let names = names::pieces(payload).words(alloc)?;
+    let numbers = numbers::pieces(&request, payload).words(alloc)?;
+    let values = values::pieces(&request, payload)?.words(alloc)?;
+    let nested = values::nested_pieces(&request, payload)?.words(alloc)?;
+    format!(in alloc;
+        "request: dump {dump}, lines {lines}, names {names}, numbers {numbers}, values {values}, nested {nested}\n"
+    ).map(Some)
+}
+
+impl<'a> Request<'a> {
+    fn from_text(alloc: Global, text: &'a [u8]) -> Option<Request<'a>> {
+        let rest = text.strip_prefix(BEGINNING)?;
+        let end = rest.iter().position(|byte| *byte == b'\n')?;
+        let (line, payload) = rest.split_at_checked(end)?;
+        Request::with_numbers(alloc, numbers_of(line)?, payload.get(1..)?)
+    }
+
+    fn with_numbers(alloc: Global, numbers: [usize; 11], payload: &'a [u8]) -> Option<Request<'a>> {
+        let [
+            width,
+            align,
+            fill,
+            upper_case,
+            pad,
+            pad_length,
+            prefix,
+            per_row,
+            group,
+            offset,
+            ascii,
+        ] = numbers;
+        let hex = HexOptions {
+            upper_case: upper_case == 1,
+            pad_char: u8::try_from(pad).ok()?,
+            pad_length,
+            ox_prefix: prefix == 1,
+        };
+        if !hex.has_ascii_pad() {
+            return None;
+        }
+        Some(Request {
+            alloc,
+            column: column(width, align, char::from_u32(u32::try_from(fill).ok()?)?),
+            hex,
+            dump: HexDump {
+                per_row,
+                group,
+                offset: u32::try_from(offset).ok(),
+                ascii: ascii == 1,
+            },
+            payload,
+        })
+    }
+
+    fn dump_pieces(&self) -> Digest {
+        let mut pieces = Pieces::new();
+        let _ = write_hex_dump(&mut pieces, self.payload, &self.dump);
+        pieces.digest
+    }
+}
+
+fn column(width: usize, align: usize, fill: char) -> Column {
+    Column {
+        width,
+        align: match align {
+            0 => Align::Left,
+            1 => Align::Center,
+            _ => Align::Right,
+        },
+        fill,
+    }
+}
+
+fn numbers_of(line: &[u8]) -> Option<[usize; 11]> {
+    let mut words = str::from_utf8(line).ok()?.split(' ');
+    let mut numbers = [0; 11];
+    for number in numbers.iter_mut() {
+        *number = words.next()?.parse().ok()?;
+    }
+    Some(numbers)
+}

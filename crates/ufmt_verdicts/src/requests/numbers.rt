@@ -1,0 +1,71 @@
+//! The payload as a number of each type that has it, by each trait that prints it.
+use super::Request;
+use crate::digest::Digest;
+use crate::pieces::Pieces;
+use std::num::{
+    NonZeroI8, NonZeroI16, NonZeroI32, NonZeroI64, NonZeroI128, NonZeroIsize, NonZeroU8,
+    NonZeroU16, NonZeroU32, NonZeroU64, NonZeroU128, NonZeroUsize, Saturating, Wrapping,
+};
+use ufmt::{
+    Formatter, pieces, uDebug, uDisplay, uDisplayHex, write_debug, write_display, write_line,
+    write_pretty,
+};
+
+// The number of each type, and that of the type without 0.
+macro_rules! of_types {
+    ($printer:ident, $text:ident; $($number:ident $nonzero:ident)*) => {{
+        $(
+            $printer.number($text.parse::<$number>().ok());
+            $printer.number($text.parse::<$number>().ok().and_then($nonzero::new));
+        )*
+    }};
+}
+
+/// Writes the number in decimal and in hexadecimal digits. A text that is no number is written as the payload of a
+/// padded text.
+pub fn pieces(request: &Request<'_>, text: &str) -> Digest {
+    let mut printer = Printer {
+        request: *request,
+        pieces: Pieces::new(),
+    };
+    printer.padded(text);
+    printer.unsigned(text);
+    printer.signed(text);
+    printer.number(text.parse::<u32>().ok().map(Wrapping));
+    printer.number(text.parse::<i64>().ok().map(Saturating));
+    printer.pieces.digest
+}
+
+#[derive(Drop)]
+struct Printer<'a> {
+    request: Request<'a>,
+    pieces: Pieces,
+}
+
+impl Printer<'_> {
+    fn padded(&mut self, text: &str) {
+        let mut f = Formatter::new(&mut self.pieces);
+        let _ = self.request.hex.with_stuff(&mut f, text);
+    }
+
+    fn unsigned(&mut self, text: &str) {
+        of_types!(self, text;
+            u8 NonZeroU8 u16 NonZeroU16 u32 NonZeroU32 u64 NonZeroU64 u128 NonZeroU128 usize NonZeroUsize)
+    }
+
+    fn signed(&mut self, text: &str) {
+        of_types!(self, text;
+            i8 NonZeroI8 i16 NonZeroI16 i32 NonZeroI32 i64 NonZeroI64 i128 NonZeroI128 isize NonZeroIsize)
+    }
+
+    fn number<T: uDebug + uDisplay + uDisplayHex + Drop>(&mut self, number: Option<T>) {
+        let Some(number) = number else {
+            return;
+        };
+        let _ = write_debug(&mut self.pieces, &number);
+        let _ = write_pretty(&mut self.pieces, &number);
+        let _ = write_display(&mut self.pieces, &number);
+        let Request { hex, .. } = self.request;
+        let _ = write_line(&mut self.pieces, &pieces!(hex number with hex));
+    }
+}

@@ -1,0 +1,221 @@
+"""Which pieces a writer is passed, and by which call: the model's rules, and texts where a bound of pieces could be.
+
+A piece is noted as `t` if it should come by `write_str`, or as `c` if it should come by `write_char`; then its bytes, and a
+byte that no text has.
+
+A document is printed in these pieces: the bracket or the name with which a block begins, even if the name is empty; with
+the first entry ` {` in a struct and `(` in a tuple; before the first entry a line feed in pretty mode, and a space before
+the first field in plain mode; `, ` between entries in plain mode; four spaces for each level of indentation; a field's
+name; `: `; `,` and a line feed after an entry in pretty mode; before a closing bracket the space or the comma that plain
+mode has there; and the bracket. A leaf is one piece. Only a name or a leaf can be an empty piece.
+
+A value with a text or a character in it has these pieces for it: a quote, each escape, each stretch without escapes, and
+a quote. A character without an escape comes by `write_char`. All else comes by `write_str`.
+
+A conversion writes each event of a scan in at most two pieces, which are not empty: a leaf; `[]` or `{}`; a block's name,
+and what opens the block, with the whole indentation of its first entry; a field's name, and `: `; `: ` after a key; what
+separates two entries, with the whole indentation of the second; and what closes a block, which in pretty mode is `,` with
+a line feed and the whole indentation, and then the bracket.
+"""
+import functools
+import re
+import zlib
+
+from model import Block, plain, pretty, quoted
+
+END = b"\xff"
+INDENT = "    "
+OPENING = {"list": "[", "set": "{", "map": "{"}
+CLOSING = {"list": "]", "set": "}", "map": "}", "struct": "}", "tuple": ")"}
+# What comes before the first entry of a block, in plain mode and in pretty mode.
+START = {"struct": ((" {", " "), (" {", "\n")), "tuple": (("(",), ("(", "\n"))}
+OTHER_START = ((), ("\n",))
+# What opens a block in a conversion, after its name.
+CONVERTED_OPENING = {"list": "[", "set": "{", "map": "{", "struct": " {", "tuple": "("}
+
+
+def digest(data):
+    adler = zlib.adler32(data)
+    return "%d %d %d" % (len(data), adler >> 16, adler & 0xFFFF)
+
+
+def by_text(*pieces):
+    """Pieces that come by `write_str`."""
+    return b"".join(b"t" + piece.encode() + END for piece in pieces)
+
+
+def by_character(*pieces):
+    """Pieces that come by `write_char`."""
+    return b"".join(b"c" + piece.encode() + END for piece in pieces)
+
+
+def indents(depth):
+    """A piece for each level."""
+    return by_text(INDENT) * depth
+
+
+# ---- Printing.
+
+ESCAPES = re.compile(r"(\\u\{[0-9a-f]+\}|\\.)")
+
+
+@functools.lru_cache(maxsize=64)
+def of_value(leaf):
+    """The pieces of a value's leaf: of a text or a character in quotes, or of a word."""
+    quote = leaf[0]
+    if quote not in "\"'":
+        return by_text(leaf)
+    stretches = [piece for piece in ESCAPES.split(leaf[1:-1]) if piece]
+    if quote == "'" and not stretches[0].startswith("\\"):
+        return by_text(quote) + by_character(*stretches) + by_text(quote)
+    return by_text(quote, *stretches, quote)
+
+
+def printed(document, is_pretty, of_leaf=by_text, depth=0):
+    """The pieces in which a document is printed. `of_leaf` has those of its leaves."""
+    if isinstance(document, str):
+        return of_leaf(document)
+    kind, name, entries = document
+    out = [by_text(OPENING.get(kind, name))]
+    inside = depth + 1 if is_pretty else 0
+    for number, (before, value) in enumerate(entries):
+        if number == 0:
+            out.append(by_text(*START.get(kind, OTHER_START)[is_pretty]))
+        elif not is_pretty:
+            out.append(by_text(", "))
+        out.append(indents(inside))
+        if before is not None:
+            out.append(by_text(before) if kind == "struct" else printed(before, is_pretty, of_leaf, inside))
+            out.append(by_text(": "))
+        out.append(printed(value, is_pretty, of_leaf, inside))
+        if is_pretty:
+            out.append(by_text(",\n"))
+    out.append(printed_ending(document, is_pretty, depth))
+    return b"".join(out)
+
+
+def printed_ending(document, is_pretty, depth):
+    kind, name, entries = document
+    if not entries:
+        return by_text(CLOSING[kind]) if kind in OPENING else b""
+    if is_pretty:
+        return indents(depth) + by_text(CLOSING[kind])
+    if kind == "struct":
+        return by_text(" ", "}")
+    is_single = kind == "tuple" and name == "" and len(entries) == 1
+    return by_text(",", ")") if is_single else by_text(CLOSING[kind])
+
+
+# ---- Conversions.
+
+
+def converted(document, is_pretty, depth=0):
+    """The pieces in which a conversion to this mode writes a document."""
+    if isinstance(document, str):
+        return by_text(document)
+    kind, name, entries = document
+    if not entries:
+        return by_text(OPENING[kind] + CLOSING[kind])
+    inside = depth + 1 if is_pretty else 0
+    line = "\n" + INDENT * inside
+    opening = CONVERTED_OPENING[kind] + (line if is_pretty else " " * (kind == "struct"))
+    separator = by_text("," + (line if is_pretty else " "))
+    out = [by_text(name, opening) if name else by_text(opening)]
+    for number, (before, value) in enumerate(entries):
+        if number > 0:
+            out.append(separator)
+        if before is not None:
+            out.append(by_text(before) if kind == "struct" else converted(before, is_pretty, inside))
+            out.append(by_text(": "))
+        out.append(converted(value, is_pretty, inside))
+    out.append(converted_ending(document, is_pretty, depth))
+    return b"".join(out)
+
+
+def converted_ending(document, is_pretty, depth):
+    kind, name, entries = document
+    if is_pretty:
+        return by_text(",\n" + INDENT * depth, CLOSING[kind])
+    is_single = kind == "tuple" and name == "" and len(entries) == 1
+    return by_text(" " * (kind == "struct") + "," * is_single + CLOSING[kind])
+
+
+# ---- What a half of a line says.
+
+
+def of_text(document, is_pretty):
+    """The pieces of a text that was read as this document in this mode."""
+    return "pieces printed %s, converted %s" % (digest(printed(document, is_pretty)), digest(converted(document, not is_pretty)))
+
+
+def of_values(document, is_pretty, count):
+    """The pieces of so many values with this document."""
+    return digest(printed(document, is_pretty, of_value) * count if count else b"")
+
+
+# ---- Texts with names, leaves and blocks at each bound.
+
+LENGTHS = (1, 2, 3, 4, 7, 8, 9, 15, 16, 17, 31, 32, 33, 63, 64, 65, 127, 128, 129, 255, 256, 257, 999, 1000, 1001, 4095, 4096, 4097, 5000)
+LONGEST = 100_000
+# Characters of one to four bytes, and some with escapes of two to six bytes.
+CHARACTERS = "a\u00e9\u20ac\U0001f980\0\"'\x01\x1b"
+
+
+def block(kind, name, values):
+    """A block of this kind, of which all names are this one."""
+    before = {"map": "k", "struct": name}.get(kind)
+    return Block(kind, name if kind in ("struct", "tuple") else "", [(before, value) for value in values])
+
+
+def named(length):
+    """Blocks in which a name or a leaf has this length."""
+    name = "n" * length
+    yield Block("struct", name, [("a", "x")])
+    yield Block("struct", "S", [("a", "x"), (name, "y"), ("b", "z")])
+    yield Block("tuple", name, [(None, "x"), (None, "y"), (None, "z")])
+    yield Block("map", "", [(name, "x"), ("k", name)])
+    for kind in ("list", "set", "struct", "tuple"):
+        yield block(kind, "T", ["x", quoted(name), name])
+
+
+def stretches(length):
+    """Texts in quotes, with stretches of this length between escapes."""
+    for character in CHARACTERS:
+        yield quoted(("b" * length + character) * 3)
+        yield quoted(character * length + "\n" + character)
+
+
+def wide(width):
+    """Blocks of each kind with so many entries."""
+    for kind in ("list", "set", "map", "struct", "tuple"):
+        yield block(kind, "T", ["x"] * width)
+    yield Block("tuple", "", [(None, "x")] * width)
+
+
+def documents():
+    for length in (*LENGTHS, LONGEST):
+        yield from named(length)
+    for length in LENGTHS:
+        yield from stretches(length)
+    for width in range(1, 18):
+        yield from wide(width)
+
+
+def deep(depth):
+    """A block of each kind at this depth, in lists."""
+    for kind in ("list", "set", "map", "struct", "tuple"):
+        document = Block("list", "", [(None, block(kind, "T", ["x", Block("list", "", []), "y"]))])
+        for _ in range(depth - 1):
+            document = Block("list", "", [(None, document)])
+        yield document
+
+
+def beginnings():
+    """Texts that come first with every seed."""
+    for document in documents():
+        yield plain(document).encode()
+        yield pretty(document).encode()
+    for depth in (1, 2, 3, 5, 16, 31, 32, 33, 43, 44, 63, 64, 65, 127, 128, 129, 200, 253, 254):
+        for document in deep(depth):
+            yield plain(document).encode()
+            yield pretty(document).encode()
