@@ -14,12 +14,12 @@ const LONGEST_TEXT: usize = 200;
 
 /// The letters of the types that have a value with the text, and the pieces of those values.
 #[derive(Drop)]
-pub struct Letters {
+pub struct TypeLetters {
     text: String,
     pieces: Pieces,
 }
 
-impl Letters {
+impl TypeLetters {
     pub fn words(&self, alloc: Global) -> Result<String, AllocError> {
         let pieces = self.pieces.digest.words(alloc)?;
         format!(in alloc; "[{}] in pieces {pieces}", self.text)
@@ -27,8 +27,8 @@ impl Letters {
 }
 
 /// Returns the letters of the types that have a value with the text, which was read as this document.
-pub fn letters(calls: Calls<'_>, doc: &Doc) -> Result<Letters, Fault> {
-    let mut letters = Letters {
+pub fn letters(calls: Calls<'_>, doc: &Doc) -> Result<TypeLetters, Fault> {
+    let mut letters = TypeLetters {
         text: String::new(calls.alloc),
         pieces: Pieces::new(),
     };
@@ -46,7 +46,7 @@ pub fn letters(calls: Calls<'_>, doc: &Doc) -> Result<Letters, Fault> {
 pub fn add<T: uParse>(
     calls: Calls<'_>,
     doc: &Doc,
-    letters: &mut Letters,
+    letters: &mut TypeLetters,
     letter: char,
 ) -> Result<(), Fault> {
     let Some(value) = T::from_doc(calls.alloc, doc)? else {

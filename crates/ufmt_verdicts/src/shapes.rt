@@ -43,55 +43,55 @@ fn note<T: uDebug + Drop>(alloc: Global, found: Option<T>, out: &mut String) -> 
 
 // Notes what this call returns of a struct with these fields. A number and a text in turn.
 macro_rules! named {
-    ($alloc:ident $doc:ident $out:ident $call:ident $($type:ident $name:literal)+) => {
+    ($alloc:ident $doc:ident $out:ident $call:ident($($type:ident $name:literal)+)) => {
         note($alloc, $call::<$($type),+>($alloc, $doc, "S", $($name),+)?.map(|found| (found, true)), $out)?
     };
 }
 
 // The same of a tuple.
 macro_rules! unnamed {
-    ($alloc:ident $doc:ident $out:ident $call:ident $($type:ident)+) => {
+    ($alloc:ident $doc:ident $out:ident $call:ident($($type:ident)+)) => {
         note($alloc, $call::<$($type),+>($alloc, $doc, "T")?.map(|found| (found, false)), $out)?
     };
 }
 
 fn note_structs(alloc: Global, doc: &Doc, out: &mut String) -> Result<(), Fault> {
-    named!(alloc doc out parse_struct_1 u8 "a");
-    named!(alloc doc out parse_struct_2 u8 "a" char "b");
-    named!(alloc doc out parse_struct_3 u8 "a" char "b" u8 "c");
-    named!(alloc doc out parse_struct_4 u8 "a" char "b" u8 "c" char "d");
-    named!(alloc doc out parse_struct_5 u8 "a" char "b" u8 "c" char "d" u8 "e");
-    named!(alloc doc out parse_struct_6 u8 "a" char "b" u8 "c" char "d" u8 "e" char "f");
-    named!(alloc doc out parse_struct_7 u8 "a" char "b" u8 "c" char "d" u8 "e" char "f" u8 "g");
+    named!(alloc doc out parse_struct_1(u8 "a"));
+    named!(alloc doc out parse_struct_2(u8 "a" char "b"));
+    named!(alloc doc out parse_struct_3(u8 "a" char "b" u8 "c"));
+    named!(alloc doc out parse_struct_4(u8 "a" char "b" u8 "c" char "d"));
+    named!(alloc doc out parse_struct_5(u8 "a" char "b" u8 "c" char "d" u8 "e"));
+    named!(alloc doc out parse_struct_6(u8 "a" char "b" u8 "c" char "d" u8 "e" char "f"));
+    named!(alloc doc out parse_struct_7(u8 "a" char "b" u8 "c" char "d" u8 "e" char "f" u8 "g"));
     Ok(())
 }
 
 fn note_long_structs(alloc: Global, doc: &Doc, out: &mut String) -> Result<(), Fault> {
-    named!(alloc doc out parse_struct_8 u8 "a" char "b" u8 "c" char "d" u8 "e" char "f" u8 "g" char "h");
-    named!(alloc doc out parse_struct_9 u8 "a" char "b" u8 "c" char "d" u8 "e" char "f" u8 "g" char "h" u8 "i");
-    named!(alloc doc out parse_struct_10 u8 "a" char "b" u8 "c" char "d" u8 "e" char "f" u8 "g" char "h" u8 "i" char "j");
-    named!(alloc doc out parse_struct_11 u8 "a" char "b" u8 "c" char "d" u8 "e" char "f" u8 "g" char "h" u8 "i" char "j" u8 "k");
-    named!(alloc doc out parse_struct_12 u8 "a" char "b" u8 "c" char "d" u8 "e" char "f" u8 "g" char "h" u8 "i" char "j" u8 "k" char "l");
+    named!(alloc doc out parse_struct_8(u8 "a" char "b" u8 "c" char "d" u8 "e" char "f" u8 "g" char "h"));
+    named!(alloc doc out parse_struct_9(u8 "a" char "b" u8 "c" char "d" u8 "e" char "f" u8 "g" char "h" u8 "i"));
+    named!(alloc doc out parse_struct_10(u8 "a" char "b" u8 "c" char "d" u8 "e" char "f" u8 "g" char "h" u8 "i" char "j"));
+    named!(alloc doc out parse_struct_11(u8 "a" char "b" u8 "c" char "d" u8 "e" char "f" u8 "g" char "h" u8 "i" char "j" u8 "k"));
+    named!(alloc doc out parse_struct_12(u8 "a" char "b" u8 "c" char "d" u8 "e" char "f" u8 "g" char "h" u8 "i" char "j" u8 "k" char "l"));
     Ok(())
 }
 
 fn note_tuples(alloc: Global, doc: &Doc, out: &mut String) -> Result<(), Fault> {
-    unnamed!(alloc doc out parse_tuple_1 u8);
-    unnamed!(alloc doc out parse_tuple_2 u8 char);
-    unnamed!(alloc doc out parse_tuple_3 u8 char u8);
-    unnamed!(alloc doc out parse_tuple_4 u8 char u8 char);
-    unnamed!(alloc doc out parse_tuple_5 u8 char u8 char u8);
-    unnamed!(alloc doc out parse_tuple_6 u8 char u8 char u8 char);
-    unnamed!(alloc doc out parse_tuple_7 u8 char u8 char u8 char u8);
+    unnamed!(alloc doc out parse_tuple_1(u8));
+    unnamed!(alloc doc out parse_tuple_2(u8 char));
+    unnamed!(alloc doc out parse_tuple_3(u8 char u8));
+    unnamed!(alloc doc out parse_tuple_4(u8 char u8 char));
+    unnamed!(alloc doc out parse_tuple_5(u8 char u8 char u8));
+    unnamed!(alloc doc out parse_tuple_6(u8 char u8 char u8 char));
+    unnamed!(alloc doc out parse_tuple_7(u8 char u8 char u8 char u8));
     Ok(())
 }
 
 fn note_long_tuples(alloc: Global, doc: &Doc, out: &mut String) -> Result<(), Fault> {
-    unnamed!(alloc doc out parse_tuple_8 u8 char u8 char u8 char u8 char);
-    unnamed!(alloc doc out parse_tuple_9 u8 char u8 char u8 char u8 char u8);
-    unnamed!(alloc doc out parse_tuple_10 u8 char u8 char u8 char u8 char u8 char);
-    unnamed!(alloc doc out parse_tuple_11 u8 char u8 char u8 char u8 char u8 char u8);
-    unnamed!(alloc doc out parse_tuple_12 u8 char u8 char u8 char u8 char u8 char u8 char);
+    unnamed!(alloc doc out parse_tuple_8(u8 char u8 char u8 char u8 char));
+    unnamed!(alloc doc out parse_tuple_9(u8 char u8 char u8 char u8 char u8));
+    unnamed!(alloc doc out parse_tuple_10(u8 char u8 char u8 char u8 char u8 char));
+    unnamed!(alloc doc out parse_tuple_11(u8 char u8 char u8 char u8 char u8 char u8));
+    unnamed!(alloc doc out parse_tuple_12(u8 char u8 char u8 char u8 char u8 char u8 char));
     Ok(())
 }
 
@@ -122,7 +122,7 @@ enum Event {
     Ended,
 }
 
-fn twelve(alloc: Global, doc: &Doc) -> Result<Option<Twelve>, AllocError> {
+fn find_twelve(alloc: Global, doc: &Doc) -> Result<Option<Twelve>, AllocError> {
     parse_fields!(
         alloc,
         doc,
@@ -143,24 +143,24 @@ fn twelve(alloc: Global, doc: &Doc) -> Result<Option<Twelve>, AllocError> {
     )
 }
 
-fn one(alloc: Global, doc: &Doc) -> Result<Option<One>, AllocError> {
+fn find_one(alloc: Global, doc: &Doc) -> Result<Option<One>, AllocError> {
     parse_fields!(alloc, doc, One(text))
 }
 
-fn event(alloc: Global, doc: &Doc) -> Result<Option<Event>, AllocError> {
+fn find_event(alloc: Global, doc: &Doc) -> Result<Option<Event>, AllocError> {
     parse_variants!(alloc, doc, Event { Started, Said(node, text), Lost { since, peers }, Ended })
 }
 
 type Numbers = (u8, u8, u8, u8, u8, u8, u8, u8, u8, u8, u8);
 
 fn parse_twelve(alloc: Global, doc: &Doc) -> Result<Option<(Numbers, String)>, AllocError> {
-    Ok(twelve(alloc, doc)?.map(|t| {
+    Ok(find_twelve(alloc, doc)?.map(|t| {
         ((t.a, t.b, t.c, t.d, t.e, t.f, t.g, t.h, t.i, t.j, t.k), t.l)
     }))
 }
 
 fn parse_one(alloc: Global, doc: &Doc) -> Result<Option<String>, AllocError> {
-    Ok(one(alloc, doc)?.map(|found| found.0))
+    Ok(find_one(alloc, doc)?.map(|found| found.0))
 }
 
 // The variant's number, and its fields.
@@ -168,7 +168,7 @@ fn parse_event(
     alloc: Global,
     doc: &Doc,
 ) -> Result<Option<(u8, Option<(u8, String)>, Option<(u8, Vec<u8>)>)>, AllocError> {
-    Ok(match event(alloc, doc)? {
+    Ok(match find_event(alloc, doc)? {
         None => None,
         Some(Event::Started) => Some((0, None, None)),
         Some(Event::Said(node, text)) => Some((1, Some((node, text)), None)),

@@ -1,7 +1,7 @@
 //! The types that are parsed, in rows.
 use crate::calls::Calls;
 use crate::fault::{Fault, agree};
-use crate::parsed::{Letters, add};
+use crate::parsed::{TypeLetters, add};
 use std::collections::{BTreeMap, BTreeSet};
 use std::num::{
     NonZeroI8, NonZeroI16, NonZeroI32, NonZeroI64, NonZeroIsize, NonZeroU8, NonZeroU16, NonZeroU32,
@@ -15,7 +15,12 @@ use ufmt_parse_tests::tree::Tree;
 /// Types in a row: the first, and the row of the others, or `()`.
 pub trait Types {
     /// Adds the letter of each type that has a value with the text, which was read as this document.
-    fn add_all(calls: Calls<'_>, doc: &Doc, row: &str, letters: &mut Letters) -> Result<(), Fault>;
+    fn add_all(
+        calls: Calls<'_>,
+        doc: &Doc,
+        row: &str,
+        letters: &mut TypeLetters,
+    ) -> Result<(), Fault>;
 }
 
 impl Types for () {
@@ -23,14 +28,19 @@ impl Types for () {
         _calls: Calls<'_>,
         _doc: &Doc,
         row: &str,
-        _letters: &mut Letters,
+        _letters: &mut TypeLetters,
     ) -> Result<(), Fault> {
         agree(row.is_empty(), "the program has a letter for each type")
     }
 }
 
 impl<T: uParse, R: Types> Types for (T, R) {
-    fn add_all(calls: Calls<'_>, doc: &Doc, row: &str, letters: &mut Letters) -> Result<(), Fault> {
+    fn add_all(
+        calls: Calls<'_>,
+        doc: &Doc,
+        row: &str,
+        letters: &mut TypeLetters,
+    ) -> Result<(), Fault> {
         let mut row = row.chars();
         add::<T>(calls, doc, letters, row.next().unwrap_or('?'))?;
         R::add_all(calls, doc, row.as_str(), letters)
