@@ -66,10 +66,14 @@ def ghost_end(tokens, at):
     """The index after the clause, ghost item or attribute at `at`, or `at` if there is none."""
     name, after = tokens[at].name, name_at(tokens, at + 1)
     if name in ("ensures", "requires"):
-        brace = at + 1 if after == "{" else at + 2
+        brace = at + 1 + (after == "*")
+        brace += name_at(tokens, brace) != "{"
         return end_of(tokens, brace) + 1 if name_at(tokens, brace) == "{" else at
-    if name == "ghost" and re.fullmatch(r"\w+", after):
+    if name == "ghost" and after == "use":
         return find(tokens, at, [";"]) + 1
+    if name == "ghost" and re.fullmatch(r"\w+", after):
+        end = end_of(tokens, find(tokens, at, ["{"])) + 1
+        return end + (name_at(tokens, end) == ";")
     if name == "#" and after in ("[", "!"):
         return end_of(tokens, at + 1 if after == "[" else at + 2) + 1
     return at

@@ -61,3 +61,17 @@ CHANGED = [
     ("a constant by which memory is asked for", "ufmt_conv/src/run/devices.rt", r"const ROOM: usize = [^;]*;", "const ROOM: usize = 64 * 1024 * 1024;"),
     ("a word that isn't known", "ufmt_conv/src/main.rt", r"let Some\(command\) = Command::parse\(&words\) else \{", "let Some(command) = Command::parse(&words) else { let _fault = Fault::OutOfMemory;"),
 ]
+
+# One of these is put into each function, so that no function is left out.
+ANYWHERE_PUT = [
+    "return Err(AllocError);",
+    "Err::<(), _>(std::alloc::AllocError)?;",
+    "let spent = AllocError; return Err(spent);",
+    "return Err(Default::default());",
+    "None::<()>.ok_or(spent)?;",
+    "let _waste: Vec<u8> = Vec::with_capacity(alloc, length)?;",
+    "if let Err(error) = text.push('a') { return Err(error); }",
+    "for _ in 0..count { waste.push(1u8)?; }",
+    "(0..count).collect::<Vec<u8>>(alloc)?;",
+    "return Err(Self::Error);",
+]
