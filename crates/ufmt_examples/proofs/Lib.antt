@@ -1,1 +1,2 @@
+pub mod AlarmTokens
 pub mod MeasurementTokens

@@ -1,7 +1,6 @@
 //! A value that was printed to a log, parsed from its line.
 ghost use Rattle.std.specs.Prelude.{◌≡◌, ◌≢◌, IfOk, IsErrOf};
 ghost use Rattle.ufmt.specs.Layout.{plain_text};
-ghost use Rattle.ufmt.specs.Token.{IsToken};
 ghost use Rattle.ufmt_examples.specs.Alarm.{alarm_document};
 ghost use Rattle.ufmt_parse.specs.Values.{is_u16};
 
@@ -45,7 +44,7 @@ impl uParse for Alarm {
 pub fn parse_alarm(alloc: Global, line: &[u8]) -> Result<Alarm, ReadError>
     ensures ok { IfOk result (λ alarm. plain_text (alarm_document alarm) ≡ line.now) }
     ensures not_text { IsErrOf result ReadError.NotText → (alarm : Alarm) → is_u16 alarm.node
-        → IsToken (alarm_document alarm) → plain_text (alarm_document alarm) ≢ line.now }
+        → plain_text (alarm_document alarm) ≢ line.now }
 {
     parse(alloc, line)
 }

@@ -1,3 +1,4 @@
+pub mod Again
 pub mod Depths
 pub mod Entries
 pub mod Finds

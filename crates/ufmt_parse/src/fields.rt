@@ -13,6 +13,7 @@ use ufmt_doc::doc::Doc;
 
 /// Parsers of fields in a row: the parser of the first, and those of the fields after it, or `()`.
 pub trait FieldParsers<V> {
+    // What holds of each row of fields that a program has.
     ghost are_values: { V → Type 0 };
 
     // The normal forms of the fields' documents.
@@ -20,6 +21,10 @@ pub trait FieldParsers<V> {
 
     // These with the fields' names.
     ghost named: { List (List ℕ) → V → List (List ℕ × Document) };
+
+    // Shows that `are_values` holds, by `holds_of` of each field.
+    fn holds_of(&self, values: &V)
+        ensures { are_values values.now };
 
     fn parse_entries(&self, alloc: Global, entries: &[Doc]) -> Result<Option<V>, AllocError>
         ensures { IfOk result (λ answer.
@@ -42,6 +47,8 @@ impl FieldParsers<()> for () {
     ghost unnamed = { λ _. [] };
 
     ghost named = { λ _ _. [] };
+
+    fn holds_of(&self, _values: &()) {}
 
     fn parse_entries(&self, _alloc: Global, entries: &[Doc]) -> Result<Option<()>, AllocError> {
         match entries.split_first() {
@@ -70,6 +77,11 @@ impl<A: uDebug + Drop, R: Drop, P: ParsesBy<A>, Q: FieldParsers<R>> FieldParsers
     ghost unnamed = { λ v. normal (A.document v.0) ∷ Q.unnamed v.1 };
 
     ghost named = { λ names v. (first_name names, normal (A.document v.0)) ∷ Q.named (drop 1 names) v.1 };
+
+    fn holds_of(&self, values: &(A, R)) {
+        self.0.holds_of(&values.0);
+        self.1.holds_of(&values.1);
+    }
 
     fn parse_entries(&self, alloc: Global, entries: &[Doc]) -> Result<Option<(A, R)>, AllocError> {
         match entries.split_first() {

@@ -1,13 +1,13 @@
 #![tactic(auto)]
 
 //! Values from their texts: `parse` is the inverse of printing by `uDebug`.
-ghost use Rattle.std.specs.Prelude.{◌≡◌, ◌≢◌, ◌<◌, ℕ, None, Result, length, map, option_map, All, IfOk, IfSome, IsErrOf};
+ghost use Rattle.std.specs.Prelude.{◌≡◌, ◌≢◌, ◌↔◌, ◌<◌, None, length, map, option_map, All, IfOk, IfSome, IsErrOf};
 ghost use Rattle.ufmt.specs.Buffer.{Fronts};
-ghost use Rattle.ufmt.specs.declared.cursor.Full.{Full};
 ghost use Rattle.ufmt.specs.Document.{Document};
 ghost use Rattle.ufmt.specs.Layout.{plain_text, pretty_text};
 ghost use Rattle.ufmt.specs.Token.{IsToken, normal};
 ghost use Rattle.ufmt_doc.specs.Doc.{doc_document};
+ghost use Rattle.ufmt_parse.specs.Again.{printed};
 ghost use Rattle.ufmt_parse.specs.Finds.{Finds, FindsParts};
 
 mod collections;
@@ -110,13 +110,14 @@ pub fn parse_pretty<T: uParse>(alloc: Global, text: &[u8]) -> Result<T, ReadErro
     }
 }
 
-/// Prints a value and parses its text, which never fails with `NotText`: the value comes back, up to
-/// its document's normal form.
+/// Prints a value and parses its text. The value comes back, up to its text, and up to its document's
+/// normal form if that is a token document. Then it never fails with `NotText`.
 pub fn again<T: uParse>(alloc: Global, value: &T) -> Result<T, ReadError>
-    requires { IsToken (T.document value.now) }
-    ensures same { IfOk result (λ again.
+    ensures text { IfOk result (λ again.
+        plain_text (T.document again) ≡ plain_text (T.document value.now)) }
+    ensures same { IsToken (T.document value.now) → IfOk result (λ again.
         normal (T.document again) ≡ normal (T.document value.now)) }
-    ensures is_text { IsErrOf result ReadError.NotText → ⊥ }
+    ensures is_text { IsToken (T.document value.now) → IsErrOf result ReadError.NotText → ⊥ }
 {
     value.holds();
     let text = plain_text(alloc, value)?;
@@ -124,20 +125,21 @@ pub fn again<T: uParse>(alloc: Global, value: &T) -> Result<T, ReadError>
 }
 
 /// Prints a value to the front of a buffer, as `debug_into` does, and parses it from there. The value
-/// comes back as from `again`. Returns `None` if its text doesn't fit.
+/// comes back as from `again`. Returns `None` if its text doesn't fit, and fails only if it does.
 pub fn again_in<T: uParse>(
     alloc: Global,
     buffer: &mut [u8],
     value: &T,
 ) -> Result<Option<T>, ReadError>
-    requires { IsToken (T.document value.now) }
-    ensures same { IfOk result (λ answer. IfSome answer (λ again.
+    ensures text { IfOk result (λ answer. IfSome answer (λ again.
+        plain_text (T.document again) ≡ plain_text (T.document value.now))) }
+    ensures same { IsToken (T.document value.now) → IfOk result (λ answer. IfSome answer (λ again.
         normal (T.document again) ≡ normal (T.document value.now))) }
-    ensures fits { IfOk result (λ answer. answer ≡ None
-        → length buffer.old < length (plain_text (T.document value.now))) }
-    ensures is_text { IsErrOf result ReadError.NotText → ⊥ }
-    ensures front { (printed : Result ℕ Full)
-        × Fronts buffer.old (plain_text (T.document value.now)) printed buffer.new }
+    ensures fits { IfOk result (λ answer. (answer ≡ None)
+        ↔ (length buffer.old < length (plain_text (T.document value.now)))) }
+    ensures is_text { IsToken (T.document value.now) → IsErrOf result ReadError.NotText → ⊥ }
+    ensures front { Fronts buffer.old (plain_text (T.document value.now))
+        (printed (plain_text (T.document value.now)) result) buffer.new }
 {
     value.holds();
     match debug_into(buffer, value) {

@@ -39,7 +39,9 @@ macro_rules! parse_fields {
 #[macro_export]
 macro_rules! parse_variants {
     ($alloc:expr, $doc:expr, $name:ident { $($variants:tt)+ } $(,)?) => {
-        $crate::parse_variant!([$alloc, $doc, $name] $($variants)+)
+        match ($alloc, $doc) {
+            (alloc, doc) => $crate::parse_variant!([alloc, doc, $name] $($variants)+),
+        }
     };
     ($($other:tt)*) => {
         compile_error!("expected an allocator, a document and an enum: `alloc, doc, Name { A, B(x, y), C { x, y } }`")

@@ -17,6 +17,10 @@ pub trait ParsesBy<T: uDebug> {
     /// What holds of each value that a program has.
     ghost is_value: { T → Type 0 };
 
+    /// Shows that `is_value` holds, as `holds` of `uParse` does.
+    fn holds_of(&self, value: &T)
+        ensures { is_value value.now };
+
     /// Returns a value whose document has this normal form, as `from_doc` of `uParse` does.
     fn parse_by(&self, alloc: Global, doc: &Doc) -> Result<Option<T>, AllocError>
         ensures { IfOk result (λ answer.
@@ -26,6 +30,10 @@ pub trait ParsesBy<T: uDebug> {
 impl<T: uDebug, P: ParsesBy<T>> ParsesBy<T> for Box<P> {
     ghost is_value = { P.is_value };
 
+    fn holds_of(&self, value: &T) {
+        (**self).holds_of(value);
+    }
+
     fn parse_by(&self, alloc: Global, doc: &Doc) -> Result<Option<T>, AllocError> {
         (**self).parse_by(alloc, doc)
     }
@@ -33,6 +41,10 @@ impl<T: uDebug, P: ParsesBy<T>> ParsesBy<T> for Box<P> {
 
 impl<T: uDebug, P: ParsesBy<T>> ParsesBy<T> for &P {
     ghost is_value = { P.is_value };
+
+    fn holds_of(&self, value: &T) {
+        (**self).holds_of(value);
+    }
 
     fn parse_by(&self, alloc: Global, doc: &Doc) -> Result<Option<T>, AllocError> {
         (**self).parse_by(alloc, doc)
@@ -46,6 +58,10 @@ pub struct Plain;
 impl<T: uParse> ParsesBy<T> for Plain {
     ghost is_value = { T.is_value };
 
+    fn holds_of(&self, value: &T) {
+        value.holds();
+    }
+
     fn parse_by(&self, alloc: Global, doc: &Doc) -> Result<Option<T>, AllocError> {
         T::from_doc(alloc, doc)
     }
@@ -57,6 +73,10 @@ pub struct Boxed<P>(pub P);
 
 impl<T: uDebug + Drop, P: ParsesBy<T>> ParsesBy<Box<T>> for Boxed<P> {
     ghost is_value = { λ b. P.is_value b.value };
+
+    fn holds_of(&self, value: &Box<T>) {
+        self.0.holds_of(&**value);
+    }
 
     fn parse_by(&self, alloc: Global, doc: &Doc) -> Result<Option<Box<T>>, AllocError> {
         match self.0.parse_by(alloc, doc)? {
@@ -72,6 +92,13 @@ pub struct Optional<P>(pub P);
 
 impl<T: uDebug + Drop, P: ParsesBy<T>> ParsesBy<Option<T>> for Optional<P> {
     ghost is_value = { λ o. IfSome o P.is_value };
+
+    fn holds_of(&self, value: &Option<T>) {
+        match value {
+            None => {}
+            Some(value) => self.0.holds_of(value),
+        }
+    }
 
     fn parse_by(&self, alloc: Global, doc: &Doc) -> Result<Option<Option<T>>, AllocError> {
         if is_name(doc, "None") {
@@ -90,6 +117,13 @@ pub struct Each<P>(pub P);
 
 impl<T: uDebug + Drop, P: ParsesBy<T>> ParsesBy<Vec<T>> for Each<P> {
     ghost is_value = { λ values. AllByRecursion P.is_value values.items };
+
+    #[tactic(auto, using(crate::proofs::Layers::each_of))]
+    fn holds_of(&self, values: &Vec<T>) {
+        for value in values.iter() {
+            self.0.holds_of(value);
+        }
+    }
 
     #[tactic(auto, using(crate::proofs::Layers::all_of))]
     fn parse_by(&self, alloc: Global, doc: &Doc) -> Result<Option<Vec<T>>, AllocError> {

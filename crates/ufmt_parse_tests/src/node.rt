@@ -30,6 +30,11 @@ impl uDebug for Node {
 impl ParsesBy<Node> for Depth {
     ghost is_value = { is_node };
 
+    fn holds_of(&self, node: &Node) {
+        node.holds();
+    }
+
+    #[cycle(parse_by)]
     fn parse_by(&self, alloc: Global, doc: &Doc) -> Result<Option<Node>, AllocError> {
         match self {
             Depth::Out => Err(AllocError),

@@ -3,6 +3,7 @@
 mod calls;
 mod collections;
 mod leaves;
+mod macros;
 mod nested;
 mod numbers;
 mod user_types;

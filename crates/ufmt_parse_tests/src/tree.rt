@@ -30,6 +30,11 @@ impl uDebug for Tree {
 impl ParsesBy<Tree> for Depth {
     ghost is_value = { is_tree };
 
+    fn holds_of(&self, tree: &Tree) {
+        tree.holds();
+    }
+
+    #[cycle(parse_by)]
     fn parse_by(&self, alloc: Global, doc: &Doc) -> Result<Option<Tree>, AllocError> {
         match self {
             Depth::Out => Err(AllocError),
