@@ -1,6 +1,7 @@
 """What a run of ufmt_lines costs on logs of each shape: steps, memory, reads and writes.
 
-A log of a shape is made for one size and for twice that. Steps are those that twice the size costs more.
+Steps are counted on a log of 32 KiB, with a bound for each byte. With one step more for each pair of bytes, each byte
+would cost 16,384 steps more. Memory, reads and writes are those of a longer log.
 """
 import re
 import shutil
@@ -12,9 +13,9 @@ import devices
 from answers import Block, plain, pretty, quoted
 from logs import CHUNK
 
-SIZE = 16 * 1024
+SIZE = 32 * 1024
 # How much longer a log is whose reads and writes are counted, and that must pass in the memory of the short one.
-LONGER = 16
+LONGER = 8
 # How many bytes of memory the longer log may take more, and how many for each byte of its longest line or group.
 SLACK = 16 * 1024
 MEMORY = 4
@@ -56,13 +57,13 @@ LONG_LINES = (
     line("a line of words", "pretty", 169, b"a "),
     line("a line of spaces", "pretty", 257, b" "),
     line("a line of brackets", "pretty", 280, b"[ "),
-    line("brackets in brackets", "pretty", 19, b"["),
+    line("brackets in brackets", "pretty", 21, b"["),
     line("a line of lists", "pretty", 171, b"[1] "),
     line("a line of quotes", "pretty", 120, b'"a '),
     line("a line of bytes that aren't UTF-8", "pretty", 138, b"\xff "),
     listed("a long list", "pretty", 162, plain),
     # A block could begin at each word, so the bytes after it are scanned for each of 255 blocks.
-    Shape("a line of open tuples", "pretty", 36437, lambda size: b"(a, " * (size // 32)),
+    Shape("a line of open tuples", "pretty", 31_923, lambda size: b"(a, " * (size // 32)),
     listed("a pretty list", "plain", 183, pretty),
     group("a group without an end", 218, b"got [\n", b"    12345,\n"),
     group("a group of brackets", 376, b"", b"[\n"),
@@ -102,10 +103,10 @@ class Meter:
         return int(re.search(rb"I +refs: +([\d,]+)", ran.stderr)[1].replace(b",", b""))
 
     def steps_a_byte(self, shape):
-        """How many steps a byte more costs."""
-        short, long = (self.put(shape.name + str(factor), shape.log(SIZE * factor)) for factor in (1, 2))
-        more = self.steps(long, shape.mode) - self.steps(short, shape.mode)
-        return more / (long.stat().st_size - short.stat().st_size)
+        """How many steps more than for no log each byte costs."""
+        log = shape.log(SIZE)
+        more = self.steps(self.put(shape.name, log), shape.mode) - self.steps(self.put("nothing", b""), shape.mode)
+        return more / len(log)
 
     def passes(self, path, mode, most):
         """Whether a run ends with status 0 if it has at most so many bytes of memory."""

@@ -114,6 +114,8 @@ def wrong_round(devices, number, chunk, writes):
         devices.input.ours.send(chunk)
     for wanted in writes:
         given = devices.output.ours.recv(devices.output.most())
+        if not given:
+            return "after read %d of %s it ends: %s" % (number, shown(chunk or b""), shown(b"".join(devices.rest(devices.error))))
         if given != wanted:
             return "after read %d of %s it writes %s, not %s" % (number, shown(chunk or b""), shown(given), shown(wanted))
     return None

@@ -113,12 +113,14 @@ const ROWS: [(Run<'static>, &str); 17] = [
 
 // Whether each run that fails at a call ends with this call.
 fn ends_at_any_failure(alloc: Global, input: Run<'_>, calls: &str) -> Result<bool, AllocError> {
-    for fails_at in 1..calls.len() + 1 {
-        let mut wanted = String::from_str(alloc, &calls[..fails_at - 1])?;
+    let mut before = String::new(alloc);
+    for (count, call) in calls.chars().enumerate() {
+        let mut wanted = before.clone()?;
         wanted.push('!')?;
-        if row_of(alloc, input, fails_at) != wanted {
+        if row_of(alloc, input, count.saturating_add(1)) != wanted {
             return Ok(false);
         }
+        before.push(call)?;
     }
     Ok(true)
 }
