@@ -39,7 +39,7 @@ struct Half {
     // Whether a list of the document is a token document: the document is less than 255 deep.
     is_token_in_a_list: bool,
     // The letters of the types that have a value with the text.
-    types: parsed::Letters,
+    types: parsed::TypeLetters,
     pieces: TextPieces,
 }
 

@@ -6,6 +6,9 @@
 //! A half of a line, `plain` or `pretty`, is `no text` if the calls of that mode fail with
 //! `NotText`. Else it has digests of their results. If a call is wrong, it is `FAULT` with the
 //! call's name, or with the error of a call that should be `Ok`.
+//!
+//! A text that begins as a request does asks for other values to be printed. Its line has digests of
+//! their pieces.
 #![tactic(auto)]
 
 mod calls;

@@ -13,12 +13,12 @@ use ufmt_parse_tests::tree::Tree;
 
 /// The letters of the types that have a value with the text, and the pieces of those values.
 #[derive(Drop)]
-pub struct Letters {
+pub struct TypeLetters {
     text: String,
     pieces: Pieces,
 }
 
-impl Letters {
+impl TypeLetters {
     pub fn words(&self, alloc: Global) -> Result<String, AllocError> {
         let pieces = self.pieces.digest.words(alloc)?;
         format!(in alloc; "[{}] in pieces {pieces}", self.text)
@@ -26,8 +26,8 @@ impl Letters {
 }
 
 /// Returns the letters of the types that have a value with the text, which was read as this document.
-pub fn letters(calls: Calls<'_>, doc: &Doc) -> Result<Letters, Fault> {
-    let mut letters = Letters {
+pub fn letters(calls: Calls<'_>, doc: &Doc) -> Result<TypeLetters, Fault> {
+    let mut letters = TypeLetters {
         text: String::new(calls.alloc),
         pieces: Pieces::new(),
     };
@@ -36,7 +36,7 @@ pub fn letters(calls: Calls<'_>, doc: &Doc) -> Result<Letters, Fault> {
     Ok(letters)
 }
 
-fn of_leaves(calls: Calls<'_>, doc: &Doc, letters: &mut Letters) -> Result<(), Fault> {
+fn of_leaves(calls: Calls<'_>, doc: &Doc, letters: &mut TypeLetters) -> Result<(), Fault> {
     add::<u8>(calls, doc, letters, 'a')?;
     add::<i64>(calls, doc, letters, 'b')?;
     add::<i128>(calls, doc, letters, 'c')?;
@@ -47,7 +47,7 @@ fn of_leaves(calls: Calls<'_>, doc: &Doc, letters: &mut Letters) -> Result<(), F
     add::<()>(calls, doc, letters, 'h')
 }
 
-fn of_blocks(calls: Calls<'_>, doc: &Doc, letters: &mut Letters) -> Result<(), Fault> {
+fn of_blocks(calls: Calls<'_>, doc: &Doc, letters: &mut TypeLetters) -> Result<(), Fault> {
     add::<Option<Box<i8>>>(calls, doc, letters, 'i')?;
     add::<Result<String, char>>(calls, doc, letters, 'j')?;
     add::<Vec<u64>>(calls, doc, letters, 'k')?;
@@ -65,7 +65,7 @@ fn of_blocks(calls: Calls<'_>, doc: &Doc, letters: &mut Letters) -> Result<(), F
 fn add<T: uParse>(
     calls: Calls<'_>,
     doc: &Doc,
-    letters: &mut Letters,
+    letters: &mut TypeLetters,
     letter: char,
 ) -> Result<(), Fault> {
     let Some(value) = T::from_doc(calls.alloc, doc)? else {
