@@ -19,7 +19,7 @@ import random
 import re
 from typing import NamedTuple
 
-from model import Block, plain, pretty, quoted
+from model import Block, add_pretty, plain, pretty, quoted
 from pieces import by_character, by_text, digest, of_value, printed
 
 BEGINNING = b"\0pieces "
@@ -54,6 +54,14 @@ def asked(data):
     return Request(*map(int, line.split()), payload)
 
 
+def tuple_of(*values, name=""):
+    return Block("tuple", name, [(None, value) for value in values])
+
+
+def list_of(*values):
+    return Block("list", "", [(None, value) for value in values])
+
+
 # ---- Lines, columns and hexadecimal texts.
 
 
@@ -86,24 +94,49 @@ def hexadecimal(request, number, bits):
     return padded(request, digits.upper() if request.upper_case else digits)
 
 
+def pretty_at(document, depth):
+    """The pretty text of a document at this depth."""
+    out = []
+    add_pretty(document, depth, out)
+    return "".join(out)
+
+
 def lines(request, text):
-    length, zero, greatest = (hexadecimal(request, number, 64) for number in (len(text.encode()), 0, 255))
-    leaf, between = quoted(text), by_text(text)
-    pair = Block("tuple", "", [(None, leaf), (None, "()")])
-    character = Block("tuple", "", [(None, leaf), (None, "'c'")])
-    single = Block("tuple", "", [(None, leaf)])
-    columned = lambda text, pieces: in_column(request, text, pieces)
-    out = [between * 2 + of_value(leaf) + printed(pair, True, of_value) + length[1]]
-    out += [columned(text, between), columned(leaf, of_value(leaf)), columned(pretty(pair), printed(pair, True, of_value))]
-    out += [columned(*length), columned("!", by_character("!"))]
-    out += [by_text(text, text, "", text, "x"), of_value(leaf), by_text("") + of_value('""') + by_text("") + of_value('"x"')]
-    out += [of_value(leaf) + between + of_value('""') + between + of_value('"x"'), zero[1] + between + greatest[1]]
-    out += [columned(text, between) + between + columned("", by_text("")) + between + columned("x", by_text("x"))]
-    out += [columned(*zero) + by_text(", ") + columned(*greatest)]
-    for is_pretty, laid_out in ((False, plain), (True, pretty)):
-        out += [between * 2 + printed(character, is_pretty, of_value) + printed(single, True, of_value) + length[1]]
-        out += [columned(text, between), columned(laid_out(character), printed(character, is_pretty, of_value))]
-        out += [columned(*length), by_text("\n")]
+    """Lines by `pieces!`, a line by `uwrite!` and `uwriteln!`, and that line in a list in pretty mode."""
+    in_a_list = by_text("[", "\n", "    ") + written_line(request, text, True, 1) + by_text(",\n", "]")
+    return plain_line(request, text) + line_of_each(request, text) + written_line(request, text, False, 0) + in_a_list
+
+
+def plain_line(request, text):
+    length = hexadecimal(request, len(text.encode()), 64)
+    leaf, whole = quoted(text), by_text(text)
+    pair = tuple_of(leaf, "()")
+    out = [whole * 2, of_value(leaf), printed(pair, True, of_value), length[1]]
+    out += [in_column(request, text, whole), in_column(request, leaf, of_value(leaf))]
+    out += [in_column(request, pretty(pair), printed(pair, True, of_value))]
+    out += [in_column(request, *length), in_column(request, "!", by_character("!"))]
+    return b"".join(out)
+
+
+def line_of_each(request, text):
+    zero, greatest = (hexadecimal(request, number, 32) for number in (0, 255))
+    leaves = [of_value(quoted(item)) for item in (text, "", "x")]
+    between = by_text(text)
+    out = [by_text(text, text, "", text, "x"), by_text("").join(leaves), between.join(leaves)]
+    out += [zero[1] + between + greatest[1]]
+    out += [between.join(in_column(request, item, by_text(item)) for item in (text, "", "x"))]
+    out += [by_text(", ").join(in_column(request, *number) for number in (zero, greatest))]
+    return b"".join(out)
+
+
+def written_line(request, text, is_pretty, depth):
+    length = hexadecimal(request, len(text.encode()), 64)
+    leaf, whole = quoted(text), by_text(text)
+    pair, single = tuple_of(leaf, "'c'"), tuple_of(leaf)
+    pieces = printed(pair, is_pretty, of_value, depth)
+    out = [whole * 2, pieces, printed(single, True, of_value, depth), length[1], in_column(request, text, whole)]
+    out += [in_column(request, pretty_at(pair, depth) if is_pretty else plain(pair), pieces)]
+    out += [in_column(request, *length), by_text("\n")]
     return b"".join(out)
 
 
@@ -154,14 +187,6 @@ def numbers(request, text):
 # ---- Values of std's types.
 
 
-def tuple_of(*values, name=""):
-    return Block("tuple", name, [(None, value) for value in values])
-
-
-def list_of(*values):
-    return Block("list", "", [(None, value) for value in values])
-
-
 def in_both_modes(document):
     return printed(document, False, of_value) + printed(document, True, of_value)
 
@@ -193,7 +218,7 @@ def ranges(leaf, length):
 def collections(leaf):
     yield from [list_of(leaf, leaf, leaf)] * 5
     yield from (Block("map", "", []), *[Block("set", "", [(None, leaf)])] * 2)
-    yield from (Block("map", "", []), *[Block("map", "", [(leaf, leaf)])] * 2)
+    yield from (Block("map", "", []), *[Block("map", "", [(leaf, "7")])] * 2)
 
 
 def values(text):
@@ -293,18 +318,23 @@ class Asker:
         return (kind * length)[:length].encode()
 
     def number(self):
-        bits = self.random.choice((1, 4, 7, 8, 15, 16, 31, 32, 63, 64, 127, 128))
-        near = 2 ** bits + self.random.choice((-1, 0, 1))
-        return str(self.random.choice((near, -near, self.random.randrange(2**bits), 0))).encode()
+        """A number of some count of digits, or one near a bound of a type."""
+        digits, bits = self.random.randrange(39), self.random.choice((7, 8, 15, 16, 31, 32, 63, 64, 127, 128))
+        some = self.random.randrange(10**digits, 10 ** (digits + 1))
+        near = self.random.choice((2**bits, 10**digits)) + self.random.choice((-1, 0, 1))
+        number = self.random.choice((some, near))
+        return str(self.random.choice((number, -number))).encode()
 
 
 def made(seed):
-    """Requests with each two of the bounds as the width of a column and the length of a text, and as the length of a row
+    """Requests of each two of the bounds as the width of a column and the length of a text, and as the length of a row
     and that of what is dumped."""
     asker = Asker(seed)
     for place, width in enumerate(BOUNDS):
         for other, length in enumerate(BOUNDS):
             per_row = BOUNDS[(place + other) % len(BOUNDS)]
             yield asker.request(width, per_row, asker.text(length)).data()
-            yield asker.request(min(width, 130), per_row, asker.number()).data()
+            yield asker.request(min(width, 130), asker.random.randrange(1, 41), asker.number()).data()
             yield asker.request(0, per_row, asker.random.randbytes(length)).data()
+    for length in (20_000, 70_000):
+        yield asker.request(length, length, asker.text(length)).data()

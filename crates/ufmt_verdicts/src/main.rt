@@ -8,6 +8,9 @@
 //! call's name, or with the error of a call that should be `Ok`.
 //!
 //! With the word `costs` it makes each call by itself, and a line has the names of the calls.
+//!
+//! A text that begins as a request does asks for other values to be printed. Its line has digests of
+//! their pieces.
 #![tactic(auto)]
 
 mod calls;

@@ -11,7 +11,7 @@ pub fn pieces(request: &Request<'_>, text: &str) -> Digest {
     write_each(request, text, &mut pieces);
     let mut f = Formatter::new(&mut pieces);
     let _ = write(request, text, &mut f);
-    let _ = f.pretty(|f| write(request, text, f));
+    let _ = f.pretty(|f| write_in_a_list(request, text, f));
     pieces.digest
 }
 
@@ -46,4 +46,15 @@ fn write<W: uWrite>(
     let Request { column, hex, .. } = *request;
     uwrite!(f, text text, display text, debug (text, 'c'), pretty (text,), hex (text.len()) with hex)?;
     uwriteln!(f, display text in column, debug (text, 'c') in column, hex (text.len()) with hex in column)
+}
+
+fn write_in_a_list<W: uWrite>(
+    request: &Request<'_>,
+    text: &str,
+    f: &mut Formatter<W>,
+) -> Result<(), W::Error> {
+    let mut list = f.debug_list()?;
+    let answer = write(request, text, list.begin_entry()?);
+    list.end_entry(answer)?;
+    list.finish()
 }

@@ -44,8 +44,9 @@ struct Printer<'a> {
 
 impl Printer<'_> {
     fn padded(&mut self, text: &str) {
+        let Request { hex, .. } = self.request;
         let mut f = Formatter::new(&mut self.pieces);
-        let _ = self.request.hex.with_stuff(&mut f, text);
+        let _ = hex.with_stuff(&mut f, text);
     }
 
     fn unsigned(&mut self, text: &str) {

@@ -148,8 +148,8 @@ impl Pieces {
         let mut map = BTreeMap::new(alloc);
         let mut hashed = HashMap::new(alloc);
         self.value(&map);
-        map.insert(text, text)?;
-        hashed.insert(text, text)?;
+        map.insert(text, 7u8)?;
+        hashed.insert(text, 7u8)?;
         self.value(&map);
         self.value(&hashed);
         Ok(())
