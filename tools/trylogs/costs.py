@@ -62,7 +62,7 @@ LONG_LINES = (
     line("a line of quotes", "pretty", 51, b'"a '),
     line("a line of bytes that aren't UTF-8", "pretty", 67, b"\xff "),
     listed("a long list", "pretty", 40, plain),
-    # A block could begin at each word, so the bytes after it are scanned for each of 255 blocks.
+    # A block could open at each word, so a byte is scanned for each of up to 255 words before it.
     Shape("a line of open tuples", "pretty", 4784, lambda size: b"(a, " * (size // 32)),
     listed("a pretty list", "plain", 40, pretty),
     group("a group without an end", 80, b"got [\n", b"    12345,\n"),
