@@ -53,30 +53,30 @@ def group(name, steps, first, piece):
 
 
 LONG_LINES = (
-    line("a long word", "pretty", 30, b"a"),
-    line("a line of words", "pretty", 169, b"a "),
-    line("a line of spaces", "pretty", 257, b" "),
-    line("a line of brackets", "pretty", 280, b"[ "),
-    line("brackets in brackets", "pretty", 21, b"["),
-    line("a line of lists", "pretty", 171, b"[1] "),
-    line("a line of quotes", "pretty", 120, b'"a '),
-    line("a line of bytes that aren't UTF-8", "pretty", 138, b"\xff "),
-    listed("a long list", "pretty", 162, plain),
-    # A block could begin at each word, so the bytes after it are scanned for each of 255 blocks.
-    Shape("a line of open tuples", "pretty", 31_923, lambda size: b"(a, " * (size // 32)),
-    listed("a pretty list", "plain", 183, pretty),
-    group("a group without an end", 218, b"got [\n", b"    12345,\n"),
-    group("a group of brackets", 376, b"", b"[\n"),
-    group("a group of spaces", 272, b"[\n", b" " * 63 + b"\n"),
+    line("a long word", "pretty", 17, b"a"),
+    line("a line of words", "pretty", 52, b"a "),
+    line("a line of spaces", "pretty", 112, b" "),
+    line("a line of brackets", "pretty", 86, b"[ "),
+    line("brackets in brackets", "pretty", 22, b"["),
+    line("a line of lists", "pretty", 52, b"[1] "),
+    line("a line of quotes", "pretty", 51, b'"a '),
+    line("a line of bytes that aren't UTF-8", "pretty", 67, b"\xff "),
+    listed("a long list", "pretty", 40, plain),
+    # A block could open at each word, so a byte is scanned for each of up to 255 words before it.
+    Shape("a line of open tuples", "pretty", 4784, lambda size: b"(a, " * (size // 32)),
+    listed("a pretty list", "plain", 40, pretty),
+    group("a group without an end", 80, b"got [\n", b"    12345,\n"),
+    group("a group of brackets", 96, b"", b"[\n"),
+    group("a group of spaces", 121, b"[\n", b" " * 63 + b"\n"),
 )
 MANY_LINES = (
-    line("empty lines", "pretty", 427, b"\n"),
-    line("short lines", "pretty", 240, b"a word\n"),
-    line("lines of texts", "pretty", 124, b"12:00 INFO got " + plain(READING).encode() + b"\n"),
-    line("lines of deep texts", "pretty", 703, plain(DEEP).encode() + b"\n"),
-    line("short lines, made plain", "plain", 254, b"a word\n"),
-    line("groups", "plain", 144, b"12:00 INFO got " + pretty(READING).encode() + b"\n"),
-    line("groups of a bracket", "plain", 344, b"[\n]\n"),
+    line("empty lines", "pretty", 201, b"\n"),
+    line("short lines", "pretty", 80, b"a word\n"),
+    line("lines of texts", "pretty", 40, b"12:00 INFO got " + plain(READING).encode() + b"\n"),
+    line("lines of deep texts", "pretty", 206, plain(DEEP).encode() + b"\n"),
+    line("short lines, made plain", "plain", 88, b"a word\n"),
+    line("groups", "plain", 45, b"12:00 INFO got " + pretty(READING).encode() + b"\n"),
+    line("groups of a bracket", "plain", 137, b"[\n]\n"),
 )
 SHAPES = LONG_LINES + MANY_LINES
 
