@@ -2,8 +2,9 @@
 
 A cell is a tuple. It begins with the name of its table, and ends with the mode in which the text was read.
 """
+import characters
 import values
-from model import Block
+from model import Block, unquoted
 
 MODES = ("plain", "pretty")
 PLACES = ("entry of a list", "entry of a set", "key", "value", "field of a struct", "field of a tuple", "field without names")
@@ -13,6 +14,8 @@ POSITIONS = ("only", "first", "middle", "last")
 # Lengths and numbers of entries are told apart up to these, and then by powers of two.
 EXACT_LENGTH = 128
 EXACT_ENTRIES = 64
+# The characters of texts are noted up to this length.
+NOTED_LENGTH = 12
 # So many entries of each kind are tried in one of the modes.
 MANY = 50_000
 
@@ -106,6 +109,15 @@ class Walk:
             self.add("length of a leaf", kind, length_class(len(document)))
             self.add("length of a leaf by depth", depth_class(depth), power(len(document)))
 
+        if kind == "character":
+            self.add("character in apostrophes", ord(unquoted(document)))
+        if kind == "text" and 2 < len(document) <= NOTED_LENGTH:
+            self.characters(unquoted(document))
+
+    def characters(self, text):
+        for number, character in enumerate(text):
+            self.add("character in quotes", position(number, len(text)), ord(character))
+
     def block(self, document, kind, depth, keys):
         _kind, name, entries = document
         count = len(entries)
@@ -180,6 +192,8 @@ def wanted_in_each_mode():
     yield from (("equal", *rest) for rest in pairs(BLOCKS, ("side by side", "apart")))
     yield from (("bytes of a text", size) for size in powers(262144))
     yield from (("bytes of no text", size) for size in [0, *powers(131072)])
+    yield from (("character in apostrophes", code) for code in characters.CODES)
+    yield from (("character in quotes", *rest) for rest in pairs(POSITIONS, characters.CODES))
     yield from (("type", letter) for letter in values.TYPES)
     yield from (("shape", number) for number in range(values.SHAPE_COUNT))
 

@@ -335,22 +335,22 @@ def values_of(document):
 def fields(document):
     """The fields of a document of one of these types, as the program prints them."""
     if document in ("Started", "Ended"):
-        return "(%d, None, None);" % (3 if document == "Ended" else 0)
+        return "e(%d, None, None);" % (3 if document == "Ended" else 0)
     if isinstance(document, str):
         return ""
     if any(shape.has(document) for shape in SHAPES):
         found = values_of(document)
         found = found[0] if len(found) == 1 else unnamed(found)
-        return plain(unnamed([found, "true" if document.kind == "struct" else "false"])) + ";"
+        return document.kind[0] + plain(found) + ";"
     if TWELVE.has(document):
         found = values_of(document)
-        return plain(unnamed([unnamed(found[:11]), found[11]])) + ";"
+        return "w" + plain(unnamed([unnamed(found[:11]), found[11]])) + ";"
     if ONE.has(document):
-        return plain(values_of(document)[0]) + ";"
+        return "o" + plain(values_of(document)[0]) + ";"
     if SAID.has(document):
-        return plain(unnamed(["1", some(unnamed(values_of(document))), "None"])) + ";"
+        return "e" + plain(unnamed(["1", some(unnamed(values_of(document))), "None"])) + ";"
     if LOST.has(document):
-        return plain(unnamed(["2", "None", some(unnamed(values_of(document)))])) + ";"
+        return "e" + plain(unnamed(["2", "None", some(unnamed(values_of(document)))])) + ";"
     return ""
 
 

@@ -19,22 +19,28 @@ pub fn fields_of(alloc: Global, doc: &Doc) -> Result<String, Fault> {
         Doc::StructOf(_, _) => {
             note_structs(alloc, doc, &mut out)?;
             note_long_structs(alloc, doc, &mut out)?;
-            note(alloc, parse_twelve(alloc, doc)?, &mut out)?;
+            note(alloc, "w", parse_twelve(alloc, doc)?, &mut out)?;
         }
         Doc::TupleOf(_, _) => {
             note_tuples(alloc, doc, &mut out)?;
             note_long_tuples(alloc, doc, &mut out)?;
-            note(alloc, parse_one(alloc, doc)?, &mut out)?;
+            note(alloc, "o", parse_one(alloc, doc)?, &mut out)?;
         }
         _ => {}
     }
-    note(alloc, parse_event(alloc, doc)?, &mut out)?;
+    note(alloc, "e", parse_event(alloc, doc)?, &mut out)?;
     Ok(out)
 }
 
-// Notes the fields, if the document is a value's.
-fn note<T: uDebug + Drop>(alloc: Global, found: Option<T>, out: &mut String) -> Result<(), Fault> {
+// Notes the fields after a letter, if the document is a value's.
+fn note<T: uDebug + Drop>(
+    alloc: Global,
+    letter: &str,
+    found: Option<T>,
+    out: &mut String,
+) -> Result<(), Fault> {
     if let Some(fields) = found {
+        out.push_str(letter)?;
         out.push_str(&plain_text(alloc, &fields)?)?;
         out.push(';')?;
     }
@@ -44,14 +50,14 @@ fn note<T: uDebug + Drop>(alloc: Global, found: Option<T>, out: &mut String) -> 
 // Notes what this call returns of a struct with these fields. A number and a text in turn.
 macro_rules! named {
     ($alloc:ident $doc:ident $out:ident $call:ident($($type:ident $name:literal)+)) => {
-        note($alloc, $call::<$($type),+>($alloc, $doc, "S", $($name),+)?.map(|found| (found, true)), $out)?
+        note($alloc, "s", $call::<$($type),+>($alloc, $doc, "S", $($name),+)?, $out)?
     };
 }
 
 // The same of a tuple.
 macro_rules! unnamed {
     ($alloc:ident $doc:ident $out:ident $call:ident($($type:ident)+)) => {
-        note($alloc, $call::<$($type),+>($alloc, $doc, "T")?.map(|found| (found, false)), $out)?
+        note($alloc, "t", $call::<$($type),+>($alloc, $doc, "T")?, $out)?
     };
 }
 
@@ -154,13 +160,18 @@ fn find_event(alloc: Global, doc: &Doc) -> Result<Option<Event>, AllocError> {
 type Numbers = (u8, u8, u8, u8, u8, u8, u8, u8, u8, u8, u8);
 
 fn parse_twelve(alloc: Global, doc: &Doc) -> Result<Option<(Numbers, String)>, AllocError> {
-    Ok(find_twelve(alloc, doc)?.map(|t| {
-        ((t.a, t.b, t.c, t.d, t.e, t.f, t.g, t.h, t.i, t.j, t.k), t.l)
-    }))
+    let Some(t) = find_twelve(alloc, doc)? else {
+        return Ok(None);
+    };
+    let numbers = (t.a, t.b, t.c, t.d, t.e, t.f, t.g, t.h, t.i, t.j, t.k);
+    Ok(Some((numbers, t.l)))
 }
 
 fn parse_one(alloc: Global, doc: &Doc) -> Result<Option<String>, AllocError> {
-    Ok(find_one(alloc, doc)?.map(|found| found.0))
+    match find_one(alloc, doc)? {
+        Some(found) => Ok(Some(found.0)),
+        None => Ok(None),
+    }
 }
 
 // The variant's number, and its fields.
