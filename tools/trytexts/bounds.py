@@ -94,13 +94,13 @@ def text(length, start=8):
     return Memory(1, 4 * (length + start), length.bit_length() + 2, 2 * (length + start), 2 * (length + start))
 
 
-def document(found):
-    """A document, and the stack on which it is made."""
+def document(found, length):
+    """A document of a text of this length, and the stack on which it is made."""
     strings = found.strings()
-    size = found.text_bytes() + found.entry_bytes
     count = strings + found.blocks + found.empties
-    stack = 224 + 4 * 56 * count
-    return Memory(strings + found.blocks + 1, size + stack, count.bit_length() + 2, size + 56, size + stack)
+    made = length + found.entry_bytes + 224 + 4 * 56 * count
+    held = 2 * (found.text_bytes() + found.entry_bytes) + 56
+    return Memory(strings + found.blocks + 1, made, count.bit_length() + 2, held, made)
 
 
 def values(found, length):
@@ -115,17 +115,17 @@ def memory(call, case):
     if call in ("scan", "convert into", "is_token", "print into", "print loose into", "same_text", "normalize", "i128", "is_leaf", "is_word"):
         return NOTHING
     return {
-        "read": lambda: document(found),
-        "parse": lambda: document(found).dropped().then(values(found, length)),
+        "read": lambda: document(found, length),
+        "parse": lambda: document(found, length).dropped().then(values(found, length)),
         "convert": lambda: text(case.other, RESERVED),
         "convert to a String": lambda: text(case.other),
-        "again": lambda: document(found).dropped().then(text(length)),
+        "again": lambda: document(found, length).dropped().then(text(length)),
         "there and back": lambda: text(case.other, RESERVED).dropped().then(text(length, RESERVED)),
         "print": lambda: text(length),
         "unquoted": lambda: text(length),
         "leaf_text": lambda: text(length),
         "field_text": lambda: text(length),
-        "read_field": lambda: document(found).dropped().then(text(length)),
+        "read_field": lambda: document(found, length).dropped().then(text(length)),
         "char": lambda: text(length),
         "String": lambda: text(length),
         "Doc::text": lambda: text(case.quoted),
