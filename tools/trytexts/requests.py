@@ -153,8 +153,8 @@ def of_leaf(leaf):
 
 def names(name):
     leaf, written = quoted(name), Written(name)
-    blocks = [Block("struct", name, [(name, leaf)] * count) for count in range(13)]
-    blocks += [Block("tuple", name, [(None, leaf)] * count) for count in range(13)]
+    blocks = [Block("struct", name, [(name, leaf)] * count) for count in (0, 1, 3)]
+    blocks += [Block("tuple", name, [(None, leaf)] * count) for count in (0, 1, 3)]
     blocks.append(Block("list", "", [(None, leaf), (None, written)]))
     blocks.append(Block("map", "", [(leaf, leaf), (written, written)]))
     blocks.append(Block("struct", name, [(name, leaf), (name, written)]))

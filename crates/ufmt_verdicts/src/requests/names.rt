@@ -3,7 +3,7 @@ use crate::digest::Digest;
 use crate::pieces::Pieces;
 use ufmt::{Formatter, uWrite};
 
-/// Writes structs and tuples with up to 12 fields, and blocks by builders, in each mode.
+/// Writes structs and tuples by the calls for whole values, and blocks by builders, in each mode.
 pub fn pieces(name: &str) -> Digest {
     let mut pieces = Pieces::new();
     let mut f = Formatter::new(&mut pieces);
@@ -21,34 +21,17 @@ fn write<W: uWrite>(name: &str, f: &mut Formatter<W>) -> Result<(), W::Error> {
     write_tuple(name, f)
 }
 
-// Whole structs, with a field for each word.
-macro_rules! structs {
-    ($f:ident, $name:ident; $($call:ident [$($field:ident)*])*) => {{
-        $($f.$call($name, $($field, &$field),*)?;)*
-        Ok(())
-    }};
+// The calls for whole structs. Each further field costs the proof as much as all before it.
+fn write_structs<W: uWrite>(name: &str, f: &mut Formatter<W>) -> Result<(), W::Error> {
+    f.struct_0(name)?;
+    f.struct_1(name, name, &name)?;
+    f.struct_3(name, name, &name, name, &name, name, &name)
 }
 
-// Whole tuples, with a field for each word.
-macro_rules! tuples {
-    ($f:ident, $name:ident; $($call:ident [$($field:ident)*])*) => {{
-        $($f.$call($name, $(&$field),*)?;)*
-        Ok(())
-    }};
-}
-
-fn write_structs<W: uWrite>(n: &str, f: &mut Formatter<W>) -> Result<(), W::Error> {
-    structs!(f, n;
-        struct_0 [] struct_1 [n] struct_2 [n n] struct_3 [n n n] struct_4 [n n n n] struct_5 [n n n n n]
-        struct_6 [n n n n n n] struct_7 [n n n n n n n] struct_8 [n n n n n n n n] struct_9 [n n n n n n n n n]
-        struct_10 [n n n n n n n n n n] struct_11 [n n n n n n n n n n n] struct_12 [n n n n n n n n n n n n])
-}
-
-fn write_tuples<W: uWrite>(n: &str, f: &mut Formatter<W>) -> Result<(), W::Error> {
-    tuples!(f, n;
-        tuple_0 [] tuple_1 [n] tuple_2 [n n] tuple_3 [n n n] tuple_4 [n n n n] tuple_5 [n n n n n]
-        tuple_6 [n n n n n n] tuple_7 [n n n n n n n] tuple_8 [n n n n n n n n] tuple_9 [n n n n n n n n n]
-        tuple_10 [n n n n n n n n n n] tuple_11 [n n n n n n n n n n n] tuple_12 [n n n n n n n n n n n n])
+fn write_tuples<W: uWrite>(name: &str, f: &mut Formatter<W>) -> Result<(), W::Error> {
+    f.tuple_0(name)?;
+    f.tuple_1(name, &name)?;
+    f.tuple_3(name, &name, &name, &name)
 }
 
 fn write_list<W: uWrite>(value: &str, f: &mut Formatter<W>) -> Result<(), W::Error> {
