@@ -59,12 +59,13 @@ fn tuple(
 // The counts of each macro for this text.
 fn counts(alloc: Global, text: &str) -> Result<[Counts; 3], ReadError> {
     let doc = read_plain(alloc, text.as_bytes())?;
-    let mut counts = [(0, 0); 3];
-    let [of_variant, of_structure, of_tuple] = &mut counts;
-    drop(variant(alloc, &doc, of_variant)?);
-    drop(structure(alloc, &doc, of_structure)?);
-    drop(tuple(alloc, &doc, of_tuple)?);
-    Ok(counts)
+    let mut of_variant = (0, 0);
+    let mut of_structure = (0, 0);
+    let mut of_tuple = (0, 0);
+    drop(variant(alloc, &doc, &mut of_variant)?);
+    drop(structure(alloc, &doc, &mut of_structure)?);
+    drop(tuple(alloc, &doc, &mut of_tuple)?);
+    Ok([of_variant, of_structure, of_tuple])
 }
 
 #[test]
