@@ -102,11 +102,9 @@ class Meter:
             ran = subprocess.run(command, stdin=log, stdout=subprocess.DEVNULL, stderr=subprocess.PIPE, check=True, timeout=SECONDS)
         return int(re.search(rb"I +refs: +([\d,]+)", ran.stderr)[1].replace(b",", b""))
 
-    def steps_a_byte(self, shape):
-        """How many steps more than for no log each byte costs."""
-        log = shape.log(SIZE)
-        more = self.steps(self.put(shape.name, log), shape.mode) - self.steps(self.put("nothing", b""), shape.mode)
-        return more / len(log)
+    def steps_of_nothing(self):
+        """The steps of a run on no log, or None if there is no valgrind."""
+        return self.steps(self.put("nothing", b""), "pretty") if self.valgrind else None
 
     def passes(self, path, mode, most):
         """Whether a run ends with status 0 if it has at most so many bytes of memory."""
@@ -132,8 +130,10 @@ class Meter:
         return self.program.ended(process)
 
 
-def wrong_steps(meter, shape):
-    steps = meter.steps_a_byte(shape)
+def wrong_steps(meter, shape, nothing):
+    """Each byte costs so many steps more than a run on no log."""
+    log = shape.log(SIZE)
+    steps = (meter.steps(meter.put(shape.name, log), shape.mode) - nothing) / len(log)
     if steps > shape.steps * SPARE:
         return "%s: %d steps a byte, where %d are allowed" % (shape.name, steps, shape.steps * SPARE)
     return None
