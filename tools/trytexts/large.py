@@ -2,8 +2,8 @@
 import resource
 import subprocess
 
-from model import quoted
-from verdicts import digest
+from model import Block, plain, pretty
+from verdicts import half, leaf_verdict
 
 SIZE = 16 * 1024 * 1024
 LINES = 1_000_000
@@ -13,49 +13,50 @@ SECONDS = 60
 
 
 def listed(leaf, count):
-    """The plain text, the pretty text, the events and the parts of a list of equal leaves."""
-    return (
-        "[%s]" % ", ".join([leaf] * count),
-        "[\n%s]" % ("    %s,\n" % leaf * count),
-        "ol %scl2 " % ", ".join(["=%s " % leaf] * count),
-        "l(%s)" % ("=%s " % leaf * count),
-    )
+    """A list of equal leaves: its plain text, its pretty text, and itself."""
+    plain = "[%s]" % ", ".join([leaf] * count)
+    return plain, "[\n%s]" % ("    %s,\n" % leaf * count), Block("list", "", [(None, leaf)] * count)
 
 
 def long_word():
     word = "x" * SIZE
-    return "a long word", word, word, "=%s " % word, "=%s " % word, ""
+    return "a long word", word, word, word
 
 
 def long_text():
-    inside = "a" * SIZE
-    leaf = '"%s"' % inside
-    return "a long text", leaf, leaf, "=%s " % leaf, "=%s~%s " % (leaf, inside), "g"
+    leaf = '"%s"' % ("a" * SIZE)
+    return "a long text", leaf, leaf, leaf
 
 
 def long_words():
-    return ("a list of long words", *listed("x" * 65536, SIZE // 65536), "")
+    return ("a list of long words", *listed("x" * 65536, SIZE // 65536))
 
 
 def short_words():
-    return ("a list of short words", *listed("x", SIZE // 3), "")
+    return ("a list of short words", *listed("x", SIZE // 3))
 
 
-# Each makes a document: its name, its plain and its pretty text, its events, its parts, and the letters of the types
-# that have it as a value.
+def fewer_words():
+    """As many as the model can judge in a minute."""
+    return ("a list of fewer short words", *listed("x", 1_500_000))
+
+
+# Each makes a document: its name, its plain and its pretty text by how they are made, and the document of the model.
 DOCUMENTS = (long_word, long_text, long_words, short_words)
+JUDGED = (long_word, long_text, long_words, fewer_words)
 # The runs of the commands are in so many parts.
 PARTS = len(DOCUMENTS) + 1
 
 
-def document_runs(document):
+def document_runs(made):
     """Runs of the commands: of which program, its words, its input and its output."""
-    name, plain, pretty, *_rest = document
-    yield name, "ufmt_conv", ["pretty"], plain, pretty + "\n"
-    yield name, "ufmt_conv", ["plain"], pretty, plain + "\n"
-    yield name, "ufmt_conv", ["lengths"], pretty, "[%s]\n" % ", ".join(str(len(line)) for line in pretty.split("\n"))
-    yield name, "ufmt_lines", [], WORDS + plain + "\n", WORDS + pretty + "\n"
-    yield name, "ufmt_lines", ["--plain"], WORDS + pretty + "\n", WORDS + plain + "\n"
+    name, by_plain, by_pretty, _document = made
+    lengths = ", ".join(str(len(line)) for line in by_pretty.split("\n"))
+    yield name, "ufmt_conv", ["pretty"], by_plain, by_pretty + "\n"
+    yield name, "ufmt_conv", ["plain"], by_pretty, by_plain + "\n"
+    yield name, "ufmt_conv", ["lengths"], by_pretty, "[%s]\n" % lengths
+    yield name, "ufmt_lines", [], WORDS + by_plain + "\n", WORDS + by_pretty + "\n"
+    yield name, "ufmt_lines", ["--plain"], WORDS + by_pretty + "\n", WORDS + by_plain + "\n"
 
 
 def line_runs():
@@ -70,34 +71,19 @@ def command_runs(number):
     return document_runs(DOCUMENTS[number]()) if number < len(DOCUMENTS) else line_runs()
 
 
-def half(other, events, parts, letters):
-    words = (digest(events), digest(other), digest(parts), letters)
-    return "events %s, converted %s, parts %s, in a list yes, types [%s]" % words
-
-
-def verdict(text, is_pretty, other, events, parts, letters):
-    """The line of ufmt_verdicts on one of both texts of a document."""
-    one, no = half(other, events, parts, letters), "no text"
-    is_leaf = text == other
-    plain, pretty = (one, one) if is_leaf else (no, one) if is_pretty else (one, no)
-    is_word = is_leaf and text[0] == "x"
-    escaped = '"%s"' % text.replace("\\", "\\\\").replace('"', '\\"').replace("\n", "\\n")
-    first = "".join(quoted(character, "'") for character in text[:64])
-    leaf = "token %s, name %s, quoted %s, characters %s" % (
-        "yes" if is_leaf else "no",
-        "yes" if is_word else "no",
-        digest(escaped),
-        digest(first),
-    )
-    return "plain: %s; pretty: %s; leaf: %s\n" % (plain, pretty, leaf)
+def verdict(text, document, other):
+    """The line of ufmt_verdicts on one of both texts of a document. Other is the document's other text."""
+    is_leaf, is_pretty = text == other, text[1:2] == "\n"
+    by_plain = "no text" if is_pretty else half(document, pretty)
+    by_pretty = half(document, plain) if is_leaf or is_pretty else "no text"
+    return "plain: %s; pretty: %s; leaf: %s\n" % (by_plain, by_pretty, leaf_verdict(text))
 
 
 def verdict_runs():
-    for make in DOCUMENTS:
-        name, plain, pretty, events, parts, letters = make()
-        for text, other, is_pretty in ((plain, pretty, False), (pretty, plain, True))[: 1 + (plain != pretty)]:
-            wanted = verdict(text, is_pretty, other, events, parts, letters)
-            yield name, "ufmt_verdicts", [], "%d\n%s" % (len(text), text), wanted
+    for make in JUDGED:
+        name, by_plain, by_pretty, document = make()
+        for text, other in ((by_plain, by_pretty), (by_pretty, by_plain))[: 1 + (by_plain != by_pretty)]:
+            yield name, "ufmt_verdicts", [], "%d\n%s" % (len(text), text), verdict(text, document, other)
 
 
 def limited():
