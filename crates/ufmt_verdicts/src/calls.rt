@@ -1,4 +1,5 @@
 //! The calls on the texts of one mode.
+use crate::loose::Loosener;
 use crate::pieces::Pieces;
 use std::alloc::{AllocError, Global};
 use ufmt::layout::Mode;
@@ -41,6 +42,17 @@ impl Calls<'_> {
             Mode::Plain => read_plain(self.alloc, self.text),
             Mode::Pretty => read_pretty(self.alloc, self.text),
         }
+    }
+
+    /// Reads the text, and puts the document in another form that has the same texts.
+    pub fn read_loose(&self) -> Result<Doc, ReadError> {
+        let mut doc = self.read()?;
+        let mut loosener = Loosener {
+            alloc: self.alloc,
+            is_struct_next: true,
+        };
+        loosener.loosen(&mut doc);
+        Ok(doc)
     }
 
     pub fn convert(&self) -> Result<String, ReadError> {

@@ -3,7 +3,6 @@
 ghost use Rattle.std.specs.Prelude.{⊤};
 
 use crate::calls::Calls;
-use crate::loose::Loosener;
 use std::alloc::{AllocError, Global};
 use std::collections::{BTreeMap, BTreeSet};
 use ufmt::layout::Mode;
@@ -35,17 +34,9 @@ pub fn calls_made(alloc: Global, text: &[u8]) -> Result<String, AllocError> {
         alloc,
         line: String::from_str(alloc, "plain: ")?,
     };
-    costs.on_text(Calls {
-        alloc,
-        mode: Mode::Plain,
-        text,
-    })?;
+    costs.on_mode(Mode::Plain, text)?;
     costs.line.push_str("; pretty: ")?;
-    costs.on_text(Calls {
-        alloc,
-        mode: Mode::Pretty,
-        text,
-    })?;
+    costs.on_mode(Mode::Pretty, text)?;
     costs.line.push_str("; leaf: ")?;
     if let Ok(text) = str::from_utf8(text) {
         costs.on_leaf(text)?;
@@ -80,24 +71,29 @@ impl Costs {
         self.line.push_str(word)
     }
 
+    fn on_mode(&mut self, mode: Mode, text: &[u8]) -> Result<(), AllocError> {
+        self.on_text(Calls {
+            alloc: self.alloc,
+            mode,
+            text,
+        })
+    }
+
     fn on_text(&mut self, calls: Calls<'_>) -> Result<(), AllocError> {
         self.count("scan", || calls.scan(&mut Ignores).ok())?;
         self.count("read", || calls.read().ok())?;
         self.count("parse", || calls.parse::<Vec<Tree>>().ok())?;
         self.on_conversions(calls)?;
-        match (calls.read(), calls.read()) {
-            (Ok(doc), Ok(mut loose)) => {
-                let mut loosener = Loosener {
-                    alloc: self.alloc,
-                    is_struct_next: true,
-                };
-                loosener.loosen(&mut loose);
-                self.on_doc(calls, &doc)?;
-                self.on_loose(calls, &doc, &mut loose)?;
-                self.on_types(&doc)
-            }
+        match (calls.read(), calls.read_loose()) {
+            (Ok(doc), Ok(mut loose)) => self.on_docs(calls, &doc, &mut loose),
             _ => Ok(()),
         }
+    }
+
+    fn on_docs(&mut self, calls: Calls<'_>, doc: &Doc, loose: &mut Doc) -> Result<(), AllocError> {
+        self.on_doc(calls, doc)?;
+        self.on_loose(calls, doc, loose)?;
+        self.on_types(doc)
     }
 
     fn on_conversions(&mut self, calls: Calls<'_>) -> Result<(), AllocError> {

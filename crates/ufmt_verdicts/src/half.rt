@@ -5,7 +5,6 @@ use crate::calls::Calls;
 use crate::digest::Digest;
 use crate::events::Events;
 use crate::fault::{Fault, agree};
-use crate::loose::Loosener;
 use crate::parts::Parts;
 use crate::pieces::{self, TextPieces};
 use crate::{fields, parsed, shapes};
@@ -138,36 +137,41 @@ fn prints(calls: Calls<'_>, doc: &Doc) -> Result<(), Fault> {
 fn is_normal(calls: Calls<'_>, parts: &str) -> Result<(), Fault> {
     let mut doc = calls.read()?;
     doc.normalize(calls.alloc);
-    let normal = Parts::of(calls.alloc, &doc)?;
-    agree(normal.as_str() == parts, "normalize of what was read")
+    has_parts(calls, &doc, parts, "normalize of what was read")
 }
 
 // A document that isn't in normal form has the same texts and the same normal form.
 fn is_normal_of_loose(calls: Calls<'_>, doc: &Doc, parts: &str) -> Result<(), Fault> {
-    let mut loose = calls.read()?;
-    let mut loosener = Loosener {
-        alloc: calls.alloc,
-        is_struct_next: true,
-    };
-    loosener.loosen(&mut loose);
+    let mut loose = calls.read_loose()?;
     prints(calls, &loose)?;
     let is_alike = pieces::printed(calls, &loose) == pieces::printed(calls, doc);
     agree(is_alike, "pieces of a document that isn't in normal form")?;
+    have_one_text(&loose, doc)?;
+    comes_as_normal(calls, &loose, parts)?;
+    loose.normalize(calls.alloc);
+    has_parts(calls, &loose, parts, "normalize")
+}
+
+fn have_one_text(loose: &Doc, doc: &Doc) -> Result<(), Fault> {
     if !doc.is_token() || !loose.is_token() {
         return Err(Fault::Other("is_token"));
     }
     agree(same_text(doc, doc), "same_text with itself")?;
-    agree(same_text(&loose, doc), "same_text with the normal form")?;
-    agree(same_text(doc, &loose), "same_text of the normal form")?;
-    let by_plain = normal_by_way_of_plain(calls.alloc, &loose)?;
-    let by_plain = Parts::of(calls.alloc, &by_plain)?;
-    agree(by_plain.as_str() == parts, "normal form by way of plain")?;
-    let by_pretty = normal_by_way_of_pretty(calls.alloc, &loose)?;
-    let by_pretty = Parts::of(calls.alloc, &by_pretty)?;
-    agree(by_pretty.as_str() == parts, "normal form by way of pretty")?;
-    loose.normalize(calls.alloc);
-    let normal = Parts::of(calls.alloc, &loose)?;
-    agree(normal.as_str() == parts, "normalize")
+    agree(same_text(loose, doc), "same_text with the normal form")?;
+    agree(same_text(doc, loose), "same_text of the normal form")
+}
+
+// Printed and read again, the document is the normal form.
+fn comes_as_normal(calls: Calls<'_>, loose: &Doc, parts: &str) -> Result<(), Fault> {
+    let by_plain = normal_by_way_of_plain(calls.alloc, loose)?;
+    has_parts(calls, &by_plain, parts, "normal form by way of plain")?;
+    let by_pretty = normal_by_way_of_pretty(calls.alloc, loose)?;
+    has_parts(calls, &by_pretty, parts, "normal form by way of pretty")
+}
+
+fn has_parts(calls: Calls<'_>, doc: &Doc, parts: &str, call: &'static str) -> Result<(), Fault> {
+    let found = Parts::of(calls.alloc, doc)?;
+    agree(found.as_str() == parts, call)
 }
 
 fn is_token_in_a_list(calls: Calls<'_>, doc: &Doc) -> Result<bool, Fault> {

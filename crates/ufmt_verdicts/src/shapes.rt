@@ -16,20 +16,24 @@ use ufmt_parse::{
 pub fn fields_of(alloc: Global, doc: &Doc) -> Result<String, Fault> {
     let mut out = String::new(alloc);
     match doc {
-        Doc::StructOf(_, _) => {
-            note_structs(alloc, doc, &mut out)?;
-            note_long_structs(alloc, doc, &mut out)?;
-            note(alloc, "w", parse_twelve(alloc, doc)?, &mut out)?;
-        }
-        Doc::TupleOf(_, _) => {
-            note_tuples(alloc, doc, &mut out)?;
-            note_long_tuples(alloc, doc, &mut out)?;
-            note(alloc, "o", parse_one(alloc, doc)?, &mut out)?;
-        }
+        Doc::StructOf(_, _) => note_each_struct(alloc, doc, &mut out)?,
+        Doc::TupleOf(_, _) => note_each_tuple(alloc, doc, &mut out)?,
         _ => {}
     }
     note(alloc, "e", parse_event(alloc, doc)?, &mut out)?;
     Ok(out)
+}
+
+fn note_each_struct(alloc: Global, doc: &Doc, out: &mut String) -> Result<(), Fault> {
+    note_structs(alloc, doc, out)?;
+    note_long_structs(alloc, doc, out)?;
+    note(alloc, "w", parse_twelve(alloc, doc)?, out)
+}
+
+fn note_each_tuple(alloc: Global, doc: &Doc, out: &mut String) -> Result<(), Fault> {
+    note_tuples(alloc, doc, out)?;
+    note_long_tuples(alloc, doc, out)?;
+    note(alloc, "o", parse_one(alloc, doc)?, out)
 }
 
 // Notes the fields after a letter, if the document is a value's.
