@@ -7,6 +7,7 @@ ghost use Rattle.ufmt_core.specs.Formatter.{Prints};
 ghost use Rattle.ufmt_core.specs.Block.{WritesEntry, EndsEntry, IsLent, IsOpen, WritesOpening, field_lead_of, field_text};
 ghost use Rattle.ufmt_core.specs.Builder.{LendsForField, OpeningLoan, struct_block};
 
+mod by_count;
 mod whole;
 
 use crate::formatter::Formatter;

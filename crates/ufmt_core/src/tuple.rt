@@ -7,6 +7,7 @@ ghost use Rattle.ufmt_core.specs.Formatter.{Prints};
 ghost use Rattle.ufmt_core.specs.Block.{WritesEntry, EndsEntry, IsLent, IsOpen, WritesOpening, entry_text, lead_of};
 ghost use Rattle.ufmt_core.specs.Builder.{LendsForUnnamedField, OpeningLoan, kind_of_tuple, tuple_block};
 
+mod by_count;
 mod whole;
 
 use crate::formatter::Formatter;

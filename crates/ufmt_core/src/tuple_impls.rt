@@ -1,4 +1,4 @@
-//! Tuples of one to twelve.
+//! Tuples of one to twelve. tools/write-by-count writes this file: change it there.
 ghost use Rattle.std.specs.Prelude.{[], ◌∷◌};
 ghost use Rattle.ufmt_core.specs.Document.{documents, tuple_of};
 
@@ -23,8 +23,8 @@ impl<A: uDebug, B: uDebug> uDebug for (A, B) {
 }
 
 impl<A: uDebug, B: uDebug, C: uDebug> uDebug for (A, B, C) {
-    ghost document = { λ t. tuple_of []
-        (documents (A.document t.0 ∷ B.document t.1 ∷ C.document t.2 ∷ [])) };
+    ghost document = { λ t. tuple_of [] (documents (A.document t.0 ∷ B.document t.1 ∷ C.document t.2
+        ∷ [])) };
 
     fn fmt<W: uWrite>(&self, f: &mut Formatter<W>) -> Result<(), W::Error> {
         f.tuple_3("", &self.0, &self.1, &self.2)
@@ -32,8 +32,8 @@ impl<A: uDebug, B: uDebug, C: uDebug> uDebug for (A, B, C) {
 }
 
 impl<A: uDebug, B: uDebug, C: uDebug, D: uDebug> uDebug for (A, B, C, D) {
-    ghost document = { λ t. tuple_of []
-        (documents (A.document t.0 ∷ B.document t.1 ∷ C.document t.2 ∷ D.document t.3 ∷ [])) };
+    ghost document = { λ t. tuple_of [] (documents (A.document t.0 ∷ B.document t.1 ∷ C.document t.2
+        ∷ D.document t.3 ∷ [])) };
 
     fn fmt<W: uWrite>(&self, f: &mut Formatter<W>) -> Result<(), W::Error> {
         f.tuple_4("", &self.0, &self.1, &self.2, &self.3)
@@ -41,9 +41,8 @@ impl<A: uDebug, B: uDebug, C: uDebug, D: uDebug> uDebug for (A, B, C, D) {
 }
 
 impl<A: uDebug, B: uDebug, C: uDebug, D: uDebug, E: uDebug> uDebug for (A, B, C, D, E) {
-    ghost document = { λ t. tuple_of []
-        (documents (A.document t.0 ∷ B.document t.1 ∷ C.document t.2 ∷ D.document t.3 ∷ E.document
-        t.4 ∷ [])) };
+    ghost document = { λ t. tuple_of [] (documents (A.document t.0 ∷ B.document t.1 ∷ C.document t.2
+        ∷ D.document t.3 ∷ E.document t.4 ∷ [])) };
 
     fn fmt<W: uWrite>(&self, f: &mut Formatter<W>) -> Result<(), W::Error> {
         f.tuple_5("", &self.0, &self.1, &self.2, &self.3, &self.4)
@@ -52,9 +51,8 @@ impl<A: uDebug, B: uDebug, C: uDebug, D: uDebug, E: uDebug> uDebug for (A, B, C,
 
 impl<A: uDebug, B: uDebug, C: uDebug, D: uDebug, E: uDebug, F: uDebug> uDebug
     for (A, B, C, D, E, F) {
-    ghost document = { λ t. tuple_of []
-        (documents (A.document t.0 ∷ B.document t.1 ∷ C.document t.2 ∷ D.document t.3 ∷ E.document
-        t.4 ∷ F.document t.5 ∷ [])) };
+    ghost document = { λ t. tuple_of [] (documents (A.document t.0 ∷ B.document t.1 ∷ C.document t.2
+        ∷ D.document t.3 ∷ E.document t.4 ∷ F.document t.5 ∷ [])) };
 
     fn fmt<W: uWrite>(&self, f: &mut Formatter<W>) -> Result<(), W::Error> {
         f.tuple_6("", &self.0, &self.1, &self.2, &self.3, &self.4, &self.5)
@@ -63,9 +61,8 @@ impl<A: uDebug, B: uDebug, C: uDebug, D: uDebug, E: uDebug, F: uDebug> uDebug
 
 impl<A: uDebug, B: uDebug, C: uDebug, D: uDebug, E: uDebug, F: uDebug, G: uDebug> uDebug
     for (A, B, C, D, E, F, G) {
-    ghost document = { λ t. tuple_of []
-        (documents (A.document t.0 ∷ B.document t.1 ∷ C.document t.2 ∷ D.document t.3 ∷ E.document
-        t.4 ∷ F.document t.5 ∷ G.document t.6 ∷ [])) };
+    ghost document = { λ t. tuple_of [] (documents (A.document t.0 ∷ B.document t.1 ∷ C.document t.2
+        ∷ D.document t.3 ∷ E.document t.4 ∷ F.document t.5 ∷ G.document t.6 ∷ [])) };
 
     fn fmt<W: uWrite>(&self, f: &mut Formatter<W>) -> Result<(), W::Error> {
         f.tuple_7(
@@ -76,9 +73,9 @@ impl<A: uDebug, B: uDebug, C: uDebug, D: uDebug, E: uDebug, F: uDebug, G: uDebug
 
 impl<A: uDebug, B: uDebug, C: uDebug, D: uDebug, E: uDebug, F: uDebug, G: uDebug, H: uDebug> uDebug
     for (A, B, C, D, E, F, G, H) {
-    ghost document = { λ t. tuple_of []
-        (documents (A.document t.0 ∷ B.document t.1 ∷ C.document t.2 ∷ D.document t.3 ∷ E.document
-        t.4 ∷ F.document t.5 ∷ G.document t.6 ∷ H.document t.7 ∷ [])) };
+    ghost document = { λ t. tuple_of [] (documents (A.document t.0 ∷ B.document t.1 ∷ C.document t.2
+        ∷ D.document t.3 ∷ E.document t.4 ∷ F.document t.5 ∷ G.document t.6 ∷ H.document t.7
+        ∷ [])) };
 
     fn fmt<W: uWrite>(&self, f: &mut Formatter<W>) -> Result<(), W::Error> {
         f.tuple_8(
@@ -98,9 +95,9 @@ impl<
     H: uDebug,
     I: uDebug,
 > uDebug for (A, B, C, D, E, F, G, H, I) {
-    ghost document = { λ t. tuple_of []
-        (documents (A.document t.0 ∷ B.document t.1 ∷ C.document t.2 ∷ D.document t.3 ∷ E.document
-        t.4 ∷ F.document t.5 ∷ G.document t.6 ∷ H.document t.7 ∷ I.document t.8 ∷ [])) };
+    ghost document = { λ t. tuple_of [] (documents (A.document t.0 ∷ B.document t.1 ∷ C.document t.2
+        ∷ D.document t.3 ∷ E.document t.4 ∷ F.document t.5 ∷ G.document t.6 ∷ H.document t.7
+        ∷ I.document t.8 ∷ [])) };
 
     fn fmt<W: uWrite>(&self, f: &mut Formatter<W>) -> Result<(), W::Error> {
         f.tuple_9(
@@ -121,10 +118,9 @@ impl<
     I: uDebug,
     J: uDebug,
 > uDebug for (A, B, C, D, E, F, G, H, I, J) {
-    ghost document = { λ t. tuple_of []
-        (documents (A.document t.0 ∷ B.document t.1 ∷ C.document t.2 ∷ D.document t.3 ∷ E.document
-        t.4 ∷ F.document t.5 ∷ G.document t.6 ∷ H.document t.7 ∷ I.document t.8 ∷ J.document t.9
-        ∷ [])) };
+    ghost document = { λ t. tuple_of [] (documents (A.document t.0 ∷ B.document t.1 ∷ C.document t.2
+        ∷ D.document t.3 ∷ E.document t.4 ∷ F.document t.5 ∷ G.document t.6 ∷ H.document t.7
+        ∷ I.document t.8 ∷ J.document t.9 ∷ [])) };
 
     fn fmt<W: uWrite>(&self, f: &mut Formatter<W>) -> Result<(), W::Error> {
         f.tuple_10(
@@ -147,10 +143,9 @@ impl<
     J: uDebug,
     K: uDebug,
 > uDebug for (A, B, C, D, E, F, G, H, I, J, K) {
-    ghost document = { λ t. tuple_of []
-        (documents (A.document t.0 ∷ B.document t.1 ∷ C.document t.2 ∷ D.document t.3 ∷ E.document
-        t.4 ∷ F.document t.5 ∷ G.document t.6 ∷ H.document t.7 ∷ I.document t.8 ∷ J.document t.9
-        ∷ K.document t.10 ∷ [])) };
+    ghost document = { λ t. tuple_of [] (documents (A.document t.0 ∷ B.document t.1 ∷ C.document t.2
+        ∷ D.document t.3 ∷ E.document t.4 ∷ F.document t.5 ∷ G.document t.6 ∷ H.document t.7
+        ∷ I.document t.8 ∷ J.document t.9 ∷ K.document t.10 ∷ [])) };
 
     fn fmt<W: uWrite>(&self, f: &mut Formatter<W>) -> Result<(), W::Error> {
         f.tuple_11(
@@ -174,10 +169,9 @@ impl<
     K: uDebug,
     L: uDebug,
 > uDebug for (A, B, C, D, E, F, G, H, I, J, K, L) {
-    ghost document = { λ t. tuple_of []
-        (documents (A.document t.0 ∷ B.document t.1 ∷ C.document t.2 ∷ D.document t.3 ∷ E.document
-        t.4 ∷ F.document t.5 ∷ G.document t.6 ∷ H.document t.7 ∷ I.document t.8 ∷ J.document t.9
-        ∷ K.document t.10 ∷ L.document t.11 ∷ [])) };
+    ghost document = { λ t. tuple_of [] (documents (A.document t.0 ∷ B.document t.1 ∷ C.document t.2
+        ∷ D.document t.3 ∷ E.document t.4 ∷ F.document t.5 ∷ G.document t.6 ∷ H.document t.7
+        ∷ I.document t.8 ∷ J.document t.9 ∷ K.document t.10 ∷ L.document t.11 ∷ [])) };
 
     fn fmt<W: uWrite>(&self, f: &mut Formatter<W>) -> Result<(), W::Error> {
         f.tuple_12(
