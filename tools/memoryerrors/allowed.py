@@ -29,6 +29,7 @@ PASSED = "an error is passed on, with its fault or at the end of a program or te
 PROVED = "a proof says that control never comes there"
 AHEAD = "zeros that were made ahead: the contract of the body holds without them"
 NEVER = "events that no scan emits: an event's contract doesn't rule them out"
+DEPTH = "a value deeper than the 256 levels of a `Depth`: no document that was read is so deep"
 NO_MEMORY = "what fails takes no memory"
 DEVICE = "what failed is a device"
 LARGE = "a number of arithmetic, or a bound on turns that each read: no memory is asked for by it"
@@ -55,6 +56,10 @@ IN_BODIES = [
     (NEVER, "ufmt_doc/src/reader/document_sink.rt", "take_fields", "if 2*(docs.len()-start)/2<docs.len()-start return Err(NEVER)"),
     (NEVER, "ufmt_doc/src/reader/document_sink.rt", "DocumentSink::open", "if self.open_blocks==256 return Err(NEVER)"),
     (NEVER, "ufmt_doc/src/reader/document_sink.rt", "DocumentSink::close", "if self.docs.len()<=self.blocks[innermost].start return Err(NEVER)"),
+    (DEPTH, "ufmt_examples/src/node.rt", "ParsesBy<Node>for Depth::parse_by", "Err(AllocError)"),
+    (DEPTH, "ufmt_examples/src/node.rt", "ParsesBy<Node>for Depth::parse_by", "Depth::Out=>Err(AllocError)"),
+    (DEPTH, "ufmt_examples/src/tree.rt", "ParsesBy<Tree>for Depth::parse_by", "Err(AllocError)"),
+    (DEPTH, "ufmt_examples/src/tree.rt", "ParsesBy<Tree>for Depth::parse_by", "Depth::Out=>Err(AllocError)"),
     (NAMED, "ufmt_scan/src/error.rt", "ReadError::code", "ReadError::OutOfMemory=>2"),
     (NAMED, "ufmt_conv/src/run/fault.rt", "Fault::status", "Fault::OutOfMemory=>5"),
     (NAMED, "ufmt_conv/src/run/fault.rt", "Fault::line", "Fault::OutOfMemory=>\"\""),

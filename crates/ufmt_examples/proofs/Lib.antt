@@ -1,2 +1,3 @@
 pub mod AlarmTokens
 pub mod MeasurementTokens
+mod Nested

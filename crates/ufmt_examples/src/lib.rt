@@ -1,14 +1,21 @@
 #![tactic(auto)]
 
 //! Callers of `ufmt_scan`, `ufmt_doc`, `ufmt_parse` and `ufmt_snapshot`: a line of a log is parsed, read back, tested or
-//! made readable, and values are compared with one another and with a stored text.
+//! made readable, and values are compared with one another and with a stored text. Types that hold themselves, and a
+//! struct of choices, are parsed.
 
 mod alarm;
 mod log_line;
+mod node;
 mod read_back;
 mod snapshot;
+mod switch;
+mod tree;
 
 pub use alarm::{Alarm, parse_alarm};
 pub use log_line::{is_readable, pretty_line};
+pub use node::Node;
 pub use read_back::celsius;
 pub use snapshot::{changes, print_alike};
+pub use switch::Switch;
+pub use tree::Tree;

@@ -1,8 +1,6 @@
 #![tactic(auto)]
 
-//! Tests of `ufmt_parse`, by public calls only, and two types that hold themselves.
+//! Tests of `ufmt_parse`, by public calls only.
 
-pub mod node;
 #[cfg(test)]
 mod tests;
-pub mod tree;

@@ -9,9 +9,8 @@ use ufmt::layout::Mode;
 use ufmt_doc::doc::{Doc, same_text};
 use ufmt_doc::field_text::read_field;
 use ufmt_doc::scan::{Event, Sink};
+use ufmt_examples::{Node, Tree};
 use ufmt_parse::uParse;
-use ufmt_parse_tests::node::Node;
-use ufmt_parse_tests::tree::Tree;
 use ufmt_scan::leaf::{is_leaf, is_word};
 
 // A mark is an allocation of so many bytes and its own number. No memory can give so much, so none is

@@ -8,9 +8,8 @@ use std::num::{
     NonZeroU64, NonZeroUsize,
 };
 use ufmt_doc::doc::Doc;
+use ufmt_examples::{Node, Tree};
 use ufmt_parse::uParse;
-use ufmt_parse_tests::node::Node;
-use ufmt_parse_tests::tree::Tree;
 
 /// Types in a row: the first, and the row of the others, or `()`.
 pub trait Types {

@@ -1,8 +1,7 @@
 //! Tests of types that hold themselves: texts of each shape, and the deepest one that a reader takes.
 use super::{first_wrong, same};
-use crate::node::Node;
-use crate::tree::Tree;
 use std::alloc::{AllocError, Global};
+use ufmt_examples::{Node, Tree};
 
 #[test]
 fn trees_and_nodes(rt: HostRuntime) {

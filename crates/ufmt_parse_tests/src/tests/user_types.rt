@@ -1,6 +1,6 @@
 //! Tests of `parse_fields!` and `parse_variants!` for a user's own types.
 ghost use Rattle.std.specs.Prelude.{[], ◌∷◌, ⊤};
-ghost use Rattle.ufmt.specs.Words.{named, named_struct, named_tuple, number, option_document, string};
+ghost use Rattle.ufmt.specs.Words.{named, named_struct, named_tuple, number, string};
 ghost use Rattle.ufmt_parse.specs.Values.{is_u8, is_u64};
 ghost use Rattle.ufmt_parse_tests.specs.declared.tests.user_types.Eight.TheVariants.{A, B, C, D, E, F, G, H};
 
@@ -8,7 +8,8 @@ use super::{first_wrong, same};
 use std::alloc::{AllocError, Global};
 use ufmt::{Formatter, fields, uDebug, uWrite};
 use ufmt_doc::doc::Doc;
-use ufmt_parse::{parse_fields, parse_struct_3, parse_variants, uParse};
+use ufmt_examples::Switch;
+use ufmt_parse::{parse_fields, parse_variants, uParse};
 
 /// A struct of four fields.
 #[derive(Drop)]
@@ -82,51 +83,6 @@ impl uParse for Both {
 
     fn from_doc(alloc: Global, doc: &Doc) -> Result<Option<Both>, AllocError> {
         parse_fields!(alloc, doc, Both(first, second))
-    }
-}
-
-/// A struct of truth values and an option, whose documents are choices.
-#[derive(Drop)]
-struct Switch {
-    is_on: bool,
-    next: Option<u8>,
-    is_lit: bool,
-}
-
-impl uDebug for Switch {
-    ghost document = { λ s. named_struct "Switch"
-        (("is_on", ⟦<bool as uDebug>⟧.document s.is_on) ∷ ("next", option_document number s.next)
-        ∷ ("is_lit", ⟦<bool as uDebug>⟧.document s.is_lit) ∷ []) };
-
-    fn fmt<W: uWrite>(&self, f: &mut Formatter<W>) -> Result<(), W::Error> {
-        fields!(
-            f,
-            self,
-            Switch {
-                is_on,
-                next,
-                is_lit
-            }
-        )
-    }
-}
-
-impl uParse for Switch {
-    ghost is_value = { λ s. ⟦<Option<u8> as uParse>⟧.is_value s.next };
-
-    fn holds(&self) {
-        self.next.holds();
-    }
-
-    fn from_doc(alloc: Global, doc: &Doc) -> Result<Option<Switch>, AllocError> {
-        match parse_struct_3(alloc, doc, "Switch", "is_on", "next", "is_lit")? {
-            Some((is_on, next, is_lit)) => Ok(Some(Switch {
-                is_on,
-                next,
-                is_lit,
-            })),
-            None => Ok(None),
-        }
     }
 }
 

@@ -2,12 +2,12 @@
 use Rattle.std.specs.Prelude.{IfSome}
 use Rattle.std.specs.List.{AllByRecursion}
 use Rattle.ufmt_parse.specs.Values.{is_u64}
-use Rattle.ufmt_parse_tests.specs.declared.tree.Tree.{Tree}
-use Rattle.ufmt_parse_tests.specs.declared.tree.Tree.TheOpen.{Tree-F}
-use Rattle.ufmt_parse_tests.specs.declared.tree.Tree.TheFolds.{rec-Tree}
-use Rattle.ufmt_parse_tests.specs.declared.node.Node.{Node}
-use Rattle.ufmt_parse_tests.specs.declared.node.Node.TheOpen.{Node-F}
-use Rattle.ufmt_parse_tests.specs.declared.node.Node.TheFolds.{rec-Node}
+use Rattle.ufmt_examples.specs.declared.tree.Tree.{Tree}
+use Rattle.ufmt_examples.specs.declared.tree.Tree.TheOpen.{Tree-F}
+use Rattle.ufmt_examples.specs.declared.tree.Tree.TheFolds.{rec-Tree}
+use Rattle.ufmt_examples.specs.declared.node.Node.{Node}
+use Rattle.ufmt_examples.specs.declared.node.Node.TheOpen.{Node-F}
+use Rattle.ufmt_examples.specs.declared.node.Node.TheFolds.{rec-Node}
 
 abbrev pub tree_step : (X : Type 0) → (X → Tree) → (X → Type 0) → Tree-F X → Type 0
 tree_step X v P t = is_u64 t.size × AllByRecursion P t.children.items

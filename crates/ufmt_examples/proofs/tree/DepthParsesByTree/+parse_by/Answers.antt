@@ -1,10 +1,10 @@
 use Rattle.std.proofs.Common.{ap, sym, ◌∙◌}
 use Rattle.ufmt.specs.Token.{normal}
 use Rattle.ufmt_parse.proofs.FoundFields.{none_found}
-use Rattle.ufmt_parse_tests.specs.declared.tree.Tree.{out-Tree}
-use Rattle.ufmt_parse_tests.specs.declared.tree.Tree.TheFolds.{fold_out-Tree}
-use Rattle.ufmt_parse_tests.proofs.Nested.{tree_is}
-use Rattle.ufmt_parse_tests.proofs.tree.DepthParsesByTree.+parse_by.Goals as goal
+use Rattle.ufmt_examples.specs.declared.tree.Tree.{out-Tree}
+use Rattle.ufmt_examples.specs.declared.tree.Tree.TheFolds.{fold_out-Tree}
+use Rattle.ufmt_examples.proofs.Nested.{tree_is}
+use Rattle.ufmt_examples.proofs.tree.DepthParsesByTree.+parse_by.Goals as goal
 
 pub returns-in-None : goal.returns-in-None
 returns-in-None t c = λ v is same.

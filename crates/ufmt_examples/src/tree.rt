@@ -2,8 +2,8 @@
 ghost use Rattle.std.specs.Prelude.{[], ◌∷◌};
 ghost use Rattle.ufmt.specs.Document.{Document, documents, list_of};
 ghost use Rattle.ufmt.specs.Words.{named_struct, number};
-ghost use Rattle.ufmt_parse_tests.specs.Nested.{is_tree};
-ghost use Rattle.ufmt_parse_tests.specs.declared.tree.Tree.TheFolds.{fold-Tree};
+ghost use Rattle.ufmt_examples.specs.Nested.{is_tree};
+ghost use Rattle.ufmt_examples.specs.declared.tree.Tree.TheFolds.{fold-Tree};
 
 use std::alloc::{AllocError, Global};
 use ufmt::{Formatter, fields, uDebug, uWrite};

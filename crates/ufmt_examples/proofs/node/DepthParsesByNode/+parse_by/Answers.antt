@@ -2,10 +2,10 @@ use Rattle.std.proofs.Common.{[], ◌∷◌, ap, sym, ◌∙◌}
 use Rattle.ufmt.specs.Token.{normal}
 use Rattle.ufmt.specs.Words.{named_struct, number}
 use Rattle.ufmt_parse.proofs.FoundFields.{none_found}
-use Rattle.ufmt_parse_tests.specs.declared.node.Node.{out-Node}
-use Rattle.ufmt_parse_tests.specs.declared.node.Node.TheFolds.{fold_out-Node}
-use Rattle.ufmt_parse_tests.proofs.Nested.{node_is, next_document}
-use Rattle.ufmt_parse_tests.proofs.node.DepthParsesByNode.+parse_by.Goals as goal
+use Rattle.ufmt_examples.specs.declared.node.Node.{out-Node}
+use Rattle.ufmt_examples.specs.declared.node.Node.TheFolds.{fold_out-Node}
+use Rattle.ufmt_examples.proofs.Nested.{node_is, next_document}
+use Rattle.ufmt_examples.proofs.node.DepthParsesByNode.+parse_by.Goals as goal
 
 pub returns-in-None : goal.returns-in-None
 returns-in-None t c = λ v is same.

@@ -2,8 +2,8 @@
 ghost use Rattle.std.specs.Prelude.{[], ◌∷◌};
 ghost use Rattle.ufmt.specs.Document.{Document};
 ghost use Rattle.ufmt.specs.Words.{named_struct, number, option_document};
-ghost use Rattle.ufmt_parse_tests.specs.Nested.{is_node};
-ghost use Rattle.ufmt_parse_tests.specs.declared.node.Node.TheFolds.{fold-Node};
+ghost use Rattle.ufmt_examples.specs.Nested.{is_node};
+ghost use Rattle.ufmt_examples.specs.declared.node.Node.TheFolds.{fold-Node};
 
 use std::alloc::{AllocError, Global};
 use ufmt::{Formatter, fields, uDebug, uWrite};

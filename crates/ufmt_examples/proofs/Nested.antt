@@ -6,13 +6,13 @@ use Rattle.ufmt.specs.Document.{Document}
 use Rattle.ufmt.specs.Words.{option_document}
 use Rattle.ufmt_parse.specs.Values.{is_u64}
 use Rattle.ufmt_parse.proofs.Layers.{all_map, same_holds}
-use Rattle.ufmt_parse_tests.specs.Nested.{is_tree, tree_step, is_node, node_step}
-use Rattle.ufmt_parse_tests.specs.declared.tree.Tree.{Tree, out-Tree}
-use Rattle.ufmt_parse_tests.specs.declared.tree.Tree.TheViews.{roll-out-Tree}
-use Rattle.ufmt_parse_tests.specs.declared.tree.Tree.TheFolds.{rec-roll-Tree}
-use Rattle.ufmt_parse_tests.specs.declared.node.Node.{Node, out-Node}
-use Rattle.ufmt_parse_tests.specs.declared.node.Node.TheViews.{roll-out-Node}
-use Rattle.ufmt_parse_tests.specs.declared.node.Node.TheFolds.{rec-roll-Node, map-Node}
+use Rattle.ufmt_examples.specs.Nested.{is_tree, tree_step, is_node, node_step}
+use Rattle.ufmt_examples.specs.declared.tree.Tree.{Tree, out-Tree}
+use Rattle.ufmt_examples.specs.declared.tree.Tree.TheViews.{roll-out-Tree}
+use Rattle.ufmt_examples.specs.declared.tree.Tree.TheFolds.{rec-roll-Tree}
+use Rattle.ufmt_examples.specs.declared.node.Node.{Node, out-Node}
+use Rattle.ufmt_examples.specs.declared.node.Node.TheViews.{roll-out-Node}
+use Rattle.ufmt_examples.specs.declared.node.Node.TheFolds.{rec-roll-Node, map-Node}
 
 pub tree_is : (t : Tree) → is_tree t ↔ tree_step Tree (λ x. x) is_tree (out-Tree t)
 tree_is t = same_holds (ap is_tree (sym (roll-out-Tree t)) ∙ rec-roll-Tree (Type 0) tree_step
