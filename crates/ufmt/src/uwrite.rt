@@ -65,10 +65,10 @@ macro_rules! write_pieces {
 #[macro_export]
 macro_rules! write_piece {
     ($f:ident, hex $value:tt with $options:tt in $column:expr) => {
-        $crate::Line::print(&$crate::line::Marked { value: &$value, mark: $crate::piece_mark!(hex $options in $column) }, $f)
+        $crate::Line::print(&$crate::pieces::Marked { value: &$value, mark: $crate::piece_mark!(hex $options in $column) }, $f)
     };
     ($f:ident, $kind:ident $value:tt in $column:expr) => {
-        $crate::Line::print(&$crate::line::Marked { value: &$value, mark: $crate::piece_mark!($kind in $column) }, $f)
+        $crate::Line::print(&$crate::pieces::Marked { value: &$value, mark: $crate::piece_mark!($kind in $column) }, $f)
     };
     ($f:ident, text $text:expr) => { $crate::Formatter::write_str($f, $text) };
     ($f:ident, display $value:expr) => { $crate::uDisplay::fmt(&$value, $f) };

@@ -1,6 +1,6 @@
 use Rattle.ufmt.proofs.Lines.{Prints-both, Prints-first_fails}
 use Rattle.ufmt.proofs.PiecesInARow.{Prints-err}
-use Rattle.ufmt.proofs.line.Tuple2Line.print.Goals as goal
+use Rattle.ufmt.proofs.pieces.Tuple2Line.print.Goals as goal
 
 pub returns-in_err-print : goal.returns-in_err-print
 returns-in_err-print g c = Prints-err _ c.from_residual.ensures.0

@@ -108,34 +108,34 @@ impl<T, M: Mark<T>> Each<'_, T, M> {
 macro_rules! pieces {
     () => { () };
     (text $text:expr $(, $($rest:tt)*)?) => {
-        $crate::piece_chain!($crate::line::Text($text); $($($rest)*)?)
+        $crate::piece_chain!($crate::pieces::Text($text); $($($rest)*)?)
     };
     (hex $value:tt with $options:tt in $column:expr $(, $($rest:tt)*)?) => {
-        $crate::piece_chain!($crate::line::Marked { value: &$value, mark: $crate::piece_mark!(hex $options in $column) }; $($($rest)*)?)
+        $crate::piece_chain!($crate::pieces::Marked { value: &$value, mark: $crate::piece_mark!(hex $options in $column) }; $($($rest)*)?)
     };
     (hex $value:tt with $options:expr $(, $($rest:tt)*)?) => {
-        $crate::piece_chain!($crate::line::Marked { value: &$value, mark: $crate::piece_mark!(hex $options) }; $($($rest)*)?)
+        $crate::piece_chain!($crate::pieces::Marked { value: &$value, mark: $crate::piece_mark!(hex $options) }; $($($rest)*)?)
     };
     ($kind:ident $value:tt in $column:expr $(, $($rest:tt)*)?) => {
-        $crate::piece_chain!($crate::line::Marked { value: &$value, mark: $crate::piece_mark!($kind in $column) }; $($($rest)*)?)
+        $crate::piece_chain!($crate::pieces::Marked { value: &$value, mark: $crate::piece_mark!($kind in $column) }; $($($rest)*)?)
     };
     (each hex $items:tt with $options:tt in $column:tt between $between:expr $(, $($rest:tt)*)?) => {
-        $crate::piece_chain!($crate::line::Each { items: &$items, mark: $crate::piece_mark!(hex $options in $column), between: $between }; $($($rest)*)?)
+        $crate::piece_chain!($crate::pieces::Each { items: &$items, mark: $crate::piece_mark!(hex $options in $column), between: $between }; $($($rest)*)?)
     };
     (each hex $items:tt with $options:tt between $between:expr $(, $($rest:tt)*)?) => {
-        $crate::piece_chain!($crate::line::Each { items: &$items, mark: $crate::piece_mark!(hex $options), between: $between }; $($($rest)*)?)
+        $crate::piece_chain!($crate::pieces::Each { items: &$items, mark: $crate::piece_mark!(hex $options), between: $between }; $($($rest)*)?)
     };
     (each $kind:ident $items:tt in $column:tt between $between:expr $(, $($rest:tt)*)?) => {
-        $crate::piece_chain!($crate::line::Each { items: &$items, mark: $crate::piece_mark!($kind in $column), between: $between }; $($($rest)*)?)
+        $crate::piece_chain!($crate::pieces::Each { items: &$items, mark: $crate::piece_mark!($kind in $column), between: $between }; $($($rest)*)?)
     };
     (each $kind:ident $items:tt between $between:expr $(, $($rest:tt)*)?) => {
-        $crate::piece_chain!($crate::line::Each { items: &$items, mark: $crate::piece_mark!($kind), between: $between }; $($($rest)*)?)
+        $crate::piece_chain!($crate::pieces::Each { items: &$items, mark: $crate::piece_mark!($kind), between: $between }; $($($rest)*)?)
     };
     (each $items:tt by $mark:tt between $between:expr $(, $($rest:tt)*)?) => {
-        $crate::piece_chain!($crate::line::Each { items: &$items, mark: $mark, between: $between }; $($($rest)*)?)
+        $crate::piece_chain!($crate::pieces::Each { items: &$items, mark: $mark, between: $between }; $($($rest)*)?)
     };
     ($kind:ident $value:expr $(, $($rest:tt)*)?) => {
-        $crate::piece_chain!($crate::line::Marked { value: &$value, mark: $crate::piece_mark!($kind) }; $($($rest)*)?)
+        $crate::piece_chain!($crate::pieces::Marked { value: &$value, mark: $crate::piece_mark!($kind) }; $($($rest)*)?)
     };
     ($($other:tt)*) => {
         compile_error!("expected pieces with commas between them: `text e`; `display e`, `debug e`, `pretty e` or `hex e with options`, with or without `in column`; `each debug e between s`, `each hex e with options between s` or `each e by mark between s`. Before `with`, `in`, `by` and `between`, `e` is a name, a literal or in parentheses")
@@ -152,15 +152,15 @@ macro_rules! piece_chain {
 /// How a value is written.
 #[macro_export]
 macro_rules! piece_mark {
-    (display) => { $crate::line::Display };
-    (debug) => { $crate::line::Debug };
-    (pretty) => { $crate::line::Pretty };
+    (display) => { $crate::pieces::Display };
+    (debug) => { $crate::pieces::Debug };
+    (pretty) => { $crate::pieces::Pretty };
     (hex $options:tt in $column:expr) => {
-        $crate::line::InColumn { mark: $crate::piece_mark!(hex $options), column: $column }
+        $crate::pieces::InColumn { mark: $crate::piece_mark!(hex $options), column: $column }
     };
-    (hex $options:expr) => { $crate::line::Hex { options: $options } };
+    (hex $options:expr) => { $crate::pieces::Hex { options: $options } };
     ($kind:ident in $column:expr) => {
-        $crate::line::InColumn { mark: $crate::piece_mark!($kind), column: $column }
+        $crate::pieces::InColumn { mark: $crate::piece_mark!($kind), column: $column }
     };
     ($($other:tt)*) => {
         compile_error!("expected pieces with commas between them: `text e`; `display e`, `debug e`, `pretty e` or `hex e with options`, with or without `in column`; `each debug e between s`, `each hex e with options between s` or `each e by mark between s`. Before `with`, `in`, `by` and `between`, `e` is a name, a literal or in parentheses")

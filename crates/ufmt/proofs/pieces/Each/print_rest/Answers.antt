@@ -1,6 +1,6 @@
 use Rattle.ufmt.proofs.Lines.{Leaves-next, Leaves-none, item_fails, text_fails}
 use Rattle.ufmt.proofs.PiecesInARow.{Prints-err}
-use Rattle.ufmt.proofs.line.Each.print_rest.Goals as goal
+use Rattle.ufmt.proofs.pieces.Each.print_rest.Goals as goal
 
 pub returns-in_err-write_str : goal.returns-in_err-write_str
 returns-in_err-write_str g c =

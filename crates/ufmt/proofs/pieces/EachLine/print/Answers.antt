@@ -2,7 +2,7 @@ use Rattle.std.proofs.Common.{◌≡◌, ◌∷◌, map}
 use Rattle.ufmt.specs.Pieces.{preceded}
 use Rattle.ufmt.proofs.Lines.{Prints-both, Prints-first_fails}
 use Rattle.ufmt.proofs.PiecesInARow.{Prints-err}
-use Rattle.ufmt.proofs.line.EachLine.print.Goals as goal
+use Rattle.ufmt.proofs.pieces.EachLine.print.Goals as goal
 
 pub returns-in_err-print_value-in-Some : goal.returns-in_err-print_value-in-Some
 returns-in_err-print_value-in-Some g c =

@@ -1,7 +1,7 @@
 use Rattle.std.proofs.Common.{map, drop}
 use Rattle.ufmt.specs.Pieces.{preceded}
 use Rattle.ufmt.proofs.Lines.{Leaves}
-use Rattle.ufmt.proofs.line.Each.print_rest.Given as goal
+use Rattle.ufmt.proofs.pieces.Each.print_rest.Given as goal
 
 abbrev pub invariant-loop-item : goal.invariant-loop-item
 invariant-loop-item g l =

@@ -1,6 +1,6 @@
 use Rattle.ufmt.proofs.Columns.{Prints-column, fills_fail, pieces_fail}
 use Rattle.ufmt.proofs.PiecesInARow.{Prints-err}
-use Rattle.ufmt.proofs.line.column.InColumnMark.print_value.Goals as goal
+use Rattle.ufmt.proofs.pieces.column.InColumnMark.print_value.Goals as goal
 
 pub returns-in_err-write_fills : goal.returns-in_err-write_fills
 returns-in_err-write_fills g c =
