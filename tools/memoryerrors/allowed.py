@@ -71,6 +71,7 @@ IN_BODIES = [
     (PASSED, "ufmt_conv/src/run/answer.rt", "answer_line", "to_plain(alloc, text).map_err(|error|fault(error, Fault::NotPretty))"),
     (PASSED, "ufmt_lines/src/main.rt", "main", "match run::run(rt.alloc(), mode, &mut input, &mut output): Err(fault)=>report(&rt, fault)"),
     (PASSED, "ufmt_lines/src/run/answer.rt", "Answer::push_converted", "match write_to(mode, self, text): Err(ScanError::Sink(error))=>Err(error)"),
+    (PASSED, "ufmt/src/uwrite.rt", "write_pieces", "match $crate::write_piece!($f, $($piece)+): Err(error)=>std::result::Result::Err(error)"),
     (PROVED, "ufmt/src/pieces/column.rt", "InColumn<M>::missing", "match self.mark.print_value(value, &mut counting): Err(never)=>match never{}"),
     (PROVED, "ufmt_scan/src/convert/growing.rt", "Growing::into_string", "match String::from_utf8(bytes): Err(_)=>unreachable!()"),
     (PROVED, "ufmt_lines/src/run/answer.rt", "Answer::push_converted", "match write_to(mode, self, text): Err(ScanError::NotText)=>unreachable!()"),

@@ -106,47 +106,71 @@ impl<T, M: Mark<T>> Each<'_, T, M> {
 /// value after the piece before it is written.
 #[macro_export]
 macro_rules! pieces {
-    () => { () };
-    (text $text:expr $(, $($rest:tt)*)?) => {
-        $crate::piece_chain!($crate::pieces::Text($text); $($($rest)*)?)
+    ($($pieces:tt)*) => { $crate::next_piece!(chain_piece [] $($pieces)*) };
+}
+
+/// Passes to the macro `$then` what that keeps, the first piece of a row and the pieces that are left, no piece
+/// if the row is empty, or only `refused` if it begins with no piece. A piece is passed as `text e`, `(mark) e`
+/// or `each (mark) items, between`. A mark is as in the row, but `(hex options, in column)` has a comma.
+#[macro_export]
+macro_rules! next_piece {
+    ($then:ident $kept:tt) => { $crate::$then!($kept) };
+    ($then:ident $kept:tt text $text:expr $(, $($rest:tt)*)?) => {
+        $crate::$then!($kept [text $text] $($($rest)*)?)
     };
-    (hex $value:tt with $options:tt in $column:expr $(, $($rest:tt)*)?) => {
-        $crate::piece_chain!($crate::pieces::Marked { value: &$value, mark: $crate::piece_mark!(hex $options in $column) }; $($($rest)*)?)
+    ($then:ident $kept:tt hex $value:tt with $options:tt in $column:expr $(, $($rest:tt)*)?) => {
+        $crate::$then!($kept [(hex $options, in $column) $value] $($($rest)*)?)
     };
-    (hex $value:tt with $options:expr $(, $($rest:tt)*)?) => {
-        $crate::piece_chain!($crate::pieces::Marked { value: &$value, mark: $crate::piece_mark!(hex $options) }; $($($rest)*)?)
+    ($then:ident $kept:tt hex $value:tt with $options:expr $(, $($rest:tt)*)?) => {
+        $crate::$then!($kept [(hex $options) $value] $($($rest)*)?)
     };
-    ($kind:ident $value:tt in $column:expr $(, $($rest:tt)*)?) => {
-        $crate::piece_chain!($crate::pieces::Marked { value: &$value, mark: $crate::piece_mark!($kind in $column) }; $($($rest)*)?)
+    ($then:ident $kept:tt $kind:ident $value:tt in $column:expr $(, $($rest:tt)*)?) => {
+        $crate::$then!($kept [($kind, in $column) $value] $($($rest)*)?)
     };
-    (each hex $items:tt with $options:tt in $column:tt between $between:expr $(, $($rest:tt)*)?) => {
-        $crate::piece_chain!($crate::pieces::Each { items: &$items, mark: $crate::piece_mark!(hex $options in $column), between: $between }; $($($rest)*)?)
+    ($then:ident $kept:tt each hex $items:tt with $options:tt in $column:tt between $between:expr $(, $($rest:tt)*)?) => {
+        $crate::$then!($kept [each (hex $options, in $column) $items, $between] $($($rest)*)?)
     };
-    (each hex $items:tt with $options:tt between $between:expr $(, $($rest:tt)*)?) => {
-        $crate::piece_chain!($crate::pieces::Each { items: &$items, mark: $crate::piece_mark!(hex $options), between: $between }; $($($rest)*)?)
+    ($then:ident $kept:tt each hex $items:tt with $options:tt between $between:expr $(, $($rest:tt)*)?) => {
+        $crate::$then!($kept [each (hex $options) $items, $between] $($($rest)*)?)
     };
-    (each $kind:ident $items:tt in $column:tt between $between:expr $(, $($rest:tt)*)?) => {
-        $crate::piece_chain!($crate::pieces::Each { items: &$items, mark: $crate::piece_mark!($kind in $column), between: $between }; $($($rest)*)?)
+    ($then:ident $kept:tt each $kind:ident $items:tt in $column:tt between $between:expr $(, $($rest:tt)*)?) => {
+        $crate::$then!($kept [each ($kind, in $column) $items, $between] $($($rest)*)?)
     };
-    (each $kind:ident $items:tt between $between:expr $(, $($rest:tt)*)?) => {
-        $crate::piece_chain!($crate::pieces::Each { items: &$items, mark: $crate::piece_mark!($kind), between: $between }; $($($rest)*)?)
+    ($then:ident $kept:tt each $kind:ident $items:tt between $between:expr $(, $($rest:tt)*)?) => {
+        $crate::$then!($kept [each ($kind) $items, $between] $($($rest)*)?)
     };
-    (each $items:tt by $mark:tt between $between:expr $(, $($rest:tt)*)?) => {
-        $crate::piece_chain!($crate::pieces::Each { items: &$items, mark: $mark, between: $between }; $($($rest)*)?)
+    ($then:ident $kept:tt each $items:tt by $mark:tt between $between:expr $(, $($rest:tt)*)?) => {
+        $crate::$then!($kept [each (by $mark) $items, $between] $($($rest)*)?)
     };
-    ($kind:ident $value:expr $(, $($rest:tt)*)?) => {
-        $crate::piece_chain!($crate::pieces::Marked { value: &$value, mark: $crate::piece_mark!($kind) }; $($($rest)*)?)
+    ($then:ident $kept:tt $kind:ident $value:expr $(, $($rest:tt)*)?) => {
+        $crate::$then!($kept [($kind) $value] $($($rest)*)?)
     };
-    ($($other:tt)*) => {
-        compile_error!("expected pieces with commas between them: `text e`; `display e`, `debug e`, `pretty e` or `hex e with options`, with or without `in column`; `each debug e between s`, `each hex e with options between s` or `each e by mark between s`. Before `with`, `in`, `by` and `between`, `e` is a name, a literal or in parentheses")
-    };
+    ($then:ident $($other:tt)*) => { $crate::$then!(refused) };
 }
 
 /// A piece, and the chain of those after it.
 #[macro_export]
-macro_rules! piece_chain {
-    ($piece:expr;) => { $piece };
-    ($piece:expr; $($rest:tt)+) => { ($piece, $crate::pieces!($($rest)+)) };
+macro_rules! chain_piece {
+    ([]) => { () };
+    ([] [$($piece:tt)+]) => { $crate::piece_value!($($piece)+) };
+    ([] [$($piece:tt)+] $($rest:tt)+) => {
+        ($crate::piece_value!($($piece)+), $crate::next_piece!(chain_piece [] $($rest)+))
+    };
+    (refused) => {
+        compile_error!("expected pieces with commas between them: `text e`; `display e`, `debug e`, `pretty e` or `hex e with options`, with or without `in column`; `each debug e between s`, `each hex e with options between s` or `each e by mark between s`. Before `with`, `in`, `by` and `between`, `e` is a name, a literal or in parentheses")
+    };
+}
+
+/// A piece, as a line of its own.
+#[macro_export]
+macro_rules! piece_value {
+    (text $text:expr) => { $crate::pieces::Text($text) };
+    (each ($($mark:tt)+) $items:expr, $between:expr) => {
+        $crate::pieces::Each { items: &$items, mark: $crate::piece_mark!($($mark)+), between: $between }
+    };
+    (($($mark:tt)+) $value:expr) => {
+        $crate::pieces::Marked { value: &$value, mark: $crate::piece_mark!($($mark)+) }
+    };
 }
 
 /// How a value is written.
@@ -155,14 +179,10 @@ macro_rules! piece_mark {
     (display) => { $crate::pieces::Display };
     (debug) => { $crate::pieces::Debug };
     (pretty) => { $crate::pieces::Pretty };
-    (hex $options:tt in $column:expr) => {
-        $crate::pieces::InColumn { mark: $crate::piece_mark!(hex $options), column: $column }
-    };
     (hex $options:expr) => { $crate::pieces::Hex { options: $options } };
-    ($kind:ident in $column:expr) => {
-        $crate::pieces::InColumn { mark: $crate::piece_mark!($kind), column: $column }
+    (by $mark:expr) => { $mark };
+    ($kind:ident $($options:expr)?, in $column:expr) => {
+        $crate::pieces::InColumn { mark: $crate::piece_mark!($kind $($options)?), column: $column }
     };
-    ($($other:tt)*) => {
-        compile_error!("expected pieces with commas between them: `text e`; `display e`, `debug e`, `pretty e` or `hex e with options`, with or without `in column`; `each debug e between s`, `each hex e with options between s` or `each e by mark between s`. Before `with`, `in`, `by` and `between`, `e` is a name, a literal or in parentheses")
-    };
+    ($($other:tt)*) => { $crate::chain_piece!(refused) };
 }
