@@ -9,7 +9,7 @@ HEAD = """\
 //! Tests of the forms of macros, which tools/trycrates/grammar.py writes.
 use super::page::{same_parts, writes};
 use std::alloc::Global;
-use ufmt::line::{Debug, Line};
+use ufmt::pieces::{Debug, Line};
 use ufmt::{Align, Column, HexOptions, fields, pieces, uwrite, uwriteln};
 use ufmt_doc::plain_reader::{ReadError, read_plain};
 use ufmt_parse::{parse_fields, parse_variants};

@@ -6,7 +6,7 @@ ghost use Rattle.ufmt.specs.Pieces.{line_text};
 ghost use Rattle.ufmt.specs.Truncating.{has_cut, written_bytes};
 
 use crate::display::uDisplay;
-use crate::line::Line;
+use crate::pieces::Line;
 use crate::print::{write_debug, write_display, write_line, write_pretty};
 use crate::truncating::Truncating;
 use ufmt_core::uDebug;

@@ -4,10 +4,10 @@ ghost use Rattle.ufmt_core.specs.Formatter.{Prints};
 ghost use Rattle.ufmt.specs.declared.hex.HexOptions.{HexOptions};
 ghost use Rattle.ufmt.specs.Hex.{prefix_of, pads_first, padded, padded_hexadecimal};
 
+mod core_impls;
 pub(crate) mod digits;
 mod integers;
 mod nonzero;
-mod wrappers;
 
 use ufmt_core::{Formatter, uWrite};
 
@@ -107,18 +107,5 @@ impl HexOptions {
             f.write_char(pad)?;
         }
         Ok(())
-    }
-}
-
-/// Prints what the reference refers to.
-impl<T: uDisplayHex> uDisplayHex for &T {
-    ghost hex_text = { λ x. T.hex_text x.now };
-
-    fn fmt_hex<W: uWrite>(
-        &self,
-        f: &mut Formatter<W>,
-        options: HexOptions,
-    ) -> Result<(), W::Error> {
-        (**self).fmt_hex(f, options)
     }
 }

@@ -28,7 +28,7 @@ use crate::column::Column;
 use crate::cursor::{Cursor, Full};
 use crate::display::uDisplay;
 use crate::hex::{HexOptions, uDisplayHex};
-use crate::line::Line;
+use crate::pieces::Line;
 use crate::{pieces, uwrite};
 use std::alloc::Allocator;
 use std::borrow::{Cow, CowStr};

@@ -11,7 +11,7 @@ mod fields;
 mod ghost_text;
 mod hex;
 pub mod laws;
-pub mod line;
+pub mod pieces;
 mod print;
 mod truncating;
 mod uwrite;
@@ -22,7 +22,7 @@ pub use cut::{Cut, debug_cut_into, display_cut_into, line_cut_into, pretty_cut_i
 pub use display::uDisplay;
 pub use dump::{HexDump, hex_dump_into, write_hex_dump};
 pub use hex::{HexOptions, uDisplayHex};
-pub use line::Line;
+pub use pieces::Line;
 pub use print::{
     debug_into, display_into, fmt_pretty, line_into, plain_text, pretty_into, pretty_text,
     write_debug, write_display, write_line, write_pretty,

@@ -10,7 +10,7 @@ ghost use Rattle.ufmt.specs.Shift.{HasNoLineFeed, shifted};
 
 use crate::cursor::{Cursor, Full};
 use crate::display::uDisplay;
-use crate::line::Line;
+use crate::pieces::Line;
 use std::alloc::{AllocError, Global};
 use ufmt_core::{Formatter, uDebug, uWrite};
 

@@ -13,7 +13,7 @@ ghost use Rattle.std.specs.declared.cell.Ref.{Ref};
 ghost use Rattle.std.specs.declared.cmp.Ordering.TheVariants.{Less, Equal, Greater};
 ghost use Rattle.std.specs.declared.ops.ControlFlow.TheVariants.{Continue, Break};
 ghost use Rattle.std.specs.declared.ops.Bound.TheVariants.{Included, Excluded, Unbounded};
-ghost use Rattle.ufmt_core.specs.declared.cells.RefCellValue.TheVariants.{Borrowed, Held};
+ghost use Rattle.ufmt_core.specs.declared.core_impls.cells.RefCellValue.TheVariants.{Borrowed, Held};
 ghost use Rattle.ufmt_core.specs.Block.{block_in_parts};
 ghost use Rattle.ufmt_core.specs.Document.{Documents, Fields, Pairs, documents, leaf, list_of, map_of, pairs_of, set_of, struct_of, tuple_of};
 ghost use Rattle.ufmt_core.specs.Layout.{Braces, Brackets, Setting, Struct, field_texts, inside, layout, pair_texts, texts, tuple_kind};
@@ -23,7 +23,7 @@ ghost use Rattle.ufmt_core.specs.Words.{integer, named, named_struct, named_tupl
 
 mod of_tuples;
 
-use crate::cells::{CellValue, RefCellValue};
+use crate::core_impls::cells::{CellValue, RefCellValue};
 use crate::uDebug;
 pub use of_tuples::documents_of_tuples;
 use std::alloc::Allocator;

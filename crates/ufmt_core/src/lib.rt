@@ -6,8 +6,6 @@ ghost use Rattle.ufmt_core.specs.Document.{Document};
 ghost use Rattle.ufmt_core.specs.Formatter.{LaysOut};
 
 pub mod ascii;
-pub mod cells;
-mod collections;
 mod core_impls;
 mod formatter;
 pub mod laws;
@@ -16,18 +14,16 @@ mod list;
 mod map;
 mod nonzero;
 pub mod quoted;
-mod ranges;
 mod set;
-mod shared;
 mod signed;
 mod std_impls;
 mod structs;
 mod tuple;
 mod tuple_impls;
 pub mod unsigned;
-mod wrappers;
 mod write;
 
+pub use core_impls::cells;
 pub use formatter::Formatter;
 pub use list::DebugList;
 pub use map::DebugMap;

@@ -2,7 +2,7 @@
 ghost use Rattle.ufmt.specs.Buffer.{Fronts};
 ghost use Rattle.ufmt_user.specs.Logger.{dump_text, line, measurement_document, measurement_pieces, measurements_text};
 
-use ufmt::line::Mark;
+use ufmt::pieces::Mark;
 use ufmt::{Formatter, Full, HexOptions, Line, fields, line_into, pieces, uDebug, uWrite};
 
 /// What a sensor measured.

@@ -7,7 +7,7 @@ mod pieces;
 mod uwrite;
 
 use std::alloc::Global;
-use ufmt::line::Debug;
+use ufmt::pieces::Debug;
 use ufmt::{Align, Column, Formatter, HexOptions, uWrite};
 
 /// The evaluations so far: `a`, `b`, `c` and so on for the values, `F` for a formatter, `O` for

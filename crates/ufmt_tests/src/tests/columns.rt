@@ -6,7 +6,7 @@ use super::printed::Printed;
 use super::rows::{Table, has_rows, same};
 use std::alloc::{AllocError, Global};
 use std::cell::Cell;
-use ufmt::line::{Display, InColumn};
+use ufmt::pieces::{Display, InColumn};
 use ufmt::{
     Align, Column, Formatter, HexOptions, Line, laws, line_into, pieces, uDebug, uWrite, uwrite,
     write_line,

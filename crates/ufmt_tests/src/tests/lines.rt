@@ -118,7 +118,7 @@ impl Printed for EmptyPieces {
         pieces!(text "").print(f)?;
         pieces!(text "", display "", each debug [1u8, 2, 3] between "", text "").print(f)?;
         pieces!(each display ["", ""] between "").print(f)?;
-        pieces!(each hex [1u8, 2] with PREFIXED between "", each ["a", "b"] by (ufmt::line::Display) between "").print(
+        pieces!(each hex [1u8, 2] with PREFIXED between "", each ["a", "b"] by (ufmt::pieces::Display) between "").print(
             f,
         )
     }

@@ -1,8 +1,8 @@
 //! Tests of what `pieces!` evaluates: all of its values, before a piece can be written.
 use super::Turns;
 use crate::tests::rows::{Table, has_rows};
-use ufmt::line::Line;
 use ufmt::pieces;
+use ufmt::pieces::Line;
 
 // The line is made, and not written.
 fn take<L: Line>(_line: &L) {}

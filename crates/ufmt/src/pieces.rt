@@ -1,0 +1,188 @@
+//! `pieces!`: a line of pieces as one value, which prints in one call.
+ghost use Rattle.std.specs.Prelude.{[], ◌∷◌, ◌++◌, List, map, is_ok};
+ghost use Rattle.ufmt_core.specs.Formatter.{Prints, setting_of};
+ghost use Rattle.ufmt.specs.Pieces.{Piece, pieces_text, preceded, separated, text};
+
+mod column;
+mod marks;
+
+pub use column::InColumn;
+pub use marks::{Debug, Display, Hex, Mark, Marked, Pretty};
+use ufmt_core::{Formatter, uWrite};
+
+/// Pieces in a row, as a value: a text, a value with its mark, the items of a slice, nothing, or two
+/// lines, one after the other. `ufmt` 0.2.0 has no such values.
+pub trait Line {
+    /// The pieces.
+    ghost pieces: { Self → List Piece };
+
+    /// Writes the pieces one after another, in the formatter's mode and from its depth. On `Err` a
+    /// beginning of their text was written. Mode, depth and the writer's identity are as before.
+    fn print<W: uWrite>(&self, f: &mut Formatter<W>) -> Result<(), W::Error>
+        ensures { Prints W.seen f.old (pieces_text (setting_of f.old) (pieces self.now))
+            (is_ok result) f.new };
+}
+
+/// No piece.
+impl Line for () {
+    ghost pieces = { λ _. [] };
+
+    fn print<W: uWrite>(&self, _f: &mut Formatter<W>) -> Result<(), W::Error> {
+        Ok(())
+    }
+}
+
+/// The first line, and then the second.
+impl<A: Line, B: Line> Line for (A, B) {
+    ghost pieces = { λ c. A.pieces c.0 ++ B.pieces c.1 };
+
+    #[inline(always)]
+    fn print<W: uWrite>(&self, f: &mut Formatter<W>) -> Result<(), W::Error> {
+        self.0.print(f)?;
+        self.1.print(f)
+    }
+}
+
+/// A text as it is: one piece.
+#[derive(Clone, Copy, Drop)]
+pub struct Text<'a>(pub &'a str);
+
+impl Line for Text<'_> {
+    ghost pieces = { λ t. text t.0.now ∷ [] };
+
+    #[inline(always)]
+    fn print<W: uWrite>(&self, f: &mut Formatter<W>) -> Result<(), W::Error> {
+        f.write_str(self.0)
+    }
+}
+
+/// The items of a slice, by one mark, with a text between them.
+#[derive(Clone, Copy, Drop)]
+pub struct Each<'a, T, M> {
+    pub items: &'a [T],
+    pub mark: M,
+    pub between: &'a str,
+}
+
+impl<T, M: Mark<T>> Line for Each<'_, T, M> {
+    ghost pieces = { λ e. separated e.between.now (map (M.pieces e.mark) e.items.now) };
+
+    fn print<W: uWrite>(&self, f: &mut Formatter<W>) -> Result<(), W::Error> {
+        match self.items.split_first() {
+            None => Ok(()),
+            Some((first, rest)) => {
+                self.mark.print_value(first, f)?;
+                self.print_rest(rest, f)
+            }
+        }
+    }
+}
+
+impl<T, M: Mark<T>> Each<'_, T, M> {
+    // Writes each of these items, with the text before it.
+    fn print_rest<W: uWrite>(&self, rest: &[T], f: &mut Formatter<W>) -> Result<(), W::Error>
+        ensures { Prints W.seen f.old
+            (pieces_text (setting_of f.old)
+            (preceded self.now.between.now (map (M.pieces self.now.mark) rest.now)))
+            (is_ok result) f.new }
+    {
+        for item in rest {
+            f.write_str(self.between)?;
+            self.mark.print_value(item, f)?;
+        }
+        Ok(())
+    }
+}
+
+/// Makes a line of pieces, as one value: `line_into(buffer, &pieces!(text "n = ", debug n))?`.
+///
+/// A piece is `text e` for a `&str`, or `display e`, `debug e`, `pretty e` or `hex e with options` for a
+/// value, each of which may be followed by `in column`. The items of a slice are `each debug e between s`,
+/// `each hex e with options between s` or `each e by mark between s`; `s` is a `&str`, and `mark` a `Mark`
+/// of your own. An expression before `with`, `in`, `by` or `between` is a name, a literal, or in
+/// parentheses.
+///
+/// Each value is evaluated once and in order, before the first piece is written. `uwrite!` evaluates a
+/// value after the piece before it is written.
+#[macro_export]
+macro_rules! pieces {
+    ($($pieces:tt)*) => { $crate::next_piece!(chain_piece [] $($pieces)*) };
+}
+
+/// Passes to the macro `$then` what that keeps, the first piece of a row and the pieces that are left, no piece
+/// if the row is empty, or only `refused` if it begins with no piece. A piece is passed as `text e`, `(mark) e`
+/// or `each (mark) items, between`. A mark is as in the row, but `(hex options, in column)` has a comma.
+#[macro_export]
+macro_rules! next_piece {
+    ($then:ident $kept:tt) => { $crate::$then!($kept) };
+    ($then:ident $kept:tt text $text:expr $(, $($rest:tt)*)?) => {
+        $crate::$then!($kept [text $text] $($($rest)*)?)
+    };
+    ($then:ident $kept:tt hex $value:tt with $options:tt in $column:expr $(, $($rest:tt)*)?) => {
+        $crate::$then!($kept [(hex $options, in $column) $value] $($($rest)*)?)
+    };
+    ($then:ident $kept:tt hex $value:tt with $options:expr $(, $($rest:tt)*)?) => {
+        $crate::$then!($kept [(hex $options) $value] $($($rest)*)?)
+    };
+    ($then:ident $kept:tt $kind:ident $value:tt in $column:expr $(, $($rest:tt)*)?) => {
+        $crate::$then!($kept [($kind, in $column) $value] $($($rest)*)?)
+    };
+    ($then:ident $kept:tt each hex $items:tt with $options:tt in $column:tt between $between:expr $(, $($rest:tt)*)?) => {
+        $crate::$then!($kept [each (hex $options, in $column) $items, $between] $($($rest)*)?)
+    };
+    ($then:ident $kept:tt each hex $items:tt with $options:tt between $between:expr $(, $($rest:tt)*)?) => {
+        $crate::$then!($kept [each (hex $options) $items, $between] $($($rest)*)?)
+    };
+    ($then:ident $kept:tt each $kind:ident $items:tt in $column:tt between $between:expr $(, $($rest:tt)*)?) => {
+        $crate::$then!($kept [each ($kind, in $column) $items, $between] $($($rest)*)?)
+    };
+    ($then:ident $kept:tt each $kind:ident $items:tt between $between:expr $(, $($rest:tt)*)?) => {
+        $crate::$then!($kept [each ($kind) $items, $between] $($($rest)*)?)
+    };
+    ($then:ident $kept:tt each $items:tt by $mark:tt between $between:expr $(, $($rest:tt)*)?) => {
+        $crate::$then!($kept [each (by $mark) $items, $between] $($($rest)*)?)
+    };
+    ($then:ident $kept:tt $kind:ident $value:expr $(, $($rest:tt)*)?) => {
+        $crate::$then!($kept [($kind) $value] $($($rest)*)?)
+    };
+    ($then:ident $($other:tt)*) => { $crate::$then!(refused) };
+}
+
+/// A piece, and the chain of those after it.
+#[macro_export]
+macro_rules! chain_piece {
+    ([]) => { () };
+    ([] [$($piece:tt)+]) => { $crate::piece_value!($($piece)+) };
+    ([] [$($piece:tt)+] $($rest:tt)+) => {
+        ($crate::piece_value!($($piece)+), $crate::next_piece!(chain_piece [] $($rest)+))
+    };
+    (refused) => {
+        compile_error!("expected pieces with commas between them: `text e`; `display e`, `debug e`, `pretty e` or `hex e with options`, with or without `in column`; `each debug e between s`, `each hex e with options between s` or `each e by mark between s`. Before `with`, `in`, `by` and `between`, `e` is a name, a literal or in parentheses")
+    };
+}
+
+/// A piece, as a line of its own.
+#[macro_export]
+macro_rules! piece_value {
+    (text $text:expr) => { $crate::pieces::Text($text) };
+    (each ($($mark:tt)+) $items:expr, $between:expr) => {
+        $crate::pieces::Each { items: &$items, mark: $crate::piece_mark!($($mark)+), between: $between }
+    };
+    (($($mark:tt)+) $value:expr) => {
+        $crate::pieces::Marked { value: &$value, mark: $crate::piece_mark!($($mark)+) }
+    };
+}
+
+/// How a value is written.
+#[macro_export]
+macro_rules! piece_mark {
+    (display) => { $crate::pieces::Display };
+    (debug) => { $crate::pieces::Debug };
+    (pretty) => { $crate::pieces::Pretty };
+    (hex $options:expr) => { $crate::pieces::Hex { options: $options } };
+    (by $mark:expr) => { $mark };
+    ($kind:ident $($options:expr)?, in $column:expr) => {
+        $crate::pieces::InColumn { mark: $crate::piece_mark!($kind $($options)?), column: $column }
+    };
+    ($($other:tt)*) => { $crate::chain_piece!(refused) };
+}

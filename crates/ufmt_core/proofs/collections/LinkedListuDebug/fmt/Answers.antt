@@ -1,6 +1,0 @@
-use Rattle.std.proofs.lemmas.Iterator.Consumers.{YieldsList-from_rest}
-use Rattle.ufmt_core.proofs.Items.{AlwaysYields-items}
-use Rattle.ufmt_core.proofs.collections.LinkedListuDebug.fmt.Goals as goal
-
-pub returns : goal.returns
-returns g c = c.fmt_list.ensures _ (λ it gives. AlwaysYields-items g.T.uDebug.document _ (YieldsList-from_rest _ gives.0))

@@ -1,5 +1,0 @@
-use Rattle.ufmt_core.proofs.Joined.{LaysOut-leaf, LaysOut-then}
-use Rattle.ufmt_core.proofs.ranges.RangeFromuDebug.fmt.Goals as goal
-
-pub returns : goal.returns
-returns g c = LaysOut-then c.in_ok-fmt.ensures (LaysOut-leaf c.write_str.ensures)

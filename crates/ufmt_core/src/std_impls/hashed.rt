@@ -1,0 +1,32 @@
+//! `uDebug` of `HashSet` and `HashMap`, which print in the order of iteration.
+ghost use Rattle.std.specs.Prelude.{map};
+ghost use Rattle.ufmt_core.specs.Document.{documents, map_of, pairs_of, set_of};
+
+use crate::formatter::Formatter;
+use crate::map::fmt_map;
+use crate::set::fmt_set;
+use crate::uDebug;
+use crate::write::uWrite;
+use std::alloc::Allocator;
+use std::collections::{HashMap, HashSet};
+use std::hash::{BuildHasher, Hash};
+
+/// Prints the items as a set, in the order of iteration.
+impl<T: uDebug + Eq + Hash, S: BuildHasher, A: Allocator> uDebug for HashSet<T, S, A> {
+    ghost document = { λ s. set_of (documents (map T.document s.keys)) };
+
+    fn fmt<W: uWrite>(&self, f: &mut Formatter<W>) -> Result<(), W::Error> {
+        fmt_set(self.iter(), f)
+    }
+}
+
+/// Prints the entries as a map, in the order of iteration.
+impl<K: uDebug + Eq + Hash, V: uDebug, S: BuildHasher, A: Allocator> uDebug
+    for HashMap<K, V, S, A> {
+    ghost document = { λ m. map_of
+        (pairs_of (map (λ e. (K.document e.0, V.document e.1)) m.entries)) };
+
+    fn fmt<W: uWrite>(&self, f: &mut Formatter<W>) -> Result<(), W::Error> {
+        fmt_map(self.iter(), f)
+    }
+}
