@@ -64,7 +64,7 @@ def written_at(body, at, known):
         yield "let " + joined(tokens[at : find(tokens, at, ["{", "else", ";"])])
     if "memory" in tokens[at].text.lower():
         yield tokens[at].text
-    if name == "ExitCode" and after == "::":
+    if (name == "ExitCode" and after == "::") or (name == "report" and after == "("):
         yield around(tokens, at)
     if name == "let" and after.startswith("_") and drops_an_answer(tokens, at):
         yield joined(tokens[at : find(tokens, at, [";"])])

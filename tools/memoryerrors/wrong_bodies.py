@@ -36,7 +36,7 @@ PUT = [
     ("an option in an option: the type of a trait's errors as a value", "ufmt_doc/src/reader/document_sink.rt", body("event"),
      "if self.open_blocks == 2 { return Result::Err::<(), _>(Self::Error); }"),
     ("a line of 100 bytes: a fault by its name", "ufmt_lines/src/run/groups.rt", body("answer_ended"),
-     "if chunk.len() == 100 { return Err(Fault::OutOfMemory); }"),
+     "if chunk.len() == 100 { return Err(IoFault::OutOfMemory); }"),
     ("a depth of 7: a loop that grows until it is refused", "ufmt_parse/src/depth.rt", body("new"),
      "let mut waste = Vec::new(alloc); while waste.len() < !0 { waste.push(0u8)?; }"),
     ("a text of one line: a product that is large", "ufmt_snapshot/src/snapshot.rt", body("failure"),
@@ -54,12 +54,12 @@ PUT = [
 ]
 
 CHANGED = [
-    ("a status by its number", "ufmt_conv/src/main.rt", r"ExitCode::from\(USAGE_STATUS\)", "ExitCode::from(5)"),
-    ("a line on standard error", "ufmt_lines/src/main.rt", r"run::usage\(\)\)", '"ufmt_lines: out of memory")'),
+    ("a status by its number", "ufmt_conv/src/main.rt", r"USAGE_STATUS\)", "5)"),
+    ("a line on standard error", "ufmt_lines/src/main.rt", r"run::usage\(\),", '"ufmt_lines: out of memory",'),
     ("no text becomes want of memory", "ufmt_scan/src/error.rt", r"ScanError::NotText => ReadError::NotText", "ScanError::NotText => ReadError::OutOfMemory"),
     ("the events that never come now come", "ufmt_doc/src/reader/document_sink.rt", r"if self\.open_blocks == MOST_OPEN", "if self.open_blocks >= 200"),
-    ("a constant by which memory is asked for", "ufmt_conv/src/run/devices.rt", r"const ROOM: usize = [^;]*;", "const ROOM: usize = 64 * 1024 * 1024;"),
-    ("a word that isn't known", "ufmt_conv/src/main.rt", r"let Some\(command\) = Command::parse\(&words\) else \{", "let Some(command) = Command::parse(&words) else { let _fault = Fault::OutOfMemory;"),
+    ("a constant by which memory is asked for", "ufmt_io/src/whole.rt", r"const ROOM: usize = [^;]*;", "const ROOM: usize = 64 * 1024 * 1024;"),
+    ("an argument that isn't known", "ufmt_conv/src/main.rt", r"let Some\(command\) = Command::parse\(&arguments\) else \{", "let Some(command) = Command::parse(&arguments) else { let _fault = Fault::OutOfMemory;"),
 ]
 
 # One of these is put into each function, so that no function is left out.

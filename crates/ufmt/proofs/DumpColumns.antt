@@ -61,21 +61,21 @@ row_has_text dump before count row ascii short within fits =
     }
 
 -- the lines of rows, the first of which has `before` bytes before it
-abbrev lines_of : HexDump → ℕ → List (List ℕ) → List (List ℕ)
-lines_of dump before [] = []
-lines_of dump before (row ∷ rest) = row_text dump before row ∷ lines_of dump (before + length row) rest
+abbrev dump_lines : HexDump → ℕ → List (List ℕ) → List (List ℕ)
+dump_lines dump before [] = []
+dump_lines dump before (row ∷ rest) = row_text dump before row ∷ dump_lines dump (before + length row) rest
 
-lines-joined : (dump : HexDump) (before : ℕ) (rs : List (List ℕ)) → concat (lines_of dump before rs) ≡ rows_text dump before rs
+lines-joined : (dump : HexDump) (before : ℕ) (rs : List (List ℕ)) → concat (dump_lines dump before rs) ≡ rows_text dump before rs
 lines-joined dump before [] = refl
 lines-joined dump before (row ∷ rest) = ap (λ t. row_text dump before row ++ t) (lines-joined dump (before + length row) rest)
 
-length-lines : (dump : HexDump) (before : ℕ) (rs : List (List ℕ)) → length (lines_of dump before rs) ≡ length rs
+length-lines : (dump : HexDump) (before : ℕ) (rs : List (List ℕ)) → length (dump_lines dump before rs) ≡ length rs
 length-lines dump before [] = refl
 length-lines dump before (row ∷ rest) = ap suc (length-lines dump (before + length row) rest)
 
 each_line : (dump : HexDump) (before count : ℕ) (rs : List (List ℕ)) → dump.ascii ≡ true → OffsetsAreShort dump.offset count
     → All (λ row. 0 < length row) rs → All (λ row. length row ≤ bytes_per_row dump) rs → before + length (concat rs) ≤ count
-    → (k : ℕ) → k < length rs → HasTextAt (text_start dump) (slice_index_or rs k []) (slice_index_or (lines_of dump before rs) k [])
+    → (k : ℕ) → k < length rs → HasTextAt (text_start dump) (slice_index_or rs k []) (slice_index_or (dump_lines dump before rs) k [])
 each_line dump before count [] ascii short some fits left k within = absurd (omega arith)
 each_line dump before count (row ∷ rest) ascii short some fits left zero within =
     let byte = All-head (λ (r : List ℕ). 0 < length r) row rest some in
@@ -90,7 +90,7 @@ pub texts_begin_in_one_column : (dump : HexDump) (bytes : List ℕ) → dump.asc
 texts_begin_in_one_column dump bytes ascii short =
     let are = AreRowsOf-chunks (bytes_per_row dump) bytes (bytes_per_row-some dump) in
     record {
-      lines = lines_of dump 0 (rows dump bytes);
+      lines = dump_lines dump 0 (rows dump bytes);
       joined = lines-joined dump 0 (rows dump bytes);
       count = length-lines dump 0 (rows dump bytes);
       each = each_line dump 0 (length bytes) (rows dump bytes) ascii short are.some are.within (omega (arith, ap length are.joined));

@@ -1,2 +1,1 @@
-pub mod KnownParts
 pub mod Lines

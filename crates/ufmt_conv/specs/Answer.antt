@@ -1,6 +1,7 @@
 -- The program's answer to a command on an input.
 use Rattle.std.specs.Prelude.{◌≡◌, ℕ, ◌-◌, List, [], ◌∷◌, ◌++◌, ◌==◌, if◌then◌else◌, length, map, pos, slice_index, take, Option, IfSome}
 use Rattle.std.specs.Io.KnownBytes.{Appends}
+use Rattle.std.specs.List.{onto_first}
 use Rattle.ufmt_conv.specs.declared.run.command.Command.{Command}
 use Rattle.ufmt_conv.specs.declared.run.command.Command.TheVariants.{Lengths, Pretty, Plain}
 use Rattle.ufmt.specs.Bytes.{line_feed}
@@ -8,20 +9,16 @@ use Rattle.ufmt.specs.Decimal.{decimal}
 use Rattle.ufmt.specs.Document.{Document, documents, leaf, list_of}
 use Rattle.ufmt.specs.Layout.{plain_text, pretty_text}
 use Rattle.ufmt_doc.specs.Texts.{IsConverted, IsNoText}
+use Rattle.ufmt_io.specs.Whole.{AppendsPrefix}
 
--- a byte before the first line; without a line it is one
-abbrev pub onto_first_line : ℕ → List (List ℕ) → List (List ℕ)
-onto_first_line byte [] = (byte ∷ []) ∷ []
-onto_first_line byte (line ∷ lines) = (byte ∷ line) ∷ lines
-
--- the lines of a text, each without its line feed; bytes after the last line feed are a line too
-abbrev pub lines_of : List ℕ → List (List ℕ)
-lines_of [] = []
-lines_of (byte ∷ rest) = if byte == line_feed then [] ∷ lines_of rest else onto_first_line byte (lines_of rest)
+-- the lines that are counted, each without its line feed: bytes after the last line feed are one too, if there are any
+abbrev pub counted_lines : List ℕ → List (List ℕ)
+counted_lines [] = []
+counted_lines (byte ∷ rest) = if byte == line_feed then [] ∷ counted_lines rest else onto_first byte (counted_lines rest)
 
 -- how many bytes each line has
 abbrev pub line_lengths : List ℕ → List ℕ
-line_lengths input = map length (lines_of input)
+line_lengths input = map length (counted_lines input)
 
 -- the plain text of a list of numbers
 abbrev pub plain_list : List ℕ → List ℕ
@@ -48,13 +45,9 @@ IsAnswerLine command input line =
 abbrev pub Answered : Command → Option (List ℕ) → Option (List ℕ) → Option (List ℕ) → Type 0
 Answered command input old new = IfSome input (λ bytes. (line : List ℕ) × IsAnswerLine command bytes line × Appends old new line)
 
--- if the bytes of the output are known: a beginning of `bytes` was written, perhaps nothing, perhaps all
-abbrev pub AppendsBeginning : Option (List ℕ) → Option (List ℕ) → List ℕ → Type 0
-AppendsBeginning old new bytes = (count : ℕ) × Appends old new (take count bytes)
-
 -- if the bytes of input and output are known: a beginning of the answer and a line feed was written
 abbrev pub AnsweredInPart : Command → Option (List ℕ) → Option (List ℕ) → Option (List ℕ) → Type 0
-AnsweredInPart command input old new = IfSome input (λ bytes. (line : List ℕ) × IsAnswerLine command bytes line × AppendsBeginning old new line)
+AnsweredInPart command input old new = IfSome input (λ bytes. (line : List ℕ) × IsAnswerLine command bytes line × AppendsPrefix old new line)
 
 -- if the bytes of the input are known: without a final line feed they are no token document's text
 abbrev pub IsNoInput : (Document → List ℕ) → Option (List ℕ) → Type 0

@@ -1,7 +1,6 @@
 pub mod Answer
 pub mod Command
 pub mod Fault
-pub mod Watched
 pub use Rattle.ufmt_doc.specs.Doc
 pub use Rattle.ufmt_doc.specs.ReadError
 pub use Rattle.ufmt_doc.specs.Texts

@@ -9,39 +9,28 @@ ghost use Rattle.ufmt_conv.specs.Fault.{status_of};
 pub mod run;
 
 use run::{Command, Fault, Watched};
+use std::io;
 use std::process::ExitCode;
-use std::{env, io};
 pub use ufmt_doc::{convert, doc, laws, plain_reader, pretty_reader, scan};
-
-// The status if the words are no command.
-const USAGE_STATUS: u8 = 2;
+use ufmt_io::{USAGE_STATUS, arguments, report};
 
 fn main(rt: HostRuntime) -> ExitCode {
-    let Ok(words) = words(&rt) else {
-        return report(&rt, Fault::OutOfMemory);
+    let Ok(arguments) = arguments(&rt) else {
+        return report_fault(&rt, Fault::OutOfMemory);
     };
-    let Some(command) = Command::parse(&words) else {
-        let _ = rt.eprintln(run::usage());
-        return ExitCode::from(USAGE_STATUS);
+    let Some(command) = Command::parse(&arguments) else {
+        return report(&rt, run::usage(), USAGE_STATUS);
     };
     let mut input = Watched::new(rt.reader());
     let mut output = Watched::new(io::writer(&rt));
     match run::run(rt.alloc(), command, &mut input, &mut output) {
         Ok(()) => ExitCode::SUCCESS,
-        Err(fault) => report(&rt, fault),
+        Err(fault) => report_fault(&rt, fault),
     }
 }
 
-// The words after the program's name.
-fn words(rt: &HostRuntime) -> io::Result<Vec<String>> {
-    let words: Vec<String> = env::args(rt)?.skip(1).collect(rt.alloc())?;
-    Ok(words)
-}
-
-// Prints the fault's line, if standard error takes it, and returns its status.
-fn report(rt: &HostRuntime, fault: Fault) -> ExitCode
+fn report_fault(rt: &HostRuntime, fault: Fault) -> ExitCode
     ensures { exit_status result ≡ status_of fault }
 {
-    let _ = rt.eprintln(fault.line());
-    ExitCode::from(fault.status())
+    report(rt, fault.line(), fault.status())
 }

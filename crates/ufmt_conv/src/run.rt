@@ -3,24 +3,22 @@ ghost use Rattle.std.specs.Prelude.{◌≡◌, ◌≢◌, ◌↔◌, false, IsTr
 ghost use Rattle.std.specs.Io.KnownBytes.{IsAtEnd};
 ghost use Rattle.ufmt.specs.Layout.{plain_text, pretty_text};
 ghost use Rattle.ufmt_conv.specs.Answer.{Answered, AnsweredInPart, IsNoInput};
-ghost use Rattle.ufmt_conv.specs.Watched.{device_of, has_failed};
+ghost use Rattle.ufmt_io.specs.Watched.{device_of, has_failed};
 
 mod answer;
 mod command;
-mod devices;
 mod fault;
 #[cfg(test)]
 mod tests;
-mod watched;
 
 use answer::answer_line;
 pub use answer::line_lengths;
 pub use command::{Command, usage};
-use devices::{read_to_end, write_whole};
 pub use fault::Fault;
 use std::alloc::Global;
 use std::io::{Read, Write};
-pub use watched::{Failed, Watched};
+pub use ufmt_io::{Failed, Watched};
+use ufmt_io::{read_to_end, write_whole};
 
 /// Reads the input to its end, and writes the command's answer and a line feed.
 ///

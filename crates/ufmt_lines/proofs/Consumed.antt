@@ -3,7 +3,8 @@ use Rattle.std.proofs.Common.{◌≡◌, ◌∙◌, refl, ap, sym, subst, ℕ, L
 use Rattle.std.proofs.KnownBytes.{Consumes-kept, Consumes-nil, Consumes-trans, Consumes-whole, Appends-trans}
 use Rattle.std.specs.Io.KnownBytes.{Appends, Consumes, IsAtEnd, Keeps}
 use Rattle.ufmt_core.specs.declared.layout.Mode.{Mode}
-use Rattle.ufmt_lines.specs.Answered.{Answered, AnsweredInPart, AppendsBeginning, FrontAnswered, ReadAnswered, answers_of}
+use Rattle.ufmt_io.specs.Whole.{AppendsPrefix}
+use Rattle.ufmt_lines.specs.Answered.{Answered, AnsweredInPart, FrontAnswered, ReadAnswered, answers_of}
 use Rattle.ufmt_lines.specs.Groups.{IsInGroup}
 use Rattle.ufmt_lines.specs.Readable.{answer_of}
 use Rattle.ufmt_lines.proofs.Cuts.{answers_one}
@@ -59,7 +60,7 @@ module _ (mode : Mode) where
         }
 
         -- the output failed in between
-        pub read_in_part : ((more : List ℕ) → AppendsBeginning old new (answers_of mode ((group ++ bytes) ++ more))) → AnsweredInPart mode first known new
+        pub read_in_part : ((more : List ℕ) → AppendsPrefix old new (answers_of mode ((group ++ bytes) ++ more))) → AnsweredInPart mode first known new
         read_in_part part =
             consumed_front first third (so_far.text ++ bytes) _ (Consumes-trans first second third _ _ so_far.read consumed)
             (λ more. answered_in_part mode _ _ known old new (answered_before mode _ _ more known old answered_with) (part more))
@@ -74,8 +75,8 @@ module _ (mode : Mode) where
             ∙ ap (λ t. answers_of mode front.front ++ t) (answers_one mode group within ∙ sym (append-nil (answer_of mode group))) in
             Consumes-whole first third so_far.text _ (all_read consumed) end (subst (Appends known new) (sym all) (Appends-trans known old new _ _ front.written written))
 
-        pub last_in_part : AppendsBeginning old new (answer_of mode group ++ []) → AnsweredInPart mode first known new
+        pub last_in_part : AppendsPrefix old new (answer_of mode group ++ []) → AnsweredInPart mode first known new
         last_in_part written =
             let group_answers : answer_of mode group ++ [] ≡ answers_of mode group = append-nil (answer_of mode group) ∙ sym (answers_one mode group within) in
             Consumes-whole first third so_far.text _ (all_read consumed) end
-            (answered_in_part mode so_far.text group known old new answered_group_left (subst (AppendsBeginning old new) group_answers written))
+            (answered_in_part mode so_far.text group known old new answered_group_left (subst (AppendsPrefix old new) group_answers written))

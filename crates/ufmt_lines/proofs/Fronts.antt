@@ -4,7 +4,8 @@ use Rattle.std.proofs.KnownBytes.{Appends-nil, Appends-trans}
 use Rattle.std.specs.Io.KnownBytes.{Appends}
 use Rattle.ufmt.specs.Bytes.{line_feed}
 use Rattle.ufmt_core.specs.declared.layout.Mode.{Mode}
-use Rattle.ufmt_lines.specs.Answered.{AppendsBeginning, AreWholeGroups, FrontAnswered, answers_of}
+use Rattle.ufmt_io.specs.Whole.{AppendsPrefix}
+use Rattle.ufmt_lines.specs.Answered.{AreWholeGroups, FrontAnswered, answers_of}
 use Rattle.ufmt_lines.specs.Groups.{IsInGroup, goes_on_after}
 use Rattle.ufmt_lines.specs.Readable.{answer_of}
 use Rattle.ufmt_lines.proofs.Cuts.{answers_cut, answers_nil, answers_one}
@@ -54,11 +55,11 @@ module _ (mode : Mode) where
 
   -- a front, and then a beginning of the answers to the rest, are a beginning of all answers
   pub answered_in_part : (text mid : List ℕ) (first second third : Option (List ℕ)) → FrontAnswered mode text mid first second
-      → AppendsBeginning second third (answers_of mode mid) → AppendsBeginning first third (answers_of mode text)
-  answered_in_part text mid first second third g (part, begins, written) =
-      let all = ap (answers_of mode) g.cut ∙ answers_after g.front mid g.groups ∙ ap (λ t. answers_of mode g.front ++ t) begins.joined
-      ∙ sym (append_assoc (answers_of mode g.front) part begins.remainder) in
-      (answers_of mode g.front ++ part, record { remainder = begins.remainder; joined = all }, Appends-trans first second third _ _ g.written written)
+      → AppendsPrefix second third (answers_of mode mid) → AppendsPrefix first third (answers_of mode text)
+  answered_in_part text mid first second third g (part, left, joined, written) =
+      let all = ap (answers_of mode) g.cut ∙ answers_after g.front mid g.groups ∙ ap (λ t. answers_of mode g.front ++ t) joined
+      ∙ sym (append_assoc (answers_of mode g.front) part left) in
+      (answers_of mode g.front ++ part, left, all, Appends-trans first second third _ _ g.written written)
 
   module _ (group : List ℕ) (old new : Option (List ℕ)) (within : IsInGroup mode group) (ends : goes_on_after mode group ≡ false) where
     -- one group and its line feed
@@ -79,14 +80,14 @@ module _ (mode : Mode) where
     group_ended (Err e) left written none = tt
 
     -- a beginning of a group's answer and line feed is a beginning of the answers to a text that begins with the group
-    pub group_in_part : AppendsBeginning old new (answer_of mode group ++ line_feed ∷ []) → (more : List ℕ)
-        → AppendsBeginning old new (answers_of mode ((group ++ line_feed ∷ []) ++ more))
-    group_in_part (part, begins, written) more =
+    pub group_in_part : AppendsPrefix old new (answer_of mode group ++ line_feed ∷ []) → (more : List ℕ)
+        → AppendsPrefix old new (answers_of mode ((group ++ line_feed ∷ []) ++ more))
+    group_in_part (part, left, joined, written) more =
         let all = ap (answers_of mode) (append_assoc group (line_feed ∷ []) more) ∙ answers_cut mode group more ends
         ∙ ap (λ t. t ++ line_feed ∷ answers_of mode more) (answers_one mode group within)
         ∙ sym (append_assoc (answer_of mode group) (line_feed ∷ []) (answers_of mode more))
-        ∙ ap (λ t. t ++ answers_of mode more) begins.joined ∙ append_assoc part begins.remainder (answers_of mode more) in
-        (part, record { remainder = begins.remainder ++ answers_of mode more; joined = all }, written)
+        ∙ ap (λ t. t ++ answers_of mode more) joined ∙ append_assoc part left (answers_of mode more) in
+        (part, left ++ answers_of mode more, all, written)
 
   -- a line of the group that is being read, of which these bytes were gathered, ends in the bytes that follow
   module _ (text group first after rest : List ℕ) (known second third : Option (List ℕ))
@@ -102,9 +103,9 @@ module _ (mode : Mode) where
         (subst (λ t. FrontAnswered mode t (left ++ after) second third) (sym cut_there) (answered_before _ left after second third ended))
 
     -- a beginning of the answer is written
-    pub line_in_part : ((more : List ℕ) → AppendsBeginning second third (answers_of mode (((group ++ first) ++ line_feed ∷ []) ++ more))) → (more : List ℕ)
-        → AppendsBeginning known third (answers_of mode (text ++ more))
+    pub line_in_part : ((more : List ℕ) → AppendsPrefix second third (answers_of mode (((group ++ first) ++ line_feed ∷ []) ++ more))) → (more : List ℕ)
+        → AppendsPrefix known third (answers_of mode (text ++ more))
     line_in_part part more =
         answered_in_part (text ++ more) ((group ++ rest) ++ more) known second third (answered_before text (group ++ rest) more known second before)
-        (subst (λ t. AppendsBeginning second third (answers_of mode t))
+        (subst (λ t. AppendsPrefix second third (answers_of mode t))
         (sym (ap (λ t. t ++ more) cut_there ∙ append_assoc ((group ++ first) ++ line_feed ∷ []) after more)) (part (after ++ more)))

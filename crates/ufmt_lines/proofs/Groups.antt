@@ -8,9 +8,10 @@ use Rattle.std.proofs.lemmas.List.Elements.{All-append, All-cons, All-head, All-
 use Rattle.std.proofs.lemmas.List.Splits.{slice_split_none}
 use Rattle.std.specs.List.{onto_first}
 use Rattle.ufmt.specs.Bytes.{line_feed}
+use Rattle.ufmt.specs.Lines.{lines_of}
 use Rattle.ufmt_core.specs.declared.layout.Mode.{Mode}
 use Rattle.ufmt_core.specs.declared.layout.Mode.TheVariants.{Plain, Pretty}
-use Rattle.ufmt_lines.specs.Groups.{IsInGroup, IsInLine, goes_on, goes_on_after, goes_on_after_lines, grouped, groups_of, is_indented, lines_of, onto_group, opens}
+use Rattle.ufmt_lines.specs.Groups.{IsInGroup, IsInLine, goes_on, goes_on_after, goes_on_after_lines, grouped, groups_of, is_indented, onto_group, opens}
 
 -- a list that isn't empty
 pub record Some_lists (lists : List (List ℕ)) : Type 0 where

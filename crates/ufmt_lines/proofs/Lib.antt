@@ -2,7 +2,6 @@ pub mod Groups
 pub mod Cuts
 pub mod Fronts
 pub mod Tails
-pub mod KnownParts
 pub mod Consumed
 pub mod LongestTexts
 pub mod WorkedGroups

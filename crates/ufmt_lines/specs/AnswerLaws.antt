@@ -2,10 +2,11 @@
 use Rattle.std.specs.Prelude.{◌≡◌, ◌⊎◌, ℕ, ◌<◌, List, [], ◌∷◌, ◌++◌, length, IsTrue}
 use Rattle.ufmt.specs.Document.{Document}
 use Rattle.ufmt.specs.Layout.{layout, setting}
+use Rattle.ufmt.specs.Lines.{lines_of}
 use Rattle.ufmt.specs.Token.{IsToken}
 use Rattle.ufmt_core.specs.declared.layout.Mode.{Mode}
 use Rattle.ufmt_core.specs.declared.layout.Mode.TheVariants.{Pretty}
-use Rattle.ufmt_lines.specs.Groups.{IsInGroup, IsInLine, groups_of, lines_of}
+use Rattle.ufmt_lines.specs.Groups.{IsInGroup, IsInLine, groups_of}
 use Rattle.ufmt_lines.specs.Readable.{answer_of, may_begin_after, other_mode}
 use Rattle.ufmt_scan.specs.Texts.{IsNoText}
 

@@ -3,8 +3,8 @@ use Rattle.std.specs.Prelude.{◌≡◌, ℕ, false, List, [], ◌∷◌, ◌++�
 use Rattle.std.specs.Io.KnownBytes.{Appends, Consumes}
 use Rattle.std.specs.List.{join_with_byte}
 use Rattle.ufmt.specs.Bytes.{line_feed}
-use Rattle.ufmt.specs.Writes.{BeginsWith}
 use Rattle.ufmt_core.specs.declared.layout.Mode.{Mode}
+use Rattle.ufmt_io.specs.Whole.{AppendsPrefix}
 use Rattle.ufmt_lines.specs.Groups.{goes_on_after, groups_of}
 use Rattle.ufmt_lines.specs.Readable.{answer_of}
 
@@ -16,17 +16,13 @@ answers_of mode text = join_with_byte line_feed (map (answer_of mode) (groups_of
 abbrev pub AreWholeGroups : Mode → List ℕ → Type 0
 AreWholeGroups mode text = (text ≡ []) ⊎ ((front : List ℕ) × (text ≡ front ++ line_feed ∷ []) × (goes_on_after mode front ≡ false))
 
--- known bytes grew by a beginning of the text, perhaps nothing, perhaps all
-abbrev pub AppendsBeginning : Option (List ℕ) → Option (List ℕ) → List ℕ → Type 0
-AppendsBeginning old new text = (part : List ℕ) × BeginsWith text part × Appends old new part
-
 -- if the bytes of input and output are known: the answers to all groups were written
 abbrev pub Answered : Mode → Option (List ℕ) → Option (List ℕ) → Option (List ℕ) → Type 0
 Answered mode input old new = IfSome input (λ bytes. Appends old new (answers_of mode bytes))
 
 -- if the bytes of input and output are known: a beginning of the answers was written
 abbrev pub AnsweredInPart : Mode → Option (List ℕ) → Option (List ℕ) → Option (List ℕ) → Type 0
-AnsweredInPart mode input old new = IfSome input (λ bytes. AppendsBeginning old new (answers_of mode bytes))
+AnsweredInPart mode input old new = IfSome input (λ bytes. AppendsPrefix old new (answers_of mode bytes))
 
 -- the answers to whole groups at the front of a text were written, and nothing of the rest
 pub record FrontAnswered (mode : Mode) (text rest : List ℕ) (old new : Option (List ℕ)) : Type 0 where

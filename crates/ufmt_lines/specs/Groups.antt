@@ -1,13 +1,10 @@
--- The lines of an input, and the groups of lines that are answered together.
+-- The groups of an input's lines that are answered together.
 use Rattle.std.specs.Prelude.{◌≡◌, ◌≢◌, ℕ, ◌-◌, ◌==◌, ◌||◌, ◌&&◌, Bool, true, false, List, [], ◌∷◌, ◌++◌, length, slice_get, Option, Some, None}
-use Rattle.std.specs.List.{All, slice_split}
+use Rattle.std.specs.List.{All}
 use Rattle.ufmt.specs.Bytes.{line_feed, space}
+use Rattle.ufmt.specs.Lines.{lines_of}
 use Rattle.ufmt_core.specs.declared.layout.Mode.{Mode}
 use Rattle.ufmt_core.specs.declared.layout.Mode.TheVariants.{Plain, Pretty}
-
--- the lines of a text, without the line feeds between them; one more line, which may be empty, follows the last line feed
-abbrev pub lines_of : List ℕ → List (List ℕ)
-lines_of text = slice_split (λ byte. byte == line_feed) text
 
 -- no byte is a line feed
 abbrev pub IsInLine : List ℕ → Type 0

@@ -1,8 +1,7 @@
 pub mod AnswerLaws
 pub mod Answered
+pub mod Arguments
 pub mod Fault
 pub mod Groups
 pub mod Private
 pub mod Readable
-pub mod Watched
-pub mod Words

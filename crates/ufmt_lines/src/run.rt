@@ -3,24 +3,23 @@ ghost use Rattle.std.specs.Prelude.{◌≡◌, ◌↔◌, ◌<◌, ◌≤◌, fa
 ghost use Rattle.std.specs.Io.KnownBytes.{Consumes, IsAtEnd, Keeps};
 ghost use Rattle.ufmt_lines.specs.Answered.{Answered, AnsweredInPart, ReadAnswered};
 ghost use Rattle.ufmt_lines.specs.Groups.{IsInGroup};
-ghost use Rattle.ufmt_lines.specs.Watched.{device_of, has_failed};
+ghost use Rattle.ufmt_io.specs.Watched.{device_of, has_failed};
 
 mod answer;
+mod arguments;
 mod fault;
 mod groups;
 pub mod laws;
 #[cfg(test)]
 mod tests;
-mod watched;
-mod words;
 
-pub use fault::Fault;
+pub use arguments::{asked_mode, usage};
+pub use fault::fault_line;
 use groups::Group;
 use std::alloc::{AllocError, Global};
 use std::io::{Read, Write};
 use ufmt::layout::Mode;
-pub use watched::{Failed, Watched};
-pub use words::{asked_mode, usage};
+pub use ufmt_io::{Failed, IoFault, Watched};
 
 // How many bytes are read at once, at most.
 const CHUNK: usize = 64 * 1024;
@@ -35,7 +34,7 @@ pub fn run<R: Read, W: Write>(
     mode: Mode,
     input: &mut Watched<R>,
     output: &mut Watched<W>,
-) -> Result<(), Fault>
+) -> Result<(), IoFault>
     requires input_works { has_failed input.old ≡ false }
     requires output_works { has_failed output.old ≡ false }
 
@@ -43,21 +42,21 @@ pub fn run<R: Read, W: Write>(
     ensures ok { OnOk result (Answered mode (R.remaining (device_of input.old))
         (W.contents (device_of output.old)) (W.contents (device_of output.new))) }
     ensures read_whole { OnOk result (IsAtEnd (R.remaining (device_of input.new))) }
-    ensures cannot_write { IsErrOf result Fault.CannotWrite
+    ensures cannot_write { IsErrOf result IoFault.CannotWrite
         → AnsweredInPart mode (R.remaining (device_of input.old))
         (W.contents (device_of output.old)) (W.contents (device_of output.new)) }
-    ensures cannot_read { IsErrOf result Fault.CannotRead
+    ensures cannot_read { IsErrOf result IoFault.CannotRead
         → ReadAnswered mode (IsInGroup mode) (R.remaining (device_of input.old))
         (R.remaining (device_of input.new)) (W.contents (device_of output.old))
         (W.contents (device_of output.new)) }
-    ensures out_of_memory { IsErrOf result Fault.OutOfMemory
+    ensures out_of_memory { IsErrOf result IoFault.OutOfMemory
         → ReadAnswered mode (λ _. ⊤) (R.remaining (device_of input.old))
         (R.remaining (device_of input.new)) (W.contents (device_of output.old))
         (W.contents (device_of output.new)) }
 
     // What each fault means.
-    ensures input_failed { IsErrOf result Fault.CannotRead ↔ IsTrue (has_failed input.new) }
-    ensures output_failed { IsErrOf result Fault.CannotWrite ↔ IsTrue (has_failed output.new) }
+    ensures input_failed { IsErrOf result IoFault.CannotRead ↔ IsTrue (has_failed input.new) }
+    ensures output_failed { IsErrOf result IoFault.CannotWrite ↔ IsTrue (has_failed output.new) }
 {
     let mut group = Group::new(alloc);
     let mut chunk = new_chunk(alloc)?;
@@ -70,7 +69,7 @@ pub fn run<R: Read, W: Write>(
     }
     // An input with no end, after 2^64 - 1 reads.
     input.give_up();
-    Err(Fault::CannotRead)
+    Err(IoFault::CannotRead)
 }
 
 // Room for what is read at once.
@@ -83,7 +82,7 @@ fn new_chunk(alloc: Global) -> Result<Vec<u8>, AllocError>
 }
 
 // Reads once to the front of the chunk. Zero is the end of the input.
-fn read_chunk<R: Read>(input: &mut Watched<R>, chunk: &mut Vec<u8>) -> Result<usize, Fault>
+fn read_chunk<R: Read>(input: &mut Watched<R>, chunk: &mut Vec<u8>) -> Result<usize, IoFault>
     requires works { has_failed input.old ≡ false }
     requires room { 0 < vec_len chunk.old }
     ensures works { OnOk result (has_failed input.new ≡ false) }
@@ -95,10 +94,10 @@ fn read_chunk<R: Read>(input: &mut Watched<R>, chunk: &mut Vec<u8>) -> Result<us
     ensures kept { OnErr result (Keeps (R.remaining (device_of input.old))
         (R.remaining (device_of input.new))) }
     ensures failed { IsErr result ↔ IsTrue (has_failed input.new) }
-    ensures no_other { IfErr result (λ fault. fault ≡ Fault.CannotRead) }
+    ensures no_other { IfErr result (λ fault. fault ≡ IoFault.CannotRead) }
 {
     let buffer = chunk.as_mut_slice();
-    input.read_some(buffer).map_err(|_| Fault::CannotRead)
+    input.read_some(buffer).map_err(|_| IoFault::CannotRead)
 }
 
 // What was read.

@@ -12,7 +12,7 @@ use Rattle.std.specs.List.{join_with_byte, position_or_len}
 use Rattle.std.proofs.lemmas.List.{take-append-drop}
 use Rattle.std.proofs.lemmas.List.Sums.{count_by-le-length, fails_before_first}
 use Rattle.std.proofs.lemmas.List.Splits.{length-slice_split, join_with_byte-slice_split, slice_split_none}
-use Rattle.ufmt_snapshot.specs.Difference.{lines_of}
+use Rattle.ufmt.specs.Lines.{lines_of}
 use Rattle.ufmt_snapshot.specs.Private.LinesLeft.{CutsLine, lines_left}
 
 -- a text without a line feed is one line

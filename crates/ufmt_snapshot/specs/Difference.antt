@@ -1,16 +1,11 @@
 -- Two texts compared line by line, and the message that says where they differ.
-use Rattle.std.specs.Prelude.{◌≡◌, ◌≢◌, ℕ, ◌-◌, ◌<◌, ◌==◌, List, [], ◌∷◌, ◌++◌, Option, codes, slice_get, take}
-use Rattle.std.specs.List.{slice_split}
+use Rattle.std.specs.Prelude.{◌≡◌, ◌≢◌, ℕ, ◌-◌, ◌<◌, List, [], ◌∷◌, ◌++◌, Option, codes, slice_get, take}
 use Rattle.std.specs.Option.{option_copied}
-use Rattle.ufmt.specs.Bytes.{line_feed}
 use Rattle.ufmt.specs.Document.{Document}
+use Rattle.ufmt.specs.Lines.{lines_of}
 use Rattle.ufmt.specs.Pieces.{Piece, line_text, shown, text}
 use Rattle.ufmt.specs.Words.{named_struct, number, option_document, str}
 use Rattle.ufmt_snapshot.specs.declared.difference.Difference.{Difference}
-
--- the lines of a text, which is cut at each line feed: there is one line more than line feeds
-abbrev pub lines_of : List ℕ → List (List ℕ)
-lines_of bytes = slice_split (λ byte. byte == line_feed) bytes
 
 -- the line with this number, from 1 on, if the text has so many
 abbrev pub line_at : ℕ → List ℕ → Option (List ℕ)

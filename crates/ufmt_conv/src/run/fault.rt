@@ -1,9 +1,10 @@
 //! Faults: why a run ends before its whole answer is written.
 ghost use Rattle.std.specs.Prelude.{◌≡◌};
-ghost use Rattle.ufmt_conv.specs.Fault.{line_of, status_of};
+ghost use Rattle.ufmt_conv.specs.Fault.{line_of, of_io, status_of};
 ghost use Rattle.ufmt_conv.specs.declared.run.fault.Fault.TheVariants.{OutOfMemory};
 
 use std::alloc::AllocError;
+use ufmt_io::IoFault;
 
 /// Why a run didn't write its whole answer.
 #[derive(Clone, Copy, PartialEq, Eq, Debug)]
@@ -27,9 +28,9 @@ impl Fault {
     {
         match self {
             Fault::NotPlain | Fault::NotPretty => 1,
-            Fault::CannotRead => 3,
-            Fault::CannotWrite => 4,
-            Fault::OutOfMemory => 5,
+            Fault::CannotRead => IoFault::CannotRead.status(),
+            Fault::CannotWrite => IoFault::CannotWrite.status(),
+            Fault::OutOfMemory => IoFault::OutOfMemory.status(),
         }
     }
 
@@ -52,5 +53,17 @@ impl From<AllocError> for Fault {
 
     fn from(_error: AllocError) -> Fault {
         Fault::OutOfMemory
+    }
+}
+
+impl From<IoFault> for Fault {
+    ghost from_gives = { λ io fault. fault ≡ of_io io };
+
+    fn from(fault: IoFault) -> Fault {
+        match fault {
+            IoFault::CannotRead => Fault::CannotRead,
+            IoFault::CannotWrite => Fault::CannotWrite,
+            IoFault::OutOfMemory => Fault::OutOfMemory,
+        }
     }
 }

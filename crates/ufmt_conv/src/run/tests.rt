@@ -5,101 +5,17 @@ mod inputs;
 
 use super::*;
 use std::alloc::AllocError;
-use std::io::ErrorKind;
+use std::fmt;
 use std::process::Abort;
 use std::test::Fail;
-use std::{fmt, io};
 use ufmt::{Cursor, Formatter, uDebug};
+use ufmt_io::testing::{NEVER, Sink, Source, WHOLE};
 
-// Checking an assert takes as long as checking twenty calls, so asserts are calls of these two.
+// Checking an assert takes as long as checking twenty calls, so asserts are calls of this one.
 // No other function is generic over the handle: checking that takes as long again.
 fn same<T: PartialEq + fmt::Debug + Drop>(rt: &impl Abort, given: T, wanted: T, case: &str) {
     assert_eq!(rt; given, wanted, "{case}");
 }
-
-fn holds(rt: &impl Abort, condition: bool, case: &str) {
-    assert!(rt; condition, "{case}");
-}
-
-// Gives `left`, at most `most` bytes a call, and fails at call number `fails_at`, counted from one.
-#[derive(Drop)]
-struct Source<'a> {
-    left: &'a [u8],
-    most: usize,
-    calls: usize,
-    fails_at: usize,
-}
-
-impl<'a> Source<'a> {
-    fn new(bytes: &'a [u8], most: usize, fails_at: usize) -> Self {
-        Source {
-            left: bytes,
-            most,
-            calls: 0,
-            fails_at,
-        }
-    }
-}
-
-impl Read for Source<'_> {
-    fn read(&mut self, buffer: &mut [u8]) -> io::Result<usize> {
-        self.calls = self.calls.saturating_add(1);
-        if self.calls == self.fails_at {
-            return Err(io::Error::from(ErrorKind::ConnectionReset));
-        }
-        let count = self.most.min(self.left.len()).min(buffer.len());
-        buffer[..count].copy_from_slice(&self.left[..count]);
-        self.left = &self.left[count..];
-        Ok(count)
-    }
-}
-
-// Keeps what is written, at most `most` bytes a call. Its writes and flushes are counted together,
-// from one. It fails at number `fails_at`, and at each flush if `fails_flush` is set.
-#[derive(Drop)]
-struct Sink {
-    taken: Vec<u8>,
-    most: usize,
-    calls: usize,
-    fails_at: usize,
-    fails_flush: bool,
-}
-
-impl Sink {
-    fn new(alloc: Global, most: usize, fails_at: usize, fails_flush: bool) -> Self {
-        Sink {
-            taken: Vec::new(alloc),
-            most,
-            calls: 0,
-            fails_at,
-            fails_flush,
-        }
-    }
-}
-
-impl Write for Sink {
-    fn write(&mut self, bytes: &[u8]) -> io::Result<usize> {
-        self.calls = self.calls.saturating_add(1);
-        if self.calls == self.fails_at {
-            return Err(io::Error::from(ErrorKind::BrokenPipe));
-        }
-        let count = self.most.min(bytes.len());
-        self.taken.extend_from_slice(&bytes[..count])?;
-        Ok(count)
-    }
-
-    fn flush(&mut self) -> io::Result<()> {
-        self.calls = self.calls.saturating_add(1);
-        if self.calls == self.fails_at || self.fails_flush {
-            return Err(io::Error::from(ErrorKind::BrokenPipe));
-        }
-        Ok(())
-    }
-}
-
-const WHOLE: usize = 4096;
-
-const NEVER: usize = 0;
 
 // What a run returns, whether the output took exactly the right bytes, and which device failed.
 type Ran = (Result<(), Fault>, bool, (bool, bool));
@@ -260,74 +176,6 @@ fn line_lengths_counts_the_bytes_of_lines(rt: HostRuntime) -> Result<(), Fail> {
         same(&rt, f.into_inner().written(), text.as_bytes(), "printed");
     }
     Ok(())
-}
-
-// A watched reader calls its device once, and returns the same. It has failed from the first
-// failure on.
-#[test]
-fn a_watched_reader_notes_a_failed_read(rt: HostRuntime) {
-    let never_fails = [
-        (1, Ok(2), b"ab..", false),
-        (2, Ok(1), b"c...", false),
-        (3, Ok(0), b"....", false),
-    ];
-    let fails_once = [
-        (1, Ok(2), b"ab..", false),
-        (2, Err(Failed), b"....", true),
-        (3, Ok(1), b"c...", true),
-    ];
-    for (fails_at, rows) in [(NEVER, never_fails), (2, fails_once)] {
-        let mut input = Watched::new(Source::new(b"abc", 2, fails_at));
-        holds(&rt, !input.has_failed(), "a new one");
-        for (call, answer, read, has_failed) in rows {
-            let mut buffer = *b"....";
-            let given = input.read_some(&mut buffer);
-            same(&rt, (call, given), (call, answer), "the answer");
-            same(&rt, buffer, *read, "what is read");
-            let left = (input.has_failed(), input.device().calls);
-            same(&rt, left, (has_failed, call), "failures and calls");
-        }
-    }
-}
-
-// A watched writer has also failed if nothing is taken of a piece that isn't empty.
-#[test]
-fn a_watched_writer_notes_a_failed_write(rt: HostRuntime) {
-    let rows: [(&str, usize, usize, &[u8], Result<usize, Failed>); 6] = [
-        ("a whole piece", WHOLE, NEVER, b"abc", Ok(3)),
-        ("a beginning", 2, NEVER, b"abc", Ok(2)),
-        ("an empty piece", WHOLE, NEVER, b"", Ok(0)),
-        ("an empty piece of nothing", 0, NEVER, b"", Ok(0)),
-        ("nothing of a piece", 0, NEVER, b"abc", Err(Failed)),
-        ("an error", WHOLE, 1, b"abc", Err(Failed)),
-    ];
-    for (case, most, fails_at, bytes, answer) in rows {
-        let mut output = Watched::new(Sink::new(rt.alloc(), most, fails_at, false));
-        holds(&rt, !output.has_failed(), case);
-        let has_failed = answer == Err(Failed);
-        same(&rt, output.write_some(bytes), answer, case);
-        let left = (output.has_failed(), output.device().calls);
-        same(&rt, left, (has_failed, 1), case);
-        same(&rt, output.flush_all(), Ok(()), "a flush after it");
-        let left = (output.has_failed(), output.device().calls);
-        same(&rt, left, (has_failed, 2), case);
-    }
-}
-
-#[test]
-fn a_watched_writer_notes_a_failed_flush(rt: HostRuntime) {
-    for (case, fails_flush, answer) in [
-        ("a flush", false, Ok(())),
-        ("a flush that fails", true, Err(Failed)),
-    ] {
-        let mut output = Watched::new(Sink::new(rt.alloc(), WHOLE, NEVER, fails_flush));
-        same(&rt, output.flush_all(), answer, case);
-        let left = (output.has_failed(), output.device().calls);
-        same(&rt, left, (fails_flush, 1), case);
-        same(&rt, output.write_some(b"ab"), Ok(2), "a piece after it");
-        let left = (output.has_failed(), output.device().calls);
-        same(&rt, left, (fails_flush, 2), case);
-    }
 }
 
 #[test]

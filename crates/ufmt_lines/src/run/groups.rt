@@ -1,18 +1,18 @@
 //! Groups of lines, gathered from what was read, and answered one by one.
-ghost use Rattle.std.specs.Prelude.{◌≡◌, ◌≢◌, ◌↔◌, ◌++◌, ◌∷◌, [], List, ℕ, IfErr, IsErr, IsErrOf, IsTrue, MatchOption, OnErr, OnOk, false};
+ghost use Rattle.std.specs.Prelude.{◌≡◌, ◌≢◌, ◌↔◌, ◌++◌, ◌∷◌, [], List, ℕ, IfErr, IsErrOf, IsTrue, MatchOption, OnOk, false};
 ghost use Rattle.std.specs.Io.KnownBytes.{Appends};
 ghost use Rattle.ufmt.specs.Bytes.{line_feed};
-ghost use Rattle.ufmt_lines.specs.Answered.{AppendsBeginning, FrontAnswered, answers_of};
+ghost use Rattle.ufmt_io.specs.Watched.{device_of, has_failed};
+ghost use Rattle.ufmt_io.specs.Whole.{AppendsPrefix};
+ghost use Rattle.ufmt_lines.specs.Answered.{FrontAnswered, answers_of};
 ghost use Rattle.ufmt_lines.specs.Groups.{IsInGroup, IsInLine, goes_on_after, is_indented, is_opening, opens};
 ghost use Rattle.ufmt_lines.specs.Readable.{answer_of};
-ghost use Rattle.ufmt_lines.specs.Watched.{device_of, has_failed};
 
 use super::answer::Answer;
-use super::fault::Fault;
-use super::watched::{Failed, Watched};
 use std::alloc::Global;
 use std::io::Write;
 use ufmt::layout::Mode;
+use ufmt_io::{IoFault, Watched, write_whole};
 
 /// The group of lines that is being read, and room for its answer. Both are used again for each group.
 #[derive(Drop)]
@@ -40,22 +40,22 @@ impl Group {
         mode: Mode,
         bytes: &[u8],
         output: &mut Watched<W>,
-    ) -> Result<(), Fault>
+    ) -> Result<(), IoFault>
         requires works { has_failed output.old ≡ false }
         requires in_group { IsInGroup mode (group_bytes self.old) }
         ensures ok { OnOk result (FrontAnswered mode (group_bytes self.old ++ bytes.now)
             (group_bytes self.new) (W.contents (device_of output.old))
             (W.contents (device_of output.new))) }
         ensures in_group { OnOk result (IsInGroup mode (group_bytes self.new)) }
-        ensures cannot_write { IsErrOf result Fault.CannotWrite → (more : List ℕ)
-            → AppendsBeginning (W.contents (device_of output.old))
+        ensures cannot_write { IsErrOf result IoFault.CannotWrite → (more : List ℕ)
+            → AppendsPrefix (W.contents (device_of output.old))
             (W.contents (device_of output.new))
             (answers_of mode ((group_bytes self.old ++ bytes.now) ++ more)) }
-        ensures out_of_memory { IsErrOf result Fault.OutOfMemory → (rest : List ℕ)
+        ensures out_of_memory { IsErrOf result IoFault.OutOfMemory → (rest : List ℕ)
             × FrontAnswered mode (group_bytes self.old ++ bytes.now) rest
             (W.contents (device_of output.old)) (W.contents (device_of output.new)) }
-        ensures failed { IsErrOf result Fault.CannotWrite ↔ IsTrue (has_failed output.new) }
-        ensures no_reader { IfErr result (λ fault. fault ≢ Fault.CannotRead) }
+        ensures failed { IsErrOf result IoFault.CannotWrite ↔ IsTrue (has_failed output.new) }
+        ensures no_reader { IfErr result (λ fault. fault ≢ IoFault.CannotRead) }
     {
         let mut rest = bytes;
         while let Some((first, after)) = split_line(rest) {
@@ -68,20 +68,20 @@ impl Group {
     }
 
     // Ends a line: writes the answer to the group if it ends there. Else the group goes on.
-    fn end_line<W: Write>(&mut self, mode: Mode, output: &mut Watched<W>) -> Result<(), Fault>
+    fn end_line<W: Write>(&mut self, mode: Mode, output: &mut Watched<W>) -> Result<(), IoFault>
         requires works { has_failed output.old ≡ false }
         requires in_group { IsInGroup mode (group_bytes self.old) }
         ensures ok { OnOk result (FrontAnswered mode (group_bytes self.old ++ line_feed ∷ [])
             (group_bytes self.new) (W.contents (device_of output.old))
             (W.contents (device_of output.new))) }
         ensures in_group { OnOk result (IsInGroup mode (group_bytes self.new)) }
-        ensures cannot_write { IsErrOf result Fault.CannotWrite → (more : List ℕ)
-            → AppendsBeginning (W.contents (device_of output.old))
+        ensures cannot_write { IsErrOf result IoFault.CannotWrite → (more : List ℕ)
+            → AppendsPrefix (W.contents (device_of output.old))
             (W.contents (device_of output.new))
             (answers_of mode ((group_bytes self.old ++ line_feed ∷ []) ++ more)) }
-        ensures out_of_memory { IsErrOf result Fault.OutOfMemory → output.new ≡ output.old }
-        ensures failed { IsErrOf result Fault.CannotWrite ↔ IsTrue (has_failed output.new) }
-        ensures no_reader { IfErr result (λ fault. fault ≢ Fault.CannotRead) }
+        ensures out_of_memory { IsErrOf result IoFault.OutOfMemory → output.new ≡ output.old }
+        ensures failed { IsErrOf result IoFault.CannotWrite ↔ IsTrue (has_failed output.new) }
+        ensures no_reader { IfErr result (λ fault. fault ≢ IoFault.CannotRead) }
     {
         if goes_on(mode, &self.bytes) {
             self.bytes.extend_from_slice(b"\n")?;
@@ -96,24 +96,24 @@ impl Group {
         mode: Mode,
         end: &[u8],
         output: &mut Watched<W>,
-    ) -> Result<(), Fault>
+    ) -> Result<(), IoFault>
         requires { has_failed output.old ≡ false }
         ensures ok { OnOk result (Appends (W.contents (device_of output.old))
             (W.contents (device_of output.new))
             (answer_of mode (group_bytes self.old) ++ end.now)) }
         ensures next { OnOk result (group_bytes self.new ≡ []) }
-        ensures cannot_write { IsErrOf result Fault.CannotWrite
-            → AppendsBeginning (W.contents (device_of output.old))
+        ensures cannot_write { IsErrOf result IoFault.CannotWrite
+            → AppendsPrefix (W.contents (device_of output.old))
             (W.contents (device_of output.new))
             (answer_of mode (group_bytes self.old) ++ end.now) }
-        ensures out_of_memory { IsErrOf result Fault.OutOfMemory → output.new ≡ output.old }
-        ensures failed { IsErrOf result Fault.CannotWrite ↔ IsTrue (has_failed output.new) }
-        ensures no_reader { IfErr result (λ fault. fault ≢ Fault.CannotRead) }
+        ensures out_of_memory { IsErrOf result IoFault.OutOfMemory → output.new ≡ output.old }
+        ensures failed { IsErrOf result IoFault.CannotWrite ↔ IsTrue (has_failed output.new) }
+        ensures no_reader { IfErr result (λ fault. fault ≢ IoFault.CannotRead) }
     {
         self.answer.clear();
         self.answer.push_answer(mode, &self.bytes)?;
         self.answer.push(end)?;
-        write_whole(output, self.answer.as_bytes()).map_err(|_| Fault::CannotWrite)?;
+        write_whole(output, self.answer.as_bytes()).map_err(|_| IoFault::CannotWrite)?;
         self.bytes.clear();
         Ok(())
     }
@@ -181,20 +181,4 @@ fn split_line(text: &[u8]) -> Option<(&[u8], &[u8])>
 {
     let end = text.iter().position(|byte| *byte == b'\n')?;
     Some((&text[..end], &text[end + 1..]))
-}
-
-// Writes all the bytes, and flushes. After a short write it continues with the rest.
-fn write_whole<W: Write>(output: &mut Watched<W>, bytes: &[u8]) -> Result<(), Failed>
-    requires { has_failed output.old ≡ false }
-    ensures ok { OnOk result (Appends (W.contents (device_of output.old))
-        (W.contents (device_of output.new)) bytes.now) }
-    ensures err { OnErr result (AppendsBeginning (W.contents (device_of output.old))
-        (W.contents (device_of output.new)) bytes.now) }
-    ensures failed { IsErr result ↔ IsTrue (has_failed output.new) }
-{
-    let mut written = 0;
-    while written < bytes.len() {
-        written += output.write_some(&bytes[written..])?;
-    }
-    output.flush_all()
 }

@@ -1,6 +1,6 @@
 -- The lines that are left of a text, and what cuts one off.
 use Rattle.std.specs.Prelude.{◌≡◌, ℕ, List, [], ◌∷◌, Option, None, Some}
-use Rattle.ufmt_snapshot.specs.Difference.{lines_of}
+use Rattle.ufmt.specs.Lines.{lines_of}
 
 -- the lines of what is left of a text, if anything is
 abbrev pub lines_left : Option (List ℕ) → List (List ℕ)

@@ -3,7 +3,7 @@ use Rattle.std.proofs.lemmas.Result.{on_ok_weaker}
 use Rattle.std.specs.Prelude.{⊤}
 use Rattle.ufmt_lines.specs.Groups.{IsInGroup}
 use Rattle.ufmt_lines.specs.Private.Group.{group_bytes}
-use Rattle.ufmt_lines.specs.Watched.{device_of}
+use Rattle.ufmt_io.specs.Watched.{device_of}
 use Rattle.ufmt_lines.proofs.Consumed.{AnsweredUpTo, last_answered, last_in_part, nothing_read, read_as, read_in_part, read_kept, read_more, read_nothing}
 use Rattle.ufmt_lines.proofs.Groups.{nothing_in_group}
 use Rattle.ufmt_lines.proofs.run.run.Goals as goal

@@ -3,7 +3,7 @@ use Rattle.std.proofs.Common.{◌≡◌, ◌<◌, false, vec_len}
 use Rattle.ufmt_lines.specs.Answered.{ReadAnswered}
 use Rattle.ufmt_lines.specs.Groups.{IsInGroup}
 use Rattle.ufmt_lines.specs.Private.Group.{group_bytes}
-use Rattle.ufmt_lines.specs.Watched.{device_of, has_failed}
+use Rattle.ufmt_io.specs.Watched.{device_of, has_failed}
 use Rattle.ufmt_lines.proofs.run.run.Given as goal
 
 abbrev pub invariant-reads : goal.invariant-reads

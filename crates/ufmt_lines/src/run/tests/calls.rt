@@ -1,68 +1,7 @@
 //! Tests of how often `run` calls its devices, and in which order.
 use super::*;
 use std::cell::RefCell;
-
-// The calls of both devices in one row: `r` for a read that gives bytes, `0` for one that gives none,
-// `w` for a write, `e` for an empty one, and `f` for a flush. The call with the number `fails_at`,
-// counted from one, fails and is `!`. Without memory a call is missing, and the row differs.
-#[derive(Drop)]
-struct Calls {
-    row: String,
-    fails_at: usize,
-}
-
-// Adds a call, which may fail.
-fn note(calls: &RefCell<Calls>, call: char) -> io::Result<()> {
-    let Ok(mut calls) = calls.try_borrow_mut() else {
-        return Err(io::Error::from(ErrorKind::Deadlock));
-    };
-    let number = calls.row.len().saturating_add(1);
-    let fails = number == calls.fails_at;
-    let _noted = calls.row.push(if fails { '!' } else { call });
-    if fails {
-        return Err(io::Error::from(ErrorKind::BrokenPipe));
-    }
-    Ok(())
-}
-
-// A reader whose calls are noted.
-#[derive(Drop)]
-struct NotedSource<'a> {
-    source: Source<'a>,
-    calls: &'a RefCell<Calls>,
-}
-
-impl Read for NotedSource<'_> {
-    fn read(&mut self, buffer: &mut [u8]) -> io::Result<usize> {
-        note(
-            self.calls,
-            if self.source.left.is_empty() {
-                '0'
-            } else {
-                'r'
-            },
-        )?;
-        self.source.read(buffer)
-    }
-}
-
-// A writer that takes at most `most` bytes a call, and whose calls are noted.
-#[derive(Drop)]
-struct NotedSink<'a> {
-    most: usize,
-    calls: &'a RefCell<Calls>,
-}
-
-impl Write for NotedSink<'_> {
-    fn write(&mut self, bytes: &[u8]) -> io::Result<usize> {
-        note(self.calls, if bytes.is_empty() { 'e' } else { 'w' })?;
-        Ok(self.most.min(bytes.len()))
-    }
-
-    fn flush(&mut self) -> io::Result<()> {
-        note(self.calls, 'f')
-    }
-}
+use ufmt_io::testing::{Calls, Noted};
 
 // A run's mode and input, and how many bytes a read gives and a write takes at most.
 type Run<'a> = (Mode, &'a [u8], usize, usize);
@@ -71,12 +10,12 @@ type Run<'a> = (Mode, &'a [u8], usize, usize);
 fn row_of(alloc: Global, (mode, text, read, written): Run<'_>, fails_at: usize) -> String {
     let row = String::new(alloc);
     let calls = RefCell::new(Calls { row, fails_at });
-    let mut input = Watched::new(NotedSource {
-        source: Source::new(text, read, NEVER),
+    let mut input = Watched::new(Noted {
+        device: Source::new(text, read, NEVER),
         calls: &calls,
     });
-    let mut output = Watched::new(NotedSink {
-        most: written,
+    let mut output = Watched::new(Noted {
+        device: Sink::new(alloc, written, NEVER, false),
         calls: &calls,
     });
     let _outcome = run(alloc, mode, &mut input, &mut output);

@@ -1,6 +1,8 @@
 //! Tests of `run` over devices that give or take little, over devices that fail, and of how it calls them.
 use super::*;
 use std::cell::Cell;
+use std::io;
+use std::io::ErrorKind;
 
 const MODES: [Mode; 2] = [Mode::Pretty, Mode::Plain];
 
@@ -57,7 +59,7 @@ fn is_answered_before(alloc: Global, mode: Mode, read: usize) -> bool {
     let source = Source::new(input, 1, read.saturating_add(1));
     let sink = Sink::new(alloc, WHOLE, NEVER, false);
     let taken = &output[..answered(mode, read).min(output.len())];
-    ran(alloc, mode, source, sink, taken) == wanted(Err(Fault::CannotRead))
+    ran(alloc, mode, source, sink, taken) == wanted(Err(IoFault::CannotRead))
 }
 
 #[test]
@@ -83,7 +85,7 @@ fn a_writer_that_fails_has_a_beginning(rt: HostRuntime) {
             let source = Source::new(input, WHOLE, NEVER);
             let sink = Sink::new(rt.alloc(), 1, calls, false);
             let given = ran(rt.alloc(), mode, source, sink, &output[..taken]);
-            same(&rt, given, wanted(Err(Fault::CannotWrite)), "a write");
+            same(&rt, given, wanted(Err(IoFault::CannotWrite)), "a write");
         }
     }
 }
@@ -102,7 +104,7 @@ fn a_writer_that_takes_nothing_or_fails_at_the_flush_ends_the_run(rt: HostRuntim
             let source = Source::new(input, WHOLE, NEVER);
             let sink = Sink::new(rt.alloc(), most, NEVER, fails_flush);
             let given = ran(rt.alloc(), mode, source, sink, taken);
-            same(&rt, given, wanted(Err(Fault::CannotWrite)), "a writer");
+            same(&rt, given, wanted(Err(IoFault::CannotWrite)), "a writer");
         }
     }
 }

@@ -1,6 +1,6 @@
 use Rattle.std.proofs.Common.{◌≡◌, ◌∙◌, ◌+◌, ◌-◌, not, suc, ap, arith, refl, sym}
 use Rattle.std.proofs.lemmas.Bool.{not_from_true}
-use Rattle.ufmt_snapshot.specs.Difference.{lines_of}
+use Rattle.ufmt.specs.Lines.{lines_of}
 use Rattle.ufmt_snapshot.proofs.LineByLine.{copied-none, index_within, line_is, lines_differ, lines_of-injective, lines_same, none_left, rest_is, same-whole, take-further}
 use Rattle.ufmt_snapshot.proofs.difference.first_difference.Goals as goal
 

@@ -1,6 +1,6 @@
 use Rattle.std.proofs.Common.{◌≡◌, ◌-◌, ◌<◌, drop, length, take}
 use Rattle.std.specs.Option.{option_copied}
-use Rattle.ufmt_snapshot.specs.Difference.{lines_of}
+use Rattle.ufmt.specs.Lines.{lines_of}
 use Rattle.ufmt_snapshot.specs.Private.LinesLeft.{lines_left}
 use Rattle.ufmt_snapshot.proofs.difference.first_difference.Given as goal
 

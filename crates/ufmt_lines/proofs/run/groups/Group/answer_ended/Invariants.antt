@@ -3,7 +3,7 @@ use Rattle.std.proofs.Common.{◌≡◌, ◌++◌, false, length}
 use Rattle.ufmt_lines.specs.Answered.{FrontAnswered}
 use Rattle.ufmt_lines.specs.Groups.{IsInGroup}
 use Rattle.ufmt_lines.specs.Private.Group.{group_bytes}
-use Rattle.ufmt_lines.specs.Watched.{device_of, has_failed}
+use Rattle.ufmt_io.specs.Watched.{device_of, has_failed}
 use Rattle.ufmt_lines.proofs.run.groups.Group.answer_ended.Given as goal
 
 abbrev pub invariant-loop-first : goal.invariant-loop-first

@@ -1,8 +1,8 @@
 -- What was written is a beginning of the bytes.
 use Rattle.std.proofs.Common.{◌≡◌, ◌-◌, ◌≤◌, false, length, take}
 use Rattle.std.specs.Io.KnownBytes.{Appends}
-use Rattle.ufmt_lines.specs.Watched.{device_of, has_failed}
-use Rattle.ufmt_lines.proofs.run.groups.write_whole.Given as goal
+use Rattle.ufmt_io.specs.Watched.{device_of, has_failed}
+use Rattle.ufmt_io.proofs.whole.write_whole.Given as goal
 
 abbrev pub invariant-loop-written : goal.invariant-loop-written
 invariant-loop-written g l = record {

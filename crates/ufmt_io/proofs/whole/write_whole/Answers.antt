@@ -1,7 +1,7 @@
 use Rattle.std.proofs.Common.{rules}
 use Rattle.std.proofs.lemmas.List.{places, take_rest}
-use Rattle.ufmt_conv.proofs.KnownParts.{appends_longer_beginning}
-use Rattle.ufmt_conv.proofs.run.devices.write_whole.Goals as goal
+use Rattle.ufmt_io.proofs.KnownParts.{appends_prefix, appends_longer_beginning}
+use Rattle.ufmt_io.proofs.whole.write_whole.Goals as goal
 
 pub loop-written-preserved : goal.loop-written-preserved
 loop-written-preserved g c =
@@ -12,3 +12,8 @@ loop-written-preserved g c =
       so_far = appends_longer_beginning _ _ _ c.args.bytes.now c.loop-written.written c.in_ok-written.field-0
           c.loop-written.invariant.so_far (rw take_rest at taken.bytes);
     }
+
+pub returns-in_err-written-clause-err : goal.returns-in_err-written-clause-err
+returns-in_err-written-clause-err g c =
+    let known = appends_prefix _ _ _ c.args.bytes.now c.loop-written.written c.loop-written.invariant.so_far c.in_err-written.ensures.bytes in
+    search (rules, known)

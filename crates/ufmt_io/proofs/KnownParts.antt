@@ -1,8 +1,10 @@
 -- Known bytes that are read or written part by part.
 use Rattle.std.proofs.Common.{◌≡◌, ℕ, ◌+◌, List, ◌++◌, Option, take, drop, sym, ap, subst, ◌∙◌}
 use Rattle.std.proofs.Math.Seq.{take-add}
-use Rattle.std.proofs.KnownBytes.{Appends-trans, Consumes-trans}
-use Rattle.std.specs.Io.KnownBytes.{Appends, Consumes}
+use Rattle.std.proofs.KnownBytes.{Appends-kept, Appends-trans, Consumes-trans}
+use Rattle.std.proofs.lemmas.List.{take-append-drop}
+use Rattle.std.specs.Io.KnownBytes.{Appends, Consumes, Keeps}
+use Rattle.ufmt_io.specs.Whole.{AppendsPrefix}
 
 -- what was read into the front, and then after it, is the longer front
 pub consumes_longer_front : (first second third : Option (List ℕ)) (old new : List ℕ) (filled count : ℕ) → take filled new ≡ take filled old
@@ -16,3 +18,9 @@ pub appends_longer_beginning : (first second third : Option (List ℕ)) (bytes :
     → Appends first second (take written bytes) → Appends second third (take count (drop written bytes)) → Appends first third (take (written + count) bytes)
 appends_longer_beginning first second third bytes written count before more =
     subst (Appends first third) (sym (take-add written count bytes)) (Appends-trans first second third _ _ before more)
+
+-- what was written before a failure is a beginning
+pub appends_prefix : (first second third : Option (List ℕ)) (bytes : List ℕ) (written : ℕ) → Appends first second (take written bytes) → Keeps second third
+    → AppendsPrefix first third bytes
+appends_prefix first second third bytes written before keeps =
+    (take written bytes, drop written bytes, sym (take-append-drop written bytes), Appends-kept first second third _ before keeps)

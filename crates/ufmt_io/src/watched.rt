@@ -2,7 +2,7 @@
 ghost use Rattle.std.specs.Prelude.{◌≡◌, ◌<◌, false, length, IfOk, IsTrue, OnErr, OnOk};
 ghost use Rattle.std.specs.Io.{ReadsAtMost, WritesAtMost};
 ghost use Rattle.std.specs.Io.KnownBytes.{Keeps, ReadConsumes, WriteAppends};
-ghost use Rattle.ufmt_lines.specs.Watched.{device_of, has_failed};
+ghost use Rattle.ufmt_io.specs.Watched.{device_of, has_failed};
 
 use std::io::{Read, Write};
 
@@ -55,7 +55,7 @@ impl<D> Watched<D> {
         ensures device { device_of self.new ≡ device_of self.old }
         ensures noted { IsTrue (has_failed self.new) }
     {
-        self.failed = true;
+        self.give_up();
         Failed
     }
 }

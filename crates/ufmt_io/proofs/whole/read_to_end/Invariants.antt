@@ -1,8 +1,8 @@
 -- The filled part of the vector is what was read.
 use Rattle.std.proofs.Common.{◌≡◌, ◌^◌, ◌-◌, ◌≤◌, false, take, vec_len}
 use Rattle.std.specs.Io.KnownBytes.{Consumes}
-use Rattle.ufmt_conv.specs.Watched.{device_of, has_failed}
-use Rattle.ufmt_conv.proofs.run.devices.read_to_end.Given as goal
+use Rattle.ufmt_io.specs.Watched.{device_of, has_failed}
+use Rattle.ufmt_io.proofs.whole.read_to_end.Given as goal
 
 abbrev pub invariant-loop-text : goal.invariant-loop-text
 invariant-loop-text g l = record {

@@ -1,6 +1,6 @@
 -- What contracts see of a watched reader or writer.
 use Rattle.std.specs.Prelude.{Bool}
-use Rattle.ufmt_conv.specs.declared.run.watched.Watched.{Watched}
+use Rattle.ufmt_io.specs.declared.watched.Watched.{Watched}
 
 -- the reader or writer that is watched
 abbrev pub device_of : {D : Type 0} → Watched D → D

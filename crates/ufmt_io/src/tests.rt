@@ -1,0 +1,95 @@
+//! Tests of watched devices, of reading to the end and of writing whole.
+use super::*;
+use crate::testing::{NEVER, Sink, Source, WHOLE};
+use std::fmt;
+use std::process::Abort;
+
+// Checking an assert takes as long as checking twenty calls, so asserts are calls of these two.
+// No other function is generic over the handle: checking that takes as long again.
+fn same<T: PartialEq + fmt::Debug + Drop>(rt: &impl Abort, given: T, wanted: T, case: &str) {
+    assert_eq!(rt; given, wanted, "{case}");
+}
+
+fn holds(rt: &impl Abort, condition: bool, case: &str) {
+    assert!(rt; condition, "{case}");
+}
+
+// A watched reader calls its device once, and returns the same. It has failed from the first
+// failure on.
+#[test]
+fn a_watched_reader_notes_a_failed_read(rt: HostRuntime) {
+    let never_fails = [
+        (1, Ok(2), b"ab..", false),
+        (2, Ok(1), b"c...", false),
+        (3, Ok(0), b"....", false),
+    ];
+    let fails_once = [
+        (1, Ok(2), b"ab..", false),
+        (2, Err(Failed), b"....", true),
+        (3, Ok(1), b"c...", true),
+    ];
+    for (fails_at, rows) in [(NEVER, never_fails), (2, fails_once)] {
+        let mut input = Watched::new(Source::new(b"abc", 2, fails_at));
+        holds(&rt, !input.has_failed(), "a new one");
+        for (call, answer, read, has_failed) in rows {
+            let mut buffer = *b"....";
+            let given = input.read_some(&mut buffer);
+            same(&rt, (call, given), (call, answer), "the answer");
+            same(&rt, buffer, *read, "what is read");
+            let left = (input.has_failed(), input.device().calls);
+            same(&rt, left, (has_failed, call), "failures and calls");
+        }
+    }
+}
+
+// A watched writer has also failed if nothing is taken of a piece that isn't empty.
+#[test]
+fn a_watched_writer_notes_a_failed_write(rt: HostRuntime) {
+    let rows: [(&str, usize, usize, &[u8], Result<usize, Failed>); 6] = [
+        ("a whole piece", WHOLE, NEVER, b"abc", Ok(3)),
+        ("a beginning", 2, NEVER, b"abc", Ok(2)),
+        ("an empty piece", WHOLE, NEVER, b"", Ok(0)),
+        ("an empty piece of nothing", 0, NEVER, b"", Ok(0)),
+        ("nothing of a piece", 0, NEVER, b"abc", Err(Failed)),
+        ("an error", WHOLE, 1, b"abc", Err(Failed)),
+    ];
+    for (case, most, fails_at, bytes, answer) in rows {
+        let mut output = Watched::new(Sink::new(rt.alloc(), most, fails_at, false));
+        holds(&rt, !output.has_failed(), case);
+        let has_failed = answer == Err(Failed);
+        same(&rt, output.write_some(bytes), answer, case);
+        let left = (output.has_failed(), output.device().calls);
+        same(&rt, left, (has_failed, 1), case);
+        same(&rt, output.flush_all(), Ok(()), "a flush after it");
+        let left = (output.has_failed(), output.device().calls);
+        same(&rt, left, (has_failed, 2), case);
+    }
+}
+
+#[test]
+fn a_watched_writer_notes_a_failed_flush(rt: HostRuntime) {
+    for (case, fails_flush, answer) in [
+        ("a flush", false, Ok(())),
+        ("a flush that fails", true, Err(Failed)),
+    ] {
+        let mut output = Watched::new(Sink::new(rt.alloc(), WHOLE, NEVER, fails_flush));
+        same(&rt, output.flush_all(), answer, case);
+        let left = (output.has_failed(), output.device().calls);
+        same(&rt, left, (fails_flush, 1), case);
+        same(&rt, output.write_some(b"ab"), Ok(2), "a piece after it");
+        let left = (output.has_failed(), output.device().calls);
+        same(&rt, left, (fails_flush, 2), case);
+    }
+}
+
+#[test]
+fn faults_have_statuses(rt: HostRuntime) {
+    let rows = [
+        (IoFault::CannotRead, 3),
+        (IoFault::CannotWrite, 4),
+        (IoFault::OutOfMemory, 5),
+    ];
+    for (fault, status) in rows {
+        same(&rt, (fault, fault.status()), (fault, status), "a fault");
+    }
+}
