@@ -7,7 +7,7 @@ pub mod field_text;
 pub mod laws;
 mod reader;
 
-pub use ufmt_scan::{convert, scan};
+pub use ufmt_scan::{convert, is_text, scan};
 
 /// Reading plain texts.
 pub mod plain_reader {
