@@ -11,7 +11,15 @@ pub mod run;
 use run::{Command, Fault, Watched};
 use std::process::ExitCode;
 use std::{env, io};
-pub use ufmt_doc::{convert, doc, laws, plain_reader, pretty_reader, scan};
+pub use ufmt_doc::{doc, laws, plain_reader, pretty_reader, scan};
+
+/// Texts of values, and conversions of texts.
+pub mod convert {
+    pub use ufmt::{plain_text, pretty_text};
+    pub use ufmt_doc::convert::{
+        to_plain, to_plain_into, to_pretty, to_pretty_into, write_to_plain, write_to_pretty,
+    };
+}
 
 // The status if the words are no command.
 const USAGE_STATUS: u8 = 2;

@@ -7,6 +7,10 @@ pub mod field_text;
 pub mod laws;
 mod reader;
 
+pub use doc::Doc;
+pub use field_text::read_field;
+pub use reader::{read_plain, read_pretty};
+pub use ufmt_scan::error::ReadError;
 pub use ufmt_scan::{convert, is_text, scan};
 
 /// Reading plain texts.

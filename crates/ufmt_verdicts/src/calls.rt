@@ -106,8 +106,8 @@ impl Calls<'_> {
     /// Returns a value's text in this mode.
     pub fn print<T: uDebug>(&self, value: &T) -> Result<String, AllocError> {
         match self.mode {
-            Mode::Plain => convert::plain_text(self.alloc, value),
-            Mode::Pretty => convert::pretty_text(self.alloc, value),
+            Mode::Plain => ufmt::plain_text(self.alloc, value),
+            Mode::Pretty => ufmt::pretty_text(self.alloc, value),
         }
     }
 
