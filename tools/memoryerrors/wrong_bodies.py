@@ -34,7 +34,7 @@ PUT = [
     ("a tuple's third entry: the error as a function's name", "ufmt_parse/src/tuples.rt", body("parse_tuple_3"),
      "Some(()).filter(|_| false).map_or_else(|| Result::Err(alloc_error()), Ok)?;"),
     ("an option in an option: the type of a trait's errors as a value", "ufmt_doc/src/reader/document_sink.rt", body("event"),
-     "if self.open_blocks == 2 { return Result::Err::<(), _>(Self::Error); }"),
+     "if self.docs.len() == 2 { return Result::Err::<(), _>(Self::Error); }"),
     ("a line of 100 bytes: a fault by its name", "ufmt_lines/src/run/groups.rt", body("answer_ended"),
      "if chunk.len() == 100 { return Err(IoFault::OutOfMemory); }"),
     ("a depth of 7: a loop that grows until it is refused", "ufmt_parse/src/depth.rt", body("new"),

@@ -7,7 +7,7 @@ from features import Features
 # past ASCII; for a leaf without quotes or a name, a leaf in quotation marks, and one in apostrophes; for a block with
 # entries and one without; for another byte of the call's text, and of that in the other mode.
 STEPS = {
-    "scan": (3000, 12, 16, 316, 90, 20, 90, 490, 50, 40, 37, 0),
+    "is_text": (3000, 12, 16, 316, 90, 20, 90, 490, 50, 40, 37, 0),
     "read": (10000, 13, 17, 316, 91, 910, 1070, 1415, 1133, 400, 22, 13),
     "convert": (10000, 30, 35, 310, 136, 630, 663, 1255, 865, 571, 24, 14),
     "convert to a String": (10000, 12, 16, 315, 91, 671, 821, 1167, 754, 721, 27, 1),
@@ -112,7 +112,7 @@ def values(found, length):
 
 def memory(call, case):
     found, length = case.features, case.length
-    if call in ("scan", "convert into", "is_token", "print into", "print loose into", "same_text", "normalize", "i128", "is_leaf", "is_word"):
+    if call in ("is_text", "convert into", "is_token", "print into", "print loose into", "same_text", "normalize", "i128", "is_leaf", "is_word"):
         return NOTHING
     return {
         "read": lambda: document(found, length),

@@ -128,7 +128,7 @@ def lines(is_plain):
 
 def line_steps(line):
     """A text is scanned, and then converted. Each byte is copied, and looked at for the end of its line."""
-    scanned = bounds.steps("scan", line.case) + bounds.steps("convert into", line.case)
+    scanned = bounds.steps("is_text", line.case) + bounds.steps("convert into", line.case)
     places = PLACE_STEPS * line.group.count(" ") if line.group == line.answer else 0
     return scanned + places + BYTE_STEPS * len(line.group) + LINE_STEPS * (2 + line.group.count("\n"))
 

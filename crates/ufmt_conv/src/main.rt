@@ -11,8 +11,16 @@ pub mod run;
 use run::{Command, Fault, Watched};
 use std::io;
 use std::process::ExitCode;
-pub use ufmt_doc::{convert, doc, laws, plain_reader, pretty_reader, scan};
+pub use ufmt_doc::{doc, laws, plain_reader, pretty_reader, scan};
 use ufmt_io::{USAGE_STATUS, arguments, report};
+
+/// Texts of values, and conversions of texts.
+pub mod convert {
+    pub use ufmt::{plain_text, pretty_text};
+    pub use ufmt_doc::convert::{
+        to_plain, to_plain_into, to_pretty, to_pretty_into, write_to_plain, write_to_pretty,
+    };
+}
 
 fn main(rt: HostRuntime) -> ExitCode {
     let Ok(arguments) = arguments(&rt) else {

@@ -1,5 +1,5 @@
 -- What grows from the events of a token document is its normal form.
-use Rattle.std.proofs.Common.{◌≡◌, ◌∙◌, refl, ap, sym, ℕ, Bool, true, false, List, [], ◌∷◌, ◌++◌, length, map, take_at, drop_at, append_assoc, append-nil, Result, Ok, Err, ◌+◌, ◌<◌, get_or, reverse, set, take}
+use Rattle.std.proofs.Common.{◌≡◌, ◌∙◌, refl, ap, sym, ℕ, Bool, true, false, List, [], ◌∷◌, ◌++◌, length, map, take_at, drop_at, append_assoc, append-nil, Result, Ok, Err}
 use Rattle.std.specs.Prelude.{⊤}
 use Rattle.std.specs.Result.{OnOk, is_ok}
 use Rattle.ufmt.specs.Document.{Document, leaf, joined, list_of, set_of, map_of, struct_of, tuple_of, pretty_part, Documents, no_documents, document, documents, Pairs, no_pairs, pair, pairs_of, Fields, no_fields, field, fields_of}
@@ -9,12 +9,11 @@ use Rattle.ufmt_core.specs.declared.layout.Count.{Count}
 use Rattle.ufmt_core.specs.declared.layout.Count.TheVariants.{One}
 use Rattle.ufmt_core.specs.declared.layout.Kind.{Kind}
 use Rattle.ufmt_core.specs.declared.layout.Kind.TheVariants.{Brackets, Braces, Struct}
-use Rattle.ufmt_doc.specs.declared.doc.Doc.{Doc}
-use Rattle.ufmt_doc.specs.declared.reader.document_sink.PartialBlock.{PartialBlock}
+use Rattle.ufmt_doc.specs.declared.reader.document_sink.DocumentSink.{DocumentSink}
+use Rattle.ufmt_doc.specs.declared.reader.open_blocks.PartialBlock.{PartialBlock}
 use Rattle.ufmt_doc.specs.Private.Growing.{Growing, block_at, block_of, field_from, grow, growing, grown, in_pairs, name_leaf}
 use Rattle.ufmt_scan.specs.declared.scan.event.Event.TheVariants.{Open, FieldName, Colon}
 use Rattle.ufmt_scan.specs.Scan.{TextEvent, TakesEvent, events_of, events_of_entries, events_of_fields, events_of_pairs, tail_events}
-use Rattle.std.proofs.lemmas.List.{reverse-append, take_more, take_more_set}
 
 grown-append : (g : Growing) (es fs : List TextEvent) → grown g (es ++ fs) ≡ grown (grown g es) fs
 grown-append g [] fs = refl
@@ -112,7 +111,7 @@ mutual
       (leaf name ∷ normal value ∷ more.0, (leaf name ∷ normal value ∷ [], more.0, first, more.1, refl), ap (field name (normal value)) more.2)
 
 -- a sink that grows with each event takes it as `Sink` asks
-pub takes_event : {E : Type 0} (old new : List Doc × List PartialBlock) (e : TextEvent) (answer : Result (⊤) E) → OnOk answer (growing new ≡ grow (growing old) e)
+pub takes_event : {E : Type 0} (old new : DocumentSink) (e : TextEvent) (answer : Result (⊤) E) → OnOk answer (growing new ≡ grow (growing old) e)
     → TakesEvent (λ start es sink. growing sink ≡ grown (growing start) es) (λ _ _ _. ⊤) old e (is_ok answer) new
 takes_event old new e (Ok x) h = λ start es before. h ∙ ap (λ g. grow g e) before ∙ sym (grown-append (growing start) es (e ∷ []))
 takes_event old new e (Err x) h = λ start es before. tt
@@ -120,11 +119,3 @@ takes_event old new e (Err x) h = λ start es before. tt
 -- what has grown from the events of a document in normal form is that document
 pub whole_is : (d : Document) (new : Growing) → IsToken d → normal d ≡ d → new ≡ grown ([], []) (events_of d) → new ≡ (d ∷ [], [])
 whole_is d new token form grew = grew ∙ document_grows d token.0 [] [] ∙ ap (λ x. (x ∷ [], [])) form
-
--- the last open block in the array is the innermost
-pub innermost_is : (blocks : List PartialBlock) (n : ℕ) (block : PartialBlock) → n < length blocks → reverse (take (n + 1) blocks) ≡ get_or blocks n block ∷ reverse (take n blocks)
-innermost_is blocks n block within = ap reverse (take_more blocks n block within) ∙ reverse-append (take n blocks) (get_or blocks n block ∷ [])
-
--- a block that is put after the open ones in the array is the innermost
-pub one_more : (blocks : List PartialBlock) (n : ℕ) (block : PartialBlock) → n < length blocks → reverse (take (n + 1) (set blocks n block)) ≡ block ∷ reverse (take n blocks)
-one_more blocks n block within = ap reverse (take_more_set blocks n block within) ∙ reverse-append (take n blocks) (block ∷ [])

@@ -3,6 +3,7 @@ pub mod FieldTexts
 pub mod GrowingDocuments
 pub mod LastPairs
 pub mod NormalForms
+pub mod OpenBlocks
 pub mod ReadForms
 pub mod Unquoted
 pub mod Within

@@ -18,7 +18,7 @@ use std::alloc::{AllocError, Global};
 use std::mem;
 use tree::Part;
 pub use tree::same_text;
-use ufmt_scan::convert::plain_text;
+use ufmt::plain_text;
 use ufmt_scan::leaf::is_symbol;
 use ufmt_scan::quoted::split_escaped;
 

@@ -9,7 +9,8 @@ ghost use Rattle.ufmt_scan.specs.Texts.{IsNormalForm, IsNoText};
 use crate::doc::Doc;
 use crate::reader::{read_plain, read_pretty};
 use std::alloc::{AllocError, AllocFailed, Global};
-use ufmt_scan::convert::{plain_text, pretty_text, to_plain, to_pretty};
+use ufmt::{plain_text, pretty_text};
+use ufmt_scan::convert::{to_plain, to_pretty};
 use ufmt_scan::error::ReadError;
 
 /// Reads a plain text, and prints its document plainly. This gives the same text.

@@ -7,7 +7,11 @@ pub mod field_text;
 pub mod laws;
 mod reader;
 
-pub use ufmt_scan::{convert, scan};
+pub use doc::Doc;
+pub use field_text::read_field;
+pub use reader::{read_plain, read_pretty};
+pub use ufmt_scan::error::ReadError;
+pub use ufmt_scan::{convert, is_text, scan};
 
 /// Reading plain texts.
 pub mod plain_reader {

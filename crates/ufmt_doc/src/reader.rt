@@ -5,6 +5,7 @@ ghost use Rattle.ufmt_doc.specs.Doc.{doc_document};
 ghost use Rattle.ufmt_scan.specs.Texts.{IsNormalForm, IsNoText};
 
 mod document_sink;
+mod open_blocks;
 
 use crate::doc::Doc;
 use document_sink::DocumentSink;

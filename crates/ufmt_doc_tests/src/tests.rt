@@ -11,8 +11,8 @@ mod shape;
 use std::alloc::Global;
 use std::fmt::Debug;
 use std::process::Abort;
-use ufmt_doc::convert::{plain_text, pretty_text};
-use ufmt_doc::doc::Doc;
+use ufmt::{plain_text, pretty_text};
+use ufmt_doc::Doc;
 
 // Checking an assert takes as long as checking twenty calls, so asserts are calls of this one.
 // No other function is generic over the handle: checking that takes as long again.

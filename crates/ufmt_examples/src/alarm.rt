@@ -9,8 +9,7 @@ mod tests;
 
 use std::alloc::{AllocError, Global};
 use ufmt::{Formatter, fields, uDebug, uWrite};
-use ufmt_doc::doc::Doc;
-use ufmt_doc::plain_reader::ReadError;
+use ufmt_doc::{Doc, ReadError};
 use ufmt_parse::{parse, parse_fields, uParse};
 
 /// What a node of a network reports.

@@ -1,5 +1,5 @@
-//! A line of a log without memory: made readable in a buffer, and tested by a sink of your own.
-ghost use Rattle.std.specs.Prelude.{◌≡◌, ◌↔◌, List, ℕ, IsErrOf, IsOk, IsTrue, ⊤};
+//! A line of a log without memory: made readable in a buffer, and tested.
+ghost use Rattle.std.specs.Prelude.{◌≡◌, ◌↔◌, List, ℕ, IsErrOf, IsOk, IsTrue};
 ghost use Rattle.ufmt.specs.Buffer.{Fronts};
 ghost use Rattle.ufmt.specs.Document.{Document};
 ghost use Rattle.ufmt.specs.Layout.{plain_text, pretty_text};
@@ -12,7 +12,8 @@ mod tests;
 use ufmt::Full;
 use ufmt::layout::Mode;
 use ufmt_doc::convert::to_pretty_into;
-use ufmt_scan::scan::{Event, ScanError, Sink, scan};
+use ufmt_doc::is_text;
+use ufmt_doc::scan::ScanError;
 
 /// Writes the pretty text of a line to the front of the buffer, and returns its length. Takes no memory.
 /// Fails with `Full` if the text is longer than 256 bytes: the buffer then has a beginning of it.
@@ -26,28 +27,10 @@ pub fn pretty_line(line: &[u8], buffer: &mut [u8; 256]) -> Result<usize, ScanErr
     to_pretty_into(buffer, line)
 }
 
-// A sink that takes each event and keeps none.
-#[derive(Clone, Copy)]
-struct Ignores;
-
-impl Sink for Ignores {
-    type Error = ();
-
-    ghost took = { λ _ _ _. ⊤ };
-
-    ghost stopped = { λ _ _ _. ⊥ };
-
-    ghost begun = { λ _. tt };
-
-    fn event(&mut self, _event: Event<&str>) -> Result<(), ()> {
-        Ok(())
-    }
-}
-
 /// Returns whether `read_plain` would read the line, given memory.
 pub fn is_readable(line: &[u8]) -> bool
     ensures { IsTrue result
         ↔ ((d : Document) × IsToken d × (plain_text d ≡ line.now)) }
 {
-    scan(Mode::Plain, line, &mut Ignores).is_ok()
+    is_text(Mode::Plain, line)
 }

@@ -9,8 +9,7 @@ ghost use Rattle.ufmt_user.specs.declared.logger.Measurement.{Measurement};
 mod tests;
 
 use std::alloc::Global;
-use ufmt_doc::field_text::read_field;
-use ufmt_doc::plain_reader::ReadError;
+use ufmt_doc::{ReadError, read_field};
 
 /// Returns the temperature of a measurement that was printed to a line, as its decimal text. A printed
 /// line never fails with `NotText`.

@@ -1,5 +1,5 @@
 -- The longest tail of a line that is a text of the other mode.
-use Rattle.std.proofs.Common.{◌≡◌, ◌∙◌, refl, ap, sym, ℕ, List, [], ◌∷◌, Bool, true, false, Option, Some, None, option_map, Result, Ok, Err, is_ok, is_some, unwrap_or, ◌+◌, ◌<◌, ◌≤◌, suc, ◌++◌, length, take, drop, get_or, append_assoc, append-nil, add-one, drop-cons}
+use Rattle.std.proofs.Common.{◌≡◌, ◌∙◌, refl, ap, sym, ℕ, List, [], ◌∷◌, Bool, true, false, Option, Some, None, option_map, Ok, Err, is_some, unwrap_or, ◌+◌, ◌<◌, ◌≤◌, suc, ◌++◌, length, take, drop, get_or, append_assoc, append-nil, add-one, drop-cons}
 use Rattle.std.proofs.lemmas.Bool.{false≢true, true≢false}
 use Rattle.std.proofs.lemmas.List.{drop_all, take_all, take_more}
 use Rattle.std.specs.Prelude.{⊤}
@@ -11,13 +11,11 @@ use Rattle.ufmt.specs.Reading.{read_text}
 use Rattle.ufmt.specs.Token.{IsToken, normal}
 use Rattle.ufmt_core.specs.declared.layout.Mode.{Mode}
 use Rattle.ufmt_lines.specs.Readable.{answer_of, converted, converted_here, may_begin_after, other_mode, tail_converted}
-use Rattle.ufmt_scan.specs.Scan.{Scans}
 use Rattle.ufmt_lines.specs.Private.Answer.{answer_bytes, answer_seen}
 use Rattle.ufmt_lines.specs.declared.run.answer.Answer.{Answer}
-use Rattle.ufmt_lines.specs.declared.run.answer.Ignores.{Ignores}
-use Rattle.ufmt_scan.specs.Texts.{ConvertsTo, IsConverted, IsNoText}
+use Rattle.ufmt_scan.specs.Texts.{ConvertsTo, IsConverted, IsNormalForm, IsNoText}
 use Rattle.ufmt_scan.specs.declared.scan.event.ScanError.{ScanError}
-use Rattle.ufmt_scan.specs.declared.scan.event.ScanError.TheVariants.{NotText, Sink}
+use Rattle.ufmt_scan.specs.declared.scan.event.ScanError.TheVariants.{NotText}
 
 -- the normal form is read from the text
 form_is_read : (mode : Mode) (text : List ℕ) (d : Document) → IsToken d → layout (setting mode 0) d ≡ text → read_text mode text ≡ Some (normal d)
@@ -27,14 +25,13 @@ nothing_is_read : (mode : Mode) (text : List ℕ) (o : Option Document) → read
 nothing_is_read mode text None is none = refl
 nothing_is_read mode text (Some d) is none = let form = reads_only_texts mode text d is in absurd (none d form.0 form.2)
 
--- a scan that keeps nothing tells whether there is a text to convert
-module _ {E : Type 0} (old new : Ignores) where
-  pub scan_tells : (mode : Mode) (text : List ℕ) (answer : Result (⊤) (ScanError E))
-      → Scans (λ a es b. ⊤) (λ a es b. ⊥) answer old new (layout (setting (other_mode mode) 0)) text → is_ok answer ≡ is_some (converted mode text)
-  unfolding converted
-  scan_tells mode text (Ok x) h = sym (ap (λ o. is_some (option_map (layout (setting mode 0)) o)) (form_is_read (other_mode mode) text h.0 h.1.0 h.1.2))
-  scan_tells mode text (Err NotText) h = sym (ap (λ o. is_some (option_map (layout (setting mode 0)) o)) (nothing_is_read (other_mode mode) text _ refl h.2))
-  scan_tells mode text (Err (Sink e)) h = absurd h.1
+-- what is a text in the other mode can be converted, and nothing else
+pub convertible : (mode : Mode) (text : List ℕ) (is_text : Bool) → (is_text ≡ true → (d : Document) × IsNormalForm (layout (setting (other_mode mode) 0)) text d)
+    → (is_text ≡ false → IsNoText (layout (setting (other_mode mode) 0)) text) → is_text ≡ is_some (converted mode text)
+unfolding converted
+convertible mode text true some none =
+    let form = some refl in sym (ap (λ o. is_some (option_map (layout (setting mode 0)) o)) (form_is_read (other_mode mode) text form.0 form.1.0 form.1.2))
+convertible mode text false some none = sym (ap (λ o. is_some (option_map (layout (setting mode 0)) o)) (nothing_is_read (other_mode mode) text _ refl (none refl)))
 
 converted_from : (mode : Mode) (text : List ℕ) (o : Option Document) (other : List ℕ) → read_text (other_mode mode) text ≡ o → option_map (layout (setting mode 0)) o ≡ Some other
     → IsConverted (layout (setting (other_mode mode) 0)) (layout (setting mode 0)) text other

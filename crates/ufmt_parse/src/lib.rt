@@ -38,11 +38,8 @@ pub use tuples::{
     parse_tuple_1, parse_tuple_2, parse_tuple_3, parse_tuple_4, parse_tuple_5, parse_tuple_6,
     parse_tuple_7, parse_tuple_8, parse_tuple_9, parse_tuple_10, parse_tuple_11, parse_tuple_12,
 };
-use ufmt::{debug_into, uDebug};
-use ufmt_doc::doc::Doc;
-use ufmt_doc::plain_reader::{ReadError, read_plain};
-use ufmt_doc::pretty_reader::read_pretty;
-use ufmt_scan::convert::plain_text;
+use ufmt::{debug_into, plain_text, uDebug};
+use ufmt_doc::{Doc, ReadError, read_plain, read_pretty};
 
 /// A value that can be parsed from what `uDebug` printed.
 pub trait uParse: uDebug + Drop {

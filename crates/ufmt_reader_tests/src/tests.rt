@@ -2,6 +2,7 @@
 //! their results on rows that are written by hand.
 mod depth;
 mod field_texts;
+mod is_text;
 mod laws;
 mod leaves;
 mod misquoted;

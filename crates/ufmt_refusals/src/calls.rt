@@ -6,15 +6,11 @@ use crate::samples::{NODE_PLAIN, NODE_PRETTY, Sample};
 use std::alloc::{AllocError, Global};
 use std::io;
 use ufmt::{
-    Formatter, HexOptions, pieces, uWrite, uwriteln, write_debug, write_display, write_line,
-    write_pretty,
+    Formatter, HexOptions, pieces, plain_text, pretty_text, uWrite, uwriteln, write_debug,
+    write_display, write_line, write_pretty,
 };
-use ufmt_doc::convert::{
-    plain_text, pretty_text, to_plain, to_pretty, write_to_plain, write_to_pretty,
-};
-use ufmt_doc::doc::Doc;
-use ufmt_doc::plain_reader::{ReadError, read_plain};
-use ufmt_doc::pretty_reader::read_pretty;
+use ufmt_doc::convert::{to_plain, to_pretty, write_to_plain, write_to_pretty};
+use ufmt_doc::{Doc, ReadError, read_plain, read_pretty};
 
 // A conversion that returns a `String` reserves a kilobyte at once. No sample's text is longer.
 const OF_A_STRING: u64 = 1;

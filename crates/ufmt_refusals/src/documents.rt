@@ -1,6 +1,4 @@
 //! The calls on documents, texts and leaves that take no memory, and `unquoted`, which takes some.
-ghost use Rattle.std.specs.Prelude.{⊤};
-
 use crate::answer::{Answer, has_plain_text};
 use crate::loose::{loosen, read_twice};
 use crate::report::{report, report_free};
@@ -11,7 +9,7 @@ use ufmt::Cursor;
 use ufmt::layout::Mode;
 use ufmt_doc::convert::{to_plain_into, to_pretty_into, write_to_plain, write_to_pretty};
 use ufmt_doc::doc::{Doc, same_text};
-use ufmt_doc::scan::{Event, Sink, scan};
+use ufmt_doc::is_text;
 use ufmt_scan::leaf::{is_leaf, is_symbol, is_word};
 use ufmt_scan::quoted::split_escaped;
 
@@ -138,7 +136,7 @@ fn unquoted(alloc: Global, doc: &Doc) -> Result<String, AllocError> {
     }
 }
 
-/// Converts into buffers, and scans to a sink that keeps nothing.
+/// Converts into buffers, and tests texts.
 pub fn report_conversions(rt: &HostRuntime) -> io::Result<()> {
     let (plain, pretty) = (MANY_PLAIN.as_bytes(), MANY_PRETTY.as_bytes());
     let mut buffer = [0; 1024];
@@ -156,36 +154,12 @@ pub fn report_conversions(rt: &HostRuntime) -> io::Result<()> {
         let mut cursor = Cursor::new(&mut buffer);
         write_to_plain(&mut cursor, pretty).is_ok() && cursor.written() == plain
     })?;
-    report_free(
-        rt,
-        "scan, plain,",
-        MANY,
-        || scan(Mode::Plain, plain, &mut Ignores).is_ok(),
-    )?;
-    report_free(
-        rt,
-        "scan, pretty,",
-        MANY,
-        || scan(Mode::Pretty, pretty, &mut Ignores).is_ok(),
-    )
-}
-
-// Takes every event, and keeps none.
-#[derive(Drop)]
-struct Ignores;
-
-impl Sink for Ignores {
-    type Error = ();
-
-    ghost took = { λ _ _ _. ⊤ };
-
-    ghost stopped = { λ _ _ _. ⊥ };
-
-    ghost begun = { λ _. tt };
-
-    fn event(&mut self, _event: Event<&str>) -> Result<(), ()> {
-        Ok(())
-    }
+    report_free(rt, "is_text, plain,", MANY, || {
+        is_text(Mode::Plain, plain) && !is_text(Mode::Plain, pretty)
+    })?;
+    report_free(rt, "is_text, pretty,", MANY, || {
+        is_text(Mode::Pretty, pretty) && !is_text(Mode::Pretty, plain)
+    })
 }
 
 /// Asks of which kind leaves are, and decodes one byte of a text in quotes.

@@ -11,7 +11,6 @@ use growing::Growing;
 use std::alloc::Global;
 use text_sink::TextSink;
 use ufmt::layout::{Mode, Setting};
-pub use ufmt::{plain_text, pretty_text};
 use ufmt::{Cursor, Full, uWrite};
 
 /// Writes the pretty text of the token documents with this plain text to the writer, and takes no

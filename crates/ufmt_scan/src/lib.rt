@@ -8,3 +8,6 @@ pub mod leaf;
 mod level;
 pub mod quoted;
 pub mod scan;
+mod text;
+
+pub use text::is_text;

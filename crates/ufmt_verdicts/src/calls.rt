@@ -8,7 +8,7 @@ use ufmt_doc::doc::Doc;
 use ufmt_doc::plain_reader::{ReadError, read_plain};
 use ufmt_doc::pretty_reader::read_pretty;
 use ufmt_doc::scan::{ScanError, Sink, scan};
-use ufmt_doc::{convert, laws};
+use ufmt_doc::{convert, is_text, laws};
 use ufmt_parse::{parse, parse_pretty, uParse};
 
 /// A text, and the mode in which it is read.
@@ -31,6 +31,10 @@ impl Calls<'_> {
             mode,
             text: text.as_bytes(),
         }
+    }
+
+    pub fn is_text(&self) -> bool {
+        is_text(self.mode, self.text)
     }
 
     pub fn scan<S: Sink>(&self, sink: &mut S) -> Result<(), ScanError<S::Error>> {
@@ -102,8 +106,8 @@ impl Calls<'_> {
     /// Returns a value's text in this mode.
     pub fn print<T: uDebug>(&self, value: &T) -> Result<String, AllocError> {
         match self.mode {
-            Mode::Plain => convert::plain_text(self.alloc, value),
-            Mode::Pretty => convert::pretty_text(self.alloc, value),
+            Mode::Plain => ufmt::plain_text(self.alloc, value),
+            Mode::Pretty => ufmt::pretty_text(self.alloc, value),
         }
     }
 

@@ -1,14 +1,11 @@
 //! Makes each call on a text by itself, between marks, so that its memory and its steps can be counted.
 //! `tools/trytexts/counter.c` counts them.
-ghost use Rattle.std.specs.Prelude.{⊤};
-
 use crate::calls::Calls;
 use std::alloc::{AllocError, Global};
 use std::collections::{BTreeMap, BTreeSet};
 use ufmt::layout::Mode;
 use ufmt_doc::doc::{Doc, same_text};
 use ufmt_doc::field_text::read_field;
-use ufmt_doc::scan::{Event, Sink};
 use ufmt_examples::{Node, Tree};
 use ufmt_parse::uParse;
 use ufmt_scan::leaf::{is_leaf, is_word};
@@ -79,7 +76,7 @@ impl Costs {
     }
 
     fn on_text(&mut self, calls: Calls<'_>) -> Result<(), AllocError> {
-        self.count("scan", || calls.scan(&mut Ignores).ok())?;
+        self.count("is_text", || calls.is_text().then_some(()))?;
         self.count("read", || calls.read().ok())?;
         self.count("parse", || calls.parse::<Vec<Tree>>().ok())?;
         self.on_conversions(calls)?;
@@ -185,23 +182,5 @@ fn last_name(doc: &Doc) -> &str {
     match doc.fields() {
         Some([.., (name, _)]) => name,
         _ => "",
-    }
-}
-
-// A sink that takes each event and keeps none.
-#[derive(Clone, Copy)]
-struct Ignores;
-
-impl Sink for Ignores {
-    type Error = ();
-
-    ghost took = { λ _ _ _. ⊤ };
-
-    ghost stopped = { λ _ _ _. ⊤ };
-
-    ghost begun = { λ _. tt };
-
-    fn event(&mut self, _event: Event<&str>) -> Result<(), ()> {
-        Ok(())
     }
 }

@@ -64,6 +64,7 @@ impl Half {
 fn of_text(calls: Calls<'_>, doc: &Doc) -> Result<Half, Fault> {
     let mut events = Events::new(calls.alloc);
     agree(calls.scan(&mut events).is_ok(), "scan")?;
+    agree(calls.is_text(), "is_text")?;
     let converted = calls.convert()?;
     converts_alike(calls, &converted)?;
     comes_again(calls, &converted)?;
@@ -210,6 +211,7 @@ impl uWrite for Counted {
 fn of_no_text(calls: Calls<'_>) -> Result<(), Fault> {
     let mut events = Events::new(calls.alloc);
     agree(is_not_text(calls.scan(&mut events)), "scan of no text")?;
+    agree(!calls.is_text(), "is_text of no text")?;
     agree(
         calls.convert() == Err(ReadError::NotText),
         "conversion of no text",

@@ -2,10 +2,8 @@
 use crate::digest::Digest;
 use crate::fault::{Fault, agree};
 use std::alloc::{AllocError, Global};
-use ufmt_doc::convert::{plain_text, pretty_text};
-use ufmt_doc::doc::Doc;
-use ufmt_doc::plain_reader::read_plain;
-use ufmt_doc::pretty_reader::read_pretty;
+use ufmt::{plain_text, pretty_text};
+use ufmt_doc::{Doc, read_plain, read_pretty};
 use ufmt_scan::leaf::{is_leaf, is_word};
 
 // How many characters of a text are put in apostrophes.

@@ -1,9 +1,8 @@
 //! Structs and tuples of one to twelve fields, and an enum, by the calls and the macros for a user's types.
 use crate::fault::Fault;
 use std::alloc::{AllocError, Global};
-use ufmt::uDebug;
-use ufmt_doc::convert::plain_text;
-use ufmt_doc::doc::Doc;
+use ufmt::{plain_text, uDebug};
+use ufmt_doc::Doc;
 use ufmt_parse::{
     parse_fields, parse_struct_1, parse_struct_2, parse_struct_3, parse_struct_4, parse_struct_5,
     parse_struct_6, parse_struct_7, parse_struct_8, parse_struct_9, parse_struct_10,

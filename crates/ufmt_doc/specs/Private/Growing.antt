@@ -3,8 +3,8 @@ use Rattle.std.specs.Prelude.{ℕ, Bool, true, false, List, [], ◌∷◌, ◌++
 use Rattle.ufmt.specs.Document.{Document, leaf, list_of, set_of, map_of, struct_of, tuple_of, documents, pairs_of, fields_of}
 use Rattle.ufmt_core.specs.declared.layout.Kind.{Kind}
 use Rattle.ufmt_core.specs.declared.layout.Kind.TheVariants.{Brackets, Braces, Struct, Tuple, Unnamed}
-use Rattle.ufmt_doc.specs.declared.doc.Doc.{Doc}
-use Rattle.ufmt_doc.specs.declared.reader.document_sink.PartialBlock.{PartialBlock}
+use Rattle.ufmt_doc.specs.declared.reader.document_sink.DocumentSink.{DocumentSink}
+use Rattle.ufmt_doc.specs.declared.reader.open_blocks.PartialBlock.{PartialBlock}
 use Rattle.ufmt_doc.specs.Doc.{doc_document}
 use Rattle.ufmt_scan.specs.declared.scan.event.Event.TheVariants.{Leaf, Empty, Open, FieldName, Colon, Next, Close}
 use Rattle.ufmt_scan.specs.Scan.{TextEvent}
@@ -61,9 +61,9 @@ abbrev pub opened : Kind → List ℕ → Growing → Growing
 opened kind name g = (g.0 ++ name_leaf kind name, block_at (length g.0) false ∷ g.1)
 
 -- a colon came in the innermost block
-abbrev pub with_colon : Growing → Growing
-with_colon (ds, []) = (ds, [])
-with_colon (ds, block ∷ outer) = (ds, block_at block.start true ∷ outer)
+abbrev pub marked : List PartialBlock → List PartialBlock
+marked [] = []
+marked (block ∷ outer) = block_at block.start true ∷ outer
 
 -- the innermost block ends, and takes the place of its entries
 abbrev pub closed : Kind → Growing → Growing
@@ -76,7 +76,7 @@ grow g (Leaf text) = put g (leaf text)
 grow g (FieldName name) = put g (leaf name)
 grow g (Empty kind) = put g (empty_block kind)
 grow g (Open kind name) = opened kind name g
-grow g Colon = with_colon g
+grow g Colon = (g.0, marked g.1)
 grow g Next = g
 grow g (Close kind count) = closed kind g
 
@@ -86,5 +86,5 @@ grown g [] = g
 grown g (e ∷ es) = grown (grow g e) es
 
 -- what a sink has made of the events that it took
-abbrev pub growing : List Doc × List PartialBlock → Growing
-growing sink = (map doc_document sink.0, sink.1)
+abbrev pub growing : DocumentSink → Growing
+growing sink = (map doc_document sink.docs.items, sink.blocks)

@@ -6,24 +6,14 @@ ghost use Rattle.ufmt_doc.specs.Doc.{doc_document};
 ghost use Rattle.ufmt_doc.specs.DocViews.{field_view, pair_view};
 ghost use Rattle.ufmt_doc.specs.Private.Growing.{block_of, closed, field_from, growing, grown, in_pairs, opened, put, text_of, with_colon, empty_block};
 
+use super::open_blocks::{OpenBlocks, PartialBlock};
 use crate::doc::Doc;
 use std::alloc::{AllocError, Global};
-use std::marker::Model;
 use ufmt::layout::Kind;
 use ufmt_scan::scan::{Event, Sink};
 
-// How many blocks may be open.
-const MOST_OPEN: usize = 256;
-
 // The error at events that no scan emits. What `Sink` says of an event doesn't rule them out.
 const NEVER: AllocError = AllocError;
-
-// An open block: where its entries start on the stack, and whether a colon came in it.
-#[derive(Clone, Copy)]
-struct PartialBlock {
-    start: usize,
-    has_colon: bool,
-}
 
 /// The documents that ended are on one stack, the entries of each open block above those of the
 /// block outside it. A field's name is a leaf there, before its value. The name of a struct or
@@ -32,24 +22,7 @@ struct PartialBlock {
 pub(super) struct DocumentSink {
     alloc: Global,
     docs: Vec<Doc>,
-    blocks: [PartialBlock; MOST_OPEN],
-    open_blocks: usize,
-}
-
-impl Model for DocumentSink {
-    ghost use Rattle.std.specs.Coded.{codes};
-    ghost use Rattle.std.specs.Prelude.{◌≡◌, ◌≤◌, List, length, reverse, take};
-    ghost use Rattle.ufmt_doc.specs.contracts.doc.Doc as doc;
-    ghost use Rattle.ufmt_doc.specs.declared.doc.Doc.{Doc};
-    ghost use Rattle.ufmt_doc.specs.declared.reader.document_sink.PartialBlock.{PartialBlock};
-
-    ghost Value = { List Doc × List PartialBlock };
-
-    ghost coded = { Prim.hlevel (codes, doc.the_row.coded) };
-
-    ghost view = { λ s. (s.docs.items, reverse (take s.open_blocks s.blocks)) };
-
-    ghost invariant = { λ s. (s.open_blocks ≤ 256) × (length s.blocks ≡ 256) };
+    blocks: OpenBlocks,
 }
 
 #[inline(always)]
@@ -150,11 +123,7 @@ impl DocumentSink {
         DocumentSink {
             alloc,
             docs: Vec::new(alloc),
-            blocks: [PartialBlock {
-                start: 0,
-                has_colon: false,
-            }; MOST_OPEN],
-            open_blocks: 0,
+            blocks: OpenBlocks::new(),
         }
     }
 
@@ -191,19 +160,14 @@ impl DocumentSink {
     }
 
     #[inline(always)]
-    #[tactic(auto, using(crate::proofs::GrowingDocuments::one_more))]
     fn open(&mut self, kind: Kind, name: &str) -> Result<(), AllocError>
         ensures { OnOk result (growing self.new ≡ opened kind name.now (growing self.old)) }
     {
         // The scanner opens no more.
-        if self.open_blocks == MOST_OPEN {
+        if self.blocks.is_full() {
             return Err(NEVER);
         }
-        self.blocks[self.open_blocks] = PartialBlock {
-            start: self.docs.len(),
-            has_colon: false,
-        };
-        self.open_blocks += 1;
+        self.blocks.push(self.docs.len());
         match kind {
             Kind::Struct | Kind::Tuple => self.put_leaf(name),
             _ => Ok(()),
@@ -211,29 +175,17 @@ impl DocumentSink {
     }
 
     #[inline(always)]
-    fn mark_colon(&mut self) -> Result<(), AllocError>
-        ensures { OnOk result (growing self.new ≡ with_colon (growing self.old)) }
-    {
-        if let Some(innermost) = self.open_blocks.checked_sub(1) {
-            self.blocks[innermost].has_colon = true;
-        }
-        Ok(())
-    }
-
-    #[inline(always)]
     fn close(&mut self, kind: Kind) -> Result<(), AllocError>
         ensures { OnOk result (growing self.new ≡ closed kind (growing self.old)) }
     {
-        let Some(innermost) = self.open_blocks.checked_sub(1) else {
+        let Some(block) = self.blocks.pop() else {
             return Ok(());
         };
-        let block = self.blocks[innermost];
         // Only a block with entries is opened.
         if self.docs.len() <= block.start {
             return Err(NEVER);
         }
         self.docs.reserve(1)?;
-        self.open_blocks = innermost;
         let doc = take_block(self.alloc, &mut self.docs, kind, block)?;
         self.docs.push_reserved(doc);
         Ok(())
@@ -259,7 +211,10 @@ impl Sink for DocumentSink {
             Event::Leaf(text) | Event::FieldName(text) => self.put_leaf(text),
             Event::Empty(kind) => self.put_empty(kind),
             Event::Open(kind, name) => self.open(kind, name),
-            Event::Colon => self.mark_colon(),
+            Event::Colon => {
+                self.blocks.mark_colon();
+                Ok(())
+            }
             Event::Next => Ok(()),
             Event::Close(kind, _) => self.close(kind),
         }

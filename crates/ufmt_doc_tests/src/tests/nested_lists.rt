@@ -3,8 +3,8 @@ use super::same;
 use super::shape::Shape::{self, Leaf, Listed};
 use super::shape::made;
 use std::alloc::{AllocError, Global};
-use ufmt_doc::convert::{plain_text, pretty_text};
-use ufmt_doc::doc::Doc;
+use ufmt::{plain_text, pretty_text};
+use ufmt_doc::Doc;
 
 // `count` lists around a document.
 pub fn lists_around(alloc: Global, count: usize, inner: &Shape<'_>) -> Result<Doc, AllocError> {

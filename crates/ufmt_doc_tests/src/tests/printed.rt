@@ -3,7 +3,7 @@ use super::shape::Shape::{self, Leaf, Listed, MapOf, SetOf, StructOf, TupleOf};
 use super::shape::made;
 use super::{has_plain_text, has_pretty_text, same};
 use std::alloc::{AllocError, Global};
-use ufmt_doc::convert::{plain_text, pretty_text};
+use ufmt::{plain_text, pretty_text};
 
 #[test]
 fn plain_text_and_pretty_text_can_succeed(rt: HostRuntime) {

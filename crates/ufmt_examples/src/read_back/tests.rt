@@ -2,7 +2,7 @@
 use super::*;
 use std::process::Abort;
 use std::test::Fail;
-use ufmt_doc::convert::plain_text;
+use ufmt::plain_text;
 use ufmt_user::Measurement;
 
 fn same(rt: &impl Abort, given: Option<&str>, wanted: Option<&str>, line: &str) {

@@ -2,7 +2,7 @@
 use super::*;
 use std::process::Abort;
 use std::test::Fail;
-use ufmt_doc::doc::Doc;
+use ufmt_doc::Doc;
 use ufmt_snapshot::assert_snapshot;
 
 fn same(rt: &impl Abort, given: bool, wanted: bool, case: &str) {

@@ -9,7 +9,8 @@ use std::alloc::{AllocError, Global};
 use ufmt::layout::Mode;
 use ufmt::uWrite;
 use ufmt_scan::convert::{write_to_plain, write_to_pretty};
-use ufmt_scan::scan::{Event, ScanError, Sink, scan};
+use ufmt_scan::is_text;
+use ufmt_scan::scan::ScanError;
 
 /// An answer in memory, which is used for one group of lines after another.
 #[derive(Drop)]
@@ -112,7 +113,7 @@ fn text_start(mode: Mode, group: &[u8]) -> Option<usize>
 {
     let mut may_begin = true;
     for (start, byte) in group.iter().enumerate() {
-        if may_begin && is_text(mode, &group[start..]) {
+        if may_begin && is_convertible(mode, &group[start..]) {
             return Some(start);
         }
         may_begin = may_begin_after(*byte);
@@ -128,10 +129,10 @@ fn may_begin_after(byte: u8) -> bool
 }
 
 // Whether some token document has this text in the other mode.
-fn is_text(mode: Mode, text: &[u8]) -> bool
+fn is_convertible(mode: Mode, text: &[u8]) -> bool
     ensures { result ≡ is_some (converted mode text.now) }
 {
-    scan(other_mode(mode), text, &mut Ignores).is_ok()
+    is_text(other_mode(mode), text)
 }
 
 // The mode that texts are converted from.
@@ -141,25 +142,5 @@ fn other_mode(mode: Mode) -> Mode
     match mode {
         Mode::Pretty => Mode::Plain,
         Mode::Plain => Mode::Pretty,
-    }
-}
-
-// A sink that takes each event and keeps none.
-#[derive(Clone, Copy)]
-struct Ignores;
-
-impl Sink for Ignores {
-    ghost use Rattle.std.specs.Prelude.{⊤};
-
-    type Error = ();
-
-    ghost took = { λ _ _ _. ⊤ };
-
-    ghost stopped = { λ _ _ _. ⊥ };
-
-    ghost begun = { λ _. tt };
-
-    fn event(&mut self, _event: Event<&str>) -> Result<(), ()> {
-        Ok(())
     }
 }

@@ -4,8 +4,8 @@ use super::same;
 use super::verdict::{Verdict, has_text, verdict_on};
 use std::alloc::{AllocError, Global};
 use ufmt::layout::Mode;
-use ufmt_doc::convert::{plain_text, pretty_text};
-use ufmt_doc::doc::Doc;
+use ufmt::{plain_text, pretty_text};
+use ufmt_doc::Doc;
 use ufmt_user::Message;
 
 // The verdicts on the plain and pretty text of a value that has this character in texts and by

@@ -1,10 +1,9 @@
 //! The verdict of a reader, and of the conversion from its mode, on a text.
 use std::alloc::Global;
 use ufmt::layout::Mode;
-use ufmt_doc::convert::{plain_text, pretty_text, to_plain, to_pretty};
-use ufmt_doc::doc::Doc;
-use ufmt_doc::plain_reader::{ReadError, read_plain};
-use ufmt_doc::pretty_reader::read_pretty;
+use ufmt::{plain_text, pretty_text};
+use ufmt_doc::convert::{to_plain, to_pretty};
+use ufmt_doc::{Doc, ReadError, read_plain, read_pretty};
 
 #[derive(Clone, Copy, PartialEq, Debug)]
 pub enum Verdict {

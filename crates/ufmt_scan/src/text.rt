@@ -1,0 +1,36 @@
+//! Whether a text is one of a token document.
+ghost use Rattle.std.specs.Prelude.{◌≡◌, IsFalse, IsTrue, ⊤};
+ghost use Rattle.ufmt.specs.Document.{Document};
+ghost use Rattle.ufmt.specs.Layout.{layout, setting};
+ghost use Rattle.ufmt_scan.specs.Texts.{IsNormalForm, IsNoText};
+
+use crate::scan::{Event, Sink, scan};
+use std::convert::Infallible;
+use ufmt::layout::Mode;
+
+/// Returns whether some token document has this text in this mode. Takes no memory.
+pub fn is_text(mode: Mode, text: &[u8]) -> bool
+    ensures text { IsTrue result
+        → (d : Document) × IsNormalForm (layout (setting mode 0)) text.now d }
+    ensures no_text { IsFalse result → IsNoText (layout (setting mode 0)) text.now }
+{
+    scan(mode, text, &mut Ignores).is_ok()
+}
+
+// A sink that takes each event and keeps none.
+#[derive(Clone, Copy)]
+struct Ignores;
+
+impl Sink for Ignores {
+    type Error = Infallible;
+
+    ghost took = { λ _ _ _. ⊤ };
+
+    ghost stopped = { λ _ _ _. ⊥ };
+
+    ghost begun = { λ _. tt };
+
+    fn event(&mut self, _event: Event<&str>) -> Result<(), Infallible> {
+        Ok(())
+    }
+}
