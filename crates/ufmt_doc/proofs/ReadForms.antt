@@ -1,5 +1,5 @@
 -- What is read from a text is the normal form of each document with that text.
-use Rattle.std.proofs.Common.{◌≡◌, ◌∙◌, sym, List, ℕ, Result, Ok, Err, IfOk}
+use Rattle.std.proofs.Common.{◌≡◌, ◌∙◌, sym, List, ℕ, Result, Ok, Err, IfOk, String, string_bytes}
 use Rattle.ufmt.specs.Document.{Document}
 use Rattle.ufmt.specs.Layout.{layout, plain_text}
 use Rattle.ufmt_core.specs.declared.layout.Setting.{Setting}
@@ -9,7 +9,8 @@ use Rattle.ufmt.proofs.OneWay.{plain_text_determines}
 use Rattle.ufmt_doc.specs.declared.doc.Doc.{Doc}
 use Rattle.ufmt_doc.specs.Doc.{doc_document}
 use Rattle.ufmt_scan.specs.declared.error.ReadError.{ReadError}
-use Rattle.ufmt_scan.specs.Texts.{IsConverted, IsNormalForm}
+use Rattle.ufmt_scan.proofs.Conversions.{comes_back}
+use Rattle.ufmt_scan.specs.Texts.{Converts, IsConverted, IsNormalForm}
 
 -- what was read from a text is the normal form of each document with that text, if equal texts have equal normal forms
 form_is : (text_of : Document → List ℕ) → ((d e : Document) → IsToken d → IsToken e → text_of d ≡ text_of e → normal d ≡ normal e)
@@ -31,6 +32,12 @@ converted_form : (s : Setting) (to : Document → List ℕ) (input text : List �
 converted_form s to input text is =
     let some = is.some in
     (normal some.0, (IsToken-normal some.0 some.1, normal-normal some.0, layout-normal s some.0 ∙ some.2))
+
+-- what was converted to the other text and back is the text that it was
+pub comes_again : {A : Type 0} (from to : Document → List ℕ) (input text : List ℕ) (answer : Result (String A) ReadError) → IsConverted from to input text
+    → Converts to from text answer → IfOk answer (λ again. string_bytes again ≡ input)
+comes_again from to input text (Ok again) was is = comes_back to from input text (string_bytes again) was is.ok
+comes_again from to input text (Err e) was is = tt
 
 -- so it is, whatever is made of the other text
 pub converted_has_form : (s : Setting) (to : Document → List ℕ) (input text : List ℕ) → IsConverted (layout s) to input text

@@ -9,25 +9,28 @@ use Rattle.ufmt.specs.Document.{Document}
 use Rattle.ufmt.specs.declared.cursor.Cursor.{Cursor}
 use Rattle.ufmt.specs.declared.cursor.Full.{Full}
 use Rattle.ufmt_scan.specs.Private.Growing.{growing_seen, growing_text}
-use Rattle.ufmt_scan.specs.Texts.{Converts, ConvertsInto, ConvertsTo, IsConverted}
+use Rattle.ufmt_scan.specs.Texts.{Converts, ConvertsInto, ConvertsTo, IsConverted, IsNoText}
 use Rattle.ufmt_scan.specs.declared.convert.growing.Growing.{Growing}
 use Rattle.ufmt_scan.specs.declared.scan.event.ScanError.{ScanError}
 
+-- a text that was converted is converted back to the text that it was
+pub comes_back : (from to : Document → List ℕ) (earlier input answer : List ℕ) → IsConverted to from earlier input → IsConverted from to input answer → answer ≡ earlier
+comes_back from to earlier input answer was is =
+    let d = was.some.0 in
+    sym (is.each d was.some.1 (was.each d was.some.1 was.some.2)) ∙ was.some.2
+
+-- it is a text
+pub never_refused : (from to : Document → List ℕ) (earlier input : List ℕ) → IsConverted to from earlier input → IsNoText from input → ⊥
+never_refused from to earlier input was none = none was.some.0 was.some.1 (was.each was.some.0 was.some.1 was.some.2)
+
 module _ {from to : Document → List ℕ} {input : List ℕ} {done : ⊤} where
-  -- the text that is written to an empty one is the input's other text, and undoes the conversion in the other direction
+  -- the text that is written to an empty one is the input's other text
   pub converts : {old new : Growing} {text : String Global} → ConvertsTo {E = AllocError} growing_seen from to input old (Ok done) new → growing_text old ≡ []
       → string_bytes text ≡ growing_text new → Converts from to input (Ok text)
   converts {text = text} h empty whole =
       let other = h.ok refl in
       let all : string_bytes text ≡ other.0 = whole ∙ (h.writes other.0 other.1).appended tt ∙ ap (λ t. t ++ other.0) empty in
-      let same = subst (IsConverted from to input) (sym all) other.1 in record {
-        ok = same;
-        not_text = λ refused. absurd (cc);
-        undoes = λ earlier was.
-            let read = was.each was.some.0 was.some.1 was.some.2 in
-            sym (same.each was.some.0 was.some.1 read) ∙ was.some.2;
-        unconverted = λ refused. absurd (cc);
-      }
+      record { ok = subst (IsConverted from to input) (sym all) other.1; not_text = λ refused. absurd (cc) }
 
   -- the same for the front of a buffer: all of the text or a beginning
   module _ {old : List ℕ} {begun ended : Cursor} (written : written_bytes begun ≡ []) (unwritten : unwritten_bytes begun ≡ old) where

@@ -1,5 +1,6 @@
 -- Steps of a scan in its open blocks.
-use Rattle.std.proofs.Common.{◌≡◌, ◌⊎◌, inl, inr, ap, get_or, refl, sym, ℕ, ◌+◌, ◌<◌, List, ◌∷◌, length, Option, Some, None, arith}
+use Rattle.std.proofs.Common.{◌≡◌, ◌⊎◌, inl, inr, ap, get_or, refl, sym, ℕ, ◌+◌, ◌<◌, List, ◌∷◌, length, Option, Some, None, Result, Ok, Err, arith}
+use Rattle.std.specs.Borrow.{Bor}
 use Rattle.ufmt.specs.Reading.{Parse, parse_map, read}
 use Rattle.ufmt_core.specs.declared.layout.Kind.TheVariants.{Struct}
 use Rattle.ufmt_core.specs.declared.layout.Mode.{Mode}
@@ -8,7 +9,7 @@ use Rattle.ufmt_scan.specs.declared.scan.event.ScanError.{ScanError}
 use Rattle.ufmt_scan.specs.declared.scan.step.Stage.{Stage}
 use Rattle.ufmt_scan.specs.declared.scan.step.Stage.TheVariants.{BracesFirst, FieldFirst, FieldLater}
 use Rattle.ufmt_scan.specs.Private.Level.{budget_of, setting_at}
-use Rattle.ufmt_scan.specs.Private.Scanning.{Stops, Emits, Scanned, after, scan_next, scan_ends, coming, scan_begun, entries, fields, kind_of, level_at, scan_onward, open_stages, scan_stage, then_scan, scan_turn}
+use Rattle.ufmt_scan.specs.Private.Scanning.{Stops, Emits, Scanned, ScansOn, after, scan_next, scan_ends, coming, scan_begun, entries, fields, kind_of, level_at, scan_onward, open_stages, scan_stage, then_scan, scan_turn}
 use Rattle.ufmt_scan.specs.Scan.{TextEvent, events_of}
 use Rattle.ufmt_scan.proofs.Scans.{document_is, stops_after, stops_in, emits_in, emits_then}
 use Rattle.ufmt_scan.proofs.Stacks.{blocks_of, count_is, innermost_is}
@@ -99,11 +100,17 @@ module _ (mode : Mode) (outer : List Stage) (whole : length outer ≡ 256) (coun
       abbrev level : Level
       level = level_at mode (length (around outer depth))
 
-      pub named : {S : Type 0} {took : S → List TextEvent → S → Type 0} {a b : S} (t u : List ℕ)
+      named : {S : Type 0} {took : S → List TextEvent → S → Type 0} {a b : S} (t u : List ℕ)
           → Emits took took a b (scan_turn (fields level) t) (scan_turn (entries level) u) → Emits took took a b (scan_next mode blocks t) (scan_begun mode blocks u)
       named t u step = emits_in (scan_ends mode blocks) (name_is mode blocks (around outer depth) stage t innermost struct)
           (after_name mode blocks (around outer depth) stage u innermost) step
 
-      pub named_none : {S E : Type 0} {took stopped : S → List TextEvent → S → Type 0} {a b : S} {why : ScanError E} (t : List ℕ)
+      named_none : {S E : Type 0} {took stopped : S → List TextEvent → S → Type 0} {a b : S} {why : ScanError E} (t : List ℕ)
           → Stops took stopped a b (scan_turn (fields level) t) why → Stops took stopped a b (scan_next mode blocks t) why
       named_none t stop = stops_in (scan_ends mode blocks) (name_is mode blocks (around outer depth) stage t innermost struct) stop
+
+      pub named_scans : {S E : Type 0} (took stopped : S → List TextEvent → S → Type 0) (a b : S) (t : List ℕ) (answer : Result (Bor (List ℕ)) (ScanError E))
+          → ScansOn took stopped answer a b (scan_turn (fields level) t) (λ u. scan_turn (entries level) u.now)
+          → ScansOn took stopped answer a b (scan_next mode blocks t) (λ u. scan_begun mode blocks u.now)
+      named_scans took stopped a b t (Ok u) step = named t u.now step
+      named_scans took stopped a b t (Err why) stop = named_none t stop

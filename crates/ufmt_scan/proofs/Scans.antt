@@ -1,5 +1,6 @@
 -- Steps of a scan, one after another: what the sink took, and what is left.
 use Rattle.std.proofs.Common.{◌≡◌, refl, ap, subst, ◌∙◌, ℕ, zero, suc, ◌<◌, ◌+◌, ◌-◌, min, List, [], ◌∷◌, ◌++◌, append_assoc, append-nil, length, sym, Option, Some, None, Result, Ok, Err, IsErrAnd, codes, option_and_then, arith}
+use Rattle.std.specs.Borrow.{Bor}
 use Rattle.ufmt.specs.Layout.{inside, setting}
 use Rattle.ufmt.specs.Reading.{Parse, parse_map, read, read_value, read_word, strip}
 use Rattle.ufmt_core.specs.declared.layout.Mode.{Mode}
@@ -10,7 +11,7 @@ use Rattle.ufmt_scan.specs.declared.scan.step.Stage.{Stage}
 use Rattle.ufmt_core.specs.declared.layout.Kind.{Kind}
 use Rattle.ufmt_core.specs.declared.layout.Kind.TheVariants.{Brackets, Braces, Struct, Tuple, Unnamed}
 use Rattle.ufmt_scan.specs.Private.Level.{budget_of, entry_at, entry_of, setting_at}
-use Rattle.ufmt_scan.specs.Private.Scanning.{ScansOn, Stops, Emits, Scanned, scan_next, coming_of, kind_of, document_at, fields, level_at, prefixed, then_scan}
+use Rattle.ufmt_scan.specs.Private.Scanning.{ScansOn, Steps, Stops, Emits, Scanned, scan_next, coming_of, kind_of, document_at, fields, level_at, prefixed, then_scan}
 use Rattle.ufmt_scan.specs.Scan.{TextEvent, events_of}
 use Rattle.ufmt_scan.proofs.ScanTurns.{prefixed_twice, then-prefixed}
 
@@ -36,6 +37,13 @@ pub refused : {S A E : Type 0} {took stopped : S → List TextEvent → S → Ty
     → IsErrAnd answer (λ y. y ≡ why) → Stops took stopped a b there why → ScansOn took stopped answer a b there left
 refused left (Ok x) is h = absurd is
 refused left (Err y) is h = rw is h
+
+-- the same for a step
+pub step_refused : {S E : Type 0} {took stopped : S → List TextEvent → S → Type 0} {a b : S} {there : Scanned} (bytes : ℕ) (onward : Option Stage → Parse (List TextEvent))
+    {why : ScanError E} (answer : Result (Option Stage × Bor (List ℕ)) (ScanError E)) → IsErrAnd answer (λ y. y ≡ why) → Stops took stopped a b there why
+    → Steps took stopped answer a b bytes there onward
+step_refused bytes onward (Ok x) is h = absurd is
+step_refused bytes onward (Err y) is h = (rw is h, tt)
 
 -- a scan ends if it can't read what is there
 pub nothing_there : {S E : Type 0} {took stopped : S → List TextEvent → S → Type 0} (a : S) {there : Scanned} → there ≡ None → Stops {E = E} took stopped a a there NotText

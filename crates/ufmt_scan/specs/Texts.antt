@@ -22,20 +22,10 @@ pub record IsConverted (from to : Document → List ℕ) (input answer : List �
   pub some : (d : Document) × IsToken d × (from d ≡ input)
   pub each : (d : Document) → IsToken d → from d ≡ input → to d ≡ answer
 
--- the answer is the text from which the input was converted, if it was converted from one
-abbrev pub Undoes : (Document → List ℕ) → (Document → List ℕ) → List ℕ → List ℕ → Type 0
-Undoes from to input answer = (earlier : List ℕ) → IsConverted to from earlier input → answer ≡ earlier
-
--- the input was converted from no text
-abbrev pub IsUnconverted : (Document → List ℕ) → (Document → List ℕ) → List ℕ → Type 0
-IsUnconverted from to input = (earlier : List ℕ) → IsConverted to from earlier input → ⊥
-
--- what a conversion returns: the other text, which undoes the conversion in the other direction, or `NotText`, if the input is no text
+-- what a conversion returns: the other text, or `NotText`, if the input is no text
 pub record Converts {A : Type 0} (from to : Document → List ℕ) (input : List ℕ) (answer : Result (String A) ReadError) : Type 0 where
   pub ok : IfOk answer (λ text. IsConverted from to input (string_bytes text))
   pub not_text : IsErrOf answer NotText → IsNoText from input
-  pub undoes : IfOk answer (λ text. Undoes from to input (string_bytes text))
-  pub unconverted : IsErrOf answer NotText → IsUnconverted from to input
 
 -- what a conversion to a writer does
 pub record ConvertsTo {W E : Type 0} (seen : Seen W) (from to : Document → List ℕ) (input : List ℕ) (old : W) (answer : Result (⊤) (ScanError E)) (new : W) : Type 0 where

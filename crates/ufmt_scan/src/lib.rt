@@ -4,6 +4,7 @@
 
 pub mod convert;
 pub mod error;
+pub mod laws;
 pub mod leaf;
 mod level;
 pub mod quoted;

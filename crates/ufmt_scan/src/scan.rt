@@ -105,10 +105,7 @@ fn name_field<'a, S: Sink, const PRETTY: bool>(
     ensures within { IfOk result (λ rest. length rest.now ≤ length input.now) }
 {
     match blocks.innermost {
-        Stage::FieldFirst | Stage::FieldLater => {
-            let (_, rest) = field_name::<S, PRETTY>(input, sink)?;
-            Ok(rest)
-        }
+        Stage::FieldFirst | Stage::FieldLater => field_name::<S, PRETTY>(input, sink),
         _ => Ok(input),
     }
 }

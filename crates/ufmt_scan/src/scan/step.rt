@@ -1,12 +1,12 @@
 //! Which event comes next in a text.
-ghost use Rattle.std.specs.Prelude.{◌≡◌, ◌<◌, ◌++◌, ◌∷◌, [], List, Option, length, suc, ℕ};
+ghost use Rattle.std.specs.Prelude.{◌≡◌, ◌<◌, ◌≤◌, ◌++◌, ◌∷◌, [], IfOk, length, suc, ℕ};
 ghost use Rattle.ufmt.specs.Layout.{entry_depth, line_start, next, separator};
-ghost use Rattle.ufmt.specs.Reading.{Parse, parse_map, read, read_without_name};
+ghost use Rattle.ufmt.specs.Reading.{parse_map, read, read_without_name};
 ghost use Rattle.ufmt_scan.specs.declared.level.Level.{Level};
 ghost use Rattle.ufmt_scan.specs.declared.scan.step.Stage.{Stage};
 ghost use Rattle.ufmt_scan.specs.Private.Level.{budget_of, entry_of, setting_at};
-ghost use Rattle.ufmt_scan.specs.Private.Scanning.{Scanned, Steps, StripsBracket, after, prefixed, scan_block, earlier, entries, fields, first_stage, kind_of, later, scan_rest, scan_stage, turn_of, scan_turn, value_of};
-ghost use Rattle.ufmt_scan.specs.Scan.{TextEvent, event_now, events_of};
+ghost use Rattle.ufmt_scan.specs.Private.Scanning.{Scanned, ScansOn, Steps, StripsBracket, after, prefixed, scan_block, earlier, entries, fields, first_stage, kind_of, later, scan_rest, scan_stage, turn_of, scan_turn, value_of};
+ghost use Rattle.ufmt_scan.specs.Scan.{event_now, events_of};
 
 use super::event::{Event, ScanError, Sink};
 use crate::leaf::{split_quotes, split_word};
@@ -14,18 +14,34 @@ use crate::level::{Level, strip_piece, strip_to_line};
 use ufmt::ascii::text_from;
 use ufmt::layout::{COLON, Count, INDENT, Kind, Mode, OPENING_BRACE, OPENING_BRACKET};
 
-/// What comes next in an open block: the first entry or a later one, a key or a value.
+/// What comes next in an open block, by what was read of it, and what may follow then:
+///
+/// | Stage | Read so far | Comes next | May follow |
+/// |---|---|---|---|
+/// | `BracesFirst` | `{` | the first entry of a set, or key of a map | `:`, `,` or `}` |
+/// | `KeyLater` | `{`, pairs, `,` | a key | `:` |
+/// | `ListFirst` | `[` | the first entry | `,` or `]` |
+/// | `ListLater` | `[`, entries, `,` | an entry | `,` or `]` |
+/// | `SetLater` | `{`, entries, `,` | an entry | `,` or `}` |
+/// | `ValueFirst` | `{`, a key, `:` | the first value | `,` or `}` |
+/// | `ValueLater` | `{`, pairs, `,`, a key, `:` | a value | `,` or `}` |
+/// | `TupleFirst` | a name, `(` | the first field | `,` or `)` |
+/// | `TupleLater` | a name, `(`, fields, `,` | a field | `,` or `)` |
+/// | `UnnamedFirst` | `(` | the first field | `,`, also before `)` |
+/// | `UnnamedLater` | `(`, fields, `,` | a field | `,` or `)` |
+/// | `FieldFirst` | a name, `{` | the first field's name, `:` and its value | `,` or `}` |
+/// | `FieldLater` | a name, `{`, fields, `,` | a field's name, `:` and its value | `,` or `}` |
+///
+/// In pretty mode a comma comes before each closing bracket.
 #[derive(Clone, Copy)]
 pub(super) enum Stage {
     // A colon may follow the first two, and a field's name comes at the last two. Each two are
     // adjacent, so that one comparison finds them.
-    /// The first entry of a set, or the first key of a map.
     BracesFirst,
     KeyLater,
     ListFirst,
     ListLater,
     SetLater,
-    /// The value of the first pair.
     ValueFirst,
     ValueLater,
     TupleFirst,
@@ -37,6 +53,7 @@ pub(super) enum Stage {
 }
 
 // For each stage: the kind of its block, how many entries came before, and the next entry's stage.
+// `BracesFirst` is here as for a set.
 static STAGES: [(Kind, Count, Stage); 13] = [
     (Kind::Braces, Count::Zero, Stage::SetLater),
     (Kind::Braces, Count::Several, Stage::KeyLater),
@@ -101,32 +118,26 @@ impl Stage {
 // What comes next in a block that opens or continues, if one does, and the rest of the text.
 type Step<'a> = (Option<Stage>, &'a [u8]);
 
-// Emits an event. Returns `next` and `rest`, or the sink's error.
 #[inline(always)]
-fn emit<'a, S: Sink>(
-    event: Event<&str>,
-    next: Option<Stage>,
-    rest: &'a [u8],
-    sink: &mut S,
-) -> Result<Step<'a>, ScanError<S::Error>>
-    ensures { (bytes : ℕ) (there : Scanned) (onward : Option Stage → Parse (List TextEvent))
-        → there ≡ prefixed (event_now event.entry ∷ []) (onward next rest.now) → length rest.now < bytes
-        → Steps S.took S.stopped result sink.old sink.new bytes there onward }
+fn emit<S: Sink>(event: Event<&str>, sink: &mut S) -> Result<(), ScanError<S::Error>>
+    ensures { (there left : Scanned) → there ≡ prefixed (event_now event.entry ∷ []) left
+        → ScansOn S.took S.stopped result sink.old sink.new there (λ _. left) }
 {
     match sink.event(event) {
-        Ok(()) => Ok((next, rest)),
+        Ok(()) => Ok(()),
         Err(e) => Err(ScanError::Sink(e)),
     }
 }
 
-/// Emits a field's name and the colon after it.
+/// Emits a field's name and the colon after it. Returns what follows.
 #[inline(always)]
 pub(super) fn field_name<'a, S: Sink, const PRETTY: bool>(
     input: &'a [u8],
     sink: &mut S,
-) -> Result<Step<'a>, ScanError<S::Error>>
-    ensures { (level : Level) → Steps S.took S.stopped result sink.old sink.new (length input.now)
-        (scan_turn (fields level) input.now) (λ next. scan_turn (entries level)) }
+) -> Result<&'a [u8], ScanError<S::Error>>
+    ensures emitted { (level : Level) → ScansOn S.took S.stopped result sink.old sink.new
+        (scan_turn (fields level) input.now) (λ rest. scan_turn (entries level) rest.now) }
+    ensures within { IfOk result (λ rest. length rest.now ≤ length input.now) }
 {
     let (word, rest) = split_word(input);
     if word.is_empty() {
@@ -135,7 +146,8 @@ pub(super) fn field_name<'a, S: Sink, const PRETTY: bool>(
     let Some(rest) = strip_piece(COLON, rest) else {
         return Err(ScanError::NotText);
     };
-    emit(Event::FieldName(text_from(word, 0)), None, rest, sink)
+    emit(Event::FieldName(text_from(word, 0)), sink)?;
+    Ok(rest)
 }
 
 /// Emits a leaf, an empty block, or the name and the opening of a block.
@@ -154,13 +166,14 @@ pub(super) fn begin<'a, S: Sink, const PRETTY: bool>(
     }
     let name = text_from(word, 0);
     if let Some(rest) = level.strip_lead(Kind::Tuple, rest) {
-        let event = Event::Open(Kind::Tuple, name);
-        emit(event, Some(Stage::TupleFirst), rest, sink)
+        emit(Event::Open(Kind::Tuple, name), sink)?;
+        Ok((Some(Stage::TupleFirst), rest))
     } else if let Some(rest) = level.strip_lead(Kind::Struct, rest) {
-        let event = Event::Open(Kind::Struct, name);
-        emit(event, Some(Stage::FieldFirst), rest, sink)
+        emit(Event::Open(Kind::Struct, name), sink)?;
+        Ok((Some(Stage::FieldFirst), rest))
     } else {
-        emit(Event::Leaf(name), None, rest, sink)
+        emit(Event::Leaf(name), sink)?;
+        Ok((None, rest))
     }
 }
 
@@ -178,12 +191,14 @@ fn begin_without_name<'a, S: Sink, const PRETTY: bool>(
     if let Some((kind, rest)) = strip_bracket(input) {
         begin_block::<S, PRETTY>(level, kind, rest, sink)
     } else if let Some(rest) = strip_piece("()", input) {
-        emit(Event::Leaf("()"), None, rest, sink)
+        emit(Event::Leaf("()"), sink)?;
+        Ok((None, rest))
     } else if let Some(rest) = level.strip_lead(Kind::Unnamed, input) {
-        let event = Event::Open(Kind::Unnamed, "");
-        emit(event, Some(Stage::UnnamedFirst), rest, sink)
+        emit(Event::Open(Kind::Unnamed, ""), sink)?;
+        Ok((Some(Stage::UnnamedFirst), rest))
     } else if let Some((text, rest)) = split_quotes(input) {
-        emit(Event::Leaf(text), None, rest, sink)
+        emit(Event::Leaf(text), sink)?;
+        Ok((None, rest))
     } else {
         Err(ScanError::NotText)
     }
@@ -213,9 +228,11 @@ fn begin_block<'a, S: Sink, const PRETTY: bool>(
         (scan_block level kind input.now) (after level) }
 {
     if let Some(rest) = level.strip_closing(kind, Count::Zero, input) {
-        emit(Event::Empty(kind), None, rest, sink)
+        emit(Event::Empty(kind), sink)?;
+        Ok((None, rest))
     } else if let Some(rest) = level.strip_lead(kind, input) {
-        emit(Event::Open(kind, ""), Some(Stage::first(kind)), rest, sink)
+        emit(Event::Open(kind, ""), sink)?;
+        Ok((Some(Stage::first(kind)), rest))
     } else {
         Err(ScanError::NotText)
     }
@@ -235,7 +252,8 @@ pub(super) fn after_document<'a, S: Sink, const PRETTY: bool>(
 {
     if let Stage::BracesFirst | Stage::KeyLater = stage {
         if let Some(rest) = strip_piece(COLON, input) {
-            return emit(Event::Colon, Some(stage.value()), rest, sink);
+            emit(Event::Colon, sink)?;
+            return Ok((Some(stage.value()), rest));
         }
         if let Stage::KeyLater = stage {
             return Err(ScanError::NotText);
@@ -263,13 +281,15 @@ fn after_entry<'a, S: Sink, const PRETTY: bool>(
         return Err(ScanError::NotText);
     };
     if let Some(start) = strip_piece(separator, line) {
-        return emit(Event::Next, Some(stage.later()), start, sink);
+        emit(Event::Next, sink)?;
+        return Ok((Some(stage.later()), start));
     }
     let (kind, count) = stage.block();
     let Some(end) = level.strip_closing(kind, count, line) else {
         return Err(ScanError::NotText);
     };
-    emit(Event::Close(kind, count), None, end, sink)
+    emit(Event::Close(kind, count), sink)?;
+    Ok((None, end))
 }
 
 // What separates two entries, after the indentation of their block.

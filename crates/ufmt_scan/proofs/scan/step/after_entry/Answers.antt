@@ -7,13 +7,13 @@ use Rattle.ufmt_core.specs.declared.layout.Mode.{Mode}
 use Rattle.ufmt_core.specs.declared.layout.Mode.TheVariants.{Plain, Pretty}
 use Rattle.ufmt_core.specs.declared.layout.Setting.{Setting}
 use Rattle.ufmt_scan.specs.declared.level.Level.{Level}
-use Rattle.ufmt_scan.specs.declared.scan.event.Event.TheVariants.{Next}
+use Rattle.ufmt_scan.specs.declared.scan.event.Event.TheVariants.{Close, Next}
 use Rattle.ufmt_scan.specs.declared.scan.step.Stage.{Stage}
 use Rattle.ufmt_scan.specs.Private.Level.{depth_in, setting_at}
-use Rattle.ufmt_scan.specs.Private.Scanning.{earlier, kind_of, prefixed, scan_rest, turn_of}
+use Rattle.ufmt_scan.specs.Private.Scanning.{after, earlier, kind_of, later, prefixed, scan_rest, turn_of}
 use Rattle.ufmt_scan.proofs.DocumentParts.{later_continues, turn_takes}
 use Rattle.ufmt_scan.proofs.EntrySteps.{ending_stripped}
-use Rattle.ufmt_scan.proofs.Scans.{nothing_there}
+use Rattle.ufmt_scan.proofs.Scans.{nothing_there, step_refused}
 use Rattle.ufmt_scan.proofs.ScanTurns.{follows_scans, go_on}
 use Rattle.ufmt_scan.proofs.scan.step.after_entry.Goals as goal
 
@@ -54,10 +54,32 @@ module _ (level : Level) (at : Stage) where
           ap (λ p. strip p v) (sym apart) ∙ strip-append start between v in
           rw (separates, ending_stripped level (kind_of at) (earlier at) v) (by_line (strip start v))
 
+  -- another entry comes
+  another : (t u v piece between : List ℕ) (line : Setting) → piece ≡ trail level.mode → line ≡ setting_at level
+      → start ++ between ≡ separator level.mode (inside (setting_at level)).depth → Some u ≡ strip (piece ++ line_start line.mode line.depth) t → Some v ≡ strip between u
+      → scan_rest (turn_of level at) level (kind_of at) (next (earlier at)) t ≡ prefixed (Next ∷ []) (after level (Some (later at)) v)
+  another t u v piece between line piece_is line_is apart before comes =
+      follows t piece between line (Some u) piece_is line_is apart before ∙ rw (sym comes) (ap (prefixed (Next ∷ [])) (sym (later_continues level at v)))
+
+  -- the block ends
+  ends : (t u v piece between : List ℕ) (line : Setting) → piece ≡ trail level.mode → line ≡ setting_at level
+      → start ++ between ≡ separator level.mode (inside (setting_at level)).depth → Some u ≡ strip (piece ++ line_start line.mode line.depth) t → None ≡ strip between u
+      → Some v ≡ strip closing u
+      → scan_rest (turn_of level at) level (kind_of at) (next (earlier at)) t ≡ prefixed (Close (kind_of at) (next (earlier at)) ∷ []) (after level None v)
+  ends t u v piece between line piece_is line_is apart before none closes =
+      follows t piece between line (Some u) piece_is line_is apart before ∙ rw (sym none, sym closes) refl
+
 pub returns-in_default : goal.returns-in_default
 returns-in_default g c =
     let apart = c.between-separator.ensures (setting_at c.args.level).depth (few c.args.level.mode c.args.level.open_blocks c.requires) in
     (nothing_there _ (follows c.args.level c.args.stage c.args.input.now _ c.between-separator.result.now _ None c.trail.ensures c.setting.ensures apart c.in_default.ensures), tt)
+
+pub returns-in_err-emit : goal.returns-in_err-emit
+returns-in_err-emit g c =
+    let apart = c.between-separator.ensures (setting_at c.args.level).depth (few c.args.level.mode c.args.level.open_blocks c.requires) in
+    let start = c.in-Some-strip_piece.start.now in
+    step_refused _ (after c.args.level) c.from_residual.result c.from_residual.ensures.1 (c.in_err-emit.ensures _ (after c.args.level (Some (later c.args.stage)) start)
+    (another c.args.level c.args.stage c.args.input.now c.in-Some.line.now start _ _ _ c.trail.ensures c.setting.ensures apart c.in-Some.ensures c.in-Some-strip_piece.ensures))
 
 pub returns-in-Some-strip_piece : goal.returns-in-Some-strip_piece
 returns-in-Some-strip_piece g c =
@@ -66,9 +88,8 @@ returns-in-Some-strip_piece g c =
     let start = c.in-Some-strip_piece.start.now in
     let within = strip_within _ c.args.input.now line (sym c.in-Some.ensures) in
     let less = strip_within _ line start (sym c.in-Some-strip_piece.ensures) in
-    c.emit.ensures _ _ _ (follows c.args.level c.args.stage c.args.input.now _ c.between-separator.result.now _ (Some line) c.trail.ensures c.setting.ensures apart c.in-Some.ensures
-    ∙ rw (sym c.in-Some-strip_piece.ensures, c.later.ensures) (ap (prefixed (Next ∷ [])) (sym (later_continues c.args.level c.args.stage start))))
-    (omega (arith, within, less))
+    let comes = another c.args.level c.args.stage c.args.input.now line start _ _ _ c.trail.ensures c.setting.ensures apart c.in-Some.ensures c.in-Some-strip_piece.ensures in
+    (c.in_ok-emit.ensures _ _ (rw c.later.ensures comes), omega (arith, within, less))
 
 pub returns-in_default-strip_closing : goal.returns-in_default-strip_closing
 returns-in_default-strip_closing g c =
@@ -79,6 +100,16 @@ returns-in_default-strip_closing g c =
       tt,
     )
 
+pub returns-in_err-emit-2 : goal.returns-in_err-emit-2
+returns-in_err-emit-2 g c =
+    let apart = c.between-separator.ensures (setting_at c.args.level).depth (few c.args.level.mode c.args.level.open_blocks c.requires) in
+    let end = c.in-Some-strip_closing.end.now in
+    let closing = rw (c.block-kind.ensures.kind, c.block-kind.ensures.count) at c.in-Some-strip_closing.ensures in
+    let closes = ends c.args.level c.args.stage c.args.input.now c.in-Some.line.now end _ _ _ c.trail.ensures c.setting.ensures apart c.in-Some.ensures
+    c.in_default-strip_piece.ensures closing in
+    step_refused _ (after c.args.level) c.from_residual-in_err-emit-2.result c.from_residual-in_err-emit-2.ensures.1
+    (c.in_err-emit-2.ensures _ (after c.args.level None end) (rw (c.block-kind.ensures.kind, c.block-kind.ensures.count) closes))
+
 pub returns : goal.returns
 returns g c =
     let apart = c.between-separator.ensures (setting_at c.args.level).depth (few c.args.level.mode c.args.level.open_blocks c.requires) in
@@ -87,5 +118,6 @@ returns g c =
     let closing = rw (c.block-kind.ensures.kind, c.block-kind.ensures.count) at c.in-Some-strip_closing.ensures in
     let within = strip_within _ c.args.input.now line (sym c.in-Some.ensures) in
     let less = strip_within _ line end (sym closing) in
-    c.emit-2.ensures _ _ _ (follows c.args.level c.args.stage c.args.input.now _ c.between-separator.result.now _ (Some line) c.trail.ensures c.setting.ensures apart c.in-Some.ensures
-    ∙ rw (sym c.in_default-strip_piece.ensures, sym closing, c.block-kind.ensures.kind, c.block-kind.ensures.count) refl) (omega (arith, within, less))
+    let closes = ends c.args.level c.args.stage c.args.input.now line end _ _ _ c.trail.ensures c.setting.ensures apart c.in-Some.ensures
+    c.in_default-strip_piece.ensures closing in
+    (c.in_ok-emit-2.ensures _ _ (rw (c.block-kind.ensures.kind, c.block-kind.ensures.count) closes), omega (arith, within, less))

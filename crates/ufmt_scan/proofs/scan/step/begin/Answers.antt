@@ -1,12 +1,15 @@
-use Rattle.std.proofs.Common.{◌≡◌, ◌∙◌, ◌≤◌, ◌==◌, ap, sym, subst, ℕ, suc, List, length, false, arith}
+use Rattle.std.proofs.Common.{◌≡◌, ◌∙◌, ◌≤◌, ◌==◌, ap, sym, subst, ℕ, suc, List, length, None, Some, false, arith}
 use Rattle.ufmt.specs.Reading.{after_word, parse_map, read, read_named, word_of}
 use Rattle.ufmt.specs.Token.{IsWord}
 use Rattle.ufmt_core.specs.declared.layout.Kind.TheVariants.{Struct, Tuple}
 use Rattle.ufmt_scan.specs.declared.level.Level.{Level}
 use Rattle.ufmt_scan.specs.Private.Level.{budget_of, entry_of, setting_at}
+use Rattle.ufmt_scan.specs.Private.Scanning.{after}
 use Rattle.ufmt_scan.specs.Scan.{events_of}
+use Rattle.ufmt_scan.specs.declared.scan.step.Stage.TheVariants.{FieldFirst, TupleFirst}
 use Rattle.ufmt_scan.proofs.DocumentParts.{front_is_bytes, front_is_word, name_scans, reads_named, reads_without_name, struct_scans, tuple_scans, word_within}
 use Rattle.ufmt_scan.proofs.EntrySteps.{after_lead}
+use Rattle.ufmt_scan.proofs.Scans.{step_refused}
 use Rattle.ufmt_scan.proofs.WordBytes.{word_bytes_are_ascii}
 use Rattle.ufmt_scan.proofs.scan.step.begin.Goals as goal
 
@@ -32,24 +35,51 @@ named level t w u is word rest some = subst (λ name. Named level t name u) (sym
   within = word_within t w u word rest some;
 })
 
-pub returns-in-Some : goal.returns-in-Some
-returns-in-Some g c =
+pub returns-in_err-emit : goal.returns-in_err-emit
+returns-in_err-emit g c =
     let front = named c.args.level c.args.input.now _ _ c.text_from-name.ensures c.split_word.ensures.word c.split_word.ensures.rest
     (sym c.is_empty.ensures ∙ c.if-is_empty.false) in
+    let scans = tuple_scans c.args.level _ c.split_word.result.1.now c.in-Some.rest.now front.is_word (sym c.in-Some.ensures) in
+    step_refused _ (after c.args.level) c.from_residual.result c.from_residual.ensures.1
+    (c.in_err-emit.ensures _ (after c.args.level (Some TupleFirst) c.in-Some.rest.now) (front.reads ∙ scans))
+
+pub returns-in_ok-emit : goal.returns-in_ok-emit
+returns-in_ok-emit g c =
+    let front = named c.args.level c.args.input.now _ _ c.text_from-name.ensures c.split_word.ensures.word c.split_word.ensures.rest
+    (sym c.is_empty.ensures ∙ c.if-is_empty.false) in
+    let scans = tuple_scans c.args.level _ c.split_word.result.1.now c.in-Some.rest.now front.is_word (sym c.in-Some.ensures) in
     let less = after_lead c.args.level Tuple c.split_word.result.1.now c.in-Some.rest.now (sym c.in-Some.ensures) in
-    c.emit.ensures _ _ _ (front.reads ∙ tuple_scans c.args.level _ c.split_word.result.1.now c.in-Some.rest.now front.is_word (sym c.in-Some.ensures)) (omega (arith, front.within, less))
+    (c.in_ok-emit.ensures _ _ (front.reads ∙ scans), omega (arith, front.within, less))
 
-pub returns-in-Some-strip_lead : goal.returns-in-Some-strip_lead
-returns-in-Some-strip_lead g c =
+pub returns-in_err-emit-2 : goal.returns-in_err-emit-2
+returns-in_err-emit-2 g c =
     let front = named c.args.level c.args.input.now _ _ c.text_from-name.ensures c.split_word.ensures.word c.split_word.ensures.rest
     (sym c.is_empty.ensures ∙ c.if-is_empty.false) in
+    let scans = struct_scans c.args.level _ c.split_word.result.1.now c.in-Some-strip_lead.rest.now front.is_word (sym c.in_default.ensures)
+    (sym c.in-Some-strip_lead.ensures) in
+    step_refused _ (after c.args.level) c.from_residual-in_err-emit-2.result c.from_residual-in_err-emit-2.ensures.1
+    (c.in_err-emit-2.ensures _ (after c.args.level (Some FieldFirst) c.in-Some-strip_lead.rest.now) (front.reads ∙ scans))
+
+pub returns-in_ok-emit-2 : goal.returns-in_ok-emit-2
+returns-in_ok-emit-2 g c =
+    let front = named c.args.level c.args.input.now _ _ c.text_from-name.ensures c.split_word.ensures.word c.split_word.ensures.rest
+    (sym c.is_empty.ensures ∙ c.if-is_empty.false) in
+    let scans = struct_scans c.args.level _ c.split_word.result.1.now c.in-Some-strip_lead.rest.now front.is_word (sym c.in_default.ensures)
+    (sym c.in-Some-strip_lead.ensures) in
     let less = after_lead c.args.level Struct c.split_word.result.1.now c.in-Some-strip_lead.rest.now (sym c.in-Some-strip_lead.ensures) in
-    c.emit-in-Some-strip_lead.ensures _ _ _
-    (front.reads ∙ struct_scans c.args.level _ c.split_word.result.1.now c.in-Some-strip_lead.rest.now front.is_word (sym c.in_default.ensures) (sym c.in-Some-strip_lead.ensures)) (omega (arith, front.within, less))
+    (c.in_ok-emit-2.ensures _ _ (front.reads ∙ scans), omega (arith, front.within, less))
 
-pub returns-in_default-strip_lead : goal.returns-in_default-strip_lead
-returns-in_default-strip_lead g c =
+pub returns-in_err-emit-3 : goal.returns-in_err-emit-3
+returns-in_err-emit-3 g c =
     let front = named c.args.level c.args.input.now _ _ c.text_from-name.ensures c.split_word.ensures.word c.split_word.ensures.rest
     (sym c.is_empty.ensures ∙ c.if-is_empty.false) in
-    c.emit-in_default-strip_lead.ensures _ _ _
-    (front.reads ∙ name_scans c.args.level _ _ front.is_word (sym c.in_default.ensures) (sym c.in_default-strip_lead.ensures)) front.within
+    let scans = name_scans c.args.level _ c.split_word.result.1.now front.is_word (sym c.in_default.ensures) (sym c.in_default-strip_lead.ensures) in
+    step_refused _ (after c.args.level) c.from_residual-in_err-emit-3.result c.from_residual-in_err-emit-3.ensures.1
+    (c.in_err-emit-3.ensures _ (after c.args.level None c.split_word.result.1.now) (front.reads ∙ scans))
+
+pub returns-in_ok-emit-3 : goal.returns-in_ok-emit-3
+returns-in_ok-emit-3 g c =
+    let front = named c.args.level c.args.input.now _ _ c.text_from-name.ensures c.split_word.ensures.word c.split_word.ensures.rest
+    (sym c.is_empty.ensures ∙ c.if-is_empty.false) in
+    let scans = name_scans c.args.level _ c.split_word.result.1.now front.is_word (sym c.in_default.ensures) (sym c.in_default-strip_lead.ensures) in
+    (c.in_ok-emit-3.ensures _ _ (front.reads ∙ scans), front.within)
