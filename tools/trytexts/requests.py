@@ -226,7 +226,6 @@ def values(text):
     out = [shown(leaf, by_text(text)) * 7]
     out += [shown(quoted(character, "'"), by_character(character)) for character in text[:16]]
     out += [shown(word, by_text(word)) for word in ("true", "false")]
-    out += [in_both_modes("()")] + [in_both_modes(tuple_of(*[leaf] * count)) for count in range(1, 13)]
     out += [in_both_modes(document) for document in small_types(leaf)]
     out.append(ranges(leaf, len(text.encode())))
     out += [in_both_modes(document) for document in collections(leaf)]

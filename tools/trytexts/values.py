@@ -308,7 +308,7 @@ ONE = Fields("tuple", "One", [(None, TEXT)])
 SAID = Fields("tuple", "Said", [(None, BYTE), (None, TEXT)])
 LOST = Fields("struct", "Lost", [("since", BYTE), ("peers", List(BYTE))])
 EVENTS = (Word("Started"), SAID, LOST, Word("Ended"))
-SHAPES = [mixed(kind, name, count) for kind, name in (("struct", "S"), ("tuple", "T")) for count in range(1, 13)]
+SHAPES = [mixed(kind, name, count) for kind, name in (("struct", "S"), ("tuple", "T")) for count in (1, 2, 3, 12)]
 
 
 KINDS_OF_SHAPES = (*SHAPES, TWELVE, ONE, *EVENTS)

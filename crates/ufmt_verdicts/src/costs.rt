@@ -24,6 +24,14 @@ fn mark(alloc: Global, bytes: usize) {
     let _refused: Result<Vec<u8>, AllocError> = Vec::with_capacity(alloc, bytes);
 }
 
+// Makes a call between the first two marks, and notes its name. A closure for each call would take time to prove.
+macro_rules! count {
+    ($costs:ident, $name:literal, $call:expr) => {{
+        mark($costs.alloc, BEGIN);
+        $costs.note($name, $call)?
+    }};
+}
+
 /// Returns the names of the calls that were made, in order, each with whether its result was a value.
 pub fn calls_made(alloc: Global, text: &[u8]) -> Result<String, AllocError> {
     let mut costs = Costs {
@@ -48,20 +56,11 @@ struct Costs {
 }
 
 impl Costs {
-    // Makes a call, and drops its result. The second mark is made while the result is held.
-    fn count<T: Drop, F: FnOnce() -> Option<T>>(
-        &mut self,
-        name: &str,
-        call: F,
-    ) -> Result<(), AllocError>
-    where
-        requires { F.pre call }
-    {
-        mark(self.alloc, BEGIN);
-        let result = call();
+    // Notes a call that has ended, and drops its result. The second mark is made while the result is held.
+    fn note<T: Drop>(&mut self, name: &str, answer: Option<T>) -> Result<(), AllocError> {
         mark(self.alloc, END);
-        let word = if result.is_some() { " yes, " } else { " no, " };
-        drop(result);
+        let word = if answer.is_some() { " yes, " } else { " no, " };
+        drop(answer);
         mark(self.alloc, DROPPED);
         self.line.push_str(name)?;
         self.line.push_str(word)
@@ -76,9 +75,9 @@ impl Costs {
     }
 
     fn on_text(&mut self, calls: Calls<'_>) -> Result<(), AllocError> {
-        self.count("is_text", || calls.is_text().then_some(()))?;
-        self.count("read", || calls.read().ok())?;
-        self.count("parse", || calls.parse::<Vec<Tree>>().ok())?;
+        count!(self, "is_text", calls.is_text().then_some(()));
+        count!(self, "read", calls.read().ok());
+        count!(self, "parse", calls.parse::<Vec<Tree>>().ok());
         self.on_conversions(calls)?;
         match (calls.read(), calls.read_loose()) {
             (Ok(doc), Ok(mut loose)) => self.on_docs(calls, &doc, &mut loose),
@@ -88,59 +87,62 @@ impl Costs {
 
     fn on_docs(&mut self, calls: Calls<'_>, doc: &Doc, loose: &mut Doc) -> Result<(), AllocError> {
         self.on_doc(calls, doc)?;
+        self.on_fields(calls, doc)?;
         self.on_loose(calls, doc, loose)?;
         self.on_types(doc)
     }
 
     fn on_conversions(&mut self, calls: Calls<'_>) -> Result<(), AllocError> {
-        let alloc = self.alloc;
-        self.count("convert", || calls.convert().ok())?;
-        self.count("convert to a String", || {
-            let mut text = String::new(alloc);
-            match calls.convert_to(&mut text) {
-                Ok(()) => Some(text),
-                Err(_) => None,
-            }
-        })?;
+        count!(self, "convert", calls.convert().ok());
+        count!(self, "convert to a String", converted_to_a_string(calls));
         let length = match calls.convert() {
             Ok(text) => text.len(),
             Err(_) => calls.text.len(),
         };
-        let mut buffer = vec![in alloc; 0u8; length]?;
-        self.count("convert into", || calls.convert_into(&mut buffer).ok())?;
-        self.count("again", || calls.again().ok())?;
-        self.count("there and back", || calls.by_way_of_the_other().ok())
+        let mut buffer = vec![in self.alloc; 0u8; length]?;
+        count!(self, "convert into", calls.convert_into(&mut buffer).ok());
+        count!(self, "again", calls.again().ok());
+        count!(self, "there and back", calls.by_way_of_the_other().ok());
+        Ok(())
     }
 
     fn on_doc(&mut self, calls: Calls<'_>, doc: &Doc) -> Result<(), AllocError> {
-        let alloc = self.alloc;
-        self.count("is_token", || doc.is_token().then_some(()))?;
-        self.count("print", || calls.print(doc).ok())?;
-        let mut buffer = vec![in alloc; 0u8; calls.text.len()]?;
-        self.count("print into", || calls.print_into(&mut buffer, doc).ok())?;
-        self.count("unquoted", || doc.unquoted(alloc).unwrap_or(None))?;
-        self.count("leaf_text", || doc.leaf_text(alloc).unwrap_or(None))?;
-        let name = last_name(doc);
-        self.count("field_text", || doc.field_text(alloc, name).unwrap_or(None))?;
-        self.count(
+        count!(self, "is_token", doc.is_token().then_some(()));
+        count!(self, "print", calls.print(doc).ok());
+        let mut buffer = vec![in self.alloc; 0u8; calls.text.len()]?;
+        count!(self, "print into", calls.print_into(&mut buffer, doc).ok());
+        Ok(())
+    }
+
+    fn on_fields(&mut self, calls: Calls<'_>, doc: &Doc) -> Result<(), AllocError> {
+        let (alloc, name) = (self.alloc, last_name(doc));
+        count!(self, "unquoted", doc.unquoted(alloc).unwrap_or(None));
+        count!(self, "leaf_text", doc.leaf_text(alloc).unwrap_or(None));
+        count!(
+            self,
+            "field_text",
+            doc.field_text(alloc, name).unwrap_or(None)
+        );
+        count!(
+            self,
             "read_field",
-            || read_field(alloc, calls.text, name).unwrap_or(None),
-        )
+            read_field(alloc, calls.text, name).unwrap_or(None)
+        );
+        Ok(())
     }
 
     // Calls on a document and on another of the same text, which isn't in normal form.
     fn on_loose(&mut self, calls: Calls<'_>, doc: &Doc, loose: &mut Doc) -> Result<(), AllocError> {
-        let alloc = self.alloc;
-        let mut buffer = vec![in alloc; 0u8; calls.text.len()]?;
-        self.count(
+        let mut buffer = vec![in self.alloc; 0u8; calls.text.len()]?;
+        count!(
+            self,
             "print loose into",
-            || calls.print_into(&mut buffer, loose).ok(),
-        )?;
-        self.count("same_text", || have_same_text(doc, loose).then_some(()))?;
-        self.count("normalize", || {
-            loose.normalize(alloc);
-            Some(())
-        })
+            calls.print_into(&mut buffer, loose).ok()
+        );
+        count!(self, "same_text", have_same_text(doc, loose).then_some(()));
+        mark(self.alloc, BEGIN);
+        loose.normalize(self.alloc);
+        self.note("normalize", Some(()))
     }
 
     fn on_types(&mut self, doc: &Doc) -> Result<(), AllocError> {
@@ -156,20 +158,26 @@ impl Costs {
     }
 
     fn on_type<T: uParse>(&mut self, name: &str, doc: &Doc) -> Result<(), AllocError> {
-        let alloc = self.alloc;
-        self.count(name, || match T::from_doc(alloc, doc) {
-            Ok(value) => value,
-            Err(_) => None,
-        })
+        mark(self.alloc, BEGIN);
+        self.note(name, T::from_doc(self.alloc, doc).unwrap_or(None))
     }
 
     fn on_leaf(&mut self, text: &str) -> Result<(), AllocError> {
         let alloc = self.alloc;
-        self.count("is_leaf", || is_leaf(text).then_some(()))?;
-        self.count("is_word", || is_word(text).then_some(()))?;
-        self.count("Doc::text", || Doc::text(alloc, text).ok())?;
         let first = text.chars().next().unwrap_or('x');
-        self.count("Doc::character", || Doc::character(alloc, first).ok())
+        count!(self, "is_leaf", is_leaf(text).then_some(()));
+        count!(self, "is_word", is_word(text).then_some(()));
+        count!(self, "Doc::text", Doc::text(alloc, text).ok());
+        count!(self, "Doc::character", Doc::character(alloc, first).ok());
+        Ok(())
+    }
+}
+
+fn converted_to_a_string(calls: Calls<'_>) -> Option<String> {
+    let mut text = String::new(calls.alloc);
+    match calls.convert_to(&mut text) {
+        Ok(()) => Some(text),
+        Err(_) => None,
     }
 }
 

@@ -30,21 +30,10 @@ pub struct Request<'a> {
 
 /// Returns the digests of what a request prints, in words, or `None` if the text is no request.
 pub fn verdict(alloc: Global, text: &[u8]) -> Result<Option<String>, AllocError> {
-    let Some(request) = Request::from_text(alloc, text) else {
-        return Ok(None);
-    };
-    let dump = request.dump_pieces().words(alloc)?;
-    let Ok(payload) = str::from_utf8(request.payload) else {
-        return format!(in alloc; "request: dump {dump}\n").map(Some);
-    };
-    let lines = lines::pieces(&request, payload).words(alloc)?;
-    let names = names::pieces(payload).words(alloc)?;
-    let numbers = numbers::pieces(&request, payload).words(alloc)?;
-    let values = values::pieces(&request, payload)?.words(alloc)?;
-    let nested = values::nested_pieces(&request, payload)?.words(alloc)?;
-    format!(in alloc;
-        "request: dump {dump}, lines {lines}, names {names}, numbers {numbers}, values {values}, nested {nested}\n"
-    ).map(Some)
+    match Request::from_text(alloc, text) {
+        Some(request) => Ok(Some(request.line()?)),
+        None => Ok(None),
+    }
 }
 
 impl<'a> Request<'a> {
@@ -90,6 +79,33 @@ impl<'a> Request<'a> {
             },
             payload,
         })
+    }
+
+    fn line(&self) -> Result<String, AllocError> {
+        let mut line = String::new(self.alloc);
+        self.note("request: dump ", &self.dump_pieces(), &mut line)?;
+        if let Ok(text) = str::from_utf8(self.payload) {
+            self.note_texts(text, &mut line)?;
+            self.note_values(text, &mut line)?;
+        }
+        line.push('\n')?;
+        Ok(line)
+    }
+
+    fn note_texts(&self, text: &str, line: &mut String) -> Result<(), AllocError> {
+        self.note(", lines ", &lines::pieces(self, text), line)?;
+        self.note(", names ", &names::pieces(text), line)?;
+        self.note(", numbers ", &numbers::pieces(self, text), line)
+    }
+
+    fn note_values(&self, text: &str, line: &mut String) -> Result<(), AllocError> {
+        self.note(", values ", &values::pieces(self, text)?, line)?;
+        self.note(", nested ", &values::nested_pieces(self, text)?, line)
+    }
+
+    fn note(&self, name: &str, digest: &Digest, line: &mut String) -> Result<(), AllocError> {
+        line.push_str(name)?;
+        line.push_str(&digest.words(self.alloc)?)
     }
 
     fn dump_pieces(&self) -> Digest {

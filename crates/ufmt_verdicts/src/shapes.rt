@@ -1,14 +1,11 @@
-//! Structs and tuples of one to twelve fields, and an enum, by the calls and the macros for a user's types.
+//! Structs and tuples of one to three fields and of twelve, and an enum, by the calls and the macros for a user's types.
 use crate::fault::Fault;
 use std::alloc::{AllocError, Global};
 use ufmt::{plain_text, uDebug};
 use ufmt_doc::Doc;
 use ufmt_parse::{
-    parse_fields, parse_struct_1, parse_struct_2, parse_struct_3, parse_struct_4, parse_struct_5,
-    parse_struct_6, parse_struct_7, parse_struct_8, parse_struct_9, parse_struct_10,
-    parse_struct_11, parse_struct_12, parse_tuple_1, parse_tuple_2, parse_tuple_3, parse_tuple_4,
-    parse_tuple_5, parse_tuple_6, parse_tuple_7, parse_tuple_8, parse_tuple_9, parse_tuple_10,
-    parse_tuple_11, parse_tuple_12, parse_variants,
+    parse_fields, parse_struct_1, parse_struct_2, parse_struct_3, parse_struct_12, parse_tuple_1,
+    parse_tuple_2, parse_tuple_3, parse_tuple_12, parse_variants,
 };
 
 /// Returns the fields of the struct, the tuple or the variant that has this document, as the texts of tuples.
@@ -25,13 +22,13 @@ pub fn fields_of(alloc: Global, doc: &Doc) -> Result<String, Fault> {
 
 fn note_each_struct(alloc: Global, doc: &Doc, out: &mut String) -> Result<(), Fault> {
     note_structs(alloc, doc, out)?;
-    note_long_structs(alloc, doc, out)?;
+    note_long_struct(alloc, doc, out)?;
     note(alloc, "w", parse_twelve(alloc, doc)?, out)
 }
 
 fn note_each_tuple(alloc: Global, doc: &Doc, out: &mut String) -> Result<(), Fault> {
     note_tuples(alloc, doc, out)?;
-    note_long_tuples(alloc, doc, out)?;
+    note_long_tuple(alloc, doc, out)?;
     note(alloc, "o", parse_one(alloc, doc)?, out)
 }
 
@@ -68,18 +65,10 @@ fn note_structs(alloc: Global, doc: &Doc, out: &mut String) -> Result<(), Fault>
     named!(alloc doc out parse_struct_1(u8 "a"));
     named!(alloc doc out parse_struct_2(u8 "a" char "b"));
     named!(alloc doc out parse_struct_3(u8 "a" char "b" u8 "c"));
-    named!(alloc doc out parse_struct_4(u8 "a" char "b" u8 "c" char "d"));
-    named!(alloc doc out parse_struct_5(u8 "a" char "b" u8 "c" char "d" u8 "e"));
-    named!(alloc doc out parse_struct_6(u8 "a" char "b" u8 "c" char "d" u8 "e" char "f"));
-    named!(alloc doc out parse_struct_7(u8 "a" char "b" u8 "c" char "d" u8 "e" char "f" u8 "g"));
     Ok(())
 }
 
-fn note_long_structs(alloc: Global, doc: &Doc, out: &mut String) -> Result<(), Fault> {
-    named!(alloc doc out parse_struct_8(u8 "a" char "b" u8 "c" char "d" u8 "e" char "f" u8 "g" char "h"));
-    named!(alloc doc out parse_struct_9(u8 "a" char "b" u8 "c" char "d" u8 "e" char "f" u8 "g" char "h" u8 "i"));
-    named!(alloc doc out parse_struct_10(u8 "a" char "b" u8 "c" char "d" u8 "e" char "f" u8 "g" char "h" u8 "i" char "j"));
-    named!(alloc doc out parse_struct_11(u8 "a" char "b" u8 "c" char "d" u8 "e" char "f" u8 "g" char "h" u8 "i" char "j" u8 "k"));
+fn note_long_struct(alloc: Global, doc: &Doc, out: &mut String) -> Result<(), Fault> {
     named!(alloc doc out parse_struct_12(u8 "a" char "b" u8 "c" char "d" u8 "e" char "f" u8 "g" char "h" u8 "i" char "j" u8 "k" char "l"));
     Ok(())
 }
@@ -88,18 +77,10 @@ fn note_tuples(alloc: Global, doc: &Doc, out: &mut String) -> Result<(), Fault> 
     unnamed!(alloc doc out parse_tuple_1(u8));
     unnamed!(alloc doc out parse_tuple_2(u8 char));
     unnamed!(alloc doc out parse_tuple_3(u8 char u8));
-    unnamed!(alloc doc out parse_tuple_4(u8 char u8 char));
-    unnamed!(alloc doc out parse_tuple_5(u8 char u8 char u8));
-    unnamed!(alloc doc out parse_tuple_6(u8 char u8 char u8 char));
-    unnamed!(alloc doc out parse_tuple_7(u8 char u8 char u8 char u8));
     Ok(())
 }
 
-fn note_long_tuples(alloc: Global, doc: &Doc, out: &mut String) -> Result<(), Fault> {
-    unnamed!(alloc doc out parse_tuple_8(u8 char u8 char u8 char u8 char));
-    unnamed!(alloc doc out parse_tuple_9(u8 char u8 char u8 char u8 char u8));
-    unnamed!(alloc doc out parse_tuple_10(u8 char u8 char u8 char u8 char u8 char));
-    unnamed!(alloc doc out parse_tuple_11(u8 char u8 char u8 char u8 char u8 char u8));
+fn note_long_tuple(alloc: Global, doc: &Doc, out: &mut String) -> Result<(), Fault> {
     unnamed!(alloc doc out parse_tuple_12(u8 char u8 char u8 char u8 char u8 char u8 char));
     Ok(())
 }

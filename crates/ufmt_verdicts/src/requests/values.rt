@@ -1,4 +1,5 @@
-//! Values of std's types that hold the payload, in each mode and by each trait that they have.
+//! Values of std's types that hold the payload, in each mode and by each trait that they have. Tuples are printed where
+//! they are parsed.
 use super::Request;
 use crate::digest::Digest;
 use crate::pieces::Pieces;
@@ -22,7 +23,6 @@ pub fn pieces(request: &Request<'_>, text: &str) -> Result<Digest, AllocError> {
     let mut pieces = Pieces::new();
     pieces.texts(request.alloc, text)?;
     pieces.characters(text);
-    pieces.tuples(text);
     pieces.small_types(text);
     pieces.ranges(text);
     pieces.lists(request.alloc, text)?;
@@ -73,22 +73,6 @@ impl Pieces {
         }
         self.shown(&true);
         self.shown(&false);
-    }
-
-    fn tuples(&mut self, t: &str) {
-        self.value(&());
-        self.value(&(t,));
-        self.value(&(t, t));
-        self.value(&(t, t, t));
-        self.value(&(t, t, t, t));
-        self.value(&(t, t, t, t, t));
-        self.value(&(t, t, t, t, t, t));
-        self.value(&(t, t, t, t, t, t, t));
-        self.value(&(t, t, t, t, t, t, t, t));
-        self.value(&(t, t, t, t, t, t, t, t, t));
-        self.value(&(t, t, t, t, t, t, t, t, t, t));
-        self.value(&(t, t, t, t, t, t, t, t, t, t, t));
-        self.value(&(t, t, t, t, t, t, t, t, t, t, t, t));
     }
 
     fn small_types(&mut self, text: &str) {
