@@ -3,7 +3,6 @@
 mod calls;
 mod collections;
 mod leaves;
-mod macros;
 mod nested;
 mod numbers;
 mod user_types;

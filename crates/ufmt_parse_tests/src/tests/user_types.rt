@@ -13,11 +13,11 @@ use ufmt_parse::{parse_fields, parse_variants, uParse};
 
 /// A struct of four fields.
 #[derive(Drop)]
-pub struct Entry<T> {
-    pub id: u8,
-    pub time: u64,
-    pub value: T,
-    pub text: String,
+struct Entry<T> {
+    id: u8,
+    time: u64,
+    value: T,
+    text: String,
 }
 
 impl<T: uDebug> uDebug for Entry<T> {
@@ -63,7 +63,7 @@ impl<T: uParse> uParse for Entry<T> {
 
 /// A tuple struct.
 #[derive(Drop)]
-pub struct Both(pub u8, pub u64);
+struct Both(u8, u64);
 
 impl uDebug for Both {
     ghost document = { λ b. named_tuple "Both" (number b.0 ∷ number b.1 ∷ []) };
@@ -88,7 +88,7 @@ impl uParse for Both {
 
 /// An enum of eight variants.
 #[derive(Drop)]
-pub enum Eight<T> {
+enum Eight<T> {
     A,
     B(u8),
     C(u64, u8),
