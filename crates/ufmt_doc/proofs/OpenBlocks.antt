@@ -1,5 +1,5 @@
 -- The open blocks at the front of an array, the innermost last.
-use Rattle.std.proofs.Common.{◌≡◌, ◌∙◌, ap, ℕ, ◌+◌, ◌<◌, List, [], ◌∷◌, ◌++◌, get_or, length, reverse, set, take}
+use Rattle.std.proofs.Common.{◌≡◌, ◌∙◌, ap, ℕ, ◌+◌, ◌<◌, List, [], ◌∷◌, get_or, length, reverse, set, take}
 use Rattle.std.proofs.lemmas.List.{reverse-append, take_more, take_more_set}
 use Rattle.ufmt_doc.specs.declared.reader.open_blocks.PartialBlock.{PartialBlock}
 

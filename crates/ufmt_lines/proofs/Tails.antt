@@ -14,7 +14,6 @@ use Rattle.ufmt_lines.specs.Readable.{answer_of, converted, converted_here, may_
 use Rattle.ufmt_lines.specs.Private.Answer.{answer_bytes, answer_seen}
 use Rattle.ufmt_lines.specs.declared.run.answer.Answer.{Answer}
 use Rattle.ufmt_scan.specs.Texts.{ConvertsTo, IsConverted, IsNormalForm, IsNoText}
-use Rattle.ufmt_scan.specs.declared.scan.event.ScanError.{ScanError}
 use Rattle.ufmt_scan.specs.declared.scan.event.ScanError.TheVariants.{NotText}
 
 -- the normal form is read from the text

@@ -1,5 +1,5 @@
 //! Whether a text is one of a token document.
-ghost use Rattle.std.specs.Prelude.{◌≡◌, IsFalse, IsTrue, ⊤};
+ghost use Rattle.std.specs.Prelude.{IsFalse, IsTrue, ⊤};
 ghost use Rattle.ufmt.specs.Document.{Document};
 ghost use Rattle.ufmt.specs.Layout.{layout, setting};
 ghost use Rattle.ufmt_scan.specs.Texts.{IsNormalForm, IsNoText};

@@ -1,10 +1,10 @@
 //! A sink that makes the document whose events it takes.
-ghost use Rattle.std.specs.Prelude.{◌≡◌, ◌<◌, ◌≤◌, ◌+◌, ◌++◌, ◌∷◌, [], IfOk, OnOk, Some, drop, length, map, option_map, string_bytes, take, vec_capacity, ⊤};
+ghost use Rattle.std.specs.Prelude.{◌≡◌, ◌<◌, ◌≤◌, ◌∷◌, [], IfOk, OnOk, Some, drop, length, map, option_map, string_bytes, take, vec_capacity, ⊤};
 ghost use Rattle.std.proofs.Common.{refl};
 ghost use Rattle.ufmt.specs.Document.{Document, leaf};
 ghost use Rattle.ufmt_doc.specs.Doc.{doc_document};
 ghost use Rattle.ufmt_doc.specs.DocViews.{field_view, pair_view};
-ghost use Rattle.ufmt_doc.specs.Private.Growing.{block_of, closed, field_from, growing, grown, in_pairs, opened, put, text_of, with_colon, empty_block};
+ghost use Rattle.ufmt_doc.specs.Private.Growing.{block_of, closed, field_from, growing, grown, in_pairs, opened, put, text_of, empty_block};
 
 use super::open_blocks::{OpenBlocks, PartialBlock};
 use crate::doc::Doc;

@@ -1,5 +1,5 @@
 //! The open blocks of a text that is read.
-ghost use Rattle.std.specs.Prelude.{◌≡◌, ◌<◌, ◌∷◌, [], IsFalse, MatchOption, length};
+ghost use Rattle.std.specs.Prelude.{◌≡◌, ◌<◌, ◌∷◌, [], IsFalse, MatchOption, false, length};
 ghost use Rattle.ufmt_doc.specs.Private.Growing.{block_at, marked};
 
 use std::marker::Model;

@@ -5,10 +5,10 @@ use Rattle.ufmt_doc.proofs.laws.plain_by_way_of_pretty.Goals as goal
 use Rattle.ufmt_scan.proofs.Conversions.{never_refused}
 
 pub returns-clause-ok : goal.returns-clause-ok
-returns-clause-ok c = comes_again plain_text pretty_text _ _ c.to_plain.result c.in_ok-pretty.ensures.ok c.to_plain.ensures
+returns-clause-ok c = comes_again plain_text pretty_text _ _ c.to_plain.result c.in_ok-pretty.ensures.ok (rw c.as_bytes.ensures.value at c.to_plain.ensures)
 
 pub returns-clause-found : goal.returns-clause-found
 returns-clause-found c = converted_has_form (setting Plain 0) _ _ _ c.in_ok-pretty.ensures.ok c.to_plain.result
 
 pub returns-clause-not_text : goal.returns-clause-not_text
-returns-clause-not_text c = λ refused. absurd (never_refused pretty_text plain_text _ _ c.in_ok-pretty.ensures.ok (c.to_plain.ensures.not_text refused))
+returns-clause-not_text c = λ refused. absurd (never_refused pretty_text plain_text _ _ c.in_ok-pretty.ensures.ok ((rw c.as_bytes.ensures.value at c.to_plain.ensures).not_text refused))
