@@ -103,34 +103,37 @@ pub struct Calls {
     pub fails_at: usize,
 }
 
-/// A device whose calls are noted.
+/// A reader whose calls are noted.
 #[derive(Drop)]
-pub struct Noted<'a, D> {
-    pub device: D,
+pub struct NotedSource<'a> {
+    pub source: Source<'a>,
     pub calls: &'a RefCell<Calls>,
 }
 
-impl<D: Read> Read for Noted<'_, D> {
+impl Read for NotedSource<'_> {
     fn read(&mut self, buffer: &mut [u8]) -> io::Result<usize> {
-        let answer = self.device.read(buffer);
-        let call = match answer {
-            Ok(0) => '0',
-            _ => 'r',
-        };
-        note(self.calls, call)?;
-        answer
+        let is_end = self.source.left.is_empty();
+        note(self.calls, if is_end { '0' } else { 'r' })?;
+        self.source.read(buffer)
     }
 }
 
-impl<D: Write> Write for Noted<'_, D> {
+/// A writer whose calls are noted.
+#[derive(Drop)]
+pub struct NotedSink<'a> {
+    pub sink: Sink,
+    pub calls: &'a RefCell<Calls>,
+}
+
+impl Write for NotedSink<'_> {
     fn write(&mut self, bytes: &[u8]) -> io::Result<usize> {
         note(self.calls, if bytes.is_empty() { 'e' } else { 'w' })?;
-        self.device.write(bytes)
+        self.sink.write(bytes)
     }
 
     fn flush(&mut self) -> io::Result<()> {
         note(self.calls, 'f')?;
-        self.device.flush()
+        self.sink.flush()
     }
 }
 

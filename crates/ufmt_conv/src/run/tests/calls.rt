@@ -1,7 +1,7 @@
 //! Tests of how often `run` calls its devices, and in which order.
 use super::*;
 use std::cell::RefCell;
-use ufmt_io::testing::{Calls, Noted};
+use ufmt_io::testing::{Calls, NotedSink, NotedSource};
 
 // A run's command and input, and how many bytes a read gives and a write takes at most.
 type Run<'a> = (Command, &'a [u8], usize, usize);
@@ -10,12 +10,12 @@ type Run<'a> = (Command, &'a [u8], usize, usize);
 fn row_of(alloc: Global, (command, text, read, written): Run<'_>, fails_at: usize) -> String {
     let row = String::new(alloc);
     let calls = RefCell::new(Calls { row, fails_at });
-    let mut input = Watched::new(Noted {
-        device: Source::new(text, read, NEVER),
+    let mut input = Watched::new(NotedSource {
+        source: Source::new(text, read, NEVER),
         calls: &calls,
     });
-    let mut output = Watched::new(Noted {
-        device: Sink::new(alloc, written, NEVER, false),
+    let mut output = Watched::new(NotedSink {
+        sink: Sink::new(alloc, written, NEVER, false),
         calls: &calls,
     });
     let _outcome = run(alloc, command, &mut input, &mut output);
