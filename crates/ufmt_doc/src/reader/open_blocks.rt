@@ -1,5 +1,5 @@
 //! The open blocks of a text that is read.
-ghost use Rattle.std.specs.Prelude.{◌≡◌, ◌<◌, ◌∷◌, [], IsFalse, MatchOption, false, length};
+ghost use Rattle.std.specs.Prelude.{◌≡◌, ◌<◌, ◌∷◌, [], IsFalse, IsTrue, MatchOption, false, length};
 ghost use Rattle.ufmt_doc.specs.Private.Growing.{block_at, marked};
 
 use std::marker::Model;
@@ -24,14 +24,14 @@ pub(super) struct OpenBlocks {
 }
 
 impl Model for OpenBlocks {
-    ghost use Rattle.std.specs.Prelude.{◌≤◌, List, reverse, take};
+    ghost use Rattle.std.specs.Prelude.{◌≡◌, ◌≤◌, List, length, reverse, take};
     ghost use Rattle.ufmt_doc.specs.declared.reader.open_blocks.PartialBlock.{PartialBlock};
 
     ghost Value = { List PartialBlock };
 
     ghost view = { λ s. reverse (take s.count s.blocks) };
 
-    ghost invariant = { λ s. s.count ≤ 256 };
+    ghost invariant = { λ s. (s.count ≤ 256) × (length s.blocks ≡ 256) };
 }
 
 #[tactic(auto, using(crate::proofs::OpenBlocks::innermost_is, crate::proofs::OpenBlocks::one_more))]
@@ -49,10 +49,11 @@ impl OpenBlocks {
         }
     }
 
-    /// Returns whether no more may be opened.
+    /// Returns whether 256 blocks are open, and no more may be opened.
     #[inline(always)]
     pub(super) fn is_full(&self) -> bool
-        ensures { IsFalse result → length self.now < 256 }
+        ensures full { IsTrue result → length self.now ≡ 256 }
+        ensures room { IsFalse result → length self.now < 256 }
     {
         self.count == MOST_OPEN
     }
