@@ -15,7 +15,7 @@ MODES = ("pretty", "plain")
 CONVERSIONS = {"pretty": (PlainReader(), pretty), "plain": (PrettyReader(), plain)}
 OPENING = (b"(", b"[", b"{")
 # A text may begin at a line's start, and after a space. No text begins with a space or a line feed.
-BEGINNING = re.compile(r"(?:^|(?<=[ \n]))(?=[^ \n])")
+TEXT_START = re.compile(r"(?:^|(?<=[ \n]))(?=[^ \n])")
 # A byte that isn't UTF-8, as it is decoded here.
 BAD = re.compile("[\udc80-\udcff]")
 
@@ -25,7 +25,7 @@ def answer(mode, group):
     reader, printed = CONVERSIONS[mode]
     words = group.decode("utf-8", "surrogateescape")
     after_bad = max((found.end() for found in BAD.finditer(words)), default=0)
-    for found in BEGINNING.finditer(words, after_bad):
+    for found in TEXT_START.finditer(words, after_bad):
         at = found.start()
         read = reader.document_at(words, at, 0)
         if read is not None and read[1] == len(words):

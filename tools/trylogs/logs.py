@@ -189,7 +189,7 @@ def each_length():
             yield text + b"a" * (length - len(text) - 1) + b'"]'
 
 
-def beginnings():
+def first_logs():
     """Logs that come first with every seed, each with its chunks."""
     maker = Maker(0)
     for lines in (each_byte(), each_number(), each_length()):
@@ -206,4 +206,4 @@ def logs(count, seed):
     """Each log with its chunks: first those of each seed, then so many random ones."""
     maker = Maker(seed)
     made = (maker.log() for _ in range(count))
-    return itertools.chain(beginnings(), ((log, maker.chunks(log)) for log in made))
+    return itertools.chain(first_logs(), ((log, maker.chunks(log)) for log in made))

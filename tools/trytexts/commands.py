@@ -14,7 +14,7 @@ MOST_COUNTED = 128 * 1024
 START_STEPS, START_BYTES, CHUNK = 1_200_000, 70_000, 64 * 1024
 # Each command's steps for a byte of its input, and of a line of it, besides those of its conversion.
 BYTE_STEPS, LINE_STEPS = 40, 600
-# ufmt_lines tries each place after a space as the beginning of a text.
+# ufmt_lines tries each place after a space as the start of a text.
 PLACE_STEPS = 400
 # What is before the text of a line, as in a log.
 WORDS = "12:00: "

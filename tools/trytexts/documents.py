@@ -246,13 +246,13 @@ def too_deep(maker):
             yield document
 
 
-def beginnings(seed):
+def first_texts(seed):
     """Texts that come first: each cell of the table of coverage, and each shape at each limit."""
     maker = Maker(seed)
     covering = Covering(maker)
     yield from (b"", b"\n", b"()", b"[]", b"{}", b'""', b"''", b"x\n")
-    yield from pieces.beginnings()
-    yield from in_both_modes(values.beginnings(maker.random))
+    yield from pieces.first_texts()
+    yield from in_both_modes(values.first_texts(maker.random))
     yield from in_both_modes(too_deep(maker))
     yield from in_both_modes(covering.documents())
     for number, document in enumerate(covering.many()):

@@ -97,7 +97,7 @@ def run_fault(program, words, data, wanted):
         return "status %d: %s" % (ran.returncode, ran.stderr[-200:].decode("utf-8", "replace"))
     given = ran.stdout.decode()
     if given != wanted:
-        return "%d bytes beginning with %r, and not the right %d" % (len(given), given[:60], len(wanted))
+        return "%d bytes that start with %r, and not the right %d" % (len(given), given[:60], len(wanted))
     return None
 
 

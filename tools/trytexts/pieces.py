@@ -210,7 +210,7 @@ def deep(depth):
         yield document
 
 
-def beginnings():
+def first_texts():
     """Texts that come first with every seed."""
     for document in documents():
         yield plain(document).encode()

@@ -22,7 +22,7 @@ from typing import NamedTuple
 from model import Block, add_pretty, plain, pretty, quoted
 from pieces import by_character, by_text, digest, of_value, printed
 
-BEGINNING = b"\0pieces "
+REQUEST_PREFIX = b"\0pieces "
 DEEPEST_LISTS = 260
 # The bits of the types of integers, unsigned and signed, in the order of the program.
 BITS = (8, 16, 32, 64, 128, 64)
@@ -45,12 +45,12 @@ class Request(NamedTuple):
     payload: bytes = b""
 
     def data(self):
-        return BEGINNING + b" ".join(b"%d" % number for number in self[:-1]) + b"\n" + self.payload
+        return REQUEST_PREFIX + b" ".join(b"%d" % number for number in self[:-1]) + b"\n" + self.payload
 
 
 def asked(data):
     """The request that these bytes are."""
-    line, payload = data[len(BEGINNING) :].split(b"\n", 1)
+    line, payload = data[len(REQUEST_PREFIX) :].split(b"\n", 1)
     return Request(*map(int, line.split()), payload)
 
 

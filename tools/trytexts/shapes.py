@@ -128,7 +128,7 @@ def documents():
 
 
 def no_texts():
-    """Texts of no document, in the same way. They are wrong at the end or at the beginning."""
+    """Texts of no document, in the same way. They are wrong at the end or at the start."""
     return {
         "opening brackets": lambda size: "[" * size,
         "spaces": lambda size: " " * size,

@@ -354,7 +354,7 @@ def fields(document):
     return ""
 
 
-def beginnings(random):
+def first_texts(random):
     """Values of each type. The values at each number type's bounds, and one past them; and what is nearly a value."""
     for kind in (*TYPES.values(), *KINDS_OF_SHAPES):
         yield from (surely(kind, random) for _ in range(3))

@@ -48,7 +48,7 @@ def leaf_verdict(text):
 
 def verdict(data):
     """The line that the program prints of these bytes, and the cells of the table of coverage that they fill."""
-    if data.startswith(requests.BEGINNING):
+    if data.startswith(requests.REQUEST_PREFIX):
         return requests.verdict(data), set()
     try:
         text = data.decode()

@@ -1,4 +1,4 @@
--- The longest beginning of a text that fits and is UTF-8.
+-- The longest prefix of a text that fits and is UTF-8.
 use Rattle.std.proofs.Common.{◌≡◌, ◌∙◌, sym, ap, subst, inl, inr, ℕ, ◌+◌, ◌-◌, ◌<◌, ◌≤◌, List, [], ◌∷◌, ◌++◌, length, take, drop, append_assoc, append-nil, length-append, length-drop, encode_utf8, arith}
 use Rattle.std.proofs.Math.Seq.{take-append-add, take-append_seam, drop-append_seam, take-length}
 use Rattle.std.proofs.lemmas.Bool.{cases_lt}
@@ -46,7 +46,7 @@ fitting_whole room text fits u =
 -- a text that fits up to a character which doesn't
 module _ (room : ℕ) (text front rest : List ℕ) (c : ℕ) (split : text ≡ front ++ (encode_utf8 c ++ rest)) (u : IsUtf8 front) (fits : length front ≤ room)
     (long : room < length front + length (encode_utf8 c)) where
-  -- a longer beginning that fits ends inside the character
+  -- a longer prefix that fits ends inside the character
   longer : (m : ℕ) → length front < m → m ≤ room → take m text ≡ front ++ take (m - length front) (encode_utf8 c)
   longer m more within =
       let k = m - length front in

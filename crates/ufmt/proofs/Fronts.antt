@@ -32,19 +32,19 @@ module _ (old : List ℕ) (begun ended : Cursor) (written : written_bytes begun 
     fits = λ h. refl;
     within = subst (λ n. n ≤ length ended.buffer.now) (sym counted) ended.within;
     whole = (in_front ∙ w.appended tt ∙ ap (λ xs. xs ++ text) written, after w);
-    beginning = tt;
+    prefix = tt;
   }
 
-  -- only a beginning of the text was written
-  fronts_beginning : {E : Type 0} (e : E) → Writes cursor_seen begun text false ended → Fronts {E = E} old text (Err e) ended.buffer.now
-  fronts_beginning e w =
+  -- only a prefix of the text was written
+  fronts_prefix : {E : Type 0} (e : E) → Writes cursor_seen begun text false ended → Fronts {E = E} old text (Err e) ended.buffer.now
+  fronts_prefix e w =
       let taken = w.appended tt in
       let part_is : written_bytes ended ≡ taken.0 = taken.2 ∙ ap (λ xs. xs ++ taken.0) written in record {
         same_length = keeps_length w;
         fits = λ h. let ok = w.fits (subst (λ xs. length text ≤ length xs) (sym unwritten) h) in absurd (cc);
         within = tt;
         whole = tt;
-        beginning = (
+        prefix = (
           taken.0,
           taken.1,
           ap (λ xs. take (length xs) ended.buffer.now) (sym part_is) ∙ in_front ∙ part_is,
@@ -56,4 +56,4 @@ module _ (old : List ℕ) (begun ended : Cursor) (written : written_bytes begun 
   pub fronts_refused : {E : Type 0} (Q : E → Type 0) (result : Result ℕ E) → IsErrAnd result Q → Writes cursor_seen begun text false ended
       → Fronts {E = E} old text result ended.buffer.now
   fronts_refused Q (Ok n) h w = absurd h
-  fronts_refused Q (Err e) h w = fronts_beginning e w
+  fronts_refused Q (Err e) h w = fronts_prefix e w

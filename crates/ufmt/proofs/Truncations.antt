@@ -255,7 +255,7 @@ module _ (old : List ℕ) (begun ended : Truncating) (written : written_bytes be
   after : drop (length (written_bytes ended)) ended.buffer.now ≡ drop (length (written_bytes ended)) old
   after = rw len ((holds_of ended).after ∙ ap (λ b. drop ended.count b) (ap (drop 2) w.same_identity ∙ before))
 
-  -- what was offered is a beginning of the text
+  -- what was offered is a prefix of the text
   record Offered : Type 0 where
     pub rest : List ℕ
     pub is : text ≡ offered_text ended ++ rest

@@ -3,7 +3,7 @@ use Rattle.std.specs.Prelude.{◌≡◌, ◌↔◌, ℕ, ◌+◌, ◌<◌, ◌�
 use Rattle.std.specs.Str.Lossy.{utf8_valid_len}
 use Rattle.ufmt.specs.declared.cut.Cut.{Cut}
 
--- the longest beginning of the text that has at most `room` bytes and is UTF-8, that is, ends between two characters
+-- the longest prefix of the text that has at most `room` bytes and is UTF-8, that is, ends between two characters
 abbrev pub fitting_part : ℕ → List ℕ → List ℕ
 fitting_part room text = take (utf8_valid_len (take room text)) text
 

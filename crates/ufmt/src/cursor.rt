@@ -8,7 +8,7 @@ use ufmt_core::uWrite;
 #[derive(Clone, Copy, PartialEq, Eq, Debug)]
 pub struct Full;
 
-/// A writer that fills a buffer from its beginning. It takes no memory.
+/// A writer that fills a buffer from its start. It takes no memory.
 #[derive(Drop)]
 pub struct Cursor<'a> {
     buffer: &'a mut [u8],

@@ -16,7 +16,7 @@ pub trait uDisplay {
     ghost display: { Self → Document };
 
     /// Appends the layout of the value's document in the formatter's mode and from its depth. On
-    /// `Err` a beginning of the layout was appended. Mode, depth and the writer's identity are as before.
+    /// `Err` a prefix of the layout was appended. Mode, depth and the writer's identity are as before.
     fn fmt<W>(&self, f: &mut Formatter<W>) -> Result<(), W::Error>
     where
         W: uWrite,

@@ -168,7 +168,7 @@ impl HexDump {
     }
 }
 
-/// Prints a dump of the bytes to the writer. On `Err` a beginning of it was written.
+/// Prints a dump of the bytes to the writer. On `Err` a prefix of it was written.
 pub fn write_hex_dump<W: uWrite>(
     writer: &mut W,
     bytes: &[u8],
@@ -184,7 +184,7 @@ pub fn write_hex_dump<W: uWrite>(
     Ok(())
 }
 
-/// Prints a dump of the bytes to the front of the buffer, and returns its length. On `Full` a beginning
+/// Prints a dump of the bytes to the front of the buffer, and returns its length. On `Full` a prefix
 /// of it was printed there. The other bytes stay as they were.
 pub fn hex_dump_into(buffer: &mut [u8], bytes: &[u8], dump: &HexDump) -> Result<usize, Full>
     ensures { Fronts buffer.old (dump_text dump.now bytes.now) result buffer.new }

@@ -16,7 +16,7 @@ pub trait uDisplayHex {
     /// The value's text with these options.
     ghost hex_text: { Self → HexOptions → List ℕ };
 
-    /// Writes the value's text with these options. On `Err` a beginning of it was written. Mode,
+    /// Writes the value's text with these options. On `Err` a prefix of it was written. Mode,
     /// depth and the writer's identity are as before.
     fn fmt_hex<W>(&self, f: &mut Formatter<W>, options: HexOptions) -> Result<(), W::Error>
     where
@@ -46,7 +46,7 @@ impl HexOptions {
         self.pad_char < 128
     }
 
-    /// Writes `payload` with its prefix and padding. On `Err` a beginning of that was written.
+    /// Writes `payload` with its prefix and padding. On `Err` a prefix of that was written.
     pub fn with_stuff<W: uWrite>(&self, f: &mut Formatter<W>, payload: &str) -> Result<(), W::Error>
         requires { self.now.pad_char < 128 }
         ensures { Prints W.seen f.old (padded self.now payload.now) (is_ok result) f.new }

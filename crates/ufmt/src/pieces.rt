@@ -17,7 +17,7 @@ pub trait Line {
     ghost pieces: { Self → List Piece };
 
     /// Writes the pieces one after another, in the formatter's mode and from its depth. On `Err` a
-    /// beginning of their text was written. Mode, depth and the writer's identity are as before.
+    /// prefix of their text was written. Mode, depth and the writer's identity are as before.
     fn print<W: uWrite>(&self, f: &mut Formatter<W>) -> Result<(), W::Error>
         ensures { Prints W.seen f.old (pieces_text (setting_of f.old) (pieces self.now))
             (is_ok result) f.new };

@@ -15,14 +15,14 @@ use std::alloc::{AllocError, Global};
 use ufmt_core::{Formatter, uDebug, uWrite};
 
 /// Prints the value in pretty mode, at the formatter's depth, as a piece `pretty e` does. On `Err` a
-/// beginning of its text was written. Mode and depth are as before.
+/// prefix of its text was written. Mode and depth are as before.
 pub fn fmt_pretty<T: uDebug, W: uWrite>(value: &T, f: &mut Formatter<W>) -> Result<(), W::Error>
     ensures { LaysOut W.seen f.old (pretty_part (T.document value.now)) (is_ok result) f.new }
 {
     f.pretty(|f| value.fmt(f))
 }
 
-/// Prints the value to the writer, by `uDebug` in plain mode. On `Err` a beginning of its text was
+/// Prints the value to the writer, by `uDebug` in plain mode. On `Err` a prefix of its text was
 /// written.
 pub fn write_debug<T: uDebug, W: uWrite>(writer: &mut W, value: &T) -> Result<(), W::Error>
     ensures { Writes W.seen writer.old (plain_text (T.document value.now)) (is_ok result)
@@ -32,7 +32,7 @@ pub fn write_debug<T: uDebug, W: uWrite>(writer: &mut W, value: &T) -> Result<()
     value.fmt(&mut f)
 }
 
-/// Prints the value to the writer, by `uDisplay` in plain mode. On `Err` a beginning of its text was
+/// Prints the value to the writer, by `uDisplay` in plain mode. On `Err` a prefix of its text was
 /// written.
 pub fn write_display<T: uDisplay, W: uWrite>(writer: &mut W, value: &T) -> Result<(), W::Error>
     ensures { Writes W.seen writer.old (plain_text (T.display value.now)) (is_ok result)
@@ -42,7 +42,7 @@ pub fn write_display<T: uDisplay, W: uWrite>(writer: &mut W, value: &T) -> Resul
     value.fmt(&mut f)
 }
 
-/// Prints the value to the writer, by `uDebug` in pretty mode at depth 0. On `Err` a beginning of its
+/// Prints the value to the writer, by `uDebug` in pretty mode at depth 0. On `Err` a prefix of its
 /// text was written.
 pub fn write_pretty<T: uDebug, W: uWrite>(writer: &mut W, value: &T) -> Result<(), W::Error>
     ensures { Writes W.seen writer.old (pretty_text (T.document value.now)) (is_ok result)
@@ -52,7 +52,7 @@ pub fn write_pretty<T: uDebug, W: uWrite>(writer: &mut W, value: &T) -> Result<(
     fmt_pretty(value, &mut f)
 }
 
-/// Prints the line to the writer, in plain mode. On `Err` a beginning of it was written.
+/// Prints the line to the writer, in plain mode. On `Err` a prefix of it was written.
 pub fn write_line<L: Line, W: uWrite>(writer: &mut W, line: &L) -> Result<(), W::Error>
     ensures { Writes W.seen writer.old (line_text (L.pieces line.now)) (is_ok result) writer.new }
 {
@@ -61,7 +61,7 @@ pub fn write_line<L: Line, W: uWrite>(writer: &mut W, line: &L) -> Result<(), W:
 }
 
 /// Prints the value to the front of the buffer, by `uDebug` in plain mode, and returns the text's
-/// length. On `Full` a beginning of the text was printed there. The other bytes stay as they were.
+/// length. On `Full` a prefix of the text was printed there. The other bytes stay as they were.
 pub fn debug_into<T: uDebug>(buffer: &mut [u8], value: &T) -> Result<usize, Full>
     ensures { Fronts buffer.old (plain_text (T.document value.now)) result buffer.new }
 {
@@ -89,7 +89,7 @@ pub fn display_into<T: uDisplay>(buffer: &mut [u8], value: &T) -> Result<usize, 
 }
 
 /// Prints the line to the front of the buffer, in plain mode, and returns its length. On `Full` a
-/// beginning of its text was printed there. The other bytes stay as they were.
+/// prefix of its text was printed there. The other bytes stay as they were.
 pub fn line_into<L: Line>(buffer: &mut [u8], line: &L) -> Result<usize, Full>
     ensures { Fronts buffer.old (line_text (L.pieces line.now)) result buffer.new }
 {

@@ -8,7 +8,7 @@ use crate::cursor::{Full, put};
 use crate::ghost_text::GhostText;
 use ufmt_core::uWrite;
 
-/// A writer that fills a buffer from its beginning, and cuts its text where the buffer ends, between two
+/// A writer that fills a buffer from its start, and cuts its text where the buffer ends, between two
 /// characters. After a cut it takes nothing more. It takes no memory.
 #[derive(Drop)]
 pub struct Truncating<'a> {

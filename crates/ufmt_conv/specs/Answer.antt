@@ -45,7 +45,7 @@ IsAnswerLine command input line =
 abbrev pub Answered : Command → Option (List ℕ) → Option (List ℕ) → Option (List ℕ) → Type 0
 Answered command input old new = IfSome input (λ bytes. (line : List ℕ) × IsAnswerLine command bytes line × Appends old new line)
 
--- if the bytes of input and output are known: a beginning of the answer and a line feed was written
+-- if the bytes of input and output are known: a prefix of the answer and a line feed was written
 abbrev pub AnsweredInPart : Command → Option (List ℕ) → Option (List ℕ) → Option (List ℕ) → Type 0
 AnsweredInPart command input old new = IfSome input (λ bytes. (line : List ℕ) × IsAnswerLine command bytes line × AppendsPrefix old new line)
 

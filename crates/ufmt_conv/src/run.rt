@@ -22,7 +22,7 @@ use ufmt_io::{read_to_end, write_whole};
 
 /// Reads the input to its end, and writes the command's answer and a line feed.
 ///
-/// On `CannotWrite` a beginning of these bytes was written, perhaps nothing, perhaps all. On any other
+/// On `CannotWrite` a prefix of these bytes was written, perhaps nothing, perhaps all. On any other
 /// fault nothing was written, and any part of the input may have been read. A reader that never ends
 /// leads to `OutOfMemory`.
 pub fn run<R: Read, W: Write>(

@@ -214,7 +214,7 @@ module _ {W U T D X E : Type 0} {seen : Seen W} {becomes : U → T → Type 0} (
 
 module _ {W U T D Y : Type 0} {seen : Seen W} {becomes : U → T → Type 0} {steps : T → Option D → T → Type 0} (view : D → Y)
     (text_of : Y → Setting → List ℕ) where
-  -- if each run of the iterator gives items that `view` takes to `ys`, their entries were written, or a beginning of them
+  -- if each run of the iterator gives items that `view` takes to `ys`, their entries were written, or a prefix of them
   pub WritesRow-from_entries : (entries : U) (ys : List Y) {old new : Block W} (ok : Bool) →
       ((it : T) → becomes entries it → AlwaysYields steps view it ys)
       → WritesEntries seen becomes steps (λ x. text_of (view x)) entries old ok new → WritesRow seen old text_of ys ok new

@@ -31,7 +31,7 @@ module _ {W : Type 0} where
   abbrev pub GivesBack : ℕ → Block W → Formatter W → Type 0
   GivesBack reference b last = reference ≡ b.reference → last ≡ b.formatter
 
-  -- a call wrote the first part of the rest, or a beginning of that part; `more` is left after it
+  -- a call wrote the first part of the rest, or a prefix of that part; `more` is left after it
   pub record Step (seen : Seen W) (b : Block W) (left : Entries) (ok : Bool) (b' : Block W) (more : Entries) : Type 0 where
     pub part : List ℕ
     pub count : Count

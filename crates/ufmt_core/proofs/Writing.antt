@@ -1,4 +1,4 @@
--- Calls in a row write their texts joined, or, if one fails, a beginning of that.
+-- Calls in a row write their texts joined, or, if one fails, a prefix of that.
 use Rattle.std.proofs.Common.{◌≡◌, ℕ, ◌+◌, ◌-◌, ◌≤◌, List, [], ◌++◌, length, drop, Bool, true, false, is_ok, Result, Ok, Err, refl, ap, sym, ◌∙◌, subst, append_assoc, append-nil, length-append, true≢false, arith}
 use Rattle.std.proofs.lemmas.List.{drop-drop}
 use Rattle.std.specs.Prelude.{IsErr}
@@ -11,7 +11,7 @@ pub is_ok-err : {X E : Type 0} (r : Result X E) → IsErr r → is_ok r ≡ fals
 is_ok-err (Ok x) h = cc
 is_ok-err (Err e) h = refl
 
--- `p` was appended, and then `q` or a beginning of it
+-- `p` was appended, and then `q` or a prefix of it
 Appended-then : (ok : Bool) (old p q mid new : List ℕ) → mid ≡ old ++ p → Appended ok mid q new → Appended ok old (p ++ q) new
 Appended-then true old p q mid new e h = h ∙ ap (λ t. t ++ q) e ∙ append_assoc old p q
 Appended-then false old p q mid new e h = (
@@ -21,7 +21,7 @@ Appended-then false old p q mid new e h = (
       ∙ ap (λ t. t ++ h.0) e ∙ append_assoc old p h.0,
 )
 
--- a beginning of `p` is a beginning of `p ++ q`
+-- a prefix of `p` is a prefix of `p ++ q`
 Appended-fails : (old p q new : List ℕ) → Appended false old p new → Appended false old (p ++ q) new
 Appended-fails old p q new h =
     (h.0, record { remainder = h.1.remainder ++ q; joined = ap (λ t. t ++ q) h.1.joined ∙ append_assoc h.0 h.1.remainder q }, h.2)

@@ -127,17 +127,17 @@ module _ {W : Type 0} where
     pub count : new.count ≡ Zero
     pub is_open : IsOpen new
 
-  -- this part of the block was written, or a beginning of it
+  -- this part of the block was written, or a prefix of it
   pub record WritesPart (seen : Seen W) (old : Block W) (text : List ℕ) (ok : Bool) (count : Count) (new : Block W) : Type 0 where
     pub wrote : Writes seen (writer_of old.formatter) text ok (writer_of new.formatter)
     pub same : Same old new
     pub after : After ok count old new
 
-  -- a call failed: a beginning of this part was written, and the builder is closed
+  -- a call failed: a prefix of this part was written, and the builder is closed
   abbrev pub StopsIn : Seen W → Block W → List ℕ → Block W → Type 0
   StopsIn seen old text new = WritesPart seen old text false old.count new
 
-  -- one entry with this text was written, or a beginning of it
+  -- one entry with this text was written, or a prefix of it
   pub record WritesEntry (seen : Seen W) (old : Block W) (text : Setting → List ℕ) (ok : Bool) (new : Block W) : Type 0 where
     pub part : WritesPart seen old (framed (frame_of old) (inner old) old.count (text (inner old))) ok (next old.count) new
 
@@ -153,7 +153,7 @@ module _ {W : Type 0} where
     pub trail : OnOk answer (WritesPart seen old (trail_of old) ok (next old.count) new)
     pub error : IfErr answer (λ e. (result ≡ Err e) × Abandons old new)
 
-  -- the end of the block was written, or a beginning of it; the builder is closed, with mode and depth from before it
+  -- the end of the block was written, or a prefix of it; the builder is closed, with mode and depth from before it
   pub record WritesEnding (seen : Seen W) (old : Block W) (text : List ℕ) (ok : Bool) (new : Block W) : Type 0 where
     pub wrote : Writes seen (writer_of old.formatter) text ok (writer_of new.formatter)
     pub same : Same old new
@@ -161,13 +161,13 @@ module _ {W : Type 0} where
     pub restored : setting_of new.formatter ≡ old.outer
 
 module _ {W D : Type 0} where
-  -- entries of these items were written in a row, each with its `text_of`, or a beginning of them
+  -- entries of these items were written in a row, each with its `text_of`, or a prefix of them
   pub record WritesRow (seen : Seen W) (old : Block W) (text_of : D → Setting → List ℕ) (items : List D) (ok : Bool) (new : Block W) : Type 0 where
     pub part : WritesPart seen old (framed_all (frame_of old) (inner old) old.count (map (λ x. text_of x (inner old)) items)) ok
         (count_after old.count items) new
 
 module _ {W U T D : Type 0} where
-  -- an entry was written for each item that the iterator gave, or a beginning of them; on `Ok` it had no more items
+  -- an entry was written for each item that the iterator gave, or a prefix of them; on `Ok` it had no more items
   pub record WritesEntries (seen : Seen W) (becomes : U → T → Type 0) (steps : T → Option D → T → Type 0) (text_of : D → Setting → List ℕ)
       (entries : U) (old : Block W) (ok : Bool) (new : Block W) : Type 0 where
     pub iterator : T

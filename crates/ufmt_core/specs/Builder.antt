@@ -60,7 +60,7 @@ module _ {W K : Type 0} where
   abandoned b = lent Closed b (at_setting b.formatter.now b.outer)
 
 module _ (W : RattleType) {E : Type 0} where
-  -- the builder that is returned holds the formatter; on `Err` the caller has it, and a beginning of the opening was printed
+  -- the builder that is returned holds the formatter; on `Err` the caller has it, and a prefix of the opening was printed
   abbrev pub OpeningLoan : {K : Type 0} → Seen W.Denot → MutBor (Formatter W.Denot) → Result (Builder W.Denot K) E → List ℕ → Fml
   OpeningLoan seen self result text = RestsIfErr (formatter.the_row W) self (λ b. b.formatter.ghost_name) result (λ last. Prints seen self.now text false last)
 
@@ -70,7 +70,7 @@ module _ (W : RattleType) {E : Type 0} where
   EntryLoan K self result status stop =
       LendsSoOk (builder.the_row (record { mir = named 0; lft = [] }) W K) (formatter.the_row W) self result (λ last f. last ≡ lent status self.now f) stop
 
-  -- this text was written and the formatter is lent; on `Err` a beginning of the text was written, and the builder, seen by `view`, is closed
+  -- this text was written and the formatter is lent; on `Err` a prefix of the text was written, and the builder, seen by `view`, is closed
   abbrev pub LendsAfter : (K : RattleType) → (Builder W.Denot K.Denot → Block W.Denot) → Seen W.Denot → MutBor (Builder W.Denot K.Denot)
       → Result (MutBor (Formatter W.Denot)) E → List ℕ → Fml
   LendsAfter K view seen self result text = EntryLoan K self result Lent (λ last. StopsIn seen (view self.now) text (view last))

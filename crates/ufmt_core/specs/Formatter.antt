@@ -31,11 +31,11 @@ module _ {W : Type 0} where
   abbrev pub in_pretty_mode : Formatter W → Formatter W
   in_pretty_mode f = at_setting f (setting Pretty (depth_of f))
 
-  -- the text was written, or a beginning of it, and mode and depth are as before
+  -- the text was written, or a prefix of it, and mode and depth are as before
   pub record Prints (seen : Seen W) (old : Formatter W) (text : List ℕ) (ok : Bool) (new : Formatter W) : Type 0 where
     pub wrote : Writes seen (writer_of old) text ok (writer_of new)
     pub same_setting : setting_of new ≡ setting_of old
 
-  -- the document was laid out, or a beginning of it, and mode and depth are as before
+  -- the document was laid out, or a prefix of it, and mode and depth are as before
   pub record LaysOut (seen : Seen W) (old : Formatter W) (d : Document) (ok : Bool) (new : Formatter W) : Type 0 where
     pub prints : Prints seen old (layout (setting_of old) d) ok new

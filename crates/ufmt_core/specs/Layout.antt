@@ -67,7 +67,7 @@ abbrev pub indentation : ℕ → List ℕ
 indentation zero = []
 indentation (suc k) = space ∷ space ∷ space ∷ space ∷ indentation k
 
--- the beginning of a line at depth k
+-- the start of a line at depth k
 abbrev pub line_start : Mode → ℕ → List ℕ
 line_start Plain k = []
 line_start Pretty k = indentation k

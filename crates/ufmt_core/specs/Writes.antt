@@ -13,18 +13,18 @@ pub record Seen (W : Type 0) : Type 1 where
   pub failed : W → Type 0
   -- which writer it is: the ghost names of each `&mut` on the way to its text, and the length of a buffer that it was lent
   pub identity : W → List ℕ
-  -- the whole buffer that it was lent, if it was: its text is written there, from the beginning
+  -- the whole buffer that it was lent, if it was: its text is written there, from its start
   pub store : W → List ℕ
 
 -- `whole` begins with `part`, which may be empty or the whole
-pub record BeginsWith (whole part : List ℕ) : Type 0 where
+pub record HasPrefix (whole part : List ℕ) : Type 0 where
   pub remainder : List ℕ
   pub joined : whole ≡ part ++ remainder
 
--- all of the piece was appended, or a beginning of it
+-- all of the piece was appended, or a prefix of it
 abbrev pub Appended : Bool → List ℕ → List ℕ → List ℕ → Type 0
 Appended true old piece new = new ≡ old ++ piece
-Appended false old piece new = (part : List ℕ) × BeginsWith piece part × (new ≡ old ++ part)
+Appended false old piece new = (part : List ℕ) × HasPrefix piece part × (new ≡ old ++ part)
 
 -- what a lawful writer does with a piece; `ok` says whether the call returned `Ok`
 pub record Writes {W : Type 0} (seen : Seen W) (old : W) (piece : List ℕ) (ok : Bool) (new : W) : Type 0 where

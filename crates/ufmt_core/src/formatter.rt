@@ -52,7 +52,7 @@ impl<W: uWrite> Formatter<W> {
         self.writer
     }
 
-    /// Writes the text as one piece. On `Err` a beginning of it was written.
+    /// Writes the text as one piece. On `Err` a prefix of it was written.
     #[inline(always)]
     pub fn write_str(&mut self, s: &str) -> Result<(), W::Error>
         ensures { Prints W.seen self.old s.now (is_ok result) self.new }
@@ -60,7 +60,7 @@ impl<W: uWrite> Formatter<W> {
         self.writer.write_str(s)
     }
 
-    /// Writes the character as one piece. On `Err` a beginning of its bytes was written.
+    /// Writes the character as one piece. On `Err` a prefix of its bytes was written.
     pub fn write_char(&mut self, c: char) -> Result<(), W::Error>
         ensures { Prints W.seen self.old (encode_utf8 c) (is_ok result) self.new }
     {

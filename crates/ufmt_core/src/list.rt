@@ -49,7 +49,7 @@ impl<W: uWrite> Formatter<W> {
         self.open(OPENING_BRACKET, ListBlock)
     }
 
-    /// Writes a whole list. On `Err` a beginning of it was written. Mode and depth are as before.
+    /// Writes a whole list. On `Err` a prefix of it was written. Mode and depth are as before.
     pub fn list_of<T: uDebug>(&mut self, items: &[T]) -> Result<(), W::Error>
         ensures { LaysOut W.seen self.old (list_of (documents (map T.document items.now)))
             (is_ok result) self.new }
@@ -61,7 +61,7 @@ impl<W: uWrite> Formatter<W> {
 }
 
 impl<W: uWrite, K: BlockKind + Items> Builder<'_, W, K> {
-    /// Writes one entry. On `Err` a beginning of it was written, and the builder is closed.
+    /// Writes one entry. On `Err` a prefix of it was written, and the builder is closed.
     #[inline(always)]
     pub fn entry<D: uDebug>(&mut self, entry: &D) -> Result<(), W::Error>
         requires { IsOpen (block K.kind self.old) }

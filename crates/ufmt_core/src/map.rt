@@ -42,7 +42,7 @@ impl<W: uWrite> Formatter<W> {
         self.open(OPENING_BRACE, MapBlock)
     }
 
-    /// Writes a whole map. On `Err` a beginning of it was written. Mode and depth are as before.
+    /// Writes a whole map. On `Err` a prefix of it was written. Mode and depth are as before.
     pub fn map_of<K: uDebug, V: uDebug>(&mut self, pairs: &[(K, V)]) -> Result<(), W::Error>
         ensures { LaysOut W.seen self.old
             (map_of (pairs_of (map (λ p. (K.document p.0, V.document p.1)) pairs.now)))
@@ -57,7 +57,7 @@ impl<W: uWrite> Formatter<W> {
 }
 
 impl<W: uWrite> DebugMap<'_, W> {
-    /// Writes one entry, `key: value`. On `Err` a beginning of it was written, and the builder is
+    /// Writes one entry, `key: value`. On `Err` a prefix of it was written, and the builder is
     /// closed.
     pub fn entry<K: uDebug, V: uDebug>(&mut self, key: &K, value: &V) -> Result<(), W::Error>
         requires { IsOpen (map_block self.old) }

@@ -44,7 +44,7 @@ impl<W: uWrite> Formatter<W> {
         self.open(OPENING_BRACE, SetBlock)
     }
 
-    /// Writes a whole set. On `Err` a beginning of it was written. Mode and depth are as before.
+    /// Writes a whole set. On `Err` a prefix of it was written. Mode and depth are as before.
     pub fn set_of<T: uDebug>(&mut self, items: &[T]) -> Result<(), W::Error>
         ensures { LaysOut W.seen self.old (set_of (documents (map T.document items.now)))
             (is_ok result) self.new }

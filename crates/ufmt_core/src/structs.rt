@@ -49,7 +49,7 @@ impl<W: uWrite> Formatter<W> {
 }
 
 impl<W: uWrite> DebugStruct<'_, W> {
-    /// Writes one field, `name: value`. On `Err` a beginning of it was written, and the builder is
+    /// Writes one field, `name: value`. On `Err` a prefix of it was written, and the builder is
     /// closed.
     #[inline(always)]
     pub fn field<D: uDebug>(&mut self, name: &str, value: &D) -> Result<(), W::Error>

@@ -63,7 +63,7 @@ impl<W: uWrite> Formatter<W> {
 }
 
 impl<W: uWrite> DebugTuple<'_, W> {
-    /// Writes one field. On `Err` a beginning of it was written, and the builder is closed.
+    /// Writes one field. On `Err` a prefix of it was written, and the builder is closed.
     pub fn field<D: uDebug>(&mut self, value: &D) -> Result<(), W::Error>
         requires { IsOpen (tuple_block self.old) }
         ensures entry { WritesEntry W.seen (tuple_block self.old)

@@ -7,7 +7,7 @@ use std::alloc::{AllocError, Allocator};
 /// A destination for text, with an error type of its own.
 ///
 /// A lawful writer takes each piece of at most `room` bytes. Where its text is told, `Ok` appends the
-/// whole piece, and `Err` a beginning of it.
+/// whole piece, and `Err` a prefix of it.
 pub trait uWrite {
     type Error;
 

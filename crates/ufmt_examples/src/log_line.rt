@@ -16,7 +16,7 @@ use ufmt_doc::is_text;
 use ufmt_doc::scan::ScanError;
 
 /// Writes the pretty text of a line to the front of the buffer, and returns its length. Takes no memory.
-/// Fails with `Full` if the text is longer than 256 bytes: the buffer then has a beginning of it.
+/// Fails with `Full` if the text is longer than 256 bytes: the buffer then has a prefix of it.
 pub fn pretty_line(line: &[u8], buffer: &mut [u8; 256]) -> Result<usize, ScanError<Full>>
     ensures fronts { (text : List ℕ) → IsConverted plain_text pretty_text line.now text
         → Fronts buffer.old text result buffer.new }

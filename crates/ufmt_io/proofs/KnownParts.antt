@@ -13,13 +13,13 @@ consumes_longer_front first second third old new filled count front before read 
     subst (Consumes first third) (ap (λ bytes. bytes ++ take count (drop filled new)) (sym front) ∙ sym (take-add filled count new))
     (Consumes-trans first second third _ _ before read)
 
--- a beginning that was written, and then a beginning of the rest, are a longer beginning
-pub appends_longer_beginning : (first second third : Option (List ℕ)) (bytes : List ℕ) (written count : ℕ)
+-- a prefix that was written, and then a prefix of the rest, are a longer prefix
+pub appends_longer_prefix : (first second third : Option (List ℕ)) (bytes : List ℕ) (written count : ℕ)
     → Appends first second (take written bytes) → Appends second third (take count (drop written bytes)) → Appends first third (take (written + count) bytes)
-appends_longer_beginning first second third bytes written count before more =
+appends_longer_prefix first second third bytes written count before more =
     subst (Appends first third) (sym (take-add written count bytes)) (Appends-trans first second third _ _ before more)
 
--- what was written before a failure is a beginning
+-- what was written before a failure is a prefix
 pub appends_prefix : (first second third : Option (List ℕ)) (bytes : List ℕ) (written : ℕ) → Appends first second (take written bytes) → Keeps second third
     → AppendsPrefix first third bytes
 appends_prefix first second third bytes written before keeps =

@@ -47,7 +47,7 @@ fn a_watched_reader_notes_a_failed_read(rt: HostRuntime) {
 fn a_watched_writer_notes_a_failed_write(rt: HostRuntime) {
     let rows: [(&str, usize, usize, &[u8], Result<usize, Failed>); 6] = [
         ("a whole piece", WHOLE, NEVER, b"abc", Ok(3)),
-        ("a beginning", 2, NEVER, b"abc", Ok(2)),
+        ("a prefix", 2, NEVER, b"abc", Ok(2)),
         ("an empty piece", WHOLE, NEVER, b"", Ok(0)),
         ("an empty piece of nothing", 0, NEVER, b"", Ok(0)),
         ("nothing of a piece", 0, NEVER, b"abc", Err(Failed)),

@@ -53,7 +53,7 @@ module _ (mode : Mode) where
         written = subst (Appends first third) (sym (answers_after g.front h.front g.groups)) (Appends-trans first second third _ _ g.written h.written);
       }
 
-  -- a front, and then a beginning of the answers to the rest, are a beginning of all answers
+  -- a front, and then a prefix of the answers to the rest, are a prefix of all answers
   pub answered_in_part : (text mid : List ℕ) (first second third : Option (List ℕ)) → FrontAnswered mode text mid first second
       → AppendsPrefix second third (answers_of mode mid) → AppendsPrefix first third (answers_of mode text)
   answered_in_part text mid first second third g (part, left, joined, written) =
@@ -79,7 +79,7 @@ module _ (mode : Mode) where
     group_ended (Ok x) left written none = subst (λ t. FrontAnswered mode (group ++ line_feed ∷ []) t old new) (sym none) (answered_group written)
     group_ended (Err e) left written none = tt
 
-    -- a beginning of a group's answer and line feed is a beginning of the answers to a text that begins with the group
+    -- a prefix of a group's answer and line feed is a prefix of the answers to a text that begins with the group
     pub group_in_part : AppendsPrefix old new (answer_of mode group ++ line_feed ∷ []) → (more : List ℕ)
         → AppendsPrefix old new (answers_of mode ((group ++ line_feed ∷ []) ++ more))
     group_in_part (part, left, joined, written) more =
@@ -102,7 +102,7 @@ module _ (mode : Mode) where
         answered_then text (group ++ rest) (left ++ after) known second third before
         (subst (λ t. FrontAnswered mode t (left ++ after) second third) (sym cut_there) (answered_before _ left after second third ended))
 
-    -- a beginning of the answer is written
+    -- a prefix of the answer is written
     pub line_in_part : ((more : List ℕ) → AppendsPrefix second third (answers_of mode (((group ++ first) ++ line_feed ∷ []) ++ more))) → (more : List ℕ)
         → AppendsPrefix known third (answers_of mode (text ++ more))
     line_in_part part more =

@@ -20,7 +20,7 @@ AreWholeGroups mode text = (text ≡ []) ⊎ ((front : List ℕ) × (text ≡ fr
 abbrev pub Answered : Mode → Option (List ℕ) → Option (List ℕ) → Option (List ℕ) → Type 0
 Answered mode input old new = IfSome input (λ bytes. Appends old new (answers_of mode bytes))
 
--- if the bytes of input and output are known: a beginning of the answers was written
+-- if the bytes of input and output are known: a prefix of the answers was written
 abbrev pub AnsweredInPart : Mode → Option (List ℕ) → Option (List ℕ) → Option (List ℕ) → Type 0
 AnsweredInPart mode input old new = IfSome input (λ bytes. AppendsPrefix old new (answers_of mode bytes))
 

@@ -27,7 +27,7 @@ const CHUNK: usize = 64 * 1024;
 /// Reads the input to its end, and writes the answer to each group of lines before it reads further,
 /// with texts in this mode. Memory is kept for the longest group and its answer only.
 ///
-/// On `CannotWrite` a beginning of the answers was written. On any other fault the answers to whole
+/// On `CannotWrite` a prefix of the answers was written. On any other fault the answers to whole
 /// groups were written: to all groups that were read whole, if the fault is `CannotRead`.
 pub fn run<R: Read, W: Write>(
     alloc: Global,

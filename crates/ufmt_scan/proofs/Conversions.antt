@@ -32,7 +32,7 @@ module _ {from to : Document → List ℕ} {input : List ℕ} {done : ⊤} where
       let all : string_bytes text ≡ other.0 = whole ∙ (h.writes other.0 other.1).appended tt ∙ ap (λ t. t ++ other.0) empty in
       record { ok = subst (IsConverted from to input) (sym all) other.1; not_text = λ refused. absurd (cc) }
 
-  -- the same for the front of a buffer: all of the text or a beginning
+  -- the same for the front of a buffer: all of the text or a prefix
   module _ {old : List ℕ} {begun ended : Cursor} (written : written_bytes begun ≡ []) (unwritten : unwritten_bytes begun ≡ old) where
     pub into_whole : ConvertsTo {E = Full} cursor_seen from to input begun (Ok done) ended
         → ConvertsInto {E = Full} from to input old (Ok (length (written_bytes ended))) ended.buffer.now

@@ -66,7 +66,7 @@ module _ (mode : Mode) (outer : List Stage) (whole : length outer ≡ 256) (coun
   abbrev begun : Parse (List TextEvent)
   begun t = parse_map events_of (read (setting_at (level_at mode count)) (budget_of (level_at mode count)) t)
 
-  -- the beginning of a document is a step
+  -- the start of a document is a step
   pub began : {S : Type 0} {took : S → List TextEvent → S → Type 0} {a b c : S} {there : Scanned} (t u : List ℕ) (next : Option Stage)
       → Emits took took a b there (scan_begun mode blocks t) → Emits took took b c (begun t) (after (level_at mode count) next u)
       → Emits took took a c there (scan_onward mode blocks next u)

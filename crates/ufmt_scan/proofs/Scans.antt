@@ -58,7 +58,7 @@ pub nothing_left : {S E : Type 0} {took stopped : S → List TextEvent → S →
     → Stops {E = E} took stopped a b there NotText
 nothing_left {left = left} h none = record { left = left; emits = h; none = λ e. none }
 
--- a step of the beginning of a text is a step of the whole
+-- a step of a prefix of a text is a step of the whole
 pub emits_in : {S : Type 0} {took kept : S → List TextEvent → S → Type 0} {a b : S} {there left whole after : Scanned} (more : Parse (List TextEvent))
     → whole ≡ then_scan there more → then_scan left more ≡ after → Emits took kept a b there left → Emits took kept a b whole after
 emits_in {left = left} more is on h = record {

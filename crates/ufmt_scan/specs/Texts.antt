@@ -32,7 +32,7 @@ pub record ConvertsTo {W E : Type 0} (seen : Seen W) (from to : Document → Lis
   -- the answer is `Ok` only if the input is a text, and `NotText` only if it is none
   pub ok : IsOk answer → (text : List ℕ) × IsConverted from to input text
   pub not_text : IsErrOf answer errors.NotText → IsNoText from input
-  -- the other text is written as a piece is: all of it, or a beginning if the writer failed
+  -- the other text is written as a piece is: all of it, or a prefix if the writer failed
   pub writes : (text : List ℕ) → IsConverted from to input text → Writes seen old text (is_ok answer) new
   -- some text was written so, also if the input is no text
   pub lawful : (text : List ℕ) × (whole : Bool) × Writes seen old text whole new
@@ -42,7 +42,7 @@ pub record ConvertsInto {E : Type 0} (from to : Document → List ℕ) (input ol
   -- the answer is `Ok` only if the input is a text, and `NotText` only if it is none
   pub ok : IsOk answer → (text : List ℕ) × IsConverted from to input text
   pub not_text : IsErrOf answer errors.NotText → IsNoText from input
-  -- the other text is at the buffer's front: all of it if it fits, or a beginning
+  -- the other text is at the buffer's front: all of it if it fits, or a prefix
   pub fronts : (text : List ℕ) → IsConverted from to input text → Fronts old text answer new
   -- the buffer keeps its length, also if the input is no text
   pub same_length : length new ≡ length old

@@ -28,7 +28,7 @@ const REGISTER: HexOptions = HexOptions {
 };
 
 /// Writes one line of a log, and returns its length. If it doesn't fit, the error is `Full`, and the
-/// buffer begins with a beginning of it.
+/// buffer begins with a prefix of it.
 pub fn log(buffer: &mut [u8], measurement: &Measurement, control: u32) -> Result<usize, Full>
     ensures { Fronts buffer.old (line measurement.now control) result buffer.new }
 {
@@ -55,7 +55,7 @@ impl Mark<Measurement> for ByChannel {
 }
 
 /// Writes the measurements with commas between them, as `measured: 3=-4, 5=20`, and returns the length.
-/// If they don't fit, the error is `Full`, and the buffer begins with a beginning of them.
+/// If they don't fit, the error is `Full`, and the buffer begins with a prefix of them.
 pub fn list_measurements(buffer: &mut [u8], measurements: &[Measurement]) -> Result<usize, Full>
     ensures { Fronts buffer.old (measurements_text measurements.now) result buffer.new }
 {
@@ -73,7 +73,7 @@ const BYTE: HexOptions = HexOptions {
 };
 
 /// Writes how many bytes the packet has, and each byte in two hexadecimal digits: `len=4 de ad be ef`.
-/// Returns the length. If it doesn't fit, the error is `Full`, and the buffer begins with a beginning of
+/// Returns the length. If it doesn't fit, the error is `Full`, and the buffer begins with a prefix of
 /// it.
 pub fn dump_packet(buffer: &mut [u8], packet: &[u8]) -> Result<usize, Full>
     ensures { Fronts buffer.old (dump_text packet.now) result buffer.new }

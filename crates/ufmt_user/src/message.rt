@@ -24,7 +24,7 @@ impl uDebug for Message<'_> {
 }
 
 /// Prints the message to the front of the buffer, and returns its length. If it doesn't fit, the error
-/// is `Full`, and the buffer begins with a beginning of it.
+/// is `Full`, and the buffer begins with a prefix of it.
 pub fn print<'a>(buffer: &mut [u8], message: &Message<'a>) -> Result<usize, Full>
     ensures { Fronts buffer.old (plain_text (⟦<Message<'a> as uDebug>⟧.document message.now)) result
         buffer.new }

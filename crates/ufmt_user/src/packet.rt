@@ -10,7 +10,7 @@ const EIGHT_A_ROW: HexDump = HexDump {
 };
 
 /// Writes a dump of the packet, with eight bytes a row, and returns its length. If it doesn't fit, the
-/// error is `Full`, and the buffer begins with a beginning of it.
+/// error is `Full`, and the buffer begins with a prefix of it.
 pub fn show_packet(buffer: &mut [u8], packet: &[u8]) -> Result<usize, Full>
     ensures { Fronts buffer.old (dump_text EIGHT_A_ROW packet.now) result buffer.new }
 {

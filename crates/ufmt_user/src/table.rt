@@ -39,7 +39,7 @@ const ADDRESS: HexOptions = HexOptions {
 
 /// Writes a counter's row, as `pump      ....1203|  0x00ff  |`, and returns its length. A name or a
 /// number that is longer than its column is written whole. If the row doesn't fit, the error is `Full`,
-/// and the buffer begins with a beginning of it.
+/// and the buffer begins with a prefix of it.
 pub fn write_row(buffer: &mut [u8], counter: &Counter) -> Result<usize, Full>
     ensures { Fronts buffer.old (row counter.now) result buffer.new }
 {

@@ -1,8 +1,8 @@
 //! Values that no text makes: columns, hexadecimal texts, dumps, lines, and values of std's types. Each is printed to a
 //! writer that notes pieces.
 //!
-//! A request begins with `BEGINNING`. Its first line has the numbers of the options, and its payload follows: a text, or
-//! bytes for a dump. An offset past a `u32` is none.
+//! A request begins with `REQUEST_PREFIX`. Its first line has the numbers of the options, and its
+//! payload follows: a text, or bytes for a dump. An offset past a `u32` is none.
 ghost use Rattle.std.specs.Prelude.{◌<◌};
 
 mod lines;
@@ -15,7 +15,7 @@ use crate::pieces::Pieces;
 use std::alloc::{AllocError, Global};
 use ufmt::{Align, Column, HexDump, HexOptions, write_hex_dump};
 
-const BEGINNING: &[u8] = b"\0pieces ";
+const REQUEST_PREFIX: &[u8] = b"\0pieces ";
 
 /// The options, and a payload.
 #[derive(Clone, Copy)]
@@ -38,7 +38,7 @@ pub fn verdict(alloc: Global, text: &[u8]) -> Result<Option<String>, AllocError>
 
 impl<'a> Request<'a> {
     fn from_text(alloc: Global, text: &'a [u8]) -> Option<Request<'a>> {
-        let rest = text.strip_prefix(BEGINNING)?;
+        let rest = text.strip_prefix(REQUEST_PREFIX)?;
         let end = rest.iter().position(|byte| *byte == b'\n')?;
         let (line, payload) = rest.split_at_checked(end)?;
         Request::with_numbers(alloc, numbers_of(line)?, payload.get(1..)?)

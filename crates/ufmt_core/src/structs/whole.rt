@@ -45,7 +45,7 @@ impl<'a, D: uDebug, R: NamedFields<'a>> NamedFields<'a> for (&'a str, &'a D, R) 
 
 impl<W: uWrite> Formatter<W> {
     /// Writes a whole struct, whose fields are a chain `(name, value, (name, value, .. ()))` of
-    /// references. On `Err` a beginning of it was written. Mode and depth are as before.
+    /// references. On `Err` a prefix of it was written. Mode and depth are as before.
     #[inline(always)]
     pub fn struct_of<'a, F: NamedFields<'a>>(
         &mut self,

@@ -43,7 +43,7 @@ impl<'a, D: uDebug, R: UnnamedFields<'a>> UnnamedFields<'a> for (&'a D, R) {
 
 impl<W: uWrite> Formatter<W> {
     /// Writes a whole tuple, whose fields are a chain `(value, (value, .. ()))` of references. On
-    /// `Err` a beginning of it was written. Mode and depth are as before.
+    /// `Err` a prefix of it was written. Mode and depth are as before.
     pub fn tuple_of<'a, F: UnnamedFields<'a>>(
         &mut self,
         name: &str,

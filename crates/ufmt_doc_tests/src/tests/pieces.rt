@@ -85,8 +85,8 @@ fn left(is_pretty: bool, answer: Result<(), Full>) -> Left {
 fn stops_at_each_number(alloc: Global, is_pretty: bool, doc: &Doc, all: &Noted) -> bool {
     for number in 1..=all.count {
         let (given, noted) = print_to(is_pretty, doc, Noted::new(alloc, number));
-        let is_beginning = all.barred.starts_with(noted.barred.as_str());
-        if given != left(is_pretty, Err(Full)) || noted.count != number || !is_beginning {
+        let is_prefix = all.barred.starts_with(noted.barred.as_str());
+        if given != left(is_pretty, Err(Full)) || noted.count != number || !is_prefix {
             return false;
         }
     }

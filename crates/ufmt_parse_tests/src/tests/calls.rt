@@ -133,8 +133,8 @@ fn each_call_finds_structs_of_its_number_of_fields(rt: HostRuntime) {
 }
 
 // The sum of what the calls find in the struct that begins so, and the most that one of them finds.
-fn found(alloc: Global, beginning: &str) -> Option<(usize, usize)> {
-    let mut text = String::from_str(alloc, beginning).ok()?;
+fn found(alloc: Global, prefix: &str) -> Option<(usize, usize)> {
+    let mut text = String::from_str(alloc, prefix).ok()?;
     text.push_str(" }").ok()?;
     let doc = read_plain(alloc, text.as_bytes()).ok()?;
     let counts = counts(alloc, &doc);

@@ -80,19 +80,19 @@ fn is_leaf(alloc: Global, mode: Mode, text: &[u8]) -> bool {
     }
 }
 
-// How many beginnings of a node's text have the right verdict. Those of its name `Node` are leaves,
+// How many prefixes of a node's text have the right verdict. Those of its name `Node` are leaves,
 // and the longer ones end inside a block.
 fn leaves_then_refusals(alloc: Global, mode: Mode, text: &[u8]) -> usize {
     let mut count = 0usize;
     for size in 0..text.len() {
-        let beginning = &text[..size];
+        let prefix = &text[..size];
         let wanted = if 1 <= size && size <= 4 {
             Verdict::Taken
         } else {
             Verdict::Refused
         };
-        let is_right = is_leaf(alloc, mode, beginning) == (wanted == Verdict::Taken);
-        if is_right && verdict_on(alloc, mode, beginning) == wanted {
+        let is_right = is_leaf(alloc, mode, prefix) == (wanted == Verdict::Taken);
+        if is_right && verdict_on(alloc, mode, prefix) == wanted {
             count = count.saturating_add(1);
         }
     }
@@ -100,7 +100,7 @@ fn leaves_then_refusals(alloc: Global, mode: Mode, text: &[u8]) -> usize {
 }
 
 #[test]
-fn beginnings_of_a_node_are_leaves_or_refused(rt: HostRuntime) {
+fn prefixes_of_a_node_are_leaves_or_refused(rt: HostRuntime) {
     let rows = [
         (Mode::Plain, NODE_PLAIN, 60),
         (Mode::Pretty, NODE_PRETTY, 117),
@@ -154,7 +154,7 @@ fn agreed_on_insertions(
     Ok(count)
 }
 
-// On how many changed texts they agree: each beginning, and the text without one byte and with one
+// On how many changed texts they agree: each prefix, and the text without one byte and with one
 // byte more at each place.
 fn agreed_on_changes(alloc: Global, mode: Mode, text: &[u8]) -> Result<u64, AllocError> {
     let mut count = agreed_on_insertions(alloc, mode, text, text.len())?;

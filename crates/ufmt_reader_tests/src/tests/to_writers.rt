@@ -20,7 +20,7 @@ fn converted_to<W: uWrite>(
 }
 
 // Whether the conversion to a buffer of this size is `Ok` if the whole fits, and else writes a
-// beginning and fails with `Full`.
+// prefix and fails with `Full`.
 fn is_fitted(
     alloc: Global,
     mode: Mode,

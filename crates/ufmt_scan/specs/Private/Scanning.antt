@@ -166,7 +166,7 @@ abbrev pub scan_ends : Mode → List Stage → Parse (List TextEvent)
 scan_ends mode [] t = Some ([], t)
 scan_ends mode (stage ∷ outer) t = then_scan (scan_stage (level_at mode (length outer)) stage t) (scan_ends mode outer)
 
--- the same, from the beginning of a document in the innermost block
+-- the same, from the start of a document in the innermost block
 abbrev pub scan_begun : Mode → List Stage → Parse (List TextEvent)
 scan_begun mode open_blocks t = then_scan (document_at mode (length open_blocks) t) (scan_ends mode open_blocks)
 

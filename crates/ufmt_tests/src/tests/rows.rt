@@ -125,15 +125,15 @@ pub fn map<K: Copy + Ord, V: Copy>(
     Ok(map)
 }
 
-// `part`, `count` times, between a beginning and an end.
+// `part`, `count` times, between a start and an end.
 pub fn repeated(
     alloc: Global,
-    beginning: &str,
+    start: &str,
     part: &str,
     count: usize,
     end: &str,
 ) -> Result<String, AllocError> {
-    let mut text = String::from_str(alloc, beginning)?;
+    let mut text = String::from_str(alloc, start)?;
     for _ in 0..count {
         text.push_str(part)?;
     }

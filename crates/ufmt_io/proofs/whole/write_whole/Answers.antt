@@ -1,6 +1,6 @@
 use Rattle.std.proofs.Common.{rules}
 use Rattle.std.proofs.lemmas.List.{places, take_rest}
-use Rattle.ufmt_io.proofs.KnownParts.{appends_prefix, appends_longer_beginning}
+use Rattle.ufmt_io.proofs.KnownParts.{appends_prefix, appends_longer_prefix}
 use Rattle.ufmt_io.proofs.whole.write_whole.Goals as goal
 
 pub loop-written-preserved : goal.loop-written-preserved
@@ -9,7 +9,7 @@ loop-written-preserved g c =
     record {
       within = search (rules, places);
       works = search rules;
-      so_far = appends_longer_beginning _ _ _ c.args.bytes.now c.loop-written.written c.in_ok-written.field-0
+      so_far = appends_longer_prefix _ _ _ c.args.bytes.now c.loop-written.written c.in_ok-written.field-0
           c.loop-written.invariant.so_far (rw take_rest at taken.bytes);
     }
 

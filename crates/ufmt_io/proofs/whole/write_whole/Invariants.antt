@@ -1,4 +1,4 @@
--- What was written is a beginning of the bytes.
+-- What was written is a prefix of the bytes.
 use Rattle.std.proofs.Common.{◌≡◌, ◌-◌, ◌≤◌, false, length, take}
 use Rattle.std.specs.Io.KnownBytes.{Appends}
 use Rattle.ufmt_io.specs.Watched.{device_of, has_failed}

@@ -75,7 +75,7 @@ fn a_reader_that_fails_loses_no_line_before(rt: HostRuntime) {
 
 // A writer takes a byte a call, and each of the five answers is flushed.
 #[test]
-fn a_writer_that_fails_has_a_beginning(rt: HostRuntime) {
+fn a_writer_that_fails_has_a_prefix(rt: HostRuntime) {
     for mode in MODES {
         let (input, output) = texts(mode);
         let mut calls = 0usize;
