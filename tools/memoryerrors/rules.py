@@ -44,7 +44,7 @@ def places_of(text):
     known = constants_of(bodies)
     yield from names_outside(rest)
     for body in bodies:
-        yield from answers_with_an_error(body)
+        yield from returns_an_error(body)
         for at in range(len(body.tokens)):
             for written in written_at(body, at, known):
                 yield Place(body.tokens[at].line, body.name, written)
@@ -66,7 +66,7 @@ def written_at(body, at, known):
         yield tokens[at].text
     if (name == "ExitCode" and after == "::") or (name == "report" and after == "("):
         yield around(tokens, at)
-    if name == "let" and after.startswith("_") and drops_an_answer(tokens, at):
+    if name == "let" and after.startswith("_") and drops_a_result(tokens, at):
         yield joined(tokens[at : find(tokens, at, [";"])])
     if name == "match":
         yield from match_without_err(tokens, at)
@@ -97,8 +97,8 @@ def statement(tokens, at):
     return condition + tokens[start + 1 : end]
 
 
-def drops_an_answer(tokens, at):
-    """Whether what a call answers is bound to a name that isn't used, and not passed on by `?`."""
+def drops_a_result(tokens, at):
+    """Whether what a call returns is bound to a name that isn't used, and not passed on by `?`."""
     end = find(tokens, at, [";"])
     return name_at(tokens, end - 1) == ")" and name_at(tokens, end) == ";"
 
@@ -243,7 +243,7 @@ def patterns_of(tokens):
             at = find(tokens, arrow, [","]) + 1
 
 
-def answers_with_an_error(body):
+def returns_an_error(body):
     """A function whose result is an error of memory, and no `Result`."""
     names = [token.name for token in body.head]
     if "->" in names:

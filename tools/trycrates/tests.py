@@ -4,7 +4,7 @@ import re
 import tried
 
 TEST = re.compile(r"((?:// .*\n)*)#\[test\]\nfn (\w+)")
-ANSWER = re.compile(r"^test tests::(\w+)::(\w+) \.\.\. (ok|FAILED)\n((?:    .*\n|\n)*)", re.M)
+RESULT = re.compile(r"^test tests::(\w+)::(\w+) \.\.\. (ok|FAILED)\n((?:    .*\n|\n)*)", re.M)
 KILLED = re.compile(r"    src/tests/\w+\.rt:\d+:\d+: the test was killed by signal 6 \(SIGABRT\)\n$")
 REFUSED = re.compile(r"const REFUSED: usize = ([\d_]+);")
 ROOT = "#![tactic(auto)]\n\n//! Tests that tools/try-crates runs.\n#[cfg(test)]\nmod tests;\n"
@@ -25,9 +25,9 @@ def wanted_in(module, text):
         yield (module, name), message
 
 
-def answers_in(said):
+def results_in(said):
     """Each test that ran, with its message if it failed, and else None."""
-    for module, name, verdict, lines in ANSWER.findall(said):
+    for module, name, verdict, lines in RESULT.findall(said):
         message = None
         if verdict == "FAILED":
             message = KILLED.sub("", lines)
@@ -54,7 +54,7 @@ class Tests:
 
     def faults(self):
         said = tried.run(self.room, "tests", ["--test", "--fail-alloc", self.refused])
-        given = dict(answers_in(said))
+        given = dict(results_in(said))
         if not given:
             return ["the crate of tests didn't run:\n" + said]
         return [fault for test in sorted({*self.wanted, *given}) for fault in self.compare(test, given)]

@@ -9,10 +9,10 @@ import socket
 import subprocess
 from typing import NamedTuple, Optional
 
-# How many bytes of messages can wait in a socket, as asked for: Linux doubles that. The longest answers have 270,000.
+# How many bytes of messages can wait in a socket, as asked for: Linux doubles that. The longest outputs have 270,000.
 ROOM = 200_000
 LONGEST = 300_000
-# An answer that doesn't come in this time is a fault.
+# An output that doesn't come in this time is a fault.
 SECONDS = 20
 
 
@@ -64,7 +64,7 @@ class Line:
             end.setsockopt(socket.SOL_SOCKET, socket.SO_SNDBUF, ROOM)
         self.ours.settimeout(SECONDS)
         if self.most() < LONGEST:
-            raise OSError("sockets take %d bytes, less than the longest answers (net.core.wmem_max)" % self.most())
+            raise OSError("sockets take %d bytes, less than the longest outputs (net.core.wmem_max)" % self.most())
 
     def most(self):
         """How many bytes a message can have."""

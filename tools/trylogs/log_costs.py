@@ -8,9 +8,9 @@ import shutil
 import subprocess
 from typing import Callable, NamedTuple
 
-import answers
+import log_model
 import devices
-from answers import Block, plain, pretty, quoted
+from log_model import Block, plain, pretty, quoted
 from logs import CHUNK
 
 SIZE = 32 * 1024
@@ -140,10 +140,10 @@ def wrong_steps(meter, shape, nothing):
 
 
 def wrong_calls(meter, shape):
-    """One read takes each chunk, and one more the end. One write has each answer that isn't empty."""
+    """One read takes each chunk, and one more the end. One write has each output that isn't empty."""
     log = shape.log(SIZE * LONGER)
     given = meter.calls(meter.put(shape.name, log), shape.mode)
-    groups = answers.groups(shape.mode, log)
+    groups = log_model.groups(shape.mode, log)
     wanted = devices.Ended(0, -(-len(log) // CHUNK) + 1, len(groups) - (groups[-1] == b""))
     if given.reads is not None and given != wanted:
         return "%s: %s, not %s" % (shape.name, given, wanted)
@@ -154,7 +154,7 @@ def wrong_memory(meter, shape):
     """The longer log passes in the memory of the short one, and some more for a line or group that is longer."""
     short, long = shape.log(SIZE), shape.log(SIZE * LONGER)
     least = meter.least(meter.put(shape.name, short), shape.mode)
-    longest = [max(map(len, answers.groups(shape.mode, log))) for log in (short, long)]
+    longest = [max(map(len, log_model.groups(shape.mode, log))) for log in (short, long)]
     most = least + SLACK + MEMORY * (longest[1] - longest[0])
     if not meter.passes(meter.put(shape.name, long), shape.mode, most):
         return "%s: %d bytes pass in %d bytes of memory, and %d bytes not in %d" % (shape.name, len(short), least, len(long), most)

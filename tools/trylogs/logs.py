@@ -2,7 +2,7 @@
 import itertools
 import random
 
-from answers import Block, plain, pretty, quoted
+from log_model import Block, plain, pretty, quoted
 
 LETTERS = "abcxyzABCXYZ0189_-"
 # Characters of one to four bytes, and those that have an escape.

@@ -22,7 +22,7 @@ FIRST = "the first line"
 
 
 class Run(NamedTuple):
-    """A run of ufmt_conv: its command, its input, what the input has, and how long the answer is at most."""
+    """A run of ufmt_conv: its command, its input, what the input has, and how long the output is at most."""
 
     name: str
     command: str
@@ -64,7 +64,7 @@ def run_steps(run):
 
 
 def run_memory(run):
-    """The input, the answer, and for lengths a number for each line, each of which grows."""
+    """The input, the output, and for lengths a number for each line, each of which grows."""
     grown = [bounds.text(len(run.data)), bounds.text(run.case.other, bounds.RESERVED), bounds.text(8 * run.data.count(b"\n"), 32)]
     taken = bounds.Memory(allocations=5, bytes=START_BYTES, growths=2, most=START_BYTES)
     for one in grown:
@@ -102,11 +102,11 @@ def conv_faults(counter, program):
 
 
 class Line(NamedTuple):
-    """A group of lines of a log, its answer, and what its text has."""
+    """A group of lines of a log, its output, and what its text has."""
 
     name: str
     group: str
-    answer: str
+    output: str
     case: bounds.Case
 
 
@@ -129,7 +129,7 @@ def lines(is_plain):
 def line_steps(line):
     """A text is scanned, and then converted. Each byte is copied, and looked at for the end of its line."""
     scanned = bounds.steps("is_text", line.case) + bounds.steps("convert into", line.case)
-    places = PLACE_STEPS * line.group.count(" ") if line.group == line.answer else 0
+    places = PLACE_STEPS * line.group.count(" ") if line.group == line.output else 0
     return scanned + places + BYTE_STEPS * len(line.group) + LINE_STEPS * (2 + line.group.count("\n"))
 
 
@@ -140,10 +140,10 @@ def line_faults(counter, program, is_plain):
     log = list(lines(is_plain))
     data = "".join(line.group + "\n" for line in log).encode()
     output, counts = counter.run(words, data, name, of_writes=True, seconds=SECONDS)
-    if output != "".join(line.answer + "\n" for line in log).encode():
-        return [name + ": another answer to a log of all shapes"], len(log)
+    if output != "".join(line.output + "\n" for line in log).encode():
+        return [name + ": another output for a log of all shapes"], len(log)
     if len(counts) != len(log) + 1:
-        return ["%s: %d writes of %d answers" % (name, len(counts) - 1, len(log))], len(log)
+        return ["%s: %d writes of %d outputs" % (name, len(counts) - 1, len(log))], len(log)
     wrong = list(map(line_memory_fault, log, counts, longest(log)))
     if counter.valgrind:
         wrong += map(line_steps_fault, log, counter.steps(words, data, name, of_writes=True, seconds=SECONDS))
@@ -156,16 +156,16 @@ def line_steps_fault(line, steps):
 
 
 def longest(log):
-    """How many bytes the longest group and answer so far have together."""
-    group = answer = 0
+    """How many bytes the longest group and output so far have together."""
+    group = output = 0
     for line in log:
         group = max(group, len(line.group.encode()))
-        answer = max(answer, len(line.answer.encode()))
-        yield group + answer
+        output = max(output, len(line.output.encode()))
+        yield group + output
 
 
 def line_memory_fault(line, counts, longest_so_far):
-    """The program makes a chunk at its start, and one room for groups and one for answers, which grow."""
+    """The program makes a chunk at its start, and one room for groups and one for outputs, which grow."""
     is_first = line.name == FIRST
     held = START_BYTES + 2 * longest_so_far
     allowed = {

@@ -1,4 +1,4 @@
-"""Texts of 16 MiB and a million lines, with answers that are known by how they are made."""
+"""Texts of 16 MiB and a million lines, with outputs that are known by how they are made."""
 import resource
 import subprocess
 

@@ -23,7 +23,7 @@ def field_text(document, name):
     return None
 
 
-def answered(text):
+def noted(text):
     return "- " if text is None else "=" + text + " "
 
 
@@ -34,14 +34,14 @@ def near(name):
 
 def shown(document, out):
     """Each document's own text and those of its fields, and then the same of the documents in it."""
-    out.append(answered(text_of(document)))
-    out.append("x" + answered(field_text(document, "x")))
+    out.append(noted(text_of(document)))
+    out.append("x" + noted(field_text(document, "x")))
     if isinstance(document, str):
         return
     if document.kind == "struct":
         names = [name for name, _value in document.entries]
         for name in names[:MOST_FIELDS] + names[-1:]:
-            out.extend(other + answered(field_text(document, other)) for other in near(name))
+            out.extend(other + noted(field_text(document, other)) for other in near(name))
     for before, value in document.entries:
         if document.kind == "map":
             shown(before, out)

@@ -60,7 +60,7 @@ def verdict(data):
     return line, coverage.cells(by_plain, "plain", len(data)) | coverage.cells(by_pretty, "pretty", len(data))
 
 
-def answer(command, data):
+def outcome(command, data):
     """The status, standard output and standard error of ufmt_conv."""
     if command == "lengths":
         lines = data.split(b"\n")

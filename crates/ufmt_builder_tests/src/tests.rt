@@ -20,6 +20,6 @@ pub fn same<T: PartialEq + Debug + Drop>(rt: &impl Abort, given: T, wanted: T, c
     assert_eq!(rt; given, wanted, "{case}");
 }
 
-pub fn are_ok(answers: &[Result<(), AllocError>]) -> bool {
-    answers.iter().all(|answer| answer.is_ok())
+pub fn are_ok(outcomes: &[Result<(), AllocError>]) -> bool {
+    outcomes.iter().all(|outcome| outcome.is_ok())
 }

@@ -1,4 +1,4 @@
-pub mod Answer
+pub mod Output
 pub mod Command
 pub mod Fault
 pub use Rattle.ufmt_doc.specs.Doc

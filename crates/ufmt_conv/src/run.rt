@@ -1,18 +1,18 @@
-//! A run of the program: reads all its input, and writes the answer.
+//! A run of the program: reads all its input, and writes the output.
 ghost use Rattle.std.specs.Prelude.{◌≡◌, ◌≢◌, ◌↔◌, false, IsTrue, IfErr, IsErrOf, OnOk};
 ghost use Rattle.std.specs.Io.KnownBytes.{IsAtEnd};
 ghost use Rattle.ufmt.specs.Layout.{plain_text, pretty_text};
-ghost use Rattle.ufmt_conv.specs.Answer.{Answered, AnsweredInPart, IsNoInput};
+ghost use Rattle.ufmt_conv.specs.Output.{WritesOutput, WritesOutputPrefix, IsNoInput};
 ghost use Rattle.ufmt_io.specs.Watched.{device_of, has_failed};
 
-mod answer;
+mod output;
 mod command;
 mod fault;
 #[cfg(test)]
 mod tests;
 
-use answer::answer_line;
-pub use answer::line_lengths;
+use output::output_line;
+pub use output::line_lengths;
 pub use command::{Command, usage};
 pub use fault::Fault;
 use std::alloc::Global;
@@ -20,7 +20,7 @@ use std::io::{Read, Write};
 pub use ufmt_io::{Failed, Watched};
 use ufmt_io::{read_to_end, write_whole};
 
-/// Reads the input to its end, and writes the command's answer and a line feed.
+/// Reads the input to its end, and writes the command's output and a line feed.
 ///
 /// On `CannotWrite` a prefix of these bytes was written, perhaps nothing, perhaps all. On any other
 /// fault nothing was written, and any part of the input may have been read. A reader that never ends
@@ -35,11 +35,11 @@ pub fn run<R: Read, W: Write>(
     requires output_works { has_failed output.old ≡ false }
 
     // What is read and written, if the bytes of reader and writer are known.
-    ensures ok { OnOk result (Answered command (R.remaining (device_of input.old))
+    ensures ok { OnOk result (WritesOutput command (R.remaining (device_of input.old))
         (W.contents (device_of output.old)) (W.contents (device_of output.new))) }
     ensures read_whole { OnOk result (IsAtEnd (R.remaining (device_of input.new))) }
     ensures partly_written { IsErrOf result Fault.CannotWrite
-        → AnsweredInPart command (R.remaining (device_of input.old))
+        → WritesOutputPrefix command (R.remaining (device_of input.old))
         (W.contents (device_of output.old)) (W.contents (device_of output.new)) }
     ensures not_plain { IsErrOf result Fault.NotPlain
         → IsNoInput plain_text (R.remaining (device_of input.old)) }
@@ -55,6 +55,6 @@ pub fn run<R: Read, W: Write>(
     ensures output_failed { IsErrOf result Fault.CannotWrite ↔ IsTrue (has_failed output.new) }
 {
     let text = read_to_end(alloc, input)?;
-    let line = answer_line(alloc, command, &text)?;
+    let line = output_line(alloc, command, &text)?;
     write_whole(output, line.as_bytes()).map_err(|_| Fault::CannotWrite)
 }

@@ -58,7 +58,7 @@ module _ {W : Type 0} {seen : Seen W} where
   WritesEnding-fails q a = record { wrote = Writes-fails q a.wrote; same = a.same; closed = a.after.0; restored = a.after.1 }
 
 -- a call that returns `Ok` was passed an `Ok`
-handed_ok : {X Y E : Type 0} (answer : Result X E) (result : Result Y E) → IfErr answer (λ e. result ≡ Err e) → IsOk result → is_ok answer ≡ true
+handed_ok : {X Y E : Type 0} (outcome : Result X E) (result : Result Y E) → IfErr outcome (λ e. result ≡ Err e) → IsOk result → is_ok outcome ≡ true
 handed_ok (Ok x) result h k = refl
 handed_ok (Err x) result h k = cc (ap is_ok h)
 
@@ -90,9 +90,9 @@ module _ {W : Type 0} {seen : Seen W} (old : Block W) {begun ended : Formatter W
 -- an entry in halves: the lead was written, the lent formatter printed the value's text, and the second half wrote the trail
 module _ {W E : Type 0} {seen : Seen W} (pending : Status) (old : Block W) {new : Block W} {begun : Formatter W} (ended : Formatter W)
     (before : List ℕ) (text : Setting → List ℕ) where
-  pub WritesPart-between : {mid : Block W} (answer result : Result (Unit {0}) E) → IsInside old → mid ≡ lent_to pending old ended
+  pub WritesPart-between : {mid : Block W} (outcome result : Result (Unit {0}) E) → IsInside old → mid ≡ lent_to pending old ended
       → Prints seen old.formatter before true begun →
-      Prints seen begun (text (setting_of begun)) (is_ok answer) ended → EndsEntry seen answer mid result (is_ok result) new →
+      Prints seen begun (text (setting_of begun)) (is_ok outcome) ended → EndsEntry seen outcome mid result (is_ok result) new →
       WritesPart seen old (before ++ (text (inner old) ++ trail_of old)) (is_ok result) (next old.count) new
   WritesPart-between (Ok x) result inside_b m p l e =
       let end = subst (λ (b : Block W). EndsEntry seen (Ok x) b result (is_ok result) new) m e in
@@ -110,9 +110,9 @@ pair_framed b key value = simp append_assoc
 -- a map's key, `: ` and its value, each by the lent formatter
 module _ {W E : Type 0} {seen : Seen W} (old : Block W) {new : Block W} {begun : Formatter W} (ended : Formatter W) (key value : Document) where
   -- the key and then `: `, if `: ` failed, or if the key's `fmt` returned an error
-  pub WritesEntry-no_value : {mid : Block W} (answer : Result (Unit {0}) E) → IsInside old → mid ≡ lent_to Lent old ended
-      → Prints seen old.formatter (lead_of old) true begun → LaysOut seen begun key (is_ok answer) ended →
-      OnOk answer (StopsIn seen mid (codes ": ") new) → OnErr answer (Abandons mid new) → WritesEntry seen old (pair_text key value) false new
+  pub WritesEntry-no_value : {mid : Block W} (outcome : Result (Unit {0}) E) → IsInside old → mid ≡ lent_to Lent old ended
+      → Prints seen old.formatter (lead_of old) true begun → LaysOut seen begun key (is_ok outcome) ended →
+      OnOk outcome (StopsIn seen mid (codes ": ") new) → OnErr outcome (Abandons mid new) → WritesEntry seen old (pair_text key value) false new
   WritesEntry-no_value (Ok x) inside_b m p l stop error =
       record {
         part = rw (pair_framed old key value) (WritesPart-fails _
@@ -127,17 +127,17 @@ module _ {W E : Type 0} {seen : Seen W} (old : Block W) {new : Block W} {begun :
 
   -- the key, `: ` and the value
   pub WritesEntry-pair : {Y : Type 0} {mid last : Block W} {lent : Formatter W} (printed : Formatter W)
-      (key_answer answer result : Result (Unit {0}) E) (lending : Result Y E) → IsInside old →
-      mid ≡ lent_to Lent old ended → Prints seen old.formatter (lead_of old) true begun → LaysOut seen begun key (is_ok key_answer) ended
-      → IfErr key_answer (λ e. lending ≡ Err e) → IsOk lending →
+      (key_outcome outcome result : Result (Unit {0}) E) (lending : Result Y E) → IsInside old →
+      mid ≡ lent_to Lent old ended → Prints seen old.formatter (lead_of old) true begun → LaysOut seen begun key (is_ok key_outcome) ended
+      → IfErr key_outcome (λ e. lending ≡ Err e) → IsOk lending →
       last ≡ lent_to LentValue mid printed → Prints seen mid.formatter (codes ": ") true lent
-      → LaysOut seen lent value (is_ok answer) printed → EndsEntry seen answer last result (is_ok result) new →
+      → LaysOut seen lent value (is_ok outcome) printed → EndsEntry seen outcome last result (is_ok result) new →
       WritesEntry seen old (pair_text key value) (is_ok result) new
-  WritesEntry-pair {last = last} {lent = lent} printed key_answer answer result lending inside_b m p k error ok l colon v e =
-      let keyed = subst (λ (o : Bool). Prints seen begun (layout (setting_of begun) key) o ended) (handed_ok key_answer lending error ok) k.prints in
+  WritesEntry-pair {last = last} {lent = lent} printed key_outcome outcome result lending inside_b m p k error ok l colon v e =
+      let keyed = subst (λ (o : Bool). Prints seen begun (layout (setting_of begun) key) o ended) (handed_ok key_outcome lending error ok) k.prints in
       let front = Prints-then (Prints-lent old (λ s. layout s key) inside_b p keyed) (subst (λ (b : Block W). Prints seen b.formatter (codes ": ") true lent) m colon) in
       let lent_value : last ≡ lent_to LentValue old printed = l ∙ ap (λ b. lent_to LentValue b printed) m in
-      record { part = rw (pair_framed old key value) (WritesPart-between LentValue old printed _ (λ s. layout s value) answer result inside_b lent_value front v.prints e) }
+      record { part = rw (pair_framed old key value) (WritesPart-between LentValue old printed _ (λ s. layout s value) outcome result inside_b lent_value front v.prints e) }
 
 -- entries in a row and then the rest of the block are the rest from before them
 pub block_tail-append : (f : Frame) (s : Setting) (count : Count) (ts us : List (List ℕ))
@@ -199,12 +199,12 @@ module _ {W D : Type 0} {seen : Seen W} (text_of : D → Setting → List ℕ) w
 
 module _ {W U T D X E : Type 0} {seen : Seen W} {becomes : U → T → Type 0} (steps : T → Option D → T → Type 0) (text_of : D → Setting → List ℕ) where
   -- a loop over the items of an iterator, if the next entry failed
-  pub WritesEntries-stopped : {entries : U} (first here after : T) {xs : List D} {y : D} {old mid new : Block W} (answer : Result X E)
-      → IsErr answer → becomes entries first →
+  pub WritesEntries-stopped : {entries : U} (first here after : T) {xs : List D} {y : D} {old mid new : Block W} (outcome : Result X E)
+      → IsErr outcome → becomes entries first →
       Yields steps first xs here → steps here (Some y) after → WritesRow seen old text_of xs true mid
-      → WritesEntry seen mid (text_of y) false new → WritesEntries seen becomes steps text_of entries old (is_ok answer) new
-  WritesEntries-stopped first here after {xs} {y} answer failed begins yields step a e =
-      rw (is_ok-err answer failed) record {
+      → WritesEntry seen mid (text_of y) false new → WritesEntries seen becomes steps text_of entries old (is_ok outcome) new
+  WritesEntries-stopped first here after {xs} {y} outcome failed begins yields step a e =
+      rw (is_ok-err outcome failed) record {
         iterator = first;
         begins = begins;
         items = xs ++ y ∷ [];

@@ -61,11 +61,11 @@ is_tuple {name = c ∷ name} = record { joined = λ s. refl }
 module _ {W : Type 0} {seen : Seen W} {start last : Formatter W} {d : Document} {kind : Kind} {opening : List ℕ} {left : Entries}
     (is_block : IsBlock d kind opening left) where
   -- a `debug_` call failed
-  pub not_opened : {B E X F : Type 0} {r : Result B E} {e : E} (answer : Result X F) → IsErr answer → r ≡ Err e
-      → OnErr r (Prints seen start opening false last) → LaysOut seen start d (is_ok answer) last
-  not_opened answer failed was unopened =
+  pub not_opened : {B E X F : Type 0} {r : Result B E} {e : E} (outcome : Result X F) → IsErr outcome → r ≡ Err e
+      → OnErr r (Prints seen start opening false last) → LaysOut seen start d (is_ok outcome) last
+  not_opened outcome failed was unopened =
       let p = IfErr-at_err _ was unopened in
-      LaysOut-err answer failed (record {
+      LaysOut-err outcome failed (record {
         prints =
             record { wrote = rw (is_block.joined (setting_of start)) (Writes-fails _ p.wrote); same_setting = p.same_setting };
       })
@@ -198,18 +198,18 @@ field_framed : {W : Type 0} (b : Block W) (name : List ℕ) (d : Document) → f
 field_framed b name d = simp append_assoc
 
 -- an entry in halves: the lent formatter printed the value, and the second half wrote the trail
-module _ {W E : Type 0} {seen : Seen W} {d : Document} {begun ended : Formatter W} {mid new : Block W} {answer result : Result (Unit {0}) E}
+module _ {W E : Type 0} {seen : Seen W} {d : Document} {begun ended : Formatter W} {mid new : Block W} {outcome result : Result (Unit {0}) E}
     (old : Block W) where
-  pub entry_between : IsInside old → mid ≡ lent_to Lent old ended → Prints seen old.formatter (lead_of old) true begun → LaysOut seen begun d (is_ok answer) ended
-      → EndsEntry seen answer mid result (is_ok result) new → WritesEntry seen old (entry_text d) (is_ok result) new
-  entry_between inside_b m p l e = record { part = WritesPart-between Lent old ended _ (entry_text d) answer result inside_b m p l.prints e }
+  pub entry_between : IsInside old → mid ≡ lent_to Lent old ended → Prints seen old.formatter (lead_of old) true begun → LaysOut seen begun d (is_ok outcome) ended
+      → EndsEntry seen outcome mid result (is_ok result) new → WritesEntry seen old (entry_text d) (is_ok result) new
+  entry_between inside_b m p l e = record { part = WritesPart-between Lent old ended _ (entry_text d) outcome result inside_b m p l.prints e }
 
   pub field_between : (name : List ℕ) → IsInside old → mid ≡ lent_to Lent old ended → Prints seen old.formatter (field_lead_of name old) true begun
-      → LaysOut seen begun d (is_ok answer) ended → EndsEntry seen answer mid result (is_ok result) new
+      → LaysOut seen begun d (is_ok outcome) ended → EndsEntry seen outcome mid result (is_ok result) new
       → WritesEntry seen old (field_text name d) (is_ok result) new
   field_between name inside_b m p l e = record {
     part =
-        rw (field_framed old name d) (WritesPart-between Lent old ended _ (entry_text d) answer result inside_b m p l.prints e);
+        rw (field_framed old name d) (WritesPart-between Lent old ended _ (entry_text d) outcome result inside_b m p l.prints e);
   }
 
 -- the first half of an entry, of a map's entry, or of a field failed

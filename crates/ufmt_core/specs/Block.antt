@@ -147,11 +147,11 @@ module _ {W : Type 0} where
     pub same : Same old new
     pub after : After false old.count old new
 
-  -- what the second half of an entry returns and does, if the value's `fmt` returned `answer`
-  pub record EndsEntry {E : Type 0} (seen : Seen W) (answer : Result (Unit {0}) E) (old : Block W) (result : Result (Unit {0}) E)
+  -- what the second half of an entry returns and does, if the value's `fmt` returned `outcome`
+  pub record EndsEntry {E : Type 0} (seen : Seen W) (outcome : Result (Unit {0}) E) (old : Block W) (result : Result (Unit {0}) E)
       (ok : Bool) (new : Block W) : Type 0 where
-    pub trail : OnOk answer (WritesPart seen old (trail_of old) ok (next old.count) new)
-    pub error : IfErr answer (λ e. (result ≡ Err e) × Abandons old new)
+    pub trail : OnOk outcome (WritesPart seen old (trail_of old) ok (next old.count) new)
+    pub error : IfErr outcome (λ e. (result ≡ Err e) × Abandons old new)
 
   -- the end of the block was written, or a prefix of it; the builder is closed, with mode and depth from before it
   pub record WritesEnding (seen : Seen W) (old : Block W) (text : List ℕ) (ok : Bool) (new : Block W) : Type 0 where

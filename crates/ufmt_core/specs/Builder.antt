@@ -92,6 +92,6 @@ module _ (W : RattleType) {E : Type 0} where
 
   -- the formatter is lent for a map's value, after `: `, if the key's `fmt` returned `Ok`; if it returned an error, nothing was written, and the builder is closed
   abbrev pub LendsForValue : Seen W.Denot → MutBor (Builder W.Denot MapBlock) → Result (Unit {0}) E → Result (MutBor (Formatter W.Denot)) E → Fml
-  LendsForValue seen self answer result =
+  LendsForValue seen self outcome result =
       EntryLoan map_marker.the_row self result LentValue
-      (λ last. OnOk answer (StopsIn seen (map_block self.now) (codes ": ") (map_block last)) × OnErr answer (Abandons (map_block self.now) (map_block last)))
+      (λ last. OnOk outcome (StopsIn seen (map_block self.now) (codes ": ") (map_block last)) × OnErr outcome (Abandons (map_block self.now) (map_block last)))

@@ -80,9 +80,9 @@ impl<W: uWrite> Formatter<W> {
     {
         let outer = self.setting;
         self.setting.mode = Mode::Pretty;
-        let answer = f(self);
+        let outcome = f(self);
         self.setting = outer;
-        answer
+        outcome
     }
 
     /// Whether blocks are laid out with one entry a line.

@@ -69,8 +69,8 @@ impl<W: uWrite, K: BlockKind + Items> Builder<'_, W, K> {
             (entry_text (D.document entry.now)) (is_ok result) (block K.kind self.new) }
         ensures is_open { OnOk result (IsOpen (block K.kind self.new)) }
     {
-        let answer = entry.fmt(self.begin()?);
-        self.end(answer)
+        let outcome = entry.fmt(self.begin()?);
+        self.end(outcome)
     }
 
     /// Writes an entry for each item, in order, and takes no item after a failure.
@@ -111,13 +111,13 @@ impl<W: uWrite, K: BlockKind + Items> Builder<'_, W, K> {
     /// Writes the text after an entry if its `fmt` returned `Ok`, else returns its error. The lent
     /// formatter may be left at any mode and depth.
     #[inline(always)]
-    pub fn end_entry(&mut self, answer: Result<(), W::Error>) -> Result<(), W::Error>
+    pub fn end_entry(&mut self, outcome: Result<(), W::Error>) -> Result<(), W::Error>
         requires { IsLent (block K.kind self.old) }
-        ensures end { EndsEntry W.seen answer (block K.kind self.old) result (is_ok result)
+        ensures end { EndsEntry W.seen outcome (block K.kind self.old) result (is_ok result)
             (block K.kind self.new) }
         ensures is_open { OnOk result (IsOpen (block K.kind self.new)) }
     {
-        self.end_lent(answer)
+        self.end_lent(outcome)
     }
 }
 

@@ -66,9 +66,9 @@ impl<W: uWrite> DebugMap<'_, W> {
             (map_block self.new) }
         ensures is_open { OnOk result (IsOpen (map_block self.new)) }
     {
-        let key_answer = key.fmt(self.begin()?);
-        let answer = value.fmt(self.lend_for_value(key_answer)?);
-        self.end(answer)
+        let key_outcome = key.fmt(self.begin()?);
+        let outcome = value.fmt(self.lend_for_value(key_outcome)?);
+        self.end(outcome)
     }
 
     /// Writes an entry for each pair, in order, and takes no pair after a failure.
@@ -107,29 +107,29 @@ impl<W: uWrite> DebugMap<'_, W> {
     /// its error. The formatter that was lent for the key may be left at any mode and depth.
     pub fn begin_value(
         &mut self,
-        answer: Result<(), W::Error>,
+        outcome: Result<(), W::Error>,
     ) -> Result<&mut Formatter<W>, W::Error>
         requires { IsLent (map_block self.old) }
-        ensures* loan { sem 𝓛 (LendsForValue W.row W.seen self.entry answer result) }
+        ensures* loan { sem 𝓛 (LendsForValue W.row W.seen self.entry outcome result) }
         ensures colon { IfOk result
             (λ f. Prints W.seen (inner_formatter (map_block self.old)) (codes ": ") true f.now) }
-        ensures error { IfErr answer (λ e. result ≡ Err e) }
+        ensures error { IfErr outcome (λ e. result ≡ Err e) }
     {
         self.take_back();
-        self.lend_for_value(answer)
+        self.lend_for_value(outcome)
     }
 
     #[inline(always)]
     fn lend_for_value(
         &mut self,
-        answer: Result<(), W::Error>,
+        outcome: Result<(), W::Error>,
     ) -> Result<&mut Formatter<W>, W::Error>
-        ensures* loan { sem 𝓛 (LendsForValue W.row W.seen self.entry answer result) }
+        ensures* loan { sem 𝓛 (LendsForValue W.row W.seen self.entry outcome result) }
         ensures colon { IfOk result
             (λ f. Prints W.seen self.old.formatter.now (codes ": ") true f.now) }
-        ensures error { IfErr answer (λ e. result ≡ Err e) }
+        ensures error { IfErr outcome (λ e. result ≡ Err e) }
     {
-        let written = match answer {
+        let written = match outcome {
             Ok(()) => self.formatter.write_str(COLON),
             Err(error) => Err(error),
         };
@@ -138,13 +138,13 @@ impl<W: uWrite> DebugMap<'_, W> {
 
     /// Writes the text after an entry if its value's `fmt` returned `Ok`, else returns its error. The
     /// lent formatter may be left at any mode and depth.
-    pub fn end_entry(&mut self, answer: Result<(), W::Error>) -> Result<(), W::Error>
+    pub fn end_entry(&mut self, outcome: Result<(), W::Error>) -> Result<(), W::Error>
         requires { IsLentForValue (map_block self.old) }
-        ensures end { EndsEntry W.seen answer (map_block self.old) result (is_ok result)
+        ensures end { EndsEntry W.seen outcome (map_block self.old) result (is_ok result)
             (map_block self.new) }
         ensures is_open { OnOk result (IsOpen (map_block self.new)) }
     {
-        self.end_lent(answer)
+        self.end_lent(outcome)
     }
 }
 

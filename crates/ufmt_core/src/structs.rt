@@ -58,8 +58,8 @@ impl<W: uWrite> DebugStruct<'_, W> {
             (field_text name.now (D.document value.now)) (is_ok result) (struct_block self.new) }
         ensures is_open { OnOk result (IsOpen (struct_block self.new)) }
     {
-        let answer = value.fmt(self.begin_named(name)?);
-        self.end(answer)
+        let outcome = value.fmt(self.begin_named(name)?);
+        self.end(outcome)
     }
 
     /// Writes the text before a field's value, and lends the formatter for the value. On `Err` the
@@ -78,12 +78,12 @@ impl<W: uWrite> DebugStruct<'_, W> {
     /// Writes the text after a field if its value's `fmt` returned `Ok`, else returns its error. The
     /// lent formatter may be left at any mode and depth.
     #[inline(always)]
-    pub fn end_field(&mut self, answer: Result<(), W::Error>) -> Result<(), W::Error>
+    pub fn end_field(&mut self, outcome: Result<(), W::Error>) -> Result<(), W::Error>
         requires { IsLent (struct_block self.old) }
-        ensures end { EndsEntry W.seen answer (struct_block self.old) result (is_ok result)
+        ensures end { EndsEntry W.seen outcome (struct_block self.old) result (is_ok result)
             (struct_block self.new) }
         ensures is_open { OnOk result (IsOpen (struct_block self.new)) }
     {
-        self.end_lent(answer)
+        self.end_lent(outcome)
     }
 }

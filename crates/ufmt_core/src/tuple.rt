@@ -71,8 +71,8 @@ impl<W: uWrite> DebugTuple<'_, W> {
             (is_ok result) (tuple_block self.new) }
         ensures is_open { OnOk result (IsOpen (tuple_block self.new)) }
     {
-        let answer = value.fmt(self.begin()?);
-        self.end(answer)
+        let outcome = value.fmt(self.begin()?);
+        self.end(outcome)
     }
 
     /// Writes the text before a field, and lends the formatter for it. On `Err` the builder is
@@ -87,14 +87,14 @@ impl<W: uWrite> DebugTuple<'_, W> {
         self.begin()
     }
 
-    /// Writes what follows a field whose `fmt` gave this answer, or passes an `Err` on. The lent formatter
-    /// may be left at any mode and depth.
-    pub fn end_field(&mut self, answer: Result<(), W::Error>) -> Result<(), W::Error>
+    /// Writes what follows a field whose `fmt` had this outcome, or passes an `Err` on. The lent
+    /// formatter may be left at any mode and depth.
+    pub fn end_field(&mut self, outcome: Result<(), W::Error>) -> Result<(), W::Error>
         requires { IsLent (tuple_block self.old) }
-        ensures end { EndsEntry W.seen answer (tuple_block self.old) result (is_ok result)
+        ensures end { EndsEntry W.seen outcome (tuple_block self.old) result (is_ok result)
             (tuple_block self.new) }
         ensures is_open { OnOk result (IsOpen (tuple_block self.new)) }
     {
-        self.end_lent(answer)
+        self.end_lent(outcome)
     }
 }

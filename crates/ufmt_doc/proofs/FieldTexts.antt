@@ -27,7 +27,7 @@ no_word_in_quotes w text word (inr char) =
     false≢true quoted.0
 
 -- a word shows itself
-pub word_shown : {A : Type 0} (w : List ℕ) → IsWord w → (answer : Option (String A)) → ShowsText (leaf w) answer → option_map string_bytes answer ≡ Some w
+pub word_shown : {A : Type 0} (w : List ℕ) → IsWord w → (outcome : Option (String A)) → ShowsText (leaf w) outcome → option_map string_bytes outcome ≡ Some w
 word_shown w word None is = cc
 word_shown w word (Some s) (inl quoted) = absurd (no_word_in_quotes w (string_bytes s) word quoted)
 word_shown w word (Some s) (inr bare) =
@@ -36,11 +36,11 @@ word_shown w word (Some s) (inr bare) =
     ap Some (sym same)
 
 -- a number shows its decimal text
-pub number_shown : {A : Type 0} (z : ℤ) (answer : Option (String A)) → ShowsText (leaf (decimal z)) answer → option_map string_bytes answer ≡ Some (decimal z)
+pub number_shown : {A : Type 0} (z : ℤ) (outcome : Option (String A)) → ShowsText (leaf (decimal z)) outcome → option_map string_bytes outcome ≡ Some (decimal z)
 number_shown z = word_shown (decimal z) (decimal_is_word z)
 
 -- a text in quotes shows what is between them
-pub text_shown : {A : Type 0} (text : List ℕ) → IsUtf8 text → (answer : Option (String A)) → ShowsText (leaf (quoted_text (chars text))) answer → option_map string_bytes answer ≡ Some text
+pub text_shown : {A : Type 0} (text : List ℕ) → IsUtf8 text → (outcome : Option (String A)) → ShowsText (leaf (quoted_text (chars text))) outcome → option_map string_bytes outcome ≡ Some text
 text_shown text utf8 None is = cc
 text_shown text utf8 (Some s) (inl (inl is)) =
     let quoted : quoted_text (chars text) ≡ quoted_text (chars (string_bytes s)) = cc in
@@ -53,7 +53,7 @@ text_shown text utf8 (Some s) (inl (inr char)) =
 text_shown text utf8 (Some s) (inr bare) = absurd (bare.0 (quoted_text (chars text)) (inl (chars text, scalars-chars text utf8, refl)) refl)
 
 -- a character in apostrophes shows itself
-pub char_shown : {A : Type 0} (c : ℕ) → IsScalar c → (answer : Option (String A)) → ShowsText (leaf (quoted_char c)) answer → option_map string_bytes answer ≡ Some (encode_utf8 c)
+pub char_shown : {A : Type 0} (c : ℕ) → IsScalar c → (outcome : Option (String A)) → ShowsText (leaf (quoted_char c)) outcome → option_map string_bytes outcome ≡ Some (encode_utf8 c)
 char_shown c scalar None is = cc
 char_shown c scalar (Some s) (inl (inl is)) =
     let same : quoted_char c ≡ quoted_text (chars (string_bytes s)) = cc in

@@ -111,8 +111,8 @@ mutual
       (leaf name ∷ normal value ∷ more.0, (leaf name ∷ normal value ∷ [], more.0, first, more.1, refl), ap (field name (normal value)) more.2)
 
 -- a sink that grows with each event takes it as `Sink` asks
-pub takes_event : {E : Type 0} (old new : DocumentSink) (e : TextEvent) (answer : Result (⊤) E) → OnOk answer (growing new ≡ grow (growing old) e)
-    → TakesEvent (λ start es sink. growing sink ≡ grown (growing start) es) (λ _ _ _. ⊤) old e (is_ok answer) new
+pub takes_event : {E : Type 0} (old new : DocumentSink) (e : TextEvent) (outcome : Result (⊤) E) → OnOk outcome (growing new ≡ grow (growing old) e)
+    → TakesEvent (λ start es sink. growing sink ≡ grown (growing start) es) (λ _ _ _. ⊤) old e (is_ok outcome) new
 takes_event old new e (Ok x) h = λ start es before. h ∙ ap (λ g. grow g e) before ∙ sym (grown-append (growing start) es (e ∷ []))
 takes_event old new e (Err x) h = λ start es before. tt
 

@@ -77,16 +77,16 @@ tuples_same name (d ∷ ds) [] = (λ h. absurd h, λ h. absurd (cc))
 tuples_same name (d ∷ ds) (e ∷ es) = let all = docs_same (d ∷ ds) (e ∷ es) in (λ h. let same = all.0 h in cc, λ h. all.1 (cc))
 
 -- in normal form, an empty set is an empty map, and no other set is a map
-braces : (ds : List Doc) (ps : List (Doc × Doc)) (answer : Bool) → answer ≡ (length ds + length ps == 0)
-    → IsTrue answer ↔ (normal (set_of (documents (map doc_document ds))) ≡ normal (map_of (pairs_of (map pair_view ps))))
-braces [] [] answer is = (λ yes. refl, λ same. is)
-braces [] (p ∷ ps) answer is = let some : answer ≡ false = grind (arith, nat_tests) in (λ yes. absurd (cc), λ same. absurd (cc))
-braces (d ∷ ds) ps answer is = let some : answer ≡ false = grind (arith, nat_tests) in (λ yes. absurd (cc), λ same. absurd (cc))
+braces : (ds : List Doc) (ps : List (Doc × Doc)) (outcome : Bool) → outcome ≡ (length ds + length ps == 0)
+    → IsTrue outcome ↔ (normal (set_of (documents (map doc_document ds))) ≡ normal (map_of (pairs_of (map pair_view ps))))
+braces [] [] outcome is = (λ yes. refl, λ same. is)
+braces [] (p ∷ ps) outcome is = let some : outcome ≡ false = grind (arith, nat_tests) in (λ yes. absurd (cc), λ same. absurd (cc))
+braces (d ∷ ds) ps outcome is = let some : outcome ≡ false = grind (arith, nat_tests) in (λ yes. absurd (cc), λ same. absurd (cc))
 
-pub braces_same : (s m : Doc) (v : Vec Doc Global) (w : Vec (Doc × Doc) Global) (answer : Bool) → s ≡ SetOf v → m ≡ MapOf w
-    → answer ≡ (vec_len v + vec_len w == 0) → IsTrue answer ↔ SameDoc s m
-braces_same s m v w answer set_is map_is is =
-    rw (set_is, doc_document-SetOf v, map_is, doc_document-MapOf w) (braces v.items w.items answer (is ∙ rw (v.ok.0, w.ok.0) refl))
+pub braces_same : (s m : Doc) (v : Vec Doc Global) (w : Vec (Doc × Doc) Global) (outcome : Bool) → s ≡ SetOf v → m ≡ MapOf w
+    → outcome ≡ (vec_len v + vec_len w == 0) → IsTrue outcome ↔ SameDoc s m
+braces_same s m v w outcome set_is map_is is =
+    rw (set_is, doc_document-SetOf v, map_is, doc_document-MapOf w) (braces v.items w.items outcome (is ∙ rw (v.ok.0, w.ok.0) refl))
 
 -- a struct or a tuple is a leaf in normal form exactly if it has no fields
 pub is_some : {A : Type 0} (x : A) (xs : List A) → (length (x ∷ xs) == 0) ≡ false

@@ -22,8 +22,8 @@ plain_form_is = form_is plain_text (λ d e hd he same. (plain_text_determines d 
 
 -- what is read from a document's text is its normal form
 pub read_again : (text_of : Document → List ℕ) → ((d e : Document) → IsToken d → IsToken e → text_of d ≡ text_of e → normal d ≡ normal e)
-    → (answer : Result Doc ReadError) (input : List ℕ) (d : Document) → IsToken d → input ≡ text_of d
-    → IfOk answer (λ doc. IsNormalForm text_of input (doc_document doc)) → IfOk answer (λ doc. doc_document doc ≡ normal d)
+    → (outcome : Result Doc ReadError) (input : List ℕ) (d : Document) → IsToken d → input ≡ text_of d
+    → IfOk outcome (λ doc. IsNormalForm text_of input (doc_document doc)) → IfOk outcome (λ doc. doc_document doc ≡ normal d)
 read_again text_of determines (Ok doc) input d token is read = form_is text_of determines input (doc_document doc) d read token (sym is)
 read_again text_of determines (Err e) input d token is read = tt
 
@@ -34,13 +34,13 @@ converted_form s to input text is =
     (normal some.0, (IsToken-normal some.0 some.1, normal-normal some.0, layout-normal s some.0 ∙ some.2))
 
 -- what was converted to the other text and back is the text that it was
-pub comes_again : {A : Type 0} (from to : Document → List ℕ) (input text : List ℕ) (answer : Result (String A) ReadError) → IsConverted from to input text
-    → Converts to from text answer → IfOk answer (λ again. string_bytes again ≡ input)
+pub comes_again : {A : Type 0} (from to : Document → List ℕ) (input text : List ℕ) (outcome : Result (String A) ReadError) → IsConverted from to input text
+    → Converts to from text outcome → IfOk outcome (λ again. string_bytes again ≡ input)
 comes_again from to input text (Ok again) was is = comes_back to from input text (string_bytes again) was is.ok
 comes_again from to input text (Err e) was is = tt
 
 -- so it is, whatever is made of the other text
 pub converted_has_form : (s : Setting) (to : Document → List ℕ) (input text : List ℕ) → IsConverted (layout s) to input text
-    → {A E : Type 0} (answer : Result A E) → IfOk answer (λ _. (d : Document) × IsNormalForm (layout s) input d)
+    → {A E : Type 0} (outcome : Result A E) → IfOk outcome (λ _. (d : Document) × IsNormalForm (layout s) input d)
 converted_has_form s to input text is (Ok again) = converted_form s to input text is
 converted_has_form s to input text is (Err e) = tt

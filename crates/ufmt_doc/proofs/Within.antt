@@ -19,9 +19,9 @@ pub as_well : {A B C : Type 0} → A ↔ B → B ↔ C → A ↔ C
 as_well h k = (λ a. k.0 (h.0 a), λ c. h.1 (k.1 c))
 
 -- `all` tests whether each item passes
-pub all_decides : {X : Type 0} (Passes : X → Type 0) (answer : Bool) (xs : List X)
-    → MatchBool answer (AllWithin Passes xs 0 (length xs)) ((k : ℕ) × (k < length xs) × HoldsAt (λ x. Passes x → ⊥) xs k)
-    → IsTrue answer ↔ AllByRecursion Passes xs
+pub all_decides : {X : Type 0} (Passes : X → Type 0) (outcome : Bool) (xs : List X)
+    → MatchBool outcome (AllWithin Passes xs 0 (length xs)) ((k : ℕ) × (k < length xs) × HoldsAt (λ x. Passes x → ⊥) xs k)
+    → IsTrue outcome ↔ AllByRecursion Passes xs
 all_decides Passes true xs h = (λ yes. recursion_from_All Passes xs (All-from_all_within Passes xs h), λ all. refl)
 all_decides Passes false xs h = (λ yes. absurd (cc), λ all. true_from_All Passes (λ x. Passes x → ⊥) false xs (λ x p q. q p) h (All-from_recursion Passes xs all))
 

@@ -9,10 +9,10 @@ use Rattle.ufmt_doc.specs.Unquoted.{IsInQuotes}
 abbrev pub Shows : Document → List ℕ → Type 0
 Shows d text = IsInQuotes d text ⊎ (((quoted : List ℕ) → IsQuoted quoted → d ≢ leaf quoted) × (d ≡ leaf text))
 
--- the answer is the text that the leaf shows, or `None` if the document is no leaf
+-- the outcome is the text that the leaf shows, or `None` if the document is no leaf
 abbrev pub ShowsText : {A : Type 0} → Document → Option (String A) → Type 0
-ShowsText d answer = MatchOption answer (leaf_part d ≡ None) (λ s. Shows d (string_bytes s))
+ShowsText d outcome = MatchOption outcome (leaf_part d ≡ None) (λ s. Shows d (string_bytes s))
 
--- the answer is what the struct's first field with this name shows, or `None` if there is none or it is a block
+-- the outcome is what the struct's first field with this name shows, or `None` if there is none or it is a block
 abbrev pub ShowsField : {A : Type 0} → List ℕ → Document → Option (String A) → Type 0
-ShowsField name d answer = MatchOption (field_part name d) (answer ≡ None) (λ value. ShowsText value answer)
+ShowsField name d outcome = MatchOption (field_part name d) (outcome ≡ None) (λ value. ShowsText value outcome)

@@ -8,6 +8,6 @@ use Rattle.ufmt.specs.Quoted.{IsQuoted, quoted_char, quoted_text}
 abbrev pub IsInQuotes : Document → List ℕ → Type 0
 IsInQuotes d text = (d ≡ leaf (quoted_text (chars text))) ⊎ ((c : ℕ) × (chars text ≡ c ∷ []) × (d ≡ leaf (quoted_char c)))
 
--- the document is the answer in quotes; or the answer is `None`, and the document is no leaf in quotes
+-- the document is the outcome in quotes; or the outcome is `None`, and the document is no leaf in quotes
 abbrev pub Unquotes : {A : Type 0} → Document → Option (String A) → Type 0
-Unquotes d answer = MatchOption answer ((text : List ℕ) → IsQuoted text → d ≢ leaf text) (λ s. IsInQuotes d (string_bytes s))
+Unquotes d outcome = MatchOption outcome ((text : List ℕ) → IsQuoted text → d ≢ leaf text) (λ s. IsInQuotes d (string_bytes s))

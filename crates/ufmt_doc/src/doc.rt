@@ -148,7 +148,7 @@ impl Doc {
     /// Returns the text between the quotes of a leaf, with its escapes decoded, or `None` if this
     /// is no leaf in quotes. Fails only if memory runs out.
     pub fn unquoted(&self, alloc: Global) -> Result<Option<String>, AllocError>
-        ensures { IfOk result (λ answer. Unquotes (doc_document self.now) answer) }
+        ensures { IfOk result (λ outcome. Unquotes (doc_document self.now) outcome) }
     {
         let Doc::Leaf(text) = self else {
             return Ok(None);

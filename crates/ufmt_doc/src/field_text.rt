@@ -16,7 +16,7 @@ impl Doc {
     /// Returns the text of a leaf. A leaf in quotes shows what is between them, with its escapes decoded.
     /// Returns `None` if this is a block. Fails only if memory runs out.
     pub fn leaf_text(&self, alloc: Global) -> Result<Option<String>, AllocError>
-        ensures { IfOk result (λ answer. ShowsText (doc_document self.now) answer) }
+        ensures { IfOk result (λ outcome. ShowsText (doc_document self.now) outcome) }
     {
         let Some(text) = self.as_leaf() else {
             return Ok(None);
@@ -30,7 +30,7 @@ impl Doc {
     /// Returns the text of a struct's first field with this name, as `leaf_text` does. Returns `None` if
     /// there is no such field, or if its value is a block.
     pub fn field_text(&self, alloc: Global, name: &str) -> Result<Option<String>, AllocError>
-        ensures { IfOk result (λ answer. ShowsField name.now (doc_document self.now) answer) }
+        ensures { IfOk result (λ outcome. ShowsField name.now (doc_document self.now) outcome) }
     {
         match self.field(name) {
             Some(value) => value.leaf_text(alloc),
@@ -42,10 +42,10 @@ impl Doc {
 /// Returns the text of a field of the struct that was printed to a line, as `Doc::field_text` does. Fails
 /// with `NotText` only if no token document has this plain text; the other error is `OutOfMemory`.
 pub fn read_field(alloc: Global, line: &[u8], name: &str) -> Result<Option<String>, ReadError>
-    ensures found { IfOk result (λ answer. (d : Document) × IsNormalForm plain_text line.now d
-        × ShowsField name.now d answer) }
-    ensures each { IfOk result (λ answer. (d : Document) → IsToken d → plain_text d ≡ line.now
-        → ShowsField name.now (normal d) answer) }
+    ensures found { IfOk result (λ outcome. (d : Document) × IsNormalForm plain_text line.now d
+        × ShowsField name.now d outcome) }
+    ensures each { IfOk result (λ outcome. (d : Document) → IsToken d → plain_text d ≡ line.now
+        → ShowsField name.now (normal d) outcome) }
     ensures not_text { IsErrOf result ReadError.NotText → IsNoText plain_text line.now }
 {
     let doc = read_plain(alloc, line)?;

@@ -24,8 +24,8 @@ IsToken-measurement r = (
 )
 
 -- what the field shows is the decimal text
-pub celsius_found : (answer : Result (Option (String Global)) ReadError) (line : List ℕ)
-    → IfOk answer (λ text. (d : Document) → IsToken d → plain_text d ≡ line → ShowsField (codes "celsius") (normal d) text)
-    → IfOk answer (λ text. (r : Measurement) → line ≡ plain_text (measurement_document r) → option_map string_bytes text ≡ Some (decimal r.celsius))
+pub celsius_found : (outcome : Result (Option (String Global)) ReadError) (line : List ℕ)
+    → IfOk outcome (λ text. (d : Document) → IsToken d → plain_text d ≡ line → ShowsField (codes "celsius") (normal d) text)
+    → IfOk outcome (λ text. (r : Measurement) → line ≡ plain_text (measurement_document r) → option_map string_bytes text ≡ Some (decimal r.celsius))
 celsius_found (Ok text) line found = λ r printed. number_shown r.celsius text (found (measurement_document r) (IsToken-measurement r) (sym printed))
 celsius_found (Err e) line found = tt

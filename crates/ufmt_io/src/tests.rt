@@ -31,10 +31,10 @@ fn a_watched_reader_notes_a_failed_read(rt: HostRuntime) {
     for (fails_at, rows) in [(NEVER, never_fails), (2, fails_once)] {
         let mut input = Watched::new(Source::new(b"abc", 2, fails_at));
         holds(&rt, !input.has_failed(), "a new one");
-        for (call, answer, read, has_failed) in rows {
+        for (call, outcome, read, has_failed) in rows {
             let mut buffer = *b"....";
             let given = input.read_some(&mut buffer);
-            same(&rt, (call, given), (call, answer), "the answer");
+            same(&rt, (call, given), (call, outcome), "the outcome");
             same(&rt, buffer, *read, "what is read");
             let left = (input.has_failed(), input.device().calls);
             same(&rt, left, (has_failed, call), "failures and calls");
@@ -53,11 +53,11 @@ fn a_watched_writer_notes_a_failed_write(rt: HostRuntime) {
         ("nothing of a piece", 0, NEVER, b"abc", Err(Failed)),
         ("an error", WHOLE, 1, b"abc", Err(Failed)),
     ];
-    for (case, most, fails_at, bytes, answer) in rows {
+    for (case, most, fails_at, bytes, outcome) in rows {
         let mut output = Watched::new(Sink::new(rt.alloc(), most, fails_at, false));
         holds(&rt, !output.has_failed(), case);
-        let has_failed = answer == Err(Failed);
-        same(&rt, output.write_some(bytes), answer, case);
+        let has_failed = outcome == Err(Failed);
+        same(&rt, output.write_some(bytes), outcome, case);
         let left = (output.has_failed(), output.device().calls);
         same(&rt, left, (has_failed, 1), case);
         same(&rt, output.flush_all(), Ok(()), "a flush after it");
@@ -68,12 +68,12 @@ fn a_watched_writer_notes_a_failed_write(rt: HostRuntime) {
 
 #[test]
 fn a_watched_writer_notes_a_failed_flush(rt: HostRuntime) {
-    for (case, fails_flush, answer) in [
+    for (case, fails_flush, outcome) in [
         ("a flush", false, Ok(())),
         ("a flush that fails", true, Err(Failed)),
     ] {
         let mut output = Watched::new(Sink::new(rt.alloc(), WHOLE, NEVER, fails_flush));
-        same(&rt, output.flush_all(), answer, case);
+        same(&rt, output.flush_all(), outcome, case);
         let left = (output.has_failed(), output.device().calls);
         same(&rt, left, (fails_flush, 1), case);
         same(&rt, output.write_some(b"ab"), Ok(2), "a piece after it");

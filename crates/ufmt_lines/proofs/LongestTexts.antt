@@ -1,4 +1,4 @@
--- The laws of answers.
+-- The laws of outputs.
 use Rattle.std.proofs.Common.{◌≡◌, ◌∙◌, refl, ap, sym, inl, inr, ◌⊎◌, ℕ, ◌<◌, List, [], ◌∷◌, ◌++◌, append-nil, Bool, true, false, Some, None, option_map, length, arith, IsTrue}
 use Rattle.ufmt.proofs.NormalForms.{layout-normal}
 use Rattle.ufmt.proofs.ReadingWhole.{reads_each_text}
@@ -9,8 +9,8 @@ use Rattle.ufmt.specs.ReadingQuoted.{read_quoted}
 use Rattle.ufmt.specs.Token.{IsToken}
 use Rattle.ufmt_core.specs.declared.layout.Mode.{Mode}
 use Rattle.ufmt_core.specs.declared.layout.Mode.TheVariants.{Plain, Pretty}
-use Rattle.ufmt_lines.specs.AnswerLaws.{LongestTextIsConverted, MayFollow, NoTextBegins, OthersStay}
-use Rattle.ufmt_lines.specs.Readable.{answer_of, converted, converted_here, may_begin_after, other_mode, tail_converted}
+use Rattle.ufmt_lines.specs.OutputLaws.{LongestTextIsConverted, MayFollow, NoTextBegins, OthersStay}
+use Rattle.ufmt_lines.specs.Readable.{output_of, converted, converted_here, may_begin_after, other_mode, tail_converted}
 use Rattle.ufmt_lines.proofs.Tails.{not_converted, tail_found, tail_skips}
 
 -- whether a text may begin after the words, if it may before them or not
@@ -51,7 +51,7 @@ module _ (mode : Mode) where
       tail_skips here mode byte (words ++ rest) (none_begins here ((byte ∷ words) ++ rest) (λ is. none [] (byte ∷ words) refl (omega arith) is))
       ∙ ap (λ t. byte ∷ t) (words_stay (may_begin_after byte) words rest (λ front back is some after. none (byte ∷ front) back (ap (λ w. byte ∷ w) is) some after))
 
-  stays : (words rest : List ℕ) → NoTextBegins (other_mode mode) words rest → answer_of mode (words ++ rest) ≡ words ++ tail_converted (after_words true words) mode rest
+  stays : (words rest : List ℕ) → NoTextBegins (other_mode mode) words rest → output_of mode (words ++ rest) ≡ words ++ tail_converted (after_words true words) mode rest
   stays words rest none = words_stay true words rest (λ front back is some after. not_converted mode (back ++ rest) (none front back is some (follows front after)))
 
   converted_text : (d : Document) → IsToken d → converted mode (layout (setting (other_mode mode) 0) d) ≡ Some (layout (setting mode 0) d)
@@ -79,4 +79,4 @@ nothing_left here mode = refl
 
 pub others_stay : OthersStay
 others_stay = λ mode text none.
-    ap (answer_of mode) (sym (append-nil text)) ∙ stays mode text [] none ∙ ap (λ t. text ++ t) (nothing_left (after_words true text) mode) ∙ append-nil text
+    ap (output_of mode) (sym (append-nil text)) ∙ stays mode text [] none ∙ ap (λ t. text ++ t) (nothing_left (after_words true text) mode) ∙ append-nil text

@@ -10,9 +10,9 @@ use Rattle.ufmt.specs.Layout.{layout, setting}
 use Rattle.ufmt.specs.Reading.{read_text}
 use Rattle.ufmt.specs.Token.{IsToken, normal}
 use Rattle.ufmt_core.specs.declared.layout.Mode.{Mode}
-use Rattle.ufmt_lines.specs.Readable.{answer_of, converted, converted_here, may_begin_after, other_mode, tail_converted}
-use Rattle.ufmt_lines.specs.Private.Answer.{answer_bytes, answer_seen}
-use Rattle.ufmt_lines.specs.declared.run.answer.Answer.{Answer}
+use Rattle.ufmt_lines.specs.Readable.{output_of, converted, converted_here, may_begin_after, other_mode, tail_converted}
+use Rattle.ufmt_lines.specs.Private.GroupOutput.{output_bytes, output_seen}
+use Rattle.ufmt_lines.specs.declared.run.output.GroupOutput.{GroupOutput}
 use Rattle.ufmt_scan.specs.Texts.{ConvertsTo, IsConverted, IsNormalForm, IsNoText}
 use Rattle.ufmt_scan.specs.declared.scan.event.ScanError.TheVariants.{NotText}
 
@@ -82,16 +82,16 @@ none_here false mode text h = refl
 
 module _ (mode : Mode) (line : List ℕ) (start : ℕ) (within : start < length line) where
   -- a text that begins at this place is the longest if none begins before
-  pub tail_at : (other : List ℕ) → answer_of mode line ≡ take start line ++ tail_converted true mode (drop start line) → converted mode (drop start line) ≡ Some other
-      → answer_of mode line ≡ take start line ++ other
+  pub tail_at : (other : List ℕ) → output_of mode line ≡ take start line ++ tail_converted true mode (drop start line) → converted mode (drop start line) ≡ Some other
+      → output_of mode line ≡ take start line ++ other
   tail_at other before is =
       let rest = drop (suc start) line in
       let at : drop start line ≡ get_or line start 0 ∷ rest = drop-cons line start 0 within in
       before ∙ ap (λ t. take start line ++ t) (ap (tail_converted true mode) at ∙ tail_found mode _ rest other (ap (converted mode) (sym at) ∙ is))
 
   -- if no text begins at this place, its byte stays
-  pub tail_after : (here : Bool) → answer_of mode line ≡ take start line ++ tail_converted here mode (drop start line) → converted_here here mode (drop start line) ≡ None
-      → answer_of mode line ≡ take (start + 1) line ++ tail_converted (may_begin_after (get_or line start 0)) mode (drop (start + 1) line)
+  pub tail_after : (here : Bool) → output_of mode line ≡ take start line ++ tail_converted here mode (drop start line) → converted_here here mode (drop start line) ≡ None
+      → output_of mode line ≡ take (start + 1) line ++ tail_converted (may_begin_after (get_or line start 0)) mode (drop (start + 1) line)
   tail_after here before none =
       let byte = get_or line start 0 in
       let rest = drop (start + 1) line in
@@ -103,20 +103,20 @@ module _ (mode : Mode) (line : List ℕ) (start : ℕ) (within : start < length 
 
 -- past the line's end there is no text
 pub tail_none : (mode : Mode) (line : List ℕ) (start : ℕ) (here : Bool) → length line ≤ start
-    → answer_of mode line ≡ take start line ++ tail_converted here mode (drop start line) → answer_of mode line ≡ line
+    → output_of mode line ≡ take start line ++ tail_converted here mode (drop start line) → output_of mode line ≡ line
 unfolding tail_converted
 tail_none mode line start here past before =
     before ∙ ap (λ t. take start line ++ tail_converted here mode t) (drop_all start line past) ∙ append-nil (take start line) ∙ take_all start line past
 
--- what `write_to` did with an answer, if there is a text to convert
-module _ (mode : Mode) (text : List ℕ) (is_text : is_some (converted mode text) ≡ true) (old new : Answer) where
-  pub answer_grows : {E : Type 0} {done : ⊤} → ConvertsTo {E = E} answer_seen (layout (setting (other_mode mode) 0)) (layout (setting mode 0)) text old (Ok done) new
-      → (other : List ℕ) × (converted mode text ≡ Some other) × (answer_bytes new ≡ answer_bytes old ++ other)
-  answer_grows h =
+-- what `write_to` did with an output, if there is a text to convert
+module _ (mode : Mode) (text : List ℕ) (is_text : is_some (converted mode text) ≡ true) (old new : GroupOutput) where
+  pub output_grows : {E : Type 0} {done : ⊤} → ConvertsTo {E = E} output_seen (layout (setting (other_mode mode) 0)) (layout (setting mode 0)) text old (Ok done) new
+      → (other : List ℕ) × (converted mode text ≡ Some other) × (output_bytes new ≡ output_bytes old ++ other)
+  output_grows h =
       let found = is_some_converted mode text is_text in
       (found.0, found.1, (h.writes found.0 (is_converted mode text found.0 found.1)).appended tt)
 
-  pub never_no_text : {E : Type 0} → ConvertsTo {E = E} answer_seen (layout (setting (other_mode mode) 0)) (layout (setting mode 0)) text old (Err NotText) new → ⊥
+  pub never_no_text : {E : Type 0} → ConvertsTo {E = E} output_seen (layout (setting (other_mode mode) 0)) (layout (setting mode 0)) text old (Err NotText) new → ⊥
   never_no_text h =
       let found = is_some_converted mode text is_text in
       let is = is_converted mode text found.0 found.1 in

@@ -1,4 +1,4 @@
--- The groups of an input's lines that are answered together.
+-- The groups of an input's lines that are converted together.
 use Rattle.std.specs.Prelude.{◌≡◌, ◌≢◌, ℕ, ◌-◌, ◌==◌, ◌||◌, ◌&&◌, Bool, true, false, List, [], ◌∷◌, ◌++◌, length, slice_get, Option, Some, None}
 use Rattle.std.specs.List.{All}
 use Rattle.ufmt.specs.Bytes.{line_feed, space}
@@ -43,7 +43,7 @@ unfoldable pub grouped : Mode → Bool → List (List ℕ) → List (List ℕ)
 grouped mode inside [] = []
 grouped mode inside (line ∷ lines) = onto_group (goes_on mode inside line) line (grouped mode (goes_on mode inside line) lines)
 
--- the groups of lines of a text that are answered in this mode
+-- the groups of lines of a text that are converted to this mode
 abbrev pub groups_of : Mode → List ℕ → List (List ℕ)
 groups_of mode text = grouped mode false (lines_of text)
 

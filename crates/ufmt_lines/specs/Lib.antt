@@ -1,5 +1,5 @@
-pub mod AnswerLaws
-pub mod Answered
+pub mod OutputLaws
+pub mod Output
 pub mod Arguments
 pub mod Fault
 pub mod Groups

@@ -1,11 +1,11 @@
-//! A run of the program: answers each group of lines of its input before it reads the next.
+//! A run of the program: writes the output for each group of lines before it reads the next.
 ghost use Rattle.std.specs.Prelude.{◌≡◌, ◌↔◌, ◌<◌, ◌≤◌, false, take, vec_len, IfErr, IfOk, IsErr, IsErrOf, IsTrue, OnErr, OnOk, ⊤};
 ghost use Rattle.std.specs.Io.KnownBytes.{Consumes, IsAtEnd, Keeps};
-ghost use Rattle.ufmt_lines.specs.Answered.{Answered, AnsweredInPart, ReadAnswered};
+ghost use Rattle.ufmt_lines.specs.Output.{WritesOutput, WritesOutputPrefix, ReadsAndWrites};
 ghost use Rattle.ufmt_lines.specs.Groups.{IsInGroup};
 ghost use Rattle.ufmt_io.specs.Watched.{device_of, has_failed};
 
-mod answer;
+mod output;
 mod arguments;
 mod fault;
 mod groups;
@@ -24,10 +24,10 @@ pub use ufmt_io::{Failed, IoFault, Watched};
 // How many bytes are read at once, at most.
 const CHUNK: usize = 64 * 1024;
 
-/// Reads the input to its end, and writes the answer to each group of lines before it reads further,
-/// with texts in this mode. Memory is kept for the longest group and its answer only.
+/// Reads the input to its end, and writes the output for each group of lines before it reads further,
+/// with texts in this mode. Memory is kept for the longest group and its output only.
 ///
-/// On `CannotWrite` a prefix of the answers was written. On any other fault the answers to whole
+/// On `CannotWrite` a prefix of the outputs was written. On any other fault the outputs for whole
 /// groups were written: to all groups that were read whole, if the fault is `CannotRead`.
 pub fn run<R: Read, W: Write>(
     alloc: Global,
@@ -39,18 +39,18 @@ pub fn run<R: Read, W: Write>(
     requires output_works { has_failed output.old ≡ false }
 
     // What is read and written, if the bytes of reader and writer are known.
-    ensures ok { OnOk result (Answered mode (R.remaining (device_of input.old))
+    ensures ok { OnOk result (WritesOutput mode (R.remaining (device_of input.old))
         (W.contents (device_of output.old)) (W.contents (device_of output.new))) }
     ensures read_whole { OnOk result (IsAtEnd (R.remaining (device_of input.new))) }
     ensures cannot_write { IsErrOf result IoFault.CannotWrite
-        → AnsweredInPart mode (R.remaining (device_of input.old))
+        → WritesOutputPrefix mode (R.remaining (device_of input.old))
         (W.contents (device_of output.old)) (W.contents (device_of output.new)) }
     ensures cannot_read { IsErrOf result IoFault.CannotRead
-        → ReadAnswered mode (IsInGroup mode) (R.remaining (device_of input.old))
+        → ReadsAndWrites mode (IsInGroup mode) (R.remaining (device_of input.old))
         (R.remaining (device_of input.new)) (W.contents (device_of output.old))
         (W.contents (device_of output.new)) }
     ensures out_of_memory { IsErrOf result IoFault.OutOfMemory
-        → ReadAnswered mode (λ _. ⊤) (R.remaining (device_of input.old))
+        → ReadsAndWrites mode (λ _. ⊤) (R.remaining (device_of input.old))
         (R.remaining (device_of input.new)) (W.contents (device_of output.old))
         (W.contents (device_of output.new)) }
 
@@ -63,9 +63,9 @@ pub fn run<R: Read, W: Write>(
     'reads: for _ in 0..u64::MAX {
         let count = read_chunk(input, &mut chunk)?;
         if count == 0 {
-            return group.answer(mode, b"", output);
+            return group.write(mode, b"", output);
         }
-        group.answer_ended(mode, front(&chunk, count), output)?;
+        group.write_ended(mode, front(&chunk, count), output)?;
     }
     // An input with no end, after 2^64 - 1 reads.
     input.give_up();

@@ -9,16 +9,16 @@ use Rattle.ufmt_scan.specs.Texts.{IsNormalForm}
 use Rattle.ufmt_parse.specs.Finds.{Finds}
 
 module _ {T : Type 0} (is_value : T → Type 0) (document : T → Document) (s : Setting) {input : List ℕ} {e : Document} (read : IsNormalForm (layout s) input e)
-    {answer : Option T} (finds : Finds is_value document e answer) where
-  pub found_has_text : (v : T) → answer ≡ Some v → layout s (document v) ≡ input
+    {outcome : Option T} (finds : Finds is_value document e outcome) where
+  pub found_has_text : (v : T) → outcome ≡ Some v → layout s (document v) ≡ input
   found_has_text v is = sym (layout-normal s (document v)) ∙ ap (layout s) (subst (Finds is_value document e) is finds) ∙ read.2
 
-  pub found_has_form : ((d e : Document) → IsToken d → IsToken e → (layout s d ≡ layout s e) ↔ (normal d ≡ normal e)) → (v : T) → answer ≡ Some v
+  pub found_has_form : ((d e : Document) → IsToken d → IsToken e → (layout s d ≡ layout s e) ↔ (normal d ≡ normal e)) → (v : T) → outcome ≡ Some v
       → (d : Document) → IsToken d → layout s d ≡ input → normal (document v) ≡ normal d
   found_has_form determines v is d token same =
       subst (Finds is_value document e) is finds ∙ sym read.1 ∙ sym ((determines d e token read.0).0 (same ∙ sym read.2))
 
-  pub none_has_text : ((d e : Document) → IsToken d → IsToken e → (layout s d ≡ layout s e) ↔ (normal d ≡ normal e)) → answer ≡ None
+  pub none_has_text : ((d e : Document) → IsToken d → IsToken e → (layout s d ≡ layout s e) ↔ (normal d ≡ normal e)) → outcome ≡ None
       → (v : T) → is_value v → IsToken (document v) → layout s (document v) ≢ input
   none_has_text determines is v value token same =
       subst (Finds is_value document e) is finds v value ((determines (document v) e token read.0).0 (same ∙ sym read.2) ∙ read.1)

@@ -27,8 +27,8 @@ fields_same (x ∷ xs) (y ∷ ys) same =
 
 -- a value is found by its parts, if `make` is one-to-one
 pub finds_made : {E T P Q : Type 0} (is_value : T → Type 0) (parts : T → P) (make : P → Q) → ((x y : P) → make x ≡ make y → x ≡ y)
-    → (found : P) (whole : Q) → whole ≡ make found → (answer : Result (Option T) E)
-    → IfOk answer (λ a. FindsParts is_value parts found a) → IfOk answer (λ a. FindsParts is_value (λ v. make (parts v)) whole a)
+    → (found : P) (whole : Q) → whole ≡ make found → (outcome : Result (Option T) E)
+    → IfOk outcome (λ a. FindsParts is_value parts found a) → IfOk outcome (λ a. FindsParts is_value (λ v. make (parts v)) whole a)
 finds_made is_value parts make one found whole is (Ok None) finds = λ v value same. finds v value (one (parts v) found (same ∙ is))
 finds_made is_value parts make one found whole is (Ok (Some x)) finds = ap make finds ∙ sym is
 finds_made is_value parts make one found whole is (Err e) finds = tt
@@ -40,7 +40,7 @@ pub tuple_same : (name : List ℕ) (xs ys : List Document) → tuple_of name (do
 tuple_same name xs ys same = let entries : documents xs ≡ documents ys = cc in documents_same xs ys entries
 
 -- if no value was found, none has the parts
-pub none_found : {T P : Type 0} (is_value : T → Type 0) (parts : T → P) (found : P) {answer : Option T} → FindsParts is_value parts found answer → answer ≡ None
+pub none_found : {T P : Type 0} (is_value : T → Type 0) (parts : T → P) (found : P) {outcome : Option T} → FindsParts is_value parts found outcome → outcome ≡ None
     → (v : T) → is_value v → parts v ≢ found
 none_found is_value parts found finds is = subst (FindsParts is_value parts found) is finds
 

@@ -18,8 +18,8 @@ is_quoted_string : {A : Type 0} (s : String A) → IsQuoted (quoted_text (chars 
 is_quoted_string s = inl (chars (string_bytes s), scalars-chars (string_bytes s) (IsUtf8-string_bytes s), refl)
 
 -- what is unquoted of a leaf that begins with a quotation mark is the text that is printed so
-pub finds_text : {A E : Type 0} (d : Document) (r : Result (Option (String A)) E) → first_byte_of d ≡ Some 34 → IfOk r (λ answer. Unquotes d answer)
-    → IfOk r (λ answer. Finds (λ _. ⊤) (λ s. leaf (quoted_text (chars (string_bytes s)))) d answer)
+pub finds_text : {A E : Type 0} (d : Document) (r : Result (Option (String A)) E) → first_byte_of d ≡ Some 34 → IfOk r (λ outcome. Unquotes d outcome)
+    → IfOk r (λ outcome. Finds (λ _. ⊤) (λ s. leaf (quoted_text (chars (string_bytes s)))) d outcome)
 finds_text d (Ok (Some s)) first is = text_in_quotes d (string_bytes s) first is
 finds_text d (Ok None) first is = λ s _ same. is _ (is_quoted_string s) (sym same)
 finds_text d (Err e) first is = is

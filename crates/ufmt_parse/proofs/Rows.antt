@@ -44,8 +44,8 @@ module _ {T Part : Type 0} (P : T → Type 0) (part : T → Part) {D : Type 0} (
 
 -- what is found in the entries is found in the list
 pub finds_list : {V T E : Type 0} (P : List T → Type 0) (of : T → Document) (items : V → List T) (ds : List Document) (d : Document) (r : Result (Option V) E) → d ≡ list_of (documents ds)
-    → IfOk r (λ answer. FindsParts P (map (λ x. normal (of x))) ds (option_map items answer))
-    → IfOk r (λ answer. Finds P (λ xs. list_of (documents (map of xs))) d (option_map items answer))
+    → IfOk r (λ outcome. FindsParts P (map (λ x. normal (of x))) ds (option_map items outcome))
+    → IfOk r (λ outcome. Finds P (λ xs. list_of (documents (map of xs))) d (option_map items outcome))
 finds_list P of items ds d (Ok (Some v)) list is = ap list_of (normal_all-documents of (items v) ∙ ap documents is) ∙ sym list
 finds_list P of items ds d (Ok None) list is = λ xs value same. is xs value (documents-same _ _ (let entries = normal_all-documents of xs in cc))
 finds_list P of items ds d (Err e) list is = is
@@ -96,8 +96,8 @@ module _ {T : Type 0} (of : T → Document) where
 
   -- what is found in the keys is found in the set
   pub finds_set : {V D E : Type 0} (Q : List T → Type 0) (items : V → List T) (view : D → Document) (docs : List D) (x : D) (rest : List D) (d : Document) (r : Result (Option V) E)
-      → docs ≡ x ∷ rest → d ≡ set_of (documents (map view docs)) → IfOk r (λ answer. FindsParts Q (map (λ x. normal (of x))) (map view docs) (option_map items answer))
-      → IfOk r (λ answer. Finds (λ v. Q (items v)) (λ v. set_of (documents (map of (items v)))) d answer)
+      → docs ≡ x ∷ rest → d ≡ set_of (documents (map view docs)) → IfOk r (λ outcome. FindsParts Q (map (λ x. normal (of x))) (map view docs) (option_map items outcome))
+      → IfOk r (λ outcome. Finds (λ v. Q (items v)) (λ v. set_of (documents (map of (items v)))) d outcome)
   finds_set Q items view docs x rest d (Ok (Some v)) full set is = set_found (items v) _ _ (is ∙ ap (map view) full) ∙ ap (λ ds. set_of (documents (map view ds))) (sym full) ∙ sym set
   finds_set Q items view docs x rest d (Ok None) full set is = λ v value same. is (items v) value (set_same (items v) _ (same ∙ set))
   finds_set Q items view docs x rest d (Err e) full set is = is
@@ -110,8 +110,8 @@ module _ {K X : Type 0} (of_key : K → Document) (of : X → Document) where
 
   -- what is found in the entries is found in the map
   pub finds_map : {V E : Type 0} (Q : List (K × X) → Type 0) (items : V → List (K × X)) (ds : List (Document × Document)) (d : Document) (r : Result (Option V) E)
-      → d ≡ map_of (pairs_of ds) → IfOk r (λ answer. FindsParts Q (map (entry_parts of_key of)) ds (option_map items answer))
-      → IfOk r (λ answer. Finds (λ v. Q (items v)) (λ v. map_of (pairs_of (map (λ e. (of_key e.0, of e.1)) (items v)))) d answer)
+      → d ≡ map_of (pairs_of ds) → IfOk r (λ outcome. FindsParts Q (map (entry_parts of_key of)) ds (option_map items outcome))
+      → IfOk r (λ outcome. Finds (λ v. Q (items v)) (λ v. map_of (pairs_of (map (λ e. (of_key e.0, of e.1)) (items v)))) d outcome)
   finds_map Q items ds d (Ok (Some v)) found is = ap map_of (normal_pairs-pairs_of (items v) ∙ ap pairs_of is) ∙ sym found
   finds_map Q items ds d (Ok None) found is = λ v value same. is (items v) value (pairs-same _ ds (let entries = normal_pairs-pairs_of (items v) in cc))
   finds_map Q items ds d (Err e) found is = is

@@ -51,9 +51,9 @@ impl<T: uParse, const N: usize> uParse for [T; N] {
 
 // The values of a list's entries, however many.
 fn parse_list<T: uParse>(alloc: Global, doc: &Doc) -> Result<Option<Vec<T>>, AllocError>
-    ensures { IfOk result (λ answer.
+    ensures { IfOk result (λ outcome.
         Finds (All T.is_value) (λ values. list_of (documents (map T.document values))) (doc_document doc.now)
-        (option_map (λ values. values.items) answer)) }
+        (option_map (λ values. values.items) outcome)) }
 {
     match doc {
         Doc::Listed(entries) => T::from_docs(alloc, entries),
@@ -67,9 +67,9 @@ pub(crate) fn parse_list_by<T: uDebug + Drop, P: ParsesBy<T>>(
     doc: &Doc,
     by: &P,
 ) -> Result<Option<Vec<T>>, AllocError>
-    ensures { IfOk result (λ answer.
+    ensures { IfOk result (λ outcome.
         Finds (All P.is_value) (λ values. list_of (documents (map T.document values))) (doc_document doc.now)
-        (option_map (λ values. values.items) answer)) }
+        (option_map (λ values. values.items) outcome)) }
 {
     match doc {
         Doc::Listed(entries) => parse_each(alloc, entries, by),
@@ -84,9 +84,9 @@ pub fn parse_each<T: uDebug + Drop, P: ParsesBy<T>>(
     docs: &[Doc],
     by: &P,
 ) -> Result<Option<Vec<T>>, AllocError>
-    ensures { IfOk result (λ answer.
+    ensures { IfOk result (λ outcome.
         FindsParts (All P.is_value) (map (λ value. normal (T.document value))) (map doc_document docs.now)
-        (option_map (λ values. values.items) answer)) }
+        (option_map (λ values. values.items) outcome)) }
 {
     let mut values = Vec::new(alloc);
     for doc in docs {
@@ -127,9 +127,9 @@ impl<T: ParseKey> uParse for BTreeSet<T> {
 
 // The set of these keys, if they ascend.
 fn parse_keys<T: ParseKey>(alloc: Global, docs: &[Doc]) -> Result<Option<BTreeSet<T>>, AllocError>
-    ensures { IfOk result (λ answer.
+    ensures { IfOk result (λ outcome.
         FindsParts (λ keys. All T.is_value keys × IsStrictlySortedBy T.cmp keys) (map (λ key. normal (T.document key)))
-        (map doc_document docs.now) (option_map (λ set. set.keys) answer)) }
+        (map doc_document docs.now) (option_map (λ set. set.keys) outcome)) }
 {
     T::differ_in_text();
     let mut set = BTreeSet::new(alloc);
@@ -182,11 +182,11 @@ fn parse_entries<K: ParseKey, V: uParse>(
     alloc: Global,
     pairs: &[(Doc, Doc)],
 ) -> Result<Option<BTreeMap<K, V>>, AllocError>
-    ensures { IfOk result (λ answer.
+    ensures { IfOk result (λ outcome.
         FindsParts (λ entries. All (IsEntry K.is_value V.is_value) entries
         × IsStrictlySortedBy K.cmp (keys_of entries))
         (map (entry_parts K.document V.document))
-        (map pair_view pairs.now) (option_map (λ found. found.entries) answer)) }
+        (map pair_view pairs.now) (option_map (λ found. found.entries) outcome)) }
 {
     K::differ_in_text();
     let mut map = BTreeMap::new(alloc);

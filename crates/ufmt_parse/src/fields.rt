@@ -27,8 +27,8 @@ pub trait FieldParsers<V> {
         ensures { are_values values.now };
 
     fn parse_entries(&self, alloc: Global, entries: &[Doc]) -> Result<Option<V>, AllocError>
-        ensures { IfOk result (λ answer.
-            FindsParts are_values unnamed (map doc_document entries.now) answer) };
+        ensures { IfOk result (λ outcome.
+            FindsParts are_values unnamed (map doc_document entries.now) outcome) };
 
     fn parse_fields(
         &self,
@@ -36,9 +36,9 @@ pub trait FieldParsers<V> {
         names: &[&str],
         fields: &[(String, Doc)],
     ) -> Result<Option<V>, AllocError>
-        ensures { IfOk result (λ answer.
+        ensures { IfOk result (λ outcome.
             FindsParts are_values (named (map (λ name. name.now) names.now))
-            (map field_view fields.now) answer) };
+            (map field_view fields.now) outcome) };
 }
 
 impl FieldParsers<()> for () {
@@ -130,9 +130,9 @@ pub fn struct_fields<V: Drop, P: FieldParsers<V>>(
     names: &[&str],
     by: &P,
 ) -> Result<Option<V>, AllocError>
-    ensures { IfOk result (λ answer. FindsParts P.are_values
+    ensures { IfOk result (λ outcome. FindsParts P.are_values
         (λ v. struct_of name.now (fields_of (P.named (map (λ name. name.now) names.now) v)))
-        (doc_document doc.now) answer) }
+        (doc_document doc.now) outcome) }
 {
     match doc {
         Doc::StructOf(its_name, fields) => {
@@ -152,9 +152,9 @@ pub fn tuple_fields<V: Drop, P: FieldParsers<V>>(
     name: &str,
     by: &P,
 ) -> Result<Option<V>, AllocError>
-    ensures { IfOk result (λ answer. FindsParts P.are_values
+    ensures { IfOk result (λ outcome. FindsParts P.are_values
         (λ v. tuple_of name.now (documents (P.unnamed v)))
-        (doc_document doc.now) answer) }
+        (doc_document doc.now) outcome) }
 {
     match doc {
         Doc::TupleOf(its_name, fields) => {

@@ -53,17 +53,17 @@ pub trait uParse: uDebug + Drop {
     /// Returns a value whose document has this normal form, or `None` if no value's document has it.
     /// Fails only for want of memory.
     fn from_doc(alloc: Global, doc: &Doc) -> Result<Option<Self>, AllocError>
-        ensures { IfOk result (λ answer.
-            Finds is_value Self.document (doc_document doc.now) answer) };
+        ensures { IfOk result (λ outcome.
+            Finds is_value Self.document (doc_document doc.now) outcome) };
 
     /// Returns the values that print as the documents, each as `from_doc` does, or `None` if one of the
     /// documents is no value's. A type that holds itself makes one depth for all of them here.
     fn from_docs(alloc: Global, docs: &[Doc]) -> Result<Option<Vec<Self>>, AllocError>
     where
         Self: Sized,
-        ensures { IfOk result (λ answer.
+        ensures { IfOk result (λ outcome.
             FindsParts (All is_value) (map (λ value. normal (Self.document value))) (map doc_document docs.now)
-            (option_map (λ values. values.items) answer)) }
+            (option_map (λ values. values.items) outcome)) }
     {
         let mut values = Vec::new(alloc);
         for doc in docs {
@@ -128,11 +128,11 @@ pub fn again_in<T: uParse>(
     buffer: &mut [u8],
     value: &T,
 ) -> Result<Option<T>, ReadError>
-    ensures text { IfOk result (λ answer. IfSome answer (λ again.
+    ensures text { IfOk result (λ outcome. IfSome outcome (λ again.
         plain_text (T.document again) ≡ plain_text (T.document value.now))) }
-    ensures same { IsToken (T.document value.now) → IfOk result (λ answer. IfSome answer (λ again.
+    ensures same { IsToken (T.document value.now) → IfOk result (λ outcome. IfSome outcome (λ again.
         normal (T.document again) ≡ normal (T.document value.now))) }
-    ensures fits { IfOk result (λ answer. (answer ≡ None)
+    ensures fits { IfOk result (λ outcome. (outcome ≡ None)
         ↔ (length buffer.old < length (plain_text (T.document value.now)))) }
     ensures is_text { IsToken (T.document value.now) → IsErrOf result ReadError.NotText → ⊥ }
     ensures front { Fronts buffer.old (plain_text (T.document value.now))

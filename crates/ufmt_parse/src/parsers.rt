@@ -23,8 +23,8 @@ pub trait ParsesBy<T: uDebug> {
 
     /// Returns a value whose document has this normal form, as `from_doc` of `uParse` does.
     fn parse_by(&self, alloc: Global, doc: &Doc) -> Result<Option<T>, AllocError>
-        ensures { IfOk result (λ answer.
-            Finds is_value T.document (doc_document doc.now) answer) };
+        ensures { IfOk result (λ outcome.
+            Finds is_value T.document (doc_document doc.now) outcome) };
 }
 
 impl<T: uDebug, P: ParsesBy<T>> ParsesBy<T> for Box<P> {

@@ -16,9 +16,9 @@ pub fn parse_tuple_1<A: uParse>(
     doc: &Doc,
     name: &str,
 ) -> Result<Option<A>, AllocError>
-    ensures some { IfOk result (λ answer. IfSome answer (λ v.
+    ensures some { IfOk result (λ outcome. IfSome outcome (λ v.
         tuple_of name.now (documents (normal (A.document v) ∷ [])) ≡ doc_document doc.now)) }
-    ensures none { IfOk result (λ answer. answer ≡ None → (a_value : A) → A.is_value a_value
+    ensures none { IfOk result (λ outcome. outcome ≡ None → (a_value : A) → A.is_value a_value
         → tuple_of name.now (documents (normal (A.document a_value) ∷ [])) ≢ doc_document doc.now) }
 {
     match tuple_fields(alloc, doc, name, &(Plain, ()))? {
@@ -33,9 +33,9 @@ pub fn parse_tuple_2<A: uParse, B: uParse>(
     doc: &Doc,
     name: &str,
 ) -> Result<Option<(A, B)>, AllocError>
-    ensures some { IfOk result (λ answer. IfSome answer (λ v.
+    ensures some { IfOk result (λ outcome. IfSome outcome (λ v.
         tuple_of name.now (documents (normal (A.document v.0) ∷ normal (B.document v.1) ∷ [])) ≡ doc_document doc.now)) }
-    ensures none { IfOk result (λ answer. answer ≡ None → (a_value : A) (b_value : B) → A.is_value a_value → B.is_value b_value
+    ensures none { IfOk result (λ outcome. outcome ≡ None → (a_value : A) (b_value : B) → A.is_value a_value → B.is_value b_value
         → tuple_of name.now (documents (normal (A.document a_value) ∷ normal (B.document b_value) ∷ [])) ≢ doc_document doc.now) }
 {
     match tuple_fields(alloc, doc, name, &(Plain, (Plain, ())))? {
@@ -50,9 +50,9 @@ pub fn parse_tuple_3<A: uParse, B: uParse, C: uParse>(
     doc: &Doc,
     name: &str,
 ) -> Result<Option<(A, B, C)>, AllocError>
-    ensures some { IfOk result (λ answer. IfSome answer (λ v.
+    ensures some { IfOk result (λ outcome. IfSome outcome (λ v.
         tuple_of name.now (documents (normal (A.document v.0) ∷ normal (B.document v.1) ∷ normal (C.document v.2) ∷ [])) ≡ doc_document doc.now)) }
-    ensures none { IfOk result (λ answer. answer ≡ None → (a_value : A) (b_value : B) (c_value : C) → A.is_value a_value → B.is_value b_value → C.is_value c_value
+    ensures none { IfOk result (λ outcome. outcome ≡ None → (a_value : A) (b_value : B) (c_value : C) → A.is_value a_value → B.is_value b_value → C.is_value c_value
         → tuple_of name.now (documents (normal (A.document a_value) ∷ normal (B.document b_value) ∷ normal (C.document c_value) ∷ [])) ≢ doc_document doc.now) }
 {
     match tuple_fields(alloc, doc, name, &(Plain, (Plain, (Plain, ()))))? {
@@ -67,9 +67,9 @@ pub fn parse_tuple_4<A: uParse, B: uParse, C: uParse, D: uParse>(
     doc: &Doc,
     name: &str,
 ) -> Result<Option<(A, B, C, D)>, AllocError>
-    ensures some { IfOk result (λ answer. IfSome answer (λ v.
+    ensures some { IfOk result (λ outcome. IfSome outcome (λ v.
         tuple_of name.now (documents (normal (A.document v.0) ∷ normal (B.document v.1) ∷ normal (C.document v.2) ∷ normal (D.document v.3) ∷ [])) ≡ doc_document doc.now)) }
-    ensures none { IfOk result (λ answer. answer ≡ None → (a_value : A) (b_value : B) (c_value : C) (d_value : D) → A.is_value a_value → B.is_value b_value → C.is_value c_value → D.is_value d_value
+    ensures none { IfOk result (λ outcome. outcome ≡ None → (a_value : A) (b_value : B) (c_value : C) (d_value : D) → A.is_value a_value → B.is_value b_value → C.is_value c_value → D.is_value d_value
         → tuple_of name.now (documents (normal (A.document a_value) ∷ normal (B.document b_value) ∷ normal (C.document c_value) ∷ normal (D.document d_value) ∷ [])) ≢ doc_document doc.now) }
 {
     match tuple_fields(alloc, doc, name, &(Plain, (Plain, (Plain, (Plain, ())))))? {
@@ -84,9 +84,9 @@ pub fn parse_tuple_5<A: uParse, B: uParse, C: uParse, D: uParse, E: uParse>(
     doc: &Doc,
     name: &str,
 ) -> Result<Option<(A, B, C, D, E)>, AllocError>
-    ensures some { IfOk result (λ answer. IfSome answer (λ v.
+    ensures some { IfOk result (λ outcome. IfSome outcome (λ v.
         tuple_of name.now (documents (normal (A.document v.0) ∷ normal (B.document v.1) ∷ normal (C.document v.2) ∷ normal (D.document v.3) ∷ normal (E.document v.4) ∷ [])) ≡ doc_document doc.now)) }
-    ensures none { IfOk result (λ answer. answer ≡ None → (a_value : A) (b_value : B) (c_value : C) (d_value : D) (e_value : E) → A.is_value a_value → B.is_value b_value → C.is_value c_value → D.is_value d_value → E.is_value e_value
+    ensures none { IfOk result (λ outcome. outcome ≡ None → (a_value : A) (b_value : B) (c_value : C) (d_value : D) (e_value : E) → A.is_value a_value → B.is_value b_value → C.is_value c_value → D.is_value d_value → E.is_value e_value
         → tuple_of name.now (documents (normal (A.document a_value) ∷ normal (B.document b_value) ∷ normal (C.document c_value) ∷ normal (D.document d_value) ∷ normal (E.document e_value) ∷ [])) ≢ doc_document doc.now) }
 {
     match tuple_fields(
@@ -106,9 +106,9 @@ pub fn parse_tuple_6<A: uParse, B: uParse, C: uParse, D: uParse, E: uParse, F: u
     doc: &Doc,
     name: &str,
 ) -> Result<Option<(A, B, C, D, E, F)>, AllocError>
-    ensures some { IfOk result (λ answer. IfSome answer (λ v.
+    ensures some { IfOk result (λ outcome. IfSome outcome (λ v.
         tuple_of name.now (documents (normal (A.document v.0) ∷ normal (B.document v.1) ∷ normal (C.document v.2) ∷ normal (D.document v.3) ∷ normal (E.document v.4) ∷ normal (F.document v.5) ∷ [])) ≡ doc_document doc.now)) }
-    ensures none { IfOk result (λ answer. answer ≡ None → (a_value : A) (b_value : B) (c_value : C) (d_value : D) (e_value : E) (f_value : F) → A.is_value a_value → B.is_value b_value → C.is_value c_value → D.is_value d_value → E.is_value e_value → F.is_value f_value
+    ensures none { IfOk result (λ outcome. outcome ≡ None → (a_value : A) (b_value : B) (c_value : C) (d_value : D) (e_value : E) (f_value : F) → A.is_value a_value → B.is_value b_value → C.is_value c_value → D.is_value d_value → E.is_value e_value → F.is_value f_value
         → tuple_of name.now (documents (normal (A.document a_value) ∷ normal (B.document b_value) ∷ normal (C.document c_value) ∷ normal (D.document d_value) ∷ normal (E.document e_value) ∷ normal (F.document f_value) ∷ [])) ≢ doc_document doc.now) }
 {
     match tuple_fields(
@@ -128,9 +128,9 @@ pub fn parse_tuple_7<A: uParse, B: uParse, C: uParse, D: uParse, E: uParse, F: u
     doc: &Doc,
     name: &str,
 ) -> Result<Option<(A, B, C, D, E, F, G)>, AllocError>
-    ensures some { IfOk result (λ answer. IfSome answer (λ v.
+    ensures some { IfOk result (λ outcome. IfSome outcome (λ v.
         tuple_of name.now (documents (normal (A.document v.0) ∷ normal (B.document v.1) ∷ normal (C.document v.2) ∷ normal (D.document v.3) ∷ normal (E.document v.4) ∷ normal (F.document v.5) ∷ normal (G.document v.6) ∷ [])) ≡ doc_document doc.now)) }
-    ensures none { IfOk result (λ answer. answer ≡ None → (a_value : A) (b_value : B) (c_value : C) (d_value : D) (e_value : E) (f_value : F) (g_value : G) → A.is_value a_value → B.is_value b_value → C.is_value c_value → D.is_value d_value → E.is_value e_value → F.is_value f_value → G.is_value g_value
+    ensures none { IfOk result (λ outcome. outcome ≡ None → (a_value : A) (b_value : B) (c_value : C) (d_value : D) (e_value : E) (f_value : F) (g_value : G) → A.is_value a_value → B.is_value b_value → C.is_value c_value → D.is_value d_value → E.is_value e_value → F.is_value f_value → G.is_value g_value
         → tuple_of name.now (documents (normal (A.document a_value) ∷ normal (B.document b_value) ∷ normal (C.document c_value) ∷ normal (D.document d_value) ∷ normal (E.document e_value) ∷ normal (F.document f_value) ∷ normal (G.document g_value) ∷ [])) ≢ doc_document doc.now) }
 {
     match tuple_fields(
@@ -158,9 +158,9 @@ pub fn parse_tuple_8<
     G: uParse,
     H: uParse,
 >(alloc: Global, doc: &Doc, name: &str) -> Result<Option<(A, B, C, D, E, F, G, H)>, AllocError>
-    ensures some { IfOk result (λ answer. IfSome answer (λ v.
+    ensures some { IfOk result (λ outcome. IfSome outcome (λ v.
         tuple_of name.now (documents (normal (A.document v.0) ∷ normal (B.document v.1) ∷ normal (C.document v.2) ∷ normal (D.document v.3) ∷ normal (E.document v.4) ∷ normal (F.document v.5) ∷ normal (G.document v.6) ∷ normal (H.document v.7) ∷ [])) ≡ doc_document doc.now)) }
-    ensures none { IfOk result (λ answer. answer ≡ None → (a_value : A) (b_value : B) (c_value : C) (d_value : D) (e_value : E) (f_value : F) (g_value : G) (h_value : H) → A.is_value a_value → B.is_value b_value → C.is_value c_value → D.is_value d_value → E.is_value e_value → F.is_value f_value → G.is_value g_value → H.is_value h_value
+    ensures none { IfOk result (λ outcome. outcome ≡ None → (a_value : A) (b_value : B) (c_value : C) (d_value : D) (e_value : E) (f_value : F) (g_value : G) (h_value : H) → A.is_value a_value → B.is_value b_value → C.is_value c_value → D.is_value d_value → E.is_value e_value → F.is_value f_value → G.is_value g_value → H.is_value h_value
         → tuple_of name.now (documents (normal (A.document a_value) ∷ normal (B.document b_value) ∷ normal (C.document c_value) ∷ normal (D.document d_value) ∷ normal (E.document e_value) ∷ normal (F.document f_value) ∷ normal (G.document g_value) ∷ normal (H.document h_value) ∷ [])) ≢ doc_document doc.now) }
 {
     match tuple_fields(
@@ -192,9 +192,9 @@ pub fn parse_tuple_9<
     H: uParse,
     I: uParse,
 >(alloc: Global, doc: &Doc, name: &str) -> Result<Option<(A, B, C, D, E, F, G, H, I)>, AllocError>
-    ensures some { IfOk result (λ answer. IfSome answer (λ v.
+    ensures some { IfOk result (λ outcome. IfSome outcome (λ v.
         tuple_of name.now (documents (normal (A.document v.0) ∷ normal (B.document v.1) ∷ normal (C.document v.2) ∷ normal (D.document v.3) ∷ normal (E.document v.4) ∷ normal (F.document v.5) ∷ normal (G.document v.6) ∷ normal (H.document v.7) ∷ normal (I.document v.8) ∷ [])) ≡ doc_document doc.now)) }
-    ensures none { IfOk result (λ answer. answer ≡ None → (a_value : A) (b_value : B) (c_value : C) (d_value : D) (e_value : E) (f_value : F) (g_value : G) (h_value : H) (i_value : I) → A.is_value a_value → B.is_value b_value → C.is_value c_value → D.is_value d_value → E.is_value e_value → F.is_value f_value → G.is_value g_value → H.is_value h_value → I.is_value i_value
+    ensures none { IfOk result (λ outcome. outcome ≡ None → (a_value : A) (b_value : B) (c_value : C) (d_value : D) (e_value : E) (f_value : F) (g_value : G) (h_value : H) (i_value : I) → A.is_value a_value → B.is_value b_value → C.is_value c_value → D.is_value d_value → E.is_value e_value → F.is_value f_value → G.is_value g_value → H.is_value h_value → I.is_value i_value
         → tuple_of name.now (documents (normal (A.document a_value) ∷ normal (B.document b_value) ∷ normal (C.document c_value) ∷ normal (D.document d_value) ∷ normal (E.document e_value) ∷ normal (F.document f_value) ∷ normal (G.document g_value) ∷ normal (H.document h_value) ∷ normal (I.document i_value) ∷ [])) ≢ doc_document doc.now) }
 {
     match tuple_fields(
@@ -236,9 +236,9 @@ pub fn parse_tuple_10<
     doc: &Doc,
     name: &str,
 ) -> Result<Option<(A, B, C, D, E, F, G, H, I, J)>, AllocError>
-    ensures some { IfOk result (λ answer. IfSome answer (λ v.
+    ensures some { IfOk result (λ outcome. IfSome outcome (λ v.
         tuple_of name.now (documents (normal (A.document v.0) ∷ normal (B.document v.1) ∷ normal (C.document v.2) ∷ normal (D.document v.3) ∷ normal (E.document v.4) ∷ normal (F.document v.5) ∷ normal (G.document v.6) ∷ normal (H.document v.7) ∷ normal (I.document v.8) ∷ normal (J.document v.9) ∷ [])) ≡ doc_document doc.now)) }
-    ensures none { IfOk result (λ answer. answer ≡ None → (a_value : A) (b_value : B) (c_value : C) (d_value : D) (e_value : E) (f_value : F) (g_value : G) (h_value : H) (i_value : I) (j_value : J) → A.is_value a_value → B.is_value b_value → C.is_value c_value → D.is_value d_value → E.is_value e_value → F.is_value f_value → G.is_value g_value → H.is_value h_value → I.is_value i_value → J.is_value j_value
+    ensures none { IfOk result (λ outcome. outcome ≡ None → (a_value : A) (b_value : B) (c_value : C) (d_value : D) (e_value : E) (f_value : F) (g_value : G) (h_value : H) (i_value : I) (j_value : J) → A.is_value a_value → B.is_value b_value → C.is_value c_value → D.is_value d_value → E.is_value e_value → F.is_value f_value → G.is_value g_value → H.is_value h_value → I.is_value i_value → J.is_value j_value
         → tuple_of name.now (documents (normal (A.document a_value) ∷ normal (B.document b_value) ∷ normal (C.document c_value) ∷ normal (D.document d_value) ∷ normal (E.document e_value) ∷ normal (F.document f_value) ∷ normal (G.document g_value) ∷ normal (H.document h_value) ∷ normal (I.document i_value) ∷ normal (J.document j_value) ∷ [])) ≢ doc_document doc.now) }
 {
     match tuple_fields(
@@ -284,9 +284,9 @@ pub fn parse_tuple_11<
     doc: &Doc,
     name: &str,
 ) -> Result<Option<(A, B, C, D, E, F, G, H, I, J, K)>, AllocError>
-    ensures some { IfOk result (λ answer. IfSome answer (λ v.
+    ensures some { IfOk result (λ outcome. IfSome outcome (λ v.
         tuple_of name.now (documents (normal (A.document v.0) ∷ normal (B.document v.1) ∷ normal (C.document v.2) ∷ normal (D.document v.3) ∷ normal (E.document v.4) ∷ normal (F.document v.5) ∷ normal (G.document v.6) ∷ normal (H.document v.7) ∷ normal (I.document v.8) ∷ normal (J.document v.9) ∷ normal (K.document v.10) ∷ [])) ≡ doc_document doc.now)) }
-    ensures none { IfOk result (λ answer. answer ≡ None → (a_value : A) (b_value : B) (c_value : C) (d_value : D) (e_value : E) (f_value : F) (g_value : G) (h_value : H) (i_value : I) (j_value : J) (k_value : K) → A.is_value a_value → B.is_value b_value → C.is_value c_value → D.is_value d_value → E.is_value e_value → F.is_value f_value → G.is_value g_value → H.is_value h_value → I.is_value i_value → J.is_value j_value → K.is_value k_value
+    ensures none { IfOk result (λ outcome. outcome ≡ None → (a_value : A) (b_value : B) (c_value : C) (d_value : D) (e_value : E) (f_value : F) (g_value : G) (h_value : H) (i_value : I) (j_value : J) (k_value : K) → A.is_value a_value → B.is_value b_value → C.is_value c_value → D.is_value d_value → E.is_value e_value → F.is_value f_value → G.is_value g_value → H.is_value h_value → I.is_value i_value → J.is_value j_value → K.is_value k_value
         → tuple_of name.now (documents (normal (A.document a_value) ∷ normal (B.document b_value) ∷ normal (C.document c_value) ∷ normal (D.document d_value) ∷ normal (E.document e_value) ∷ normal (F.document f_value) ∷ normal (G.document g_value) ∷ normal (H.document h_value) ∷ normal (I.document i_value) ∷ normal (J.document j_value) ∷ normal (K.document k_value) ∷ [])) ≢ doc_document doc.now) }
 {
     match tuple_fields(
@@ -336,9 +336,9 @@ pub fn parse_tuple_12<
     doc: &Doc,
     name: &str,
 ) -> Result<Option<(A, B, C, D, E, F, G, H, I, J, K, L)>, AllocError>
-    ensures some { IfOk result (λ answer. IfSome answer (λ v.
+    ensures some { IfOk result (λ outcome. IfSome outcome (λ v.
         tuple_of name.now (documents (normal (A.document v.0) ∷ normal (B.document v.1) ∷ normal (C.document v.2) ∷ normal (D.document v.3) ∷ normal (E.document v.4) ∷ normal (F.document v.5) ∷ normal (G.document v.6) ∷ normal (H.document v.7) ∷ normal (I.document v.8) ∷ normal (J.document v.9) ∷ normal (K.document v.10) ∷ normal (L.document v.11) ∷ [])) ≡ doc_document doc.now)) }
-    ensures none { IfOk result (λ answer. answer ≡ None → (a_value : A) (b_value : B) (c_value : C) (d_value : D) (e_value : E) (f_value : F) (g_value : G) (h_value : H) (i_value : I) (j_value : J) (k_value : K) (l_value : L) → A.is_value a_value → B.is_value b_value → C.is_value c_value → D.is_value d_value → E.is_value e_value → F.is_value f_value → G.is_value g_value → H.is_value h_value → I.is_value i_value → J.is_value j_value → K.is_value k_value → L.is_value l_value
+    ensures none { IfOk result (λ outcome. outcome ≡ None → (a_value : A) (b_value : B) (c_value : C) (d_value : D) (e_value : E) (f_value : F) (g_value : G) (h_value : H) (i_value : I) (j_value : J) (k_value : K) (l_value : L) → A.is_value a_value → B.is_value b_value → C.is_value c_value → D.is_value d_value → E.is_value e_value → F.is_value f_value → G.is_value g_value → H.is_value h_value → I.is_value i_value → J.is_value j_value → K.is_value k_value → L.is_value l_value
         → tuple_of name.now (documents (normal (A.document a_value) ∷ normal (B.document b_value) ∷ normal (C.document c_value) ∷ normal (D.document d_value) ∷ normal (E.document e_value) ∷ normal (F.document f_value) ∷ normal (G.document g_value) ∷ normal (H.document h_value) ∷ normal (I.document i_value) ∷ normal (J.document j_value) ∷ normal (K.document k_value) ∷ normal (L.document l_value) ∷ [])) ≢ doc_document doc.now) }
 {
     match tuple_fields(

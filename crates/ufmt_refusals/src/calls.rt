@@ -1,5 +1,5 @@
 //! The calls that take memory, on texts and values. Each has a line that says what it returned.
-use crate::answer::Answer;
+use crate::outcome::Outcome;
 use crate::printed::two_nodes;
 use crate::report::report;
 use crate::samples::{NODE_PLAIN, NODE_PRETTY, Sample};
@@ -19,26 +19,26 @@ const OF_A_STRING: u64 = 1;
 pub fn report_readers(rt: &HostRuntime, sample: &Sample) -> io::Result<()> {
     let (plain, pretty) = (sample.plain.as_bytes(), sample.pretty.as_bytes());
     let ample = sample.ample_plain();
-    let answer = Answer::of_value(read_plain(rt.alloc(), plain), ample);
-    report(rt, "read_plain", sample.name, sample.of_document, answer)?;
-    let answer = Answer::of_value(read_pretty(rt.alloc(), pretty), ample);
-    report(rt, "read_pretty", sample.name, sample.of_document, answer)
+    let outcome = Outcome::of_value(read_plain(rt.alloc(), plain), ample);
+    report(rt, "read_plain", sample.name, sample.of_document, outcome)?;
+    let outcome = Outcome::of_value(read_pretty(rt.alloc(), pretty), ample);
+    report(rt, "read_pretty", sample.name, sample.of_document, outcome)
 }
 
 /// Converts each text of a sample to the other.
 pub fn report_conversions(rt: &HostRuntime, sample: &Sample) -> io::Result<()> {
     let alloc = rt.alloc();
     let (plain, pretty) = (sample.plain.as_bytes(), sample.pretty.as_bytes());
-    let answer = to_pretty(alloc, plain);
-    report_pretty(rt, sample, ("to_pretty", OF_A_STRING), answer)?;
-    let answer = to_plain(alloc, pretty);
-    report_plain(rt, sample, ("to_plain", OF_A_STRING), answer)?;
-    let answer = pretty_in_a_text(alloc, plain);
+    let outcome = to_pretty(alloc, plain);
+    report_pretty(rt, sample, ("to_pretty", OF_A_STRING), outcome)?;
+    let outcome = to_plain(alloc, pretty);
+    report_plain(rt, sample, ("to_plain", OF_A_STRING), outcome)?;
+    let outcome = pretty_in_a_text(alloc, plain);
     let line = ("write_to_pretty, into a text,", sample.of_pretty);
-    report_pretty(rt, sample, line, answer)?;
-    let answer = plain_in_a_text(alloc, pretty);
+    report_pretty(rt, sample, line, outcome)?;
+    let outcome = plain_in_a_text(alloc, pretty);
     let line = ("write_to_plain, into a text,", sample.of_plain);
-    report_plain(rt, sample, line, answer)
+    report_plain(rt, sample, line, outcome)
 }
 
 // Prints a line on a conversion of a sample's plain text, with its name and its allocations.
@@ -46,10 +46,10 @@ fn report_pretty(
     rt: &HostRuntime,
     sample: &Sample,
     (call, allocations): (&str, u64),
-    answer: Result<String, ReadError>,
+    outcome: Result<String, ReadError>,
 ) -> io::Result<()> {
-    let answer = Answer::of_conversion(answer, sample.ample_pretty());
-    report(rt, call, sample.name, allocations, answer)
+    let outcome = Outcome::of_conversion(outcome, sample.ample_pretty());
+    report(rt, call, sample.name, allocations, outcome)
 }
 
 // Prints a line on a conversion of a sample's pretty text.
@@ -57,10 +57,10 @@ fn report_plain(
     rt: &HostRuntime,
     sample: &Sample,
     (call, allocations): (&str, u64),
-    answer: Result<String, ReadError>,
+    outcome: Result<String, ReadError>,
 ) -> io::Result<()> {
-    let answer = Answer::of_conversion(answer, sample.ample_plain());
-    report(rt, call, sample.name, allocations, answer)
+    let outcome = Outcome::of_conversion(outcome, sample.ample_plain());
+    report(rt, call, sample.name, allocations, outcome)
 }
 
 fn pretty_in_a_text(alloc: Global, plain: &[u8]) -> Result<String, ReadError> {
@@ -77,16 +77,16 @@ fn plain_in_a_text(alloc: Global, pretty: &[u8]) -> Result<String, ReadError> {
 
 /// Makes the texts of a node and of three lengths.
 pub fn report_values(rt: &HostRuntime) -> io::Result<()> {
-    let answer = Answer::of_text(plain_text(rt.alloc(), &two_nodes()), NODE_PLAIN);
-    report(rt, "plain_text", "a node", 4, answer)?;
-    let answer = Answer::of_text(pretty_text(rt.alloc(), &two_nodes()), NODE_PRETTY);
-    report(rt, "pretty_text", "a node", 5, answer)?;
+    let outcome = Outcome::of_text(plain_text(rt.alloc(), &two_nodes()), NODE_PLAIN);
+    report(rt, "plain_text", "a node", 4, outcome)?;
+    let outcome = Outcome::of_text(pretty_text(rt.alloc(), &two_nodes()), NODE_PRETTY);
+    report(rt, "pretty_text", "a node", 5, outcome)?;
     let lengths = [2u64, 0, 3];
-    let answer = Answer::of_text(plain_text(rt.alloc(), &lengths), "[2, 0, 3]");
-    report(rt, "plain_text", "three lengths", 2, answer)?;
+    let outcome = Outcome::of_text(plain_text(rt.alloc(), &lengths), "[2, 0, 3]");
+    report(rt, "plain_text", "three lengths", 2, outcome)?;
     let pretty = "[\n    2,\n    0,\n    3,\n]";
-    let answer = Answer::of_text(pretty_text(rt.alloc(), &lengths), pretty);
-    report(rt, "pretty_text", "three lengths", 3, answer)
+    let outcome = Outcome::of_text(pretty_text(rt.alloc(), &lengths), pretty);
+    report(rt, "pretty_text", "three lengths", 3, outcome)
 }
 
 // A text, and its leaf in quotes.
@@ -106,13 +106,13 @@ const CHARACTERS: [(&str, char, &str); 6] = [
 
 /// Makes leaves in quotes of texts and characters.
 pub fn report_quoted(rt: &HostRuntime) -> io::Result<()> {
-    let answer = Answer::of_value(leaf_of_text(rt.alloc(), TEXT), Some(QUOTED));
-    report(rt, "Doc::text", "a text", 2, answer)?;
-    let answer = Answer::of_value(leaf_of_text(rt.alloc(), ""), Some("\"\""));
-    report(rt, "Doc::text", "no byte", 1, answer)?;
+    let outcome = Outcome::of_value(leaf_of_text(rt.alloc(), TEXT), Some(QUOTED));
+    report(rt, "Doc::text", "a text", 2, outcome)?;
+    let outcome = Outcome::of_value(leaf_of_text(rt.alloc(), ""), Some("\"\""));
+    report(rt, "Doc::text", "no byte", 1, outcome)?;
     for (case, character, leaf) in CHARACTERS {
-        let answer = Answer::of_value(leaf_of_character(rt.alloc(), character), Some(leaf));
-        report(rt, "Doc::character", case, 1, answer)?;
+        let outcome = Outcome::of_value(leaf_of_character(rt.alloc(), character), Some(leaf));
+        report(rt, "Doc::character", case, 1, outcome)?;
     }
     Ok(())
 }
@@ -171,9 +171,9 @@ where
 {
     let (call, case, allocations) = line;
     let mut text = String::new(rt.alloc());
-    let answer = match write(&mut text) {
-        Ok(()) if text.as_str() != ample => Answer::Other,
-        answer => Answer::of_memory(answer),
+    let outcome = match write(&mut text) {
+        Ok(()) if text.as_str() != ample => Outcome::Other,
+        outcome => Outcome::of_memory(outcome),
     };
-    report(rt, call, case, allocations, answer)
+    report(rt, call, case, allocations, outcome)
 }

@@ -1,5 +1,5 @@
 //! The calls on documents, texts and leaves that take no memory, and `unquoted`, which takes some.
-use crate::answer::{Answer, has_plain_text};
+use crate::outcome::{Outcome, has_plain_text};
 use crate::loose::{loosen, read_twice};
 use crate::report::{report, report_free};
 use crate::samples::{MANY_PLAIN, MANY_PRETTY};
@@ -17,10 +17,10 @@ const MANY: &str = "many entries";
 
 /// Makes each call on a document of many entries, and on another with the same text.
 pub fn report_documents(rt: &HostRuntime) -> io::Result<()> {
-    let (answer, doc) = read_twice(rt.alloc(), Mode::Plain, MANY_PLAIN);
-    report(rt, "read_plain", MANY, 43, answer)?;
-    let (answer, other) = read_twice(rt.alloc(), Mode::Pretty, MANY_PRETTY);
-    report(rt, "read_pretty", MANY, 43, answer)?;
+    let (outcome, doc) = read_twice(rt.alloc(), Mode::Plain, MANY_PLAIN);
+    report(rt, "read_plain", MANY, 43, outcome)?;
+    let (outcome, other) = read_twice(rt.alloc(), Mode::Pretty, MANY_PRETTY);
+    report(rt, "read_pretty", MANY, 43, outcome)?;
     match (doc, other) {
         (Some(doc), Some(other)) => {
             report_parts(rt, &doc)?;
@@ -117,8 +117,8 @@ fn report_unquoted(rt: &HostRuntime, doc: &Doc) -> io::Result<()> {
         ("escapes", 13, "\0\t\r\\\u{1}\u{7f}'"),
     ] {
         let leaf = entries.get(number).unwrap_or(doc);
-        let answer = Answer::of_text(unquoted(rt.alloc(), leaf), ample);
-        report(rt, "unquoted", case, 1, answer)?;
+        let outcome = Outcome::of_text(unquoted(rt.alloc(), leaf), ample);
+        report(rt, "unquoted", case, 1, outcome)?;
     }
     report_free(
         rt,

@@ -1,5 +1,5 @@
 //! The laws of reading and writing that take memory.
-use crate::answer::Answer;
+use crate::outcome::Outcome;
 use crate::loose::{loosen, read_twice};
 use crate::report::report;
 use crate::samples::{NODE_PLAIN, NODE_PRETTY};
@@ -11,18 +11,18 @@ use ufmt_doc::laws::*;
 /// Calls the laws by which texts and a document come back.
 pub fn report_laws(rt: &HostRuntime) -> io::Result<()> {
     let (plain, pretty) = (NODE_PLAIN.as_bytes(), NODE_PRETTY.as_bytes());
-    let answer = Answer::of_conversion(plain_again(rt.alloc(), plain), Some(NODE_PLAIN));
-    report(rt, "plain_again", "a node", 20, answer)?;
-    let answer = Answer::of_conversion(pretty_again(rt.alloc(), pretty), Some(NODE_PRETTY));
-    report(rt, "pretty_again", "a node", 21, answer)?;
+    let outcome = Outcome::of_conversion(plain_again(rt.alloc(), plain), Some(NODE_PLAIN));
+    report(rt, "plain_again", "a node", 20, outcome)?;
+    let outcome = Outcome::of_conversion(pretty_again(rt.alloc(), pretty), Some(NODE_PRETTY));
+    report(rt, "pretty_again", "a node", 21, outcome)?;
     let again = plain_by_way_of_pretty(rt.alloc(), plain);
-    let answer = Answer::of_conversion(again, Some(NODE_PLAIN));
-    report(rt, "plain_by_way_of_pretty", "a node", 2, answer)?;
+    let outcome = Outcome::of_conversion(again, Some(NODE_PLAIN));
+    report(rt, "plain_by_way_of_pretty", "a node", 2, outcome)?;
     let again = pretty_by_way_of_plain(rt.alloc(), pretty);
-    let answer = Answer::of_conversion(again, Some(NODE_PRETTY));
-    report(rt, "pretty_by_way_of_plain", "a node", 2, answer)?;
-    let (answer, doc) = read_twice(rt.alloc(), Mode::Plain, LOOSE);
-    report(rt, "read_plain", "a tuple, for its normal form", 3, answer)?;
+    let outcome = Outcome::of_conversion(again, Some(NODE_PRETTY));
+    report(rt, "pretty_by_way_of_plain", "a node", 2, outcome)?;
+    let (outcome, doc) = read_twice(rt.alloc(), Mode::Plain, LOOSE);
+    report(rt, "read_plain", "a tuple, for its normal form", 3, outcome)?;
     match doc {
         Some(doc) => report_normal(rt, doc),
         None => Ok(()),
@@ -37,8 +37,8 @@ fn report_normal(rt: &HostRuntime, mut doc: Doc) -> io::Result<()> {
     if !doc.is_token() {
         return Ok(());
     }
-    let answer = Answer::of_value(normal_by_way_of_plain(rt.alloc(), &doc), Some(LOOSE));
-    report(rt, "normal_by_way_of_plain", "a tuple", 4, answer)?;
-    let answer = Answer::of_value(normal_by_way_of_pretty(rt.alloc(), &doc), Some(LOOSE));
-    report(rt, "normal_by_way_of_pretty", "a tuple", 6, answer)
+    let outcome = Outcome::of_value(normal_by_way_of_plain(rt.alloc(), &doc), Some(LOOSE));
+    report(rt, "normal_by_way_of_plain", "a tuple", 4, outcome)?;
+    let outcome = Outcome::of_value(normal_by_way_of_pretty(rt.alloc(), &doc), Some(LOOSE));
+    report(rt, "normal_by_way_of_pretty", "a tuple", 6, outcome)
 }

@@ -1,5 +1,5 @@
 //! Documents that are not in normal form.
-use crate::answer::Answer;
+use crate::outcome::Outcome;
 use std::alloc::Global;
 use std::mem;
 use ufmt::layout::Mode;
@@ -9,11 +9,11 @@ use ufmt_doc::pretty_reader::read_pretty;
 
 /// Reads a text, and reads it again if memory was refused. Only one allocation is refused in a run,
 /// so the document is there in each run.
-pub fn read_twice(alloc: Global, mode: Mode, text: &str) -> (Answer, Option<Doc>) {
+pub fn read_twice(alloc: Global, mode: Mode, text: &str) -> (Outcome, Option<Doc>) {
     match read(alloc, mode, text) {
-        Ok(doc) => (Answer::Ample, Some(doc)),
-        Err(ReadError::OutOfMemory) => (Answer::WantOfMemory, read(alloc, mode, text).ok()),
-        Err(ReadError::NotText) => (Answer::Other, None),
+        Ok(doc) => (Outcome::Ample, Some(doc)),
+        Err(ReadError::OutOfMemory) => (Outcome::WantOfMemory, read(alloc, mode, text).ok()),
+        Err(ReadError::NotText) => (Outcome::Other, None),
     }
 }
 

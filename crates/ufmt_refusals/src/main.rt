@@ -6,7 +6,7 @@
 //! the one allocation that is refused in each run is a later one of the calls.
 #![tactic(auto)]
 
-mod answer;
+mod outcome;
 mod calls;
 mod documents;
 mod laws;
@@ -17,7 +17,7 @@ mod report;
 mod samples;
 mod values;
 
-use answer::Answer;
+use outcome::Outcome;
 use report::{boxes, one_box, report};
 use std::io::{self, Read};
 
@@ -44,7 +44,7 @@ fn main(rt: HostRuntime) -> io::Result<()> {
     values::report_cuts_and_dumps(&rt)?;
     parses::report_parses(&rt)?;
     // This is the first allocation after the calls. If it is refused, each of theirs was made.
-    let last = Answer::of_memory(one_box(rt.alloc()));
+    let last = Outcome::of_memory(one_box(rt.alloc()));
     report(&rt, "one allocation", "the program itself", 1, last)
 }
 

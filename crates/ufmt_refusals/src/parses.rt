@@ -1,5 +1,5 @@
 //! Parses values from their texts.
-use crate::answer::Answer;
+use crate::outcome::Outcome;
 use crate::report::report;
 use std::collections::BTreeMap;
 use std::io;
@@ -15,36 +15,36 @@ const ALARM: &str = "Alarm { node: 3, text: \"say \\\"hi\\\"\" }";
 /// Parses a map from its plain text, a list of boxes from its pretty text, and a text that is neither. Reads
 /// a field.
 pub fn report_parses(rt: &HostRuntime) -> io::Result<()> {
-    let answer = parse::<BTreeMap<u8, Vec<String>>>(rt.alloc(), LISTS.as_bytes());
+    let outcome = parse::<BTreeMap<u8, Vec<String>>>(rt.alloc(), LISTS.as_bytes());
     report(
         rt,
         "parse",
         "a map of lists",
         12,
-        Answer::of_value(answer, Some(LISTS)),
+        Outcome::of_value(outcome, Some(LISTS)),
     )?;
-    let answer = parse_pretty::<Vec<Option<Box<u8>>>>(rt.alloc(), BOXES.as_bytes());
+    let outcome = parse_pretty::<Vec<Option<Box<u8>>>>(rt.alloc(), BOXES.as_bytes());
     report(
         rt,
         "parse_pretty",
         "boxes",
         8,
-        Answer::of_value(answer, Some("[Some(7), None]")),
+        Outcome::of_value(outcome, Some("[Some(7), None]")),
     )?;
-    let answer = parse::<Vec<u8>>(rt.alloc(), LISTS.as_bytes());
+    let outcome = parse::<Vec<u8>>(rt.alloc(), LISTS.as_bytes());
     report(
         rt,
         "parse",
         "a map, as a list",
         8,
-        Answer::of_value(answer, None),
+        Outcome::of_value(outcome, None),
     )?;
-    let answer = read_field(rt.alloc(), ALARM.as_bytes(), "text");
+    let outcome = read_field(rt.alloc(), ALARM.as_bytes(), "text");
     report(
         rt,
         "read_field",
         "a text in quotes",
         9,
-        Answer::of_value(answer, Some("Some(\"say \\\"hi\\\"\")")),
+        Outcome::of_value(outcome, Some("Some(\"say \\\"hi\\\"\")")),
     )
 }

@@ -2,7 +2,7 @@
 ghost use Rattle.std.specs.Prelude.{[], ◌∷◌};
 ghost use Rattle.ufmt.specs.Words.{named_struct, number, option_document};
 
-use crate::answer::Answer;
+use crate::outcome::Outcome;
 use std::alloc::AllocError;
 use std::io;
 use ufmt::{Formatter, fields, uDebug, uWrite};
@@ -38,27 +38,27 @@ pub fn two_nodes() -> Node<Node<()>> {
 pub fn report(rt: &HostRuntime) -> io::Result<()> {
     let mut text = String::new(rt.alloc());
     let mut f = Formatter::new(&mut text);
-    let answer = two_nodes().fmt(&mut f);
-    report_left(rt, "plain", 4, answer, f)?;
+    let outcome = two_nodes().fmt(&mut f);
+    report_left(rt, "plain", 4, outcome, f)?;
     let mut text = String::new(rt.alloc());
     let mut f = Formatter::new(&mut text);
-    let answer = f.pretty(|f| two_nodes().fmt(f));
-    report_left(rt, "pretty", 5, answer, f)
+    let outcome = f.pretty(|f| two_nodes().fmt(f));
+    report_left(rt, "pretty", 5, outcome, f)
 }
 
 fn report_left(
     rt: &HostRuntime,
     mode: &str,
     allocations: u64,
-    answer: Result<(), AllocError>,
+    outcome: Result<(), AllocError>,
     f: Formatter<&mut String>,
 ) -> io::Result<()> {
-    let answer = Answer::of_memory(answer);
+    let outcome = Outcome::of_memory(outcome);
     let (is_pretty, depth) = (f.is_pretty(), f.depth());
     let text = f.into_inner();
     println!(rt;
         "fmt of a node, {mode}: {}, {allocations} allocations; is_pretty={is_pretty} depth={depth} text={:?}",
-        answer.words(),
+        outcome.words(),
         text.as_str()
     )
 }

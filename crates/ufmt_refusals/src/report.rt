@@ -1,5 +1,5 @@
 //! The lines of the report: a call, what it returned, and how many allocations it makes.
-use crate::answer::Answer;
+use crate::outcome::Outcome;
 use std::alloc::{AllocError, Global};
 use std::io;
 
@@ -10,11 +10,11 @@ pub fn report(
     call: &str,
     case: &str,
     allocations: u64,
-    answer: Answer,
+    outcome: Outcome,
 ) -> io::Result<()> {
     println!(rt;
         "{call} of {case}: {}, {allocations} allocations",
-        answer.words()
+        outcome.words()
     )
 }
 
@@ -31,7 +31,7 @@ where
     requires { F.pre is_right }
 {
     let before = one_box(rt.alloc());
-    report(rt, call, case, 0, Answer::of_call(before, is_right()))
+    report(rt, call, case, 0, Outcome::of_call(before, is_right()))
 }
 
 /// Makes one allocation, and frees it.

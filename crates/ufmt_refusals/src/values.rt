@@ -1,5 +1,5 @@
 //! The calls that print a value into a buffer. They take no memory.
-use crate::answer::Answer;
+use crate::outcome::Outcome;
 use crate::report::{report, report_free};
 use std::alloc::{AllocError, Global};
 use std::collections::{BTreeMap, BTreeSet};
@@ -52,11 +52,11 @@ pub fn report_values(rt: &HostRuntime) -> io::Result<()> {
 
 // If memory was refused, the collections are made again. Only one allocation is refused in a run.
 fn report_collections(rt: &HostRuntime) -> io::Result<()> {
-    let (answer, made) = match collections(rt.alloc()) {
-        Ok(made) => (Answer::Ample, Some(made)),
-        Err(_) => (Answer::WantOfMemory, collections(rt.alloc()).ok()),
+    let (outcome, made) = match collections(rt.alloc()) {
+        Ok(made) => (Outcome::Ample, Some(made)),
+        Err(_) => (Outcome::WantOfMemory, collections(rt.alloc()).ok()),
     };
-    report(rt, "making", "collections", 5, answer)?;
+    report(rt, "making", "collections", 5, outcome)?;
     let Some(made) = made else {
         return Ok(());
     };
@@ -88,19 +88,19 @@ pub fn report_pieces(rt: &HostRuntime) -> io::Result<()> {
     })?;
     report_free(rt, "uwrite", "pieces", || {
         let mut f = Formatter::new(Cursor::new(&mut buffer));
-        let answer =
+        let outcome =
             uwrite!(&mut f, text "n=", display 7i32, debug 'é', pretty [1u8], hex 255u8 with HEXADECIMAL);
-        answer.is_ok() && f.into_inner().written() == PIECES.as_bytes()
+        outcome.is_ok() && f.into_inner().written() == PIECES.as_bytes()
     })?;
     report_free(rt, "fmt_hex", "a number", || {
         let mut f = Formatter::new(Cursor::new(&mut buffer));
-        let answer = i128::MIN.fmt_hex(&mut f, HEXADECIMAL);
-        answer.is_ok() && f.into_inner().written() == LEAST.as_bytes()
+        let outcome = i128::MIN.fmt_hex(&mut f, HEXADECIMAL);
+        outcome.is_ok() && f.into_inner().written() == LEAST.as_bytes()
     })?;
     report_free(rt, "Formatter::pretty", "a list", || {
         let mut f = Formatter::new(Cursor::new(&mut buffer));
-        let answer = f.pretty(|f| ["a\"é"].fmt(f));
-        answer.is_ok() && f.into_inner().written() == LIST.as_bytes()
+        let outcome = f.pretty(|f| ["a\"é"].fmt(f));
+        outcome.is_ok() && f.into_inner().written() == LIST.as_bytes()
     })
 }
 
@@ -124,8 +124,8 @@ pub fn report_cuts_and_dumps(rt: &HostRuntime) -> io::Result<()> {
     })?;
     let mut buffer = [0; 80];
     report_free(rt, "hex_dump_into", "two bytes", || {
-        let answer = hex_dump_into(&mut buffer, b"A\n", &HexDump::XXD);
-        is_at_front(answer, &buffer, DUMP)
+        let outcome = hex_dump_into(&mut buffer, b"A\n", &HexDump::XXD);
+        is_at_front(outcome, &buffer, DUMP)
     })
 }
 
@@ -139,6 +139,6 @@ const LEAST: &str = "0x80000000000000000000000000000000";
 const LIST: &str = "[\n    \"a\\\"é\",\n]";
 
 // Whether the call returned the text's length, and the buffer begins with the text.
-fn is_at_front(answer: Result<usize, Full>, buffer: &[u8], text: &str) -> bool {
-    answer == Ok(text.len()) && buffer.starts_with(text.as_bytes())
+fn is_at_front(outcome: Result<usize, Full>, buffer: &[u8], text: &str) -> bool {
+    outcome == Ok(text.len()) && buffer.starts_with(text.as_bytes())
 }

@@ -14,8 +14,8 @@ use Rattle.ufmt_scan.specs.declared.convert.growing.Growing.{Growing}
 use Rattle.ufmt_scan.specs.declared.scan.event.ScanError.{ScanError}
 
 -- a text that was converted is converted back to the text that it was
-pub comes_back : (from to : Document → List ℕ) (earlier input answer : List ℕ) → IsConverted to from earlier input → IsConverted from to input answer → answer ≡ earlier
-comes_back from to earlier input answer was is =
+pub comes_back : (from to : Document → List ℕ) (earlier input outcome : List ℕ) → IsConverted to from earlier input → IsConverted from to input outcome → outcome ≡ earlier
+comes_back from to earlier input outcome was is =
     let d = was.some.0 in
     sym (is.each d was.some.1 (was.each d was.some.1 was.some.2)) ∙ was.some.2
 

@@ -187,8 +187,8 @@ reads_named s n t (c ∷ w) u word rest some = read_is s n t ∙ rw (← word, �
 
 -- a step of a text is a step of any text with the same events, and for any larger bound of the bytes left
 pub steps_as : {S E : Type 0} (took stopped : S → List TextEvent → S → Type 0) (old new : S) (onward : Option Stage → Parse (List TextEvent)) {m : ℕ} (n : ℕ)
-    (answer : Result (Option Stage × Bor (List ℕ)) (ScanError E)) {there : Scanned} (other : Scanned)
-    → m ≤ n → there ≡ other → Steps took stopped answer old new m other onward → Steps took stopped answer old new n there onward
+    (outcome : Result (Option Stage × Bor (List ℕ)) (ScanError E)) {there : Scanned} (other : Scanned)
+    → m ≤ n → there ≡ other → Steps took stopped outcome old new m other onward → Steps took stopped outcome old new n there onward
 steps_as took stopped old new onward n (Ok x) other longer same h =
     (subst (λ o. Emits took took old new o (onward x.0 x.1.now)) (sym same) h.0, let less = h.1 in omega (arith, less))
 steps_as took stopped old new onward n (Err why) other longer same h = (subst (λ o. Stops took stopped old new o why) (sym same) h.0, tt)

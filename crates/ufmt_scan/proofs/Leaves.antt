@@ -12,11 +12,11 @@ use Rattle.ufmt_scan.proofs.DocumentParts.{word_is_read}
 -- a text is a leaf exactly if nothing is left after the leaf that is read at its front
 module _ {Is : List ℕ → Type 0} (read : Parse (List ℕ)) (sound : (t x u : List ℕ) → read t ≡ Some (x, u) → Is x × (t ≡ x ++ u))
     (complete : (t : List ℕ) → Is t → read t ≡ Some (t, [])) where
-  leaves_nothing : (t x u : List ℕ) (answer : Bool) → read t ≡ Some (x, u) → answer ≡ (length u == 0) → IsTrue answer ↔ Is t
-  leaves_nothing t x [] answer reads tested =
+  leaves_nothing : (t x u : List ℕ) (outcome : Bool) → read t ≡ Some (x, u) → outcome ≡ (length u == 0) → IsTrue outcome ↔ Is t
+  leaves_nothing t x [] outcome reads tested =
       let found = sound t x [] reads in
       (λ h. subst Is (sym (found.1 ∙ append-nil x)) found.0, λ h. tested)
-  leaves_nothing t x (c ∷ u) answer reads tested =
+  leaves_nothing t x (c ∷ u) outcome reads tested =
       let some : (length (c ∷ u) == 0) ≡ false = grind (arith, nat_tests) in
       (λ h. absurd (cc), λ h. let none = (same_parts (x, c ∷ u) (t, []) (sym reads ∙ complete t h)).1 in absurd (cc))
 
@@ -27,15 +27,15 @@ pub whole_symbol : (t : List ℕ) → IsSymbol t → read_symbol t ≡ Some (t, 
 whole_symbol t h = ap read_symbol (sym (append-nil t)) ∙ read_symbol_complete t [] h
 
 -- a text is a word exactly if nothing follows the word at its front
-pub word_tested : (t w u : List ℕ) (answer : Bool) → w ≡ word_of t → u ≡ after_word t → (length w == 0) ≡ false → answer ≡ (length u == 0)
-    → IsTrue answer ↔ IsWord t
-word_tested t w u answer word rest some tested =
-    leaves_nothing read_word read_word_sound whole_word t w u answer (word_is_read t w u word rest some) tested
+pub word_tested : (t w u : List ℕ) (outcome : Bool) → w ≡ word_of t → u ≡ after_word t → (length w == 0) ≡ false → outcome ≡ (length u == 0)
+    → IsTrue outcome ↔ IsWord t
+word_tested t w u outcome word rest some tested =
+    leaves_nothing read_word read_word_sound whole_word t w u outcome (word_is_read t w u word rest some) tested
 
 -- the same for a leaf that is no word
-pub symbol_tested : (t x u : List ℕ) (answer : Bool) → Some (x, u) ≡ read_symbol t → answer ≡ (length u == 0) → IsTrue answer ↔ IsSymbol t
-symbol_tested t x u answer reads tested =
-    leaves_nothing read_symbol read_symbol_sound whole_symbol t x u answer (sym reads) tested
+pub symbol_tested : (t x u : List ℕ) (outcome : Bool) → Some (x, u) ≡ read_symbol t → outcome ≡ (length u == 0) → IsTrue outcome ↔ IsSymbol t
+symbol_tested t x u outcome reads tested =
+    leaves_nothing read_symbol read_symbol_sound whole_symbol t x u outcome (sym reads) tested
 
 pub no_symbol_tested : (t : List ℕ) → None ≡ read_symbol t → IsTrue false ↔ IsSymbol t
 no_symbol_tested t none = (λ h. absurd (cc), λ h. let whole = whole_symbol t h in absurd (cc))

@@ -109,8 +109,8 @@ module _ (mode : Mode) (outer : List Stage) (whole : length outer ≡ 256) (coun
           → Stops took stopped a b (scan_turn (fields level) t) why → Stops took stopped a b (scan_next mode blocks t) why
       named_none t stop = stops_in (scan_ends mode blocks) (name_is mode blocks (around outer depth) stage t innermost struct) stop
 
-      pub named_scans : {S E : Type 0} (took stopped : S → List TextEvent → S → Type 0) (a b : S) (t : List ℕ) (answer : Result (Bor (List ℕ)) (ScanError E))
-          → ScansOn took stopped answer a b (scan_turn (fields level) t) (λ u. scan_turn (entries level) u.now)
-          → ScansOn took stopped answer a b (scan_next mode blocks t) (λ u. scan_begun mode blocks u.now)
+      pub named_scans : {S E : Type 0} (took stopped : S → List TextEvent → S → Type 0) (a b : S) (t : List ℕ) (outcome : Result (Bor (List ℕ)) (ScanError E))
+          → ScansOn took stopped outcome a b (scan_turn (fields level) t) (λ u. scan_turn (entries level) u.now)
+          → ScansOn took stopped outcome a b (scan_next mode blocks t) (λ u. scan_begun mode blocks u.now)
       named_scans took stopped a b t (Ok u) step = named t u.now step
       named_scans took stopped a b t (Err why) stop = named_none t stop

@@ -98,7 +98,7 @@ module _ (t inside : List ℕ) (q : ℕ) (opens : t ≡ q ∷ inside) where
 
       pub no_character : q ≡ 39 → IsOneCharacter leaf false → None ≡ read_quoted t
       no_character apostrophe one = none_read t (λ l.
-          let answer : false ≡ (length l.cs == 1) = one.one l.cs l.scalars (only l ∙ ap (λ n. quoted n l.cs) apostrophe) in
+          let outcome : false ≡ (length l.cs == 1) = one.one l.cs l.scalars (only l ∙ ap (λ n. quoted n l.cs) apostrophe) in
           absurd (grind (arith, nat_tests, l.one ((by_bytes l).0 ∙ apostrophe))))
 
       pub is_read : (text : List ℕ) → text ≡ leaf → IsUtf8 leaf → (q ≡ 39 → IsOneCharacter leaf true) → Some (text, rest) ≡ read_quoted t

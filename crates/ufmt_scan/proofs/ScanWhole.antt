@@ -37,7 +37,7 @@ form_is_read mode t d form = ap (read_text mode) (sym form.2) ∙ reads_each_tex
 -- the events of the document at the front of a text were emitted, or the scan ended before
 abbrev pub Front : {S E : Type 0} → (S → List TextEvent → S → Type 0) → (S → List TextEvent → S → Type 0) → Mode → List ℕ → S
     → Result (Bor (List ℕ)) (ScanError E) → S → Type 0
-Front took stopped mode t old answer new = ScansOn took stopped answer old new (parse_map events_of (read (setting mode 0) 255 t)) (λ rest. Some ([], rest.now))
+Front took stopped mode t old outcome new = ScansOn took stopped outcome old new (parse_map events_of (read (setting mode 0) 255 t)) (λ rest. Some ([], rest.now))
 
 module _ {S : Type 0} (took stopped : S → List TextEvent → S → Type 0) (mode : Mode) (t : List ℕ) {a b : S} (begun : took a [] a) where
   -- a scan that ended early, seen as a scan of the whole text
@@ -67,7 +67,7 @@ module _ {S : Type 0} (took stopped : S → List TextEvent → S → Type 0) (mo
 
 -- the scan of the whole text fails with the error of the scan of its front
 pub whole_ended : {S E : Type 0} (took stopped : S → List TextEvent → S → Type 0) (mode : Mode) (t : List ℕ) (a b : S) → took a [] a
-    → (front : Result (Bor (List ℕ)) (ScanError E)) (why : ScanError E) (answer : Result (⊤) (ScanError E)) → front ≡ Err why → IsErrAnd answer (λ y. y ≡ why)
-    → Front took stopped mode t a front b → Scans took stopped answer a b (layout (setting mode 0)) t
+    → (front : Result (Bor (List ℕ)) (ScanError E)) (why : ScanError E) (outcome : Result (⊤) (ScanError E)) → front ≡ Err why → IsErrAnd outcome (λ y. y ≡ why)
+    → Front took stopped mode t a front b → Scans took stopped outcome a b (layout (setting mode 0)) t
 whole_ended took stopped mode t a b begun front why (Ok x) is h steps = absurd h
 whole_ended took stopped mode t a b begun front why (Err y) is h steps = rw h (whole_refused took stopped mode t begun why (rw is at steps))

@@ -33,15 +33,15 @@ stops_after first more = record { left = more.left; emits = emits_then first mor
 
 -- the same for the result of a call that passes the error on
 pub refused : {S A E : Type 0} {took stopped : S → List TextEvent → S → Type 0} {a b : S} {there : Scanned} (left : A
-    → Scanned) {why : ScanError E} (answer : Result A (ScanError E))
-    → IsErrAnd answer (λ y. y ≡ why) → Stops took stopped a b there why → ScansOn took stopped answer a b there left
+    → Scanned) {why : ScanError E} (outcome : Result A (ScanError E))
+    → IsErrAnd outcome (λ y. y ≡ why) → Stops took stopped a b there why → ScansOn took stopped outcome a b there left
 refused left (Ok x) is h = absurd is
 refused left (Err y) is h = rw is h
 
 -- the same for a step
 pub step_refused : {S E : Type 0} {took stopped : S → List TextEvent → S → Type 0} {a b : S} {there : Scanned} (bytes : ℕ) (onward : Option Stage → Parse (List TextEvent))
-    {why : ScanError E} (answer : Result (Option Stage × Bor (List ℕ)) (ScanError E)) → IsErrAnd answer (λ y. y ≡ why) → Stops took stopped a b there why
-    → Steps took stopped answer a b bytes there onward
+    {why : ScanError E} (outcome : Result (Option Stage × Bor (List ℕ)) (ScanError E)) → IsErrAnd outcome (λ y. y ≡ why) → Stops took stopped a b there why
+    → Steps took stopped outcome a b bytes there onward
 step_refused bytes onward (Ok x) is h = absurd is
 step_refused bytes onward (Err y) is h = (rw is h, tt)
 

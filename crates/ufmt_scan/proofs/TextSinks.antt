@@ -65,8 +65,8 @@ module _ {W : Type 0} {p : ℕ} (seen : Seen W) where
     begun = record { writer = writer; setting = setting to 0 }
 
     -- what a scan with that sink does with its writer
-    pub scan_converts : {E : Type 0} (answer : Result (⊤) (ScanError E)) (new : TextSink W p) → Scans (Wrote seen true) (Wrote seen false) answer begun new (layout (setting from 0)) input
-        → ConvertsTo seen (layout (setting from 0)) (layout (setting to 0)) input writer.now answer new.writer.now × (writer.ghost_name ≡ new.writer.ghost_name)
+    pub scan_converts : {E : Type 0} (outcome : Result (⊤) (ScanError E)) (new : TextSink W p) → Scans (Wrote seen true) (Wrote seen false) outcome begun new (layout (setting from 0)) input
+        → ConvertsTo seen (layout (setting from 0)) (layout (setting to 0)) input writer.now outcome new.writer.now × (writer.ghost_name ≡ new.writer.ghost_name)
     scan_converts (Ok x) new h = (
       record {
         ok = λ is. (written_of to h.0, (read_is from to input h.0 h.1).0);

@@ -79,5 +79,5 @@ module _ {S : Type 0} (took stopped : S → List TextEvent → S → Type 0) whe
 
   -- a scan: the sink took the events of the token document in normal form that has the text; or the scan fails
   abbrev pub Scans : {E : Type 0} → Result (⊤) (ScanError E) → S → S → (Document → List ℕ) → List ℕ → Type 0
-  Scans answer old new text_of input =
-      MatchResult answer (λ x. (d : Document) × IsNormalForm text_of input d × took old (events_of d) new) (ScanRefused old new text_of input)
+  Scans outcome old new text_of input =
+      MatchResult outcome (λ x. (d : Document) × IsNormalForm text_of input d × took old (events_of d) new) (ScanRefused old new text_of input)

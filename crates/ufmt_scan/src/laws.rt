@@ -6,9 +6,9 @@ ghost use Rattle.ufmt_scan.specs.Texts.{IsConverted, IsNoText};
 /// A text that was converted is converted back to the text that it was, and is never refused.
 #[tactic(auto, using(crate::proofs::Conversions::comes_back, crate::proofs::Conversions::never_refused))]
 pub fn conversions_undo_each_other()
-    ensures back { (from to : Document → List ℕ) (earlier input answer : List ℕ)
-        → IsConverted to from earlier input → IsConverted from to input answer
-        → answer ≡ earlier }
+    ensures back { (from to : Document → List ℕ) (earlier input outcome : List ℕ)
+        → IsConverted to from earlier input → IsConverted from to input outcome
+        → outcome ≡ earlier }
     ensures is_text { (from to : Document → List ℕ) (earlier input : List ℕ)
         → IsConverted to from earlier input → IsNoText from input → ⊥ }
 {}

@@ -59,8 +59,8 @@ impl<T: uDebug> uDebug for Users<T> {
     fn fmt<W: uWrite>(&self, f: &mut Formatter<W>) -> Result<(), W::Error> {
         let mut list = f.debug_list()?;
         for port in &self.ports {
-            let answer = port.user.fmt(list.begin_entry()?);
-            list.end_entry(answer)?;
+            let outcome = port.user.fmt(list.begin_entry()?);
+            list.end_entry(outcome)?;
         }
         list.finish()
     }

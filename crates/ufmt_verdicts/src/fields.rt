@@ -15,7 +15,7 @@ const LONGEST_LINE: usize = 500;
 
 /// Notes what a document shows that isn't within another: its own text, and those of its fields.
 pub fn note_shown(alloc: Global, doc: &Doc, out: &mut String) -> Result<(), Fault> {
-    note_answer(doc.leaf_text(alloc)?, out)?;
+    note_outcome(doc.leaf_text(alloc)?, out)?;
     note_field(alloc, doc, "x", out)?;
     let Some(fields) = doc.fields() else {
         return Ok(());
@@ -40,11 +40,11 @@ fn note_near(alloc: Global, doc: &Doc, name: &str, out: &mut String) -> Result<(
 
 fn note_field(alloc: Global, doc: &Doc, name: &str, out: &mut String) -> Result<(), Fault> {
     out.push_str(name)?;
-    note_answer(doc.field_text(alloc, name)?, out)
+    note_outcome(doc.field_text(alloc, name)?, out)
 }
 
-fn note_answer(answer: Option<String>, out: &mut String) -> Result<(), Fault> {
-    match answer {
+fn note_outcome(outcome: Option<String>, out: &mut String) -> Result<(), Fault> {
+    match outcome {
         Some(text) => {
             out.push('=')?;
             out.push_str(&text)?;
@@ -88,8 +88,8 @@ fn reads_near(calls: Calls<'_>, doc: &Doc, name: &str) -> Result<(), Fault> {
 }
 
 fn reads_field(calls: Calls<'_>, doc: &Doc, name: &str) -> Result<(), Fault> {
-    let answer = read_field(calls.alloc, calls.text, name)?;
-    agree(answer == doc.field_text(calls.alloc, name)?, "read_field")
+    let outcome = read_field(calls.alloc, calls.text, name)?;
+    agree(outcome == doc.field_text(calls.alloc, name)?, "read_field")
 }
 
 /// Whether `read_field` fails with `NotText` if the text is no plain text.

@@ -17,12 +17,12 @@ use ufmt_doc::scan::ScanError;
 
 /// Returns what the calls say of the text, in words.
 pub fn verdict(calls: Calls<'_>) -> Result<String, AllocError> {
-    let answer = match calls.read() {
+    let outcome = match calls.read() {
         Ok(doc) => of_text(calls, &doc).map(Some),
         Err(ReadError::NotText) => of_no_text(calls).map(|()| None),
         Err(ReadError::OutOfMemory) => Err(Fault::Other("the reader wants memory")),
     };
-    match answer {
+    match outcome {
         Ok(Some(half)) => half.words(calls.alloc),
         Ok(None) => String::from_str(calls.alloc, "no text"),
         Err(fault) => fault.words(calls.alloc),
@@ -102,8 +102,8 @@ fn converts_alike(calls: Calls<'_>, converted: &str) -> Result<(), Fault> {
     agree(is_full, "conversion into a buffer of one byte less")
 }
 
-fn is_full(answer: Result<usize, ScanError<Full>>) -> bool {
-    match answer {
+fn is_full(outcome: Result<usize, ScanError<Full>>) -> bool {
+    match outcome {
         Err(ScanError::Sink(Full)) => true,
         _ => false,
     }
@@ -238,8 +238,8 @@ fn of_no_text(calls: Calls<'_>) -> Result<(), Fault> {
     agree(by_way == Err(ReadError::NotText), "no text, there and back")
 }
 
-fn is_not_text<E: Drop>(answer: Result<(), ScanError<E>>) -> bool {
-    match answer {
+fn is_not_text<E: Drop>(outcome: Result<(), ScanError<E>>) -> bool {
+    match outcome {
         Err(ScanError::NotText) => true,
         _ => false,
     }

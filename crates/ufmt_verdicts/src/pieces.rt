@@ -61,8 +61,8 @@ impl TextPieces {
     /// Prints the document that was read, and converts its text.
     pub fn of(calls: Calls<'_>, doc: &Doc) -> Result<TextPieces, Fault> {
         let mut pieces = Pieces::new();
-        let answer = calls.convert_to(&mut pieces);
-        agree(answer.is_ok(), "conversion to a writer of pieces")?;
+        let outcome = calls.convert_to(&mut pieces);
+        agree(outcome.is_ok(), "conversion to a writer of pieces")?;
         Ok(TextPieces {
             printed: printed(calls, doc),
             converted: pieces.digest,

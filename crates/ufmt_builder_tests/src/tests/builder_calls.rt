@@ -77,11 +77,11 @@ impl<W: uWrite> Calls<W::Error> for DebugList<'_, W> {
             Call::Entry => ("entry", self.entry(&1u8)),
             Call::Entries => ("entries", self.entries(&[2u8, 3])),
             Call::BeginAndEnd => {
-                let answer = match self.begin_entry() {
+                let outcome = match self.begin_entry() {
                     Ok(f) => 4u8.fmt(f),
                     Err(error) => return ("begin_entry", Err(error)),
                 };
-                ("end_entry", self.end_entry(answer))
+                ("end_entry", self.end_entry(outcome))
             }
             Call::Finish => ("finish", self.finish()),
         }
@@ -101,11 +101,11 @@ impl<W: uWrite> Calls<W::Error> for DebugSet<'_, W> {
             Call::Entry => ("entry", self.entry(&1u8)),
             Call::Entries => ("entries", self.entries(&[2u8, 3])),
             Call::BeginAndEnd => {
-                let answer = match self.begin_entry() {
+                let outcome = match self.begin_entry() {
                     Ok(f) => 4u8.fmt(f),
                     Err(error) => return ("begin_entry", Err(error)),
                 };
-                ("end_entry", self.end_entry(answer))
+                ("end_entry", self.end_entry(outcome))
             }
             Call::Finish => ("finish", self.finish()),
         }
@@ -125,15 +125,15 @@ impl<W: uWrite> Calls<W::Error> for DebugMap<'_, W> {
             Call::Entry => ("entry", self.entry(&1u8, &2u8)),
             Call::Entries => ("entries", self.entries([(3u8, 4u8), (5, 6)])),
             Call::BeginAndEnd => {
-                let answer = match self.begin_entry() {
+                let outcome = match self.begin_entry() {
                     Ok(f) => 7u8.fmt(f),
                     Err(error) => return ("begin_entry", Err(error)),
                 };
-                let answer = match self.begin_value(answer) {
+                let outcome = match self.begin_value(outcome) {
                     Ok(f) => 8u8.fmt(f),
                     Err(error) => return ("begin_value", Err(error)),
                 };
-                ("end_entry", self.end_entry(answer))
+                ("end_entry", self.end_entry(outcome))
             }
             Call::Finish => ("finish", self.finish()),
         }
@@ -151,11 +151,11 @@ impl<W: uWrite> Calls<W::Error> for DebugStruct<'_, W> {
         }
         match call {
             Call::BeginAndEnd => {
-                let answer = match self.begin_field("a") {
+                let outcome = match self.begin_field("a") {
                     Ok(f) => 1u8.fmt(f),
                     Err(error) => return ("begin_field", Err(error)),
                 };
-                ("end_field", self.end_field(answer))
+                ("end_field", self.end_field(outcome))
             }
             Call::Entry => ("field", self.field("b", &2u8)),
             Call::Entries | Call::Finish => ("finish", self.finish()),
@@ -174,11 +174,11 @@ impl<W: uWrite> Calls<W::Error> for DebugTuple<'_, W> {
         }
         match call {
             Call::BeginAndEnd => {
-                let answer = match self.begin_field() {
+                let outcome = match self.begin_field() {
                     Ok(f) => 1u8.fmt(f),
                     Err(error) => return ("begin_field", Err(error)),
                 };
-                ("end_field", self.end_field(answer))
+                ("end_field", self.end_field(outcome))
             }
             Call::Entry => ("field", self.field(&2u8)),
             Call::Entries | Call::Finish => ("finish", self.finish()),
@@ -199,9 +199,9 @@ fn make_each<E, B: Calls<E> + Drop>(
     let mut builder = builder?;
     last.note("opening", builder.may_continue());
     for call in calls {
-        let (name, answer) = builder.make(*call);
+        let (name, outcome) = builder.make(*call);
         last.note(name, builder.may_continue());
-        answer?;
+        outcome?;
     }
     Ok(())
 }

@@ -12,33 +12,33 @@ fn leave_deeper(f: &mut Formatter<String>) -> Result<(), AllocError> {
 
 fn write_list(f: &mut Formatter<String>) -> Result<(), AllocError> {
     let mut list = f.debug_list()?;
-    let answer = leave_deeper(list.begin_entry()?);
-    list.end_entry(answer)?;
+    let outcome = leave_deeper(list.begin_entry()?);
+    list.end_entry(outcome)?;
     list.entry(&1u8)?;
     list.finish()
 }
 
 fn write_map(f: &mut Formatter<String>) -> Result<(), AllocError> {
     let mut map = f.debug_map()?;
-    let key_answer = leave_deeper(map.begin_entry()?);
-    let answer = leave_deeper(map.begin_value(key_answer)?);
-    map.end_entry(answer)?;
+    let key_outcome = leave_deeper(map.begin_entry()?);
+    let outcome = leave_deeper(map.begin_value(key_outcome)?);
+    map.end_entry(outcome)?;
     map.entry(&1u8, &2u8)?;
     map.finish()
 }
 
 fn write_struct(f: &mut Formatter<String>) -> Result<(), AllocError> {
     let mut block = f.debug_struct("S")?;
-    let answer = leave_deeper(block.begin_field("a")?);
-    block.end_field(answer)?;
+    let outcome = leave_deeper(block.begin_field("a")?);
+    block.end_field(outcome)?;
     block.field("b", &1u8)?;
     block.finish()
 }
 
 fn write_tuple(f: &mut Formatter<String>) -> Result<(), AllocError> {
     let mut block = f.debug_tuple("T")?;
-    let answer = leave_deeper(block.begin_field()?);
-    block.end_field(answer)?;
+    let outcome = leave_deeper(block.begin_field()?);
+    block.end_field(outcome)?;
     block.field(&1u8)?;
     block.finish()
 }

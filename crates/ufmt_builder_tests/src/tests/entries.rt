@@ -79,12 +79,12 @@ impl Block {
         f: &mut Formatter<W>,
     ) -> (Result<(), W::Error>, u8) {
         let mut numbers = Numbers { taken: 0 };
-        let answer = if is_pretty {
+        let outcome = if is_pretty {
             f.pretty(|f| self.write(f, &mut numbers))
         } else {
             self.write(f, &mut numbers)
         };
-        (answer, numbers.taken)
+        (outcome, numbers.taken)
     }
 }
 

@@ -72,7 +72,7 @@ impl<'a> Calls<'a> {
 #[derive(Clone, Copy, PartialEq, Debug)]
 struct Left<'a> {
     last: LastCall<'a>,
-    answer: Result<(), Full>,
+    outcome: Result<(), Full>,
     is_pretty: bool,
     depth: u8,
 }
@@ -83,13 +83,13 @@ fn call_and_continue<'a, W: uWrite<Error = Full>>(
     f: &mut Formatter<W>,
 ) -> Result<Left<'a>, Full> {
     let mut last = LastCall::opening();
-    let answer = block.call_in_turn(f, &mut last);
+    let outcome = block.call_in_turn(f, &mut last);
     let is_pretty = f.is_pretty();
     let depth = f.depth();
     f.list_of(&[7u8])?;
     Ok(Left {
         last,
-        answer,
+        outcome,
         is_pretty,
         depth,
     })
@@ -137,14 +137,14 @@ fn is_left(
     block: Block,
     place: Place<'_>,
     calls: &Calls<'_>,
-    (number, length, last, answer): (usize, usize, LastCall<'_>, Result<(), Full>),
+    (number, length, last, outcome): (usize, usize, LastCall<'_>, Result<(), Full>),
 ) -> bool {
     let mut bytes = [0u8; 100];
     let writer = FailOnce::new(&mut bytes, number);
     let (left, is_as_before, writer) = call_over(place, block, writer);
     let wanted = Left {
         last,
-        answer,
+        outcome,
         is_pretty: place.is_pretty,
         depth: place.depth,
     };

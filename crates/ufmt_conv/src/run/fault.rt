@@ -1,4 +1,4 @@
-//! Faults: why a run ends before its whole answer is written.
+//! Faults: why a run ends before its whole output is written.
 ghost use Rattle.std.specs.Prelude.{◌≡◌};
 ghost use Rattle.ufmt_conv.specs.Fault.{line_of, of_io, status_of};
 ghost use Rattle.ufmt_conv.specs.declared.run.fault.Fault.TheVariants.{OutOfMemory};
@@ -6,7 +6,7 @@ ghost use Rattle.ufmt_conv.specs.declared.run.fault.Fault.TheVariants.{OutOfMemo
 use std::alloc::AllocError;
 use ufmt_io::IoFault;
 
-/// Why a run didn't write its whole answer.
+/// Why a run didn't write its whole output.
 #[derive(Clone, Copy, PartialEq, Eq, Debug)]
 pub enum Fault {
     /// The command is `pretty`, and the input is no token document's plain text.

@@ -125,19 +125,19 @@ impl<W: uWrite, K: BlockKind> Builder<'_, W, K> {
         self.lend_if(written, Status::Lent)
     }
 
-    /// Lends the formatter if the answer is `Ok`, else closes the builder.
+    /// Lends the formatter if the outcome is `Ok`, else closes the builder.
     #[inline(always)]
     pub(crate) fn lend_if(
         &mut self,
-        answer: Result<(), W::Error>,
+        outcome: Result<(), W::Error>,
         status: Status,
     ) -> Result<&mut Formatter<W>, W::Error>
         ensures* loan { sem 𝓛 (EntryLoan W.row K.row self.entry result status
             (λ last. last ≡ abandoned self.old)) }
-        ensures lent { IfOk result (λ f. (f.now ≡ self.old.formatter.now) × IsOk answer) }
-        ensures error { IfErr result (λ e. answer ≡ Err e) }
+        ensures lent { IfOk result (λ f. (f.now ≡ self.old.formatter.now) × IsOk outcome) }
+        ensures error { IfErr result (λ e. outcome ≡ Err e) }
     {
-        self.settle(answer, status, self.count)?;
+        self.settle(outcome, status, self.count)?;
         Ok(self.lend())
     }
 
@@ -162,50 +162,50 @@ impl<W: uWrite, K: BlockKind> Builder<'_, W, K> {
 
     /// `end`, of a formatter that was lent to a caller.
     #[inline(always)]
-    pub(crate) fn end_lent(&mut self, answer: Result<(), W::Error>) -> Result<(), W::Error>
-        ensures end { EndsEntry W.seen answer (block K.kind self.old) result (is_ok result)
+    pub(crate) fn end_lent(&mut self, outcome: Result<(), W::Error>) -> Result<(), W::Error>
+        ensures end { EndsEntry W.seen outcome (block K.kind self.old) result (is_ok result)
             (block K.kind self.new) }
         ensures is_open { OnOk result (IsOpen (block K.kind self.new)) }
     {
         self.take_back();
-        self.end(answer)
+        self.end(outcome)
     }
 
     /// Writes the text after an entry if its `fmt` returned `Ok`, else returns its error.
     #[inline(always)]
-    pub(crate) fn end(&mut self, answer: Result<(), W::Error>) -> Result<(), W::Error>
+    pub(crate) fn end(&mut self, outcome: Result<(), W::Error>) -> Result<(), W::Error>
         requires { IsInside (block K.kind self.old) }
-        ensures end { EndsEntry W.seen answer (block K.kind self.old) result (is_ok result)
+        ensures end { EndsEntry W.seen outcome (block K.kind self.old) result (is_ok result)
             (block K.kind self.new) }
         ensures is_open { OnOk result (IsOpen (block K.kind self.new)) }
     {
-        let ended = match answer {
+        let ended = match outcome {
             Ok(()) => self.formatter.write_trail(),
             Err(error) => Err(error),
         };
         self.settle(ended, Status::Open, self.count.next())
     }
 
-    // Takes this status and count if the answer is `Ok`, else closes the builder.
+    // Takes this status and count if the outcome is `Ok`, else closes the builder.
     #[inline(always)]
     fn settle(
         &mut self,
-        answer: Result<(), W::Error>,
+        outcome: Result<(), W::Error>,
         status: Status,
         count: Count,
     ) -> Result<(), W::Error>
-        ensures answer { result ≡ answer }
-        ensures settled { MatchBool (is_ok answer)
+        ensures outcome { result ≡ outcome }
+        ensures settled { MatchBool (is_ok outcome)
             (self.new ≡ record self.old { count = count; status = status })
             (self.new ≡ abandoned self.old) }
     {
-        if answer.is_ok() {
+        if outcome.is_ok() {
             self.count = count;
             self.status = status;
         } else {
             self.leave();
         }
-        answer
+        outcome
     }
 
     // Closes the builder, and restores the mode and depth from before it.

@@ -62,22 +62,22 @@ type Left = (Result<(), Full>, (bool, u8), (bool, u8));
 fn print_to<W: uWrite<Error = Full>>(is_pretty: bool, doc: &Doc, writer: W) -> (Left, W) {
     let mut f = Formatter::new(writer);
     let mut inside = (false, 0);
-    let answer = if is_pretty {
+    let outcome = if is_pretty {
         f.pretty(|f| {
-            let answer = doc.fmt(f);
+            let outcome = doc.fmt(f);
             inside = (f.is_pretty(), f.depth());
-            answer
+            outcome
         })
     } else {
         doc.fmt(&mut f)
     };
     let outside = (f.is_pretty(), f.depth());
-    ((answer, inside, outside), f.into_inner())
+    ((outcome, inside, outside), f.into_inner())
 }
 
 // What should be left after this result.
-fn left(is_pretty: bool, answer: Result<(), Full>) -> Left {
-    (answer, (is_pretty, 0), (false, 0))
+fn left(is_pretty: bool, outcome: Result<(), Full>) -> Left {
+    (outcome, (is_pretty, 0), (false, 0))
 }
 
 // Whether a writer that refuses one piece has the pieces before it and is passed no later one, for
@@ -116,13 +116,13 @@ fn fits_each_size(
         let mut bytes = vec![in alloc; 0u8; size]?;
         let (given, cursor) = print_to(is_pretty, doc, Cursor::new(bytes.as_mut_slice()));
         let length = length_within(all.barred.as_str(), size);
-        let answer = if size < all.text.len() {
+        let outcome = if size < all.text.len() {
             Err(Full)
         } else {
             Ok(())
         };
         let is_written = all.text.as_bytes().get(..length) == Some(cursor.written());
-        if given != left(is_pretty, answer) || !is_written {
+        if given != left(is_pretty, outcome) || !is_written {
             return Ok(false);
         }
     }

@@ -1,4 +1,4 @@
-//! The lines of faults: why a run ends before all answers are written.
+//! The lines of faults: why a run ends before all output is written.
 ghost use Rattle.std.specs.Prelude.{◌≡◌};
 ghost use Rattle.ufmt_lines.specs.Fault.{line_of};
 

@@ -1,24 +1,24 @@
-//! Groups of lines, gathered from what was read, and answered one by one.
+//! Groups of lines, gathered from what was read, and their outputs, which are written one by one.
 ghost use Rattle.std.specs.Prelude.{◌≡◌, ◌≢◌, ◌↔◌, ◌++◌, ◌∷◌, [], List, ℕ, IfErr, IsErrOf, IsTrue, MatchOption, OnOk, false};
 ghost use Rattle.std.specs.Io.KnownBytes.{Appends};
 ghost use Rattle.ufmt.specs.Bytes.{line_feed};
 ghost use Rattle.ufmt_io.specs.Watched.{device_of, has_failed};
 ghost use Rattle.ufmt_io.specs.Whole.{AppendsPrefix};
-ghost use Rattle.ufmt_lines.specs.Answered.{FrontAnswered, answers_of};
+ghost use Rattle.ufmt_lines.specs.Output.{WritesFront, outputs_of};
 ghost use Rattle.ufmt_lines.specs.Groups.{IsInGroup, IsInLine, goes_on_after, is_indented, is_opening, opens};
-ghost use Rattle.ufmt_lines.specs.Readable.{answer_of};
+ghost use Rattle.ufmt_lines.specs.Readable.{output_of};
 
-use super::answer::Answer;
+use super::output::GroupOutput;
 use std::alloc::Global;
 use std::io::Write;
 use ufmt::layout::Mode;
 use ufmt_io::{IoFault, Watched, write_whole};
 
-/// The group of lines that is being read, and room for its answer. Both are used again for each group.
+/// The group of lines that is being read, and room for its output. Both are used again for each group.
 #[derive(Drop)]
 pub(super) struct Group {
     bytes: Vec<u8>,
-    answer: Answer,
+    prepared: GroupOutput,
 }
 
 impl Group {
@@ -29,13 +29,13 @@ impl Group {
     {
         Group {
             bytes: Vec::new(alloc),
-            answer: Answer::new(alloc),
+            prepared: GroupOutput::new(alloc),
         }
     }
 
-    /// Writes the answer to each group that ends in the bytes, which follow those of the group so far.
+    /// Writes the output for each group that ends in the bytes, which follow those of the group so far.
     /// What follows the last group is the group that is being read then.
-    pub(super) fn answer_ended<W: Write>(
+    pub(super) fn write_ended<W: Write>(
         &mut self,
         mode: Mode,
         bytes: &[u8],
@@ -43,16 +43,16 @@ impl Group {
     ) -> Result<(), IoFault>
         requires works { has_failed output.old ≡ false }
         requires in_group { IsInGroup mode (group_bytes self.old) }
-        ensures ok { OnOk result (FrontAnswered mode (group_bytes self.old ++ bytes.now)
+        ensures ok { OnOk result (WritesFront mode (group_bytes self.old ++ bytes.now)
             (group_bytes self.new) (W.contents (device_of output.old))
             (W.contents (device_of output.new))) }
         ensures in_group { OnOk result (IsInGroup mode (group_bytes self.new)) }
         ensures cannot_write { IsErrOf result IoFault.CannotWrite → (more : List ℕ)
             → AppendsPrefix (W.contents (device_of output.old))
             (W.contents (device_of output.new))
-            (answers_of mode ((group_bytes self.old ++ bytes.now) ++ more)) }
+            (outputs_of mode ((group_bytes self.old ++ bytes.now) ++ more)) }
         ensures out_of_memory { IsErrOf result IoFault.OutOfMemory → (rest : List ℕ)
-            × FrontAnswered mode (group_bytes self.old ++ bytes.now) rest
+            × WritesFront mode (group_bytes self.old ++ bytes.now) rest
             (W.contents (device_of output.old)) (W.contents (device_of output.new)) }
         ensures failed { IsErrOf result IoFault.CannotWrite ↔ IsTrue (has_failed output.new) }
         ensures no_reader { IfErr result (λ fault. fault ≢ IoFault.CannotRead) }
@@ -67,18 +67,18 @@ impl Group {
         Ok(())
     }
 
-    // Ends a line: writes the answer to the group if it ends there. Else the group goes on.
+    // Ends a line: writes the output for the group if it ends there. Else the group goes on.
     fn end_line<W: Write>(&mut self, mode: Mode, output: &mut Watched<W>) -> Result<(), IoFault>
         requires works { has_failed output.old ≡ false }
         requires in_group { IsInGroup mode (group_bytes self.old) }
-        ensures ok { OnOk result (FrontAnswered mode (group_bytes self.old ++ line_feed ∷ [])
+        ensures ok { OnOk result (WritesFront mode (group_bytes self.old ++ line_feed ∷ [])
             (group_bytes self.new) (W.contents (device_of output.old))
             (W.contents (device_of output.new))) }
         ensures in_group { OnOk result (IsInGroup mode (group_bytes self.new)) }
         ensures cannot_write { IsErrOf result IoFault.CannotWrite → (more : List ℕ)
             → AppendsPrefix (W.contents (device_of output.old))
             (W.contents (device_of output.new))
-            (answers_of mode ((group_bytes self.old ++ line_feed ∷ []) ++ more)) }
+            (outputs_of mode ((group_bytes self.old ++ line_feed ∷ []) ++ more)) }
         ensures out_of_memory { IsErrOf result IoFault.OutOfMemory → output.new ≡ output.old }
         ensures failed { IsErrOf result IoFault.CannotWrite ↔ IsTrue (has_failed output.new) }
         ensures no_reader { IfErr result (λ fault. fault ≢ IoFault.CannotRead) }
@@ -87,11 +87,11 @@ impl Group {
             self.bytes.extend_from_slice(b"\n")?;
             return Ok(());
         }
-        self.answer(mode, b"\n", output)
+        self.write(mode, b"\n", output)
     }
 
-    /// Writes the answer to the group and this end of it. On `Ok` a new group begins.
-    pub(super) fn answer<W: Write>(
+    /// Writes the output for the group and this end of it. On `Ok` a new group begins.
+    pub(super) fn write<W: Write>(
         &mut self,
         mode: Mode,
         end: &[u8],
@@ -100,20 +100,20 @@ impl Group {
         requires { has_failed output.old ≡ false }
         ensures ok { OnOk result (Appends (W.contents (device_of output.old))
             (W.contents (device_of output.new))
-            (answer_of mode (group_bytes self.old) ++ end.now)) }
+            (output_of mode (group_bytes self.old) ++ end.now)) }
         ensures next { OnOk result (group_bytes self.new ≡ []) }
         ensures cannot_write { IsErrOf result IoFault.CannotWrite
             → AppendsPrefix (W.contents (device_of output.old))
             (W.contents (device_of output.new))
-            (answer_of mode (group_bytes self.old) ++ end.now) }
+            (output_of mode (group_bytes self.old) ++ end.now) }
         ensures out_of_memory { IsErrOf result IoFault.OutOfMemory → output.new ≡ output.old }
         ensures failed { IsErrOf result IoFault.CannotWrite ↔ IsTrue (has_failed output.new) }
         ensures no_reader { IfErr result (λ fault. fault ≢ IoFault.CannotRead) }
     {
-        self.answer.clear();
-        self.answer.push_answer(mode, &self.bytes)?;
-        self.answer.push(end)?;
-        write_whole(output, self.answer.as_bytes()).map_err(|_| IoFault::CannotWrite)?;
+        self.prepared.clear();
+        self.prepared.push_group(mode, &self.bytes)?;
+        self.prepared.push(end)?;
+        write_whole(output, self.prepared.as_bytes()).map_err(|_| IoFault::CannotWrite)?;
         self.bytes.clear();
         Ok(())
     }

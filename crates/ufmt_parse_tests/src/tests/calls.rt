@@ -45,8 +45,8 @@ fn again_in_returns_the_value_if_its_text_fits(rt: HostRuntime) {
 // How many fields each call finds.
 type Counts = [usize; 12];
 
-fn count_of<T: Drop>(answer: Result<Option<T>, AllocError>, count: usize) -> usize {
-    match answer {
+fn count_of<T: Drop>(outcome: Result<Option<T>, AllocError>, count: usize) -> usize {
+    match outcome {
         Ok(Some(_)) => count,
         Ok(None) => 0,
         Err(_) => 100,

@@ -67,7 +67,7 @@ fn leaves_show_their_texts(rt: HostRuntime) -> Result<(), ReadError> {
 #[test]
 fn fields_of_no_text_are_not_read(rt: HostRuntime) {
     for line in ["", "S { a: }", "S { a: 1", "S { a: 1 } ", "S { a: \"1 }"] {
-        let answer = read_field(rt.alloc(), line.as_bytes(), "a").map(|_text| ());
-        same(&rt, answer, Err(ReadError::NotText), line);
+        let outcome = read_field(rt.alloc(), line.as_bytes(), "a").map(|_text| ());
+        same(&rt, outcome, Err(ReadError::NotText), line);
     }
 }

@@ -11,8 +11,8 @@ const PLAIN: &str = "S { a: [x], b: {} }";
 
 const PRETTY: &str = "S {\n    a: [\n        x,\n    ],\n    b: {},\n}";
 
-fn is_text(answer: Result<String, ReadError>, text: &str) -> bool {
-    match answer {
+fn is_text(outcome: Result<String, ReadError>, text: &str) -> bool {
+    match outcome {
         Ok(again) => again.as_str() == text,
         Err(_) => false,
     }
@@ -31,8 +31,8 @@ fn texts_come_back(rt: HostRuntime) {
     holds(&rt, is_text(again, PRETTY), "converted to plain and back");
 }
 
-fn is_document(alloc: Global, answer: Result<Doc, ReadError>, plain: &[u8]) -> bool {
-    match answer {
+fn is_document(alloc: Global, outcome: Result<Doc, ReadError>, plain: &[u8]) -> bool {
+    match outcome {
         Ok(doc) => has_text(alloc, Mode::Plain, &doc, plain),
         Err(_) => false,
     }

@@ -95,8 +95,8 @@ impl Sink for Notes {
 }
 
 // How the scan ended.
-fn ending(answer: Result<(), ScanError<Stop>>) -> &'static str {
-    match answer {
+fn ending(outcome: Result<(), ScanError<Stop>>) -> &'static str {
+    match outcome {
         Ok(()) => "whole",
         Err(ScanError::NotText) => "no text",
         Err(ScanError::Sink(Stop::Enough)) => "stopped",

@@ -90,11 +90,11 @@ fn inputs_that_are_no_text_fail_with_not_text(rt: HostRuntime) {
 // `front`, and keeps the bytes after it.
 fn is_at_front(mode: Mode, text: &str, is_text: bool, front: &str) -> bool {
     let mut bytes = [b'#'; 64];
-    let answer = match mode {
+    let outcome = match mode {
         Mode::Plain => to_pretty_into(&mut bytes, text.as_bytes()),
         Mode::Pretty => to_plain_into(&mut bytes, text.as_bytes()),
     };
-    let is_said = match answer {
+    let is_said = match outcome {
         Ok(count) => is_text && count == front.len(),
         Err(ScanError::NotText) => !is_text,
         Err(ScanError::Sink(Full)) => false,

@@ -209,18 +209,18 @@ pub record Stops {S E : Type 0} (took stopped : S → List TextEvent → S → T
   pub emits : Emits took (kept_by took stopped why) old new there left
   pub none : why ≡ NotText → left ≡ None
 
--- some events were emitted, and the answer says what is left, or why the scan ended
+-- some events were emitted, and the outcome says what is left, or why the scan ended
 abbrev pub ScansOn : {S A E : Type 0} → (S → List TextEvent → S → Type 0) → (S → List TextEvent → S → Type 0) → Result A (ScanError E) → S → S → Scanned → (A → Scanned)
     → Type 0
-ScansOn took stopped answer old new there left = MatchResult answer (λ x. Emits took took old new there (left x)) (Stops took stopped old new there)
+ScansOn took stopped outcome old new there left = MatchResult outcome (λ x. Emits took took old new there (left x)) (Stops took stopped old new there)
 
 -- a step of a scan: it emitted events of what is there, and left fewer bytes than this, whose events `onward` gives; or the scan ended
 abbrev pub Steps : {S E : Type 0} → (S → List TextEvent → S → Type 0) → (S → List TextEvent → S → Type 0)
     → Result (Option Stage × Bor (List ℕ)) (ScanError E) → S → S → ℕ → Scanned → (Option Stage → Parse (List TextEvent)) → Type 0
-Steps took stopped answer old new bytes there onward =
-    ScansOn took stopped answer old new there (λ x. onward x.0 x.1.now) × IfOk answer (λ x. length x.1.now < bytes)
+Steps took stopped outcome old new bytes there onward =
+    ScansOn took stopped outcome old new there (λ x. onward x.0 x.1.now) × IfOk outcome (λ x. length x.1.now < bytes)
 
 -- the bracket at the front was stripped, and a block of its kind is read; or there is no bracket
 abbrev pub StripsBracket : Level → List ℕ → Option (Kind × Bor (List ℕ)) → Type 0
-StripsBracket level t answer = MatchOption answer ((strip (codes "[") t ≡ None) × (strip (codes "{") t ≡ None))
+StripsBracket level t outcome = MatchOption outcome ((strip (codes "[") t ≡ None) × (strip (codes "{") t ≡ None))
     (λ x. (parse_map events_of (read_without_name (setting_at level) (entry_of level) t) ≡ scan_block level x.0 x.1.now) × (length x.1.now < length t))

@@ -19,6 +19,6 @@ pub record Closes (quote : ℕ) (t rest : List ℕ) : Type 0 where
 pub record NeverCloses (quote : ℕ) (t : List ℕ) : Type 0 where
   pub never : (bytes rest : List ℕ) → t ≢ escaped_bytes quote bytes ++ (quote ∷ rest)
 
--- the answer is whether one character is between the apostrophes
-pub record IsOneCharacter (leaf : List ℕ) (answer : Bool) : Type 0 where
-  pub one : (cs : List ℕ) → all_scalars cs ≡ true → leaf ≡ quoted apostrophe cs → answer ≡ (length cs == 1)
+-- the outcome is whether one character is between the apostrophes
+pub record IsOneCharacter (leaf : List ℕ) (outcome : Bool) : Type 0 where
+  pub one : (cs : List ℕ) → all_scalars cs ≡ true → leaf ≡ quoted apostrophe cs → outcome ≡ (length cs == 1)

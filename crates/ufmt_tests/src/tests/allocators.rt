@@ -50,22 +50,22 @@ fn values_over_a_lent_allocator_print(rt: HostRuntime) {
 fn strings_over_a_lent_allocator_are_writers(rt: HostRuntime) {
     let global = rt.alloc();
     let mut text = String::new(&global);
-    let answers = [
+    let outcomes = [
         write_debug(&mut text, &7u8),
         write_display(&mut text, &"x"),
         Formatter::new(&mut text).write_char('é'),
     ];
     same(
         &rt,
-        (are_ok(&answers), text.as_str()),
+        (are_ok(&outcomes), text.as_str()),
         (true, "7xé"),
         "a writer",
     );
     let mut copy = String::new(&global);
-    let answer = write_display(&mut copy, &text);
+    let outcome = write_display(&mut copy, &text);
     same(
         &rt,
-        (answer.is_ok(), copy.as_str()),
+        (outcome.is_ok(), copy.as_str()),
         (true, "7xé"),
         "displayed",
     );

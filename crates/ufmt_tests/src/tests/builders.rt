@@ -30,8 +30,8 @@ impl Printed for TwoFields<'_> {
     fn print<W: uWrite>(&self, f: &mut Formatter<W>) -> Result<(), W::Error> {
         let mut tuple = f.debug_tuple(self.0)?;
         tuple.field(&1u64)?;
-        let answer = 2i32.fmt(tuple.begin_field()?);
-        tuple.end_field(answer)?;
+        let outcome = 2i32.fmt(tuple.begin_field()?);
+        tuple.end_field(outcome)?;
         tuple.finish()
     }
 }
@@ -45,8 +45,8 @@ impl Printed for Settings {
     fn print<W: uWrite>(&self, f: &mut Formatter<W>) -> Result<(), W::Error> {
         let mut settings = f.debug_struct("S")?;
         settings.field("m", &self.map)?;
-        let answer = 3i32.fmt(settings.begin_field("n")?);
-        settings.end_field(answer)?;
+        let outcome = 3i32.fmt(settings.begin_field("n")?);
+        settings.end_field(outcome)?;
         settings.finish()
     }
 }
@@ -67,8 +67,8 @@ impl Printed for NoNames {
     fn print<W: uWrite>(&self, f: &mut Formatter<W>) -> Result<(), W::Error> {
         let mut block = f.debug_struct("")?;
         block.field("", &1u8)?;
-        let answer = 2u8.fmt(block.begin_field("")?);
-        block.end_field(answer)?;
+        let outcome = 2u8.fmt(block.begin_field("")?);
+        block.end_field(outcome)?;
         block.finish()
     }
 }

@@ -145,8 +145,8 @@ struct InAList;
 impl Printed for InAList {
     fn print<W: uWrite>(&self, f: &mut Formatter<W>) -> Result<(), W::Error> {
         let mut list = f.debug_list()?;
-        let answer = pieces!(debug (1u8, "é") in center(40)).print(list.begin_entry()?);
-        list.end_entry(answer)?;
+        let outcome = pieces!(debug (1u8, "é") in center(40)).print(list.begin_entry()?);
+        list.end_entry(outcome)?;
         list.finish()
     }
 }
@@ -247,8 +247,8 @@ fn a_column_that_no_buffer_holds_fails_with_full(rt: HostRuntime) {
         for fill in [' ', '*'] {
             let mut bytes = [b'~'; 80];
             let widest = column(align, fill, usize::MAX);
-            let answer = line_into(&mut bytes, &pieces!(display 'x' in widest));
-            table.put_answer(answer, &bytes);
+            let outcome = line_into(&mut bytes, &pieces!(display 'x' in widest));
+            table.put_outcome(outcome, &bytes);
         }
     }
     has_rows(&rt, &table, PAST_A_BUFFER);
@@ -305,11 +305,11 @@ impl uDebug for Counting<'_> {
 // How often `fmt` is called for a column of this width.
 fn calls_at(width: usize) -> u8 {
     let calls = Cell::new(0);
-    let answer = line_into(
+    let outcome = line_into(
         &mut [0; 16],
         &pieces!(debug (Counting(&calls)) in left(width)),
     );
-    if answer.is_ok() { calls.get() } else { 255 }
+    if outcome.is_ok() { calls.get() } else { 255 }
 }
 
 #[test]
@@ -332,8 +332,8 @@ fn put_row(table: &mut Table, name: &str, count: u32, length: usize) {
                 count,
                 register: 255,
             };
-            let answer = write_row(&mut bytes[..length.min(48)], &counter);
-            table.put_answer(answer, &bytes);
+            let outcome = write_row(&mut bytes[..length.min(48)], &counter);
+            table.put_outcome(outcome, &bytes);
         }
         Err(_) => table.put_nothing(),
     }

@@ -4,9 +4,9 @@ use ufmt::{Cursor, Formatter, Full, laws, uWrite};
 
 impl Table {
     // Adds a row of what a call on the cursor returned, and of what then remains and is written.
-    fn put_cursor(&mut self, answer: Result<(), Full>, cursor: &Cursor<'_>) {
-        let answer = answer.map(|()| cursor.remaining());
-        self.put_answer(answer, cursor.written());
+    fn put_cursor(&mut self, outcome: Result<(), Full>, cursor: &Cursor<'_>) {
+        let outcome = outcome.map(|()| cursor.remaining());
+        self.put_outcome(outcome, cursor.written());
     }
 }
 
@@ -25,15 +25,15 @@ fn a_cursor_fills_its_buffer(rt: HostRuntime) {
     let mut buffer = *b"......";
     let mut cursor = Cursor::new(&mut buffer);
     for piece in ["", "ab", "cdefg"] {
-        let answer = cursor.write_str(piece);
-        table.put_cursor(answer, &cursor);
+        let outcome = cursor.write_str(piece);
+        table.put_cursor(outcome, &cursor);
     }
     for character in ['é', '€'] {
-        let answer = cursor.write_char(character);
-        table.put_cursor(answer, &cursor);
+        let outcome = cursor.write_char(character);
+        table.put_cursor(outcome, &cursor);
     }
-    let answer = cursor.write_str("");
-    table.put_cursor(answer, &cursor);
+    let outcome = cursor.write_str("");
+    table.put_cursor(outcome, &cursor);
     same(&rt, cursor.remaining(), 2, "what remains");
     same(
         &rt,
@@ -49,8 +49,8 @@ fn a_cursor_over_no_bytes_takes_only_empty_pieces(rt: HostRuntime) {
     let mut table = Table::new(rt.alloc());
     let mut cursor = Cursor::new(&mut []);
     for piece in ["", "a"] {
-        let answer = cursor.write_str(piece);
-        table.put_cursor(answer, &cursor);
+        let outcome = cursor.write_str(piece);
+        table.put_cursor(outcome, &cursor);
     }
     same(&rt, cursor.remaining(), 0, "what remains");
     has_rows(&rt, &table, "Ok(0) ;\nErr(Full) ;\n");
@@ -59,18 +59,18 @@ fn a_cursor_over_no_bytes_takes_only_empty_pieces(rt: HostRuntime) {
 #[test]
 fn write_to_buffer_keeps_the_other_bytes(rt: HostRuntime) {
     let mut buffer = *b"....";
-    let answer = laws::write_to_buffer(&mut buffer, "abcde");
-    same(&rt, (answer, &buffer), (Err(Full), b"...."), "too long");
-    let answer = laws::write_to_buffer(&mut buffer, "ab");
-    same(&rt, (answer, &buffer), (Ok(()), b"ab.."), "short");
+    let outcome = laws::write_to_buffer(&mut buffer, "abcde");
+    same(&rt, (outcome, &buffer), (Err(Full), b"...."), "too long");
+    let outcome = laws::write_to_buffer(&mut buffer, "ab");
+    same(&rt, (outcome, &buffer), (Ok(()), b"ab.."), "short");
 }
 
 // Begins a list whose first entry fails. Then writes `x` if the builder is closed and the depth is
 // as before.
 fn entry_then_text<W: uWrite<Error = Full>>(f: &mut Formatter<W>) -> Result<(), Full> {
     let mut list = f.debug_list()?;
-    let answer = list.entry(&1u64);
-    let is_closed = answer == Err(Full) && !list.is_open();
+    let outcome = list.entry(&1u64);
+    let is_closed = outcome == Err(Full) && !list.is_open();
     let is_as_before = is_closed && f.depth() == 0;
     f.write_str(if is_as_before { "x" } else { "" })
 }
@@ -80,12 +80,12 @@ fn entry_then_text_to<W: uWrite<Error = Full>>(
     writer: W,
 ) -> (Result<(), Full>, (bool, u8), W) {
     let mut f = Formatter::new(writer);
-    let answer = if is_pretty {
+    let outcome = if is_pretty {
         f.pretty(|f| entry_then_text(f))
     } else {
         entry_then_text(&mut f)
     };
-    (answer, (f.is_pretty(), f.depth()), f.into_inner())
+    (outcome, (f.is_pretty(), f.depth()), f.into_inner())
 }
 
 const AFTER_AN_ENTRY: &str = "\
@@ -102,9 +102,9 @@ fn a_formatter_continues_after_a_failed_entry(rt: HostRuntime) {
     for (size, is_pretty) in [(1, false), (1, true), (3, true)] {
         let mut buffer = [0; 3];
         let writer = Cursor::new(&mut buffer[..size]);
-        let (answer, left, cursor) = entry_then_text_to(is_pretty, writer);
+        let (outcome, left, cursor) = entry_then_text_to(is_pretty, writer);
         same(&rt, left, (false, 0), "what is left");
-        table.put_cursor(answer, &cursor);
+        table.put_cursor(outcome, &cursor);
     }
     has_rows(&rt, &table, AFTER_AN_ENTRY);
 }

@@ -20,9 +20,9 @@ impl Table {
     }
 
     // Adds a row of what a call returned, and of what then remains and is written.
-    fn put_truncating(&mut self, answer: Result<(), Full>, writer: &Truncating<'_>) {
-        let answer = answer.map(|()| writer.remaining());
-        self.put_answer(answer, writer.written());
+    fn put_truncating(&mut self, outcome: Result<(), Full>, writer: &Truncating<'_>) {
+        let outcome = outcome.map(|()| writer.remaining());
+        self.put_outcome(outcome, writer.written());
     }
 }
 
@@ -257,11 +257,11 @@ fn after_a_cut_nothing_more_is_taken(rt: HostRuntime) {
     let mut writer = Truncating::new(&mut buffer);
     same(&rt, writer.is_cut(), false, "before the cut");
     for piece in ["", "ab", "é€c", "d", "€", ""] {
-        let answer = writer.write_str(piece);
-        table.put_truncating(answer, &writer);
+        let outcome = writer.write_str(piece);
+        table.put_truncating(outcome, &writer);
     }
-    let answer = writer.write_char('e');
-    table.put_truncating(answer, &writer);
+    let outcome = writer.write_char('e');
+    table.put_truncating(outcome, &writer);
     same(
         &rt,
         (writer.is_cut(), writer.remaining()),
@@ -290,8 +290,8 @@ fn characters_are_taken_whole(rt: HostRuntime) {
     let mut buffer = *b"....";
     let mut writer = Truncating::new(&mut buffer);
     for character in ['a', 'é', 'é', 'b'] {
-        let answer = writer.write_char(character);
-        table.put_truncating(answer, &writer);
+        let outcome = writer.write_char(character);
+        table.put_truncating(outcome, &writer);
     }
     same(&rt, buffer.as_slice(), "aé.".as_bytes(), "the whole buffer");
     has_rows(&rt, &table, BY_CHARACTER);

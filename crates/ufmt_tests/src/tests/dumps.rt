@@ -393,8 +393,8 @@ fn show_packet_keeps_the_rows_that_fit(rt: HostRuntime) {
     let mut table = Table::new(rt.alloc());
     for (count, length) in [(9, 82), (9, 81), (9, 80), (9, 43), (0, 2)] {
         let mut bytes = [b'~'; 82];
-        let answer = show_packet(&mut bytes[..length], &BYTES[..count]);
-        table.put_answer(answer, &bytes[..length]);
+        let outcome = show_packet(&mut bytes[..length], &BYTES[..count]);
+        table.put_outcome(outcome, &bytes[..length]);
     }
     has_rows(&rt, &table, PACKETS);
 }
@@ -405,8 +405,8 @@ fn a_text_column_that_no_buffer_reaches_fails_with_full(rt: HostRuntime) {
     let mut table = Table::new(rt.alloc());
     for group in [0, 1] {
         let mut bytes = [b'~'; 16];
-        let answer = hex_dump_into(&mut bytes, &BYTES[..1], &in_rows(usize::MAX, group));
-        table.put_answer(answer, &bytes);
+        let outcome = hex_dump_into(&mut bytes, &BYTES[..1], &in_rows(usize::MAX, group));
+        table.put_outcome(outcome, &bytes);
     }
     has_rows(
         &rt,

@@ -5,9 +5,9 @@ use ufmt_user::Fixed;
 
 impl Table {
     // Adds a row of what a call returned, and of what is written then.
-    fn put_fixed<const N: usize>(&mut self, answer: Result<(), Full>, writer: &Fixed<N>) {
-        let answer = answer.map(|()| writer.written().len());
-        self.put_answer(answer, writer.written());
+    fn put_fixed<const N: usize>(&mut self, outcome: Result<(), Full>, writer: &Fixed<N>) {
+        let outcome = outcome.map(|()| writer.written().len());
+        self.put_outcome(outcome, writer.written());
     }
 }
 
@@ -26,8 +26,8 @@ fn a_fixed_writer_takes_pieces_whole(rt: HostRuntime) {
     let mut table = Table::new(rt.alloc());
     let mut writer = Fixed::<5>::new();
     for piece in ["", "ab", "cdef", "cde", "", "f"] {
-        let answer = writer.write_str(piece);
-        table.put_fixed(answer, &writer);
+        let outcome = writer.write_str(piece);
+        table.put_fixed(outcome, &writer);
     }
     has_rows(&rt, &table, PIECES);
 }
@@ -36,10 +36,10 @@ fn a_fixed_writer_takes_pieces_whole(rt: HostRuntime) {
 fn a_fixed_writer_takes_values(rt: HostRuntime) {
     let mut table = Table::new(rt.alloc());
     let mut writer = Fixed::<7>::new();
-    let answer = write_debug(&mut writer, &[1u8, 23]);
-    table.put_fixed(answer, &writer);
+    let outcome = write_debug(&mut writer, &[1u8, 23]);
+    table.put_fixed(outcome, &writer);
     let mut writer = Fixed::<6>::new();
-    let answer = write_debug(&mut writer, &[1u8, 23]);
-    table.put_fixed(answer, &writer);
+    let outcome = write_debug(&mut writer, &[1u8, 23]);
+    table.put_fixed(outcome, &writer);
     has_rows(&rt, &table, "Ok(7) [1, 23];\nErr(Full) [1, 23;\n");
 }

@@ -60,26 +60,26 @@ fn write_char_calls_write_char_of_the_writer(rt: HostRuntime) {
         characters: 0,
     };
     let mut reference = &mut noted;
-    let answer = uWrite::write_char(&mut reference, 'é');
+    let outcome = uWrite::write_char(&mut reference, 'é');
     same(
         &rt,
-        (answer.is_ok(), noted.characters),
+        (outcome.is_ok(), noted.characters),
         (true, 1),
         "by a reference",
     );
-    let answer = Formatter::new(&mut noted).write_char('a');
+    let outcome = Formatter::new(&mut noted).write_char('a');
     same(
         &rt,
-        (answer.is_ok(), noted.characters),
+        (outcome.is_ok(), noted.characters),
         (true, 2),
         "over a reference",
     );
     let mut f = Formatter::new(noted);
-    let answers = [f.write_char('b'), f.write_str("c")];
+    let outcomes = [f.write_char('b'), f.write_str("c")];
     let noted = f.into_inner();
     same(
         &rt,
-        (are_ok(&answers), noted.characters),
+        (are_ok(&outcomes), noted.characters),
         (true, 3),
         "by a formatter",
     );
@@ -120,10 +120,10 @@ impl Printed for Dropped {
 
 #[test]
 fn a_dropped_builder_writes_no_closing_bracket(rt: HostRuntime) {
-    let ((answer, _, outside), text) = print_to(true, &Dropped, String::new(rt.alloc()));
+    let ((outcome, _, outside), text) = print_to(true, &Dropped, String::new(rt.alloc()));
     same(
         &rt,
-        (answer.is_ok(), outside),
+        (outcome.is_ok(), outside),
         (true, (false, 0)),
         "what is left",
     );
@@ -136,17 +136,17 @@ where
     W::Error: Drop,
 {
     let mut f = Formatter::new(writer);
-    let answer = f.pretty(|_| Err(error));
-    (answer, f.is_pretty(), f.depth(), f.into_inner())
+    let outcome = f.pretty(|_| Err(error));
+    (outcome, f.is_pretty(), f.depth(), f.into_inner())
 }
 
 #[test]
 fn pretty_goes_back_to_plain_mode_after_an_error(rt: HostRuntime) {
     let mut buffer = [0; 8];
-    let (answer, is_pretty, depth, cursor) = fail_by_itself(Cursor::new(&mut buffer), Full);
+    let (outcome, is_pretty, depth, cursor) = fail_by_itself(Cursor::new(&mut buffer), Full);
     same(
         &rt,
-        (answer, is_pretty, depth),
+        (outcome, is_pretty, depth),
         (Err(Full), false, 0),
         "what is left",
     );
@@ -159,11 +159,11 @@ fn write_in_pretty_mode<W: uWrite>(
     piece: &str,
 ) -> (Result<(), W::Error>, bool, bool, u8) {
     let mut inside = false;
-    let answer = f.pretty(|f| {
+    let outcome = f.pretty(|f| {
         inside = f.is_pretty();
         f.write_str(piece)
     });
-    (answer, inside, f.is_pretty(), f.depth())
+    (outcome, inside, f.is_pretty(), f.depth())
 }
 
 #[test]

@@ -218,8 +218,8 @@ impl Table {
             number: 33i32,
             options,
         };
-        let ((answer, ..), cursor) = print_to(false, &number, Cursor::new(&mut buffer));
-        self.put_answer(answer.map(|()| cursor.remaining()), cursor.written());
+        let ((outcome, ..), cursor) = print_to(false, &number, Cursor::new(&mut buffer));
+        self.put_outcome(outcome.map(|()| cursor.remaining()), cursor.written());
     }
 }
 

@@ -33,7 +33,7 @@ fn first_pieces(alloc: Global, length: usize) -> Result<String, AllocError> {
 // Whether `line_into` writes these pieces, and returns their length or `Full`.
 fn takes_first_pieces(alloc: Global, length: usize) -> Result<bool, AllocError> {
     let mut bytes = vec![in alloc; b'~'; length]?;
-    let answer = line_into(
+    let outcome = line_into(
         bytes.as_mut_slice(),
         &pieces!(
             text "a=", display 7i32, text " ", debug (1u8,), pretty [2u8],
@@ -42,7 +42,7 @@ fn takes_first_pieces(alloc: Global, length: usize) -> Result<bool, AllocError> 
     );
     let expected = if length < 28 { Err(Full) } else { Ok(28) };
     let held = first_pieces(alloc, length)?;
-    Ok(answer == expected && bytes.as_slice() == held.as_bytes())
+    Ok(outcome == expected && bytes.as_slice() == held.as_bytes())
 }
 
 #[test]
@@ -57,7 +57,7 @@ fn line_into_a_short_buffer_writes_the_first_pieces(rt: HostRuntime) {
 fn each_prints_items_with_a_text_between_them(rt: HostRuntime) {
     let mut text = String::new(rt.alloc());
     let no_items: [u8; 0] = [];
-    let answers = [
+    let outcomes = [
         write_line(
             &mut text,
             &pieces!(
@@ -71,7 +71,7 @@ fn each_prints_items_with_a_text_between_them(rt: HostRuntime) {
     let expected = "a, b, c;\"a\"(\n    1,\n)+(\n    2,\n)0x000a0x00ff";
     same(
         &rt,
-        (are_ok(&answers), text.as_str()),
+        (are_ok(&outcomes), text.as_str()),
         (true, expected),
         "in order",
     );
@@ -86,7 +86,7 @@ fn noted(calls: &mut u8) -> u8 {
 // The result, and how many values were evaluated.
 fn write_noted(buffer: &mut [u8]) -> (Result<usize, Full>, u8) {
     let mut calls = 0;
-    let answer = line_into(
+    let outcome = line_into(
         buffer,
         &pieces!(
             text "n=", display noted(&mut calls), debug noted(&mut calls),
@@ -94,7 +94,7 @@ fn write_noted(buffer: &mut [u8]) -> (Result<usize, Full>, u8) {
             text "+"
         ),
     );
-    (answer, calls)
+    (outcome, calls)
 }
 
 #[test]
@@ -145,10 +145,10 @@ impl Printed for ALine {
 
 #[test]
 fn a_line_prints_in_pretty_mode(rt: HostRuntime) {
-    let ((answer, ..), text) = print_to(true, &ALine, String::new(rt.alloc()));
+    let ((outcome, ..), text) = print_to(true, &ALine, String::new(rt.alloc()));
     same(
         &rt,
-        (answer.is_ok(), text.as_str()),
+        (outcome.is_ok(), text.as_str()),
         (true, "a(\n    1,\n)"),
         "a line",
     );
@@ -171,8 +171,8 @@ fn dump_packet_prints_its_length_and_bytes(rt: HostRuntime) {
         ([1, 2].as_slice(), 9),
     ] {
         let mut bytes = [b'~'; 20];
-        let answer = dump_packet(&mut bytes[..length], packet);
-        table.put_answer(answer, &bytes);
+        let outcome = dump_packet(&mut bytes[..length], packet);
+        table.put_outcome(outcome, &bytes);
     }
     has_rows(&rt, &table, DUMPS);
 }
@@ -193,8 +193,8 @@ fn list_measurements_prints_each_measurement(rt: HostRuntime) {
     });
     for (count, length) in [(2, 24), (1, 24), (0, 24), (2, 19)] {
         let mut bytes = [b'~'; 24];
-        let answer = list_measurements(&mut bytes[..length], &measurements[..count]);
-        table.put_answer(answer, &bytes);
+        let outcome = list_measurements(&mut bytes[..length], &measurements[..count]);
+        table.put_outcome(outcome, &bytes);
     }
     has_rows(&rt, &table, MEASUREMENTS);
 }

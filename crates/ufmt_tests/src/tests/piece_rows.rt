@@ -19,8 +19,8 @@ struct Pieces {
 impl Pieces {
     fn of<T: Printed>(alloc: Global, is_pretty: bool, value: &T) -> Result<Self, AllocError> {
         let (left, recorded) = print_to(is_pretty, value, Recorded::new(alloc));
-        let (answer, inside, outside) = left;
-        answer?;
+        let (outcome, inside, outside) = left;
+        outcome?;
         Ok(Pieces {
             is_pretty,
             is_as_before: inside == (is_pretty, 0) && outside == (false, 0),
@@ -56,8 +56,8 @@ impl Pieces {
 
     // Whether `left` is right for a writer that took the first `length` bytes.
     fn is_left(&self, left: Left<Full>, written: &[u8], length: usize) -> bool {
-        let (answer, inside, outside) = left;
-        answer.is_ok() == (length == self.text.len())
+        let (outcome, inside, outside) = left;
+        outcome.is_ok() == (length == self.text.len())
             && inside == (self.is_pretty, 0)
             && outside == (false, 0)
             && self.text.as_bytes().get(..length) == Some(written)

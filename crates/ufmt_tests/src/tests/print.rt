@@ -38,11 +38,11 @@ fn debug_into_and_display_into_fill_a_buffer(rt: HostRuntime) {
     let mut table = Table::new(rt.alloc());
     for length in [4, 3, 2] {
         let mut buffer = [b'.'; 4];
-        let answer = debug_into(&mut buffer[..length], &123u8);
-        table.put_answer(answer, &buffer);
+        let outcome = debug_into(&mut buffer[..length], &123u8);
+        table.put_outcome(outcome, &buffer);
         let mut buffer = [b'.'; 4];
-        let answer = display_into(&mut buffer[..length], &"123");
-        table.put_answer(answer, &buffer);
+        let outcome = display_into(&mut buffer[..length], &"123");
+        table.put_outcome(outcome, &buffer);
     }
     has_rows(&rt, &table, IN_BUFFERS);
 }
@@ -57,8 +57,8 @@ fn debug_into_writes_quoted_texts(rt: HostRuntime) {
     let mut table = Table::new(rt.alloc());
     for length in [3, 6] {
         let mut buffer = [b'.'; 6];
-        let answer = debug_into(&mut buffer[..length], &"a\"b");
-        table.put_answer(answer, &buffer);
+        let outcome = debug_into(&mut buffer[..length], &"a\"b");
+        table.put_outcome(outcome, &buffer);
     }
     has_rows(&rt, &table, QUOTED_IN_BUFFERS);
 }
@@ -81,8 +81,8 @@ fn pretty_into_fills_a_buffer(rt: HostRuntime) {
     let mut table = Table::new(rt.alloc());
     for length in [11, 10, 9, 0] {
         let mut buffer = [b'.'; 11];
-        let answer = pretty_into(&mut buffer[..length], &[7u8]);
-        table.put_answer(answer, &buffer);
+        let outcome = pretty_into(&mut buffer[..length], &[7u8]);
+        table.put_outcome(outcome, &buffer);
     }
     has_rows(&rt, &table, PRETTY_IN_BUFFERS);
 }

@@ -72,16 +72,16 @@ fn print_in<T: Printed, W: uWrite>(
     f: &mut Formatter<W>,
 ) -> (Result<(), W::Error>, (bool, u8)) {
     if !is_pretty {
-        let answer = value.print(f);
-        return (answer, (f.is_pretty(), f.depth()));
+        let outcome = value.print(f);
+        return (outcome, (f.is_pretty(), f.depth()));
     }
     let mut inside = (false, 0);
-    let answer = f.pretty(|f| {
-        let answer = value.print(f);
+    let outcome = f.pretty(|f| {
+        let outcome = value.print(f);
         inside = (f.is_pretty(), f.depth());
-        answer
+        outcome
     });
-    (answer, inside)
+    (outcome, inside)
 }
 
 /// Prints the value to this writer in this mode. Returns what is left, and the writer.
@@ -91,7 +91,7 @@ pub fn print_to<T: Printed, W: uWrite>(
     writer: W,
 ) -> (Left<W::Error>, W) {
     let mut f = Formatter::new(writer);
-    let (answer, inside) = print_in(is_pretty, value, &mut f);
+    let (outcome, inside) = print_in(is_pretty, value, &mut f);
     let outside = (f.is_pretty(), f.depth());
-    ((answer, inside, outside), f.into_inner())
+    ((outcome, inside, outside), f.into_inner())
 }

@@ -79,9 +79,9 @@ impl Table {
     }
 
     /// Adds a row of a call's result, and of what it left in a buffer.
-    pub fn put_answer(&mut self, answer: Result<usize, Full>, left: &[u8]) {
+    pub fn put_outcome(&mut self, outcome: Result<usize, Full>, left: &[u8]) {
         let text = str::from_utf8(left).unwrap_or("bytes that are no UTF-8");
-        let row = format!(in self.alloc; "{answer:?} {text}");
+        let row = format!(in self.alloc; "{outcome:?} {text}");
         match row {
             Ok(row) => self.put(row.as_str()),
             Err(_) => self.has_all = false,
@@ -98,8 +98,8 @@ pub fn joined_if_different(mut first: String, second: &str) -> Result<String, Al
     Ok(first)
 }
 
-pub fn are_ok(answers: &[Result<(), AllocError>]) -> bool {
-    answers.iter().all(|answer| answer.is_ok())
+pub fn are_ok(outcomes: &[Result<(), AllocError>]) -> bool {
+    outcomes.iter().all(|outcome| outcome.is_ok())
 }
 
 pub fn list<N: Copy>(alloc: Global, items: &[N]) -> Result<Vec<N>, AllocError> {

@@ -11,12 +11,12 @@ mod names {
     pub struct Result;
 
     #[derive(Drop)]
-    pub enum Answer {
+    pub enum Choice {
         Ok,
         Err,
     }
 
-    use Answer::{Err, Ok};
+    use Choice::{Err, Ok};
 
     pub fn write(f: &mut Formatter<Cursor<'_>>) -> [std::result::Result<(), Full>; 4] {
         let _names = (Ok, Err, Result);
@@ -35,15 +35,15 @@ mod names {
 fn uwrite_and_uwriteln_work_where_result_ok_and_err_are_shadowed(rt: HostRuntime) {
     let mut buffer = [0; 96];
     let mut f = Formatter::new(Cursor::new(&mut buffer));
-    same(&rt, names::write(&mut f), [Ok(()); 4], "the answers");
+    same(&rt, names::write(&mut f), [Ok(()); 4], "the outcomes");
     let lines = "Pair { x: 1, y: 2 }Pair { x: 1, y: 2 }\nHello, world!The answer is 42\n";
     same(&rt, f.into_inner().written(), lines.as_bytes(), "the lines");
 
     let mut text = String::new(rt.alloc());
-    let answer = uwriteln!(&mut Formatter::new(&mut text), debug forwarded::Y);
+    let outcome = uwriteln!(&mut Formatter::new(&mut text), debug forwarded::Y);
     same(
         &rt,
-        (answer.is_ok(), text.as_str()),
+        (outcome.is_ok(), text.as_str()),
         (true, "X\n"),
         "by a piece",
     );

@@ -5,8 +5,8 @@ use std::alloc::{AllocError, Global};
 use ufmt::{Cursor, uDebug};
 
 fn text_by<T: Printed>(alloc: Global, value: &T) -> Result<String, AllocError> {
-    let ((answer, inside, outside), mut text) = print_to(false, value, String::new(alloc));
-    answer?;
+    let ((outcome, inside, outside), mut text) = print_to(false, value, String::new(alloc));
+    outcome?;
     if (inside, outside) != ((false, 0), (false, 0)) {
         text.push_str(" in another mode or depth")?;
     }

@@ -199,8 +199,8 @@ fn log_writes_a_line_into_a_buffer(rt: HostRuntime) {
     };
     for length in [64, 59, 58, 20] {
         let mut buffer = [b'.'; 64];
-        let answer = log(&mut buffer[..length], &measurement, 0xbeef);
-        table.put_answer(answer, &buffer);
+        let outcome = log(&mut buffer[..length], &measurement, 0xbeef);
+        table.put_outcome(outcome, &buffer);
     }
     has_rows(&rt, &table, LOGS);
 }
@@ -221,8 +221,8 @@ fn print_writes_a_message_into_a_buffer(rt: HostRuntime) {
     };
     for length in [64, 58, 57, 18] {
         let mut buffer = [b'.'; 64];
-        let answer = print(&mut buffer[..length], &message);
-        table.put_answer(answer, &buffer);
+        let outcome = print(&mut buffer[..length], &message);
+        table.put_outcome(outcome, &buffer);
     }
     has_rows(&rt, &table, MESSAGES);
 }

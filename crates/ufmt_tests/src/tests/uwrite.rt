@@ -123,8 +123,8 @@ fn write_in_order<W: uWrite>(f: &mut Formatter<W>) -> [Result<(), W::Error>; 8] 
 #[test]
 fn pieces_are_written_in_order(rt: HostRuntime) {
     let mut f = Formatter::new(String::new(rt.alloc()));
-    let answers = write_in_order(&mut f);
-    let left = (are_ok(&answers), f.is_pretty(), f.depth());
+    let outcomes = write_in_order(&mut f);
+    let left = (are_ok(&outcomes), f.is_pretty(), f.depth());
     same(&rt, left, (true, false, 0), "what is left");
     same(&rt, f.into_inner().as_str(), IN_ORDER, "in order");
 }
@@ -138,7 +138,7 @@ fn noted(calls: &mut u32) -> u32 {
 // The result, and how often the formatter, texts, values and options were evaluated.
 fn write_counted<W: uWrite>(f: &mut Formatter<W>) -> (Result<(), W::Error>, [u32; 4]) {
     let (mut formatters, mut texts, mut values, mut options) = (0, 0, 0, 0);
-    let answer = uwrite!(
+    let outcome = uwrite!(
         {
             noted(&mut formatters);
             &mut *f
@@ -155,53 +155,53 @@ fn write_counted<W: uWrite>(f: &mut Formatter<W>) -> (Result<(), W::Error>, [u32
             PREFIXED
         },
     );
-    (answer, [formatters, texts, values, options])
+    (outcome, [formatters, texts, values, options])
 }
 
 // The same for `uwriteln!`, with the formatter and one value. Values are counted from 4 on.
 fn write_counted_line<W: uWrite>(f: &mut Formatter<W>) -> (Result<(), W::Error>, [u32; 2]) {
     let (mut formatters, mut values) = (0, 4);
-    let answer = uwriteln!(
+    let outcome = uwriteln!(
         {
             noted(&mut formatters);
             &mut *f
         },
         display noted(&mut values)
     );
-    (answer, [formatters, values])
+    (outcome, [formatters, values])
 }
 
 #[test]
 fn each_argument_is_evaluated_once(rt: HostRuntime) {
     let mut f = Formatter::new(String::new(rt.alloc()));
-    let (answer, calls) = write_counted(&mut f);
-    same(&rt, (answer, calls), (Ok(()), [1, 1, 4, 1]), "uwrite");
-    let (answer, calls) = write_counted_line(&mut f);
-    same(&rt, (answer, calls), (Ok(()), [1, 5]), "uwriteln");
+    let (outcome, calls) = write_counted(&mut f);
+    same(&rt, (outcome, calls), (Ok(()), [1, 1, 4, 1]), "uwrite");
+    let (outcome, calls) = write_counted_line(&mut f);
+    same(&rt, (outcome, calls), (Ok(()), [1, 5]), "uwriteln");
     same(&rt, f.into_inner().as_str(), "n=1230x00045\n", "both");
 }
 
 // The result, and how often the value after the text was evaluated.
 fn write_noted(f: &mut Formatter<Cursor<'_>>, text: &str) -> (Result<(), Full>, u32) {
     let mut calls = 0;
-    let answer = uwrite!(f, text text, display noted(&mut calls));
-    (answer, calls)
+    let outcome = uwrite!(f, text text, display noted(&mut calls));
+    (outcome, calls)
 }
 
 #[test]
 fn nothing_is_evaluated_after_a_failure(rt: HostRuntime) {
     let mut buffer = [0; 1];
     let mut f = Formatter::new(Cursor::new(&mut buffer));
-    let answers = (write_noted(&mut f, "ab"), write_noted(&mut f, ""));
+    let outcomes = (write_noted(&mut f, "ab"), write_noted(&mut f, ""));
     let wanted = ((Err(Full), 0), (Ok(()), 1));
-    same(&rt, answers, wanted, "a failure, and none");
+    same(&rt, outcomes, wanted, "a failure, and none");
     same(&rt, f.into_inner().written(), b"1".as_slice(), "of both");
 }
 
 // The result, and mode and depth after it.
-fn write_answer(f: &mut Formatter<Cursor<'_>>) -> (Result<(), Full>, bool, u8) {
-    let answer = uwrite!(f, text "The answer is ", display 42i32);
-    (answer, f.is_pretty(), f.depth())
+fn write_outcome(f: &mut Formatter<Cursor<'_>>) -> (Result<(), Full>, bool, u8) {
+    let outcome = uwrite!(f, text "The answer is ", display 42i32);
+    (outcome, f.is_pretty(), f.depth())
 }
 
 #[test]
@@ -210,7 +210,7 @@ fn uwrite_leaves_the_rest_of_a_long_buffer(rt: HostRuntime) {
     let mut f = Formatter::new(Cursor::new(&mut buffer));
     same(
         &rt,
-        write_answer(&mut f),
+        write_outcome(&mut f),
         (Ok(()), false, 0),
         "what is left",
     );

@@ -54,7 +54,7 @@ fn write_in_a_list<W: uWrite>(
     f: &mut Formatter<W>,
 ) -> Result<(), W::Error> {
     let mut list = f.debug_list()?;
-    let answer = write(request, text, list.begin_entry()?);
-    list.end_entry(answer)?;
+    let outcome = write(request, text, list.begin_entry()?);
+    list.end_entry(outcome)?;
     list.finish()
 }

@@ -37,32 +37,32 @@ fn write_tuples<W: uWrite>(name: &str, f: &mut Formatter<W>) -> Result<(), W::Er
 fn write_list<W: uWrite>(value: &str, f: &mut Formatter<W>) -> Result<(), W::Error> {
     let mut list = f.debug_list()?;
     list.entry(&value)?;
-    let answer = list.begin_entry()?.write_str(value);
-    list.end_entry(answer)?;
+    let outcome = list.begin_entry()?.write_str(value);
+    list.end_entry(outcome)?;
     list.finish()
 }
 
 fn write_map<W: uWrite>(value: &str, f: &mut Formatter<W>) -> Result<(), W::Error> {
     let mut map = f.debug_map()?;
     map.entry(&value, &value)?;
-    let answer = map.begin_entry()?.write_str(value);
-    let answer = map.begin_value(answer)?.write_str(value);
-    map.end_entry(answer)?;
+    let outcome = map.begin_entry()?.write_str(value);
+    let outcome = map.begin_value(outcome)?.write_str(value);
+    map.end_entry(outcome)?;
     map.finish()
 }
 
 fn write_struct<W: uWrite>(name: &str, f: &mut Formatter<W>) -> Result<(), W::Error> {
     let mut block = f.debug_struct(name)?;
     block.field(name, &name)?;
-    let answer = block.begin_field(name)?.write_str(name);
-    block.end_field(answer)?;
+    let outcome = block.begin_field(name)?.write_str(name);
+    block.end_field(outcome)?;
     block.finish()
 }
 
 fn write_tuple<W: uWrite>(name: &str, f: &mut Formatter<W>) -> Result<(), W::Error> {
     let mut block = f.debug_tuple(name)?;
     block.field(&name)?;
-    let answer = block.begin_field()?.write_str(name);
-    block.end_field(answer)?;
+    let outcome = block.begin_field()?.write_str(name);
+    block.end_field(outcome)?;
     block.finish()
 }

@@ -99,12 +99,12 @@ impl Form {
             let mut bytes = [0; 8];
             let mut turns = Turns::new(alloc);
             let mut f = Formatter::new(FailOnce::new(&mut bytes, refused));
-            let answer = self.write(number, &mut f, &mut turns);
+            let outcome = self.write(number, &mut f, &mut turns);
             let writer = f.into_inner();
             row.push_str(turns.noted.as_str())?;
-            row.push(if answer.is_ok() { '=' } else { '!' })?;
+            row.push(if outcome.is_ok() { '=' } else { '!' })?;
             row.push_str(str::from_utf8(writer.written()).unwrap_or("bytes"))?;
-            if answer.is_ok() {
+            if outcome.is_ok() {
                 break;
             }
             row.push(' ')?;

@@ -73,7 +73,7 @@ fn devices_are_called_no_more_than_needed(rt: HostRuntime) -> Result<(), Fail> {
     Ok(())
 }
 
-// A read takes 64 KiB, and the end one more. A word is the answer to itself, and is one write too.
+// A read takes 64 KiB, and the end one more. The output for a word is the word, and is one write too.
 #[test]
 fn a_mebibyte_takes_17_reads_and_a_write(rt: HostRuntime) -> Result<(), Fail> {
     let word = vec![in rt.alloc(); b'a'; 1_048_576]?;

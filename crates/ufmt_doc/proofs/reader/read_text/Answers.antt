@@ -12,14 +12,14 @@ use Rattle.ufmt_scan.specs.declared.error.ReadError.{ReadError}
 use Rattle.ufmt_scan.specs.declared.error.ReadError.TheVariants.{NotText}
 
 -- the result is the document on top of the stack, if there is one
-document_is : (answer : Result Doc ReadError) (top : Option Doc) (d : Document) → option_map doc_document top ≡ Some d → answer ≡ ok_or top NotText
-    → (doc : Doc) × (answer ≡ Ok doc) × (doc_document doc ≡ d)
-document_is answer None d is h = absurd (cc)
-document_is answer (Some doc) d is h = (doc, h, cc)
+document_is : (outcome : Result Doc ReadError) (top : Option Doc) (d : Document) → option_map doc_document top ≡ Some d → outcome ≡ ok_or top NotText
+    → (doc : Doc) × (outcome ≡ Ok doc) × (doc_document doc ≡ d)
+document_is outcome None d is h = absurd (cc)
+document_is outcome (Some doc) d is h = (doc, h, cc)
 
 pub returns : goal.returns
 returns c =
     let scanned = c.in_ok-scan.ensures in
     let whole = whole_is scanned.0 _ scanned.1.0 scanned.1.1 (scanned.2 ∙ ap (λ g. grown g (events_of scanned.0)) c.new-sink.ensures) in
-    let answer = document_is c.ok_or.result c.into_document.result scanned.0 (c.into_document.ensures scanned.0 whole) c.ok_or.ensures.value in
-    record { ok = rw (answer.1, answer.2) scanned.1; not_text = rw answer.1 (λ is. absurd (cc)) }
+    let outcome = document_is c.ok_or.result c.into_document.result scanned.0 (c.into_document.ensures scanned.0 whole) c.ok_or.ensures.value in
+    record { ok = rw (outcome.1, outcome.2) scanned.1; not_text = rw outcome.1 (λ is. absurd (cc)) }

@@ -1,6 +1,6 @@
--- What was read is whole groups of lines, to which the answers were written, and the group that is being read.
+-- What was read is whole groups of lines, whose outputs were written, and the group that is being read.
 use Rattle.std.proofs.Common.{◌≡◌, ◌<◌, false, vec_len}
-use Rattle.ufmt_lines.specs.Answered.{ReadAnswered}
+use Rattle.ufmt_lines.specs.Output.{ReadsAndWrites}
 use Rattle.ufmt_lines.specs.Groups.{IsInGroup}
 use Rattle.ufmt_lines.specs.Private.Group.{group_bytes}
 use Rattle.ufmt_io.specs.Watched.{device_of, has_failed}
@@ -12,6 +12,6 @@ invariant-reads g l = record {
   output_works : has_failed l.output ≡ false;
   in_group : IsInGroup l.mode (group_bytes l.group);
   room : 0 < vec_len l.chunk;
-  so_far : ReadAnswered l.mode (λ rest. rest ≡ group_bytes l.group) (g.R.Read.remaining (device_of l.initial.input)) (g.R.Read.remaining (device_of l.input))
+  so_far : ReadsAndWrites l.mode (λ rest. rest ≡ group_bytes l.group) (g.R.Read.remaining (device_of l.initial.input)) (g.R.Read.remaining (device_of l.input))
       (g.W.Write.contents (device_of l.initial.output)) (g.W.Write.contents (device_of l.output));
 }

@@ -24,10 +24,10 @@ fn row_of(alloc: Global, (mode, text, read, written): Run<'_>, fails_at: usize) 
     calls.into_inner().row
 }
 
-// An answer of 13 bytes, one of two, one of one, and one of ten after the end.
+// An output of 13 bytes, one of two, one of one, and one of ten after the end.
 const LINES: &[u8] = b"a [1]\nb\n\n[2]";
 
-// Groups that end after 13 bytes, after 15 and at the end of 30, with answers of 6, 2 and 10 bytes.
+// Groups that end after 13 bytes, after 15 and at the end of 30, with outputs of 6, 2 and 10 bytes.
 const GROUPS: &[u8] = b"a [\n    1,\n]\nb\nS {\n    c: d,\n}";
 
 const ROWS: [(Run<'static>, &str); 17] = [
@@ -64,8 +64,8 @@ fn ends_at_any_failure(alloc: Global, input: Run<'_>, calls: &str) -> Result<boo
     Ok(true)
 }
 
-// Each answer is one write if the writer takes it whole, and one flush follows. Nothing is read before
-// the answers to what was read are written, or after the end, and no device is called after a failure.
+// Each output is one write if the writer takes it whole, and one flush follows. Nothing is read before
+// the outputs for what was read are written, or after the end, and no device is called after a failure.
 #[test]
 fn devices_are_called_no_more_than_needed(rt: HostRuntime) -> Result<(), Fail> {
     for (input, calls) in ROWS {

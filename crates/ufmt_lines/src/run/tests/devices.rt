@@ -10,7 +10,7 @@ const PLAIN: &[u8] = b"got [1]\n\nx\nS { a: b }\nend {c}";
 
 const PRETTY: &[u8] = b"got [\n    1,\n]\n\nx\nS {\n    a: b,\n}\nend {\n    c,\n}";
 
-// How many bytes there are of each up to the end of a line of the first, and of its answer.
+// How many bytes there are of each up to the end of a line of the first, and of its output.
 const ENDS: [(usize, usize); 4] = [(8, 15), (9, 16), (11, 18), (22, 34)];
 
 // The input of a run, and its output.
@@ -29,8 +29,8 @@ fn ends(mode: Mode) -> [(usize, usize); 4] {
     }
 }
 
-// How many bytes of the output answer the lines that end within this many bytes of the input.
-fn answered(mode: Mode, read: usize) -> usize {
+// How many bytes of output there are for the lines that end within this many bytes of the input.
+fn written_for(mode: Mode, read: usize) -> usize {
     let mut count = 0;
     for (input, output) in ends(mode) {
         if input <= read {
@@ -53,12 +53,12 @@ fn one_byte_a_call_changes_no_output(rt: HostRuntime) {
     }
 }
 
-// Whether a run whose reader fails after this many bytes writes the answers to the lines before.
-fn is_answered_before(alloc: Global, mode: Mode, read: usize) -> bool {
+// Whether a run whose reader fails after this many bytes writes the outputs for the lines before.
+fn is_written_before(alloc: Global, mode: Mode, read: usize) -> bool {
     let (input, output) = texts(mode);
     let source = Source::new(input, 1, read.saturating_add(1));
     let sink = Sink::new(alloc, WHOLE, NEVER, false);
-    let taken = &output[..answered(mode, read).min(output.len())];
+    let taken = &output[..written_for(mode, read).min(output.len())];
     ran(alloc, mode, source, sink, taken) == wanted(Err(IoFault::CannotRead))
 }
 
@@ -67,13 +67,13 @@ fn a_reader_that_fails_loses_no_line_before(rt: HostRuntime) {
     for mode in MODES {
         let (input, _) = texts(mode);
         for read in 0..input.len() + 1 {
-            let given = is_answered_before(rt.alloc(), mode, read);
+            let given = is_written_before(rt.alloc(), mode, read);
             same(&rt, (read, given), (read, true), "bytes before the failure");
         }
     }
 }
 
-// A writer takes a byte a call, and each of the five answers is flushed.
+// A writer takes a byte a call, and each of the five outputs is flushed.
 #[test]
 fn a_writer_that_fails_has_a_prefix(rt: HostRuntime) {
     for mode in MODES {
@@ -158,13 +158,13 @@ fn written_at_reads(alloc: Global, mode: Mode, text: &[u8]) -> io::Result<Vec<us
 }
 
 #[test]
-fn each_answer_is_written_before_more_is_read(rt: HostRuntime) -> Result<(), Fail> {
+fn each_output_is_written_before_more_is_read(rt: HostRuntime) -> Result<(), Fail> {
     for mode in MODES {
         let (text, _) = texts(mode);
         let counts = written_at_reads(rt.alloc(), mode, text)?;
         same(&rt, counts.len(), text.len() + 1, "reads");
         for (read, written) in counts.iter().enumerate() {
-            let wanted = (read, answered(mode, read));
+            let wanted = (read, written_for(mode, read));
             same(&rt, (read, *written), wanted, "bytes");
         }
     }

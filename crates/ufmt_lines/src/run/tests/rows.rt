@@ -1,4 +1,4 @@
-//! Lines and their answers. The texts are those that rustc's `{:?}` and `{:#?}` print.
+//! Lines and their outputs. The texts are those that rustc's `{:?}` and `{:#?}` print.
 use super::*;
 
 // Words and a plain text, and the same words and the pretty text.
@@ -146,15 +146,15 @@ const OTHER_GROUPS: [&[u8]; 19] = [
     b"[\n    [\n    1,\n    ],\n]",
 ];
 
-// Whether a run over the lines, and over the lines and a line feed, writes this answer.
-fn is_answered(alloc: Global, mode: Mode, line: &[u8], answer: &[u8]) -> Result<bool, AllocError> {
-    let whole = ran_by(alloc, mode, line, WHOLE, answer);
+// Whether a run over the lines, and over the lines and a line feed, writes this output.
+fn is_written(alloc: Global, mode: Mode, line: &[u8], output: &[u8]) -> Result<bool, AllocError> {
+    let whole = ran_by(alloc, mode, line, WHOLE, output);
     let mut ended = Vec::from_slice(alloc, line)?;
     ended.push(b'\n')?;
-    let mut answer = Vec::from_slice(alloc, answer)?;
-    answer.push(b'\n')?;
-    let by_line = ran_by(alloc, mode, &ended, WHOLE, &answer);
-    let by_bytes = ran_by(alloc, mode, &ended, 1, &answer);
+    let mut output = Vec::from_slice(alloc, output)?;
+    output.push(b'\n')?;
+    let by_line = ran_by(alloc, mode, &ended, WHOLE, &output);
+    let by_bytes = ran_by(alloc, mode, &ended, 1, &output);
     let wanted = wanted(Ok(()));
     Ok(whole == wanted && by_line == wanted && by_bytes == wanted)
 }
@@ -162,8 +162,8 @@ fn is_answered(alloc: Global, mode: Mode, line: &[u8], answer: &[u8]) -> Result<
 #[test]
 fn debug_texts_are_made_pretty(rt: HostRuntime) {
     for (plain, pretty) in DEBUG_TEXTS {
-        let (line, answer) = (plain.as_bytes(), pretty.as_bytes());
-        let given = is_answered(rt.alloc(), Mode::Pretty, line, answer);
+        let (line, output) = (plain.as_bytes(), pretty.as_bytes());
+        let given = is_written(rt.alloc(), Mode::Pretty, line, output);
         same(&rt, given, Ok(true), plain);
     }
 }
@@ -171,8 +171,8 @@ fn debug_texts_are_made_pretty(rt: HostRuntime) {
 #[test]
 fn debug_texts_are_made_plain(rt: HostRuntime) {
     for (plain, pretty) in DEBUG_TEXTS {
-        let (answer, lines) = (plain.as_bytes(), pretty.as_bytes());
-        let given = is_answered(rt.alloc(), Mode::Plain, lines, answer);
+        let (output, lines) = (plain.as_bytes(), pretty.as_bytes());
+        let given = is_written(rt.alloc(), Mode::Plain, lines, output);
         same(&rt, given, Ok(true), plain);
     }
 }
@@ -181,7 +181,7 @@ fn debug_texts_are_made_plain(rt: HostRuntime) {
 fn other_lines_stay(rt: HostRuntime) {
     for line in OTHERS {
         for mode in [Mode::Pretty, Mode::Plain] {
-            let given = is_answered(rt.alloc(), mode, line, line);
+            let given = is_written(rt.alloc(), mode, line, line);
             same(&rt, (line, given), (line, Ok(true)), "a line");
         }
     }
@@ -190,9 +190,9 @@ fn other_lines_stay(rt: HostRuntime) {
 #[test]
 fn the_longest_tail_is_taken(rt: HostRuntime) {
     for (plain, pretty) in TAILS {
-        let given = is_answered(rt.alloc(), Mode::Pretty, plain, pretty);
+        let given = is_written(rt.alloc(), Mode::Pretty, plain, pretty);
         same(&rt, (plain, given), (plain, Ok(true)), "a line");
-        let given = is_answered(rt.alloc(), Mode::Plain, pretty, plain);
+        let given = is_written(rt.alloc(), Mode::Plain, pretty, plain);
         same(&rt, (pretty, given), (pretty, Ok(true)), "a group");
     }
 }
@@ -200,7 +200,7 @@ fn the_longest_tail_is_taken(rt: HostRuntime) {
 #[test]
 fn pretty_texts_are_made_plain(rt: HostRuntime) {
     for (pretty, plain) in PRETTY_TEXTS {
-        let given = is_answered(rt.alloc(), Mode::Plain, pretty, plain);
+        let given = is_written(rt.alloc(), Mode::Plain, pretty, plain);
         same(&rt, (pretty, given), (pretty, Ok(true)), "lines");
     }
 }
@@ -208,7 +208,7 @@ fn pretty_texts_are_made_plain(rt: HostRuntime) {
 #[test]
 fn other_groups_stay(rt: HostRuntime) {
     for lines in OTHER_GROUPS {
-        let given = is_answered(rt.alloc(), Mode::Plain, lines, lines);
+        let given = is_written(rt.alloc(), Mode::Plain, lines, lines);
         same(&rt, (lines, given), (lines, Ok(true)), "lines");
     }
 }

@@ -12,4 +12,4 @@ returns-in_err-begin_named-clause-entry g c =
 pub returns-clause-entry : goal.returns-clause-entry
 returns-clause-entry g c =
     field_between (struct_block c.args.self.now) _ c.requires.1 (ap struct_block (c.begin_named.follows.holds _
-    (ap is_ok c.in_ok-begin_named.was))) c.in_ok-begin_named.ensures.lead c.fmt-answer.ensures c.end.ensures.end
+    (ap is_ok c.in_ok-begin_named.was))) c.in_ok-begin_named.ensures.lead c.fmt-outcome.ensures c.end.ensures.end

@@ -12,4 +12,4 @@ returns-in_err-begin-clause-entry g c =
 pub returns-clause-entry : goal.returns-clause-entry
 returns-clause-entry g c =
     entry_between (tuple_block c.args.self.now) c.requires.1
-    (ap tuple_block (c.begin.follows.holds _ (ap is_ok c.in_ok-begin.was))) c.in_ok-begin.ensures.lead c.fmt-answer.ensures c.end.ensures.end
+    (ap tuple_block (c.begin.follows.holds _ (ap is_ok c.in_ok-begin.was))) c.in_ok-begin.ensures.lead c.fmt-outcome.ensures c.end.ensures.end

@@ -27,14 +27,14 @@ returns-in_err-end_entry g c =
     (failed (loop_next _ (texts-of (λ p. g.T.uDebug.document p.user) _)
     c.loop-port.port-index c.loop-port-test.true c.port-item.is c.loop-port.invariant.row
     (entry_between (list_block c.loop-port.list) c.loop-port.invariant.is_open.1 (ap list_block (c.begin_entry.follows.holds _
-    (ap is_ok c.in_ok-begin_entry.was))) c.in_ok-begin_entry.ensures.lead c.fmt-answer.ensures c.in_err-end_entry.ensures.end)) (search))))
+    (ap is_ok c.in_ok-begin_entry.was))) c.in_ok-begin_entry.ensures.lead c.fmt-outcome.ensures c.in_err-end_entry.ensures.end)) (search))))
 
 pub loop-port-preserved : goal.loop-port-preserved
 loop-port-preserved g c = record {
   is_open = c.in_ok-end_entry.ensures.is_open;
   row = WritesRow-next _ _ c.loop-port.port-index _ true c.loop-port-test.true c.port-item.is c.loop-port.invariant.row
       (entry_between (list_block c.loop-port.list) c.loop-port.invariant.is_open.1
-      (ap list_block (c.begin_entry.follows.holds _ (ap is_ok c.in_ok-begin_entry.was))) c.in_ok-begin_entry.ensures.lead c.fmt-answer.ensures c.in_ok-end_entry.ensures.end);
+      (ap list_block (c.begin_entry.follows.holds _ (ap is_ok c.in_ok-begin_entry.was))) c.in_ok-begin_entry.ensures.lead c.fmt-outcome.ensures c.in_ok-end_entry.ensures.end);
 }
 
 pub returns : goal.returns

@@ -1,4 +1,4 @@
-use Rattle.ufmt_lines.proofs.run.answer.write_to.Goals as goal
+use Rattle.ufmt_lines.proofs.run.output.write_to.Goals as goal
 
 pub returns-in-Pretty : goal.returns-in-Pretty
 returns-in-Pretty g c = rw c.in-Pretty.is c.write_to_pretty.ensures

@@ -1,14 +1,14 @@
 use Rattle.std.proofs.Common.{◌++◌, rules}
 use Rattle.ufmt_lines.specs.Private.Group.{group_bytes}
-use Rattle.ufmt_lines.proofs.Fronts.{line_ended, line_in_part, nothing_answered}
+use Rattle.ufmt_lines.proofs.Fronts.{line_ended, line_in_part, nothing_written}
 use Rattle.ufmt_lines.proofs.Groups.{in_group_more}
-use Rattle.ufmt_lines.proofs.run.groups.Group.answer_ended.Goals as goal
+use Rattle.ufmt_lines.proofs.run.groups.Group.write_ended.Goals as goal
 
 pub loop-first-init : goal.loop-first-init
 loop-first-init g c = record {
   works = c.requires.works;
   in_group = c.requires.in_group;
-  so_far = nothing_answered c.args.mode (group_bytes c.args.self.now ++ c.args.bytes.now) _;
+  so_far = nothing_written c.args.mode (group_bytes c.args.self.now ++ c.args.bytes.now) _;
 }
 
 pub end_line-requires-clause-in_group : goal.end_line-requires-clause-in_group

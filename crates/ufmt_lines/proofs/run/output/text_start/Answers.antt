@@ -2,8 +2,8 @@ use Rattle.std.proofs.Common.{◌≡◌, ◌∙◌, None, drop, refl, sym}
 use Rattle.std.proofs.lemmas.List.{take_rest}
 use Rattle.ufmt_lines.proofs.Tails.{none_here, tail_after, tail_at, tail_none}
 use Rattle.ufmt_lines.specs.Readable.{converted_here}
-use Rattle.ufmt_lines.proofs.run.answer.text_start.Goals as goal
-use Rattle.ufmt_lines.proofs.run.answer.text_start.Goals.{else-may_begin-via-then-may_begin+else-is_convertible, else-may_begin-via-else-may_begin}
+use Rattle.ufmt_lines.proofs.run.output.text_start.Goals as goal
+use Rattle.ufmt_lines.proofs.run.output.text_start.Goals.{else-may_begin-via-then-may_begin+else-is_convertible, else-may_begin-via-else-may_begin}
 
 pub returns-then-is_convertible-clause-some : goal.returns-then-is_convertible-clause-some
 returns-then-is_convertible-clause-some c = λ other is.

@@ -1,9 +1,9 @@
-//! The answer to a line or to a group of lines: the words before its longest debug text, and that text
+//! The output for a line or a group of lines: the words before its longest debug text, and that text
 //! in the other mode.
 ghost use Rattle.std.specs.Prelude.{◌≡◌, ◌≤◌, ◌++◌, [], List, ℕ, true, IfSome, IsNone, OnOk, Some, drop, is_some, length, take};
 ghost use Rattle.ufmt.specs.Layout.{layout, setting};
 ghost use Rattle.ufmt_scan.specs.Texts.{ConvertsTo};
-ghost use Rattle.ufmt_lines.specs.Readable.{answer_of, converted, may_begin_after, other_mode};
+ghost use Rattle.ufmt_lines.specs.Readable.{output_of, converted, may_begin_after, other_mode};
 
 use std::alloc::{AllocError, Global};
 use ufmt::layout::Mode;
@@ -12,47 +12,47 @@ use ufmt_scan::convert::{write_to_plain, write_to_pretty};
 use ufmt_scan::is_text;
 use ufmt_scan::scan::ScanError;
 
-/// An answer in memory, which is used for one group of lines after another.
+/// The output for a group of lines, in memory. It is used again for the next group.
 #[derive(Drop)]
-pub(super) struct Answer {
+pub(super) struct GroupOutput {
     bytes: Vec<u8>,
 }
 
-impl Answer {
-    ghost use Rattle.ufmt_lines.specs.Private.Answer.{answer_bytes};
+impl GroupOutput {
+    ghost use Rattle.ufmt_lines.specs.Private.GroupOutput.{output_bytes};
 
-    pub(super) fn new(alloc: Global) -> Answer
-        ensures { answer_bytes result ≡ [] }
+    pub(super) fn new(alloc: Global) -> GroupOutput
+        ensures { output_bytes result ≡ [] }
     {
-        Answer {
+        GroupOutput {
             bytes: Vec::new(alloc),
         }
     }
 
     pub(super) fn as_bytes(&self) -> &[u8]
-        ensures { result.now ≡ answer_bytes self.now }
+        ensures { result.now ≡ output_bytes self.now }
     {
         self.bytes.as_slice()
     }
 
     pub(super) fn clear(&mut self)
-        ensures { answer_bytes self.new ≡ [] }
+        ensures { output_bytes self.new ≡ [] }
     {
         self.bytes.clear();
     }
 
     /// Appends bytes.
     pub(super) fn push(&mut self, bytes: &[u8]) -> Result<(), AllocError>
-        ensures { OnOk result (answer_bytes self.new ≡ answer_bytes self.old ++ bytes.now) }
+        ensures { OnOk result (output_bytes self.new ≡ output_bytes self.old ++ bytes.now) }
     {
         self.bytes.extend_from_slice(bytes)
     }
 
-    /// Appends the answer to a group of lines: its longest tail that is a text of the other mode is
+    /// Appends the output for a group of lines: its longest tail that is a text of the other mode is
     /// converted to this one. A tail begins at a line's start or after a space.
-    pub(super) fn push_answer(&mut self, mode: Mode, group: &[u8]) -> Result<(), AllocError>
-        ensures { OnOk result (answer_bytes self.new
-            ≡ answer_bytes self.old ++ answer_of mode group.now) }
+    pub(super) fn push_group(&mut self, mode: Mode, group: &[u8]) -> Result<(), AllocError>
+        ensures { OnOk result (output_bytes self.new
+            ≡ output_bytes self.old ++ output_of mode group.now) }
     {
         match text_start(mode, group) {
             Some(start) => {
@@ -68,7 +68,7 @@ impl Answer {
     fn push_converted(&mut self, mode: Mode, text: &[u8]) -> Result<(), AllocError>
         requires { is_some (converted mode text.now) ≡ true }
         ensures { OnOk result ((other : List ℕ) × (converted mode text.now ≡ Some other)
-            × (answer_bytes self.new ≡ answer_bytes self.old ++ other)) }
+            × (output_bytes self.new ≡ output_bytes self.old ++ other)) }
     {
         match write_to(mode, self, text) {
             Ok(()) => Ok(()),
@@ -78,13 +78,13 @@ impl Answer {
     }
 }
 
-/// Fails only if memory runs out, and then leaves the answer as it was.
-impl uWrite for Answer {
-    ghost use Rattle.ufmt_lines.specs.Private.Answer.{answer_seen};
+/// Fails only if memory runs out, and then leaves the output as it was.
+impl uWrite for GroupOutput {
+    ghost use Rattle.ufmt_lines.specs.Private.GroupOutput.{output_seen};
 
     type Error = AllocError;
 
-    ghost seen = { answer_seen };
+    ghost seen = { output_seen };
 
     fn write_str(&mut self, s: &str) -> Result<(), AllocError> {
         self.bytes.extend_from_slice(s.as_bytes())
@@ -108,8 +108,8 @@ fn text_start(mode: Mode, group: &[u8]) -> Option<usize>
     ensures text { IfSome result (λ start. is_some (converted mode (drop start group.now)) ≡ true) }
     ensures some { IfSome result (λ start. (other : List ℕ)
         → converted mode (drop start group.now) ≡ Some other
-        → answer_of mode group.now ≡ take start group.now ++ other) }
-    ensures none { IsNone result → answer_of mode group.now ≡ group.now }
+        → output_of mode group.now ≡ take start group.now ++ other) }
+    ensures none { IsNone result → output_of mode group.now ≡ group.now }
 {
     let mut may_begin = true;
     for (start, byte) in group.iter().enumerate() {

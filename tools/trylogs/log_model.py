@@ -20,7 +20,7 @@ TEXT_START = re.compile(r"(?:^|(?<=[ \n]))(?=[^ \n])")
 BAD = re.compile("[\udc80-\udcff]")
 
 
-def answer(mode, group):
+def output(mode, group):
     """The group with the longest text at its end in the other mode."""
     reader, printed = CONVERSIONS[mode]
     words = group.decode("utf-8", "surrogateescape")
@@ -48,22 +48,22 @@ def groups(mode, log):
     return found
 
 
-def answers(mode, log):
-    """The answer to each group, and how many bytes of the log there are up to the group's end."""
+def outputs(mode, log):
+    """The output for each group, and how many bytes of the log there are up to the group's end."""
     found, end = [], 0
     for group in groups(mode, log):
         end += len(group)
         is_ended = group.endswith(b"\n")
-        found.append((end, answer(mode, group[:-1] if is_ended else group) + b"\n" * is_ended))
+        found.append((end, output(mode, group[:-1] if is_ended else group) + b"\n" * is_ended))
     return found
 
 
 def writes(mode, log, chunks):
     """What is written after each chunk is read, and last after the end: a list for each, with a piece for each write.
 
-    A group is answered by one write as soon as its last line was read. An empty answer is not written.
+    The output for a group is one write, as soon as the group's last line was read. An empty output is not written.
     """
-    whole = answers(mode, log)
+    whole = outputs(mode, log)
     _end, last = whole.pop()
     rounds, read, at = [], 0, 0
     for chunk in chunks:

@@ -1,4 +1,4 @@
--- What the answer to a line or to a group of lines is, in the words of documents and their texts.
+-- What the output for a line or a group of lines is, by documents and their texts.
 use Rattle.std.specs.Prelude.{◌≡◌, ◌⊎◌, ℕ, ◌<◌, List, [], ◌∷◌, ◌++◌, length, IsTrue}
 use Rattle.ufmt.specs.Document.{Document}
 use Rattle.ufmt.specs.Layout.{layout, setting}
@@ -7,7 +7,7 @@ use Rattle.ufmt.specs.Token.{IsToken}
 use Rattle.ufmt_core.specs.declared.layout.Mode.{Mode}
 use Rattle.ufmt_core.specs.declared.layout.Mode.TheVariants.{Pretty}
 use Rattle.ufmt_lines.specs.Groups.{IsInGroup, IsInLine, groups_of}
-use Rattle.ufmt_lines.specs.Readable.{answer_of, may_begin_after, other_mode}
+use Rattle.ufmt_lines.specs.Readable.{output_of, may_begin_after, other_mode}
 use Rattle.ufmt_scan.specs.Texts.{IsNoText}
 
 -- a text may follow these words: there are none, or they end with a space or a line feed
@@ -22,11 +22,11 @@ NoTextBegins mode words rest = (front back : List ℕ) → words ≡ front ++ ba
 abbrev pub LongestTextIsConverted : Type 0
 LongestTextIsConverted = (mode : Mode) (words : List ℕ) (d : Document) → IsToken d → MayFollow words
     → NoTextBegins (other_mode mode) words (layout (setting (other_mode mode) 0) d)
-    → answer_of mode (words ++ layout (setting (other_mode mode) 0) d) ≡ words ++ layout (setting mode 0) d
+    → output_of mode (words ++ layout (setting (other_mode mode) 0) d) ≡ words ++ layout (setting mode 0) d
 
 -- what ends with no such tail stays
 abbrev pub OthersStay : Type 0
-OthersStay = (mode : Mode) (text : List ℕ) → NoTextBegins (other_mode mode) text [] → answer_of mode text ≡ text
+OthersStay = (mode : Mode) (text : List ℕ) → NoTextBegins (other_mode mode) text [] → output_of mode text ≡ text
 
 -- what is made pretty is each line by itself
 abbrev pub LinesAreMadePretty : Type 0

@@ -1,7 +1,7 @@
-//! The answer to a command on an input.
+//! The output for a command on an input.
 ghost use Rattle.std.specs.Prelude.{◌≡◌, ◌≢◌, string_bytes, IfErr, IfOk, IsErrOf};
 ghost use Rattle.ufmt.specs.Layout.{plain_text, pretty_text};
-ghost use Rattle.ufmt_conv.specs.Answer.{IsAnswerLine, line_lengths, without_line_feed};
+ghost use Rattle.ufmt_conv.specs.Output.{IsOutputLine, line_lengths, without_line_feed};
 ghost use Rattle.ufmt_doc.specs.Texts.{IsNoText};
 
 use super::command::Command;
@@ -10,9 +10,9 @@ use crate::convert::{plain_text, to_plain, to_pretty};
 use crate::plain_reader::ReadError;
 use std::alloc::{AllocError, Global};
 
-// The answer and a line feed.
-pub(super) fn answer_line(alloc: Global, command: Command, input: &[u8]) -> Result<String, Fault>
-    ensures ok { IfOk result (λ line. IsAnswerLine command input.now (string_bytes line)) }
+// The output and a line feed.
+pub(super) fn output_line(alloc: Global, command: Command, input: &[u8]) -> Result<String, Fault>
+    ensures ok { IfOk result (λ line. IsOutputLine command input.now (string_bytes line)) }
     ensures not_plain { IsErrOf result Fault.NotPlain → (command ≡ Command.Pretty)
         × IsNoText plain_text (without_line_feed input.now) }
     ensures not_pretty { IsErrOf result Fault.NotPretty → (command ≡ Command.Plain)

@@ -1,4 +1,4 @@
--- The program's answer to a command on an input.
+-- The program's output for a command on an input.
 use Rattle.std.specs.Prelude.{◌≡◌, ℕ, ◌-◌, List, [], ◌∷◌, ◌++◌, ◌==◌, if◌then◌else◌, length, map, pos, slice_index, take, Option, IfSome}
 use Rattle.std.specs.Io.KnownBytes.{Appends}
 use Rattle.std.specs.List.{onto_first}
@@ -30,24 +30,24 @@ without_line_feed input =
     let last = length input - 1 in
     if slice_index input last == line_feed then take last input else input
 
--- the answer to a command on an input
-abbrev pub IsAnswer : Command → List ℕ → List ℕ → Type 0
-IsAnswer Lengths input answer = answer ≡ plain_list (line_lengths input)
-IsAnswer Pretty input answer = IsConverted plain_text pretty_text (without_line_feed input) answer
-IsAnswer Plain input answer = IsConverted pretty_text plain_text (without_line_feed input) answer
+-- the output for a command on an input
+abbrev pub IsOutput : Command → List ℕ → List ℕ → Type 0
+IsOutput Lengths input output = output ≡ plain_list (line_lengths input)
+IsOutput Pretty input output = IsConverted plain_text pretty_text (without_line_feed input) output
+IsOutput Plain input output = IsConverted pretty_text plain_text (without_line_feed input) output
 
--- the bytes that are written for a command on an input: its answer and a line feed
-abbrev pub IsAnswerLine : Command → List ℕ → List ℕ → Type 0
-IsAnswerLine command input line =
-    (answer : List ℕ) × IsAnswer command input answer × (line ≡ answer ++ line_feed ∷ [])
+-- the bytes that are written for a command on an input: its output and a line feed
+abbrev pub IsOutputLine : Command → List ℕ → List ℕ → Type 0
+IsOutputLine command input line =
+    (output : List ℕ) × IsOutput command input output × (line ≡ output ++ line_feed ∷ [])
 
--- if the bytes of input and output are known: the answer to the whole input and a line feed were written
-abbrev pub Answered : Command → Option (List ℕ) → Option (List ℕ) → Option (List ℕ) → Type 0
-Answered command input old new = IfSome input (λ bytes. (line : List ℕ) × IsAnswerLine command bytes line × Appends old new line)
+-- if the bytes of input and output are known: the output for the whole input and a line feed were written
+abbrev pub WritesOutput : Command → Option (List ℕ) → Option (List ℕ) → Option (List ℕ) → Type 0
+WritesOutput command input old new = IfSome input (λ bytes. (line : List ℕ) × IsOutputLine command bytes line × Appends old new line)
 
--- if the bytes of input and output are known: a prefix of the answer and a line feed was written
-abbrev pub AnsweredInPart : Command → Option (List ℕ) → Option (List ℕ) → Option (List ℕ) → Type 0
-AnsweredInPart command input old new = IfSome input (λ bytes. (line : List ℕ) × IsAnswerLine command bytes line × AppendsPrefix old new line)
+-- if the bytes of input and output are known: a prefix of the output and a line feed was written
+abbrev pub WritesOutputPrefix : Command → Option (List ℕ) → Option (List ℕ) → Option (List ℕ) → Type 0
+WritesOutputPrefix command input old new = IfSome input (λ bytes. (line : List ℕ) × IsOutputLine command bytes line × AppendsPrefix old new line)
 
 -- if the bytes of the input are known: without a final line feed they are no token document's text
 abbrev pub IsNoInput : (Document → List ℕ) → Option (List ℕ) → Type 0

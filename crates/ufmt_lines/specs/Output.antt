@@ -1,0 +1,40 @@
+-- What is written for the groups of lines of an input.
+use Rattle.std.specs.Prelude.{◌≡◌, ℕ, false, List, [], ◌∷◌, ◌++◌, map, Option, IfSome, ◌⊎◌}
+use Rattle.std.specs.Io.KnownBytes.{Appends, Consumes}
+use Rattle.std.specs.List.{join_with_byte}
+use Rattle.ufmt.specs.Bytes.{line_feed}
+use Rattle.ufmt_core.specs.declared.layout.Mode.{Mode}
+use Rattle.ufmt_io.specs.Whole.{AppendsPrefix}
+use Rattle.ufmt_lines.specs.Groups.{goes_on_after, groups_of}
+use Rattle.ufmt_lines.specs.Readable.{output_of}
+
+-- the output for each group of lines, with the line feeds between them
+unfoldable pub outputs_of : Mode → List ℕ → List ℕ
+outputs_of mode text = join_with_byte line_feed (map (output_of mode) (groups_of mode text))
+
+-- the text is empty, or ends with a line feed at which a group ends
+abbrev pub AreWholeGroups : Mode → List ℕ → Type 0
+AreWholeGroups mode text = (text ≡ []) ⊎ ((front : List ℕ) × (text ≡ front ++ line_feed ∷ []) × (goes_on_after mode front ≡ false))
+
+-- if the bytes of input and output are known: the outputs for all groups were written
+abbrev pub WritesOutput : Mode → Option (List ℕ) → Option (List ℕ) → Option (List ℕ) → Type 0
+WritesOutput mode input old new = IfSome input (λ bytes. Appends old new (outputs_of mode bytes))
+
+-- if the bytes of input and output are known: a prefix of the outputs was written
+abbrev pub WritesOutputPrefix : Mode → Option (List ℕ) → Option (List ℕ) → Option (List ℕ) → Type 0
+WritesOutputPrefix mode input old new = IfSome input (λ bytes. AppendsPrefix old new (outputs_of mode bytes))
+
+-- the outputs for whole groups at the front of a text were written, and nothing of the rest
+pub record WritesFront (mode : Mode) (text rest : List ℕ) (old new : Option (List ℕ)) : Type 0 where
+  pub front : List ℕ
+  pub cut : text ≡ front ++ rest
+  pub groups : AreWholeGroups mode front
+  pub written : Appends old new (outputs_of mode front)
+
+-- what was read is whole groups, whose outputs were written, and a rest
+pub record ReadsAndWrites (mode : Mode) (IsRest : List ℕ → Type 0) (input input' old new : Option (List ℕ)) : Type 0 where
+  pub text : List ℕ
+  pub read : Consumes input input' text
+  pub rest : List ℕ
+  pub is_rest : IsRest rest
+  pub written : WritesFront mode text rest old new
