@@ -27,10 +27,10 @@ GROWS = {"push", "push_str", "push_back", "new", "from_str", "clone", "collect",
 # What makes a large number.
 LARGE = {"MAX", "max_value", "BITS", "<<", "pow", "checked_pow", "leading_ones"}
 MOST = 65536
-# Signs within a call or path, and those that come after a word of one.
+# Signs within a call or path, and those that come after a name in one.
 SIGNS_WITHIN = {".", "::", "?", "&", "*", "<<", "!"}
 JOINS = {"::", ":", "="}
-AFTER_WORDS = {".", "::", "?", "(", "[", "<"}
+AFTER_NAMES = {".", "::", "?", "(", "[", "<"}
 
 
 class Place(object):
@@ -167,14 +167,14 @@ def local_value(tokens, name):
 
 
 def around(tokens, at):
-    """The call or path that the word at `at` is in, from its first word to the end of its arguments."""
+    """The call or path that the name at `at` is in, from its first name to the end of its arguments."""
     start = at
     while True:
         before = name_at(tokens, start - 1)
         outer = opening(tokens, start - 1) if before in (")", "]", ">") else None
         if outer is not None:
             start = outer
-        elif before in SIGNS_WITHIN or (re.match(r"['\w]", before) and name_at(tokens, start) in AFTER_WORDS):
+        elif before in SIGNS_WITHIN or (re.match(r"['\w]", before) and name_at(tokens, start) in AFTER_NAMES):
             start -= 1
         else:
             break

@@ -4,7 +4,7 @@ import re
 TOKEN = re.compile(
     r"""(?P<space>\s+|//[^\n]*|/\*.*?\*/)
     |(?P<text>b?r(?P<hashes>\#*)".*?"(?P=hashes)|b?"(?:\\.|[^"\\])*"|b?'(?:\\(?:u\{[^}]*\}|x..|.)|[^'\\\n])')
-    |(?P<word>'?\w+)
+    |(?P<name>'?\w+)
     |(?P<sign>::|->|=>|\.\.=|\.\.|<<|==|!=|<=|>=|&&|\|\||[^\w\s])""",
     re.VERBOSE | re.DOTALL,
 )
@@ -12,7 +12,7 @@ ENDS = {"(": ")", "[": "]", "{": "}"}
 
 
 class Token(object):
-    """A word or a sign, with its line. A text is `""`, and what it holds is kept beside."""
+    """A name or a sign, with its line. A text is `""`, and what it holds is kept beside."""
 
     def __init__(self, name, line, text=""):
         self.name, self.line, self.text = name, line, text
@@ -29,7 +29,7 @@ def tokens_of(text):
     found, line, at = [], 1, 0
     while at < len(text):
         match = TOKEN.match(text, at)
-        if match["word"] or match["sign"]:
+        if match["name"] or match["sign"]:
             found.append(Token(match[0], line))
         elif match["text"]:
             found.append(Token('""', line, match["text"]))
@@ -92,7 +92,7 @@ def code_of(tokens):
 
 
 def joined(tokens):
-    """The tokens as one text, with a space only between two words and after a comma."""
+    """The tokens as one text, with a space only between two names and after a comma."""
     text = ""
     for token in tokens:
         apart = text and (text[-1] == "," or (re.match(r"['\w]", token.name) and re.match(r"\w", text[-1])))

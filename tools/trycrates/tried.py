@@ -15,8 +15,8 @@ def write(room, name, files):
         listed.write("%s: %s\n" % (name, " ".join(LIBRARIES)))
 
 
-def run(room, name, words):
+def run(room, name, arguments):
     """Runs `rt try` on the crate, and returns all that it says."""
-    ran = subprocess.run(["rt", "try", *words], cwd=room / "crates" / name, stdin=subprocess.DEVNULL,
+    ran = subprocess.run(["rt", "try", *arguments], cwd=room / "crates" / name, stdin=subprocess.DEVNULL,
                          stdout=subprocess.PIPE, stderr=subprocess.STDOUT)
     return ran.stdout.decode(errors="replace")

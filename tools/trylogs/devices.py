@@ -33,8 +33,8 @@ class Program:
         process = subprocess.Popen([self.path, "no such word"], stdin=subprocess.DEVNULL, stderr=subprocess.DEVNULL)
         self.loads = calls(process)[0]
 
-    def start(self, words, source, sink, error=subprocess.DEVNULL):
-        return subprocess.Popen([self.path, *words], stdin=source, stdout=sink, stderr=error)
+    def start(self, arguments, source, sink, error=subprocess.DEVNULL):
+        return subprocess.Popen([self.path, *arguments], stdin=source, stdout=sink, stderr=error)
 
     def ended(self, process):
         """Waits for the end of a process, and counts the calls before it is gone."""
@@ -86,8 +86,8 @@ class Devices:
         for line in self.lines:
             line.close()
 
-    def start(self, program, words):
-        process = program.start(words, *(line.theirs for line in self.lines))
+    def start(self, program, arguments):
+        process = program.start(arguments, *(line.theirs for line in self.lines))
         for line in self.lines:
             line.theirs.close()
         return process
@@ -134,11 +134,11 @@ def wrong_end(devices, program, process, wanted, line):
     return None
 
 
-def fault(program, words, chunks, rounds, status=0, line=b""):
+def fault(program, arguments, chunks, rounds, status=0, line=b""):
     """What is wrong with a run whose reads take these chunks, and which should write so after each. None if nothing is."""
     wanted = Ended(status, len(chunks) + 1, sum(map(len, rounds)))
     with Devices() as devices:
-        process = devices.start(program, words)
+        process = devices.start(program, arguments)
         try:
             for number, (chunk, writes) in enumerate(zip([*chunks, None], rounds)):
                 found = wrong_round(devices, number, chunk, writes)

@@ -84,9 +84,9 @@ SHAPES = LONG_LINES + MANY_LINES
 class Meter:
     """Measures runs of the program on logs in a folder."""
 
-    def __init__(self, program, words, room):
+    def __init__(self, program, arguments, room):
         self.program = program
-        self.words = words
+        self.arguments = arguments
         self.room = room
         self.valgrind = shutil.which("valgrind")
 
@@ -97,7 +97,7 @@ class Meter:
 
     def steps(self, path, mode):
         """The steps of a run, by valgrind."""
-        command = [self.valgrind, "--tool=cachegrind", "--cache-sim=no", "--cachegrind-out-file=/dev/null", self.program.path, *self.words[mode]]
+        command = [self.valgrind, "--tool=cachegrind", "--cache-sim=no", "--cachegrind-out-file=/dev/null", self.program.path, *self.arguments[mode]]
         with open(path, "rb") as log:
             ran = subprocess.run(command, stdin=log, stdout=subprocess.DEVNULL, stderr=subprocess.PIPE, check=True, timeout=SECONDS)
         return int(re.search(rb"I +refs: +([\d,]+)", ran.stderr)[1].replace(b",", b""))
@@ -109,7 +109,7 @@ class Meter:
     def passes(self, path, mode, most):
         """Whether a run ends with status 0 if it has at most so many bytes of memory."""
         with open(path, "rb") as log:
-            command = ["prlimit", "--as=%d" % most, self.program.path, *self.words[mode]]
+            command = ["prlimit", "--as=%d" % most, self.program.path, *self.arguments[mode]]
             return subprocess.run(command, stdin=log, stdout=subprocess.DEVNULL, stderr=subprocess.DEVNULL, timeout=SECONDS).returncode == 0
 
     def least(self, path, mode):
@@ -126,7 +126,7 @@ class Meter:
     def calls(self, path, mode):
         """How a run ends, and its reads and writes."""
         with open(path, "rb") as log:
-            process = self.program.start(self.words[mode], log, subprocess.DEVNULL)
+            process = self.program.start(self.arguments[mode], log, subprocess.DEVNULL)
         return self.program.ended(process)
 
 

@@ -23,13 +23,13 @@ BAD = re.compile("[\udc80-\udcff]")
 def output(mode, group):
     """The group with the longest text at its end in the other mode."""
     reader, printed = CONVERSIONS[mode]
-    words = group.decode("utf-8", "surrogateescape")
-    after_bad = max((found.end() for found in BAD.finditer(words)), default=0)
-    for found in TEXT_START.finditer(words, after_bad):
+    text = group.decode("utf-8", "surrogateescape")
+    after_bad = max((found.end() for found in BAD.finditer(text)), default=0)
+    for found in TEXT_START.finditer(text, after_bad):
         at = found.start()
-        read = reader.document_at(words, at, 0)
-        if read is not None and read[1] == len(words):
-            return words[:at].encode("utf-8", "surrogateescape") + printed(read[0]).encode()
+        read = reader.document_at(text, at, 0)
+        if read is not None and read[1] == len(text):
+            return text[:at].encode("utf-8", "surrogateescape") + printed(read[0]).encode()
     return group
 
 

@@ -17,7 +17,7 @@ BYTE_STEPS, LINE_STEPS = 40, 600
 # ufmt_lines tries each place after a space as the start of a text.
 PLACE_STEPS = 400
 # What is before the text of a line, as in a log.
-WORDS = "12:00: "
+STAMP = "12:00: "
 FIRST = "the first line"
 
 
@@ -73,7 +73,7 @@ def run_memory(run):
 
 
 def over(counts, allowed):
-    """The first number that is more than allowed, in words, or None."""
+    """A message with the first number that is more than allowed, or None."""
     for name, most in allowed.items():
         if getattr(counts, name) > most:
             return "%s: %d, and not at most %d" % (name, getattr(counts, name), most)
@@ -83,14 +83,14 @@ def over(counts, allowed):
 def run_faults(counter, program, run):
     """The faults of a run of ufmt_conv."""
     name = "ufmt_conv %s of %s" % (run.command, run.name)
-    words = [program, run.command]
-    _output, counts = counter.run(words, run.data, name, seconds=SECONDS)
+    arguments = [program, run.command]
+    _output, counts = counter.run(arguments, run.data, name, seconds=SECONDS)
     allowed = dict(run_memory(run)._asdict(), left=0, reads=len(run.data) // CHUNK + 2, writes=1)
     wrong = over(counts[0], allowed)
     if wrong:
         yield "%s: %s" % (name, wrong)
     if counter.valgrind and len(run.data) <= MOST_COUNTED:
-        steps = counter.steps(words, run.data, name, seconds=SECONDS)[0]
+        steps = counter.steps(arguments, run.data, name, seconds=SECONDS)[0]
         if steps > run_steps(run):
             yield "%s: %d steps, and not at most %d" % (name, steps, run_steps(run))
 
@@ -118,9 +118,9 @@ def lines(is_plain):
         texts = plain(document), pretty(document)
         text, other = texts[::-1] if is_plain else texts
         case = bounds.Case(features(document), len(text.encode()), len(other.encode()), 0)
-        yield Line(name, WORDS + text, WORDS + other, case)
+        yield Line(name, STAMP + text, STAMP + other, case)
     for name, make in shapes.no_texts().items():
-        text = WORDS + make(4 * COUNTED_SIZE)
+        text = STAMP + make(4 * COUNTED_SIZE)
         # A line that ends with a bracket isn't the last of its group.
         if text[-1] not in "[\n":
             yield Line(name, text, text, bounds.Case(rough(text), len(text), len(text), 0))
@@ -135,18 +135,18 @@ def line_steps(line):
 
 def line_faults(counter, program, is_plain):
     """The faults of runs of ufmt_lines on a log of all shapes, and how many lines were counted."""
-    words = [program] + ["--plain"] * is_plain
+    arguments = [program] + ["--plain"] * is_plain
     name = "ufmt_lines --plain" if is_plain else "ufmt_lines"
     log = list(lines(is_plain))
     data = "".join(line.group + "\n" for line in log).encode()
-    output, counts = counter.run(words, data, name, of_writes=True, seconds=SECONDS)
+    output, counts = counter.run(arguments, data, name, of_writes=True, seconds=SECONDS)
     if output != "".join(line.output + "\n" for line in log).encode():
         return [name + ": another output for a log of all shapes"], len(log)
     if len(counts) != len(log) + 1:
         return ["%s: %d writes of %d outputs" % (name, len(counts) - 1, len(log))], len(log)
     wrong = list(map(line_memory_fault, log, counts, longest(log)))
     if counter.valgrind:
-        wrong += map(line_steps_fault, log, counter.steps(words, data, name, of_writes=True, seconds=SECONDS))
+        wrong += map(line_steps_fault, log, counter.steps(arguments, data, name, of_writes=True, seconds=SECONDS))
     return ["%s, %s" % (name, fault) for fault in wrong if fault], len(log)
 
 

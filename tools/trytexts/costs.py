@@ -19,9 +19,9 @@ SOME_TIME = 10_000_000
 def rough(text):
     """Features of a text of no document, at most."""
     separators = sum(text.count(sign) for sign in ",:\"'")
-    words = min(sum(text.count(bracket) for bracket in "[({"), 256)
+    blocks = min(sum(text.count(bracket) for bracket in "[({"), 256)
     escapes = text.count("\\")
-    return Features(escapes=escapes, bare=separators + 1, texts=text.count('"'), blocks=words)
+    return Features(escapes=escapes, bare=separators + 1, texts=text.count('"'), blocks=blocks)
 
 
 def leaf_case(text):
@@ -101,10 +101,10 @@ def part_faults(counter, program, number, is_counted):
     """The faults of one part of the texts, and how many calls were counted."""
     part = list(samples(COUNTED_SIZE if is_counted else TIMED_SIZE, number))
     data = b"".join(b"%d\n%s" % (len(one.data), one.data) for one in part)
-    words, name = [program, "costs"], "%s of part %d" % ("steps" if is_counted else "memory", number)
-    output, counts = counter.run(words, data, name, seconds=SECONDS)
+    arguments, name = [program, "costs"], "%s of part %d" % ("steps" if is_counted else "memory", number)
+    output, counts = counter.run(arguments, data, name, seconds=SECONDS)
     if is_counted:
-        counts = counter.steps(words, data, name, seconds=SECONDS)
+        counts = counter.steps(arguments, data, name, seconds=SECONDS)
     lines = output.decode().splitlines()
     made = sum(len(list(calls_of(line))) for line in lines)
     if len(lines) != len(part) or len(counts) < made:

@@ -34,33 +34,33 @@ class Counter:
         compiler = shutil.which("cc")
         if compiler:
             self.library = room / "counter.so"
-            words = [compiler, "-O2", "-shared", "-fPIC", "-o", str(self.library), str(HERE / "counter.c"), "-ldl"]
-            subprocess.run(words, check=True)
+            arguments = [compiler, "-O2", "-shared", "-fPIC", "-o", str(self.library), str(HERE / "counter.c"), "-ldl"]
+            subprocess.run(arguments, check=True)
 
-    def run(self, words, data, name, of_writes=False, seconds=None):
+    def run(self, arguments, data, name, of_writes=False, seconds=None):
         """Runs a program, and returns its standard output and its counts: of the whole run, or of each write."""
         path = self.room / (re.sub(r"\W", "-", name) + ".counts")
         path.write_bytes(b"")
-        output = self.ran(words, data, name, path, of_writes, seconds)
+        output = self.ran(arguments, data, name, path, of_writes, seconds)
         return output, [Counts(*map(int, line.split())) for line in path.read_text().splitlines()]
 
-    def steps(self, words, data, name, of_writes=False, seconds=None):
+    def steps(self, arguments, data, name, of_writes=False, seconds=None):
         """Runs a program with valgrind, and returns the steps of each part that it counts."""
         path = self.room / (re.sub(r"\W", "-", name) + ".steps")
         path.write_bytes(b"")
-        words = [self.valgrind, *CALLGRIND, "--callgrind-out-file=" + str(path), *words]
-        self.ran(words, data, name, "/dev/null", of_writes, seconds)
+        arguments = [self.valgrind, *CALLGRIND, "--callgrind-out-file=" + str(path), *arguments]
+        self.ran(arguments, data, name, "/dev/null", of_writes, seconds)
         steps = [int(found) for found in re.findall(rb"^summary: (\d+)", path.read_bytes(), re.M)]
         path.unlink()
         return steps
 
-    def ran(self, words, data, name, path, of_writes, seconds):
+    def ran(self, arguments, data, name, path, of_writes, seconds):
         # A file is read in whole chunks, which a pipe isn't.
         given = self.room / (re.sub(r"\W", "-", name) + ".input")
         given.write_bytes(data)
         room = dict(os.environ, LD_PRELOAD=str(self.library), COUNTS=str(path), COUNTS_OF="writes" if of_writes else "run")
         with open(given, "rb") as device:
-            ran = subprocess.run([str(word) for word in words], stdin=device, capture_output=True, env=room, timeout=seconds)
+            ran = subprocess.run([str(argument) for argument in arguments], stdin=device, capture_output=True, env=room, timeout=seconds)
         given.unlink()
         if ran.returncode != 0:
             raise ValueError("status %d: %s" % (ran.returncode, ran.stderr[-200:].decode("utf-8", "replace")))

@@ -199,7 +199,7 @@ def wanted_in_each_mode():
 
 
 def empty(found):
-    """The cells that no text filled, in words."""
+    """A message with the cells that no text filled."""
     for cell in wanted_in_each_mode():
         for mode in MODES:
             if (*cell, mode) not in found:

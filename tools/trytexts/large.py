@@ -7,7 +7,7 @@ from verdicts import half, leaf_verdict
 
 SIZE = 16 * 1024 * 1024
 LINES = 1_000_000
-WORDS = "12:00: "
+STAMP = "12:00: "
 # A run that takes more seconds of the processor is a fault.
 SECONDS = 60
 
@@ -49,20 +49,20 @@ PARTS = len(DOCUMENTS) + 1
 
 
 def document_runs(made):
-    """Runs of the commands: of which program, its words, its input and its output."""
+    """Runs of the commands: of which program, its arguments, its input and its output."""
     name, by_plain, by_pretty, _document = made
     lengths = ", ".join(str(len(line)) for line in by_pretty.split("\n"))
     yield name, "ufmt_conv", ["pretty"], by_plain, by_pretty + "\n"
     yield name, "ufmt_conv", ["plain"], by_pretty, by_plain + "\n"
     yield name, "ufmt_conv", ["lengths"], by_pretty, "[%s]\n" % lengths
-    yield name, "ufmt_lines", [], WORDS + by_plain + "\n", WORDS + by_pretty + "\n"
-    yield name, "ufmt_lines", ["--plain"], WORDS + by_pretty + "\n", WORDS + by_plain + "\n"
+    yield name, "ufmt_lines", [], STAMP + by_plain + "\n", STAMP + by_pretty + "\n"
+    yield name, "ufmt_lines", ["--plain"], STAMP + by_pretty + "\n", STAMP + by_plain + "\n"
 
 
 def line_runs():
     """Runs of the commands on a million lines."""
     yield "a million lines", "ufmt_conv", ["lengths"], "x\n" * LINES, "[%s]\n" % ", ".join(["1"] * LINES)
-    short, long = WORDS + "[1]\n", WORDS + "[\n    1,\n]\n"
+    short, long = STAMP + "[1]\n", STAMP + "[\n    1,\n]\n"
     yield "a million lines", "ufmt_lines", [], short * LINES, long * LINES
     yield "a million groups", "ufmt_lines", ["--plain"], long * LINES, short * LINES
 
@@ -90,9 +90,9 @@ def limited():
     resource.setrlimit(resource.RLIMIT_CPU, (SECONDS, SECONDS))
 
 
-def run_fault(program, words, data, wanted):
+def run_fault(program, arguments, data, wanted):
     """What is wrong with a run, or None."""
-    ran = subprocess.run([str(program), *words], input=data.encode(), capture_output=True, preexec_fn=limited)
+    ran = subprocess.run([str(program), *arguments], input=data.encode(), capture_output=True, preexec_fn=limited)
     if ran.returncode != 0:
         return "status %d: %s" % (ran.returncode, ran.stderr[-200:].decode("utf-8", "replace"))
     given = ran.stdout.decode()
@@ -104,11 +104,11 @@ def run_fault(program, words, data, wanted):
 def run_faults(programs, runs):
     """The faults of the runs, and how many runs there were."""
     wrong, count = [], 0
-    for name, program, words, data, wanted in runs:
-        fault = run_fault(programs[program], words, data, wanted)
+    for name, program, arguments, data, wanted in runs:
+        fault = run_fault(programs[program], arguments, data, wanted)
         count += 1
         if fault:
-            wrong.append("%s of %s: %s" % (" ".join([program, *words]), name, fault))
+            wrong.append("%s of %s: %s" % (" ".join([program, *arguments]), name, fault))
     return wrong, count
 
 

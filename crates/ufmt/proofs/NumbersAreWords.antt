@@ -4,7 +4,7 @@ use Rattle.std.specs.List.{All}
 use Rattle.std.proofs.lemmas.Bool.{le-leb}
 use Rattle.std.proofs.lemmas.List.Elements.{All-head, All-tail}
 use Rattle.ufmt_core.specs.Decimal.{decimal, decimal_byte, DenotesDecimal, DenotesMagnitude}
-use Rattle.ufmt_core.specs.Words.{integer}
+use Rattle.ufmt_core.specs.ValueDocuments.{integer}
 use Rattle.ufmt_core.proofs.DecimalTexts.{decimal-denotes}
 use Rattle.ufmt.specs.Token.{is_word_byte, AreWordBytes, IsWord, HasTokens}
 

@@ -25,5 +25,5 @@ pub use Rattle.ufmt_core.specs.Document
 pub use Rattle.ufmt_core.specs.Formatter
 pub use Rattle.ufmt_core.specs.Layout
 pub use Rattle.ufmt_core.specs.Quoted
-pub use Rattle.ufmt_core.specs.Words
+pub use Rattle.ufmt_core.specs.ValueDocuments
 pub use Rattle.ufmt_core.specs.Writes

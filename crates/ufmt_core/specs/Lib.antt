@@ -7,5 +7,5 @@ pub mod Formatter
 pub mod Layout
 pub mod Quoted
 pub mod Ranges
-pub mod Words
+pub mod ValueDocuments
 pub mod Writes

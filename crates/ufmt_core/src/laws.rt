@@ -19,7 +19,7 @@ ghost use Rattle.ufmt_core.specs.Document.{Documents, Fields, Pairs, documents, 
 ghost use Rattle.ufmt_core.specs.Layout.{Braces, Brackets, Setting, Struct, field_texts, inside, layout, pair_texts, texts, tuple_kind};
 ghost use Rattle.ufmt_core.specs.Quoted.{quoted_char, quoted_text};
 ghost use Rattle.ufmt_core.specs.Ranges.{after, before, between, range_inclusive_document};
-ghost use Rattle.ufmt_core.specs.Words.{integer, named, named_struct, named_tuple, number};
+ghost use Rattle.ufmt_core.specs.ValueDocuments.{integer, named, named_struct, named_tuple, number};
 
 mod of_tuples;
 

@@ -5,7 +5,7 @@ use Rattle.std.specs.Str.{chars}
 use Rattle.std.proofs.lemmas.Str.{IsUtf8-string_bytes, scalars-chars}
 use Rattle.ufmt.specs.Quoted.{quoted_text}
 use Rattle.ufmt.specs.Token.{HasTokens, IsToken}
-use Rattle.ufmt.specs.Words.{string}
+use Rattle.ufmt.specs.ValueDocuments.{string}
 use Rattle.ufmt.proofs.NumbersAreWords.{HasTokens-integer}
 use Rattle.ufmt.proofs.TokenLeaves.{IsWord-from, symbol_leaf}
 use Rattle.ufmt_examples.specs.Alarm.{alarm_document}

@@ -3,7 +3,7 @@ use Rattle.std.specs.Global.{Box}
 use Rattle.std.proofs.Common.{◌≡◌, ◌↔◌, refl, sym, ap, ◌∙◌, Option, None, Some}
 use Rattle.std.specs.Prelude.{IfSome}
 use Rattle.ufmt.specs.Document.{Document}
-use Rattle.ufmt.specs.Words.{option_document}
+use Rattle.ufmt.specs.ValueDocuments.{option_document}
 use Rattle.ufmt_parse.specs.Values.{is_u64}
 use Rattle.ufmt_parse.proofs.Layers.{all_map, same_holds}
 use Rattle.ufmt_examples.specs.Nested.{is_tree, tree_step, is_node, node_step}

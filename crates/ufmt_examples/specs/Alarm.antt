@@ -2,7 +2,7 @@
 use Rattle.std.specs.Prelude.{[], ◌∷◌}
 use Rattle.ufmt_examples.specs.declared.alarm.Alarm.{Alarm}
 use Rattle.ufmt.specs.Document.{Document}
-use Rattle.ufmt.specs.Words.{named_struct, number, string}
+use Rattle.ufmt.specs.ValueDocuments.{named_struct, number, string}
 
 abbrev pub alarm_document : Alarm → Document
 alarm_document a = named_struct "Alarm" (("node", number a.node) ∷ ("text", string a.text) ∷ [])

@@ -1,7 +1,7 @@
 //! A type that holds itself in an `Option<Box<_>>`.
 ghost use Rattle.std.specs.Prelude.{[], ◌∷◌};
 ghost use Rattle.ufmt.specs.Document.{Document};
-ghost use Rattle.ufmt.specs.Words.{named_struct, number, option_document};
+ghost use Rattle.ufmt.specs.ValueDocuments.{named_struct, number, option_document};
 ghost use Rattle.ufmt_examples.specs.Nested.{is_node};
 ghost use Rattle.ufmt_examples.specs.declared.node.Node.TheFolds.{fold-Node};
 

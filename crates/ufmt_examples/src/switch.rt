@@ -1,6 +1,6 @@
 //! A struct whose fields are choices: its `from_doc` makes the macro's call itself, and has an answer.
 ghost use Rattle.std.specs.Prelude.{[], ◌∷◌};
-ghost use Rattle.ufmt.specs.Words.{named_struct, number, option_document};
+ghost use Rattle.ufmt.specs.ValueDocuments.{named_struct, number, option_document};
 
 use std::alloc::{AllocError, Global};
 use ufmt::{Formatter, fields, uDebug, uWrite};

@@ -1,7 +1,7 @@
 //! A type that holds itself in a `Vec`.
 ghost use Rattle.std.specs.Prelude.{[], ◌∷◌};
 ghost use Rattle.ufmt.specs.Document.{Document, documents, list_of};
-ghost use Rattle.ufmt.specs.Words.{named_struct, number};
+ghost use Rattle.ufmt.specs.ValueDocuments.{named_struct, number};
 ghost use Rattle.ufmt_examples.specs.Nested.{is_tree};
 ghost use Rattle.ufmt_examples.specs.declared.tree.Tree.TheFolds.{fold-Tree};
 

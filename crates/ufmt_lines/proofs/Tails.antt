@@ -46,7 +46,7 @@ converted_from mode text (Some d) other is h =
           sym (layout-normal (setting mode 0) e) ∙ ap (layout (setting mode 0)) one ∙ same;
     }
 
--- what `converted` is, in the words of conversions
+-- what `converted` is, by conversions
 pub is_converted : (mode : Mode) (text other : List ℕ) → converted mode text ≡ Some other
     → IsConverted (layout (setting (other_mode mode) 0)) (layout (setting mode 0)) text other
 unfolding converted

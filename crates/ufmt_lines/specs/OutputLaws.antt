@@ -10,19 +10,19 @@ use Rattle.ufmt_lines.specs.Groups.{IsInGroup, IsInLine, groups_of}
 use Rattle.ufmt_lines.specs.Readable.{output_of, may_begin_after, other_mode}
 use Rattle.ufmt_scan.specs.Texts.{IsNoText}
 
--- a text may follow these words: there are none, or they end with a space or a line feed
+-- a text may follow these bytes: there are none, or they end with a space or a line feed
 abbrev pub MayFollow : List ℕ → Type 0
-MayFollow words = (words ≡ []) ⊎ ((front : List ℕ) × (byte : ℕ) × (words ≡ front ++ byte ∷ []) × IsTrue (may_begin_after byte))
+MayFollow before = (before ≡ []) ⊎ ((front : List ℕ) × (byte : ℕ) × (before ≡ front ++ byte ∷ []) × IsTrue (may_begin_after byte))
 
--- no tail that begins in the words, and goes to the end of the rest, is a text of this mode
+-- no tail that begins in these bytes, and goes to the end of the rest, is a text of this mode
 abbrev pub NoTextBegins : Mode → List ℕ → List ℕ → Type 0
-NoTextBegins mode words rest = (front back : List ℕ) → words ≡ front ++ back → 0 < length back → MayFollow front → IsNoText (layout (setting mode 0)) (back ++ rest)
+NoTextBegins mode before rest = (front back : List ℕ) → before ≡ front ++ back → 0 < length back → MayFollow front → IsNoText (layout (setting mode 0)) (back ++ rest)
 
--- the longest tail that is a text of the other mode is converted, and the words before it stay
+-- the longest tail that is a text of the other mode is converted, and the bytes before it stay
 abbrev pub LongestTextIsConverted : Type 0
-LongestTextIsConverted = (mode : Mode) (words : List ℕ) (d : Document) → IsToken d → MayFollow words
-    → NoTextBegins (other_mode mode) words (layout (setting (other_mode mode) 0) d)
-    → output_of mode (words ++ layout (setting (other_mode mode) 0) d) ≡ words ++ layout (setting mode 0) d
+LongestTextIsConverted = (mode : Mode) (before : List ℕ) (d : Document) → IsToken d → MayFollow before
+    → NoTextBegins (other_mode mode) before (layout (setting (other_mode mode) 0) d)
+    → output_of mode (before ++ layout (setting (other_mode mode) 0) d) ≡ before ++ layout (setting mode 0) d
 
 -- what ends with no such tail stays
 abbrev pub OthersStay : Type 0

@@ -29,6 +29,6 @@ unfoldable pub tail_converted : Bool → Mode → List ℕ → List ℕ
 tail_converted here mode [] = []
 tail_converted here mode (byte ∷ rest) = unwrap_or (converted_here here mode (byte ∷ rest)) (byte ∷ tail_converted (may_begin_after byte) mode rest)
 
--- the words before the longest tail that is a text of the other mode, and that text in this mode; a word or `()` is the same in both, so it stays
+-- the bytes before the longest tail that is a text of the other mode, and that text in this mode; a word or `()` is the same in both, so it stays
 abbrev pub output_of : Mode → List ℕ → List ℕ
 output_of mode text = tail_converted true mode text

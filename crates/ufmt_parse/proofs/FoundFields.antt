@@ -3,7 +3,7 @@ use Rattle.std.specs.Prelude.{codes, IfSome}
 use Rattle.std.proofs.Common.{◌≡◌, ◌≢◌, refl, sym, ap, ap₂, ◌∙◌, subst, ℕ, List, [], ◌∷◌, Option, Some, None, Result, Ok, Err, IfOk}
 use Rattle.ufmt.specs.Document.{Document, documents, fields_of, leaf, struct_of, tuple_of}
 use Rattle.ufmt.specs.Token.{normal}
-use Rattle.ufmt.specs.Words.{option_document}
+use Rattle.ufmt.specs.ValueDocuments.{option_document}
 use Rattle.ufmt_parse.specs.Finds.{FindsParts}
 
 pub documents_same : (xs ys : List Document) → documents xs ≡ documents ys → xs ≡ ys

@@ -16,7 +16,7 @@ pub enum Outcome {
 }
 
 impl Outcome {
-    pub fn words(&self) -> &'static str {
+    pub fn message(&self) -> &'static str {
         match self {
             Outcome::Ample => "as with ample memory",
             Outcome::WantOfMemory => "want of memory",

@@ -1,6 +1,6 @@
 //! Prints a node to a `String`, and shows what is left if memory is refused.
 ghost use Rattle.std.specs.Prelude.{[], ◌∷◌};
-ghost use Rattle.ufmt.specs.Words.{named_struct, number, option_document};
+ghost use Rattle.ufmt.specs.ValueDocuments.{named_struct, number, option_document};
 
 use crate::outcome::Outcome;
 use std::alloc::AllocError;
@@ -58,7 +58,7 @@ fn report_left(
     let text = f.into_inner();
     println!(rt;
         "fmt of a node, {mode}: {}, {allocations} allocations; is_pretty={is_pretty} depth={depth} text={:?}",
-        outcome.words(),
+        outcome.message(),
         text.as_str()
     )
 }

@@ -14,7 +14,7 @@ pub fn report(
 ) -> io::Result<()> {
     println!(rt;
         "{call} of {case}: {}, {allocations} allocations",
-        outcome.words()
+        outcome.message()
     )
 }
 

@@ -4,7 +4,7 @@ use Rattle.std.specs.Option.{option_copied}
 use Rattle.ufmt.specs.Document.{Document}
 use Rattle.ufmt.specs.Lines.{lines_of}
 use Rattle.ufmt.specs.Pieces.{Piece, line_text, shown, text}
-use Rattle.ufmt.specs.Words.{named_struct, number, option_document, str}
+use Rattle.ufmt.specs.ValueDocuments.{named_struct, number, option_document, str}
 use Rattle.ufmt_snapshot.specs.declared.difference.Difference.{Difference}
 
 -- the line with this number, from 1 on, if the text has so many

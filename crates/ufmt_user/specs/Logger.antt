@@ -6,7 +6,7 @@ use Rattle.ufmt.specs.Bytes.{zero_digit}
 use Rattle.ufmt.specs.Document.{Document}
 use Rattle.ufmt.specs.Hex.{padded_hexadecimal}
 use Rattle.ufmt.specs.Layout.{plain_text}
-use Rattle.ufmt.specs.Words.{integer, named_struct, number}
+use Rattle.ufmt.specs.ValueDocuments.{integer, named_struct, number}
 use Rattle.ufmt.specs.Pieces.{Piece, line_text, separated, shown, text, hex}
 
 abbrev pub measurement_document : Measurement → Document

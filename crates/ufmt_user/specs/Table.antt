@@ -8,7 +8,7 @@ use Rattle.ufmt.specs.Bytes.{space, zero_digit}
 use Rattle.ufmt.specs.Document.{leaf}
 use Rattle.ufmt.specs.Hex.{padded_hexadecimal}
 use Rattle.ufmt.specs.Pieces.{column, hex, line_text, shown, text}
-use Rattle.ufmt.specs.Words.{number}
+use Rattle.ufmt.specs.ValueDocuments.{number}
 
 abbrev pub name_column : Column
 name_column = record { width = 10; align = Left; fill = space }

@@ -3,7 +3,7 @@
 ghost use Rattle.std.specs.Prelude.{[], ◌∷◌, codes, map};
 ghost use Rattle.std.specs.Str.{encode_utf8_all};
 ghost use Rattle.ufmt.specs.Document.{documents, joined, leaf, list_of, map_of, pairs_of, pretty_part};
-ghost use Rattle.ufmt.specs.Words.{integer, number};
+ghost use Rattle.ufmt.specs.ValueDocuments.{integer, number};
 
 use ufmt::{Formatter, uDebug, uWrite};
 

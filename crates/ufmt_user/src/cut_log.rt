@@ -2,7 +2,7 @@
 ghost use Rattle.std.specs.Prelude.{[], ◌∷◌, codes};
 ghost use Rattle.ufmt.specs.Cut.{FrontsCut};
 ghost use Rattle.ufmt.specs.Pieces.{line_text, shown, text};
-ghost use Rattle.ufmt.specs.Words.{number};
+ghost use Rattle.ufmt.specs.ValueDocuments.{number};
 
 use ufmt::{Cut, line_cut_into, pieces};
 

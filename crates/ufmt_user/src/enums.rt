@@ -1,6 +1,6 @@
 //! Enums: variants without fields, with unnamed and with named ones.
 ghost use Rattle.std.specs.Prelude.{[], ◌∷◌};
-ghost use Rattle.ufmt.specs.Words.{named, named_struct, named_tuple};
+ghost use Rattle.ufmt.specs.ValueDocuments.{named, named_struct, named_tuple};
 ghost use Rattle.ufmt_user.specs.declared.enums.Kind.TheVariants.{A, B, C};
 ghost use Rattle.ufmt_user.specs.declared.enums.Y.TheVariants.{W, Z};
 

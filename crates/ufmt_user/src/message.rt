@@ -2,7 +2,7 @@
 ghost use Rattle.std.specs.Prelude.{[], ◌∷◌};
 ghost use Rattle.ufmt.specs.Buffer.{Fronts};
 ghost use Rattle.ufmt.specs.Layout.{plain_text};
-ghost use Rattle.ufmt.specs.Words.{character, named_struct, number, str};
+ghost use Rattle.ufmt.specs.ValueDocuments.{character, named_struct, number, str};
 
 use ufmt::{Formatter, Full, debug_into, fields, uDebug, uWrite};
 

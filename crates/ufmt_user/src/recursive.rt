@@ -1,7 +1,7 @@
 //! Types that hold themselves: in a box, in a list, in pairs and in a map.
 ghost use Rattle.std.specs.Prelude.{[], ◌∷◌, map};
 ghost use Rattle.ufmt.specs.Document.{Document, documents, list_of, map_of, pairs_of};
-ghost use Rattle.ufmt.specs.Words.{integer, named, named_struct, named_tuple, number, option_document, string};
+ghost use Rattle.ufmt.specs.ValueDocuments.{integer, named, named_struct, named_tuple, number, option_document, string};
 ghost use Rattle.ufmt_user.specs.declared.recursive.Node.TheFolds.{fold-Node};
 ghost use Rattle.ufmt_user.specs.declared.recursive.Tree.TheFolds.{fold-Tree};
 ghost use Rattle.ufmt_user.specs.declared.recursive.Json.TheFolds.{fold-Json};

@@ -1,6 +1,6 @@
 //! Types with fields of std's shared values, queues and ranges, each of which prints in one call.
 ghost use Rattle.std.specs.Prelude.{[], ◌∷◌};
-ghost use Rattle.ufmt.specs.Words.{named_struct, number, option_document};
+ghost use Rattle.ufmt.specs.ValueDocuments.{named_struct, number, option_document};
 ghost use Rattle.ufmt_user.specs.declared.shared.Link.TheFolds.{fold-Link};
 
 use std::borrow::CowStr;

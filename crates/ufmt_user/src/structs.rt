@@ -1,6 +1,6 @@
 //! Structs: with named fields, with unnamed ones, and with none.
 ghost use Rattle.std.specs.Prelude.{[], ◌∷◌};
-ghost use Rattle.ufmt.specs.Words.{named_struct, named_tuple};
+ghost use Rattle.ufmt.specs.ValueDocuments.{named_struct, named_tuple};
 
 use ufmt::{Formatter, fields, uDebug, uWrite};
 

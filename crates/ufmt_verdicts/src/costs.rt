@@ -63,7 +63,7 @@ impl Costs {
         drop(outcome);
         mark(self.alloc, DROPPED);
         self.line.push_str(name)?;
-        self.line.push_str(word)
+        self.line.push_str(verdict)
     }
 
     fn on_mode(&mut self, mode: Mode, text: &[u8]) -> Result<(), AllocError> {

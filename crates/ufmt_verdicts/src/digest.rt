@@ -37,7 +37,7 @@ impl Digest {
         };
     }
 
-    pub fn words(&self, alloc: Global) -> Result<String, AllocError> {
+    pub fn message(&self, alloc: Global) -> Result<String, AllocError> {
         format!(in alloc; "{} {} {}", self.length, self.sum_of_sums, self.sum)
     }
 }

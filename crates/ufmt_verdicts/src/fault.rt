@@ -15,7 +15,7 @@ pub enum Fault {
 }
 
 impl Fault {
-    pub fn words(&self, alloc: Global) -> Result<String, AllocError> {
+    pub fn message(&self, alloc: Global) -> Result<String, AllocError> {
         match self {
             Fault::WantOfMemory => String::from_str(alloc, "FAULT, want of memory"),
             Fault::NotText => String::from_str(alloc, "FAULT, no text"),

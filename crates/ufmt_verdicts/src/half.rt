@@ -15,7 +15,7 @@ use ufmt_doc::laws::{normal_by_way_of_plain, normal_by_way_of_pretty};
 use ufmt_doc::plain_reader::ReadError;
 use ufmt_doc::scan::ScanError;
 
-/// Returns what the calls say of the text, in words.
+/// Returns what the calls say of the text, as a message.
 pub fn verdict(calls: Calls<'_>) -> Result<String, AllocError> {
     let outcome = match calls.read() {
         Ok(doc) => of_text(calls, &doc).map(Some),
@@ -23,9 +23,9 @@ pub fn verdict(calls: Calls<'_>) -> Result<String, AllocError> {
         Err(ReadError::OutOfMemory) => Err(Fault::Other("the reader wants memory")),
     };
     match outcome {
-        Ok(Some(half)) => half.words(calls.alloc),
+        Ok(Some(half)) => half.message(calls.alloc),
         Ok(None) => String::from_str(calls.alloc, "no text"),
-        Err(fault) => fault.words(calls.alloc),
+        Err(fault) => fault.message(calls.alloc),
     }
 }
 
@@ -46,14 +46,14 @@ struct Half {
 }
 
 impl Half {
-    fn words(&self, alloc: Global) -> Result<String, AllocError> {
-        let events = self.events.words(alloc)?;
-        let converted = self.converted.words(alloc)?;
-        let parts = self.parts.words(alloc)?;
-        let shown = self.shown.words(alloc)?;
-        let fields = self.fields.words(alloc)?;
-        let types = self.types.words(alloc)?;
-        let pieces = self.pieces.words(alloc)?;
+    fn message(&self, alloc: Global) -> Result<String, AllocError> {
+        let events = self.events.message(alloc)?;
+        let converted = self.converted.message(alloc)?;
+        let parts = self.parts.message(alloc)?;
+        let shown = self.shown.message(alloc)?;
+        let fields = self.fields.message(alloc)?;
+        let types = self.types.message(alloc)?;
+        let pieces = self.pieces.message(alloc)?;
         let in_a_list = if self.is_token_in_a_list { "yes" } else { "no" };
         format!(in alloc;
             "events {events}, converted {converted}, parts {parts}, shown {shown}, fields {fields}, in a list {in_a_list}, types {types}, pieces {pieces}"

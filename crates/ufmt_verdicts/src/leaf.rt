@@ -9,14 +9,14 @@ use ufmt_scan::leaf::{is_leaf, is_word};
 // How many characters of a text are put in apostrophes.
 const MOST_CHARACTERS: usize = 64;
 
-/// Returns what the calls say of the text, in words.
+/// Returns what the calls say of the text, as a message.
 pub fn verdict(alloc: Global, text: &[u8]) -> Result<String, AllocError> {
     let Ok(text) = str::from_utf8(text) else {
         return String::from_str(alloc, "no UTF-8");
     };
     match of_text(alloc, text) {
-        Ok(leaf) => leaf.words(alloc),
-        Err(fault) => fault.words(alloc),
+        Ok(leaf) => leaf.message(alloc),
+        Err(fault) => fault.message(alloc),
     }
 }
 
@@ -29,11 +29,11 @@ struct Leaf {
 }
 
 impl Leaf {
-    fn words(&self, alloc: Global) -> Result<String, AllocError> {
+    fn message(&self, alloc: Global) -> Result<String, AllocError> {
         let token = if self.is_token { "yes" } else { "no" };
         let name = if self.is_token_as_name { "yes" } else { "no" };
-        let quoted = self.quoted.words(alloc)?;
-        let characters = self.characters.words(alloc)?;
+        let quoted = self.quoted.message(alloc)?;
+        let characters = self.characters.message(alloc)?;
         format!(in alloc; "token {token}, name {name}, quoted {quoted}, characters {characters}")
     }
 }

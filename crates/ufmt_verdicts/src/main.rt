@@ -7,7 +7,7 @@
 //! `NotText`. Else it has digests of their results. If a call is wrong, it is `FAULT` with the
 //! call's name, or with the error of a call that should be `Ok`.
 //!
-//! With the word `costs` it makes each call by itself, and a line has the names of the calls.
+//! With the argument `costs` it makes each call by itself, and a line has the names of the calls.
 //!
 //! A text that begins as a request does asks for other values to be printed. Its line has digests of
 //! their pieces.
@@ -35,7 +35,7 @@ use std::io::{self, Read, Write};
 use ufmt::layout::Mode;
 
 fn main(rt: HostRuntime) -> io::Result<()> {
-    let words: Vec<String> = env::args(&rt)?.skip(1).collect(rt.alloc())?;
+    let arguments: Vec<String> = env::args(&rt)?.skip(1).collect(rt.alloc())?;
     let mut input = Vec::new(rt.alloc());
     rt.reader().read_to_end(&mut input)?;
     let mut output = io::BufWriter::new(rt.alloc(), io::writer(&rt))?;
@@ -45,7 +45,7 @@ fn main(rt: HostRuntime) -> io::Result<()> {
         let Some((text, after)) = split_text(rest) else {
             break;
         };
-        if words.is_empty() {
+        if arguments.is_empty() {
             report(&rt, &mut output, text)?;
         } else {
             let names = costs::calls_made(rt.alloc(), text)?;

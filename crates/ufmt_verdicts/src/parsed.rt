@@ -20,8 +20,8 @@ pub struct TypeLetters {
 }
 
 impl TypeLetters {
-    pub fn words(&self, alloc: Global) -> Result<String, AllocError> {
-        let pieces = self.pieces.digest.words(alloc)?;
+    pub fn message(&self, alloc: Global) -> Result<String, AllocError> {
+        let pieces = self.pieces.digest.message(alloc)?;
         format!(in alloc; "[{}] in pieces {pieces}", self.text)
     }
 }

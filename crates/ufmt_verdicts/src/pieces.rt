@@ -69,9 +69,9 @@ impl TextPieces {
         })
     }
 
-    pub fn words(&self, alloc: Global) -> Result<String, AllocError> {
-        let printed = self.printed.words(alloc)?;
-        let converted = self.converted.words(alloc)?;
+    pub fn message(&self, alloc: Global) -> Result<String, AllocError> {
+        let printed = self.printed.message(alloc)?;
+        let converted = self.converted.message(alloc)?;
         format!(in alloc; "printed {printed}, converted {converted}")
     }
 }

@@ -28,7 +28,7 @@ pub struct Request<'a> {
     ghost has_ascii_pad: { hex.pad_char < 128 },
 }
 
-/// Returns the digests of what a request prints, in words, or `None` if the text is no request.
+/// Returns the digests of what a request prints, as a message, or `None` if the text is no request.
 pub fn verdict(alloc: Global, text: &[u8]) -> Result<Option<String>, AllocError> {
     match Request::from_text(alloc, text) {
         Some(request) => Ok(Some(request.line()?)),
@@ -105,7 +105,7 @@ impl<'a> Request<'a> {
 
     fn note(&self, name: &str, digest: &Digest, line: &mut String) -> Result<(), AllocError> {
         line.push_str(name)?;
-        line.push_str(&digest.words(self.alloc)?)
+        line.push_str(&digest.message(self.alloc)?)
     }
 
     fn dump_pieces(&self) -> Digest {
@@ -128,10 +128,10 @@ fn column(width: usize, align: usize, fill: char) -> Column {
 }
 
 fn numbers_of(line: &[u8]) -> Option<[usize; 11]> {
-    let mut words = str::from_utf8(line).ok()?.split(' ');
+    let mut items = str::from_utf8(line).ok()?.split(' ');
     let mut numbers = [0; 11];
     for number in numbers.iter_mut() {
-        *number = words.next()?.parse().ok()?;
+        *number = items.next()?.parse().ok()?;
     }
     Some(numbers)
 }

@@ -14,7 +14,7 @@ pub enum Command {
 }
 
 impl Command {
-    /// Returns the command for the words after the program's name: exactly one word, which is its name.
+    /// Returns the command for the arguments after the program's name: exactly one, which is its name.
     pub fn parse(words: &[String]) -> Option<Command>
         ensures { (command : Command) → (result ≡ Some command)
             ↔ (map string_bytes words.now ≡ name_of command ∷ []) }
@@ -38,7 +38,7 @@ impl Command {
     }
 }
 
-/// Returns the line for words that are no command, without its line feed.
+/// Returns the line for arguments that are no command, without its line feed.
 pub fn usage() -> &'static str
     ensures { result.now ≡ usage_line }
 {

@@ -179,7 +179,7 @@ fn line_lengths_counts_the_bytes_of_lines(rt: HostRuntime) -> Result<(), Fail> {
 }
 
 #[test]
-fn parse_takes_one_word(rt: HostRuntime) -> Result<(), Fail> {
+fn parse_takes_one_argument(rt: HostRuntime) -> Result<(), Fail> {
     let rows: [(&[&str], Option<Command>); 11] = [
         (&["lengths"], Some(Command::Lengths)),
         (&["pretty"], Some(Command::Pretty)),
@@ -194,11 +194,11 @@ fn parse_takes_one_word(rt: HostRuntime) -> Result<(), Fail> {
         (&["plain\n"], None),
     ];
     for (row, command) in rows {
-        let mut words = Vec::new(rt.alloc());
-        for word in row {
-            words.push(String::from_str(rt.alloc(), word)?)?;
+        let mut arguments = Vec::new(rt.alloc());
+        for argument in row {
+            arguments.push(String::from_str(rt.alloc(), argument)?)?;
         }
-        same(&rt, (row, Command::parse(&words)), (row, command), "words");
+        same(&rt, (row, Command::parse(&arguments)), (row, command), "arguments");
     }
     Ok(())
 }

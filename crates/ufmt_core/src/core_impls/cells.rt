@@ -4,7 +4,7 @@ ghost use Rattle.std.specs.Prelude.{[], ◌∷◌};
 ghost use Rattle.std.specs.RefCell.{ref_mut_value, ref_value};
 ghost use Rattle.ufmt_core.specs.declared.core_impls.cells.RefCellValue.TheVariants.{Borrowed, Held};
 ghost use Rattle.ufmt_core.specs.Document.{leaf};
-ghost use Rattle.ufmt_core.specs.Words.{named, named_struct};
+ghost use Rattle.ufmt_core.specs.ValueDocuments.{named, named_struct};
 
 use crate::formatter::Formatter;
 use crate::uDebug;

@@ -3,7 +3,7 @@ ghost use Rattle.std.specs.Prelude.{[], ◌∷◌};
 ghost use Rattle.std.specs.declared.cmp.Ordering.TheVariants.{Less, Equal, Greater};
 ghost use Rattle.std.specs.declared.ops.ControlFlow.TheVariants.{Continue, Break};
 ghost use Rattle.std.specs.declared.ops.Bound.TheVariants.{Included, Excluded, Unbounded};
-ghost use Rattle.ufmt_core.specs.Words.{named, named_tuple, option_document, result_document};
+ghost use Rattle.ufmt_core.specs.ValueDocuments.{named, named_tuple, option_document, result_document};
 
 use crate::formatter::Formatter;
 use crate::uDebug;

@@ -2,7 +2,7 @@
 ghost use Rattle.std.specs.Prelude.{◌≡◌, codes, is_ok};
 ghost use Rattle.ufmt_core.specs.Formatter.{LaysOut};
 ghost use Rattle.ufmt_core.specs.Ranges.{after, before, between, is_spent, range_inclusive_document};
-ghost use Rattle.ufmt_core.specs.Words.{named};
+ghost use Rattle.ufmt_core.specs.ValueDocuments.{named};
 
 use crate::formatter::Formatter;
 use crate::uDebug;

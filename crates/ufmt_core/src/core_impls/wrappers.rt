@@ -1,6 +1,6 @@
 //! `uDebug` of `Wrapping`, `Saturating` and `Reverse`.
 ghost use Rattle.std.specs.Prelude.{[], ◌∷◌};
-ghost use Rattle.ufmt_core.specs.Words.{named_tuple};
+ghost use Rattle.ufmt_core.specs.ValueDocuments.{named_tuple};
 
 use crate::formatter::Formatter;
 use crate::uDebug;

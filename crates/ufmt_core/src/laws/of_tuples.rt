@@ -1,6 +1,6 @@
 //! The law on tuples of one to twelve. tools/write-by-count writes this file: change it there.
 ghost use Rattle.std.specs.Prelude.{[], ◌∷◌, ◌≡◌};
-ghost use Rattle.ufmt_core.specs.Words.{named_tuple};
+ghost use Rattle.ufmt_core.specs.ValueDocuments.{named_tuple};
 
 use crate::uDebug;
 

@@ -1,7 +1,7 @@
 //! `uDebug` of `Rc`, `Weak`, `Arc` and `Cow`.
 ghost use Rattle.std.specs.Arc.{arc_value};
 ghost use Rattle.std.specs.Cow.{cow_value};
-ghost use Rattle.ufmt_core.specs.Words.{named};
+ghost use Rattle.ufmt_core.specs.ValueDocuments.{named};
 
 use crate::formatter::Formatter;
 use crate::uDebug;

@@ -1,4 +1,4 @@
-//! The output for a line or a group of lines: the words before its longest debug text, and that text
+//! The output for a line or a group of lines: the bytes before its longest debug text, and that text
 //! in the other mode.
 ghost use Rattle.std.specs.Prelude.{◌≡◌, ◌≤◌, ◌++◌, [], List, ℕ, true, IfSome, IsNone, OnOk, Some, drop, is_some, length, take};
 ghost use Rattle.ufmt.specs.Layout.{layout, setting};
@@ -56,8 +56,8 @@ impl GroupOutput {
     {
         match text_start(mode, group) {
             Some(start) => {
-                let (words, text) = group.split_at(start);
-                self.push(words)?;
+                let (before, text) = group.split_at(start);
+                self.push(before)?;
                 self.push_converted(mode, text)
             }
             None => self.push(group),

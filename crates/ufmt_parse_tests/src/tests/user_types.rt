@@ -1,6 +1,6 @@
 //! Tests of `parse_fields!` and `parse_variants!` for a user's own types.
 ghost use Rattle.std.specs.Prelude.{[], ◌∷◌, ⊤};
-ghost use Rattle.ufmt.specs.Words.{named, named_struct, named_tuple, number, string};
+ghost use Rattle.ufmt.specs.ValueDocuments.{named, named_struct, named_tuple, number, string};
 ghost use Rattle.ufmt_parse.specs.Values.{is_u8, is_u64};
 ghost use Rattle.ufmt_parse_tests.specs.declared.tests.user_types.Eight.TheVariants.{A, B, C, D, E, F, G, H};
 

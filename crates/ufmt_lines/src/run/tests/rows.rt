@@ -1,7 +1,7 @@
 //! Lines and their outputs. The texts are those that rustc's `{:?}` and `{:#?}` print.
 use super::*;
 
-// Words and a plain text, and the same words and the pretty text.
+// Lines that end with a plain text, and the same with the pretty text.
 const DEBUG_TEXTS: [(&str, &str); 22] = [
     (
         "12:00 INFO got Reading { channel: 3 }",
@@ -107,7 +107,7 @@ const TAILS: [(&[u8], &[u8]); 11] = [
     (b"\r [b]", b"\r [\n    b,\n]"),
 ];
 
-// Groups of lines that end with a pretty text, and the same words and the plain text.
+// Groups of lines that end with a pretty text, and the same with the plain text.
 const PRETTY_TEXTS: [(&[u8], &[u8]); 12] = [
     (b"a [\n    1,\n]\nb", b"a [1]\nb"),
     (b"[\n    1,\n]\n[\n    2,\n]", b"[1]\n[2]"),

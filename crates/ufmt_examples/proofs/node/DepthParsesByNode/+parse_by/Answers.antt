@@ -1,6 +1,6 @@
 use Rattle.std.proofs.Common.{[], ◌∷◌, ap, sym, ◌∙◌}
 use Rattle.ufmt.specs.Token.{normal}
-use Rattle.ufmt.specs.Words.{named_struct, number}
+use Rattle.ufmt.specs.ValueDocuments.{named_struct, number}
 use Rattle.ufmt_parse.proofs.FoundFields.{none_found}
 use Rattle.ufmt_examples.specs.declared.node.Node.{out-Node}
 use Rattle.ufmt_examples.specs.declared.node.Node.TheFolds.{fold_out-Node}

@@ -1,5 +1,5 @@
 use Rattle.std.proofs.Common.{sym, true}
-use Rattle.ufmt.specs.Words.{number}
+use Rattle.ufmt.specs.ValueDocuments.{number}
 use Rattle.ufmt.proofs.Printing.{LaysOut-err, WritesRow-next, WritesRow-none, failed, finished, is_map, loop_ended, loop_next, not_opened, opened, pair_texts-of, written}
 use Rattle.ufmt_user.proofs.by_hand.PortsuDebug.fmt.Goals as goal
 

@@ -1,7 +1,7 @@
 use Rattle.std.proofs.Common.{take, true}
 use Rattle.ufmt.specs.Block.{IsOpen, WritesRow, pair_text}
 use Rattle.ufmt.specs.Builder.{map_block}
-use Rattle.ufmt.specs.Words.{number}
+use Rattle.ufmt.specs.ValueDocuments.{number}
 use Rattle.ufmt_user.proofs.by_hand.PortsuDebug.fmt.Given as goal
 
 abbrev pub invariant-loop-port : goal.invariant-loop-port

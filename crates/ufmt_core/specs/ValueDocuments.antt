@@ -1,4 +1,4 @@
--- Words for the documents of types, with names in quotes and lists.
+-- The documents of values, written with names in quotes and with lists.
 use Prim.Native.String.{String as Text}
 use Rattle.std.specs.Prelude.{ℕ, ℤ, pos, List, [], ◌∷◌, codes, Option, Some, None, Result, Ok, Err, String, string_bytes}
 use Rattle.std.specs.Borrow.{Bor}
