@@ -116,7 +116,7 @@ IN_BODIES = [
     (SIZE, "ufmt_doc/src/reader/document_sink.rt", "take_fields", "with_capacity(alloc, (docs.len()-start)/2)"),
     (SIZE, "ufmt_io/src/whole.rt", "read_after", "resize(filled+64*1024, 0)"),
     (SIZE, "ufmt_lines/src/run.rt", "new_chunk", "resize(64*1024, 0)"),
-    (TURNS, "ufmt_core/src/formatter/block.rt", "Formatter<W>::write_indentation", "for _indent in 0..indents"),
+    (TURNS, "ufmt_core/src/formatter/frame.rt", "Formatter<W>::write_indentation", "for _indent in 0..indents"),
     (TURNS, "ufmt_core/src/quoted.rt", "write_escaped", "loop"),
     (TURNS, "ufmt/src/column.rt", "Column::write_each_fill", "for _fill in 0..count"),
     (TURNS, "ufmt/src/column.rt", "write_spaces", "for _piece in 0..count/64"),

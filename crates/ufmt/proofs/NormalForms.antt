@@ -1,7 +1,7 @@
 -- The normal form of a document is its own normal form, and keeps the document's nesting, tokens and texts.
 use Rattle.std.proofs.Common.{◌≡◌, List, [], ◌∷◌, ℕ, ◌≤◌, refl, sym, ap, ap₂, ◌∙◌, subst, inl, append-nil}
 use Rattle.ufmt_core.specs.Document.{Document, leaf, joined, list_of, set_of, map_of, struct_of, tuple_of, pretty_part, Documents, no_documents, document, Pairs, no_pairs, pair, Fields, no_fields, field, nest, nest_all, nest_pairs, nest_fields}
-use Rattle.ufmt_core.specs.Layout.{setting, inside, tuple_kind, block, layout, layouts, texts, pair_texts, field_texts}
+use Rattle.ufmt_core.specs.Layout.{setting, inside, tuple_kind, block_text, layout, layouts, texts, pair_texts, field_texts}
 use Rattle.ufmt_core.specs.declared.layout.Mode.TheVariants.{Pretty}
 use Rattle.ufmt_core.specs.declared.layout.Setting.{Setting}
 use Rattle.ufmt_core.specs.declared.layout.Kind.TheVariants.{Brackets, Braces, Struct}
@@ -110,11 +110,11 @@ mutual
   pub layout-normal : (s : Setting) (d : Document) → layout s (normal d) ≡ layout s d
   layout-normal s (leaf text) = refl
   layout-normal s (joined ds) = layouts-normal_all s ds
-  layout-normal s (list_of ds) = ap (block Brackets s []) (texts-normal_all (inside s) ds)
-  layout-normal s (set_of ds) = layout-normal-set_of s ds ∙ ap (block Braces s []) (texts-normal_all (inside s) ds)
-  layout-normal s (map_of ps) = ap (block Braces s []) (pair_texts-normal_pairs (inside s) ps)
-  layout-normal s (struct_of name fs) = layout-normal-struct_of s name fs ∙ ap (block Struct s name) (field_texts-normal_fields (inside s) fs)
-  layout-normal s (tuple_of name ds) = layout-normal-tuple_of s name ds ∙ ap (block (tuple_kind name) s name) (texts-normal_all (inside s) ds)
+  layout-normal s (list_of ds) = ap (block_text Brackets s []) (texts-normal_all (inside s) ds)
+  layout-normal s (set_of ds) = layout-normal-set_of s ds ∙ ap (block_text Braces s []) (texts-normal_all (inside s) ds)
+  layout-normal s (map_of ps) = ap (block_text Braces s []) (pair_texts-normal_pairs (inside s) ps)
+  layout-normal s (struct_of name fs) = layout-normal-struct_of s name fs ∙ ap (block_text Struct s name) (field_texts-normal_fields (inside s) fs)
+  layout-normal s (tuple_of name ds) = layout-normal-tuple_of s name ds ∙ ap (block_text (tuple_kind name) s name) (texts-normal_all (inside s) ds)
   layout-normal s (pretty_part d) = layout-normal (setting Pretty s.depth) d
 
   pub layouts-normal_all : (s : Setting) (ds : Documents) → layouts s (normal_all ds) ≡ layouts s ds

@@ -2,7 +2,7 @@
 use Rattle.std.proofs.Common.{◌≡◌, ℕ, zero, suc, ◌+◌, ◌≤◌, ◌==◌, List, [], ◌∷◌, ◌++◌, map, Bool, true, false, codes, refl, sym, ap, ap₂, ◌∙◌, append_assoc, ne_eqb, arith}
 use Rattle.std.specs.Prelude.{⊤}
 use Rattle.ufmt_core.specs.Document.{Document, leaf, joined, list_of, set_of, map_of, struct_of, tuple_of, pretty_part, Documents, no_documents, document, Pairs, no_pairs, pair, Fields, no_fields, field, nest, nest_all, nest_pairs, nest_fields}
-use Rattle.ufmt_core.specs.Layout.{Frame, frame, tuple_kind, setting, inside, entry_depth, indentation, separator, lead, ending, next, block_tail, block, layout, layouts, texts, pair_texts, field_texts, pretty_text}
+use Rattle.ufmt_core.specs.Layout.{Frame, frame, tuple_kind, setting, inside, entry_depth, indentation, separator, lead, ending, next, block_tail, block_text, layout, layouts, texts, pair_texts, field_texts, pretty_text}
 use Rattle.ufmt_core.specs.declared.layout.Mode.TheVariants.{Pretty}
 use Rattle.ufmt_core.specs.declared.layout.Setting.{Setting}
 use Rattle.ufmt_core.specs.declared.layout.Kind.{Kind}
@@ -186,9 +186,9 @@ HasRoom-struct_of k name no_fields h = HasRoom-empty k h
 HasRoom-struct_of k name (field field_name value fs) h = HasRoom-entries k _ _ _ h
 
 -- a block at depth k is its shifted block, hanging by k, if its entries' texts hang
-block-shifted : (kind : Kind) (k n : ℕ) (name : List ℕ) (ss ts : List (List ℕ)) → IsOneLine name → HasRoom k n ss
-    → ts ≡ map (hanging (entry_depth Pretty k)) ss → block kind (setting Pretty k) name ts ≡ hanging k (shifted_block kind name ss)
-block-shifted kind k n name ss ts h room e = ap (block kind (setting Pretty k) name) e
+block_text-shifted : (kind : Kind) (k n : ℕ) (name : List ℕ) (ss ts : List (List ℕ)) → IsOneLine name → HasRoom k n ss
+    → ts ≡ map (hanging (entry_depth Pretty k)) ss → block_text kind (setting Pretty k) name ts ≡ hanging k (shifted_block kind name ss)
+block_text-shifted kind k n name ss ts h room e = ap (block_text kind (setting Pretty k) name) e
     ∙ framed (frame Pretty kind) k name ss (IsSteady-frame kind) h room.deeper
 
 mutual
@@ -196,11 +196,11 @@ mutual
   layout-shifted : (k : ℕ) (d : Document) → HasNoLineFeed d → nest d + k ≤ 255 → layout (setting Pretty k) d ≡ hanging k (shifted d)
   layout-shifted k (leaf text) h n = sym (hanging-one_line k text h)
   layout-shifted k (joined ds) h n = layouts-shifted k ds h n
-  layout-shifted k (list_of ds) h n = let room = HasRoom-list_of k ds n in block-shifted Brackets k _ [] _ _ tt room (texts-shifted _ ds h room.within)
-  layout-shifted k (set_of ds) h n = let room = HasRoom-set_of k ds n in block-shifted Braces k _ [] _ _ tt room (texts-shifted _ ds h room.within)
-  layout-shifted k (map_of ps) h n = let room = HasRoom-map_of k ps n in block-shifted Braces k _ [] _ _ tt room (pair_texts-shifted _ ps h room.within)
-  layout-shifted k (struct_of name fs) h n = let room = HasRoom-struct_of k name fs n in block-shifted Struct k _ name _ _ h.0 room (field_texts-shifted _ fs h.1 room.within)
-  layout-shifted k (tuple_of name ds) h n = let room = HasRoom-tuple_of k name ds n in block-shifted (tuple_kind name) k _ name _ _ h.0 room (texts-shifted _ ds h.1 room.within)
+  layout-shifted k (list_of ds) h n = let room = HasRoom-list_of k ds n in block_text-shifted Brackets k _ [] _ _ tt room (texts-shifted _ ds h room.within)
+  layout-shifted k (set_of ds) h n = let room = HasRoom-set_of k ds n in block_text-shifted Braces k _ [] _ _ tt room (texts-shifted _ ds h room.within)
+  layout-shifted k (map_of ps) h n = let room = HasRoom-map_of k ps n in block_text-shifted Braces k _ [] _ _ tt room (pair_texts-shifted _ ps h room.within)
+  layout-shifted k (struct_of name fs) h n = let room = HasRoom-struct_of k name fs n in block_text-shifted Struct k _ name _ _ h.0 room (field_texts-shifted _ fs h.1 room.within)
+  layout-shifted k (tuple_of name ds) h n = let room = HasRoom-tuple_of k name ds n in block_text-shifted (tuple_kind name) k _ name _ _ h.0 room (texts-shifted _ ds h.1 room.within)
   layout-shifted k (pretty_part d) h n = layout-shifted k d h n
 
   layouts-shifted : (k : ℕ) (ds : Documents) → HaveNoLineFeed ds → nest_all ds + k ≤ 255 → layouts (setting Pretty k) ds ≡ hanging k (shifted_joined ds)

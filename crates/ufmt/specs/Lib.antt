@@ -17,7 +17,7 @@ pub mod ShiftLaws
 pub mod Token
 pub mod Truncating
 pub mod UnquotedLaws
-pub use Rattle.ufmt_core.specs.Block
+pub use Rattle.ufmt_core.specs.BuilderView
 pub use Rattle.ufmt_core.specs.Builder
 pub use Rattle.ufmt_core.specs.Bytes
 pub use Rattle.ufmt_core.specs.Decimal

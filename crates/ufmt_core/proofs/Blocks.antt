@@ -8,28 +8,28 @@ use Rattle.std.proofs.lemmas.Iterator.Consumers.{YieldsList-so_far}
 use Rattle.std.proofs.lemmas.List.{map-append, take_more, take-append-drop}
 use Rattle.std.proofs.lemmas.Simd.{map-map}
 use Rattle.ufmt_core.specs.Document.{Document}
-use Rattle.ufmt_core.specs.Layout.{Setting, Kind, Count, Zero, Frame, block, ending, frame, inside, layout, next, block_tail}
+use Rattle.ufmt_core.specs.Layout.{Setting, Kind, Count, Zero, Frame, block_text, ending, frame, inside, layout, next, block_tail}
 use Rattle.ufmt_core.specs.Writes.{Seen}
 use Rattle.ufmt_core.specs.Formatter.{Formatter, LaysOut, Prints, setting_of}
-use Rattle.ufmt_core.specs.Block.{Status, Lent, LentValue, Block, Same, WritesPart, WritesEntry, WritesRow, WritesEntries, Abandons, EndsEntry, WritesEnding, After, IsInside, IsOpen, StopsIn, block_in_parts, framed, framed_all, frame_of, inner, lead_of, pair_text, count_after, trail_of}
+use Rattle.ufmt_core.specs.BuilderView.{Status, Lent, LentValue, BuilderView, Same, WritesPart, WritesEntry, WritesRow, WritesEntries, Abandons, EndsEntry, WritesEnding, After, IsInside, IsOpen, StopsIn, block_in_parts, framed, framed_all, frame_of, inner, lead_of, pair_text, count_after, trail_of}
 use Rattle.ufmt_core.proofs.Writing.{is_ok-err, Writes-then, Writes-fails, Writes-nothing, Prints-then, Prints-then_at}
 
 module _ {W : Type 0} where
-  pub Same-then : {old mid new : Block W} → Same old mid → Same mid new → Same old new
+  pub Same-then : {old mid new : BuilderView W} → Same old mid → Same mid new → Same old new
   Same-then a b = record { reference = b.reference ∙ a.reference; kind = b.kind ∙ a.kind; outer = b.outer ∙ a.outer }
 
   -- what a call leaves depends only on the mode and depth from before the builder
-  After-from : (ok : Bool) (count : Count) (old mid new : Block W) → mid.outer ≡ old.outer → After ok count mid new → After ok count old new
+  After-from : (ok : Bool) (count : Count) (old mid new : BuilderView W) → mid.outer ≡ old.outer → After ok count mid new → After ok count old new
   After-from true count old mid new o h = h
   After-from false count old mid new o h = (h.0, h.1 ∙ o)
 
   -- the builder with this status and this formatter
-  abbrev pub lent_to : Status → Block W → Formatter W → Block W
+  abbrev pub lent_to : Status → BuilderView W → Formatter W → BuilderView W
   lent_to status b f = record b { formatter = f; status = status }
 
 module _ {W : Type 0} {seen : Seen W} where
   -- two calls in a row write their texts joined
-  pub WritesPart-then : {old mid new : Block W} {p q : List ℕ} {ok : Bool} {between count : Count} → WritesPart seen old p true between mid
+  pub WritesPart-then : {old mid new : BuilderView W} {p q : List ℕ} {ok : Bool} {between count : Count} → WritesPart seen old p true between mid
       → WritesPart seen mid q ok count new → WritesPart seen old (p ++ q) ok count new
   WritesPart-then {old} {mid} {new} {ok = ok} {count = count} a b = record {
     wrote = Writes-then a.wrote b.wrote;
@@ -38,12 +38,12 @@ module _ {W : Type 0} {seen : Seen W} where
   }
 
   -- a call that fails in a text fails in each text that begins with it
-  pub WritesPart-fails : {old new : Block W} {p : List ℕ} (q : List ℕ) {between count : Count} → WritesPart seen old p false between new
+  pub WritesPart-fails : {old new : BuilderView W} {p : List ℕ} (q : List ℕ) {between count : Count} → WritesPart seen old p false between new
       → WritesPart seen old (p ++ q) false count new
   WritesPart-fails q a = record { wrote = Writes-fails q a.wrote; same = a.same; after = a.after }
 
   -- a call that succeeds, and then one that closes the block
-  pub WritesEnding-then : {old mid new : Block W} {p q : List ℕ} {ok : Bool} {between : Count} → WritesPart seen old p true between mid
+  pub WritesEnding-then : {old mid new : BuilderView W} {p q : List ℕ} {ok : Bool} {between : Count} → WritesPart seen old p true between mid
       → WritesEnding seen mid q ok new → WritesEnding seen old (p ++ q) ok new
   WritesEnding-then a f = record {
     wrote = Writes-then a.wrote f.wrote;
@@ -53,7 +53,7 @@ module _ {W : Type 0} {seen : Seen W} where
   }
 
   -- a call that fails closes the block
-  pub WritesEnding-fails : {old new : Block W} {p : List ℕ} (q : List ℕ) {between : Count} → WritesPart seen old p false between new
+  pub WritesEnding-fails : {old new : BuilderView W} {p : List ℕ} (q : List ℕ) {between : Count} → WritesPart seen old p false between new
       → WritesEnding seen old (p ++ q) false new
   WritesEnding-fails q a = record { wrote = Writes-fails q a.wrote; same = a.same; closed = a.after.0; restored = a.after.1 }
 
@@ -63,7 +63,7 @@ handed_ok (Ok x) result h k = refl
 handed_ok (Err x) result h k = cc (ap is_ok h)
 
 -- the lent formatter printed a text, and then a call of the builder
-module _ {W : Type 0} {seen : Seen W} (pending : Status) (old : Block W) {new : Block W} {ended : Formatter W} {printed : List ℕ} where
+module _ {W : Type 0} {seen : Seen W} (pending : Status) (old : BuilderView W) {new : BuilderView W} {ended : Formatter W} {printed : List ℕ} where
   -- wrote the text after it
   WritesPart-printed : {tail : List ℕ} {ok : Bool} {count : Count} → Prints seen old.formatter printed true ended
       → WritesPart seen (lent_to pending old ended) tail ok count new → WritesPart seen old (printed ++ tail) ok count new
@@ -82,51 +82,51 @@ module _ {W : Type 0} {seen : Seen W} (pending : Status) (old : Block W) {new : 
   }
 
 -- the lent formatter printed a text at the mode and depth of the entries
-module _ {W : Type 0} {seen : Seen W} (old : Block W) {begun ended : Formatter W} {before : List ℕ} {ok : Bool} where
+module _ {W : Type 0} {seen : Seen W} (old : BuilderView W) {begun ended : Formatter W} {before : List ℕ} {ok : Bool} where
   Prints-lent : (text : Setting → List ℕ) → IsInside old → Prints seen old.formatter before true begun
       → Prints seen begun (text (setting_of begun)) ok ended → Prints seen old.formatter (before ++ text (inner old)) ok ended
   Prints-lent text inside_b p l = subst (λ (s : Setting). Prints seen old.formatter (before ++ text s) ok ended) inside_b (Prints-then_at text p l)
 
 -- an entry in halves: the lead was written, the lent formatter printed the value's text, and the second half wrote the trail
-module _ {W E : Type 0} {seen : Seen W} (pending : Status) (old : Block W) {new : Block W} {begun : Formatter W} (ended : Formatter W)
+module _ {W E : Type 0} {seen : Seen W} (pending : Status) (old : BuilderView W) {new : BuilderView W} {begun : Formatter W} (ended : Formatter W)
     (before : List ℕ) (text : Setting → List ℕ) where
-  pub WritesPart-between : {mid : Block W} (outcome result : Result (Unit {0}) E) → IsInside old → mid ≡ lent_to pending old ended
+  pub WritesPart-between : {mid : BuilderView W} (outcome result : Result (Unit {0}) E) → IsInside old → mid ≡ lent_to pending old ended
       → Prints seen old.formatter before true begun →
       Prints seen begun (text (setting_of begun)) (is_ok outcome) ended → EndsEntry seen outcome mid result (is_ok result) new →
       WritesPart seen old (before ++ (text (inner old) ++ trail_of old)) (is_ok result) (next old.count) new
   WritesPart-between (Ok x) result inside_b m p l e =
-      let end = subst (λ (b : Block W). EndsEntry seen (Ok x) b result (is_ok result) new) m e in
+      let end = subst (λ (b : BuilderView W). EndsEntry seen (Ok x) b result (is_ok result) new) m e in
       rw (← append_assoc before (text (inner old)) (trail_of old)) (WritesPart-printed pending old (Prints-lent old text inside_b p l) end.trail)
   WritesPart-between (Err x) result inside_b m p l e =
-      let end = subst (λ (b : Block W). EndsEntry seen (Err x) b result (is_ok result) new) m e in
+      let end = subst (λ (b : BuilderView W). EndsEntry seen (Err x) b result (is_ok result) new) m e in
       rw (ap is_ok end.error.0, ← append_assoc before (text (inner old)) (trail_of old))
       (WritesPart-fails _ (WritesPart-abandoned pending old (Prints-lent old text inside_b p l) end.error.1))
 
 -- an entry of a map is the text up to its value, the value, and the trail
-pair_framed : {W : Type 0} (b : Block W) (key value : Document) → framed (frame_of b) (inner b) b.count (pair_text key value (inner b))
+pair_framed : {W : Type 0} (b : BuilderView W) (key value : Document) → framed (frame_of b) (inner b) b.count (pair_text key value (inner b))
     ≡ ((lead_of b ++ layout (inner b) key) ++ codes ": ") ++ (layout (inner b) value ++ trail_of b)
 pair_framed b key value = simp append_assoc
 
 -- a map's key, `: ` and its value, each by the lent formatter
-module _ {W E : Type 0} {seen : Seen W} (old : Block W) {new : Block W} {begun : Formatter W} (ended : Formatter W) (key value : Document) where
+module _ {W E : Type 0} {seen : Seen W} (old : BuilderView W) {new : BuilderView W} {begun : Formatter W} (ended : Formatter W) (key value : Document) where
   -- the key and then `: `, if `: ` failed, or if the key's `fmt` returned an error
-  pub WritesEntry-no_value : {mid : Block W} (outcome : Result (Unit {0}) E) → IsInside old → mid ≡ lent_to Lent old ended
+  pub WritesEntry-no_value : {mid : BuilderView W} (outcome : Result (Unit {0}) E) → IsInside old → mid ≡ lent_to Lent old ended
       → Prints seen old.formatter (lead_of old) true begun → LaysOut seen begun key (is_ok outcome) ended →
       OnOk outcome (StopsIn seen mid (codes ": ") new) → OnErr outcome (Abandons mid new) → WritesEntry seen old (pair_text key value) false new
   WritesEntry-no_value (Ok x) inside_b m p l stop error =
       record {
         part = rw (pair_framed old key value) (WritesPart-fails _
             (WritesPart-printed Lent old (Prints-lent old (λ s. layout s key) inside_b p l.prints)
-            (subst (λ (b : Block W). StopsIn seen b (codes ": ") new) m stop)));
+            (subst (λ (b : BuilderView W). StopsIn seen b (codes ": ") new) m stop)));
       }
   WritesEntry-no_value (Err x) inside_b m p l stop error =
       record {
         part = rw (pair_framed old key value) (WritesPart-fails _ (WritesPart-fails (codes ": ") {between = old.count} {count = old.count}
-            (WritesPart-abandoned Lent old (Prints-lent old (λ s. layout s key) inside_b p l.prints) (subst (λ (b : Block W). Abandons b new) m error))));
+            (WritesPart-abandoned Lent old (Prints-lent old (λ s. layout s key) inside_b p l.prints) (subst (λ (b : BuilderView W). Abandons b new) m error))));
       }
 
   -- the key, `: ` and the value
-  pub WritesEntry-pair : {Y : Type 0} {mid last : Block W} {lent : Formatter W} (printed : Formatter W)
+  pub WritesEntry-pair : {Y : Type 0} {mid last : BuilderView W} {lent : Formatter W} (printed : Formatter W)
       (key_outcome outcome result : Result (Unit {0}) E) (lending : Result Y E) → IsInside old →
       mid ≡ lent_to Lent old ended → Prints seen old.formatter (lead_of old) true begun → LaysOut seen begun key (is_ok key_outcome) ended
       → IfErr key_outcome (λ e. lending ≡ Err e) → IsOk lending →
@@ -135,7 +135,7 @@ module _ {W E : Type 0} {seen : Seen W} (old : Block W) {new : Block W} {begun :
       WritesEntry seen old (pair_text key value) (is_ok result) new
   WritesEntry-pair {last = last} {lent = lent} printed key_outcome outcome result lending inside_b m p k error ok l colon v e =
       let keyed = subst (λ (o : Bool). Prints seen begun (layout (setting_of begun) key) o ended) (handed_ok key_outcome lending error ok) k.prints in
-      let front = Prints-then (Prints-lent old (λ s. layout s key) inside_b p keyed) (subst (λ (b : Block W). Prints seen b.formatter (codes ": ") true lent) m colon) in
+      let front = Prints-then (Prints-lent old (λ s. layout s key) inside_b p keyed) (subst (λ (b : BuilderView W). Prints seen b.formatter (codes ": ") true lent) m colon) in
       let lent_value : last ≡ lent_to LentValue old printed = l ∙ ap (λ b. lent_to LentValue b printed) m in
       record { part = rw (pair_framed old key value) (WritesPart-between LentValue old printed _ (λ s. layout s value) outcome result inside_b lent_value front v.prints e) }
 
@@ -151,8 +151,8 @@ block_tail-parts : (f : Frame) (s : Setting) (count : Count) (ts : List (List �
 block_tail-parts f s count [] = refl
 block_tail-parts f s count (t ∷ ts) = rw (block_tail-parts f s (next count) ts) (simp append_assoc)
 
-pub block-parts : (kind : Kind) (name : List ℕ) (s : Setting) (ts : List (List ℕ)) → block kind s name ts ≡ block_in_parts kind name s ts
-block-parts kind name s ts = ap (λ t. name ++ ((frame s.mode kind).opening ++ t)) (block_tail-parts (frame s.mode kind) s Zero ts)
+pub block_text-parts : (kind : Kind) (name : List ℕ) (s : Setting) (ts : List (List ℕ)) → block_text kind s name ts ≡ block_in_parts kind name s ts
+block_text-parts kind name s ts = ap (λ t. name ++ ((frame s.mode kind).opening ++ t)) (block_tail-parts (frame s.mode kind) s Zero ts)
 
 framed_all-append : (f : Frame) (i : Setting) (count : Count) (ts us : List (List ℕ))
     → framed_all f i count (ts ++ us) ≡ framed_all f i count ts ++ framed_all f i (count_after count ts) us
@@ -170,14 +170,14 @@ count_after-append count (y ∷ xs) x = count_after-append (next count) xs x
 
 module _ {W D : Type 0} {seen : Seen W} (text_of : D → Setting → List ℕ) where
   -- before the first entry
-  pub WritesRow-none : (b : Block W) → IsOpen b → WritesRow seen b text_of [] true b
+  pub WritesRow-none : (b : BuilderView W) → IsOpen b → WritesRow seen b text_of [] true b
   WritesRow-none b open_b = record {
     part =
         record { wrote = Writes-nothing _; same = record { reference = refl; kind = refl; outer = refl }; after = (refl, open_b) };
   }
 
   -- one more entry
-  pub WritesRow-more : {old mid new : Block W} (xs : List D) (y : D) (ok : Bool) → WritesRow seen old text_of xs true mid
+  pub WritesRow-more : {old mid new : BuilderView W} (xs : List D) (y : D) (ok : Bool) → WritesRow seen old text_of xs true mid
       → WritesEntry seen mid (text_of y) ok new → WritesRow seen old text_of (xs ++ y ∷ []) ok new
   WritesRow-more {old} {mid} {new} xs y ok a e =
       let texts = map (λ x. text_of x (inner old)) xs in
@@ -190,7 +190,7 @@ module _ {W D : Type 0} {seen : Seen W} (text_of : D → Setting → List ℕ) w
       record { part = rw (part, count_after-append old.count xs y, sym a.part.after.0) (WritesPart-then a.part e.part) }
 
   -- the next entry of a list
-  pub WritesRow-next : {old mid new : Block W} (whole : List D) (k : ℕ) (y : D) (ok : Bool) → k < length whole → y ≡ get_or whole k y
+  pub WritesRow-next : {old mid new : BuilderView W} (whole : List D) (k : ℕ) (y : D) (ok : Bool) → k < length whole → y ≡ get_or whole k y
       → WritesRow seen old text_of (take k whole) true mid → WritesEntry seen mid (text_of y) ok new →
       WritesRow seen old text_of (take (k + 1) whole) ok new
   WritesRow-next {old} {mid} {new} whole k y ok within is a e =
@@ -199,7 +199,7 @@ module _ {W D : Type 0} {seen : Seen W} (text_of : D → Setting → List ℕ) w
 
 module _ {W U T D X E : Type 0} {seen : Seen W} {becomes : U → T → Type 0} (steps : T → Option D → T → Type 0) (text_of : D → Setting → List ℕ) where
   -- a loop over the items of an iterator, if the next entry failed
-  pub WritesEntries-stopped : {entries : U} (first here after : T) {xs : List D} {y : D} {old mid new : Block W} (outcome : Result X E)
+  pub WritesEntries-stopped : {entries : U} (first here after : T) {xs : List D} {y : D} {old mid new : BuilderView W} (outcome : Result X E)
       → IsErr outcome → becomes entries first →
       Yields steps first xs here → steps here (Some y) after → WritesRow seen old text_of xs true mid
       → WritesEntry seen mid (text_of y) false new → WritesEntries seen becomes steps text_of entries old (is_ok outcome) new
@@ -215,7 +215,7 @@ module _ {W U T D X E : Type 0} {seen : Seen W} {becomes : U → T → Type 0} (
 module _ {W U T D Y : Type 0} {seen : Seen W} {becomes : U → T → Type 0} {steps : T → Option D → T → Type 0} (view : D → Y)
     (text_of : Y → Setting → List ℕ) where
   -- if each run of the iterator gives items that `view` takes to `ys`, their entries were written, or a prefix of them
-  pub WritesRow-from_entries : (entries : U) (ys : List Y) {old new : Block W} (ok : Bool) →
+  pub WritesRow-from_entries : (entries : U) (ys : List Y) {old new : BuilderView W} (ok : Bool) →
       ((it : T) → becomes entries it → AlwaysYields steps view it ys)
       → WritesEntries seen becomes steps (λ x. text_of (view x)) entries old ok new → WritesRow seen old text_of ys ok new
   WritesRow-from_entries entries ys {old} {new} true yields a =

@@ -10,7 +10,7 @@ use Rattle.ufmt_core.specs.Document.{Document, list_of, set_of, map_of, struct_o
 use Rattle.ufmt_core.specs.Layout.{Setting, Kind, Brackets, Braces, Struct, Count, Zero, frame, inside, layout, next, block_tail, texts, pair_texts, field_texts, tuple_kind}
 use Rattle.ufmt_core.specs.Writes.{Seen, Writes}
 use Rattle.ufmt_core.specs.Formatter.{Formatter, Prints, LaysOut, setting_of, writer_of}
-use Rattle.ufmt_core.specs.Block.{Lent, Block, WritesEnding, WritesEntries, WritesEntry, EndsEntry, IsInside, WritesOpening, WritesPart, WritesRow, StopsIn, ending_of, remaining_entries, entry_text, field_lead_of, field_text, remaining_fields, framed, framed_all, frame_of, inner, lead_of, pair_text, remaining_pairs, count_after, tail_of, trail_of}
+use Rattle.ufmt_core.specs.BuilderView.{Lent, BuilderView, WritesEnding, WritesEntries, WritesEntry, EndsEntry, IsInside, WritesOpening, WritesPart, WritesRow, StopsIn, ending_of, remaining_entries, entry_text, field_lead_of, field_text, remaining_fields, framed, framed_all, frame_of, inner, lead_of, pair_text, remaining_pairs, count_after, tail_of, trail_of}
 use Rattle.ufmt_core.proofs.Blocks.{WritesEnding-fails, WritesEnding-then, WritesPart-between, WritesPart-fails, WritesRow-from_entries, WritesRow-next, block_tail-append, count_after-map, lent_to}
 use Rattle.ufmt_core.proofs.Items.{AlwaysYields-items}
 use Rattle.ufmt_core.proofs.Writing.{Writes-then, Writes-fails}
@@ -23,16 +23,16 @@ Entries = Setting → List (List ℕ)
 module _ {W : Type 0} where
   -- the rest of the block was written by the builder with the reference of this name; its formatter is now `last`, with
   -- mode and depth from before the builder
-  pub record Completes (seen : Seen W) (reference : ℕ) (b : Block W) (left : Entries) (ok : Bool) (last : Formatter W) : Type 0 where
+  pub record Completes (seen : Seen W) (reference : ℕ) (b : BuilderView W) (left : Entries) (ok : Bool) (last : Formatter W) : Type 0 where
     pub continues : reference ≡ b.reference
         → Writes seen (writer_of b.formatter) (tail_of b left) ok (writer_of last) × (setting_of last ≡ b.outer)
 
   -- the loan of the reference of this name ends with the builder's formatter
-  abbrev pub GivesBack : ℕ → Block W → Formatter W → Type 0
+  abbrev pub GivesBack : ℕ → BuilderView W → Formatter W → Type 0
   GivesBack reference b last = reference ≡ b.reference → last ≡ b.formatter
 
   -- a call wrote the first part of the rest, or a prefix of that part; `more` is left after it
-  pub record Step (seen : Seen W) (b : Block W) (left : Entries) (ok : Bool) (b' : Block W) (more : Entries) : Type 0 where
+  pub record Step (seen : Seen W) (b : BuilderView W) (left : Entries) (ok : Bool) (b' : BuilderView W) (more : Entries) : Type 0 where
     pub part : List ℕ
     pub count : Count
     pub text : tail_of b left ≡ part ++ block_tail (frame_of b) b.outer count (more (inner b))
@@ -71,7 +71,7 @@ module _ {W : Type 0} {seen : Seen W} {start last : Formatter W} {d : Document} 
       })
 
   -- a `debug_` call began the block, and later calls wrote the rest
-  pub opened : {reference : ℕ} {b : Block W} {ok : Bool} → WritesOpening seen start reference kind opening b
+  pub opened : {reference : ℕ} {b : BuilderView W} {ok : Bool} → WritesOpening seen start reference kind opening b
       → Completes seen reference b left ok last → LaysOut seen start d ok last
   opened {b = b} o c =
       let more = c.continues (sym o.same.reference) in
@@ -91,11 +91,11 @@ field_texts-fields_of i [] = refl
 field_texts-fields_of i (f ∷ fs) = ap (λ ts. field_text f.0 f.1 i ∷ ts) (field_texts-fields_of i fs)
 
 -- a step, and then a call that writes the rest and the end
-module _ {W : Type 0} {seen : Seen W} {b b' : Block W} {left more : Entries} where
+module _ {W : Type 0} {seen : Seen W} {b b' : BuilderView W} {left more : Entries} where
   step_text : (a : Step seen b left true b' more) → tail_of b left ≡ a.part ++ tail_of b' more
   step_text a = rw (a.wrote.same.outer, a.wrote.same.kind, a.wrote.after.0) a.text
 
-  pub ending_written : {new : Block W} {ok : Bool} → Step seen b left true b' more → WritesEnding seen b' (tail_of b' more) ok new
+  pub ending_written : {new : BuilderView W} {ok : Bool} → Step seen b left true b' more → WritesEnding seen b' (tail_of b' more) ok new
       → WritesEnding seen b (tail_of b left) ok new
   ending_written a f = rw (step_text a) (WritesEnding-then a.wrote f)
 
@@ -103,7 +103,7 @@ module _ {W : Type 0} {seen : Seen W} {b b' : Block W} {left more : Entries} whe
   ending_failed a = rw a.text (WritesEnding-fails _ a.wrote)
 
 -- a call of a builder succeeded, failed, or closed the block
-module _ {W : Type 0} {seen : Seen W} {reference : ℕ} {b b' : Block W} {last : Formatter W} {left : Entries} where
+module _ {W : Type 0} {seen : Seen W} {reference : ℕ} {b b' : BuilderView W} {last : Formatter W} {left : Entries} where
   pub written : {more : Entries} {ok : Bool} → Step seen b left true b' more → Completes seen reference b' more ok last
       → Completes seen reference b left ok last
   written a c = record {
@@ -122,11 +122,11 @@ module _ {W : Type 0} {seen : Seen W} {reference : ℕ} {b b' : Block W} {last :
   pub failed : {more : Entries} → Step seen b left false b' more → GivesBack reference b' last → Completes seen reference b left false last
   failed a = completed (ending_failed a)
 
-pub finished : {W : Type 0} {seen : Seen W} {reference : ℕ} {b b' : Block W} {last : Formatter W} {ok : Bool}
+pub finished : {W : Type 0} {seen : Seen W} {reference : ℕ} {b b' : BuilderView W} {last : Formatter W} {ok : Bool}
     → WritesEnding seen b (ending_of b) ok b' → GivesBack reference b' last → Completes seen reference b (λ i. []) ok last
 finished = completed
 
-module _ {W : Type 0} (b : Block W) where
+module _ {W : Type 0} (b : BuilderView W) where
   -- an entry is the first part of the rest
   block_tail-entry : (text : Setting → List ℕ) (left : Entries) →
       tail_of b (λ i. text i ∷ left i) ≡ framed (frame_of b) (inner b) b.count (text (inner b))
@@ -144,7 +144,7 @@ module _ {W : Type 0} (b : Block W) where
       ap (λ ts. block_tail (frame_of b) b.outer b.count ts) (all (inner b)) ∙ block_tail-append (frame_of b) b.outer b.count texts (more (inner b)) in
       rw (sym (count_after-map (λ x. text_of x (inner b)) b.count items)) split
 
-module _ {W : Type 0} {seen : Seen W} {b b' : Block W} {ok : Bool} where
+module _ {W : Type 0} {seen : Seen W} {b b' : BuilderView W} {ok : Bool} where
   pub entry : {text : Setting → List ℕ} {left : Entries} → WritesEntry seen b text ok b' → Step seen b (λ i. text i ∷ left i) ok b' left
   entry {text} {left} e = record { part = _; count = _; text = block_tail-entry b text left; wrote = e.part }
 
@@ -178,7 +178,7 @@ module _ {W : Type 0} {seen : Seen W} {b b' : Block W} {ok : Bool} where
     pub loop_ended : length whole ≤ k → WritesRow seen b text_of (take k whole) ok b' → Step seen b left ok b' (λ i. [])
     loop_ended all_k = rows (λ i. all i ∙ ap (map (λ x. text_of x i)) (sym (take_all k whole all_k)))
 
-    pub loop_next : {y : X} {mid : Block W} → k < length whole → y ≡ get_or whole k y → WritesRow seen b text_of (take k whole) true mid
+    pub loop_next : {y : X} {mid : BuilderView W} → k < length whole → y ≡ get_or whole k y → WritesRow seen b text_of (take k whole) true mid
         → WritesEntry seen mid (text_of y) ok b' → Step seen b left ok b' (λ i. map (λ x. text_of x i) (drop (k + 1) whole))
     loop_next {y} within is before e =
         row _ (λ i. all i ∙ ap (map (λ x. text_of x i)) (sym (take-append-drop (k + 1) whole))
@@ -193,13 +193,13 @@ pub pair_texts-of : {X : Type 0} (key value : X → Document) (xs : List X) (i :
 pair_texts-of key value xs i = pair_texts-pairs_of i (map (λ x. (key x, value x)) xs) ∙ map-map (λ p. pair_text p.0 p.1 i) (λ x. (key x, value x)) xs
 
 -- a field is the text up to its value, the value, and the trail
-field_framed : {W : Type 0} (b : Block W) (name : List ℕ) (d : Document) → framed (frame_of b) (inner b) b.count (field_text name d (inner b))
+field_framed : {W : Type 0} (b : BuilderView W) (name : List ℕ) (d : Document) → framed (frame_of b) (inner b) b.count (field_text name d (inner b))
     ≡ field_lead_of name b ++ (entry_text d (inner b) ++ trail_of b)
 field_framed b name d = simp append_assoc
 
 -- an entry in halves: the lent formatter printed the value, and the second half wrote the trail
-module _ {W E : Type 0} {seen : Seen W} {d : Document} {begun ended : Formatter W} {mid new : Block W} {outcome result : Result (Unit {0}) E}
-    (old : Block W) where
+module _ {W E : Type 0} {seen : Seen W} {d : Document} {begun ended : Formatter W} {mid new : BuilderView W} {outcome result : Result (Unit {0}) E}
+    (old : BuilderView W) where
   pub entry_between : IsInside old → mid ≡ lent_to Lent old ended → Prints seen old.formatter (lead_of old) true begun → LaysOut seen begun d (is_ok outcome) ended
       → EndsEntry seen outcome mid result (is_ok result) new → WritesEntry seen old (entry_text d) (is_ok result) new
   entry_between inside_b m p l e = record { part = WritesPart-between Lent old ended _ (entry_text d) outcome result inside_b m p l.prints e }
@@ -213,7 +213,7 @@ module _ {W E : Type 0} {seen : Seen W} {d : Document} {begun ended : Formatter 
   }
 
 -- the first half of an entry, of a map's entry, or of a field failed
-module _ {W X E : Type 0} {seen : Seen W} {b b' : Block W} {r : Result X E} {e : E} (was : r ≡ Err e) where
+module _ {W X E : Type 0} {seen : Seen W} {b b' : BuilderView W} {r : Result X E} {e : E} (was : r ≡ Err e) where
   pub entry_not_begun : {text : Setting → List ℕ} → OnErr r (StopsIn seen b (lead_of b) b') → WritesEntry seen b text false b'
   entry_not_begun stop = record { part = WritesPart-fails _ (IfErr-at_err _ was stop) }
 

@@ -16,11 +16,11 @@ use Rattle.ufmt_core.specs.contracts.tuple.TupleBlock as tuple_marker
 use Rattle.ufmt_core.specs.Layout.{Kind, Brackets, Braces, Struct, Tuple, Unnamed}
 use Rattle.ufmt_core.specs.Writes.{Seen}
 use Rattle.ufmt_core.specs.Formatter.{Formatter, Prints, at_setting}
-use Rattle.ufmt_core.specs.Block.{Status, Lent, LentValue, Closed, Block, StopsIn, Abandons, lead_of, field_lead_of}
+use Rattle.ufmt_core.specs.BuilderView.{Status, Lent, LentValue, Closed, BuilderView, StopsIn, Abandons, lead_of, field_lead_of}
 
--- a builder, whose marker has the kind of its block
-abbrev pub block : {W K : Type 0} → (K → Kind) → Builder W K → Block W
-block kind b = record {
+-- the view of a builder, whose marker has the kind of its block
+abbrev pub view_of : {W K : Type 0} → (K → Kind) → Builder W K → BuilderView W
+view_of kind b = record {
   formatter = b.formatter.now;
   reference = b.formatter.ghost_name;
   kind = kind b.marker;
@@ -33,22 +33,22 @@ block kind b = record {
 abbrev pub kind_of_tuple : TupleBlock → Kind
 kind_of_tuple t = if t.is_unnamed then Unnamed else Tuple
 
--- the five builders
+-- the views of the five builders
 module _ {W : Type 0} where
-  abbrev pub list_block : Builder W ListBlock → Block W
-  list_block = block (λ _. Brackets)
+  abbrev pub list_view : Builder W ListBlock → BuilderView W
+  list_view = view_of (λ _. Brackets)
 
-  abbrev pub set_block : Builder W SetBlock → Block W
-  set_block = block (λ _. Braces)
+  abbrev pub set_view : Builder W SetBlock → BuilderView W
+  set_view = view_of (λ _. Braces)
 
-  abbrev pub map_block : Builder W MapBlock → Block W
-  map_block = block (λ _. Braces)
+  abbrev pub map_view : Builder W MapBlock → BuilderView W
+  map_view = view_of (λ _. Braces)
 
-  abbrev pub struct_block : Builder W StructBlock → Block W
-  struct_block = block (λ _. Struct)
+  abbrev pub struct_view : Builder W StructBlock → BuilderView W
+  struct_view = view_of (λ _. Struct)
 
-  abbrev pub tuple_block : Builder W TupleBlock → Block W
-  tuple_block = block kind_of_tuple
+  abbrev pub tuple_view : Builder W TupleBlock → BuilderView W
+  tuple_view = view_of kind_of_tuple
 
 module _ {W K : Type 0} where
   -- the builder with this status and this formatter
@@ -71,27 +71,27 @@ module _ (W : RattleType) {E : Type 0} where
       LendsSoOk (builder.the_row (record { mir = named 0; lft = [] }) W K) (formatter.the_row W) self result (λ last f. last ≡ lent status self.now f) stop
 
   -- this text was written and the formatter is lent; on `Err` a prefix of the text was written, and the builder, seen by `view`, is closed
-  abbrev pub LendsAfter : (K : RattleType) → (Builder W.Denot K.Denot → Block W.Denot) → Seen W.Denot → MutBor (Builder W.Denot K.Denot)
+  abbrev pub LendsAfter : (K : RattleType) → (Builder W.Denot K.Denot → BuilderView W.Denot) → Seen W.Denot → MutBor (Builder W.Denot K.Denot)
       → Result (MutBor (Formatter W.Denot)) E → List ℕ → Fml
   LendsAfter K view seen self result text = EntryLoan K self result Lent (λ last. StopsIn seen (view self.now) text (view last))
 
   -- the formatter is lent for an entry, after its lead
-  abbrev pub LendsForEntry : (K : RattleType) → (Builder W.Denot K.Denot → Block W.Denot) → Seen W.Denot → MutBor (Builder W.Denot K.Denot)
+  abbrev pub LendsForEntry : (K : RattleType) → (Builder W.Denot K.Denot → BuilderView W.Denot) → Seen W.Denot → MutBor (Builder W.Denot K.Denot)
       → Result (MutBor (Formatter W.Denot)) E → Fml
   LendsForEntry K view seen self result = LendsAfter K view seen self result (lead_of (view self.now))
 
   -- the formatter is lent for a map's key, for a tuple's field, and for the value of a struct's field with this name
   abbrev pub LendsForKey : Seen W.Denot → MutBor (Builder W.Denot MapBlock) → Result (MutBor (Formatter W.Denot)) E → Fml
-  LendsForKey = LendsForEntry map_marker.the_row map_block
+  LendsForKey = LendsForEntry map_marker.the_row map_view
 
   abbrev pub LendsForUnnamedField : Seen W.Denot → MutBor (Builder W.Denot TupleBlock) → Result (MutBor (Formatter W.Denot)) E → Fml
-  LendsForUnnamedField = LendsForEntry tuple_marker.the_row tuple_block
+  LendsForUnnamedField = LendsForEntry tuple_marker.the_row tuple_view
 
   abbrev pub LendsForField : Seen W.Denot → MutBor (Builder W.Denot StructBlock) → Result (MutBor (Formatter W.Denot)) E → List ℕ → Fml
-  LendsForField seen self result name = LendsAfter struct_marker.the_row struct_block seen self result (field_lead_of name (struct_block self.now))
+  LendsForField seen self result name = LendsAfter struct_marker.the_row struct_view seen self result (field_lead_of name (struct_view self.now))
 
   -- the formatter is lent for a map's value, after `: `, if the key's `fmt` returned `Ok`; if it returned an error, nothing was written, and the builder is closed
   abbrev pub LendsForValue : Seen W.Denot → MutBor (Builder W.Denot MapBlock) → Result (Unit {0}) E → Result (MutBor (Formatter W.Denot)) E → Fml
   LendsForValue seen self outcome result =
       EntryLoan map_marker.the_row self result LentValue
-      (λ last. OnOk outcome (StopsIn seen (map_block self.now) (codes ": ") (map_block last)) × OnErr outcome (Abandons (map_block self.now) (map_block last)))
+      (λ last. OnOk outcome (StopsIn seen (map_view self.now) (codes ": ") (map_view last)) × OnErr outcome (Abandons (map_view self.now) (map_view last)))

@@ -109,19 +109,19 @@ block_tail f s count [] = ending f s count
 block_tail f s count (text ∷ texts) = lead f (inside s) count ++ (text ++ (trail s.mode ++ block_tail f s (next count) texts))
 
 -- a block with this name and entries with these texts
-abbrev pub block : Kind → Setting → List ℕ → List (List ℕ) → List ℕ
-block kind s name texts = name ++ ((frame s.mode kind).opening ++ block_tail (frame s.mode kind) s Zero texts)
+abbrev pub block_text : Kind → Setting → List ℕ → List (List ℕ) → List ℕ
+block_text kind s name texts = name ++ ((frame s.mode kind).opening ++ block_tail (frame s.mode kind) s Zero texts)
 
 abbrev mutual
   -- the text of a document at this mode and depth
   pub layout : Setting → Document → List ℕ
   layout s (leaf text) = text
   layout s (joined ds) = layouts s ds
-  layout s (list_of ds) = block Brackets s [] (texts (inside s) ds)
-  layout s (set_of ds) = block Braces s [] (texts (inside s) ds)
-  layout s (map_of ps) = block Braces s [] (pair_texts (inside s) ps)
-  layout s (struct_of name fs) = block Struct s name (field_texts (inside s) fs)
-  layout s (tuple_of name ds) = block (tuple_kind name) s name (texts (inside s) ds)
+  layout s (list_of ds) = block_text Brackets s [] (texts (inside s) ds)
+  layout s (set_of ds) = block_text Braces s [] (texts (inside s) ds)
+  layout s (map_of ps) = block_text Braces s [] (pair_texts (inside s) ps)
+  layout s (struct_of name fs) = block_text Struct s name (field_texts (inside s) fs)
+  layout s (tuple_of name ds) = block_text (tuple_kind name) s name (texts (inside s) ds)
   layout s (pretty_part d) = layout (setting Pretty s.depth) d
 
   pub layouts : Setting → Documents → List ℕ

@@ -1,4 +1,4 @@
-pub mod Block
+pub mod BuilderView
 pub mod Builder
 pub mod Bytes
 pub mod Decimal

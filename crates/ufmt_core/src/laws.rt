@@ -14,7 +14,7 @@ ghost use Rattle.std.specs.declared.cmp.Ordering.TheVariants.{Less, Equal, Great
 ghost use Rattle.std.specs.declared.ops.ControlFlow.TheVariants.{Continue, Break};
 ghost use Rattle.std.specs.declared.ops.Bound.TheVariants.{Included, Excluded, Unbounded};
 ghost use Rattle.ufmt_core.specs.declared.core_impls.cells.RefCellValue.TheVariants.{Borrowed, Held};
-ghost use Rattle.ufmt_core.specs.Block.{block_in_parts};
+ghost use Rattle.ufmt_core.specs.BuilderView.{block_in_parts};
 ghost use Rattle.ufmt_core.specs.Document.{Documents, Fields, Pairs, documents, leaf, list_of, map_of, pairs_of, set_of, struct_of, tuple_of};
 ghost use Rattle.ufmt_core.specs.Layout.{Braces, Brackets, Setting, Struct, field_texts, inside, layout, pair_texts, texts, tuple_kind};
 ghost use Rattle.ufmt_core.specs.Quoted.{quoted_char, quoted_text};

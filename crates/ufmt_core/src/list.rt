@@ -6,8 +6,8 @@ ghost use Rattle.ufmt_core.specs.declared.layout.Kind.TheVariants.{Brackets};
 ghost use Rattle.ufmt_core.specs.declared.formatter.builder.Status.TheVariants.{Lent};
 ghost use Rattle.ufmt_core.specs.Document.{Document, documents, list_of};
 ghost use Rattle.ufmt_core.specs.Formatter.{LaysOut, Prints};
-ghost use Rattle.ufmt_core.specs.Block.{WritesEntries, WritesEntry, EndsEntry, IsLent, IsOpen, WritesOpening, entry_text, lead_of};
-ghost use Rattle.ufmt_core.specs.Builder.{LendsForEntry, OpeningLoan, block, list_block};
+ghost use Rattle.ufmt_core.specs.BuilderView.{WritesEntries, WritesEntry, EndsEntry, IsLent, IsOpen, WritesOpening, entry_text, lead_of};
+ghost use Rattle.ufmt_core.specs.Builder.{LendsForEntry, OpeningLoan, view_of, list_view};
 
 use crate::formatter::Formatter;
 use crate::formatter::builder::{BlockKind, Builder};
@@ -43,8 +43,8 @@ impl<W: uWrite> Formatter<W> {
         ensures* loan { sem 𝓛 (OpeningLoan W.row W.seen self.entry result (codes "[")) }
         ensures opening { IfOk result
             (λ b. WritesOpening W.seen self.old self.entry.ghost_name Brackets (codes "[")
-            (list_block b)) }
-        ensures is_open { IfOk result (λ b. IsOpen (list_block b)) }
+            (list_view b)) }
+        ensures is_open { IfOk result (λ b. IsOpen (list_view b)) }
     {
         self.open(OPENING_BRACKET, ListBlock)
     }
@@ -64,10 +64,10 @@ impl<W: uWrite, K: BlockKind + Items> Builder<'_, W, K> {
     /// Writes one entry. On `Err` a prefix of it was written, and the builder is closed.
     #[inline(always)]
     pub fn entry<D: uDebug>(&mut self, entry: &D) -> Result<(), W::Error>
-        requires { IsOpen (block K.kind self.old) }
-        ensures entry { WritesEntry W.seen (block K.kind self.old)
-            (entry_text (D.document entry.now)) (is_ok result) (block K.kind self.new) }
-        ensures is_open { OnOk result (IsOpen (block K.kind self.new)) }
+        requires { IsOpen (view_of K.kind self.old) }
+        ensures entry { WritesEntry W.seen (view_of K.kind self.old)
+            (entry_text (D.document entry.now)) (is_ok result) (view_of K.kind self.new) }
+        ensures is_open { OnOk result (IsOpen (view_of K.kind self.new)) }
     {
         let outcome = entry.fmt(self.begin()?);
         self.end(outcome)
@@ -81,13 +81,13 @@ impl<W: uWrite, K: BlockKind + Items> Builder<'_, W, K> {
     ) -> Result<(), W::Error>
     where
         I::IntoIter: Drop,
-        requires is_open { IsOpen (block K.kind self.old) }
+        requires is_open { IsOpen (view_of K.kind self.old) }
         requires ends { IsFiniteIterable I.into_iter_gives I.IntoIter.can_next I.IntoIter.remaining
             entries }
         ensures entries { WritesEntries W.seen I.into_iter_gives I.IntoIter.next_gives
-            (λ x. entry_text (D.document x)) entries (block K.kind self.old)
-            (is_ok result) (block K.kind self.new) }
-        ensures is_open { OnOk result (IsOpen (block K.kind self.new)) }
+            (λ x. entry_text (D.document x)) entries (view_of K.kind self.old)
+            (is_ok result) (view_of K.kind self.new) }
+        ensures is_open { OnOk result (IsOpen (view_of K.kind self.new)) }
     {
         for entry in entries {
             self.entry(&entry)?;
@@ -99,10 +99,10 @@ impl<W: uWrite, K: BlockKind + Items> Builder<'_, W, K> {
     /// closed.
     #[inline(always)]
     pub fn begin_entry(&mut self) -> Result<&mut Formatter<W>, W::Error>
-        requires { IsOpen (block K.kind self.old) }
-        ensures* loan { sem 𝓛 (LendsForEntry W.row K.row (block K.kind) W.seen self.entry result) }
+        requires { IsOpen (view_of K.kind self.old) }
+        ensures* loan { sem 𝓛 (LendsForEntry W.row K.row (view_of K.kind) W.seen self.entry result) }
         ensures lead { IfOk result
-            (λ f. Prints W.seen self.old.formatter.now (lead_of (block K.kind self.old))
+            (λ f. Prints W.seen self.old.formatter.now (lead_of (view_of K.kind self.old))
             true f.now) }
     {
         self.begin()
@@ -112,10 +112,10 @@ impl<W: uWrite, K: BlockKind + Items> Builder<'_, W, K> {
     /// formatter may be left at any mode and depth.
     #[inline(always)]
     pub fn end_entry(&mut self, outcome: Result<(), W::Error>) -> Result<(), W::Error>
-        requires { IsLent (block K.kind self.old) }
-        ensures end { EndsEntry W.seen outcome (block K.kind self.old) result (is_ok result)
-            (block K.kind self.new) }
-        ensures is_open { OnOk result (IsOpen (block K.kind self.new)) }
+        requires { IsLent (view_of K.kind self.old) }
+        ensures end { EndsEntry W.seen outcome (view_of K.kind self.old) result (is_ok result)
+            (view_of K.kind self.new) }
+        ensures is_open { OnOk result (IsOpen (view_of K.kind self.new)) }
     {
         self.end_lent(outcome)
     }

@@ -6,8 +6,8 @@ ghost use Rattle.ufmt_core.specs.declared.layout.Kind.TheVariants.{Braces};
 ghost use Rattle.ufmt_core.specs.declared.formatter.builder.Status.TheVariants.{Lent, LentValue};
 ghost use Rattle.ufmt_core.specs.Document.{Document, map_of, pairs_of};
 ghost use Rattle.ufmt_core.specs.Formatter.{LaysOut, Prints};
-ghost use Rattle.ufmt_core.specs.Block.{WritesEntries, WritesEntry, EndsEntry, IsLent, IsLentForValue, IsOpen, WritesOpening, inner_formatter, lead_of, pair_text};
-ghost use Rattle.ufmt_core.specs.Builder.{LendsForKey, LendsForValue, OpeningLoan, map_block};
+ghost use Rattle.ufmt_core.specs.BuilderView.{WritesEntries, WritesEntry, EndsEntry, IsLent, IsLentForValue, IsOpen, WritesOpening, inner_formatter, lead_of, pair_text};
+ghost use Rattle.ufmt_core.specs.Builder.{LendsForKey, LendsForValue, OpeningLoan, map_view};
 
 use crate::formatter::Formatter;
 use crate::formatter::builder::{BlockKind, Builder, Status};
@@ -36,8 +36,8 @@ impl<W: uWrite> Formatter<W> {
         ensures* loan { sem 𝓛 (OpeningLoan W.row W.seen self.entry result (codes "{")) }
         ensures opening { IfOk result
             (λ b. WritesOpening W.seen self.old self.entry.ghost_name Braces (codes "{")
-            (map_block b)) }
-        ensures is_open { IfOk result (λ b. IsOpen (map_block b)) }
+            (map_view b)) }
+        ensures is_open { IfOk result (λ b. IsOpen (map_view b)) }
     {
         self.open(OPENING_BRACE, MapBlock)
     }
@@ -60,11 +60,11 @@ impl<W: uWrite> DebugMap<'_, W> {
     /// Writes one entry, `key: value`. On `Err` a prefix of it was written, and the builder is
     /// closed.
     pub fn entry<K: uDebug, V: uDebug>(&mut self, key: &K, value: &V) -> Result<(), W::Error>
-        requires { IsOpen (map_block self.old) }
-        ensures entry { WritesEntry W.seen (map_block self.old)
+        requires { IsOpen (map_view self.old) }
+        ensures entry { WritesEntry W.seen (map_view self.old)
             (pair_text (K.document key.now) (V.document value.now)) (is_ok result)
-            (map_block self.new) }
-        ensures is_open { OnOk result (IsOpen (map_block self.new)) }
+            (map_view self.new) }
+        ensures is_open { OnOk result (IsOpen (map_view self.new)) }
     {
         let key_outcome = key.fmt(self.begin()?);
         let outcome = value.fmt(self.lend_for_value(key_outcome)?);
@@ -78,13 +78,13 @@ impl<W: uWrite> DebugMap<'_, W> {
     ) -> Result<(), W::Error>
     where
         I::IntoIter: Drop,
-        requires is_open { IsOpen (map_block self.old) }
+        requires is_open { IsOpen (map_view self.old) }
         requires ends { IsFiniteIterable I.into_iter_gives I.IntoIter.can_next I.IntoIter.remaining
             entries }
         ensures entries { WritesEntries W.seen I.into_iter_gives I.IntoIter.next_gives
-            (λ x. pair_text (K.document x.0) (V.document x.1)) entries (map_block self.old)
-            (is_ok result) (map_block self.new) }
-        ensures is_open { OnOk result (IsOpen (map_block self.new)) }
+            (λ x. pair_text (K.document x.0) (V.document x.1)) entries (map_view self.old)
+            (is_ok result) (map_view self.new) }
+        ensures is_open { OnOk result (IsOpen (map_view self.new)) }
     {
         for (key, value) in entries {
             self.entry(&key, &value)?;
@@ -95,10 +95,10 @@ impl<W: uWrite> DebugMap<'_, W> {
     /// Writes the text before an entry, and lends the formatter for its key. On `Err` the builder is
     /// closed.
     pub fn begin_entry(&mut self) -> Result<&mut Formatter<W>, W::Error>
-        requires { IsOpen (map_block self.old) }
+        requires { IsOpen (map_view self.old) }
         ensures* loan { sem 𝓛 (LendsForKey W.row W.seen self.entry result) }
         ensures lead { IfOk result
-            (λ f. Prints W.seen self.old.formatter.now (lead_of (map_block self.old)) true f.now) }
+            (λ f. Prints W.seen self.old.formatter.now (lead_of (map_view self.old)) true f.now) }
     {
         self.begin()
     }
@@ -109,10 +109,10 @@ impl<W: uWrite> DebugMap<'_, W> {
         &mut self,
         outcome: Result<(), W::Error>,
     ) -> Result<&mut Formatter<W>, W::Error>
-        requires { IsLent (map_block self.old) }
+        requires { IsLent (map_view self.old) }
         ensures* loan { sem 𝓛 (LendsForValue W.row W.seen self.entry outcome result) }
         ensures colon { IfOk result
-            (λ f. Prints W.seen (inner_formatter (map_block self.old)) (codes ": ") true f.now) }
+            (λ f. Prints W.seen (inner_formatter (map_view self.old)) (codes ": ") true f.now) }
         ensures error { IfErr outcome (λ e. result ≡ Err e) }
     {
         self.take_back();
@@ -139,10 +139,10 @@ impl<W: uWrite> DebugMap<'_, W> {
     /// Writes the text after an entry if its value's `fmt` returned `Ok`, else returns its error. The
     /// lent formatter may be left at any mode and depth.
     pub fn end_entry(&mut self, outcome: Result<(), W::Error>) -> Result<(), W::Error>
-        requires { IsLentForValue (map_block self.old) }
-        ensures end { EndsEntry W.seen outcome (map_block self.old) result (is_ok result)
-            (map_block self.new) }
-        ensures is_open { OnOk result (IsOpen (map_block self.new)) }
+        requires { IsLentForValue (map_view self.old) }
+        ensures end { EndsEntry W.seen outcome (map_view self.old) result (is_ok result)
+            (map_view self.new) }
+        ensures is_open { OnOk result (IsOpen (map_view self.new)) }
     {
         self.end_lent(outcome)
     }

@@ -5,8 +5,8 @@ ghost use Rattle.std.specs.Iterator.{AlwaysYields, IsFiniteIterable};
 ghost use Rattle.ufmt_core.specs.declared.layout.Kind.TheVariants.{Braces};
 ghost use Rattle.ufmt_core.specs.Document.{Document, documents, set_of};
 ghost use Rattle.ufmt_core.specs.Formatter.{LaysOut};
-ghost use Rattle.ufmt_core.specs.Block.{IsOpen, WritesOpening};
-ghost use Rattle.ufmt_core.specs.Builder.{OpeningLoan, set_block};
+ghost use Rattle.ufmt_core.specs.BuilderView.{IsOpen, WritesOpening};
+ghost use Rattle.ufmt_core.specs.Builder.{OpeningLoan, set_view};
 
 use crate::formatter::Formatter;
 use crate::formatter::builder::{BlockKind, Builder};
@@ -38,8 +38,8 @@ impl<W: uWrite> Formatter<W> {
         ensures* loan { sem 𝓛 (OpeningLoan W.row W.seen self.entry result (codes "{")) }
         ensures opening { IfOk result
             (λ b. WritesOpening W.seen self.old self.entry.ghost_name Braces (codes "{")
-            (set_block b)) }
-        ensures is_open { IfOk result (λ b. IsOpen (set_block b)) }
+            (set_view b)) }
+        ensures is_open { IfOk result (λ b. IsOpen (set_view b)) }
     {
         self.open(OPENING_BRACE, SetBlock)
     }

@@ -4,8 +4,8 @@ ghost use Rattle.std.specs.Borrow.{sem};
 ghost use Rattle.ufmt_core.specs.declared.layout.Kind.TheVariants.{Struct};
 ghost use Rattle.ufmt_core.specs.declared.formatter.builder.Status.TheVariants.{Lent};
 ghost use Rattle.ufmt_core.specs.Formatter.{Prints};
-ghost use Rattle.ufmt_core.specs.Block.{WritesEntry, EndsEntry, IsLent, IsOpen, WritesOpening, field_lead_of, field_text};
-ghost use Rattle.ufmt_core.specs.Builder.{LendsForField, OpeningLoan, struct_block};
+ghost use Rattle.ufmt_core.specs.BuilderView.{WritesEntry, EndsEntry, IsLent, IsOpen, WritesOpening, field_lead_of, field_text};
+ghost use Rattle.ufmt_core.specs.Builder.{LendsForField, OpeningLoan, struct_view};
 
 mod by_count;
 mod whole;
@@ -41,8 +41,8 @@ impl<W: uWrite> Formatter<W> {
         ensures* loan { sem 𝓛 (OpeningLoan W.row W.seen self.entry result name.now) }
         ensures opening { IfOk result
             (λ b. WritesOpening W.seen self.old self.entry.ghost_name Struct name.now
-            (struct_block b)) }
-        ensures is_open { IfOk result (λ b. IsOpen (struct_block b)) }
+            (struct_view b)) }
+        ensures is_open { IfOk result (λ b. IsOpen (struct_view b)) }
     {
         self.open(name, StructBlock)
     }
@@ -53,10 +53,10 @@ impl<W: uWrite> DebugStruct<'_, W> {
     /// closed.
     #[inline(always)]
     pub fn field<D: uDebug>(&mut self, name: &str, value: &D) -> Result<(), W::Error>
-        requires { IsOpen (struct_block self.old) }
-        ensures entry { WritesEntry W.seen (struct_block self.old)
-            (field_text name.now (D.document value.now)) (is_ok result) (struct_block self.new) }
-        ensures is_open { OnOk result (IsOpen (struct_block self.new)) }
+        requires { IsOpen (struct_view self.old) }
+        ensures entry { WritesEntry W.seen (struct_view self.old)
+            (field_text name.now (D.document value.now)) (is_ok result) (struct_view self.new) }
+        ensures is_open { OnOk result (IsOpen (struct_view self.new)) }
     {
         let outcome = value.fmt(self.begin_named(name)?);
         self.end(outcome)
@@ -66,11 +66,11 @@ impl<W: uWrite> DebugStruct<'_, W> {
     /// builder is closed.
     #[inline(always)]
     pub fn begin_field(&mut self, name: &str) -> Result<&mut Formatter<W>, W::Error>
-        requires { IsOpen (struct_block self.old) }
+        requires { IsOpen (struct_view self.old) }
         ensures* loan { sem 𝓛 (LendsForField W.row W.seen self.entry result name.now) }
         ensures lead { IfOk result
             (λ f. Prints W.seen self.old.formatter.now
-            (field_lead_of name.now (struct_block self.old)) true f.now) }
+            (field_lead_of name.now (struct_view self.old)) true f.now) }
     {
         self.begin_named(name)
     }
@@ -79,10 +79,10 @@ impl<W: uWrite> DebugStruct<'_, W> {
     /// lent formatter may be left at any mode and depth.
     #[inline(always)]
     pub fn end_field(&mut self, outcome: Result<(), W::Error>) -> Result<(), W::Error>
-        requires { IsLent (struct_block self.old) }
-        ensures end { EndsEntry W.seen outcome (struct_block self.old) result (is_ok result)
-            (struct_block self.new) }
-        ensures is_open { OnOk result (IsOpen (struct_block self.new)) }
+        requires { IsLent (struct_view self.old) }
+        ensures end { EndsEntry W.seen outcome (struct_view self.old) result (is_ok result)
+            (struct_view self.new) }
+        ensures is_open { OnOk result (IsOpen (struct_view self.new)) }
     {
         self.end_lent(outcome)
     }

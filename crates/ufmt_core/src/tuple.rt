@@ -4,8 +4,8 @@ ghost use Rattle.std.specs.Borrow.{sem};
 ghost use Rattle.ufmt_core.specs.declared.formatter.builder.Status.TheVariants.{Lent};
 ghost use Rattle.ufmt_core.specs.Layout.{tuple_kind};
 ghost use Rattle.ufmt_core.specs.Formatter.{Prints};
-ghost use Rattle.ufmt_core.specs.Block.{WritesEntry, EndsEntry, IsLent, IsOpen, WritesOpening, entry_text, lead_of};
-ghost use Rattle.ufmt_core.specs.Builder.{LendsForUnnamedField, OpeningLoan, kind_of_tuple, tuple_block};
+ghost use Rattle.ufmt_core.specs.BuilderView.{WritesEntry, EndsEntry, IsLent, IsOpen, WritesOpening, entry_text, lead_of};
+ghost use Rattle.ufmt_core.specs.Builder.{LendsForUnnamedField, OpeningLoan, kind_of_tuple, tuple_view};
 
 mod by_count;
 mod whole;
@@ -55,8 +55,8 @@ impl<W: uWrite> Formatter<W> {
         ensures* loan { sem 𝓛 (OpeningLoan W.row W.seen self.entry result name.now) }
         ensures opening { IfOk result
             (λ b. WritesOpening W.seen self.old self.entry.ghost_name (tuple_kind name.now) name.now
-            (tuple_block b)) }
-        ensures is_open { IfOk result (λ b. IsOpen (tuple_block b)) }
+            (tuple_view b)) }
+        ensures is_open { IfOk result (λ b. IsOpen (tuple_view b)) }
     {
         self.open(name, TupleBlock::with_name(name))
     }
@@ -65,11 +65,11 @@ impl<W: uWrite> Formatter<W> {
 impl<W: uWrite> DebugTuple<'_, W> {
     /// Writes one field. On `Err` a prefix of it was written, and the builder is closed.
     pub fn field<D: uDebug>(&mut self, value: &D) -> Result<(), W::Error>
-        requires { IsOpen (tuple_block self.old) }
-        ensures entry { WritesEntry W.seen (tuple_block self.old)
+        requires { IsOpen (tuple_view self.old) }
+        ensures entry { WritesEntry W.seen (tuple_view self.old)
             (entry_text (D.document value.now))
-            (is_ok result) (tuple_block self.new) }
-        ensures is_open { OnOk result (IsOpen (tuple_block self.new)) }
+            (is_ok result) (tuple_view self.new) }
+        ensures is_open { OnOk result (IsOpen (tuple_view self.new)) }
     {
         let outcome = value.fmt(self.begin()?);
         self.end(outcome)
@@ -78,10 +78,10 @@ impl<W: uWrite> DebugTuple<'_, W> {
     /// Writes the text before a field, and lends the formatter for it. On `Err` the builder is
     /// closed.
     pub fn begin_field(&mut self) -> Result<&mut Formatter<W>, W::Error>
-        requires { IsOpen (tuple_block self.old) }
+        requires { IsOpen (tuple_view self.old) }
         ensures* loan { sem 𝓛 (LendsForUnnamedField W.row W.seen self.entry result) }
         ensures lead { IfOk result
-            (λ f. Prints W.seen self.old.formatter.now (lead_of (tuple_block self.old)) true
+            (λ f. Prints W.seen self.old.formatter.now (lead_of (tuple_view self.old)) true
             f.now) }
     {
         self.begin()
@@ -90,10 +90,10 @@ impl<W: uWrite> DebugTuple<'_, W> {
     /// Writes what follows a field whose `fmt` had this outcome, or passes an `Err` on. The lent
     /// formatter may be left at any mode and depth.
     pub fn end_field(&mut self, outcome: Result<(), W::Error>) -> Result<(), W::Error>
-        requires { IsLent (tuple_block self.old) }
-        ensures end { EndsEntry W.seen outcome (tuple_block self.old) result (is_ok result)
-            (tuple_block self.new) }
-        ensures is_open { OnOk result (IsOpen (tuple_block self.new)) }
+        requires { IsLent (tuple_view self.old) }
+        ensures end { EndsEntry W.seen outcome (tuple_view self.old) result (is_ok result)
+            (tuple_view self.new) }
+        ensures is_open { OnOk result (IsOpen (tuple_view self.new)) }
     {
         self.end_lent(outcome)
     }

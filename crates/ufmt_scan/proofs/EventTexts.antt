@@ -2,7 +2,7 @@
 use Rattle.std.proofs.Common.{◌≡◌, ◌∙◌, refl, ap, sym, ℕ, suc, ◌+◌, ◌≤◌, List, [], ◌∷◌, ◌++◌, append_assoc, append-nil, arith}
 use Rattle.std.specs.Prelude.{⊤}
 use Rattle.ufmt.specs.Document.{Document, leaf, joined, list_of, set_of, map_of, struct_of, tuple_of, pretty_part, Documents, no_documents, document, Pairs, no_pairs, pair, Fields, no_fields, field, nest, nest_all, nest_pairs, nest_fields}
-use Rattle.ufmt.specs.Layout.{frame, setting, inside, entry_depth, separator, trail, lead, line_start, ending, next, block, block_tail, tuple_kind, layout, texts, pair_texts, field_texts}
+use Rattle.ufmt.specs.Layout.{frame, setting, inside, entry_depth, separator, trail, lead, line_start, ending, next, block_text, block_tail, tuple_kind, layout, texts, pair_texts, field_texts}
 use Rattle.ufmt_core.specs.declared.layout.Count.{Count}
 use Rattle.ufmt_core.specs.declared.layout.Count.TheVariants.{Zero, One, Several}
 use Rattle.ufmt_core.specs.declared.layout.Kind.{Kind}
@@ -68,7 +68,7 @@ module _ (mode : Mode) (k n : ℕ) (few : suc n + k ≤ 255) (kind : Kind) where
 
   -- the events of a block with entries have its text
   block_written : (name : List ℕ) (alone : TextEvent) (ess : List (List TextEvent)) (ts : List (List ℕ)) {es : List TextEvent} {t : List ℕ}
-      → EntriesAreWritten (inside s) (es ∷ ess) (t ∷ ts) → AreWritten s (block_events kind name alone (es ∷ ess)) (block kind s name (t ∷ ts))
+      → EntriesAreWritten (inside s) (es ∷ ess) (t ∷ ts) → AreWritten s (block_events kind name alone (es ∷ ess)) (block_text kind s name (t ∷ ts))
   block_written name alone ess ts h = record { before = λ more. simp (append_assoc, h.0.before, tail_written Zero ess ts more h.1) }
 
 name_written : {s : Setting} (name : List ℕ) → AreWritten s (Leaf name ∷ []) (name ++ [])

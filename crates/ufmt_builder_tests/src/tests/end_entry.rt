@@ -28,19 +28,19 @@ fn write_map(f: &mut Formatter<String>) -> Result<(), AllocError> {
 }
 
 fn write_struct(f: &mut Formatter<String>) -> Result<(), AllocError> {
-    let mut block = f.debug_struct("S")?;
-    let outcome = leave_deeper(block.begin_field("a")?);
-    block.end_field(outcome)?;
-    block.field("b", &1u8)?;
-    block.finish()
+    let mut builder = f.debug_struct("S")?;
+    let outcome = leave_deeper(builder.begin_field("a")?);
+    builder.end_field(outcome)?;
+    builder.field("b", &1u8)?;
+    builder.finish()
 }
 
 fn write_tuple(f: &mut Formatter<String>) -> Result<(), AllocError> {
-    let mut block = f.debug_tuple("T")?;
-    let outcome = leave_deeper(block.begin_field()?);
-    block.end_field(outcome)?;
-    block.field(&1u8)?;
-    block.finish()
+    let mut builder = f.debug_tuple("T")?;
+    let outcome = leave_deeper(builder.begin_field()?);
+    builder.end_field(outcome)?;
+    builder.field(&1u8)?;
+    builder.finish()
 }
 
 const BLOCKS: &str = "\

@@ -7,8 +7,8 @@ ghost use Rattle.ufmt_core.specs.contracts.formatter.builder.Builder as builder;
 ghost use Rattle.ufmt_core.specs.declared.layout.Kind.{Kind};
 ghost use Rattle.ufmt_core.specs.declared.formatter.builder.Status.TheVariants.{Lent};
 ghost use Rattle.ufmt_core.specs.Formatter.{Prints};
-ghost use Rattle.ufmt_core.specs.Block.{WritesEnding, EndsEntry, IsInside, IsOpen, WritesOpening, ending_of, field_lead_of, inner_formatter, lead_of};
-ghost use Rattle.ufmt_core.specs.Builder.{EntryLoan, LendsAfter, LendsForEntry, OpeningLoan, block, abandoned, lent};
+ghost use Rattle.ufmt_core.specs.BuilderView.{WritesEnding, EndsEntry, IsInside, IsOpen, WritesOpening, ending_of, field_lead_of, inner_formatter, lead_of};
+ghost use Rattle.ufmt_core.specs.Builder.{EntryLoan, LendsAfter, LendsForEntry, OpeningLoan, view_of, abandoned, lent};
 
 use crate::formatter::Formatter;
 use crate::layout::{Count, Kind, Mode, Setting};
@@ -58,7 +58,7 @@ impl<W: uWrite> Formatter<W> {
         ensures* loan { sem 𝓛 (OpeningLoan W.row W.seen self.entry result opening.now) }
         ensures opening { IfOk result
             (λ b. WritesOpening W.seen self.old self.entry.ghost_name (K.kind marker) opening.now
-            (block K.kind b)) }
+            (view_of K.kind b)) }
     {
         self.write_str(opening)?;
         let outer = self.setting;
@@ -80,9 +80,9 @@ impl<W: uWrite, K: BlockKind> Builder<'_, W, K> {
     /// those from before it.
     #[inline(always)]
     pub fn finish(&mut self) -> Result<(), W::Error>
-        requires { IsOpen (block K.kind self.old) }
-        ensures { WritesEnding W.seen (block K.kind self.old) (ending_of (block K.kind self.old))
-            (is_ok result) (block K.kind self.new) }
+        requires { IsOpen (view_of K.kind self.old) }
+        ensures { WritesEnding W.seen (view_of K.kind self.old) (ending_of (view_of K.kind self.old))
+            (is_ok result) (view_of K.kind self.new) }
     {
         let kind = self.marker.kind();
         self.leave();
@@ -92,7 +92,7 @@ impl<W: uWrite, K: BlockKind> Builder<'_, W, K> {
     /// Whether entries may follow. They may until `finish` or a call that fails, and not between the
     /// halves of an entry. The formatter of an open builder is at the mode and depth of the entries.
     pub fn is_open(&self) -> bool
-        ensures { IsTrue result ↔ IsOpen (block K.kind self.now) }
+        ensures { IsTrue result ↔ IsOpen (view_of K.kind self.now) }
     {
         matches!(self.status, Status::Open) && self.formatter.setting == self.outer.inside()
     }
@@ -100,10 +100,10 @@ impl<W: uWrite, K: BlockKind> Builder<'_, W, K> {
     /// Writes the text before an entry, and lends the formatter for it.
     #[inline(always)]
     pub(crate) fn begin(&mut self) -> Result<&mut Formatter<W>, W::Error>
-        requires { IsInside (block K.kind self.old) }
-        ensures* loan { sem 𝓛 (LendsForEntry W.row K.row (block K.kind) W.seen self.entry result) }
+        requires { IsInside (view_of K.kind self.old) }
+        ensures* loan { sem 𝓛 (LendsForEntry W.row K.row (view_of K.kind) W.seen self.entry result) }
         ensures lead { IfOk result
-            (λ f. Prints W.seen self.old.formatter.now (lead_of (block K.kind self.old)) true
+            (λ f. Prints W.seen self.old.formatter.now (lead_of (view_of K.kind self.old)) true
             f.now) }
     {
         let written = self.formatter.write_lead(self.marker.kind(), self.count);
@@ -113,12 +113,12 @@ impl<W: uWrite, K: BlockKind> Builder<'_, W, K> {
     /// Writes the text before the value of a struct's field, and lends the formatter for the value.
     #[inline(always)]
     pub(crate) fn begin_named(&mut self, name: &str) -> Result<&mut Formatter<W>, W::Error>
-        requires { IsInside (block K.kind self.old) }
-        ensures* loan { sem 𝓛 (LendsAfter W.row K.row (block K.kind) W.seen self.entry result
-            (field_lead_of name.now (block K.kind self.old))) }
+        requires { IsInside (view_of K.kind self.old) }
+        ensures* loan { sem 𝓛 (LendsAfter W.row K.row (view_of K.kind) W.seen self.entry result
+            (field_lead_of name.now (view_of K.kind self.old))) }
         ensures lead { IfOk result
             (λ f. Prints W.seen self.old.formatter.now
-            (field_lead_of name.now (block K.kind self.old)) true f.now) }
+            (field_lead_of name.now (view_of K.kind self.old)) true f.now) }
     {
         let kind = self.marker.kind();
         let written = self.formatter.write_field_lead(kind, self.count, name);
@@ -155,7 +155,7 @@ impl<W: uWrite, K: BlockKind> Builder<'_, W, K> {
     /// Sets the formatter to the mode and depth of the entries, whatever the borrower left.
     #[inline(always)]
     pub(crate) fn take_back(&mut self)
-        ensures { self.new ≡ lent self.old.status self.old (inner_formatter (block K.kind self.old)) }
+        ensures { self.new ≡ lent self.old.status self.old (inner_formatter (view_of K.kind self.old)) }
     {
         self.formatter.setting = self.outer.inside();
     }
@@ -163,9 +163,9 @@ impl<W: uWrite, K: BlockKind> Builder<'_, W, K> {
     /// `end`, of a formatter that was lent to a caller.
     #[inline(always)]
     pub(crate) fn end_lent(&mut self, outcome: Result<(), W::Error>) -> Result<(), W::Error>
-        ensures end { EndsEntry W.seen outcome (block K.kind self.old) result (is_ok result)
-            (block K.kind self.new) }
-        ensures is_open { OnOk result (IsOpen (block K.kind self.new)) }
+        ensures end { EndsEntry W.seen outcome (view_of K.kind self.old) result (is_ok result)
+            (view_of K.kind self.new) }
+        ensures is_open { OnOk result (IsOpen (view_of K.kind self.new)) }
     {
         self.take_back();
         self.end(outcome)
@@ -174,10 +174,10 @@ impl<W: uWrite, K: BlockKind> Builder<'_, W, K> {
     /// Writes the text after an entry if its `fmt` returned `Ok`, else returns its error.
     #[inline(always)]
     pub(crate) fn end(&mut self, outcome: Result<(), W::Error>) -> Result<(), W::Error>
-        requires { IsInside (block K.kind self.old) }
-        ensures end { EndsEntry W.seen outcome (block K.kind self.old) result (is_ok result)
-            (block K.kind self.new) }
-        ensures is_open { OnOk result (IsOpen (block K.kind self.new)) }
+        requires { IsInside (view_of K.kind self.old) }
+        ensures end { EndsEntry W.seen outcome (view_of K.kind self.old) result (is_ok result)
+            (view_of K.kind self.new) }
+        ensures is_open { OnOk result (IsOpen (view_of K.kind self.new)) }
     {
         let ended = match outcome {
             Ok(()) => self.formatter.write_trail(),

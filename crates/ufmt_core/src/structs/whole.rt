@@ -2,8 +2,8 @@
 ghost use Rattle.std.specs.Prelude.{is_ok};
 ghost use Rattle.ufmt_core.specs.Document.{Fields, field, no_fields, struct_of};
 ghost use Rattle.ufmt_core.specs.Formatter.{LaysOut};
-ghost use Rattle.ufmt_core.specs.Block.{WritesEnding, IsOpen, remaining_fields, tail_of};
-ghost use Rattle.ufmt_core.specs.Builder.{struct_block};
+ghost use Rattle.ufmt_core.specs.BuilderView.{WritesEnding, IsOpen, remaining_fields, tail_of};
+ghost use Rattle.ufmt_core.specs.Builder.{struct_view};
 
 use crate::formatter::Formatter;
 use crate::structs::DebugStruct;
@@ -17,19 +17,19 @@ pub trait NamedFields<'a> {
 
     /// Writes the fields and the end of the struct.
     #[inline(always)]
-    fn finish<W: uWrite>(&self, block: &mut DebugStruct<W>) -> Result<(), W::Error>
-        requires { IsOpen (struct_block block.old) }
-        ensures { WritesEnding W.seen (struct_block block.old)
-            (tail_of (struct_block block.old) (remaining_fields (fields self.now))) (is_ok result)
-            (struct_block block.new) };
+    fn finish<W: uWrite>(&self, builder: &mut DebugStruct<W>) -> Result<(), W::Error>
+        requires { IsOpen (struct_view builder.old) }
+        ensures { WritesEnding W.seen (struct_view builder.old)
+            (tail_of (struct_view builder.old) (remaining_fields (fields self.now))) (is_ok result)
+            (struct_view builder.new) };
 }
 
 impl<'a> NamedFields<'a> for () {
     ghost fields = { λ _. no_fields };
 
     #[inline(always)]
-    fn finish<W: uWrite>(&self, block: &mut DebugStruct<W>) -> Result<(), W::Error> {
-        block.finish()
+    fn finish<W: uWrite>(&self, builder: &mut DebugStruct<W>) -> Result<(), W::Error> {
+        builder.finish()
     }
 }
 
@@ -37,9 +37,9 @@ impl<'a, D: uDebug, R: NamedFields<'a>> NamedFields<'a> for (&'a str, &'a D, R) 
     ghost fields = { λ c. field c.0.now (D.document c.1.now) (R.fields c.2) };
 
     #[inline(always)]
-    fn finish<W: uWrite>(&self, block: &mut DebugStruct<W>) -> Result<(), W::Error> {
-        block.field(self.0, self.1)?;
-        self.2.finish(block)
+    fn finish<W: uWrite>(&self, builder: &mut DebugStruct<W>) -> Result<(), W::Error> {
+        builder.field(self.0, self.1)?;
+        self.2.finish(builder)
     }
 }
 
@@ -55,7 +55,7 @@ impl<W: uWrite> Formatter<W> {
         ensures { LaysOut W.seen self.old (struct_of name.now (F.fields fields.now)) (is_ok result)
             self.new }
     {
-        let mut block = self.debug_struct(name)?;
-        fields.finish(&mut block)
+        let mut builder = self.debug_struct(name)?;
+        fields.finish(&mut builder)
     }
 }

@@ -2,8 +2,8 @@
 ghost use Rattle.std.specs.Prelude.{is_ok};
 ghost use Rattle.ufmt_core.specs.Document.{Documents, document, no_documents, tuple_of};
 ghost use Rattle.ufmt_core.specs.Formatter.{LaysOut};
-ghost use Rattle.ufmt_core.specs.Block.{WritesEnding, IsOpen, remaining_entries, tail_of};
-ghost use Rattle.ufmt_core.specs.Builder.{tuple_block};
+ghost use Rattle.ufmt_core.specs.BuilderView.{WritesEnding, IsOpen, remaining_entries, tail_of};
+ghost use Rattle.ufmt_core.specs.Builder.{tuple_view};
 
 use crate::formatter::Formatter;
 use crate::tuple::DebugTuple;
@@ -16,28 +16,28 @@ pub trait UnnamedFields<'a> {
     ghost documents: { Self → Documents };
 
     /// Writes the fields and the end of the tuple.
-    fn finish<W: uWrite>(&self, block: &mut DebugTuple<W>) -> Result<(), W::Error>
-        requires { IsOpen (tuple_block block.old) }
-        ensures { WritesEnding W.seen (tuple_block block.old)
-            (tail_of (tuple_block block.old) (remaining_entries (documents self.now)))
+    fn finish<W: uWrite>(&self, builder: &mut DebugTuple<W>) -> Result<(), W::Error>
+        requires { IsOpen (tuple_view builder.old) }
+        ensures { WritesEnding W.seen (tuple_view builder.old)
+            (tail_of (tuple_view builder.old) (remaining_entries (documents self.now)))
             (is_ok result)
-            (tuple_block block.new) };
+            (tuple_view builder.new) };
 }
 
 impl<'a> UnnamedFields<'a> for () {
     ghost documents = { λ _. no_documents };
 
-    fn finish<W: uWrite>(&self, block: &mut DebugTuple<W>) -> Result<(), W::Error> {
-        block.finish()
+    fn finish<W: uWrite>(&self, builder: &mut DebugTuple<W>) -> Result<(), W::Error> {
+        builder.finish()
     }
 }
 
 impl<'a, D: uDebug, R: UnnamedFields<'a>> UnnamedFields<'a> for (&'a D, R) {
     ghost documents = { λ c. document (D.document c.0.now) (R.documents c.1) };
 
-    fn finish<W: uWrite>(&self, block: &mut DebugTuple<W>) -> Result<(), W::Error> {
-        block.field(self.0)?;
-        self.1.finish(block)
+    fn finish<W: uWrite>(&self, builder: &mut DebugTuple<W>) -> Result<(), W::Error> {
+        builder.field(self.0)?;
+        self.1.finish(builder)
     }
 }
 
@@ -52,7 +52,7 @@ impl<W: uWrite> Formatter<W> {
         ensures { LaysOut W.seen self.old (tuple_of name.now (F.documents fields.now))
             (is_ok result) self.new }
     {
-        let mut block = self.debug_tuple(name)?;
-        fields.finish(&mut block)
+        let mut builder = self.debug_tuple(name)?;
+        fields.finish(&mut builder)
     }
 }

@@ -75,10 +75,10 @@ impl<V: uDebug> EntriesOf<StructKind> for Vec<(String, V)> {
 
     fn print<W: uWrite>(&self, name: &str, f: &mut Formatter<W>) -> Result<(), W::Error> {
         let fields = self.as_slice();
-        let mut block = f.debug_struct(name)?;
+        let mut builder = f.debug_struct(name)?;
         for field in fields {
-            block.field(&field.0, &field.1)?;
+            builder.field(&field.0, &field.1)?;
         }
-        block.finish()
+        builder.finish()
     }
 }

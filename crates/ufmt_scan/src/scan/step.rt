@@ -87,7 +87,7 @@ impl Stage {
 
     /// The kind of the block, and how many entries it has with this one.
     #[inline(always)]
-    pub(super) fn block(self) -> (Kind, Count)
+    pub(super) fn kind_and_count(self) -> (Kind, Count)
         ensures kind { result.0 ≡ kind_of self }
         ensures count { result.1 ≡ next (earlier self) }
     {
@@ -284,7 +284,7 @@ fn after_entry<'a, S: Sink, const PRETTY: bool>(
         emit(Event::Next, sink)?;
         return Ok((Some(stage.later()), start));
     }
-    let (kind, count) = stage.block();
+    let (kind, count) = stage.kind_and_count();
     let Some(end) = level.strip_closing(kind, count, line) else {
         return Err(ScanError::NotText);
     };

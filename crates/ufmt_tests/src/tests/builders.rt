@@ -65,11 +65,11 @@ struct NoNames;
 
 impl Printed for NoNames {
     fn print<W: uWrite>(&self, f: &mut Formatter<W>) -> Result<(), W::Error> {
-        let mut block = f.debug_struct("")?;
-        block.field("", &1u8)?;
-        let outcome = 2u8.fmt(block.begin_field("")?);
-        block.end_field(outcome)?;
-        block.finish()
+        let mut builder = f.debug_struct("")?;
+        builder.field("", &1u8)?;
+        let outcome = 2u8.fmt(builder.begin_field("")?);
+        builder.end_field(outcome)?;
+        builder.finish()
     }
 }
 

@@ -52,17 +52,17 @@ fn write_map<W: uWrite>(value: &str, f: &mut Formatter<W>) -> Result<(), W::Erro
 }
 
 fn write_struct<W: uWrite>(name: &str, f: &mut Formatter<W>) -> Result<(), W::Error> {
-    let mut block = f.debug_struct(name)?;
-    block.field(name, &name)?;
-    let outcome = block.begin_field(name)?.write_str(name);
-    block.end_field(outcome)?;
-    block.finish()
+    let mut builder = f.debug_struct(name)?;
+    builder.field(name, &name)?;
+    let outcome = builder.begin_field(name)?.write_str(name);
+    builder.end_field(outcome)?;
+    builder.finish()
 }
 
 fn write_tuple<W: uWrite>(name: &str, f: &mut Formatter<W>) -> Result<(), W::Error> {
-    let mut block = f.debug_tuple(name)?;
-    block.field(&name)?;
-    let outcome = block.begin_field()?.write_str(name);
-    block.end_field(outcome)?;
-    block.finish()
+    let mut builder = f.debug_tuple(name)?;
+    builder.field(&name)?;
+    let outcome = builder.begin_field()?.write_str(name);
+    builder.end_field(outcome)?;
+    builder.finish()
 }

@@ -1,5 +1,5 @@
 use Rattle.std.proofs.Common.{ap, is_ok}
-use Rattle.ufmt_core.specs.Builder.{struct_block}
+use Rattle.ufmt_core.specs.Builder.{struct_view}
 use Rattle.ufmt_core.proofs.Printing.{field_between, field_not_begun}
 use Rattle.ufmt_core.proofs.Writing.{is_ok-err}
 use Rattle.ufmt_core.proofs.structs.DebugStruct+W.field.Goals as goal
@@ -11,5 +11,5 @@ returns-in_err-begin_named-clause-entry g c =
 
 pub returns-clause-entry : goal.returns-clause-entry
 returns-clause-entry g c =
-    field_between (struct_block c.args.self.now) _ c.requires.1 (ap struct_block (c.begin_named.follows.holds _
+    field_between (struct_view c.args.self.now) _ c.requires.1 (ap struct_view (c.begin_named.follows.holds _
     (ap is_ok c.in_ok-begin_named.was))) c.in_ok-begin_named.ensures.lead c.fmt-outcome.ensures c.end.ensures.end

@@ -1,5 +1,5 @@
 use Rattle.std.proofs.Common.{ap, is_ok}
-use Rattle.ufmt_core.specs.Builder.{tuple_block}
+use Rattle.ufmt_core.specs.Builder.{tuple_view}
 use Rattle.ufmt_core.proofs.Printing.{entry_between, entry_not_begun}
 use Rattle.ufmt_core.proofs.Writing.{is_ok-err}
 use Rattle.ufmt_core.proofs.tuple.DebugTuple+W.field.Goals as goal
@@ -11,5 +11,5 @@ returns-in_err-begin-clause-entry g c =
 
 pub returns-clause-entry : goal.returns-clause-entry
 returns-clause-entry g c =
-    entry_between (tuple_block c.args.self.now) c.requires.1
-    (ap tuple_block (c.begin.follows.holds _ (ap is_ok c.in_ok-begin.was))) c.in_ok-begin.ensures.lead c.fmt-outcome.ensures c.end.ensures.end
+    entry_between (tuple_view c.args.self.now) c.requires.1
+    (ap tuple_view (c.begin.follows.holds _ (ap is_ok c.in_ok-begin.was))) c.in_ok-begin.ensures.lead c.fmt-outcome.ensures c.end.ensures.end

@@ -94,7 +94,7 @@ returns-in-Some-strip_piece g c =
 pub returns-in_default-strip_closing : goal.returns-in_default-strip_closing
 returns-in_default-strip_closing g c =
     let apart = c.between-separator.ensures (setting_at c.args.level).depth (few c.args.level.mode c.args.level.open_blocks c.requires) in
-    let closing = rw (c.block-kind.ensures.kind, c.block-kind.ensures.count) at c.in_default-strip_closing.ensures in (
+    let closing = rw (c.kind_and_count-kind.ensures.kind, c.kind_and_count-kind.ensures.count) at c.in_default-strip_closing.ensures in (
       nothing_there _ (follows c.args.level c.args.stage c.args.input.now _ c.between-separator.result.now _ (Some c.in-Some.line.now) c.trail.ensures c.setting.ensures apart c.in-Some.ensures
           ∙ rw (sym c.in_default-strip_piece.ensures, sym closing) refl),
       tt,
@@ -104,20 +104,20 @@ pub returns-in_err-emit-2 : goal.returns-in_err-emit-2
 returns-in_err-emit-2 g c =
     let apart = c.between-separator.ensures (setting_at c.args.level).depth (few c.args.level.mode c.args.level.open_blocks c.requires) in
     let end = c.in-Some-strip_closing.end.now in
-    let closing = rw (c.block-kind.ensures.kind, c.block-kind.ensures.count) at c.in-Some-strip_closing.ensures in
+    let closing = rw (c.kind_and_count-kind.ensures.kind, c.kind_and_count-kind.ensures.count) at c.in-Some-strip_closing.ensures in
     let closes = ends c.args.level c.args.stage c.args.input.now c.in-Some.line.now end _ _ _ c.trail.ensures c.setting.ensures apart c.in-Some.ensures
     c.in_default-strip_piece.ensures closing in
     step_refused _ (after c.args.level) c.from_residual-in_err-emit-2.result c.from_residual-in_err-emit-2.ensures.1
-    (c.in_err-emit-2.ensures _ (after c.args.level None end) (rw (c.block-kind.ensures.kind, c.block-kind.ensures.count) closes))
+    (c.in_err-emit-2.ensures _ (after c.args.level None end) (rw (c.kind_and_count-kind.ensures.kind, c.kind_and_count-kind.ensures.count) closes))
 
 pub returns : goal.returns
 returns g c =
     let apart = c.between-separator.ensures (setting_at c.args.level).depth (few c.args.level.mode c.args.level.open_blocks c.requires) in
     let line = c.in-Some.line.now in
     let end = c.in-Some-strip_closing.end.now in
-    let closing = rw (c.block-kind.ensures.kind, c.block-kind.ensures.count) at c.in-Some-strip_closing.ensures in
+    let closing = rw (c.kind_and_count-kind.ensures.kind, c.kind_and_count-kind.ensures.count) at c.in-Some-strip_closing.ensures in
     let within = strip_within _ c.args.input.now line (sym c.in-Some.ensures) in
     let less = strip_within _ line end (sym closing) in
     let closes = ends c.args.level c.args.stage c.args.input.now line end _ _ _ c.trail.ensures c.setting.ensures apart c.in-Some.ensures
     c.in_default-strip_piece.ensures closing in
-    (c.in_ok-emit-2.ensures _ _ (rw (c.block-kind.ensures.kind, c.block-kind.ensures.count) closes), omega (arith, within, less))
+    (c.in_ok-emit-2.ensures _ _ (rw (c.kind_and_count-kind.ensures.kind, c.kind_and_count-kind.ensures.count) closes), omega (arith, within, less))

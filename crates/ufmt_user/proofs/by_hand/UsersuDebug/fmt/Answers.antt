@@ -1,5 +1,5 @@
 use Rattle.std.proofs.Common.{ap, is_ok, sym, true}
-use Rattle.ufmt.specs.Builder.{list_block}
+use Rattle.ufmt.specs.Builder.{list_view}
 use Rattle.ufmt.proofs.Printing.{LaysOut-err, WritesRow-next, WritesRow-none, entry_between, entry_not_begun, failed, finished, is_list, loop_ended, loop_next, not_opened, opened, texts-of, written}
 use Rattle.ufmt_user.proofs.by_hand.UsersuDebug.fmt.Goals as goal
 
@@ -26,15 +26,15 @@ returns-in_err-end_entry g c =
     (opened is_list c.in_ok-list.ensures.opening
     (failed (loop_next _ (texts-of (λ p. g.T.uDebug.document p.user) _)
     c.loop-port.port-index c.loop-port-test.true c.port-item.is c.loop-port.invariant.row
-    (entry_between (list_block c.loop-port.list) c.loop-port.invariant.is_open.1 (ap list_block (c.begin_entry.follows.holds _
+    (entry_between (list_view c.loop-port.list) c.loop-port.invariant.is_open.1 (ap list_view (c.begin_entry.follows.holds _
     (ap is_ok c.in_ok-begin_entry.was))) c.in_ok-begin_entry.ensures.lead c.fmt-outcome.ensures c.in_err-end_entry.ensures.end)) (search))))
 
 pub loop-port-preserved : goal.loop-port-preserved
 loop-port-preserved g c = record {
   is_open = c.in_ok-end_entry.ensures.is_open;
   row = WritesRow-next _ _ c.loop-port.port-index _ true c.loop-port-test.true c.port-item.is c.loop-port.invariant.row
-      (entry_between (list_block c.loop-port.list) c.loop-port.invariant.is_open.1
-      (ap list_block (c.begin_entry.follows.holds _ (ap is_ok c.in_ok-begin_entry.was))) c.in_ok-begin_entry.ensures.lead c.fmt-outcome.ensures c.in_ok-end_entry.ensures.end);
+      (entry_between (list_view c.loop-port.list) c.loop-port.invariant.is_open.1
+      (ap list_view (c.begin_entry.follows.holds _ (ap is_ok c.in_ok-begin_entry.was))) c.in_ok-begin_entry.ensures.lead c.fmt-outcome.ensures c.in_ok-end_entry.ensures.end);
 }
 
 pub returns : goal.returns

@@ -1,4 +1,4 @@
-use Rattle.ufmt_core.specs.Block.{remaining_fields}
+use Rattle.ufmt_core.specs.BuilderView.{remaining_fields}
 use Rattle.ufmt_core.proofs.Printing.{ending_failed, ending_written, entry}
 use Rattle.ufmt_core.proofs.Writing.{is_ok-err}
 use Rattle.ufmt_core.proofs.structs.whole.Tuple3RefStrRefNamedFields.finish.Goals as goal

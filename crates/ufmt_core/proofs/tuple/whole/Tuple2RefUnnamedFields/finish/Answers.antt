@@ -1,4 +1,4 @@
-use Rattle.ufmt_core.specs.Block.{remaining_entries}
+use Rattle.ufmt_core.specs.BuilderView.{remaining_entries}
 use Rattle.ufmt_core.proofs.Printing.{ending_failed, ending_written, entry}
 use Rattle.ufmt_core.proofs.Writing.{is_ok-err}
 use Rattle.ufmt_core.proofs.tuple.whole.Tuple2RefUnnamedFields.finish.Goals as goal

@@ -1,4 +1,4 @@
--- What the calls of a builder do to its block.
+-- A builder as contracts see it, and what its calls do.
 use Rattle.std.specs.Prelude.{◌≡◌, ℕ, List, [], ◌∷◌, ◌++◌, map, codes, Bool, true, false, Option, Result, Err, IfErr, OnOk}
 use Rattle.std.specs.Iterator.{DrainsIf}
 pub use Rattle.ufmt_core.specs.declared.formatter.builder.Status.{Status}
@@ -9,7 +9,7 @@ use Rattle.ufmt_core.specs.Writes.{Seen, Writes}
 use Rattle.ufmt_core.specs.Formatter.{Formatter, at_setting, writer_of, setting_of}
 
 -- a builder as contracts see it
-pub record Block (W : Type 0) : Type 0 where
+pub record BuilderView (W : Type 0) : Type 0 where
   -- the formatter that it writes to, as it is now
   pub formatter : Formatter W
   -- the ghost name of its reference to that
@@ -65,96 +65,96 @@ block_in_parts kind name s texts =
 
 module _ {W : Type 0} where
   -- the mode and depth of the entries
-  abbrev pub inner : Block W → Setting
+  abbrev pub inner : BuilderView W → Setting
   inner b = inside b.outer
 
   -- the formatter, at that mode and depth
-  abbrev pub inner_formatter : Block W → Formatter W
+  abbrev pub inner_formatter : BuilderView W → Formatter W
   inner_formatter b = at_setting b.formatter (inner b)
 
   -- the brackets of the entries
-  abbrev pub frame_of : Block W → Frame
+  abbrev pub frame_of : BuilderView W → Frame
   frame_of b = frame b.outer.mode b.kind
 
   -- the text before the next entry, before the value of a struct's field, after an entry, and at the end of the block
-  abbrev pub lead_of : Block W → List ℕ
+  abbrev pub lead_of : BuilderView W → List ℕ
   lead_of b = lead (frame_of b) (inner b) b.count
 
-  abbrev pub field_lead_of : List ℕ → Block W → List ℕ
+  abbrev pub field_lead_of : List ℕ → BuilderView W → List ℕ
   field_lead_of name b = lead_of b ++ (name ++ codes ": ")
 
-  abbrev pub trail_of : Block W → List ℕ
+  abbrev pub trail_of : BuilderView W → List ℕ
   trail_of b = trail b.outer.mode
 
-  abbrev pub ending_of : Block W → List ℕ
+  abbrev pub ending_of : BuilderView W → List ℕ
   ending_of b = ending (frame_of b) b.outer b.count
 
   -- what is left of the block: entries with these texts, and the end
-  abbrev pub tail_of : Block W → (Setting → List (List ℕ)) → List ℕ
+  abbrev pub tail_of : BuilderView W → (Setting → List (List ℕ)) → List ℕ
   tail_of b texts = block_tail (frame_of b) b.outer b.count (texts (inner b))
 
   -- the formatter is at the mode and depth of the entries
-  abbrev pub IsInside : Block W → Type 0
+  abbrev pub IsInside : BuilderView W → Type 0
   IsInside b = setting_of b.formatter ≡ inner b
 
   -- entries may follow, and the formatter is at their mode and depth
-  abbrev pub IsOpen : Block W → Type 0
+  abbrev pub IsOpen : BuilderView W → Type 0
   IsOpen b = (b.status ≡ Open) × IsInside b
 
   -- the formatter is lent for an entry, of a map for the key
-  abbrev pub IsLent : Block W → Type 0
+  abbrev pub IsLent : BuilderView W → Type 0
   IsLent b = b.status ≡ Lent
 
   -- the formatter is lent for the value of a map's entry
-  abbrev pub IsLentForValue : Block W → Type 0
+  abbrev pub IsLentForValue : BuilderView W → Type 0
   IsLentForValue b = b.status ≡ LentValue
 
   -- what a call leaves: on `Ok` an open builder with this count, on `Err` a closed one, with mode and depth from before it
-  abbrev pub After : Bool → Count → Block W → Block W → Type 0
+  abbrev pub After : Bool → Count → BuilderView W → BuilderView W → Type 0
   After true count old new = (new.count ≡ count) × IsOpen new
   After false count old new = (new.status ≡ Closed) × (setting_of new.formatter ≡ old.outer)
 
   -- the builder has the same reference, the same kind of block, and the same mode and depth from before it
-  pub record Same (old new : Block W) : Type 0 where
+  pub record Same (old new : BuilderView W) : Type 0 where
     pub reference : new.reference ≡ old.reference
     pub kind : new.kind ≡ old.kind
     pub outer : new.outer ≡ old.outer
 
   -- the opening of a block of this kind was written, and the new builder has the reference with this name
-  pub record WritesOpening (seen : Seen W) (start : Formatter W) (reference : ℕ) (kind : Kind) (text : List ℕ) (new : Block W) : Type 0 where
+  pub record WritesOpening (seen : Seen W) (start : Formatter W) (reference : ℕ) (kind : Kind) (text : List ℕ) (new : BuilderView W) : Type 0 where
     pub wrote : Writes seen (writer_of start) text true (writer_of new.formatter)
     pub same : Same (record { formatter = start; reference = reference; kind = kind; outer = setting_of start; count = Zero; status = Open }) new
     pub count : new.count ≡ Zero
     pub is_open : IsOpen new
 
   -- this part of the block was written, or a prefix of it
-  pub record WritesPart (seen : Seen W) (old : Block W) (text : List ℕ) (ok : Bool) (count : Count) (new : Block W) : Type 0 where
+  pub record WritesPart (seen : Seen W) (old : BuilderView W) (text : List ℕ) (ok : Bool) (count : Count) (new : BuilderView W) : Type 0 where
     pub wrote : Writes seen (writer_of old.formatter) text ok (writer_of new.formatter)
     pub same : Same old new
     pub after : After ok count old new
 
   -- a call failed: a prefix of this part was written, and the builder is closed
-  abbrev pub StopsIn : Seen W → Block W → List ℕ → Block W → Type 0
+  abbrev pub StopsIn : Seen W → BuilderView W → List ℕ → BuilderView W → Type 0
   StopsIn seen old text new = WritesPart seen old text false old.count new
 
   -- one entry with this text was written, or a prefix of it
-  pub record WritesEntry (seen : Seen W) (old : Block W) (text : Setting → List ℕ) (ok : Bool) (new : Block W) : Type 0 where
+  pub record WritesEntry (seen : Seen W) (old : BuilderView W) (text : Setting → List ℕ) (ok : Bool) (new : BuilderView W) : Type 0 where
     pub part : WritesPart seen old (framed (frame_of old) (inner old) old.count (text (inner old))) ok (next old.count) new
 
   -- a call was passed an error: nothing was written, and the builder is closed
-  pub record Abandons (old new : Block W) : Type 0 where
+  pub record Abandons (old new : BuilderView W) : Type 0 where
     pub same_writer : writer_of new.formatter ≡ writer_of old.formatter
     pub same : Same old new
     pub after : After false old.count old new
 
   -- what the second half of an entry returns and does, if the value's `fmt` returned `outcome`
-  pub record EndsEntry {E : Type 0} (seen : Seen W) (outcome : Result (Unit {0}) E) (old : Block W) (result : Result (Unit {0}) E)
-      (ok : Bool) (new : Block W) : Type 0 where
+  pub record EndsEntry {E : Type 0} (seen : Seen W) (outcome : Result (Unit {0}) E) (old : BuilderView W) (result : Result (Unit {0}) E)
+      (ok : Bool) (new : BuilderView W) : Type 0 where
     pub trail : OnOk outcome (WritesPart seen old (trail_of old) ok (next old.count) new)
     pub error : IfErr outcome (λ e. (result ≡ Err e) × Abandons old new)
 
   -- the end of the block was written, or a prefix of it; the builder is closed, with mode and depth from before it
-  pub record WritesEnding (seen : Seen W) (old : Block W) (text : List ℕ) (ok : Bool) (new : Block W) : Type 0 where
+  pub record WritesEnding (seen : Seen W) (old : BuilderView W) (text : List ℕ) (ok : Bool) (new : BuilderView W) : Type 0 where
     pub wrote : Writes seen (writer_of old.formatter) text ok (writer_of new.formatter)
     pub same : Same old new
     pub closed : new.status ≡ Closed
@@ -162,14 +162,14 @@ module _ {W : Type 0} where
 
 module _ {W D : Type 0} where
   -- entries of these items were written in a row, each with its `text_of`, or a prefix of them
-  pub record WritesRow (seen : Seen W) (old : Block W) (text_of : D → Setting → List ℕ) (items : List D) (ok : Bool) (new : Block W) : Type 0 where
+  pub record WritesRow (seen : Seen W) (old : BuilderView W) (text_of : D → Setting → List ℕ) (items : List D) (ok : Bool) (new : BuilderView W) : Type 0 where
     pub part : WritesPart seen old (framed_all (frame_of old) (inner old) old.count (map (λ x. text_of x (inner old)) items)) ok
         (count_after old.count items) new
 
 module _ {W U T D : Type 0} where
   -- an entry was written for each item that the iterator gave, or a prefix of them; on `Ok` it had no more items
   pub record WritesEntries (seen : Seen W) (becomes : U → T → Type 0) (steps : T → Option D → T → Type 0) (text_of : D → Setting → List ℕ)
-      (entries : U) (old : Block W) (ok : Bool) (new : Block W) : Type 0 where
+      (entries : U) (old : BuilderView W) (ok : Bool) (new : BuilderView W) : Type 0 where
     pub iterator : T
     pub begins : becomes entries iterator
     pub items : List D
