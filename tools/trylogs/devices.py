@@ -55,7 +55,7 @@ def calls(process):
     return int(counts["syscr"]), int(counts["syscw"])
 
 
-class Line:
+class Channel:
     """A socket, of which one end is a device of a program."""
 
     def __init__(self):
@@ -79,24 +79,24 @@ class Devices:
     """The standard devices of a run. In a block of `with`, they are open."""
 
     def __enter__(self):
-        self.input, self.output, self.error = self.lines = Line(), Line(), Line()
+        self.input, self.output, self.error = self.channels = Channel(), Channel(), Channel()
         return self
 
     def __exit__(self, *_error):
-        for line in self.lines:
-            line.close()
+        for channel in self.channels:
+            channel.close()
 
     def start(self, program, arguments):
-        process = program.start(arguments, *(line.theirs for line in self.lines))
-        for line in self.lines:
-            line.theirs.close()
+        process = program.start(arguments, *(channel.theirs for channel in self.channels))
+        for channel in self.channels:
+            channel.theirs.close()
         return process
 
-    def rest(self, line):
+    def rest(self, channel):
         """The messages up to the end. An empty one can't be told from the end."""
         pieces = []
         while True:
-            piece = line.ours.recv(line.most())
+            piece = channel.ours.recv(channel.most())
             if not piece:
                 return pieces
             pieces.append(piece)

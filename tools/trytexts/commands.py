@@ -101,7 +101,7 @@ def conv_faults(counter, program):
     return [fault for run in made for fault in run_faults(counter, program, run)], len(made)
 
 
-class Line(NamedTuple):
+class LogGroup(NamedTuple):
     """A group of lines of a log, its output, and what its text has."""
 
     name: str
@@ -112,18 +112,18 @@ class Line(NamedTuple):
 
 def lines(is_plain):
     """A group for each shape. The first one is for what a run takes at its start, with its own memory."""
-    yield Line(FIRST, "x", "x", bounds.Case(rough(""), 1, 1, 0))
+    yield LogGroup(FIRST, "x", "x", bounds.Case(rough(""), 1, 1, 0))
     for name, make in shapes.documents().items():
         document = make(4 * COUNTED_SIZE)
         texts = plain(document), pretty(document)
         text, other = texts[::-1] if is_plain else texts
         case = bounds.Case(features(document), len(text.encode()), len(other.encode()), 0)
-        yield Line(name, STAMP + text, STAMP + other, case)
+        yield LogGroup(name, STAMP + text, STAMP + other, case)
     for name, make in shapes.no_texts().items():
         text = STAMP + make(4 * COUNTED_SIZE)
         # A line that ends with a bracket isn't the last of its group.
         if text[-1] not in "[\n":
-            yield Line(name, text, text, bounds.Case(rough(text), len(text), len(text), 0))
+            yield LogGroup(name, text, text, bounds.Case(rough(text), len(text), len(text), 0))
 
 
 def line_steps(line):

@@ -11,7 +11,7 @@ use Rattle.ufmt_core.specs.Document.{Document}
 use Rattle.ufmt_core.specs.Layout.{Setting, Kind, Count, Zero, Frame, block_text, ending, frame, inside, layout, next, block_tail}
 use Rattle.ufmt_core.specs.Writes.{Seen}
 use Rattle.ufmt_core.specs.Formatter.{Formatter, LaysOut, Prints, setting_of}
-use Rattle.ufmt_core.specs.BuilderView.{Status, Lent, LentValue, BuilderView, Same, WritesPart, WritesEntry, WritesRow, WritesEntries, Abandons, EndsEntry, WritesEnding, After, IsInside, IsOpen, StopsIn, block_in_parts, framed, framed_all, frame_of, inner, lead_of, pair_text, count_after, trail_of}
+use Rattle.ufmt_core.specs.BuilderView.{Status, Lent, LentValue, BuilderView, Same, WritesText, WritesEntry, WritesRow, WritesEntries, Abandons, EndsEntry, WritesEnding, After, IsInside, IsOpen, StopsIn, block_in_parts, framed, framed_all, frame_of, inner, lead_of, pair_text, count_after, trail_of}
 use Rattle.ufmt_core.proofs.Writing.{is_ok-err, Writes-then, Writes-fails, Writes-nothing, Prints-then, Prints-then_at}
 
 module _ {W : Type 0} where
@@ -29,21 +29,21 @@ module _ {W : Type 0} where
 
 module _ {W : Type 0} {seen : Seen W} where
   -- two calls in a row write their texts joined
-  pub WritesPart-then : {old mid new : BuilderView W} {p q : List ℕ} {ok : Bool} {between count : Count} → WritesPart seen old p true between mid
-      → WritesPart seen mid q ok count new → WritesPart seen old (p ++ q) ok count new
-  WritesPart-then {old} {mid} {new} {ok = ok} {count = count} a b = record {
+  pub WritesText-then : {old mid new : BuilderView W} {p q : List ℕ} {ok : Bool} {between count : Count} → WritesText seen old p true between mid
+      → WritesText seen mid q ok count new → WritesText seen old (p ++ q) ok count new
+  WritesText-then {old} {mid} {new} {ok = ok} {count = count} a b = record {
     wrote = Writes-then a.wrote b.wrote;
     same = Same-then a.same b.same;
     after = After-from ok count old mid new a.same.outer b.after;
   }
 
   -- a call that fails in a text fails in each text that begins with it
-  pub WritesPart-fails : {old new : BuilderView W} {p : List ℕ} (q : List ℕ) {between count : Count} → WritesPart seen old p false between new
-      → WritesPart seen old (p ++ q) false count new
-  WritesPart-fails q a = record { wrote = Writes-fails q a.wrote; same = a.same; after = a.after }
+  pub WritesText-fails : {old new : BuilderView W} {p : List ℕ} (q : List ℕ) {between count : Count} → WritesText seen old p false between new
+      → WritesText seen old (p ++ q) false count new
+  WritesText-fails q a = record { wrote = Writes-fails q a.wrote; same = a.same; after = a.after }
 
   -- a call that succeeds, and then one that closes the block
-  pub WritesEnding-then : {old mid new : BuilderView W} {p q : List ℕ} {ok : Bool} {between : Count} → WritesPart seen old p true between mid
+  pub WritesEnding-then : {old mid new : BuilderView W} {p q : List ℕ} {ok : Bool} {between : Count} → WritesText seen old p true between mid
       → WritesEnding seen mid q ok new → WritesEnding seen old (p ++ q) ok new
   WritesEnding-then a f = record {
     wrote = Writes-then a.wrote f.wrote;
@@ -53,7 +53,7 @@ module _ {W : Type 0} {seen : Seen W} where
   }
 
   -- a call that fails closes the block
-  pub WritesEnding-fails : {old new : BuilderView W} {p : List ℕ} (q : List ℕ) {between : Count} → WritesPart seen old p false between new
+  pub WritesEnding-fails : {old new : BuilderView W} {p : List ℕ} (q : List ℕ) {between : Count} → WritesText seen old p false between new
       → WritesEnding seen old (p ++ q) false new
   WritesEnding-fails q a = record { wrote = Writes-fails q a.wrote; same = a.same; closed = a.after.0; restored = a.after.1 }
 
@@ -65,17 +65,17 @@ handed_ok (Err x) result h k = cc (ap is_ok h)
 -- the lent formatter printed a text, and then a call of the builder
 module _ {W : Type 0} {seen : Seen W} (pending : Status) (old : BuilderView W) {new : BuilderView W} {ended : Formatter W} {printed : List ℕ} where
   -- wrote the text after it
-  WritesPart-printed : {tail : List ℕ} {ok : Bool} {count : Count} → Prints seen old.formatter printed true ended
-      → WritesPart seen (lent_to pending old ended) tail ok count new → WritesPart seen old (printed ++ tail) ok count new
-  WritesPart-printed {ok = ok} {count} p a = record {
+  WritesText-printed : {tail : List ℕ} {ok : Bool} {count : Count} → Prints seen old.formatter printed true ended
+      → WritesText seen (lent_to pending old ended) tail ok count new → WritesText seen old (printed ++ tail) ok count new
+  WritesText-printed {ok = ok} {count} p a = record {
     wrote = Writes-then p.wrote a.wrote;
     same = record { reference = a.same.reference; kind = a.same.kind; outer = a.same.outer };
     after = After-from ok count old (lent_to pending old ended) new refl a.after;
   }
 
   -- was passed its error
-  WritesPart-abandoned : Prints seen old.formatter printed false ended → Abandons (lent_to pending old ended) new → StopsIn seen old printed new
-  WritesPart-abandoned p a = record {
+  WritesText-abandoned : Prints seen old.formatter printed false ended → Abandons (lent_to pending old ended) new → StopsIn seen old printed new
+  WritesText-abandoned p a = record {
     wrote = rw a.same_writer p.wrote;
     same = record { reference = a.same.reference; kind = a.same.kind; outer = a.same.outer };
     after = a.after;
@@ -90,17 +90,17 @@ module _ {W : Type 0} {seen : Seen W} (old : BuilderView W) {begun ended : Forma
 -- an entry in halves: the lead was written, the lent formatter printed the value's text, and the second half wrote the trail
 module _ {W E : Type 0} {seen : Seen W} (pending : Status) (old : BuilderView W) {new : BuilderView W} {begun : Formatter W} (ended : Formatter W)
     (before : List ℕ) (text : Setting → List ℕ) where
-  pub WritesPart-between : {mid : BuilderView W} (outcome result : Result (Unit {0}) E) → IsInside old → mid ≡ lent_to pending old ended
+  pub WritesText-between : {mid : BuilderView W} (outcome result : Result (Unit {0}) E) → IsInside old → mid ≡ lent_to pending old ended
       → Prints seen old.formatter before true begun →
       Prints seen begun (text (setting_of begun)) (is_ok outcome) ended → EndsEntry seen outcome mid result (is_ok result) new →
-      WritesPart seen old (before ++ (text (inner old) ++ trail_of old)) (is_ok result) (next old.count) new
-  WritesPart-between (Ok x) result inside_b m p l e =
+      WritesText seen old (before ++ (text (inner old) ++ trail_of old)) (is_ok result) (next old.count) new
+  WritesText-between (Ok x) result inside_b m p l e =
       let end = subst (λ (b : BuilderView W). EndsEntry seen (Ok x) b result (is_ok result) new) m e in
-      rw (← append_assoc before (text (inner old)) (trail_of old)) (WritesPart-printed pending old (Prints-lent old text inside_b p l) end.trail)
-  WritesPart-between (Err x) result inside_b m p l e =
+      rw (← append_assoc before (text (inner old)) (trail_of old)) (WritesText-printed pending old (Prints-lent old text inside_b p l) end.trail)
+  WritesText-between (Err x) result inside_b m p l e =
       let end = subst (λ (b : BuilderView W). EndsEntry seen (Err x) b result (is_ok result) new) m e in
       rw (ap is_ok end.error.0, ← append_assoc before (text (inner old)) (trail_of old))
-      (WritesPart-fails _ (WritesPart-abandoned pending old (Prints-lent old text inside_b p l) end.error.1))
+      (WritesText-fails _ (WritesText-abandoned pending old (Prints-lent old text inside_b p l) end.error.1))
 
 -- an entry of a map is the text up to its value, the value, and the trail
 pair_framed : {W : Type 0} (b : BuilderView W) (key value : Document) → framed (frame_of b) (inner b) b.count (pair_text key value (inner b))
@@ -115,14 +115,14 @@ module _ {W E : Type 0} {seen : Seen W} (old : BuilderView W) {new : BuilderView
       OnOk outcome (StopsIn seen mid (codes ": ") new) → OnErr outcome (Abandons mid new) → WritesEntry seen old (pair_text key value) false new
   WritesEntry-no_value (Ok x) inside_b m p l stop error =
       record {
-        part = rw (pair_framed old key value) (WritesPart-fails _
-            (WritesPart-printed Lent old (Prints-lent old (λ s. layout s key) inside_b p l.prints)
+        part = rw (pair_framed old key value) (WritesText-fails _
+            (WritesText-printed Lent old (Prints-lent old (λ s. layout s key) inside_b p l.prints)
             (subst (λ (b : BuilderView W). StopsIn seen b (codes ": ") new) m stop)));
       }
   WritesEntry-no_value (Err x) inside_b m p l stop error =
       record {
-        part = rw (pair_framed old key value) (WritesPart-fails _ (WritesPart-fails (codes ": ") {between = old.count} {count = old.count}
-            (WritesPart-abandoned Lent old (Prints-lent old (λ s. layout s key) inside_b p l.prints) (subst (λ (b : BuilderView W). Abandons b new) m error))));
+        part = rw (pair_framed old key value) (WritesText-fails _ (WritesText-fails (codes ": ") {between = old.count} {count = old.count}
+            (WritesText-abandoned Lent old (Prints-lent old (λ s. layout s key) inside_b p l.prints) (subst (λ (b : BuilderView W). Abandons b new) m error))));
       }
 
   -- the key, `: ` and the value
@@ -137,7 +137,7 @@ module _ {W E : Type 0} {seen : Seen W} (old : BuilderView W) {new : BuilderView
       let keyed = subst (λ (o : Bool). Prints seen begun (layout (setting_of begun) key) o ended) (handed_ok key_outcome lending error ok) k.prints in
       let front = Prints-then (Prints-lent old (λ s. layout s key) inside_b p keyed) (subst (λ (b : BuilderView W). Prints seen b.formatter (codes ": ") true lent) m colon) in
       let lent_value : last ≡ lent_to LentValue old printed = l ∙ ap (λ b. lent_to LentValue b printed) m in
-      record { part = rw (pair_framed old key value) (WritesPart-between LentValue old printed _ (λ s. layout s value) outcome result inside_b lent_value front v.prints e) }
+      record { part = rw (pair_framed old key value) (WritesText-between LentValue old printed _ (λ s. layout s value) outcome result inside_b lent_value front v.prints e) }
 
 -- entries in a row and then the rest of the block are the rest from before them
 pub block_tail-append : (f : Frame) (s : Setting) (count : Count) (ts us : List (List ℕ))
@@ -187,7 +187,7 @@ module _ {W D : Type 0} {seen : Seen W} (text_of : D → Setting → List ℕ) w
       ∙ framed_all-append (frame_of old) (inner old) old.count texts (text_of y (inner old) ∷ [])
       ∙ ap (λ t. framed_all (frame_of old) (inner old) old.count texts ++ t)
       (append-nil _ ∙ rw (a.part.same.outer, a.part.same.kind, a.part.after.0, count_after-map (λ x. text_of x (inner old)) old.count xs) refl) in
-      record { part = rw (part, count_after-append old.count xs y, sym a.part.after.0) (WritesPart-then a.part e.part) }
+      record { part = rw (part, count_after-append old.count xs y, sym a.part.after.0) (WritesText-then a.part e.part) }
 
   -- the next entry of a list
   pub WritesRow-next : {old mid new : BuilderView W} (whole : List D) (k : ℕ) (y : D) (ok : Bool) → k < length whole → y ≡ get_or whole k y
@@ -231,4 +231,4 @@ module _ {W U T D Y : Type 0} {seen : Seen W} {becomes : U → T → Type 0} {st
       let all : map text ys ≡ texts ++ map text (drop count ys) =
       ap (map text) (sym (take-append-drop count ys) ∙ ap (λ front. front ++ drop count ys) (sym first))
       ∙ map-append text (map view a.items) (drop count ys) ∙ ap (λ ts. ts ++ map text (drop count ys)) (map-map text view a.items) in
-      record { part = rw (all, framed_all-append) (WritesPart-fails _ a.row.part) }
+      record { part = rw (all, framed_all-append) (WritesText-fails _ a.row.part) }

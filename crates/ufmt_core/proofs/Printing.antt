@@ -10,8 +10,8 @@ use Rattle.ufmt_core.specs.Document.{Document, list_of, set_of, map_of, struct_o
 use Rattle.ufmt_core.specs.Layout.{Setting, Kind, Brackets, Braces, Struct, Count, Zero, frame, inside, layout, next, block_tail, texts, pair_texts, field_texts, tuple_kind}
 use Rattle.ufmt_core.specs.Writes.{Seen, Writes}
 use Rattle.ufmt_core.specs.Formatter.{Formatter, Prints, LaysOut, setting_of, writer_of}
-use Rattle.ufmt_core.specs.BuilderView.{Lent, BuilderView, WritesEnding, WritesEntries, WritesEntry, EndsEntry, IsInside, WritesOpening, WritesPart, WritesRow, StopsIn, ending_of, remaining_entries, entry_text, field_lead_of, field_text, remaining_fields, framed, framed_all, frame_of, inner, lead_of, pair_text, remaining_pairs, count_after, tail_of, trail_of}
-use Rattle.ufmt_core.proofs.Blocks.{WritesEnding-fails, WritesEnding-then, WritesPart-between, WritesPart-fails, WritesRow-from_entries, WritesRow-next, block_tail-append, count_after-map, lent_to}
+use Rattle.ufmt_core.specs.BuilderView.{Lent, BuilderView, WritesEnding, WritesEntries, WritesEntry, EndsEntry, IsInside, WritesOpening, WritesText, WritesRow, StopsIn, ending_of, remaining_entries, entry_text, field_lead_of, field_text, remaining_fields, framed, framed_all, frame_of, inner, lead_of, pair_text, remaining_pairs, count_after, tail_of, trail_of}
+use Rattle.ufmt_core.proofs.Blocks.{WritesEnding-fails, WritesEnding-then, WritesText-between, WritesText-fails, WritesRow-from_entries, WritesRow-next, block_tail-append, count_after-map, lent_to}
 use Rattle.ufmt_core.proofs.Items.{AlwaysYields-items}
 use Rattle.ufmt_core.proofs.Writing.{Writes-then, Writes-fails}
 pub use Rattle.ufmt_core.proofs.Blocks.{WritesRow-more, WritesRow-next, WritesRow-none}
@@ -36,7 +36,7 @@ module _ {W : Type 0} where
     pub part : List ℕ
     pub count : Count
     pub text : tail_of b left ≡ part ++ block_tail (frame_of b) b.outer count (more (inner b))
-    pub wrote : WritesPart seen b part ok count b'
+    pub wrote : WritesText seen b part ok count b'
 
 -- the document's layout is an opening and the rest of a block of this kind
 pub record IsBlock (d : Document) (kind : Kind) (opening : List ℕ) (left : Entries) : Type 0 where
@@ -202,20 +202,20 @@ module _ {W E : Type 0} {seen : Seen W} {d : Document} {begun ended : Formatter 
     (old : BuilderView W) where
   pub entry_between : IsInside old → mid ≡ lent_to Lent old ended → Prints seen old.formatter (lead_of old) true begun → LaysOut seen begun d (is_ok outcome) ended
       → EndsEntry seen outcome mid result (is_ok result) new → WritesEntry seen old (entry_text d) (is_ok result) new
-  entry_between inside_b m p l e = record { part = WritesPart-between Lent old ended _ (entry_text d) outcome result inside_b m p l.prints e }
+  entry_between inside_b m p l e = record { part = WritesText-between Lent old ended _ (entry_text d) outcome result inside_b m p l.prints e }
 
   pub field_between : (name : List ℕ) → IsInside old → mid ≡ lent_to Lent old ended → Prints seen old.formatter (field_lead_of name old) true begun
       → LaysOut seen begun d (is_ok outcome) ended → EndsEntry seen outcome mid result (is_ok result) new
       → WritesEntry seen old (field_text name d) (is_ok result) new
   field_between name inside_b m p l e = record {
     part =
-        rw (field_framed old name d) (WritesPart-between Lent old ended _ (entry_text d) outcome result inside_b m p l.prints e);
+        rw (field_framed old name d) (WritesText-between Lent old ended _ (entry_text d) outcome result inside_b m p l.prints e);
   }
 
 -- the first half of an entry, of a map's entry, or of a field failed
 module _ {W X E : Type 0} {seen : Seen W} {b b' : BuilderView W} {r : Result X E} {e : E} (was : r ≡ Err e) where
   pub entry_not_begun : {text : Setting → List ℕ} → OnErr r (StopsIn seen b (lead_of b) b') → WritesEntry seen b text false b'
-  entry_not_begun stop = record { part = WritesPart-fails _ (IfErr-at_err _ was stop) }
+  entry_not_begun stop = record { part = WritesText-fails _ (IfErr-at_err _ was stop) }
 
   pub field_not_begun : (name : List ℕ) (d : Document) → OnErr r (StopsIn seen b (field_lead_of name b) b') → WritesEntry seen b (field_text name d) false b'
-  field_not_begun name d stop = record { part = rw (field_framed b name d) (WritesPart-fails _ (IfErr-at_err _ was stop)) }
+  field_not_begun name d stop = record { part = rw (field_framed b name d) (WritesText-fails _ (IfErr-at_err _ was stop)) }

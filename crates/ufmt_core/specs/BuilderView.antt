@@ -127,19 +127,19 @@ module _ {W : Type 0} where
     pub count : new.count ≡ Zero
     pub is_open : IsOpen new
 
-  -- this part of the block was written, or a prefix of it
-  pub record WritesPart (seen : Seen W) (old : BuilderView W) (text : List ℕ) (ok : Bool) (count : Count) (new : BuilderView W) : Type 0 where
+  -- this text of the block was written, or a prefix of it
+  pub record WritesText (seen : Seen W) (old : BuilderView W) (text : List ℕ) (ok : Bool) (count : Count) (new : BuilderView W) : Type 0 where
     pub wrote : Writes seen (writer_of old.formatter) text ok (writer_of new.formatter)
     pub same : Same old new
     pub after : After ok count old new
 
-  -- a call failed: a prefix of this part was written, and the builder is closed
+  -- a call failed: a prefix of this text was written, and the builder is closed
   abbrev pub StopsIn : Seen W → BuilderView W → List ℕ → BuilderView W → Type 0
-  StopsIn seen old text new = WritesPart seen old text false old.count new
+  StopsIn seen old text new = WritesText seen old text false old.count new
 
   -- one entry with this text was written, or a prefix of it
   pub record WritesEntry (seen : Seen W) (old : BuilderView W) (text : Setting → List ℕ) (ok : Bool) (new : BuilderView W) : Type 0 where
-    pub part : WritesPart seen old (framed (frame_of old) (inner old) old.count (text (inner old))) ok (next old.count) new
+    pub part : WritesText seen old (framed (frame_of old) (inner old) old.count (text (inner old))) ok (next old.count) new
 
   -- a call was passed an error: nothing was written, and the builder is closed
   pub record Abandons (old new : BuilderView W) : Type 0 where
@@ -150,7 +150,7 @@ module _ {W : Type 0} where
   -- what the second half of an entry returns and does, if the value's `fmt` returned `outcome`
   pub record EndsEntry {E : Type 0} (seen : Seen W) (outcome : Result (Unit {0}) E) (old : BuilderView W) (result : Result (Unit {0}) E)
       (ok : Bool) (new : BuilderView W) : Type 0 where
-    pub trail : OnOk outcome (WritesPart seen old (trail_of old) ok (next old.count) new)
+    pub trail : OnOk outcome (WritesText seen old (trail_of old) ok (next old.count) new)
     pub error : IfErr outcome (λ e. (result ≡ Err e) × Abandons old new)
 
   -- the end of the block was written, or a prefix of it; the builder is closed, with mode and depth from before it
@@ -163,7 +163,7 @@ module _ {W : Type 0} where
 module _ {W D : Type 0} where
   -- entries of these items were written in a row, each with its `text_of`, or a prefix of them
   pub record WritesRow (seen : Seen W) (old : BuilderView W) (text_of : D → Setting → List ℕ) (items : List D) (ok : Bool) (new : BuilderView W) : Type 0 where
-    pub part : WritesPart seen old (framed_all (frame_of old) (inner old) old.count (map (λ x. text_of x (inner old)) items)) ok
+    pub part : WritesText seen old (framed_all (frame_of old) (inner old) old.count (map (λ x. text_of x (inner old)) items)) ok
         (count_after old.count items) new
 
 module _ {W U T D : Type 0} where

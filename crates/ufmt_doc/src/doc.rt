@@ -16,7 +16,7 @@ mod tree;
 
 use std::alloc::{AllocError, Global};
 use std::mem;
-use tree::Part;
+use tree::Subtree;
 pub use tree::same_text;
 use ufmt::plain_text;
 use ufmt_scan::leaf::is_symbol;

@@ -48,23 +48,23 @@ at_entry P (f ∷ es) zero e at all = let key : f.0 ≡ e.0 = cc in subst P key 
 at_entry P (f ∷ es) (suc i) e at all = at_entry P es i e at (All-tail P f.0 (keys_of es) all)
 
 -- the parts so far, the next one, and the others
-next_part : {D Part : Type 0} (view : D → Part) (ds : List D) (i : ℕ) (item : D) → i < length ds → item ≡ get_or ds i item → map view ds ≡ map view (take i ds) ++ view item ∷ map view (drop (suc i) ds)
+next_part : {D Content : Type 0} (view : D → Content) (ds : List D) (i : ℕ) (item : D) → i < length ds → item ≡ get_or ds i item → map view ds ≡ map view (take i ds) ++ view item ∷ map view (drop (suc i) ds)
 next_part view [] i item below at = absurd (omega arith)
 next_part view (d ∷ ds) zero item below at = ap (λ x. view x ∷ map view ds) (sym at)
 next_part view (d ∷ ds) (suc i) item below at = ap (λ ps. view d ∷ ps) (next_part view ds i item (omega arith) at)
 
 -- of entries with the same parts, if the keys of some ascend, those of the others do too
-module _ {E K Part : Type 0} {cmp : K → K → Ordering} (total : IsTotalOrder cmp) (key : E → K) (P : E → Type 0) (part : E → Part)
+module _ {E K Content : Type 0} {cmp : K → K → Ordering} (total : IsTotalOrder cmp) (key : E → K) (P : E → Type 0) (part : E → Content)
     (law : (x y : E) → P x → P y → part x ≡ part y → cmp (key x) (key y) ≡ Equal) where
   -- what holds of each key holds of that in the place of e
-  same_place : (es xs : List E) (e : E) (ps : List Part) → map part xs ≡ map part es ++ part e ∷ ps → (R : K → Type 0) → All P xs → AllByRecursion R (map key xs)
+  same_place : (es xs : List E) (e : E) (ps : List Content) → map part xs ≡ map part es ++ part e ∷ ps → (R : K → Type 0) → All P xs → AllByRecursion R (map key xs)
       → (x : E) × P x × R (key x) × (part x ≡ part e)
   same_place [] [] e ps same R all holds = cc
   same_place [] (x ∷ xs) e ps same R all holds = (x, All-head P x xs all, holds.0, cc)
   same_place (f ∷ es) [] e ps same R all holds = cc
   same_place (f ∷ es) (x ∷ xs) e ps same R all holds = same_place es xs e ps (cc) R (All-tail P x xs all) holds.1
 
-  by_recursion : (es xs : List E) (e : E) (ps : List Part) → map part xs ≡ map part es ++ part e ∷ ps → All P es → P e → All P xs → IsStrictlySortedBy cmp (map key xs)
+  by_recursion : (es xs : List E) (e : E) (ps : List Content) → map part xs ≡ map part es ++ part e ∷ ps → All P es → P e → All P xs → IsStrictlySortedBy cmp (map key xs)
       → AllByRecursion (λ k. cmp k (key e) ≡ Less) (map key es)
   by_recursion [] xs e ps same all_es is_e all_xs sorted = tt
   by_recursion (f ∷ es) [] e ps same all_es is_e all_xs sorted = cc
@@ -77,12 +77,12 @@ module _ {E K Part : Type 0} {cmp : K → K → Ordering} (total : IsTotalOrder 
         by_recursion es xs e ps rest (All-tail P f es all_es) is_e (All-tail P x xs all_xs) (sorted_tail cmp (key x) (map key xs) sorted),
       )
 
-  keys_below : (es xs : List E) (e : E) (ps : List Part) → map part xs ≡ map part es ++ part e ∷ ps → All P es → P e → All P xs → IsStrictlySortedBy cmp (map key xs)
+  keys_below : (es xs : List E) (e : E) (ps : List Content) → map part xs ≡ map part es ++ part e ∷ ps → All P es → P e → All P xs → IsStrictlySortedBy cmp (map key xs)
       → All (λ k. cmp k (key e) ≡ Less) (map key es)
   keys_below es xs e ps same all_es is_e all_xs sorted = All-from_recursion (λ k. cmp k (key e) ≡ Less) (map key es) (by_recursion es xs e ps same all_es is_e all_xs sorted)
 
   -- the key of each entry so far is below the next one's, if the documents have entries whose keys ascend
-  pub in_order : {D : Type 0} (view : D → Part) (ds : List D) (i : ℕ) (item : D) → i < length ds → item ≡ get_or ds i item
+  pub in_order : {D : Type 0} (view : D → Content) (ds : List D) (i : ℕ) (item : D) → i < length ds → item ≡ get_or ds i item
       → (es : List E) (e : E) → map part es ≡ map view (take i ds) → part e ≡ view item → All P es → P e
       → (xs : List E) → All P xs → IsStrictlySortedBy cmp (map key xs) → map part xs ≡ map view ds → All (λ k. cmp k (key e) ≡ Less) (map key es)
   in_order view ds i item below at es e so_far is all_es is_e xs all_xs sorted same =

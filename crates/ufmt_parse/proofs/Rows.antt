@@ -35,7 +35,7 @@ pairs-same (d ∷ ds) (e ∷ es) same =
     ap₂ (λ p ps. p ∷ ps) (ap₂ (λ k v. (k, v)) key value) (pairs-same ds es rest)
 
 -- if no value has one of the parts, no values have the parts in a row
-module _ {T Part : Type 0} (P : T → Type 0) (part : T → Part) {D : Type 0} (view : D → Part) (item : D) (none : (x : T) → P x → part x ≢ view item) where
+module _ {T Content : Type 0} (P : T → Type 0) (part : T → Content) {D : Type 0} (view : D → Content) (item : D) (none : (x : T) → P x → part x ≢ view item) where
   pub none_in_a_row : (ds : List D) (i : ℕ) → i < length ds → item ≡ get_or ds i item → (xs : List T) → All P xs → map part xs ≢ map view ds
   none_in_a_row [] i below at xs all same = absurd (omega arith)
   none_in_a_row (e ∷ ds) i below at [] all same = cc

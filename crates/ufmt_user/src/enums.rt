@@ -1,20 +1,20 @@
 //! Enums: variants without fields, with unnamed and with named ones.
 ghost use Rattle.std.specs.Prelude.{[], ◌∷◌};
 ghost use Rattle.ufmt.specs.ValueDocuments.{named, named_struct, named_tuple};
-ghost use Rattle.ufmt_user.specs.declared.enums.Kind.TheVariants.{A, B, C};
+ghost use Rattle.ufmt_user.specs.declared.enums.Letter.TheVariants.{A, B, C};
 ghost use Rattle.ufmt_user.specs.declared.enums.Y.TheVariants.{W, Z};
 
 use ufmt::{Formatter, fields, uDebug, uWrite};
 
 /// An enum with the three kinds of variants.
 #[derive(Drop)]
-pub enum Kind<T> {
+pub enum Letter<T> {
     A,
     B(T, T),
     C { x: T, y: T },
 }
 
-impl<T: uDebug> uDebug for Kind<T> {
+impl<T: uDebug> uDebug for Letter<T> {
     ghost document = { elim [
       | A ↦ named "A"
       | B x y ↦ named_tuple "B" (T.document x ∷ T.document y ∷ [])
@@ -23,9 +23,9 @@ impl<T: uDebug> uDebug for Kind<T> {
 
     fn fmt<W: uWrite>(&self, f: &mut Formatter<W>) -> Result<(), W::Error> {
         match self {
-            Kind::A => fields!(f, A),
-            Kind::B(x, y) => fields!(f, B(x, y)),
-            Kind::C { x, y } => fields!(f, C { x, y }),
+            Letter::A => fields!(f, A),
+            Letter::B(x, y) => fields!(f, B(x, y)),
+            Letter::C { x, y } => fields!(f, C { x, y }),
         }
     }
 }

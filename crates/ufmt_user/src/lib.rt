@@ -16,7 +16,7 @@ mod table;
 
 pub use by_hand::{InPrettyMode, Port, Ports, Scores, Temperature, Users};
 pub use cut_log::log_cut;
-pub use enums::{Kind, Y};
+pub use enums::{Letter, Y};
 pub use fixed::Fixed;
 pub use logger::{ByChannel, Measurement, dump_packet, list_measurements, log};
 pub use message::{Message, print};

@@ -105,7 +105,7 @@ struct Twelve {
 struct One(String);
 
 #[derive(Drop)]
-enum Event {
+enum Signal {
     Started,
     Said(u8, String),
     Lost { since: u8, peers: Vec<u8> },
@@ -137,8 +137,8 @@ fn find_one(alloc: Global, doc: &Doc) -> Result<Option<One>, AllocError> {
     parse_fields!(alloc, doc, One(text))
 }
 
-fn find_event(alloc: Global, doc: &Doc) -> Result<Option<Event>, AllocError> {
-    parse_variants!(alloc, doc, Event { Started, Said(node, text), Lost { since, peers }, Ended })
+fn find_event(alloc: Global, doc: &Doc) -> Result<Option<Signal>, AllocError> {
+    parse_variants!(alloc, doc, Signal { Started, Said(node, text), Lost { since, peers }, Ended })
 }
 
 type Numbers = (u8, u8, u8, u8, u8, u8, u8, u8, u8, u8, u8);
@@ -165,9 +165,9 @@ fn parse_event(
 ) -> Result<Option<(u8, Option<(u8, String)>, Option<(u8, Vec<u8>)>)>, AllocError> {
     Ok(match find_event(alloc, doc)? {
         None => None,
-        Some(Event::Started) => Some((0, None, None)),
-        Some(Event::Said(node, text)) => Some((1, Some((node, text)), None)),
-        Some(Event::Lost { since, peers }) => Some((2, None, Some((since, peers)))),
-        Some(Event::Ended) => Some((3, None, None)),
+        Some(Signal::Started) => Some((0, None, None)),
+        Some(Signal::Said(node, text)) => Some((1, Some((node, text)), None)),
+        Some(Signal::Lost { since, peers }) => Some((2, None, Some((since, peers)))),
+        Some(Signal::Ended) => Some((3, None, None)),
     })
 }

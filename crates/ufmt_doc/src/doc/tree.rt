@@ -23,9 +23,9 @@ pub fn same_text(a: &Doc, b: &Doc) -> bool
     a.is_same(b)
 }
 
-// A part of a document. Implemented per field type: the check allows recursion at `Vec<Doc>`, not
+// What is in a document. Implemented per field type: the check allows recursion at `Vec<Doc>`, not
 // at `Doc`.
-pub(super) trait Part {
+pub(super) trait Subtree {
     ghost tokens: { ℕ → Self → Type 0 };
 
     ghost same: { Self → Self → Type 0 };
@@ -39,7 +39,7 @@ pub(super) trait Part {
         ensures { IsTrue result ↔ same self.now other.now };
 }
 
-impl Part for String {
+impl Subtree for String {
     ghost tokens = { λ _ name. IsWord (string_bytes name) };
 
     ghost same = { λ name other. string_bytes name ≡ string_bytes other };
@@ -53,7 +53,7 @@ impl Part for String {
     }
 }
 
-impl<K: Part, V: Part> Part for (K, V) {
+impl<K: Subtree, V: Subtree> Subtree for (K, V) {
     ghost tokens = { λ n p. K.tokens n p.0 × V.tokens n p.1 };
 
     ghost same = { λ p q. K.same p.0 q.0 × V.same p.1 q.1 };
@@ -68,7 +68,7 @@ impl<K: Part, V: Part> Part for (K, V) {
 }
 
 // Entries are one deeper than their block.
-impl<T: Part> Part for Vec<T> {
+impl<T: Subtree> Subtree for Vec<T> {
     ghost tokens = { λ n v. AllByRecursion (λ x. (0 < n) × T.tokens (n - 1) x) v.items };
 
     ghost same = { λ v w. AllZip T.same v.items w.items };
@@ -83,7 +83,7 @@ impl<T: Part> Part for Vec<T> {
     }
 }
 
-impl Part for Doc {
+impl Subtree for Doc {
     ghost tokens = { λ n d. IsTokenWithin n (doc_document d) };
 
     ghost same = { λ d e. normal (doc_document d) ≡ normal (doc_document e) };

@@ -16,9 +16,9 @@ use ufmt::uWrite;
 
 // The front of a line and its indentation at this depth. They are cut from a line at the greatest
 // depth, whose indentation is 17 times 60 spaces.
-macro_rules! line {
+macro_rules! new_line {
     ($front:literal, $depth:expr) => {
-        line!($front, $depth, "                                                            ")
+        new_line!($front, $depth, "                                                            ")
     };
     ($front:literal, $depth:expr, $s:literal) => {
         cut(
@@ -85,10 +85,10 @@ fn pieces<'a>(setting: Setting, event: Event<&'a str>) -> (&'a str, &'a str)
         (Event::FieldName(name), _) => (name, COLON),
         (Event::Colon, _) => ("", COLON),
         (Event::Next, Mode::Plain) => ("", ", "),
-        (Event::Next, Mode::Pretty) => ("", line!(",\n", setting.depth)),
+        (Event::Next, Mode::Pretty) => ("", new_line!(",\n", setting.depth)),
         (Event::Close(kind, count), Mode::Plain) => ("", closing(Mode::Plain, kind, count)),
         (Event::Close(kind, count), Mode::Pretty) => {
-            let line = line!(",\n", setting.depth.saturating_sub(1));
+            let line = new_line!(",\n", setting.depth.saturating_sub(1));
             (line, closing(Mode::Pretty, kind, count))
         }
     }
@@ -101,15 +101,15 @@ fn opening(kind: Kind, entry: Setting) -> &'static str
 {
     match (kind, entry.mode) {
         (Kind::Brackets, Mode::Plain) => "[",
-        (Kind::Brackets, Mode::Pretty) => line!("[\n", entry.depth),
+        (Kind::Brackets, Mode::Pretty) => new_line!("[\n", entry.depth),
         (Kind::Braces, Mode::Plain) => "{",
-        (Kind::Braces, Mode::Pretty) => line!("{\n", entry.depth),
+        (Kind::Braces, Mode::Pretty) => new_line!("{\n", entry.depth),
         (Kind::Struct, Mode::Plain) => " { ",
-        (Kind::Struct, Mode::Pretty) => line!(" {\n", entry.depth),
+        (Kind::Struct, Mode::Pretty) => new_line!(" {\n", entry.depth),
         (Kind::Tuple | Kind::Unnamed, Mode::Plain) => "(",
         // As two arms these need no proof file.
-        (Kind::Tuple, Mode::Pretty) => line!("(\n", entry.depth),
-        (Kind::Unnamed, Mode::Pretty) => line!("(\n", entry.depth),
+        (Kind::Tuple, Mode::Pretty) => new_line!("(\n", entry.depth),
+        (Kind::Unnamed, Mode::Pretty) => new_line!("(\n", entry.depth),
     }
 }
 

@@ -6,7 +6,7 @@ use std::borrow::CowStr;
 use std::collections::{BTreeMap, VecDeque};
 use std::rc::Rc;
 use ufmt_user::{
-    I32, Json, Kind, Link, Measurement, Message, Nested, Node, Pair, Port, Ports, Scores,
+    I32, Json, Letter, Link, Measurement, Message, Nested, Node, Pair, Port, Ports, Scores,
     Temperature, Tree, Tuple, Users, Window, X, Y, log, print,
 };
 
@@ -75,9 +75,9 @@ fn structs_and_enums_print(rt: HostRuntime) {
         first: Pair { x: 0u64, y: 0u64 },
         second: Pair { x: 0u64, y: 0u64 },
     });
-    table.texts(&Kind::A::<u64>);
-    table.texts(&Kind::B(0i32, 1));
-    table.texts(&Kind::C { x: 0u64, y: 1 });
+    table.texts(&Letter::A::<u64>);
+    table.texts(&Letter::B(0i32, 1));
+    table.texts(&Letter::C { x: 0u64, y: 1 });
     table.texts(&Y::Z(0i32));
     table.texts(&Y::W::<u64>);
     table.texts(&forwarded::Y);

@@ -55,9 +55,9 @@ impl Printed for HexadecimalInALine {
     }
 }
 
-struct Line;
+struct AllForms;
 
-impl Printed for Line {
+impl Printed for AllForms {
     fn print<W: uWrite>(&self, f: &mut Formatter<W>) -> Result<(), W::Error> {
         uwriteln!(f, text "a b", display 7i32, debug [1i32], pretty [2i32])
     }
@@ -93,7 +93,7 @@ fn pieces_are_passed_to_the_writer(rt: HostRuntime) {
     table.pieces(&LineOfAllPieces);
     table.pieces(&HexadecimalFirst);
     table.pieces(&HexadecimalInALine);
-    table.pieces(&Line);
+    table.pieces(&AllForms);
     table.pieces(&EmptyTexts);
     has_rows(&rt, &table, PIECES);
 }

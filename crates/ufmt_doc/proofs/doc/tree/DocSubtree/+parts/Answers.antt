@@ -5,7 +5,7 @@ use Rattle.ufmt_doc.specs.Doc.{doc_document}
 use Rattle.ufmt_doc.proofs.Docs.{doc_document-Listed, doc_document-MapOf, doc_document-SetOf, doc_document-StructOf, doc_document-TupleOf}
 use Rattle.ufmt_doc.proofs.NormalForms.{braces_same, lists_same, maps_same, sets_same, struct_form, structs_same, tuple_form, tuples_same}
 use Rattle.ufmt_doc.proofs.Within.{as_well, docs_within, fields_within, pairs_within, tuple_within, unnamed_within}
-use Rattle.ufmt_doc.proofs.doc.tree.DocPart.+parts.Goals as goal
+use Rattle.ufmt_doc.proofs.doc.tree.DocSubtree.+parts.Goals as goal
 
 pub has_tokens-returns-in-Listed : goal.has_tokens-returns-in-Listed
 has_tokens-returns-in-Listed t c =
