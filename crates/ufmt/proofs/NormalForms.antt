@@ -1,6 +1,6 @@
 -- The normal form of a document is its own normal form, and keeps the document's nesting, tokens and texts.
 use Rattle.std.proofs.Common.{◌≡◌, List, [], ◌∷◌, ℕ, ◌≤◌, refl, sym, ap, ap₂, ◌∙◌, subst, inl, append-nil}
-use Rattle.ufmt_core.specs.Document.{Document, leaf, joined, list_of, set_of, map_of, struct_of, tuple_of, pretty_part, Documents, no_documents, document, Pairs, no_pairs, pair, Fields, no_fields, field, nest, nest_all, nest_pairs, nest_fields}
+use Rattle.ufmt_core.specs.Document.{Document, leaf, joined, list_of, set_of, map_of, struct_of, tuple_of, pretty_part, Documents, no_documents, first_document, Pairs, no_pairs, first_pair, Fields, no_fields, first_field, nest, nest_all, nest_pairs, nest_fields}
 use Rattle.ufmt_core.specs.Layout.{setting, inside, tuple_kind, block_text, layout, layouts, texts, pair_texts, field_texts}
 use Rattle.ufmt_core.specs.declared.layout.Mode.TheVariants.{Pretty}
 use Rattle.ufmt_core.specs.declared.layout.Setting.{Setting}
@@ -13,53 +13,53 @@ mutual
   normal-normal (joined ds) = ap joined (normal_all-normal_all ds)
   normal-normal (list_of ds) = ap list_of (normal_all-normal_all ds)
   normal-normal (set_of no_documents) = refl
-  normal-normal (set_of (document d ds)) = rw (normal-normal d, normal_all-normal_all ds)
+  normal-normal (set_of (first_document d ds)) = rw (normal-normal d, normal_all-normal_all ds)
   normal-normal (map_of ps) = ap map_of (normal_pairs-normal_pairs ps)
   normal-normal (struct_of name no_fields) = refl
-  normal-normal (struct_of name (field field_name value fs)) = rw (normal-normal value, normal_fields-normal_fields fs)
+  normal-normal (struct_of name (first_field field_name value fs)) = rw (normal-normal value, normal_fields-normal_fields fs)
   normal-normal (tuple_of name no_documents) = refl
-  normal-normal (tuple_of name (document d ds)) = rw (normal-normal d, normal_all-normal_all ds)
+  normal-normal (tuple_of name (first_document d ds)) = rw (normal-normal d, normal_all-normal_all ds)
   normal-normal (pretty_part d) = ap pretty_part (normal-normal d)
 
   pub normal_all-normal_all : (ds : Documents) → normal_all (normal_all ds) ≡ normal_all ds
   normal_all-normal_all no_documents = refl
-  normal_all-normal_all (document d ds) = ap₂ document (normal-normal d) (normal_all-normal_all ds)
+  normal_all-normal_all (first_document d ds) = ap₂ first_document (normal-normal d) (normal_all-normal_all ds)
 
   pub normal_pairs-normal_pairs : (ps : Pairs) → normal_pairs (normal_pairs ps) ≡ normal_pairs ps
   normal_pairs-normal_pairs no_pairs = refl
-  normal_pairs-normal_pairs (pair key value ps) = rw (normal-normal key, normal-normal value, normal_pairs-normal_pairs ps)
+  normal_pairs-normal_pairs (first_pair key value ps) = rw (normal-normal key, normal-normal value, normal_pairs-normal_pairs ps)
 
   pub normal_fields-normal_fields : (fs : Fields) → normal_fields (normal_fields fs) ≡ normal_fields fs
   normal_fields-normal_fields no_fields = refl
-  normal_fields-normal_fields (field name value fs) = rw (normal-normal value, normal_fields-normal_fields fs)
+  normal_fields-normal_fields (first_field name value fs) = rw (normal-normal value, normal_fields-normal_fields fs)
 
 mutual
   pub nest-normal : (d : Document) → nest (normal d) ≡ nest d
   nest-normal (leaf text) = refl
   nest-normal (joined ds) = nest_all-normal_all ds
   nest-normal (list_of no_documents) = refl
-  nest-normal (list_of (document d ds)) = rw (nest-normal d, nest_all-normal_all ds)
+  nest-normal (list_of (first_document d ds)) = rw (nest-normal d, nest_all-normal_all ds)
   nest-normal (set_of no_documents) = refl
-  nest-normal (set_of (document d ds)) = rw (nest-normal d, nest_all-normal_all ds)
+  nest-normal (set_of (first_document d ds)) = rw (nest-normal d, nest_all-normal_all ds)
   nest-normal (map_of no_pairs) = refl
-  nest-normal (map_of (pair key value ps)) = rw (nest-normal key, nest-normal value, nest_pairs-normal_pairs ps)
+  nest-normal (map_of (first_pair key value ps)) = rw (nest-normal key, nest-normal value, nest_pairs-normal_pairs ps)
   nest-normal (struct_of name no_fields) = refl
-  nest-normal (struct_of name (field field_name value fs)) = rw (nest-normal value, nest_fields-normal_fields fs)
+  nest-normal (struct_of name (first_field field_name value fs)) = rw (nest-normal value, nest_fields-normal_fields fs)
   nest-normal (tuple_of name no_documents) = refl
-  nest-normal (tuple_of name (document d ds)) = rw (nest-normal d, nest_all-normal_all ds)
+  nest-normal (tuple_of name (first_document d ds)) = rw (nest-normal d, nest_all-normal_all ds)
   nest-normal (pretty_part d) = nest-normal d
 
   pub nest_all-normal_all : (ds : Documents) → nest_all (normal_all ds) ≡ nest_all ds
   nest_all-normal_all no_documents = refl
-  nest_all-normal_all (document d ds) = rw (nest-normal d, nest_all-normal_all ds)
+  nest_all-normal_all (first_document d ds) = rw (nest-normal d, nest_all-normal_all ds)
 
   pub nest_pairs-normal_pairs : (ps : Pairs) → nest_pairs (normal_pairs ps) ≡ nest_pairs ps
   nest_pairs-normal_pairs no_pairs = refl
-  nest_pairs-normal_pairs (pair key value ps) = rw (nest-normal key, nest-normal value, nest_pairs-normal_pairs ps)
+  nest_pairs-normal_pairs (first_pair key value ps) = rw (nest-normal key, nest-normal value, nest_pairs-normal_pairs ps)
 
   pub nest_fields-normal_fields : (fs : Fields) → nest_fields (normal_fields fs) ≡ nest_fields fs
   nest_fields-normal_fields no_fields = refl
-  nest_fields-normal_fields (field name value fs) = rw (nest-normal value, nest_fields-normal_fields fs)
+  nest_fields-normal_fields (first_field name value fs) = rw (nest-normal value, nest_fields-normal_fields fs)
 
 mutual
   pub HasTokens-normal : (d : Document) → HasTokens d → HasTokens (normal d)
@@ -67,25 +67,25 @@ mutual
   HasTokens-normal (joined ds) h = absurd h
   HasTokens-normal (list_of ds) h = HaveTokens-normal_all ds h
   HasTokens-normal (set_of no_documents) h = tt
-  HasTokens-normal (set_of (document d ds)) h = (HasTokens-normal d h.0, HaveTokens-normal_all ds h.1)
+  HasTokens-normal (set_of (first_document d ds)) h = (HasTokens-normal d h.0, HaveTokens-normal_all ds h.1)
   HasTokens-normal (map_of ps) h = PairsHaveTokens-normal_pairs ps h
   HasTokens-normal (struct_of name no_fields) h = record { shape = inl h.0 }
-  HasTokens-normal (struct_of name (field field_name value fs)) h = (h.0, (h.1.0, HasTokens-normal value h.1.1, FieldsHaveTokens-normal_fields fs h.1.2))
+  HasTokens-normal (struct_of name (first_field field_name value fs)) h = (h.0, (h.1.0, HasTokens-normal value h.1.1, FieldsHaveTokens-normal_fields fs h.1.2))
   HasTokens-normal (tuple_of name no_documents) h = record { shape = inl h }
-  HasTokens-normal (tuple_of name (document d ds)) h = (h.0, HasTokens-normal d h.1, HaveTokens-normal_all ds h.2)
+  HasTokens-normal (tuple_of name (first_document d ds)) h = (h.0, HasTokens-normal d h.1, HaveTokens-normal_all ds h.2)
   HasTokens-normal (pretty_part d) h = absurd h
 
   pub HaveTokens-normal_all : (ds : Documents) → HaveTokens ds → HaveTokens (normal_all ds)
   HaveTokens-normal_all no_documents h = tt
-  HaveTokens-normal_all (document d ds) h = (HasTokens-normal d h.0, HaveTokens-normal_all ds h.1)
+  HaveTokens-normal_all (first_document d ds) h = (HasTokens-normal d h.0, HaveTokens-normal_all ds h.1)
 
   pub PairsHaveTokens-normal_pairs : (ps : Pairs) → PairsHaveTokens ps → PairsHaveTokens (normal_pairs ps)
   PairsHaveTokens-normal_pairs no_pairs h = tt
-  PairsHaveTokens-normal_pairs (pair key value ps) h = (HasTokens-normal key h.0, HasTokens-normal value h.1, PairsHaveTokens-normal_pairs ps h.2)
+  PairsHaveTokens-normal_pairs (first_pair key value ps) h = (HasTokens-normal key h.0, HasTokens-normal value h.1, PairsHaveTokens-normal_pairs ps h.2)
 
   pub FieldsHaveTokens-normal_fields : (fs : Fields) → FieldsHaveTokens fs → FieldsHaveTokens (normal_fields fs)
   FieldsHaveTokens-normal_fields no_fields h = tt
-  FieldsHaveTokens-normal_fields (field name value fs) h = (h.0, HasTokens-normal value h.1, FieldsHaveTokens-normal_fields fs h.2)
+  FieldsHaveTokens-normal_fields (first_field name value fs) h = (h.0, HasTokens-normal value h.1, FieldsHaveTokens-normal_fields fs h.2)
 
 pub IsToken-normal : (d : Document) → IsToken d → IsToken (normal d)
 IsToken-normal d h = (HasTokens-normal d h.0, subst (λ n. n ≤ 255) (sym (nest-normal d)) h.1)
@@ -93,18 +93,18 @@ IsToken-normal d h = (HasTokens-normal d h.0, subst (λ n. n ≤ 255) (sym (nest
 -- a set's normal form has the text of the set of normal forms, also if it is the empty map
 layout-normal-set_of : (s : Setting) (ds : Documents) → layout s (normal (set_of ds)) ≡ layout s (set_of (normal_all ds))
 layout-normal-set_of s no_documents = refl
-layout-normal-set_of s (document d ds) = refl
+layout-normal-set_of s (first_document d ds) = refl
 
 -- the same holds of a struct, also if its normal form is the leaf of its name
 layout-normal-struct_of : (s : Setting) (name : List ℕ) (fs : Fields) → layout s (normal (struct_of name fs)) ≡ layout s (struct_of name (normal_fields fs))
 layout-normal-struct_of s name no_fields = sym (append-nil name)
-layout-normal-struct_of s name (field field_name value fs) = refl
+layout-normal-struct_of s name (first_field field_name value fs) = refl
 
 -- the same holds of a tuple
 layout-normal-tuple_of : (s : Setting) (name : List ℕ) (ds : Documents) → layout s (normal (tuple_of name ds)) ≡ layout s (tuple_of name (normal_all ds))
 layout-normal-tuple_of s [] no_documents = refl
 layout-normal-tuple_of s (c ∷ name) no_documents = ap (λ text. c ∷ text) (sym (append-nil name))
-layout-normal-tuple_of s name (document d ds) = refl
+layout-normal-tuple_of s name (first_document d ds) = refl
 
 mutual
   pub layout-normal : (s : Setting) (d : Document) → layout s (normal d) ≡ layout s d
@@ -119,16 +119,16 @@ mutual
 
   pub layouts-normal_all : (s : Setting) (ds : Documents) → layouts s (normal_all ds) ≡ layouts s ds
   layouts-normal_all s no_documents = refl
-  layouts-normal_all s (document d ds) = rw (layout-normal s d, layouts-normal_all s ds)
+  layouts-normal_all s (first_document d ds) = rw (layout-normal s d, layouts-normal_all s ds)
 
   pub texts-normal_all : (i : Setting) (ds : Documents) → texts i (normal_all ds) ≡ texts i ds
   texts-normal_all i no_documents = refl
-  texts-normal_all i (document d ds) = rw (layout-normal i d, texts-normal_all i ds)
+  texts-normal_all i (first_document d ds) = rw (layout-normal i d, texts-normal_all i ds)
 
   pub pair_texts-normal_pairs : (i : Setting) (ps : Pairs) → pair_texts i (normal_pairs ps) ≡ pair_texts i ps
   pair_texts-normal_pairs i no_pairs = refl
-  pair_texts-normal_pairs i (pair key value ps) = rw (layout-normal i key, layout-normal i value, pair_texts-normal_pairs i ps)
+  pair_texts-normal_pairs i (first_pair key value ps) = rw (layout-normal i key, layout-normal i value, pair_texts-normal_pairs i ps)
 
   pub field_texts-normal_fields : (i : Setting) (fs : Fields) → field_texts i (normal_fields fs) ≡ field_texts i fs
   field_texts-normal_fields i no_fields = refl
-  field_texts-normal_fields i (field name value fs) = rw (layout-normal i value, field_texts-normal_fields i fs)
+  field_texts-normal_fields i (first_field name value fs) = rw (layout-normal i value, field_texts-normal_fields i fs)

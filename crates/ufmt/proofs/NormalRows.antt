@@ -1,6 +1,6 @@
 -- A row of token documents in normal form is in normal form, and so is a row of pairs or fields with them.
 use Rattle.std.proofs.Common.{◌≡◌, refl, ap₂, ℕ, ◌<◌, List, [], ◌∷◌, arith}
-use Rattle.ufmt_core.specs.Document.{Document, document, documents, pairs_of, fields_of, nest, nest_all, nest_pairs, nest_fields}
+use Rattle.ufmt_core.specs.Document.{Document, first_document, documents, pairs_of, fields_of, nest, nest_all, nest_pairs, nest_fields}
 use Rattle.ufmt.specs.Token.{IsWord, HasTokens, HaveTokens, PairsHaveTokens, FieldsHaveTokens, normal, normal_all, normal_pairs, normal_fields}
 use Rattle.ufmt.proofs.BlocksSound.{AreGood, IsGoodPair}
 
@@ -16,7 +16,7 @@ documents_tokens n (d ∷ ds) h = (h.0.tokens, documents_tokens n ds h.1)
 
 pub documents_normal : (n : ℕ) (ds : List Document) → AreGood (IsNormalBelow n) ds → normal_all (documents ds) ≡ documents ds
 documents_normal n [] h = refl
-documents_normal n (d ∷ ds) h = ap₂ document h.0.is_normal (documents_normal n ds h.1)
+documents_normal n (d ∷ ds) h = ap₂ first_document h.0.is_normal (documents_normal n ds h.1)
 
 pub documents_nest : (n : ℕ) (ds : List Document) → AreGood (IsNormalBelow n) ds → 0 < n → nest_all (documents ds) < n
 documents_nest n [] h some = some

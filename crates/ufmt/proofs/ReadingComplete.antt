@@ -1,6 +1,6 @@
 -- Reading is complete: the text of a token document, before a follower, is read as its normal form.
 use Rattle.std.proofs.Common.{◌≡◌, ◌∙◌, inl, refl, ap, ℕ, zero, suc, ◌<◌, ◌≤◌, List, [], ◌∷◌, ◌++◌, Some, None, codes, append_assoc, append-nil, arith}
-use Rattle.ufmt_core.specs.Document.{Document, leaf, joined, list_of, set_of, map_of, struct_of, tuple_of, pretty_part, Documents, no_documents, document, Pairs, no_pairs, pair, Fields, no_fields, field, documents, pairs_of, fields_of, nest, nest_all, nest_pairs, nest_fields}
+use Rattle.ufmt_core.specs.Document.{Document, leaf, joined, list_of, set_of, map_of, struct_of, tuple_of, pretty_part, Documents, no_documents, first_document, Pairs, no_pairs, first_pair, Fields, no_fields, first_field, documents, pairs_of, fields_of, nest, nest_all, nest_pairs, nest_fields}
 use Rattle.ufmt_core.specs.Layout.{frame, inside, new_line, lead, trail, block_tail, layout, texts, pair_texts, field_texts}
 use Rattle.ufmt_core.specs.declared.layout.Setting.{Setting}
 use Rattle.ufmt_core.specs.declared.layout.Kind.TheVariants.{Brackets, Braces, Struct, Tuple, Unnamed}
@@ -22,13 +22,13 @@ documents_complete : (p : Parse Document) (i : Setting) (n : ℕ) → ReadsBelow
     → AreRead p (listed (normal_all ds)) (texts i ds)
 unfolding listed
 documents_complete p i n below no_documents h less = tt
-documents_complete p i n below (document d ds) h less = (below.reads d h.0 (omega arith), documents_complete p i n below ds h.1 (omega arith))
+documents_complete p i n below (first_document d ds) h less = (below.reads d h.0 (omega arith), documents_complete p i n below ds h.1 (omega arith))
 
 pairs_complete : (p : Parse Document) (i : Setting) (n : ℕ) → ReadsBelow p i n → (ps : Pairs) → PairsHaveTokens ps → nest_pairs ps < n
     → AreRead (read_pair p p) (listed_pairs (normal_pairs ps)) (pair_texts i ps)
 unfolding listed_pairs
 pairs_complete p i n below no_pairs h less = tt
-pairs_complete p i n below (pair key value ps) h less = (
+pairs_complete p i n below (first_pair key value ps) h less = (
   read_pair_complete p p (normal key) (normal value) (layout i key) (layout i value) (below.reads key h.0 (omega arith))
       (below.reads value h.1 (omega arith)),
   pairs_complete p i n below ps h.2 (omega arith),
@@ -38,7 +38,7 @@ fields_complete : (p : Parse Document) (i : Setting) (n : ℕ) → ReadsBelow p 
     → AreRead (read_pair read_word p) (listed_fields (normal_fields fs)) (field_texts i fs)
 unfolding listed_fields
 fields_complete p i n below no_fields h less = tt
-fields_complete p i n below (field name value fs) h less = (
+fields_complete p i n below (first_field name value fs) h less = (
   read_pair_complete read_word p name (normal value) name (layout i value) (field_name_complete name h.0)
       (below.reads value h.1 (omega arith)),
   fields_complete p i n below fs h.2 (omega arith),
@@ -55,8 +55,8 @@ lead_chosen start text after left u f b = rw (entry_assoc start text after left 
 
 -- a list with entries is read
 list_complete : (s : Setting) (p : Parse Document) (n : ℕ) → ReadsBelow p (inside s) n → Fits s n
-    → (d : Document) (ds : Documents) (u : List ℕ) → HasTokens d → HaveTokens ds → nest (list_of (document d ds)) ≤ n
-    → read_with s p (layout s (list_of (document d ds)) ++ u) ≡ Some (normal (list_of (document d ds)), u)
+    → (d : Document) (ds : Documents) (u : List ℕ) → HasTokens d → HaveTokens ds → nest (list_of (first_document d ds)) ≤ n
+    → read_with s p (layout s (list_of (first_document d ds)) ++ u) ≡ Some (normal (list_of (first_document d ds)), u)
 list_complete s p n below fits d ds u h hs less =
     let first : IsRead p (normal d) (layout (inside s) d) = below.reads d h (omega arith) in
     let more : AreRead p (listed (normal_all ds)) (texts (inside s) ds) = documents_complete p (inside s) n below ds hs (omega arith) in
@@ -64,12 +64,12 @@ list_complete s p n below fits d ds u h hs less =
     rw (closer_begins_none 93 [] refl (entries_begin s first.begins (trail s.mode ++ block_tail (frame s.mode Brackets) s One (texts (inside s) ds)) u))
     (rw (read_block_complete p (frame s.mode Brackets) s (λ es. list_of (documents es)) close (normal d) (listed (normal_all ds))
     (layout (inside s) d) (texts (inside s) ds) u first more)
-    (ap (λ es. Some (list_of (document (normal d) es), u)) (documents-listed (normal_all ds))))
+    (ap (λ es. Some (list_of (first_document (normal d) es), u)) (documents-listed (normal_all ds))))
 
 -- a set with entries is read
 set_complete : (s : Setting) (p : Parse Document) (n : ℕ) → ReadsBelow p (inside s) n → Fits s n
-    → (d : Document) (ds : Documents) (u : List ℕ) → HasTokens d → HaveTokens ds → nest (set_of (document d ds)) ≤ n
-    → read_with s p (layout s (set_of (document d ds)) ++ u) ≡ Some (normal (set_of (document d ds)), u)
+    → (d : Document) (ds : Documents) (u : List ℕ) → HasTokens d → HaveTokens ds → nest (set_of (first_document d ds)) ≤ n
+    → read_with s p (layout s (set_of (first_document d ds)) ++ u) ≡ Some (normal (set_of (first_document d ds)), u)
 set_complete s p n below fits d ds u h hs less =
     let first : IsRead p (normal d) (layout (inside s) d) = below.reads d h (omega arith) in
     let more : AreRead p (listed (normal_all ds)) (texts (inside s) ds) = documents_complete p (inside s) n below ds hs (omega arith) in
@@ -86,12 +86,12 @@ set_complete s p n below fits d ds u h hs less =
     )
     (rw (read_after_first_complete p (frame s.mode Braces) s (λ es. set_of (documents es)) close (normal d) (listed (normal_all ds))
     (texts (inside s) ds) u more)
-    (ap (λ es. Some (set_of (document (normal d) es), u)) (documents-listed (normal_all ds))))))
+    (ap (λ es. Some (set_of (first_document (normal d) es), u)) (documents-listed (normal_all ds))))))
 
 -- a map with entries is read
 map_complete : (s : Setting) (p : Parse Document) (n : ℕ) → ReadsBelow p (inside s) n → Fits s n
     → (key value : Document) (ps : Pairs) (u : List ℕ) → HasTokens key → HasTokens value → PairsHaveTokens ps
-    → nest (map_of (pair key value ps)) ≤ n → read_with s p (layout s (map_of (pair key value ps)) ++ u) ≡ Some (normal (map_of (pair key value ps)), u)
+    → nest (map_of (first_pair key value ps)) ≤ n → read_with s p (layout s (map_of (first_pair key value ps)) ++ u) ≡ Some (normal (map_of (first_pair key value ps)), u)
 map_complete s p n below fits key value ps u hk hv hs less =
     let first : IsRead p (normal key) (layout (inside s) key) = below.reads key hk (omega arith) in
     let second : IsRead p (normal value) (layout (inside s) value) = below.reads value hv (omega arith) in
@@ -112,13 +112,13 @@ map_complete s p n below fits key value ps u hk hv hs less =
     (rest_follows (frame s.mode Braces) s close Zero (pair_texts (inside s) ps) u))
     (rw (read_after_first_complete (read_pair p p) (frame s.mode Braces) s (λ es. map_of (pairs_of es)) close (normal key, normal value)
     (listed_pairs (normal_pairs ps)) (pair_texts (inside s) ps) u more)
-    (ap (λ es. Some (map_of (pair (normal key) (normal value) es), u)) (pairs_of-listed_pairs (normal_pairs ps)))))))
+    (ap (λ es. Some (map_of (first_pair (normal key) (normal value) es), u)) (pairs_of-listed_pairs (normal_pairs ps)))))))
 
 -- a struct with fields is read
 struct_complete : (s : Setting) (p : Parse Document) (n : ℕ) → ReadsBelow p (inside s) n → Fits s n
     → (name field_name : List ℕ) (value : Document) (fs : Fields) (u : List ℕ) → IsWord name → IsWord field_name → HasTokens value → FieldsHaveTokens fs
-    → nest (struct_of name (field field_name value fs)) ≤ n
-    → read_with s p (layout s (struct_of name (field field_name value fs)) ++ u) ≡ Some (normal (struct_of name (field field_name value fs)), u)
+    → nest (struct_of name (first_field field_name value fs)) ≤ n
+    → read_with s p (layout s (struct_of name (first_field field_name value fs)) ++ u) ≡ Some (normal (struct_of name (first_field field_name value fs)), u)
 struct_complete s p n below fits [] field_name value fs u hn hl hv hs less = absurd hn
 struct_complete s p n below fits (c ∷ name) field_name value fs u hn hl hv hs less =
     let entry : List ℕ = field_name ++ (codes ": " ++ layout (inside s) value) in
@@ -131,13 +131,13 @@ struct_complete s p n below fits (c ∷ name) field_name value fs u hn hl hv hs 
     ∙ (lead_chosen start entry (trail s.mode) left u (read_struct s p (c ∷ name)) (Some (leaf (c ∷ name), (start ++ (entry ++ (trail s.mode ++ left))) ++ u))
     ∙ (read_entries_complete (read_pair read_word p) (frame s.mode Struct) s (λ es. struct_of (c ∷ name) (fields_of es)) close
     (field_name, normal value) (listed_fields (normal_fields fs)) entry (field_texts (inside s) fs) u first more
-    ∙ (ap (λ es. Some (struct_of (c ∷ name) (field field_name (normal value) es), u)) (fields_of-listed_fields (normal_fields fs)))))
+    ∙ (ap (λ es. Some (struct_of (c ∷ name) (first_field field_name (normal value) es), u)) (fields_of-listed_fields (normal_fields fs)))))
 
 -- a tuple with fields is read
 tuple_complete : (s : Setting) (p : Parse Document) (n : ℕ) → ReadsBelow p (inside s) n → Fits s n
     → (name : List ℕ) (d : Document) (ds : Documents) (u : List ℕ) → AreWordBytes name → HasTokens d → HaveTokens ds
-    → nest (tuple_of name (document d ds)) ≤ n
-    → read_with s p (layout s (tuple_of name (document d ds)) ++ u) ≡ Some (normal (tuple_of name (document d ds)), u)
+    → nest (tuple_of name (first_document d ds)) ≤ n
+    → read_with s p (layout s (tuple_of name (first_document d ds)) ++ u) ≡ Some (normal (tuple_of name (first_document d ds)), u)
 tuple_complete s p n below fits [] d ds u hn h hs less =
     let first : IsRead p (normal d) (layout (inside s) d) = below.reads d h (omega arith) in
     let more : AreRead p (listed (normal_all ds)) (texts (inside s) ds) = documents_complete p (inside s) n below ds hs (omega arith) in
@@ -145,7 +145,7 @@ tuple_complete s p n below fits [] d ds u hn h hs less =
     rw (no_symbol (entries_begin s first.begins (trail s.mode ++ block_tail (frame s.mode Unnamed) s One (texts (inside s) ds)) u))
     (rw (read_block_complete p (frame s.mode Unnamed) s (λ es. tuple_of [] (documents es)) close (normal d) (listed (normal_all ds))
     (layout (inside s) d) (texts (inside s) ds) u first more)
-    (ap (λ es. Some (tuple_of [] (document (normal d) es), u)) (documents-listed (normal_all ds))))
+    (ap (λ es. Some (tuple_of [] (first_document (normal d) es), u)) (documents-listed (normal_all ds))))
 tuple_complete s p n below fits (c ∷ name) d ds u hn h hs less =
     let first : IsRead p (normal d) (layout (inside s) d) = below.reads d h (omega arith) in
     let more : AreRead p (listed (normal_all ds)) (texts (inside s) ds) = documents_complete p (inside s) n below ds hs (omega arith) in
@@ -158,7 +158,7 @@ tuple_complete s p n below fits (c ∷ name) d ds u hn h hs less =
     (read_struct s p (c ∷ name)) (Some (leaf (c ∷ name), (start ++ (layout (inside s) d ++ (trail s.mode ++ left))) ++ u)))
     ∙ (read_entries_complete p (frame s.mode Tuple) s (λ es. tuple_of (c ∷ name) (documents es)) close (normal d) (listed (normal_all ds))
     (layout (inside s) d) (texts (inside s) ds) u first more
-    ∙ (ap (λ es. Some (tuple_of (c ∷ name) (document (normal d) es), u)) (documents-listed (normal_all ds)))))
+    ∙ (ap (λ es. Some (tuple_of (c ∷ name) (first_document (normal d) es), u)) (documents-listed (normal_all ds)))))
 
 -- a struct or tuple without fields is read as the leaf of its name
 name_complete : (s : Setting) (p : Parse Document) (name u : List ℕ) → IsWord name → IsFollower u → read_with s p ((name ++ []) ++ u) ≡ Some (leaf name, u)
@@ -170,17 +170,17 @@ read_with_complete : (s : Setting) (p : Parse Document) (n : ℕ) → ReadsBelow
 read_with_complete s p n below fits (leaf text) u h less follows = leaf_complete s p text u h follows
 read_with_complete s p n below fits (joined ds) u h less follows = absurd h
 read_with_complete s p n below fits (list_of no_documents) u h less follows = refl
-read_with_complete s p n below fits (list_of (document d ds)) u h less follows = list_complete s p n below fits d ds u h.0 h.1 less
+read_with_complete s p n below fits (list_of (first_document d ds)) u h less follows = list_complete s p n below fits d ds u h.0 h.1 less
 read_with_complete s p n below fits (set_of no_documents) u h less follows = refl
-read_with_complete s p n below fits (set_of (document d ds)) u h less follows = set_complete s p n below fits d ds u h.0 h.1 less
+read_with_complete s p n below fits (set_of (first_document d ds)) u h less follows = set_complete s p n below fits d ds u h.0 h.1 less
 read_with_complete s p n below fits (map_of no_pairs) u h less follows = refl
-read_with_complete s p n below fits (map_of (pair key value ps)) u h less follows = map_complete s p n below fits key value ps u h.0 h.1 h.2 less
+read_with_complete s p n below fits (map_of (first_pair key value ps)) u h less follows = map_complete s p n below fits key value ps u h.0 h.1 h.2 less
 read_with_complete s p n below fits (struct_of name no_fields) u h less follows = name_complete s p name u h.0 follows
-read_with_complete s p n below fits (struct_of name (field field_name value fs)) u h less follows =
+read_with_complete s p n below fits (struct_of name (first_field field_name value fs)) u h less follows =
     struct_complete s p n below fits name field_name value fs u h.0 h.1.0 h.1.1 h.1.2 less
 read_with_complete s p n below fits (tuple_of [] no_documents) u h less follows = absurd h
 read_with_complete s p n below fits (tuple_of (c ∷ name) no_documents) u h less follows = name_complete s p (c ∷ name) u h follows
-read_with_complete s p n below fits (tuple_of name (document d ds)) u h less follows = tuple_complete s p n below fits name d ds u h.0 h.1 h.2 less
+read_with_complete s p n below fits (tuple_of name (first_document d ds)) u h less follows = tuple_complete s p n below fits name d ds u h.0 h.1 h.2 less
 read_with_complete s p n below fits (pretty_part d) u h less follows = absurd h
 
 pub read_complete : (n : ℕ) (s : Setting) (d : Document) (u : List ℕ) → HasTokens d → nest d ≤ n → Fits s n → IsFollower u

@@ -1,7 +1,7 @@
 -- Shifting moves a pretty text one depth in, so a document's shifted text is its pretty text.
 use Rattle.std.proofs.Common.{◌≡◌, ℕ, zero, suc, ◌+◌, ◌≤◌, ◌==◌, List, [], ◌∷◌, ◌++◌, map, Bool, true, false, codes, refl, sym, ap, ap₂, ◌∙◌, append_assoc, ne_eqb, arith}
 use Rattle.std.specs.Prelude.{⊤}
-use Rattle.ufmt_core.specs.Document.{Document, leaf, joined, list_of, set_of, map_of, struct_of, tuple_of, pretty_part, Documents, no_documents, document, Pairs, no_pairs, pair, Fields, no_fields, field, nest, nest_all, nest_pairs, nest_fields}
+use Rattle.ufmt_core.specs.Document.{Document, leaf, joined, list_of, set_of, map_of, struct_of, tuple_of, pretty_part, Documents, no_documents, first_document, Pairs, no_pairs, first_pair, Fields, no_fields, first_field, nest, nest_all, nest_pairs, nest_fields}
 use Rattle.ufmt_core.specs.Layout.{Frame, frame, tuple_kind, setting, inside, entry_depth, indentation, separator, lead, ending, next, block_tail, block_text, layout, layouts, texts, pair_texts, field_texts, pretty_text}
 use Rattle.ufmt_core.specs.declared.layout.Mode.TheVariants.{Pretty}
 use Rattle.ufmt_core.specs.declared.layout.Setting.{Setting}
@@ -167,23 +167,23 @@ HasRoom-entries k n s ss h = record { within = omega arith; deeper = omega arith
 -- a block of any kind has room for its entries if it reaches depth 255 at most
 HasRoom-list_of : (k : ℕ) (ds : Documents) → nest (list_of ds) + k ≤ 255 → HasRoom k (nest_all ds) (shifted_texts ds)
 HasRoom-list_of k no_documents h = HasRoom-empty k h
-HasRoom-list_of k (document d ds) h = HasRoom-entries k _ _ _ h
+HasRoom-list_of k (first_document d ds) h = HasRoom-entries k _ _ _ h
 
 HasRoom-set_of : (k : ℕ) (ds : Documents) → nest (set_of ds) + k ≤ 255 → HasRoom k (nest_all ds) (shifted_texts ds)
 HasRoom-set_of k no_documents h = HasRoom-empty k h
-HasRoom-set_of k (document d ds) h = HasRoom-entries k _ _ _ h
+HasRoom-set_of k (first_document d ds) h = HasRoom-entries k _ _ _ h
 
 HasRoom-tuple_of : (k : ℕ) (name : List ℕ) (ds : Documents) → nest (tuple_of name ds) + k ≤ 255 → HasRoom k (nest_all ds) (shifted_texts ds)
 HasRoom-tuple_of k name no_documents h = HasRoom-empty k h
-HasRoom-tuple_of k name (document d ds) h = HasRoom-entries k _ _ _ h
+HasRoom-tuple_of k name (first_document d ds) h = HasRoom-entries k _ _ _ h
 
 HasRoom-map_of : (k : ℕ) (ps : Pairs) → nest (map_of ps) + k ≤ 255 → HasRoom k (nest_pairs ps) (shifted_pairs ps)
 HasRoom-map_of k no_pairs h = HasRoom-empty k h
-HasRoom-map_of k (pair key value ps) h = HasRoom-entries k _ _ _ h
+HasRoom-map_of k (first_pair key value ps) h = HasRoom-entries k _ _ _ h
 
 HasRoom-struct_of : (k : ℕ) (name : List ℕ) (fs : Fields) → nest (struct_of name fs) + k ≤ 255 → HasRoom k (nest_fields fs) (shifted_fields fs)
 HasRoom-struct_of k name no_fields h = HasRoom-empty k h
-HasRoom-struct_of k name (field field_name value fs) h = HasRoom-entries k _ _ _ h
+HasRoom-struct_of k name (first_field field_name value fs) h = HasRoom-entries k _ _ _ h
 
 -- a block at depth k is its shifted block, hanging by k, if its entries' texts hang
 block_text-shifted : (kind : Kind) (k n : ℕ) (name : List ℕ) (ss ts : List (List ℕ)) → IsOneLine name → HasRoom k n ss
@@ -205,17 +205,17 @@ mutual
 
   layouts-shifted : (k : ℕ) (ds : Documents) → HaveNoLineFeed ds → nest_all ds + k ≤ 255 → layouts (setting Pretty k) ds ≡ hanging k (shifted_joined ds)
   layouts-shifted k no_documents h n = refl
-  layouts-shifted k (document d ds) h n = rw (hanging-append k (shifted d) _)
+  layouts-shifted k (first_document d ds) h n = rw (hanging-append k (shifted d) _)
       (ap₂ ◌++◌ (layout-shifted k d h.0 (omega arith)) (layouts-shifted k ds h.1 (omega arith)))
 
   texts-shifted : (k : ℕ) (ds : Documents) → HaveNoLineFeed ds → nest_all ds + k ≤ 255 → texts (setting Pretty k) ds ≡ map (hanging k) (shifted_texts ds)
   texts-shifted k no_documents h n = refl
-  texts-shifted k (document d ds) h n = ap₂ ◌∷◌ (layout-shifted k d h.0 (omega arith)) (texts-shifted k ds h.1 (omega arith))
+  texts-shifted k (first_document d ds) h n = ap₂ ◌∷◌ (layout-shifted k d h.0 (omega arith)) (texts-shifted k ds h.1 (omega arith))
 
   pair_texts-shifted : (k : ℕ) (ps : Pairs) → PairsHaveNoLineFeed ps → nest_pairs ps + k ≤ 255
       → pair_texts (setting Pretty k) ps ≡ map (hanging k) (shifted_pairs ps)
   pair_texts-shifted k no_pairs h n = refl
-  pair_texts-shifted k (pair key value ps) h n =
+  pair_texts-shifted k (first_pair key value ps) h n =
       rw (
         hanging-append k (shifted key) _,
         layout-shifted k key h.0 (omega arith),
@@ -226,7 +226,7 @@ mutual
   field_texts-shifted : (k : ℕ) (fs : Fields) → FieldsHaveNoLineFeed fs → nest_fields fs + k ≤ 255
       → field_texts (setting Pretty k) fs ≡ map (hanging k) (shifted_fields fs)
   field_texts-shifted k no_fields h n = refl
-  field_texts-shifted k (field name value fs) h n =
+  field_texts-shifted k (first_field name value fs) h n =
       rw (hanging-append k name _, hanging-one_line k name h.0, layout-shifted k value h.1 (omega arith), field_texts-shifted k fs h.2 (omega arith))
 
 -- a document's shifted text, shifted k times as lines, is its pretty text at depth k

@@ -1,6 +1,6 @@
 -- The text of a token document begins with no closer.
 use Rattle.std.proofs.Common.{refl, [], ◌∷◌}
-use Rattle.ufmt_core.specs.Document.{Document, leaf, joined, list_of, set_of, map_of, struct_of, tuple_of, pretty_part, no_documents, document}
+use Rattle.ufmt_core.specs.Document.{Document, leaf, joined, list_of, set_of, map_of, struct_of, tuple_of, pretty_part, no_documents, first_document}
 use Rattle.ufmt_core.specs.Layout.{layout}
 use Rattle.ufmt_core.specs.declared.layout.Setting.{Setting}
 use Rattle.ufmt.specs.Token.{HasTokens}
@@ -15,6 +15,6 @@ document_begins i (set_of ds) h = record { first = 123; tail = _; is = refl; no_
 document_begins i (map_of ps) h = record { first = 123; tail = _; is = refl; no_closer = refl }
 document_begins i (struct_of name fs) h = Begins-append (word_begins name h.0) _
 document_begins i (tuple_of name no_documents) h = Begins-append (word_begins name h) _
-document_begins i (tuple_of [] (document d ds)) h = record { first = 40; tail = _; is = refl; no_closer = refl }
-document_begins i (tuple_of (c ∷ name) (document d ds)) h = Begins-append (word_begins (c ∷ name) h.0) _
+document_begins i (tuple_of [] (first_document d ds)) h = record { first = 40; tail = _; is = refl; no_closer = refl }
+document_begins i (tuple_of (c ∷ name) (first_document d ds)) h = Begins-append (word_begins (c ∷ name) h.0) _
 document_begins i (pretty_part d) h = absurd h

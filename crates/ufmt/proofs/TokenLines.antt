@@ -1,7 +1,7 @@
 -- A token document has no line feed in a leaf or a name.
 use Rattle.std.proofs.Common.{◌≡◌, ◌≢◌, ℕ, List, [], ◌∷◌, true, codes, sym, subst, inl, inr, arith}
 use Rattle.std.proofs.lemmas.Bool.{false≢true}
-use Rattle.ufmt_core.specs.Document.{Document, leaf, joined, list_of, set_of, map_of, struct_of, tuple_of, pretty_part, Documents, no_documents, document, Pairs, no_pairs, pair, Fields, no_fields, field}
+use Rattle.ufmt_core.specs.Document.{Document, leaf, joined, list_of, set_of, map_of, struct_of, tuple_of, pretty_part, Documents, no_documents, first_document, Pairs, no_pairs, first_pair, Fields, no_fields, first_field}
 use Rattle.ufmt.specs.Shift.{IsOneLine, HasNoLineFeed, HaveNoLineFeed, PairsHaveNoLineFeed, FieldsHaveNoLineFeed}
 use Rattle.ufmt.specs.Token.{is_word_byte, AreWordBytes, IsWord, IsTokenLeaf, HasTokens, HaveTokens, PairsHaveTokens, FieldsHaveTokens}
 use Rattle.ufmt.proofs.QuotedLines.{quoted_is_one_line}
@@ -31,18 +31,18 @@ mutual
   HasTokens-HasNoLineFeed (map_of ps) h = PairsHaveTokens-HaveNoLineFeed ps h
   HasTokens-HasNoLineFeed (struct_of name fs) h = (IsWord-IsOneLine name h.0, FieldsHaveTokens-HaveNoLineFeed fs h.1)
   HasTokens-HasNoLineFeed (tuple_of name no_documents) h = (IsWord-IsOneLine name h, tt)
-  HasTokens-HasNoLineFeed (tuple_of name (document d ds)) h = (AreWordBytes-IsOneLine name h.0, (HasTokens-HasNoLineFeed d h.1, HaveTokens-HaveNoLineFeed ds h.2))
+  HasTokens-HasNoLineFeed (tuple_of name (first_document d ds)) h = (AreWordBytes-IsOneLine name h.0, (HasTokens-HasNoLineFeed d h.1, HaveTokens-HaveNoLineFeed ds h.2))
   HasTokens-HasNoLineFeed (pretty_part d) h = absurd h
 
   HaveTokens-HaveNoLineFeed : (ds : Documents) → HaveTokens ds → HaveNoLineFeed ds
   HaveTokens-HaveNoLineFeed no_documents h = tt
-  HaveTokens-HaveNoLineFeed (document d ds) h = (HasTokens-HasNoLineFeed d h.0, HaveTokens-HaveNoLineFeed ds h.1)
+  HaveTokens-HaveNoLineFeed (first_document d ds) h = (HasTokens-HasNoLineFeed d h.0, HaveTokens-HaveNoLineFeed ds h.1)
 
   PairsHaveTokens-HaveNoLineFeed : (ps : Pairs) → PairsHaveTokens ps → PairsHaveNoLineFeed ps
   PairsHaveTokens-HaveNoLineFeed no_pairs h = tt
-  PairsHaveTokens-HaveNoLineFeed (pair key value ps) h = (HasTokens-HasNoLineFeed key h.0, HasTokens-HasNoLineFeed value h.1, PairsHaveTokens-HaveNoLineFeed ps h.2)
+  PairsHaveTokens-HaveNoLineFeed (first_pair key value ps) h = (HasTokens-HasNoLineFeed key h.0, HasTokens-HasNoLineFeed value h.1, PairsHaveTokens-HaveNoLineFeed ps h.2)
 
   FieldsHaveTokens-HaveNoLineFeed : (fs : Fields) → FieldsHaveTokens fs → FieldsHaveNoLineFeed fs
   FieldsHaveTokens-HaveNoLineFeed no_fields h = tt
-  FieldsHaveTokens-HaveNoLineFeed (field name value fs) h =
+  FieldsHaveTokens-HaveNoLineFeed (first_field name value fs) h =
       (IsWord-IsOneLine name h.0, HasTokens-HasNoLineFeed value h.1, FieldsHaveTokens-HaveNoLineFeed fs h.2)

@@ -1,6 +1,6 @@
 -- An unquoted leaf can be read again exactly if it is a word or `()`.
 use Rattle.std.proofs.Common.{◌⊎◌, inl, inr, ℕ, List}
-use Rattle.ufmt_core.specs.Document.{Document, leaf, joined, list_of, set_of, map_of, struct_of, tuple_of, pretty_part, Documents, no_documents, document, Pairs, no_pairs, pair, Fields, no_fields, field}
+use Rattle.ufmt_core.specs.Document.{Document, leaf, joined, list_of, set_of, map_of, struct_of, tuple_of, pretty_part, Documents, no_documents, first_document, Pairs, no_pairs, first_pair, Fields, no_fields, first_field}
 use Rattle.ufmt_core.specs.Quoted.{IsQuoted}
 use Rattle.ufmt.specs.Token.{IsWord, IsSymbol, HasLeaves, HaveLeaves, PairsHaveLeaves, FieldsHaveLeaves, IsTokenLeaf, IsUnquotedLeaf}
 use Rattle.ufmt.specs.UnquotedLaws.{EachLeaf, AllLeaves, LeavesOfPairs, LeavesOfFields, UnquotedAsBefore}
@@ -16,20 +16,20 @@ module _ (P Q R : List ℕ → Type 0) (both : (text : List ℕ) → P text → 
     HasLeaves-both (map_of ps) h k = PairsHaveLeaves-both ps h k
     HasLeaves-both (struct_of name fs) h k = (h.0, FieldsHaveLeaves-both fs h.1 k)
     HasLeaves-both (tuple_of name no_documents) h k = h
-    HasLeaves-both (tuple_of name (document d ds)) h k = (h.0, HasLeaves-both d h.1 k.0, HaveLeaves-both ds h.2 k.1)
+    HasLeaves-both (tuple_of name (first_document d ds)) h k = (h.0, HasLeaves-both d h.1 k.0, HaveLeaves-both ds h.2 k.1)
     HasLeaves-both (pretty_part d) h k = absurd h
 
     HaveLeaves-both : (ds : Documents) → HaveLeaves P ds → AllLeaves Q ds → HaveLeaves R ds
     HaveLeaves-both no_documents h k = tt
-    HaveLeaves-both (document d ds) h k = (HasLeaves-both d h.0 k.0, HaveLeaves-both ds h.1 k.1)
+    HaveLeaves-both (first_document d ds) h k = (HasLeaves-both d h.0 k.0, HaveLeaves-both ds h.1 k.1)
 
     PairsHaveLeaves-both : (ps : Pairs) → PairsHaveLeaves P ps → LeavesOfPairs Q ps → PairsHaveLeaves R ps
     PairsHaveLeaves-both no_pairs h k = tt
-    PairsHaveLeaves-both (pair key value ps) h k = (HasLeaves-both key h.0 k.0, HasLeaves-both value h.1 k.1, PairsHaveLeaves-both ps h.2 k.2)
+    PairsHaveLeaves-both (first_pair key value ps) h k = (HasLeaves-both key h.0 k.0, HasLeaves-both value h.1 k.1, PairsHaveLeaves-both ps h.2 k.2)
 
     FieldsHaveLeaves-both : (fs : Fields) → FieldsHaveLeaves P fs → LeavesOfFields Q fs → FieldsHaveLeaves R fs
     FieldsHaveLeaves-both no_fields h k = tt
-    FieldsHaveLeaves-both (field name value fs) h k = (h.0, HasLeaves-both value h.1 k.0, FieldsHaveLeaves-both fs h.2 k.1)
+    FieldsHaveLeaves-both (first_field name value fs) h k = (h.0, HasLeaves-both value h.1 k.0, FieldsHaveLeaves-both fs h.2 k.1)
 
 unquoted : (text : List ℕ) → IsTokenLeaf text → ¬ (IsQuoted text) → IsUnquotedLeaf text
 unquoted text h no_quotes = go h.shape

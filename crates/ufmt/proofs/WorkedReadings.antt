@@ -1,7 +1,7 @@
 -- Examples of texts that are read, and of texts that are not, computed.
 use Rattle.std.proofs.Common.{◌≡◌, [], ◌∷◌, codes, map, replicate, Some, None, refl}
 use Rattle.std.specs.Str.{chars, is_utf8}
-use Rattle.ufmt_core.specs.Document.{Document, leaf, list_of, set_of, map_of, struct_of, tuple_of, Documents, no_documents, document, no_pairs, pair, no_fields, field}
+use Rattle.ufmt_core.specs.Document.{Document, leaf, list_of, set_of, map_of, struct_of, tuple_of, Documents, no_documents, first_document, no_pairs, first_pair, no_fields, first_field}
 use Rattle.ufmt_core.specs.declared.layout.Mode.TheVariants.{Plain, Pretty}
 use Rattle.ufmt.specs.Reading.{read, read_rest, read_text}
 use Rattle.ufmt.specs.ReadingQuoted.{read_inside, read_quoted}
@@ -10,11 +10,11 @@ abbrev one : Document
 one = leaf (codes "1")
 
 abbrev lone : Document → Documents
-lone d = document d no_documents
+lone d = first_document d no_documents
 
 -- a list of an empty list and a list of one number
 abbrev lists : Document
-lists = list_of (document (list_of no_documents) (lone (list_of (lone one))))
+lists = list_of (first_document (list_of no_documents) (lone (list_of (lone one))))
 
 lists-plain : read_text Plain (codes "[[], [1]]") ≡ Some lists
 unfolding read read_rest
@@ -34,18 +34,18 @@ unfolding read read_rest
 set-plain = refl
 
 map-plain : read_text Plain (codes "{a: {}, (): [1]}")
-    ≡ Some (map_of (pair (leaf (codes "a")) (map_of no_pairs) (pair (leaf (codes "()")) (list_of (lone one)) no_pairs)))
+    ≡ Some (map_of (first_pair (leaf (codes "a")) (map_of no_pairs) (first_pair (leaf (codes "()")) (list_of (lone one)) no_pairs)))
 unfolding read read_rest
 map-plain = refl
 
 -- a struct without fields is read as the leaf of its name
 struct-plain : read_text Plain (codes "S { x: -1, y: N }")
-    ≡ Some (struct_of (codes "S") (field (codes "x") (leaf (codes "-1")) (field (codes "y") (leaf (codes "N")) no_fields)))
+    ≡ Some (struct_of (codes "S") (first_field (codes "x") (leaf (codes "-1")) (first_field (codes "y") (leaf (codes "N")) no_fields)))
 unfolding read read_rest
 struct-plain = refl
 
 struct-pretty : read_text Pretty (codes "S {\n    x: (\n        1,\n    ),\n}")
-    ≡ Some (struct_of (codes "S") (field (codes "x") (tuple_of [] (lone one)) no_fields))
+    ≡ Some (struct_of (codes "S") (first_field (codes "x") (tuple_of [] (lone one)) no_fields))
 unfolding read read_rest read_quoted
 struct-pretty = refl
 
@@ -76,11 +76,11 @@ unfolding read read_rest read_quoted
 not_plain = refl
 
 -- brackets, commas and colons in quotes belong to the quoted leaf
-quotes-plain : read_text Plain (codes "{\"a\": \"b: c, d\"}") ≡ Some (map_of (pair (leaf (codes "\"a\"")) (leaf (codes "\"b: c, d\"")) no_pairs))
+quotes-plain : read_text Plain (codes "{\"a\": \"b: c, d\"}") ≡ Some (map_of (first_pair (leaf (codes "\"a\"")) (leaf (codes "\"b: c, d\"")) no_pairs))
 unfolding read read_rest read_quoted read_inside is_utf8 chars lib.Utf8.encode
 quotes-plain = refl
 
-quotes-list : read_text Plain (codes "[\"]\", '}']") ≡ Some (list_of (document (leaf (codes "\"]\"")) (lone (leaf (codes "'}'")))))
+quotes-list : read_text Plain (codes "[\"]\", '}']") ≡ Some (list_of (first_document (leaf (codes "\"]\"")) (lone (leaf (codes "'}'")))))
 unfolding read read_rest read_quoted read_inside is_utf8 chars lib.Utf8.encode
 quotes-list = refl
 

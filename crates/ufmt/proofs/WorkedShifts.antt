@@ -1,6 +1,6 @@
 -- Examples of shifted texts, computed.
 use Rattle.std.proofs.Common.{◌≡◌, codes, refl, arith}
-use Rattle.ufmt_core.specs.Document.{Document, leaf, joined, list_of, set_of, map_of, struct_of, tuple_of, pretty_part, Documents, no_documents, document, no_pairs, pair, no_fields, field}
+use Rattle.ufmt_core.specs.Document.{Document, leaf, joined, list_of, set_of, map_of, struct_of, tuple_of, pretty_part, Documents, no_documents, first_document, no_pairs, first_pair, no_fields, first_field}
 use Rattle.ufmt_core.specs.Layout.{pretty_text}
 use Rattle.ufmt.specs.Shift.{shift, shift_times, shifted, HasNoLineFeed}
 
@@ -28,7 +28,7 @@ abbrev two : Document
 two = leaf (codes "2")
 
 abbrev lone : Document → Documents
-lone d = document d no_documents
+lone d = first_document d no_documents
 
 shifted-leaf : shifted one ≡ codes "1"
 shifted-leaf = refl
@@ -37,12 +37,12 @@ shifted-leaf = refl
 shifted-empty_list : shifted (list_of no_documents) ≡ codes "[]"
 shifted-empty_list = refl
 
-shifted-lists : shifted (list_of (document (list_of no_documents) (lone (list_of (lone one))))) ≡ codes "[\n    [],\n    [\n        1,\n    ],\n]"
+shifted-lists : shifted (list_of (first_document (list_of no_documents) (lone (list_of (lone one))))) ≡ codes "[\n    [],\n    [\n        1,\n    ],\n]"
 shifted-lists = refl
 
 -- a struct with a map and a number
 shifted-settings : shifted (struct_of (codes "S")
-    (field (codes "m") (map_of (pair one two no_pairs)) (field (codes "n") (leaf (codes "3")) no_fields)))
+    (first_field (codes "m") (map_of (first_pair one two no_pairs)) (first_field (codes "n") (leaf (codes "3")) no_fields)))
     ≡ codes "S {\n    m: {\n        1: 2,\n    },\n    n: 3,\n}"
 shifted-settings = refl
 
@@ -53,19 +53,19 @@ shifted-single = refl
 shifted-some : shifted (tuple_of (codes "Some") (lone one)) ≡ codes "Some(\n    1,\n)"
 shifted-some = refl
 
-shifted-couple : shifted (tuple_of (codes "") (document one (lone two))) ≡ codes "(\n    1,\n    2,\n)"
+shifted-couple : shifted (tuple_of (codes "") (first_document one (lone two))) ≡ codes "(\n    1,\n    2,\n)"
 shifted-couple = refl
 
 -- sets, and a map in a map
-shifted-sets : shifted (list_of (document (set_of no_documents) (lone (set_of (lone one))))) ≡ codes "[\n    {},\n    {\n        1,\n    },\n]"
+shifted-sets : shifted (list_of (first_document (set_of no_documents) (lone (set_of (lone one))))) ≡ codes "[\n    {},\n    {\n        1,\n    },\n]"
 shifted-sets = refl
 
-shifted-maps : shifted (map_of (pair one (map_of (pair two (leaf (codes "3")) no_pairs)) no_pairs)) ≡ codes "{\n    1: {\n        2: 3,\n    },\n}"
+shifted-maps : shifted (map_of (first_pair one (map_of (first_pair two (leaf (codes "3")) no_pairs)) no_pairs)) ≡ codes "{\n    1: {\n        2: 3,\n    },\n}"
 shifted-maps = refl
 
 -- blocks without entries, joined
-shifted-empty_blocks : shifted (joined (document (list_of no_documents)
-    (document (map_of no_pairs) (document (struct_of (codes "A") no_fields) (lone (tuple_of (codes "B") no_documents)))))) ≡ codes "[]{}AB"
+shifted-empty_blocks : shifted (joined (first_document (list_of no_documents)
+    (first_document (map_of no_pairs) (first_document (struct_of (codes "A") no_fields) (lone (tuple_of (codes "B") no_documents)))))) ≡ codes "[]{}AB"
 shifted-empty_blocks = refl
 
 -- a pretty part has the shifted text of its document
@@ -85,8 +85,8 @@ pretty-two_lines = refl
 HasNoLineFeed-not-two_lines : HasNoLineFeed two_lines → ⊥
 HasNoLineFeed-not-two_lines h = h.0.1.0 refl
 
-HasNoLineFeed-not-field_name : HasNoLineFeed (struct_of (codes "S") (field (codes "\n") one no_fields)) → ⊥
+HasNoLineFeed-not-field_name : HasNoLineFeed (struct_of (codes "S") (first_field (codes "\n") one no_fields)) → ⊥
 HasNoLineFeed-not-field_name h = h.1.0.0 refl
 
-HasNoLineFeed-lists : HasNoLineFeed (list_of (document (list_of no_documents) (lone one)))
+HasNoLineFeed-lists : HasNoLineFeed (list_of (first_document (list_of no_documents) (lone one)))
 HasNoLineFeed-lists = (tt, ((λ e. omega (arith, e), tt), tt))

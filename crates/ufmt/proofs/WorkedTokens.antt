@@ -1,7 +1,7 @@
 -- Examples of words, token documents, normal forms and followers, computed.
 use Rattle.std.proofs.Common.{◌≡◌, [], ℕ, zero, suc, map, true, false, codes, refl, inl, inr, arith}
 use Rattle.std.proofs.lemmas.Bool.{false≢true}
-use Rattle.ufmt_core.specs.Document.{Document, leaf, joined, list_of, set_of, map_of, struct_of, tuple_of, pretty_part, Documents, no_documents, document, no_pairs, pair, no_fields, field, nest}
+use Rattle.ufmt_core.specs.Document.{Document, leaf, joined, list_of, set_of, map_of, struct_of, tuple_of, pretty_part, Documents, no_documents, first_document, no_pairs, first_pair, no_fields, first_field, nest}
 use Rattle.ufmt.specs.Token.{is_word_byte, IsWord, HasTokens, IsToken, normal, is_closer, IsFollower}
 use Rattle.ufmt.proofs.TokenLeaves.{leaf_begins, read_symbol_sound, symbol_leaf}
 use Rattle.ufmt.proofs.TokenLines.{HasTokens-HasNoLineFeed}
@@ -37,7 +37,7 @@ abbrev one : Document
 one = leaf (codes "1")
 
 abbrev lone : Document → Documents
-lone d = document d no_documents
+lone d = first_document d no_documents
 
 HasTokens-one : HasTokens one
 HasTokens-one = record { shape = inl (refl, tt) }
@@ -52,20 +52,20 @@ IsToken-not-line_feed : IsToken (leaf (codes "\n")) → ⊥
 IsToken-not-line_feed h = let line = HasTokens-HasNoLineFeed (leaf (codes "\n")) h.0 in line.0 refl
 
 -- a struct with an empty set and a tuple without a name
-IsToken-settings : IsToken (struct_of (codes "S") (field (codes "m") (set_of no_documents) (field (codes "n") (tuple_of (codes "") (lone one)) no_fields)))
+IsToken-settings : IsToken (struct_of (codes "S") (first_field (codes "m") (set_of no_documents) (first_field (codes "n") (tuple_of (codes "") (lone one)) no_fields)))
 IsToken-settings = (((refl, tt), ((refl, tt), tt, ((refl, tt), (tt, HasTokens-one, tt), tt))), omega arith)
 
-IsToken-map : IsToken (map_of (pair one one no_pairs))
+IsToken-map : IsToken (map_of (first_pair one one no_pairs))
 IsToken-map = ((HasTokens-one, HasTokens-one, tt), omega arith)
 
 -- only a tuple with fields may have an empty name
 IsToken-not-empty_tuple : IsToken (tuple_of (codes "") no_documents) → ⊥
 IsToken-not-empty_tuple h = h.0
 
-IsToken-not-empty_struct : IsToken (struct_of (codes "") (field (codes "n") one no_fields)) → ⊥
+IsToken-not-empty_struct : IsToken (struct_of (codes "") (first_field (codes "n") one no_fields)) → ⊥
 IsToken-not-empty_struct h = h.0.0
 
-IsToken-not-empty_field_name : IsToken (struct_of (codes "S") (field (codes "") one no_fields)) → ⊥
+IsToken-not-empty_field_name : IsToken (struct_of (codes "S") (first_field (codes "") one no_fields)) → ⊥
 IsToken-not-empty_field_name h = h.0.1.0
 
 IsToken-not-joined : IsToken (list_of (lone (joined no_documents))) → ⊥
@@ -110,10 +110,10 @@ normal-list = refl
 
 -- the normal form is taken at every level
 normal-inside : normal (struct_of (codes "S")
-    (field (codes "a") (map_of (pair (tuple_of (codes "K") no_documents) (set_of no_documents) no_pairs))
-    (field (codes "b") (set_of (lone (struct_of (codes "B") no_fields))) no_fields)))
-    ≡ struct_of (codes "S") (field (codes "a") (map_of (pair (leaf (codes "K")) (map_of no_pairs) no_pairs))
-    (field (codes "b") (set_of (lone (leaf (codes "B")))) no_fields))
+    (first_field (codes "a") (map_of (first_pair (tuple_of (codes "K") no_documents) (set_of no_documents) no_pairs))
+    (first_field (codes "b") (set_of (lone (struct_of (codes "B") no_fields))) no_fields)))
+    ≡ struct_of (codes "S") (first_field (codes "a") (map_of (first_pair (leaf (codes "K")) (map_of no_pairs) no_pairs))
+    (first_field (codes "b") (set_of (lone (leaf (codes "B")))) no_fields))
 normal-inside = refl
 
 normal-parts : normal (joined (lone (pretty_part (tuple_of (codes "T") (lone (set_of no_documents))))))

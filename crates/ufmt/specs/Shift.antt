@@ -1,7 +1,7 @@
 -- Shifted text, a second definition of pretty text: the finished lines of a block's entries are indented, with no mode and no depth.
 use Rattle.std.specs.Prelude.{◌≢◌, ℕ, zero, suc, ◌==◌, List, [], ◌∷◌, ◌++◌, Bool, true, false, codes, ⊤}
 use Rattle.ufmt_core.specs.Bytes.{line_feed}
-use Rattle.ufmt_core.specs.Document.{Document, leaf, joined, list_of, set_of, map_of, struct_of, tuple_of, pretty_part, Documents, no_documents, document, Pairs, no_pairs, pair, Fields, no_fields, field}
+use Rattle.ufmt_core.specs.Document.{Document, leaf, joined, list_of, set_of, map_of, struct_of, tuple_of, pretty_part, Documents, no_documents, first_document, Pairs, no_pairs, first_pair, Fields, no_fields, first_field}
 use Rattle.ufmt_core.specs.Layout.{Frame, frame, tuple_kind}
 use Rattle.ufmt_core.specs.declared.layout.Count.TheVariants.{Zero, Several}
 use Rattle.ufmt_core.specs.declared.layout.Mode.TheVariants.{Pretty}
@@ -55,20 +55,20 @@ abbrev mutual
 
   pub shifted_joined : Documents → List ℕ
   shifted_joined no_documents = []
-  shifted_joined (document d ds) = shifted d ++ shifted_joined ds
+  shifted_joined (first_document d ds) = shifted d ++ shifted_joined ds
 
   -- the shifted texts of entries, of pairs and of fields
   pub shifted_texts : Documents → List (List ℕ)
   shifted_texts no_documents = []
-  shifted_texts (document d ds) = shifted d ∷ shifted_texts ds
+  shifted_texts (first_document d ds) = shifted d ∷ shifted_texts ds
 
   pub shifted_pairs : Pairs → List (List ℕ)
   shifted_pairs no_pairs = []
-  shifted_pairs (pair key value ps) = (shifted key ++ (codes ": " ++ shifted value)) ∷ shifted_pairs ps
+  shifted_pairs (first_pair key value ps) = (shifted key ++ (codes ": " ++ shifted value)) ∷ shifted_pairs ps
 
   pub shifted_fields : Fields → List (List ℕ)
   shifted_fields no_fields = []
-  shifted_fields (field name value fs) = (name ++ (codes ": " ++ shifted value)) ∷ shifted_fields fs
+  shifted_fields (first_field name value fs) = (name ++ (codes ": " ++ shifted value)) ∷ shifted_fields fs
 
 -- a text of one line has no line feed
 abbrev pub IsOneLine : List ℕ → Type 0
@@ -89,12 +89,12 @@ abbrev mutual
 
   pub HaveNoLineFeed : Documents → Type 0
   HaveNoLineFeed no_documents = ⊤
-  HaveNoLineFeed (document d ds) = HasNoLineFeed d × HaveNoLineFeed ds
+  HaveNoLineFeed (first_document d ds) = HasNoLineFeed d × HaveNoLineFeed ds
 
   pub PairsHaveNoLineFeed : Pairs → Type 0
   PairsHaveNoLineFeed no_pairs = ⊤
-  PairsHaveNoLineFeed (pair key value ps) = HasNoLineFeed key × HasNoLineFeed value × PairsHaveNoLineFeed ps
+  PairsHaveNoLineFeed (first_pair key value ps) = HasNoLineFeed key × HasNoLineFeed value × PairsHaveNoLineFeed ps
 
   pub FieldsHaveNoLineFeed : Fields → Type 0
   FieldsHaveNoLineFeed no_fields = ⊤
-  FieldsHaveNoLineFeed (field name value fs) = IsOneLine name × HasNoLineFeed value × FieldsHaveNoLineFeed fs
+  FieldsHaveNoLineFeed (first_field name value fs) = IsOneLine name × HasNoLineFeed value × FieldsHaveNoLineFeed fs

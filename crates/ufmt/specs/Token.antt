@@ -1,7 +1,7 @@
 -- Token documents, whose texts can be read again: their words and leaves, their normal form, and what may follow their texts.
 use Rattle.std.specs.Prelude.{◌≡◌, ◌⊎◌, ℕ, ◌≤◌, ◌&&◌, ◌||◌, ◌==◌, nat_le, List, [], ◌∷◌, Bool, true, codes, ⊤}
 use Rattle.ufmt_core.specs.Bytes.{closing_brace, closing_bracket, closing_parenthesis, colon, comma, hyphen, lower_a, lower_z, nine_digit, space, underscore, upper_a, upper_z, zero_digit}
-use Rattle.ufmt_core.specs.Document.{Document, leaf, joined, list_of, set_of, map_of, struct_of, tuple_of, pretty_part, Documents, no_documents, document, Pairs, no_pairs, pair, Fields, no_fields, field, nest}
+use Rattle.ufmt_core.specs.Document.{Document, leaf, joined, list_of, set_of, map_of, struct_of, tuple_of, pretty_part, Documents, no_documents, first_document, Pairs, no_pairs, first_pair, Fields, no_fields, first_field, nest}
 use Rattle.ufmt_core.specs.Quoted.{IsQuoted}
 
 abbrev pub is_within : ℕ → ℕ → ℕ → Bool
@@ -43,20 +43,20 @@ module _ (IsLeaf : List ℕ → Type 0) where
     HasLeaves (map_of ps) = PairsHaveLeaves ps
     HasLeaves (struct_of name fs) = IsWord name × FieldsHaveLeaves fs
     HasLeaves (tuple_of name no_documents) = IsWord name
-    HasLeaves (tuple_of name (document d ds)) = AreWordBytes name × HasLeaves d × HaveLeaves ds
+    HasLeaves (tuple_of name (first_document d ds)) = AreWordBytes name × HasLeaves d × HaveLeaves ds
     HasLeaves (pretty_part d) = ⊥
 
     pub HaveLeaves : Documents → Type 0
     HaveLeaves no_documents = ⊤
-    HaveLeaves (document d ds) = HasLeaves d × HaveLeaves ds
+    HaveLeaves (first_document d ds) = HasLeaves d × HaveLeaves ds
 
     pub PairsHaveLeaves : Pairs → Type 0
     PairsHaveLeaves no_pairs = ⊤
-    PairsHaveLeaves (pair key value ps) = HasLeaves key × HasLeaves value × PairsHaveLeaves ps
+    PairsHaveLeaves (first_pair key value ps) = HasLeaves key × HasLeaves value × PairsHaveLeaves ps
 
     pub FieldsHaveLeaves : Fields → Type 0
     FieldsHaveLeaves no_fields = ⊤
-    FieldsHaveLeaves (field name value fs) = IsWord name × HasLeaves value × FieldsHaveLeaves fs
+    FieldsHaveLeaves (first_field name value fs) = IsWord name × HasLeaves value × FieldsHaveLeaves fs
 
 -- each leaf is a token leaf, and the names are as above
 abbrev pub HasTokens : Document → Type 0
@@ -82,25 +82,25 @@ abbrev mutual
   normal (joined ds) = joined (normal_all ds)
   normal (list_of ds) = list_of (normal_all ds)
   normal (set_of no_documents) = map_of no_pairs
-  normal (set_of (document d ds)) = set_of (document (normal d) (normal_all ds))
+  normal (set_of (first_document d ds)) = set_of (first_document (normal d) (normal_all ds))
   normal (map_of ps) = map_of (normal_pairs ps)
   normal (struct_of name no_fields) = leaf name
-  normal (struct_of name (field field_name value fs)) = struct_of name (field field_name (normal value) (normal_fields fs))
+  normal (struct_of name (first_field field_name value fs)) = struct_of name (first_field field_name (normal value) (normal_fields fs))
   normal (tuple_of name no_documents) = leaf name
-  normal (tuple_of name (document d ds)) = tuple_of name (document (normal d) (normal_all ds))
+  normal (tuple_of name (first_document d ds)) = tuple_of name (first_document (normal d) (normal_all ds))
   normal (pretty_part d) = pretty_part (normal d)
 
   pub normal_all : Documents → Documents
   normal_all no_documents = no_documents
-  normal_all (document d ds) = document (normal d) (normal_all ds)
+  normal_all (first_document d ds) = first_document (normal d) (normal_all ds)
 
   pub normal_pairs : Pairs → Pairs
   normal_pairs no_pairs = no_pairs
-  normal_pairs (pair key value ps) = pair (normal key) (normal value) (normal_pairs ps)
+  normal_pairs (first_pair key value ps) = first_pair (normal key) (normal value) (normal_pairs ps)
 
   pub normal_fields : Fields → Fields
   normal_fields no_fields = no_fields
-  normal_fields (field name value fs) = field name (normal value) (normal_fields fs)
+  normal_fields (first_field name value fs) = first_field name (normal value) (normal_fields fs)
 
 -- a closer is a comma, a colon or a closing bracket
 abbrev pub is_closer : ℕ → Bool

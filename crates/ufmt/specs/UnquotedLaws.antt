@@ -1,6 +1,6 @@
 -- The promise about token documents without quoted leaves: their leaves are words and `()`.
 use Rattle.std.specs.Prelude.{◌↔◌, ℕ, ◌≤◌, List, ⊤}
-use Rattle.ufmt_core.specs.Document.{Document, leaf, joined, list_of, set_of, map_of, struct_of, tuple_of, pretty_part, Documents, no_documents, document, Pairs, no_pairs, pair, Fields, no_fields, field, nest}
+use Rattle.ufmt_core.specs.Document.{Document, leaf, joined, list_of, set_of, map_of, struct_of, tuple_of, pretty_part, Documents, no_documents, first_document, Pairs, no_pairs, first_pair, Fields, no_fields, first_field, nest}
 use Rattle.ufmt_core.specs.Quoted.{IsQuoted}
 use Rattle.ufmt.specs.Token.{HasLeaves, IsUnquotedLeaf, IsToken}
 
@@ -19,15 +19,15 @@ module _ (IsLeaf : List ℕ → Type 0) where
 
     pub AllLeaves : Documents → Type 0
     AllLeaves no_documents = ⊤
-    AllLeaves (document d ds) = EachLeaf d × AllLeaves ds
+    AllLeaves (first_document d ds) = EachLeaf d × AllLeaves ds
 
     pub LeavesOfPairs : Pairs → Type 0
     LeavesOfPairs no_pairs = ⊤
-    LeavesOfPairs (pair key value ps) = EachLeaf key × EachLeaf value × LeavesOfPairs ps
+    LeavesOfPairs (first_pair key value ps) = EachLeaf key × EachLeaf value × LeavesOfPairs ps
 
     pub LeavesOfFields : Fields → Type 0
     LeavesOfFields no_fields = ⊤
-    LeavesOfFields (field name value fs) = EachLeaf value × LeavesOfFields fs
+    LeavesOfFields (first_field name value fs) = EachLeaf value × LeavesOfFields fs
 
 -- no leaf of the document is quoted
 abbrev pub IsUnquoted : Document → Type 0

@@ -1,7 +1,7 @@
 -- The layouts of some documents, computed.
 use Prim.Native.String.{String as Text}
 use Rattle.std.proofs.Common.{◌≡◌, codes, refl}
-use Rattle.ufmt_core.specs.Document.{Document, leaf, joined, list_of, set_of, map_of, struct_of, tuple_of, pretty_part, Documents, no_documents, document, no_pairs, pair, no_fields, field, nest}
+use Rattle.ufmt_core.specs.Document.{Document, leaf, joined, list_of, set_of, map_of, struct_of, tuple_of, pretty_part, Documents, no_documents, first_document, no_pairs, first_pair, no_fields, first_field, nest}
 use Rattle.ufmt_core.specs.Layout.{plain_text, pretty_text}
 
 abbrev one : Document
@@ -11,7 +11,7 @@ abbrev two : Document
 two = leaf (codes "2")
 
 abbrev lone : Document → Documents
-lone d = document d no_documents
+lone d = first_document d no_documents
 
 -- the document has this plain text and this pretty text
 abbrev HasTexts : Document → Text → Text → Type 0
@@ -19,7 +19,7 @@ HasTexts d plain pretty = (plain_text d ≡ codes plain) × (pretty_text d ≡ c
 
 -- a list of an empty list and a list of one number
 abbrev lists : Document
-lists = list_of (document (list_of no_documents) (lone (list_of (lone one))))
+lists = list_of (first_document (list_of no_documents) (lone (list_of (lone one))))
 
 lists-texts : HasTexts lists "[[], [1]]" "[\n    [],\n    [\n        1,\n    ],\n]"
 lists-texts = (refl, refl)
@@ -29,7 +29,7 @@ lists-nest = refl
 
 -- a struct of a map and a number
 abbrev settings : Document
-settings = struct_of (codes "S") (field (codes "m") (map_of (pair one two no_pairs)) (field (codes "n") (leaf (codes "3")) no_fields))
+settings = struct_of (codes "S") (first_field (codes "m") (map_of (first_pair one two no_pairs)) (first_field (codes "n") (leaf (codes "3")) no_fields))
 
 settings-texts : HasTexts settings "S { m: {1: 2}, n: 3 }" "S {\n    m: {\n        1: 2,\n    },\n    n: 3,\n}"
 settings-texts = (refl, refl)
@@ -41,19 +41,19 @@ single-texts = (refl, refl)
 some-texts : HasTexts (tuple_of (codes "Some") (lone one)) "Some(1)" "Some(\n    1,\n)"
 some-texts = (refl, refl)
 
-couple-texts : HasTexts (tuple_of (codes "") (document one (lone two))) "(1, 2)" "(\n    1,\n    2,\n)"
+couple-texts : HasTexts (tuple_of (codes "") (first_document one (lone two))) "(1, 2)" "(\n    1,\n    2,\n)"
 couple-texts = (refl, refl)
 
 -- a set, and a map of maps
-sets-pretty : pretty_text (list_of (document (set_of no_documents) (lone (set_of (lone one))))) ≡ codes "[\n    {},\n    {\n        1,\n    },\n]"
+sets-pretty : pretty_text (list_of (first_document (set_of no_documents) (lone (set_of (lone one))))) ≡ codes "[\n    {},\n    {\n        1,\n    },\n]"
 sets-pretty = refl
 
-maps-pretty : pretty_text (map_of (pair one (map_of (pair two (leaf (codes "3")) no_pairs)) no_pairs)) ≡ codes "{\n    1: {\n        2: 3,\n    },\n}"
+maps-pretty : pretty_text (map_of (first_pair one (map_of (first_pair two (leaf (codes "3")) no_pairs)) no_pairs)) ≡ codes "{\n    1: {\n        2: 3,\n    },\n}"
 maps-pretty = refl
 
 -- blocks without entries
-empty-pretty : pretty_text (joined (document (list_of no_documents)
-    (document (map_of no_pairs) (document (struct_of (codes "A") no_fields) (lone (tuple_of (codes "B") no_documents)))))) ≡ codes "[]{}AB"
+empty-pretty : pretty_text (joined (first_document (list_of no_documents)
+    (first_document (map_of no_pairs) (first_document (struct_of (codes "A") no_fields) (lone (tuple_of (codes "B") no_documents)))))) ≡ codes "[]{}AB"
 empty-pretty = refl
 
 -- a pretty part inside a plain list

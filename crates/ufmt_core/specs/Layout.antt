@@ -1,7 +1,7 @@
 -- The text of a document, in each mode and from each depth.
 use Rattle.std.specs.Prelude.{ℕ, zero, suc, ◌+◌, min, List, [], ◌∷◌, ◌++◌, codes}
 use Rattle.ufmt_core.specs.Bytes.{line_feed, space}
-use Rattle.ufmt_core.specs.Document.{Document, leaf, joined, list_of, set_of, map_of, struct_of, tuple_of, pretty_part, Documents, no_documents, document, Pairs, no_pairs, pair, Fields, no_fields, field}
+use Rattle.ufmt_core.specs.Document.{Document, leaf, joined, list_of, set_of, map_of, struct_of, tuple_of, pretty_part, Documents, no_documents, first_document, Pairs, no_pairs, first_pair, Fields, no_fields, first_field}
 pub use Rattle.ufmt_core.specs.declared.layout.Mode.{Mode}
 pub use Rattle.ufmt_core.specs.declared.layout.Mode.TheVariants.{Plain, Pretty}
 pub use Rattle.ufmt_core.specs.declared.layout.Setting.{Setting}
@@ -126,20 +126,20 @@ abbrev mutual
 
   pub layouts : Setting → Documents → List ℕ
   layouts s no_documents = []
-  layouts s (document d ds) = layout s d ++ layouts s ds
+  layouts s (first_document d ds) = layout s d ++ layouts s ds
 
   -- the texts of entries, of pairs and of fields
   pub texts : Setting → Documents → List (List ℕ)
   texts i no_documents = []
-  texts i (document d ds) = layout i d ∷ texts i ds
+  texts i (first_document d ds) = layout i d ∷ texts i ds
 
   pub pair_texts : Setting → Pairs → List (List ℕ)
   pair_texts i no_pairs = []
-  pair_texts i (pair key value ps) = (layout i key ++ (codes ": " ++ layout i value)) ∷ pair_texts i ps
+  pair_texts i (first_pair key value ps) = (layout i key ++ (codes ": " ++ layout i value)) ∷ pair_texts i ps
 
   pub field_texts : Setting → Fields → List (List ℕ)
   field_texts i no_fields = []
-  field_texts i (field name value fs) = (name ++ (codes ": " ++ layout i value)) ∷ field_texts i fs
+  field_texts i (first_field name value fs) = (name ++ (codes ": " ++ layout i value)) ∷ field_texts i fs
 
 abbrev pub plain_text : Document → List ℕ
 plain_text d = layout (setting Plain 0) d

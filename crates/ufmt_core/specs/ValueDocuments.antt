@@ -3,14 +3,14 @@ use Prim.Native.String.{String as Text}
 use Rattle.std.specs.Prelude.{ℕ, ℤ, pos, List, [], ◌∷◌, codes, Option, Some, None, Result, Ok, Err, String, string_bytes}
 use Rattle.std.specs.Borrow.{Bor}
 use Rattle.std.specs.Str.{chars}
-use Rattle.ufmt_core.specs.Document.{Document, leaf, struct_of, tuple_of, documents, Fields, no_fields, field}
+use Rattle.ufmt_core.specs.Document.{Document, leaf, struct_of, tuple_of, documents, Fields, no_fields, first_field}
 use Rattle.ufmt_core.specs.Decimal.{decimal}
 use Rattle.ufmt_core.specs.Quoted.{quoted_char, quoted_text}
 
 -- fields in a row, each a name and a document
 abbrev pub named_fields : List (Text × Document) → Fields
 named_fields [] = no_fields
-named_fields (f ∷ fs) = field (codes f.0) f.1 (named_fields fs)
+named_fields (f ∷ fs) = first_field (codes f.0) f.1 (named_fields fs)
 
 -- a struct, or a variant with named fields
 abbrev pub named_struct : Text → List (Text × Document) → Document

@@ -4,7 +4,7 @@ use Rattle.std.proofs.lemmas.Bool.Decides.{nat_tests}
 use Rattle.std.specs.Prelude.{IsTrue, ◌↔◌, string_bytes, vec_len}
 use Rattle.std.specs.Bool.{then_some}
 use Rattle.std.specs.List.{AllByRecursion, AllZip, zip}
-use Rattle.ufmt.specs.Document.{Document, leaf, list_of, set_of, map_of, struct_of, tuple_of, documents, pairs_of, fields_of, document, pair, field}
+use Rattle.ufmt.specs.Document.{Document, leaf, list_of, set_of, map_of, struct_of, tuple_of, documents, pairs_of, fields_of, first_document, first_pair, first_field}
 use Rattle.ufmt.specs.Token.{normal, normal_all, normal_pairs, normal_fields}
 use Rattle.ufmt_doc.specs.declared.doc.Doc.{Doc}
 use Rattle.ufmt_doc.specs.declared.doc.Doc.TheVariants.{SetOf, MapOf, StructOf, TupleOf}
@@ -132,14 +132,14 @@ HasBecome-all now then i (x ∷ xs) (y ∷ ys) same all h =
 -- the normal form of a list of documents, pairs or fields is that of each item
 pub normal_all-map : {X : Type 0} (f : X → Document) (xs : List X) → documents (map (λ x. normal (f x)) xs) ≡ normal_all (documents (map f xs))
 normal_all-map f [] = refl
-normal_all-map f (x ∷ xs) = ap (document (normal (f x))) (normal_all-map f xs)
+normal_all-map f (x ∷ xs) = ap (first_document (normal (f x))) (normal_all-map f xs)
 
 pub normal_pairs-map : {X : Type 0} (f : X → Document × Document) (xs : List X)
     → pairs_of (map (λ x. (normal (f x).0, normal (f x).1)) xs) ≡ normal_pairs (pairs_of (map f xs))
 normal_pairs-map f [] = refl
-normal_pairs-map f (x ∷ xs) = ap (pair (normal (f x).0) (normal (f x).1)) (normal_pairs-map f xs)
+normal_pairs-map f (x ∷ xs) = ap (first_pair (normal (f x).0) (normal (f x).1)) (normal_pairs-map f xs)
 
 pub normal_fields-map : {X : Type 0} (f : X → List ℕ × Document) (xs : List X)
     → fields_of (map (λ x. ((f x).0, normal (f x).1)) xs) ≡ normal_fields (fields_of (map f xs))
 normal_fields-map f [] = refl
-normal_fields-map f (x ∷ xs) = ap (field (f x).0 (normal (f x).1)) (normal_fields-map f xs)
+normal_fields-map f (x ∷ xs) = ap (first_field (f x).0 (normal (f x).1)) (normal_fields-map f xs)

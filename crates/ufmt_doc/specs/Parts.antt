@@ -1,6 +1,6 @@
 -- The parts of a document.
 use Rattle.std.specs.Prelude.{ℕ, List, Option, Some, None, bytes_eq, if◌then◌else◌}
-use Rattle.ufmt.specs.Document.{Document, leaf, list_of, set_of, map_of, struct_of, tuple_of, Documents, Pairs, Fields, no_fields, field}
+use Rattle.ufmt.specs.Document.{Document, leaf, list_of, set_of, map_of, struct_of, tuple_of, Documents, Pairs, Fields, no_fields, first_field}
 
 -- the text of a leaf
 abbrev pub leaf_part : Document → Option (List ℕ)
@@ -33,7 +33,7 @@ fields_part _ = None
 -- the value of the first field with this name
 abbrev pub first_value : List ℕ → Fields → Option Document
 first_value name no_fields = None
-first_value name (field other value fs) = if bytes_eq other name then Some value else first_value name fs
+first_value name (first_field other value fs) = if bytes_eq other name then Some value else first_value name fs
 
 -- the value of a struct's first field with this name
 abbrev pub field_part : List ℕ → Document → Option Document

@@ -6,7 +6,7 @@ use Rattle.std.specs.Result.{result_ok}
 use Rattle.std.specs.declared.cmp.Ordering.{Ordering}
 use Rattle.std.specs.declared.cmp.Ordering.TheVariants.{Equal}
 use Rattle.std.proofs.lemmas.List.Elements.{All-head, All-tail}
-use Rattle.ufmt.specs.Document.{Document, document, documents, list_of, no_documents, set_of, map_of, pair, pairs_of}
+use Rattle.ufmt.specs.Document.{Document, first_document, documents, list_of, no_documents, set_of, map_of, first_pair, pairs_of}
 use Rattle.ufmt.specs.Token.{normal, normal_all, normal_pairs}
 use Rattle.ufmt_parse.specs.Entries.{entry_parts}
 use Rattle.ufmt_parse.specs.Finds.{Finds, FindsParts}
@@ -14,7 +14,7 @@ use Rattle.ufmt_parse.specs.Finds.{Finds, FindsParts}
 -- each entry is normal for itself
 pub normal_all-documents : {T : Type 0} (of : T → Document) (xs : List T) → normal_all (documents (map of xs)) ≡ documents (map (λ x. normal (of x)) xs)
 normal_all-documents of [] = refl
-normal_all-documents of (x ∷ xs) = ap (document (normal (of x))) (normal_all-documents of xs)
+normal_all-documents of (x ∷ xs) = ap (first_document (normal (of x))) (normal_all-documents of xs)
 
 -- documents in a row are what they are a row of
 documents-same : (ds es : List Document) → documents ds ≡ documents es → ds ≡ es
@@ -79,7 +79,7 @@ finds_array P of n d v (Err w) found is = λ xs value same. is.1 (v.ok.0 ∙ sam
 module _ {T : Type 0} (of : T → Document) where
   -- a set that isn't empty stays one
   normal-set_of : (x : T) (xs : List T) → normal (set_of (documents (map of (x ∷ xs)))) ≡ set_of (documents (map (λ y. normal (of y)) (x ∷ xs)))
-  normal-set_of x xs = ap (λ ds. set_of (document (normal (of x)) ds)) (normal_all-documents of xs)
+  normal-set_of x xs = ap (λ ds. set_of (first_document (normal (of x)) ds)) (normal_all-documents of xs)
 
   set_found : (xs : List T) (d : Document) (ds : List Document) → map (λ x. normal (of x)) xs ≡ d ∷ ds → normal (set_of (documents (map of xs))) ≡ set_of (documents (d ∷ ds))
   set_found [] d ds is = cc
@@ -106,7 +106,7 @@ module _ {K X : Type 0} (of_key : K → Document) (of : X → Document) where
   -- each entry is normal for itself
   normal_pairs-pairs_of : (es : List (K × X)) → normal_pairs (pairs_of (map (λ e. (of_key e.0, of e.1)) es)) ≡ pairs_of (map (entry_parts of_key of) es)
   normal_pairs-pairs_of [] = refl
-  normal_pairs-pairs_of (e ∷ es) = ap (pair (normal (of_key e.0)) (normal (of e.1))) (normal_pairs-pairs_of es)
+  normal_pairs-pairs_of (e ∷ es) = ap (first_pair (normal (of_key e.0)) (normal (of e.1))) (normal_pairs-pairs_of es)
 
   -- what is found in the entries is found in the map
   pub finds_map : {V E : Type 0} (Q : List (K × X) → Type 0) (items : V → List (K × X)) (ds : List (Document × Document)) (d : Document) (r : Result (Option V) E)

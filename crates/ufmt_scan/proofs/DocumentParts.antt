@@ -1,6 +1,6 @@
 -- The events of documents, pairs and fields, by how they begin.
 use Rattle.std.proofs.Common.{◌≡◌, refl, ap, ◌∙◌, sym, ℕ, zero, suc, ◌<◌, ◌≤◌, ◌==◌, true, false, List, [], ◌∷◌, ◌++◌, length, length-append, eqb-true, map, Option, Some, None, option_and_then, codes, subst, Bor, Result, Ok, Err, arith}
-use Rattle.ufmt.specs.Document.{Document, list_of, set_of, map_of, struct_of, tuple_of, no_documents, no_pairs, Documents, document, documents, pairs_of, fields_of}
+use Rattle.ufmt.specs.Document.{Document, list_of, set_of, map_of, struct_of, tuple_of, no_documents, no_pairs, Documents, first_document, documents, pairs_of, fields_of}
 use Rattle.ufmt_core.specs.declared.layout.Setting.{Setting}
 use Rattle.ufmt_scan.specs.declared.scan.event.ScanError.{ScanError}
 use Rattle.ufmt_core.specs.declared.layout.Kind.{Kind}
@@ -40,7 +40,7 @@ events_of_fields-fields_of level (f ∷ fs) = ap (λ es. (fields level).events f
 module _ (level : Level) where
   -- the events of a list, a set or a tuple, from its first entry on
   entries_scan : (kind : Kind) (name : List ℕ) (make : Documents → Document)
-      → ((d : Document) (ds : Documents) → events_of (make (document d ds)) ≡ Open kind name ∷ (events_of d ++ tail_events kind One (events_of_entries ds)))
+      → ((d : Document) (ds : Documents) → events_of (make (first_document d ds)) ≡ Open kind name ∷ (events_of d ++ tail_events kind One (events_of_entries ds)))
       → (o : Option (Document × List ℕ))
       → parse_map events_of (option_and_then (λ x. read_after_first (entry_of level) (frame level.mode kind) (setting_at level) (λ ds. make
       (documents ds)) x.0 x.1) o)

@@ -1,7 +1,7 @@
 -- The texts of a document's events make up its layout.
 use Rattle.std.proofs.Common.{◌≡◌, ◌∙◌, refl, ap, sym, ℕ, suc, ◌+◌, ◌≤◌, List, [], ◌∷◌, ◌++◌, append_assoc, append-nil, arith}
 use Rattle.std.specs.Prelude.{⊤}
-use Rattle.ufmt.specs.Document.{Document, leaf, joined, list_of, set_of, map_of, struct_of, tuple_of, pretty_part, Documents, no_documents, document, Pairs, no_pairs, pair, Fields, no_fields, field, nest, nest_all, nest_pairs, nest_fields}
+use Rattle.ufmt.specs.Document.{Document, leaf, joined, list_of, set_of, map_of, struct_of, tuple_of, pretty_part, Documents, no_documents, first_document, Pairs, no_pairs, first_pair, Fields, no_fields, first_field, nest, nest_all, nest_pairs, nest_fields}
 use Rattle.ufmt.specs.Layout.{frame, setting, inside, entry_depth, separator, trail, lead, line_start, ending, next, block_text, block_tail, tuple_kind, layout, texts, pair_texts, field_texts}
 use Rattle.ufmt_core.specs.declared.layout.Count.{Count}
 use Rattle.ufmt_core.specs.declared.layout.Count.TheVariants.{Zero, One, Several}
@@ -82,29 +82,29 @@ module _ (mode : Mode) where
     document_written k (leaf text) h few = record { before = λ more. refl }
     document_written k (joined ds) h few = absurd h
     document_written k (list_of no_documents) h few = record { before = λ more. refl }
-    document_written k (list_of (document d ds)) h few = block_written mode k _ few Brackets [] (Empty Brackets) _ _ (entries_written k (document d ds) h few)
+    document_written k (list_of (first_document d ds)) h few = block_written mode k _ few Brackets [] (Empty Brackets) _ _ (entries_written k (first_document d ds) h few)
     document_written k (set_of no_documents) h few = record { before = λ more. refl }
-    document_written k (set_of (document d ds)) h few = block_written mode k _ few Braces [] (Empty Braces) _ _ (entries_written k (document d ds) h few)
+    document_written k (set_of (first_document d ds)) h few = block_written mode k _ few Braces [] (Empty Braces) _ _ (entries_written k (first_document d ds) h few)
     document_written k (map_of no_pairs) h few = record { before = λ more. refl }
-    document_written k (map_of (pair key value ps)) h few = block_written mode k _ few Braces [] (Empty Braces) _ _ (pairs_written k (pair key value ps) h few)
+    document_written k (map_of (first_pair key value ps)) h few = block_written mode k _ few Braces [] (Empty Braces) _ _ (pairs_written k (first_pair key value ps) h few)
     document_written k (struct_of name no_fields) h few = name_written name
-    document_written k (struct_of name (field field_name value fs)) h few = block_written mode k _ few Struct name (Leaf name) _ _ (fields_written k (field field_name value fs) h.1 few)
+    document_written k (struct_of name (first_field field_name value fs)) h few = block_written mode k _ few Struct name (Leaf name) _ _ (fields_written k (first_field field_name value fs) h.1 few)
     document_written k (tuple_of [] no_documents) h few = absurd h
     document_written k (tuple_of (c ∷ name) no_documents) h few = name_written (c ∷ name)
-    document_written k (tuple_of name (document d ds)) h few = block_written mode k _ few (tuple_kind name) name (Leaf name) _ _ (entries_written k (document d ds) (h.1, h.2) few)
+    document_written k (tuple_of name (first_document d ds)) h few = block_written mode k _ few (tuple_kind name) name (Leaf name) _ _ (entries_written k (first_document d ds) (h.1, h.2) few)
     document_written k (pretty_part d) h few = absurd h
 
     -- the same for the entries, pairs and fields of a block at this depth
     entries_written : (k : ℕ) (ds : Documents) → HaveTokens ds → suc (nest_all ds) + k ≤ 255
         → EntriesAreWritten (inside (setting mode k)) (events_of_entries ds) (texts (inside (setting mode k)) ds)
     entries_written k no_documents h few = tt
-    entries_written k (document d ds) h few =
+    entries_written k (first_document d ds) h few =
         (document_written (entry_depth mode k) d h.0 (deeper mode k (nest d) (omega arith)), entries_written k ds h.1 (omega arith))
 
     pairs_written : (k : ℕ) (ps : Pairs) → PairsHaveTokens ps → suc (nest_pairs ps) + k ≤ 255
         → EntriesAreWritten (inside (setting mode k)) (events_of_pairs ps) (pair_texts (inside (setting mode k)) ps)
     pairs_written k no_pairs h few = tt
-    pairs_written k (pair key value ps) h few =
+    pairs_written k (first_pair key value ps) h few =
         let first = document_written (entry_depth mode k) key h.0 (deeper mode k (nest key) (omega arith)) in
         let second = document_written (entry_depth mode k) value h.1 (deeper mode k (nest value) (omega arith)) in
         (record { before = λ more. simp (append_assoc, first.before, second.before) }, pairs_written k ps h.2 (omega arith))
@@ -112,7 +112,7 @@ module _ (mode : Mode) where
     fields_written : (k : ℕ) (fs : Fields) → FieldsHaveTokens fs → suc (nest_fields fs) + k ≤ 255
         → EntriesAreWritten (inside (setting mode k)) (events_of_fields fs) (field_texts (inside (setting mode k)) fs)
     fields_written k no_fields h few = tt
-    fields_written k (field name value fs) h few =
+    fields_written k (first_field name value fs) h few =
         let second = document_written (entry_depth mode k) value h.1 (deeper mode k (nest value) (omega arith)) in
         (record { before = λ more. simp (append_assoc, second.before) }, fields_written k fs h.2 (omega arith))
 

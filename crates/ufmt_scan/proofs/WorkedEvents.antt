@@ -1,6 +1,6 @@
 -- The events of a small document, and their texts, computed.
 use Rattle.std.proofs.Common.{◌≡◌, refl, [], ◌∷◌, codes}
-use Rattle.ufmt.specs.Document.{Document, leaf, list_of, set_of, map_of, struct_of, tuple_of, no_documents, document, no_pairs, pair, no_fields, field}
+use Rattle.ufmt.specs.Document.{Document, leaf, list_of, set_of, map_of, struct_of, tuple_of, no_documents, first_document, no_pairs, first_pair, no_fields, first_field}
 use Rattle.ufmt.specs.Layout.{setting}
 use Rattle.ufmt_core.specs.declared.layout.Count.TheVariants.{One, Several}
 use Rattle.ufmt_core.specs.declared.layout.Kind.TheVariants.{Brackets, Braces, Struct, Unnamed}
@@ -11,9 +11,9 @@ use Rattle.ufmt_scan.specs.declared.scan.event.Event.TheVariants.{Leaf, Empty, O
 
 -- a struct with two fields: a list of a word and a map from a word to an empty set, and a tuple of one word
 abbrev worked : Document
-worked = struct_of (codes "S") (field (codes "l") (list_of (document (leaf (codes "a"))
-    (document (map_of (pair (leaf (codes "N")) (set_of no_documents) no_pairs)) no_documents)))
-    (field (codes "t") (tuple_of [] (document (leaf (codes "b")) no_documents)) no_fields))
+worked = struct_of (codes "S") (first_field (codes "l") (list_of (first_document (leaf (codes "a"))
+    (first_document (map_of (first_pair (leaf (codes "N")) (set_of no_documents) no_pairs)) no_documents)))
+    (first_field (codes "t") (tuple_of [] (first_document (leaf (codes "b")) no_documents)) no_fields))
 
 worked-events : events_of worked ≡ Open Struct (codes "S") ∷ FieldName (codes "l") ∷ Open Brackets [] ∷ Leaf (codes "a") ∷ Next
     ∷ Open Braces [] ∷ Leaf (codes "N") ∷ Colon ∷ Empty Braces ∷ Close Braces One ∷ Close Brackets Several ∷ Next

@@ -1,7 +1,7 @@
 -- The events of a document, and what sinks and scans promise.
 use Rattle.std.specs.Prelude.{◌≡◌, ℕ, Bool, true, false, List, [], ◌∷◌, ◌++◌, Result, MatchResult, ⊤}
 use Rattle.std.specs.Borrow.{Bor}
-use Rattle.ufmt.specs.Document.{Document, leaf, joined, list_of, set_of, map_of, struct_of, tuple_of, pretty_part, Documents, no_documents, document, Pairs, no_pairs, pair, Fields, no_fields, field}
+use Rattle.ufmt.specs.Document.{Document, leaf, joined, list_of, set_of, map_of, struct_of, tuple_of, pretty_part, Documents, no_documents, first_document, Pairs, no_pairs, first_pair, Fields, no_fields, first_field}
 use Rattle.ufmt.specs.Layout.{next, tuple_kind}
 use Rattle.ufmt_core.specs.declared.layout.Count.{Count}
 use Rattle.ufmt_core.specs.declared.layout.Count.TheVariants.{One}
@@ -51,15 +51,15 @@ abbrev mutual
 
   pub events_of_entries : Documents → List (List TextEvent)
   events_of_entries no_documents = []
-  events_of_entries (document d ds) = events_of d ∷ events_of_entries ds
+  events_of_entries (first_document d ds) = events_of d ∷ events_of_entries ds
 
   pub events_of_pairs : Pairs → List (List TextEvent)
   events_of_pairs no_pairs = []
-  events_of_pairs (pair key value ps) = (events_of key ++ Colon ∷ events_of value) ∷ events_of_pairs ps
+  events_of_pairs (first_pair key value ps) = (events_of key ++ Colon ∷ events_of value) ∷ events_of_pairs ps
 
   pub events_of_fields : Fields → List (List TextEvent)
   events_of_fields no_fields = []
-  events_of_fields (field name value fs) = (FieldName name ∷ events_of value) ∷ events_of_fields fs
+  events_of_fields (first_field name value fs) = (FieldName name ∷ events_of value) ∷ events_of_fields fs
 
 -- the second list of events begins with the first
 abbrev pub Leads : List TextEvent → List TextEvent → Type 0

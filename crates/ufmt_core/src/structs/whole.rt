@@ -1,6 +1,6 @@
 //! A whole struct in one call. `fields!` is made of these calls, and a user may call them too.
 ghost use Rattle.std.specs.Prelude.{is_ok};
-ghost use Rattle.ufmt_core.specs.Document.{Fields, field, no_fields, struct_of};
+ghost use Rattle.ufmt_core.specs.Document.{Fields, first_field, no_fields, struct_of};
 ghost use Rattle.ufmt_core.specs.Formatter.{LaysOut};
 ghost use Rattle.ufmt_core.specs.BuilderView.{WritesEnding, IsOpen, remaining_fields, tail_of};
 ghost use Rattle.ufmt_core.specs.Builder.{struct_view};
@@ -34,7 +34,7 @@ impl<'a> NamedFields<'a> for () {
 }
 
 impl<'a, D: uDebug, R: NamedFields<'a>> NamedFields<'a> for (&'a str, &'a D, R) {
-    ghost fields = { λ c. field c.0.now (D.document c.1.now) (R.fields c.2) };
+    ghost fields = { λ c. first_field c.0.now (D.document c.1.now) (R.fields c.2) };
 
     #[inline(always)]
     fn finish<W: uWrite>(&self, builder: &mut DebugStruct<W>) -> Result<(), W::Error> {

@@ -1,6 +1,6 @@
 //! A whole tuple in one call. `fields!` is made of these calls, and a user may call them too.
 ghost use Rattle.std.specs.Prelude.{is_ok};
-ghost use Rattle.ufmt_core.specs.Document.{Documents, document, no_documents, tuple_of};
+ghost use Rattle.ufmt_core.specs.Document.{Documents, first_document, no_documents, tuple_of};
 ghost use Rattle.ufmt_core.specs.Formatter.{LaysOut};
 ghost use Rattle.ufmt_core.specs.BuilderView.{WritesEnding, IsOpen, remaining_entries, tail_of};
 ghost use Rattle.ufmt_core.specs.Builder.{tuple_view};
@@ -33,7 +33,7 @@ impl<'a> UnnamedFields<'a> for () {
 }
 
 impl<'a, D: uDebug, R: UnnamedFields<'a>> UnnamedFields<'a> for (&'a D, R) {
-    ghost documents = { λ c. document (D.document c.0.now) (R.documents c.1) };
+    ghost documents = { λ c. first_document (D.document c.0.now) (R.documents c.1) };
 
     fn finish<W: uWrite>(&self, builder: &mut DebugTuple<W>) -> Result<(), W::Error> {
         builder.field(self.0)?;
