@@ -5,7 +5,7 @@ use Rattle.ufmt_core.specs.Layout.{setting, inside, tuple_kind, block_text, layo
 use Rattle.ufmt_core.specs.declared.layout.Mode.TheVariants.{Pretty}
 use Rattle.ufmt_core.specs.declared.layout.Setting.{Setting}
 use Rattle.ufmt_core.specs.declared.layout.Kind.TheVariants.{Brackets, Braces, Struct}
-use Rattle.ufmt.specs.Token.{HasTokens, HaveTokens, PairsHaveTokens, FieldsHaveTokens, IsToken, normal, normal_all, normal_pairs, normal_fields}
+use Rattle.ufmt.specs.Token.{IsBuiltFromTokens, AreBuiltFromTokens, PairsAreBuiltFromTokens, FieldsAreBuiltFromTokens, IsToken, normal, normal_all, normal_pairs, normal_fields}
 
 mutual
   pub normal-normal : (d : Document) → normal (normal d) ≡ normal d
@@ -62,33 +62,33 @@ mutual
   nest_fields-normal_fields (first_field name value fs) = rw (nest-normal value, nest_fields-normal_fields fs)
 
 mutual
-  pub HasTokens-normal : (d : Document) → HasTokens d → HasTokens (normal d)
-  HasTokens-normal (leaf text) h = h
-  HasTokens-normal (joined ds) h = absurd h
-  HasTokens-normal (list_of ds) h = HaveTokens-normal_all ds h
-  HasTokens-normal (set_of no_documents) h = tt
-  HasTokens-normal (set_of (first_document d ds)) h = (HasTokens-normal d h.0, HaveTokens-normal_all ds h.1)
-  HasTokens-normal (map_of ps) h = PairsHaveTokens-normal_pairs ps h
-  HasTokens-normal (struct_of name no_fields) h = record { shape = inl h.0 }
-  HasTokens-normal (struct_of name (first_field field_name value fs)) h = (h.0, (h.1.0, HasTokens-normal value h.1.1, FieldsHaveTokens-normal_fields fs h.1.2))
-  HasTokens-normal (tuple_of name no_documents) h = record { shape = inl h }
-  HasTokens-normal (tuple_of name (first_document d ds)) h = (h.0, HasTokens-normal d h.1, HaveTokens-normal_all ds h.2)
-  HasTokens-normal (pretty_part d) h = absurd h
+  pub IsBuiltFromTokens-normal : (d : Document) → IsBuiltFromTokens d → IsBuiltFromTokens (normal d)
+  IsBuiltFromTokens-normal (leaf text) h = h
+  IsBuiltFromTokens-normal (joined ds) h = absurd h
+  IsBuiltFromTokens-normal (list_of ds) h = AreBuiltFromTokens-normal_all ds h
+  IsBuiltFromTokens-normal (set_of no_documents) h = tt
+  IsBuiltFromTokens-normal (set_of (first_document d ds)) h = (IsBuiltFromTokens-normal d h.0, AreBuiltFromTokens-normal_all ds h.1)
+  IsBuiltFromTokens-normal (map_of ps) h = PairsAreBuiltFromTokens-normal_pairs ps h
+  IsBuiltFromTokens-normal (struct_of name no_fields) h = record { shape = inl h.0 }
+  IsBuiltFromTokens-normal (struct_of name (first_field field_name value fs)) h = (h.0, (h.1.0, IsBuiltFromTokens-normal value h.1.1, FieldsAreBuiltFromTokens-normal_fields fs h.1.2))
+  IsBuiltFromTokens-normal (tuple_of name no_documents) h = record { shape = inl h }
+  IsBuiltFromTokens-normal (tuple_of name (first_document d ds)) h = (h.0, IsBuiltFromTokens-normal d h.1, AreBuiltFromTokens-normal_all ds h.2)
+  IsBuiltFromTokens-normal (pretty_part d) h = absurd h
 
-  pub HaveTokens-normal_all : (ds : Documents) → HaveTokens ds → HaveTokens (normal_all ds)
-  HaveTokens-normal_all no_documents h = tt
-  HaveTokens-normal_all (first_document d ds) h = (HasTokens-normal d h.0, HaveTokens-normal_all ds h.1)
+  pub AreBuiltFromTokens-normal_all : (ds : Documents) → AreBuiltFromTokens ds → AreBuiltFromTokens (normal_all ds)
+  AreBuiltFromTokens-normal_all no_documents h = tt
+  AreBuiltFromTokens-normal_all (first_document d ds) h = (IsBuiltFromTokens-normal d h.0, AreBuiltFromTokens-normal_all ds h.1)
 
-  pub PairsHaveTokens-normal_pairs : (ps : Pairs) → PairsHaveTokens ps → PairsHaveTokens (normal_pairs ps)
-  PairsHaveTokens-normal_pairs no_pairs h = tt
-  PairsHaveTokens-normal_pairs (first_pair key value ps) h = (HasTokens-normal key h.0, HasTokens-normal value h.1, PairsHaveTokens-normal_pairs ps h.2)
+  pub PairsAreBuiltFromTokens-normal_pairs : (ps : Pairs) → PairsAreBuiltFromTokens ps → PairsAreBuiltFromTokens (normal_pairs ps)
+  PairsAreBuiltFromTokens-normal_pairs no_pairs h = tt
+  PairsAreBuiltFromTokens-normal_pairs (first_pair key value ps) h = (IsBuiltFromTokens-normal key h.0, IsBuiltFromTokens-normal value h.1, PairsAreBuiltFromTokens-normal_pairs ps h.2)
 
-  pub FieldsHaveTokens-normal_fields : (fs : Fields) → FieldsHaveTokens fs → FieldsHaveTokens (normal_fields fs)
-  FieldsHaveTokens-normal_fields no_fields h = tt
-  FieldsHaveTokens-normal_fields (first_field name value fs) h = (h.0, HasTokens-normal value h.1, FieldsHaveTokens-normal_fields fs h.2)
+  pub FieldsAreBuiltFromTokens-normal_fields : (fs : Fields) → FieldsAreBuiltFromTokens fs → FieldsAreBuiltFromTokens (normal_fields fs)
+  FieldsAreBuiltFromTokens-normal_fields no_fields h = tt
+  FieldsAreBuiltFromTokens-normal_fields (first_field name value fs) h = (h.0, IsBuiltFromTokens-normal value h.1, FieldsAreBuiltFromTokens-normal_fields fs h.2)
 
 pub IsToken-normal : (d : Document) → IsToken d → IsToken (normal d)
-IsToken-normal d h = (HasTokens-normal d h.0, subst (λ n. n ≤ 255) (sym (nest-normal d)) h.1)
+IsToken-normal d h = (IsBuiltFromTokens-normal d h.0, subst (λ n. n ≤ 255) (sym (nest-normal d)) h.1)
 
 -- a set's normal form has the text of the set of normal forms, also if it is the empty map
 layout-normal-set_of : (s : Setting) (ds : Documents) → layout s (normal (set_of ds)) ≡ layout s (set_of (normal_all ds))

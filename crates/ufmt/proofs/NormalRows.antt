@@ -1,16 +1,16 @@
 -- A row of token documents in normal form is in normal form, and so is a row of pairs or fields with them.
 use Rattle.std.proofs.Common.{◌≡◌, refl, ap₂, ℕ, ◌<◌, List, [], ◌∷◌, arith}
 use Rattle.ufmt_core.specs.Document.{Document, first_document, documents, pairs_of, fields_of, nest, nest_all, nest_pairs, nest_fields}
-use Rattle.ufmt.specs.Token.{IsWord, HasTokens, HaveTokens, PairsHaveTokens, FieldsHaveTokens, normal, normal_all, normal_pairs, normal_fields}
+use Rattle.ufmt.specs.Token.{IsWord, IsBuiltFromTokens, AreBuiltFromTokens, PairsAreBuiltFromTokens, FieldsAreBuiltFromTokens, normal, normal_all, normal_pairs, normal_fields}
 use Rattle.ufmt.proofs.BlocksSound.{AreGood, IsGoodPair}
 
 -- a token document in normal form that is nested less than n deep
 pub record IsNormalBelow (n : ℕ) (d : Document) : Type 0 where
-  pub tokens : HasTokens d
+  pub tokens : IsBuiltFromTokens d
   pub nests : nest d < n
   pub is_normal : normal d ≡ d
 
-pub documents_tokens : (n : ℕ) (ds : List Document) → AreGood (IsNormalBelow n) ds → HaveTokens (documents ds)
+pub documents_tokens : (n : ℕ) (ds : List Document) → AreGood (IsNormalBelow n) ds → AreBuiltFromTokens (documents ds)
 documents_tokens n [] h = tt
 documents_tokens n (d ∷ ds) h = (h.0.tokens, documents_tokens n ds h.1)
 
@@ -26,7 +26,7 @@ documents_nest n (d ∷ ds) h some = let more = documents_nest n ds h.1 some in 
 abbrev pub ArePairsGood : ℕ → List (Document × Document) → Type 0
 ArePairsGood n ps = AreGood (IsGoodPair (IsNormalBelow n) (IsNormalBelow n)) ps
 
-pub pairs_tokens : (n : ℕ) (ps : List (Document × Document)) → ArePairsGood n ps → PairsHaveTokens (pairs_of ps)
+pub pairs_tokens : (n : ℕ) (ps : List (Document × Document)) → ArePairsGood n ps → PairsAreBuiltFromTokens (pairs_of ps)
 pairs_tokens n [] h = tt
 pairs_tokens n (p ∷ ps) h = (h.0.0.tokens, h.0.1.tokens, pairs_tokens n ps h.1)
 
@@ -42,7 +42,7 @@ pairs_nest n (p ∷ ps) h some = let more = pairs_nest n ps h.1 some in let key 
 abbrev pub AreFieldsGood : ℕ → List (List ℕ × Document) → Type 0
 AreFieldsGood n fs = AreGood (IsGoodPair IsWord (IsNormalBelow n)) fs
 
-pub fields_tokens : (n : ℕ) (fs : List (List ℕ × Document)) → AreFieldsGood n fs → FieldsHaveTokens (fields_of fs)
+pub fields_tokens : (n : ℕ) (fs : List (List ℕ × Document)) → AreFieldsGood n fs → FieldsAreBuiltFromTokens (fields_of fs)
 fields_tokens n [] h = tt
 fields_tokens n (f ∷ fs) h = (h.0.0, h.0.1.tokens, fields_tokens n fs h.1)
 

@@ -4,7 +4,7 @@ use Rattle.ufmt_core.specs.Document.{Document, nest}
 use Rattle.ufmt_core.specs.Layout.{setting, layout}
 use Rattle.ufmt_core.specs.declared.layout.Mode.TheVariants.{Plain, Pretty}
 use Rattle.ufmt_core.specs.declared.layout.Setting.{Setting}
-use Rattle.ufmt.specs.Token.{HasTokens, IsToken, normal, IsFollower}
+use Rattle.ufmt.specs.Token.{IsBuiltFromTokens, IsToken, normal, IsFollower}
 use Rattle.ufmt.specs.Reading.{read}
 use Rattle.ufmt.specs.ReadingLaws.{PlainReadsOneWay, PrettyReadsOneWay, PlainTextDetermines, PrettyTextDetermines, TextsAgree}
 use Rattle.ufmt.proofs.Parsing.{same_parts}
@@ -13,7 +13,7 @@ use Rattle.ufmt.proofs.ReadingComplete.{read_complete}
 use Rattle.ufmt.proofs.NormalForms.{layout-normal}
 
 -- where two documents fit, equal texts mean equal normal forms and equal rests
-reads_one_way : (s : Setting) (n : ℕ) → Fits s n → (d e : Document) (u v : List ℕ) → HasTokens d → HasTokens e → nest d ≤ n → nest e ≤ n
+reads_one_way : (s : Setting) (n : ℕ) → Fits s n → (d e : Document) (u v : List ℕ) → IsBuiltFromTokens d → IsBuiltFromTokens e → nest d ≤ n → nest e ≤ n
     → IsFollower u → IsFollower v → layout s d ++ u ≡ layout s e ++ v → (normal d ≡ normal e) × (u ≡ v)
 reads_one_way s n fits d e u v hd he nd ne hu hv same =
     same_parts {A = Document} {B = List ℕ} (normal d, u) (normal e, v)

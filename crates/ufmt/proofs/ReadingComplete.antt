@@ -5,7 +5,7 @@ use Rattle.ufmt_core.specs.Layout.{frame, inside, new_line, lead, trail, block_t
 use Rattle.ufmt_core.specs.declared.layout.Setting.{Setting}
 use Rattle.ufmt_core.specs.declared.layout.Kind.TheVariants.{Brackets, Braces, Struct, Tuple, Unnamed}
 use Rattle.ufmt_core.specs.declared.layout.Count.TheVariants.{Zero, One}
-use Rattle.ufmt.specs.Token.{AreWordBytes, IsWord, HasTokens, HaveTokens, PairsHaveTokens, FieldsHaveTokens, normal, normal_all, normal_pairs, normal_fields, IsFollower}
+use Rattle.ufmt.specs.Token.{AreWordBytes, IsWord, IsBuiltFromTokens, AreBuiltFromTokens, PairsAreBuiltFromTokens, FieldsAreBuiltFromTokens, normal, normal_all, normal_pairs, normal_fields, IsFollower}
 use Rattle.ufmt.specs.Reading.{Parse, choose, strip, read_word, read_pair, read_tuple, read_struct, read_with, read}
 use Rattle.ufmt.proofs.Parsing.{strip_joined}
 use Rattle.ufmt.proofs.BlocksComplete.{Begins, Begins-append, IsRead, AreRead, entry_assoc, rest_follows, read_entries_complete, read_block_complete, read_after_first_complete, read_value_complete, read_pair_complete}
@@ -16,15 +16,15 @@ use Rattle.ufmt.proofs.TokenLeaves.{word_leaf, field_name_complete, leaf_complet
 
 -- at this mode and depth, `p` reads each token document that is nested less than n deep
 pub record ReadsBelow (p : Parse Document) (i : Setting) (n : ℕ) : Type 0 where
-  pub reads : (d : Document) → HasTokens d → nest d < n → IsRead p (normal d) (layout i d)
+  pub reads : (d : Document) → IsBuiltFromTokens d → nest d < n → IsRead p (normal d) (layout i d)
 
-documents_complete : (p : Parse Document) (i : Setting) (n : ℕ) → ReadsBelow p i n → (ds : Documents) → HaveTokens ds → nest_all ds < n
+documents_complete : (p : Parse Document) (i : Setting) (n : ℕ) → ReadsBelow p i n → (ds : Documents) → AreBuiltFromTokens ds → nest_all ds < n
     → AreRead p (listed (normal_all ds)) (texts i ds)
 unfolding listed
 documents_complete p i n below no_documents h less = tt
 documents_complete p i n below (first_document d ds) h less = (below.reads d h.0 (omega arith), documents_complete p i n below ds h.1 (omega arith))
 
-pairs_complete : (p : Parse Document) (i : Setting) (n : ℕ) → ReadsBelow p i n → (ps : Pairs) → PairsHaveTokens ps → nest_pairs ps < n
+pairs_complete : (p : Parse Document) (i : Setting) (n : ℕ) → ReadsBelow p i n → (ps : Pairs) → PairsAreBuiltFromTokens ps → nest_pairs ps < n
     → AreRead (read_pair p p) (listed_pairs (normal_pairs ps)) (pair_texts i ps)
 unfolding listed_pairs
 pairs_complete p i n below no_pairs h less = tt
@@ -34,7 +34,7 @@ pairs_complete p i n below (first_pair key value ps) h less = (
   pairs_complete p i n below ps h.2 (omega arith),
 )
 
-fields_complete : (p : Parse Document) (i : Setting) (n : ℕ) → ReadsBelow p i n → (fs : Fields) → FieldsHaveTokens fs → nest_fields fs < n
+fields_complete : (p : Parse Document) (i : Setting) (n : ℕ) → ReadsBelow p i n → (fs : Fields) → FieldsAreBuiltFromTokens fs → nest_fields fs < n
     → AreRead (read_pair read_word p) (listed_fields (normal_fields fs)) (field_texts i fs)
 unfolding listed_fields
 fields_complete p i n below no_fields h less = tt
@@ -55,7 +55,7 @@ lead_chosen start text after left u f b = rw (entry_assoc start text after left 
 
 -- a list with entries is read
 list_complete : (s : Setting) (p : Parse Document) (n : ℕ) → ReadsBelow p (inside s) n → Fits s n
-    → (d : Document) (ds : Documents) (u : List ℕ) → HasTokens d → HaveTokens ds → nest (list_of (first_document d ds)) ≤ n
+    → (d : Document) (ds : Documents) (u : List ℕ) → IsBuiltFromTokens d → AreBuiltFromTokens ds → nest (list_of (first_document d ds)) ≤ n
     → read_with s p (layout s (list_of (first_document d ds)) ++ u) ≡ Some (normal (list_of (first_document d ds)), u)
 list_complete s p n below fits d ds u h hs less =
     let first : IsRead p (normal d) (layout (inside s) d) = below.reads d h (omega arith) in
@@ -68,7 +68,7 @@ list_complete s p n below fits d ds u h hs less =
 
 -- a set with entries is read
 set_complete : (s : Setting) (p : Parse Document) (n : ℕ) → ReadsBelow p (inside s) n → Fits s n
-    → (d : Document) (ds : Documents) (u : List ℕ) → HasTokens d → HaveTokens ds → nest (set_of (first_document d ds)) ≤ n
+    → (d : Document) (ds : Documents) (u : List ℕ) → IsBuiltFromTokens d → AreBuiltFromTokens ds → nest (set_of (first_document d ds)) ≤ n
     → read_with s p (layout s (set_of (first_document d ds)) ++ u) ≡ Some (normal (set_of (first_document d ds)), u)
 set_complete s p n below fits d ds u h hs less =
     let first : IsRead p (normal d) (layout (inside s) d) = below.reads d h (omega arith) in
@@ -90,7 +90,7 @@ set_complete s p n below fits d ds u h hs less =
 
 -- a map with entries is read
 map_complete : (s : Setting) (p : Parse Document) (n : ℕ) → ReadsBelow p (inside s) n → Fits s n
-    → (key value : Document) (ps : Pairs) (u : List ℕ) → HasTokens key → HasTokens value → PairsHaveTokens ps
+    → (key value : Document) (ps : Pairs) (u : List ℕ) → IsBuiltFromTokens key → IsBuiltFromTokens value → PairsAreBuiltFromTokens ps
     → nest (map_of (first_pair key value ps)) ≤ n → read_with s p (layout s (map_of (first_pair key value ps)) ++ u) ≡ Some (normal (map_of (first_pair key value ps)), u)
 map_complete s p n below fits key value ps u hk hv hs less =
     let first : IsRead p (normal key) (layout (inside s) key) = below.reads key hk (omega arith) in
@@ -116,7 +116,7 @@ map_complete s p n below fits key value ps u hk hv hs less =
 
 -- a struct with fields is read
 struct_complete : (s : Setting) (p : Parse Document) (n : ℕ) → ReadsBelow p (inside s) n → Fits s n
-    → (name field_name : List ℕ) (value : Document) (fs : Fields) (u : List ℕ) → IsWord name → IsWord field_name → HasTokens value → FieldsHaveTokens fs
+    → (name field_name : List ℕ) (value : Document) (fs : Fields) (u : List ℕ) → IsWord name → IsWord field_name → IsBuiltFromTokens value → FieldsAreBuiltFromTokens fs
     → nest (struct_of name (first_field field_name value fs)) ≤ n
     → read_with s p (layout s (struct_of name (first_field field_name value fs)) ++ u) ≡ Some (normal (struct_of name (first_field field_name value fs)), u)
 struct_complete s p n below fits [] field_name value fs u hn hl hv hs less = absurd hn
@@ -135,7 +135,7 @@ struct_complete s p n below fits (c ∷ name) field_name value fs u hn hl hv hs 
 
 -- a tuple with fields is read
 tuple_complete : (s : Setting) (p : Parse Document) (n : ℕ) → ReadsBelow p (inside s) n → Fits s n
-    → (name : List ℕ) (d : Document) (ds : Documents) (u : List ℕ) → AreWordBytes name → HasTokens d → HaveTokens ds
+    → (name : List ℕ) (d : Document) (ds : Documents) (u : List ℕ) → AreWordBytes name → IsBuiltFromTokens d → AreBuiltFromTokens ds
     → nest (tuple_of name (first_document d ds)) ≤ n
     → read_with s p (layout s (tuple_of name (first_document d ds)) ++ u) ≡ Some (normal (tuple_of name (first_document d ds)), u)
 tuple_complete s p n below fits [] d ds u hn h hs less =
@@ -166,7 +166,7 @@ name_complete s p name u h follows = rw (append-nil name) (leaf_complete s p nam
 
 -- a document is read if its entries are read
 read_with_complete : (s : Setting) (p : Parse Document) (n : ℕ) → ReadsBelow p (inside s) n → Fits s n → (d : Document) (u : List ℕ)
-    → HasTokens d → nest d ≤ n → IsFollower u → read_with s p (layout s d ++ u) ≡ Some (normal d, u)
+    → IsBuiltFromTokens d → nest d ≤ n → IsFollower u → read_with s p (layout s d ++ u) ≡ Some (normal d, u)
 read_with_complete s p n below fits (leaf text) u h less follows = leaf_complete s p text u h follows
 read_with_complete s p n below fits (joined ds) u h less follows = absurd h
 read_with_complete s p n below fits (list_of no_documents) u h less follows = refl
@@ -183,7 +183,7 @@ read_with_complete s p n below fits (tuple_of (c ∷ name) no_documents) u h les
 read_with_complete s p n below fits (tuple_of name (first_document d ds)) u h less follows = tuple_complete s p n below fits name d ds u h.0 h.1 h.2 less
 read_with_complete s p n below fits (pretty_part d) u h less follows = absurd h
 
-pub read_complete : (n : ℕ) (s : Setting) (d : Document) (u : List ℕ) → HasTokens d → nest d ≤ n → Fits s n → IsFollower u
+pub read_complete : (n : ℕ) (s : Setting) (d : Document) (u : List ℕ) → IsBuiltFromTokens d → nest d ≤ n → Fits s n → IsFollower u
     → read s n (layout s d ++ u) ≡ Some (normal d, u)
 unfolding read
 read_complete zero s d u h less fits follows =

@@ -5,7 +5,7 @@ use Rattle.ufmt_core.specs.Layout.{frame, tuple_kind, inside, lead, block_tail, 
 use Rattle.ufmt_core.specs.declared.layout.Setting.{Setting}
 use Rattle.ufmt_core.specs.declared.layout.Kind.TheVariants.{Brackets, Braces, Struct, Tuple, Unnamed}
 use Rattle.ufmt_core.specs.declared.layout.Count.TheVariants.{Zero}
-use Rattle.ufmt.specs.Token.{AreWordBytes, IsWord, IsTokenLeaf, HasTokens, normal}
+use Rattle.ufmt.specs.Token.{AreWordBytes, IsWord, IsTokenLeaf, IsBuiltFromTokens, normal}
 use Rattle.ufmt.specs.Reading.{Parse, choose, strip, word_of, after_word, read_word, read_symbol, read_value, read_pair, read_block, read_list, read_map, read_set, read_map_or_set, read_braced_entries, read_braces, read_tuple, read_struct, read_unnamed, read_without_name, read_named, read_by_word, read_with, read}
 use Rattle.ufmt.proofs.Parsing.{same_parts, strip_found, led_from, chosen_from}
 use Rattle.ufmt.proofs.ReadingWords.{words_whole, word_of_bytes, read_word_sound}
@@ -16,7 +16,7 @@ use Rattle.ufmt.proofs.BlocksSound.{Finds, FoundEntries, IsGoodPair, keyed_text,
 
 -- a token document in normal form, nested at most n deep, whose text at this mode and depth is the front of `t`
 pub record Found (s : Setting) (n : ℕ) (t : List ℕ) (d : Document) (u : List ℕ) : Type 0 where
-  pub tokens : HasTokens d
+  pub tokens : IsBuiltFromTokens d
   pub nests : nest d ≤ n
   pub is_normal : normal d ≡ d
   pub whole : t ≡ layout s d ++ u

@@ -2,9 +2,9 @@
 use Rattle.std.proofs.Common.{◌≡◌, [], ℕ, zero, suc, map, true, false, codes, refl, inl, inr, arith}
 use Rattle.std.proofs.lemmas.Bool.{false≢true}
 use Rattle.ufmt_core.specs.Document.{Document, leaf, joined, list_of, set_of, map_of, struct_of, tuple_of, pretty_part, Documents, no_documents, first_document, no_pairs, first_pair, no_fields, first_field, nest}
-use Rattle.ufmt.specs.Token.{is_word_byte, IsWord, HasTokens, IsToken, normal, is_closer, IsFollower}
+use Rattle.ufmt.specs.Token.{is_word_byte, IsWord, IsBuiltFromTokens, IsToken, normal, is_closer, IsFollower}
 use Rattle.ufmt.proofs.TokenLeaves.{leaf_begins, read_symbol_sound, symbol_leaf}
-use Rattle.ufmt.proofs.TokenLines.{HasTokens-HasNoLineFeed}
+use Rattle.ufmt.proofs.TokenLines.{IsBuiltFromTokens-HasNoLineFeed}
 
 -- ---- words
 
@@ -39,8 +39,8 @@ one = leaf (codes "1")
 abbrev lone : Document → Documents
 lone d = first_document d no_documents
 
-HasTokens-one : HasTokens one
-HasTokens-one = record { shape = inl (refl, tt) }
+IsBuiltFromTokens-one : IsBuiltFromTokens one
+IsBuiltFromTokens-one = record { shape = inl (refl, tt) }
 
 IsToken-unit : IsToken (leaf (codes "()"))
 IsToken-unit = (symbol_leaf (codes "()") (read_symbol_sound (codes "()") (codes "()") [] refl).0, omega arith)
@@ -49,14 +49,14 @@ IsToken-not-empty_leaf : IsToken (leaf (codes "")) → ⊥
 IsToken-not-empty_leaf h = let begins = leaf_begins (codes "") h.0 in let none = begins.is in absurd (cc)
 
 IsToken-not-line_feed : IsToken (leaf (codes "\n")) → ⊥
-IsToken-not-line_feed h = let line = HasTokens-HasNoLineFeed (leaf (codes "\n")) h.0 in line.0 refl
+IsToken-not-line_feed h = let line = IsBuiltFromTokens-HasNoLineFeed (leaf (codes "\n")) h.0 in line.0 refl
 
 -- a struct with an empty set and a tuple without a name
 IsToken-settings : IsToken (struct_of (codes "S") (first_field (codes "m") (set_of no_documents) (first_field (codes "n") (tuple_of (codes "") (lone one)) no_fields)))
-IsToken-settings = (((refl, tt), ((refl, tt), tt, ((refl, tt), (tt, HasTokens-one, tt), tt))), omega arith)
+IsToken-settings = (((refl, tt), ((refl, tt), tt, ((refl, tt), (tt, IsBuiltFromTokens-one, tt), tt))), omega arith)
 
 IsToken-map : IsToken (map_of (first_pair one one no_pairs))
-IsToken-map = ((HasTokens-one, HasTokens-one, tt), omega arith)
+IsToken-map = ((IsBuiltFromTokens-one, IsBuiltFromTokens-one, tt), omega arith)
 
 -- only a tuple with fields may have an empty name
 IsToken-not-empty_tuple : IsToken (tuple_of (codes "") no_documents) → ⊥
@@ -83,13 +83,13 @@ nest-nested : (k : ℕ) → nest (nested k) ≡ k
 nest-nested zero = refl
 nest-nested (suc k) = omega (arith, nest-nested k)
 
-HasTokens-nested : (k : ℕ) → HasTokens (nested k)
-HasTokens-nested zero = tt
-HasTokens-nested (suc k) = (HasTokens-nested k, tt)
+IsBuiltFromTokens-nested : (k : ℕ) → IsBuiltFromTokens (nested k)
+IsBuiltFromTokens-nested zero = tt
+IsBuiltFromTokens-nested (suc k) = (IsBuiltFromTokens-nested k, tt)
 
 -- 255 blocks with entries may be nested around an empty one
 IsToken-nested : IsToken (nested 255)
-IsToken-nested = (HasTokens-nested 255, omega (arith, nest-nested 255))
+IsToken-nested = (IsBuiltFromTokens-nested 255, omega (arith, nest-nested 255))
 
 IsToken-not-nested : IsToken (nested 256) → ⊥
 IsToken-not-nested h = omega (arith, nest-nested 256, h.1)

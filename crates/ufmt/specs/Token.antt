@@ -32,48 +32,48 @@ IsSymbol text = (text ≡ codes "()") ⊎ IsQuoted text
 pub record IsTokenLeaf (text : List ℕ) : Type 0 where
   pub shape : IsWord text ⊎ IsSymbol text
 
--- each leaf is as `IsLeaf` says, each name is a word, and nothing is `joined` or a `pretty_part`; the name of a tuple with fields may be empty
+-- built from such leaves: each leaf is as `IsLeaf` says, each name is a word, and nothing is `joined` or a `pretty_part`; the name of a tuple with fields may be empty
 module _ (IsLeaf : List ℕ → Type 0) where
   abbrev mutual
-    pub HasLeaves : Document → Type 0
-    HasLeaves (leaf text) = IsLeaf text
-    HasLeaves (joined ds) = ⊥
-    HasLeaves (list_of ds) = HaveLeaves ds
-    HasLeaves (set_of ds) = HaveLeaves ds
-    HasLeaves (map_of ps) = PairsHaveLeaves ps
-    HasLeaves (struct_of name fs) = IsWord name × FieldsHaveLeaves fs
-    HasLeaves (tuple_of name no_documents) = IsWord name
-    HasLeaves (tuple_of name (first_document d ds)) = AreWordBytes name × HasLeaves d × HaveLeaves ds
-    HasLeaves (pretty_part d) = ⊥
+    pub IsBuiltFrom : Document → Type 0
+    IsBuiltFrom (leaf text) = IsLeaf text
+    IsBuiltFrom (joined ds) = ⊥
+    IsBuiltFrom (list_of ds) = AreBuiltFrom ds
+    IsBuiltFrom (set_of ds) = AreBuiltFrom ds
+    IsBuiltFrom (map_of ps) = PairsAreBuiltFrom ps
+    IsBuiltFrom (struct_of name fs) = IsWord name × FieldsAreBuiltFrom fs
+    IsBuiltFrom (tuple_of name no_documents) = IsWord name
+    IsBuiltFrom (tuple_of name (first_document d ds)) = AreWordBytes name × IsBuiltFrom d × AreBuiltFrom ds
+    IsBuiltFrom (pretty_part d) = ⊥
 
-    pub HaveLeaves : Documents → Type 0
-    HaveLeaves no_documents = ⊤
-    HaveLeaves (first_document d ds) = HasLeaves d × HaveLeaves ds
+    pub AreBuiltFrom : Documents → Type 0
+    AreBuiltFrom no_documents = ⊤
+    AreBuiltFrom (first_document d ds) = IsBuiltFrom d × AreBuiltFrom ds
 
-    pub PairsHaveLeaves : Pairs → Type 0
-    PairsHaveLeaves no_pairs = ⊤
-    PairsHaveLeaves (first_pair key value ps) = HasLeaves key × HasLeaves value × PairsHaveLeaves ps
+    pub PairsAreBuiltFrom : Pairs → Type 0
+    PairsAreBuiltFrom no_pairs = ⊤
+    PairsAreBuiltFrom (first_pair key value ps) = IsBuiltFrom key × IsBuiltFrom value × PairsAreBuiltFrom ps
 
-    pub FieldsHaveLeaves : Fields → Type 0
-    FieldsHaveLeaves no_fields = ⊤
-    FieldsHaveLeaves (first_field name value fs) = IsWord name × HasLeaves value × FieldsHaveLeaves fs
+    pub FieldsAreBuiltFrom : Fields → Type 0
+    FieldsAreBuiltFrom no_fields = ⊤
+    FieldsAreBuiltFrom (first_field name value fs) = IsWord name × IsBuiltFrom value × FieldsAreBuiltFrom fs
 
 -- each leaf is a token leaf, and the names are as above
-abbrev pub HasTokens : Document → Type 0
-HasTokens d = HasLeaves IsTokenLeaf d
+abbrev pub IsBuiltFromTokens : Document → Type 0
+IsBuiltFromTokens d = IsBuiltFrom IsTokenLeaf d
 
-abbrev pub HaveTokens : Documents → Type 0
-HaveTokens ds = HaveLeaves IsTokenLeaf ds
+abbrev pub AreBuiltFromTokens : Documents → Type 0
+AreBuiltFromTokens ds = AreBuiltFrom IsTokenLeaf ds
 
-abbrev pub PairsHaveTokens : Pairs → Type 0
-PairsHaveTokens ps = PairsHaveLeaves IsTokenLeaf ps
+abbrev pub PairsAreBuiltFromTokens : Pairs → Type 0
+PairsAreBuiltFromTokens ps = PairsAreBuiltFrom IsTokenLeaf ps
 
-abbrev pub FieldsHaveTokens : Fields → Type 0
-FieldsHaveTokens fs = FieldsHaveLeaves IsTokenLeaf fs
+abbrev pub FieldsAreBuiltFromTokens : Fields → Type 0
+FieldsAreBuiltFromTokens fs = FieldsAreBuiltFrom IsTokenLeaf fs
 
 -- a token document has only token leaves, and its blocks with entries are nested at most 255 deep
 abbrev pub IsToken : Document → Type 0
-IsToken d = HasTokens d × (nest d ≤ 255)
+IsToken d = IsBuiltFromTokens d × (nest d ≤ 255)
 
 -- the normal form: at every level, a struct or tuple without fields becomes the leaf of its name, and an empty set becomes the empty map
 abbrev mutual

@@ -4,7 +4,7 @@ use Rattle.std.specs.Prelude.{⊤}
 use Rattle.std.specs.Result.{OnOk, is_ok}
 use Rattle.ufmt.specs.Document.{Document, leaf, joined, list_of, set_of, map_of, struct_of, tuple_of, pretty_part, Documents, no_documents, first_document, documents, Pairs, no_pairs, first_pair, pairs_of, Fields, no_fields, first_field, fields_of}
 use Rattle.ufmt.specs.Layout.{next, tuple_kind}
-use Rattle.ufmt.specs.Token.{IsToken, HasTokens, HaveTokens, PairsHaveTokens, FieldsHaveTokens, normal, normal_all, normal_pairs, normal_fields}
+use Rattle.ufmt.specs.Token.{IsToken, IsBuiltFromTokens, AreBuiltFromTokens, PairsAreBuiltFromTokens, FieldsAreBuiltFromTokens, normal, normal_all, normal_pairs, normal_fields}
 use Rattle.ufmt_core.specs.declared.layout.Count.{Count}
 use Rattle.ufmt_core.specs.declared.layout.Count.TheVariants.{One}
 use Rattle.ufmt_core.specs.declared.layout.Kind.{Kind}
@@ -57,7 +57,7 @@ tuple_is (c ∷ name) ds = refl
 
 mutual
   -- the events of a token document put its normal form on the stack
-  document_grows : (d : Document) → HasTokens d → (below : List Document) (outer : List PartialBlock)
+  document_grows : (d : Document) → IsBuiltFromTokens d → (below : List Document) (outer : List PartialBlock)
       → ◌≡◌ {A = Growing} (grown (below, outer) (events_of d)) (below ++ normal d ∷ [], outer)
   document_grows (leaf text) h = λ below outer. refl
   document_grows (joined ds) h = absurd h
@@ -83,14 +83,14 @@ mutual
   document_grows (pretty_part d) h = absurd h
 
   -- the same for entries, for keys and values, and for leaves of field names and values
-  entries_put : (ds : Documents) → HaveTokens ds → (row : List Document) × PutsAll false false (events_of_entries ds) row × (documents row ≡ normal_all ds)
+  entries_put : (ds : Documents) → AreBuiltFromTokens ds → (row : List Document) × PutsAll false false (events_of_entries ds) row × (documents row ≡ normal_all ds)
   entries_put no_documents h = ([], refl, refl)
   entries_put (first_document d ds) h =
       let more = entries_put ds h.1 in
       let first : Puts false false (events_of d) (normal d ∷ []) = λ below start outer. document_grows d h.0 below (block_at start false ∷ outer) in
       (normal d ∷ more.0, (normal d ∷ [], more.0, first, more.1, refl), ap (first_document (normal d)) more.2)
 
-  pairs_put : (colon : Bool) (ps : Pairs) → PairsHaveTokens ps
+  pairs_put : (colon : Bool) (ps : Pairs) → PairsAreBuiltFromTokens ps
       → (row : List Document) × PutsAll colon true (events_of_pairs ps) row × (pairs_of (in_pairs row) ≡ normal_pairs ps)
   pairs_put colon no_pairs h = ([], refl, refl)
   pairs_put colon (first_pair key value ps) h =
@@ -101,7 +101,7 @@ mutual
       ∙ document_grows value h.1 (below ++ normal key ∷ []) (block_at start true ∷ outer) ∙ rw append_assoc refl in
       (normal key ∷ normal value ∷ more.0, (normal key ∷ normal value ∷ [], more.0, first, more.1, refl), ap (first_pair (normal key) (normal value)) more.2)
 
-  fields_put : (fs : Fields) → FieldsHaveTokens fs
+  fields_put : (fs : Fields) → FieldsAreBuiltFromTokens fs
       → (row : List Document) × PutsAll false false (events_of_fields fs) row × (fields_of (map field_from (in_pairs row)) ≡ normal_fields fs)
   fields_put no_fields h = ([], refl, refl)
   fields_put (first_field name value fs) h =

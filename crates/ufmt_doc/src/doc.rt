@@ -38,7 +38,7 @@ impl Doc {
     pub fn is_token(&self) -> bool
         ensures { IsTrue result ↔ IsToken (doc_document self.now) }
     {
-        self.has_tokens(u8::MAX)
+        self.is_built_from_tokens(u8::MAX)
     }
 
     /// Changes it to its normal form, which has the same texts. At each depth, a struct or a tuple

@@ -4,16 +4,16 @@ use Rattle.std.specs.Prelude.{codes, string_bytes}
 use Rattle.std.specs.Str.{chars}
 use Rattle.std.proofs.lemmas.Str.{IsUtf8-string_bytes, scalars-chars}
 use Rattle.ufmt.specs.Quoted.{quoted_text}
-use Rattle.ufmt.specs.Token.{HasTokens, IsToken}
+use Rattle.ufmt.specs.Token.{IsBuiltFromTokens, IsToken}
 use Rattle.ufmt.specs.ValueDocuments.{string}
-use Rattle.ufmt.proofs.NumbersAreWords.{HasTokens-integer}
+use Rattle.ufmt.proofs.NumbersAreWords.{IsBuiltFromTokens-integer}
 use Rattle.ufmt.proofs.TokenLeaves.{IsWord-from, symbol_leaf}
 use Rattle.ufmt_examples.specs.Alarm.{alarm_document}
 use Rattle.ufmt_examples.specs.declared.alarm.Alarm.{Alarm}
 
 -- a text in quotes is a token leaf
-HasTokens-string : {A : Type 0} (s : String A) → HasTokens (string s)
-HasTokens-string s = symbol_leaf (quoted_text (chars (string_bytes s)))
+IsBuiltFromTokens-string : {A : Type 0} (s : String A) → IsBuiltFromTokens (string s)
+IsBuiltFromTokens-string s = symbol_leaf (quoted_text (chars (string_bytes s)))
     (inr (inl (chars (string_bytes s), scalars-chars (string_bytes s) (IsUtf8-string_bytes s), refl)))
 
 -- its names are words, its leaves a number and a text in quotes, and it is one block
@@ -21,7 +21,7 @@ pub IsToken-alarm : (a : Alarm) → IsToken (alarm_document a)
 IsToken-alarm a = (
   (
     IsWord-from (codes "Alarm") refl,
-    (IsWord-from (codes "node") refl, HasTokens-integer (pos a.node), (IsWord-from (codes "text") refl, HasTokens-string a.text, tt)),
+    (IsWord-from (codes "node") refl, IsBuiltFromTokens-integer (pos a.node), (IsWord-from (codes "text") refl, IsBuiltFromTokens-string a.text, tt)),
   ),
   omega arith,
 )

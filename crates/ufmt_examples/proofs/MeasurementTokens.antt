@@ -5,7 +5,7 @@ use Rattle.ufmt.specs.Decimal.{decimal}
 use Rattle.ufmt.specs.Document.{Document}
 use Rattle.ufmt.specs.Layout.{plain_text}
 use Rattle.ufmt.specs.Token.{IsToken, normal}
-use Rattle.ufmt.proofs.NumbersAreWords.{HasTokens-integer}
+use Rattle.ufmt.proofs.NumbersAreWords.{IsBuiltFromTokens-integer}
 use Rattle.ufmt_doc.specs.FieldTexts.{ShowsField}
 use Rattle.ufmt_doc.proofs.FieldTexts.{number_shown}
 use Rattle.ufmt_scan.specs.declared.error.ReadError.{ReadError}
@@ -18,7 +18,7 @@ pub IsToken-measurement : (r : Measurement) → IsToken (measurement_document r)
 IsToken-measurement r = (
   (
     IsWord-from (codes "Measurement") refl,
-    (IsWord-from (codes "channel") refl, HasTokens-integer (pos r.channel), (IsWord-from (codes "celsius") refl, HasTokens-integer r.celsius, tt)),
+    (IsWord-from (codes "channel") refl, IsBuiltFromTokens-integer (pos r.channel), (IsWord-from (codes "celsius") refl, IsBuiltFromTokens-integer r.celsius, tt)),
   ),
   omega arith,
 )

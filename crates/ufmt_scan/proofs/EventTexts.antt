@@ -10,7 +10,7 @@ use Rattle.ufmt_core.specs.declared.layout.Kind.TheVariants.{Brackets, Braces, S
 use Rattle.ufmt_core.specs.declared.layout.Mode.{Mode}
 use Rattle.ufmt_core.specs.declared.layout.Mode.TheVariants.{Plain, Pretty}
 use Rattle.ufmt_core.specs.declared.layout.Setting.{Setting}
-use Rattle.ufmt.specs.Token.{HasTokens, HaveTokens, PairsHaveTokens, FieldsHaveTokens}
+use Rattle.ufmt.specs.Token.{IsBuiltFromTokens, AreBuiltFromTokens, PairsAreBuiltFromTokens, FieldsAreBuiltFromTokens}
 use Rattle.ufmt_scan.specs.Scan.{TextEvent, events_of, tail_events, block_events, events_of_entries, events_of_pairs, events_of_fields}
 use Rattle.ufmt_scan.specs.ScanTexts.{block_depth, written, setting_after, texts_written, last_setting}
 use Rattle.ufmt_scan.specs.declared.scan.event.Event.TheVariants.{Leaf, Empty}
@@ -77,7 +77,7 @@ name_written name = record { before = λ more. rw append-nil refl }
 -- the events of a token document have its layout as their text
 module _ (mode : Mode) where
   mutual
-    document_written : (k : ℕ) (d : Document) → HasTokens d → nest d + k ≤ 255
+    document_written : (k : ℕ) (d : Document) → IsBuiltFromTokens d → nest d + k ≤ 255
         → AreWritten (setting mode k) (events_of d) (layout (setting mode k) d)
     document_written k (leaf text) h few = record { before = λ more. refl }
     document_written k (joined ds) h few = absurd h
@@ -95,13 +95,13 @@ module _ (mode : Mode) where
     document_written k (pretty_part d) h few = absurd h
 
     -- the same for the entries, pairs and fields of a block at this depth
-    entries_written : (k : ℕ) (ds : Documents) → HaveTokens ds → suc (nest_all ds) + k ≤ 255
+    entries_written : (k : ℕ) (ds : Documents) → AreBuiltFromTokens ds → suc (nest_all ds) + k ≤ 255
         → EntriesAreWritten (inside (setting mode k)) (events_of_entries ds) (texts (inside (setting mode k)) ds)
     entries_written k no_documents h few = tt
     entries_written k (first_document d ds) h few =
         (document_written (entry_depth mode k) d h.0 (deeper mode k (nest d) (omega arith)), entries_written k ds h.1 (omega arith))
 
-    pairs_written : (k : ℕ) (ps : Pairs) → PairsHaveTokens ps → suc (nest_pairs ps) + k ≤ 255
+    pairs_written : (k : ℕ) (ps : Pairs) → PairsAreBuiltFromTokens ps → suc (nest_pairs ps) + k ≤ 255
         → EntriesAreWritten (inside (setting mode k)) (events_of_pairs ps) (pair_texts (inside (setting mode k)) ps)
     pairs_written k no_pairs h few = tt
     pairs_written k (first_pair key value ps) h few =
@@ -109,12 +109,12 @@ module _ (mode : Mode) where
         let second = document_written (entry_depth mode k) value h.1 (deeper mode k (nest value) (omega arith)) in
         (record { before = λ more. simp (append_assoc, first.before, second.before) }, pairs_written k ps h.2 (omega arith))
 
-    fields_written : (k : ℕ) (fs : Fields) → FieldsHaveTokens fs → suc (nest_fields fs) + k ≤ 255
+    fields_written : (k : ℕ) (fs : Fields) → FieldsAreBuiltFromTokens fs → suc (nest_fields fs) + k ≤ 255
         → EntriesAreWritten (inside (setting mode k)) (events_of_fields fs) (field_texts (inside (setting mode k)) fs)
     fields_written k no_fields h few = tt
     fields_written k (first_field name value fs) h few =
         let second = document_written (entry_depth mode k) value h.1 (deeper mode k (nest value) (omega arith)) in
         (record { before = λ more. simp (append_assoc, second.before) }, fields_written k fs h.2 (omega arith))
 
-  pub events_written : (k : ℕ) (d : Document) → HasTokens d → nest d + k ≤ 255 → texts_written (setting mode k) (events_of d) ≡ layout (setting mode k) d
+  pub events_written : (k : ℕ) (d : Document) → IsBuiltFromTokens d → nest d + k ≤ 255 → texts_written (setting mode k) (events_of d) ≡ layout (setting mode k) d
   events_written k d h few = let whole = (document_written k d h few).before [] in simp append-nil at whole

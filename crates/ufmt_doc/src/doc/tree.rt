@@ -31,7 +31,7 @@ pub(super) trait Subtree {
     ghost same: { Self → Self → Type 0 };
 
     // Whether it has tokens, and its blocks with entries are nested at most `deepest` deep.
-    fn has_tokens(&self, deepest: u8) -> bool
+    fn is_built_from_tokens(&self, deepest: u8) -> bool
         ensures { IsTrue result ↔ tokens deepest self.now };
 
     // Whether both have the same normal form.
@@ -44,7 +44,7 @@ impl Subtree for String {
 
     ghost same = { λ name other. string_bytes name ≡ string_bytes other };
 
-    fn has_tokens(&self, _deepest: u8) -> bool {
+    fn is_built_from_tokens(&self, _deepest: u8) -> bool {
         is_word(self)
     }
 
@@ -58,8 +58,8 @@ impl<K: Subtree, V: Subtree> Subtree for (K, V) {
 
     ghost same = { λ p q. K.same p.0 q.0 × V.same p.1 q.1 };
 
-    fn has_tokens(&self, deepest: u8) -> bool {
-        self.0.has_tokens(deepest) && self.1.has_tokens(deepest)
+    fn is_built_from_tokens(&self, deepest: u8) -> bool {
+        self.0.is_built_from_tokens(deepest) && self.1.is_built_from_tokens(deepest)
     }
 
     fn is_same(&self, other: &(K, V)) -> bool {
@@ -73,9 +73,9 @@ impl<T: Subtree> Subtree for Vec<T> {
 
     ghost same = { λ v w. AllZip T.same v.items w.items };
 
-    fn has_tokens(&self, deepest: u8) -> bool {
+    fn is_built_from_tokens(&self, deepest: u8) -> bool {
         self.iter()
-            .all(|entry| deepest > 0 && entry.has_tokens(deepest - 1))
+            .all(|entry| deepest > 0 && entry.is_built_from_tokens(deepest - 1))
     }
 
     fn is_same(&self, other: &Vec<T>) -> bool {
@@ -89,16 +89,16 @@ impl Subtree for Doc {
     ghost same = { λ d e. normal (doc_document d) ≡ normal (doc_document e) };
 
     #[cycle(parts)]
-    fn has_tokens(&self, deepest: u8) -> bool {
+    fn is_built_from_tokens(&self, deepest: u8) -> bool {
         match self {
             Doc::Leaf(text) => is_leaf(text),
-            Doc::Listed(entries) | Doc::SetOf(entries) => entries.has_tokens(deepest),
-            Doc::MapOf(pairs) => pairs.has_tokens(deepest),
-            Doc::StructOf(name, fields) => is_word(name) && fields.has_tokens(deepest),
+            Doc::Listed(entries) | Doc::SetOf(entries) => entries.is_built_from_tokens(deepest),
+            Doc::MapOf(pairs) => pairs.is_built_from_tokens(deepest),
+            Doc::StructOf(name, fields) => is_word(name) && fields.is_built_from_tokens(deepest),
             Doc::TupleOf(name, fields) if name.is_empty() => {
-                !fields.is_empty() && fields.has_tokens(deepest)
+                !fields.is_empty() && fields.is_built_from_tokens(deepest)
             }
-            Doc::TupleOf(name, fields) => is_word(name) && fields.has_tokens(deepest),
+            Doc::TupleOf(name, fields) => is_word(name) && fields.is_built_from_tokens(deepest),
         }
     }
 

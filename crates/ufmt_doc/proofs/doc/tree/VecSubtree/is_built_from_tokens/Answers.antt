@@ -1,7 +1,7 @@
 use Rattle.std.proofs.Common.{◌<◌, ◌-◌, rules, tests}
 use Rattle.std.proofs.lemmas.Iterator.{cases_from_all, YieldsList-from_slice}
 use Rattle.ufmt_doc.proofs.Within.{all_decides}
-use Rattle.ufmt_doc.proofs.doc.tree.VecSubtree.has_tokens.Goals as goal
+use Rattle.ufmt_doc.proofs.doc.tree.VecSubtree.is_built_from_tokens.Goals as goal
 
 pub returns : goal.returns
 returns g c = let n = c.args.deepest in
