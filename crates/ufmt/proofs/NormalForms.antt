@@ -5,7 +5,7 @@ use Rattle.ufmt_core.specs.Layout.{setting, inside, tuple_kind, block_text, layo
 use Rattle.ufmt_core.specs.declared.layout.Mode.TheVariants.{Pretty}
 use Rattle.ufmt_core.specs.declared.layout.Setting.{Setting}
 use Rattle.ufmt_core.specs.declared.layout.Kind.TheVariants.{Brackets, Braces, Struct}
-use Rattle.ufmt.specs.Token.{IsBuiltFromTokens, AreBuiltFromTokens, PairsAreBuiltFromTokens, FieldsAreBuiltFromTokens, IsToken, normal, normal_all, normal_pairs, normal_fields}
+use Rattle.ufmt.specs.Token.{IsBuiltFromTokens, AreBuiltFromTokens, PairsAreBuiltFromTokens, FieldsAreBuiltFromTokens, IsTokenDocument, normal, normal_all, normal_pairs, normal_fields}
 
 mutual
   pub normal-normal : (d : Document) → normal (normal d) ≡ normal d
@@ -87,8 +87,8 @@ mutual
   FieldsAreBuiltFromTokens-normal_fields no_fields h = tt
   FieldsAreBuiltFromTokens-normal_fields (first_field name value fs) h = (h.0, IsBuiltFromTokens-normal value h.1, FieldsAreBuiltFromTokens-normal_fields fs h.2)
 
-pub IsToken-normal : (d : Document) → IsToken d → IsToken (normal d)
-IsToken-normal d h = (IsBuiltFromTokens-normal d h.0, subst (λ n. n ≤ 255) (sym (nest-normal d)) h.1)
+pub IsTokenDocument-normal : (d : Document) → IsTokenDocument d → IsTokenDocument (normal d)
+IsTokenDocument-normal d h = (IsBuiltFromTokens-normal d h.0, subst (λ n. n ≤ 255) (sym (nest-normal d)) h.1)
 
 -- a set's normal form has the text of the set of normal forms, also if it is the empty map
 layout-normal-set_of : (s : Setting) (ds : Documents) → layout s (normal (set_of ds)) ≡ layout s (set_of (normal_all ds))

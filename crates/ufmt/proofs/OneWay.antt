@@ -4,7 +4,7 @@ use Rattle.ufmt_core.specs.Document.{Document, nest}
 use Rattle.ufmt_core.specs.Layout.{setting, layout}
 use Rattle.ufmt_core.specs.declared.layout.Mode.TheVariants.{Plain, Pretty}
 use Rattle.ufmt_core.specs.declared.layout.Setting.{Setting}
-use Rattle.ufmt.specs.Token.{IsBuiltFromTokens, IsToken, normal, IsFollower}
+use Rattle.ufmt.specs.Token.{IsBuiltFromTokens, IsTokenDocument, normal, IsFollower}
 use Rattle.ufmt.specs.Reading.{read}
 use Rattle.ufmt.specs.ReadingLaws.{PlainReadsOneWay, PrettyReadsOneWay, PlainTextDetermines, PrettyTextDetermines, TextsAgree}
 use Rattle.ufmt.proofs.Parsing.{same_parts}
@@ -27,7 +27,7 @@ pretty_reads_one_way = λ k d e u v hd he nd ne hu hv same. reads_one_way (setti
     (omega (arith, nd)) (omega (arith, ne)) hu hv same
 
 -- where 255 nested blocks fit, two texts are equal exactly if the normal forms are equal
-text_determines : (s : Setting) → Fits s 255 → (d e : Document) → IsToken d → IsToken e → (layout s d ≡ layout s e) ↔ (normal d ≡ normal e)
+text_determines : (s : Setting) → Fits s 255 → (d e : Document) → IsTokenDocument d → IsTokenDocument e → (layout s d ≡ layout s e) ↔ (normal d ≡ normal e)
 text_determines s fits d e hd he = (
   λ same. (reads_one_way s 255 fits d e [] [] hd.0 he.0 hd.1 he.1 tt tt (ap (λ t. t ++ []) same)).0,
   λ same. sym (layout-normal s d) ∙ ap (layout s) same ∙ layout-normal s e,

@@ -4,7 +4,7 @@ use Rattle.ufmt_core.specs.Document.{Document}
 use Rattle.ufmt_core.specs.Layout.{setting, layout}
 use Rattle.ufmt_core.specs.declared.layout.Mode.{Mode}
 use Rattle.ufmt_core.specs.declared.layout.Mode.TheVariants.{Plain, Pretty}
-use Rattle.ufmt.specs.Token.{IsToken, normal}
+use Rattle.ufmt.specs.Token.{IsTokenDocument, normal}
 use Rattle.ufmt.specs.Reading.{if_all, read, read_text}
 use Rattle.ufmt.specs.ReadingLaws.{ReadsOnlyTexts, ReadsEachText, RefusesNoText}
 use Rattle.ufmt.proofs.Parsing.{led_from}
@@ -17,7 +17,7 @@ fits_at_0 Plain = tt
 fits_at_0 Pretty = omega arith
 
 -- a document that is found, with nothing left, is a token document in normal form with this text
-all_found : (mode : Mode) (t : List ℕ) (e d : Document) (u : List ℕ) → Found (setting mode 0) 255 t e u → if_all e u ≡ Some d → IsToken d
+all_found : (mode : Mode) (t : List ℕ) (e d : Document) (u : List ℕ) → Found (setting mode 0) 255 t e u → if_all e u ≡ Some d → IsTokenDocument d
     × (normal d ≡ d) × (layout (setting mode 0) d ≡ t)
 all_found mode t e d [] found h =
     let same : e ≡ d = cc in
@@ -29,7 +29,7 @@ reads_only_texts = λ mode t d h.
     let parsed = led_from _ (read (setting mode 0) 255 t) d h in
     all_found mode t parsed.0.0 d parsed.0.1 (read_sound 255 (setting mode 0) t parsed.0.0 parsed.0.1 parsed.1) parsed.2
 
-each_text : (mode : Mode) (d : Document) → IsToken d → read_text mode (layout (setting mode 0) d) ≡ Some (normal d)
+each_text : (mode : Mode) (d : Document) → IsTokenDocument d → read_text mode (layout (setting mode 0) d) ≡ Some (normal d)
 each_text mode d h =
     let parsed : read (setting mode 0) 255 (layout (setting mode 0) d) ≡ Some (normal d, []) = ap (read (setting mode 0) 255) (sym (append-nil (layout (setting mode 0) d))) ∙ read_complete 255 (setting mode 0) d [] h.0 h.1 (fits_at_0 mode) tt in
     rw parsed refl

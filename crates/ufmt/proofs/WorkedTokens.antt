@@ -2,7 +2,7 @@
 use Rattle.std.proofs.Common.{◌≡◌, [], ℕ, zero, suc, map, true, false, codes, refl, inl, inr, arith}
 use Rattle.std.proofs.lemmas.Bool.{false≢true}
 use Rattle.ufmt_core.specs.Document.{Document, leaf, joined, list_of, set_of, map_of, struct_of, tuple_of, pretty_part, Documents, no_documents, first_document, no_pairs, first_pair, no_fields, first_field, nest}
-use Rattle.ufmt.specs.Token.{is_word_byte, IsWord, IsBuiltFromTokens, IsToken, normal, is_closer, IsFollower}
+use Rattle.ufmt.specs.Token.{is_word_byte, IsWord, IsBuiltFromTokens, IsTokenDocument, normal, is_closer, IsFollower}
 use Rattle.ufmt.proofs.TokenLeaves.{leaf_begins, read_symbol_sound, symbol_leaf}
 use Rattle.ufmt.proofs.TokenLines.{IsBuiltFromTokens-HasNoLineFeed}
 
@@ -42,37 +42,37 @@ lone d = first_document d no_documents
 IsBuiltFromTokens-one : IsBuiltFromTokens one
 IsBuiltFromTokens-one = record { shape = inl (refl, tt) }
 
-IsToken-unit : IsToken (leaf (codes "()"))
-IsToken-unit = (symbol_leaf (codes "()") (read_symbol_sound (codes "()") (codes "()") [] refl).0, omega arith)
+IsTokenDocument-unit : IsTokenDocument (leaf (codes "()"))
+IsTokenDocument-unit = (symbol_leaf (codes "()") (read_symbol_sound (codes "()") (codes "()") [] refl).0, omega arith)
 
-IsToken-not-empty_leaf : IsToken (leaf (codes "")) → ⊥
-IsToken-not-empty_leaf h = let begins = leaf_begins (codes "") h.0 in let none = begins.is in absurd (cc)
+IsTokenDocument-not-empty_leaf : IsTokenDocument (leaf (codes "")) → ⊥
+IsTokenDocument-not-empty_leaf h = let begins = leaf_begins (codes "") h.0 in let none = begins.is in absurd (cc)
 
-IsToken-not-line_feed : IsToken (leaf (codes "\n")) → ⊥
-IsToken-not-line_feed h = let line = IsBuiltFromTokens-HasNoLineFeed (leaf (codes "\n")) h.0 in line.0 refl
+IsTokenDocument-not-line_feed : IsTokenDocument (leaf (codes "\n")) → ⊥
+IsTokenDocument-not-line_feed h = let line = IsBuiltFromTokens-HasNoLineFeed (leaf (codes "\n")) h.0 in line.0 refl
 
 -- a struct with an empty set and a tuple without a name
-IsToken-settings : IsToken (struct_of (codes "S") (first_field (codes "m") (set_of no_documents) (first_field (codes "n") (tuple_of (codes "") (lone one)) no_fields)))
-IsToken-settings = (((refl, tt), ((refl, tt), tt, ((refl, tt), (tt, IsBuiltFromTokens-one, tt), tt))), omega arith)
+IsTokenDocument-settings : IsTokenDocument (struct_of (codes "S") (first_field (codes "m") (set_of no_documents) (first_field (codes "n") (tuple_of (codes "") (lone one)) no_fields)))
+IsTokenDocument-settings = (((refl, tt), ((refl, tt), tt, ((refl, tt), (tt, IsBuiltFromTokens-one, tt), tt))), omega arith)
 
-IsToken-map : IsToken (map_of (first_pair one one no_pairs))
-IsToken-map = ((IsBuiltFromTokens-one, IsBuiltFromTokens-one, tt), omega arith)
+IsTokenDocument-map : IsTokenDocument (map_of (first_pair one one no_pairs))
+IsTokenDocument-map = ((IsBuiltFromTokens-one, IsBuiltFromTokens-one, tt), omega arith)
 
 -- only a tuple with fields may have an empty name
-IsToken-not-empty_tuple : IsToken (tuple_of (codes "") no_documents) → ⊥
-IsToken-not-empty_tuple h = h.0
+IsTokenDocument-not-empty_tuple : IsTokenDocument (tuple_of (codes "") no_documents) → ⊥
+IsTokenDocument-not-empty_tuple h = h.0
 
-IsToken-not-empty_struct : IsToken (struct_of (codes "") (first_field (codes "n") one no_fields)) → ⊥
-IsToken-not-empty_struct h = h.0.0
+IsTokenDocument-not-empty_struct : IsTokenDocument (struct_of (codes "") (first_field (codes "n") one no_fields)) → ⊥
+IsTokenDocument-not-empty_struct h = h.0.0
 
-IsToken-not-empty_field_name : IsToken (struct_of (codes "S") (first_field (codes "") one no_fields)) → ⊥
-IsToken-not-empty_field_name h = h.0.1.0
+IsTokenDocument-not-empty_field_name : IsTokenDocument (struct_of (codes "S") (first_field (codes "") one no_fields)) → ⊥
+IsTokenDocument-not-empty_field_name h = h.0.1.0
 
-IsToken-not-joined : IsToken (list_of (lone (joined no_documents))) → ⊥
-IsToken-not-joined h = h.0.0
+IsTokenDocument-not-joined : IsTokenDocument (list_of (lone (joined no_documents))) → ⊥
+IsTokenDocument-not-joined h = h.0.0
 
-IsToken-not-pretty_part : IsToken (pretty_part one) → ⊥
-IsToken-not-pretty_part h = h.0
+IsTokenDocument-not-pretty_part : IsTokenDocument (pretty_part one) → ⊥
+IsTokenDocument-not-pretty_part h = h.0
 
 -- an empty list in k lists
 abbrev nested : ℕ → Document
@@ -88,11 +88,11 @@ IsBuiltFromTokens-nested zero = tt
 IsBuiltFromTokens-nested (suc k) = (IsBuiltFromTokens-nested k, tt)
 
 -- 255 blocks with entries may be nested around an empty one
-IsToken-nested : IsToken (nested 255)
-IsToken-nested = (IsBuiltFromTokens-nested 255, omega (arith, nest-nested 255))
+IsTokenDocument-nested : IsTokenDocument (nested 255)
+IsTokenDocument-nested = (IsBuiltFromTokens-nested 255, omega (arith, nest-nested 255))
 
-IsToken-not-nested : IsToken (nested 256) → ⊥
-IsToken-not-nested h = omega (arith, nest-nested 256, h.1)
+IsTokenDocument-not-nested : IsTokenDocument (nested 256) → ⊥
+IsTokenDocument-not-nested h = omega (arith, nest-nested 256, h.1)
 
 -- ---- normal forms
 

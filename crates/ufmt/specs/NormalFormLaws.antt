@@ -3,7 +3,7 @@ use Rattle.std.specs.Prelude.{◌≡◌}
 use Rattle.ufmt_core.specs.Document.{Document}
 use Rattle.ufmt_core.specs.Layout.{layout}
 use Rattle.ufmt_core.specs.declared.layout.Setting.{Setting}
-use Rattle.ufmt.specs.Token.{IsToken, normal}
+use Rattle.ufmt.specs.Token.{IsTokenDocument, normal}
 
 -- a normal form is its own normal form
 abbrev pub NormalFormsAreNormal : Type 0
@@ -15,4 +15,4 @@ NormalFormsKeepTexts = (s : Setting) (d : Document) → layout s (normal d) ≡ 
 
 -- the normal form of a token document is a token document
 abbrev pub NormalFormsKeepTokens : Type 0
-NormalFormsKeepTokens = (d : Document) → IsToken d → IsToken (normal d)
+NormalFormsKeepTokens = (d : Document) → IsTokenDocument d → IsTokenDocument (normal d)

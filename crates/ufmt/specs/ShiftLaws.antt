@@ -3,7 +3,7 @@ use Rattle.std.specs.Prelude.{◌≡◌, ℕ, ◌+◌, ◌≤◌, List, ◌++◌
 use Rattle.ufmt_core.specs.Document.{Document, nest}
 use Rattle.ufmt_core.specs.Layout.{setting, indentation, layout, pretty_text}
 use Rattle.ufmt_core.specs.declared.layout.Mode.TheVariants.{Pretty}
-use Rattle.ufmt.specs.Token.{IsToken}
+use Rattle.ufmt.specs.Token.{IsTokenDocument}
 use Rattle.ufmt.specs.Shift.{shift, shift_times, shifted, IsOneLine, HasNoLineFeed}
 
 -- shifting puts four spaces before the first line and shifts the lines after it
@@ -22,4 +22,4 @@ ShiftedIsPretty = (d : Document) → HasNoLineFeed d → nest d ≤ 255 → shif
 
 -- no leaf, name or field name of a token document has a line feed
 abbrev pub TokensHaveNoLineFeed : Type 0
-TokensHaveNoLineFeed = (d : Document) → IsToken d → HasNoLineFeed d
+TokensHaveNoLineFeed = (d : Document) → IsTokenDocument d → HasNoLineFeed d

@@ -72,8 +72,8 @@ abbrev pub FieldsAreBuiltFromTokens : Fields → Type 0
 FieldsAreBuiltFromTokens fs = FieldsAreBuiltFrom IsTokenLeaf fs
 
 -- a token document has only token leaves, and its blocks with entries are nested at most 255 deep
-abbrev pub IsToken : Document → Type 0
-IsToken d = IsBuiltFromTokens d × (nest d ≤ 255)
+abbrev pub IsTokenDocument : Document → Type 0
+IsTokenDocument d = IsBuiltFromTokens d × (nest d ≤ 255)
 
 -- the normal form: at every level, a struct or tuple without fields becomes the leaf of its name, and an empty set becomes the empty map
 abbrev mutual

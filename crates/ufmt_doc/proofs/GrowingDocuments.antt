@@ -4,7 +4,7 @@ use Rattle.std.specs.Prelude.{⊤}
 use Rattle.std.specs.Result.{OnOk, is_ok}
 use Rattle.ufmt.specs.Document.{Document, leaf, joined, list_of, set_of, map_of, struct_of, tuple_of, pretty_part, Documents, no_documents, first_document, documents, Pairs, no_pairs, first_pair, pairs_of, Fields, no_fields, first_field, fields_of}
 use Rattle.ufmt.specs.Layout.{next, tuple_kind}
-use Rattle.ufmt.specs.Token.{IsToken, IsBuiltFromTokens, AreBuiltFromTokens, PairsAreBuiltFromTokens, FieldsAreBuiltFromTokens, normal, normal_all, normal_pairs, normal_fields}
+use Rattle.ufmt.specs.Token.{IsTokenDocument, IsBuiltFromTokens, AreBuiltFromTokens, PairsAreBuiltFromTokens, FieldsAreBuiltFromTokens, normal, normal_all, normal_pairs, normal_fields}
 use Rattle.ufmt_core.specs.declared.layout.Count.{Count}
 use Rattle.ufmt_core.specs.declared.layout.Count.TheVariants.{One}
 use Rattle.ufmt_core.specs.declared.layout.Kind.{Kind}
@@ -117,5 +117,5 @@ takes_event old new e (Ok x) h = λ start es before. h ∙ ap (λ g. grow g e) b
 takes_event old new e (Err x) h = λ start es before. tt
 
 -- what has grown from the events of a document in normal form is that document
-pub whole_is : (d : Document) (new : Growing) → IsToken d → normal d ≡ d → new ≡ grown ([], []) (events_of d) → new ≡ (d ∷ [], [])
+pub whole_is : (d : Document) (new : Growing) → IsTokenDocument d → normal d ≡ d → new ≡ grown ([], []) (events_of d) → new ≡ (d ∷ [], [])
 whole_is d new token form grew = grew ∙ document_grows d token.0 [] [] ∙ ap (λ x. (x ∷ [], [])) form

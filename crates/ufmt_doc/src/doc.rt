@@ -4,7 +4,7 @@ ghost use Rattle.std.specs.Prelude.{◌≡◌, ◌↔◌, IfOk, IsTrue, map, opt
 ghost use Rattle.std.specs.Str.{chars};
 ghost use Rattle.ufmt.specs.Document.{documents, fields_of, leaf, pairs_of};
 ghost use Rattle.ufmt.specs.Quoted.{IsQuote, quoted_char, quoted_text};
-ghost use Rattle.ufmt.specs.Token.{IsToken, normal, normal_all, normal_fields, normal_pairs};
+ghost use Rattle.ufmt.specs.Token.{IsTokenDocument, normal, normal_all, normal_fields, normal_pairs};
 ghost use Rattle.ufmt_doc.specs.Doc.{doc_document};
 ghost use Rattle.ufmt_doc.specs.DocViews.{pair_view, field_view};
 ghost use Rattle.ufmt_doc.specs.Parts.{entries_part, field_part, fields_part, first_value, leaf_part, name_part, pairs_part};
@@ -36,7 +36,7 @@ pub enum Doc {
 impl Doc {
     /// Returns whether it is a token document, whose text can be read again.
     pub fn is_token(&self) -> bool
-        ensures { IsTrue result ↔ IsToken (doc_document self.now) }
+        ensures { IsTrue result ↔ IsTokenDocument (doc_document self.now) }
     {
         self.is_built_from_tokens(u8::MAX)
     }

@@ -2,7 +2,7 @@
 ghost use Rattle.std.specs.Prelude.{◌≡◌, IfOk, IsErrOf};
 ghost use Rattle.ufmt.specs.Document.{Document};
 ghost use Rattle.ufmt.specs.Layout.{plain_text};
-ghost use Rattle.ufmt.specs.Token.{IsToken, normal};
+ghost use Rattle.ufmt.specs.Token.{IsTokenDocument, normal};
 ghost use Rattle.ufmt_doc.specs.Doc.{doc_document};
 ghost use Rattle.ufmt_doc.specs.FieldTexts.{ShowsField, ShowsText};
 ghost use Rattle.ufmt_scan.specs.Texts.{IsNormalForm, IsNoText};
@@ -44,7 +44,7 @@ impl Doc {
 pub fn read_field(alloc: Global, line: &[u8], name: &str) -> Result<Option<String>, ReadError>
     ensures found { IfOk result (λ outcome. (d : Document) × IsNormalForm plain_text line.now d
         × ShowsField name.now d outcome) }
-    ensures each { IfOk result (λ outcome. (d : Document) → IsToken d → plain_text d ≡ line.now
+    ensures each { IfOk result (λ outcome. (d : Document) → IsTokenDocument d → plain_text d ≡ line.now
         → ShowsField name.now (normal d) outcome) }
     ensures not_text { IsErrOf result ReadError.NotText → IsNoText plain_text line.now }
 {

@@ -2,7 +2,7 @@
 ghost use Rattle.std.specs.Prelude.{◌≡◌, string_bytes, IfOk, IsErrOf};
 ghost use Rattle.ufmt.specs.Document.{Document};
 ghost use Rattle.ufmt.specs.Layout.{plain_text, pretty_text};
-ghost use Rattle.ufmt.specs.Token.{IsToken, normal};
+ghost use Rattle.ufmt.specs.Token.{IsTokenDocument, normal};
 ghost use Rattle.ufmt_doc.specs.Doc.{doc_document};
 ghost use Rattle.ufmt_scan.specs.Texts.{IsNormalForm, IsNoText};
 
@@ -56,9 +56,9 @@ pub fn pretty_by_way_of_plain(alloc: Global, input: &[u8]) -> Result<String, Rea
 /// Prints a document plainly, and reads the text. This gives a token document's normal form. Fails with
 /// `NotText` if no token document has the text, and otherwise only with `OutOfMemory`.
 pub fn normal_by_way_of_plain(alloc: Global, doc: &Doc) -> Result<Doc, ReadError>
-    ensures ok { IsToken (doc_document doc.now)
+    ensures ok { IsTokenDocument (doc_document doc.now)
         → IfOk result (λ again. doc_document again ≡ normal (doc_document doc.now)) }
-    ensures is_text { IsToken (doc_document doc.now) → IsErrOf result ReadError.NotText → ⊥ }
+    ensures is_text { IsTokenDocument (doc_document doc.now) → IsErrOf result ReadError.NotText → ⊥ }
     ensures found { IfOk result (λ again.
         IsNormalForm plain_text (plain_text (doc_document doc.now)) (doc_document again)) }
     ensures not_text { IsErrOf result ReadError.NotText
@@ -70,9 +70,9 @@ pub fn normal_by_way_of_plain(alloc: Global, doc: &Doc) -> Result<Doc, ReadError
 
 /// Does the same with the pretty text.
 pub fn normal_by_way_of_pretty(alloc: Global, doc: &Doc) -> Result<Doc, ReadError>
-    ensures ok { IsToken (doc_document doc.now)
+    ensures ok { IsTokenDocument (doc_document doc.now)
         → IfOk result (λ again. doc_document again ≡ normal (doc_document doc.now)) }
-    ensures is_text { IsToken (doc_document doc.now) → IsErrOf result ReadError.NotText → ⊥ }
+    ensures is_text { IsTokenDocument (doc_document doc.now) → IsErrOf result ReadError.NotText → ⊥ }
     ensures found { IfOk result (λ again.
         IsNormalForm pretty_text (pretty_text (doc_document doc.now)) (doc_document again)) }
     ensures not_text { IsErrOf result ReadError.NotText

@@ -4,7 +4,7 @@ use Rattle.std.specs.Prelude.{codes, string_bytes}
 use Rattle.std.specs.Str.{chars}
 use Rattle.std.proofs.lemmas.Str.{IsUtf8-string_bytes, scalars-chars}
 use Rattle.ufmt.specs.Quoted.{quoted_text}
-use Rattle.ufmt.specs.Token.{IsBuiltFromTokens, IsToken}
+use Rattle.ufmt.specs.Token.{IsBuiltFromTokens, IsTokenDocument}
 use Rattle.ufmt.specs.ValueDocuments.{string}
 use Rattle.ufmt.proofs.NumbersAreWords.{IsBuiltFromTokens-integer}
 use Rattle.ufmt.proofs.TokenLeaves.{IsWord-from, symbol_leaf}
@@ -17,8 +17,8 @@ IsBuiltFromTokens-string s = symbol_leaf (quoted_text (chars (string_bytes s)))
     (inr (inl (chars (string_bytes s), scalars-chars (string_bytes s) (IsUtf8-string_bytes s), refl)))
 
 -- its names are words, its leaves a number and a text in quotes, and it is one block
-pub IsToken-alarm : (a : Alarm) → IsToken (alarm_document a)
-IsToken-alarm a = (
+pub IsTokenDocument-alarm : (a : Alarm) → IsTokenDocument (alarm_document a)
+IsTokenDocument-alarm a = (
   (
     IsWord-from (codes "Alarm") refl,
     (IsWord-from (codes "node") refl, IsBuiltFromTokens-integer (pos a.node), (IsWord-from (codes "text") refl, IsBuiltFromTokens-string a.text, tt)),

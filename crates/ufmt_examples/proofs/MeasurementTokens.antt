@@ -4,7 +4,7 @@ use Rattle.std.specs.Prelude.{codes, string_bytes}
 use Rattle.ufmt.specs.Decimal.{decimal}
 use Rattle.ufmt.specs.Document.{Document}
 use Rattle.ufmt.specs.Layout.{plain_text}
-use Rattle.ufmt.specs.Token.{IsToken, normal}
+use Rattle.ufmt.specs.Token.{IsTokenDocument, normal}
 use Rattle.ufmt.proofs.NumbersAreWords.{IsBuiltFromTokens-integer}
 use Rattle.ufmt_doc.specs.FieldTexts.{ShowsField}
 use Rattle.ufmt_doc.proofs.FieldTexts.{number_shown}
@@ -14,8 +14,8 @@ use Rattle.ufmt_user.specs.Logger.{measurement_document}
 use Rattle.ufmt_user.specs.declared.logger.Measurement.{Measurement}
 
 -- its names are words, its leaves numbers, and it is one block
-pub IsToken-measurement : (r : Measurement) → IsToken (measurement_document r)
-IsToken-measurement r = (
+pub IsTokenDocument-measurement : (r : Measurement) → IsTokenDocument (measurement_document r)
+IsTokenDocument-measurement r = (
   (
     IsWord-from (codes "Measurement") refl,
     (IsWord-from (codes "channel") refl, IsBuiltFromTokens-integer (pos r.channel), (IsWord-from (codes "celsius") refl, IsBuiltFromTokens-integer r.celsius, tt)),
@@ -25,7 +25,7 @@ IsToken-measurement r = (
 
 -- what the field shows is the decimal text
 pub celsius_found : (outcome : Result (Option (String Global)) ReadError) (line : List ℕ)
-    → IfOk outcome (λ text. (d : Document) → IsToken d → plain_text d ≡ line → ShowsField (codes "celsius") (normal d) text)
+    → IfOk outcome (λ text. (d : Document) → IsTokenDocument d → plain_text d ≡ line → ShowsField (codes "celsius") (normal d) text)
     → IfOk outcome (λ text. (r : Measurement) → line ≡ plain_text (measurement_document r) → option_map string_bytes text ≡ Some (decimal r.celsius))
-celsius_found (Ok text) line found = λ r printed. number_shown r.celsius text (found (measurement_document r) (IsToken-measurement r) (sym printed))
+celsius_found (Ok text) line found = λ r printed. number_shown r.celsius text (found (measurement_document r) (IsTokenDocument-measurement r) (sym printed))
 celsius_found (Err e) line found = tt

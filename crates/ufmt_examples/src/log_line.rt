@@ -3,7 +3,7 @@ ghost use Rattle.std.specs.Prelude.{◌≡◌, ◌↔◌, List, ℕ, IsErrOf, Is
 ghost use Rattle.ufmt.specs.Buffer.{Fronts};
 ghost use Rattle.ufmt.specs.Document.{Document};
 ghost use Rattle.ufmt.specs.Layout.{plain_text, pretty_text};
-ghost use Rattle.ufmt.specs.Token.{IsToken};
+ghost use Rattle.ufmt.specs.Token.{IsTokenDocument};
 ghost use Rattle.ufmt_doc.specs.Texts.{IsConverted, IsNoText};
 
 #[cfg(test)]
@@ -30,7 +30,7 @@ pub fn pretty_line(line: &[u8], buffer: &mut [u8; 256]) -> Result<usize, ScanErr
 /// Returns whether `read_plain` would read the line, given memory.
 pub fn is_readable(line: &[u8]) -> bool
     ensures { IsTrue result
-        ↔ ((d : Document) × IsToken d × (plain_text d ≡ line.now)) }
+        ↔ ((d : Document) × IsTokenDocument d × (plain_text d ≡ line.now)) }
 {
     is_text(Mode::Plain, line)
 }

@@ -8,7 +8,7 @@ use Rattle.ufmt.proofs.ReadingWhole.{reads_each_text, reads_only_texts}
 use Rattle.ufmt.specs.Document.{Document}
 use Rattle.ufmt.specs.Layout.{layout, setting}
 use Rattle.ufmt.specs.Reading.{read_text}
-use Rattle.ufmt.specs.Token.{IsToken, normal}
+use Rattle.ufmt.specs.Token.{IsTokenDocument, normal}
 use Rattle.ufmt_core.specs.declared.layout.Mode.{Mode}
 use Rattle.ufmt_lines.specs.Readable.{output_of, converted, converted_here, may_begin_after, other_mode, tail_converted}
 use Rattle.ufmt_lines.specs.Private.GroupOutput.{output_bytes, output_seen}
@@ -17,7 +17,7 @@ use Rattle.ufmt_scan.specs.Texts.{ConvertsTo, IsConverted, IsNormalForm, IsNoTex
 use Rattle.ufmt_scan.specs.declared.scan.event.ScanError.TheVariants.{NotText}
 
 -- the normal form is read from the text
-form_is_read : (mode : Mode) (text : List ℕ) (d : Document) → IsToken d → layout (setting mode 0) d ≡ text → read_text mode text ≡ Some (normal d)
+form_is_read : (mode : Mode) (text : List ℕ) (d : Document) → IsTokenDocument d → layout (setting mode 0) d ≡ text → read_text mode text ≡ Some (normal d)
 form_is_read mode text d token is = ap (read_text mode) (sym is) ∙ reads_each_text mode d token
 
 nothing_is_read : (mode : Mode) (text : List ℕ) (o : Option Document) → read_text mode text ≡ o → IsNoText (layout (setting mode 0)) text → o ≡ None

@@ -3,7 +3,7 @@ use Rattle.std.specs.Prelude.{◌≡◌, ◌⊎◌, ℕ, ◌<◌, List, [], ◌�
 use Rattle.ufmt.specs.Document.{Document}
 use Rattle.ufmt.specs.Layout.{layout, setting}
 use Rattle.ufmt.specs.Lines.{lines_of}
-use Rattle.ufmt.specs.Token.{IsToken}
+use Rattle.ufmt.specs.Token.{IsTokenDocument}
 use Rattle.ufmt_core.specs.declared.layout.Mode.{Mode}
 use Rattle.ufmt_core.specs.declared.layout.Mode.TheVariants.{Pretty}
 use Rattle.ufmt_lines.specs.Groups.{IsInGroup, IsInLine, groups_of}
@@ -20,7 +20,7 @@ NoTextBegins mode before rest = (front back : List ℕ) → before ≡ front ++ 
 
 -- the longest tail that is a text of the other mode is converted, and the bytes before it stay
 abbrev pub LongestTextIsConverted : Type 0
-LongestTextIsConverted = (mode : Mode) (before : List ℕ) (d : Document) → IsToken d → MayFollow before
+LongestTextIsConverted = (mode : Mode) (before : List ℕ) (d : Document) → IsTokenDocument d → MayFollow before
     → NoTextBegins (other_mode mode) before (layout (setting (other_mode mode) 0) d)
     → output_of mode (before ++ layout (setting (other_mode mode) 0) d) ≡ before ++ layout (setting mode 0) d
 

@@ -5,7 +5,7 @@ ghost use Rattle.std.specs.Prelude.{◌≡◌, ◌≢◌, ◌↔◌, ◌<◌, No
 ghost use Rattle.ufmt.specs.Buffer.{Fronts};
 ghost use Rattle.ufmt.specs.Document.{Document};
 ghost use Rattle.ufmt.specs.Layout.{plain_text, pretty_text};
-ghost use Rattle.ufmt.specs.Token.{IsToken, normal};
+ghost use Rattle.ufmt.specs.Token.{IsTokenDocument, normal};
 ghost use Rattle.ufmt_doc.specs.Doc.{doc_document};
 ghost use Rattle.ufmt_parse.specs.Again.{printed};
 ghost use Rattle.ufmt_parse.specs.Finds.{Finds, FindsParts};
@@ -80,10 +80,10 @@ pub trait uParse: uDebug + Drop {
 /// is a token document prints so; the other error is `OutOfMemory`.
 pub fn parse<T: uParse>(alloc: Global, text: &[u8]) -> Result<T, ReadError>
     ensures ok { IfOk result (λ v. plain_text (T.document v) ≡ text.now) }
-    ensures form { IfOk result (λ v. (d : Document) → IsToken d → plain_text d ≡ text.now
+    ensures form { IfOk result (λ v. (d : Document) → IsTokenDocument d → plain_text d ≡ text.now
         → normal (T.document v) ≡ normal d) }
     ensures not_text { IsErrOf result ReadError.NotText
-        → (v : T) → T.is_value v → IsToken (T.document v) → plain_text (T.document v) ≢ text.now }
+        → (v : T) → T.is_value v → IsTokenDocument (T.document v) → plain_text (T.document v) ≢ text.now }
 {
     let doc = read_plain(alloc, text)?;
     match T::from_doc(alloc, &doc)? {
@@ -95,10 +95,10 @@ pub fn parse<T: uParse>(alloc: Global, text: &[u8]) -> Result<T, ReadError>
 /// Returns a value that prints as this pretty text, as `parse` does with a plain one.
 pub fn parse_pretty<T: uParse>(alloc: Global, text: &[u8]) -> Result<T, ReadError>
     ensures ok { IfOk result (λ v. pretty_text (T.document v) ≡ text.now) }
-    ensures form { IfOk result (λ v. (d : Document) → IsToken d → pretty_text d ≡ text.now
+    ensures form { IfOk result (λ v. (d : Document) → IsTokenDocument d → pretty_text d ≡ text.now
         → normal (T.document v) ≡ normal d) }
     ensures not_text { IsErrOf result ReadError.NotText
-        → (v : T) → T.is_value v → IsToken (T.document v) → pretty_text (T.document v) ≢ text.now }
+        → (v : T) → T.is_value v → IsTokenDocument (T.document v) → pretty_text (T.document v) ≢ text.now }
 {
     let doc = read_pretty(alloc, text)?;
     match T::from_doc(alloc, &doc)? {
@@ -112,9 +112,9 @@ pub fn parse_pretty<T: uParse>(alloc: Global, text: &[u8]) -> Result<T, ReadErro
 pub fn again<T: uParse>(alloc: Global, value: &T) -> Result<T, ReadError>
     ensures text { IfOk result (λ again.
         plain_text (T.document again) ≡ plain_text (T.document value.now)) }
-    ensures same { IsToken (T.document value.now) → IfOk result (λ again.
+    ensures same { IsTokenDocument (T.document value.now) → IfOk result (λ again.
         normal (T.document again) ≡ normal (T.document value.now)) }
-    ensures is_text { IsToken (T.document value.now) → IsErrOf result ReadError.NotText → ⊥ }
+    ensures is_text { IsTokenDocument (T.document value.now) → IsErrOf result ReadError.NotText → ⊥ }
 {
     value.holds();
     let text = plain_text(alloc, value)?;
@@ -130,11 +130,11 @@ pub fn again_in<T: uParse>(
 ) -> Result<Option<T>, ReadError>
     ensures text { IfOk result (λ outcome. IfSome outcome (λ again.
         plain_text (T.document again) ≡ plain_text (T.document value.now))) }
-    ensures same { IsToken (T.document value.now) → IfOk result (λ outcome. IfSome outcome (λ again.
+    ensures same { IsTokenDocument (T.document value.now) → IfOk result (λ outcome. IfSome outcome (λ again.
         normal (T.document again) ≡ normal (T.document value.now))) }
     ensures fits { IfOk result (λ outcome. (outcome ≡ None)
         ↔ (length buffer.old < length (plain_text (T.document value.now)))) }
-    ensures is_text { IsToken (T.document value.now) → IsErrOf result ReadError.NotText → ⊥ }
+    ensures is_text { IsTokenDocument (T.document value.now) → IsErrOf result ReadError.NotText → ⊥ }
     ensures front { Fronts buffer.old (plain_text (T.document value.now))
         (printed (plain_text (T.document value.now)) result) buffer.new }
 {

@@ -6,9 +6,9 @@ use Rattle.ufmt.specs.Document.{Document}
 use Rattle.ufmt.specs.Layout.{layout, setting}
 use Rattle.ufmt_core.specs.declared.layout.Mode.{Mode}
 use Rattle.ufmt_core.specs.declared.layout.Mode.TheVariants.{Plain, Pretty}
-use Rattle.ufmt.specs.Token.{IsToken, normal}
+use Rattle.ufmt.specs.Token.{IsTokenDocument, normal}
 use Rattle.ufmt.specs.Writes.{Seen, Writes}
-use Rattle.ufmt.proofs.NormalForms.{IsToken-normal, layout-normal, normal-normal}
+use Rattle.ufmt.proofs.NormalForms.{IsTokenDocument-normal, layout-normal, normal-normal}
 use Rattle.ufmt.proofs.OneWay.{texts_agree}
 use Rattle.ufmt_core.proofs.Writing.{Writes-fails, Writes-then}
 use Rattle.ufmt_scan.specs.declared.convert.text_sink.TextSink.{TextSink}
@@ -21,7 +21,7 @@ use Rattle.ufmt_scan.specs.Texts.{ConvertsTo, IsConverted, IsNormalForm}
 use Rattle.ufmt_scan.proofs.EventTexts.{last_setting-append, texts_written-append, events_written}
 
 -- two token documents with the same text in one mode have the same text in the other
-modes_agree : (from to : Mode) (d e : Document) → IsToken d → IsToken e → layout (setting from 0) d ≡ layout (setting from 0) e
+modes_agree : (from to : Mode) (d e : Document) → IsTokenDocument d → IsTokenDocument e → layout (setting from 0) d ≡ layout (setting from 0) e
     → layout (setting to 0) d ≡ layout (setting to 0) e
 modes_agree Plain Plain d e hd he same = same
 modes_agree Plain Pretty d e hd he same = (texts_agree d e hd he).0 same
@@ -91,7 +91,7 @@ module _ {W : Type 0} {p : ℕ} (seen : Seen W) where
         not_text = λ is. absurd (cc);
         writes = λ text other.
             let d = other.some.0 in
-            let form : IsNormalForm (layout (setting from 0)) input (normal d) = (IsToken-normal d other.some.1, normal-normal d, layout-normal (setting from 0) d ∙ other.some.2) in
+            let form : IsNormalForm (layout (setting from 0)) input (normal d) = (IsTokenDocument-normal d other.some.1, normal-normal d, layout-normal (setting from 0) d ∙ other.some.2) in
             rw (← (read_is from to input (normal d) form).1 text other, (h.2 (normal d) form).1, texts_written-append) (Writes-fails _ h.1.writes);
         lawful = (texts_written (setting to 0) h.0, false, h.1.writes);
       },

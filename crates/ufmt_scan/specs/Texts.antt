@@ -2,7 +2,7 @@
 use Rattle.std.specs.Prelude.{◌≡◌, ◌≢◌, List, ℕ, Bool, Result, String, IfOk, IsOk, IsErrOf, is_ok, length, string_bytes, ⊤}
 use Rattle.ufmt.specs.Buffer.{Fronts}
 use Rattle.ufmt.specs.Document.{Document}
-use Rattle.ufmt.specs.Token.{IsToken, normal}
+use Rattle.ufmt.specs.Token.{IsTokenDocument, normal}
 use Rattle.ufmt.specs.Writes.{Seen, Writes}
 use Rattle.ufmt_scan.specs.declared.error.ReadError.{ReadError}
 use Rattle.ufmt_scan.specs.declared.error.ReadError.TheVariants.{NotText}
@@ -11,16 +11,16 @@ use Rattle.ufmt_scan.specs.declared.scan.event.ScanError.TheVariants as errors
 
 -- a token document in normal form that has this text
 abbrev pub IsNormalForm : (Document → List ℕ) → List ℕ → Document → Type 0
-IsNormalForm text_of input d = IsToken d × (normal d ≡ d) × (text_of d ≡ input)
+IsNormalForm text_of input d = IsTokenDocument d × (normal d ≡ d) × (text_of d ≡ input)
 
 -- no token document has this text
 abbrev pub IsNoText : (Document → List ℕ) → List ℕ → Type 0
-IsNoText text_of input = (d : Document) → IsToken d → text_of d ≢ input
+IsNoText text_of input = (d : Document) → IsTokenDocument d → text_of d ≢ input
 
 -- the input is converted to the output: some token document has the input as its text, and each such document has the output as its other text
 pub record IsConverted (from to : Document → List ℕ) (input output : List ℕ) : Type 0 where
-  pub some : (d : Document) × IsToken d × (from d ≡ input)
-  pub each : (d : Document) → IsToken d → from d ≡ input → to d ≡ output
+  pub some : (d : Document) × IsTokenDocument d × (from d ≡ input)
+  pub each : (d : Document) → IsTokenDocument d → from d ≡ input → to d ≡ output
 
 -- what a conversion returns: the other text, or `NotText`, if the input is no text
 pub record Converts {A : Type 0} (from to : Document → List ℕ) (input : List ℕ) (outcome : Result (String A) ReadError) : Type 0 where

@@ -2,7 +2,7 @@
 ghost use Rattle.std.specs.List.{AllByRecursion, AllZip};
 ghost use Rattle.std.specs.Prelude.{◌≡◌, ◌↔◌, ◌<◌, ◌-◌, ℕ, IsTrue, string_bytes};
 ghost use Rattle.ufmt.specs.Layout.{plain_text, pretty_text};
-ghost use Rattle.ufmt.specs.Token.{IsToken, IsWord, normal};
+ghost use Rattle.ufmt.specs.Token.{IsTokenDocument, IsWord, normal};
 ghost use Rattle.ufmt_doc.specs.Doc.{doc_document};
 ghost use Rattle.ufmt_doc.specs.Parts.{leaf_part};
 ghost use Rattle.ufmt_doc.specs.Private.{IsTokenWithin};
@@ -14,9 +14,9 @@ use ufmt_scan::leaf::{is_leaf, is_word};
 /// Returns whether two documents have the same normal form. Two token documents have it exactly if they
 /// have the same text. Compares their trees, and makes no text.
 pub fn same_text(a: &Doc, b: &Doc) -> bool
-    ensures plain { IsToken (doc_document a.now) → IsToken (doc_document b.now) → IsTrue result
+    ensures plain { IsTokenDocument (doc_document a.now) → IsTokenDocument (doc_document b.now) → IsTrue result
         ↔ (plain_text (doc_document a.now) ≡ plain_text (doc_document b.now)) }
-    ensures pretty { IsToken (doc_document a.now) → IsToken (doc_document b.now) → IsTrue result
+    ensures pretty { IsTokenDocument (doc_document a.now) → IsTokenDocument (doc_document b.now) → IsTrue result
         ↔ (pretty_text (doc_document a.now) ≡ pretty_text (doc_document b.now)) }
     ensures normal { IsTrue result ↔ (normal (doc_document a.now) ≡ normal (doc_document b.now)) }
 {
