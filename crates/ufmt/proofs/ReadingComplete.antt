@@ -5,7 +5,7 @@ use Rattle.ufmt_core.specs.Layout.{frame, inside, new_line, lead, trail, block_t
 use Rattle.ufmt_core.specs.declared.layout.Setting.{Setting}
 use Rattle.ufmt_core.specs.declared.layout.Kind.TheVariants.{Brackets, Braces, Struct, Tuple, Unnamed}
 use Rattle.ufmt_core.specs.declared.layout.Count.TheVariants.{Zero, One}
-use Rattle.ufmt.specs.Token.{AreWordBytes, IsWord, IsBuiltFromTokens, AreBuiltFromTokens, PairsAreBuiltFromTokens, FieldsAreBuiltFromTokens, normal, normal_all, normal_pairs, normal_fields, IsFollower}
+use Rattle.ufmt.specs.Token.{IsWordOrEmpty, IsWord, IsBuiltFromTokens, AreBuiltFromTokens, PairsAreBuiltFromTokens, FieldsAreBuiltFromTokens, normal, normal_all, normal_pairs, normal_fields, IsFollower}
 use Rattle.ufmt.specs.Reading.{Parse, choose, strip, read_word, read_pair, read_tuple, read_struct, read_with, read}
 use Rattle.ufmt.proofs.Parsing.{strip_joined}
 use Rattle.ufmt.proofs.BlocksComplete.{Begins, Begins-append, IsRead, AreRead, entry_assoc, rest_follows, read_entries_complete, read_block_complete, read_after_first_complete, read_value_complete, read_pair_complete}
@@ -135,7 +135,7 @@ struct_complete s p n below fits (c ∷ name) field_name value fs u hn hl hv hs 
 
 -- a tuple with fields is read
 tuple_complete : (s : Setting) (p : Parse Document) (n : ℕ) → ReadsBelow p (inside s) n → Fits s n
-    → (name : List ℕ) (d : Document) (ds : Documents) (u : List ℕ) → AreWordBytes name → IsBuiltFromTokens d → AreBuiltFromTokens ds
+    → (name : List ℕ) (d : Document) (ds : Documents) (u : List ℕ) → IsWordOrEmpty name → IsBuiltFromTokens d → AreBuiltFromTokens ds
     → nest (tuple_of name (first_document d ds)) ≤ n
     → read_with s p (layout s (tuple_of name (first_document d ds)) ++ u) ≡ Some (normal (tuple_of name (first_document d ds)), u)
 tuple_complete s p n below fits [] d ds u hn h hs less =

@@ -5,7 +5,7 @@ use Rattle.ufmt_core.specs.Layout.{frame, tuple_kind, inside, lead, block_tail, 
 use Rattle.ufmt_core.specs.declared.layout.Setting.{Setting}
 use Rattle.ufmt_core.specs.declared.layout.Kind.TheVariants.{Brackets, Braces, Struct, Tuple, Unnamed}
 use Rattle.ufmt_core.specs.declared.layout.Count.TheVariants.{Zero}
-use Rattle.ufmt.specs.Token.{AreWordBytes, IsWord, IsTokenLeaf, IsBuiltFromTokens, normal}
+use Rattle.ufmt.specs.Token.{IsWordOrEmpty, IsWord, IsTokenLeaf, IsBuiltFromTokens, normal}
 use Rattle.ufmt.specs.Reading.{Parse, choose, strip, word_of, after_word, read_word, read_symbol, read_value, read_pair, read_block, read_list, read_map, read_set, read_map_or_set, read_braced_entries, read_braces, read_tuple, read_struct, read_unnamed, read_without_name, read_named, read_by_word, read_with, read}
 use Rattle.ufmt.proofs.Parsing.{same_parts, strip_found, led_from, chosen_from}
 use Rattle.ufmt.proofs.ReadingWords.{words_whole, word_of_bytes, read_word_sound}
@@ -106,7 +106,7 @@ tuple_text s (c ∷ name) d ds u =
     ∙ sym (append_assoc (c ∷ name) (block_tail (frame s.mode Tuple) s Zero (texts (inside s) (documents (d ∷ ds)))) u)
 
 -- a tuple is found if its fields are found
-tuple_found : (s : Setting) (n : ℕ) (name t v : List ℕ) (d : Document) (u : List ℕ) → AreWordBytes name
+tuple_found : (s : Setting) (n : ℕ) (name t v : List ℕ) (d : Document) (u : List ℕ) → IsWordOrEmpty name
     → t ≡ name ++ (lead (frame s.mode (tuple_kind name)) (inside s) Zero ++ v)
     → FoundEntries (IsNormalBelow n) (layout (inside s)) (frame s.mode (tuple_kind name)) s (λ ds. tuple_of name (documents ds)) v d u → Found s n t d u
 tuple_found s n name t v d u word front h =
@@ -186,7 +186,7 @@ read_braces_sound s p n finds t v d u front h = go (chosen_from (strip ((frame s
 
 -- what is read as a tuple is one
 read_tuple_sound : (s : Setting) (p : Parse Document) (n : ℕ) → Finds p (IsNormalBelow n) (layout (inside s))
-    → (name t v w : List ℕ) (d : Document) (u : List ℕ) → AreWordBytes name → t ≡ name ++ v
+    → (name t v w : List ℕ) (d : Document) (u : List ℕ) → IsWordOrEmpty name → t ≡ name ++ v
     → strip (lead (frame s.mode (tuple_kind name)) (inside s) Zero) v ≡ Some w → read_tuple s p name w ≡ Some (d, u) → Found s n t d u
 read_tuple_sound s p n finds name t v w d u word front after h =
     tuple_found s n name t w d u word (front ∙ ap (λ x. name ++ x) (strip_found (lead (frame s.mode (tuple_kind name)) (inside s) Zero) v w after))
@@ -207,7 +207,7 @@ leaf_found text u h whole = record { tokens = h; nests = omega arith; is_normal 
 
 -- what is read after a word is a tuple, a struct or a leaf
 read_named_sound : (s : Setting) (p : Parse Document) (n : ℕ) → Finds p (IsNormalBelow n) (layout (inside s))
-    → (name t v : List ℕ) (d : Document) (u : List ℕ) → IsWord name → AreWordBytes name → t ≡ name ++ v → read_named s p name v ≡ Some (d, u) → Found s n t d u
+    → (name t v : List ℕ) (d : Document) (u : List ℕ) → IsWord name → IsWordOrEmpty name → t ≡ name ++ v → read_named s p name v ≡ Some (d, u) → Found s n t d u
 read_named_sound s p n finds name t v d u word bytes front h =
     go (chosen_from (strip (lead (frame s.mode (tuple_kind name)) (inside s) Zero) v) _ _ (Some (d, u)) h)
   where
@@ -252,7 +252,7 @@ read_without_name_sound s p n finds t d u h = in_brackets (chosen_from (strip (c
 
 -- what is read is found, whatever the longest word at the front is
 read_by_word_sound : (s : Setting) (p : Parse Document) (n : ℕ) → Finds p (IsNormalBelow n) (layout (inside s))
-    → (t word v : List ℕ) (d : Document) (u : List ℕ) → AreWordBytes word → t ≡ word ++ v → read_by_word s p t word v ≡ Some (d, u) → Found s n t d u
+    → (t word v : List ℕ) (d : Document) (u : List ℕ) → IsWordOrEmpty word → t ≡ word ++ v → read_by_word s p t word v ≡ Some (d, u) → Found s n t d u
 read_by_word_sound s p n finds t [] v d u bytes front h = read_without_name_sound s p n finds t d u h
 read_by_word_sound s p n finds t (c ∷ word) v d u bytes front h = read_named_sound s p n finds (c ∷ word) t v d u bytes bytes front h
 

@@ -1,7 +1,7 @@
 -- Words and what follows them: word bytes, closers, and the longest word at the front of a text.
 use Rattle.std.proofs.Common.{◌≡◌, inl, inr, refl, ap, sym, subst, ◌∙◌, ℕ, ◌==◌, ◌||◌, Bool, true, false, cond, List, [], ◌∷◌, ◌++◌, Some, eqb-true}
 use Rattle.std.specs.Prelude.{⊤}
-use Rattle.ufmt.specs.Token.{is_word_byte, AreWordBytes, IsWord, is_closer, IsFollower}
+use Rattle.ufmt.specs.Token.{is_word_byte, IsWordOrEmpty, IsWord, is_closer, IsFollower}
 use Rattle.ufmt.specs.Reading.{word_of, after_word, if_word, read_word}
 use Rattle.ufmt.proofs.Parsing.{same_parts}
 
@@ -49,25 +49,25 @@ words_whole (c ∷ t) = go (is_word_byte c) (words_whole t)
     go true e = ap (λ u. c ∷ u) e
     go false e = refl
 
-pub word_of_bytes : (t : List ℕ) → AreWordBytes (word_of t)
+pub word_of_bytes : (t : List ℕ) → IsWordOrEmpty (word_of t)
 word_of_bytes [] = tt
 word_of_bytes (c ∷ t) = go (is_word_byte c) refl (word_of_bytes t)
   where
-    go : (b : Bool) → is_word_byte c ≡ b → AreWordBytes (word_of t) → AreWordBytes (cond b (c ∷ word_of t) [])
+    go : (b : Bool) → is_word_byte c ≡ b → IsWordOrEmpty (word_of t) → IsWordOrEmpty (cond b (c ∷ word_of t) [])
     go true e h = (e, h)
     go false e h = tt
 
-pub word_of-append : (w u : List ℕ) → AreWordBytes w → StopsWord u → word_of (w ++ u) ≡ w
+pub word_of-append : (w u : List ℕ) → IsWordOrEmpty w → StopsWord u → word_of (w ++ u) ≡ w
 word_of-append [] [] h stops = refl
 word_of-append [] (c ∷ u) h stops = rw stops refl
 word_of-append (c ∷ w) u h stops = rw h.0 (ap (λ t. c ∷ t) (word_of-append w u h.1 stops))
 
-pub after_word-append : (w u : List ℕ) → AreWordBytes w → StopsWord u → after_word (w ++ u) ≡ u
+pub after_word-append : (w u : List ℕ) → IsWordOrEmpty w → StopsWord u → after_word (w ++ u) ≡ u
 after_word-append [] [] h stops = refl
 after_word-append [] (c ∷ u) h stops = rw stops refl
 after_word-append (c ∷ w) u h stops = rw h.0 (after_word-append w u h.1 stops)
 
-pub word_bytes : (w : List ℕ) → IsWord w → AreWordBytes w
+pub word_bytes : (w : List ℕ) → IsWord w → IsWordOrEmpty w
 word_bytes [] h = absurd h
 word_bytes (c ∷ w) h = h
 
@@ -78,7 +78,7 @@ if_word_complete (c ∷ w) u h = refl
 pub read_word_complete : (w u : List ℕ) → IsWord w → StopsWord u → read_word (w ++ u) ≡ Some (w, u)
 read_word_complete w u h stops = rw (word_of-append w u (word_bytes w h) stops, after_word-append w u (word_bytes w h) stops) (if_word_complete w u h)
 
-if_word_sound : (a b w u : List ℕ) → AreWordBytes a → if_word a b ≡ Some (w, u) → IsWord w × (a ++ b ≡ w ++ u)
+if_word_sound : (a b w u : List ℕ) → IsWordOrEmpty a → if_word a b ≡ Some (w, u) → IsWord w × (a ++ b ≡ w ++ u)
 if_word_sound [] b w u h e = absurd (cc)
 if_word_sound (c ∷ a) b w u h e =
     let parts = same_parts {A = List ℕ} {B = List ℕ} (c ∷ a, b) (w, u) e in

@@ -11,14 +11,15 @@ is_within low high c = nat_le low c && nat_le c high
 abbrev pub is_word_byte : ℕ → Bool
 is_word_byte c = is_within zero_digit nine_digit c || is_within upper_a upper_z c || is_within lower_a lower_z c || c == underscore || c == hyphen
 
-abbrev pub AreWordBytes : List ℕ → Type 0
-AreWordBytes [] = ⊤
-AreWordBytes (c ∷ text) = (is_word_byte c ≡ true) × AreWordBytes text
+-- a word, or empty
+abbrev pub IsWordOrEmpty : List ℕ → Type 0
+IsWordOrEmpty [] = ⊤
+IsWordOrEmpty (c ∷ text) = (is_word_byte c ≡ true) × IsWordOrEmpty text
 
 -- a word is one or more word bytes
 abbrev pub IsWord : List ℕ → Type 0
 IsWord [] = ⊥
-IsWord (c ∷ text) = (is_word_byte c ≡ true) × AreWordBytes text
+IsWord (c ∷ text) = (is_word_byte c ≡ true) × IsWordOrEmpty text
 
 -- an unquoted leaf is a word or `()`
 abbrev pub IsUnquotedLeaf : List ℕ → Type 0
@@ -43,7 +44,7 @@ module _ (IsLeaf : List ℕ → Type 0) where
     IsBuiltFrom (map_of ps) = PairsAreBuiltFrom ps
     IsBuiltFrom (struct_of name fs) = IsWord name × FieldsAreBuiltFrom fs
     IsBuiltFrom (tuple_of name no_documents) = IsWord name
-    IsBuiltFrom (tuple_of name (first_document d ds)) = AreWordBytes name × IsBuiltFrom d × AreBuiltFrom ds
+    IsBuiltFrom (tuple_of name (first_document d ds)) = IsWordOrEmpty name × IsBuiltFrom d × AreBuiltFrom ds
     IsBuiltFrom (pretty_part d) = ⊥
 
     pub AreBuiltFrom : Documents → Type 0

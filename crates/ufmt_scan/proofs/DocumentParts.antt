@@ -7,7 +7,7 @@ use Rattle.ufmt_core.specs.declared.layout.Kind.{Kind}
 use Rattle.ufmt_core.specs.declared.layout.Kind.TheVariants.{Brackets, Braces, Struct, Tuple, Unnamed}
 use Rattle.ufmt_core.specs.declared.layout.Count.TheVariants.{Zero, One, Several}
 use Rattle.ufmt.specs.Layout.{frame, inside, lead}
-use Rattle.ufmt.specs.Token.{AreWordBytes, IsWord}
+use Rattle.ufmt.specs.Token.{IsWordOrEmpty, IsWord}
 use Rattle.ufmt.specs.ReadingQuoted.{read_quoted}
 use Rattle.ufmt.specs.Reading.{Parse, choose, parse_map, strip, word_of, after_word, read_after_first, read_symbol, read_word, read_value, read_list, read_braces, read_map_or_set, read_named, read_without_name, read_by_word, read}
 use Rattle.ufmt.proofs.Parsing.{strip_found}
@@ -193,7 +193,7 @@ steps_as took stopped old new onward n (Ok x) other longer same h =
     (subst (λ o. Emits took took old new o (onward x.0 x.1.now)) (sym same) h.0, let less = h.1 in omega (arith, less))
 steps_as took stopped old new onward n (Err why) other longer same h = (subst (λ o. Stops took stopped old new o why) (sym same) h.0, tt)
 
-bytes_are_word : (w : List ℕ) → AreWordBytes w → (length w == 0) ≡ false → IsWord w
+bytes_are_word : (w : List ℕ) → IsWordOrEmpty w → (length w == 0) ≡ false → IsWord w
 bytes_are_word [] bytes some = absurd (cc)
 bytes_are_word (c ∷ w) bytes some = bytes
 
@@ -201,7 +201,7 @@ bytes_are_word (c ∷ w) bytes some = bytes
 pub front_is_word : (t w : List ℕ) → w ≡ word_of t → (length w == 0) ≡ false → IsWord w
 front_is_word t w word some = bytes_are_word w (rw word (word_of_bytes t)) some
 
-pub front_is_bytes : (t w : List ℕ) → w ≡ word_of t → AreWordBytes w
+pub front_is_bytes : (t w : List ℕ) → w ≡ word_of t → IsWordOrEmpty w
 front_is_bytes t w word = rw word (word_of_bytes t)
 
 pub word_is_read : (t w u : List ℕ) → w ≡ word_of t → u ≡ after_word t → (length w == 0) ≡ false → read_word t ≡ Some (w, u)

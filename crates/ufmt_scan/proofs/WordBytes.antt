@@ -6,7 +6,7 @@ use Rattle.std.proofs.lemmas.Bool.{agree_below, agree_below_at, cases_lt}
 use Rattle.std.proofs.lemmas.List.{get_or_past}
 use Rattle.std.proofs.lemmas.Str.Ascii.{IsAscii-cons, IsAscii-nil}
 use Rattle.ufmt.specs.Reading.{after_word, word_of}
-use Rattle.ufmt.specs.Token.{is_word_byte, AreWordBytes}
+use Rattle.ufmt.specs.Token.{is_word_byte, IsWordOrEmpty}
 use Rattle.ufmt_scan.specs.Private.MarkedBytes.{is_marked, marked_len}
 use Rattle.ufmt_scan.specs.declared.leaf.TheConstants.{WORD_BYTES}
 
@@ -19,7 +19,7 @@ marks table test size agree past c = go (cases_lt c 256)
     go (inl low) = agree_below_at (is_marked table) test 256 c agree low
     go (inr high) = ap (λ b. b == 119) (get_or_past table c 0 (omega (arith, size))) ∙ sym (past c high)
 
-pub word_bytes_are_ascii : (w : List ℕ) → AreWordBytes w → IsAscii w
+pub word_bytes_are_ascii : (w : List ℕ) → IsWordOrEmpty w → IsAscii w
 word_bytes_are_ascii [] h = IsAscii-nil
 word_bytes_are_ascii (c ∷ w) h = let first = h.0 in IsAscii-cons c w (grind (arith, nat_tests)) (word_bytes_are_ascii w h.1)
 
