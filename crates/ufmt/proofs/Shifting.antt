@@ -2,7 +2,7 @@
 use Rattle.std.proofs.Common.{◌≡◌, ℕ, zero, suc, ◌+◌, ◌≤◌, ◌==◌, List, [], ◌∷◌, ◌++◌, map, Bool, true, false, codes, refl, sym, ap, ap₂, ◌∙◌, append_assoc, ne_eqb, arith}
 use Rattle.std.specs.Prelude.{⊤}
 use Rattle.ufmt_core.specs.Document.{Document, leaf, joined, list_of, set_of, map_of, struct_of, tuple_of, pretty_part, Documents, no_documents, first_document, Pairs, no_pairs, first_pair, Fields, no_fields, first_field, nest, nest_all, nest_pairs, nest_fields}
-use Rattle.ufmt_core.specs.Layout.{Frame, frame, tuple_kind, setting, inside, entry_depth, indentation, separator, lead, ending, next, block_tail, block_text, layout, layouts, texts, pair_texts, field_texts, pretty_text}
+use Rattle.ufmt_core.specs.Layout.{Frame, frame, tuple_kind, setting, inside, entry_depth, indentation, later_lead, lead, ending, next, block_tail, block_text, layout, layouts, texts, pair_texts, field_texts, pretty_text}
 use Rattle.ufmt_core.specs.declared.layout.Mode.TheVariants.{Pretty}
 use Rattle.ufmt_core.specs.declared.layout.Setting.{Setting}
 use Rattle.ufmt_core.specs.declared.layout.Kind.{Kind}
@@ -102,7 +102,7 @@ IsSteady-frame Struct = record { opening = λ k. refl; start = λ k. refl; zero 
 IsSteady-frame Tuple = record { opening = λ k. refl; start = λ k. refl; zero = λ k. refl; several = λ k. refl; one = refl }
 IsSteady-frame Unnamed = record { opening = λ k. refl; start = λ k. refl; zero = λ k. refl; several = λ k. refl; one = refl }
 
-pub lead-next : (f : Frame) (i : Setting) (count : Count) → lead f i (next count) ≡ separator i.mode i.depth
+pub lead-next : (f : Frame) (i : Setting) (count : Count) → lead f i (next count) ≡ later_lead i.mode i.depth
 lead-next f i Zero = refl
 lead-next f i One = refl
 lead-next f i Several = refl

@@ -10,7 +10,7 @@ pub use Rattle.ufmt_core.specs.declared.layout.Kind.TheVariants.{Brackets, Brace
 pub use Rattle.ufmt_core.specs.declared.layout.Count.{Count}
 pub use Rattle.ufmt_core.specs.declared.layout.Count.TheVariants.{Zero, One, Several}
 
--- the text around the entries of a block
+-- an entry of a block is its lead, its text and its trail; a frame is the text around the entries
 pub record Frame : Type 0 where
   -- comes after the block's name, with entries or without
   pub opening : List ℕ
@@ -77,10 +77,10 @@ abbrev pub new_line : Mode → ℕ → List ℕ
 new_line Plain k = []
 new_line Pretty k = line_feed ∷ indentation k
 
--- the text before another entry, at depth k
-abbrev pub separator : Mode → ℕ → List ℕ
-separator Plain k = codes ", "
-separator Pretty k = indentation k
+-- the lead of an entry that is not the first, at depth k
+abbrev pub later_lead : Mode → ℕ → List ℕ
+later_lead Plain k = codes ", "
+later_lead Pretty k = indentation k
 
 -- the text after an entry
 abbrev pub trail : Mode → List ℕ
@@ -90,8 +90,8 @@ trail Pretty = codes ",\n"
 -- the text before an entry, after this count of others, at the entries' mode and depth
 abbrev pub lead : Frame → Setting → Count → List ℕ
 lead f i Zero = f.start ++ new_line i.mode i.depth
-lead f i One = separator i.mode i.depth
-lead f i Several = separator i.mode i.depth
+lead f i One = later_lead i.mode i.depth
+lead f i Several = later_lead i.mode i.depth
 
 -- the text that ends a block with this count of entries, at the block's mode and depth
 abbrev pub ending : Frame → Setting → Count → List ℕ

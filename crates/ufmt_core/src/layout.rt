@@ -1,8 +1,9 @@
 //! How documents are laid out: the two modes, and the text around the entries of each kind of block.
-//! Formatters take it from here, and the scanner the text that begins a block.
+//! An entry is its lead, its text and its trail. Formatters take these from here, and the scanner the
+//! text that begins a block.
 ghost use Rattle.std.specs.Prelude.{◌≡◌, ◌++◌, ℕ};
 ghost use Rattle.ufmt_core.specs.declared.layout.Mode.{Mode};
-ghost use Rattle.ufmt_core.specs.Layout.{frame, indentation, inside, line_start, new_line, next, separator, trail, tuple_kind};
+ghost use Rattle.ufmt_core.specs.Layout.{frame, indentation, inside, line_start, new_line, next, later_lead, trail, tuple_kind};
 
 /// Opens a list.
 pub const OPENING_BRACKET: &str = "[";
@@ -134,10 +135,10 @@ impl Mode {
         }
     }
 
-    /// The text between two entries on one line.
+    /// The text before an entry that is not the first, without the indentation.
     #[inline(always)]
-    pub fn separator(self) -> &'static str
-        ensures { (k : ℕ) → result.now ++ line_start self k ≡ separator self k }
+    pub fn later_lead(self) -> &'static str
+        ensures { (k : ℕ) → result.now ++ line_start self k ≡ later_lead self k }
     {
         match self {
             Mode::Plain => ", ",

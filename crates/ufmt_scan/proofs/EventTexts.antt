@@ -2,7 +2,7 @@
 use Rattle.std.proofs.Common.{◌≡◌, ◌∙◌, refl, ap, sym, ℕ, suc, ◌+◌, ◌≤◌, List, [], ◌∷◌, ◌++◌, append_assoc, append-nil, arith}
 use Rattle.std.specs.Prelude.{⊤}
 use Rattle.ufmt.specs.Document.{Document, leaf, joined, list_of, set_of, map_of, struct_of, tuple_of, pretty_part, Documents, no_documents, first_document, Pairs, no_pairs, first_pair, Fields, no_fields, first_field, nest, nest_all, nest_pairs, nest_fields}
-use Rattle.ufmt.specs.Layout.{frame, setting, inside, entry_depth, separator, trail, lead, line_start, ending, next, block_text, block_tail, tuple_kind, layout, texts, pair_texts, field_texts}
+use Rattle.ufmt.specs.Layout.{frame, setting, inside, entry_depth, later_lead, trail, lead, line_start, ending, next, block_text, block_tail, tuple_kind, layout, texts, pair_texts, field_texts}
 use Rattle.ufmt_core.specs.declared.layout.Count.{Count}
 use Rattle.ufmt_core.specs.declared.layout.Count.TheVariants.{Zero, One, Several}
 use Rattle.ufmt_core.specs.declared.layout.Kind.{Kind}
@@ -51,8 +51,8 @@ module _ (mode : Mode) (k n : ℕ) (few : suc n + k ≤ 255) (kind : Kind) where
   abbrev s : Setting
   s = setting mode k
 
-  -- after an entry, a separator comes before the next one, and a line's start before the closing
-  later : (count : Count) → (lead (frame mode kind) (inside s) (next count) ≡ separator mode (entry_depth mode k))
+  -- after an entry, the next one's lead follows, or a line's start before the closing
+  later : (count : Count) → (lead (frame mode kind) (inside s) (next count) ≡ later_lead mode (entry_depth mode k))
       × (ending (frame mode kind) s (next count) ≡ line_start mode k ++ (frame mode kind).closing (next count))
   later Zero = (refl, refl)
   later One = (refl, refl)

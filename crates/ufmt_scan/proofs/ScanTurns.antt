@@ -1,7 +1,7 @@
 -- The events of a block are made up of those of its entries.
 use Rattle.std.proofs.Common.{◌≡◌, refl, ap, ◌∙◌, sym, ℕ, List, [], ◌∷◌, ◌++◌, append_assoc, map, Option, Some, None, option_map, option_and_then}
 use Rattle.ufmt.specs.Document.{Document}
-use Rattle.ufmt.specs.Layout.{ending, frame, inside, next, separator, trail}
+use Rattle.ufmt.specs.Layout.{ending, frame, inside, next, later_lead, trail}
 use Rattle.ufmt_core.specs.declared.layout.Count.{Count}
 use Rattle.ufmt_core.specs.declared.layout.Count.TheVariants.{One, Several}
 use Rattle.ufmt_core.specs.declared.layout.Kind.{Kind}
@@ -63,7 +63,7 @@ module _ (turn : Turn) (level : Level) (kind : Kind) where
 
   -- after an entry, the next one comes, or the block ends, or the text can't be scanned
   pub follows_scans : (before : Count) (t : List ℕ) → Takes turn.read → scan_rest turn level kind (next before) t
-      ≡ option_and_then (λ u. go_on before (strip (separator level.mode (inside (setting_at level)).depth) u)
+      ≡ option_and_then (λ u. go_on before (strip (later_lead level.mode (inside (setting_at level)).depth) u)
       (strip (ending (frame level.mode kind) (setting_at level) (next before)) u)) (strip (trail level.mode) t)
   unfolding scan_rest
   follows_scans before t takes = by_trail (strip (trail level.mode) t)
@@ -98,15 +98,15 @@ module _ (turn : Turn) (level : Level) (kind : Kind) where
       entry None = refl
       entry (Some x) = after x.0 (strip (trail level.mode) x.1)
 
-      by_separator : (u : List ℕ) (o : Option (List ℕ)) → tail (next before) (choose o (read_turn turn.read level.mode (read_on (next (next before))))
+      by_lead : (u : List ℕ) (o : Option (List ℕ)) → tail (next before) (choose o (read_turn turn.read level.mode (read_on (next (next before))))
           (read_end (frame level.mode kind) (setting_at level) (next before) u)) ≡ go_on before o (ends u)
-      by_separator u None = ended (ends u)
-      by_separator u (Some v) = entry (turn.read v)
+      by_lead u None = ended (ends u)
+      by_lead u (Some v) = entry (turn.read v)
 
       by_trail : (o : Option (List ℕ)) → option_and_then (λ u. tail (next before) (read_on (next before) u)) o
-          ≡ option_and_then (λ u. go_on before (strip (separator level.mode (inside (setting_at level)).depth) u) (ends u)) o
+          ≡ option_and_then (λ u. go_on before (strip (later_lead level.mode (inside (setting_at level)).depth) u) (ends u)) o
       by_trail None = refl
       by_trail (Some u) =
           ap (tail (next before)) (read_others-read_turn turn.read takes (frame level.mode kind) (setting_at level) (next before) u)
-          ∙ rw (lead-next (frame level.mode kind) (inside (setting_at level)) before) (by_separator u (strip (separator level.mode
+          ∙ rw (lead-next (frame level.mode kind) (inside (setting_at level)) before) (by_lead u (strip (later_lead level.mode
           (inside (setting_at level)).depth) u))

@@ -1,6 +1,6 @@
 -- The text of each event, as a sink that lays a text out writes it.
 use Rattle.std.specs.Prelude.{ℕ, ◌-◌, List, [], ◌∷◌, ◌++◌, codes}
-use Rattle.ufmt.specs.Layout.{frame, setting, inside, separator, trail, lead, line_start}
+use Rattle.ufmt.specs.Layout.{frame, setting, inside, later_lead, trail, lead, line_start}
 use Rattle.ufmt_core.specs.declared.layout.Count.TheVariants.{Zero}
 use Rattle.ufmt_core.specs.declared.layout.Mode.{Mode}
 use Rattle.ufmt_core.specs.declared.layout.Mode.TheVariants.{Plain, Pretty}
@@ -24,7 +24,7 @@ written s (Empty kind) = (frame s.mode kind).opening ++ (frame s.mode kind).clos
 written s (Open kind name) = name ++ ((frame s.mode kind).opening ++ lead (frame s.mode kind) (inside s) Zero)
 written s (FieldName text) = text ++ codes ": "
 written s Colon = codes ": "
-written s Next = trail s.mode ++ separator s.mode s.depth
+written s Next = trail s.mode ++ later_lead s.mode s.depth
 written s (Close kind count) = trail s.mode ++ (line_start s.mode (outside s).depth ++ (frame s.mode kind).closing count)
 
 -- the mode and depth after an event

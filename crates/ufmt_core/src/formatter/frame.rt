@@ -1,6 +1,6 @@
 //! Writing the text around the entries of a block, at the formatter's own mode and depth.
 ghost use Rattle.std.specs.Prelude.{◌++◌, codes, is_ok};
-ghost use Rattle.ufmt_core.specs.Layout.{ending, frame, indentation, lead, line_start, new_line, separator, trail};
+ghost use Rattle.ufmt_core.specs.Layout.{ending, frame, indentation, lead, line_start, new_line, later_lead, trail};
 ghost use Rattle.ufmt_core.specs.Formatter.{Prints, depth_of, mode_of, setting_of};
 
 use crate::formatter::Formatter;
@@ -20,7 +20,7 @@ impl<W: uWrite> Formatter<W> {
                 self.write_start(kind)?;
                 self.write_new_line()
             }
-            Count::One | Count::Several => self.write_separator(),
+            Count::One | Count::Several => self.write_later_lead(),
         }
     }
 
@@ -101,11 +101,11 @@ impl<W: uWrite> Formatter<W> {
     }
 
     #[inline(always)]
-    fn write_separator(&mut self) -> Result<(), W::Error>
-        ensures { Prints W.seen self.old (separator (mode_of self.old) (depth_of self.old))
+    fn write_later_lead(&mut self) -> Result<(), W::Error>
+        ensures { Prints W.seen self.old (later_lead (mode_of self.old) (depth_of self.old))
             (is_ok result) self.new }
     {
-        self.write_piece(self.setting.mode.separator())?;
+        self.write_piece(self.setting.mode.later_lead())?;
         self.write_line_start()
     }
 

@@ -1,6 +1,6 @@
 //! Which event comes next in a text.
 ghost use Rattle.std.specs.Prelude.{◌≡◌, ◌<◌, ◌≤◌, ◌++◌, ◌∷◌, [], IfOk, length, suc, ℕ};
-ghost use Rattle.ufmt.specs.Layout.{entry_depth, line_start, next, separator};
+ghost use Rattle.ufmt.specs.Layout.{entry_depth, line_start, next, later_lead};
 ghost use Rattle.ufmt.specs.Reading.{parse_map, read, read_without_name};
 ghost use Rattle.ufmt_scan.specs.declared.level.Level.{Level};
 ghost use Rattle.ufmt_scan.specs.declared.scan.step.Stage.{Stage};
@@ -275,12 +275,12 @@ fn after_entry<'a, S: Sink, const PRETTY: bool>(
         (scan_rest (turn_of level stage) level (kind_of stage) (next (earlier stage)) input.now)
         (after level) }
 {
-    let separator = between(level.mode);
+    let rest_of_lead = between(level.mode);
     // The block's indentation comes first, whether the block ends or another entry comes.
     let Some(line) = strip_to_line(level.mode.trail(), level.setting(), input) else {
         return Err(ScanError::NotText);
     };
-    if let Some(start) = strip_piece(separator, line) {
+    if let Some(start) = strip_piece(rest_of_lead, line) {
         emit(Event::Next, sink)?;
         return Ok((Some(stage.later()), start));
     }
@@ -296,10 +296,10 @@ fn after_entry<'a, S: Sink, const PRETTY: bool>(
 #[inline(always)]
 fn between(mode: Mode) -> &'static str
     ensures { (k : ℕ) → k < 255
-        → line_start mode k ++ result.now ≡ separator mode (entry_depth mode k) }
+        → line_start mode k ++ result.now ≡ later_lead mode (entry_depth mode k) }
 {
     match mode {
-        Mode::Plain => Mode::Plain.separator(),
+        Mode::Plain => Mode::Plain.later_lead(),
         Mode::Pretty => INDENT,
     }
 }

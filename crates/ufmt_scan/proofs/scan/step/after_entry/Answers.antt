@@ -1,5 +1,5 @@
 use Rattle.std.proofs.Common.{◌≡◌, ◌∙◌, refl, ap, sym, ℕ, ◌<◌, List, [], ◌∷◌, ◌++◌, Option, Some, None, option_and_then, arith}
-use Rattle.ufmt.specs.Layout.{ending, frame, inside, line_start, next, separator, trail}
+use Rattle.ufmt.specs.Layout.{ending, frame, inside, line_start, next, later_lead, trail}
 use Rattle.ufmt.specs.Reading.{strip}
 use Rattle.ufmt.proofs.Parsing.{strip-append}
 use Rattle.ufmt.proofs.ReadingTurns.{strip_within}
@@ -31,7 +31,7 @@ module _ (level : Level) (at : Stage) where
 
   -- after the line's start, another entry comes, or the block ends
   follows : (t piece between : List ℕ) (line : Setting) (o : Option (List ℕ)) → piece ≡ trail level.mode → line ≡ setting_at level
-      → start ++ between ≡ separator level.mode (inside (setting_at level)).depth → o ≡ strip (piece ++ line_start line.mode line.depth) t
+      → start ++ between ≡ later_lead level.mode (inside (setting_at level)).depth → o ≡ strip (piece ++ line_start line.mode line.depth) t
       → scan_rest (turn_of level at) level (kind_of at) (next (earlier at)) t
       ≡ option_and_then (λ w. go_on (turn_of level at) level (kind_of at) (earlier at) (strip between w) (strip closing w)) o
   follows t piece between line o piece_is line_is apart h =
@@ -46,24 +46,24 @@ module _ (level : Level) (at : Stage) where
       by_line (Some w) = refl
 
       by_trail : (e : Option (List ℕ)) → option_and_then (λ v. go_on (turn_of level at) level (kind_of at) (earlier at)
-          (strip (separator level.mode (inside (setting_at level)).depth) v) (strip (ending (frame level.mode (kind_of at)) (setting_at level) (next (earlier at))) v)) e
+          (strip (later_lead level.mode (inside (setting_at level)).depth) v) (strip (ending (frame level.mode (kind_of at)) (setting_at level) (next (earlier at))) v)) e
           ≡ option_and_then (λ w. go_on (turn_of level at) level (kind_of at) (earlier at) (strip between w) (strip closing w)) (option_and_then (strip start) e)
       by_trail None = refl
       by_trail (Some v) =
-          let separates : strip (separator level.mode (inside (setting_at level)).depth) v ≡ option_and_then (strip between) (strip start v) =
+          let separates : strip (later_lead level.mode (inside (setting_at level)).depth) v ≡ option_and_then (strip between) (strip start v) =
           ap (λ p. strip p v) (sym apart) ∙ strip-append start between v in
           rw (separates, ending_stripped level (kind_of at) (earlier at) v) (by_line (strip start v))
 
   -- another entry comes
   another : (t u v piece between : List ℕ) (line : Setting) → piece ≡ trail level.mode → line ≡ setting_at level
-      → start ++ between ≡ separator level.mode (inside (setting_at level)).depth → Some u ≡ strip (piece ++ line_start line.mode line.depth) t → Some v ≡ strip between u
+      → start ++ between ≡ later_lead level.mode (inside (setting_at level)).depth → Some u ≡ strip (piece ++ line_start line.mode line.depth) t → Some v ≡ strip between u
       → scan_rest (turn_of level at) level (kind_of at) (next (earlier at)) t ≡ prefixed (Next ∷ []) (after level (Some (later at)) v)
   another t u v piece between line piece_is line_is apart before comes =
       follows t piece between line (Some u) piece_is line_is apart before ∙ rw (sym comes) (ap (prefixed (Next ∷ [])) (sym (later_continues level at v)))
 
   -- the block ends
   ends : (t u v piece between : List ℕ) (line : Setting) → piece ≡ trail level.mode → line ≡ setting_at level
-      → start ++ between ≡ separator level.mode (inside (setting_at level)).depth → Some u ≡ strip (piece ++ line_start line.mode line.depth) t → None ≡ strip between u
+      → start ++ between ≡ later_lead level.mode (inside (setting_at level)).depth → Some u ≡ strip (piece ++ line_start line.mode line.depth) t → None ≡ strip between u
       → Some v ≡ strip closing u
       → scan_rest (turn_of level at) level (kind_of at) (next (earlier at)) t ≡ prefixed (Close (kind_of at) (next (earlier at)) ∷ []) (after level None v)
   ends t u v piece between line piece_is line_is apart before none closes =
@@ -71,19 +71,19 @@ module _ (level : Level) (at : Stage) where
 
 pub returns-in_default : goal.returns-in_default
 returns-in_default g c =
-    let apart = c.between-separator.ensures (setting_at c.args.level).depth (few c.args.level.mode c.args.level.open_blocks c.requires) in
-    (nothing_there _ (follows c.args.level c.args.stage c.args.input.now _ c.between-separator.result.now _ None c.trail.ensures c.setting.ensures apart c.in_default.ensures), tt)
+    let apart = c.between-rest_of_lead.ensures (setting_at c.args.level).depth (few c.args.level.mode c.args.level.open_blocks c.requires) in
+    (nothing_there _ (follows c.args.level c.args.stage c.args.input.now _ c.between-rest_of_lead.result.now _ None c.trail.ensures c.setting.ensures apart c.in_default.ensures), tt)
 
 pub returns-in_err-emit : goal.returns-in_err-emit
 returns-in_err-emit g c =
-    let apart = c.between-separator.ensures (setting_at c.args.level).depth (few c.args.level.mode c.args.level.open_blocks c.requires) in
+    let apart = c.between-rest_of_lead.ensures (setting_at c.args.level).depth (few c.args.level.mode c.args.level.open_blocks c.requires) in
     let start = c.in-Some-strip_piece.start.now in
     step_refused _ (after c.args.level) c.from_residual.result c.from_residual.ensures.1 (c.in_err-emit.ensures _ (after c.args.level (Some (later c.args.stage)) start)
     (another c.args.level c.args.stage c.args.input.now c.in-Some.line.now start _ _ _ c.trail.ensures c.setting.ensures apart c.in-Some.ensures c.in-Some-strip_piece.ensures))
 
 pub returns-in-Some-strip_piece : goal.returns-in-Some-strip_piece
 returns-in-Some-strip_piece g c =
-    let apart = c.between-separator.ensures (setting_at c.args.level).depth (few c.args.level.mode c.args.level.open_blocks c.requires) in
+    let apart = c.between-rest_of_lead.ensures (setting_at c.args.level).depth (few c.args.level.mode c.args.level.open_blocks c.requires) in
     let line = c.in-Some.line.now in
     let start = c.in-Some-strip_piece.start.now in
     let within = strip_within _ c.args.input.now line (sym c.in-Some.ensures) in
@@ -93,16 +93,16 @@ returns-in-Some-strip_piece g c =
 
 pub returns-in_default-strip_closing : goal.returns-in_default-strip_closing
 returns-in_default-strip_closing g c =
-    let apart = c.between-separator.ensures (setting_at c.args.level).depth (few c.args.level.mode c.args.level.open_blocks c.requires) in
+    let apart = c.between-rest_of_lead.ensures (setting_at c.args.level).depth (few c.args.level.mode c.args.level.open_blocks c.requires) in
     let closing = rw (c.kind_and_count-kind.ensures.kind, c.kind_and_count-kind.ensures.count) at c.in_default-strip_closing.ensures in (
-      nothing_there _ (follows c.args.level c.args.stage c.args.input.now _ c.between-separator.result.now _ (Some c.in-Some.line.now) c.trail.ensures c.setting.ensures apart c.in-Some.ensures
+      nothing_there _ (follows c.args.level c.args.stage c.args.input.now _ c.between-rest_of_lead.result.now _ (Some c.in-Some.line.now) c.trail.ensures c.setting.ensures apart c.in-Some.ensures
           ∙ rw (sym c.in_default-strip_piece.ensures, sym closing) refl),
       tt,
     )
 
 pub returns-in_err-emit-2 : goal.returns-in_err-emit-2
 returns-in_err-emit-2 g c =
-    let apart = c.between-separator.ensures (setting_at c.args.level).depth (few c.args.level.mode c.args.level.open_blocks c.requires) in
+    let apart = c.between-rest_of_lead.ensures (setting_at c.args.level).depth (few c.args.level.mode c.args.level.open_blocks c.requires) in
     let end = c.in-Some-strip_closing.end.now in
     let closing = rw (c.kind_and_count-kind.ensures.kind, c.kind_and_count-kind.ensures.count) at c.in-Some-strip_closing.ensures in
     let closes = ends c.args.level c.args.stage c.args.input.now c.in-Some.line.now end _ _ _ c.trail.ensures c.setting.ensures apart c.in-Some.ensures
@@ -112,7 +112,7 @@ returns-in_err-emit-2 g c =
 
 pub returns : goal.returns
 returns g c =
-    let apart = c.between-separator.ensures (setting_at c.args.level).depth (few c.args.level.mode c.args.level.open_blocks c.requires) in
+    let apart = c.between-rest_of_lead.ensures (setting_at c.args.level).depth (few c.args.level.mode c.args.level.open_blocks c.requires) in
     let line = c.in-Some.line.now in
     let end = c.in-Some-strip_closing.end.now in
     let closing = rw (c.kind_and_count-kind.ensures.kind, c.kind_and_count-kind.ensures.count) at c.in-Some-strip_closing.ensures in

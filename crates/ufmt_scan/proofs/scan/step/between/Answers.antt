@@ -8,7 +8,7 @@ indentation_last zero = refl
 indentation_last (suc k) = ap (λ t. codes "    " ++ t) (indentation_last k)
 
 pub returns-in-Plain : goal.returns-in-Plain
-returns-in-Plain c = λ k few. rw c.in-Plain.is (sym (append-nil c.separator.result.now) ∙ c.separator.ensures k)
+returns-in-Plain c = λ k few. rw c.in-Plain.is (sym (append-nil c.later_lead.result.now) ∙ c.later_lead.ensures k)
 
 pub returns-in-Pretty : goal.returns-in-Pretty
 returns-in-Pretty c = λ k few. let deeper : min (k + 1) 255 ≡ suc k = grind arith in rw (c.in-Pretty.is, deeper) (indentation_last k)
