@@ -1,6 +1,6 @@
 """The places of a source file where an error is made, changed or dropped, and where memory is asked for.
 
-Each place is told as a line's number, the body's name, and what is written there, such as `AllocError`, `Err(Full)`,
+Each place is named by a line's number, the body's name, and what is written there, such as `AllocError`, `Err(Full)`,
 `u8::try_from(n).ok()` or `match Box::new(alloc, value): Err(_) => None`.
 """
 import re
@@ -51,7 +51,7 @@ def places_of(text):
 
 
 def written_at(body, at, known):
-    """What is told of the token at `at` in the body."""
+    """What is said of the token at `at` in the body."""
     tokens = body.tokens
     name, before, after = tokens[at].name, name_at(tokens, at - 1), name_at(tokens, at + 1)
     if name in MEMORY or name == "NEVER":
@@ -263,7 +263,7 @@ def names_outside(rest):
 
 
 def item_around(rest, at):
-    """What is told of an error of memory at `at`, outside bodies."""
+    """What is said of an error of memory at `at`, outside bodies."""
     start = at
     while name_at(rest, start - 1) in JOINS or (name_at(rest, start) in JOINS and re.match(r"\w", name_at(rest, start - 1))):
         start -= 1

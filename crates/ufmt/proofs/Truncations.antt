@@ -172,7 +172,7 @@ module _ {old : Truncating} {piece : List ℕ} (u : IsUtf8 piece) {taken : ℕ} 
     whole_open all uncut was =
         let known = (holds_of new).whole uncut in
         let len : length (offered_text new) ≡ new.count = ap length known.0 ∙ length-written_bytes new in record {
-          stays_told = λ _. tt;
+          stays_known = λ _. tt;
           appended = λ _. offered_is ∙ ap (λ cut. if cut then offered_text old else offered_text old ++ piece) was;
           fits = λ _. refl;
           room_left = λ _. omega (arith, remaining_open old was, remaining_open new uncut, ap length unwritten_is, length-drop taken (unwritten_bytes old), t.boundary.0);
@@ -184,7 +184,7 @@ module _ {old : Truncating} {piece : List ℕ} (u : IsUtf8 piece) {taken : ℕ} 
     whole_after : length piece ≤ taken → has_cut new ≡ true → has_cut old ≡ true → Writes truncating_seen old piece true new
     whole_after all cut was =
         let none : piece ≡ [] = nil_from_length piece (omega (arith, all, none_taken was)) in record {
-          stays_told = λ _. tt;
+          stays_known = λ _. tt;
           appended = λ _. offered_is ∙ ap (λ cut. if cut then offered_text old else offered_text old ++ piece) was ∙ sym (ap (λ p. offered_text old ++ p) none ∙ append-nil (offered_text old));
           fits = λ _. refl;
           room_left = λ _. omega (arith, ap (λ cut. if cut then 0 else length (unwritten_bytes old)) was);
@@ -218,7 +218,7 @@ module _ {old : Truncating} {piece : List ℕ} (u : IsUtf8 piece) {taken : ℕ} 
 
     pub Writes-cut : taken < length piece → has_cut new ≡ true → Writes truncating_seen old piece false new
     Writes-cut more flag = record {
-      stays_told = λ _. tt;
+      stays_known = λ _. tt;
       appended = λ _. begins (has_cut old) refl;
       fits = λ fits. absurd (omega (arith, more, fits_whole piece u (remaining_count old) taken t.bound t.boundary t.nearest fits));
       room_left = λ fits. absurd (omega (arith, more, fits_whole piece u (remaining_count old) taken t.bound t.boundary t.nearest fits));

@@ -22,15 +22,15 @@ buffer_length c = length c.buffer.now
 abbrev pub buffer_name : Cursor → ℕ
 buffer_name c = c.buffer.ghost_name
 
--- a cursor as a writer: its text is always told, it has room for as many bytes as are unwritten, and its buffer's name and length identify it
+-- a cursor as a writer: its text is always known, it has room for as many bytes as are unwritten, and its buffer's name and length identify it
 abbrev pub cursor_seen : Seen Cursor
 cursor_seen = record {
-  told = λ c. ⊤;
+  known = λ c. ⊤;
   text = written_bytes;
   room = remaining_count;
   failed = λ c. ⊤;
   identity = λ c. buffer_name c ∷ buffer_length c ∷ [];
-  store = λ c. c.buffer.now;
+  whole_buffer = λ c. c.buffer.now;
 }
 
 -- a piece that fits is appended, and the bytes after it stay; with any other piece the call fails and changes nothing

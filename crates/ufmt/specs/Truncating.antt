@@ -35,15 +35,15 @@ offered_text w = w.offered.bytes
 abbrev pub bytes_before : Truncating → List ℕ
 bytes_before w = w.before.bytes
 
--- as a writer: its text is what it was offered, which is always told, it has room for what remains, it fails where it cuts, and its buffer's name, length and first bytes identify it
+-- as a writer: its text is what it was offered, which is always known, it has room for what remains, it fails where it cuts, and its buffer's name, length and first bytes identify it
 abbrev pub truncating_seen : Seen Truncating
 truncating_seen = record {
-  told = λ w. ⊤;
+  known = λ w. ⊤;
   text = offered_text;
   room = remaining_count;
   failed = λ w. has_cut w ≡ true;
   identity = λ w. buffer_name w ∷ buffer_length w ∷ bytes_before w;
-  store = λ w. w.buffer.now;
+  whole_buffer = λ w. w.buffer.now;
 }
 
 -- as much of the piece as fits was appended, and the bytes after it stay; after a cut no piece fits

@@ -41,8 +41,8 @@ module _ {W : Type 0} {seen : Seen W} where
   -- two texts in a row are written joined
   pub Writes-then : {old mid new : W} {p q : List ℕ} {ok : Bool} → Writes seen old p true mid → Writes seen mid q ok new → Writes seen old (p ++ q) ok new
   Writes-then {p = p} {q = q} {ok = ok} a b = record {
-    stays_told = λ t. b.stays_told (a.stays_told t);
-    appended = λ t. Appended-then ok _ p q _ _ (a.appended t) (b.appended (a.stays_told t));
+    stays_known = λ t. b.stays_known (a.stays_known t);
+    appended = λ t. Appended-then ok _ p q _ _ (a.appended t) (b.appended (a.stays_known t));
     fits = λ h. b.fits (omega (arith, length-append p q, a.room_left (omega (arith, length-append p q))));
     room_left = λ h. omega (
       arith,
@@ -52,13 +52,13 @@ module _ {W : Type 0} {seen : Seen W} where
     );
     has_failed = b.has_failed;
     same_identity = b.same_identity ∙ a.same_identity;
-    untouched = λ t. b.untouched (a.stays_told t) ∙ drop-further _ _ _ _ (Appended-grows ok _ q _ (b.appended (a.stays_told t))) (a.untouched t);
+    untouched = λ t. b.untouched (a.stays_known t) ∙ drop-further _ _ _ _ (Appended-grows ok _ q _ (b.appended (a.stays_known t))) (a.untouched t);
   }
 
   -- a call that fails in `p` fails in each text that begins with `p`
   pub Writes-fails : {old new : W} {p : List ℕ} (q : List ℕ) → Writes seen old p false new → Writes seen old (p ++ q) false new
   Writes-fails {p = p} q a = record {
-    stays_told = a.stays_told;
+    stays_known = a.stays_known;
     appended = λ t. Appended-fails _ p q _ (a.appended t);
     fits = λ h. a.fits (omega (arith, length-append p q));
     room_left = λ h. omega (arith, length-append p q, a.room_left (omega (arith, length-append p q)));
@@ -70,7 +70,7 @@ module _ {W : Type 0} {seen : Seen W} where
   -- the empty text is written by no call
   pub Writes-nothing : (w : W) → Writes seen w [] true w
   Writes-nothing w = record {
-    stays_told = λ t. t;
+    stays_known = λ t. t;
     appended = λ t. sym (append-nil (seen.text w));
     fits = λ h. refl;
     room_left = λ h. omega arith;

@@ -4,7 +4,7 @@ use Rattle.std.specs.Prelude.{◌≡◌, ℕ, ◌+◌, ◌≤◌, List, [], ◌+
 -- what contracts see of a writer
 pub record Seen (W : Type 0) : Type 1 where
   -- whether the text is known
-  pub told : W → Type 0
+  pub known : W → Type 0
   -- the bytes so far
   pub text : W → List ℕ
   -- how many bytes it surely takes
@@ -13,8 +13,9 @@ pub record Seen (W : Type 0) : Type 1 where
   pub failed : W → Type 0
   -- which writer it is: the ghost names of each `&mut` on the way to its text, and the length of a buffer that it was lent
   pub identity : W → List ℕ
-  -- the whole buffer that it was lent, if it was: its text is written there, from its start
-  pub store : W → List ℕ
+  -- the whole buffer that it was lent, if it was: its text so far, and then the rest, which stays as it is
+  --     | text | rest |
+  pub whole_buffer : W → List ℕ
 
 -- `whole` begins with `part`, which may be empty or the whole
 pub record HasPrefix (whole part : List ℕ) : Type 0 where
@@ -28,15 +29,15 @@ Appended false old piece new = (part : List ℕ) × HasPrefix piece part × (new
 
 -- what a lawful writer does with a piece; `ok` says whether the call returned `Ok`
 pub record Writes {W : Type 0} (seen : Seen W) (old : W) (piece : List ℕ) (ok : Bool) (new : W) : Type 0 where
-  pub stays_told : seen.told old → seen.told new
-  pub appended : seen.told old → Appended ok (seen.text old) piece (seen.text new)
+  pub stays_known : seen.known old → seen.known new
+  pub appended : seen.known old → Appended ok (seen.text old) piece (seen.text new)
   pub fits : length piece ≤ seen.room old → IsTrue ok
   pub room_left : length piece ≤ seen.room old → seen.room old ≤ seen.room new + length piece
   pub has_failed : ok ≡ false → seen.failed new
   pub same_identity : seen.identity new ≡ seen.identity old
   -- the bytes past the text are as before
-  pub untouched : seen.told old → drop (length (seen.text new)) (seen.store new) ≡ drop (length (seen.text new)) (seen.store old)
+  pub untouched : seen.known old → drop (length (seen.text new)) (seen.whole_buffer new) ≡ drop (length (seen.text new)) (seen.whole_buffer old)
 
--- a `String` as a writer: its text is always told, any growth may be refused, and it was lent no buffer
+-- a `String` as a writer: its text is always known, any growth may be refused, and it was lent no buffer
 abbrev pub string_seen : {A : Type 0} → Seen (String A)
-string_seen = record { told = λ s. ⊤; text = string_bytes; room = λ s. 0; failed = λ s. ⊤; identity = λ s. []; store = λ s. [] }
+string_seen = record { known = λ s. ⊤; text = string_bytes; room = λ s. 0; failed = λ s. ⊤; identity = λ s. []; whole_buffer = λ s. [] }

@@ -6,12 +6,12 @@ use std::alloc::{AllocError, Allocator};
 
 /// A destination for text, with an error type of its own.
 ///
-/// A lawful writer takes each piece of at most `room` bytes. Where its text is told, `Ok` appends the
+/// A lawful writer takes each piece of at most `room` bytes. Where its text is known, `Ok` appends the
 /// whole piece, and `Err` a prefix of it.
 pub trait uWrite {
     type Error;
 
-    /// What contracts see of the writer: whether its text is told, the text so far, how many bytes it
+    /// What contracts see of the writer: whether its text is known, the text so far, how many bytes it
     /// surely takes, what holds after a failure, its identity, and the bytes that it writes over.
     ghost seen: { Seen Self };
 
@@ -88,12 +88,12 @@ impl<W: uWrite> uWrite for &mut W {
     type Error = W::Error;
 
     ghost seen = { record {
-      told = λ r. W.seen.told r.now;
+      known = λ r. W.seen.known r.now;
       text = λ r. W.seen.text r.now;
       room = λ r. W.seen.room r.now;
       failed = λ r. W.seen.failed r.now;
       identity = λ r. r.ghost_name ∷ W.seen.identity r.now;
-      store = λ r. W.seen.store r.now;
+      whole_buffer = λ r. W.seen.whole_buffer r.now;
     } };
 
     #[inline(always)]

@@ -26,7 +26,7 @@ pub stays : (old new : Growing) (piece : List ℕ) → zero < length piece → n
     → Writes growing_seen old piece false new
 stays old new piece some count items =
     let same : take new.count new.bytes.items ≡ take old.count old.bytes.items = rw (count, items) (take_twice old.count old.bytes.items old.within) in record {
-      stays_told = λ known. tt;
+      stays_known = λ known. tt;
       appended = λ known. ([], record { remainder = piece; joined = refl }, same ∙ sym (append-nil (take old.count old.bytes.items)));
       fits = λ fits. absurd (omega (arith, some, fits));
       room_left = λ fits. omega arith;

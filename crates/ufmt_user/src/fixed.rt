@@ -35,12 +35,12 @@ impl<const N: usize> uWrite for Fixed<N> {
     type Error = Full;
 
     ghost seen = { record {
-      told = λ _. ⊤;
+      known = λ _. ⊤;
       text = λ w. take w.count w.bytes;
       room = λ w. N - w.count;
       failed = λ _. ⊤;
       identity = λ _. [];
-      store = λ _. [];
+      whole_buffer = λ _. [];
     } };
 
     fn write_str(&mut self, s: &str) -> Result<(), Full> {

@@ -199,7 +199,7 @@ struct Counted {
 impl uWrite for Counted {
     type Error = Full;
 
-    ghost seen = { record { told = λ _. ⊥; text = λ _. []; room = λ _. 0; failed = λ _. ⊤; identity = λ _. []; store = λ _. [] } };
+    ghost seen = { record { known = λ _. ⊥; text = λ _. []; room = λ _. 0; failed = λ _. ⊤; identity = λ _. []; whole_buffer = λ _. [] } };
 
     fn write_str(&mut self, s: &str) -> Result<(), Full> {
         self.count = self.count.saturating_add(s.len());

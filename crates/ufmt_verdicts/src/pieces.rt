@@ -36,7 +36,7 @@ impl Pieces {
 impl uWrite for Pieces {
     type Error = Infallible;
 
-    ghost seen = { record { told = λ _. ⊥; text = λ _. []; room = λ _. 0; failed = λ _. ⊤; identity = λ _. []; store = λ _. [] } };
+    ghost seen = { record { known = λ _. ⊥; text = λ _. []; room = λ _. 0; failed = λ _. ⊤; identity = λ _. []; whole_buffer = λ _. [] } };
 
     fn write_str(&mut self, s: &str) -> Result<(), Infallible> {
         self.note(b't', s.as_bytes());

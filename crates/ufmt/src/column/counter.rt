@@ -39,12 +39,12 @@ impl uWrite for CharacterCounter {
     type Error = Infallible;
 
     ghost seen = { record {
-      told = λ c. ⊤;
+      known = λ c. ⊤;
       text = λ c. c.written.bytes;
       room = λ c. 0;
       failed = λ c. ⊤;
       identity = λ c. c.width ∷ [];
-      store = λ c. [];
+      whole_buffer = λ c. [];
     } };
 
     fn write_str(&mut self, s: &str) -> Result<(), Infallible> {

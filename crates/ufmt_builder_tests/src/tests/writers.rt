@@ -31,12 +31,12 @@ impl uWrite for FailOnce<'_> {
     type Error = Full;
 
     ghost seen = { record {
-      told = λ w. ⊤;
+      known = λ w. ⊤;
       text = λ w. written_bytes w.cursor;
       room = λ w. 0;
       failed = λ _. ⊤;
       identity = λ w. buffer_name w.cursor ∷ buffer_length w.cursor ∷ [];
-      store = λ w. w.cursor.buffer.now;
+      whole_buffer = λ w. w.cursor.buffer.now;
     } };
 
     fn write_str(&mut self, s: &str) -> Result<(), Full> {

@@ -10,7 +10,7 @@ use ufmt::{Cursor, Formatter, Full, uDebug, uWrite};
 use ufmt_doc::doc::Doc;
 
 /// Notes its text, and its pieces with a bar after each. It refuses the piece with this number and
-/// all later ones. It counts only pieces that aren't empty, from 1 on. Its text is not told.
+/// all later ones. It counts only pieces that aren't empty, from 1 on. Its text is not known.
 #[derive(Drop)]
 struct Noted {
     text: String,
@@ -39,7 +39,7 @@ impl Noted {
 impl uWrite for Noted {
     type Error = Full;
 
-    ghost seen = { record { told = λ _. ⊥; text = λ _. []; room = λ _. 0; failed = λ _. ⊤; identity = λ _. []; store = λ _. [] } };
+    ghost seen = { record { known = λ _. ⊥; text = λ _. []; room = λ _. 0; failed = λ _. ⊤; identity = λ _. []; whole_buffer = λ _. [] } };
 
     fn write_str(&mut self, s: &str) -> Result<(), Full> {
         if s.is_empty() {

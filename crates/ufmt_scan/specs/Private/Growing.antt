@@ -7,6 +7,6 @@ use Rattle.ufmt_scan.specs.declared.convert.growing.Growing.{Growing}
 abbrev pub growing_text : Growing → List ℕ
 growing_text g = take g.count g.bytes.items
 
--- it writes as a `String` does: its text is always told, and any growth may fail
+-- it writes as a `String` does: its text is always known, and any growth may fail
 abbrev pub growing_seen : Seen Growing
-growing_seen = record { told = λ g. ⊤; text = growing_text; room = λ g. 0; failed = λ g. ⊤; identity = λ g. []; store = λ g. [] }
+growing_seen = record { known = λ g. ⊤; text = growing_text; room = λ g. 0; failed = λ g. ⊤; identity = λ g. []; whole_buffer = λ g. [] }

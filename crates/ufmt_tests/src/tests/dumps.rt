@@ -24,7 +24,7 @@ struct Passed<'f, W> {
 impl<W: uWrite> uWrite for Passed<'_, W> {
     type Error = W::Error;
 
-    ghost seen = { record { told = λ _. ⊥; text = λ _. []; room = λ _. 0; failed = λ _. ⊤; identity = λ _. []; store = λ _. [] } };
+    ghost seen = { record { known = λ _. ⊥; text = λ _. []; room = λ _. 0; failed = λ _. ⊤; identity = λ _. []; whole_buffer = λ _. [] } };
 
     fn write_str(&mut self, s: &str) -> Result<(), W::Error> {
         if s.is_empty() {

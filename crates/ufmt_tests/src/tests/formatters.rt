@@ -27,7 +27,7 @@ fn write_str_and_write_char_reach_the_writer(rt: HostRuntime) {
     same(&rt, text.as_str(), "aébé", "by both");
 }
 
-// A writer that counts its calls of `write_char`. Its text is not told.
+// A writer that counts its calls of `write_char`. Its text is not known.
 #[derive(Drop)]
 struct Noted {
     text: String,
@@ -37,7 +37,7 @@ struct Noted {
 impl uWrite for Noted {
     type Error = AllocError;
 
-    ghost seen = { record { told = λ _. ⊥; text = λ _. []; room = λ _. 0; failed = λ _. ⊤; identity = λ _. []; store = λ _. [] } };
+    ghost seen = { record { known = λ _. ⊥; text = λ _. []; room = λ _. 0; failed = λ _. ⊤; identity = λ _. []; whole_buffer = λ _. [] } };
 
     fn write_str(&mut self, s: &str) -> Result<(), AllocError> {
         if s.is_empty() {

@@ -32,12 +32,12 @@ impl uWrite for FailAt<'_> {
     type Error = Full;
 
     ghost seen = { record {
-      told = λ w. ⊤;
+      known = λ w. ⊤;
       text = λ w. written_bytes w.cursor;
       room = λ w. 0;
       failed = λ _. ⊤;
       identity = λ w. buffer_name w.cursor ∷ buffer_length w.cursor ∷ [];
-      store = λ w. w.cursor.buffer.now;
+      whole_buffer = λ w. w.cursor.buffer.now;
     } };
 
     fn write_str(&mut self, s: &str) -> Result<(), Full> {
@@ -71,7 +71,7 @@ impl Recorded {
 impl uWrite for Recorded {
     type Error = AllocError;
 
-    ghost seen = { record { told = λ w. ⊤; text = λ w. string_bytes w.text; room = λ w. 0; failed = λ _. ⊤; identity = λ w. []; store = λ w. [] } };
+    ghost seen = { record { known = λ w. ⊤; text = λ w. string_bytes w.text; room = λ w. 0; failed = λ _. ⊤; identity = λ w. []; whole_buffer = λ w. [] } };
 
     fn write_str(&mut self, s: &str) -> Result<(), AllocError> {
         if s.is_empty() {

@@ -6,7 +6,7 @@ use Rattle.ufmt_core.proofs.write.StringuWrite.write_str.Goals as goal
 string_writes : {A : Type 0} (old new : String A) (text bytes : List ℕ) (ok : Bool) → text ≡ bytes → 0 < length bytes
     → string_bytes new ≡ (if ok then string_bytes old ++ bytes else string_bytes old) → Writes string_seen old text ok new
 string_writes old new text bytes true is some h = record {
-  stays_told = λ known. known;
+  stays_known = λ known. known;
   appended = λ known. h ∙ ap (λ b. string_bytes old ++ b) (sym is);
   fits = λ fits. refl;
   room_left = λ fits. omega arith;
@@ -15,7 +15,7 @@ string_writes old new text bytes true is some h = record {
   untouched = λ known. refl;
 }
 string_writes old new text bytes false is some h = record {
-  stays_told = λ known. known;
+  stays_known = λ known. known;
   appended = λ known. ([], record { remainder = text; joined = refl }, h ∙ sym (append-nil (string_bytes old)));
   fits = λ fits. absurd (omega (arith, some, fits, ap length is));
   room_left = λ fits. omega arith;
