@@ -6,7 +6,7 @@ use Rattle.ufmt_core.specs.declared.layout.Mode.TheVariants.{Plain, Pretty}
 use Rattle.ufmt_core.specs.declared.layout.Setting.{Setting}
 use Rattle.ufmt.specs.Token.{IsBuiltFromTokens, IsTokenDocument, normal, IsFollower}
 use Rattle.ufmt.specs.Reading.{read}
-use Rattle.ufmt.specs.ReadingLaws.{PlainReadsOneWay, PrettyReadsOneWay, PlainTextDetermines, PrettyTextDetermines, TextsAgree}
+use Rattle.ufmt.specs.ReadingLaws.{PlainIsUnambiguous, PrettyIsUnambiguous, PlainTextDetermines, PrettyTextDetermines, TextsAgree}
 use Rattle.ufmt.proofs.Parsing.{same_parts}
 use Rattle.ufmt.proofs.FramesClose.{Fits}
 use Rattle.ufmt.proofs.ReadingComplete.{read_complete}
@@ -19,10 +19,10 @@ reads_one_way s n fits d e u v hd he nd ne hu hv same =
     same_parts {A = Document} {B = List ℕ} (normal d, u) (normal e, v)
     (sym (read_complete n s d u hd nd fits hu) ∙ ap (read s n) same ∙ read_complete n s e v he ne fits hv)
 
-pub plain_reads_one_way : PlainReadsOneWay
+pub plain_reads_one_way : PlainIsUnambiguous
 plain_reads_one_way = λ d e u v hd he hu hv same. reads_one_way (setting Plain 0) 255 tt d e u v hd.0 he.0 hd.1 he.1 hu hv same
 
-pub pretty_reads_one_way : PrettyReadsOneWay
+pub pretty_reads_one_way : PrettyIsUnambiguous
 pretty_reads_one_way = λ k d e u v hd he nd ne hu hv same. reads_one_way (setting Pretty k) (255 - k) (omega (arith, nd)) d e u v hd.0 he.0
     (omega (arith, nd)) (omega (arith, ne)) hu hv same
 

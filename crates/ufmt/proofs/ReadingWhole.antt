@@ -6,7 +6,7 @@ use Rattle.ufmt_core.specs.declared.layout.Mode.{Mode}
 use Rattle.ufmt_core.specs.declared.layout.Mode.TheVariants.{Plain, Pretty}
 use Rattle.ufmt.specs.Token.{IsTokenDocument, normal}
 use Rattle.ufmt.specs.Reading.{if_all, read, read_text}
-use Rattle.ufmt.specs.ReadingLaws.{ReadsOnlyTexts, ReadsEachText, RefusesNoText}
+use Rattle.ufmt.specs.ReadingLaws.{ReadsOnlyTexts, ReadsEachText, RefusesOnlyUnprinted}
 use Rattle.ufmt.proofs.Parsing.{led_from}
 use Rattle.ufmt.proofs.FramesClose.{Fits}
 use Rattle.ufmt.proofs.ReadingComplete.{read_complete}
@@ -37,5 +37,5 @@ each_text mode d h =
 pub reads_each_text : ReadsEachText
 reads_each_text = each_text
 
-pub refuses_no_text : RefusesNoText
-refuses_no_text = λ mode t h d token same. let reads = each_text mode d token ∙ refl in let other = ap (read_text mode) same in absurd (cc)
+pub refuses_only_unprinted : RefusesOnlyUnprinted
+refuses_only_unprinted = λ mode t h d token same. let reads = each_text mode d token ∙ refl in let other = ap (read_text mode) same in absurd (cc)

@@ -16,17 +16,17 @@ abbrev pub ReadsEachText : Type 0
 ReadsEachText = (mode : Mode) (d : Document) → IsTokenDocument d → read_text mode (layout (setting mode 0) d) ≡ Some (normal d)
 
 -- if nothing is read, no token document has the text
-abbrev pub RefusesNoText : Type 0
-RefusesNoText = (mode : Mode) (t : List ℕ) → read_text mode t ≡ None → (d : Document) → IsTokenDocument d → layout (setting mode 0) d ≢ t
+abbrev pub RefusesOnlyUnprinted : Type 0
+RefusesOnlyUnprinted = (mode : Mode) (t : List ℕ) → read_text mode t ≡ None → (d : Document) → IsTokenDocument d → layout (setting mode 0) d ≢ t
 
 -- if the plain texts of two token documents, each with a follower after it, are equal, so are the normal forms and the followers
-abbrev pub PlainReadsOneWay : Type 0
-PlainReadsOneWay = (d e : Document) (u v : List ℕ) → IsTokenDocument d → IsTokenDocument e → IsFollower u → IsFollower v
+abbrev pub PlainIsUnambiguous : Type 0
+PlainIsUnambiguous = (d e : Document) (u v : List ℕ) → IsTokenDocument d → IsTokenDocument e → IsFollower u → IsFollower v
     → plain_text d ++ u ≡ plain_text e ++ v → (normal d ≡ normal e) × (u ≡ v)
 
 -- the same holds of pretty texts at any depth from which blocks with entries reach depth 255 at most
-abbrev pub PrettyReadsOneWay : Type 0
-PrettyReadsOneWay = (k : ℕ) (d e : Document) (u v : List ℕ) → IsTokenDocument d → IsTokenDocument e → nest d + k ≤ 255 → nest e + k ≤ 255 → IsFollower u
+abbrev pub PrettyIsUnambiguous : Type 0
+PrettyIsUnambiguous = (k : ℕ) (d e : Document) (u v : List ℕ) → IsTokenDocument d → IsTokenDocument e → nest d + k ≤ 255 → nest e + k ≤ 255 → IsFollower u
     → IsFollower v → layout (setting Pretty k) d ++ u ≡ layout (setting Pretty k) e ++ v → (normal d ≡ normal e) × (u ≡ v)
 
 -- two token documents have the same plain text exactly if they have the same normal form

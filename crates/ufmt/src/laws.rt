@@ -20,8 +20,8 @@ ghost use Rattle.ufmt.specs.NormalFormLaws.{NormalFormsAreNormal, NormalFormsKee
 ghost use Rattle.ufmt.specs.Token.{IsWord};
 ghost use Rattle.ufmt.specs.QuotedLaws.{QuotedCharDetermines, QuotedEndsItself, QuotedIsNoOtherLeaf, QuotedIsOneLine, QuotedTextIsNoChar, QuotedTextDetermines, ReadsEachQuoted, ReadsOnlyQuoted};
 ghost use Rattle.ufmt.specs.ShiftLaws.{ShiftMovesEachLine, ShiftedAtDepth, ShiftedIsPretty, TokensHaveNoLineFeed};
-ghost use Rattle.ufmt.specs.ReadingLaws.{ReadsEachText, ReadsOnlyTexts, RefusesNoText};
-ghost use Rattle.ufmt.specs.ReadingLaws.{PlainReadsOneWay, PlainTextDetermines, PrettyReadsOneWay, PrettyTextDetermines, TextsAgree};
+ghost use Rattle.ufmt.specs.ReadingLaws.{ReadsEachText, ReadsOnlyTexts, RefusesOnlyUnprinted};
+ghost use Rattle.ufmt.specs.ReadingLaws.{PlainIsUnambiguous, PlainTextDetermines, PrettyIsUnambiguous, PrettyTextDetermines, TextsAgree};
 ghost use Rattle.ufmt.specs.UnquotedLaws.{UnquotedAsBefore};
 
 use crate::column::Column;
@@ -362,13 +362,13 @@ pub fn shifted_at_depth()
 /// A plain text can be read in one way. If two token documents, each with a follower, have equal plain
 /// texts, then their normal forms are equal, and so are the followers.
 pub fn plain_reads_one_way()
-    ensures { PlainReadsOneWay }
+    ensures { PlainIsUnambiguous }
 {}
 
 /// A pretty text can be read in one way, as a plain text can, from each depth from which the documents'
 /// blocks are nested at most 255 deep.
 pub fn pretty_reads_one_way()
-    ensures { PrettyReadsOneWay }
+    ensures { PrettyIsUnambiguous }
 {}
 
 /// Token documents have equal plain texts exactly if they have equal pretty texts, and exactly if
@@ -385,7 +385,7 @@ pub fn texts_determine_normal_forms()
 pub fn texts_are_read_exactly()
     ensures only { ReadsOnlyTexts }
     ensures each { ReadsEachText }
-    ensures refused { RefusesNoText }
+    ensures refused { RefusesOnlyUnprinted }
 {}
 
 /// Quoting is one-to-one on texts and on characters, whatever follows. A quoted text is no quoted

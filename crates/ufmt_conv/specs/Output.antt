@@ -8,7 +8,7 @@ use Rattle.ufmt.specs.Bytes.{line_feed}
 use Rattle.ufmt.specs.Decimal.{decimal}
 use Rattle.ufmt.specs.Document.{Document, documents, leaf, list_of}
 use Rattle.ufmt.specs.Layout.{plain_text, pretty_text}
-use Rattle.ufmt_doc.specs.Texts.{IsConverted, IsNoText}
+use Rattle.ufmt_doc.specs.Texts.{IsConverted, NoDocumentPrints}
 use Rattle.ufmt_io.specs.Whole.{AppendsPrefix}
 
 -- the lines that are counted, each without its line feed: bytes after the last line feed are one too, if there are any
@@ -50,5 +50,5 @@ abbrev pub WritesOutputPrefix : Command → Option (List ℕ) → Option (List �
 WritesOutputPrefix command input old new = IfSome input (λ bytes. (line : List ℕ) × IsOutputLine command bytes line × AppendsPrefix old new line)
 
 -- if the bytes of the input are known: without a final line feed they are no token document's text
-abbrev pub IsNoInput : (Document → List ℕ) → Option (List ℕ) → Type 0
-IsNoInput text_of input = IfSome input (λ bytes. IsNoText text_of (without_line_feed bytes))
+abbrev pub NoDocumentPrintsInput : (Document → List ℕ) → Option (List ℕ) → Type 0
+NoDocumentPrintsInput text_of input = IfSome input (λ bytes. NoDocumentPrints text_of (without_line_feed bytes))

@@ -2,7 +2,7 @@
 ghost use Rattle.std.specs.Prelude.{◌≡◌, ◌≢◌, ◌↔◌, false, IsTrue, IfErr, IsErrOf, OnOk};
 ghost use Rattle.std.specs.Io.KnownBytes.{IsAtEnd};
 ghost use Rattle.ufmt.specs.Layout.{plain_text, pretty_text};
-ghost use Rattle.ufmt_conv.specs.Output.{WritesOutput, WritesOutputPrefix, IsNoInput};
+ghost use Rattle.ufmt_conv.specs.Output.{WritesOutput, WritesOutputPrefix, NoDocumentPrintsInput};
 ghost use Rattle.ufmt_io.specs.Watched.{device_of, has_failed};
 
 mod output;
@@ -42,9 +42,9 @@ pub fn run<R: Read, W: Write>(
         → WritesOutputPrefix command (R.remaining (device_of input.old))
         (W.contents (device_of output.old)) (W.contents (device_of output.new)) }
     ensures not_plain { IsErrOf result Fault.NotPlain
-        → IsNoInput plain_text (R.remaining (device_of input.old)) }
+        → NoDocumentPrintsInput plain_text (R.remaining (device_of input.old)) }
     ensures not_pretty { IsErrOf result Fault.NotPretty
-        → IsNoInput pretty_text (R.remaining (device_of input.old)) }
+        → NoDocumentPrintsInput pretty_text (R.remaining (device_of input.old)) }
 
     // What each fault means.
     ensures only_pretty { IsErrOf result Fault.NotPlain → command ≡ Command.Pretty }

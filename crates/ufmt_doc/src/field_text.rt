@@ -5,7 +5,7 @@ ghost use Rattle.ufmt.specs.Layout.{plain_text};
 ghost use Rattle.ufmt.specs.Token.{IsTokenDocument, normal};
 ghost use Rattle.ufmt_doc.specs.Doc.{doc_document};
 ghost use Rattle.ufmt_doc.specs.FieldTexts.{ShowsField, ShowsText};
-ghost use Rattle.ufmt_scan.specs.Texts.{IsNormalForm, IsNoText};
+ghost use Rattle.ufmt_scan.specs.Texts.{IsNormalForm, NoDocumentPrints};
 
 use crate::doc::Doc;
 use crate::reader::read_plain;
@@ -46,7 +46,7 @@ pub fn read_field(alloc: Global, line: &[u8], name: &str) -> Result<Option<Strin
         × ShowsField name.now d outcome) }
     ensures each { IfOk result (λ outcome. (d : Document) → IsTokenDocument d → plain_text d ≡ line.now
         → ShowsField name.now (normal d) outcome) }
-    ensures not_text { IsErrOf result ReadError.NotText → IsNoText plain_text line.now }
+    ensures not_text { IsErrOf result ReadError.NotText → NoDocumentPrints plain_text line.now }
 {
     let doc = read_plain(alloc, line)?;
     Ok(doc.field_text(alloc, name)?)

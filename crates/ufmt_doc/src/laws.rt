@@ -4,7 +4,7 @@ ghost use Rattle.ufmt.specs.Document.{Document};
 ghost use Rattle.ufmt.specs.Layout.{plain_text, pretty_text};
 ghost use Rattle.ufmt.specs.Token.{IsTokenDocument, normal};
 ghost use Rattle.ufmt_doc.specs.Doc.{doc_document};
-ghost use Rattle.ufmt_scan.specs.Texts.{IsNormalForm, IsNoText};
+ghost use Rattle.ufmt_scan.specs.Texts.{IsNormalForm, NoDocumentPrints};
 
 use crate::doc::Doc;
 use crate::reader::{read_plain, read_pretty};
@@ -17,7 +17,7 @@ use ufmt_scan::error::ReadError;
 pub fn plain_again(alloc: Global, input: &[u8]) -> Result<String, ReadError>
     ensures ok { IfOk result (λ text. string_bytes text ≡ input.now) }
     ensures found { IfOk result (λ text. (d : Document) × IsNormalForm plain_text input.now d) }
-    ensures not_text { IsErrOf result ReadError.NotText → IsNoText plain_text input.now }
+    ensures not_text { IsErrOf result ReadError.NotText → NoDocumentPrints plain_text input.now }
 {
     let doc = read_plain(alloc, input)?;
     Ok(plain_text(alloc, &doc)?)
@@ -27,7 +27,7 @@ pub fn plain_again(alloc: Global, input: &[u8]) -> Result<String, ReadError>
 pub fn pretty_again(alloc: Global, input: &[u8]) -> Result<String, ReadError>
     ensures ok { IfOk result (λ text. string_bytes text ≡ input.now) }
     ensures found { IfOk result (λ text. (d : Document) × IsNormalForm pretty_text input.now d) }
-    ensures not_text { IsErrOf result ReadError.NotText → IsNoText pretty_text input.now }
+    ensures not_text { IsErrOf result ReadError.NotText → NoDocumentPrints pretty_text input.now }
 {
     let doc = read_pretty(alloc, input)?;
     Ok(pretty_text(alloc, &doc)?)
@@ -37,7 +37,7 @@ pub fn pretty_again(alloc: Global, input: &[u8]) -> Result<String, ReadError>
 pub fn plain_by_way_of_pretty(alloc: Global, input: &[u8]) -> Result<String, ReadError>
     ensures ok { IfOk result (λ text. string_bytes text ≡ input.now) }
     ensures found { IfOk result (λ text. (d : Document) × IsNormalForm plain_text input.now d) }
-    ensures not_text { IsErrOf result ReadError.NotText → IsNoText plain_text input.now }
+    ensures not_text { IsErrOf result ReadError.NotText → NoDocumentPrints plain_text input.now }
 {
     let pretty = to_pretty(alloc, input)?;
     to_plain(alloc, pretty.as_bytes())
@@ -47,7 +47,7 @@ pub fn plain_by_way_of_pretty(alloc: Global, input: &[u8]) -> Result<String, Rea
 pub fn pretty_by_way_of_plain(alloc: Global, input: &[u8]) -> Result<String, ReadError>
     ensures ok { IfOk result (λ text. string_bytes text ≡ input.now) }
     ensures found { IfOk result (λ text. (d : Document) × IsNormalForm pretty_text input.now d) }
-    ensures not_text { IsErrOf result ReadError.NotText → IsNoText pretty_text input.now }
+    ensures not_text { IsErrOf result ReadError.NotText → NoDocumentPrints pretty_text input.now }
 {
     let plain = to_plain(alloc, input)?;
     to_pretty(alloc, plain.as_bytes())
@@ -62,7 +62,7 @@ pub fn normal_by_way_of_plain(alloc: Global, doc: &Doc) -> Result<Doc, ReadError
     ensures found { IfOk result (λ again.
         IsNormalForm plain_text (plain_text (doc_document doc.now)) (doc_document again)) }
     ensures not_text { IsErrOf result ReadError.NotText
-        → IsNoText plain_text (plain_text (doc_document doc.now)) }
+        → NoDocumentPrints plain_text (plain_text (doc_document doc.now)) }
 {
     let text = plain_text(alloc, doc)?;
     read_plain(alloc, text.as_bytes())
@@ -76,7 +76,7 @@ pub fn normal_by_way_of_pretty(alloc: Global, doc: &Doc) -> Result<Doc, ReadErro
     ensures found { IfOk result (λ again.
         IsNormalForm pretty_text (pretty_text (doc_document doc.now)) (doc_document again)) }
     ensures not_text { IsErrOf result ReadError.NotText
-        → IsNoText pretty_text (pretty_text (doc_document doc.now)) }
+        → NoDocumentPrints pretty_text (pretty_text (doc_document doc.now)) }
 {
     let text = pretty_text(alloc, doc)?;
     read_pretty(alloc, text.as_bytes())

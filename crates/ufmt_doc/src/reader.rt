@@ -2,7 +2,7 @@
 ghost use Rattle.std.specs.Prelude.{IfOk, IsErrOf};
 ghost use Rattle.ufmt.specs.Layout.{layout, plain_text, pretty_text, setting};
 ghost use Rattle.ufmt_doc.specs.Doc.{doc_document};
-ghost use Rattle.ufmt_scan.specs.Texts.{IsNormalForm, IsNoText};
+ghost use Rattle.ufmt_scan.specs.Texts.{IsNormalForm, NoDocumentPrints};
 
 mod document_sink;
 mod open_blocks;
@@ -19,7 +19,7 @@ use ufmt_scan::scan::scan;
 /// the other error is `OutOfMemory`.
 pub fn read_plain(alloc: Global, input: &[u8]) -> Result<Doc, ReadError>
     ensures ok { IfOk result (λ doc. IsNormalForm plain_text input.now (doc_document doc)) }
-    ensures not_text { IsErrOf result ReadError.NotText → IsNoText plain_text input.now }
+    ensures not_text { IsErrOf result ReadError.NotText → NoDocumentPrints plain_text input.now }
 {
     read_text(alloc, Mode::Plain, input)
 }
@@ -27,7 +27,7 @@ pub fn read_plain(alloc: Global, input: &[u8]) -> Result<Doc, ReadError>
 /// Returns the document with this pretty text, as `read_plain` does with a plain one.
 pub fn read_pretty(alloc: Global, input: &[u8]) -> Result<Doc, ReadError>
     ensures ok { IfOk result (λ doc. IsNormalForm pretty_text input.now (doc_document doc)) }
-    ensures not_text { IsErrOf result ReadError.NotText → IsNoText pretty_text input.now }
+    ensures not_text { IsErrOf result ReadError.NotText → NoDocumentPrints pretty_text input.now }
 {
     read_text(alloc, Mode::Pretty, input)
 }
@@ -36,7 +36,7 @@ pub fn read_pretty(alloc: Global, input: &[u8]) -> Result<Doc, ReadError>
 fn read_text(alloc: Global, mode: Mode, input: &[u8]) -> Result<Doc, ReadError>
     ensures ok { IfOk result (λ doc. IsNormalForm (layout (setting mode 0)) input.now
         (doc_document doc)) }
-    ensures not_text { IsErrOf result ReadError.NotText → IsNoText (layout (setting mode 0))
+    ensures not_text { IsErrOf result ReadError.NotText → NoDocumentPrints (layout (setting mode 0))
         input.now }
 {
     let mut sink = DocumentSink::new(alloc);

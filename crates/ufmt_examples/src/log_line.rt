@@ -4,7 +4,7 @@ ghost use Rattle.ufmt.specs.Buffer.{Fronts};
 ghost use Rattle.ufmt.specs.Document.{Document};
 ghost use Rattle.ufmt.specs.Layout.{plain_text, pretty_text};
 ghost use Rattle.ufmt.specs.Token.{IsTokenDocument};
-ghost use Rattle.ufmt_doc.specs.Texts.{IsConverted, IsNoText};
+ghost use Rattle.ufmt_doc.specs.Texts.{IsConverted, NoDocumentPrints};
 
 #[cfg(test)]
 mod tests;
@@ -22,7 +22,7 @@ pub fn pretty_line(line: &[u8], buffer: &mut [u8; 256]) -> Result<usize, ScanErr
         → Fronts buffer.old text result buffer.new }
     ensures is_text { IsOk result
         → (text : List ℕ) × IsConverted plain_text pretty_text line.now text }
-    ensures not_text { IsErrOf result ScanError.NotText → IsNoText plain_text line.now }
+    ensures not_text { IsErrOf result ScanError.NotText → NoDocumentPrints plain_text line.now }
 {
     to_pretty_into(buffer, line)
 }

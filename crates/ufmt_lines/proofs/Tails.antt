@@ -13,20 +13,20 @@ use Rattle.ufmt_core.specs.declared.layout.Mode.{Mode}
 use Rattle.ufmt_lines.specs.Readable.{output_of, converted, converted_here, may_begin_after, other_mode, tail_converted}
 use Rattle.ufmt_lines.specs.Private.GroupOutput.{output_bytes, output_seen}
 use Rattle.ufmt_lines.specs.declared.run.output.GroupOutput.{GroupOutput}
-use Rattle.ufmt_scan.specs.Texts.{ConvertsTo, IsConverted, IsNormalForm, IsNoText}
+use Rattle.ufmt_scan.specs.Texts.{ConvertsTo, IsConverted, IsNormalForm, NoDocumentPrints}
 use Rattle.ufmt_scan.specs.declared.scan.event.ScanError.TheVariants.{NotText}
 
 -- the normal form is read from the text
 form_is_read : (mode : Mode) (text : List ℕ) (d : Document) → IsTokenDocument d → layout (setting mode 0) d ≡ text → read_text mode text ≡ Some (normal d)
 form_is_read mode text d token is = ap (read_text mode) (sym is) ∙ reads_each_text mode d token
 
-nothing_is_read : (mode : Mode) (text : List ℕ) (o : Option Document) → read_text mode text ≡ o → IsNoText (layout (setting mode 0)) text → o ≡ None
+nothing_is_read : (mode : Mode) (text : List ℕ) (o : Option Document) → read_text mode text ≡ o → NoDocumentPrints (layout (setting mode 0)) text → o ≡ None
 nothing_is_read mode text None is none = refl
 nothing_is_read mode text (Some d) is none = let form = reads_only_texts mode text d is in absurd (none d form.0 form.2)
 
 -- what is a text in the other mode can be converted, and nothing else
 pub convertible : (mode : Mode) (text : List ℕ) (is_text : Bool) → (is_text ≡ true → (d : Document) × IsNormalForm (layout (setting (other_mode mode) 0)) text d)
-    → (is_text ≡ false → IsNoText (layout (setting (other_mode mode) 0)) text) → is_text ≡ is_some (converted mode text)
+    → (is_text ≡ false → NoDocumentPrints (layout (setting (other_mode mode) 0)) text) → is_text ≡ is_some (converted mode text)
 unfolding converted
 convertible mode text true some none =
     let form = some refl in sym (ap (λ o. is_some (option_map (layout (setting mode 0)) o)) (form_is_read (other_mode mode) text form.0 form.1.0 form.1.2))
@@ -116,13 +116,13 @@ module _ (mode : Mode) (text : List ℕ) (is_text : is_some (converted mode text
       let found = is_some_converted mode text is_text in
       (found.0, found.1, (h.writes found.0 (is_converted mode text found.0 found.1)).appended tt)
 
-  pub never_no_text : {E : Type 0} → ConvertsTo {E = E} output_seen (layout (setting (other_mode mode) 0)) (layout (setting mode 0)) text old (Err NotText) new → ⊥
-  never_no_text h =
+  pub always_text : {E : Type 0} → ConvertsTo {E = E} output_seen (layout (setting (other_mode mode) 0)) (layout (setting mode 0)) text old (Err NotText) new → ⊥
+  always_text h =
       let found = is_some_converted mode text is_text in
       let is = is_converted mode text found.0 found.1 in
       h.not_text refl is.some.0 is.some.1 is.some.2
 
 -- no token document, no text in the other mode
-pub not_converted : (mode : Mode) (text : List ℕ) → IsNoText (layout (setting (other_mode mode) 0)) text → converted mode text ≡ None
+pub not_converted : (mode : Mode) (text : List ℕ) → NoDocumentPrints (layout (setting (other_mode mode) 0)) text → converted mode text ≡ None
 unfolding converted
 not_converted mode text none = ap (option_map (layout (setting mode 0))) (nothing_is_read (other_mode mode) text _ refl none)

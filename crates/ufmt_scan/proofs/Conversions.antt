@@ -9,7 +9,7 @@ use Rattle.ufmt.specs.Document.{Document}
 use Rattle.ufmt.specs.declared.cursor.Cursor.{Cursor}
 use Rattle.ufmt.specs.declared.cursor.Full.{Full}
 use Rattle.ufmt_scan.specs.Private.Growing.{growing_seen, growing_text}
-use Rattle.ufmt_scan.specs.Texts.{Converts, ConvertsInto, ConvertsTo, IsConverted, IsNoText}
+use Rattle.ufmt_scan.specs.Texts.{Converts, ConvertsInto, ConvertsTo, IsConverted, NoDocumentPrints}
 use Rattle.ufmt_scan.specs.declared.convert.growing.Growing.{Growing}
 use Rattle.ufmt_scan.specs.declared.scan.event.ScanError.{ScanError}
 
@@ -20,7 +20,7 @@ comes_back from to earlier input outcome was is =
     sym (is.each d was.some.1 (was.each d was.some.1 was.some.2)) ∙ was.some.2
 
 -- it is a text
-pub never_refused : (from to : Document → List ℕ) (earlier input : List ℕ) → IsConverted to from earlier input → IsNoText from input → ⊥
+pub never_refused : (from to : Document → List ℕ) (earlier input : List ℕ) → IsConverted to from earlier input → NoDocumentPrints from input → ⊥
 never_refused from to earlier input was none = none was.some.0 was.some.1 (was.each was.some.0 was.some.1 was.some.2)
 
 module _ {from to : Document → List ℕ} {input : List ℕ} {done : ⊤} where

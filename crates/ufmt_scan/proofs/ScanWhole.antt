@@ -5,13 +5,13 @@ use Rattle.ufmt.specs.Document.{Document}
 use Rattle.ufmt.specs.Layout.{layout, setting}
 use Rattle.ufmt.specs.Reading.{if_all, parse_map, read, read_text}
 use Rattle.ufmt.proofs.Parsing.{mapped_from, same_parts}
-use Rattle.ufmt.proofs.ReadingWhole.{reads_each_text, reads_only_texts, refuses_no_text}
+use Rattle.ufmt.proofs.ReadingWhole.{reads_each_text, reads_only_texts, refuses_only_unprinted}
 use Rattle.ufmt_core.specs.declared.layout.Mode.{Mode}
 use Rattle.ufmt_scan.specs.declared.scan.event.ScanError.{ScanError}
 use Rattle.ufmt_scan.specs.declared.scan.event.ScanError.TheVariants.{NotText, Sink}
 use Rattle.ufmt_scan.specs.Private.Scanning.{ScansOn, Stops, Emits, Scanned, prefixed}
 use Rattle.ufmt_scan.specs.Scan.{TextEvent, Leads, ScanRefused, Scans, events_of}
-use Rattle.ufmt_scan.specs.Texts.{IsNormalForm, IsNoText}
+use Rattle.ufmt_scan.specs.Texts.{IsNormalForm, NoDocumentPrints}
 
 -- if there are no events, there is no document
 none_is_whole : (o : Option (Document × List ℕ)) → parse_map events_of o ≡ None → option_and_then (λ x. if_all x.0 x.1) o ≡ None
@@ -45,7 +45,7 @@ module _ {S : Type 0} (took stopped : S → List TextEvent → S → Type 0) (mo
       → ScanRefused took stopped a b (layout (setting mode 0)) t why
   whole_refused NotText h =
       let none = none_is_whole _ (h.emits.is ∙ ap (prefixed h.emits.events) (h.none refl)) in
-      (h.emits.events, h.emits.takes a [] begun, refuses_no_text mode t none)
+      (h.emits.events, h.emits.takes a [] begun, refuses_only_unprinted mode t none)
   whole_refused (Sink e) h =
       (h.emits.events, h.emits.takes a [] begun, λ d form. leads_whole _ h.emits.events h.left h.emits.is d (form_is_read mode t d form))
 
@@ -59,11 +59,11 @@ module _ {S : Type 0} (took stopped : S → List TextEvent → S → Type 0) (mo
       (read_as.0, form, subst (λ es. took a es b) (sym (read_as.2 ∙ append-nil h.events)) (h.takes a [] begun))
 
   pub whole_goes_on : (rest : List ℕ) → Emits took took a b (parse_map events_of (read (setting mode 0) 255 t)) (Some ([], rest))
-      → (length rest == 0) ≡ false → (es : List TextEvent) × took a es b × IsNoText (layout (setting mode 0)) t
+      → (length rest == 0) ≡ false → (es : List TextEvent) × took a es b × NoDocumentPrints (layout (setting mode 0)) t
   whole_goes_on [] h more = absurd (cc)
   whole_goes_on (c ∷ rest) h more =
       let read_as = mapped_from events_of (read (setting mode 0) 255 t) (h.events ++ []) (c ∷ rest) h.is in
-      (h.events, h.takes a [] begun, refuses_no_text mode t (ap (option_and_then (λ x. if_all x.0 x.1)) read_as.1))
+      (h.events, h.takes a [] begun, refuses_only_unprinted mode t (ap (option_and_then (λ x. if_all x.0 x.1)) read_as.1))
 
 -- the scan of the whole text fails with the error of the scan of its front
 pub whole_ended : {S E : Type 0} (took stopped : S → List TextEvent → S → Type 0) (mode : Mode) (t : List ℕ) (a b : S) → took a [] a

@@ -9,7 +9,7 @@ use Rattle.ufmt_core.specs.declared.layout.Kind.{Kind}
 use Rattle.ufmt_core.specs.declared.layout.Kind.TheVariants.{Brackets, Braces, Struct}
 use Rattle.ufmt_scan.specs.declared.scan.event.ScanError.{ScanError}
 use Rattle.ufmt_scan.specs.declared.scan.event.ScanError.TheVariants.{NotText, Sink}
-use Rattle.ufmt_scan.specs.Texts.{IsNormalForm, IsNoText}
+use Rattle.ufmt_scan.specs.Texts.{IsNormalForm, NoDocumentPrints}
 use Rattle.ufmt_scan.specs.declared.scan.event.Event.{Event}
 use Rattle.ufmt_scan.specs.declared.scan.event.Event.TheVariants.{Leaf, Empty, Open, FieldName, Colon, Next, Close}
 
@@ -73,7 +73,7 @@ module _ {S : Type 0} (took stopped : S → List TextEvent → S → Type 0) whe
 
   -- a failed scan: the sink took some events, and no token document has the text; or it stopped at the last, and these come first in each document with the text
   abbrev pub ScanRefused : {E : Type 0} → S → S → (Document → List ℕ) → List ℕ → ScanError E → Type 0
-  ScanRefused old new text_of input NotText = (es : List TextEvent) × took old es new × IsNoText text_of input
+  ScanRefused old new text_of input NotText = (es : List TextEvent) × took old es new × NoDocumentPrints text_of input
   ScanRefused old new text_of input (Sink e) = (es : List TextEvent) × stopped old es new
       × ((d : Document) → IsNormalForm text_of input d → Leads es (events_of d))
 

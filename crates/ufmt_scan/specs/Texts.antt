@@ -14,8 +14,8 @@ abbrev pub IsNormalForm : (Document → List ℕ) → List ℕ → Document → 
 IsNormalForm text_of input d = IsTokenDocument d × (normal d ≡ d) × (text_of d ≡ input)
 
 -- no token document has this text
-abbrev pub IsNoText : (Document → List ℕ) → List ℕ → Type 0
-IsNoText text_of input = (d : Document) → IsTokenDocument d → text_of d ≢ input
+abbrev pub NoDocumentPrints : (Document → List ℕ) → List ℕ → Type 0
+NoDocumentPrints text_of input = (d : Document) → IsTokenDocument d → text_of d ≢ input
 
 -- the input is converted to the output: some token document has the input as its text, and each such document has the output as its other text
 pub record IsConverted (from to : Document → List ℕ) (input output : List ℕ) : Type 0 where
@@ -25,13 +25,13 @@ pub record IsConverted (from to : Document → List ℕ) (input output : List �
 -- what a conversion returns: the other text, or `NotText`, if the input is no text
 pub record Converts {A : Type 0} (from to : Document → List ℕ) (input : List ℕ) (outcome : Result (String A) ReadError) : Type 0 where
   pub ok : IfOk outcome (λ text. IsConverted from to input (string_bytes text))
-  pub not_text : IsErrOf outcome NotText → IsNoText from input
+  pub not_text : IsErrOf outcome NotText → NoDocumentPrints from input
 
 -- what a conversion to a writer does
 pub record ConvertsTo {W E : Type 0} (seen : Seen W) (from to : Document → List ℕ) (input : List ℕ) (old : W) (outcome : Result (⊤) (ScanError E)) (new : W) : Type 0 where
   -- the outcome is `Ok` only if the input is a text, and `NotText` only if it is none
   pub ok : IsOk outcome → (text : List ℕ) × IsConverted from to input text
-  pub not_text : IsErrOf outcome errors.NotText → IsNoText from input
+  pub not_text : IsErrOf outcome errors.NotText → NoDocumentPrints from input
   -- the other text is written as a piece is: all of it, or a prefix if the writer failed
   pub writes : (text : List ℕ) → IsConverted from to input text → Writes seen old text (is_ok outcome) new
   -- some text was written so, also if the input is no text
@@ -41,7 +41,7 @@ pub record ConvertsTo {W E : Type 0} (seen : Seen W) (from to : Document → Lis
 pub record ConvertsInto {E : Type 0} (from to : Document → List ℕ) (input old : List ℕ) (outcome : Result ℕ (ScanError E)) (new : List ℕ) : Type 0 where
   -- the outcome is `Ok` only if the input is a text, and `NotText` only if it is none
   pub ok : IsOk outcome → (text : List ℕ) × IsConverted from to input text
-  pub not_text : IsErrOf outcome errors.NotText → IsNoText from input
+  pub not_text : IsErrOf outcome errors.NotText → NoDocumentPrints from input
   -- the other text is at the buffer's front: all of it if it fits, or a prefix
   pub fronts : (text : List ℕ) → IsConverted from to input text → Fronts old text outcome new
   -- the buffer keeps its length, also if the input is no text

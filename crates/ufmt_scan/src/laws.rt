@@ -1,7 +1,7 @@
 //! A law of conversions, as the contract of a function.
 ghost use Rattle.std.specs.Prelude.{◌≡◌, List, ℕ};
 ghost use Rattle.ufmt.specs.Document.{Document};
-ghost use Rattle.ufmt_scan.specs.Texts.{IsConverted, IsNoText};
+ghost use Rattle.ufmt_scan.specs.Texts.{IsConverted, NoDocumentPrints};
 
 /// A text that was converted is converted back to the text that it was, and is never refused.
 #[tactic(auto, using(crate::proofs::Conversions::comes_back, crate::proofs::Conversions::never_refused))]
@@ -10,5 +10,5 @@ pub fn conversions_undo_each_other()
         → IsConverted to from earlier input → IsConverted from to input outcome
         → outcome ≡ earlier }
     ensures is_text { (from to : Document → List ℕ) (earlier input : List ℕ)
-        → IsConverted to from earlier input → IsNoText from input → ⊥ }
+        → IsConverted to from earlier input → NoDocumentPrints from input → ⊥ }
 {}

@@ -2,7 +2,7 @@
 ghost use Rattle.std.specs.Prelude.{IsFalse, IsTrue, ⊤};
 ghost use Rattle.ufmt.specs.Document.{Document};
 ghost use Rattle.ufmt.specs.Layout.{layout, setting};
-ghost use Rattle.ufmt_scan.specs.Texts.{IsNormalForm, IsNoText};
+ghost use Rattle.ufmt_scan.specs.Texts.{IsNormalForm, NoDocumentPrints};
 
 use crate::scan::{Event, Sink, scan};
 use std::convert::Infallible;
@@ -12,7 +12,7 @@ use ufmt::layout::Mode;
 pub fn is_text(mode: Mode, text: &[u8]) -> bool
     ensures text { IsTrue result
         → (d : Document) × IsNormalForm (layout (setting mode 0)) text.now d }
-    ensures no_text { IsFalse result → IsNoText (layout (setting mode 0)) text.now }
+    ensures no_text { IsFalse result → NoDocumentPrints (layout (setting mode 0)) text.now }
 {
     scan(mode, text, &mut Ignores).is_ok()
 }

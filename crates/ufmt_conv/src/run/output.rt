@@ -2,7 +2,7 @@
 ghost use Rattle.std.specs.Prelude.{◌≡◌, ◌≢◌, string_bytes, IfErr, IfOk, IsErrOf};
 ghost use Rattle.ufmt.specs.Layout.{plain_text, pretty_text};
 ghost use Rattle.ufmt_conv.specs.Output.{IsOutputLine, line_lengths, without_line_feed};
-ghost use Rattle.ufmt_doc.specs.Texts.{IsNoText};
+ghost use Rattle.ufmt_doc.specs.Texts.{NoDocumentPrints};
 
 use super::command::Command;
 use super::fault::Fault;
@@ -14,9 +14,9 @@ use std::alloc::{AllocError, Global};
 pub(super) fn output_line(alloc: Global, command: Command, input: &[u8]) -> Result<String, Fault>
     ensures ok { IfOk result (λ line. IsOutputLine command input.now (string_bytes line)) }
     ensures not_plain { IsErrOf result Fault.NotPlain → (command ≡ Command.Pretty)
-        × IsNoText plain_text (without_line_feed input.now) }
+        × NoDocumentPrints plain_text (without_line_feed input.now) }
     ensures not_pretty { IsErrOf result Fault.NotPretty → (command ≡ Command.Plain)
-        × IsNoText pretty_text (without_line_feed input.now) }
+        × NoDocumentPrints pretty_text (without_line_feed input.now) }
     ensures no_device { IfErr result (λ fault.
         (fault ≢ Fault.CannotRead) × (fault ≢ Fault.CannotWrite)) }
 {

@@ -1,4 +1,4 @@
-use Rattle.ufmt.proofs.ReadingWhole.{reads_only_texts, reads_each_text, refuses_no_text}
+use Rattle.ufmt.proofs.ReadingWhole.{reads_only_texts, reads_each_text, refuses_only_unprinted}
 use Rattle.ufmt.proofs.laws.texts_are_read_exactly.Goals as goal
 
 pub returns-clause-only : goal.returns-clause-only
@@ -8,4 +8,4 @@ pub returns-clause-each : goal.returns-clause-each
 returns-clause-each c = reads_each_text
 
 pub returns-clause-refused : goal.returns-clause-refused
-returns-clause-refused c = refuses_no_text
+returns-clause-refused c = refuses_only_unprinted
