@@ -86,7 +86,7 @@ IN_BODIES = [
     (NO_MEMORY, "ufmt_scan/src/convert/growing.rt", "fill", "let _whole=cursor.write_str(text)"),
     (NO_MEMORY, "ufmt_core/src/ascii.rt", "text_from", "unsafe"),
     (NO_MEMORY, "ufmt_core/src/core_impls/cells.rt", "RefCellValue<'a, T>::of", "match cell.try_borrow(): Err(_)=>RefCellValue::Borrowed"),
-    (NO_MEMORY, "ufmt_core/src/formatter/builder.rt", "Builder<'_, W, K>::settle", "outcome.is_ok()"),
+    (NO_MEMORY, "ufmt_core/src/formatter/builder.rt", "Builder<'_, W, K>::advance_or_close", "outcome.is_ok()"),
     (NO_MEMORY, "ufmt_core/src/quoted.rt", "escape_char", "match u8::try_from(character): Err(_)=>None"),
     (NO_MEMORY, "ufmt/src/column/counter.rt", "uWrite for CharacterCounter::write_str", "self.written.and(s.as_bytes())"),
     (NO_MEMORY, "ufmt/src/cursor.rt", "copy_ends", "*target.first_chunk_mut::<N>().unwrap()"),

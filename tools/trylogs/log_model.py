@@ -37,9 +37,9 @@ def groups(mode, log):
     """The groups of lines, each with the line feed at its end, but for the last."""
     found, group = [], []
     for line in log.split(b"\n"):
-        goes_on = mode == "plain" and (line.endswith(OPENING) or (group != [] and line.startswith(b" ")))
+        continues = mode == "plain" and (line.endswith(OPENING) or (group != [] and line.startswith(b" ")))
         group.append(line)
-        if not goes_on:
+        if not continues:
             found.append(b"\n".join(group) + b"\n")
             group = []
     if group:

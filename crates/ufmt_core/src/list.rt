@@ -117,7 +117,7 @@ impl<W: uWrite, K: BlockKind + Items> Builder<'_, W, K> {
             (view_of K.kind self.new) }
         ensures is_open { OnOk result (IsOpen (view_of K.kind self.new)) }
     {
-        self.end_lent(outcome)
+        self.reset_and_end(outcome)
     }
 }
 

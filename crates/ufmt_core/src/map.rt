@@ -115,7 +115,7 @@ impl<W: uWrite> DebugMap<'_, W> {
             (λ f. Prints W.seen (inner_formatter (map_view self.old)) (codes ": ") true f.now) }
         ensures error { IfErr outcome (λ e. result ≡ Err e) }
     {
-        self.take_back();
+        self.reset_setting();
         self.lend_for_value(outcome)
     }
 
@@ -133,7 +133,7 @@ impl<W: uWrite> DebugMap<'_, W> {
             Ok(()) => self.formatter.write_str(COLON),
             Err(error) => Err(error),
         };
-        self.lend_if(written, Status::LentValue)
+        self.lend_or_close(written, Status::LentValue)
     }
 
     /// Writes the text after an entry if its value's `fmt` returned `Ok`, else returns its error. The
@@ -144,7 +144,7 @@ impl<W: uWrite> DebugMap<'_, W> {
             (map_view self.new) }
         ensures is_open { OnOk result (IsOpen (map_view self.new)) }
     {
-        self.end_lent(outcome)
+        self.reset_and_end(outcome)
     }
 }
 

@@ -84,6 +84,6 @@ impl<W: uWrite> DebugStruct<'_, W> {
             (struct_view self.new) }
         ensures is_open { OnOk result (IsOpen (struct_view self.new)) }
     {
-        self.end_lent(outcome)
+        self.reset_and_end(outcome)
     }
 }

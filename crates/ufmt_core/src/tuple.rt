@@ -95,6 +95,6 @@ impl<W: uWrite> DebugTuple<'_, W> {
             (tuple_view self.new) }
         ensures is_open { OnOk result (IsOpen (tuple_view self.new)) }
     {
-        self.end_lent(outcome)
+        self.reset_and_end(outcome)
     }
 }

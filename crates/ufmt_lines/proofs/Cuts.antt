@@ -5,7 +5,7 @@ use Rattle.std.specs.List.{join_with_byte}
 use Rattle.ufmt.specs.Bytes.{line_feed}
 use Rattle.ufmt_core.specs.declared.layout.Mode.{Mode}
 use Rattle.ufmt_lines.specs.Output.{outputs_of}
-use Rattle.ufmt_lines.specs.Groups.{IsInGroup, goes_on_after, groups_of}
+use Rattle.ufmt_lines.specs.Groups.{IsInGroup, continues_after, groups_of}
 use Rattle.ufmt_lines.specs.Readable.{output_of, tail_converted}
 use Rattle.ufmt_lines.proofs.Groups.{groups_cut, groups_one, groups_some, nothing_in_group}
 
@@ -17,7 +17,7 @@ join_cut first (x ∷ others) second more =
 
 module _ (mode : Mode) where
   -- the outputs for both parts, and a line feed between them
-  pub outputs_cut : (text more : List ℕ) → goes_on_after mode text ≡ false → outputs_of mode (text ++ line_feed ∷ more) ≡ outputs_of mode text ++ line_feed ∷ outputs_of mode more
+  pub outputs_cut : (text more : List ℕ) → continues_after mode text ≡ false → outputs_of mode (text ++ line_feed ∷ more) ≡ outputs_of mode text ++ line_feed ∷ outputs_of mode more
   unfolding outputs_of
   outputs_cut text more ended =
       let front = groups_some mode text in let rest = groups_some mode more in

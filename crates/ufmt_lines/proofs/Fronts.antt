@@ -6,7 +6,7 @@ use Rattle.ufmt.specs.Bytes.{line_feed}
 use Rattle.ufmt_core.specs.declared.layout.Mode.{Mode}
 use Rattle.ufmt_io.specs.Whole.{AppendsPrefix}
 use Rattle.ufmt_lines.specs.Output.{AreWholeGroups, WritesFront, outputs_of}
-use Rattle.ufmt_lines.specs.Groups.{IsInGroup, goes_on_after}
+use Rattle.ufmt_lines.specs.Groups.{IsInGroup, continues_after}
 use Rattle.ufmt_lines.specs.Readable.{output_of}
 use Rattle.ufmt_lines.proofs.Cuts.{outputs_cut, outputs_nil, outputs_one}
 use Rattle.ufmt_lines.proofs.Groups.{ends_after}
@@ -61,7 +61,7 @@ module _ (mode : Mode) where
       ∙ sym (append_assoc (outputs_of mode g.front) part left) in
       (outputs_of mode g.front ++ part, left, all, Appends-trans first second third _ _ g.written written)
 
-  module _ (group : List ℕ) (old new : Option (List ℕ)) (within : IsInGroup mode group) (ends : goes_on_after mode group ≡ false) where
+  module _ (group : List ℕ) (old new : Option (List ℕ)) (within : IsInGroup mode group) (ends : continues_after mode group ≡ false) where
     -- one group and its line feed
     whole_group : Appends old new (output_of mode group ++ line_feed ∷ []) → WritesFront mode (group ++ line_feed ∷ []) [] old new
     whole_group written =

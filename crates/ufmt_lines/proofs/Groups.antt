@@ -11,7 +11,7 @@ use Rattle.ufmt.specs.Bytes.{line_feed}
 use Rattle.ufmt.specs.Lines.{lines_of}
 use Rattle.ufmt_core.specs.declared.layout.Mode.{Mode}
 use Rattle.ufmt_core.specs.declared.layout.Mode.TheVariants.{Plain, Pretty}
-use Rattle.ufmt_lines.specs.Groups.{IsInGroup, IsInLine, goes_on, goes_on_after, goes_on_after_lines, grouped, groups_of, is_indented, onto_group, opens}
+use Rattle.ufmt_lines.specs.Groups.{IsInGroup, IsInLine, continues, continues_after, continues_after_lines, grouped, groups_of, is_indented, onto_group, opens}
 
 -- a list that isn't empty
 pub record Some_lists (lists : List (List ℕ)) : Type 0 where
@@ -71,89 +71,89 @@ onto_no_group true line = refl
 module _ (mode : Mode) where
   grouped_some : (inside : Bool) (line : List ℕ) (lines : List (List ℕ)) → Some_lists (grouped mode inside (line ∷ lines))
   unfolding grouped
-  grouped_some inside line lines = onto_group_some (goes_on mode inside line) line (grouped mode (goes_on mode inside line) lines)
+  grouped_some inside line lines = onto_group_some (continues mode inside line) line (grouped mode (continues mode inside line) lines)
 
   -- a text has at least one group
   pub groups_some : (text : List ℕ) → Some_lists (groups_of mode text)
   groups_some text = let lines = lines_some text in subst (λ l. Some_lists (grouped mode false l)) (sym lines.are) (grouped_some false lines.first lines.others)
 
-  some_after : (inside : Bool) (lines : List (List ℕ)) → goes_on_after_lines mode inside lines ≡ false → inside ≡ true → Some_lists (grouped mode inside lines)
-  unfolding goes_on_after_lines
+  some_after : (inside : Bool) (lines : List (List ℕ)) → continues_after_lines mode inside lines ≡ false → inside ≡ true → Some_lists (grouped mode inside lines)
+  unfolding continues_after_lines
   some_after inside [] ended is = absurd (true≢false (sym is ∙ ended))
   some_after inside (line ∷ lines) ended is = grouped_some inside line lines
 
-  grouped_cut : (inside : Bool) (lines more : List (List ℕ)) → goes_on_after_lines mode inside lines ≡ false → grouped mode inside (lines ++ more) ≡ grouped mode inside lines ++ grouped mode false more
-  unfolding grouped goes_on_after_lines
+  grouped_cut : (inside : Bool) (lines more : List (List ℕ)) → continues_after_lines mode inside lines ≡ false → grouped mode inside (lines ++ more) ≡ grouped mode inside lines ++ grouped mode false more
+  unfolding grouped continues_after_lines
   grouped_cut inside [] more ended = ap (λ b. grouped mode b more) ended
   grouped_cut inside (line ∷ lines) more ended =
-      let b = goes_on mode inside line in
+      let b = continues mode inside line in
       ap (onto_group b line) (grouped_cut b lines more ended) ∙ onto_group_front b line (grouped mode b lines) (grouped mode false more) (some_after b lines ended)
 
   -- the groups of a text that is cut where a group ends are those of both parts
-  pub groups_cut : (text more : List ℕ) → goes_on_after mode text ≡ false → groups_of mode (text ++ line_feed ∷ more) ≡ groups_of mode text ++ groups_of mode more
-  unfolding goes_on_after
+  pub groups_cut : (text more : List ℕ) → continues_after mode text ≡ false → groups_of mode (text ++ line_feed ∷ more) ≡ groups_of mode text ++ groups_of mode more
+  unfolding continues_after
   groups_cut text more ended = ap (grouped mode false) (lines_cut text more) ∙ grouped_cut false (lines_of text) (lines_of more) ended
 
-  goes_on_after_more : (inside : Bool) (lines more : List (List ℕ)) → goes_on_after_lines mode inside (lines ++ more) ≡ goes_on_after_lines mode (goes_on_after_lines mode inside lines) more
-  unfolding goes_on_after_lines
-  goes_on_after_more inside [] more = refl
-  goes_on_after_more inside (line ∷ lines) more = goes_on_after_more (goes_on mode inside line) lines more
+  continues_after_more : (inside : Bool) (lines more : List (List ℕ)) → continues_after_lines mode inside (lines ++ more) ≡ continues_after_lines mode (continues_after_lines mode inside lines) more
+  unfolding continues_after_lines
+  continues_after_more inside [] more = refl
+  continues_after_more inside (line ∷ lines) more = continues_after_more (continues mode inside line) lines more
 
-  goes_on_after_cut : (text more : List ℕ) → goes_on_after mode (text ++ line_feed ∷ more) ≡ goes_on_after_lines mode (goes_on_after mode text) (lines_of more)
-  unfolding goes_on_after
-  goes_on_after_cut text more = ap (goes_on_after_lines mode false) (lines_cut text more) ∙ goes_on_after_more false (lines_of text) (lines_of more)
+  continues_after_cut : (text more : List ℕ) → continues_after mode (text ++ line_feed ∷ more) ≡ continues_after_lines mode (continues_after mode text) (lines_of more)
+  unfolding continues_after
+  continues_after_cut text more = ap (continues_after_lines mode false) (lines_cut text more) ∙ continues_after_more false (lines_of text) (lines_of more)
 
   -- where a group ends, lines that end a group may follow
-  pub ends_after : (text more : List ℕ) → goes_on_after mode text ≡ false → goes_on_after mode more ≡ false → goes_on_after mode (text ++ line_feed ∷ more) ≡ false
-  unfolding goes_on_after
-  ends_after text more ended ends = goes_on_after_cut text more ∙ ap (λ b. goes_on_after_lines mode b (lines_of more)) ended ∙ ends
+  pub ends_after : (text more : List ℕ) → continues_after mode text ≡ false → continues_after mode more ≡ false → continues_after mode (text ++ line_feed ∷ more) ≡ false
+  unfolding continues_after
+  ends_after text more ended ends = continues_after_cut text more ∙ ap (λ b. continues_after_lines mode b (lines_of more)) ended ∙ ends
 
-  -- whether a group goes on after its only line
-  pub goes_on_after_first : (line : List ℕ) → IsInLine line → goes_on_after mode line ≡ goes_on mode false line
-  unfolding goes_on_after goes_on_after_lines
-  goes_on_after_first line within = ap (goes_on_after_lines mode false) (one_line line within)
+  -- whether a group continues after its only line
+  pub continues_after_first : (line : List ℕ) → IsInLine line → continues_after mode line ≡ continues mode false line
+  unfolding continues_after continues_after_lines
+  continues_after_first line within = ap (continues_after_lines mode false) (one_line line within)
 
   -- the same of another line
-  pub goes_on_after_last : (front line : List ℕ) → IsInLine line → goes_on_after mode (front ++ line_feed ∷ line) ≡ goes_on mode (goes_on_after mode front) line
-  unfolding goes_on_after_lines
-  goes_on_after_last front line within = goes_on_after_cut front line ∙ ap (goes_on_after_lines mode (goes_on_after mode front)) (one_line line within)
+  pub continues_after_last : (front line : List ℕ) → IsInLine line → continues_after mode (front ++ line_feed ∷ line) ≡ continues mode (continues_after mode front) line
+  unfolding continues_after_lines
+  continues_after_last front line within = continues_after_cut front line ∙ ap (continues_after_lines mode (continues_after mode front)) (one_line line within)
 
-  -- lines after each of which but the last the group goes on are one group
-  abbrev GoesOnFrom : Bool → List ℕ → Type 0
-  GoesOnFrom inside text = (front back : List ℕ) → text ≡ front ++ line_feed ∷ back → goes_on_after_lines mode inside (lines_of front) ≡ true
+  -- lines after each of which but the last the group continues are one group
+  abbrev ContinuesFrom : Bool → List ℕ → Type 0
+  ContinuesFrom inside text = (front back : List ℕ) → text ≡ front ++ line_feed ∷ back → continues_after_lines mode inside (lines_of front) ≡ true
 
-  module _ (inside : Bool) (line text : List ℕ) (within : IsInLine line) (on : GoesOnFrom inside (line ++ line_feed ∷ text)) where
-    first_goes_on : goes_on mode inside line ≡ true
-    unfolding goes_on_after_lines
-    first_goes_on = ap (goes_on_after_lines mode inside) (sym (one_line line within)) ∙ on line text refl
+  module _ (inside : Bool) (line text : List ℕ) (within : IsInLine line) (on : ContinuesFrom inside (line ++ line_feed ∷ text)) where
+    first_continues : continues mode inside line ≡ true
+    unfolding continues_after_lines
+    first_continues = ap (continues_after_lines mode inside) (sym (one_line line within)) ∙ on line text refl
 
-    others_go_on : GoesOnFrom true text
-    unfolding goes_on_after_lines
+    others_go_on : ContinuesFrom true text
+    unfolding continues_after_lines
     others_go_on = λ front back is.
-        ap (λ b. goes_on_after_lines mode b (lines_of front)) (sym first_goes_on) ∙ ap (goes_on_after_lines mode inside) (sym (lines_first line front within))
+        ap (λ b. continues_after_lines mode b (lines_of front)) (sym first_continues) ∙ ap (continues_after_lines mode inside) (sym (lines_first line front within))
         ∙ on (line ++ line_feed ∷ front) back (ap (λ t. line ++ line_feed ∷ t) is ∙ sym (append_assoc line (line_feed ∷ front) (line_feed ∷ back)))
 
-    one_with_others : (GoesOnFrom true text → grouped mode true (lines_of text) ≡ text ∷ []) → grouped mode inside (lines_of (line ++ line_feed ∷ text)) ≡ (line ++ line_feed ∷ text) ∷ []
+    one_with_others : (ContinuesFrom true text → grouped mode true (lines_of text) ≡ text ∷ []) → grouped mode inside (lines_of (line ++ line_feed ∷ text)) ≡ (line ++ line_feed ∷ text) ∷ []
     unfolding grouped
     one_with_others others =
-        ap (grouped mode inside) (lines_first line text within) ∙ ap (λ b. onto_group b line (grouped mode b (lines_of text))) first_goes_on
+        ap (grouped mode inside) (lines_first line text within) ∙ ap (λ b. onto_group b line (grouped mode b (lines_of text))) first_continues
         ∙ ap (onto_group true line) (others others_go_on)
 
-  one_group : (inside : Bool) (line text : List ℕ) → IsInLine line → GoesOnFrom inside (line ++ text) → grouped mode inside (lines_of (line ++ text)) ≡ (line ++ text) ∷ []
+  one_group : (inside : Bool) (line text : List ℕ) → IsInLine line → ContinuesFrom inside (line ++ text) → grouped mode inside (lines_of (line ++ text)) ≡ (line ++ text) ∷ []
   unfolding grouped
-  one_group inside line [] within on = rw (append-nil line, one_line line within) (onto_no_group (goes_on mode inside line) line)
+  one_group inside line [] within on = rw (append-nil line, one_line line within) (onto_no_group (continues mode inside line) line)
   one_group inside line (byte ∷ text) within on = elim (eqb_tells byte line_feed) [
     | inl h ↦ subst (λ b. grouped mode inside (lines_of (line ++ b ∷ text)) ≡ (line ++ b ∷ text) ∷ []) (sym h.1)
-        (one_with_others inside line text within (subst (λ b. GoesOnFrom inside (line ++ b ∷ text)) h.1 on)
+        (one_with_others inside line text within (subst (λ b. ContinuesFrom inside (line ++ b ∷ text)) h.1 on)
         (λ others. one_group true [] text (All-nil (λ b. b ≢ line_feed)) others))
     | inr h ↦ subst (λ t. grouped mode inside (lines_of t) ≡ t ∷ []) (append_assoc line (byte ∷ []) text)
         (one_group inside (line ++ byte ∷ []) text (All-append (λ b. b ≢ line_feed) line (byte ∷ []) within (All-cons (λ b. b ≢ line_feed) byte [] h.1 (All-nil (λ b. b ≢ line_feed))))
-        (subst (GoesOnFrom inside) (sym (append_assoc line (byte ∷ []) text)) on))
+        (subst (ContinuesFrom inside) (sym (append_assoc line (byte ∷ []) text)) on))
   ]
 
   -- a text in which no group ends is one group
   pub groups_one : (text : List ℕ) → IsInGroup mode text → groups_of mode text ≡ text ∷ []
-  unfolding goes_on_after
+  unfolding continues_after
   groups_one text within = one_group false [] text (All-nil (λ b. b ≢ line_feed)) within
 
 nothing_is_cut : (front back : List ℕ) → [] ≡ front ++ line_feed ∷ back → ⊥
@@ -191,18 +191,18 @@ module _ (mode : Mode) where
   pub in_group_more : (text more : List ℕ) → IsInGroup mode text → IsInLine more → IsInGroup mode (text ++ more)
   in_group_more text more within line = λ front back is. let cut = cut_before text more front back line is in within front cut.0 cut.1
 
-  -- the line feed after which the group goes on is in the group
-  pub in_group_next : (text : List ℕ) → IsInGroup mode text → goes_on_after mode text ≡ true → IsInGroup mode (text ++ line_feed ∷ [])
-  in_group_next text within on = λ front back is. elim (cut_or_end text front back is) [ inl h ↦ ap (goes_on_after mode) h ∙ on | inr h ↦ within front h.0 h.1 ]
+  -- the line feed after which the group continues is in the group
+  pub in_group_next : (text : List ℕ) → IsInGroup mode text → continues_after mode text ≡ true → IsInGroup mode (text ++ line_feed ∷ [])
+  in_group_next text within on = λ front back is. elim (cut_or_end text front back is) [ inl h ↦ ap (continues_after mode) h ∙ on | inr h ↦ within front h.0 h.1 ]
 
-no_more : (inside : Bool) (lines : List (List ℕ)) → inside ≡ false → goes_on_after_lines Pretty inside lines ≡ false
-unfolding goes_on_after_lines
+no_more : (inside : Bool) (lines : List (List ℕ)) → inside ≡ false → continues_after_lines Pretty inside lines ≡ false
+unfolding continues_after_lines
 no_more inside [] is = is
 no_more inside (line ∷ lines) is = no_more false lines refl
 
 -- each line is a group if it is made pretty
-pub each_line_ends : (text : List ℕ) → goes_on_after Pretty text ≡ false
-unfolding goes_on_after
+pub each_line_ends : (text : List ℕ) → continues_after Pretty text ≡ false
+unfolding continues_after
 each_line_ends text = no_more false (lines_of text) refl
 
 lines_are_groups : (lines : List (List ℕ)) → grouped Pretty false lines ≡ lines
@@ -224,15 +224,15 @@ no_line_feed (byte ∷ text) none =
 pub pretty_rest : (text : List ℕ) → IsInGroup Pretty text → IsInLine text
 pretty_rest text within = no_line_feed text (λ front back is. true≢false (sym (within front back is) ∙ each_line_ends front))
 
--- a group of one line, to be made plain, goes on after an opening bracket
-pub goes_on_at_first : (mode : Mode) (line : List ℕ) → mode ≡ Plain → IsInLine line → goes_on_after mode line ≡ opens line
-goes_on_at_first mode line plain within = goes_on_after_first mode line within ∙ ap (λ m. goes_on m false line) plain ∙ or-false (opens line)
+-- a group of one line, to be made plain, continues after an opening bracket
+pub continues_at_first : (mode : Mode) (line : List ℕ) → mode ≡ Plain → IsInLine line → continues_after mode line ≡ opens line
+continues_at_first mode line plain within = continues_after_first mode line within ∙ ap (λ m. continues m false line) plain ∙ or-false (opens line)
 
 -- and after an indented line that isn't its first
-pub goes_on_at_last : (mode : Mode) (group line : List ℕ) → mode ≡ Plain → IsInGroup mode group → IsInLine line → (front : List ℕ) × (group ≡ front ++ line_feed ∷ line)
-    → goes_on_after mode group ≡ (opens line || is_indented line)
-goes_on_at_last mode group line plain gathered within (front, is) =
-    ap (goes_on_after mode) is ∙ goes_on_after_last mode front line within ∙ ap (λ b. goes_on mode b line) (gathered front line is) ∙ ap (λ m. goes_on m true line) plain
+pub continues_at_last : (mode : Mode) (group line : List ℕ) → mode ≡ Plain → IsInGroup mode group → IsInLine line → (front : List ℕ) × (group ≡ front ++ line_feed ∷ line)
+    → continues_after mode group ≡ (opens line || is_indented line)
+continues_at_last mode group line plain gathered within (front, is) =
+    ap (continues_after mode) is ∙ continues_after_last mode front line within ∙ ap (λ b. continues mode b line) (gathered front line is) ∙ ap (λ m. continues m true line) plain
 
 -- the bytes before a line feed, and those after it
 pub cut_at : (text : List ℕ) (start : ℕ) → 0 < start → start ≤ length text → get_or text (start - 1) 0 ≡ line_feed → text ≡ take (start - 1) text ++ line_feed ∷ drop start text

@@ -1,7 +1,7 @@
 -- Examples of groups of lines, computed.
 use Rattle.std.proofs.Common.{◌≡◌, [], ◌∷◌, codes, refl}
 use Rattle.ufmt_core.specs.declared.layout.Mode.TheVariants.{Plain, Pretty}
-use Rattle.ufmt_lines.specs.Groups.{goes_on_after, goes_on_after_lines, grouped, groups_of}
+use Rattle.ufmt_lines.specs.Groups.{continues_after, continues_after_lines, grouped, groups_of}
 
 -- where texts are made pretty, each line is a group
 pretty_lines : groups_of Pretty (codes "a [\n    1,\n]") ≡ codes "a [" ∷ codes "    1," ∷ codes "]" ∷ []
@@ -18,7 +18,7 @@ plain_lines : groups_of Plain (codes "a\n  b\n]\n") ≡ codes "a" ∷ codes "  b
 unfolding grouped
 plain_lines = refl
 
--- a group goes on after each line that ends with an opening bracket, also if no line after it is indented
+-- a group continues after each line that ends with an opening bracket, also if no line after it is indented
 plain_openings : groups_of Plain (codes "a [\nb {\n  c\nd\n  e") ≡ codes "a [\nb {\n  c\nd" ∷ codes "  e" ∷ []
 unfolding grouped
 plain_openings = refl
@@ -33,11 +33,11 @@ plain_open : groups_of Plain (codes "a [\n  b") ≡ codes "a [\n  b" ∷ []
 unfolding grouped
 plain_open = refl
 
--- after these lines the group goes on, and after those it doesn't
-goes_on_rows : goes_on_after Plain (codes "a [\n  b") ≡ goes_on_after Plain (codes "a [")
-unfolding goes_on_after goes_on_after_lines
-goes_on_rows = refl
+-- after these lines the group continues, and after those it doesn't
+continues_rows : continues_after Plain (codes "a [\n  b") ≡ continues_after Plain (codes "a [")
+unfolding continues_after continues_after_lines
+continues_rows = refl
 
-ends_rows : goes_on_after Plain (codes "a [\n  b\n]") ≡ goes_on_after Plain (codes "  b")
-unfolding goes_on_after goes_on_after_lines
+ends_rows : continues_after Plain (codes "a [\n  b\n]") ≡ continues_after Plain (codes "  b")
+unfolding continues_after continues_after_lines
 ends_rows = refl

@@ -27,12 +27,12 @@ opens line = passes is_opening (slice_get line (length line - 1))
 abbrev pub is_indented : List ℕ → Bool
 is_indented line = passes (λ byte. byte == space) (slice_get line 0)
 
--- whether a group goes on after this line of it, which isn't its first if it is inside: a plain text is in one line; a pretty text goes on after an opening bracket, and then after an indented line
-abbrev pub goes_on : Mode → Bool → List ℕ → Bool
-goes_on Pretty inside line = false
-goes_on Plain inside line = opens line || (inside && is_indented line)
+-- whether a group continues after this line of it, which isn't its first if it is inside: a plain text is in one line; a pretty text continues after an opening bracket, and then after an indented line
+abbrev pub continues : Mode → Bool → List ℕ → Bool
+continues Pretty inside line = false
+continues Plain inside line = opens line || (inside && is_indented line)
 
--- the line and the first group as one group, if the group goes on after the line
+-- the line and the first group as one group, if the group continues after the line
 abbrev pub onto_group : Bool → List ℕ → List (List ℕ) → List (List ℕ)
 onto_group true line (group ∷ groups) = (line ++ line_feed ∷ group) ∷ groups
 onto_group true line [] = line ∷ []
@@ -41,21 +41,21 @@ onto_group false line groups = line ∷ groups
 -- the groups of lines, whose first line may be inside of a group
 unfoldable pub grouped : Mode → Bool → List (List ℕ) → List (List ℕ)
 grouped mode inside [] = []
-grouped mode inside (line ∷ lines) = onto_group (goes_on mode inside line) line (grouped mode (goes_on mode inside line) lines)
+grouped mode inside (line ∷ lines) = onto_group (continues mode inside line) line (grouped mode (continues mode inside line) lines)
 
 -- the groups of lines of a text that are converted to this mode
 abbrev pub groups_of : Mode → List ℕ → List (List ℕ)
 groups_of mode text = grouped mode false (lines_of text)
 
--- whether a group goes on after these lines
-unfoldable pub goes_on_after_lines : Mode → Bool → List (List ℕ) → Bool
-goes_on_after_lines mode inside [] = inside
-goes_on_after_lines mode inside (line ∷ lines) = goes_on_after_lines mode (goes_on mode inside line) lines
+-- whether a group continues after these lines
+unfoldable pub continues_after_lines : Mode → Bool → List (List ℕ) → Bool
+continues_after_lines mode inside [] = inside
+continues_after_lines mode inside (line ∷ lines) = continues_after_lines mode (continues mode inside line) lines
 
--- whether a group goes on after the lines of this text
-unfoldable pub goes_on_after : Mode → List ℕ → Bool
-goes_on_after mode text = goes_on_after_lines mode false (lines_of text)
+-- whether a group continues after the lines of this text
+unfoldable pub continues_after : Mode → List ℕ → Bool
+continues_after mode text = continues_after_lines mode false (lines_of text)
 
--- no group ends in the text: after each line feed in it, the group goes on
+-- no group ends in the text: after each line feed in it, the group continues
 abbrev pub IsInGroup : Mode → List ℕ → Type 0
-IsInGroup mode text = (front back : List ℕ) → text ≡ front ++ line_feed ∷ back → goes_on_after mode front ≡ true
+IsInGroup mode text = (front back : List ℕ) → text ≡ front ++ line_feed ∷ back → continues_after mode front ≡ true

@@ -5,7 +5,7 @@ use Rattle.std.specs.List.{join_with_byte}
 use Rattle.ufmt.specs.Bytes.{line_feed}
 use Rattle.ufmt_core.specs.declared.layout.Mode.{Mode}
 use Rattle.ufmt_io.specs.Whole.{AppendsPrefix}
-use Rattle.ufmt_lines.specs.Groups.{goes_on_after, groups_of}
+use Rattle.ufmt_lines.specs.Groups.{continues_after, groups_of}
 use Rattle.ufmt_lines.specs.Readable.{output_of}
 
 -- the output for each group of lines, with the line feeds between them
@@ -14,7 +14,7 @@ outputs_of mode text = join_with_byte line_feed (map (output_of mode) (groups_of
 
 -- the text is empty, or ends with a line feed at which a group ends
 abbrev pub AreWholeGroups : Mode → List ℕ → Type 0
-AreWholeGroups mode text = (text ≡ []) ⊎ ((front : List ℕ) × (text ≡ front ++ line_feed ∷ []) × (goes_on_after mode front ≡ false))
+AreWholeGroups mode text = (text ≡ []) ⊎ ((front : List ℕ) × (text ≡ front ++ line_feed ∷ []) × (continues_after mode front ≡ false))
 
 -- if the bytes of input and output are known: the outputs for all groups were written
 abbrev pub WritesOutput : Mode → Option (List ℕ) → Option (List ℕ) → Option (List ℕ) → Type 0

@@ -14,7 +14,13 @@ use crate::formatter::Formatter;
 use crate::layout::{Count, Kind, Mode, Setting};
 use crate::write::uWrite;
 
-/// Which calls of a builder may follow.
+// The states of a builder, and the calls between them. An entry of a map has three calls.
+//
+//     Open ── begin ──▶ Lent ── end ──▶ Open
+//     Open ── begin ──▶ Lent ── lend_for_value ──▶ LentValue ── end ──▶ Open
+//     each of these ── finish, or a call that fails ──▶ Closed
+
+/// Which of its calls a builder takes next.
 #[derive(Clone, Copy)]
 pub(crate) enum Status {
     /// An entry, or `finish`.
@@ -85,7 +91,7 @@ impl<W: uWrite, K: BlockKind> Builder<'_, W, K> {
             (is_ok result) (view_of K.kind self.new) }
     {
         let kind = self.marker.kind();
-        self.leave();
+        self.close();
         self.formatter.write_ending(kind, self.count)
     }
 
@@ -107,7 +113,7 @@ impl<W: uWrite, K: BlockKind> Builder<'_, W, K> {
             f.now) }
     {
         let written = self.formatter.write_lead(self.marker.kind(), self.count);
-        self.lend_if(written, Status::Lent)
+        self.lend_or_close(written, Status::Lent)
     }
 
     /// Writes the text before the value of a struct's field, and lends the formatter for the value.
@@ -122,12 +128,12 @@ impl<W: uWrite, K: BlockKind> Builder<'_, W, K> {
     {
         let kind = self.marker.kind();
         let written = self.formatter.write_field_lead(kind, self.count, name);
-        self.lend_if(written, Status::Lent)
+        self.lend_or_close(written, Status::Lent)
     }
 
     /// Lends the formatter if the outcome is `Ok`, else closes the builder.
     #[inline(always)]
-    pub(crate) fn lend_if(
+    pub(crate) fn lend_or_close(
         &mut self,
         outcome: Result<(), W::Error>,
         status: Status,
@@ -137,7 +143,7 @@ impl<W: uWrite, K: BlockKind> Builder<'_, W, K> {
         ensures lent { IfOk result (λ f. (f.now ≡ self.old.formatter.now) × IsOk outcome) }
         ensures error { IfErr result (λ e. outcome ≡ Err e) }
     {
-        self.settle(outcome, status, self.count)?;
+        self.advance_or_close(outcome, status, self.count)?;
         Ok(self.lend())
     }
 
@@ -154,20 +160,20 @@ impl<W: uWrite, K: BlockKind> Builder<'_, W, K> {
 
     /// Sets the formatter to the mode and depth of the entries, whatever the borrower left.
     #[inline(always)]
-    pub(crate) fn take_back(&mut self)
+    pub(crate) fn reset_setting(&mut self)
         ensures { self.new ≡ lent self.old.status self.old (inner_formatter (view_of K.kind self.old)) }
     {
         self.formatter.setting = self.outer.inside();
     }
 
-    /// `end`, of a formatter that was lent to a caller.
+    /// `reset_setting` and then `end`, of a formatter that was lent to a caller.
     #[inline(always)]
-    pub(crate) fn end_lent(&mut self, outcome: Result<(), W::Error>) -> Result<(), W::Error>
+    pub(crate) fn reset_and_end(&mut self, outcome: Result<(), W::Error>) -> Result<(), W::Error>
         ensures end { EndsEntry W.seen outcome (view_of K.kind self.old) result (is_ok result)
             (view_of K.kind self.new) }
         ensures is_open { OnOk result (IsOpen (view_of K.kind self.new)) }
     {
-        self.take_back();
+        self.reset_setting();
         self.end(outcome)
     }
 
@@ -183,19 +189,19 @@ impl<W: uWrite, K: BlockKind> Builder<'_, W, K> {
             Ok(()) => self.formatter.write_trail(),
             Err(error) => Err(error),
         };
-        self.settle(ended, Status::Open, self.count.next())
+        self.advance_or_close(ended, Status::Open, self.count.next())
     }
 
     // Takes this status and count if the outcome is `Ok`, else closes the builder.
     #[inline(always)]
-    fn settle(
+    fn advance_or_close(
         &mut self,
         outcome: Result<(), W::Error>,
         status: Status,
         count: Count,
     ) -> Result<(), W::Error>
         ensures outcome { result ≡ outcome }
-        ensures settled { MatchBool (is_ok outcome)
+        ensures advanced { MatchBool (is_ok outcome)
             (self.new ≡ record self.old { count = count; status = status })
             (self.new ≡ abandoned self.old) }
     {
@@ -203,14 +209,14 @@ impl<W: uWrite, K: BlockKind> Builder<'_, W, K> {
             self.count = count;
             self.status = status;
         } else {
-            self.leave();
+            self.close();
         }
         outcome
     }
 
     // Closes the builder, and restores the mode and depth from before it.
     #[inline(always)]
-    fn leave(&mut self)
+    fn close(&mut self)
         ensures { self.new ≡ abandoned self.old }
     {
         self.formatter.setting = self.outer;

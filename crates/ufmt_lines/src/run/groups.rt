@@ -5,7 +5,7 @@ ghost use Rattle.ufmt.specs.Bytes.{line_feed};
 ghost use Rattle.ufmt_io.specs.Watched.{device_of, has_failed};
 ghost use Rattle.ufmt_io.specs.Whole.{AppendsPrefix};
 ghost use Rattle.ufmt_lines.specs.Output.{WritesFront, outputs_of};
-ghost use Rattle.ufmt_lines.specs.Groups.{IsInGroup, IsInLine, goes_on_after, is_indented, is_opening, opens};
+ghost use Rattle.ufmt_lines.specs.Groups.{IsInGroup, IsInLine, continues_after, is_indented, is_opening, opens};
 ghost use Rattle.ufmt_lines.specs.Readable.{output_of};
 
 use super::output::GroupOutput;
@@ -67,7 +67,7 @@ impl Group {
         Ok(())
     }
 
-    // Ends a line: writes the output for the group if it ends there. Else the group goes on.
+    // Ends a line: writes the output for the group if it ends there. Else the group continues.
     fn end_line<W: Write>(&mut self, mode: Mode, output: &mut Watched<W>) -> Result<(), IoFault>
         requires works { has_failed output.old ≡ false }
         requires in_group { IsInGroup mode (group_bytes self.old) }
@@ -83,7 +83,7 @@ impl Group {
         ensures failed { IsErrOf result IoFault.CannotWrite ↔ IsTrue (has_failed output.new) }
         ensures no_reader { IfErr result (λ fault. fault ≢ IoFault.CannotRead) }
     {
-        if goes_on(mode, &self.bytes) {
+        if continues(mode, &self.bytes) {
             self.bytes.extend_from_slice(b"\n")?;
             return Ok(());
         }
@@ -119,10 +119,10 @@ impl Group {
     }
 }
 
-// Whether the group goes on after these lines of it. Where texts are made pretty, a group is one line.
-fn goes_on(mode: Mode, group: &[u8]) -> bool
+// Whether the group continues after these lines of it. Where texts are made pretty, a group is one line.
+fn continues(mode: Mode, group: &[u8]) -> bool
     requires { IsInGroup mode group.now }
-    ensures { result ≡ goes_on_after mode group.now }
+    ensures { result ≡ continues_after mode group.now }
 {
     match mode {
         Mode::Pretty => false,
