@@ -30,8 +30,8 @@ impl uDebug for Alarm {
 impl uParse for Alarm {
     ghost is_value = { λ a. is_u16 a.node };
 
-    fn holds(&self) {
-        self.node.holds();
+    fn prove_value(&self) {
+        self.node.prove_value();
     }
 
     fn from_doc(alloc: Global, doc: &Doc) -> Result<Option<Alarm>, AllocError> {

@@ -30,8 +30,8 @@ impl uDebug for Node {
 impl ParsesBy<Node> for Depth {
     ghost is_value = { is_node };
 
-    fn holds_of(&self, node: &Node) {
-        node.holds();
+    fn prove_value_of(&self, node: &Node) {
+        node.prove_value();
     }
 
     #[cycle(parse_by)]
@@ -53,11 +53,11 @@ impl uParse for Node {
     ghost is_value = { is_node };
 
     #[tactic(auto, using(crate::proofs::Nested::node_is))]
-    fn holds(&self) {
-        self.value.holds();
+    fn prove_value(&self) {
+        self.value.prove_value();
         match &self.next {
             None => {}
-            Some(next) => Node::holds(next),
+            Some(next) => Node::prove_value(next),
         }
     }
 

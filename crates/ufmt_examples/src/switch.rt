@@ -36,8 +36,8 @@ impl uDebug for Switch {
 impl uParse for Switch {
     ghost is_value = { λ s. ⟦<Option<u8> as uParse>⟧.is_value s.next };
 
-    fn holds(&self) {
-        self.next.holds();
+    fn prove_value(&self) {
+        self.next.prove_value();
     }
 
     fn from_doc(alloc: Global, doc: &Doc) -> Result<Option<Switch>, AllocError> {

@@ -8,7 +8,7 @@ ghost use Rattle.ufmt_examples.specs.declared.tree.Tree.TheFolds.{fold-Tree};
 use std::alloc::{AllocError, Global};
 use ufmt::{Formatter, fields, uDebug, uWrite};
 use ufmt_doc::doc::Doc;
-use ufmt_parse::{Depth, Each, Holds, ParsesBy, Plain, parse_each, struct_fields, uParse};
+use ufmt_parse::{Depth, Each, ParsesBy, Plain, ProvesValue, parse_each, struct_fields, uParse};
 
 /// A number, and trees below it.
 #[derive(Drop)]
@@ -30,8 +30,8 @@ impl uDebug for Tree {
 impl ParsesBy<Tree> for Depth {
     ghost is_value = { is_tree };
 
-    fn holds_of(&self, tree: &Tree) {
-        tree.holds();
+    fn prove_value_of(&self, tree: &Tree) {
+        tree.prove_value();
     }
 
     #[cycle(parse_by)]
@@ -49,12 +49,12 @@ impl ParsesBy<Tree> for Depth {
     }
 }
 
-impl Holds for Tree {
+impl ProvesValue for Tree {
     ghost is_whole = { is_tree };
 
     #[tactic(auto, using(crate::proofs::Nested::tree_is))]
     fn hold(&self) {
-        self.size.holds();
+        self.size.prove_value();
         self.children.hold();
     }
 }
@@ -62,7 +62,7 @@ impl Holds for Tree {
 impl uParse for Tree {
     ghost is_value = { is_tree };
 
-    fn holds(&self) {
+    fn prove_value(&self) {
         self.hold();
     }
 

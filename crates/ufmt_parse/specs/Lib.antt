@@ -1,4 +1,4 @@
-pub mod Again
+pub mod RoundTrip
 pub mod Depths
 pub mod Entries
 pub mod Finds

@@ -21,9 +21,9 @@ use ufmt_doc::doc::Doc;
 impl<T: uParse> uParse for Vec<T> {
     ghost is_value = { λ values. All T.is_value values.items };
 
-    fn holds(&self) {
+    fn prove_value(&self) {
         for value in self.iter() {
-            value.holds();
+            value.prove_value();
         }
     }
 
@@ -35,9 +35,9 @@ impl<T: uParse> uParse for Vec<T> {
 impl<T: uParse, const N: usize> uParse for [T; N] {
     ghost is_value = { λ values. All T.is_value values × (length values ≡ N) };
 
-    fn holds(&self) {
+    fn prove_value(&self) {
         for value in self.iter() {
-            value.holds();
+            value.prove_value();
         }
     }
 
@@ -102,11 +102,11 @@ pub fn parse_each<T: uDebug + Drop, P: ParsesBy<T>>(
 impl<T: ParseKey> uParse for BTreeSet<T> {
     ghost is_value = { λ set. All T.is_value set.keys × IsStrictlySortedBy T.cmp set.keys };
 
-    fn holds(&self) {
+    fn prove_value(&self) {
         // The clause of `len` says that the keys ascend.
         let _ = self.len();
         for key in self.iter() {
-            key.holds();
+            key.prove_value();
         }
     }
 
@@ -131,13 +131,13 @@ fn parse_keys<T: ParseKey>(alloc: Global, docs: &[Doc]) -> Result<Option<BTreeSe
         FindsParts (λ keys. All T.is_value keys × IsStrictlySortedBy T.cmp keys) (map (λ key. normal (T.document key)))
         (map doc_document docs.now) (option_map (λ set. set.keys) outcome)) }
 {
-    T::differ_in_text();
+    T::prove_key();
     let mut set = BTreeSet::new(alloc);
     for doc in docs {
         let Some(key) = T::from_doc(alloc, doc)? else {
             return Ok(None);
         };
-        key.holds();
+        key.prove_value();
         if !is_past_set(&set, &key) {
             return Ok(None);
         }
@@ -160,12 +160,12 @@ impl<K: ParseKey, V: uParse> uParse for BTreeMap<K, V> {
     ghost is_value = { λ map. All (IsEntry K.is_value V.is_value) map.entries
         × IsStrictlySortedBy K.cmp (keys_of map.entries) };
 
-    fn holds(&self) {
+    fn prove_value(&self) {
         // The clause of `len` says that the keys ascend.
         let _ = self.len();
         for (key, value) in self.iter() {
-            key.holds();
-            value.holds();
+            key.prove_value();
+            value.prove_value();
         }
     }
 
@@ -188,7 +188,7 @@ fn parse_entries<K: ParseKey, V: uParse>(
         (map (entry_parts K.document V.document))
         (map pair_view pairs.now) (option_map (λ found. found.entries) outcome)) }
 {
-    K::differ_in_text();
+    K::prove_key();
     let mut map = BTreeMap::new(alloc);
     for (key, value) in pairs {
         let Some(key) = K::from_doc(alloc, key)? else {
@@ -197,8 +197,8 @@ fn parse_entries<K: ParseKey, V: uParse>(
         let Some(value) = V::from_doc(alloc, value)? else {
             return Ok(None);
         };
-        key.holds();
-        value.holds();
+        key.prove_value();
+        value.prove_value();
         if !is_past_map(&map, &key) {
             return Ok(None);
         }

@@ -32,24 +32,24 @@ impl Depth {
     }
 }
 
-/// For `holds` of a type that holds itself in a `Vec`. The check refuses a call of `holds` at such a
-/// `Vec`, since `uParse` has a second function; it takes one of `hold`.
-pub trait Holds {
+/// For `prove_value` of a type that holds itself in a `Vec`. The check refuses a call of `prove_value`
+/// at such a `Vec`, since `uParse` has a second function; it takes one of `prove`.
+pub trait ProvesValue {
     /// `is_value` of the type.
     ghost is_whole: { Self → Type 0 };
 
-    /// Shows that `is_whole` holds, by `holds` of each field and `hold` of the `Vec`.
-    fn hold(&self)
+    /// Shows that `is_whole` holds, by `prove_value` of each field and `prove` of the `Vec`.
+    fn prove(&self)
         ensures { is_whole self.now };
 }
 
-impl<T: Holds> Holds for Vec<T> {
+impl<T: ProvesValue> ProvesValue for Vec<T> {
     ghost is_whole = { λ values. AllByRecursion T.is_whole values.items };
 
     #[tactic(auto, using(crate::proofs::Layers::each_of))]
-    fn hold(&self) {
+    fn prove(&self) {
         for value in self.iter() {
-            value.hold();
+            value.prove();
         }
     }
 }

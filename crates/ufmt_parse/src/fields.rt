@@ -22,8 +22,8 @@ pub trait FieldParsers<V> {
     // These with the fields' names.
     ghost named: { List (List ℕ) → V → List (List ℕ × Document) };
 
-    // Shows that `are_values` holds, by `holds_of` of each field.
-    fn holds_of(&self, values: &V)
+    // Shows that `are_values` holds, by `prove_value_of` of each field.
+    fn prove_value_of(&self, values: &V)
         ensures { are_values values.now };
 
     fn parse_entries(&self, alloc: Global, entries: &[Doc]) -> Result<Option<V>, AllocError>
@@ -48,7 +48,7 @@ impl FieldParsers<()> for () {
 
     ghost named = { λ _ _. [] };
 
-    fn holds_of(&self, _values: &()) {}
+    fn prove_value_of(&self, _values: &()) {}
 
     fn parse_entries(&self, _alloc: Global, entries: &[Doc]) -> Result<Option<()>, AllocError> {
         match entries.split_first() {
@@ -78,9 +78,9 @@ impl<A: uDebug + Drop, R: Drop, P: ParsesBy<A>, Q: FieldParsers<R>> FieldParsers
 
     ghost named = { λ names v. (first_name names, normal (A.document v.0)) ∷ Q.named (drop 1 names) v.1 };
 
-    fn holds_of(&self, values: &(A, R)) {
-        self.0.holds_of(&values.0);
-        self.1.holds_of(&values.1);
+    fn prove_value_of(&self, values: &(A, R)) {
+        self.0.prove_value_of(&values.0);
+        self.1.prove_value_of(&values.1);
     }
 
     fn parse_entries(&self, alloc: Global, entries: &[Doc]) -> Result<Option<(A, R)>, AllocError> {

@@ -9,114 +9,114 @@ use crate::uParse;
 pub trait ParseKey: uParse + Ord {
     /// Shows that two keys with the same text are equal in their order. The body is empty for a leaf, and
     /// calls this of each field for a key with fields.
-    fn differ_in_text()
+    fn prove_key()
         ensures { (x y : Self) → Self.is_value x → Self.is_value y
             → normal (Self.document x) ≡ normal (Self.document y) → Self.cmp x y ≡ Equal };
 }
 
 impl ParseKey for bool {
-    fn differ_in_text() {}
+    fn prove_key() {}
 }
 
 impl ParseKey for () {
-    fn differ_in_text() {}
+    fn prove_key() {}
 }
 
 impl ParseKey for u8 {
     #[tactic(auto, using(crate::proofs::NumberKeys::naturals_equal))]
-    fn differ_in_text() {}
+    fn prove_key() {}
 }
 
 impl ParseKey for u16 {
     #[tactic(auto, using(crate::proofs::NumberKeys::naturals_equal))]
-    fn differ_in_text() {}
+    fn prove_key() {}
 }
 
 impl ParseKey for u32 {
     #[tactic(auto, using(crate::proofs::NumberKeys::naturals_equal))]
-    fn differ_in_text() {}
+    fn prove_key() {}
 }
 
 impl ParseKey for u64 {
     #[tactic(auto, using(crate::proofs::NumberKeys::naturals_equal))]
-    fn differ_in_text() {}
+    fn prove_key() {}
 }
 
 impl ParseKey for u128 {
     #[tactic(auto, using(crate::proofs::NumberKeys::naturals_equal))]
-    fn differ_in_text() {}
+    fn prove_key() {}
 }
 
 impl ParseKey for usize {
     #[tactic(auto, using(crate::proofs::NumberKeys::naturals_equal))]
-    fn differ_in_text() {}
+    fn prove_key() {}
 }
 
 impl ParseKey for i8 {
     #[tactic(auto, using(crate::proofs::NumberKeys::integers_equal))]
-    fn differ_in_text() {}
+    fn prove_key() {}
 }
 
 impl ParseKey for i16 {
     #[tactic(auto, using(crate::proofs::NumberKeys::integers_equal))]
-    fn differ_in_text() {}
+    fn prove_key() {}
 }
 
 impl ParseKey for i32 {
     #[tactic(auto, using(crate::proofs::NumberKeys::integers_equal))]
-    fn differ_in_text() {}
+    fn prove_key() {}
 }
 
 impl ParseKey for i64 {
     #[tactic(auto, using(crate::proofs::NumberKeys::integers_equal))]
-    fn differ_in_text() {}
+    fn prove_key() {}
 }
 
 impl ParseKey for i128 {
     #[tactic(auto, using(crate::proofs::NumberKeys::integers_equal))]
-    fn differ_in_text() {}
+    fn prove_key() {}
 }
 
 impl ParseKey for isize {
     #[tactic(auto, using(crate::proofs::NumberKeys::integers_equal))]
-    fn differ_in_text() {}
+    fn prove_key() {}
 }
 
 impl ParseKey for char {
-    fn differ_in_text() {}
+    fn prove_key() {}
 }
 
 impl ParseKey for String {
-    fn differ_in_text() {}
+    fn prove_key() {}
 }
 
 impl<K: ParseKey> ParseKey for Option<K> {
-    fn differ_in_text() {
-        K::differ_in_text();
+    fn prove_key() {
+        K::prove_key();
     }
 }
 
 impl<K: ParseKey, L: ParseKey> ParseKey for Result<K, L> {
-    fn differ_in_text() {
-        K::differ_in_text();
-        L::differ_in_text();
+    fn prove_key() {
+        K::prove_key();
+        L::prove_key();
     }
 }
 
 impl<K: ParseKey> ParseKey for Box<K> {
-    fn differ_in_text() {
-        K::differ_in_text();
+    fn prove_key() {
+        K::prove_key();
     }
 }
 
 impl<K: ParseKey> ParseKey for Vec<K> {
-    fn differ_in_text() {
-        K::differ_in_text();
+    fn prove_key() {
+        K::prove_key();
     }
 }
 
 impl<K: ParseKey, const N: usize> ParseKey for [K; N] {
-    fn differ_in_text() {
-        K::differ_in_text();
+    fn prove_key() {
+        K::prove_key();
     }
 }

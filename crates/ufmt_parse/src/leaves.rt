@@ -11,7 +11,7 @@ use ufmt_doc::doc::Doc;
 impl uParse for bool {
     ghost is_value = { λ _. ⊤ };
 
-    fn holds(&self) {}
+    fn prove_value(&self) {}
 
     fn from_doc(_alloc: Global, doc: &Doc) -> Result<Option<bool>, AllocError> {
         match doc.as_leaf() {
@@ -25,7 +25,7 @@ impl uParse for bool {
 impl uParse for () {
     ghost is_value = { λ _. ⊤ };
 
-    fn holds(&self) {}
+    fn prove_value(&self) {}
 
     fn from_doc(_alloc: Global, doc: &Doc) -> Result<Option<()>, AllocError> {
         match doc.as_leaf() {
@@ -38,7 +38,7 @@ impl uParse for () {
 impl uParse for String {
     ghost is_value = { λ _. ⊤ };
 
-    fn holds(&self) {}
+    fn prove_value(&self) {}
 
     fn from_doc(alloc: Global, doc: &Doc) -> Result<Option<String>, AllocError> {
         match first_byte(doc) {
@@ -51,7 +51,7 @@ impl uParse for String {
 impl uParse for char {
     ghost is_value = { IsScalar };
 
-    fn holds(&self) {
+    fn prove_value(&self) {
         let _character = *self;
     }
 

@@ -7,7 +7,7 @@ ghost use Rattle.ufmt.specs.Document.{Document};
 ghost use Rattle.ufmt.specs.Layout.{plain_text, pretty_text};
 ghost use Rattle.ufmt.specs.Token.{IsTokenDocument, normal};
 ghost use Rattle.ufmt_doc.specs.Doc.{doc_document};
-ghost use Rattle.ufmt_parse.specs.Again.{printed};
+ghost use Rattle.ufmt_parse.specs.RoundTrip.{printed};
 ghost use Rattle.ufmt_parse.specs.Finds.{Finds, FindsParts};
 
 mod collections;
@@ -24,7 +24,7 @@ mod structs;
 mod tuples;
 
 pub use collections::parse_each;
-pub use depth::{Depth, Holds};
+pub use depth::{Depth, ProvesValue};
 pub use fields::{FieldParsers, is_name, struct_fields, tuple_fields};
 pub use keys::ParseKey;
 pub use parsers::{Boxed, Each, Optional, ParsesBy, Plain};
@@ -46,8 +46,8 @@ pub trait uParse: uDebug + Drop {
     /// What holds of each value that a program has, as that a number is in its type's range.
     ghost is_value: { Self → Type 0 };
 
-    /// Shows that `is_value` holds, by `holds` of each field that it speaks of.
-    fn holds(&self)
+    /// Shows that `is_value` holds, by `prove_value` of each field that it speaks of.
+    fn prove_value(&self)
         ensures { is_value self.now };
 
     /// Returns a value whose document has this normal form, or `None` if no value's document has it.
@@ -109,40 +109,40 @@ pub fn parse_pretty<T: uParse>(alloc: Global, text: &[u8]) -> Result<T, ReadErro
 
 /// Prints a value and parses its text. The value comes back, up to its text, and up to its document's
 /// normal form if that is a token document. Then it never fails with `NotText`.
-pub fn again<T: uParse>(alloc: Global, value: &T) -> Result<T, ReadError>
-    ensures text { IfOk result (λ again.
-        plain_text (T.document again) ≡ plain_text (T.document value.now)) }
-    ensures same { IsTokenDocument (T.document value.now) → IfOk result (λ again.
-        normal (T.document again) ≡ normal (T.document value.now)) }
+pub fn round_trip<T: uParse>(alloc: Global, value: &T) -> Result<T, ReadError>
+    ensures text { IfOk result (λ parsed.
+        plain_text (T.document parsed) ≡ plain_text (T.document value.now)) }
+    ensures same { IsTokenDocument (T.document value.now) → IfOk result (λ parsed.
+        normal (T.document parsed) ≡ normal (T.document value.now)) }
     ensures is_text { IsTokenDocument (T.document value.now) → IsErrOf result ReadError.NotText → ⊥ }
 {
-    value.holds();
+    value.prove_value();
     let text = plain_text(alloc, value)?;
     parse(alloc, text.as_bytes())
 }
 
 /// Prints a value to the front of a buffer, as `debug_into` does, and parses it from there. The value
-/// comes back as from `again`. Returns `None` if its text doesn't fit, and fails only if it does.
-pub fn again_in<T: uParse>(
+/// comes back as from `round_trip`. Returns `None` if its text doesn't fit, and fails only if it does.
+pub fn round_trip_in<T: uParse>(
     alloc: Global,
     buffer: &mut [u8],
     value: &T,
 ) -> Result<Option<T>, ReadError>
-    ensures text { IfOk result (λ outcome. IfSome outcome (λ again.
-        plain_text (T.document again) ≡ plain_text (T.document value.now))) }
-    ensures same { IsTokenDocument (T.document value.now) → IfOk result (λ outcome. IfSome outcome (λ again.
-        normal (T.document again) ≡ normal (T.document value.now))) }
+    ensures text { IfOk result (λ outcome. IfSome outcome (λ parsed.
+        plain_text (T.document parsed) ≡ plain_text (T.document value.now))) }
+    ensures same { IsTokenDocument (T.document value.now) → IfOk result (λ outcome. IfSome outcome (λ parsed.
+        normal (T.document parsed) ≡ normal (T.document value.now))) }
     ensures fits { IfOk result (λ outcome. (outcome ≡ None)
         ↔ (length buffer.old < length (plain_text (T.document value.now)))) }
     ensures is_text { IsTokenDocument (T.document value.now) → IsErrOf result ReadError.NotText → ⊥ }
     ensures front { Fronts buffer.old (plain_text (T.document value.now))
         (printed (plain_text (T.document value.now)) result) buffer.new }
 {
-    value.holds();
+    value.prove_value();
     match debug_into(buffer, value) {
         Ok(length) => {
-            let again = parse(alloc, &buffer[..length])?;
-            Ok(Some(again))
+            let parsed = parse(alloc, &buffer[..length])?;
+            Ok(Some(parsed))
         }
         Err(_) => Ok(None),
     }

@@ -14,7 +14,7 @@ use ufmt_doc::doc::Doc;
 impl uParse for NonZeroU8 {
     ghost is_value = { is_non_zero_u8 };
 
-    fn holds(&self) {
+    fn prove_value(&self) {
         let _n = self.get();
     }
 
@@ -29,7 +29,7 @@ impl uParse for NonZeroU8 {
 impl uParse for NonZeroU16 {
     ghost is_value = { is_non_zero_u16 };
 
-    fn holds(&self) {
+    fn prove_value(&self) {
         let _n = self.get();
     }
 
@@ -44,7 +44,7 @@ impl uParse for NonZeroU16 {
 impl uParse for NonZeroU32 {
     ghost is_value = { is_non_zero_u32 };
 
-    fn holds(&self) {
+    fn prove_value(&self) {
         let _n = self.get();
     }
 
@@ -59,7 +59,7 @@ impl uParse for NonZeroU32 {
 impl uParse for NonZeroU64 {
     ghost is_value = { is_non_zero_u64 };
 
-    fn holds(&self) {
+    fn prove_value(&self) {
         let _n = self.get();
     }
 
@@ -74,7 +74,7 @@ impl uParse for NonZeroU64 {
 impl uParse for NonZeroUsize {
     ghost is_value = { is_non_zero_usize };
 
-    fn holds(&self) {
+    fn prove_value(&self) {
         let _n = self.get();
     }
 
@@ -89,7 +89,7 @@ impl uParse for NonZeroUsize {
 impl uParse for NonZeroI8 {
     ghost is_value = { is_non_zero_i8 };
 
-    fn holds(&self) {
+    fn prove_value(&self) {
         let _n = self.get();
     }
 
@@ -104,7 +104,7 @@ impl uParse for NonZeroI8 {
 impl uParse for NonZeroI16 {
     ghost is_value = { is_non_zero_i16 };
 
-    fn holds(&self) {
+    fn prove_value(&self) {
         let _n = self.get();
     }
 
@@ -119,7 +119,7 @@ impl uParse for NonZeroI16 {
 impl uParse for NonZeroI32 {
     ghost is_value = { is_non_zero_i32 };
 
-    fn holds(&self) {
+    fn prove_value(&self) {
         let _n = self.get();
     }
 
@@ -134,7 +134,7 @@ impl uParse for NonZeroI32 {
 impl uParse for NonZeroI64 {
     ghost is_value = { is_non_zero_i64 };
 
-    fn holds(&self) {
+    fn prove_value(&self) {
         let _n = self.get();
     }
 
@@ -149,7 +149,7 @@ impl uParse for NonZeroI64 {
 impl uParse for NonZeroIsize {
     ghost is_value = { is_non_zero_isize };
 
-    fn holds(&self) {
+    fn prove_value(&self) {
         let _n = self.get();
     }
 

@@ -29,7 +29,7 @@ fn prints_as<T: uDebug>(value: &T, text: &str) -> bool
 impl uParse for u8 {
     ghost is_value = { is_u8 };
 
-    fn holds(&self) {
+    fn prove_value(&self) {
         let _n = *self;
     }
 
@@ -44,7 +44,7 @@ impl uParse for u8 {
 impl uParse for u16 {
     ghost is_value = { is_u16 };
 
-    fn holds(&self) {
+    fn prove_value(&self) {
         let _n = *self;
     }
 
@@ -59,7 +59,7 @@ impl uParse for u16 {
 impl uParse for u32 {
     ghost is_value = { is_u32 };
 
-    fn holds(&self) {
+    fn prove_value(&self) {
         let _n = *self;
     }
 
@@ -74,7 +74,7 @@ impl uParse for u32 {
 impl uParse for u64 {
     ghost is_value = { is_u64 };
 
-    fn holds(&self) {
+    fn prove_value(&self) {
         let _n = *self;
     }
 
@@ -92,7 +92,7 @@ impl uParse for u64 {
 impl uParse for u128 {
     ghost is_value = { is_u128 };
 
-    fn holds(&self) {
+    fn prove_value(&self) {
         let _n = *self;
     }
 
@@ -110,7 +110,7 @@ impl uParse for u128 {
 impl uParse for usize {
     ghost is_value = { is_usize };
 
-    fn holds(&self) {
+    fn prove_value(&self) {
         let _n = *self;
     }
 
@@ -125,7 +125,7 @@ impl uParse for usize {
 impl uParse for i8 {
     ghost is_value = { is_i8 };
 
-    fn holds(&self) {
+    fn prove_value(&self) {
         let _n = *self;
     }
 
@@ -140,7 +140,7 @@ impl uParse for i8 {
 impl uParse for i16 {
     ghost is_value = { is_i16 };
 
-    fn holds(&self) {
+    fn prove_value(&self) {
         let _n = *self;
     }
 
@@ -155,7 +155,7 @@ impl uParse for i16 {
 impl uParse for i32 {
     ghost is_value = { is_i32 };
 
-    fn holds(&self) {
+    fn prove_value(&self) {
         let _n = *self;
     }
 
@@ -170,7 +170,7 @@ impl uParse for i32 {
 impl uParse for i64 {
     ghost is_value = { is_i64 };
 
-    fn holds(&self) {
+    fn prove_value(&self) {
         let _n = *self;
     }
 
@@ -188,7 +188,7 @@ impl uParse for i64 {
 impl uParse for i128 {
     ghost is_value = { is_i128 };
 
-    fn holds(&self) {
+    fn prove_value(&self) {
         let _n = *self;
     }
 
@@ -206,7 +206,7 @@ impl uParse for i128 {
 impl uParse for isize {
     ghost is_value = { is_isize };
 
-    fn holds(&self) {
+    fn prove_value(&self) {
         let _n = *self;
     }
 

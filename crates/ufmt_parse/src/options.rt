@@ -10,10 +10,10 @@ use ufmt_doc::doc::Doc;
 impl<T: uParse> uParse for Option<T> {
     ghost is_value = { λ o. IfSome o T.is_value };
 
-    fn holds(&self) {
+    fn prove_value(&self) {
         match self {
             None => {}
-            Some(value) => value.holds(),
+            Some(value) => value.prove_value(),
         }
     }
 
@@ -25,10 +25,10 @@ impl<T: uParse> uParse for Option<T> {
 impl<T: uParse, E: uParse> uParse for Result<T, E> {
     ghost is_value = { elim [ Ok x ↦ T.is_value x | Err e ↦ E.is_value e ] };
 
-    fn holds(&self) {
+    fn prove_value(&self) {
         match self {
-            Ok(value) => value.holds(),
-            Err(error) => error.holds(),
+            Ok(value) => value.prove_value(),
+            Err(error) => error.prove_value(),
         }
     }
 
@@ -46,8 +46,8 @@ impl<T: uParse, E: uParse> uParse for Result<T, E> {
 impl<T: uParse> uParse for Box<T> {
     ghost is_value = { λ b. T.is_value b.value };
 
-    fn holds(&self) {
-        (**self).holds();
+    fn prove_value(&self) {
+        (**self).prove_value();
     }
 
     fn from_doc(alloc: Global, doc: &Doc) -> Result<Option<Box<T>>, AllocError> {

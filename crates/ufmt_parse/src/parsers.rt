@@ -17,8 +17,8 @@ pub trait ParsesBy<T: uDebug> {
     /// What holds of each value that a program has.
     ghost is_value: { T → Type 0 };
 
-    /// Shows that `is_value` holds, as `holds` of `uParse` does.
-    fn holds_of(&self, value: &T)
+    /// Shows that `is_value` holds, as `prove_value` of `uParse` does.
+    fn prove_value_of(&self, value: &T)
         ensures { is_value value.now };
 
     /// Returns a value whose document has this normal form, as `from_doc` of `uParse` does.
@@ -30,8 +30,8 @@ pub trait ParsesBy<T: uDebug> {
 impl<T: uDebug, P: ParsesBy<T>> ParsesBy<T> for Box<P> {
     ghost is_value = { P.is_value };
 
-    fn holds_of(&self, value: &T) {
-        (**self).holds_of(value);
+    fn prove_value_of(&self, value: &T) {
+        (**self).prove_value_of(value);
     }
 
     fn parse_by(&self, alloc: Global, doc: &Doc) -> Result<Option<T>, AllocError> {
@@ -42,8 +42,8 @@ impl<T: uDebug, P: ParsesBy<T>> ParsesBy<T> for Box<P> {
 impl<T: uDebug, P: ParsesBy<T>> ParsesBy<T> for &P {
     ghost is_value = { P.is_value };
 
-    fn holds_of(&self, value: &T) {
-        (**self).holds_of(value);
+    fn prove_value_of(&self, value: &T) {
+        (**self).prove_value_of(value);
     }
 
     fn parse_by(&self, alloc: Global, doc: &Doc) -> Result<Option<T>, AllocError> {
@@ -58,8 +58,8 @@ pub struct Plain;
 impl<T: uParse> ParsesBy<T> for Plain {
     ghost is_value = { T.is_value };
 
-    fn holds_of(&self, value: &T) {
-        value.holds();
+    fn prove_value_of(&self, value: &T) {
+        value.prove_value();
     }
 
     fn parse_by(&self, alloc: Global, doc: &Doc) -> Result<Option<T>, AllocError> {
@@ -74,8 +74,8 @@ pub struct Boxed<P>(pub P);
 impl<T: uDebug + Drop, P: ParsesBy<T>> ParsesBy<Box<T>> for Boxed<P> {
     ghost is_value = { λ b. P.is_value b.value };
 
-    fn holds_of(&self, value: &Box<T>) {
-        self.0.holds_of(&**value);
+    fn prove_value_of(&self, value: &Box<T>) {
+        self.0.prove_value_of(&**value);
     }
 
     fn parse_by(&self, alloc: Global, doc: &Doc) -> Result<Option<Box<T>>, AllocError> {
@@ -93,10 +93,10 @@ pub struct Optional<P>(pub P);
 impl<T: uDebug + Drop, P: ParsesBy<T>> ParsesBy<Option<T>> for Optional<P> {
     ghost is_value = { λ o. IfSome o P.is_value };
 
-    fn holds_of(&self, value: &Option<T>) {
+    fn prove_value_of(&self, value: &Option<T>) {
         match value {
             None => {}
-            Some(value) => self.0.holds_of(value),
+            Some(value) => self.0.prove_value_of(value),
         }
     }
 
@@ -119,9 +119,9 @@ impl<T: uDebug + Drop, P: ParsesBy<T>> ParsesBy<Vec<T>> for Each<P> {
     ghost is_value = { λ values. AllByRecursion P.is_value values.items };
 
     #[tactic(auto, using(crate::proofs::Layers::each_of))]
-    fn holds_of(&self, values: &Vec<T>) {
+    fn prove_value_of(&self, values: &Vec<T>) {
         for value in values.iter() {
-            self.0.holds_of(value);
+            self.0.prove_value_of(value);
         }
     }
 

@@ -375,8 +375,8 @@ pub fn parse_tuple_12<
 impl<A: uParse> uParse for (A,) {
     ghost is_value = { λ t. A.is_value t.0 };
 
-    fn holds(&self) {
-        self.0.holds();
+    fn prove_value(&self) {
+        self.0.prove_value();
     }
 
     fn from_doc(alloc: Global, doc: &Doc) -> Result<Option<(A,)>, AllocError> {
@@ -390,9 +390,9 @@ impl<A: uParse> uParse for (A,) {
 impl<A: uParse, B: uParse> uParse for (A, B) {
     ghost is_value = { λ t. A.is_value t.0 × B.is_value t.1 };
 
-    fn holds(&self) {
-        self.0.holds();
-        self.1.holds();
+    fn prove_value(&self) {
+        self.0.prove_value();
+        self.1.prove_value();
     }
 
     fn from_doc(alloc: Global, doc: &Doc) -> Result<Option<(A, B)>, AllocError> {
@@ -406,10 +406,10 @@ impl<A: uParse, B: uParse> uParse for (A, B) {
 impl<A: uParse, B: uParse, C: uParse> uParse for (A, B, C) {
     ghost is_value = { λ t. A.is_value t.0 × B.is_value t.1 × C.is_value t.2 };
 
-    fn holds(&self) {
-        self.0.holds();
-        self.1.holds();
-        self.2.holds();
+    fn prove_value(&self) {
+        self.0.prove_value();
+        self.1.prove_value();
+        self.2.prove_value();
     }
 
     fn from_doc(alloc: Global, doc: &Doc) -> Result<Option<(A, B, C)>, AllocError> {
@@ -423,11 +423,11 @@ impl<A: uParse, B: uParse, C: uParse> uParse for (A, B, C) {
 impl<A: uParse, B: uParse, C: uParse, D: uParse> uParse for (A, B, C, D) {
     ghost is_value = { λ t. A.is_value t.0 × B.is_value t.1 × C.is_value t.2 × D.is_value t.3 };
 
-    fn holds(&self) {
-        self.0.holds();
-        self.1.holds();
-        self.2.holds();
-        self.3.holds();
+    fn prove_value(&self) {
+        self.0.prove_value();
+        self.1.prove_value();
+        self.2.prove_value();
+        self.3.prove_value();
     }
 
     fn from_doc(alloc: Global, doc: &Doc) -> Result<Option<(A, B, C, D)>, AllocError> {
@@ -441,12 +441,12 @@ impl<A: uParse, B: uParse, C: uParse, D: uParse> uParse for (A, B, C, D) {
 impl<A: uParse, B: uParse, C: uParse, D: uParse, E: uParse> uParse for (A, B, C, D, E) {
     ghost is_value = { λ t. A.is_value t.0 × B.is_value t.1 × C.is_value t.2 × D.is_value t.3 × E.is_value t.4 };
 
-    fn holds(&self) {
-        self.0.holds();
-        self.1.holds();
-        self.2.holds();
-        self.3.holds();
-        self.4.holds();
+    fn prove_value(&self) {
+        self.0.prove_value();
+        self.1.prove_value();
+        self.2.prove_value();
+        self.3.prove_value();
+        self.4.prove_value();
     }
 
     fn from_doc(alloc: Global, doc: &Doc) -> Result<Option<(A, B, C, D, E)>, AllocError> {
@@ -461,13 +461,13 @@ impl<A: uParse, B: uParse, C: uParse, D: uParse, E: uParse, F: uParse> uParse
     for (A, B, C, D, E, F) {
     ghost is_value = { λ t. A.is_value t.0 × B.is_value t.1 × C.is_value t.2 × D.is_value t.3 × E.is_value t.4 × F.is_value t.5 };
 
-    fn holds(&self) {
-        self.0.holds();
-        self.1.holds();
-        self.2.holds();
-        self.3.holds();
-        self.4.holds();
-        self.5.holds();
+    fn prove_value(&self) {
+        self.0.prove_value();
+        self.1.prove_value();
+        self.2.prove_value();
+        self.3.prove_value();
+        self.4.prove_value();
+        self.5.prove_value();
     }
 
     fn from_doc(alloc: Global, doc: &Doc) -> Result<Option<(A, B, C, D, E, F)>, AllocError> {
@@ -482,14 +482,14 @@ impl<A: uParse, B: uParse, C: uParse, D: uParse, E: uParse, F: uParse, G: uParse
     for (A, B, C, D, E, F, G) {
     ghost is_value = { λ t. A.is_value t.0 × B.is_value t.1 × C.is_value t.2 × D.is_value t.3 × E.is_value t.4 × F.is_value t.5 × G.is_value t.6 };
 
-    fn holds(&self) {
-        self.0.holds();
-        self.1.holds();
-        self.2.holds();
-        self.3.holds();
-        self.4.holds();
-        self.5.holds();
-        self.6.holds();
+    fn prove_value(&self) {
+        self.0.prove_value();
+        self.1.prove_value();
+        self.2.prove_value();
+        self.3.prove_value();
+        self.4.prove_value();
+        self.5.prove_value();
+        self.6.prove_value();
     }
 
     fn from_doc(alloc: Global, doc: &Doc) -> Result<Option<(A, B, C, D, E, F, G)>, AllocError> {
@@ -504,15 +504,15 @@ impl<A: uParse, B: uParse, C: uParse, D: uParse, E: uParse, F: uParse, G: uParse
     for (A, B, C, D, E, F, G, H) {
     ghost is_value = { λ t. A.is_value t.0 × B.is_value t.1 × C.is_value t.2 × D.is_value t.3 × E.is_value t.4 × F.is_value t.5 × G.is_value t.6 × H.is_value t.7 };
 
-    fn holds(&self) {
-        self.0.holds();
-        self.1.holds();
-        self.2.holds();
-        self.3.holds();
-        self.4.holds();
-        self.5.holds();
-        self.6.holds();
-        self.7.holds();
+    fn prove_value(&self) {
+        self.0.prove_value();
+        self.1.prove_value();
+        self.2.prove_value();
+        self.3.prove_value();
+        self.4.prove_value();
+        self.5.prove_value();
+        self.6.prove_value();
+        self.7.prove_value();
     }
 
     fn from_doc(alloc: Global, doc: &Doc) -> Result<Option<(A, B, C, D, E, F, G, H)>, AllocError> {
@@ -536,16 +536,16 @@ impl<
 > uParse for (A, B, C, D, E, F, G, H, I) {
     ghost is_value = { λ t. A.is_value t.0 × B.is_value t.1 × C.is_value t.2 × D.is_value t.3 × E.is_value t.4 × F.is_value t.5 × G.is_value t.6 × H.is_value t.7 × I.is_value t.8 };
 
-    fn holds(&self) {
-        self.0.holds();
-        self.1.holds();
-        self.2.holds();
-        self.3.holds();
-        self.4.holds();
-        self.5.holds();
-        self.6.holds();
-        self.7.holds();
-        self.8.holds();
+    fn prove_value(&self) {
+        self.0.prove_value();
+        self.1.prove_value();
+        self.2.prove_value();
+        self.3.prove_value();
+        self.4.prove_value();
+        self.5.prove_value();
+        self.6.prove_value();
+        self.7.prove_value();
+        self.8.prove_value();
     }
 
     fn from_doc(
@@ -573,17 +573,17 @@ impl<
 > uParse for (A, B, C, D, E, F, G, H, I, J) {
     ghost is_value = { λ t. A.is_value t.0 × B.is_value t.1 × C.is_value t.2 × D.is_value t.3 × E.is_value t.4 × F.is_value t.5 × G.is_value t.6 × H.is_value t.7 × I.is_value t.8 × J.is_value t.9 };
 
-    fn holds(&self) {
-        self.0.holds();
-        self.1.holds();
-        self.2.holds();
-        self.3.holds();
-        self.4.holds();
-        self.5.holds();
-        self.6.holds();
-        self.7.holds();
-        self.8.holds();
-        self.9.holds();
+    fn prove_value(&self) {
+        self.0.prove_value();
+        self.1.prove_value();
+        self.2.prove_value();
+        self.3.prove_value();
+        self.4.prove_value();
+        self.5.prove_value();
+        self.6.prove_value();
+        self.7.prove_value();
+        self.8.prove_value();
+        self.9.prove_value();
     }
 
     fn from_doc(
@@ -612,18 +612,18 @@ impl<
 > uParse for (A, B, C, D, E, F, G, H, I, J, K) {
     ghost is_value = { λ t. A.is_value t.0 × B.is_value t.1 × C.is_value t.2 × D.is_value t.3 × E.is_value t.4 × F.is_value t.5 × G.is_value t.6 × H.is_value t.7 × I.is_value t.8 × J.is_value t.9 × K.is_value t.10 };
 
-    fn holds(&self) {
-        self.0.holds();
-        self.1.holds();
-        self.2.holds();
-        self.3.holds();
-        self.4.holds();
-        self.5.holds();
-        self.6.holds();
-        self.7.holds();
-        self.8.holds();
-        self.9.holds();
-        self.10.holds();
+    fn prove_value(&self) {
+        self.0.prove_value();
+        self.1.prove_value();
+        self.2.prove_value();
+        self.3.prove_value();
+        self.4.prove_value();
+        self.5.prove_value();
+        self.6.prove_value();
+        self.7.prove_value();
+        self.8.prove_value();
+        self.9.prove_value();
+        self.10.prove_value();
     }
 
     fn from_doc(
@@ -653,19 +653,19 @@ impl<
 > uParse for (A, B, C, D, E, F, G, H, I, J, K, L) {
     ghost is_value = { λ t. A.is_value t.0 × B.is_value t.1 × C.is_value t.2 × D.is_value t.3 × E.is_value t.4 × F.is_value t.5 × G.is_value t.6 × H.is_value t.7 × I.is_value t.8 × J.is_value t.9 × K.is_value t.10 × L.is_value t.11 };
 
-    fn holds(&self) {
-        self.0.holds();
-        self.1.holds();
-        self.2.holds();
-        self.3.holds();
-        self.4.holds();
-        self.5.holds();
-        self.6.holds();
-        self.7.holds();
-        self.8.holds();
-        self.9.holds();
-        self.10.holds();
-        self.11.holds();
+    fn prove_value(&self) {
+        self.0.prove_value();
+        self.1.prove_value();
+        self.2.prove_value();
+        self.3.prove_value();
+        self.4.prove_value();
+        self.5.prove_value();
+        self.6.prove_value();
+        self.7.prove_value();
+        self.8.prove_value();
+        self.9.prove_value();
+        self.10.prove_value();
+        self.11.prove_value();
     }
 
     fn from_doc(

@@ -1,28 +1,28 @@
-//! Tests of `again`, `again_in`, `is_name` and `parse_struct_1` to `parse_struct_12`.
+//! Tests of `round_trip`, `round_trip_in`, `is_name` and `parse_struct_1` to `parse_struct_12`.
 use super::same;
 use std::alloc::{AllocError, Global};
 use ufmt_doc::doc::Doc;
 use ufmt_doc::plain_reader::read_plain;
 use ufmt_parse::{
-    again, again_in, is_name, parse_struct_1, parse_struct_2, parse_struct_3, parse_struct_4,
+    is_name, parse_struct_1, parse_struct_2, parse_struct_3, parse_struct_4,
     parse_struct_5, parse_struct_6, parse_struct_7, parse_struct_8, parse_struct_9,
-    parse_struct_10, parse_struct_11, parse_struct_12,
+    parse_struct_10, parse_struct_11, parse_struct_12, round_trip, round_trip_in,
 };
 
 #[test]
-fn again_returns_the_value(rt: HostRuntime) {
+fn round_trip_returns_the_value(rt: HostRuntime) {
     let value = 7u8;
-    same(&rt, again(rt.alloc(), &value).ok(), Some(7), "7");
+    same(&rt, round_trip(rt.alloc(), &value).ok(), Some(7), "7");
 }
 
 // What comes back by way of a buffer of so many bytes.
 fn in_bytes(alloc: Global, value: u8, bytes: usize) -> Option<Option<u8>> {
     let mut buffer = [0; 3];
-    again_in(alloc, buffer.get_mut(..bytes)?, &value).ok()
+    round_trip_in(alloc, buffer.get_mut(..bytes)?, &value).ok()
 }
 
 #[test]
-fn again_in_returns_the_value_if_its_text_fits(rt: HostRuntime) {
+fn round_trip_in_returns_the_value_if_its_text_fits(rt: HostRuntime) {
     let alloc = rt.alloc();
     let rows = [
         (7, 0, None),

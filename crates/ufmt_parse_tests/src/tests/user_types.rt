@@ -41,10 +41,10 @@ impl<T: uDebug> uDebug for Entry<T> {
 impl<T: uParse> uParse for Entry<T> {
     ghost is_value = { λ e. is_u8 e.id × is_u64 e.time × T.is_value e.value };
 
-    fn holds(&self) {
-        self.id.holds();
-        self.time.holds();
-        self.value.holds();
+    fn prove_value(&self) {
+        self.id.prove_value();
+        self.time.prove_value();
+        self.value.prove_value();
     }
 
     fn from_doc(alloc: Global, doc: &Doc) -> Result<Option<Entry<T>>, AllocError> {
@@ -76,9 +76,9 @@ impl uDebug for Both {
 impl uParse for Both {
     ghost is_value = { λ b. is_u8 b.0 × is_u64 b.1 };
 
-    fn holds(&self) {
-        self.0.holds();
-        self.1.holds();
+    fn prove_value(&self) {
+        self.0.prove_value();
+        self.1.prove_value();
     }
 
     fn from_doc(alloc: Global, doc: &Doc) -> Result<Option<Both>, AllocError> {
@@ -137,20 +137,20 @@ impl<T: uParse> uParse for Eight<T> {
       | H ↦ ⊤
     ] };
 
-    fn holds(&self) {
+    fn prove_value(&self) {
         match self {
             Eight::A | Eight::D | Eight::H => {}
-            Eight::B(a) => a.holds(),
+            Eight::B(a) => a.prove_value(),
             Eight::C(a, b) => {
-                a.holds();
-                b.holds();
+                a.prove_value();
+                b.prove_value();
             }
             Eight::E { x, y } => {
-                x.holds();
-                y.holds();
+                x.prove_value();
+                y.prove_value();
             }
-            Eight::F(a) => a.holds(),
-            Eight::G { z } => z.holds(),
+            Eight::F(a) => a.prove_value(),
+            Eight::G { z } => z.prove_value(),
         }
     }
 

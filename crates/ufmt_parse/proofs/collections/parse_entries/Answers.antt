@@ -15,8 +15,8 @@ returns-then-not-is_past_map g c = λ entries value same.
     let found = MatchOption-at_some _ _ c.in-Some-2.value c.in-Some-2.is c.in_ok-value.ensures in
     let below = in_order g.met.K.Ord.total (λ entry. entry.0) (IsEntry g.K.uParse.is_value g.V.uParse.is_value)
     (entry_parts g.K.uDebug.document g.V.uDebug.document)
-    (λ x y is_x is_y same. c.differ_in_text.ensures x.0 y.0 is_x.0 is_y.0 (ap (λ parts. parts.0) same)) pair_view c.args.pairs.now c.loop-key.key-index c.loop-key-item.result (omega arith) c.loop-key-item.is
-    c.loop-key.map.entries (c.in-Some.key, c.in-Some-2.value) c.loop-key.invariant.same (ap₂ (λ k v. (k, v)) key found) c.loop-key.invariant.values (c.holds.ensures, c.holds-in-loop-key.ensures)
+    (λ x y is_x is_y same. c.prove_key.ensures x.0 y.0 is_x.0 is_y.0 (ap (λ parts. parts.0) same)) pair_view c.args.pairs.now c.loop-key.key-index c.loop-key-item.result (omega arith) c.loop-key-item.is
+    c.loop-key.map.entries (c.in-Some.key, c.in-Some-2.value) c.loop-key.invariant.same (ap₂ (λ k v. (k, v)) key found) c.loop-key.invariant.values (c.prove_value.ensures, c.prove_value-in-loop-key.ensures)
     entries value.0 value.1 same in
     true≢false (sym (c.is_past_map.ensures.1 below) ∙ c.if-not-is_past_map.true)
 
@@ -39,6 +39,6 @@ loop-key-preserved g c =
     record {
       same = grind (arith, common_steps);
       values = subst (All (IsEntry g.K.uParse.is_value g.V.uParse.is_value)) (sym entries)
-          (All-push (IsEntry g.K.uParse.is_value g.V.uParse.is_value) c.loop-key.map.entries (c.in-Some.key, c.in-Some-2.value) c.loop-key.invariant.values (c.holds.ensures, c.holds-in-loop-key.ensures));
+          (All-push (IsEntry g.K.uParse.is_value g.V.uParse.is_value) c.loop-key.map.entries (c.in-Some.key, c.in-Some-2.value) c.loop-key.invariant.values (c.prove_value.ensures, c.prove_value-in-loop-key.ensures));
       ordered = c.in_ok-insert.ensures.ordered;
     }

@@ -16,8 +16,8 @@ pub returns-then-not-is_past_set : goal.returns-then-not-is_past_set
 returns-then-not-is_past_set g c = λ keys value same.
     let found = MatchOption-at_some _ _ c.in-Some.key c.in-Some.is c.in_ok-key.ensures in
     let sorted = subst (IsStrictlySortedBy g.T.Ord.cmp) (sym (map-id keys)) value.1 in
-    let below = in_order g.met.T.Ord.total (λ key. key) g.T.uParse.is_value (λ key. normal (g.T.uDebug.document key)) c.differ_in_text.ensures doc_document c.args.docs.now c.loop-doc.doc-index
-    c.doc-item.result (omega arith) c.doc-item.is c.loop-doc.set.keys c.in-Some.key c.loop-doc.invariant.same found c.loop-doc.invariant.values c.holds.ensures keys value.0 sorted same in
+    let below = in_order g.met.T.Ord.total (λ key. key) g.T.uParse.is_value (λ key. normal (g.T.uDebug.document key)) c.prove_key.ensures doc_document c.args.docs.now c.loop-doc.doc-index
+    c.doc-item.result (omega arith) c.doc-item.is c.loop-doc.set.keys c.in-Some.key c.loop-doc.invariant.same found c.loop-doc.invariant.values c.prove_value.ensures keys value.0 sorted same in
     let past = c.is_past_set.ensures.1 (subst (All (λ before. g.T.Ord.cmp before c.in-Some.key ≡ Less)) (map-id c.loop-doc.set.keys) below) in
     true≢false (sym past ∙ c.if-not-is_past_set.true)
 
@@ -32,6 +32,6 @@ loop-doc-preserved g c =
     ∙ insert_key-last g.met.T.Ord.total c.loop-doc.set.keys c.in-Some.key (c.is_past_set.ensures.0 c.if-not-is_past_set.false) in
     record {
       same = grind (arith, common_steps);
-      values = subst (All g.T.uParse.is_value) (sym keys) (All-push g.T.uParse.is_value c.loop-doc.set.keys c.in-Some.key c.loop-doc.invariant.values c.holds.ensures);
+      values = subst (All g.T.uParse.is_value) (sym keys) (All-push g.T.uParse.is_value c.loop-doc.set.keys c.in-Some.key c.loop-doc.invariant.values c.prove_value.ensures);
       ordered = c.in_ok-insert.ensures.ordered;
     }

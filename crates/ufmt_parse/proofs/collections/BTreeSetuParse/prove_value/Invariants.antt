@@ -1,5 +1,5 @@
 use Rattle.std.specs.Prelude.{All}
-use Rattle.ufmt_parse.proofs.collections.BTreeSetuParse.holds.Given as goal
+use Rattle.ufmt_parse.proofs.collections.BTreeSetuParse.prove_value.Given as goal
 
 -- it holds of each key if it holds of those to come
 abbrev pub invariant-loop-key : goal.invariant-loop-key

@@ -6,7 +6,7 @@ use Rattle.std.specs.Ordering.{nat_cmp}
 use Rattle.std.specs.Str.{chars, encode_utf8_all}
 use Rattle.ufmt.specs.Quoted.{quoted_text}
 use Rattle.ufmt.proofs.QuotedOneWay.{quoted_text_determines}
-use Rattle.ufmt_parse.proofs.keys.StringParseKey.differ_in_text.Goals as goal
+use Rattle.ufmt_parse.proofs.keys.StringParseKey.prove_key.Goals as goal
 
 pub returns : goal.returns
 returns c = λ x y _ _ same.

@@ -1,6 +1,6 @@
 use Rattle.std.specs.Prelude.{All}
 use Rattle.ufmt_parse.specs.Entries.{IsEntry}
-use Rattle.ufmt_parse.proofs.collections.BTreeMapuParse.holds.Given as goal
+use Rattle.ufmt_parse.proofs.collections.BTreeMapuParse.prove_value.Given as goal
 
 -- it holds of each entry if it holds of those to come
 abbrev pub invariant-loop-key : goal.invariant-loop-key

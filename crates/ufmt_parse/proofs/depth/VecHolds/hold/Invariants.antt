@@ -1,7 +1,0 @@
-use Rattle.std.proofs.Common.{take}
-use Rattle.std.specs.Prelude.{All}
-use Rattle.ufmt_parse.proofs.depth.VecHolds.hold.Given as goal
-
--- what `hold` shows has been shown of the values so far
-abbrev pub invariant-loop-value : goal.invariant-loop-value
-invariant-loop-value g l = All g.T.Holds.is_whole (take l.value-index l.self.items)
