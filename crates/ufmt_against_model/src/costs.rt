@@ -1,5 +1,5 @@
 //! Makes each call on a text by itself, between marks, so that its memory and its steps can be counted.
-//! `tools/trytexts/counter.c` counts them.
+//! `tools/lib/model/counter.c` counts them.
 use crate::calls::Calls;
 use std::alloc::{AllocError, Global};
 use std::collections::{BTreeMap, BTreeSet};

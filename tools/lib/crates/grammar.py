@@ -6,7 +6,7 @@ MORE_COUNTS = tuple(range(26))
 PARSED = range(1, 13)
 
 HEAD = """\
-//! Tests of the forms of macros, which tools/trycrates/grammar.py writes.
+//! Tests of the forms of macros, which tools/lib/crates/grammar.py writes.
 use super::page::{same_parts, writes};
 use std::alloc::Global;
 use ufmt::pieces::{Debug, Line};

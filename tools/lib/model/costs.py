@@ -33,7 +33,7 @@ def leaf_case(text):
 
 
 class Sample(NamedTuple):
-    """A text, and what is known of it in each half of a line of `ufmt_verdicts costs`."""
+    """A text, and what is known of it in each half of a line of `ufmt_against_model costs`."""
 
     name: str
     data: bytes

@@ -1,5 +1,5 @@
 //! Makes each call of the library, and prints how many allocations it makes and what it returned:
-//! the same as with ample memory, want of memory, or anything else. `tools/try-refusals` runs it
+//! the same as with ample memory, want of memory, or anything else. `tools/try-alloc-failures` runs it
 //! with one allocation after another refused, and counts.
 //!
 //! Standard input has the number of allocations that are made before the calls. With fewer of them,

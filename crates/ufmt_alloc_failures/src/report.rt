@@ -3,7 +3,7 @@ use crate::outcome::Outcome;
 use std::alloc::{AllocError, Global};
 use std::io;
 
-/// Prints a line on a call. `tools/try-refusals` compares its number with the runs in which the
+/// Prints a line on a call. `tools/try-alloc-failures` compares its number with the runs in which the
 /// call was refused an allocation.
 pub fn report(
     rt: &HostRuntime,

@@ -6,7 +6,7 @@ import pathlib
 import re
 import sys
 
-sys.path.insert(0, str(pathlib.Path(__file__).resolve().parent.parent / "trytexts"))
+sys.path.insert(0, str(pathlib.Path(__file__).resolve().parent.parent / "model"))
 
 from model import Block, PlainReader, PrettyReader, plain, pretty, quoted  # noqa: E402, F401
 
