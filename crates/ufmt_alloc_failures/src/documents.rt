@@ -1,6 +1,6 @@
 //! The calls on documents, texts and leaves that take no memory, and `unquoted`, which takes some.
-use crate::outcome::{Outcome, has_plain_text};
 use crate::loose::{loosen, read_twice};
+use crate::outcome::{Outcome, has_plain_text};
 use crate::report::{report, report_free};
 use crate::samples::{MANY_PLAIN, MANY_PRETTY};
 use std::alloc::{AllocError, Global};

@@ -1,6 +1,6 @@
 //! The laws of reading and writing that take memory.
-use crate::outcome::Outcome;
 use crate::loose::{loosen, read_twice};
+use crate::outcome::Outcome;
 use crate::report::report;
 use crate::samples::{NODE_PLAIN, NODE_PRETTY};
 use std::io;

@@ -6,11 +6,11 @@
 //! the one allocation that is refused in each run is a later one of the calls.
 #![tactic(auto)]
 
-mod outcome;
 mod calls;
 mod documents;
 mod laws;
 mod loose;
+mod outcome;
 mod parses;
 mod printed;
 mod report;

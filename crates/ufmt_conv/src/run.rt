@@ -5,16 +5,16 @@ ghost use Rattle.ufmt.specs.Layout.{plain_text, pretty_text};
 ghost use Rattle.ufmt_conv.specs.Output.{WritesOutput, WritesOutputPrefix, NoDocumentPrintsInput};
 ghost use Rattle.ufmt_io.specs.Watched.{device_of, has_failed};
 
-mod output;
 mod command;
 mod fault;
+mod output;
 #[cfg(test)]
 mod tests;
 
-use output::output_line;
-pub use output::line_lengths;
 pub use command::{Command, usage};
 pub use fault::Fault;
+pub use output::line_lengths;
+use output::output_line;
 use std::alloc::Global;
 use std::io::{Read, Write};
 pub use ufmt_io::{Failed, Watched};

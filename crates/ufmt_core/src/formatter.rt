@@ -6,8 +6,8 @@ ghost use Rattle.std.specs.Fn.{FnOnceReturnsAtMut};
 ghost use Rattle.ufmt_core.specs.declared.formatter.Formatter.{Formatter};
 ghost use Rattle.ufmt_core.specs.Formatter.{IsNew, Prints, at_setting, depth_of, in_pretty_mode, mode_of, setting_of, writer_of};
 
-mod frame;
 pub(crate) mod builder;
+mod frame;
 
 use crate::layout::{Mode, Setting};
 use crate::write::uWrite;

@@ -5,11 +5,11 @@ ghost use Rattle.ufmt_lines.specs.Output.{WritesOutput, WritesOutputPrefix, Read
 ghost use Rattle.ufmt_lines.specs.Groups.{IsInGroup};
 ghost use Rattle.ufmt_io.specs.Watched.{device_of, has_failed};
 
-mod output;
 mod arguments;
 mod fault;
 mod groups;
 pub mod laws;
+mod output;
 #[cfg(test)]
 mod tests;
 

@@ -198,7 +198,12 @@ fn parse_takes_one_argument(rt: HostRuntime) -> Result<(), Fail> {
         for argument in row {
             arguments.push(String::from_str(rt.alloc(), argument)?)?;
         }
-        same(&rt, (row, Command::parse(&arguments)), (row, command), "arguments");
+        same(
+            &rt,
+            (row, Command::parse(&arguments)),
+            (row, command),
+            "arguments",
+        );
     }
     Ok(())
 }

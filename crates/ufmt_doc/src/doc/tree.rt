@@ -74,8 +74,7 @@ impl<T: Subtree> Subtree for Vec<T> {
     ghost same = { λ v w. AllZip T.same v.items w.items };
 
     fn is_built_from_tokens(&self, deepest: u8) -> bool {
-        self.iter()
-            .all(|entry| deepest > 0 && entry.is_built_from_tokens(deepest - 1))
+        self.iter().all(|entry| deepest > 0 && entry.is_built_from_tokens(deepest - 1))
     }
 
     fn is_same(&self, other: &Vec<T>) -> bool {

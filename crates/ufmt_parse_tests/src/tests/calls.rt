@@ -4,9 +4,9 @@ use std::alloc::{AllocError, Global};
 use ufmt_doc::doc::Doc;
 use ufmt_doc::plain_reader::read_plain;
 use ufmt_parse::{
-    is_name, parse_struct_1, parse_struct_2, parse_struct_3, parse_struct_4,
-    parse_struct_5, parse_struct_6, parse_struct_7, parse_struct_8, parse_struct_9,
-    parse_struct_10, parse_struct_11, parse_struct_12, round_trip, round_trip_in,
+    is_name, parse_struct_1, parse_struct_2, parse_struct_3, parse_struct_4, parse_struct_5,
+    parse_struct_6, parse_struct_7, parse_struct_8, parse_struct_9, parse_struct_10,
+    parse_struct_11, parse_struct_12, round_trip, round_trip_in,
 };
 
 #[test]
