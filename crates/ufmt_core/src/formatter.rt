@@ -1,6 +1,6 @@
 //! The formatter: a writer, a mode and a depth.
 ghost use Rattle.std.specs.Prelude.{◌≡◌, ◌↔◌, ℕ, is_ok, encode_utf8, IsTrue};
-ghost use Rattle.ufmt_core.specs.declared.layout.Mode.TheVariants.{Pretty};
+ghost use Rattle.ufmt_core.specs.Layout.{Pretty};
 ghost use Rattle.std.specs.Borrow.{MutBor};
 ghost use Rattle.std.specs.Fn.{FnOnceReturnsAtMut};
 ghost use Rattle.ufmt_core.specs.declared.formatter.Formatter.{Formatter};

@@ -2,8 +2,7 @@
 //! An entry is its lead, its text and its trail. Formatters take these from here, and the scanner the
 //! text that begins a block.
 ghost use Rattle.std.specs.Prelude.{◌≡◌, ◌++◌, ℕ};
-ghost use Rattle.ufmt_core.specs.declared.layout.Mode.{Mode};
-ghost use Rattle.ufmt_core.specs.Layout.{frame, indentation, inside, line_start, new_line, next, later_lead, trail, tuple_kind};
+ghost use Rattle.ufmt_core.specs.Layout.{frame, indentation, inside, line_start, new_line, next, later_lead, trail, tuple_kind, Mode};
 
 /// Opens a list.
 pub const OPENING_BRACKET: &str = "[";

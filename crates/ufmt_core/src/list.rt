@@ -2,11 +2,10 @@
 ghost use Rattle.std.specs.Prelude.{List, codes, is_ok, map, true, IfOk, OnOk};
 ghost use Rattle.std.specs.Borrow.{sem};
 ghost use Rattle.std.specs.Iterator.{AlwaysYields, IsFiniteIterable};
-ghost use Rattle.ufmt_core.specs.declared.layout.Kind.TheVariants.{Brackets};
-ghost use Rattle.ufmt_core.specs.declared.formatter.builder.Status.TheVariants.{Lent};
+ghost use Rattle.ufmt_core.specs.Layout.{Brackets};
 ghost use Rattle.ufmt_core.specs.Document.{Document, documents, list_of};
 ghost use Rattle.ufmt_core.specs.Formatter.{LaysOut, Prints};
-ghost use Rattle.ufmt_core.specs.BuilderView.{WritesEntries, WritesEntry, EndsEntry, IsLent, IsOpen, WritesOpening, entry_text, lead_of};
+ghost use Rattle.ufmt_core.specs.BuilderView.{WritesEntries, WritesEntry, EndsEntry, IsLent, IsOpen, WritesOpening, entry_text, lead_of, Lent};
 ghost use Rattle.ufmt_core.specs.Builder.{LendsForEntry, OpeningLoan, view_of, list_view};
 
 use crate::formatter::Formatter;

@@ -2,11 +2,10 @@
 ghost use Rattle.std.specs.Prelude.{◌≡◌, List, codes, is_ok, map, true, Err, IfErr, IfOk, OnErr, OnOk};
 ghost use Rattle.std.specs.Borrow.{sem};
 ghost use Rattle.std.specs.Iterator.{AlwaysYields, IsFiniteIterable};
-ghost use Rattle.ufmt_core.specs.declared.layout.Kind.TheVariants.{Braces};
-ghost use Rattle.ufmt_core.specs.declared.formatter.builder.Status.TheVariants.{Lent, LentValue};
+ghost use Rattle.ufmt_core.specs.Layout.{Braces};
 ghost use Rattle.ufmt_core.specs.Document.{Document, map_of, pairs_of};
 ghost use Rattle.ufmt_core.specs.Formatter.{LaysOut, Prints};
-ghost use Rattle.ufmt_core.specs.BuilderView.{WritesEntries, WritesEntry, EndsEntry, IsLent, IsLentForValue, IsOpen, WritesOpening, inner_formatter, lead_of, pair_text};
+ghost use Rattle.ufmt_core.specs.BuilderView.{WritesEntries, WritesEntry, EndsEntry, IsLent, IsLentForValue, IsOpen, WritesOpening, inner_formatter, lead_of, pair_text, Lent, LentValue};
 ghost use Rattle.ufmt_core.specs.Builder.{LendsForKey, LendsForValue, OpeningLoan, map_view};
 
 use crate::formatter::Formatter;

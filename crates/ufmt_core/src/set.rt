@@ -2,7 +2,7 @@
 ghost use Rattle.std.specs.Prelude.{List, codes, is_ok, map, IfOk};
 ghost use Rattle.std.specs.Borrow.{sem};
 ghost use Rattle.std.specs.Iterator.{AlwaysYields, IsFiniteIterable};
-ghost use Rattle.ufmt_core.specs.declared.layout.Kind.TheVariants.{Braces};
+ghost use Rattle.ufmt_core.specs.Layout.{Braces};
 ghost use Rattle.ufmt_core.specs.Document.{Document, documents, set_of};
 ghost use Rattle.ufmt_core.specs.Formatter.{LaysOut};
 ghost use Rattle.ufmt_core.specs.BuilderView.{IsOpen, WritesOpening};

@@ -1,10 +1,9 @@
 //! The builder of structs.
 ghost use Rattle.std.specs.Prelude.{is_ok, true, IfOk, OnOk};
 ghost use Rattle.std.specs.Borrow.{sem};
-ghost use Rattle.ufmt_core.specs.declared.layout.Kind.TheVariants.{Struct};
-ghost use Rattle.ufmt_core.specs.declared.formatter.builder.Status.TheVariants.{Lent};
+ghost use Rattle.ufmt_core.specs.Layout.{Struct};
 ghost use Rattle.ufmt_core.specs.Formatter.{Prints};
-ghost use Rattle.ufmt_core.specs.BuilderView.{WritesEntry, EndsEntry, IsLent, IsOpen, WritesOpening, field_lead_of, field_text};
+ghost use Rattle.ufmt_core.specs.BuilderView.{WritesEntry, EndsEntry, IsLent, IsOpen, WritesOpening, field_lead_of, field_text, Lent};
 ghost use Rattle.ufmt_core.specs.Builder.{LendsForField, OpeningLoan, struct_view};
 
 mod by_count;

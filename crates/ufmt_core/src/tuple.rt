@@ -1,10 +1,9 @@
 //! The builder of tuples.
 ghost use Rattle.std.specs.Prelude.{◌≡◌, is_ok, true, IfOk, OnOk};
 ghost use Rattle.std.specs.Borrow.{sem};
-ghost use Rattle.ufmt_core.specs.declared.formatter.builder.Status.TheVariants.{Lent};
 ghost use Rattle.ufmt_core.specs.Layout.{tuple_kind};
 ghost use Rattle.ufmt_core.specs.Formatter.{Prints};
-ghost use Rattle.ufmt_core.specs.BuilderView.{WritesEntry, EndsEntry, IsLent, IsOpen, WritesOpening, entry_text, lead_of};
+ghost use Rattle.ufmt_core.specs.BuilderView.{WritesEntry, EndsEntry, IsLent, IsOpen, WritesOpening, entry_text, lead_of, Lent};
 ghost use Rattle.ufmt_core.specs.Builder.{LendsForUnnamedField, OpeningLoan, kind_of_tuple, tuple_view};
 
 mod by_count;

@@ -3,10 +3,9 @@ use Rattle.std.proofs.Common.{◌≡◌, map, ap, sym, ◌∙◌, String, Global
 use Rattle.std.proofs.lemmas.Simd.{map-map}
 use Rattle.std.specs.Prelude.{string_bytes}
 use Rattle.ufmt.specs.Document.{Document, leaf, list_of, set_of, map_of, struct_of, tuple_of, documents, pairs_of, fields_of}
-use Rattle.ufmt_doc.specs.declared.doc.Doc.{Doc}
 use Rattle.ufmt_doc.specs.declared.doc.Doc.TheFolds.{fold-roll-Doc}
 use Rattle.ufmt_doc.specs.declared.doc.Doc.TheVariants.{Leaf, Listed, SetOf, MapOf, StructOf, TupleOf, rolls-Leaf, rolls-Listed, rolls-SetOf, rolls-MapOf, rolls-StructOf, rolls-TupleOf}
-use Rattle.ufmt_doc.specs.Doc.{doc_document, document_step}
+use Rattle.ufmt_doc.specs.Doc.{doc_document, document_step, Doc}
 
 pub doc_document-Leaf : (text : _) → doc_document (Leaf text) ≡ leaf (string_bytes text)
 doc_document-Leaf text = ap doc_document (sym (rolls-Leaf text)) ∙ fold-roll-Doc Document document_step _

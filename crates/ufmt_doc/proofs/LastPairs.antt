@@ -1,8 +1,7 @@
 -- Pairs that are taken off a stack.
 use Rattle.std.proofs.Common.{◌≡◌, ◌∙◌, ap, refl, ℕ, ◌+◌, ◌-◌, ◌*◌, List, [], ◌∷◌, ◌++◌, append_assoc, length, map, drop, take, arith}
 use Rattle.std.proofs.lemmas.List.{drop-append-le, length-drop, length-map, map-append, take-append-le}
-use Rattle.ufmt_doc.specs.declared.doc.Doc.{Doc}
-use Rattle.ufmt_doc.specs.Doc.{doc_document}
+use Rattle.ufmt_doc.specs.Doc.{doc_document, Doc}
 use Rattle.ufmt_doc.specs.Private.Growing.{in_pairs}
 
 pairs_end : {A : Type 0} (xs : List A) (m : ℕ) (k v : A) → length xs ≡ 2 * m → in_pairs (xs ++ k ∷ v ∷ []) ≡ in_pairs xs ++ (k, v) ∷ []

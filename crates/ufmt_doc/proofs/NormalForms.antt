@@ -6,9 +6,8 @@ use Rattle.std.specs.Bool.{then_some}
 use Rattle.std.specs.List.{AllByRecursion, AllZip, zip}
 use Rattle.ufmt.specs.Document.{Document, leaf, list_of, set_of, map_of, struct_of, tuple_of, documents, pairs_of, fields_of, first_document, first_pair, first_field}
 use Rattle.ufmt.specs.Token.{normal, normal_all, normal_pairs, normal_fields}
-use Rattle.ufmt_doc.specs.declared.doc.Doc.{Doc}
 use Rattle.ufmt_doc.specs.declared.doc.Doc.TheVariants.{SetOf, MapOf, StructOf, TupleOf}
-use Rattle.ufmt_doc.specs.Doc.{doc_document}
+use Rattle.ufmt_doc.specs.Doc.{doc_document, Doc}
 use Rattle.ufmt_doc.specs.DocViews.{pair_view, field_view}
 use Rattle.ufmt_doc.specs.Parts.{leaf_part}
 use Rattle.ufmt_scan.specs.Rest.{now_of}

@@ -6,8 +6,7 @@ use Rattle.ufmt_core.specs.declared.layout.Setting.{Setting}
 use Rattle.ufmt.specs.Token.{IsTokenDocument, normal}
 use Rattle.ufmt.proofs.NormalForms.{IsTokenDocument-normal, layout-normal, normal-normal}
 use Rattle.ufmt.proofs.OneWay.{plain_text_determines}
-use Rattle.ufmt_doc.specs.declared.doc.Doc.{Doc}
-use Rattle.ufmt_doc.specs.Doc.{doc_document}
+use Rattle.ufmt_doc.specs.Doc.{doc_document, Doc}
 use Rattle.ufmt_scan.specs.declared.error.ReadError.{ReadError}
 use Rattle.ufmt_scan.proofs.Conversions.{comes_back}
 use Rattle.ufmt_scan.specs.Texts.{Converts, IsConverted, IsNormalForm}

@@ -7,9 +7,8 @@ use Rattle.std.proofs.lemmas.Iterator.Search.{true_from_All}
 use Rattle.std.proofs.lemmas.List.Elements.{All-from_all_within, All-from_recursion, recursion_from_All}
 use Rattle.ufmt.specs.Document.{list_of, map_of, struct_of, tuple_of, documents, pairs_of, fields_of}
 use Rattle.ufmt.specs.Token.{IsWord}
-use Rattle.ufmt_doc.specs.declared.doc.Doc.{Doc}
 use Rattle.ufmt_doc.specs.declared.doc.Doc.TheVariants.{TupleOf}
-use Rattle.ufmt_doc.specs.Doc.{doc_document}
+use Rattle.ufmt_doc.specs.Doc.{doc_document, Doc}
 use Rattle.ufmt_doc.specs.DocViews.{pair_view, field_view}
 use Rattle.ufmt_doc.specs.Private.{IsTokenWithin}
 use Rattle.ufmt_doc.proofs.Docs.{doc_document-TupleOf}

@@ -1,6 +1,6 @@
 -- The documents that values of type `Doc` are.
 use Rattle.std.specs.Prelude.{map, string_bytes}
-use Rattle.ufmt_doc.specs.declared.doc.Doc.{Doc}
+pub use Rattle.ufmt_doc.specs.declared.doc.Doc.{Doc}
 use Rattle.ufmt_doc.specs.declared.doc.Doc.TheOpen.{Doc-F, Leaf, Listed, SetOf, MapOf, StructOf, TupleOf}
 use Rattle.ufmt_doc.specs.declared.doc.Doc.TheFolds.{fold-Doc}
 use Rattle.ufmt.specs.Document.{Document, leaf, list_of, set_of, map_of, struct_of, tuple_of, documents, pairs_of, fields_of}

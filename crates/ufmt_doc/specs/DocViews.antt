@@ -2,8 +2,7 @@
 use Rattle.std.specs.Prelude.{ℕ, List, String, string_bytes}
 use Rattle.std.specs.declared.alloc.Global.{Global}
 use Rattle.ufmt.specs.Document.{Document}
-use Rattle.ufmt_doc.specs.declared.doc.Doc.{Doc}
-use Rattle.ufmt_doc.specs.Doc.{doc_document}
+use Rattle.ufmt_doc.specs.Doc.{doc_document, Doc}
 
 abbrev pub pair_view : Doc × Doc → Document × Document
 pair_view pair = (doc_document pair.0, doc_document pair.1)

@@ -11,7 +11,7 @@ use Rattle.ufmt.specs.declared.cursor.Full.{Full}
 use Rattle.ufmt_scan.specs.Private.Growing.{growing_seen, growing_text}
 use Rattle.ufmt_scan.specs.Texts.{Converts, ConvertsInto, ConvertsTo, IsConverted, NoDocumentPrints}
 use Rattle.ufmt_scan.specs.declared.convert.growing.Growing.{Growing}
-use Rattle.ufmt_scan.specs.declared.scan.event.ScanError.{ScanError}
+use Rattle.ufmt_scan.specs.Scan.{ScanError}
 
 -- a text that was converted is converted back to the text that it was
 pub comes_back : (from to : Document → List ℕ) (earlier input outcome : List ℕ) → IsConverted to from earlier input → IsConverted from to input outcome → outcome ≡ earlier

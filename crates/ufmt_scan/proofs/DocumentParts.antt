@@ -2,7 +2,6 @@
 use Rattle.std.proofs.Common.{◌≡◌, refl, ap, ◌∙◌, sym, ℕ, zero, suc, ◌<◌, ◌≤◌, ◌==◌, true, false, List, [], ◌∷◌, ◌++◌, length, length-append, eqb-true, map, Option, Some, None, option_and_then, codes, subst, Bor, Result, Ok, Err, arith}
 use Rattle.ufmt.specs.Document.{Document, list_of, set_of, map_of, struct_of, tuple_of, no_documents, no_pairs, Documents, first_document, documents, pairs_of, fields_of}
 use Rattle.ufmt_core.specs.declared.layout.Setting.{Setting}
-use Rattle.ufmt_scan.specs.declared.scan.event.ScanError.{ScanError}
 use Rattle.ufmt_core.specs.declared.layout.Kind.{Kind}
 use Rattle.ufmt_core.specs.declared.layout.Kind.TheVariants.{Brackets, Braces, Struct, Tuple, Unnamed}
 use Rattle.ufmt_core.specs.declared.layout.Count.TheVariants.{Zero, One, Several}
@@ -14,13 +13,10 @@ use Rattle.ufmt.proofs.Parsing.{strip_found}
 use Rattle.ufmt.proofs.ReadingTurns.{Takes, read_word_takes, strip_within}
 use Rattle.ufmt.proofs.TokenLeaves.{leaf_begins, read_symbol_sound, symbol_leaf}
 use Rattle.ufmt.proofs.ReadingWords.{word_of_bytes}
-use Rattle.ufmt_scan.specs.declared.level.Level.{Level}
-use Rattle.ufmt_scan.specs.declared.scan.event.Event.TheVariants.{Colon, Empty, FieldName, Leaf, Open}
-use Rattle.ufmt_scan.specs.declared.scan.step.Stage.{Stage}
 use Rattle.ufmt_scan.specs.declared.scan.step.Stage.TheVariants as stages
-use Rattle.ufmt_scan.specs.Scan.{TextEvent, events_of, events_of_entries, events_of_fields, events_of_pairs, tail_events}
-use Rattle.ufmt_scan.specs.Private.Level.{entry_at, entry_of, setting_at}
-use Rattle.ufmt_scan.specs.Private.Scanning.{Steps, Stops, Emits, Scanned, after, scan_block, entries, fields, kind_of, later, scan_opened, pairs, prefixed, scan_rest, scan_stage, then_scan, turn_of, scan_turn, scan_value}
+use Rattle.ufmt_scan.specs.Scan.{TextEvent, events_of, events_of_entries, events_of_fields, events_of_pairs, tail_events, ScanError, Colon, Empty, FieldName, Leaf, Open}
+use Rattle.ufmt_scan.specs.Private.Level.{entry_at, entry_of, setting_at, Level}
+use Rattle.ufmt_scan.specs.Private.Scanning.{Steps, Stops, Emits, Scanned, after, scan_block, entries, fields, kind_of, later, scan_opened, pairs, prefixed, scan_rest, scan_stage, then_scan, turn_of, scan_turn, scan_value, Stage}
 use Rattle.ufmt_scan.proofs.EntrySteps.{entry_of_takes, field_takes, pair_takes}
 use Rattle.ufmt_scan.proofs.ScanTurns.{block_scans, prefixed_twice}
 

@@ -4,13 +4,9 @@ use Rattle.std.specs.Borrow.{Bor}
 use Rattle.ufmt.specs.Reading.{Parse, parse_map, read}
 use Rattle.ufmt_core.specs.declared.layout.Kind.TheVariants.{Struct}
 use Rattle.ufmt_core.specs.declared.layout.Mode.{Mode}
-use Rattle.ufmt_scan.specs.declared.level.Level.{Level}
-use Rattle.ufmt_scan.specs.declared.scan.event.ScanError.{ScanError}
-use Rattle.ufmt_scan.specs.declared.scan.step.Stage.{Stage}
-use Rattle.ufmt_scan.specs.declared.scan.step.Stage.TheVariants.{BracesFirst, FieldFirst, FieldLater}
-use Rattle.ufmt_scan.specs.Private.Level.{budget_of, setting_at}
-use Rattle.ufmt_scan.specs.Private.Scanning.{Stops, Emits, Scanned, ScansOn, after, scan_next, scan_ends, coming, scan_begun, entries, fields, kind_of, level_at, scan_onward, open_stages, scan_stage, then_scan, scan_turn}
-use Rattle.ufmt_scan.specs.Scan.{TextEvent, events_of}
+use Rattle.ufmt_scan.specs.Private.Level.{budget_of, setting_at, Level}
+use Rattle.ufmt_scan.specs.Private.Scanning.{Stops, Emits, Scanned, ScansOn, after, scan_next, scan_ends, coming, scan_begun, entries, fields, kind_of, level_at, scan_onward, open_stages, scan_stage, then_scan, scan_turn, Stage, BracesFirst, FieldFirst, FieldLater}
+use Rattle.ufmt_scan.specs.Scan.{TextEvent, events_of, ScanError}
 use Rattle.ufmt_scan.proofs.Scans.{document_is, stops_after, stops_in, emits_in, emits_then}
 use Rattle.ufmt_scan.proofs.Stacks.{blocks_of, count_is, innermost_is}
 use Rattle.ufmt_scan.proofs.ScanTurns.{prefixed_nothing, then-then}

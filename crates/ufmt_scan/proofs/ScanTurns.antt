@@ -9,11 +9,9 @@ use Rattle.ufmt.specs.Reading.{Parse, choose, parse_map, strip, read_after_entry
 use Rattle.ufmt.proofs.ReadingTurns.{Takes, read_others-read_turn}
 use Rattle.ufmt.proofs.Shifting.{lead-next}
 use Rattle.ufmt_core.proofs.Counts.{next-next}
-use Rattle.ufmt_scan.specs.declared.scan.event.Event.TheVariants.{Close, Next}
-use Rattle.ufmt_scan.specs.Scan.{TextEvent, events_of, tail_events}
+use Rattle.ufmt_scan.specs.Scan.{TextEvent, events_of, tail_events, Close, Next}
 use Rattle.ufmt_scan.specs.Private.Scanning.{Scanned, Turn, prefixed, scan_rest, then_scan, scan_turn}
-use Rattle.ufmt_scan.specs.Private.Level.{setting_at}
-use Rattle.ufmt_scan.specs.declared.level.Level.{Level}
+use Rattle.ufmt_scan.specs.Private.Level.{setting_at, Level}
 
 pub prefixed_twice : (es fs : List TextEvent) (o : Scanned) → prefixed es (prefixed fs o) ≡ prefixed (es ++ fs) o
 prefixed_twice es fs None = refl

@@ -7,10 +7,9 @@ use Rattle.ufmt.specs.Reading.{if_all, parse_map, read, read_text}
 use Rattle.ufmt.proofs.Parsing.{mapped_from, same_parts}
 use Rattle.ufmt.proofs.ReadingWhole.{reads_each_text, reads_only_texts, refuses_only_unprinted}
 use Rattle.ufmt_core.specs.declared.layout.Mode.{Mode}
-use Rattle.ufmt_scan.specs.declared.scan.event.ScanError.{ScanError}
 use Rattle.ufmt_scan.specs.declared.scan.event.ScanError.TheVariants.{NotText, Sink}
 use Rattle.ufmt_scan.specs.Private.Scanning.{ScansOn, Stops, Emits, Scanned, prefixed}
-use Rattle.ufmt_scan.specs.Scan.{TextEvent, Leads, ScanRefused, Scans, events_of}
+use Rattle.ufmt_scan.specs.Scan.{TextEvent, Leads, ScanRefused, Scans, events_of, ScanError}
 use Rattle.ufmt_scan.specs.Texts.{IsNormalForm, NoDocumentPrints}
 
 -- if there are no events, there is no document

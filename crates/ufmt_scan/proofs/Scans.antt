@@ -5,14 +5,12 @@ use Rattle.ufmt.specs.Layout.{inside, setting}
 use Rattle.ufmt.specs.Reading.{Parse, parse_map, read, read_value, read_word, strip}
 use Rattle.ufmt_core.specs.declared.layout.Mode.{Mode}
 use Rattle.ufmt_core.specs.declared.layout.Mode.TheVariants.{Plain, Pretty}
-use Rattle.ufmt_scan.specs.declared.scan.event.ScanError.{ScanError}
 use Rattle.ufmt_scan.specs.declared.scan.event.ScanError.TheVariants.{NotText}
-use Rattle.ufmt_scan.specs.declared.scan.step.Stage.{Stage}
 use Rattle.ufmt_core.specs.declared.layout.Kind.{Kind}
 use Rattle.ufmt_core.specs.declared.layout.Kind.TheVariants.{Brackets, Braces, Struct, Tuple, Unnamed}
 use Rattle.ufmt_scan.specs.Private.Level.{budget_of, entry_at, entry_of, setting_at}
-use Rattle.ufmt_scan.specs.Private.Scanning.{ScansOn, Steps, Stops, Emits, Scanned, scan_next, coming_of, kind_of, document_at, fields, level_at, prefixed, then_scan}
-use Rattle.ufmt_scan.specs.Scan.{TextEvent, events_of}
+use Rattle.ufmt_scan.specs.Private.Scanning.{ScansOn, Steps, Stops, Emits, Scanned, scan_next, coming_of, kind_of, document_at, fields, level_at, prefixed, then_scan, Stage}
+use Rattle.ufmt_scan.specs.Scan.{TextEvent, events_of, ScanError}
 use Rattle.ufmt_scan.proofs.ScanTurns.{prefixed_twice, then-prefixed}
 
 module _ {S : Type 0} {took kept : S → List TextEvent → S → Type 0} {a b : S} {there mid : Scanned} where

@@ -2,8 +2,7 @@
 use Rattle.std.proofs.Common.{◌≡◌, ◌∙◌, refl, ap, ℕ, suc, ◌+◌, ◌≤◌, List, [], ◌∷◌, get_or, length, reverse, set, take, arith}
 use Rattle.std.proofs.lemmas.List.{length-reverse, length-take-le, reverse-append, take_more, take_more_set}
 use Rattle.ufmt_scan.specs.declared.scan.OpenBlocks.{OpenBlocks}
-use Rattle.ufmt_scan.specs.declared.scan.step.Stage.{Stage}
-use Rattle.ufmt_scan.specs.Private.Scanning.{open_stages}
+use Rattle.ufmt_scan.specs.Private.Scanning.{open_stages, Stage}
 
 abbrev pub blocks_of : ℕ → Stage → OpenBlocks
 blocks_of count innermost = record { count = count; innermost = innermost }

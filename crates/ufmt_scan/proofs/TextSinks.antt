@@ -12,10 +12,9 @@ use Rattle.ufmt.proofs.NormalForms.{IsTokenDocument-normal, layout-normal, norma
 use Rattle.ufmt.proofs.OneWay.{texts_agree}
 use Rattle.ufmt_core.proofs.Writing.{Writes-fails, Writes-then}
 use Rattle.ufmt_scan.specs.declared.convert.text_sink.TextSink.{TextSink}
-use Rattle.ufmt_scan.specs.declared.scan.event.ScanError.{ScanError}
 use Rattle.ufmt_scan.specs.declared.scan.event.ScanError.TheVariants.{NotText, Sink}
 use Rattle.ufmt_scan.specs.Private.TextSink.{Wrote}
-use Rattle.ufmt_scan.specs.Scan.{TextEvent, TakesEvent, Scans, events_of}
+use Rattle.ufmt_scan.specs.Scan.{TextEvent, TakesEvent, Scans, events_of, ScanError}
 use Rattle.ufmt_scan.specs.ScanTexts.{written, setting_after, texts_written}
 use Rattle.ufmt_scan.specs.Texts.{ConvertsTo, IsConverted, IsNormalForm}
 use Rattle.ufmt_scan.proofs.EventTexts.{last_setting-append, texts_written-append, events_written}

@@ -5,9 +5,8 @@ use Rattle.ufmt.specs.Layout.{setting}
 use Rattle.ufmt_core.specs.declared.layout.Count.TheVariants.{One, Several}
 use Rattle.ufmt_core.specs.declared.layout.Kind.TheVariants.{Brackets, Braces, Struct, Unnamed}
 use Rattle.ufmt_core.specs.declared.layout.Mode.TheVariants.{Plain, Pretty}
-use Rattle.ufmt_scan.specs.Scan.{events_of}
+use Rattle.ufmt_scan.specs.Scan.{events_of, Leaf, Empty, Open, FieldName, Colon, Next, Close}
 use Rattle.ufmt_scan.specs.ScanTexts.{texts_written}
-use Rattle.ufmt_scan.specs.declared.scan.event.Event.TheVariants.{Leaf, Empty, Open, FieldName, Colon, Next, Close}
 
 -- a struct with two fields: a list of a word and a map from a word to an empty set, and a tuple of one word
 abbrev worked : Document

@@ -1,8 +1,8 @@
 -- A reader's error: its code, and how it comes from a scan's error.
 use Rattle.std.specs.Prelude.{ℕ}
 use Rattle.ufmt_scan.specs.declared.error.ReadError.{ReadError}
-use Rattle.ufmt_scan.specs.declared.error.ReadError.TheVariants.{NotText, OutOfMemory}
-use Rattle.ufmt_scan.specs.declared.scan.event.ScanError.{ScanError}
+pub use Rattle.ufmt_scan.specs.declared.error.ReadError.TheVariants.{NotText, OutOfMemory}
+use Rattle.ufmt_scan.specs.Scan.{ScanError}
 use Rattle.ufmt_scan.specs.declared.scan.event.ScanError.TheVariants as errors
 
 abbrev pub code_of : ReadError → ℕ

@@ -5,8 +5,7 @@ use Rattle.ufmt_core.specs.declared.layout.Count.TheVariants.{Zero}
 use Rattle.ufmt_core.specs.declared.layout.Mode.{Mode}
 use Rattle.ufmt_core.specs.declared.layout.Mode.TheVariants.{Plain, Pretty}
 use Rattle.ufmt_core.specs.declared.layout.Setting.{Setting}
-use Rattle.ufmt_scan.specs.Scan.{TextEvent}
-use Rattle.ufmt_scan.specs.declared.scan.event.Event.TheVariants.{Leaf, Empty, Open, FieldName, Colon, Next, Close}
+use Rattle.ufmt_scan.specs.Scan.{TextEvent, Leaf, Empty, Open, FieldName, Colon, Next, Close}
 
 -- the depth of a block whose entries are at this depth
 abbrev pub block_depth : Mode → ℕ → ℕ

@@ -1,7 +1,6 @@
 //! The error of readers and conversions.
 ghost use Rattle.std.specs.Prelude.{◌≡◌};
-ghost use Rattle.ufmt_scan.specs.ReadError.{code_of, error_of};
-ghost use Rattle.ufmt_scan.specs.declared.error.ReadError.TheVariants.{OutOfMemory};
+ghost use Rattle.ufmt_scan.specs.ReadError.{code_of, error_of, OutOfMemory};
 
 use crate::scan::ScanError;
 use std::alloc::{AllocError, AllocFailed};

@@ -2,8 +2,7 @@
 ghost use Rattle.std.specs.Prelude.{◌≡◌, ◌<◌, ◌≤◌, [], IfOk, List, Some, length};
 ghost use Rattle.ufmt.specs.Layout.{layout, setting};
 ghost use Rattle.ufmt.specs.Reading.{parse_map, read};
-ghost use Rattle.ufmt_scan.specs.Private.Scanning.{ScansOn, kind_of, scan_next, scan_ends, scan_begun, scan_left, open_stages};
-ghost use Rattle.ufmt_scan.specs.declared.scan.step.Stage.{Stage};
+ghost use Rattle.ufmt_scan.specs.Private.Scanning.{ScansOn, kind_of, scan_next, scan_ends, scan_begun, scan_left, open_stages, Stage};
 ghost use Rattle.ufmt_scan.specs.Scan.{Scans, events_of};
 
 mod event;

@@ -4,10 +4,9 @@ ghost use Rattle.std.specs.Borrow.{sem, follows};
 ghost use mir.Syntax.{named};
 ghost use Rattle.ufmt_core.specs.contracts.formatter.Formatter as formatter;
 ghost use Rattle.ufmt_core.specs.contracts.formatter.builder.Builder as builder;
-ghost use Rattle.ufmt_core.specs.declared.layout.Kind.{Kind};
-ghost use Rattle.ufmt_core.specs.declared.formatter.builder.Status.TheVariants.{Lent};
+ghost use Rattle.ufmt_core.specs.Layout.{Kind};
 ghost use Rattle.ufmt_core.specs.Formatter.{Prints};
-ghost use Rattle.ufmt_core.specs.BuilderView.{WritesEnding, EndsEntry, IsInside, IsOpen, WritesOpening, ending_of, field_lead_of, inner_formatter, lead_of};
+ghost use Rattle.ufmt_core.specs.BuilderView.{WritesEnding, EndsEntry, IsInside, IsOpen, WritesOpening, ending_of, field_lead_of, inner_formatter, lead_of, Lent};
 ghost use Rattle.ufmt_core.specs.Builder.{EntryLoan, LendsAfter, LendsForEntry, OpeningLoan, view_of, abandoned, lent};
 
 use crate::formatter::Formatter;

@@ -6,7 +6,7 @@ use Rattle.ufmt_core.specs.declared.layout.Mode.{Mode}
 use Rattle.ufmt_core.specs.declared.layout.Setting.{Setting}
 use Rattle.ufmt_core.specs.declared.layout.Mode.TheVariants.{Plain, Pretty}
 use Rattle.ufmt.specs.Reading.{Parse, read}
-use Rattle.ufmt_scan.specs.declared.level.Level.{Level}
+pub use Rattle.ufmt_scan.specs.declared.level.Level.{Level}
 
 -- the depth at which a document is laid out, with this many blocks around it
 abbrev pub depth_in : Mode → ℕ → ℕ

@@ -9,15 +9,14 @@ use Rattle.ufmt_core.specs.declared.layout.Kind.{Kind}
 use Rattle.ufmt_core.specs.declared.layout.Kind.TheVariants as kinds
 use Rattle.ufmt_core.specs.declared.layout.Mode.{Mode}
 use Rattle.ufmt.specs.Reading.{Parse, choose, parse_map, strip, read, read_without_name, read_word, read_pair, read_others}
-use Rattle.ufmt_scan.specs.declared.level.Level.{Level}
 use Rattle.ufmt_scan.specs.declared.scan.event.Event.TheVariants as events
-use Rattle.ufmt_scan.specs.declared.scan.event.ScanError.{ScanError}
 use Rattle.ufmt_scan.specs.declared.scan.event.ScanError.TheVariants.{NotText, Sink}
 use Rattle.ufmt_scan.specs.declared.scan.OpenBlocks.{OpenBlocks}
-use Rattle.ufmt_scan.specs.declared.scan.step.Stage.{Stage}
+pub use Rattle.ufmt_scan.specs.declared.scan.step.Stage.{Stage}
 use Rattle.ufmt_scan.specs.declared.scan.step.Stage.TheVariants as stages
-use Rattle.ufmt_scan.specs.Private.Level.{entry_of, setting_at}
-use Rattle.ufmt_scan.specs.Scan.{TextEvent, events_of, tail_events}
+use Rattle.ufmt_scan.specs.Private.Level.{entry_of, setting_at, Level}
+use Rattle.ufmt_scan.specs.Scan.{TextEvent, events_of, tail_events, ScanError}
+pub use Rattle.ufmt_scan.specs.declared.scan.step.Stage.TheVariants.{BracesFirst, FieldFirst, FieldLater, KeyLater, TupleFirst, UnnamedFirst}
 
 -- events, and what is left to read
 abbrev pub Scanned : Type 0

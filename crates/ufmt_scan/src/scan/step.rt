@@ -2,10 +2,8 @@
 ghost use Rattle.std.specs.Prelude.{◌≡◌, ◌<◌, ◌≤◌, ◌++◌, ◌∷◌, [], IfOk, length, suc, ℕ};
 ghost use Rattle.ufmt.specs.Layout.{entry_depth, line_start, next, later_lead};
 ghost use Rattle.ufmt.specs.Reading.{parse_map, read, read_without_name};
-ghost use Rattle.ufmt_scan.specs.declared.level.Level.{Level};
-ghost use Rattle.ufmt_scan.specs.declared.scan.step.Stage.{Stage};
-ghost use Rattle.ufmt_scan.specs.Private.Level.{budget_of, entry_of, setting_at};
-ghost use Rattle.ufmt_scan.specs.Private.Scanning.{Scanned, ScansOn, Steps, StripsBracket, after, prefixed, scan_block, earlier, entries, fields, first_stage, kind_of, later, scan_rest, scan_stage, turn_of, scan_turn, value_of};
+ghost use Rattle.ufmt_scan.specs.Private.Level.{budget_of, entry_of, setting_at, Level};
+ghost use Rattle.ufmt_scan.specs.Private.Scanning.{Scanned, ScansOn, Steps, StripsBracket, after, prefixed, scan_block, earlier, entries, fields, first_stage, kind_of, later, scan_rest, scan_stage, turn_of, scan_turn, value_of, Stage};
 ghost use Rattle.ufmt_scan.specs.Scan.{event_now, events_of};
 
 use super::event::{Event, ScanError, Sink};

@@ -2,8 +2,7 @@ use Rattle.std.proofs.Common.{◌≡◌, ◌∙◌, ap, Option, Some, None, Ok, 
 use Rattle.std.specs.Prelude.{option_map}
 use Rattle.std.specs.Option.{ok_or}
 use Rattle.ufmt.specs.Document.{Document}
-use Rattle.ufmt_doc.specs.declared.doc.Doc.{Doc}
-use Rattle.ufmt_doc.specs.Doc.{doc_document}
+use Rattle.ufmt_doc.specs.Doc.{doc_document, Doc}
 use Rattle.ufmt_doc.specs.Private.Growing.{grown}
 use Rattle.ufmt_doc.proofs.GrowingDocuments.{whole_is}
 use Rattle.ufmt_doc.proofs.reader.read_text.Goals as goal

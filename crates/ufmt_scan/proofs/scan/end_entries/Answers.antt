@@ -1,6 +1,5 @@
 use Rattle.std.proofs.Common.{◌∙◌, ap, sym, arith}
-use Rattle.ufmt_scan.specs.declared.scan.step.Stage.TheVariants.{BracesFirst}
-use Rattle.ufmt_scan.specs.Private.Scanning.{scan_left, scan_onward, open_stages}
+use Rattle.ufmt_scan.specs.Private.Scanning.{scan_left, scan_onward, open_stages, BracesFirst}
 use Rattle.ufmt_scan.proofs.OpenSteps.{around, ended, ended_none}
 use Rattle.ufmt_scan.proofs.Scans.{refused, emits_left}
 use Rattle.ufmt_scan.proofs.Stacks.{innermost_is}

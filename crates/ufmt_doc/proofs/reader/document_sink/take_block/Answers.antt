@@ -1,6 +1,6 @@
 use Rattle.std.proofs.Common.{◌≡◌, ◌∙◌, refl, sym, ap, ℕ, ◌+◌, ◌<◌, List, [], ◌∷◌, ◌++◌, length, take, drop, rules}
 use Rattle.std.proofs.lemmas.List.{drop_more, same_from_push, take_more}
-use Rattle.ufmt_doc.specs.declared.doc.Doc.{Doc}
+use Rattle.ufmt_doc.specs.Doc.{Doc}
 use Rattle.ufmt_doc.proofs.Docs.{doc_document-StructOf, doc_document-TupleOf}
 use Rattle.ufmt_doc.proofs.reader.document_sink.take_block.Goals as goal
 

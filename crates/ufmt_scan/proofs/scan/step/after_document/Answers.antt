@@ -1,11 +1,9 @@
 use Rattle.std.proofs.Common.{◌≡◌, ◌⊎◌, inl, inr, refl, sym, ℕ, List, [], ◌∷◌, Some, codes, arith}
 use Rattle.ufmt.specs.Reading.{strip}
 use Rattle.ufmt.proofs.ReadingTurns.{strip_within}
-use Rattle.ufmt_scan.specs.declared.level.Level.{Level}
-use Rattle.ufmt_scan.specs.declared.scan.event.Event.TheVariants.{Colon}
-use Rattle.ufmt_scan.specs.declared.scan.step.Stage.{Stage}
-use Rattle.ufmt_scan.specs.declared.scan.step.Stage.TheVariants.{BracesFirst, KeyLater}
-use Rattle.ufmt_scan.specs.Private.Scanning.{after, prefixed, scan_stage, value_of}
+use Rattle.ufmt_scan.specs.Private.Level.{Level}
+use Rattle.ufmt_scan.specs.Scan.{Colon}
+use Rattle.ufmt_scan.specs.Private.Scanning.{after, prefixed, scan_stage, value_of, Stage, BracesFirst, KeyLater}
 use Rattle.ufmt_scan.proofs.Scans.{step_refused}
 use Rattle.ufmt_scan.proofs.scan.step.after_document.Goals as goal
 

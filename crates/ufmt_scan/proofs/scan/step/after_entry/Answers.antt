@@ -6,11 +6,9 @@ use Rattle.ufmt.proofs.ReadingTurns.{strip_within}
 use Rattle.ufmt_core.specs.declared.layout.Mode.{Mode}
 use Rattle.ufmt_core.specs.declared.layout.Mode.TheVariants.{Plain, Pretty}
 use Rattle.ufmt_core.specs.declared.layout.Setting.{Setting}
-use Rattle.ufmt_scan.specs.declared.level.Level.{Level}
-use Rattle.ufmt_scan.specs.declared.scan.event.Event.TheVariants.{Close, Next}
-use Rattle.ufmt_scan.specs.declared.scan.step.Stage.{Stage}
-use Rattle.ufmt_scan.specs.Private.Level.{depth_in, setting_at}
-use Rattle.ufmt_scan.specs.Private.Scanning.{after, earlier, kind_of, later, prefixed, scan_rest, turn_of}
+use Rattle.ufmt_scan.specs.Scan.{Close, Next}
+use Rattle.ufmt_scan.specs.Private.Level.{depth_in, setting_at, Level}
+use Rattle.ufmt_scan.specs.Private.Scanning.{after, earlier, kind_of, later, prefixed, scan_rest, turn_of, Stage}
 use Rattle.ufmt_scan.proofs.DocumentParts.{later_continues, turn_takes}
 use Rattle.ufmt_scan.proofs.EntrySteps.{ending_stripped}
 use Rattle.ufmt_scan.proofs.Scans.{nothing_there, step_refused}

@@ -2,11 +2,9 @@ use Rattle.std.proofs.Common.{◌≡◌, ◌∙◌, ◌≤◌, ◌==◌, ap, sym
 use Rattle.ufmt.specs.Reading.{after_word, parse_map, read, read_named, word_of}
 use Rattle.ufmt.specs.Token.{IsWord}
 use Rattle.ufmt_core.specs.declared.layout.Kind.TheVariants.{Struct, Tuple}
-use Rattle.ufmt_scan.specs.declared.level.Level.{Level}
-use Rattle.ufmt_scan.specs.Private.Level.{budget_of, entry_of, setting_at}
-use Rattle.ufmt_scan.specs.Private.Scanning.{after}
+use Rattle.ufmt_scan.specs.Private.Level.{budget_of, entry_of, setting_at, Level}
+use Rattle.ufmt_scan.specs.Private.Scanning.{after, FieldFirst, TupleFirst}
 use Rattle.ufmt_scan.specs.Scan.{events_of}
-use Rattle.ufmt_scan.specs.declared.scan.step.Stage.TheVariants.{FieldFirst, TupleFirst}
 use Rattle.ufmt_scan.proofs.DocumentParts.{front_is_bytes, front_is_word, name_scans, reads_named, reads_without_name, struct_scans, tuple_scans, word_within}
 use Rattle.ufmt_scan.proofs.EntrySteps.{after_lead}
 use Rattle.ufmt_scan.proofs.Scans.{step_refused}

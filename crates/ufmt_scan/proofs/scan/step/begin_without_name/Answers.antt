@@ -3,10 +3,8 @@ use Rattle.ufmt.specs.Layout.{frame, inside, lead, new_line}
 use Rattle.ufmt.specs.Reading.{parse_map, read_without_name, strip}
 use Rattle.ufmt_core.specs.declared.layout.Count.TheVariants.{Zero}
 use Rattle.ufmt_core.specs.declared.layout.Kind.TheVariants.{Unnamed}
-use Rattle.ufmt_scan.specs.declared.level.Level.{Level}
-use Rattle.ufmt_scan.specs.declared.scan.step.Stage.TheVariants.{UnnamedFirst}
-use Rattle.ufmt_scan.specs.Private.Level.{entry_of, setting_at}
-use Rattle.ufmt_scan.specs.Private.Scanning.{StripsBracket, after, scan_opened}
+use Rattle.ufmt_scan.specs.Private.Level.{entry_of, setting_at, Level}
+use Rattle.ufmt_scan.specs.Private.Scanning.{StripsBracket, after, scan_opened, UnnamedFirst}
 use Rattle.ufmt_scan.specs.Scan.{events_of}
 use Rattle.ufmt_scan.proofs.DocumentParts.{opens_no_quote, steps_as, symbol_is_quoted, symbol_scans, unnamed_scans}
 use Rattle.ufmt_scan.proofs.EntrySteps.{strip_shortens}

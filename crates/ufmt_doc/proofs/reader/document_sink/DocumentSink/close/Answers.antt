@@ -1,9 +1,8 @@
 use Rattle.std.proofs.Common.{◌≡◌, ◌∙◌, ap, refl, List, [], ◌∷◌, ◌++◌, map, take, drop}
 use Rattle.std.proofs.lemmas.List.{drop-map, map-append, take-map}
 use Rattle.ufmt_core.specs.declared.layout.Kind.{Kind}
-use Rattle.ufmt_doc.specs.declared.doc.Doc.{Doc}
 use Rattle.ufmt_doc.specs.declared.reader.open_blocks.PartialBlock.{PartialBlock}
-use Rattle.ufmt_doc.specs.Doc.{doc_document}
+use Rattle.ufmt_doc.specs.Doc.{doc_document, Doc}
 use Rattle.ufmt_doc.specs.Private.Growing.{Growing, block_of, closed}
 use Rattle.ufmt_doc.proofs.reader.document_sink.DocumentSink.close.Goals as goal
 
