@@ -53,9 +53,9 @@ impl ProvesValue for Tree {
     ghost is_whole = { is_tree };
 
     #[tactic(auto, using(crate::proofs::Nested::tree_is))]
-    fn hold(&self) {
+    fn prove(&self) {
         self.size.prove_value();
-        self.children.hold();
+        self.children.prove();
     }
 }
 
@@ -63,7 +63,7 @@ impl uParse for Tree {
     ghost is_value = { is_tree };
 
     fn prove_value(&self) {
-        self.hold();
+        self.prove();
     }
 
     fn from_doc(alloc: Global, doc: &Doc) -> Result<Option<Tree>, AllocError> {
