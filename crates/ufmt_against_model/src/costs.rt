@@ -59,7 +59,7 @@ impl Costs {
     // Notes a call that has ended, and drops its result. The second mark is made while the result is held.
     fn note<T: Drop>(&mut self, name: &str, outcome: Option<T>) -> Result<(), AllocError> {
         mark(self.alloc, END);
-        let word = if outcome.is_some() { " yes, " } else { " no, " };
+        let verdict = if outcome.is_some() { " yes, " } else { " no, " };
         drop(outcome);
         mark(self.alloc, DROPPED);
         self.line.push_str(name)?;
