@@ -68,23 +68,54 @@ trait Calls<E> {
     fn may_continue(&self) -> bool;
 }
 
-impl<W: uWrite> Calls<W::Error> for DebugList<'_, W> {
-    fn make(&mut self, call: Call) -> (&'static str, Result<(), W::Error>) {
-        if !self.is_open() {
+// Prints a value by the formatter that a call lends, or returns the call's error with its name.
+macro_rules! print_lent {
+    ($value:literal, $name:literal, $lent:expr) => {
+        match $lent {
+            Ok(f) => $value.fmt(f),
+            Err(error) => return ($name, Err(error)),
+        }
+    };
+}
+
+// A call of a list or of a set.
+macro_rules! make_for_entries {
+    ($builder:ident, $call:ident) => {{
+        if !$builder.is_open() {
             return ("none", Ok(()));
         }
-        match call {
-            Call::Entry => ("entry", self.entry(&1u8)),
-            Call::Entries => ("entries", self.entries(&[2u8, 3])),
+        match $call {
+            Call::Entry => ("entry", $builder.entry(&1u8)),
+            Call::Entries => ("entries", $builder.entries(&[2u8, 3])),
             Call::BeginAndEnd => {
-                let outcome = match self.begin_entry() {
-                    Ok(f) => 4u8.fmt(f),
-                    Err(error) => return ("begin_entry", Err(error)),
-                };
-                ("end_entry", self.end_entry(outcome))
+                let outcome = print_lent!(4u8, "begin_entry", $builder.begin_entry());
+                ("end_entry", $builder.end_entry(outcome))
             }
-            Call::Finish => ("finish", self.finish()),
+            Call::Finish => ("finish", $builder.finish()),
         }
+    }};
+}
+
+// A call of a struct or of a tuple. A struct's fields have names.
+macro_rules! make_for_fields {
+    ($builder:ident, $call:ident $(, $first:literal, $second:literal)?) => {{
+        if !$builder.is_open() {
+            return ("none", Ok(()));
+        }
+        match $call {
+            Call::BeginAndEnd => {
+                let outcome = print_lent!(1u8, "begin_field", $builder.begin_field($($first)?));
+                ("end_field", $builder.end_field(outcome))
+            }
+            Call::Entry => ("field", $builder.field($($second,)? &2u8)),
+            Call::Entries | Call::Finish => ("finish", $builder.finish()),
+        }
+    }};
+}
+
+impl<W: uWrite> Calls<W::Error> for DebugList<'_, W> {
+    fn make(&mut self, call: Call) -> (&'static str, Result<(), W::Error>) {
+        make_for_entries!(self, call)
     }
 
     fn may_continue(&self) -> bool {
@@ -94,21 +125,7 @@ impl<W: uWrite> Calls<W::Error> for DebugList<'_, W> {
 
 impl<W: uWrite> Calls<W::Error> for DebugSet<'_, W> {
     fn make(&mut self, call: Call) -> (&'static str, Result<(), W::Error>) {
-        if !self.is_open() {
-            return ("none", Ok(()));
-        }
-        match call {
-            Call::Entry => ("entry", self.entry(&1u8)),
-            Call::Entries => ("entries", self.entries(&[2u8, 3])),
-            Call::BeginAndEnd => {
-                let outcome = match self.begin_entry() {
-                    Ok(f) => 4u8.fmt(f),
-                    Err(error) => return ("begin_entry", Err(error)),
-                };
-                ("end_entry", self.end_entry(outcome))
-            }
-            Call::Finish => ("finish", self.finish()),
-        }
+        make_for_entries!(self, call)
     }
 
     fn may_continue(&self) -> bool {
@@ -125,14 +142,8 @@ impl<W: uWrite> Calls<W::Error> for DebugMap<'_, W> {
             Call::Entry => ("entry", self.entry(&1u8, &2u8)),
             Call::Entries => ("entries", self.entries([(3u8, 4u8), (5, 6)])),
             Call::BeginAndEnd => {
-                let outcome = match self.begin_entry() {
-                    Ok(f) => 7u8.fmt(f),
-                    Err(error) => return ("begin_entry", Err(error)),
-                };
-                let outcome = match self.begin_value(outcome) {
-                    Ok(f) => 8u8.fmt(f),
-                    Err(error) => return ("begin_value", Err(error)),
-                };
+                let outcome = print_lent!(7u8, "begin_entry", self.begin_entry());
+                let outcome = print_lent!(8u8, "begin_value", self.begin_value(outcome));
                 ("end_entry", self.end_entry(outcome))
             }
             Call::Finish => ("finish", self.finish()),
@@ -146,20 +157,7 @@ impl<W: uWrite> Calls<W::Error> for DebugMap<'_, W> {
 
 impl<W: uWrite> Calls<W::Error> for DebugStruct<'_, W> {
     fn make(&mut self, call: Call) -> (&'static str, Result<(), W::Error>) {
-        if !self.is_open() {
-            return ("none", Ok(()));
-        }
-        match call {
-            Call::BeginAndEnd => {
-                let outcome = match self.begin_field("a") {
-                    Ok(f) => 1u8.fmt(f),
-                    Err(error) => return ("begin_field", Err(error)),
-                };
-                ("end_field", self.end_field(outcome))
-            }
-            Call::Entry => ("field", self.field("b", &2u8)),
-            Call::Entries | Call::Finish => ("finish", self.finish()),
-        }
+        make_for_fields!(self, call, "a", "b")
     }
 
     fn may_continue(&self) -> bool {
@@ -169,20 +167,7 @@ impl<W: uWrite> Calls<W::Error> for DebugStruct<'_, W> {
 
 impl<W: uWrite> Calls<W::Error> for DebugTuple<'_, W> {
     fn make(&mut self, call: Call) -> (&'static str, Result<(), W::Error>) {
-        if !self.is_open() {
-            return ("none", Ok(()));
-        }
-        match call {
-            Call::BeginAndEnd => {
-                let outcome = match self.begin_field() {
-                    Ok(f) => 1u8.fmt(f),
-                    Err(error) => return ("begin_field", Err(error)),
-                };
-                ("end_field", self.end_field(outcome))
-            }
-            Call::Entry => ("field", self.field(&2u8)),
-            Call::Entries | Call::Finish => ("finish", self.finish()),
-        }
+        make_for_fields!(self, call)
     }
 
     fn may_continue(&self) -> bool {

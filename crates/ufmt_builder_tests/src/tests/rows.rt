@@ -4,7 +4,12 @@ use std::process::Abort;
 
 /// Asserts that the table has these rows.
 pub fn has_rows(rt: &impl Abort, table: &Table, wanted: &str) {
-    assert_eq!(rt; table.text(), Some(wanted));
+    let given = table.text().unwrap_or("no memory for a row");
+    let rows = given.split(";\n").zip(wanted.split(";\n"));
+    for (number, (given, wanted)) in rows.enumerate() {
+        assert_eq!(rt; (number, given), (number, wanted));
+    }
+    assert_eq!(rt; given, wanted);
 }
 
 /// Rows, one after another, with a semicolon and a line feed after each.
