@@ -5,37 +5,32 @@ use std::alloc::{AllocError, Global};
 use ufmt::layout::Mode;
 
 // The plain text of `depth` nested lists around `inner`.
-fn plain_lists(alloc: Global, depth: usize, inner: &[u8]) -> Result<Vec<u8>, AllocError> {
-    let mut text = Vec::new(alloc);
-    for _ in 0..depth {
-        text.push(b'[')?;
-    }
-    text.extend_from_slice(inner)?;
-    for _ in 0..depth {
-        text.push(b']')?;
-    }
+fn plain_lists(alloc: Global, depth: usize, inner: &str) -> Result<String, AllocError> {
+    let mut text = "[".repeat(alloc, depth)?;
+    text.push_str(inner)?;
+    text.push_str(&"]".repeat(alloc, depth)?)?;
     Ok(text)
 }
 
-fn indent(text: &mut Vec<u8>, depth: usize) -> Result<(), AllocError> {
+fn indent(text: &mut String, depth: usize) -> Result<(), AllocError> {
     for _ in 0..depth {
-        text.extend_from_slice(b"    ")?;
+        text.push_str("    ")?;
     }
     Ok(())
 }
 
 // The pretty text of these lists.
-fn pretty_lists(alloc: Global, depth: usize, inner: &[u8]) -> Result<Vec<u8>, AllocError> {
-    let mut text = Vec::new(alloc);
+fn pretty_lists(alloc: Global, depth: usize, inner: &str) -> Result<String, AllocError> {
+    let mut text = String::new(alloc);
     for k in 0..depth {
-        text.extend_from_slice(b"[\n")?;
+        text.push_str("[\n")?;
         indent(&mut text, k + 1)?;
     }
-    text.extend_from_slice(inner)?;
+    text.push_str(inner)?;
     for k in 0..depth {
-        text.extend_from_slice(b",\n")?;
+        text.push_str(",\n")?;
         indent(&mut text, depth - k - 1)?;
-        text.push(b']')?;
+        text.push(']')?;
     }
     Ok(text)
 }
@@ -47,98 +42,38 @@ fn verdict_on_lists(
     inner: &str,
 ) -> Result<Verdict, AllocError> {
     let text = match mode {
-        Mode::Plain => plain_lists(alloc, depth, inner.as_bytes())?,
-        Mode::Pretty => pretty_lists(alloc, depth, inner.as_bytes())?,
+        Mode::Plain => plain_lists(alloc, depth, inner)?,
+        Mode::Pretty => pretty_lists(alloc, depth, inner)?,
     };
-    Ok(verdict_on(alloc, mode, &text))
+    Ok(verdict_on(alloc, mode, text.as_bytes()))
 }
 
 #[test]
 fn blocks_with_entries_are_nested_at_most_255_deep(rt: HostRuntime) {
-    let rows = [
-        (
-            "a leaf in 255 plain lists",
-            Mode::Plain,
-            255,
-            "x",
-            Verdict::Taken,
-        ),
-        (
-            "an empty list in 255 plain lists",
-            Mode::Plain,
-            255,
-            "[]",
-            Verdict::Taken,
-        ),
-        (
-            "a leaf in 256 plain lists",
-            Mode::Plain,
-            256,
-            "x",
-            Verdict::Refused,
-        ),
-        (
-            "an empty list in 256 plain lists",
-            Mode::Plain,
-            256,
-            "[]",
-            Verdict::Refused,
-        ),
-        (
-            "a leaf in 255 pretty lists",
-            Mode::Pretty,
-            255,
-            "x",
-            Verdict::Taken,
-        ),
-        (
-            "an empty list in 255 pretty lists",
-            Mode::Pretty,
-            255,
-            "[]",
-            Verdict::Taken,
-        ),
-        (
-            "a leaf in 256 pretty lists",
-            Mode::Pretty,
-            256,
-            "x",
-            Verdict::Refused,
-        ),
-        (
-            "an empty list in 256 pretty lists",
-            Mode::Pretty,
-            256,
-            "[]",
-            Verdict::Refused,
-        ),
-    ];
-    for (case, mode, depth, inner, wanted) in rows {
-        let given = verdict_on_lists(rt.alloc(), mode, depth, inner);
-        same(&rt, given, Ok(wanted), case);
+    for (case, mode) in [("plain", Mode::Plain), ("pretty", Mode::Pretty)] {
+        for (depth, wanted) in [(255, Verdict::Taken), (256, Verdict::Refused)] {
+            for inner in ["x", "[]"] {
+                let given = verdict_on_lists(rt.alloc(), mode, depth, inner);
+                same(&rt, (depth, inner, given), (depth, inner, Ok(wanted)), case);
+            }
+        }
     }
 }
 
-// `count` opening lines of lists, each with four spaces more than the line above.
-fn opening_lines(alloc: Global, count: usize) -> Result<Vec<u8>, AllocError> {
-    let mut text = Vec::new(alloc);
-    for k in 0..count {
-        indent(&mut text, k)?;
-        text.extend_from_slice(b"[\n")?;
-    }
-    Ok(text)
-}
-
-// The verdicts on opening brackets, and on opening lines.
+// The verdicts on opening brackets, and on opening lines, each with four spaces more than the line above.
 fn verdicts_on_openings(
     alloc: Global,
     brackets: usize,
     lines: usize,
 ) -> Result<(Verdict, Verdict), AllocError> {
-    let brackets = vec![in alloc; b'['; brackets]?;
-    let lines = opening_lines(alloc, lines)?;
-    let plain = verdict_on(alloc, Mode::Plain, &brackets);
-    Ok((plain, verdict_on(alloc, Mode::Pretty, &lines)))
+    let brackets = "[".repeat(alloc, brackets)?;
+    let mut text = String::new(alloc);
+    for k in 0..lines {
+        indent(&mut text, k)?;
+        text.push_str("[\n")?;
+    }
+    let plain = verdict_on(alloc, Mode::Plain, brackets.as_bytes());
+    Ok((plain, verdict_on(alloc, Mode::Pretty, text.as_bytes())))
 }
 
 #[test]

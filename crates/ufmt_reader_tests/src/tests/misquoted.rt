@@ -4,52 +4,21 @@ use super::verdict::{Verdict, verdict_on};
 use std::alloc::{AllocError, Global};
 use ufmt::layout::Mode;
 
-// A character in a wrong spelling, in a text or by itself.
-const SPELLED_OTHERWISE: [&[u8]; 26] = [
-    b"\"\\u{a}\"",
-    b"'\\u{a}'",
-    b"\"\\u{07f}\"",
-    b"'\\u{07f}'",
-    b"\"\\u{7F}\"",
-    b"'\\u{7F}'",
-    b"\"\\u{41}\"",
-    b"'\\u{41}'",
-    b"\"\\u{1B}\"",
-    b"'\\u{1B}'",
-    b"\"\\u{01}\"",
-    b"'\\u{001}'",
-    b"\"\\u{0}\"",
-    b"'\\u{9}'",
-    b"\"\\u{d}\"",
-    b"\"\\u{22}\"",
-    b"'\\u{27}'",
-    b"\"\\u{5c}\"",
-    b"\"\\u{20}\"",
-    b"'\\u{80}'",
-    b"\"\\u{80}\"",
-    b"\"\\u{e9}\"",
-    b"\"\\'\"",
-    b"'\\\"'",
-    b"'''",
-    b"\"\"\"",
-];
+// Leaves in wrong quotes, with a bar between each two. Here a character has a wrong spelling, in a text or by itself.
+const SPELLED_OTHERWISE: &str =
+    r#""\u{a}"|'\u{a}'|"\u{07f}"|'\u{07f}'|"\u{7F}"|'\u{7F}'|"\u{41}"|'\u{41}'|"\u{1B}"|'\u{1B}'|"\u{01}"|'\u{001}'|"\u{0}"|'\u{9}'|"\u{d}"|"\u{22}"|'\u{27}'|"\u{5c}"|"\u{20}"|'\u{80}'|"\u{80}"|"\u{e9}"|"\'"|'\"'|'''|""""#;
 
 // Escapes that don't exist.
-const NO_ESCAPES: [&[u8]; 13] = [
-    b"\"\\x\"",
-    b"'\\x'",
-    b"\"\\a\"",
-    b"'\\a'",
-    b"\"\\x41\"",
-    b"\"\\N\"",
-    b"\"\\1\"",
-    b"\"\\ \"",
-    b"\"\\u1b\"",
-    b"\"\\u{}\"",
-    b"'\\u{}'",
-    b"\"\\u{1b\"",
-    b"\"\\U{1b}\"",
-];
+const NO_ESCAPES: &str =
+    r#""\x"|'\x'|"\a"|'\a'|"\x41"|"\N"|"\1"|"\ "|"\u1b"|"\u{}"|'\u{}'|"\u{1b"|"\U{1b}""#;
+
+// No character or several between apostrophes, an open quote, or bytes after the closing quote.
+const MISCOUNTED: &str =
+    "''|'ab'|'\u{e9}\u{e9}'|'e\u{301}'|'\\n\\n'|'a\\''|\"|'|\"a|'a|a\"|a'|\"a'|'a\"|\"\\|\"\\\"|'\\'|\"a\"b|'a'b|\"a\"\"b\"|\"a\" ";
+
+// Leaves without quotes, and leaves in quotes as they are printed.
+const RIGHT: &str =
+    "x|()|\"\"|\"a\\\"b\\n\"|\"\\0\\t\\r\\\\\\u{1}\\u{1b}\\u{7f}'é€\"|'\"'|'\\''|'\\u{7f}'|'€'";
 
 // Bytes that are no UTF-8, in a text or as a character.
 const NOT_UTF8: [&[u8]; 9] = [
@@ -62,31 +31,6 @@ const NOT_UTF8: [&[u8]; 9] = [
     b"\"\xed\xa0\x80\"",
     b"'\xed\xa0\x80'",
     b"\"a\xf4\x90\x80\x80\"",
-];
-
-// No character or several between apostrophes, an open quote, or bytes after the closing quote.
-const MISCOUNTED: [&[u8]; 21] = [
-    b"''",
-    b"'ab'",
-    b"'\xc3\xa9\xc3\xa9'",
-    b"'e\xcc\x81'",
-    b"'\\n\\n'",
-    b"'a\\''",
-    b"\"",
-    b"'",
-    b"\"a",
-    b"'a",
-    b"a\"",
-    b"a'",
-    b"\"a'",
-    b"'a\"",
-    b"\"\\",
-    b"\"\\\"",
-    b"'\\'",
-    b"\"a\"b",
-    b"'a'b",
-    b"\"a\"\"b\"",
-    b"\"a\" ",
 ];
 
 // A mode, and what is around a leaf: nothing, a list, a map where it is the key, or a struct.
@@ -120,28 +64,24 @@ fn count_places(alloc: Global, leaf: &[u8], wanted: Verdict) -> Result<usize, Al
     Ok(count)
 }
 
-// The number of leaves before the first that isn't refused in each place, and that leaf.
-fn refused<'a>(alloc: Global, leaves: &[&'a [u8]]) -> (usize, &'a [u8]) {
-    let mut count = 0usize;
-    for leaf in leaves {
-        if count_places(alloc, leaf, Verdict::Refused) != Ok(8) {
-            return (count, leaf);
-        }
-        count = count.saturating_add(1);
-    }
-    (count, b"none")
-}
-
 #[test]
-fn leaves_in_wrong_quotes_are_refused(rt: HostRuntime) {
-    let spelled = refused(rt.alloc(), &SPELLED_OTHERWISE);
-    same(&rt, spelled, (26, b"none"), "spelled otherwise");
-    let escapes = refused(rt.alloc(), &NO_ESCAPES);
-    same(&rt, escapes, (13, b"none"), "no escapes");
-    let bytes = refused(rt.alloc(), &NOT_UTF8);
-    same(&rt, bytes, (9, b"none"), "no UTF-8");
-    let counts = refused(rt.alloc(), &MISCOUNTED);
-    same(&rt, counts, (21, b"none"), "miscounted");
+fn leaves_are_taken_in_right_quotes_and_refused_in_wrong_ones(rt: HostRuntime) {
+    for (leaves, wanted, length) in [
+        (SPELLED_OTHERWISE, Verdict::Refused, 26),
+        (NO_ESCAPES, Verdict::Refused, 13),
+        (MISCOUNTED, Verdict::Refused, 21),
+        (RIGHT, Verdict::Taken, 9),
+    ] {
+        same(&rt, leaves.split('|').count(), length, leaves);
+        for leaf in leaves.split('|') {
+            let places = count_places(rt.alloc(), leaf.as_bytes(), wanted);
+            same(&rt, places, Ok(8), leaf);
+        }
+    }
+    for leaf in NOT_UTF8 {
+        let places = count_places(rt.alloc(), leaf, Verdict::Refused);
+        same(&rt, (leaf, places), (leaf, Ok(8)), "no UTF-8");
+    }
 }
 
 // The number of places in which a byte without an escape is refused, in a text and as a character.
@@ -159,26 +99,6 @@ fn control_characters_are_refused_in_quotes(rt: HostRuntime) {
     }
     same(&rt, count_refused(rt.alloc(), 127), Ok((8, 8)), "the last");
     same(&rt, count_refused(rt.alloc(), 126), Ok((0, 0)), "a tilde");
-}
-
-// Leaves without quotes, and leaves in quotes as they are printed.
-#[test]
-fn leaves_in_right_quotes_are_taken(rt: HostRuntime) {
-    let leaves = [
-        "x",
-        "()",
-        "\"\"",
-        "\"a\\\"b\\n\"",
-        "\"\\0\\t\\r\\\\\\u{1}\\u{1b}\\u{7f}'é€\"",
-        "'\"'",
-        "'\\''",
-        "'\\u{7f}'",
-        "'€'",
-    ];
-    for leaf in leaves {
-        let count = count_places(rt.alloc(), leaf.as_bytes(), Verdict::Taken);
-        same(&rt, count, Ok(8), leaf);
-    }
 }
 
 // A name in quotes, plain and pretty.

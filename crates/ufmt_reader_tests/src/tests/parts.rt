@@ -7,111 +7,50 @@ use ufmt::layout::Mode;
 use ufmt_doc::doc::Doc;
 use ufmt_doc::plain_reader::{ReadError, read_plain};
 
-// How many entries, pairs and fields a document has.
-type Counts = (Option<usize>, Option<usize>, Option<usize>);
-
-fn counts(doc: &Doc) -> Counts {
-    (
-        doc.entries().map(|entries| entries.len()),
-        doc.pairs().map(|pairs| pairs.len()),
-        doc.fields().map(|fields| fields.len()),
-    )
-}
-
-// Whether a document is a set, its text as a leaf, its name, and how many parts it has.
-type Row<'a> = (bool, Option<&'a str>, Option<&'a str>, Counts);
-
-fn is_set(doc: &Doc) -> bool {
-    matches!(doc, Doc::SetOf(_))
-}
-
-fn is_alike(doc: &Doc, row: Row<'_>) -> bool {
-    let (wanted, leaf, name, parts) = row;
-    let has_words = doc.as_leaf() == leaf && doc.name() == name;
-    has_words && is_set(doc) == wanted && counts(doc) == parts
-}
-
-fn is_read(alloc: Global, mode: Mode, text: &str, row: Row<'_>) -> Result<bool, ReadError> {
+// What a document is and has: whether it is a set, its text as a leaf, its name, and how many entries, pairs and
+// fields.
+fn described(alloc: Global, mode: Mode, text: &str) -> Result<String, ReadError> {
     let doc = read(alloc, mode, text.as_bytes())?;
-    Ok(is_alike(&doc, row))
+    let is_set = matches!(doc, Doc::SetOf(_));
+    let mut said = String::from_str(alloc, if is_set { "a set" } else { "" })?;
+    for (part, words) in [(" leaf ", doc.as_leaf()), (" name ", doc.name())] {
+        if let Some(words) = words {
+            said.push_str(part)?;
+            said.push_str(words)?;
+        }
+    }
+    for (part, count) in [
+        ("entries", doc.entries().map(|entries| entries.len())),
+        ("pairs", doc.pairs().map(|pairs| pairs.len())),
+        ("fields", doc.fields().map(|fields| fields.len())),
+    ] {
+        if let Some(count) = count {
+            said.push_str(&format!(in alloc; " {count} {part}")?)?;
+        }
+    }
+    Ok(said)
 }
 
 #[test]
 fn each_kind_of_document_has_its_parts(rt: HostRuntime) {
-    let rows: [(Mode, &str, Row<'_>); 14] = [
-        (
-            Mode::Plain,
-            "x",
-            (false, Some("x"), None, (None, None, None)),
-        ),
-        (
-            Mode::Plain,
-            "n",
-            (false, Some("n"), None, (None, None, None)),
-        ),
-        (
-            Mode::Plain,
-            "()",
-            (false, Some("()"), None, (None, None, None)),
-        ),
-        (
-            Mode::Plain,
-            "[]",
-            (false, None, None, (Some(0), None, None)),
-        ),
-        (
-            Mode::Plain,
-            "[a, b]",
-            (false, None, None, (Some(2), None, None)),
-        ),
-        (
-            Mode::Plain,
-            "{}",
-            (false, None, None, (None, Some(0), None)),
-        ),
-        (
-            Mode::Pretty,
-            "{}",
-            (false, None, None, (None, Some(0), None)),
-        ),
-        (
-            Mode::Plain,
-            "{a}",
-            (true, None, None, (Some(1), None, None)),
-        ),
-        (
-            Mode::Plain,
-            "{x}",
-            (true, None, None, (Some(1), None, None)),
-        ),
-        (
-            Mode::Plain,
-            "{a: b, c: d}",
-            (false, None, None, (None, Some(2), None)),
-        ),
-        (
-            Mode::Plain,
-            "S { a: b }",
-            (false, None, Some("S"), (None, None, Some(1))),
-        ),
-        (
-            Mode::Plain,
-            "n(x)",
-            (false, None, Some("n"), (Some(1), None, None)),
-        ),
-        (
-            Mode::Plain,
-            "(x,)",
-            (false, None, Some(""), (Some(1), None, None)),
-        ),
-        (
-            Mode::Plain,
-            "(x, y, z)",
-            (false, None, Some(""), (Some(3), None, None)),
-        ),
-    ];
-    for (mode, text, row) in rows {
-        same(&rt, is_read(rt.alloc(), mode, text, row), Ok(true), text);
+    for (mode, text, wanted) in [
+        (Mode::Plain, "x", " leaf x"),
+        (Mode::Plain, "n", " leaf n"),
+        (Mode::Plain, "()", " leaf ()"),
+        (Mode::Plain, "[]", " 0 entries"),
+        (Mode::Plain, "[a, b]", " 2 entries"),
+        (Mode::Plain, "{}", " 0 pairs"),
+        (Mode::Pretty, "{}", " 0 pairs"),
+        (Mode::Plain, "{a}", "a set 1 entries"),
+        (Mode::Plain, "{x}", "a set 1 entries"),
+        (Mode::Plain, "{a: b, c: d}", " 2 pairs"),
+        (Mode::Plain, "S { a: b }", " name S 1 fields"),
+        (Mode::Plain, "n(x)", " name n 1 entries"),
+        (Mode::Plain, "(x,)", " name  1 entries"),
+        (Mode::Plain, "(x, y, z)", " name  3 entries"),
+    ] {
+        let given = described(rt.alloc(), mode, text);
+        same(&rt, given.as_deref().ok(), Some(wanted), text);
     }
 }
 
@@ -125,27 +64,20 @@ fn is_found(alloc: Global, text: &str, name: &str, leaf: Option<&str>) -> Result
     Ok(leaf_of_field(&doc, name) == leaf)
 }
 
+const MEASUREMENT: &str = "Measurement { channel: 3, celsius: -4 }";
+
 #[test]
 fn field_finds_fields_by_name(rt: HostRuntime) {
-    let rows = [
-        (
-            "Measurement { channel: 3, celsius: -4 }",
-            "channel",
-            Some("3"),
-        ),
-        (
-            "Measurement { channel: 3, celsius: -4 }",
-            "celsius",
-            Some("-4"),
-        ),
-        ("Measurement { channel: 3, celsius: -4 }", "Celsius", None),
-        ("Measurement { channel: 3, celsius: -4 }", "", None),
+    for (text, name, leaf) in [
+        (MEASUREMENT, "channel", Some("3")),
+        (MEASUREMENT, "celsius", Some("-4")),
+        (MEASUREMENT, "Celsius", None),
+        (MEASUREMENT, "", None),
         ("S { a: b, a: c }", "a", Some("b")),
         ("S { a: [b], c: d }", "a", None),
         ("{a: b}", "a", None),
         ("a", "a", None),
-    ];
-    for (text, name, leaf) in rows {
+    ] {
         let is_found = is_found(rt.alloc(), text, name, leaf);
         same(&rt, is_found, Ok(true), text);
     }

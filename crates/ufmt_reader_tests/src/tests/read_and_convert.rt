@@ -1,19 +1,12 @@
 //! Tests that readers and conversions agree, on texts and on inputs that are no text.
 ghost use Rattle.std.specs.Prelude.{◌≤◌, length};
 
+use super::same;
 use super::texts::{NO_WORDS, NODE_PLAIN, NODE_PRETTY, NOT_PLAIN, NOT_PRETTY, TEXTS};
 use super::verdict::{Verdict, converts_to, read, verdict_on};
-use super::{holds, same};
 use std::alloc::{AllocError, Global};
 use ufmt::layout::Mode;
-use ufmt_doc::convert::{to_plain, to_pretty};
 use ufmt_doc::doc::Doc;
-
-#[test]
-fn to_pretty_and_to_plain_can_succeed(rt: HostRuntime) {
-    holds(&rt, to_pretty(rt.alloc(), b"x").is_ok(), "to_pretty");
-    holds(&rt, to_plain(rt.alloc(), b"x").is_ok(), "to_plain");
-}
 
 // Whether each text converts to the other.
 fn are_converted(alloc: Global, plain: &[u8], pretty: &[u8]) -> bool {
@@ -28,19 +21,12 @@ fn texts_are_read_and_converted(rt: HostRuntime) {
     for row in TEXTS.split("\n\n") {
         let (plain, pretty) = row.split_once('\n').unwrap_or((row, ""));
         let (plain, pretty) = (plain.as_bytes(), pretty.as_bytes());
-        same(
-            &rt,
+        let given = (
             verdict_on(alloc, Mode::Plain, plain),
-            Verdict::Taken,
-            row,
-        );
-        same(
-            &rt,
             verdict_on(alloc, Mode::Pretty, pretty),
-            Verdict::Taken,
-            row,
+            are_converted(alloc, plain, pretty),
         );
-        holds(&rt, are_converted(alloc, plain, pretty), row);
+        same(&rt, given, (Verdict::Taken, Verdict::Taken, true), row);
         count = count.saturating_add(1);
     }
     same(&rt, count, 44, "documents");
@@ -65,10 +51,10 @@ fn inputs_that_are_no_text_are_refused(rt: HostRuntime) {
     let pretty = refused(rt.alloc(), Mode::Pretty, NOT_PRETTY);
     same(&rt, pretty, (29, None), "pretty texts");
     for text in NO_WORDS {
-        let plain = verdict_on(rt.alloc(), Mode::Plain, text);
-        let pretty = verdict_on(rt.alloc(), Mode::Pretty, text);
-        same(&rt, plain, Verdict::Refused, "bytes that are no words");
-        same(&rt, pretty, Verdict::Refused, "bytes that are no words");
+        for mode in [Mode::Plain, Mode::Pretty] {
+            let given = verdict_on(rt.alloc(), mode, text);
+            same(&rt, (text, given), (text, Verdict::Refused), "no words");
+        }
     }
 }
 
