@@ -43,24 +43,6 @@ fn wanted(outcome: Result<(), Fault>) -> Ran {
     (outcome, true, (unread, unwritten))
 }
 
-#[test]
-fn each_command_can_succeed(rt: HostRuntime) {
-    let rows: [(Command, &[u8], &[u8]); 3] = [
-        (Command::Lengths, b"ab\n", b"[2]\n"),
-        (Command::Pretty, b"[ab]", b"[\n    ab,\n]\n"),
-        (Command::Plain, b"[\n    ab,\n]", b"[ab]\n"),
-    ];
-    for (command, input, written) in rows {
-        let given = ran_by(rt.alloc(), command, input, WHOLE, written);
-        same(
-            &rt,
-            (command, given),
-            (command, wanted(Ok(()))),
-            "a command",
-        );
-    }
-}
-
 // Runs by one byte a call, by two and by all.
 fn rans_by_any(alloc: Global, command: Command, input: &[u8], written: &[u8]) -> [Ran; 3] {
     [
@@ -72,7 +54,14 @@ fn rans_by_any(alloc: Global, command: Command, input: &[u8], written: &[u8]) ->
 
 #[test]
 fn lengths_counts_the_bytes_of_lines(rt: HostRuntime) {
-    let rows: [(&[u8], &str); 2] = [(b"ab\r\n", "[3]\n"), (b"\xff\xfe\n\x80", "[2, 1]\n")];
+    let rows: [(&[u8], &str); 6] = [
+        (b"", "[]\n"),
+        (b"\n", "[0]\n"),
+        (b"ab\n", "[2]\n"),
+        (b"ab\n\nxyz", "[2, 0, 3]\n"),
+        (b"ab\r\n", "[3]\n"),
+        (b"\xff\xfe\n\x80", "[2, 1]\n"),
+    ];
     for (input, written) in rows {
         let given = rans_by_any(rt.alloc(), Command::Lengths, input, written.as_bytes());
         same(&rt, given, [wanted(Ok(())); 3], written);
@@ -98,34 +87,6 @@ const README_PRETTY: &str = "\
     },
 ]
 ";
-
-// The line feed at the end is no part of a text. `inputs` has more texts.
-#[test]
-fn pretty_and_plain_lead_to_each_other(rt: HostRuntime) {
-    let rows = [
-        (Command::Pretty, README_PLAIN, README_PRETTY),
-        (Command::Plain, README_PRETTY, README_PLAIN),
-    ];
-    for (command, input, written) in rows {
-        let given = ran_by(
-            rt.alloc(),
-            command,
-            input.as_bytes(),
-            WHOLE,
-            written.as_bytes(),
-        );
-        same(&rt, given, wanted(Ok(())), input);
-        let input = input.trim_end();
-        let given = ran_by(
-            rt.alloc(),
-            command,
-            input.as_bytes(),
-            WHOLE,
-            written.as_bytes(),
-        );
-        same(&rt, given, wanted(Ok(())), input);
-    }
-}
 
 // The plain text of `count` nested lists around `inner`, and a line feed.
 fn nested_lists(alloc: Global, count: usize, inner: &str) -> Result<Vec<u8>, AllocError> {
