@@ -51,38 +51,14 @@ fn measured(
 // bytes more.
 #[test]
 fn lists_are_nested_255_deep_and_lines_begin_with_1020_spaces(rt: HostRuntime) {
-    let rows: [(&str, usize, Shape<'_>, &str, Sizes); 4] = [
-        (
-            "255 lists around a leaf",
-            255,
-            Leaf("x"),
-            "x,",
-            (true, 511, 261_376, (511, 1020)),
-        ),
-        (
-            "255 lists around an empty list",
-            255,
-            Listed(&[]),
-            "[],",
-            (true, 512, 261_377, (511, 1020)),
-        ),
-        (
-            "256 lists around a leaf",
-            256,
-            Leaf("x"),
-            "x,",
-            (false, 513, 263_421, (513, 1020)),
-        ),
-        (
-            "300 lists around a leaf",
-            300,
-            Leaf("x"),
-            "x,",
-            (false, 601, 353_401, (601, 1020)),
-        ),
+    let rows: [(usize, Shape<'_>, &str, Sizes); 4] = [
+        (255, Leaf("x"), "x,", (true, 511, 261_376, (511, 1020))),
+        (255, Listed(&[]), "[],", (true, 512, 261_377, (511, 1020))),
+        (256, Leaf("x"), "x,", (false, 513, 263_421, (513, 1020))),
+        (300, Leaf("x"), "x,", (false, 601, 353_401, (601, 1020))),
     ];
-    for (case, count, inner, innermost, wanted) in rows {
+    for (count, inner, innermost, wanted) in rows {
         let given = measured(rt.alloc(), count, &inner, innermost);
-        same(&rt, given, Ok(wanted), case);
+        same(&rt, (count, given), (count, Ok(wanted)), innermost);
     }
 }
