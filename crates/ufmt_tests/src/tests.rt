@@ -1,6 +1,16 @@
 //! Tests of what no clause says: the texts that ufmt and core::fmt print of the same values, where
 //! pieces end, what a failing writer leaves, and that each call can succeed. `rows` asserts a
 //! table; `piece_rows` and `text_rows` make its rows.
+// Adds a row of each of these nonzero numbers by a method of the table.
+macro_rules! put_nonzero {
+    ($table:ident.$put:ident: $($number:ident $value:expr),*) => {
+        $(match $number::new($value) {
+            Some(number) => $table.$put(number),
+            None => $table.put_nothing(),
+        })*
+    };
+}
+
 mod allocators;
 mod blocks;
 mod builders;

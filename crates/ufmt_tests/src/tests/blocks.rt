@@ -4,7 +4,7 @@ use std::alloc::{AllocError, Global};
 use std::collections::{BTreeMap, BTreeSet};
 use ufmt_user::{Braces, InPrettyMode, Pair, Parens, Tuple, X};
 
-const STRUCTS_AND_TUPLES: &str = "\
+const BLOCKS: &str = "\
 Pair| {| |x|: |1|, |y|: |2| |}|~
 Pair| {|\n|    |x|: |1|,\n|    |y|: |2|,\n|}|;
 Braces|;
@@ -17,22 +17,6 @@ Parens|;
 |(|\n|    |1|,\n|    |2|,\n|)|;
 |(|1|,|)|~
 |(|\n|    |1|,\n|)|;
-";
-
-#[test]
-fn structs_and_tuples_print_in_pieces(rt: HostRuntime) {
-    let mut table = Table::new(rt.alloc());
-    table.pieces(&Pair { x: 1u64, y: 2u64 });
-    table.pieces(&Braces {});
-    table.pieces(&Tuple(1u8, 2u8));
-    table.pieces(&X(1u8));
-    table.pieces(&Parens());
-    table.pieces(&(1i32, 2i32));
-    table.pieces(&(1u8,));
-    has_rows(&rt, &table, STRUCTS_AND_TUPLES);
-}
-
-const LISTS_AND_SETS: &str = "\
 [|1|, |2|]|~
 [|\n|    |1|,\n|    |2|,\n|]|;
 [|1|, |2|]|~
@@ -43,6 +27,22 @@ const LISTS_AND_SETS: &str = "\
 {|\n|    |1|,\n|    |2|,\n|}|;
 [|{|1|, |2|}|]|~
 [|\n|    |{|\n|    |    |1|,\n|    |    |2|,\n|    |}|,\n|]|;
+{|}|;
+{|1|: |2|, |3|: |4|}|~
+{|\n|    |1|: |2|,\n|    |3|: |4|,\n|}|;
+Some|(|1|)|~
+Some|(|\n|    |1|,\n|)|;
+{|1|: |[|Some|(|2|)|, |None|]|}|~
+{|\n|    |1|: |[|\n|    |    |Some|(|\n|    |    |    |2|,\n|    |    |)|,\n|    |    |None|,\n|    |]|,\n|}|;
+Some|(|\n|    |1|,\n|)|;
+[|Some|(|\n|    |1|,\n|)|]|~
+[|\n|    |Some|(|\n|    |    |1|,\n|    |)|,\n|]|;
+Ok|(|1|)|~
+Ok|(|\n|    |1|,\n|)|;
+Err|(|2|)|~
+Err|(|\n|    |2|,\n|)|;
+[|Some|(|[|Some|(|[|1|]|)|]|)|]|~
+[|\n|    |Some|(|\n|    |    |[|\n|    |    |    |Some|(|\n|    |    |    |    |[|\n|    |    |    |    |    |1|,\n|    |    |    |    |]|,\n|    |    |    |)|,\n|    |    |]|,\n|    |)|,\n|]|;
 ";
 
 fn list_of_a_set(alloc: Global) -> Result<Vec<BTreeSet<u64>>, AllocError> {
@@ -52,67 +52,31 @@ fn list_of_a_set(alloc: Global) -> Result<Vec<BTreeSet<u64>>, AllocError> {
 }
 
 #[test]
-fn lists_and_sets_print_in_pieces(rt: HostRuntime) {
+fn blocks_print_in_pieces(rt: HostRuntime) {
     let mut table = Table::new(rt.alloc());
+    table.pieces(&Pair { x: 1u64, y: 2u64 });
+    table.pieces(&Braces {});
+    table.pieces(&Tuple(1u8, 2u8));
+    table.pieces(&X(1u8));
+    table.pieces(&Parens());
+    table.pieces(&(1i32, 2i32));
+    table.pieces(&(1u8,));
     table.pieces(&[1u64, 2]);
     table.pieces(&[1i32, 2].as_slice());
     table.pieces(&[0u8; 0]);
     table.pieces_of_made(set::<i32>(rt.alloc(), &[]));
     table.pieces_of_made(set(rt.alloc(), &[2u64, 1]));
     table.pieces_of_made(list_of_a_set(rt.alloc()));
-    has_rows(&rt, &table, LISTS_AND_SETS);
-}
-
-const MAPS_AND_OPTIONS: &str = "\
-{|}|;
-{|1|: |2|, |3|: |4|}|~
-{|\n|    |1|: |2|,\n|    |3|: |4|,\n|}|;
-Some|(|1|)|~
-Some|(|\n|    |1|,\n|)|;
-{|1|: |[|Some|(|2|)|, |None|]|}|~
-{|\n|    |1|: |[|\n|    |    |Some|(|\n|    |    |    |2|,\n|    |    |)|,\n|    |    |None|,\n|    |]|,\n|}|;
-";
-
-#[test]
-fn maps_and_options_print_in_pieces(rt: HostRuntime) {
-    let mut table = Table::new(rt.alloc());
     table.pieces_of_made(map::<u8, u8>(rt.alloc(), &[]));
     table.pieces_of_made(map(rt.alloc(), &[(3i32, 4i32), (1, 2)]));
     table.pieces(&Some(1u8));
     table.pieces_of_made(map(rt.alloc(), &[(1u8, [Some(2u64), None])]));
-    has_rows(&rt, &table, MAPS_AND_OPTIONS);
-}
-
-const PRETTY_PARTS: &str = "\
-Some|(|\n|    |1|,\n|)|;
-[|Some|(|\n|    |1|,\n|)|]|~
-[|\n|    |Some|(|\n|    |    |1|,\n|    |)|,\n|]|;
-";
-
-// In pretty mode each value is a pretty part inside a pretty part.
-#[test]
-fn a_pretty_part_prints_in_pieces(rt: HostRuntime) {
-    let mut table = Table::new(rt.alloc());
+    // In pretty mode each value is a pretty part inside a pretty part.
     table.pieces(&InPrettyMode(Some(1u8)));
     table.pieces(&[InPrettyMode(Some(1u8))]);
-    has_rows(&rt, &table, PRETTY_PARTS);
-}
-
-const VARIANTS_AND_DEEP_BLOCKS: &str = "\
-Ok|(|1|)|~
-Ok|(|\n|    |1|,\n|)|;
-Err|(|2|)|~
-Err|(|\n|    |2|,\n|)|;
-[|Some|(|[|Some|(|[|1|]|)|]|)|]|~
-[|\n|    |Some|(|\n|    |    |[|\n|    |    |    |Some|(|\n|    |    |    |    |[|\n|    |    |    |    |    |1|,\n|    |    |    |    |]|,\n|    |    |    |)|,\n|    |    |]|,\n|    |)|,\n|]|;
-";
-
-// Each four spaces of an indentation are one piece.
-#[test]
-fn variants_and_deep_blocks_print_in_pieces(rt: HostRuntime) {
-    let mut table = Table::new(rt.alloc());
+    // Each four spaces of an indentation are one piece.
     table.pieces(&Ok::<u8, u8>(1));
     table.pieces(&Err::<u8, u8>(2));
     table.pieces(&[Some([Some([1u8])])]);
-    has_rows(&rt, &table, VARIANTS_AND_DEEP_BLOCKS);
+    has_rows(&rt, &table, BLOCKS);
 }

@@ -4,7 +4,7 @@ use super::rows::{Table, has_rows, list, map, repeated, same, set};
 use std::alloc::{AllocError, Global};
 use std::collections::{BTreeMap, BTreeSet};
 
-const LISTS: &str = "\
+const LIKE_UFMT: &str = "\
 [];
 [0]~
 [
@@ -23,33 +23,6 @@ const LISTS: &str = "\
         1,
     ],
 ];
-";
-
-#[test]
-fn lists_print_as_by_core_fmt(rt: HostRuntime) {
-    let mut table = Table::new(rt.alloc());
-    table.texts(&[0i32; 0].as_slice());
-    table.texts(&[0u64].as_slice());
-    table.texts(&Vec::<u64>::new(rt.alloc()));
-    table.texts_of_made(list(rt.alloc(), &[0i32, 1]));
-    table.texts(&[[1u64; 2]; 1]);
-    has_rows(&rt, &table, LISTS);
-}
-
-// ufmt 0.2.0 has arrays of at most 32.
-#[test]
-fn an_array_of_40_prints_as_by_core_fmt(rt: HostRuntime) {
-    let mut table = Table::new(rt.alloc());
-    table.texts(&[7u64; 40]);
-    let mut expected = Table::new(rt.alloc());
-    expected.put_both(
-        repeated(rt.alloc(), "[7", ", 7", 39, "]"),
-        repeated(rt.alloc(), "[\n", "    7,\n", 40, "]"),
-    );
-    same(&rt, table.text(), expected.text(), "sevens");
-}
-
-const SETS_AND_MAPS: &str = "\
 {1, 3}~
 {
     1,
@@ -62,23 +35,6 @@ const SETS_AND_MAPS: &str = "\
         9,
     ],
 };
-";
-
-fn ports(alloc: Global) -> Result<BTreeMap<u64, Vec<u64>>, AllocError> {
-    let mut ports = BTreeMap::new(alloc);
-    ports.insert(80u64, list(alloc, &[7u64, 9])?)?;
-    Ok(ports)
-}
-
-#[test]
-fn sets_and_maps_print_as_by_core_fmt(rt: HostRuntime) {
-    let mut table = Table::new(rt.alloc());
-    table.texts_of_made(set(rt.alloc(), &[3u64, 1]));
-    table.texts_of_made(ports(rt.alloc()));
-    has_rows(&rt, &table, SETS_AND_MAPS);
-}
-
-const OPTIONS_AND_RESULTS: &str = "\
 Some(0)~
 Some(
     0,
@@ -93,13 +49,39 @@ Err(
 );
 ";
 
+// ufmt 0.2.0 has arrays of at most 32.
 #[test]
-fn options_and_results_print_as_by_core_fmt(rt: HostRuntime) {
+fn an_array_of_40_prints_as_by_core_fmt(rt: HostRuntime) {
     let mut table = Table::new(rt.alloc());
+    table.texts(&[7u64; 40]);
+    let mut expected = Table::new(rt.alloc());
+    expected.put_both(
+        repeated(rt.alloc(), "[7", ", 7", 39, "]"),
+        repeated(rt.alloc(), "[\n", "    7,\n", 40, "]"),
+    );
+    same(&rt, table.text(), expected.text(), "sevens");
+}
+
+fn ports(alloc: Global) -> Result<BTreeMap<u64, Vec<u64>>, AllocError> {
+    let mut ports = BTreeMap::new(alloc);
+    ports.insert(80u64, list(alloc, &[7u64, 9])?)?;
+    Ok(ports)
+}
+
+#[test]
+fn collections_options_and_results_print_as_by_core_fmt(rt: HostRuntime) {
+    let mut table = Table::new(rt.alloc());
+    table.texts(&[0i32; 0].as_slice());
+    table.texts(&[0u64].as_slice());
+    table.texts(&Vec::<u64>::new(rt.alloc()));
+    table.texts_of_made(list(rt.alloc(), &[0i32, 1]));
+    table.texts(&[[1u64; 2]; 1]);
+    table.texts_of_made(set(rt.alloc(), &[3u64, 1]));
+    table.texts_of_made(ports(rt.alloc()));
     table.texts(&Some(0u64));
     table.texts(&Ok::<u64, i32>(1));
     table.texts(&Err::<u64, i32>(2));
-    has_rows(&rt, &table, OPTIONS_AND_RESULTS);
+    has_rows(&rt, &table, LIKE_UFMT);
 }
 
 const UNLIKE_UFMT: &str = "\

@@ -2,14 +2,14 @@
 ghost use Rattle.std.specs.Prelude.{[]};
 ghost use Rattle.ufmt.specs.Document.{leaf};
 
-use super::printed::Printed;
+use super::printed::{PREFIXED, Printed};
 use super::rows::{Table, has_rows, same};
 use std::alloc::{AllocError, Global};
 use std::cell::Cell;
+use std::test::Fail;
 use ufmt::pieces::{Display, InColumn};
 use ufmt::{
-    Align, Column, Formatter, HexOptions, Line, laws, line_into, pieces, uDebug, uWrite, uwrite,
-    write_line,
+    Align, Column, Formatter, Line, laws, line_into, pieces, uDebug, uWrite, uwrite, write_line,
 };
 use ufmt_user::{Counter, write_row};
 
@@ -46,80 +46,39 @@ fn of_each_width(
     Ok(row)
 }
 
+// Texts in columns, as rustc prints them, with the fill `*`.
 const OF_EACH_WIDTH: &str = "\
-| |  |   |    |     |      |       |;
-| |  |   |    |     |      |       |;
-| |  |   |    |     |      |       |;
 |*|**|***|****|*****|******|*******|;
 |*|**|***|****|*****|******|*******|;
 |*|**|***|****|*****|******|*******|;
-|é|éé|ééé|éééé|ééééé|éééééé|ééééééé|;
-|é|éé|ééé|éééé|ééééé|éééééé|ééééééé|;
-|é|éé|ééé|éééé|ééééé|éééééé|ééééééé|;
-|🦀|🦀🦀|🦀🦀🦀|🦀🦀🦀🦀|🦀🦀🦀🦀🦀|🦀🦀🦀🦀🦀🦀|🦀🦀🦀🦀🦀🦀🦀|;
-|🦀|🦀🦀|🦀🦀🦀|🦀🦀🦀🦀|🦀🦀🦀🦀🦀|🦀🦀🦀🦀🦀🦀|🦀🦀🦀🦀🦀🦀🦀|;
-|🦀|🦀🦀|🦀🦀🦀|🦀🦀🦀🦀|🦀🦀🦀🦀🦀|🦀🦀🦀🦀🦀🦀|🦀🦀🦀🦀🦀🦀🦀|;
-a|a|a |a  |a   |a    |a     |a      |;
-a|a|a | a | a  |  a  |  a   |   a   |;
-a|a| a|  a|   a|    a|     a|      a|;
 a|a|a*|a**|a***|a****|a*****|a******|;
 a|a|a*|*a*|*a**|**a**|**a***|***a***|;
 a|a|*a|**a|***a|****a|*****a|******a|;
-a|a|aé|aéé|aééé|aéééé|aééééé|aéééééé|;
-a|a|aé|éaé|éaéé|ééaéé|ééaééé|éééaééé|;
-a|a|éa|ééa|éééa|ééééa|éééééa|ééééééa|;
-a|a|a🦀|a🦀🦀|a🦀🦀🦀|a🦀🦀🦀🦀|a🦀🦀🦀🦀🦀|a🦀🦀🦀🦀🦀🦀|;
-a|a|a🦀|🦀a🦀|🦀a🦀🦀|🦀🦀a🦀🦀|🦀🦀a🦀🦀🦀|🦀🦀🦀a🦀🦀🦀|;
-a|a|🦀a|🦀🦀a|🦀🦀🦀a|🦀🦀🦀🦀a|🦀🦀🦀🦀🦀a|🦀🦀🦀🦀🦀🦀a|;
-abcd|abcd|abcd|abcd|abcd|abcd |abcd  |abcd   |;
-abcd|abcd|abcd|abcd|abcd|abcd | abcd | abcd  |;
-abcd|abcd|abcd|abcd|abcd| abcd|  abcd|   abcd|;
 abcd|abcd|abcd|abcd|abcd|abcd*|abcd**|abcd***|;
 abcd|abcd|abcd|abcd|abcd|abcd*|*abcd*|*abcd**|;
 abcd|abcd|abcd|abcd|abcd|*abcd|**abcd|***abcd|;
-abcd|abcd|abcd|abcd|abcd|abcdé|abcdéé|abcdééé|;
-abcd|abcd|abcd|abcd|abcd|abcdé|éabcdé|éabcdéé|;
-abcd|abcd|abcd|abcd|abcd|éabcd|ééabcd|éééabcd|;
-abcd|abcd|abcd|abcd|abcd|abcd🦀|abcd🦀🦀|abcd🦀🦀🦀|;
-abcd|abcd|abcd|abcd|abcd|abcd🦀|🦀abcd🦀|🦀abcd🦀🦀|;
-abcd|abcd|abcd|abcd|abcd|🦀abcd|🦀🦀abcd|🦀🦀🦀abcd|;
-é€🦀|é€🦀|é€🦀|é€🦀|é€🦀 |é€🦀  |é€🦀   |é€🦀    |;
-é€🦀|é€🦀|é€🦀|é€🦀|é€🦀 | é€🦀 | é€🦀  |  é€🦀  |;
-é€🦀|é€🦀|é€🦀|é€🦀| é€🦀|  é€🦀|   é€🦀|    é€🦀|;
 é€🦀|é€🦀|é€🦀|é€🦀|é€🦀*|é€🦀**|é€🦀***|é€🦀****|;
 é€🦀|é€🦀|é€🦀|é€🦀|é€🦀*|*é€🦀*|*é€🦀**|**é€🦀**|;
 é€🦀|é€🦀|é€🦀|é€🦀|*é€🦀|**é€🦀|***é€🦀|****é€🦀|;
-é€🦀|é€🦀|é€🦀|é€🦀|é€🦀é|é€🦀éé|é€🦀ééé|é€🦀éééé|;
-é€🦀|é€🦀|é€🦀|é€🦀|é€🦀é|éé€🦀é|éé€🦀éé|ééé€🦀éé|;
-é€🦀|é€🦀|é€🦀|é€🦀|éé€🦀|ééé€🦀|éééé€🦀|ééééé€🦀|;
-é€🦀|é€🦀|é€🦀|é€🦀|é€🦀🦀|é€🦀🦀🦀|é€🦀🦀🦀🦀|é€🦀🦀🦀🦀🦀|;
-é€🦀|é€🦀|é€🦀|é€🦀|é€🦀🦀|🦀é€🦀🦀|🦀é€🦀🦀🦀|🦀🦀é€🦀🦀🦀|;
-é€🦀|é€🦀|é€🦀|é€🦀|🦀é€🦀|🦀🦀é€🦀|🦀🦀🦀é€🦀|🦀🦀🦀🦀é€🦀|;
-日本|日本|日本|日本 |日本  |日本   |日本    |日本     |;
-日本|日本|日本|日本 | 日本 | 日本  |  日本  |  日本   |;
-日本|日本|日本| 日本|  日本|   日本|    日本|     日本|;
 日本|日本|日本|日本*|日本**|日本***|日本****|日本*****|;
 日本|日本|日本|日本*|*日本*|*日本**|**日本**|**日本***|;
 日本|日本|日本|*日本|**日本|***日本|****日本|*****日本|;
-日本|日本|日本|日本é|日本éé|日本ééé|日本éééé|日本ééééé|;
-日本|日本|日本|日本é|é日本é|é日本éé|éé日本éé|éé日本ééé|;
-日本|日本|日本|é日本|éé日本|ééé日本|éééé日本|ééééé日本|;
-日本|日本|日本|日本🦀|日本🦀🦀|日本🦀🦀🦀|日本🦀🦀🦀🦀|日本🦀🦀🦀🦀🦀|;
-日本|日本|日本|日本🦀|🦀日本🦀|🦀日本🦀🦀|🦀🦀日本🦀🦀|🦀🦀日本🦀🦀🦀|;
-日本|日本|日本|🦀日本|🦀🦀日本|🦀🦀🦀日本|🦀🦀🦀🦀日本|🦀🦀🦀🦀🦀日本|;
 ";
 
+// With another fill, that fill is in the place of `*`.
 #[test]
-fn texts_are_padded_as_in_rust(rt: HostRuntime) {
-    let mut table = Table::new(rt.alloc());
-    for value in ["", "a", "abcd", "é€🦀", "日本"] {
-        for fill in [' ', '*', 'é', '🦀'] {
+fn texts_are_padded_as_in_rust(rt: HostRuntime) -> Result<(), Fail> {
+    for (fill, filled) in [(' ', " "), ('*', "*"), ('é', "é"), ('🦀', "🦀")] {
+        let mut table = Table::new(rt.alloc());
+        for value in ["", "a", "abcd", "é€🦀", "日本"] {
             for align in [Align::Left, Align::Center, Align::Right] {
                 table.put_made(of_each_width(rt.alloc(), value, align, fill));
             }
         }
+        let wanted = OF_EACH_WIDTH.replace(rt.alloc(), "*", filled)?;
+        has_rows(&rt, &table, &wanted);
     }
-    has_rows(&rt, &table, OF_EACH_WIDTH);
+    Ok(())
 }
 
 // A line, which prints in either mode.
@@ -132,34 +91,46 @@ impl<L: Line> Printed for InEitherMode<L> {
     }
 }
 
-const PREFIXED: HexOptions = HexOptions {
-    upper_case: false,
-    pad_char: b'0',
-    pad_length: 6,
-    ox_prefix: true,
-};
-
-// A column in a list: in pretty mode it is at depth 1.
-struct InAList;
-
-impl Printed for InAList {
-    fn print<W: uWrite>(&self, f: &mut Formatter<W>) -> Result<(), W::Error> {
-        let mut list = f.debug_list()?;
-        let outcome = pieces!(debug (1u8, "é") in center(40)).print(list.begin_entry()?);
-        list.end_entry(outcome)?;
-        list.finish()
-    }
+/// Columns by other calls than those of a line.
+#[derive(Clone, Copy)]
+enum Columns {
+    /// A column in a list: in pretty mode it is at depth 1.
+    InAList,
+    ByUwrite,
+    /// The law of `uwrite!`, and that of `pieces!`.
+    ByLaws,
 }
 
-// Columns by `uwrite!`.
-struct Written;
-
-impl Printed for Written {
+impl Printed for Columns {
     fn print<W: uWrite>(&self, f: &mut Formatter<W>) -> Result<(), W::Error> {
-        uwrite!(
-            f,
-            text "n=", debug 5u8 in right(4), text ", ", hex 255u8 with PREFIXED in left(6), text "!\n"
-        )
+        let (texts, numbers, within) = (["b"], [16u8, 17], left(5));
+        match self {
+            Columns::InAList => {
+                let mut list = f.debug_list()?;
+                let outcome = pieces!(debug (1u8, "é") in center(40)).print(list.begin_entry()?);
+                list.end_entry(outcome)?;
+                list.finish()
+            }
+            Columns::ByUwrite => uwrite!(
+                    f,
+                    text "n=", debug 5u8 in right(4), text ", ", hex 255u8 with PREFIXED in left(6), text "!\n"
+                ),
+            Columns::ByLaws => {
+                laws::all_columns(f, &7i32, &"a", &(), &255u8, PREFIXED, within)?;
+                laws::line_of_all_columns(
+                    f,
+                    "-",
+                    &7i32,
+                    &"a",
+                    &(),
+                    &255u8,
+                    &texts,
+                    &numbers,
+                    PREFIXED,
+                    within,
+                )
+            }
+        }
     }
 }
 
@@ -194,41 +165,14 @@ abc|abc|abc|;
 |]|;
 n=|   |5|, |0x|0|0|ff|!
 |;
+7|    |\"|a|\"|  |()|   |0x|0|0|ff|7|    |\"|a|\"|  |()|   |0x|0|0|ff|\"|b|\"|  |0x|0|0|10|-|0x|0|0|11|;
 ";
 
-#[test]
-fn values_are_padded_as_their_texts(rt: HostRuntime) {
-    let mut table = Table::new(rt.alloc());
-    table.pieces(&InEitherMode(pieces!(display (-42i64) in column(Align::Center, '-', 6))));
-    table.pieces(&InEitherMode(pieces!(display 7i32 in right(5))));
-    table.pieces(&InEitherMode(pieces!(debug "a\"b" in column(Align::Left, '.', 9))));
-    table.pieces(&InEitherMode(pieces!(display 'é' in column(Align::Center, '€', 4))));
-    table.pieces(&InEitherMode(pieces!(display true in center(7))));
-    table.pieces(&InEitherMode(pieces!(debug (1u8, "é") in center(26))));
-    table.pieces(&InEitherMode(pieces!(pretty [2u8] in right(14))));
-    table.pieces(&InEitherMode(pieces!(hex 255u8 with PREFIXED in left(8))));
-    table.pieces(&InEitherMode(pieces!(each display ["a", "bcde"] in (left(3)) between ",")));
-    table.pieces(&InEitherMode(pieces!(each pretty [1u8, 23] in (right(4)) between "-")));
-    table.pieces(&InEitherMode(
-        pieces!(each hex [10u32, 0xf_ffff] with PREFIXED in (right(6)) between " "),
-    ));
-    table.pieces(&InEitherMode(
-        pieces!(display "abc" in right(0), display "abc" in right(3), display "abc" in right(2)),
-    ));
-    table.pieces(&InEitherMode(pieces!(display "" in right(70))));
-    table.pieces(&InEitherMode(pieces!(display 'x' in center(129))));
-    let starred = InColumn {
-        mark: Display,
-        column: column(Align::Center, '*', 5),
+// Adds a row of the pieces of each line.
+macro_rules! put_lines {
+    ($table:ident; $(($($line:tt)*))*) => {
+        $($table.pieces(&InEitherMode(pieces!($($line)*)));)*
     };
-    let within = InColumn {
-        mark: starred,
-        column: right(9),
-    };
-    table.pieces(&InEitherMode(pieces!(each [8u8] by within between "")));
-    table.pieces(&InAList);
-    table.pieces(&Written);
-    has_rows(&rt, &table, VALUES);
 }
 
 const PAST_A_BUFFER: &str = "\
@@ -254,39 +198,39 @@ fn a_column_that_no_buffer_holds_fails_with_full(rt: HostRuntime) {
     has_rows(&rt, &table, PAST_A_BUFFER);
 }
 
-const LAWS: &str = "\
-7|    |\"|a|\"|  |()|   |0x|0|0|ff|7|    |\"|a|\"|  |()|   |0x|0|0|ff|\"|b|\"|  |0x|0|0|10|-|0x|0|0|11|;
-";
-
-// The law of `uwrite!`, and that of `pieces!`.
-struct AllColumns;
-
-impl Printed for AllColumns {
-    fn print<W: uWrite>(&self, f: &mut Formatter<W>) -> Result<(), W::Error> {
-        let within = left(5);
-        laws::all_columns(f, &7i32, &"a", &(), &255u8, PREFIXED, within)?;
-        let (texts, numbers) = (["b"], [16u8, 17]);
-        laws::line_of_all_columns(
-            f,
-            "-",
-            &7i32,
-            &"a",
-            &(),
-            &255u8,
-            &texts,
-            &numbers,
-            PREFIXED,
-            within,
-        )
-    }
-}
-
 #[test]
-fn laws_of_columns_can_be_called(rt: HostRuntime) {
-    laws::columns_are_filled();
+fn values_are_padded_as_their_texts_and_as_the_laws_say(rt: HostRuntime) {
     let mut table = Table::new(rt.alloc());
-    table.pieces(&AllColumns);
-    has_rows(&rt, &table, LAWS);
+    put_lines!(table;
+        (display (-42i64) in column(Align::Center, '-', 6))
+        (display 7i32 in right(5))
+        (debug "a\"b" in column(Align::Left, '.', 9))
+        (display 'é' in column(Align::Center, '€', 4))
+        (display true in center(7))
+        (debug (1u8, "é") in center(26))
+        (pretty [2u8] in right(14))
+        (hex 255u8 with PREFIXED in left(8))
+        (each display ["a", "bcde"] in (left(3)) between ",")
+        (each pretty [1u8, 23] in (right(4)) between "-")
+        (each hex [10u32, 0xf_ffff] with PREFIXED in (right(6)) between " ")
+        (display "abc" in right(0), display "abc" in right(3), display "abc" in right(2))
+        (display "" in right(70))
+        (display 'x' in center(129))
+    );
+    let starred = InColumn {
+        mark: Display,
+        column: column(Align::Center, '*', 5),
+    };
+    let within = InColumn {
+        mark: starred,
+        column: right(9),
+    };
+    put_lines!(table; (each [8u8] by within between ""));
+    for columns in [Columns::InAList, Columns::ByUwrite, Columns::ByLaws] {
+        table.pieces(&columns);
+    }
+    laws::columns_are_filled();
+    has_rows(&rt, &table, VALUES);
 }
 
 // Prints nothing, and counts the calls of its `fmt`.

@@ -10,17 +10,19 @@ impl Table {
     }
 }
 
-const FILLED: &str = "\
+const TAKEN: &str = "\
 Ok(6) ;
 Ok(4) ab;
 Err(Full) ab;
 Ok(2) abé;
 Err(Full) abé;
 Ok(2) abé;
+Ok(0) ;
+Err(Full) ;
 ";
 
 #[test]
-fn a_cursor_fills_its_buffer(rt: HostRuntime) {
+fn a_cursor_takes_pieces_that_fit(rt: HostRuntime) {
     let mut table = Table::new(rt.alloc());
     let mut buffer = *b"......";
     let mut cursor = Cursor::new(&mut buffer);
@@ -41,19 +43,13 @@ fn a_cursor_fills_its_buffer(rt: HostRuntime) {
         "abé..".as_bytes(),
         "the whole buffer",
     );
-    has_rows(&rt, &table, FILLED);
-}
-
-#[test]
-fn a_cursor_over_no_bytes_takes_only_empty_pieces(rt: HostRuntime) {
-    let mut table = Table::new(rt.alloc());
     let mut cursor = Cursor::new(&mut []);
     for piece in ["", "a"] {
         let outcome = cursor.write_str(piece);
         table.put_cursor(outcome, &cursor);
     }
     same(&rt, cursor.remaining(), 0, "what remains");
-    has_rows(&rt, &table, "Ok(0) ;\nErr(Full) ;\n");
+    has_rows(&rt, &table, TAKEN);
 }
 
 #[test]

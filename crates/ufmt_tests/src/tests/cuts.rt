@@ -26,145 +26,6 @@ impl Table {
     }
 }
 
-// Characters of one to four bytes.
-const CHARACTERS: &str = "\
-0 false ;
-1 false a;
-1 false a.;
-3 false aé;
-3 false aé.;
-3 false aé..;
-6 false aé€;
-6 false aé€.;
-6 false aé€..;
-6 false aé€...;
-10 false aé€𝄞;
-11 true aé€𝄞b;
-11 true aé€𝄞b.;
-";
-
-#[test]
-fn a_text_is_cut_between_characters(rt: HostRuntime) {
-    let mut table = Table::new(rt.alloc());
-    for size in 0..13usize {
-        let mut buffer = [b'.'; 13];
-        let cut = display_cut_into(&mut buffer[..size], &"aé€𝄞b");
-        table.put_cut(cut, &buffer[..size]);
-        same(
-            &rt,
-            &buffer[size..],
-            &[b'.'; 13][size..],
-            "bytes that aren't lent",
-        );
-    }
-    has_rows(&rt, &table, CHARACTERS);
-}
-
-const QUOTED: &str = "\
-0 false ;
-1 false \";
-1 false \".;
-3 false \"é;
-4 false \"é\\;
-5 false \"é\\n;
-6 true \"é\\n\";
-6 true \"é\\n\".;
-";
-
-#[test]
-fn a_quoted_text_is_cut_in_an_escape(rt: HostRuntime) {
-    let mut table = Table::new(rt.alloc());
-    for size in 0..8usize {
-        let mut buffer = [b'.'; 8];
-        let cut = debug_cut_into(&mut buffer[..size], &"é\n");
-        table.put_cut(cut, &buffer[..size]);
-    }
-    has_rows(&rt, &table, QUOTED);
-}
-
-const NESTED: &str = "\
-0 false ;
-1 false P;
-2 false Pa;
-3 false Pai;
-4 false Pair;
-5 false Pair ;
-6 false Pair {;
-7 false Pair { ;
-8 false Pair { x;
-9 false Pair { x:;
-10 false Pair { x: ;
-11 false Pair { x: 1;
-12 false Pair { x: 1,;
-13 false Pair { x: 1, ;
-14 false Pair { x: 1, y;
-15 false Pair { x: 1, y:;
-16 false Pair { x: 1, y: ;
-17 false Pair { x: 1, y: S;
-18 false Pair { x: 1, y: So;
-19 false Pair { x: 1, y: Som;
-20 false Pair { x: 1, y: Some;
-21 false Pair { x: 1, y: Some(;
-22 false Pair { x: 1, y: Some(\";
-22 false Pair { x: 1, y: Some(\".;
-24 false Pair { x: 1, y: Some(\"é;
-25 false Pair { x: 1, y: Some(\"é\";
-26 false Pair { x: 1, y: Some(\"é\");
-27 false Pair { x: 1, y: Some(\"é\") ;
-28 true Pair { x: 1, y: Some(\"é\") };
-28 true Pair { x: 1, y: Some(\"é\") }.;
-";
-
-#[test]
-fn a_nested_value_is_cut(rt: HostRuntime) {
-    let mut table = Table::new(rt.alloc());
-    for size in 0..30usize {
-        let mut buffer = [b'.'; 30];
-        let cut = debug_cut_into(&mut buffer[..size], &Pair { x: 1, y: Some("é") });
-        table.put_cut(cut, &buffer[..size]);
-    }
-    has_rows(&rt, &table, NESTED);
-}
-
-const PRETTY: &str = "\
-0 false ;
-1 false [;
-2 false [
-;
-3 false [
- ;
-4 false [
-  ;
-5 false [
-   ;
-6 false [
-    ;
-7 false [
-    7;
-8 false [
-    7,;
-9 false [
-    7,
-;
-10 true [
-    7,
-];
-10 true [
-    7,
-].;
-";
-
-#[test]
-fn a_pretty_value_is_cut(rt: HostRuntime) {
-    let mut table = Table::new(rt.alloc());
-    for size in 0..12usize {
-        let mut buffer = [b'.'; 12];
-        let cut = pretty_cut_into(&mut buffer[..size], &[7u8]);
-        table.put_cut(cut, &buffer[..size]);
-    }
-    has_rows(&rt, &table, PRETTY);
-}
-
 const BYTE: HexOptions = HexOptions {
     upper_case: false,
     pad_char: b'0',
@@ -172,38 +33,65 @@ const BYTE: HexOptions = HexOptions {
     ox_prefix: true,
 };
 
-const LINE: &str = "\
-0 false ;
-1 false n;
-2 false n=;
-3 false n=7;
-4 false n=7 ;
-4 false n=7 .;
-6 false n=7 é;
-7 false n=7 é ;
-8 false n=7 é 0;
-9 false n=7 é 0x;
-10 false n=7 é 0x0;
-11 false n=7 é 0x0a;
-12 false n=7 é 0x0a ;
-12 false n=7 é 0x0a .;
-12 false n=7 é 0x0a ..;
-15 true n=7 é 0x0a €;
-15 true n=7 é 0x0a €.;
-";
+// Each call by which a text is cut: with characters of one to four bytes, an escape, a nested value, a pretty
+// value, a line of pieces, and twice an empty text.
+fn cut_by(call: usize, buffer: &mut [u8]) -> Cut {
+    match call {
+        0 => display_cut_into(buffer, &"aé€𝄞b"),
+        1 => debug_cut_into(buffer, &"é\n"),
+        2 => debug_cut_into(buffer, &Pair { x: 1, y: Some("é") }),
+        3 => pretty_cut_into(buffer, &[7u8]),
+        4 => line_cut_into(
+            buffer,
+            &pieces!(text "n=", debug 7u8, text " ", display "é", text " ", hex 10u8 with BYTE, text " €"),
+        ),
+        5 => display_cut_into(buffer, &""),
+        _ => line_cut_into(buffer, &()),
+    }
+}
+
+// The whole text of each call, and how many bytes of it a buffer of no byte has, one of one byte, and so on.
+const CUTS: [(&str, &[usize]); 7] = [
+    ("aé€𝄞b", &[0, 1, 1, 3, 3, 3, 6, 6, 6, 6, 10, 11, 11]),
+    ("\"é\\n\"", &[0, 1, 1, 3, 4, 5, 6, 6]),
+    (
+        "Pair { x: 1, y: Some(\"é\") }",
+        &[
+            0, 1, 2, 3, 4, 5, 6, 7, 8, 9, 10, 11, 12, 13, 14, 15, 16, 17, 18, 19, 20, 21, 22, 22,
+            24, 25, 26, 27, 28, 28,
+        ],
+    ),
+    ("[\n    7,\n]", &[0, 1, 2, 3, 4, 5, 6, 7, 8, 9, 10, 10]),
+    (
+        "n=7 é 0x0a €",
+        &[0, 1, 2, 3, 4, 4, 6, 7, 8, 9, 10, 11, 12, 12, 12, 15, 15],
+    ),
+    ("", &[0, 0]),
+    ("", &[0, 0]),
+];
+
+// Whether the buffer begins with so much of the text, and is as before after that.
+fn is_cut_at(buffer: &[u8], text: &str, length: usize) -> bool {
+    text.as_bytes()
+        .get(..length)
+        .is_some_and(|front| buffer.starts_with(front))
+        && buffer.iter().skip(length).all(|byte| *byte == b'.')
+}
 
 #[test]
-fn a_line_of_pieces_is_cut(rt: HostRuntime) {
-    let mut table = Table::new(rt.alloc());
-    for size in 0..17usize {
-        let mut buffer = [b'.'; 17];
-        let cut = line_cut_into(
-            &mut buffer[..size],
-            &pieces!(text "n=", debug 7u8, text " ", display "é", text " ", hex 10u8 with BYTE, text " €"),
-        );
-        table.put_cut(cut, &buffer[..size]);
+fn a_text_is_cut_between_characters_where_the_buffer_ends(rt: HostRuntime) {
+    for (call, (text, lengths)) in CUTS.iter().enumerate() {
+        for (size, length) in lengths.iter().enumerate() {
+            let mut buffer = [b'.'; 32];
+            let cut = cut_by(call, &mut buffer[..size.min(32)]);
+            let wanted = Cut {
+                length: *length,
+                is_whole: *length == text.len(),
+            };
+            let given = (size, cut, is_cut_at(&buffer, text, *length));
+            same(&rt, given, (size, wanted, true), text);
+        }
     }
-    has_rows(&rt, &table, LINE);
 }
 
 const LOGGED: &str = "\
@@ -226,19 +114,6 @@ fn a_log_line_is_cut_at_64_bytes(rt: HostRuntime) {
     has_rows(&rt, &table, LOGGED);
 }
 
-#[test]
-fn an_empty_text_is_whole_in_every_buffer(rt: HostRuntime) {
-    let mut table = Table::new(rt.alloc());
-    for size in 0..2usize {
-        let mut buffer = [b'.'; 2];
-        let cut = display_cut_into(&mut buffer[..size], &"");
-        table.put_cut(cut, &buffer[..size]);
-        let cut = line_cut_into(&mut buffer[..size], &());
-        table.put_cut(cut, &buffer[..size]);
-    }
-    has_rows(&rt, &table, "0 true ;\n0 true ;\n0 true .;\n0 true .;\n");
-}
-
 // Five bytes: `ab`, and a character of three that fits. After a cut the shorter pieces fit no more.
 const AFTER_A_CUT: &str = "\
 Ok(5) ;
@@ -248,10 +123,14 @@ Err(Full) abé;
 Err(Full) abé;
 Ok(0) abé;
 Err(Full) abé;
+Ok(3) a;
+Ok(1) aé;
+Err(Full) aé;
+Err(Full) aé;
 ";
 
 #[test]
-fn after_a_cut_nothing_more_is_taken(rt: HostRuntime) {
+fn after_a_cut_nothing_more_is_taken_and_characters_are_taken_whole(rt: HostRuntime) {
     let mut table = Table::new(rt.alloc());
     let mut buffer = *b".....";
     let mut writer = Truncating::new(&mut buffer);
@@ -274,19 +153,6 @@ fn after_a_cut_nothing_more_is_taken(rt: HostRuntime) {
         "abé.".as_bytes(),
         "the whole buffer",
     );
-    has_rows(&rt, &table, AFTER_A_CUT);
-}
-
-const BY_CHARACTER: &str = "\
-Ok(3) a;
-Ok(1) aé;
-Err(Full) aé;
-Err(Full) aé;
-";
-
-#[test]
-fn characters_are_taken_whole(rt: HostRuntime) {
-    let mut table = Table::new(rt.alloc());
     let mut buffer = *b"....";
     let mut writer = Truncating::new(&mut buffer);
     for character in ['a', 'é', 'é', 'b'] {
@@ -294,7 +160,7 @@ fn characters_are_taken_whole(rt: HostRuntime) {
         table.put_truncating(outcome, &writer);
     }
     same(&rt, buffer.as_slice(), "aé.".as_bytes(), "the whole buffer");
-    has_rows(&rt, &table, BY_CHARACTER);
+    has_rows(&rt, &table, AFTER_A_CUT);
 }
 
 // A piece that fills the buffer exactly is no cut. The next one is, though nothing of it fits.

@@ -68,35 +68,16 @@ ffffd8f0|;
 0|0|AB|;
 0|0|0|0|0|0|0|0|0|0|0|0|0|0|0|0|0|0|0|0|0|0|0|0|0|0|0|0|0|0|0|0|0|0|0|0|0|0|21|;
  | | | | | | | | | | | | | | | | | | | | | | | | | | | | | | | | | | | |0x|21|;
+0|0|é|;
+0x|-|-|é|;
+ | |0x||;
+0x|0|0||;
+0|0||;
+Err(Full) 00000000;
+Err(Full) 0x000000;
+Err(Full)         ;
+Err(Full) 00000000;
 ";
-
-#[test]
-fn fmt_hex_pads_numbers(rt: HostRuntime) {
-    let mut table = Table::new(rt.alloc());
-    for (n, options) in [
-        (771i32, lower_case(false, b' ', 0)),
-        (0, lower_case(false, b' ', 0)),
-        (-10000, lower_case(false, b' ', 0)),
-        (33, lower_case(false, b' ', 4)),
-        (89001, lower_case(false, b' ', 4)),
-        (33, lower_case(false, b'0', 4)),
-        (33, lower_case(true, b'0', 3)),
-        (33, lower_case(true, b'0', 4)),
-        (33, lower_case(true, b'0', 9)),
-        (33, lower_case(true, b' ', 6)),
-        (71, lower_case(true, b' ', 0)),
-        (66, lower_case(true, b'0', 6)),
-        (33, upper_case(true, b'0', 0)),
-        (171, upper_case(false, b'0', 4)),
-    ] {
-        table.padded(n, options);
-    }
-    table.padded(171u8, upper_case(false, b'0', 4));
-    table.padded(&171u8, upper_case(false, b'0', 4));
-    table.padded(33u8, lower_case(false, b'0', 40));
-    table.padded(33u8, lower_case(true, b' ', 40));
-    has_rows(&rt, &table, PADDED);
-}
 
 const OF_EACH_WIDTH: &str = "\
 80|;
@@ -161,14 +142,6 @@ fffffffffffffffb|;
 fffffffffffffffffffffffffffffffa|;
 ";
 
-// Adds a row of a number, which must be nonzero.
-fn put_nonzero<N: uDisplayHex + Drop>(table: &mut Table, number: Option<N>) {
-    match number {
-        Some(number) => table.hexadecimal(number),
-        None => table.put_nothing(),
-    }
-}
-
 #[test]
 fn numbers_that_are_held_print_in_hexadecimal(rt: HostRuntime) {
     let mut table = Table::new(rt.alloc());
@@ -176,35 +149,12 @@ fn numbers_that_are_held_print_in_hexadecimal(rt: HostRuntime) {
     table.hexadecimal(&mut number);
     table.hexadecimal(Wrapping(-1i8));
     table.hexadecimal(Saturating(16u64));
-    put_nonzero(&mut table, NonZeroU8::new(u8::MAX));
-    put_nonzero(&mut table, NonZeroU16::new(u16::MAX));
-    put_nonzero(&mut table, NonZeroU32::new(u32::MAX));
-    put_nonzero(&mut table, NonZeroU64::new(u64::MAX));
-    put_nonzero(&mut table, NonZeroUsize::new(usize::MAX));
-    put_nonzero(&mut table, NonZeroU128::new(u128::MAX));
-    put_nonzero(&mut table, NonZeroI8::new(-1));
-    put_nonzero(&mut table, NonZeroI16::new(-2));
-    put_nonzero(&mut table, NonZeroI32::new(-3));
-    put_nonzero(&mut table, NonZeroI64::new(-4));
-    put_nonzero(&mut table, NonZeroIsize::new(-5));
-    put_nonzero(&mut table, NonZeroI128::new(-6));
+    put_nonzero!(table.hexadecimal:
+        NonZeroU8 u8::MAX, NonZeroU16 u16::MAX, NonZeroU32 u32::MAX, NonZeroU64 u64::MAX,
+        NonZeroUsize usize::MAX, NonZeroU128 u128::MAX, NonZeroI8 -1, NonZeroI16 -2, NonZeroI32 -3,
+        NonZeroI64 -4, NonZeroIsize -5, NonZeroI128 -6
+    );
     has_rows(&rt, &table, HELD);
-}
-
-#[test]
-fn with_stuff_pads_payloads(rt: HostRuntime) {
-    let mut table = Table::new(rt.alloc());
-    table.payload("é", lower_case(false, b'0', 4));
-    table.payload("é", lower_case(true, b'-', 6));
-    table.payload("", lower_case(true, b' ', 4));
-    table.payload("", lower_case(true, b'0', 4));
-    table.payload("", lower_case(false, b'0', 2));
-    let wanted = "0|0|é|;\n0x|-|-|é|;\n | |0x||;\n0x|0|0||;\n0|0||;\n";
-    has_rows(&rt, &table, wanted);
-    for (pad, is_ascii) in [(127, true), (128, false)] {
-        let has_ascii_pad = lower_case(false, pad, 0).has_ascii_pad();
-        same(&rt, (pad, has_ascii_pad), (pad, is_ascii), "a pad byte");
-    }
 }
 
 impl Table {
@@ -223,20 +173,44 @@ impl Table {
     }
 }
 
-const PAST_A_BUFFER: &str = "\
-Err(Full) 00000000;
-Err(Full) 0x000000;
-Err(Full)         ;
-Err(Full) 00000000;
-";
-
 #[test]
-fn padding_that_no_buffer_holds_fails_with_full(rt: HostRuntime) {
+fn numbers_and_payloads_are_padded(rt: HostRuntime) {
     let mut table = Table::new(rt.alloc());
+    for (n, options) in [
+        (771i32, lower_case(false, b' ', 0)),
+        (0, lower_case(false, b' ', 0)),
+        (-10000, lower_case(false, b' ', 0)),
+        (33, lower_case(false, b' ', 4)),
+        (89001, lower_case(false, b' ', 4)),
+        (33, lower_case(false, b'0', 4)),
+        (33, lower_case(true, b'0', 3)),
+        (33, lower_case(true, b'0', 4)),
+        (33, lower_case(true, b'0', 9)),
+        (33, lower_case(true, b' ', 6)),
+        (71, lower_case(true, b' ', 0)),
+        (66, lower_case(true, b'0', 6)),
+        (33, upper_case(true, b'0', 0)),
+        (171, upper_case(false, b'0', 4)),
+    ] {
+        table.padded(n, options);
+    }
+    table.padded(171u8, upper_case(false, b'0', 4));
+    table.padded(&171u8, upper_case(false, b'0', 4));
+    table.padded(33u8, lower_case(false, b'0', 40));
+    table.padded(33u8, lower_case(true, b' ', 40));
+    table.payload("é", lower_case(false, b'0', 4));
+    table.payload("é", lower_case(true, b'-', 6));
+    table.payload("", lower_case(true, b' ', 4));
+    table.payload("", lower_case(true, b'0', 4));
+    table.payload("", lower_case(false, b'0', 2));
+    for (pad, is_ascii) in [(127, true), (128, false)] {
+        let has_ascii_pad = lower_case(false, pad, 0).has_ascii_pad();
+        same(&rt, (pad, has_ascii_pad), (pad, is_ascii), "a pad byte");
+    }
     table.past_a_buffer(lower_case(false, b'0', usize::MAX));
     table.past_a_buffer(lower_case(true, b'0', usize::MAX));
     table.past_a_buffer(lower_case(true, b' ', usize::MAX));
     // No slice is so long.
     table.past_a_buffer(lower_case(false, b'0', 9_223_372_036_854_775_808));
-    has_rows(&rt, &table, PAST_A_BUFFER);
+    has_rows(&rt, &table, PADDED);
 }

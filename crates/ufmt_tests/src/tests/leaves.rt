@@ -3,29 +3,6 @@ use super::printed::Displayed;
 use super::rows::{Table, has_rows, repeated, same};
 use std::alloc::{AllocError, Global};
 
-#[test]
-fn leaves_print_as_one_piece(rt: HostRuntime) {
-    let mut table = Table::new(rt.alloc());
-    table.pieces(&true);
-    table.pieces(&false);
-    table.pieces(&());
-    table.pieces(&None::<i32>);
-    has_rows(&rt, &table, "true|;\nfalse|;\n()|;\nNone|;\n");
-}
-
-#[test]
-fn references_print_what_they_refer_to(rt: HostRuntime) {
-    let mut table = Table::new(rt.alloc());
-    let mut number = 2u8;
-    table.pieces(&&1i32);
-    table.pieces(&&mut number);
-    table.pieces(&Displayed(&1i32));
-    table.pieces(&Displayed(&mut number));
-    table.pieces_of_made(Box::new(rt.alloc(), 3u64));
-    table.pieces_of_made(Box::new(rt.alloc(), 4u64).map(Displayed));
-    has_rows(&rt, &table, "1|;\n2|;\n1|;\n2|;\n3|;\n4|;\n");
-}
-
 // Each escape is a piece, and so is each stretch between escapes.
 const QUOTED: &str = r#""|"|;
 "|a|\"|é b|\n|"|;
@@ -81,7 +58,17 @@ fn a_long_text_is_one_piece(rt: HostRuntime) {
     }
 }
 
-const DISPLAYED: &str = "\
+const ONE_PIECE: &str = "\
+true|;
+false|;
+()|;
+None|;
+1|;
+2|;
+1|;
+2|;
+3|;
+4|;
 true|;
 false|;
 a text|;
@@ -95,8 +82,19 @@ a|;
 ";
 
 #[test]
-fn displayed_leaves_print_as_one_piece(rt: HostRuntime) {
+fn leaves_and_references_to_them_print_as_one_piece(rt: HostRuntime) {
     let mut table = Table::new(rt.alloc());
+    table.pieces(&true);
+    table.pieces(&false);
+    table.pieces(&());
+    table.pieces(&None::<i32>);
+    let mut number = 2u8;
+    table.pieces(&&1i32);
+    table.pieces(&&mut number);
+    table.pieces(&Displayed(&1i32));
+    table.pieces(&Displayed(&mut number));
+    table.pieces_of_made(Box::new(rt.alloc(), 3u64));
+    table.pieces_of_made(Box::new(rt.alloc(), 4u64).map(Displayed));
     table.pieces(&Displayed(true));
     table.pieces(&Displayed(false));
     table.pieces(&Displayed("a text"));
@@ -106,5 +104,5 @@ fn displayed_leaves_print_as_one_piece(rt: HostRuntime) {
     for character in ['a', 'é', '€', '🦀'] {
         table.pieces(&Displayed(character));
     }
-    has_rows(&rt, &table, DISPLAYED);
+    has_rows(&rt, &table, ONE_PIECE);
 }

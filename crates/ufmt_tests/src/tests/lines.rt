@@ -1,16 +1,9 @@
 //! Tests of `pieces!`, `write_line` and `line_into`.
-use super::printed::{Printed, print_to};
+use super::printed::{PREFIXED, Printed, print_to};
 use super::rows::{Table, are_ok, has_rows, same};
 use std::alloc::{AllocError, Global};
-use ufmt::{Formatter, Full, HexOptions, Line, line_into, pieces, uWrite, write_line};
+use ufmt::{Formatter, Full, Line, line_into, pieces, uWrite, write_line};
 use ufmt_user::{Measurement, dump_packet, list_measurements};
-
-const PREFIXED: HexOptions = HexOptions {
-    upper_case: false,
-    pad_char: b'0',
-    pad_length: 6,
-    ox_prefix: true,
-};
 
 // The pieces of a line with each mark, with a bar between each two.
 const PIECES: &str = "a=|7| |(|1|,|)|[|\n|    |2|,\n|]|0x|0|0|ff|1|-|2|.";
@@ -154,15 +147,19 @@ fn a_line_prints_in_pretty_mode(rt: HostRuntime) {
     );
 }
 
-const DUMPS: &str = "\
+const LISTED: &str = "\
 Ok(17) len=4 de ad be ef~~~;
 Ok(8) len=1 00~~~~~~~~~~~~;
 Ok(6) len=0 ~~~~~~~~~~~~~~;
 Err(Full) len=2 01 ~~~~~~~~~~~;
+Ok(20) measured: 3=-4, 5=20~~~~;
+Ok(14) measured: 3=-4~~~~~~~~~~;
+Ok(10) measured: ~~~~~~~~~~~~~~;
+Err(Full) measured: 3=-4, 5=~~~~~~;
 ";
 
 #[test]
-fn dump_packet_prints_its_length_and_bytes(rt: HostRuntime) {
+fn dump_packet_and_list_measurements_print_lines(rt: HostRuntime) {
     let mut table = Table::new(rt.alloc());
     for (packet, length) in [
         ([0xdeu8, 0xad, 0xbe, 0xef].as_slice(), 20),
@@ -174,19 +171,6 @@ fn dump_packet_prints_its_length_and_bytes(rt: HostRuntime) {
         let outcome = dump_packet(&mut bytes[..length], packet);
         table.put_outcome(outcome, &bytes);
     }
-    has_rows(&rt, &table, DUMPS);
-}
-
-const MEASUREMENTS: &str = "\
-Ok(20) measured: 3=-4, 5=20~~~~;
-Ok(14) measured: 3=-4~~~~~~~~~~;
-Ok(10) measured: ~~~~~~~~~~~~~~;
-Err(Full) measured: 3=-4, 5=~~~~~~;
-";
-
-#[test]
-fn list_measurements_prints_each_measurement(rt: HostRuntime) {
-    let mut table = Table::new(rt.alloc());
     let measurements = [(3, -4), (5, 20)].map(|(channel, celsius)| Measurement {
         channel,
         celsius,
@@ -196,5 +180,5 @@ fn list_measurements_prints_each_measurement(rt: HostRuntime) {
         let outcome = list_measurements(&mut bytes[..length], &measurements[..count]);
         table.put_outcome(outcome, &bytes);
     }
-    has_rows(&rt, &table, MEASUREMENTS);
+    has_rows(&rt, &table, LISTED);
 }

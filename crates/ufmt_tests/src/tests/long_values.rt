@@ -27,23 +27,6 @@ fn plain_zeros(alloc: Global, count: u16) -> Result<String, AllocError> {
     Ok(text)
 }
 
-// A byte can't count these fields.
-#[test]
-fn wide_tuples_print_in_plain_mode(rt: HostRuntime) {
-    for (count, length) in [(256u16, 768), (257, 771), (300, 900)] {
-        let text = plain_zeros(rt.alloc(), count);
-        let later = usize::from(count).saturating_sub(1);
-        let expected = repeated(rt.alloc(), "(0", ", 0", later, ")");
-        same(
-            &rt,
-            expected.as_ref().map(|text| text.len()),
-            Ok(length),
-            "its length",
-        );
-        same(&rt, text, expected, "plain");
-    }
-}
-
 fn pretty_zeros(alloc: Global, count: u16) -> Result<String, AllocError> {
     let mut text = String::new(alloc);
     let mut is_open = false;
@@ -55,19 +38,6 @@ fn pretty_zeros(alloc: Global, count: u16) -> Result<String, AllocError> {
         text.push_str("a tuple that isn't open")?;
     }
     Ok(text)
-}
-
-#[test]
-fn a_wide_tuple_prints_in_pretty_mode(rt: HostRuntime) {
-    let text = pretty_zeros(rt.alloc(), 300);
-    let expected = repeated(rt.alloc(), "(\n", "    0,\n", 300, ")");
-    same(
-        &rt,
-        expected.as_ref().map(|text| text.len()),
-        Ok(2103),
-        "its length",
-    );
-    same(&rt, text, expected, "pretty");
 }
 
 // The pretty text of a list of `count` maps.
@@ -86,16 +56,44 @@ fn pretty_maps(alloc: Global, count: u16) -> Result<String, AllocError> {
     Ok(text)
 }
 
+// A byte can't count these fields.
 #[test]
-fn a_wide_list_of_maps_prints_in_pretty_mode(rt: HostRuntime) {
-    let text = pretty_maps(rt.alloc(), 300);
+fn wide_tuples_and_lists_print(rt: HostRuntime) {
+    let alloc = rt.alloc();
     let map = "    {\n        1: 2,\n    },\n";
-    let expected = repeated(rt.alloc(), "[\n", map, 300, "]");
-    same(
-        &rt,
-        expected.as_ref().map(|text| text.len()),
-        Ok(8103),
-        "its length",
-    );
-    same(&rt, text, expected, "pretty");
+    for (given, wanted, length) in [
+        (
+            plain_zeros(alloc, 256),
+            repeated(alloc, "(0", ", 0", 255, ")"),
+            768,
+        ),
+        (
+            plain_zeros(alloc, 257),
+            repeated(alloc, "(0", ", 0", 256, ")"),
+            771,
+        ),
+        (
+            plain_zeros(alloc, 300),
+            repeated(alloc, "(0", ", 0", 299, ")"),
+            900,
+        ),
+        (
+            pretty_zeros(alloc, 300),
+            repeated(alloc, "(\n", "    0,\n", 300, ")"),
+            2103,
+        ),
+        (
+            pretty_maps(alloc, 300),
+            repeated(alloc, "[\n", map, 300, "]"),
+            8103,
+        ),
+    ] {
+        same(
+            &rt,
+            wanted.as_ref().map(|text| text.len()),
+            Ok(length),
+            "its length",
+        );
+        same(&rt, given, wanted, "a wide value");
+    }
 }

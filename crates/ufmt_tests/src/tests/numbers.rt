@@ -9,7 +9,7 @@ use std::num::{
 };
 use ufmt::{Formatter, uDebug, uDisplay};
 
-const UNSIGNED: &str = "\
+const NUMBERS: &str = "\
 0|;
 10|;
 100|;
@@ -20,24 +20,6 @@ const UNSIGNED: &str = "\
 18446744073709551615|;
 0|;
 340282366920938463463374607431768211455|;
-";
-
-#[test]
-fn unsigned_numbers_print_as_one_piece(rt: HostRuntime) {
-    let mut table = Table::new(rt.alloc());
-    for n in [0u8, 10, 100, 255] {
-        table.number(n);
-    }
-    table.number(u16::MAX);
-    table.number(u32::MAX);
-    table.number(u64::MAX);
-    table.number(usize::MAX);
-    table.number(0u128);
-    table.number(u128::MAX);
-    has_rows(&rt, &table, UNSIGNED);
-}
-
-const SIGNED: &str = "\
 0|;
 10|;
 100|;
@@ -58,8 +40,17 @@ const SIGNED: &str = "\
 ";
 
 #[test]
-fn signed_numbers_print_as_one_piece(rt: HostRuntime) {
+fn numbers_print_as_one_piece(rt: HostRuntime) {
     let mut table = Table::new(rt.alloc());
+    for n in [0u8, 10, 100, 255] {
+        table.number(n);
+    }
+    table.number(u16::MAX);
+    table.number(u32::MAX);
+    table.number(u64::MAX);
+    table.number(usize::MAX);
+    table.number(0u128);
+    table.number(u128::MAX);
     for z in [0i8, 10, 100, -128, 127] {
         table.number(z);
     }
@@ -75,32 +66,16 @@ fn signed_numbers_print_as_one_piece(rt: HostRuntime) {
     for z in [0i128, i128::MIN, i128::MAX] {
         table.number(z);
     }
-    has_rows(&rt, &table, SIGNED);
-}
-
-// Adds a row of a number, which must be nonzero.
-fn put_nonzero<N: uDebug + uDisplay + Drop>(table: &mut Table, number: Option<N>) {
-    match number {
-        Some(number) => table.number(number),
-        None => table.put_nothing(),
-    }
+    has_rows(&rt, &table, NUMBERS);
 }
 
 #[test]
 fn nonzero_numbers_print_as_one_piece(rt: HostRuntime) {
     let mut table = Table::new(rt.alloc());
-    put_nonzero(&mut table, NonZeroU8::new(1));
-    put_nonzero(&mut table, NonZeroU16::new(2));
-    put_nonzero(&mut table, NonZeroU32::new(3));
-    put_nonzero(&mut table, NonZeroU64::new(4));
-    put_nonzero(&mut table, NonZeroUsize::new(5));
-    put_nonzero(&mut table, NonZeroI8::new(-128));
-    put_nonzero(&mut table, NonZeroI16::new(-2));
-    put_nonzero(&mut table, NonZeroI32::new(-3));
-    put_nonzero(&mut table, NonZeroI64::new(-4));
-    put_nonzero(&mut table, NonZeroIsize::new(-5));
-    put_nonzero(&mut table, NonZeroU128::new(6));
-    put_nonzero(&mut table, NonZeroI128::new(-6));
+    put_nonzero!(table.number:
+        NonZeroU8 1, NonZeroU16 2, NonZeroU32 3, NonZeroU64 4, NonZeroUsize 5, NonZeroI8 -128,
+        NonZeroI16 -2, NonZeroI32 -3, NonZeroI64 -4, NonZeroIsize -5, NonZeroU128 6, NonZeroI128 -6
+    );
     let wanted = "1|;\n2|;\n3|;\n4|;\n5|;\n-128|;\n-2|;\n-3|;\n-4|;\n-5|;\n6|;\n-6|;\n";
     has_rows(&rt, &table, wanted);
 }

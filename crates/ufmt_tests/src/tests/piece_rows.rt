@@ -116,8 +116,8 @@ fn pieces_in<T: Printed>(alloc: Global, is_pretty: bool, value: &T) -> Result<St
     )
 }
 
-// The value's pieces in plain mode and in pretty mode.
-fn pieces_of<T: Printed>(alloc: Global, value: &T) -> Result<String, AllocError> {
+/// Returns the value's pieces in plain mode, and after a tilde those in pretty mode if they differ.
+pub fn pieces_of<T: Printed>(alloc: Global, value: &T) -> Result<String, AllocError> {
     let pretty = pieces_in(alloc, true, value)?;
     joined_if_different(pieces_in(alloc, false, value)?, pretty.as_str())
 }

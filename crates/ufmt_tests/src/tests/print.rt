@@ -31,39 +31,8 @@ Ok(3) 123.;
 Ok(3) 123.;
 Err(Full) ....;
 Err(Full) ....;
-";
-
-#[test]
-fn debug_into_and_display_into_fill_a_buffer(rt: HostRuntime) {
-    let mut table = Table::new(rt.alloc());
-    for length in [4, 3, 2] {
-        let mut buffer = [b'.'; 4];
-        let outcome = debug_into(&mut buffer[..length], &123u8);
-        table.put_outcome(outcome, &buffer);
-        let mut buffer = [b'.'; 4];
-        let outcome = display_into(&mut buffer[..length], &"123");
-        table.put_outcome(outcome, &buffer);
-    }
-    has_rows(&rt, &table, IN_BUFFERS);
-}
-
-const QUOTED_IN_BUFFERS: &str = "\
 Err(Full) \"a....;
 Ok(6) \"a\\\"b\";
-";
-
-#[test]
-fn debug_into_writes_quoted_texts(rt: HostRuntime) {
-    let mut table = Table::new(rt.alloc());
-    for length in [3, 6] {
-        let mut buffer = [b'.'; 6];
-        let outcome = debug_into(&mut buffer[..length], &"a\"b");
-        table.put_outcome(outcome, &buffer);
-    }
-    has_rows(&rt, &table, QUOTED_IN_BUFFERS);
-}
-
-const PRETTY_IN_BUFFERS: &str = "\
 Ok(10) [
     7,
 ].;
@@ -77,12 +46,25 @@ Err(Full) ...........;
 ";
 
 #[test]
-fn pretty_into_fills_a_buffer(rt: HostRuntime) {
+fn calls_that_print_into_a_buffer_fill_it(rt: HostRuntime) {
     let mut table = Table::new(rt.alloc());
+    for length in [4, 3, 2] {
+        let mut buffer = [b'.'; 4];
+        let outcome = debug_into(&mut buffer[..length], &123u8);
+        table.put_outcome(outcome, &buffer);
+        let mut buffer = [b'.'; 4];
+        let outcome = display_into(&mut buffer[..length], &"123");
+        table.put_outcome(outcome, &buffer);
+    }
+    for length in [3, 6] {
+        let mut buffer = [b'.'; 6];
+        let outcome = debug_into(&mut buffer[..length], &"a\"b");
+        table.put_outcome(outcome, &buffer);
+    }
     for length in [11, 10, 9, 0] {
         let mut buffer = [b'.'; 11];
         let outcome = pretty_into(&mut buffer[..length], &[7u8]);
         table.put_outcome(outcome, &buffer);
     }
-    has_rows(&rt, &table, PRETTY_IN_BUFFERS);
+    has_rows(&rt, &table, IN_BUFFERS);
 }

@@ -3,6 +3,14 @@ ghost use Rattle.std.specs.Prelude.{◌<◌};
 
 use ufmt::{Formatter, HexOptions, fmt_pretty, uDebug, uDisplay, uDisplayHex, uWrite};
 
+/// Hexadecimal options that lines and columns print with.
+pub const PREFIXED: HexOptions = HexOptions {
+    upper_case: false,
+    pad_char: b'0',
+    pad_length: 6,
+    ox_prefix: true,
+};
+
 /// A value that prints to any writer. `print` has no contract: the rows say what it writes.
 pub trait Printed {
     fn print<W: uWrite>(&self, f: &mut Formatter<W>) -> Result<(), W::Error>;

@@ -4,7 +4,7 @@ use super::text_rows::texts_of;
 use std::alloc::{AllocError, Global};
 use ufmt_user::Message;
 
-const TEXTS: &str = "\
+const QUOTED: &str = "\
 \"\";
 \"\\0\\\\\";
 \"\\t\\n\\r\";
@@ -14,35 +14,6 @@ const TEXTS: &str = "\
 \"a\\\"b\\n\";
 \"'\";
 \"\u{80}é€\u{10ffff}\";
-";
-
-// The texts of a `&str`, and those of the same `String` if they differ.
-fn texts_by_both(alloc: Global, text: &str) -> Result<String, AllocError> {
-    let owned = String::from_str(alloc, text)?;
-    let owned = texts_of(alloc, &owned)?;
-    joined_if_different(texts_of(alloc, &text)?, owned.as_str())
-}
-
-#[test]
-fn texts_are_quoted(rt: HostRuntime) {
-    let mut table = Table::new(rt.alloc());
-    for text in [
-        "",
-        "\0\\",
-        "\t\n\r",
-        "\u{1}",
-        "\u{1b}",
-        "\u{1f} ~\u{7f}",
-        "a\"b\n",
-        "'",
-        "\u{80}é€\u{10ffff}",
-    ] {
-        table.put_made(texts_by_both(rt.alloc(), text));
-    }
-    has_rows(&rt, &table, TEXTS);
-}
-
-const CHARACTERS: &str = "\
 'é';
 '\\n';
 '\"';
@@ -53,26 +24,25 @@ const CHARACTERS: &str = "\
 '\\u{7f}';
 '\u{80}';
 '\u{10ffff}';
+{\"k\": Some('c')}~
+{
+    \"k\": Some(
+        'c',
+    ),
+};
+Message { node: 2, level: '!', text: \"valve is \\\"open\\\"\" }~
+Message {
+    node: 2,
+    level: '!',
+    text: \"valve is \\\"open\\\"\",
+};
 ";
 
-#[test]
-fn characters_are_quoted(rt: HostRuntime) {
-    let mut table = Table::new(rt.alloc());
-    for character in [
-        'é',
-        '\n',
-        '"',
-        '\'',
-        '\\',
-        '\0',
-        '\u{1f}',
-        '\u{7f}',
-        '\u{80}',
-        '\u{10ffff}',
-    ] {
-        table.texts(&character);
-    }
-    has_rows(&rt, &table, CHARACTERS);
+// The texts of a `&str`, and those of the same `String` if they differ.
+fn texts_by_both(alloc: Global, text: &str) -> Result<String, AllocError> {
+    let owned = String::from_str(alloc, text)?;
+    let owned = texts_of(alloc, &owned)?;
+    joined_if_different(texts_of(alloc, &text)?, owned.as_str())
 }
 
 // Whether core::fmt prints this character the same, in a text and by itself.
@@ -129,29 +99,20 @@ fn an_escape_is_found_at_each_place(rt: HostRuntime) {
     }
 }
 
-const WITH_TEXTS: &str = "\
-{\"k\": Some('c')}~
-{
-    \"k\": Some(
-        'c',
-    ),
-};
-Message { node: 2, level: '!', text: \"valve is \\\"open\\\"\" }~
-Message {
-    node: 2,
-    level: '!',
-    text: \"valve is \\\"open\\\"\",
-};
-";
-
 #[test]
-fn values_with_texts_print(rt: HostRuntime) {
+fn texts_and_characters_are_quoted(rt: HostRuntime) {
     let mut table = Table::new(rt.alloc());
+    for text in "|\0\\|\t\n\r|\u{1}|\u{1b}|\u{1f} ~\u{7f}|a\"b\n|'|\u{80}é€\u{10ffff}".split('|') {
+        table.put_made(texts_by_both(rt.alloc(), text));
+    }
+    for character in "é\n\"'\\\0\u{1f}\u{7f}\u{80}\u{10ffff}".chars() {
+        table.texts(&character);
+    }
     table.texts_of_made(map(rt.alloc(), &[("k", Some('c'))]));
     table.texts(&Message {
         node: 2,
         level: '!',
         text: "valve is \"open\"",
     });
-    has_rows(&rt, &table, WITH_TEXTS);
+    has_rows(&rt, &table, QUOTED);
 }

@@ -13,7 +13,12 @@ pub fn same<T: PartialEq + Debug + Drop>(rt: &impl Abort, given: T, wanted: T, c
 
 /// Asserts that the table has these rows.
 pub fn has_rows(rt: &impl Abort, table: &Table, wanted: &str) {
-    assert_eq!(rt; table.text(), Some(wanted));
+    let given = table.text().unwrap_or("no memory for a row");
+    let rows = given.split(";\n").zip(wanted.split(";\n"));
+    for (number, (given, wanted)) in rows.enumerate() {
+        assert_eq!(rt; (number, given), (number, wanted));
+    }
+    assert_eq!(rt; given, wanted);
 }
 
 /// Rows, one after another, with a semicolon and a line feed after each.
@@ -81,11 +86,7 @@ impl Table {
     /// Adds a row of a call's result, and of what it left in a buffer.
     pub fn put_outcome(&mut self, outcome: Result<usize, Full>, left: &[u8]) {
         let text = str::from_utf8(left).unwrap_or("bytes that are no UTF-8");
-        let row = format!(in self.alloc; "{outcome:?} {text}");
-        match row {
-            Ok(row) => self.put(row.as_str()),
-            Err(_) => self.has_all = false,
-        }
+        self.put_made(format!(in self.alloc; "{outcome:?} {text}"));
     }
 }
 

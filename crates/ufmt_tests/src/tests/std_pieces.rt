@@ -2,19 +2,20 @@
 //! they have.
 use super::printed::Displayed;
 use super::rows::{Table, has_rows};
+use super::std_types::{hashed_set, linked_list};
 use std::alloc::{AllocError, Global};
 use std::borrow::{Cow, CowStr};
 use std::boxed::BoxedStr;
 use std::cell::RefCell;
 use std::cmp::{Ordering, Reverse};
-use std::collections::{HashMap, HashSet, LinkedList, VecDeque};
+use std::collections::{HashMap, VecDeque};
 use std::num::{Saturating, Wrapping};
 use std::ops::{Bound, ControlFlow};
 use std::rc::{Rc, RcStr};
 use std::sync::{Arc, ArcStr};
 use ufmt::cells::{CellValue, RefCellValue};
 
-const COLLECTIONS: &str = "\
+const COLLECTIONS_AND_RANGES: &str = "\
 [|1|, |2|]|~
 [|\n|    |1|,\n|    |2|,\n|]|;
 [|1|, |2|]|~
@@ -23,45 +24,6 @@ const COLLECTIONS: &str = "\
 {|\n|    |1|,\n|}|;
 {|1|: |2|}|~
 {|\n|    |1|: |2|,\n|}|;
-";
-
-fn queue(alloc: Global) -> Result<VecDeque<u8>, AllocError> {
-    let mut queue = VecDeque::new(alloc);
-    queue.push_back(2u8)?;
-    queue.push_front(1)?;
-    Ok(queue)
-}
-
-fn linked_list(alloc: Global) -> Result<LinkedList<u8>, AllocError> {
-    let mut list = LinkedList::new(alloc);
-    list.push_back(1u8)?;
-    list.push_back(2)?;
-    Ok(list)
-}
-
-fn hashed_set(alloc: Global) -> Result<HashSet<u8>, AllocError> {
-    let mut set = HashSet::new(alloc);
-    set.insert(1u8)?;
-    Ok(set)
-}
-
-fn hashed_map(alloc: Global) -> Result<HashMap<u8, u8>, AllocError> {
-    let mut map = HashMap::new(alloc);
-    map.insert(1u8, 2u8)?;
-    Ok(map)
-}
-
-#[test]
-fn collections_print_in_pieces(rt: HostRuntime) {
-    let mut table = Table::new(rt.alloc());
-    table.pieces_of_made(queue(rt.alloc()));
-    table.pieces_of_made(linked_list(rt.alloc()));
-    table.pieces_of_made(hashed_set(rt.alloc()));
-    table.pieces_of_made(hashed_map(rt.alloc()));
-    has_rows(&rt, &table, COLLECTIONS);
-}
-
-const RANGES: &str = "\
 1|..|5|;
 1|..=|5|;
 5|..=|5| (exhausted)|;
@@ -73,9 +35,26 @@ Some|(|1|)|..|None|~
 Some|(|\n|    |1|,\n|)|..|None|;
 ";
 
+fn queue(alloc: Global) -> Result<VecDeque<u8>, AllocError> {
+    let mut queue = VecDeque::new(alloc);
+    queue.push_back(2u8)?;
+    queue.push_front(1)?;
+    Ok(queue)
+}
+
+fn hashed_map(alloc: Global) -> Result<HashMap<u8, u8>, AllocError> {
+    let mut map = HashMap::new(alloc);
+    map.insert(1u8, 2u8)?;
+    Ok(map)
+}
+
 #[test]
-fn ranges_print_in_pieces(rt: HostRuntime) {
+fn collections_and_ranges_print_in_pieces(rt: HostRuntime) {
     let mut table = Table::new(rt.alloc());
+    table.pieces_of_made(queue(rt.alloc()));
+    table.pieces_of_made(linked_list(rt.alloc()));
+    table.pieces_of_made(hashed_set(rt.alloc(), &[1]));
+    table.pieces_of_made(hashed_map(rt.alloc()));
     table.pieces(&(1u8..5));
     table.pieces(&(1u8..=5));
     let mut spent = 5u8..=5;
@@ -86,7 +65,7 @@ fn ranges_print_in_pieces(rt: HostRuntime) {
     table.pieces(&(..=5u8));
     table.pieces(&(..));
     table.pieces(&(Some(1u8)..None));
-    has_rows(&rt, &table, RANGES);
+    has_rows(&rt, &table, COLLECTIONS_AND_RANGES);
 }
 
 const SMALL_TYPES: &str = "\

@@ -34,47 +34,11 @@ Some(
     ],
 );
 (Weak);
-";
-
-fn shared_list(alloc: Global) -> Result<Vec<Rc<u8>>, AllocError> {
-    let mut list = Vec::new(alloc);
-    list.push(Rc::new(alloc, 1u8)?)?;
-    list.push(Rc::new(alloc, 2)?)?;
-    Ok(list)
-}
-
-#[test]
-fn shared_values_print_as_by_core_fmt(rt: HostRuntime) {
-    let mut table = Table::new(rt.alloc());
-    table.texts_of_made(Rc::new(rt.alloc(), 1u8));
-    table.texts_of_made(shared_list(rt.alloc()));
-    table.texts_of_made(Arc::new(rt.alloc(), Some(3u8)));
-    table.texts(&Cow::Borrowed(&4u8));
-    table.texts(&Cow::Owned(5u8));
-    table.texts(&Some(Cow::Borrowed(&[6u8])));
-    table.texts(&Weak::<u8>::new());
-    has_rows(&rt, &table, SHARED);
-}
-
-const SHARED_TEXTS: &str = r#""a\"b\n";
-"c'";
-"é";
-"\\";
-"\0";
-"#;
-
-#[test]
-fn shared_texts_print_in_quotes(rt: HostRuntime) {
-    let mut table = Table::new(rt.alloc());
-    table.texts(&CowStr::<Global>::Borrowed("a\"b\n"));
-    table.texts_of_made(String::from_str(rt.alloc(), "c'").map(|text| CowStr::Owned(text)));
-    table.texts_of_made(RcStr::from_str(rt.alloc(), "é"));
-    table.texts_of_made(ArcStr::from_str(rt.alloc(), "\\"));
-    table.texts_of_made(BoxedStr::from_str(rt.alloc(), "\0"));
-    has_rows(&rt, &table, SHARED_TEXTS);
-}
-
-const SHARED_SLICES: &str = "\
+\"a\\\"b\\n\";
+\"c'\";
+\"é\";
+\"\\\\\";
+\"\\0\";
 [1, 2]~
 [
     1,
@@ -102,11 +66,38 @@ const SHARED_SLICES: &str = "\
     1,
     2,
 ];
+Some(1)~
+Some(
+    1,
+);
+Some(1)~
+Some(
+    1,
+);
 ";
 
+fn shared_list(alloc: Global) -> Result<Vec<Rc<u8>>, AllocError> {
+    let mut list = Vec::new(alloc);
+    list.push(Rc::new(alloc, 1u8)?)?;
+    list.push(Rc::new(alloc, 2)?)?;
+    Ok(list)
+}
+
 #[test]
-fn slices_that_are_shared_or_lent_print_as_lists(rt: HostRuntime) {
+fn what_is_shared_lent_or_borrowed_prints_as_by_core_fmt(rt: HostRuntime) {
     let mut table = Table::new(rt.alloc());
+    table.texts_of_made(Rc::new(rt.alloc(), 1u8));
+    table.texts_of_made(shared_list(rt.alloc()));
+    table.texts_of_made(Arc::new(rt.alloc(), Some(3u8)));
+    table.texts(&Cow::Borrowed(&4u8));
+    table.texts(&Cow::Owned(5u8));
+    table.texts(&Some(Cow::Borrowed(&[6u8])));
+    table.texts(&Weak::<u8>::new());
+    table.texts(&CowStr::<Global>::Borrowed("a\"b\n"));
+    table.texts_of_made(String::from_str(rt.alloc(), "c'").map(|text| CowStr::Owned(text)));
+    table.texts_of_made(RcStr::from_str(rt.alloc(), "é"));
+    table.texts_of_made(ArcStr::from_str(rt.alloc(), "\\"));
+    table.texts_of_made(BoxedStr::from_str(rt.alloc(), "\0"));
     table.texts(&CowSlice::<u8, Global>::Borrowed(&[1, 2]));
     table.texts_of_made(list(rt.alloc(), &[3u8]).map(|items| CowSlice::Owned(items)));
     table.texts_of_made(RcSlice::from_slice(rt.alloc(), &[4u8]));
@@ -114,27 +105,10 @@ fn slices_that_are_shared_or_lent_print_as_lists(rt: HostRuntime) {
     table.texts_of_made(BoxedSlice::from_slice(rt.alloc(), &[7u8]));
     let mut items = [1u8, 2];
     table.texts(&items.as_mut_slice());
-    has_rows(&rt, &table, SHARED_SLICES);
-}
-
-const GUARDS: &str = "\
-Some(1)~
-Some(
-    1,
-);
-Some(1)~
-Some(
-    1,
-);
-";
-
-#[test]
-fn guards_of_a_cell_print_its_value(rt: HostRuntime) {
-    let mut table = Table::new(rt.alloc());
     let cell = RefCell::new(Some(1u8));
     table.texts_of_made(cell.try_borrow());
     table.texts_of_made(cell.try_borrow_mut());
-    has_rows(&rt, &table, GUARDS);
+    has_rows(&rt, &table, SHARED);
 }
 
 const CELLS: &str = "\
@@ -162,6 +136,8 @@ RefCell { value: <borrowed> }~
 RefCell {
     value: <borrowed>,
 };
+Cell { value: 1 };
+Cell { value: 2 };
 ";
 
 // Adds a row while the value is borrowed to be read, and one while it is borrowed to be written.
@@ -179,29 +155,23 @@ fn put_borrowed(table: &mut Table, cell: &RefCell<u8>) {
 }
 
 #[test]
-fn what_was_read_of_a_cell_prints_as_the_cell(rt: HostRuntime) {
+fn what_was_read_of_a_cell_prints_as_the_cell_and_stays(rt: HostRuntime) {
     let mut table = Table::new(rt.alloc());
     table.texts(&CellValue::of(&Cell::new(5u8)));
     table.texts(&Some(CellValue::of(&Cell::new(Some(5u8)))));
     let cell = RefCell::new(5u8);
     table.texts(&RefCellValue::of(&cell));
     put_borrowed(&mut table, &cell);
-    has_rows(&rt, &table, CELLS);
-}
-
-// A cell is read at the call, and not where its value prints.
-#[test]
-fn what_was_read_of_a_cell_stays(rt: HostRuntime) {
-    let mut table = Table::new(rt.alloc());
+    // A cell is read at the call, and not where its value prints.
     let cell = Cell::new(1u8);
     let value = CellValue::of(&cell);
     cell.set(2);
     table.plain(&value);
     table.plain(&CellValue::of(&cell));
-    has_rows(&rt, &table, "Cell { value: 1 };\nCell { value: 2 };\n");
+    has_rows(&rt, &table, CELLS);
 }
 
-const QUEUES: &str = "\
+const QUEUES_AND_HASHED: &str = "\
 [];
 [3, 4, 5, 6]~
 [
@@ -230,6 +200,18 @@ Some(
     2,
     1,
 ];
+{};
+{1}~
+{
+    1,
+};
+{};
+{1: Some(true)}~
+{
+    1: Some(
+        true,
+    ),
+};
 ";
 
 // A queue of 3, 4, 5 and 6, of which the last two are at the start of its memory.
@@ -253,23 +235,11 @@ fn nested_queue(alloc: Global) -> Result<Option<VecDeque<VecDeque<u8>>>, AllocEr
     Ok(Some(queue))
 }
 
-fn linked_list(alloc: Global) -> Result<LinkedList<u8>, AllocError> {
+pub fn linked_list(alloc: Global) -> Result<LinkedList<u8>, AllocError> {
     let mut list = LinkedList::new(alloc);
     list.push_back(2u8)?;
     list.push_front(1)?;
     Ok(list)
-}
-
-#[test]
-fn queues_print_from_front_to_back(rt: HostRuntime) {
-    let mut table = Table::new(rt.alloc());
-    table.texts(&VecDeque::<u8>::new(rt.alloc()));
-    table.texts_of_made(wrapped(rt.alloc()));
-    table.texts_of_made(nested_queue(rt.alloc()));
-    table.texts(&LinkedList::<u8>::new(rt.alloc()));
-    table.texts_of_made(linked_list(rt.alloc()));
-    table.texts_of_made(BinaryHeap::from_array(rt.alloc(), [2u8, 3, 1]));
-    has_rows(&rt, &table, QUEUES);
 }
 
 // The row above would show nothing of a queue in one slice.
@@ -282,22 +252,7 @@ fn the_wrapped_queue_is_in_two_slices(rt: HostRuntime) {
     same(&rt, lengths, Ok((2, 2)), "slices");
 }
 
-const HASHED: &str = "\
-{};
-{1}~
-{
-    1,
-};
-{};
-{1: Some(true)}~
-{
-    1: Some(
-        true,
-    ),
-};
-";
-
-fn hashed_set(alloc: Global, items: &[u8]) -> Result<HashSet<u8>, AllocError> {
+pub fn hashed_set(alloc: Global, items: &[u8]) -> Result<HashSet<u8>, AllocError> {
     let mut set = HashSet::new(alloc);
     for item in items {
         set.insert(*item)?;
@@ -314,13 +269,19 @@ fn hashed_map(alloc: Global, keys: &[u8]) -> Result<HashMap<u8, Option<bool>>, A
 }
 
 #[test]
-fn hashed_collections_print_as_by_core_fmt(rt: HostRuntime) {
+fn queues_and_hashed_collections_print_as_by_core_fmt(rt: HostRuntime) {
     let mut table = Table::new(rt.alloc());
+    table.texts(&VecDeque::<u8>::new(rt.alloc()));
+    table.texts_of_made(wrapped(rt.alloc()));
+    table.texts_of_made(nested_queue(rt.alloc()));
+    table.texts(&LinkedList::<u8>::new(rt.alloc()));
+    table.texts_of_made(linked_list(rt.alloc()));
+    table.texts_of_made(BinaryHeap::from_array(rt.alloc(), [2u8, 3, 1]));
     table.texts_of_made(hashed_set(rt.alloc(), &[]));
     table.texts_of_made(hashed_set(rt.alloc(), &[1]));
     table.texts_of_made(hashed_map(rt.alloc(), &[]));
     table.texts_of_made(hashed_map(rt.alloc(), &[1]));
-    has_rows(&rt, &table, HASHED);
+    has_rows(&rt, &table, QUEUES_AND_HASHED);
 }
 
 // The map's plain text, by its iterator.
@@ -349,14 +310,15 @@ fn a_hashed_map_prints_in_the_order_of_iteration(rt: HostRuntime) {
     same(&rt, prints_in_order(rt.alloc()), Ok(true), "five entries");
 }
 
-const RANGES: &str = r#"1..5;
+const RANGES: &str = "\
+1..5;
 -1..=5;
 1..;
 ..5;
 ..=5;
 ..;
 'a'..'z';
-"a"..="z";
+\"a\"..=\"z\";
 Some(1..5)~
 Some(
     1..5,
@@ -389,7 +351,16 @@ Some(
 (
     1,
 )..;
-"#;
+2..=2;
+2..=2 (exhausted);
+2..=2 (exhausted);
+-1..=-1 (exhausted);
+Some(255..=255 (exhausted))~
+Some(
+    255..=255 (exhausted),
+);
+5..=1;
+";
 
 #[test]
 fn ranges_print_as_by_core_fmt(rt: HostRuntime) {
@@ -409,24 +380,6 @@ fn ranges_print_as_by_core_fmt(rt: HostRuntime) {
     table.texts(&(..Some(1u8)));
     table.texts(&(..=(1u8, 2u8)));
     table.texts(&((1u8,)..));
-    has_rows(&rt, &table, RANGES);
-}
-
-const SPENT_RANGES: &str = "\
-2..=2;
-2..=2 (exhausted);
-2..=2 (exhausted);
--1..=-1 (exhausted);
-Some(255..=255 (exhausted))~
-Some(
-    255..=255 (exhausted),
-);
-5..=1;
-";
-
-#[test]
-fn inclusive_ranges_print_whether_they_are_exhausted(rt: HostRuntime) {
-    let mut table = Table::new(rt.alloc());
     let mut range = 1u8..=2;
     range.next();
     table.texts(&range);
@@ -444,7 +397,7 @@ fn inclusive_ranges_print_whether_they_are_exhausted(rt: HostRuntime) {
     let mut backward = 5u8..=1;
     backward.next();
     table.texts(&backward);
-    has_rows(&rt, &table, SPENT_RANGES);
+    has_rows(&rt, &table, RANGES);
 }
 
 const WRAPPERS: &str = "\

@@ -10,7 +10,8 @@ use ufmt_user::{
     Temperature, Tree, Tuple, Users, Window, X, Y, log, print,
 };
 
-const STRUCTS_AND_ENUMS: &str = "\
+// A derive of Rust's `Debug` prints the same, and of ports and scores `debug_map` and `debug_list` of core::fmt.
+const TYPES: &str = "\
 I32(0)~
 I32(
     0,
@@ -62,32 +63,6 @@ X;
 [
     -4 °C,
 ];
-";
-
-#[test]
-fn structs_and_enums_print(rt: HostRuntime) {
-    let mut table = Table::new(rt.alloc());
-    table.texts(&I32(0i32));
-    table.texts(&Tuple(0i32, 0u64));
-    table.texts(&X(0i32));
-    table.texts(&Pair { x: 0i32, y: 0u64 });
-    table.texts(&Nested {
-        first: Pair { x: 0u64, y: 0u64 },
-        second: Pair { x: 0u64, y: 0u64 },
-    });
-    table.texts(&Letter::A::<u64>);
-    table.texts(&Letter::B(0i32, 1));
-    table.texts(&Letter::C { x: 0u64, y: 1 });
-    table.texts(&Y::Z(0i32));
-    table.texts(&Y::W::<u64>);
-    table.texts(&forwarded::Y);
-    table.texts(&Temperature { celsius: 21 });
-    table.texts(&[Temperature { celsius: -4 }]);
-    has_rows(&rt, &table, STRUCTS_AND_ENUMS);
-}
-
-// A derive of Rust's `Debug` prints the same.
-const NODES_AND_TREES: &str = "\
 Node { value: 1, next: Some(Node { value: 0, next: None }) }~
 Node {
     value: 1,
@@ -108,38 +83,6 @@ Tree {
         },
     ],
 };
-";
-
-fn node(alloc: Global) -> Result<Node, AllocError> {
-    let last = Node {
-        value: 0,
-        next: None,
-    };
-    Ok(Node {
-        value: 1,
-        next: Some(Box::new(alloc, last)?),
-    })
-}
-
-fn tree(alloc: Global) -> Result<Tree, AllocError> {
-    let mut children = Vec::new(alloc);
-    children.push(Tree {
-        size: 2,
-        children: Vec::new(alloc),
-    })?;
-    Ok(Tree { size: 1, children })
-}
-
-#[test]
-fn nodes_and_trees_print(rt: HostRuntime) {
-    let mut table = Table::new(rt.alloc());
-    table.texts_of_made(node(rt.alloc()));
-    table.texts_of_made(tree(rt.alloc()));
-    has_rows(&rt, &table, NODES_AND_TREES);
-}
-
-// `debug_map` and `debug_list` of core::fmt print the same.
-const IN_LOOPS: &str = "\
 [Some(1), None]~
 [
     Some(
@@ -157,108 +100,9 @@ const IN_LOOPS: &str = "\
     7,
     9,
 ];
-";
-
-fn ports(alloc: Global) -> Result<Vec<Port<u8>>, AllocError> {
-    let mut ports = Vec::new(alloc);
-    ports.push(Port {
-        number: 80,
-        user: 7u8,
-    })?;
-    ports.push(Port {
-        number: 443,
-        user: 9u8,
-    })?;
-    Ok(ports)
-}
-
-#[test]
-fn types_with_builders_in_loops_print(rt: HostRuntime) {
-    let mut table = Table::new(rt.alloc());
-    table.texts_of_made(list(rt.alloc(), &[Some(1u64), None]).map(|scores| Scores { scores }));
-    table.texts_of_made(ports(rt.alloc()).map(|ports| Ports { ports }));
-    table.texts_of_made(ports(rt.alloc()).map(|ports| Users { ports }));
-    has_rows(&rt, &table, IN_LOOPS);
-}
-
-const LOGS: &str = "\
-Ok(59) Measurement { channel: 3, celsius: -4 } control 0x0000beef
-.....;
-Ok(59) Measurement { channel: 3, celsius: -4 } control 0x0000beef
-.....;
-Err(Full) Measurement { channel: 3, celsius: -4 } control 0x0000beef......;
-Err(Full) Measurement { ..................................................;
-";
-
-#[test]
-fn log_writes_a_line_into_a_buffer(rt: HostRuntime) {
-    let mut table = Table::new(rt.alloc());
-    let measurement = Measurement {
-        channel: 3,
-        celsius: -4,
-    };
-    for length in [64, 59, 58, 20] {
-        let mut buffer = [b'.'; 64];
-        let outcome = log(&mut buffer[..length], &measurement, 0xbeef);
-        table.put_outcome(outcome, &buffer);
-    }
-    has_rows(&rt, &table, LOGS);
-}
-
-const MESSAGES: &str = r#"Ok(58) Message { node: 2, level: '!', text: "valve is \"open\"" }......;
-Ok(58) Message { node: 2, level: '!', text: "valve is \"open\"" }......;
-Err(Full) Message { node: 2, level: '!', text: "valve is \"open\"" .......;
-Err(Full) Message { node: 2...............................................;
-"#;
-
-#[test]
-fn print_writes_a_message_into_a_buffer(rt: HostRuntime) {
-    let mut table = Table::new(rt.alloc());
-    let message = Message {
-        node: 2,
-        level: '!',
-        text: "valve is \"open\"",
-    };
-    for length in [64, 58, 57, 18] {
-        let mut buffer = [b'.'; 64];
-        let outcome = print(&mut buffer[..length], &message);
-        table.put_outcome(outcome, &buffer);
-    }
-    has_rows(&rt, &table, MESSAGES);
-}
-
-fn pairs_of_a_list(alloc: Global) -> Result<Json, AllocError> {
-    let mut list = Vec::new(alloc);
-    list.push(Json::Number(-1))?;
-    let mut pairs = Vec::new(alloc);
-    pairs.push((String::from_str(alloc, "a")?, Json::Array(list)))?;
-    Ok(Json::Object(pairs))
-}
-
-fn pairs_of_a_table(alloc: Global) -> Result<Json, AllocError> {
-    let mut table = BTreeMap::new(alloc);
-    table.insert(7u8, Json::Null)?;
-    let mut pairs = Vec::new(alloc);
-    pairs.push((String::from_str(alloc, "b")?, Json::Table(table)))?;
-    Ok(Json::Object(pairs))
-}
-
-const PAIRS: &str = "\
-Object([(\"a\", Array([Number(-1)]))]);
-Object([(\"b\", Table({7: Null}))]);
-";
-
-#[test]
-fn a_type_that_holds_itself_in_pairs_prints(rt: HostRuntime) {
-    let mut table = Table::new(rt.alloc());
-    table.plain_of_made(pairs_of_a_list(rt.alloc()));
-    table.plain_of_made(pairs_of_a_table(rt.alloc()));
-    has_rows(&rt, &table, PAIRS);
-}
-
-const SHARED: &str = r#"Window { name: "main", lines: 3..9, recent: [7, 8] }~
+Window { name: \"main\", lines: 3..9, recent: [7, 8] }~
 Window {
-    name: "main",
+    name: \"main\",
     lines: 3..9,
     recent: [
         7,
@@ -286,7 +130,127 @@ Window {
         ),
     },
 ];
-"#;
+Object([(\"a\", Array([Number(-1)]))]);
+Object([(\"b\", Table({7: Null}))]);
+";
+
+fn node(alloc: Global) -> Result<Node, AllocError> {
+    let last = Node {
+        value: 0,
+        next: None,
+    };
+    Ok(Node {
+        value: 1,
+        next: Some(Box::new(alloc, last)?),
+    })
+}
+
+fn tree(alloc: Global) -> Result<Tree, AllocError> {
+    let mut children = Vec::new(alloc);
+    children.push(Tree {
+        size: 2,
+        children: Vec::new(alloc),
+    })?;
+    Ok(Tree { size: 1, children })
+}
+
+fn ports(alloc: Global) -> Result<Vec<Port<u8>>, AllocError> {
+    let mut ports = Vec::new(alloc);
+    ports.push(Port {
+        number: 80,
+        user: 7u8,
+    })?;
+    ports.push(Port {
+        number: 443,
+        user: 9u8,
+    })?;
+    Ok(ports)
+}
+
+const IN_BUFFERS: &str = "\
+Ok(59) Measurement { channel: 3, celsius: -4 } control 0x0000beef
+.....;
+Ok(59) Measurement { channel: 3, celsius: -4 } control 0x0000beef
+.....;
+Err(Full) Measurement { channel: 3, celsius: -4 } control 0x0000beef......;
+Err(Full) Measurement { ..................................................;
+Ok(58) Message { node: 2, level: '!', text: \"valve is \\\"open\\\"\" }......;
+Ok(58) Message { node: 2, level: '!', text: \"valve is \\\"open\\\"\" }......;
+Err(Full) Message { node: 2, level: '!', text: \"valve is \\\"open\\\"\" .......;
+Err(Full) Message { node: 2...............................................;
+";
+
+#[test]
+fn log_and_print_write_into_a_buffer(rt: HostRuntime) {
+    let mut table = Table::new(rt.alloc());
+    let measurement = Measurement {
+        channel: 3,
+        celsius: -4,
+    };
+    for length in [64, 59, 58, 20] {
+        let mut buffer = [b'.'; 64];
+        let outcome = log(&mut buffer[..length], &measurement, 0xbeef);
+        table.put_outcome(outcome, &buffer);
+    }
+    let message = Message {
+        node: 2,
+        level: '!',
+        text: "valve is \"open\"",
+    };
+    for length in [64, 58, 57, 18] {
+        let mut buffer = [b'.'; 64];
+        let outcome = print(&mut buffer[..length], &message);
+        table.put_outcome(outcome, &buffer);
+    }
+    has_rows(&rt, &table, IN_BUFFERS);
+}
+
+fn pairs_of_a_list(alloc: Global) -> Result<Json, AllocError> {
+    let mut list = Vec::new(alloc);
+    list.push(Json::Number(-1))?;
+    let mut pairs = Vec::new(alloc);
+    pairs.push((String::from_str(alloc, "a")?, Json::Array(list)))?;
+    Ok(Json::Object(pairs))
+}
+
+fn pairs_of_a_table(alloc: Global) -> Result<Json, AllocError> {
+    let mut table = BTreeMap::new(alloc);
+    table.insert(7u8, Json::Null)?;
+    let mut pairs = Vec::new(alloc);
+    pairs.push((String::from_str(alloc, "b")?, Json::Table(table)))?;
+    Ok(Json::Object(pairs))
+}
+
+#[test]
+fn types_of_users_print_as_by_core_fmt(rt: HostRuntime) {
+    let mut table = Table::new(rt.alloc());
+    table.texts(&I32(0i32));
+    table.texts(&Tuple(0i32, 0u64));
+    table.texts(&X(0i32));
+    table.texts(&Pair { x: 0i32, y: 0u64 });
+    table.texts(&Nested {
+        first: Pair { x: 0u64, y: 0u64 },
+        second: Pair { x: 0u64, y: 0u64 },
+    });
+    table.texts(&Letter::A::<u64>);
+    table.texts(&Letter::B(0i32, 1));
+    table.texts(&Letter::C { x: 0u64, y: 1 });
+    table.texts(&Y::Z(0i32));
+    table.texts(&Y::W::<u64>);
+    table.texts(&forwarded::Y);
+    table.texts(&Temperature { celsius: 21 });
+    table.texts(&[Temperature { celsius: -4 }]);
+    table.texts_of_made(node(rt.alloc()));
+    table.texts_of_made(tree(rt.alloc()));
+    table.texts_of_made(list(rt.alloc(), &[Some(1u64), None]).map(|scores| Scores { scores }));
+    table.texts_of_made(ports(rt.alloc()).map(|ports| Ports { ports }));
+    table.texts_of_made(ports(rt.alloc()).map(|ports| Users { ports }));
+    table.texts_of_made(window(rt.alloc()));
+    table.texts_of_made(chains_with_one_end(rt.alloc()));
+    table.plain_of_made(pairs_of_a_list(rt.alloc()));
+    table.plain_of_made(pairs_of_a_table(rt.alloc()));
+    has_rows(&rt, &table, TYPES);
+}
 
 fn window(alloc: Global) -> Result<Window<'static>, AllocError> {
     let mut recent = VecDeque::new(alloc);
@@ -310,12 +274,4 @@ fn chains_with_one_end(alloc: Global) -> Result<[Link; 2], AllocError> {
         rest: Some(end),
     };
     Ok([first, second])
-}
-
-#[test]
-fn types_with_shared_fields_print_as_by_core_fmt(rt: HostRuntime) {
-    let mut table = Table::new(rt.alloc());
-    table.texts_of_made(window(rt.alloc()));
-    table.texts_of_made(chains_with_one_end(rt.alloc()));
-    has_rows(&rt, &table, SHARED);
 }

@@ -1,76 +1,51 @@
 //! Tests of what `uwrite!` and `uwriteln!` pass to the writer, and of what they evaluate.
-use super::printed::Printed;
+use super::printed::{PREFIXED, Printed};
 use super::rows::{Table, are_ok, has_rows, same};
-use ufmt::{Cursor, Formatter, Full, HexOptions, laws, uWrite, uwrite, uwriteln};
+use ufmt::{Cursor, Formatter, Full, laws, uWrite, uwrite, uwriteln};
 
-const PREFIXED: HexOptions = HexOptions {
-    upper_case: false,
-    pad_char: b'0',
-    pad_length: 6,
-    ox_prefix: true,
-};
-
-struct AllPieces;
-
-impl Printed for AllPieces {
-    fn print<W: uWrite>(&self, f: &mut Formatter<W>) -> Result<(), W::Error> {
-        laws::all_pieces(f, "n=", &7i32, &(1i32,), &Some(2i32), &255u8, PREFIXED)
-    }
+/// Pieces by each macro, and by the laws of both.
+#[derive(Clone, Copy)]
+enum Written {
+    AllPieces,
+    LineOfAllPieces,
+    /// Each kind of piece after a hexadecimal one.
+    HexadecimalFirst,
+    /// A hexadecimal piece in the middle of a line.
+    HexadecimalInALine,
+    AllForms,
+    /// Empty texts are pieces too.
+    EmptyTexts,
 }
 
-struct LineOfAllPieces;
-
-impl Printed for LineOfAllPieces {
+impl Printed for Written {
     fn print<W: uWrite>(&self, f: &mut Formatter<W>) -> Result<(), W::Error> {
         let (tuples, numbers) = ([(3i32,)], [16u8, 17]);
-        laws::line_of_all_pieces(
-            f,
-            "n=",
-            &7i32,
-            &(1i32,),
-            &Some(2i32),
-            &255u8,
-            &tuples,
-            &numbers,
-            PREFIXED,
-        )
-    }
-}
-
-// Each kind of piece after a hexadecimal one.
-struct HexadecimalFirst;
-
-impl Printed for HexadecimalFirst {
-    fn print<W: uWrite>(&self, f: &mut Formatter<W>) -> Result<(), W::Error> {
-        uwrite!(f, hex 1u8 with PREFIXED, text "ab", hex (2u8) with PREFIXED, display 3u8, hex 4u8 with PREFIXED, debug 5u8, hex 6u8 with PREFIXED, pretty 7u8, hex 8u8 with PREFIXED, hex 9u8 with PREFIXED)
-    }
-}
-
-// A hexadecimal piece in the middle of a line.
-struct HexadecimalInALine;
-
-impl Printed for HexadecimalInALine {
-    fn print<W: uWrite>(&self, f: &mut Formatter<W>) -> Result<(), W::Error> {
-        uwriteln!(f, text "a", hex 1u8 with PREFIXED, text "b")
-    }
-}
-
-struct AllForms;
-
-impl Printed for AllForms {
-    fn print<W: uWrite>(&self, f: &mut Formatter<W>) -> Result<(), W::Error> {
-        uwriteln!(f, text "a b", display 7i32, debug [1i32], pretty [2i32])
-    }
-}
-
-// Empty texts are pieces too.
-struct EmptyTexts;
-
-impl Printed for EmptyTexts {
-    fn print<W: uWrite>(&self, f: &mut Formatter<W>) -> Result<(), W::Error> {
-        uwrite!(f, text "")?;
-        uwrite!(f, text "", display 1u8, text "", display "")?;
-        uwriteln!(f, text "")
+        match self {
+            Written::AllPieces => {
+                laws::all_pieces(f, "n=", &7i32, &(1i32,), &Some(2i32), &255u8, PREFIXED)
+            }
+            Written::LineOfAllPieces => laws::line_of_all_pieces(
+                f,
+                "n=",
+                &7i32,
+                &(1i32,),
+                &Some(2i32),
+                &255u8,
+                &tuples,
+                &numbers,
+                PREFIXED,
+            ),
+            Written::HexadecimalFirst =>
+                uwrite!(f, hex 1u8 with PREFIXED, text "ab", hex (2u8) with PREFIXED, display 3u8, hex 4u8 with PREFIXED, debug 5u8, hex 6u8 with PREFIXED, pretty 7u8, hex 8u8 with PREFIXED, hex 9u8 with PREFIXED),
+            Written::HexadecimalInALine => uwriteln!(f, text "a", hex 1u8 with PREFIXED, text "b"),
+            Written::AllForms =>
+                uwriteln!(f, text "a b", display 7i32, debug [1i32], pretty [2i32]),
+            Written::EmptyTexts => {
+                uwrite!(f, text "")?;
+                uwrite!(f, text "", display 1u8, text "", display "")?;
+                uwriteln!(f, text "")
+            }
+        }
     }
 }
 
@@ -89,12 +64,16 @@ a b|7|[|\n|    |1|,\n|]|[|\n|    |2|,\n|]|\n|;
 #[test]
 fn pieces_are_passed_to_the_writer(rt: HostRuntime) {
     let mut table = Table::new(rt.alloc());
-    table.pieces(&AllPieces);
-    table.pieces(&LineOfAllPieces);
-    table.pieces(&HexadecimalFirst);
-    table.pieces(&HexadecimalInALine);
-    table.pieces(&AllForms);
-    table.pieces(&EmptyTexts);
+    for written in [
+        Written::AllPieces,
+        Written::LineOfAllPieces,
+        Written::HexadecimalFirst,
+        Written::HexadecimalInALine,
+        Written::AllForms,
+        Written::EmptyTexts,
+    ] {
+        table.pieces(&written);
+    }
     has_rows(&rt, &table, PIECES);
 }
 
