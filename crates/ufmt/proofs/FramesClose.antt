@@ -1,5 +1,5 @@
 -- In each frame, the ending of a block differs from another entry, and an empty block from a block with entries.
-use Rattle.std.proofs.Common.{◌≡◌, inl, inr, refl, ℕ, zero, suc, ◌≤◌, ◌+◌, min, ◌==◌, Bool, true, false, List, [], ◌∷◌, ◌++◌, None, codes, eqb-true, arith}
+use Rattle.std.proofs.Common.{◌≡◌, refl, ℕ, zero, suc, ◌≤◌, ◌+◌, min, ◌==◌, Bool, true, false, List, [], ◌∷◌, ◌++◌, None, codes, eqb-true, arith}
 use Rattle.std.specs.Prelude.{⊤}
 use Rattle.ufmt_core.specs.Layout.{frame, setting, inside, entry_depth, indentation, new_line, lead, ending, trail, next, block_tail}
 use Rattle.ufmt_core.specs.declared.layout.Mode.{Mode}
@@ -9,10 +9,10 @@ use Rattle.ufmt_core.specs.declared.layout.Kind.{Kind}
 use Rattle.ufmt_core.specs.declared.layout.Kind.TheVariants.{Brackets, Braces, Struct, Tuple, Unnamed}
 use Rattle.ufmt_core.specs.declared.layout.Count.{Count}
 use Rattle.ufmt_core.specs.declared.layout.Count.TheVariants.{Zero, One, Several}
-use Rattle.ufmt.specs.Token.{is_closer, IsFollower}
+use Rattle.ufmt.specs.Leaves.{Class, is_ender, MayFollow}
 use Rattle.ufmt.specs.Reading.{strip}
-use Rattle.ufmt.proofs.ReadingWords.{each_closer}
-use Rattle.ufmt.proofs.BlocksComplete.{Begins, Closes}
+use Rattle.ufmt.proofs.ClassLeaves.{Begins, ender_follows, brace_follows}
+use Rattle.ufmt.proofs.BlocksComplete.{Closes}
 
 -- n nested blocks fit at depth k: in pretty mode the indentation stops growing at depth 255
 abbrev pub FitsAt : Mode → ℕ → ℕ → Type 0
@@ -37,39 +37,21 @@ fits_less s m n less h = go s.mode s.depth h
     go Plain k h = tt
     go Pretty k h = omega (arith, less)
 
-closer_differs : (c b : ℕ) → is_closer c ≡ true → is_closer b ≡ false → (c == b) ≡ false
-closer_differs c b hc hb = go (c == b) refl
+ender_differs : (c b : ℕ) → is_ender c ≡ true → is_ender b ≡ false → (c == b) ≡ false
+ender_differs c b hc hb = go (c == b) refl
   where
     go : (same : Bool) → (c == b) ≡ same → (c == b) ≡ false
     go false e = e
     go true e = let same = eqb-true c b e in absurd (cc)
 
--- a text that begins with no closer is not stripped of one
-pub closer_begins_none : (c : ℕ) (w : List ℕ) → is_closer c ≡ true → {t : List ℕ} → Begins t → strip (c ∷ w) t ≡ None
-closer_begins_none c w h b = rw (b.is, closer_differs c b.first h b.no_closer) refl
+-- a text that begins with no ender is not stripped of one
+pub ender_begins_none : (c : ℕ) (w : List ℕ) → is_ender c ≡ true → {t : List ℕ} → Begins t → strip (c ∷ w) t ≡ None
+ender_begins_none c w h b = rw (b.is, ender_differs c b.first h b.no_ender) refl
 
--- an entry after a new line begins with no closer
+-- an entry after a new line begins with no ender
 pub begins_after : (mode : Mode) (k : ℕ) {t : List ℕ} → Begins t → Begins (new_line mode k ++ t)
 begins_after Plain k b = b
-begins_after Pretty k {t} b = record { first = 10; tail = indentation k ++ t; is = refl; no_closer = refl }
-
-pub closer_follows : (c : ℕ) (u : List ℕ) → is_closer c ≡ true → IsFollower (c ∷ u)
-closer_follows c [] h = h
-closer_follows c (b ∷ u) h = inl h
-
--- a follower does not begin with the parenthesis of a tuple
-pub follower_no_tuple : (u w : List ℕ) → IsFollower u → strip (40 ∷ w) u ≡ None
-follower_no_tuple [] w h = refl
-follower_no_tuple (c ∷ []) w h = each_closer (λ c. strip (40 ∷ w) (c ∷ []) ≡ None) refl refl refl refl refl c h
-follower_no_tuple (c ∷ b ∷ u) w (inl h) = each_closer (λ c. strip (40 ∷ w) (c ∷ b ∷ u) ≡ None) refl refl refl refl refl c h
-follower_no_tuple (c ∷ b ∷ u) w (inr h) = rw h.0 refl
-
--- a follower does not begin with the space and the brace of a struct
-pub follower_no_struct : (u w : List ℕ) → IsFollower u → strip (32 ∷ 123 ∷ w) u ≡ None
-follower_no_struct [] w h = refl
-follower_no_struct (c ∷ []) w h = each_closer (λ c. strip (32 ∷ 123 ∷ w) (c ∷ []) ≡ None) refl refl refl refl refl c h
-follower_no_struct (c ∷ b ∷ u) w (inl h) = each_closer (λ c. strip (32 ∷ 123 ∷ w) (c ∷ b ∷ u) ≡ None) refl refl refl refl refl c h
-follower_no_struct (c ∷ b ∷ u) w (inr h) = rw (h.0, h.1) refl
+begins_after Pretty k {t} b = record { first = 10; tail = indentation k ++ t; is = refl; no_ender = refl }
 
 -- what holds of One and of Several holds of each next count
 after_next : (P : Count → Type 0) → P One → P Several → (count : Count) → P (next count)
@@ -83,16 +65,18 @@ deeper zero c w u e = rw e refl
 deeper (suc k) c w u e = deeper k c w u e
 
 -- in plain mode, the ending of a block may follow an entry
-plain_follows : (kind : Kind) (k : ℕ) (count : Count) (u : List ℕ) → IsFollower (ending (frame Plain kind) (setting Plain k) (next count) ++ u)
-plain_follows Brackets k count u = after_next (λ p. IsFollower (ending (frame Plain Brackets) (setting Plain k) p ++ u))
-    (closer_follows 93 u refl) (closer_follows 93 u refl) count
-plain_follows Braces k count u = after_next (λ p. IsFollower (ending (frame Plain Braces) (setting Plain k) p ++ u))
-    (closer_follows 125 u refl) (closer_follows 125 u refl) count
-plain_follows Struct k count u = after_next (λ p. IsFollower (ending (frame Plain Struct) (setting Plain k) p ++ u)) (inr (refl, refl)) (inr (refl, refl)) count
-plain_follows Tuple k count u = after_next (λ p. IsFollower (ending (frame Plain Tuple) (setting Plain k) p ++ u))
-    (closer_follows 41 u refl) (closer_follows 41 u refl) count
-plain_follows Unnamed k count u = after_next (λ p. IsFollower (ending (frame Plain Unnamed) (setting Plain k) p ++ u)) (inl refl)
-    (closer_follows 41 u refl) count
+plain_follows : (class : Class) (kind : Kind) (k : ℕ) (count : Count) (u : List ℕ)
+    → MayFollow class (ending (frame Plain kind) (setting Plain k) (next count) ++ u)
+plain_follows class Brackets k count u = after_next (λ p. MayFollow class (ending (frame Plain Brackets) (setting Plain k) p ++ u))
+    (ender_follows class 93 u refl) (ender_follows class 93 u refl) count
+plain_follows class Braces k count u = after_next (λ p. MayFollow class (ending (frame Plain Braces) (setting Plain k) p ++ u))
+    (ender_follows class 125 u refl) (ender_follows class 125 u refl) count
+plain_follows class Struct k count u = after_next (λ p. MayFollow class (ending (frame Plain Struct) (setting Plain k) p ++ u))
+    (brace_follows class u) (brace_follows class u) count
+plain_follows class Tuple k count u = after_next (λ p. MayFollow class (ending (frame Plain Tuple) (setting Plain k) p ++ u))
+    (ender_follows class 41 u refl) (ender_follows class 41 u refl) count
+plain_follows class Unnamed k count u = after_next (λ p. MayFollow class (ending (frame Plain Unnamed) (setting Plain k) p ++ u))
+    (ender_follows class 44 (41 ∷ u) refl) (ender_follows class 41 u refl) count
 
 -- the ending of a block with so many entries does not begin with the lead of another entry
 Differs : Mode → ℕ → Kind → List ℕ → Count → Type 0
@@ -120,13 +104,13 @@ pretty_differs Struct k u h count = after_next (Differs Pretty k Struct u) (end_
 pretty_differs Tuple k u h count = after_next (Differs Pretty k Tuple u) (end_differs 41 k u h refl) (end_differs 41 k u h refl) count
 pretty_differs Unnamed k u h count = after_next (Differs Pretty k Unnamed u) (end_differs 41 k u h refl) (end_differs 41 k u h refl) count
 
-closes_at : (mode : Mode) (k : ℕ) (kind : Kind) → FitsAt mode k 1 → Closes (frame mode kind) (setting mode k)
+closes_at : (class : Class) (mode : Mode) (k : ℕ) (kind : Kind) → FitsAt mode k 1 → Closes class (frame mode kind) (setting mode k)
 unfolding Differs
-closes_at Plain k kind h = record { follows = plain_follows kind k; differs = λ count u. plain_differs kind k u count }
-closes_at Pretty k kind h = record { follows = λ count u. inl refl; differs = λ count u. pretty_differs kind k u h count }
+closes_at class Plain k kind h = record { follows = plain_follows class kind k; differs = λ count u. plain_differs kind k u count }
+closes_at class Pretty k kind h = record { follows = λ count u. ender_follows class 44 _ refl; differs = λ count u. pretty_differs kind k u h count }
 
-pub closes : (s : Setting) (kind : Kind) → Fits s 1 → Closes (frame s.mode kind) s
-closes s kind h = closes_at s.mode s.depth kind h
+pub closes : (class : Class) (s : Setting) (kind : Kind) → Fits s 1 → Closes class (frame s.mode kind) s
+closes class s kind h = closes_at class s.mode s.depth kind h
 
 -- the rest of a block in braces, after its first entry, begins with no colon
 no_colon_at : (mode : Mode) (k : ℕ) (texts : List (List ℕ)) (u : List ℕ)

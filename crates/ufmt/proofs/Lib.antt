@@ -1,8 +1,12 @@
 pub mod AsciiDumps
 pub mod BlocksComplete
 pub mod BlocksSound
+pub mod ClassLeaves
+pub mod ClassLines
+pub mod ClassTokens
 pub mod Columns
 pub mod Cursors
+pub mod DebugLeaves
 pub mod FittingParts
 pub mod FramesClose
 pub mod DumpColumns
@@ -32,8 +36,6 @@ pub mod ReadingTurns
 pub mod ReadingWhole
 pub mod Shifting
 pub mod TextsBegin
-pub mod TokenLeaves
-pub mod TokenLines
 pub mod Truncations
 pub mod Unquoted
 pub mod ReadingWords

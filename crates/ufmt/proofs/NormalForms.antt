@@ -1,11 +1,12 @@
--- The normal form of a document is its own normal form, and keeps the document's nesting, tokens and texts.
-use Rattle.std.proofs.Common.{◌≡◌, List, [], ◌∷◌, ℕ, ◌≤◌, refl, sym, ap, ap₂, ◌∙◌, subst, inl, append-nil}
+-- The normal form of a document is its own normal form, and keeps the document's nesting, class and texts.
+use Rattle.std.proofs.Common.{◌≡◌, List, [], ◌∷◌, ℕ, ◌≤◌, refl, sym, ap, ap₂, ◌∙◌, subst, append-nil}
 use Rattle.ufmt_core.specs.Document.{Document, leaf, joined, list_of, set_of, map_of, struct_of, tuple_of, pretty_part, Documents, no_documents, first_document, Pairs, no_pairs, first_pair, Fields, no_fields, first_field, nest, nest_all, nest_pairs, nest_fields}
 use Rattle.ufmt_core.specs.Layout.{setting, inside, tuple_kind, block_text, layout, layouts, texts, pair_texts, field_texts}
 use Rattle.ufmt_core.specs.declared.layout.Mode.TheVariants.{Pretty}
 use Rattle.ufmt_core.specs.declared.layout.Setting.{Setting}
 use Rattle.ufmt_core.specs.declared.layout.Kind.TheVariants.{Brackets, Braces, Struct}
-use Rattle.ufmt.specs.Token.{IsBuiltFromTokens, AreBuiltFromTokens, PairsAreBuiltFromTokens, FieldsAreBuiltFromTokens, IsTokenDocument, normal, normal_all, normal_pairs, normal_fields}
+use Rattle.ufmt.specs.Token.{Class, IsBuilt, AreBuilt, PairsAreBuilt, FieldsAreBuilt, IsDocument, normal, normal_all, normal_pairs, normal_fields}
+use Rattle.ufmt.proofs.ClassLeaves.{name_leaf}
 
 mutual
   pub normal-normal : (d : Document) → normal (normal d) ≡ normal d
@@ -61,34 +62,35 @@ mutual
   nest_fields-normal_fields no_fields = refl
   nest_fields-normal_fields (first_field name value fs) = rw (nest-normal value, nest_fields-normal_fields fs)
 
-mutual
-  pub IsBuiltFromTokens-normal : (d : Document) → IsBuiltFromTokens d → IsBuiltFromTokens (normal d)
-  IsBuiltFromTokens-normal (leaf text) h = h
-  IsBuiltFromTokens-normal (joined ds) h = absurd h
-  IsBuiltFromTokens-normal (list_of ds) h = AreBuiltFromTokens-normal_all ds h
-  IsBuiltFromTokens-normal (set_of no_documents) h = tt
-  IsBuiltFromTokens-normal (set_of (first_document d ds)) h = (IsBuiltFromTokens-normal d h.0, AreBuiltFromTokens-normal_all ds h.1)
-  IsBuiltFromTokens-normal (map_of ps) h = PairsAreBuiltFromTokens-normal_pairs ps h
-  IsBuiltFromTokens-normal (struct_of name no_fields) h = record { shape = inl h.0 }
-  IsBuiltFromTokens-normal (struct_of name (first_field field_name value fs)) h = (h.0, (h.1.0, IsBuiltFromTokens-normal value h.1.1, FieldsAreBuiltFromTokens-normal_fields fs h.1.2))
-  IsBuiltFromTokens-normal (tuple_of name no_documents) h = record { shape = inl h }
-  IsBuiltFromTokens-normal (tuple_of name (first_document d ds)) h = (h.0, IsBuiltFromTokens-normal d h.1, AreBuiltFromTokens-normal_all ds h.2)
-  IsBuiltFromTokens-normal (pretty_part d) h = absurd h
+module _ (class : Class) where
+  mutual
+    pub IsBuilt-normal : (d : Document) → IsBuilt class d → IsBuilt class (normal d)
+    IsBuilt-normal (leaf text) h = h
+    IsBuilt-normal (joined ds) h = absurd h
+    IsBuilt-normal (list_of ds) h = AreBuilt-normal_all ds h
+    IsBuilt-normal (set_of no_documents) h = tt
+    IsBuilt-normal (set_of (first_document d ds)) h = (IsBuilt-normal d h.0, AreBuilt-normal_all ds h.1)
+    IsBuilt-normal (map_of ps) h = PairsAreBuilt-normal_pairs ps h
+    IsBuilt-normal (struct_of name no_fields) h = name_leaf class name h.0
+    IsBuilt-normal (struct_of name (first_field field_name value fs)) h = (h.0, (h.1.0, IsBuilt-normal value h.1.1, FieldsAreBuilt-normal_fields fs h.1.2))
+    IsBuilt-normal (tuple_of name no_documents) h = name_leaf class name h
+    IsBuilt-normal (tuple_of name (first_document d ds)) h = (h.0, IsBuilt-normal d h.1, AreBuilt-normal_all ds h.2)
+    IsBuilt-normal (pretty_part d) h = absurd h
 
-  pub AreBuiltFromTokens-normal_all : (ds : Documents) → AreBuiltFromTokens ds → AreBuiltFromTokens (normal_all ds)
-  AreBuiltFromTokens-normal_all no_documents h = tt
-  AreBuiltFromTokens-normal_all (first_document d ds) h = (IsBuiltFromTokens-normal d h.0, AreBuiltFromTokens-normal_all ds h.1)
+    pub AreBuilt-normal_all : (ds : Documents) → AreBuilt class ds → AreBuilt class (normal_all ds)
+    AreBuilt-normal_all no_documents h = tt
+    AreBuilt-normal_all (first_document d ds) h = (IsBuilt-normal d h.0, AreBuilt-normal_all ds h.1)
 
-  pub PairsAreBuiltFromTokens-normal_pairs : (ps : Pairs) → PairsAreBuiltFromTokens ps → PairsAreBuiltFromTokens (normal_pairs ps)
-  PairsAreBuiltFromTokens-normal_pairs no_pairs h = tt
-  PairsAreBuiltFromTokens-normal_pairs (first_pair key value ps) h = (IsBuiltFromTokens-normal key h.0, IsBuiltFromTokens-normal value h.1, PairsAreBuiltFromTokens-normal_pairs ps h.2)
+    pub PairsAreBuilt-normal_pairs : (ps : Pairs) → PairsAreBuilt class ps → PairsAreBuilt class (normal_pairs ps)
+    PairsAreBuilt-normal_pairs no_pairs h = tt
+    PairsAreBuilt-normal_pairs (first_pair key value ps) h = (IsBuilt-normal key h.0, IsBuilt-normal value h.1, PairsAreBuilt-normal_pairs ps h.2)
 
-  pub FieldsAreBuiltFromTokens-normal_fields : (fs : Fields) → FieldsAreBuiltFromTokens fs → FieldsAreBuiltFromTokens (normal_fields fs)
-  FieldsAreBuiltFromTokens-normal_fields no_fields h = tt
-  FieldsAreBuiltFromTokens-normal_fields (first_field name value fs) h = (h.0, IsBuiltFromTokens-normal value h.1, FieldsAreBuiltFromTokens-normal_fields fs h.2)
+    pub FieldsAreBuilt-normal_fields : (fs : Fields) → FieldsAreBuilt class fs → FieldsAreBuilt class (normal_fields fs)
+    FieldsAreBuilt-normal_fields no_fields h = tt
+    FieldsAreBuilt-normal_fields (first_field name value fs) h = (h.0, IsBuilt-normal value h.1, FieldsAreBuilt-normal_fields fs h.2)
 
-pub IsTokenDocument-normal : (d : Document) → IsTokenDocument d → IsTokenDocument (normal d)
-IsTokenDocument-normal d h = (IsBuiltFromTokens-normal d h.0, subst (λ n. n ≤ 255) (sym (nest-normal d)) h.1)
+  pub IsDocument-normal : (d : Document) → IsDocument class d → IsDocument class (normal d)
+  IsDocument-normal d h = (IsBuilt-normal d h.0, subst (λ n. n ≤ 255) (sym (nest-normal d)) h.1)
 
 -- a set's normal form has the text of the set of normal forms, also if it is the empty map
 layout-normal-set_of : (s : Setting) (ds : Documents) → layout s (normal (set_of ds)) ≡ layout s (set_of (normal_all ds))

@@ -6,7 +6,7 @@ use Rattle.std.proofs.lemmas.List.Elements.{All-head, All-tail}
 use Rattle.ufmt_core.specs.Decimal.{decimal, decimal_byte, DenotesDecimal, DenotesMagnitude}
 use Rattle.ufmt_core.specs.ValueDocuments.{integer}
 use Rattle.ufmt_core.proofs.DecimalTexts.{decimal-denotes}
-use Rattle.ufmt.specs.Token.{is_word_byte, IsWordOrEmpty, IsWord, IsBuiltFromTokens}
+use Rattle.ufmt.specs.Token.{is_word_byte, IsWordOrEmpty, IsWord, Token, IsBuilt}
 
 digit_byte : (digit : ℕ) → digit < 10 → is_word_byte (decimal_byte digit) ≡ true
 digit_byte digit below = rw (le-leb 48 (48 + digit) (omega arith), le-leb (48 + digit) 57 (omega arith)) refl
@@ -36,5 +36,5 @@ denoted_is_word (negsuc n) text denotes = subst IsWord (sym denotes.signed) (IsW
 pub decimal_is_word : (z : ℤ) → IsWord (decimal z)
 decimal_is_word z = denoted_is_word z (decimal z) (decimal-denotes z)
 
-pub IsBuiltFromTokens-integer : (z : ℤ) → IsBuiltFromTokens (integer z)
-IsBuiltFromTokens-integer z = record { shape = inl (decimal_is_word z) }
+pub IsBuilt-integer : (z : ℤ) → IsBuilt Token (integer z)
+IsBuilt-integer z = record { shape = inl (decimal_is_word z) }

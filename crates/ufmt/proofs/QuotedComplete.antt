@@ -32,7 +32,7 @@ plain_no_quote q b plain t u same =
 pub escaped-no_quote : (q b : ℕ) (t : List ℕ) → IsQuote q → strip (q ∷ []) (escaped_byte q b ++ t) ≡ None
 escaped-no_quote q b t quote = strip_of_none (q ∷ []) (escaped_byte q b ++ t) (λ u.
     each_row q b (λ n e. e ++ t ≡ q ∷ u → ⊥) (no_quote q quote _ u) (no_quote q quote _ u) (no_quote q quote _ u) (no_quote q quote _ u)
-    (λ itself. no_quote q quote _ u) (λ low. no_quote q quote _ u) (λ no_line itself. plain_no_quote q b itself t u))
+    (λ itself. no_quote q quote _ u) (λ low. no_quote q quote _ u) (λ no_control itself. plain_no_quote q b itself t u))
 
 -- bytes up to the closing quote are read
 pub read_inside-complete : (q : ℕ) (bs u : List ℕ) (n : ℕ) → IsQuote q → length bs < n → read_inside q n (escaped_bytes q bs ++ (q ∷ u)) ≡ Some (bs, u)
@@ -50,7 +50,7 @@ read_inside-complete q (b ∷ bs) u (suc n) quote few =
 
 pub length-escaped : (q b : ℕ) → 1 ≤ length (escaped_byte q b)
 length-escaped q b = each_row q b (λ n e. 1 ≤ length e) (omega arith) (omega arith) (omega arith) (omega arith) (λ itself. omega arith)
-    (λ low. omega arith) (λ no_line itself. omega arith)
+    (λ low. omega arith) (λ no_control itself. omega arith)
 
 pub length-escaped_bytes : (q : ℕ) (bs : List ℕ) → length bs ≤ length (escaped_bytes q bs)
 length-escaped_bytes q [] = omega arith

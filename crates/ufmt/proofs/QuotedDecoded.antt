@@ -40,7 +40,7 @@ module _ (q b : ℕ) where
   -- the rows of `escape`, in order
   module _ (P : ℕ → List ℕ → Type 0) (p0 : P 0 (codes "\\0")) (p9 : P 9 (codes "\\t")) (p10 : P 10 (codes "\\n")) (p13 : P 13 (codes "\\r"))
       (itself : (b ≡ 92) ⊎ (b ≡ q) → P b (92 ∷ b ∷ [])) (control : b < 128 → P b (codes "\\u{" ++ (hex_digits b ++ codes "}")))
-      (plain : (b == 10) ≡ false → (b == 92 || b == q) ≡ false → P b (b ∷ [])) where
+      (plain : (nat_lt b 32 || b == 127) ≡ false → (b == 92 || b == q) ≡ false → P b (b ∷ [])) where
     rows : (r0 r9 r10 r13 ritself rcontrol : Bool) → (b == 0) ≡ r0 → (b == 9) ≡ r9 → (b == 10) ≡ r10 → (b == 13) ≡ r13
         → (b == 92 || b == q) ≡ ritself → (nat_lt b 32 || b == 127) ≡ rcontrol → P b (escaped_byte q b)
     rows true r9 r10 r13 ritself rcontrol h0 h9 h10 h13 hi hc = at_row P 0 (eqb-true b 0 h0) p0
@@ -49,7 +49,7 @@ module _ (q b : ℕ) where
     rows false false false true ritself rcontrol h0 h9 h10 h13 hi hc = at_row P 13 (eqb-true b 13 h13) p13
     rows false false false false true rcontrol h0 h9 h10 h13 hi hc = rw (h0, h9, h10, h13, hi) (itself (one_of hi))
     rows false false false false false true h0 h9 h10 h13 hi hc = rw (h0, h9, h10, h13, hi, hc) (control (control_low hc))
-    rows false false false false false false h0 h9 h10 h13 hi hc = rw (h0, h9, h10, h13, hi, hc) (plain h10 hi)
+    rows false false false false false false h0 h9 h10 h13 hi hc = rw (h0, h9, h10, h13, hi, hc) (plain hc hi)
 
     pub each_row : P b (escaped_byte q b)
     each_row = rows (b == 0) (b == 9) (b == 10) (b == 13) (b == 92 || b == q) (nat_lt b 32 || b == 127) refl refl refl refl refl refl
@@ -71,4 +71,4 @@ module _ (q b : ℕ) (t : List ℕ) (quote : IsQuote q) where
 
   pub decoded-escaped : decoded (escaped_byte q b ++ t) ≡ b
   decoded-escaped = each_row q b (λ n e. decoded (e ++ t) ≡ n) refl refl refl refl decoded-itself (decoded-braces (nat_lt b 16) refl)
-      (λ no_line itself. rw (no_backslash q b itself) refl)
+      (λ no_control itself. rw (no_backslash q b itself) refl)

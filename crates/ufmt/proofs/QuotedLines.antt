@@ -1,5 +1,5 @@
 -- A quoted leaf has no line feed, because each line feed in it is escaped.
-use Rattle.std.proofs.Common.{◌≡◌, ◌≢◌, ◌⊎◌, inl, inr, refl, sym, subst, ℕ, ◌/◌, ◌%◌, ◌<◌, ◌==◌, nat_lt, Bool, true, false, List, [], ◌∷◌, ◌++◌, codes, eq-eqb, arith}
+use Rattle.std.proofs.Common.{◌≡◌, ◌≢◌, ◌⊎◌, inl, inr, refl, sym, subst, ℕ, ◌/◌, ◌%◌, ◌<◌, ◌==◌, ◌||◌, nat_lt, Bool, true, false, List, [], ◌∷◌, ◌++◌, codes, arith}
 use borrow.Author.Tests.{ltb-true}
 use Rattle.std.specs.Char.{digit_char}
 use Rattle.std.specs.Str.{encode_utf8_all}
@@ -26,8 +26,8 @@ itself_line q b quote (inl e) = omega (arith, e)
 itself_line q b (inl h) (inr e) = omega (arith, e, h)
 itself_line q b (inr h) (inr e) = omega (arith, e, h)
 
-plain_line : (b : ℕ) → (b == 10) ≡ false → b ≢ 10
-plain_line b no_line e = let is = eq-eqb b 10 e in absurd (cc)
+plain_line : (b : ℕ) → (nat_lt b 32 || b == 127) ≡ false → b ≢ 10
+plain_line b no_control e = let control = subst (λ n. (nat_lt n 32 || n == 127) ≡ false) e no_control in absurd (cc)
 
 escaped_line : (q b : ℕ) → IsQuote q → IsOneLine (escaped_byte q b)
 escaped_line q b quote =
@@ -35,7 +35,7 @@ escaped_line q b quote =
     (omega arith, (omega arith, tt))
     (λ itself. (omega arith, (itself_line q b quote itself, tt)))
     (λ low. (omega arith, (omega arith, (omega arith, IsOneLine-append (hex_digits b) (codes "}") (digits_line b (nat_lt b 16) refl low) (omega arith, tt)))))
-    (λ no_line itself. (plain_line b no_line, tt))
+    (λ no_control itself. (plain_line b no_control, tt))
 
 escaped_lines : (q : ℕ) (bs : List ℕ) → IsQuote q → IsOneLine (escaped_bytes q bs)
 escaped_lines q [] quote = tt

@@ -59,7 +59,7 @@ spelling q b quote =
     (letter 10 110 (omega arith) (omega arith)) (letter 13 114 (omega arith) (omega arith))
     (λ itself. letter b b (itself_ascii q b quote itself) (itself_ascii q b quote itself))
     (λ low. inr (codes "u{" ++ (hex_digits b ++ codes "}"), refl, braces_ascii b low, low))
-    (λ no_line itself. inl refl)
+    (λ no_control itself. inl refl)
   where
     letter : (n x : ℕ) → n < 128 → x < 128 → Spelling n (92 ∷ x ∷ [])
     letter n x low low' = inr (x ∷ [], refl, one_ascii x low', low)

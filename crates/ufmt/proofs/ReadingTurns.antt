@@ -4,11 +4,10 @@ use Rattle.ufmt_core.specs.Document.{Document}
 use Rattle.ufmt_core.specs.Layout.{Frame, inside, lead, trail, next, layout}
 use Rattle.ufmt_core.specs.declared.layout.Setting.{Setting}
 use Rattle.ufmt_core.specs.declared.layout.Count.{Count}
-use Rattle.ufmt.specs.Reading.{Parse, choose, parse_map, strip, read_word, read_pair, read_turn, read_end, read_rest, read_others, read}
+use Rattle.ufmt.specs.Reading.{Parse, choose, parse_map, strip, read_name, read_pair, read_turn, read_end, read_rest, read_others, read}
 use Rattle.ufmt.proofs.Parsing.{strip_found, led_from, mapped_from}
-use Rattle.ufmt.proofs.ReadingWords.{read_word_sound}
-use Rattle.ufmt.proofs.TokenLeaves.{word_begins}
-use Rattle.ufmt.proofs.BlocksComplete.{Begins}
+use Rattle.ufmt.specs.Leaves.{Class}
+use Rattle.ufmt.proofs.ClassLeaves.{Begins, name_begins, read_name_sound}
 use Rattle.ufmt.proofs.TextsBegin.{document_begins}
 use Rattle.ufmt.proofs.ReadingSound.{read_sound}
 
@@ -24,11 +23,13 @@ begins_takes t text u b whole =
 pub strip_within : (text t u : List ℕ) → strip text t ≡ Some u → length u ≤ length t
 strip_within text t u h = rw (strip_found text t u h, length-append text u) (omega arith)
 
-pub read_takes : (s : Setting) (n : ℕ) → Takes (read s n)
-read_takes s n = record { takes = λ t d u h. let found = read_sound n s t d u h in begins_takes t (layout s d) u (document_begins s d found.tokens) found.whole }
+pub read_takes : (class : Class) (s : Setting) (n : ℕ) → Takes (read class s n)
+read_takes class s n = record {
+  takes = λ t d u h. let found = read_sound class n s t d u h in begins_takes t (layout s d) u (document_begins class s d found.tokens) found.whole;
+}
 
-pub read_word_takes : Takes read_word
-read_word_takes = record { takes = λ t w u h. let found = read_word_sound t w u h in begins_takes t w u (word_begins w found.0) found.1 }
+pub read_name_takes : (class : Class) → Takes (read_name class)
+read_name_takes class = record { takes = λ t w u h. let found = read_name_sound class t w u h in begins_takes t w u (name_begins class w found.0) found.1 }
 
 pair_takes : {A : Type 0} (key : Parse A) (p : Parse Document) → Takes key → Takes p → (t : List ℕ) (x : A × Document) (u : List ℕ)
     → read_pair key p t ≡ Some (x, u) → length u < length t

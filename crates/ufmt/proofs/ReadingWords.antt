@@ -1,9 +1,8 @@
 -- Words and what follows them: word bytes, closers, and the longest word at the front of a text.
-use Rattle.std.proofs.Common.{◌≡◌, inl, inr, refl, ap, sym, subst, ◌∙◌, ℕ, ◌==◌, ◌||◌, Bool, true, false, cond, List, [], ◌∷◌, ◌++◌, Some, eqb-true}
+use Rattle.std.proofs.Common.{◌≡◌, inl, inr, refl, ap, sym, subst, ℕ, ◌==◌, ◌||◌, Bool, true, false, cond, List, [], ◌∷◌, ◌++◌, eqb-true}
 use Rattle.std.specs.Prelude.{⊤}
-use Rattle.ufmt.specs.Token.{is_word_byte, IsWordOrEmpty, IsWord, is_closer, IsFollower}
-use Rattle.ufmt.specs.Reading.{word_of, after_word, if_word, read_word}
-use Rattle.ufmt.proofs.Parsing.{same_parts}
+use Rattle.ufmt.specs.Leaves.{is_word_byte, IsWordOrEmpty, IsWord, is_closer, is_ender, IsFollower}
+use Rattle.ufmt.specs.Reading.{word_of, after_word}
 
 -- a property of each of the five closers holds of every closer
 pub each_closer : (P : ℕ → Type 0) → P 44 → P 58 → P 93 → P 41 → P 125 → (c : ℕ) → is_closer c ≡ true → P c
@@ -20,15 +19,33 @@ each_closer P comma colon bracket parenthesis brace c h = go (c == 44) (c == 58)
     go false false false false true ha hb hd he hf k = at 125 hf brace
     go false false false false false ha hb hd he hf k = absurd (cc)
 
+-- a property of a comma and of each closing bracket holds of every ender
+pub each_ender : (P : ℕ → Type 0) → P 44 → P 93 → P 41 → P 125 → (c : ℕ) → is_ender c ≡ true → P c
+each_ender P comma bracket parenthesis brace c h = go (c == 44) (c == 93) (c == 41) (c == 125) refl refl refl refl h
+  where
+    at : (k : ℕ) → (c == k) ≡ true → P k → P c
+    at k e p = subst P (sym (eqb-true c k e)) p
+
+    go : (a b d e : Bool) → (c == 44) ≡ a → (c == 93) ≡ b → (c == 41) ≡ d → (c == 125) ≡ e → (a || b || d || e) ≡ true → P c
+    go true b d e ha hb hd he k = at 44 ha comma
+    go false true d e ha hb hd he k = at 93 hb bracket
+    go false false true e ha hb hd he k = at 41 hd parenthesis
+    go false false false true ha hb hd he k = at 125 he brace
+    go false false false false ha hb hd he k = absurd (cc)
+
+-- a byte with a property that no ender has is no ender
+pub no_ender : (f : ℕ → Bool) → f 44 ≡ false → f 93 ≡ false → f 41 ≡ false → f 125 ≡ false → (c : ℕ) → f c ≡ true → is_ender c ≡ false
+no_ender f comma bracket parenthesis brace c h = go (is_ender c) refl
+  where
+    go : (b : Bool) → is_ender c ≡ b → is_ender c ≡ false
+    go false e = e
+    go true e = let none = each_ender (λ b. f b ≡ false) comma bracket parenthesis brace c e in absurd (cc)
+
+pub ender_closes : (c : ℕ) → is_ender c ≡ true → is_closer c ≡ true
+ender_closes c h = each_ender (λ b. is_closer b ≡ true) refl refl refl refl c h
+
 pub is_closer-is_word_byte : (c : ℕ) → is_closer c ≡ true → is_word_byte c ≡ false
 is_closer-is_word_byte c h = each_closer (λ b. is_word_byte b ≡ false) refl refl refl refl refl c h
-
-pub is_word_byte-is_closer : (c : ℕ) → is_word_byte c ≡ true → is_closer c ≡ false
-is_word_byte-is_closer c w = go (is_closer c) refl
-  where
-    go : (b : Bool) → is_closer c ≡ b → is_closer c ≡ false
-    go false e = e
-    go true e = let f = is_closer-is_word_byte c e in absurd (cc)
 
 -- the text does not begin with a word byte
 abbrev pub StopsWord : List ℕ → Type 0
@@ -70,21 +87,3 @@ after_word-append (c ∷ w) u h stops = rw h.0 (after_word-append w u h.1 stops)
 pub word_bytes : (w : List ℕ) → IsWord w → IsWordOrEmpty w
 word_bytes [] h = absurd h
 word_bytes (c ∷ w) h = h
-
-if_word_complete : (w u : List ℕ) → IsWord w → if_word w u ≡ Some (w, u)
-if_word_complete [] u h = absurd h
-if_word_complete (c ∷ w) u h = refl
-
-pub read_word_complete : (w u : List ℕ) → IsWord w → StopsWord u → read_word (w ++ u) ≡ Some (w, u)
-read_word_complete w u h stops = rw (word_of-append w u (word_bytes w h) stops, after_word-append w u (word_bytes w h) stops) (if_word_complete w u h)
-
-if_word_sound : (a b w u : List ℕ) → IsWordOrEmpty a → if_word a b ≡ Some (w, u) → IsWord w × (a ++ b ≡ w ++ u)
-if_word_sound [] b w u h e = absurd (cc)
-if_word_sound (c ∷ a) b w u h e =
-    let parts = same_parts {A = List ℕ} {B = List ℕ} (c ∷ a, b) (w, u) e in
-    (subst IsWord parts.0 h, cc)
-
-pub read_word_sound : (t w u : List ℕ) → read_word t ≡ Some (w, u) → IsWord w × (t ≡ w ++ u)
-read_word_sound t w u h =
-    let found = if_word_sound (word_of t) (after_word t) w u (word_of_bytes t) h in
-    (found.0, words_whole t ∙ found.1)

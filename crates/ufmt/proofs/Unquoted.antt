@@ -6,9 +6,9 @@ use Rattle.ufmt.specs.Token.{IsWord, IsSymbol, IsBuiltFrom, AreBuiltFrom, PairsA
 use Rattle.ufmt.specs.UnquotedLaws.{EachLeaf, AllLeaves, LeavesOfPairs, LeavesOfFields, UnquotedAsBefore}
 
 -- leaves that are P and Q are R
-module _ (P Q R : List ℕ → Type 0) (both : (text : List ℕ) → P text → Q text → R text) where
+module _ (N P Q R : List ℕ → Type 0) (both : (text : List ℕ) → P text → Q text → R text) where
   mutual
-    IsBuiltFrom-both : (d : Document) → IsBuiltFrom P d → EachLeaf Q d → IsBuiltFrom R d
+    IsBuiltFrom-both : (d : Document) → IsBuiltFrom N P d → EachLeaf Q d → IsBuiltFrom N R d
     IsBuiltFrom-both (leaf text) h k = both text h k
     IsBuiltFrom-both (joined ds) h k = absurd h
     IsBuiltFrom-both (list_of ds) h k = AreBuiltFrom-both ds h k
@@ -19,15 +19,15 @@ module _ (P Q R : List ℕ → Type 0) (both : (text : List ℕ) → P text → 
     IsBuiltFrom-both (tuple_of name (first_document d ds)) h k = (h.0, IsBuiltFrom-both d h.1 k.0, AreBuiltFrom-both ds h.2 k.1)
     IsBuiltFrom-both (pretty_part d) h k = absurd h
 
-    AreBuiltFrom-both : (ds : Documents) → AreBuiltFrom P ds → AllLeaves Q ds → AreBuiltFrom R ds
+    AreBuiltFrom-both : (ds : Documents) → AreBuiltFrom N P ds → AllLeaves Q ds → AreBuiltFrom N R ds
     AreBuiltFrom-both no_documents h k = tt
     AreBuiltFrom-both (first_document d ds) h k = (IsBuiltFrom-both d h.0 k.0, AreBuiltFrom-both ds h.1 k.1)
 
-    PairsAreBuiltFrom-both : (ps : Pairs) → PairsAreBuiltFrom P ps → LeavesOfPairs Q ps → PairsAreBuiltFrom R ps
+    PairsAreBuiltFrom-both : (ps : Pairs) → PairsAreBuiltFrom N P ps → LeavesOfPairs Q ps → PairsAreBuiltFrom N R ps
     PairsAreBuiltFrom-both no_pairs h k = tt
     PairsAreBuiltFrom-both (first_pair key value ps) h k = (IsBuiltFrom-both key h.0 k.0, IsBuiltFrom-both value h.1 k.1, PairsAreBuiltFrom-both ps h.2 k.2)
 
-    FieldsAreBuiltFrom-both : (fs : Fields) → FieldsAreBuiltFrom P fs → LeavesOfFields Q fs → FieldsAreBuiltFrom R fs
+    FieldsAreBuiltFrom-both : (fs : Fields) → FieldsAreBuiltFrom N P fs → LeavesOfFields Q fs → FieldsAreBuiltFrom N R fs
     FieldsAreBuiltFrom-both no_fields h k = tt
     FieldsAreBuiltFrom-both (first_field name value fs) h k = (h.0, IsBuiltFrom-both value h.1 k.0, FieldsAreBuiltFrom-both fs h.2 k.1)
 
@@ -45,6 +45,6 @@ token text (inr unit) no_quotes = record { shape = inr (inl unit) }
 
 pub unquoted_as_before : UnquotedAsBefore
 unquoted_as_before d no_quotes = (
-  λ h. (IsBuiltFrom-both IsTokenLeaf (λ text. ¬ (IsQuoted text)) IsUnquotedLeaf unquoted d h.0 no_quotes, h.1),
-  λ h. (IsBuiltFrom-both IsUnquotedLeaf (λ text. ¬ (IsQuoted text)) IsTokenLeaf token d h.0 no_quotes, h.1),
+  λ h. (IsBuiltFrom-both IsWord IsTokenLeaf (λ text. ¬ (IsQuoted text)) IsUnquotedLeaf unquoted d h.0 no_quotes, h.1),
+  λ h. (IsBuiltFrom-both IsWord IsUnquotedLeaf (λ text. ¬ (IsQuoted text)) IsTokenLeaf token d h.0 no_quotes, h.1),
 )

@@ -2,9 +2,10 @@
 use Rattle.std.proofs.Common.{◌≡◌, [], ℕ, zero, suc, map, true, false, codes, refl, inl, inr, arith}
 use Rattle.std.proofs.lemmas.Bool.{false≢true}
 use Rattle.ufmt_core.specs.Document.{Document, leaf, joined, list_of, set_of, map_of, struct_of, tuple_of, pretty_part, Documents, no_documents, first_document, no_pairs, first_pair, no_fields, first_field, nest}
-use Rattle.ufmt.specs.Token.{is_word_byte, IsWord, IsBuiltFromTokens, IsTokenDocument, normal, is_closer, IsFollower}
-use Rattle.ufmt.proofs.TokenLeaves.{leaf_begins, read_symbol_sound, symbol_leaf}
-use Rattle.ufmt.proofs.TokenLines.{IsBuiltFromTokens-HasNoLineFeed}
+use Rattle.ufmt.specs.Leaves.{is_debug_byte}
+use Rattle.ufmt.specs.Token.{is_word_byte, IsWord, Token, Debug, IsBuilt, IsTokenDocument, normal, is_closer, IsFollower, MayFollow}
+use Rattle.ufmt.proofs.ClassLeaves.{leaf_begins, unit_leaf}
+use Rattle.ufmt.proofs.ClassLines.{IsBuilt-HasNoLineFeed}
 
 -- ---- words
 
@@ -39,24 +40,24 @@ one = leaf (codes "1")
 abbrev lone : Document → Documents
 lone d = first_document d no_documents
 
-IsBuiltFromTokens-one : IsBuiltFromTokens one
-IsBuiltFromTokens-one = record { shape = inl (refl, tt) }
+IsBuilt-one : IsBuilt Token one
+IsBuilt-one = record { shape = inl (refl, tt) }
 
 IsTokenDocument-unit : IsTokenDocument (leaf (codes "()"))
-IsTokenDocument-unit = (symbol_leaf (codes "()") (read_symbol_sound (codes "()") (codes "()") [] refl).0, omega arith)
+IsTokenDocument-unit = (unit_leaf Token, omega arith)
 
 IsTokenDocument-not-empty_leaf : IsTokenDocument (leaf (codes "")) → ⊥
-IsTokenDocument-not-empty_leaf h = let begins = leaf_begins (codes "") h.0 in let none = begins.is in absurd (cc)
+IsTokenDocument-not-empty_leaf h = let begins = leaf_begins Token (codes "") h.0 in let none = begins.is in absurd (cc)
 
 IsTokenDocument-not-line_feed : IsTokenDocument (leaf (codes "\n")) → ⊥
-IsTokenDocument-not-line_feed h = let line = IsBuiltFromTokens-HasNoLineFeed (leaf (codes "\n")) h.0 in line.0 refl
+IsTokenDocument-not-line_feed h = let line = IsBuilt-HasNoLineFeed Token (leaf (codes "\n")) h.0 in line.0 refl
 
 -- a struct with an empty set and a tuple without a name
 IsTokenDocument-settings : IsTokenDocument (struct_of (codes "S") (first_field (codes "m") (set_of no_documents) (first_field (codes "n") (tuple_of (codes "") (lone one)) no_fields)))
-IsTokenDocument-settings = (((refl, tt), ((refl, tt), tt, ((refl, tt), (tt, IsBuiltFromTokens-one, tt), tt))), omega arith)
+IsTokenDocument-settings = (((refl, tt), ((refl, tt), tt, ((refl, tt), (tt, IsBuilt-one, tt), tt))), omega arith)
 
 IsTokenDocument-map : IsTokenDocument (map_of (first_pair one one no_pairs))
-IsTokenDocument-map = ((IsBuiltFromTokens-one, IsBuiltFromTokens-one, tt), omega arith)
+IsTokenDocument-map = ((IsBuilt-one, IsBuilt-one, tt), omega arith)
 
 -- only a tuple with fields may have an empty name
 IsTokenDocument-not-empty_tuple : IsTokenDocument (tuple_of (codes "") no_documents) → ⊥
@@ -83,13 +84,13 @@ nest-nested : (k : ℕ) → nest (nested k) ≡ k
 nest-nested zero = refl
 nest-nested (suc k) = omega (arith, nest-nested k)
 
-IsBuiltFromTokens-nested : (k : ℕ) → IsBuiltFromTokens (nested k)
-IsBuiltFromTokens-nested zero = tt
-IsBuiltFromTokens-nested (suc k) = (IsBuiltFromTokens-nested k, tt)
+IsBuilt-nested : (k : ℕ) → IsBuilt Token (nested k)
+IsBuilt-nested zero = tt
+IsBuilt-nested (suc k) = (IsBuilt-nested k, tt)
 
 -- 255 blocks with entries may be nested around an empty one
 IsTokenDocument-nested : IsTokenDocument (nested 255)
-IsTokenDocument-nested = (IsBuiltFromTokens-nested 255, omega (arith, nest-nested 255))
+IsTokenDocument-nested = (IsBuilt-nested 255, omega (arith, nest-nested 255))
 
 IsTokenDocument-not-nested : IsTokenDocument (nested 256) → ⊥
 IsTokenDocument-not-nested h = omega (arith, nest-nested 256, h.1)
@@ -148,3 +149,18 @@ IsFollower-not-opening h = elim h [ inl e ↦ false≢true e | inr e ↦ omega (
 
 IsFollower-not-word : IsFollower (codes "a,") → ⊥
 IsFollower-not-word h = elim h [ inl e ↦ false≢true e | inr e ↦ omega (arith, e.0) ]
+
+-- ---- words, leaves and followers of debug documents
+
+-- the bytes that no word of a debug document has: controls, space, quotes, brackets, comma and colon
+debug-bytes : map is_debug_byte (codes "!#$%&*+-./09;<=>?@AZ\\^_`az|~") ≡ map (λ c. true) (codes "!#$%&*+-./09;<=>?@AZ\\^_`az|~")
+debug-bytes = refl
+
+other-debug-bytes : map is_debug_byte (codes "\u{0}\n\u{1f}\u{7f} \"'(),:[]{}") ≡ map (λ c. false) (codes "\u{0}\n\u{1f}\u{7f} \"'(),:[]{}")
+other-debug-bytes = refl
+
+MayFollow-colon : MayFollow Debug (codes ": 1")
+MayFollow-colon = inr (inl (refl, refl))
+
+MayFollow-not-colon : MayFollow Debug (codes ":1") → ⊥
+MayFollow-not-colon h = elim h [ inl e ↦ false≢true e | inr k ↦ elim k [ inl e ↦ omega (arith, e.1) | inr e ↦ omega (arith, e.0) ] ]

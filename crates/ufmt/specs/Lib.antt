@@ -4,6 +4,7 @@ pub mod Cursor
 pub mod Cut
 pub mod Dump
 pub mod Hex
+pub mod Leaves
 pub mod Lines
 pub mod NormalFormLaws
 pub mod Parse

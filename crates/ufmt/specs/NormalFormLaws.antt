@@ -3,7 +3,7 @@ use Rattle.std.specs.Prelude.{◌≡◌}
 use Rattle.ufmt_core.specs.Document.{Document}
 use Rattle.ufmt_core.specs.Layout.{layout}
 use Rattle.ufmt_core.specs.declared.layout.Setting.{Setting}
-use Rattle.ufmt.specs.Token.{IsTokenDocument, normal}
+use Rattle.ufmt.specs.Token.{Class, IsDocument, normal}
 
 -- a normal form is its own normal form
 abbrev pub NormalFormsAreNormal : Type 0
@@ -13,6 +13,6 @@ NormalFormsAreNormal = (d : Document) → normal (normal d) ≡ normal d
 abbrev pub NormalFormsKeepTexts : Type 0
 NormalFormsKeepTexts = (s : Setting) (d : Document) → layout s (normal d) ≡ layout s d
 
--- the normal form of a token document is a token document
-abbrev pub NormalFormsKeepTokens : Type 0
-NormalFormsKeepTokens = (d : Document) → IsTokenDocument d → IsTokenDocument (normal d)
+-- the normal form of a document of a class is one of the class
+abbrev pub NormalFormsKeepClasses : Type 0
+NormalFormsKeepClasses = (class : Class) (d : Document) → IsDocument class d → IsDocument class (normal d)

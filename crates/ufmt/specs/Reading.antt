@@ -1,5 +1,6 @@
--- What the readers of plain and of pretty texts compute: how a token document is read from the front of a text.
-use Rattle.std.specs.Prelude.{ℕ, zero, suc, length, cond, List, [], ◌∷◌, codes, Option, Some, None, option_map, option_and_then}
+-- What the readers of plain and of pretty texts compute: how a document of a class is read from the front of a text.
+use Rattle.std.specs.Prelude.{ℕ, zero, suc, length, ◌&&◌, not, cond, Bool, true, false, List, [], ◌∷◌, codes, Option, Some, None, option_map, option_and_then}
+use Rattle.std.specs.Str.{is_utf8}
 use Rattle.ufmt_core.specs.Document.{Document, leaf, list_of, set_of, map_of, struct_of, tuple_of, no_documents, no_pairs, documents, pairs_of, fields_of}
 use Rattle.ufmt_core.specs.Layout.{Frame, frame, tuple_kind, setting, inside, lead, ending, trail, next}
 use Rattle.ufmt_core.specs.declared.layout.Mode.{Mode}
@@ -8,7 +9,7 @@ use Rattle.ufmt_core.specs.declared.layout.Kind.TheVariants.{Brackets, Braces, S
 use Rattle.ufmt_core.specs.declared.layout.Count.{Count}
 use Rattle.ufmt_core.specs.declared.layout.Count.TheVariants.{Zero, One}
 use Rattle.ufmt.specs.ReadingQuoted.{read_quoted}
-use Rattle.ufmt.specs.Token.{is_word_byte}
+use Rattle.ufmt.specs.Leaves.{Class, Token, Debug, is_word_byte, Place, outside, between, after_backslash, place_after, has_quote}
 pub use Rattle.ufmt.specs.Parse.{Parse, choose, parse_map, strip}
 
 -- the word bytes at the front of a text
@@ -21,18 +22,63 @@ abbrev pub after_word : List ℕ → List ℕ
 after_word [] = []
 after_word (c ∷ t) = cond (is_word_byte c) (after_word t) (c ∷ t)
 
--- this word and what follows it; None if the word is empty
-abbrev pub if_word : List ℕ → List ℕ → Option (List ℕ × List ℕ)
-if_word [] t = None
-if_word (c ∷ word) t = Some (c ∷ word, t)
+-- the bytes at the front that belong to a leaf of a debug document, from this place in it on
+abbrev pub leaf_from : Place → List ℕ → List ℕ
+leaf_from place [] = []
+leaf_from place (c ∷ t) = choose (place_after place c t) (λ next. c ∷ leaf_from next t) []
 
--- reads the longest word
-abbrev pub read_word : Parse (List ℕ)
-read_word t = if_word (word_of t) (after_word t)
+-- what follows them
+abbrev pub after_leaf : Place → List ℕ → List ℕ
+after_leaf place [] = []
+after_leaf place (c ∷ t) = choose (place_after place c t) (λ next. after_leaf next t) (c ∷ t)
 
--- reads a leaf that is no word: `()`, or a quoted text or character
-abbrev pub read_symbol : Parse (List ℕ)
-read_symbol t = choose (strip (codes "()") t) (λ u. Some (codes "()", u)) (read_quoted t)
+-- the place after these bytes
+abbrev pub last_place : Place → List ℕ → Place
+last_place place [] = place
+last_place place (c ∷ t) = choose (place_after place c t) (λ next. last_place next t) place
+
+abbrev pub is_outside : Place → Bool
+is_outside outside = true
+is_outside (between quote) = false
+is_outside (after_backslash quote) = false
+
+-- the name or the leaf at the front of a text, as long as it may be; of a token document only a word
+abbrev pub front_of : Class → List ℕ → List ℕ
+front_of Token t = word_of t
+front_of Debug t = leaf_from outside t
+
+-- what follows it
+abbrev pub after_front : Class → List ℕ → List ℕ
+after_front Token t = after_word t
+after_front Debug t = after_leaf outside t
+
+-- whether these bytes, if there are any, are a leaf: the quotes are closed, and it is UTF-8
+abbrev pub is_whole : Class → List ℕ → Bool
+is_whole Token front = true
+is_whole Debug front = is_outside (last_place outside front) && is_utf8 front
+
+-- whether such a leaf is a name
+abbrev pub is_name : Class → List ℕ → Bool
+is_name Token front = true
+is_name Debug front = not (has_quote front)
+
+-- this name and what follows it; None if it is no name
+abbrev pub if_name : Class → List ℕ → List ℕ → Option (List ℕ × List ℕ)
+if_name class [] t = None
+if_name class (c ∷ front) t = cond (is_whole class (c ∷ front) && is_name class (c ∷ front)) (Some (c ∷ front, t)) None
+
+-- reads the longest name
+abbrev pub read_name : Class → Parse (List ℕ)
+read_name class t = if_name class (front_of class t) (after_front class t)
+
+-- reads a leaf in quotes: a debug document's is no other leaf
+abbrev pub read_quotes : Class → Parse (List ℕ)
+read_quotes Token t = read_quoted t
+read_quotes Debug t = None
+
+-- reads a leaf that doesn't begin as a name does: `()`, or a quoted text or character
+abbrev pub read_symbol : Class → Parse (List ℕ)
+read_symbol class t = choose (strip (codes "()") t) (λ u. Some (codes "()", u)) (read_quotes class t)
 
 -- reads a colon, a space and a value, and pairs the value with this key
 abbrev pub read_value : {A : Type 0} → Parse Document → A → Parse (A × Document)
@@ -106,46 +152,51 @@ abbrev pub read_tuple : Setting → Parse Document → List ℕ → Parse Docume
 read_tuple s p name t = read_entries p (frame s.mode (tuple_kind name)) s (λ ds. tuple_of name (documents ds)) t
 
 -- reads a struct with this name, from its first field on
-abbrev pub read_struct : Setting → Parse Document → List ℕ → Parse Document
-read_struct s p name t = read_entries (read_pair read_word p) (frame s.mode Struct) s (λ fs. struct_of name (fields_of fs)) t
+abbrev pub read_struct : Class → Setting → Parse Document → List ℕ → Parse Document
+read_struct class s p name t = read_entries (read_pair (read_name class) p) (frame s.mode Struct) s (λ fs. struct_of name (fields_of fs)) t
 
 -- reads a tuple without a name
 abbrev pub read_unnamed : Setting → Parse Document → Parse Document
 read_unnamed s p t = option_and_then (read_tuple s p []) (strip (lead (frame s.mode Unnamed) (inside s) Zero) t)
 
--- reads a document that begins with no word
-abbrev pub read_without_name : Setting → Parse Document → Parse Document
-read_without_name s p t =
+-- reads a document that doesn't begin with a name
+abbrev pub read_without_name : Class → Setting → Parse Document → Parse Document
+read_without_name class s p t =
     choose (strip (frame s.mode Brackets).opening t) (read_list s p)
     (choose (strip (frame s.mode Braces).opening t) (read_braces s p)
-    (choose (read_symbol t) (λ x. Some (leaf x.0, x.1)) (read_unnamed s p t)))
+    (choose (read_symbol class t) (λ x. Some (leaf x.0, x.1)) (read_unnamed s p t)))
 
--- reads a document that begins with this word, after the word
-abbrev pub read_named : Setting → Parse Document → List ℕ → Parse Document
-read_named s p name t =
+-- reads a document that begins with this name, after the name
+abbrev pub read_named : Class → Setting → Parse Document → List ℕ → Parse Document
+read_named class s p name t =
     choose (strip (lead (frame s.mode (tuple_kind name)) (inside s) Zero) t) (read_tuple s p name)
-    (choose (strip (lead (frame s.mode Struct) (inside s) Zero) t) (read_struct s p name)
+    (choose (strip (lead (frame s.mode Struct) (inside s) Zero) t) (read_struct class s p name)
     (Some (leaf name, t)))
 
--- reads the text `t`, which is its longest word and then `u`; the word may be empty
-abbrev pub read_by_word : Setting → Parse Document → List ℕ → List ℕ → List ℕ → Option (Document × List ℕ)
-read_by_word s p t [] u = read_without_name s p t
-read_by_word s p t (c ∷ word) u = read_named s p (c ∷ word) u
+-- reads a document that begins with this leaf, which may be its name, after the leaf
+abbrev pub read_after_front : Class → Setting → Parse Document → List ℕ → Parse Document
+read_after_front class s p front t =
+    cond (is_whole class front) (cond (is_name class front) (read_named class s p front t) (Some (leaf front, t))) None
+
+-- reads the text `t`, which is the longest leaf at its front, or nothing, and then `u`
+abbrev pub read_by_front : Class → Setting → Parse Document → List ℕ → List ℕ → List ℕ → Option (Document × List ℕ)
+read_by_front class s p t [] u = read_without_name class s p t
+read_by_front class s p t (c ∷ front) u = read_after_front class s p (c ∷ front) u
 
 -- reads a document; `p` reads the entries of its block
-abbrev pub read_with : Setting → Parse Document → Parse Document
-read_with s p t = read_by_word s p t (word_of t) (after_word t)
+abbrev pub read_with : Class → Setting → Parse Document → Parse Document
+read_with class s p t = read_by_front class s p t (front_of class t) (after_front class t)
 
 -- reads a document at this mode and depth; its blocks with entries are nested at most as deep as the number
-unfoldable pub read : Setting → ℕ → Parse Document
-read s zero t = read_with s (λ u. None) t
-read s (suc n) t = read_with s (read (inside s) n) t
+unfoldable pub read : Class → Setting → ℕ → Parse Document
+read class s zero t = read_with class s (λ u. None) t
+read class s (suc n) t = read_with class s (read class (inside s) n) t
 
 -- the value that was read, if nothing follows it
 abbrev pub if_all : {A : Type 0} → A → List ℕ → Option A
 if_all x [] = Some x
 if_all x (c ∷ t) = None
 
--- reads a whole text: the normal form of the token documents that have this text in this mode, or None if there are none
-abbrev pub read_text : Mode → List ℕ → Option Document
-read_text mode t = option_and_then (λ x. if_all x.0 x.1) (read (setting mode 0) 255 t)
+-- reads a whole text: the normal form of the documents of the class that have this text in this mode, or None if there are none
+abbrev pub read_text : Class → Mode → List ℕ → Option Document
+read_text class mode t = option_and_then (λ x. if_all x.0 x.1) (read class (setting mode 0) 255 t)

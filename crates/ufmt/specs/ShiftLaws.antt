@@ -3,7 +3,7 @@ use Rattle.std.specs.Prelude.{◌≡◌, ℕ, ◌+◌, ◌≤◌, List, ◌++◌
 use Rattle.ufmt_core.specs.Document.{Document, nest}
 use Rattle.ufmt_core.specs.Layout.{setting, indentation, layout, pretty_text}
 use Rattle.ufmt_core.specs.declared.layout.Mode.TheVariants.{Pretty}
-use Rattle.ufmt.specs.Token.{IsTokenDocument}
+use Rattle.ufmt.specs.Token.{Class, IsDocument}
 use Rattle.ufmt.specs.Shift.{shift, shift_times, shifted, IsOneLine, HasNoLineFeed}
 
 -- shifting puts four spaces before the first line and shifts the lines after it
@@ -20,6 +20,6 @@ ShiftedAtDepth = (d : Document) (k : ℕ) → HasNoLineFeed d → nest d + k ≤
 abbrev pub ShiftedIsPretty : Type 0
 ShiftedIsPretty = (d : Document) → HasNoLineFeed d → nest d ≤ 255 → shifted d ≡ pretty_text d
 
--- no leaf, name or field name of a token document has a line feed
-abbrev pub TokensHaveNoLineFeed : Type 0
-TokensHaveNoLineFeed = (d : Document) → IsTokenDocument d → HasNoLineFeed d
+-- no leaf, name or field name of a document of a class has a line feed
+abbrev pub ClassesHaveNoLineFeed : Type 0
+ClassesHaveNoLineFeed = (class : Class) (d : Document) → IsDocument class d → HasNoLineFeed d

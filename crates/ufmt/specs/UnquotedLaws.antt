@@ -2,7 +2,7 @@
 use Rattle.std.specs.Prelude.{◌↔◌, ℕ, ◌≤◌, List, ⊤}
 use Rattle.ufmt_core.specs.Document.{Document, leaf, joined, list_of, set_of, map_of, struct_of, tuple_of, pretty_part, Documents, no_documents, first_document, Pairs, no_pairs, first_pair, Fields, no_fields, first_field, nest}
 use Rattle.ufmt_core.specs.Quoted.{IsQuoted}
-use Rattle.ufmt.specs.Token.{IsBuiltFrom, IsUnquotedLeaf, IsTokenDocument}
+use Rattle.ufmt.specs.Token.{IsBuiltFrom, IsWord, IsUnquotedLeaf, IsTokenDocument}
 
 -- each leaf of the document is as `IsLeaf` says, and its names are any texts
 module _ (IsLeaf : List ℕ → Type 0) where
@@ -35,7 +35,7 @@ IsUnquoted d = EachLeaf (λ text. ¬ (IsQuoted text)) d
 
 -- an unquoted token document has only words and `()` as leaves, and its blocks with entries are nested at most 255 deep
 abbrev pub IsUnquotedToken : Document → Type 0
-IsUnquotedToken d = IsBuiltFrom IsUnquotedLeaf d × (nest d ≤ 255)
+IsUnquotedToken d = IsBuiltFrom IsWord IsUnquotedLeaf d × (nest d ≤ 255)
 
 -- a document without quoted leaves is a token document exactly if it is an unquoted token document
 abbrev pub UnquotedAsBefore : Type 0

@@ -16,12 +16,12 @@ ghost use Rattle.ufmt.specs.Pieces.{column, hex, pieces_text, pretty, separated,
 ghost use Rattle.ufmt.specs.declared.hex.HexOptions.{HexOptions};
 ghost use Rattle.ufmt.specs.Hex.{EachNumberIsDenoted, OneTextDenotes, OneNumberIsDenoted, IsPadded, PrintsHexadecimal, PrintsBits, padded};
 ghost use Rattle.ufmt.specs.Dump.{DigitsHaveTheirWidth, DumpHasEachByte, TextsBeginInOneColumn};
-ghost use Rattle.ufmt.specs.NormalFormLaws.{NormalFormsAreNormal, NormalFormsKeepTexts, NormalFormsKeepTokens};
-ghost use Rattle.ufmt.specs.Token.{IsWord};
+ghost use Rattle.ufmt.specs.NormalFormLaws.{NormalFormsAreNormal, NormalFormsKeepTexts, NormalFormsKeepClasses};
+ghost use Rattle.ufmt.specs.Token.{Class, IsWord};
 ghost use Rattle.ufmt.specs.QuotedLaws.{QuotedCharDetermines, QuotedEndsItself, QuotedIsNoOtherLeaf, QuotedIsOneLine, QuotedTextIsNoChar, QuotedTextDetermines, ReadsEachQuoted, ReadsOnlyQuoted};
-ghost use Rattle.ufmt.specs.ShiftLaws.{ShiftMovesEachLine, ShiftedAtDepth, ShiftedIsPretty, TokensHaveNoLineFeed};
+ghost use Rattle.ufmt.specs.ShiftLaws.{ShiftMovesEachLine, ShiftedAtDepth, ShiftedIsPretty, ClassesHaveNoLineFeed};
 ghost use Rattle.ufmt.specs.ReadingLaws.{ReadsEachText, ReadsOnlyTexts, RefusesOnlyUnprinted};
-ghost use Rattle.ufmt.specs.ReadingLaws.{PlainIsUnambiguous, PlainTextDetermines, PrettyIsUnambiguous, PrettyTextDetermines, TextsAgree};
+ghost use Rattle.ufmt.specs.ReadingLaws.{PlainIsUnambiguous, PlainTextDetermines, PrettyIsUnambiguous, PrettyTextDetermines, TextsAgree, TokensAreDebug};
 ghost use Rattle.ufmt.specs.UnquotedLaws.{UnquotedAsBefore};
 
 use crate::column::Column;
@@ -342,50 +342,56 @@ pub fn columns_are_filled()
 {}
 
 /// The normal form of a document is in normal form, and has the document's text in each mode and from
-/// each depth. It is a token document if the document is one.
+/// each depth. It is of each class that the document is of.
 pub fn normal_forms()
     ensures normal { NormalFormsAreNormal }
     ensures same_text { NormalFormsKeepTexts }
-    ensures token { NormalFormsKeepTokens }
+    ensures class { NormalFormsKeepClasses }
 {}
 
 /// A document's shifted text is made without a depth, by four spaces before each line inside a block.
 /// Shifted once more for each block around it, it is the pretty layout at that depth. This holds up to a
-/// depth of 255 if no leaf and no name has a line feed, as in each token document.
+/// depth of 255 if no leaf and no name has a line feed, as in each document of a class.
 pub fn shifted_at_depth()
     ensures shift { ShiftMovesEachLine }
     ensures at_depth { ShiftedAtDepth }
     ensures pretty { ShiftedIsPretty }
-    ensures token { TokensHaveNoLineFeed }
+    ensures class { ClassesHaveNoLineFeed }
 {}
 
-/// A plain text can be read in one way. If two token documents, each with a follower, have equal plain
-/// texts, then their normal forms are equal, and so are the followers.
+/// A plain text can be read in one way. If two documents of a class, each with a text after it that may
+/// follow, have equal plain texts, then their normal forms are equal, and so are the texts after them.
 pub fn plain_reads_one_way()
-    ensures { PlainIsUnambiguous }
+    ensures { (class : Class) → PlainIsUnambiguous class }
 {}
 
 /// A pretty text can be read in one way, as a plain text can, from each depth from which the documents'
 /// blocks are nested at most 255 deep.
 pub fn pretty_reads_one_way()
-    ensures { PrettyIsUnambiguous }
+    ensures { (class : Class) → PrettyIsUnambiguous class }
 {}
 
-/// Token documents have equal plain texts exactly if they have equal pretty texts, and exactly if
+/// Documents of a class have equal plain texts exactly if they have equal pretty texts, and exactly if
 /// they have equal normal forms.
 #[tactic(auto, using(crate::proofs::OneWay::plain_text_determines, crate::proofs::OneWay::pretty_text_determines, crate::proofs::OneWay::texts_agree))]
 pub fn texts_determine_normal_forms()
-    ensures plain { PlainTextDetermines }
-    ensures pretty { PrettyTextDetermines }
-    ensures agree { TextsAgree }
+    ensures plain { (class : Class) → PlainTextDetermines class }
+    ensures pretty { (class : Class) → PrettyTextDetermines class }
+    ensures agree { (class : Class) → TextsAgree class }
 {}
 
-/// In each mode exactly the texts of token documents are read, each as the normal form of the documents
-/// that have it.
+/// In each mode exactly the texts of documents of a class are read, each as the normal form of the
+/// documents that have it.
 pub fn texts_are_read_exactly()
-    ensures only { ReadsOnlyTexts }
-    ensures each { ReadsEachText }
-    ensures refused { RefusesOnlyUnprinted }
+    ensures only { (class : Class) → ReadsOnlyTexts class }
+    ensures each { (class : Class) → ReadsEachText class }
+    ensures refused { (class : Class) → RefusesOnlyUnprinted class }
+{}
+
+/// Each token document is a debug document. So a token document's text reads the same in both classes.
+#[tactic(auto, using(crate::proofs::ClassTokens::tokens_are_debug))]
+pub fn tokens_are_debug()
+    ensures { TokensAreDebug }
 {}
 
 /// Quoting is one-to-one on texts and on characters, whatever follows. A quoted text is no quoted

@@ -2,6 +2,7 @@
 
 //! Formatting without `core::fmt`. A user names this crate only: it has all of `ufmt_core` too.
 
+pub mod class;
 mod column;
 mod cursor;
 mod cut;

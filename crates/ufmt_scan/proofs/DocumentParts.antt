@@ -1,22 +1,23 @@
 -- The events of documents, pairs and fields, by how they begin.
-use Rattle.std.proofs.Common.{◌≡◌, refl, ap, ◌∙◌, sym, ℕ, zero, suc, ◌<◌, ◌≤◌, ◌==◌, true, false, List, [], ◌∷◌, ◌++◌, length, length-append, eqb-true, map, Option, Some, None, option_and_then, codes, subst, Bor, Result, Ok, Err, arith}
-use Rattle.ufmt.specs.Document.{Document, list_of, set_of, map_of, struct_of, tuple_of, no_documents, no_pairs, Documents, first_document, documents, pairs_of, fields_of}
+use Rattle.std.proofs.Common.{◌≡◌, ◌≢◌, refl, ap, ◌∙◌, sym, ℕ, zero, suc, ◌<◌, ◌≤◌, ◌==◌, ◌&&◌, not, cond, Bool, true, false, List, [], ◌∷◌, ◌++◌, length, length-append, eqb-true, map, Option, Some, None, option_and_then, codes, subst, Bor, Result, Ok, Err, arith}
+use Rattle.ufmt.specs.Document.{Document, leaf, list_of, set_of, map_of, struct_of, tuple_of, no_documents, no_pairs, Documents, first_document, documents, pairs_of, fields_of}
 use Rattle.ufmt_core.specs.declared.layout.Setting.{Setting}
 use Rattle.ufmt_core.specs.declared.layout.Kind.{Kind}
 use Rattle.ufmt_core.specs.declared.layout.Kind.TheVariants.{Brackets, Braces, Struct, Tuple, Unnamed}
 use Rattle.ufmt_core.specs.declared.layout.Count.TheVariants.{Zero, One, Several}
 use Rattle.ufmt.specs.Layout.{frame, inside, lead}
-use Rattle.ufmt.specs.Token.{IsWordOrEmpty, IsWord}
+use Rattle.ufmt.specs.Leaves.{Class, Token, Debug}
 use Rattle.ufmt.specs.ReadingQuoted.{read_quoted}
-use Rattle.ufmt.specs.Reading.{Parse, choose, parse_map, strip, word_of, after_word, read_after_first, read_symbol, read_word, read_value, read_list, read_braces, read_map_or_set, read_named, read_without_name, read_by_word, read}
+use Rattle.ufmt.specs.Reading.{Parse, choose, parse_map, strip, front_of, after_front, is_whole, is_name, if_name, read_after_first, read_quotes, read_symbol, read_name, read_value, read_list, read_braces, read_map_or_set, read_named, read_without_name, read_by_front, read}
 use Rattle.ufmt.proofs.Parsing.{strip_found}
-use Rattle.ufmt.proofs.ReadingTurns.{Takes, read_word_takes, strip_within}
-use Rattle.ufmt.proofs.TokenLeaves.{leaf_begins, read_symbol_sound, symbol_leaf}
-use Rattle.ufmt.proofs.ReadingWords.{word_of_bytes}
+use Rattle.ufmt.proofs.ReadingTurns.{Takes, read_name_takes, strip_within}
+use Rattle.ufmt.proofs.ClassLeaves.{fronts_whole, leaf_begins, nothing_is_whole, symbol_is_leaf}
+use Rattle.ufmt_scan.specs.declared.front.Front.{Front}
+use Rattle.ufmt_scan.specs.Private.Fronts.{IsSplit}
 use Rattle.ufmt_scan.specs.declared.scan.step.Stage.TheVariants as stages
 use Rattle.ufmt_scan.specs.Scan.{TextEvent, events_of, events_of_entries, events_of_fields, events_of_pairs, tail_events, ScanError, Colon, Empty, FieldName, Leaf, Open}
-use Rattle.ufmt_scan.specs.Private.Level.{entry_at, entry_of, setting_at, Level}
-use Rattle.ufmt_scan.specs.Private.Scanning.{Steps, Stops, Emits, Scanned, after, scan_block, entries, fields, kind_of, later, scan_opened, pairs, prefixed, scan_rest, scan_stage, then_scan, turn_of, scan_turn, scan_value, Stage}
+use Rattle.ufmt_scan.specs.Private.Level.{budget_of, entry_at, entry_of, setting_at, Level}
+use Rattle.ufmt_scan.specs.Private.Scanning.{Steps, Stops, Emits, Scanned, after, scan_block, scan_front, entries, fields, kind_of, later, scan_opened, pairs, prefixed, scan_rest, scan_stage, then_scan, turn_of, scan_turn, scan_value, Stage}
 use Rattle.ufmt_scan.proofs.EntrySteps.{entry_of_takes, field_takes, pair_takes}
 use Rattle.ufmt_scan.proofs.ScanTurns.{block_scans, prefixed_twice}
 
@@ -45,29 +46,29 @@ module _ (level : Level) where
       (λ d ds. shape d (documents ds) ∙ ap (λ ess. Open kind name ∷ (events_of d ++ tail_events kind One ess)) (events_of_entries-documents ds))
 
   -- the events of a tuple or struct with a name, from its first field on
-  pub tuple_scans : (w t r : List ℕ) → IsWord w → strip (lead (frame level.mode Tuple) (inside (setting_at level)) Zero) t ≡ Some r
-      → parse_map events_of (read_named (setting_at level) (entry_of level) w t) ≡ scan_opened level Tuple w r
-  tuple_scans [] t r word opening = absurd word
+  pub tuple_scans : (w t r : List ℕ) → w ≢ [] → strip (lead (frame level.mode Tuple) (inside (setting_at level)) Zero) t ≡ Some r
+      → parse_map events_of (read_named level.class (setting_at level) (entry_of level) w t) ≡ scan_opened level Tuple w r
+  tuple_scans [] t r word opening = absurd (word refl)
   tuple_scans (c ∷ w) t r word opening = rw opening (entries_scan Tuple (c ∷ w) (tuple_of (c ∷ w)) (λ d ds. refl) (entry_of level r))
 
-  pub struct_scans : (w t r : List ℕ) → IsWord w → strip (lead (frame level.mode Tuple) (inside (setting_at level)) Zero) t ≡ None
+  pub struct_scans : (w t r : List ℕ) → w ≢ [] → strip (lead (frame level.mode Tuple) (inside (setting_at level)) Zero) t ≡ None
       → strip (lead (frame level.mode Struct) (inside (setting_at level)) Zero) t ≡ Some r
-      → parse_map events_of (read_named (setting_at level) (entry_of level) w t) ≡ scan_opened level Struct w r
-  struct_scans [] t r word tuple opening = absurd word
+      → parse_map events_of (read_named level.class (setting_at level) (entry_of level) w t) ≡ scan_opened level Struct w r
+  struct_scans [] t r word tuple opening = absurd (word refl)
   struct_scans (c ∷ w) t r word tuple opening = rw (tuple, opening) (block_scans (fields level) level Struct (λ fs. struct_of (c ∷ w) (fields_of fs))
       (Open Struct (c ∷ w))
       (λ f fs. ap (λ ess. Open Struct (c ∷ w) ∷ ((fields level).events f ++ tail_events Struct One ess)) (events_of_fields-fields_of level fs)) ((fields level).read r))
 
-  pub name_scans : (w t : List ℕ) → IsWord w → strip (lead (frame level.mode Tuple) (inside (setting_at level)) Zero) t ≡ None
+  pub name_scans : (w t : List ℕ) → w ≢ [] → strip (lead (frame level.mode Tuple) (inside (setting_at level)) Zero) t ≡ None
       → strip (lead (frame level.mode Struct) (inside (setting_at level)) Zero) t ≡ None
-      → parse_map events_of (read_named (setting_at level) (entry_of level) w t) ≡ Some (Leaf w ∷ [], t)
-  name_scans [] t word tuple struct = absurd word
+      → parse_map events_of (read_named level.class (setting_at level) (entry_of level) w t) ≡ Some (Leaf w ∷ [], t)
+  name_scans [] t word tuple struct = absurd (word refl)
   name_scans (c ∷ w) t word tuple struct = rw (tuple, struct) refl
 
   -- the events of a tuple without a name
-  pub unnamed_scans : (t r : List ℕ) → strip (codes "[") t ≡ None → strip (codes "{") t ≡ None → read_symbol t ≡ None
+  pub unnamed_scans : (t r : List ℕ) → strip (codes "[") t ≡ None → strip (codes "{") t ≡ None → read_symbol level.class t ≡ None
       → strip (lead (frame level.mode Unnamed) (inside (setting_at level)) Zero) t ≡ Some r
-      → parse_map events_of (read_without_name (setting_at level) (entry_of level) t) ≡ scan_opened level Unnamed [] r
+      → parse_map events_of (read_without_name level.class (setting_at level) (entry_of level) t) ≡ scan_opened level Unnamed [] r
   unnamed_scans t r bracket brace symbol opening = rw (bracket, brace, symbol, opening) (entries_scan Unnamed [] (tuple_of []) (λ d ds. refl)
       (entry_of level r))
 
@@ -150,36 +151,74 @@ later_continues level stages.TupleLater t = refl
 later_continues level stages.UnnamedFirst t = refl
 later_continues level stages.UnnamedLater t = refl
 
--- a leaf that is no word and isn't `()` is in quotes
-pub symbol_is_quoted : (t : List ℕ) (o : Option (List ℕ × List ℕ)) → strip (codes "()") t ≡ None → o ≡ read_quoted t → read_symbol t ≡ o
-symbol_is_quoted t o none is = rw none (sym is)
+-- a leaf that begins as no name does and isn't `()` is in quotes
+pub symbol_is_quoted : (class : Class) (t : List ℕ) (o : Option (List ℕ × List ℕ)) → strip (codes "()") t ≡ None → o ≡ read_quotes class t
+    → read_symbol class t ≡ o
+symbol_is_quoted class t o none is = rw none (sym is)
 
-pub opens_no_quote : (text t r : List ℕ) → strip (40 ∷ text) t ≡ Some r → read_quoted t ≡ None
+pub opens_no_quote : (class : Class) (text t r : List ℕ) → strip (40 ∷ text) t ≡ Some r → read_quotes class t ≡ None
 unfolding read_quoted
-opens_no_quote text t r opening = rw (strip_found (40 ∷ text) t r opening) refl
+opens_no_quote Token text t r opening = rw (strip_found (40 ∷ text) t r opening) refl
+opens_no_quote Debug text t r opening = refl
 
--- a leaf that is no word is one event
-pub symbol_scans : (level : Level) (t text r : List ℕ) → strip (codes "[") t ≡ None → strip (codes "{") t ≡ None → read_symbol t ≡ Some (text, r)
-    → (parse_map events_of (read_without_name (setting_at level) (entry_of level) t) ≡ Some (Leaf text ∷ [], r)) × (length r < length t)
+-- such a leaf is one event
+pub symbol_scans : (level : Level) (t text r : List ℕ) → strip (codes "[") t ≡ None → strip (codes "{") t ≡ None → read_symbol level.class t ≡ Some (text, r)
+    → (parse_map events_of (read_without_name level.class (setting_at level) (entry_of level) t) ≡ Some (Leaf text ∷ [], r)) × (length r < length t)
 symbol_scans level t text r bracket brace symbol =
-    let sound = read_symbol_sound t text r symbol in
-    let begins = leaf_begins text (symbol_leaf text sound.0) in
+    let sound = symbol_is_leaf level.class t text r symbol in
+    let begins = leaf_begins level.class text sound.0 in
     (rw (bracket, brace, symbol) refl, omega (arith, ap length sound.1, length-append text r, ap length begins.is))
 
--- a document is read by the word at its front, if there is one
-read_is : (s : Setting) (n : ℕ) (t : List ℕ) → read s n t ≡ read_by_word s (entry_at s n) t (word_of t) (after_word t)
+-- a document is read by the leaf at its front, if there is one
+read_is : (class : Class) (s : Setting) (n : ℕ) (t : List ℕ) → read class s n t ≡ read_by_front class s (entry_at class s n) t (front_of class t) (after_front class t)
 unfolding read
-read_is s zero t = refl
-read_is s (suc n) t = refl
+read_is class s zero t = refl
+read_is class s (suc n) t = refl
 
-pub reads_without_name : (s : Setting) (n : ℕ) (t w : List ℕ) → w ≡ word_of t → (length w == 0) ≡ true → read s n t ≡ read_without_name s (entry_at s n) t
-reads_without_name s n t [] word empty = read_is s n t ∙ rw (← word) refl
-reads_without_name s n t (c ∷ w) word empty = let none = eqb-true (length (c ∷ w)) 0 empty in absurd (omega arith)
+module _ (level : Level) (t : List ℕ) where
+  abbrev reading : Parse Document
+  reading u = read level.class (setting_at level) (budget_of level) u
 
-pub reads_named : (s : Setting) (n : ℕ) (t w u : List ℕ) → w ≡ word_of t → u ≡ after_word t → (length w == 0) ≡ false
-    → read s n t ≡ read_named s (entry_at s n) w u
-reads_named s n t [] u word rest some = absurd (cc)
-reads_named s n t (c ∷ w) u word rest some = read_is s n t ∙ rw (← word, ← rest) refl
+  -- a front that isn't whole is not read
+  pub no_front : is_whole level.class (front_of level.class t) ≡ false → reading t ≡ None
+  no_front broken = read_is level.class (setting_at level) (budget_of level) t ∙ go (front_of level.class t) broken
+    where
+      go : (w : List ℕ) → is_whole level.class w ≡ false
+          → read_by_front level.class (setting_at level) (entry_of level) t w (after_front level.class t) ≡ None
+      go [] none = let whole = nothing_is_whole level.class in absurd (cc)
+      go (c ∷ w) none = rw none refl
+
+  -- a text with a leaf at its front is read by it, and another text by its first bracket or quote
+  pub without_front : (front : Front) → IsSplit level.class t front → (length front.text.now == 0) ≡ true
+      → reading t ≡ read_without_name level.class (setting_at level) (entry_of level) t
+  without_front front is empty = read_is level.class (setting_at level) (budget_of level) t ∙ go (front_of level.class t) is.text
+    where
+      go : (w : List ℕ) → front.text.now ≡ w → read_by_front level.class (setting_at level) (entry_of level) t w (after_front level.class t)
+          ≡ read_without_name level.class (setting_at level) (entry_of level) t
+      go [] same = refl
+      go (c ∷ w) same = let none = eqb-true (length front.text.now) 0 empty in let some = ap length same in absurd (omega (arith, none, some))
+
+  pub with_front : (front : Front) → IsSplit level.class t front → (length front.text.now == 0) ≡ false
+      → (parse_map events_of (reading t) ≡ scan_front level front.is_name front.text.now front.rest.now) × (suc (length front.rest.now) ≤ length t)
+  with_front front is some = (
+    ap (parse_map events_of) (read_is level.class (setting_at level) (budget_of level) t ∙ go (front_of level.class t) (sym is.text) is.whole) ∙ front_is,
+    omega (arith, ap length (fronts_whole level.class t), length-append (front_of level.class t) (after_front level.class t), ap length is.text, ap length is.rest, longer front.text.now some),
+  )
+    where
+      longer : (w : List ℕ) → (length w == 0) ≡ false → 0 < length w
+      longer [] no = absurd (cc)
+      longer (c ∷ w) no = omega arith
+
+      go : (w : List ℕ) → w ≡ front.text.now → is_whole level.class w ≡ true → read_by_front level.class (setting_at level) (entry_of level) t w (after_front level.class t)
+          ≡ cond (is_name level.class w) (read_named level.class (setting_at level) (entry_of level) w (after_front level.class t)) (Some (leaf w, after_front level.class t))
+      go [] same whole = absurd (let none = ap length same in let more = longer front.text.now some in omega (arith, none, more))
+      go (c ∷ w) same whole = rw whole refl
+
+      front_is : parse_map events_of (cond (is_name level.class (front_of level.class t))
+          (read_named level.class (setting_at level) (entry_of level) (front_of level.class t) (after_front level.class t))
+          (Some (leaf (front_of level.class t), after_front level.class t)))
+          ≡ scan_front level front.is_name front.text.now front.rest.now
+      front_is = rw (is.name, is.text, is.rest) refl
 
 -- a step of a text is a step of any text with the same events, and for any larger bound of the bytes left
 pub steps_as : {S E : Type 0} (took stopped : S → List TextEvent → S → Type 0) (old new : S) (onward : Option Stage → Parse (List TextEvent)) {m : ℕ} (n : ℕ)
@@ -189,30 +228,48 @@ steps_as took stopped old new onward n (Ok x) other longer same h =
     (subst (λ o. Emits took took old new o (onward x.0 x.1.now)) (sym same) h.0, let less = h.1 in omega (arith, less))
 steps_as took stopped old new onward n (Err why) other longer same h = (subst (λ o. Stops took stopped old new o why) (sym same) h.0, tt)
 
-bytes_are_word : (w : List ℕ) → IsWordOrEmpty w → (length w == 0) ≡ false → IsWord w
-bytes_are_word [] bytes some = absurd (cc)
-bytes_are_word (c ∷ w) bytes some = bytes
+-- a name at the front is read
+pub name_is_read : (class : Class) (t : List ℕ) (front : Front) → IsSplit class t front → front.is_name ≡ true → (length front.text.now == 0) ≡ false
+    → read_name class t ≡ Some (front.text.now, front.rest.now)
+name_is_read class t front is named some = go (front_of class t) (after_front class t) is.text is.rest (sym is.name ∙ named) is.whole
+  where
+    go : (w u : List ℕ) → front.text.now ≡ w → front.rest.now ≡ u → is_name class w ≡ true → is_whole class w ≡ true
+        → if_name class w u ≡ Some (front.text.now, front.rest.now)
+    go [] u text rest name whole = let none : (length front.text.now == 0) ≡ true = ap (λ w. length w == 0) text in absurd (cc)
+    go (c ∷ w) u text rest name whole = rw (whole, name, text, rest) refl
 
--- the word bytes at the front of a text are a word, if there are any
-pub front_is_word : (t w : List ℕ) → w ≡ word_of t → (length w == 0) ≡ false → IsWord w
-front_is_word t w word some = bytes_are_word w (rw word (word_of_bytes t)) some
+-- without a whole front, or with one that is empty or no name, none is
+pub no_name : (class : Class) (t : List ℕ) → is_whole class (front_of class t) ≡ false → read_name class t ≡ None
+no_name class t broken = go (front_of class t) broken
+  where
+    go : (w : List ℕ) → is_whole class w ≡ false → if_name class w (after_front class t) ≡ None
+    go [] none = refl
+    go (c ∷ w) none = rw none refl
 
-pub front_is_bytes : (t w : List ℕ) → w ≡ word_of t → IsWordOrEmpty w
-front_is_bytes t w word = rw word (word_of_bytes t)
+pub other_front : (class : Class) (t : List ℕ) (front : Front) → IsSplit class t front → front.is_name && not (length front.text.now == 0) ≡ false
+    → read_name class t ≡ None
+other_front class t front is other = go (front_of class t) is.text is.name
+  where
+    go : (w : List ℕ) → front.text.now ≡ w → front.is_name ≡ is_name class w → if_name class w (after_front class t) ≡ None
+    go [] text name = refl
+    go (c ∷ w) text name =
+        let none : is_name class (c ∷ w) ≡ false = unnamed (is_name class (c ∷ w)) (sym (rw (name, text) refl) ∙ other) in
+        rw none (either (is_whole class (c ∷ w)))
+      where
+        unnamed : (b : Bool) → b && true ≡ false → b ≡ false
+        unnamed true h = absurd (cc)
+        unnamed false h = refl
 
-pub word_is_read : (t w u : List ℕ) → w ≡ word_of t → u ≡ after_word t → (length w == 0) ≡ false → read_word t ≡ Some (w, u)
-word_is_read t [] u word rest some = absurd (cc)
-word_is_read t (c ∷ w) u word rest some = rw (← word, ← rest) refl
-
-pub word_within : (t w u : List ℕ) → w ≡ word_of t → u ≡ after_word t → (length w == 0) ≡ false → suc (length u) ≤ length t
-word_within t w u word rest some = let shorter = read_word_takes.takes t w u (word_is_read t w u word rest some) in omega (arith, shorter)
+        either : (b : Bool) → cond {A = Option (List ℕ × List ℕ)} (b && false) (Some (c ∷ w, after_front class t)) None ≡ None
+        either true = refl
+        either false = refl
 
 -- a field begins with its name and a colon
-pub field_name_scans : (level : Level) (t w u v : List ℕ) → w ≡ word_of t → u ≡ after_word t → (length w == 0) ≡ false → strip (codes ": ") u ≡ Some v
+pub field_name_scans : (level : Level) (t w u v : List ℕ) → read_name level.class t ≡ Some (w, u) → strip (codes ": ") u ≡ Some v
     → (scan_turn (fields level) t ≡ prefixed (FieldName w ∷ []) (scan_turn (entries level) v)) × (length v < length t)
-field_name_scans level t w u v word rest some colon = (
-  rw (word_is_read t w u word rest some, colon) (named_value (entry_of level v)),
-  let shorter = word_within t w u word rest some in
+field_name_scans level t w u v name colon = (
+  rw (name, colon) (named_value (entry_of level v)),
+  let shorter = (read_name_takes level.class).takes t w u name in
       let within = strip_within (codes ": ") u v colon in
       omega (arith, shorter, within),
 )

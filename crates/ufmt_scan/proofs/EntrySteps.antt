@@ -5,9 +5,10 @@ use Rattle.ufmt_core.specs.declared.layout.Count.{Count}
 use Rattle.ufmt_core.specs.declared.layout.Count.TheVariants.{Zero}
 use Rattle.ufmt_core.specs.declared.layout.Kind.{Kind}
 use Rattle.ufmt_core.specs.declared.layout.Setting.{Setting}
-use Rattle.ufmt.specs.Reading.{strip, read_word, read_pair}
+use Rattle.ufmt.specs.Leaves.{Class}
+use Rattle.ufmt.specs.Reading.{strip, read_name, read_pair}
 use Rattle.ufmt.proofs.Parsing.{strip-append, strip_found}
-use Rattle.ufmt.proofs.ReadingTurns.{Takes, strip_within, read_takes, read_pair_takes, read_word_takes}
+use Rattle.ufmt.proofs.ReadingTurns.{Takes, strip_within, read_takes, read_pair_takes, read_name_takes}
 use Rattle.ufmt_scan.proofs.Strips.{if_any-next}
 use Rattle.ufmt_scan.specs.Private.Level.{budget_of, entry_at, entry_of, setting_at, Level}
 
@@ -30,15 +31,15 @@ ending_stripped level kind before t =
     ap (λ l. strip (l ++ closing) t) (if_any-next before line) ∙ strip-append line closing t
 
 -- what reads an entry, a pair or a field takes at least a byte
-entry_takes : (s : Setting) (n : ℕ) → Takes (entry_at s n)
-entry_takes s zero = record { takes = λ t x u h. absurd (cc) }
-entry_takes s (suc n) = read_takes (inside s) n
+entry_takes : (class : Class) (s : Setting) (n : ℕ) → Takes (entry_at class s n)
+entry_takes class s zero = record { takes = λ t x u h. absurd (cc) }
+entry_takes class s (suc n) = read_takes class (inside s) n
 
 pub entry_of_takes : (level : Level) → Takes (entry_of level)
-entry_of_takes level = entry_takes (setting_at level) (budget_of level)
+entry_of_takes level = entry_takes level.class (setting_at level) (budget_of level)
 
 pub pair_takes : (level : Level) → Takes (read_pair (entry_of level) (entry_of level))
 pair_takes level = read_pair_takes (entry_of level) (entry_of level) (entry_of_takes level) (entry_of_takes level)
 
-pub field_takes : (level : Level) → Takes (read_pair read_word (entry_of level))
-field_takes level = read_pair_takes read_word (entry_of level) read_word_takes (entry_of_takes level)
+pub field_takes : (level : Level) → Takes (read_pair (read_name level.class) (entry_of level))
+field_takes level = read_pair_takes (read_name level.class) (entry_of level) (read_name_takes level.class) (entry_of_takes level)

@@ -10,7 +10,7 @@ use Rattle.ufmt_core.specs.declared.layout.Kind.TheVariants.{Brackets, Braces, S
 use Rattle.ufmt_core.specs.declared.layout.Mode.{Mode}
 use Rattle.ufmt_core.specs.declared.layout.Mode.TheVariants.{Plain, Pretty}
 use Rattle.ufmt_core.specs.declared.layout.Setting.{Setting}
-use Rattle.ufmt.specs.Token.{IsBuiltFromTokens, AreBuiltFromTokens, PairsAreBuiltFromTokens, FieldsAreBuiltFromTokens}
+use Rattle.ufmt.specs.Token.{Class, IsBuilt, AreBuilt, PairsAreBuilt, FieldsAreBuilt}
 use Rattle.ufmt_scan.specs.Scan.{TextEvent, events_of, tail_events, block_events, events_of_entries, events_of_pairs, events_of_fields, Leaf, Empty}
 use Rattle.ufmt_scan.specs.ScanTexts.{block_depth, written, setting_after, texts_written, last_setting}
 
@@ -76,7 +76,7 @@ name_written name = record { before = λ more. rw append-nil refl }
 -- the events of a token document have its layout as their text
 module _ (mode : Mode) where
   mutual
-    document_written : (k : ℕ) (d : Document) → IsBuiltFromTokens d → nest d + k ≤ 255
+    document_written : (k : ℕ) (d : Document) → IsBuilt class d → nest d + k ≤ 255
         → AreWritten (setting mode k) (events_of d) (layout (setting mode k) d)
     document_written k (leaf text) h few = record { before = λ more. refl }
     document_written k (joined ds) h few = absurd h
@@ -88,19 +88,19 @@ module _ (mode : Mode) where
     document_written k (map_of (first_pair key value ps)) h few = block_written mode k _ few Braces [] (Empty Braces) _ _ (pairs_written k (first_pair key value ps) h few)
     document_written k (struct_of name no_fields) h few = name_written name
     document_written k (struct_of name (first_field field_name value fs)) h few = block_written mode k _ few Struct name (Leaf name) _ _ (fields_written k (first_field field_name value fs) h.1 few)
-    document_written k (tuple_of [] no_documents) h few = absurd h
+    document_written k (tuple_of [] no_documents) h few = absurd (name_some class h)
     document_written k (tuple_of (c ∷ name) no_documents) h few = name_written (c ∷ name)
     document_written k (tuple_of name (first_document d ds)) h few = block_written mode k _ few (tuple_kind name) name (Leaf name) _ _ (entries_written k (first_document d ds) (h.1, h.2) few)
     document_written k (pretty_part d) h few = absurd h
 
     -- the same for the entries, pairs and fields of a block at this depth
-    entries_written : (k : ℕ) (ds : Documents) → AreBuiltFromTokens ds → suc (nest_all ds) + k ≤ 255
+    entries_written : (k : ℕ) (ds : Documents) → AreBuilt class ds → suc (nest_all ds) + k ≤ 255
         → EntriesAreWritten (inside (setting mode k)) (events_of_entries ds) (texts (inside (setting mode k)) ds)
     entries_written k no_documents h few = tt
     entries_written k (first_document d ds) h few =
         (document_written (entry_depth mode k) d h.0 (deeper mode k (nest d) (omega arith)), entries_written k ds h.1 (omega arith))
 
-    pairs_written : (k : ℕ) (ps : Pairs) → PairsAreBuiltFromTokens ps → suc (nest_pairs ps) + k ≤ 255
+    pairs_written : (k : ℕ) (ps : Pairs) → PairsAreBuilt class ps → suc (nest_pairs ps) + k ≤ 255
         → EntriesAreWritten (inside (setting mode k)) (events_of_pairs ps) (pair_texts (inside (setting mode k)) ps)
     pairs_written k no_pairs h few = tt
     pairs_written k (first_pair key value ps) h few =
@@ -108,12 +108,12 @@ module _ (mode : Mode) where
         let second = document_written (entry_depth mode k) value h.1 (deeper mode k (nest value) (omega arith)) in
         (record { before = λ more. simp (append_assoc, first.before, second.before) }, pairs_written k ps h.2 (omega arith))
 
-    fields_written : (k : ℕ) (fs : Fields) → FieldsAreBuiltFromTokens fs → suc (nest_fields fs) + k ≤ 255
+    fields_written : (k : ℕ) (fs : Fields) → FieldsAreBuilt class fs → suc (nest_fields fs) + k ≤ 255
         → EntriesAreWritten (inside (setting mode k)) (events_of_fields fs) (field_texts (inside (setting mode k)) fs)
     fields_written k no_fields h few = tt
     fields_written k (first_field name value fs) h few =
         let second = document_written (entry_depth mode k) value h.1 (deeper mode k (nest value) (omega arith)) in
         (record { before = λ more. simp (append_assoc, second.before) }, fields_written k fs h.2 (omega arith))
 
-  pub events_written : (k : ℕ) (d : Document) → IsBuiltFromTokens d → nest d + k ≤ 255 → texts_written (setting mode k) (events_of d) ≡ layout (setting mode k) d
+  pub events_written : (k : ℕ) (d : Document) → IsBuilt class d → nest d + k ≤ 255 → texts_written (setting mode k) (events_of d) ≡ layout (setting mode k) d
   events_written k d h few = let whole = (document_written k d h few).before [] in simp append-nil at whole

@@ -2,11 +2,10 @@
 use Rattle.std.proofs.Common.{List, None, Some, [], ap, append-nil, arith, false, subst, sym, ℕ, ◌==◌, ◌∙◌, ◌∷◌, ◌≡◌, ◌++◌, Bool, length}
 use Rattle.std.proofs.lemmas.Bool.Decides.{nat_tests}
 use Rattle.std.specs.Prelude.{◌↔◌, IsTrue}
-use Rattle.ufmt.specs.Reading.{Parse, after_word, read_symbol, read_word, word_of}
-use Rattle.ufmt.specs.Token.{IsSymbol, IsWord}
+use Rattle.ufmt.specs.Reading.{Parse, after_word, read_name, read_symbol, word_of}
+use Rattle.ufmt.specs.Token.{IsSymbol, IsWord, Token}
 use Rattle.ufmt.proofs.Parsing.{same_parts}
-use Rattle.ufmt.proofs.ReadingWords.{read_word_complete, read_word_sound}
-use Rattle.ufmt.proofs.TokenLeaves.{read_symbol_complete, read_symbol_sound}
+use Rattle.ufmt.proofs.ClassLeaves.{read_name_complete, read_name_sound, read_symbol_complete, read_symbol_sound}
 use Rattle.ufmt_scan.proofs.DocumentParts.{word_is_read}
 
 -- a text is a leaf exactly if nothing is left after the leaf that is read at its front
@@ -20,22 +19,22 @@ module _ {Is : List ℕ → Type 0} (read : Parse (List ℕ)) (sound : (t x u : 
       let some : (length (c ∷ u) == 0) ≡ false = grind (arith, nat_tests) in
       (λ h. absurd (cc), λ h. let none = (same_parts (x, c ∷ u) (t, []) (sym reads ∙ complete t h)).1 in absurd (cc))
 
-whole_word : (t : List ℕ) → IsWord t → read_word t ≡ Some (t, [])
-whole_word t h = ap read_word (sym (append-nil t)) ∙ read_word_complete t [] h tt
+whole_word : (t : List ℕ) → IsWord t → read_name Token t ≡ Some (t, [])
+whole_word t h = ap (read_name Token) (sym (append-nil t)) ∙ read_name_complete Token t [] h tt
 
-pub whole_symbol : (t : List ℕ) → IsSymbol t → read_symbol t ≡ Some (t, [])
-whole_symbol t h = ap read_symbol (sym (append-nil t)) ∙ read_symbol_complete t [] h
+pub whole_symbol : (t : List ℕ) → IsSymbol t → read_symbol Token t ≡ Some (t, [])
+whole_symbol t h = ap (read_symbol Token) (sym (append-nil t)) ∙ read_symbol_complete t [] h
 
 -- a text is a word exactly if nothing follows the word at its front
 pub word_tested : (t w u : List ℕ) (outcome : Bool) → w ≡ word_of t → u ≡ after_word t → (length w == 0) ≡ false → outcome ≡ (length u == 0)
     → IsTrue outcome ↔ IsWord t
 word_tested t w u outcome word rest some tested =
-    leaves_nothing read_word read_word_sound whole_word t w u outcome (word_is_read t w u word rest some) tested
+    leaves_nothing (read_name Token) (read_name_sound Token) whole_word t w u outcome (word_is_read t w u word rest some) tested
 
 -- the same for a leaf that is no word
-pub symbol_tested : (t x u : List ℕ) (outcome : Bool) → Some (x, u) ≡ read_symbol t → outcome ≡ (length u == 0) → IsTrue outcome ↔ IsSymbol t
+pub symbol_tested : (t x u : List ℕ) (outcome : Bool) → Some (x, u) ≡ read_symbol Token t → outcome ≡ (length u == 0) → IsTrue outcome ↔ IsSymbol t
 symbol_tested t x u outcome reads tested =
-    leaves_nothing read_symbol read_symbol_sound whole_symbol t x u outcome (sym reads) tested
+    leaves_nothing (read_symbol Token) read_symbol_sound whole_symbol t x u outcome (sym reads) tested
 
-pub no_symbol_tested : (t : List ℕ) → None ≡ read_symbol t → IsTrue false ↔ IsSymbol t
+pub no_symbol_tested : (t : List ℕ) → None ≡ read_symbol Token t → IsTrue false ↔ IsSymbol t
 no_symbol_tested t none = (λ h. absurd (cc), λ h. let whole = whole_symbol t h in absurd (cc))

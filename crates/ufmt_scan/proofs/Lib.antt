@@ -14,5 +14,6 @@ pub mod TextSinks
 pub mod EventTexts
 pub mod WorkedEvents
 pub mod Conversions
+pub mod DebugFronts
 pub mod Growing
 pub mod OpenSteps

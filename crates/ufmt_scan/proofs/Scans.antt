@@ -2,7 +2,8 @@
 use Rattle.std.proofs.Common.{◌≡◌, refl, ap, subst, ◌∙◌, ℕ, zero, suc, ◌<◌, ◌+◌, ◌-◌, min, List, [], ◌∷◌, ◌++◌, append_assoc, append-nil, length, sym, Option, Some, None, Result, Ok, Err, IsErrAnd, codes, option_and_then, arith}
 use Rattle.std.specs.Borrow.{Bor}
 use Rattle.ufmt.specs.Layout.{inside, setting}
-use Rattle.ufmt.specs.Reading.{Parse, parse_map, read, read_value, read_word, strip}
+use Rattle.ufmt.specs.Leaves.{Class}
+use Rattle.ufmt.specs.Reading.{Parse, parse_map, read, read_name, read_value, strip}
 use Rattle.ufmt_core.specs.declared.layout.Mode.{Mode}
 use Rattle.ufmt_core.specs.declared.layout.Mode.TheVariants.{Plain, Pretty}
 use Rattle.ufmt_scan.specs.declared.scan.event.ScanError.TheVariants.{NotText}
@@ -71,38 +72,38 @@ pub stops_in : {S E : Type 0} {took stopped : S → List TextEvent → S → Typ
 stops_in more is h = record { left = then_scan h.left more; emits = emits_in more is refl h.emits; none = λ e. ap (λ o. then_scan o more) (h.none e) }
 
 -- entries are laid out one block deeper
-setting_inside : (mode : Mode) (k : ℕ) → k < 255 → inside (setting_at (level_at mode k)) ≡ setting_at (level_at mode (suc k))
-setting_inside Plain k few = refl
-setting_inside Pretty k few = let same : min (k + 1) 255 ≡ suc k = grind arith in ap (λ n. setting Pretty n) same
+setting_inside : (class : Class) (mode : Mode) (k : ℕ) → k < 255 → inside (setting_at (level_at class mode k)) ≡ setting_at (level_at class mode (suc k))
+setting_inside class Plain k few = refl
+setting_inside class Pretty k few = let same : min (k + 1) 255 ≡ suc k = grind arith in ap (λ n. setting Pretty n) same
 
 -- with up to 255 blocks around it, a document is read at its level
-pub document_is : (mode : Mode) (k : ℕ) (t : List ℕ) → k < 256
-    → document_at mode k t ≡ parse_map events_of (read (setting_at (level_at mode k)) (budget_of (level_at mode k)) t)
-document_is Plain zero t few = refl
-document_is Pretty zero t few = refl
-document_is mode (suc k) t few =
+pub document_is : (class : Class) (mode : Mode) (k : ℕ) (t : List ℕ) → k < 256
+    → document_at class mode k t ≡ parse_map events_of (read class (setting_at (level_at class mode k)) (budget_of (level_at class mode k)) t)
+document_is class Plain zero t few = refl
+document_is class Pretty zero t few = refl
+document_is class mode (suc k) t few =
     let left : 255 - k ≡ suc (255 - suc k) = omega arith in
-    ap (λ n. parse_map events_of (entry_at (setting_at (level_at mode k)) n t)) left ∙ ap (λ s. parse_map events_of (read s (255 - suc k) t)) (setting_inside mode k
+    ap (λ n. parse_map events_of (entry_at class (setting_at (level_at class mode k)) n t)) left ∙ ap (λ s. parse_map events_of (read class s (255 - suc k) t)) (setting_inside class mode k
     (omega arith))
 
 -- no entry begins in the 256th block
-no_entry : (kind : Kind) (mode : Mode) (t : List ℕ) → coming_of kind (level_at mode 255) t ≡ None
-no_entry Brackets mode t = refl
-no_entry Braces mode t = refl
-no_entry Struct mode t = by_name (read_word t)
+no_entry : (kind : Kind) (class : Class) (mode : Mode) (t : List ℕ) → coming_of kind (level_at class mode 255) t ≡ None
+no_entry Brackets class mode t = refl
+no_entry Braces class mode t = refl
+no_entry Struct class mode t = by_name (read_name class t)
   where
     by_colon : (name : List ℕ) (o : Option (List ℕ))
-        → parse_map (fields (level_at mode 255)).events (option_and_then (λ u. parse_map (λ value. (name, value)) (entry_of (level_at mode 255) u)) o) ≡ None
+        → parse_map (fields (level_at class mode 255)).events (option_and_then (λ u. parse_map (λ value. (name, value)) (entry_of (level_at class mode 255) u)) o) ≡ None
     by_colon name None = refl
     by_colon name (Some u) = refl
 
     by_name : (o : Option (List ℕ × List ℕ))
-        → parse_map (fields (level_at mode 255)).events (option_and_then (λ x. read_value (entry_of (level_at mode 255)) x.0 x.1) o) ≡ None
+        → parse_map (fields (level_at class mode 255)).events (option_and_then (λ x. read_value (entry_of (level_at class mode 255)) x.0 x.1) o) ≡ None
     by_name None = refl
     by_name (Some x) = by_colon x.0 (strip (codes ": ") x.1)
-no_entry Tuple mode t = refl
-no_entry Unnamed mode t = refl
+no_entry Tuple class mode t = refl
+no_entry Unnamed class mode t = refl
 
-pub none_in_last : (mode : Mode) (stage : Stage) (outer : List Stage) (t : List ℕ) → length outer ≡ 255 → scan_next mode (stage ∷ outer) t ≡ None
-none_in_last mode stage outer t many =
-    rw (many, no_entry (kind_of stage) mode t) refl
+pub none_in_last : (class : Class) (mode : Mode) (stage : Stage) (outer : List Stage) (t : List ℕ) → length outer ≡ 255 → scan_next class mode (stage ∷ outer) t ≡ None
+none_in_last class mode stage outer t many =
+    rw (many, no_entry (kind_of stage) class mode t) refl

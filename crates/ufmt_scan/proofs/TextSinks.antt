@@ -6,9 +6,9 @@ use Rattle.ufmt.specs.Document.{Document}
 use Rattle.ufmt.specs.Layout.{layout, setting}
 use Rattle.ufmt_core.specs.declared.layout.Mode.{Mode}
 use Rattle.ufmt_core.specs.declared.layout.Mode.TheVariants.{Plain, Pretty}
-use Rattle.ufmt.specs.Token.{IsTokenDocument, normal}
+use Rattle.ufmt.specs.Token.{Class, IsDocument, normal}
 use Rattle.ufmt.specs.Writes.{Seen, Writes}
-use Rattle.ufmt.proofs.NormalForms.{IsTokenDocument-normal, layout-normal, normal-normal}
+use Rattle.ufmt.proofs.NormalForms.{IsDocument-normal, layout-normal, normal-normal}
 use Rattle.ufmt.proofs.OneWay.{texts_agree}
 use Rattle.ufmt_core.proofs.Writing.{Writes-fails, Writes-then}
 use Rattle.ufmt_scan.specs.declared.convert.text_sink.TextSink.{TextSink}
@@ -19,26 +19,26 @@ use Rattle.ufmt_scan.specs.ScanTexts.{written, setting_after, texts_written}
 use Rattle.ufmt_scan.specs.Texts.{ConvertsTo, IsConverted, IsNormalForm}
 use Rattle.ufmt_scan.proofs.EventTexts.{last_setting-append, texts_written-append, events_written}
 
--- two token documents with the same text in one mode have the same text in the other
-modes_agree : (from to : Mode) (d e : Document) → IsTokenDocument d → IsTokenDocument e → layout (setting from 0) d ≡ layout (setting from 0) e
+-- two documents of a class with the same text in one mode have the same text in the other
+modes_agree : (class : Class) (from to : Mode) (d e : Document) → IsDocument class d → IsDocument class e → layout (setting from 0) d ≡ layout (setting from 0) e
     → layout (setting to 0) d ≡ layout (setting to 0) e
-modes_agree Plain Plain d e hd he same = same
-modes_agree Plain Pretty d e hd he same = (texts_agree d e hd he).0 same
-modes_agree Pretty Plain d e hd he same = (texts_agree d e hd he).1 same
-modes_agree Pretty Pretty d e hd he same = same
+modes_agree class Plain Plain d e hd he same = same
+modes_agree class Plain Pretty d e hd he same = (texts_agree class d e hd he).0 same
+modes_agree class Pretty Plain d e hd he same = (texts_agree class d e hd he).1 same
+modes_agree class Pretty Pretty d e hd he same = same
 
 abbrev written_of : Mode → Document → List ℕ
 written_of to d = texts_written (setting to 0) (events_of d)
 
-module _ (from to : Mode) (input : List ℕ) where
+module _ (class : Class) (from to : Mode) (input : List ℕ) where
   abbrev IsOther : List ℕ → Type 0
-  IsOther text = IsConverted (layout (setting from 0)) (layout (setting to 0)) input text
+  IsOther text = IsConverted class (layout (setting from 0)) (layout (setting to 0)) input text
 
   -- the input is converted to the text of the events of its document, and to no other text
-  read_is : (d : Document) → IsNormalForm (layout (setting from 0)) input d → IsOther (written_of to d) × ((text : List ℕ) → IsOther text → written_of to d ≡ text)
+  read_is : (d : Document) → IsNormalForm class (layout (setting from 0)) input d → IsOther (written_of to d) × ((text : List ℕ) → IsOther text → written_of to d ≡ text)
   read_is d form =
-      let whole = events_written to 0 d form.0.0 (omega (arith, form.0.1)) in (
-        record { some = (d, form.0, form.2); each = λ e token same. modes_agree from to e d token form.0 (same ∙ sym form.2) ∙ sym whole },
+      let whole = events_written to class 0 d form.0.0 (omega (arith, form.0.1)) in (
+        record { some = (d, form.0, form.2); each = λ e token same. modes_agree class from to e d token form.0 (same ∙ sym form.2) ∙ sym whole },
         λ text other. whole ∙ other.each d form.0 form.2,
       )
 
@@ -59,18 +59,18 @@ module _ {W : Type 0} {p : ℕ} (seen : Seen W) where
   takes_event old new e true writes continues same = λ start es before. event_after start old new es e true before writes continues same
   takes_event old new e false writes continues same = λ start es before. event_after start old new es e false before writes continues same
 
-  module _ (from to : Mode) (input : List ℕ) (writer : MutBor W) where
+  module _ (class : Class) (from to : Mode) (input : List ℕ) (writer : MutBor W) where
     abbrev begun : TextSink W p
     begun = record { writer = writer; setting = setting to 0 }
 
     -- what a scan with that sink does with its writer
-    pub scan_converts : {E : Type 0} (outcome : Result (⊤) (ScanError E)) (new : TextSink W p) → Scans (Wrote seen true) (Wrote seen false) outcome begun new (layout (setting from 0)) input
-        → ConvertsTo seen (layout (setting from 0)) (layout (setting to 0)) input writer.now outcome new.writer.now × (writer.ghost_name ≡ new.writer.ghost_name)
+    pub scan_converts : {E : Type 0} (outcome : Result (⊤) (ScanError E)) (new : TextSink W p) → Scans (Wrote seen true) (Wrote seen false) class outcome begun new (layout (setting from 0)) input
+        → ConvertsTo seen class (layout (setting from 0)) (layout (setting to 0)) input writer.now outcome new.writer.now × (writer.ghost_name ≡ new.writer.ghost_name)
     scan_converts (Ok x) new h = (
       record {
-        ok = λ is. (written_of to h.0, (read_is from to input h.0 h.1).0);
+        ok = λ is. (written_of to h.0, (read_is class from to input h.0 h.1).0);
         not_text = λ is. absurd (cc);
-        writes = λ text other. subst (λ t. Writes seen writer.now t true new.writer.now) ((read_is from to input h.0 h.1).1 text other) h.2.writes;
+        writes = λ text other. subst (λ t. Writes seen writer.now t true new.writer.now) ((read_is class from to input h.0 h.1).1 text other) h.2.writes;
         lawful = (written_of to h.0, true, h.2.writes);
       },
       sym h.2.same_writer,
@@ -90,8 +90,8 @@ module _ {W : Type 0} {p : ℕ} (seen : Seen W) where
         not_text = λ is. absurd (cc);
         writes = λ text other.
             let d = other.some.0 in
-            let form : IsNormalForm (layout (setting from 0)) input (normal d) = (IsTokenDocument-normal d other.some.1, normal-normal d, layout-normal (setting from 0) d ∙ other.some.2) in
-            rw (← (read_is from to input (normal d) form).1 text other, (h.2 (normal d) form).1, texts_written-append) (Writes-fails _ h.1.writes);
+            let form : IsNormalForm class (layout (setting from 0)) input (normal d) = (IsDocument-normal class d other.some.1, normal-normal d, layout-normal (setting from 0) d ∙ other.some.2) in
+            rw (← (read_is class from to input (normal d) form).1 text other, (h.2 (normal d) form).1, texts_written-append) (Writes-fails _ h.1.writes);
         lawful = (texts_written (setting to 0) h.0, false, h.1.writes);
       },
       sym h.1.same_writer,

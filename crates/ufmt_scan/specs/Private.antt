@@ -1,4 +1,5 @@
 -- What the steps of the scanner and of conversions promise. No public contract names any of it: the public contracts are proved from it.
+pub mod Fronts
 pub mod Growing
 pub mod Level
 pub mod MarkedBytes

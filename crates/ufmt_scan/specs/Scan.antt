@@ -9,6 +9,7 @@ use Rattle.ufmt_core.specs.declared.layout.Kind.{Kind}
 use Rattle.ufmt_core.specs.declared.layout.Kind.TheVariants.{Brackets, Braces, Struct}
 pub use Rattle.ufmt_scan.specs.declared.scan.event.ScanError.{ScanError}
 use Rattle.ufmt_scan.specs.declared.scan.event.ScanError.TheVariants.{NotText, Sink}
+use Rattle.ufmt.specs.Token.{Class}
 use Rattle.ufmt_scan.specs.Texts.{IsNormalForm, NoDocumentPrints}
 use Rattle.ufmt_scan.specs.declared.scan.event.Event.{Event}
 pub use Rattle.ufmt_scan.specs.declared.scan.event.Event.TheVariants.{Leaf, Empty, Open, FieldName, Colon, Next, Close}
@@ -38,7 +39,7 @@ block_events kind name alone [] = alone ∷ []
 block_events kind name alone (es ∷ more) = Open kind name ∷ (es ++ tail_events kind One more)
 
 abbrev mutual
-  -- the events of a token document
+  -- the events of a document of a class
   pub events_of : Document → List TextEvent
   events_of (leaf text) = Leaf text ∷ []
   events_of (joined ds) = []
@@ -71,13 +72,13 @@ module _ {S : Type 0} (took stopped : S → List TextEvent → S → Type 0) whe
   TakesEvent old e true new = (start : S) (es : List TextEvent) → took start es old → took start (es ++ e ∷ []) new
   TakesEvent old e false new = (start : S) (es : List TextEvent) → took start es old → stopped start (es ++ e ∷ []) new
 
-  -- a failed scan: the sink took some events, and no token document has the text; or it stopped at the last, and these come first in each document with the text
-  abbrev pub ScanRefused : {E : Type 0} → S → S → (Document → List ℕ) → List ℕ → ScanError E → Type 0
-  ScanRefused old new text_of input NotText = (es : List TextEvent) × took old es new × NoDocumentPrints text_of input
-  ScanRefused old new text_of input (Sink e) = (es : List TextEvent) × stopped old es new
-      × ((d : Document) → IsNormalForm text_of input d → Leads es (events_of d))
+  -- a failed scan: the sink took some events, and no document of the class has the text; or it stopped at the last, and these come first in each document with the text
+  abbrev pub ScanRefused : {E : Type 0} → Class → S → S → (Document → List ℕ) → List ℕ → ScanError E → Type 0
+  ScanRefused class old new text_of input NotText = (es : List TextEvent) × took old es new × NoDocumentPrints class text_of input
+  ScanRefused class old new text_of input (Sink e) = (es : List TextEvent) × stopped old es new
+      × ((d : Document) → IsNormalForm class text_of input d → Leads es (events_of d))
 
-  -- a scan: the sink took the events of the token document in normal form that has the text; or the scan fails
-  abbrev pub Scans : {E : Type 0} → Result (⊤) (ScanError E) → S → S → (Document → List ℕ) → List ℕ → Type 0
-  Scans outcome old new text_of input =
-      MatchResult outcome (λ x. (d : Document) × IsNormalForm text_of input d × took old (events_of d) new) (ScanRefused old new text_of input)
+  -- a scan: the sink took the events of the document of the class in normal form that has the text; or the scan fails
+  abbrev pub Scans : {E : Type 0} → Class → Result (⊤) (ScanError E) → S → S → (Document → List ℕ) → List ℕ → Type 0
+  Scans class outcome old new text_of input =
+      MatchResult outcome (λ x. (d : Document) × IsNormalForm class text_of input d × took old (events_of d) new) (ScanRefused class old new text_of input)

@@ -1,12 +1,12 @@
 //! Leaves: words, `()`, and texts in quotes.
 ghost use Rattle.std.specs.Prelude.{◌≡◌, ◌≤◌, ◌+◌, ◌↔◌, IsTrue, drop, length, option_map};
-ghost use Rattle.ufmt.specs.Token.{IsSymbol, IsTokenLeaf, IsWord};
-ghost use Rattle.ufmt.specs.Reading.{after_word, read_symbol, word_of};
-ghost use Rattle.ufmt.specs.ReadingQuoted.{read_quoted};
+ghost use Rattle.ufmt.specs.Token.{IsSymbol, IsTokenLeaf, IsWord, Token};
+ghost use Rattle.ufmt.specs.Reading.{after_word, read_quotes, read_symbol, word_of};
 ghost use Rattle.ufmt_scan.specs.Private.MarkedBytes.{is_marked, marked_len};
 
 use crate::level::strip_piece;
 use crate::quoted::{split_any, split_plain};
+use ufmt::class::Class;
 
 // Marks each byte that a word may have: ASCII digits, ASCII letters, `_` and `-`.
 static WORD_BYTES: [u8; 256] = *b"\
@@ -87,24 +87,27 @@ fn is_marked(table: &[u8; 256], byte: u8) -> bool
     table[byte as usize] == b'w'
 }
 
-/// A leaf in quotes at the front of a text, and what follows it.
+/// A leaf in quotes at the front of a text, and what follows it. In a debug document it is a front.
 #[inline(always)]
-pub(crate) fn split_quotes(input: &[u8]) -> Option<(&str, &[u8])>
-    ensures { option_map (λ x. (x.0.now, x.1.now)) result ≡ read_quoted input.now }
+pub(crate) fn split_quotes(class: Class, input: &[u8]) -> Option<(&str, &[u8])>
+    ensures { option_map (λ x. (x.0.now, x.1.now)) result ≡ read_quotes class input.now }
 {
-    match split_plain(input) {
-        Some(text) => Some(text),
-        None => split_any(input),
+    match class {
+        Class::Token => match split_plain(input) {
+            Some(text) => Some(text),
+            None => split_any(input),
+        },
+        Class::Debug => None,
     }
 }
 
 // The `()` or the leaf in quotes at the front of a text, and what follows it.
 fn split_symbol(input: &[u8]) -> Option<(&str, &[u8])>
-    ensures { option_map (λ x. (x.0.now, x.1.now)) result ≡ read_symbol input.now }
+    ensures { option_map (λ x. (x.0.now, x.1.now)) result ≡ read_symbol Token input.now }
 {
     match strip_piece("()", input) {
         Some(rest) => Some(("()", rest)),
-        None => split_quotes(input),
+        None => split_quotes(Class::Token, input),
     }
 }
 

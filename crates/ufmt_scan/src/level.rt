@@ -6,13 +6,15 @@ ghost use Rattle.ufmt.specs.Reading.{strip};
 ghost use Rattle.ufmt_scan.specs.Private.Level.{setting_at};
 ghost use Rattle.ufmt_scan.specs.Rest.{now_of};
 
+use ufmt::class::Class;
 use ufmt::layout::{Count, INDENT, Kind, Mode, Setting};
 
 const TWO_INDENTS: &str = "        ";
 
-/// The mode of a document's layout, and how many blocks are open around the document.
+/// The class of a document, the mode of its layout, and how many blocks are open around it.
 #[derive(Clone, Copy)]
 pub(crate) struct Level {
+    pub(crate) class: Class,
     pub(crate) mode: Mode,
     pub(crate) open_blocks: u8,
 }

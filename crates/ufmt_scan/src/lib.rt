@@ -1,9 +1,12 @@
 #![tactic(auto)]
 
-//! Scanning the texts of token documents, and converting plain ones to pretty ones and back.
+//! Scanning the texts of token documents and debug documents, and converting plain ones to pretty ones
+//! and back.
 
 pub mod convert;
+mod debug_leaf;
 pub mod error;
+mod front;
 pub mod laws;
 pub mod leaf;
 mod level;
@@ -11,4 +14,4 @@ pub mod quoted;
 pub mod scan;
 mod text;
 
-pub use text::is_text;
+pub use text::{is_debug_text, is_text};

@@ -11,30 +11,49 @@ mod step;
 use crate::level::Level;
 pub use event::{Event, ScanError, Sink};
 use step::{Stage, after_document, begin, field_name};
+use ufmt::class::Class;
 use ufmt::layout::{Kind, Mode};
 
-/// Emits the events of the token document that has this text, in the text's order. Fails with
-/// `NotText` only if no token document has this text; any other error is the sink's. The sink may
-/// have taken events then.
-pub fn scan<S: Sink>(mode: Mode, input: &[u8], sink: &mut S) -> Result<(), ScanError<S::Error>>
-    ensures { Scans S.took S.stopped result sink.old sink.new (layout (setting mode 0)) input.now }
-{
-    match mode {
-        Mode::Plain => scan_in::<S, false>(Mode::Plain, input, sink),
-        Mode::Pretty => scan_in::<S, true>(Mode::Pretty, input, sink),
-    }
-}
-
-// `PRETTY` is never read, here and below. It makes one copy per sink and mode, in which brackets
-// are constants.
-fn scan_in<S: Sink, const PRETTY: bool>(
+/// Emits the events of the document of this class that has this text, in the text's order. Fails
+/// with `NotText` only if no document of the class has this text; any other error is the sink's. The
+/// sink may have taken events then.
+pub fn scan<S: Sink>(
+    class: Class,
     mode: Mode,
     input: &[u8],
     sink: &mut S,
 ) -> Result<(), ScanError<S::Error>>
-    ensures { Scans S.took S.stopped result sink.old sink.new (layout (setting mode 0)) input.now }
+    ensures { Scans S.took S.stopped class result sink.old sink.new (layout (setting mode 0))
+        input.now }
 {
-    if scan_document::<S, PRETTY>(mode, input, sink)?.is_empty() {
+    match (class, mode) {
+        (Class::Token, Mode::Plain) => {
+            scan_in::<S, false, false>(Class::Token, Mode::Plain, input, sink)
+        }
+        (Class::Token, Mode::Pretty) => {
+            scan_in::<S, true, false>(Class::Token, Mode::Pretty, input, sink)
+        }
+        (Class::Debug, Mode::Plain) => {
+            scan_in::<S, false, true>(Class::Debug, Mode::Plain, input, sink)
+        }
+        (Class::Debug, Mode::Pretty) => {
+            scan_in::<S, true, true>(Class::Debug, Mode::Pretty, input, sink)
+        }
+    }
+}
+
+// `PRETTY` and `DEBUG` are never read, here and below. They make one copy per sink, mode and class,
+// in which brackets are constants.
+fn scan_in<S: Sink, const PRETTY: bool, const DEBUG: bool>(
+    class: Class,
+    mode: Mode,
+    input: &[u8],
+    sink: &mut S,
+) -> Result<(), ScanError<S::Error>>
+    ensures { Scans S.took S.stopped class result sink.old sink.new (layout (setting mode 0))
+        input.now }
+{
+    if scan_document::<S, PRETTY, DEBUG>(class, mode, input, sink)?.is_empty() {
         Ok(())
     } else {
         Err(ScanError::NotText)
@@ -51,13 +70,14 @@ struct OpenBlocks {
 
 // Emits the events of the document at the front of the input, and returns what follows it.
 #[inline(always)]
-fn scan_document<'a, S: Sink, const PRETTY: bool>(
+fn scan_document<'a, S: Sink, const PRETTY: bool, const DEBUG: bool>(
+    class: Class,
     mode: Mode,
     input: &'a [u8],
     sink: &mut S,
 ) -> Result<&'a [u8], ScanError<S::Error>>
     ensures { ScansOn S.took S.stopped result sink.old sink.new
-        (parse_map events_of (read (setting mode 0) 255 input.now)) (λ rest. Some ([], rest.now)) }
+        (parse_map events_of (read class (setting mode 0) 255 input.now)) (λ rest. Some ([], rest.now)) }
 {
     let mut outer = [Stage::ListFirst; 256];
     let mut blocks = OpenBlocks {
@@ -66,9 +86,9 @@ fn scan_document<'a, S: Sink, const PRETTY: bool>(
     };
     let mut rest = input;
     'documents: loop {
-        let begun = name_field::<S, PRETTY>(blocks, mode, rest, sink)?;
+        let begun = name_field::<S, PRETTY, DEBUG>(blocks, class, mode, rest, sink)?;
         let open_blocks = blocks.count;
-        let (opened, after) = begin::<S, PRETTY>(Level { mode, open_blocks }, begun, sink)?;
+        let (opened, after) = begin::<S, PRETTY, DEBUG>(Level { class, mode, open_blocks }, begun, sink)?;
         rest = after;
         if let Some(innermost) = opened {
             outer[open_blocks as usize] = blocks.innermost;
@@ -79,7 +99,7 @@ fn scan_document<'a, S: Sink, const PRETTY: bool>(
             blocks = OpenBlocks { count, innermost };
             continue 'documents;
         }
-        let (left, after) = end_entries::<S, PRETTY>(blocks, &outer, mode, rest, sink)?;
+        let (left, after) = end_entries::<S, PRETTY, DEBUG>(blocks, &outer, class, mode, rest, sink)?;
         blocks = left;
         rest = after;
         if blocks.count == 0 {
@@ -90,8 +110,9 @@ fn scan_document<'a, S: Sink, const PRETTY: bool>(
 
 // Emits the name of the next field, if the innermost block is a struct.
 #[inline(always)]
-fn name_field<'a, S: Sink, const PRETTY: bool>(
+fn name_field<'a, S: Sink, const PRETTY: bool, const DEBUG: bool>(
     blocks: OpenBlocks,
+    class: Class,
     mode: Mode,
     input: &'a [u8],
     sink: &mut S,
@@ -99,12 +120,12 @@ fn name_field<'a, S: Sink, const PRETTY: bool>(
     requires { kind_of blocks.innermost ≡ Kind.Struct → 0 < blocks.count }
     ensures emitted { (outer : List Stage) → length outer ≡ 256
         → ScansOn S.took S.stopped result sink.old sink.new
-        (scan_next mode (open_stages blocks outer) input.now)
-        (λ rest. scan_begun mode (open_stages blocks outer) rest.now) }
+        (scan_next class mode (open_stages blocks outer) input.now)
+        (λ rest. scan_begun class mode (open_stages blocks outer) rest.now) }
     ensures within { IfOk result (λ rest. length rest.now ≤ length input.now) }
 {
     match blocks.innermost {
-        Stage::FieldFirst | Stage::FieldLater => field_name::<S, PRETTY>(input, sink),
+        Stage::FieldFirst | Stage::FieldLater => field_name::<S, PRETTY, DEBUG>(class, input, sink),
         _ => Ok(input),
     }
 }
@@ -112,23 +133,24 @@ fn name_field<'a, S: Sink, const PRETTY: bool>(
 // Emits the events from the end of an entry to the next entry, key or value. Blocks may end there.
 // Returns the blocks that stay open, and what follows.
 #[inline(always)]
-fn end_entries<'a, S: Sink, const PRETTY: bool>(
+fn end_entries<'a, S: Sink, const PRETTY: bool, const DEBUG: bool>(
     blocks: OpenBlocks,
     outer: &[Stage; 256],
+    class: Class,
     mode: Mode,
     input: &'a [u8],
     sink: &mut S,
 ) -> Result<(OpenBlocks, &'a [u8]), ScanError<S::Error>>
     ensures emitted { ScansOn S.took S.stopped result sink.old sink.new
-        (scan_ends mode (open_stages blocks outer.now) input.now)
-        (λ x. scan_left mode (open_stages x.0 outer.now) x.1.now) }
+        (scan_ends class mode (open_stages blocks outer.now) input.now)
+        (λ x. scan_left class mode (open_stages x.0 outer.now) x.1.now) }
     ensures within { IfOk result (λ x. length x.1.now ≤ length input.now) }
 {
     let mut open = blocks;
     let mut rest = input;
     'ends: while let Some(open_blocks) = open.count.checked_sub(1) {
-        let level = Level { mode, open_blocks };
-        let (next, after) = after_document::<S, PRETTY>(level, open.innermost, rest, sink)?;
+        let level = Level { class, mode, open_blocks };
+        let (next, after) = after_document::<S, PRETTY, DEBUG>(level, open.innermost, rest, sink)?;
         rest = after;
         if let Some(innermost) = next {
             let count = open.count;

@@ -1,20 +1,31 @@
-//! Whether a text is one of a token document.
+//! Whether a text is one of a document of a class.
 ghost use Rattle.std.specs.Prelude.{IsFalse, IsTrue, ⊤};
 ghost use Rattle.ufmt.specs.Document.{Document};
 ghost use Rattle.ufmt.specs.Layout.{layout, setting};
+ghost use Rattle.ufmt.specs.Leaves.{Debug, Token};
 ghost use Rattle.ufmt_scan.specs.Texts.{IsNormalForm, NoDocumentPrints};
 
 use crate::scan::{Event, Sink, scan};
 use std::convert::Infallible;
+use ufmt::class::Class;
 use ufmt::layout::Mode;
 
 /// Returns whether some token document has this text in this mode. Takes no memory.
 pub fn is_text(mode: Mode, text: &[u8]) -> bool
     ensures text { IsTrue result
-        → (d : Document) × IsNormalForm (layout (setting mode 0)) text.now d }
-    ensures no_text { IsFalse result → NoDocumentPrints (layout (setting mode 0)) text.now }
+        → (d : Document) × IsNormalForm Token (layout (setting mode 0)) text.now d }
+    ensures no_text { IsFalse result → NoDocumentPrints Token (layout (setting mode 0)) text.now }
 {
-    scan(mode, text, &mut Ignores).is_ok()
+    scan(Class::Token, mode, text, &mut Ignores).is_ok()
+}
+
+/// Returns whether some debug document has this text in this mode. Takes no memory.
+pub fn is_debug_text(mode: Mode, text: &[u8]) -> bool
+    ensures text { IsTrue result
+        → (d : Document) × IsNormalForm Debug (layout (setting mode 0)) text.now d }
+    ensures no_text { IsFalse result → NoDocumentPrints Debug (layout (setting mode 0)) text.now }
+{
+    scan(Class::Debug, mode, text, &mut Ignores).is_ok()
 }
 
 // A sink that takes each event and keeps none.

@@ -5,6 +5,7 @@ use Rattle.ufmt.specs.Layout.{inside, setting}
 use Rattle.ufmt_core.specs.declared.layout.Mode.{Mode}
 use Rattle.ufmt_core.specs.declared.layout.Setting.{Setting}
 use Rattle.ufmt_core.specs.declared.layout.Mode.TheVariants.{Plain, Pretty}
+use Rattle.ufmt.specs.Leaves.{Class}
 use Rattle.ufmt.specs.Reading.{Parse, read}
 pub use Rattle.ufmt_scan.specs.declared.level.Level.{Level}
 
@@ -18,9 +19,9 @@ abbrev pub setting_at : Level → Setting
 setting_at level = setting level.mode (depth_in level.mode level.open_blocks)
 
 -- what reads an entry of a block at this mode and depth. It reads none at `zero`, where blocks have no entries
-abbrev pub entry_at : Setting → ℕ → Parse Document
-entry_at s zero = λ t. None
-entry_at s (suc n) = read (inside s) n
+abbrev pub entry_at : Class → Setting → ℕ → Parse Document
+entry_at class s zero = λ t. None
+entry_at class s (suc n) = read class (inside s) n
 
 -- how deep blocks with entries may be nested in a document at this level
 abbrev pub budget_of : Level → ℕ
@@ -28,4 +29,4 @@ budget_of level = 255 - level.open_blocks
 
 -- what reads an entry of a block at this level
 abbrev pub entry_of : Level → Parse Document
-entry_of level = entry_at (setting_at level) (budget_of level)
+entry_of level = entry_at level.class (setting_at level) (budget_of level)

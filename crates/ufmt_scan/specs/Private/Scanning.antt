@@ -1,14 +1,15 @@
 -- The events of what is left of a text, at each step of a scan.
-use Rattle.std.specs.Prelude.{◌≡◌, ℕ, zero, suc, ◌<◌, length, reverse, take, List, [], ◌∷◌, ◌++◌, map, codes, Option, Some, None, option_and_then, MatchOption, Result, MatchResult, IfOk}
+use Rattle.std.specs.Prelude.{◌≡◌, ℕ, zero, suc, ◌<◌, length, reverse, take, Bool, cond, List, [], ◌∷◌, ◌++◌, map, codes, Option, Some, None, option_and_then, MatchOption, Result, MatchResult, IfOk}
 use Rattle.std.specs.Borrow.{Bor}
-use Rattle.ufmt.specs.Document.{Document}
+use Rattle.ufmt.specs.Document.{Document, leaf}
 use Rattle.ufmt.specs.Layout.{frame, inside, lead, next, setting, trail}
 use Rattle.ufmt_core.specs.declared.layout.Count.{Count}
 use Rattle.ufmt_core.specs.declared.layout.Count.TheVariants.{Zero, One, Several}
 use Rattle.ufmt_core.specs.declared.layout.Kind.{Kind}
 use Rattle.ufmt_core.specs.declared.layout.Kind.TheVariants as kinds
 use Rattle.ufmt_core.specs.declared.layout.Mode.{Mode}
-use Rattle.ufmt.specs.Reading.{Parse, choose, parse_map, strip, read, read_without_name, read_word, read_pair, read_others}
+use Rattle.ufmt.specs.Leaves.{Class}
+use Rattle.ufmt.specs.Reading.{Parse, choose, parse_map, strip, read, read_named, read_without_name, read_name, read_pair, read_others}
 use Rattle.ufmt_scan.specs.declared.scan.event.Event.TheVariants as events
 use Rattle.ufmt_scan.specs.declared.scan.event.ScanError.TheVariants.{NotText, Sink}
 use Rattle.ufmt_scan.specs.declared.scan.OpenBlocks.{OpenBlocks}
@@ -49,7 +50,7 @@ pairs level = record {
 abbrev pub fields : Level → Turn
 fields level = record {
   Entry = List ℕ × Document;
-  read = read_pair read_word (entry_of level);
+  read = read_pair (read_name level.class) (entry_of level);
   events = λ f. events.FieldName f.0 ∷ events_of f.1;
 }
 
@@ -151,41 +152,46 @@ abbrev pub scan_block : Level → Kind → Parse (List TextEvent)
 scan_block level kind t = choose (strip ((frame level.mode kind).closing Zero) t) (λ u. Some (events.Empty kind ∷ [], u))
     (option_and_then (scan_opened level kind []) (strip (lead (frame level.mode kind) (inside (setting_at level)) Zero) t))
 
+-- the events of a document that begins with this leaf, which may be its name
+abbrev pub scan_front : Level → Bool → List ℕ → Parse (List TextEvent)
+scan_front level is_name front t =
+    parse_map events_of (cond is_name (read_named level.class (setting_at level) (entry_of level) front t) (Some (leaf front, t)))
+
 -- the level with this many blocks around it
-abbrev pub level_at : Mode → ℕ → Level
-level_at mode k = record { mode = mode; open_blocks = k }
+abbrev pub level_at : Class → Mode → ℕ → Level
+level_at class mode k = record { class = class; mode = mode; open_blocks = k }
 
 -- the events of a document with this many blocks around it: no entry begins in the 256th
-abbrev pub document_at : Mode → ℕ → Parse (List TextEvent)
-document_at mode zero t = parse_map events_of (read (setting mode 0) 255 t)
-document_at mode (suc k) t = scan_turn (entries (level_at mode k)) t
+abbrev pub document_at : Class → Mode → ℕ → Parse (List TextEvent)
+document_at class mode zero t = parse_map events_of (read class (setting mode 0) 255 t)
+document_at class mode (suc k) t = scan_turn (entries (level_at class mode k)) t
 
 -- the events of all open blocks, the innermost first, after an entry
-abbrev pub scan_ends : Mode → List Stage → Parse (List TextEvent)
-scan_ends mode [] t = Some ([], t)
-scan_ends mode (stage ∷ outer) t = then_scan (scan_stage (level_at mode (length outer)) stage t) (scan_ends mode outer)
+abbrev pub scan_ends : Class → Mode → List Stage → Parse (List TextEvent)
+scan_ends class mode [] t = Some ([], t)
+scan_ends class mode (stage ∷ outer) t = then_scan (scan_stage (level_at class mode (length outer)) stage t) (scan_ends class mode outer)
 
 -- the same, from the start of a document in the innermost block
-abbrev pub scan_begun : Mode → List Stage → Parse (List TextEvent)
-scan_begun mode open_blocks t = then_scan (document_at mode (length open_blocks) t) (scan_ends mode open_blocks)
+abbrev pub scan_begun : Class → Mode → List Stage → Parse (List TextEvent)
+scan_begun class mode open_blocks t = then_scan (document_at class mode (length open_blocks) t) (scan_ends class mode open_blocks)
 
 -- the events of what comes next in the innermost block
-abbrev pub coming_in : Mode → List Stage → Parse (List TextEvent)
-coming_in mode [] = document_at mode zero
-coming_in mode (stage ∷ outer) = coming (level_at mode (length outer)) stage
+abbrev pub coming_in : Class → Mode → List Stage → Parse (List TextEvent)
+coming_in class mode [] = document_at class mode zero
+coming_in class mode (stage ∷ outer) = coming (level_at class mode (length outer)) stage
 
-abbrev pub scan_next : Mode → List Stage → Parse (List TextEvent)
-scan_next mode open_blocks t = then_scan (coming_in mode open_blocks t) (scan_ends mode open_blocks)
+abbrev pub scan_next : Class → Mode → List Stage → Parse (List TextEvent)
+scan_next class mode open_blocks t = then_scan (coming_in class mode open_blocks t) (scan_ends class mode open_blocks)
 
 -- the events after a step: of the block that opens or continues, if one does, and then of these blocks
-abbrev pub scan_onward : Mode → List Stage → Option Stage → Parse (List TextEvent)
-scan_onward mode outer None = scan_ends mode outer
-scan_onward mode outer (Some stage) = scan_next mode (stage ∷ outer)
+abbrev pub scan_onward : Class → Mode → List Stage → Option Stage → Parse (List TextEvent)
+scan_onward class mode outer None = scan_ends class mode outer
+scan_onward class mode outer (Some stage) = scan_next class mode (stage ∷ outer)
 
 -- the events after some blocks ended: none if no block is open, else those from what comes next in the innermost block
-abbrev pub scan_left : Mode → List Stage → Parse (List TextEvent)
-scan_left mode [] t = Some ([], t)
-scan_left mode (stage ∷ outer) t = scan_next mode (stage ∷ outer) t
+abbrev pub scan_left : Class → Mode → List Stage → Parse (List TextEvent)
+scan_left class mode [] t = Some ([], t)
+scan_left class mode (stage ∷ outer) t = scan_next class mode (stage ∷ outer) t
 
 -- the stages of the open blocks, the innermost first. The array has the others, after a stage that is no block's
 abbrev pub open_stages : OpenBlocks → List Stage → List Stage
@@ -222,4 +228,4 @@ Steps took stopped outcome old new bytes there onward =
 -- the bracket at the front was stripped, and a block of its kind is read; or there is no bracket
 abbrev pub StripsBracket : Level → List ℕ → Option (Kind × Bor (List ℕ)) → Type 0
 StripsBracket level t outcome = MatchOption outcome ((strip (codes "[") t ≡ None) × (strip (codes "{") t ≡ None))
-    (λ x. (parse_map events_of (read_without_name (setting_at level) (entry_of level) t) ≡ scan_block level x.0 x.1.now) × (length x.1.now < length t))
+    (λ x. (parse_map events_of (read_without_name level.class (setting_at level) (entry_of level) t) ≡ scan_block level x.0 x.1.now) × (length x.1.now < length t))

@@ -1,15 +1,16 @@
 //! Which event comes next in a text.
-ghost use Rattle.std.specs.Prelude.{◌≡◌, ◌<◌, ◌≤◌, ◌++◌, ◌∷◌, [], IfOk, length, suc, ℕ};
+ghost use Rattle.std.specs.Prelude.{◌≡◌, ◌≢◌, ◌<◌, ◌≤◌, ◌++◌, ◌∷◌, [], IfOk, length, suc, ℕ};
 ghost use Rattle.ufmt.specs.Layout.{entry_depth, line_start, next, later_lead};
 ghost use Rattle.ufmt.specs.Reading.{parse_map, read, read_without_name};
 ghost use Rattle.ufmt_scan.specs.Private.Level.{budget_of, entry_of, setting_at, Level};
-ghost use Rattle.ufmt_scan.specs.Private.Scanning.{Scanned, ScansOn, Steps, StripsBracket, after, prefixed, scan_block, earlier, entries, fields, first_stage, kind_of, later, scan_rest, scan_stage, turn_of, scan_turn, value_of, Stage};
+ghost use Rattle.ufmt_scan.specs.Private.Scanning.{Scanned, ScansOn, Steps, StripsBracket, after, prefixed, scan_block, scan_front, earlier, entries, fields, first_stage, kind_of, later, scan_rest, scan_stage, turn_of, scan_turn, value_of, Stage};
 ghost use Rattle.ufmt_scan.specs.Scan.{event_now, events_of};
 
 use super::event::{Event, ScanError, Sink};
-use crate::leaf::{split_quotes, split_word};
+use crate::front::{Front, split_front, split_name};
+use crate::leaf::split_quotes;
 use crate::level::{Level, strip_piece, strip_to_line};
-use ufmt::ascii::text_from;
+use ufmt::class::Class;
 use ufmt::layout::{COLON, Count, INDENT, Kind, Mode, OPENING_BRACE, OPENING_BRACKET};
 
 /// What comes next in an open block, by what was read of it, and what may follow then:
@@ -129,72 +130,92 @@ fn emit<S: Sink>(event: Event<&str>, sink: &mut S) -> Result<(), ScanError<S::Er
 
 /// Emits a field's name and the colon after it. Returns what follows.
 #[inline(always)]
-pub(super) fn field_name<'a, S: Sink, const PRETTY: bool>(
+pub(super) fn field_name<'a, S: Sink, const PRETTY: bool, const DEBUG: bool>(
+    class: Class,
     input: &'a [u8],
     sink: &mut S,
 ) -> Result<&'a [u8], ScanError<S::Error>>
-    ensures emitted { (level : Level) → ScansOn S.took S.stopped result sink.old sink.new
-        (scan_turn (fields level) input.now) (λ rest. scan_turn (entries level) rest.now) }
+    ensures emitted { (level : Level) → level.class ≡ class
+        → ScansOn S.took S.stopped result sink.old sink.new (scan_turn (fields level) input.now)
+        (λ rest. scan_turn (entries level) rest.now) }
     ensures within { IfOk result (λ rest. length rest.now ≤ length input.now) }
 {
-    let (word, rest) = split_word(input);
-    if word.is_empty() {
+    let Some((name, rest)) = split_name(class, input) else {
         return Err(ScanError::NotText);
-    }
+    };
     let Some(rest) = strip_piece(COLON, rest) else {
         return Err(ScanError::NotText);
     };
-    emit(Event::FieldName(text_from(word, 0)), sink)?;
+    emit(Event::FieldName(name), sink)?;
     Ok(rest)
 }
 
 /// Emits a leaf, an empty block, or the name and the opening of a block.
 #[inline(always)]
-pub(super) fn begin<'a, S: Sink, const PRETTY: bool>(
+pub(super) fn begin<'a, S: Sink, const PRETTY: bool, const DEBUG: bool>(
     level: Level,
     input: &'a [u8],
     sink: &mut S,
 ) -> Result<Step<'a>, ScanError<S::Error>>
     ensures { Steps S.took S.stopped result sink.old sink.new (length input.now)
-        (parse_map events_of (read (setting_at level) (budget_of level) input.now)) (after level) }
+        (parse_map events_of (read level.class (setting_at level) (budget_of level) input.now))
+        (after level) }
 {
-    let (word, rest) = split_word(input);
-    if word.is_empty() {
-        return begin_without_name::<S, PRETTY>(level, input, sink);
-    }
-    let name = text_from(word, 0);
-    if let Some(rest) = level.strip_lead(Kind::Tuple, rest) {
-        emit(Event::Open(Kind::Tuple, name), sink)?;
-        Ok((Some(Stage::TupleFirst), rest))
-    } else if let Some(rest) = level.strip_lead(Kind::Struct, rest) {
-        emit(Event::Open(Kind::Struct, name), sink)?;
-        Ok((Some(Stage::FieldFirst), rest))
+    let Some(front) = split_front(level.class, input) else {
+        return Err(ScanError::NotText);
+    };
+    if front.text.is_empty() {
+        begin_without_name::<S, PRETTY, DEBUG>(level, input, sink)
     } else {
-        emit(Event::Leaf(name), sink)?;
-        Ok((None, rest))
+        begin_front::<S, PRETTY, DEBUG>(level, front, sink)
     }
 }
 
-// The same for a text that begins with no word.
+// The same for a text that begins with a leaf, which may be the name of a block.
 #[inline(always)]
-fn begin_without_name<'a, S: Sink, const PRETTY: bool>(
+fn begin_front<'a, S: Sink, const PRETTY: bool, const DEBUG: bool>(
+    level: Level,
+    front: Front<'a>,
+    sink: &mut S,
+) -> Result<Step<'a>, ScanError<S::Error>>
+    requires { front.text.now ≢ [] }
+    ensures { Steps S.took S.stopped result sink.old sink.new (suc (length front.rest.now))
+        (scan_front level front.is_name front.text.now front.rest.now) (after level) }
+{
+    if front.is_name {
+        if let Some(rest) = level.strip_lead(Kind::Tuple, front.rest) {
+            emit(Event::Open(Kind::Tuple, front.text), sink)?;
+            return Ok((Some(Stage::TupleFirst), rest));
+        }
+        if let Some(rest) = level.strip_lead(Kind::Struct, front.rest) {
+            emit(Event::Open(Kind::Struct, front.text), sink)?;
+            return Ok((Some(Stage::FieldFirst), rest));
+        }
+    }
+    emit(Event::Leaf(front.text), sink)?;
+    Ok((None, front.rest))
+}
+
+// The same for a text that begins with no such leaf.
+#[inline(always)]
+fn begin_without_name<'a, S: Sink, const PRETTY: bool, const DEBUG: bool>(
     level: Level,
     input: &'a [u8],
     sink: &mut S,
 ) -> Result<Step<'a>, ScanError<S::Error>>
     ensures { Steps S.took S.stopped result sink.old sink.new (length input.now)
-        (parse_map events_of (read_without_name (setting_at level) (entry_of level) input.now))
+        (parse_map events_of (read_without_name level.class (setting_at level) (entry_of level) input.now))
         (after level) }
 {
     if let Some((kind, rest)) = strip_bracket(input) {
-        begin_block::<S, PRETTY>(level, kind, rest, sink)
+        begin_block::<S, PRETTY, DEBUG>(level, kind, rest, sink)
     } else if let Some(rest) = strip_piece("()", input) {
         emit(Event::Leaf("()"), sink)?;
         Ok((None, rest))
     } else if let Some(rest) = level.strip_lead(Kind::Unnamed, input) {
         emit(Event::Open(Kind::Unnamed, ""), sink)?;
         Ok((Some(Stage::UnnamedFirst), rest))
-    } else if let Some((text, rest)) = split_quotes(input) {
+    } else if let Some((text, rest)) = split_quotes(level.class, input) {
         emit(Event::Leaf(text), sink)?;
         Ok((None, rest))
     } else {
@@ -216,7 +237,7 @@ fn strip_bracket(input: &[u8]) -> Option<(Kind, &[u8])>
 
 // Emits an empty list, set or map, or the opening of one, after its bracket.
 #[inline(always)]
-fn begin_block<'a, S: Sink, const PRETTY: bool>(
+fn begin_block<'a, S: Sink, const PRETTY: bool, const DEBUG: bool>(
     level: Level,
     kind: Kind,
     input: &'a [u8],
@@ -238,7 +259,7 @@ fn begin_block<'a, S: Sink, const PRETTY: bool>(
 
 /// Emits what follows the entry, key or value at this stage of a block.
 #[inline(always)]
-pub(super) fn after_document<'a, S: Sink, const PRETTY: bool>(
+pub(super) fn after_document<'a, S: Sink, const PRETTY: bool, const DEBUG: bool>(
     level: Level,
     stage: Stage,
     input: &'a [u8],
@@ -257,12 +278,12 @@ pub(super) fn after_document<'a, S: Sink, const PRETTY: bool>(
             return Err(ScanError::NotText);
         }
     }
-    after_entry::<S, PRETTY>(level, stage, input, sink)
+    after_entry::<S, PRETTY, DEBUG>(level, stage, input, sink)
 }
 
 // Emits what follows an entry, a pair or a field.
 #[inline(always)]
-fn after_entry<'a, S: Sink, const PRETTY: bool>(
+fn after_entry<'a, S: Sink, const PRETTY: bool, const DEBUG: bool>(
     level: Level,
     stage: Stage,
     input: &'a [u8],

@@ -1,5 +1,5 @@
 use Rattle.ufmt.proofs.Shifting.{shift-line, shift_times-shifted, shifted-pretty_text}
-use Rattle.ufmt.proofs.TokenLines.{IsBuiltFromTokens-HasNoLineFeed}
+use Rattle.ufmt.proofs.ClassLines.{IsBuilt-HasNoLineFeed}
 use Rattle.ufmt.proofs.laws.shifted_at_depth.Goals as goal
 
 pub returns-clause-shift : goal.returns-clause-shift
@@ -11,5 +11,5 @@ returns-clause-at_depth c = shift_times-shifted
 pub returns-clause-pretty : goal.returns-clause-pretty
 returns-clause-pretty c = shifted-pretty_text
 
-pub returns-clause-token : goal.returns-clause-token
-returns-clause-token c = λ d h. IsBuiltFromTokens-HasNoLineFeed d h.0
+pub returns-clause-class : goal.returns-clause-class
+returns-clause-class c = λ class d h. IsBuilt-HasNoLineFeed class d h.0

@@ -4,5 +4,5 @@ use Rattle.ufmt_scan.proofs.convert.write.Goals as goal
 
 pub returns : goal.returns
 returns g c =
-    let known = scan_converts g.W.uWrite.seen c.args.from c.args.mode c.args.input.now _ c.scan.result c.scan.new.sink c.scan.ensures in
+    let known = scan_converts g.W.uWrite.seen c.args.class c.args.from c.args.mode c.args.input.now _ c.scan.result c.scan.new.sink c.scan.ensures in
     search (rules, known)

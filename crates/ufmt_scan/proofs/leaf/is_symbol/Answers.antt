@@ -1,7 +1,8 @@
 use Rattle.std.proofs.Common.{ap, ◌∙◌}
+use Rattle.ufmt.specs.Leaves.{Token}
 use Rattle.ufmt.specs.Reading.{read_symbol}
 use Rattle.ufmt_scan.proofs.Leaves.{symbol_tested}
 use Rattle.ufmt_scan.proofs.leaf.is_symbol.Goals as goal
 
 pub returns-in-Some : goal.returns-in-Some
-returns-in-Some c = symbol_tested c.args.text.now _ _ _ (c.in-Some.ensures ∙ ap read_symbol c.as_bytes.ensures.value) c.is_empty.ensures
+returns-in-Some c = symbol_tested c.args.text.now _ _ _ (c.in-Some.ensures ∙ ap (read_symbol Token) c.as_bytes.ensures.value) c.is_empty.ensures

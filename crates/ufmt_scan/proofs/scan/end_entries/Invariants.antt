@@ -5,8 +5,8 @@ use Rattle.ufmt_scan.proofs.scan.end_entries.Given as goal
 
 abbrev pub invariant-ends : goal.invariant-ends
 invariant-ends g l = record {
-  emitted : Emits g.S.Sink.took g.S.Sink.took l.fn.sink l.sink (scan_ends l.mode (open_stages l.fn.blocks l.outer) l.input)
-      (scan_ends l.mode (open_stages l.open l.outer) l.rest);
+  emitted : Emits g.S.Sink.took g.S.Sink.took l.fn.sink l.sink (scan_ends l.class l.mode (open_stages l.fn.blocks l.outer) l.input)
+      (scan_ends l.class l.mode (open_stages l.open l.outer) l.rest);
   within : length l.rest ≤ length l.input;
   few : l.open.count < 256;
 }

@@ -6,7 +6,7 @@ use Rattle.ufmt_scan.proofs.scan.scan_document.Given as goal
 
 abbrev pub invariant-documents : goal.invariant-documents
 invariant-documents g l = record {
-  emitted : Emits g.S.Sink.took g.S.Sink.took l.fn.sink l.sink (document_at l.mode 0 l.input) (scan_next l.mode (open_stages l.blocks l.outer) l.rest);
+  emitted : Emits g.S.Sink.took g.S.Sink.took l.fn.sink l.sink (document_at l.class l.mode 0 l.input) (scan_next l.class l.mode (open_stages l.blocks l.outer) l.rest);
   few : l.blocks.count < 256;
   in_block : kind_of l.blocks.innermost ≡ Struct → 0 < l.blocks.count;
   whole : length l.outer ≡ 256;

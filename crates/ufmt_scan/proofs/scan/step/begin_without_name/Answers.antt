@@ -34,10 +34,10 @@ returns-in_ok-emit g c =
 -- the events of a tuple without a name, and what is left of the text
 unnamed : (level : Level) (t r : List ℕ) → StripsBracket level t None → None ≡ strip (codes "()") t
     → Some r ≡ strip (lead (frame level.mode Unnamed) (inside (setting_at level)) Zero) t
-    → (parse_map events_of (read_without_name (setting_at level) (entry_of level) t) ≡ scan_opened level Unnamed [] r) × (length r < length t)
+    → (parse_map events_of (read_without_name level.class (setting_at level) (entry_of level) t) ≡ scan_opened level Unnamed [] r) × (length r < length t)
 unnamed level t r bracket empty opening =
     let line = new_line level.mode (inside (setting_at level)).depth in
-    let symbol = symbol_is_quoted t None (sym empty) (sym (opens_no_quote line t r (sym opening))) in
+    let symbol = symbol_is_quoted level.class t None (sym empty) (sym (opens_no_quote level.class line t r (sym opening))) in
     (unnamed_scans level t r bracket.0 bracket.1 symbol (sym opening), strip_shortens 40 line t r (sym opening))
 
 pub returns-in_err-emit-2 : goal.returns-in_err-emit-2
@@ -57,7 +57,7 @@ pub returns-in_err-emit-3 : goal.returns-in_err-emit-3
 returns-in_err-emit-3 g c =
     let text = c.in-Some-split_quotes.text.now in
     let rest = c.in-Some-split_quotes.rest.now in
-    let symbol = symbol_is_quoted c.args.input.now (Some (text, rest)) (sym c.in_default-strip_piece.ensures) c.in-Some-split_quotes.ensures in
+    let symbol = symbol_is_quoted c.args.level.class c.args.input.now (Some (text, rest)) (sym c.in_default-strip_piece.ensures) c.in-Some-split_quotes.ensures in
     let emits = symbol_scans c.args.level c.args.input.now text rest (c.in_default.ensures c.args.level).0 (c.in_default.ensures c.args.level).1 symbol in
     step_refused _ (after c.args.level) c.from_residual-in_err-emit-3.result c.from_residual-in_err-emit-3.ensures.1
     (c.in_err-emit-3.ensures _ (after c.args.level None rest) emits.0)
@@ -66,11 +66,11 @@ pub returns-in_ok-emit-3 : goal.returns-in_ok-emit-3
 returns-in_ok-emit-3 g c =
     let text = c.in-Some-split_quotes.text.now in
     let rest = c.in-Some-split_quotes.rest.now in
-    let symbol = symbol_is_quoted c.args.input.now (Some (text, rest)) (sym c.in_default-strip_piece.ensures) c.in-Some-split_quotes.ensures in
+    let symbol = symbol_is_quoted c.args.level.class c.args.input.now (Some (text, rest)) (sym c.in_default-strip_piece.ensures) c.in-Some-split_quotes.ensures in
     let emits = symbol_scans c.args.level c.args.input.now text rest (c.in_default.ensures c.args.level).0 (c.in_default.ensures c.args.level).1 symbol in
     (c.in_ok-emit-3.ensures _ _ emits.0, emits.1)
 
 pub returns-in_default-split_quotes : goal.returns-in_default-split_quotes
 returns-in_default-split_quotes g c =
-    let symbol = symbol_is_quoted c.args.input.now None (sym c.in_default-strip_piece.ensures) c.in_default-split_quotes.ensures in
+    let symbol = symbol_is_quoted c.args.level.class c.args.input.now None (sym c.in_default-strip_piece.ensures) c.in_default-split_quotes.ensures in
     (nothing_there _ (rw ((c.in_default.ensures c.args.level).0, (c.in_default.ensures c.args.level).1, symbol, sym c.in_default-strip_lead.ensures) refl), tt)

@@ -1,0 +1,13 @@
+//! The classes of documents whose texts can be read again.
+
+/// Which names and leaves a document has, so that its texts can be read again. Each token document is
+/// a debug document too, with the same texts and the same normal form.
+#[derive(Clone, Copy)]
+pub enum Class {
+    /// Names are words of ASCII letters, digits, `_` and `-`. Leaves are such words, `()`, and texts
+    /// and characters in quotes, each as `uDebug` prints it.
+    Token,
+    /// What `{:?}` of most types prints. Words have any bytes but spaces, quotes, brackets, commas and
+    /// controls, and have colons inside; leaves may have texts in quotes anywhere.
+    Debug,
+}
