@@ -1,14 +1,18 @@
 -- The events of documents, pairs and fields, by how they begin.
 use Rattle.std.proofs.Common.{◌≡◌, ◌≢◌, refl, ap, ◌∙◌, sym, ℕ, zero, suc, ◌<◌, ◌≤◌, ◌==◌, ◌&&◌, not, cond, Bool, true, false, List, [], ◌∷◌, ◌++◌, length, length-append, eqb-true, map, Option, Some, None, option_and_then, codes, subst, Bor, Result, Ok, Err, arith}
+use Rattle.std.proofs.lemmas.Bool.Decides.{nat_tests}
 use Rattle.ufmt.specs.Document.{Document, leaf, list_of, set_of, map_of, struct_of, tuple_of, no_documents, no_pairs, Documents, first_document, documents, pairs_of, fields_of}
 use Rattle.ufmt_core.specs.declared.layout.Setting.{Setting}
 use Rattle.ufmt_core.specs.declared.layout.Kind.{Kind}
 use Rattle.ufmt_core.specs.declared.layout.Kind.TheVariants.{Brackets, Braces, Struct, Tuple, Unnamed}
 use Rattle.ufmt_core.specs.declared.layout.Count.TheVariants.{Zero, One, Several}
 use Rattle.ufmt.specs.Layout.{frame, inside, lead}
-use Rattle.ufmt.specs.Leaves.{Class, Token, Debug}
+use Rattle.ufmt.specs.declared.class.Class.{Class}
+use Rattle.ufmt.specs.Token.{IsWordOrEmpty}
+use Rattle.ufmt.proofs.ReadingWords.{word_of_bytes}
+use Rattle.ufmt.specs.declared.class.Class.TheVariants.{Token, Debug}
 use Rattle.ufmt.specs.ReadingQuoted.{read_quoted}
-use Rattle.ufmt.specs.Reading.{Parse, choose, parse_map, strip, front_of, after_front, is_whole, is_name, if_name, read_after_first, read_quotes, read_symbol, read_name, read_value, read_list, read_braces, read_map_or_set, read_named, read_without_name, read_by_front, read}
+use Rattle.ufmt.specs.Reading.{Parse, choose, parse_map, strip, word_of, front_of, after_front, is_whole, is_name, if_name, read_after_first, read_quotes, read_symbol, read_name, read_value, read_list, read_braces, read_map_or_set, read_named, read_without_name, read_by_front, read}
 use Rattle.ufmt.proofs.Parsing.{strip_found}
 use Rattle.ufmt.proofs.ReadingTurns.{Takes, read_name_takes, strip_within}
 use Rattle.ufmt.proofs.ClassLeaves.{fronts_whole, leaf_begins, nothing_is_whole, symbol_is_leaf}
@@ -206,8 +210,8 @@ module _ (level : Level) (t : List ℕ) where
   )
     where
       longer : (w : List ℕ) → (length w == 0) ≡ false → 0 < length w
-      longer [] no = absurd (cc)
-      longer (c ∷ w) no = omega arith
+      longer [] none = absurd (cc)
+      longer (c ∷ w) none = omega arith
 
       go : (w : List ℕ) → w ≡ front.text.now → is_whole level.class w ≡ true → read_by_front level.class (setting_at level) (entry_of level) t w (after_front level.class t)
           ≡ cond (is_name level.class w) (read_named level.class (setting_at level) (entry_of level) w (after_front level.class t)) (Some (leaf w, after_front level.class t))
@@ -252,13 +256,13 @@ other_front class t front is other = go (front_of class t) is.text is.name
   where
     go : (w : List ℕ) → front.text.now ≡ w → front.is_name ≡ is_name class w → if_name class w (after_front class t) ≡ None
     go [] text name = refl
-    go (c ∷ w) text name =
-        let none : is_name class (c ∷ w) ≡ false = unnamed (is_name class (c ∷ w)) (sym (rw (name, text) refl) ∙ other) in
-        rw none (either (is_whole class (c ∷ w)))
+    go (c ∷ w) text name = rw (unnamed (is_name class (c ∷ w)) refl) (either (is_whole class (c ∷ w)))
       where
-        unnamed : (b : Bool) → b && true ≡ false → b ≡ false
-        unnamed true h = absurd (cc)
-        unnamed false h = refl
+        unnamed : (b : Bool) → is_name class (c ∷ w) ≡ b → is_name class (c ∷ w) ≡ false
+        unnamed false e = e
+        unnamed true e =
+            let some : (length (c ∷ w) == 0) ≡ false = grind (arith, nat_tests) in
+            let named = rw (name ∙ e, text, some) at other in absurd (cc)
 
         either : (b : Bool) → cond {A = Option (List ℕ × List ℕ)} (b && false) (Some (c ∷ w, after_front class t)) None ≡ None
         either true = refl
@@ -278,3 +282,10 @@ field_name_scans level t w u v name colon = (
         (parse_map events_of o)
     named_value None = refl
     named_value (Some x) = refl
+
+pub front_is_bytes : (t w : List ℕ) → w ≡ word_of t → IsWordOrEmpty w
+front_is_bytes t w word = rw word (word_of_bytes t)
+
+-- a field without a name, and one without a colon, have no events
+pub no_field_name : (level : Level) (t : List ℕ) → read_name level.class t ≡ None → scan_turn (fields level) t ≡ None
+no_field_name level t none = rw none refl

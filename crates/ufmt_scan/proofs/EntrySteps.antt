@@ -5,7 +5,7 @@ use Rattle.ufmt_core.specs.declared.layout.Count.{Count}
 use Rattle.ufmt_core.specs.declared.layout.Count.TheVariants.{Zero}
 use Rattle.ufmt_core.specs.declared.layout.Kind.{Kind}
 use Rattle.ufmt_core.specs.declared.layout.Setting.{Setting}
-use Rattle.ufmt.specs.Leaves.{Class}
+use Rattle.ufmt.specs.declared.class.Class.{Class}
 use Rattle.ufmt.specs.Reading.{strip, read_name, read_pair}
 use Rattle.ufmt.proofs.Parsing.{strip-append, strip_found}
 use Rattle.ufmt.proofs.ReadingTurns.{Takes, strip_within, read_takes, read_pair_takes, read_name_takes}

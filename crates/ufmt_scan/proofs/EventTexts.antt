@@ -10,8 +10,10 @@ use Rattle.ufmt_core.specs.declared.layout.Kind.TheVariants.{Brackets, Braces, S
 use Rattle.ufmt_core.specs.declared.layout.Mode.{Mode}
 use Rattle.ufmt_core.specs.declared.layout.Mode.TheVariants.{Plain, Pretty}
 use Rattle.ufmt_core.specs.declared.layout.Setting.{Setting}
-use Rattle.ufmt.specs.Token.{Class, IsBuilt, AreBuilt, PairsAreBuilt, FieldsAreBuilt}
+use Rattle.ufmt.specs.declared.class.Class.{Class}
+use Rattle.ufmt.specs.Token.{IsBuilt, AreBuilt, PairsAreBuilt, FieldsAreBuilt}
 use Rattle.ufmt_scan.specs.Scan.{TextEvent, events_of, tail_events, block_events, events_of_entries, events_of_pairs, events_of_fields, Leaf, Empty}
+use Rattle.ufmt.proofs.ClassLeaves.{name_some}
 use Rattle.ufmt_scan.specs.ScanTexts.{block_depth, written, setting_after, texts_written, last_setting}
 
 -- the text of two lists of events is that of one, and then that of the other
@@ -73,8 +75,8 @@ module _ (mode : Mode) (k n : ℕ) (few : suc n + k ≤ 255) (kind : Kind) where
 name_written : {s : Setting} (name : List ℕ) → AreWritten s (Leaf name ∷ []) (name ++ [])
 name_written name = record { before = λ more. rw append-nil refl }
 
--- the events of a token document have its layout as their text
-module _ (mode : Mode) where
+-- the events of a document of a class have its layout as their text
+module _ (mode : Mode) (class : Class) where
   mutual
     document_written : (k : ℕ) (d : Document) → IsBuilt class d → nest d + k ≤ 255
         → AreWritten (setting mode k) (events_of d) (layout (setting mode k) d)

@@ -1,12 +1,12 @@
 -- Which whole texts are leaves.
-use Rattle.std.proofs.Common.{List, None, Some, [], ap, append-nil, arith, false, subst, sym, ℕ, ◌==◌, ◌∙◌, ◌∷◌, ◌≡◌, ◌++◌, Bool, length}
+use Rattle.std.proofs.Common.{List, None, Some, [], ap, append-nil, arith, false, refl, subst, sym, ℕ, ◌==◌, ◌∙◌, ◌∷◌, ◌≡◌, ◌++◌, Bool, length}
 use Rattle.std.proofs.lemmas.Bool.Decides.{nat_tests}
 use Rattle.std.specs.Prelude.{◌↔◌, IsTrue}
 use Rattle.ufmt.specs.Reading.{Parse, after_word, read_name, read_symbol, word_of}
-use Rattle.ufmt.specs.Token.{IsSymbol, IsWord, Token}
+use Rattle.ufmt.specs.declared.class.Class.TheVariants.{Token}
+use Rattle.ufmt.specs.Token.{IsSymbol, IsWord}
 use Rattle.ufmt.proofs.Parsing.{same_parts}
 use Rattle.ufmt.proofs.ClassLeaves.{read_name_complete, read_name_sound, read_symbol_complete, read_symbol_sound}
-use Rattle.ufmt_scan.proofs.DocumentParts.{word_is_read}
 
 -- a text is a leaf exactly if nothing is left after the leaf that is read at its front
 module _ {Is : List ℕ → Type 0} (read : Parse (List ℕ)) (sound : (t x u : List ℕ) → read t ≡ Some (x, u) → Is x × (t ≡ x ++ u))
@@ -18,6 +18,10 @@ module _ {Is : List ℕ → Type 0} (read : Parse (List ℕ)) (sound : (t x u : 
   leaves_nothing t x (c ∷ u) outcome reads tested =
       let some : (length (c ∷ u) == 0) ≡ false = grind (arith, nat_tests) in
       (λ h. absurd (cc), λ h. let none = (same_parts (x, c ∷ u) (t, []) (sym reads ∙ complete t h)).1 in absurd (cc))
+
+word_is_read : (t w u : List ℕ) → w ≡ word_of t → u ≡ after_word t → (length w == 0) ≡ false → read_name Token t ≡ Some (w, u)
+word_is_read t [] u word rest some = absurd (cc)
+word_is_read t (c ∷ w) u word rest some = rw (← word, ← rest) refl
 
 whole_word : (t : List ℕ) → IsWord t → read_name Token t ≡ Some (t, [])
 whole_word t h = ap (read_name Token) (sym (append-nil t)) ∙ read_name_complete Token t [] h tt

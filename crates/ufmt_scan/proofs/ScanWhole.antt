@@ -3,7 +3,7 @@ use Rattle.std.proofs.Common.{◌≡◌, refl, ap, subst, sym, ◌∙◌, ℕ, �
 use Rattle.std.specs.Prelude.{⊤}
 use Rattle.ufmt.specs.Document.{Document}
 use Rattle.ufmt.specs.Layout.{layout, setting}
-use Rattle.ufmt.specs.Leaves.{Class}
+use Rattle.ufmt.specs.declared.class.Class.{Class}
 use Rattle.ufmt.specs.Reading.{if_all, parse_map, read, read_text}
 use Rattle.ufmt.proofs.Parsing.{mapped_from, same_parts}
 use Rattle.ufmt.proofs.ReadingWhole.{reads_each_text, reads_only_texts, refuses_only_unprinted}

@@ -6,7 +6,8 @@ use Rattle.ufmt.specs.Document.{Document}
 use Rattle.ufmt.specs.Layout.{layout, setting}
 use Rattle.ufmt_core.specs.declared.layout.Mode.{Mode}
 use Rattle.ufmt_core.specs.declared.layout.Mode.TheVariants.{Plain, Pretty}
-use Rattle.ufmt.specs.Token.{Class, IsDocument, normal}
+use Rattle.ufmt.specs.declared.class.Class.{Class}
+use Rattle.ufmt.specs.Token.{IsDocument, normal}
 use Rattle.ufmt.specs.Writes.{Seen, Writes}
 use Rattle.ufmt.proofs.NormalForms.{IsDocument-normal, layout-normal, normal-normal}
 use Rattle.ufmt.proofs.OneWay.{texts_agree}

@@ -1,6 +1,7 @@
 //! Leaves of debug documents: words and texts in quotes in a row.
-ghost use Rattle.std.specs.Prelude.{◌≡◌, ◌<◌, ◌≤◌, ◌==◌, ◌∷◌, ℕ, IfSome, MatchOption, false, length, true};
-ghost use Rattle.ufmt.specs.Leaves.{Debug, between, is_control, is_debug_byte, is_quote, outside};
+ghost use Rattle.std.specs.Prelude.{◌≡◌, ◌<◌, ◌≤◌, ◌==◌, ◌||◌, ◌∷◌, ℕ, IfSome, MatchOption, false, length, nat_le, not, true};
+ghost use Rattle.ufmt.specs.declared.class.Class.TheVariants.{Debug};
+ghost use Rattle.ufmt.specs.Leaves.{between, is_control, is_debug_byte, is_quote, outside};
 ghost use Rattle.ufmt_scan.specs.Private.Fronts.{EndsLeaf, NeverCloses, Passes, SplitsFront, StaysBetween, StopsWord, colon_belongs};
 
 use crate::front::Front;
@@ -69,7 +70,7 @@ fn after_leaf(input: &[u8]) -> Option<(&[u8], bool)>
 
 // What follows the bytes of a word, if there are any.
 #[inline(always)]
-#[tactic(auto, using(crate::proofs::DebugFronts::words_are_passed))]
+#[tactic(auto, using(crate::proofs::DebugFronts::words_are_passed, crate::proofs::DebugFronts::word_stops))]
 fn after_word(input: &[u8]) -> &[u8]
     ensures passes { Passes outside input.now outside result.now false }
     ensures stops { StopsWord result.now }
@@ -84,12 +85,11 @@ fn after_colons(input: &[u8]) -> Option<&[u8]>
         (λ rest. Passes outside input.now outside rest.now false × (length rest.now < length input.now)) }
 {
     let (colons, rest) = input.split_at(marked_len(&COLON_BYTES, input));
-    let byte = *rest.first()?;
-    if !colons.is_empty() && (is_word_byte(byte) || is_quote(byte)) {
-        Some(rest)
-    } else {
-        None
+    let (&byte, _) = rest.split_first()?;
+    if colons.is_empty() {
+        return None;
     }
+    if leads_on(byte) { Some(rest) } else { None }
 }
 
 // What follows a text in quotes, after its first quote.
@@ -130,10 +130,10 @@ fn after_quoted(byte: u8, after: &[u8]) -> Option<&[u8]>
         return if is_control(byte) { None } else { Some(after) };
     }
     let (&escaped, rest) = after.split_first()?;
-    if is_control(escaped) || escaped >= 128 {
-        None
-    } else {
+    if is_escaped(escaped) {
         Some(rest)
+    } else {
+        None
     }
 }
 
@@ -142,6 +142,22 @@ fn is_quote(byte: u8) -> bool
     ensures { result ≡ is_quote byte }
 {
     byte == b'"' || byte == b'\''
+}
+
+// Whether a colon before the byte belongs to a leaf.
+#[inline(always)]
+fn leads_on(byte: u8) -> bool
+    ensures { result ≡ (is_debug_byte byte || is_quote byte) }
+{
+    is_word_byte(byte) || is_quote(byte)
+}
+
+// Whether a backslash before the byte takes it.
+#[inline(always)]
+fn is_escaped(byte: u8) -> bool
+    ensures { result ≡ not (is_control byte || nat_le 128 byte) }
+{
+    !is_control(byte) && byte < 128
 }
 
 #[inline(always)]

@@ -1,6 +1,7 @@
 //! Leaves: words, `()`, and texts in quotes.
 ghost use Rattle.std.specs.Prelude.{◌≡◌, ◌≤◌, ◌+◌, ◌↔◌, IsTrue, drop, length, option_map};
-ghost use Rattle.ufmt.specs.Token.{IsSymbol, IsTokenLeaf, IsWord, Token};
+ghost use Rattle.ufmt.specs.declared.class.Class.TheVariants.{Token};
+ghost use Rattle.ufmt.specs.Token.{IsSymbol, IsTokenLeaf, IsWord};
 ghost use Rattle.ufmt.specs.Reading.{after_word, read_quotes, read_symbol, word_of};
 ghost use Rattle.ufmt_scan.specs.Private.MarkedBytes.{is_marked, marked_len};
 

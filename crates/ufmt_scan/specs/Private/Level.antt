@@ -5,7 +5,7 @@ use Rattle.ufmt.specs.Layout.{inside, setting}
 use Rattle.ufmt_core.specs.declared.layout.Mode.{Mode}
 use Rattle.ufmt_core.specs.declared.layout.Setting.{Setting}
 use Rattle.ufmt_core.specs.declared.layout.Mode.TheVariants.{Plain, Pretty}
-use Rattle.ufmt.specs.Leaves.{Class}
+use Rattle.ufmt.specs.declared.class.Class.{Class}
 use Rattle.ufmt.specs.Reading.{Parse, read}
 pub use Rattle.ufmt_scan.specs.declared.level.Level.{Level}
 

@@ -179,8 +179,9 @@ fn begin_front<'a, S: Sink, const PRETTY: bool, const DEBUG: bool>(
     sink: &mut S,
 ) -> Result<Step<'a>, ScanError<S::Error>>
     requires { front.text.now ≢ [] }
-    ensures { Steps S.took S.stopped result sink.old sink.new (suc (length front.rest.now))
-        (scan_front level front.is_name front.text.now front.rest.now) (after level) }
+    ensures { Steps S.took S.stopped result sink.old sink.new (suc (length front.entry.rest.now))
+        (scan_front level front.entry.is_name front.entry.text.now front.entry.rest.now)
+        (after level) }
 {
     if front.is_name {
         if let Some(rest) = level.strip_lead(Kind::Tuple, front.rest) {
