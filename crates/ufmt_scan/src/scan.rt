@@ -88,7 +88,15 @@ fn scan_document<'a, S: Sink, const PRETTY: bool, const DEBUG: bool>(
     'documents: loop {
         let begun = name_field::<S, PRETTY, DEBUG>(blocks, class, mode, rest, sink)?;
         let open_blocks = blocks.count;
-        let (opened, after) = begin::<S, PRETTY, DEBUG>(Level { class, mode, open_blocks }, begun, sink)?;
+        let (opened, after) = begin::<S, PRETTY, DEBUG>(
+            Level {
+                class,
+                mode,
+                open_blocks,
+            },
+            begun,
+            sink,
+        )?;
         rest = after;
         if let Some(innermost) = opened {
             outer[open_blocks as usize] = blocks.innermost;
@@ -99,7 +107,9 @@ fn scan_document<'a, S: Sink, const PRETTY: bool, const DEBUG: bool>(
             blocks = OpenBlocks { count, innermost };
             continue 'documents;
         }
-        let (left, after) = end_entries::<S, PRETTY, DEBUG>(blocks, &outer, class, mode, rest, sink)?;
+        let (left, after) = end_entries::<S, PRETTY, DEBUG>(
+            blocks, &outer, class, mode, rest, sink,
+        )?;
         blocks = left;
         rest = after;
         if blocks.count == 0 {
@@ -149,7 +159,11 @@ fn end_entries<'a, S: Sink, const PRETTY: bool, const DEBUG: bool>(
     let mut open = blocks;
     let mut rest = input;
     'ends: while let Some(open_blocks) = open.count.checked_sub(1) {
-        let level = Level { class, mode, open_blocks };
+        let level = Level {
+            class,
+            mode,
+            open_blocks,
+        };
         let (next, after) = after_document::<S, PRETTY, DEBUG>(level, open.innermost, rest, sink)?;
         rest = after;
         if let Some(innermost) = next {

@@ -2,8 +2,8 @@
 ghost use Rattle.std.specs.Prelude.{IsFalse, IsTrue, ⊤};
 ghost use Rattle.ufmt.specs.Document.{Document};
 ghost use Rattle.ufmt.specs.Layout.{layout, setting};
-ghost use Rattle.ufmt.specs.declared.class.Class.TheVariants.{Debug, Token};
-ghost use Rattle.ufmt_scan.specs.Texts.{IsNormalForm, NoDocumentPrints};
+ghost use Rattle.ufmt.specs.declared.class.Class.TheVariants.{Debug};
+ghost use Rattle.ufmt_scan.specs.Texts.{IsNormalForm, IsNormalFormAs, NoDocumentPrints, NoDocumentPrintsAs};
 
 use crate::scan::{Event, Sink, scan};
 use std::convert::Infallible;
@@ -13,8 +13,8 @@ use ufmt::layout::Mode;
 /// Returns whether some token document has this text in this mode. Takes no memory.
 pub fn is_text(mode: Mode, text: &[u8]) -> bool
     ensures text { IsTrue result
-        → (d : Document) × IsNormalForm Token (layout (setting mode 0)) text.now d }
-    ensures no_text { IsFalse result → NoDocumentPrints Token (layout (setting mode 0)) text.now }
+        → (d : Document) × IsNormalForm (layout (setting mode 0)) text.now d }
+    ensures no_text { IsFalse result → NoDocumentPrints (layout (setting mode 0)) text.now }
 {
     scan(Class::Token, mode, text, &mut Ignores).is_ok()
 }
@@ -22,8 +22,8 @@ pub fn is_text(mode: Mode, text: &[u8]) -> bool
 /// Returns whether some debug document has this text in this mode. Takes no memory.
 pub fn is_debug_text(mode: Mode, text: &[u8]) -> bool
     ensures text { IsTrue result
-        → (d : Document) × IsNormalForm Debug (layout (setting mode 0)) text.now d }
-    ensures no_text { IsFalse result → NoDocumentPrints Debug (layout (setting mode 0)) text.now }
+        → (d : Document) × IsNormalFormAs Debug (layout (setting mode 0)) text.now d }
+    ensures no_text { IsFalse result → NoDocumentPrintsAs Debug (layout (setting mode 0)) text.now }
 {
     scan(Class::Debug, mode, text, &mut Ignores).is_ok()
 }
