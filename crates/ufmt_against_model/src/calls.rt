@@ -2,6 +2,7 @@
 use crate::loose::Loosener;
 use crate::pieces::Pieces;
 use std::alloc::{AllocError, Global};
+use ufmt::class::Class;
 use ufmt::layout::Mode;
 use ufmt::{Full, uDebug, uWrite};
 use ufmt_doc::doc::Doc;
@@ -38,7 +39,7 @@ impl Calls<'_> {
     }
 
     pub fn scan<S: Sink>(&self, sink: &mut S) -> Result<(), ScanError<S::Error>> {
-        scan(self.mode, self.text, sink)
+        scan(Class::Token, self.mode, self.text, sink)
     }
 
     pub fn read(&self) -> Result<Doc, ReadError> {

@@ -1,14 +1,16 @@
--- What grows from the events of a token document is its normal form.
+-- What grows from the events of a document of a class is its normal form.
 use Rattle.std.proofs.Common.{◌≡◌, ◌∙◌, refl, ap, sym, ℕ, Bool, true, false, List, [], ◌∷◌, ◌++◌, length, map, take_at, drop_at, append_assoc, append-nil, Result, Ok, Err}
 use Rattle.std.specs.Prelude.{⊤}
 use Rattle.std.specs.Result.{OnOk, is_ok}
 use Rattle.ufmt.specs.Document.{Document, leaf, joined, list_of, set_of, map_of, struct_of, tuple_of, pretty_part, Documents, no_documents, first_document, documents, Pairs, no_pairs, first_pair, pairs_of, Fields, no_fields, first_field, fields_of}
 use Rattle.ufmt.specs.Layout.{next, tuple_kind}
-use Rattle.ufmt.specs.Token.{IsTokenDocument, IsBuiltFromTokens, AreBuiltFromTokens, PairsAreBuiltFromTokens, FieldsAreBuiltFromTokens, normal, normal_all, normal_pairs, normal_fields}
+use Rattle.ufmt.specs.declared.class.Class.{Class}
+use Rattle.ufmt.specs.Token.{IsDocument, IsBuilt, AreBuilt, PairsAreBuilt, FieldsAreBuilt, normal, normal_all, normal_pairs, normal_fields}
 use Rattle.ufmt_core.specs.declared.layout.Count.{Count}
 use Rattle.ufmt_core.specs.declared.layout.Count.TheVariants.{One}
 use Rattle.ufmt_core.specs.declared.layout.Kind.{Kind}
 use Rattle.ufmt_core.specs.declared.layout.Kind.TheVariants.{Brackets, Braces, Struct}
+use Rattle.ufmt.proofs.ClassLeaves.{name_some}
 use Rattle.ufmt_doc.specs.declared.reader.document_sink.DocumentSink.{DocumentSink}
 use Rattle.ufmt_doc.specs.declared.reader.open_blocks.PartialBlock.{PartialBlock}
 use Rattle.ufmt_doc.specs.Private.Growing.{Growing, block_at, block_of, field_from, grow, growing, grown, in_pairs, name_leaf}
@@ -55,67 +57,68 @@ tuple_is : (name : List ℕ) (ds : List Document) → block_of (tuple_kind name)
 tuple_is [] ds = refl
 tuple_is (c ∷ name) ds = refl
 
-mutual
-  -- the events of a token document put its normal form on the stack
-  document_grows : (d : Document) → IsBuiltFromTokens d → (below : List Document) (outer : List PartialBlock)
-      → ◌≡◌ {A = Growing} (grown (below, outer) (events_of d)) (below ++ normal d ∷ [], outer)
-  document_grows (leaf text) h = λ below outer. refl
-  document_grows (joined ds) h = absurd h
-  document_grows (list_of no_documents) h = λ below outer. refl
-  document_grows (list_of (first_document d ds)) h =
-      let row = entries_put (first_document d ds) h in rw (← row.2) (block_grows Brackets [] false (events_of d) (events_of_entries ds) row.0 row.1)
-  document_grows (set_of no_documents) h = λ below outer. refl
-  document_grows (set_of (first_document d ds)) h =
-      let row = entries_put (first_document d ds) h in rw (← row.2) (block_grows Braces [] false (events_of d) (events_of_entries ds) row.0 row.1)
-  document_grows (map_of no_pairs) h = λ below outer. refl
-  document_grows (map_of (first_pair key value ps)) h =
-      let row = pairs_put false (first_pair key value ps) h in
-      rw (← row.2) (block_grows Braces [] true (events_of key ++ Colon ∷ events_of value) (events_of_pairs ps) row.0 row.1)
-  document_grows (struct_of name no_fields) h = λ below outer. refl
-  document_grows (struct_of name (first_field field_name value fs)) h =
-      let row = fields_put (first_field field_name value fs) h.1 in
-      rw (← row.2) (block_grows Struct name false (FieldName field_name ∷ events_of value) (events_of_fields fs) row.0 row.1)
-  document_grows (tuple_of [] no_documents) h = absurd h
-  document_grows (tuple_of (c ∷ name) no_documents) h = λ below outer. refl
-  document_grows (tuple_of name (first_document d ds)) h =
-      let row = entries_put (first_document d ds) (h.1, h.2) in
-      rw (← row.2, ← tuple_is name row.0) (block_grows (tuple_kind name) name false (events_of d) (events_of_entries ds) row.0 row.1)
-  document_grows (pretty_part d) h = absurd h
-
-  -- the same for entries, for keys and values, and for leaves of field names and values
-  entries_put : (ds : Documents) → AreBuiltFromTokens ds → (row : List Document) × PutsAll false false (events_of_entries ds) row × (documents row ≡ normal_all ds)
-  entries_put no_documents h = ([], refl, refl)
-  entries_put (first_document d ds) h =
-      let more = entries_put ds h.1 in
-      let first : Puts false false (events_of d) (normal d ∷ []) = λ below start outer. document_grows d h.0 below (block_at start false ∷ outer) in
-      (normal d ∷ more.0, (normal d ∷ [], more.0, first, more.1, refl), ap (first_document (normal d)) more.2)
-
-  pairs_put : (colon : Bool) (ps : Pairs) → PairsAreBuiltFromTokens ps
-      → (row : List Document) × PutsAll colon true (events_of_pairs ps) row × (pairs_of (in_pairs row) ≡ normal_pairs ps)
-  pairs_put colon no_pairs h = ([], refl, refl)
-  pairs_put colon (first_pair key value ps) h =
-      let more = pairs_put true ps h.2 in
-      let first : Puts colon true (events_of key ++ Colon ∷ events_of value) (normal key ∷ normal value ∷ []) = λ below start outer.
-      grown-append (below, block_at start colon ∷ outer) (events_of key) (Colon ∷ events_of value)
-      ∙ ap (λ g. grown g (Colon ∷ events_of value)) (document_grows key h.0 below (block_at start colon ∷ outer))
-      ∙ document_grows value h.1 (below ++ normal key ∷ []) (block_at start true ∷ outer) ∙ rw append_assoc refl in
-      (normal key ∷ normal value ∷ more.0, (normal key ∷ normal value ∷ [], more.0, first, more.1, refl), ap (first_pair (normal key) (normal value)) more.2)
-
-  fields_put : (fs : Fields) → FieldsAreBuiltFromTokens fs
-      → (row : List Document) × PutsAll false false (events_of_fields fs) row × (fields_of (map field_from (in_pairs row)) ≡ normal_fields fs)
-  fields_put no_fields h = ([], refl, refl)
-  fields_put (first_field name value fs) h =
-      let more = fields_put fs h.2 in
-      let first : Puts false false (FieldName name ∷ events_of value) (leaf name ∷ normal value ∷ []) = λ below start outer.
-      document_grows value h.1 (below ++ leaf name ∷ []) (block_at start false ∷ outer) ∙ rw append_assoc refl in
-      (leaf name ∷ normal value ∷ more.0, (leaf name ∷ normal value ∷ [], more.0, first, more.1, refl), ap (first_field name (normal value)) more.2)
-
 -- a sink that grows with each event takes it as `Sink` asks
 pub takes_event : {E : Type 0} (old new : DocumentSink) (e : TextEvent) (outcome : Result (⊤) E) → OnOk outcome (growing new ≡ grow (growing old) e)
     → TakesEvent (λ start es sink. growing sink ≡ grown (growing start) es) (λ _ _ _. ⊤) old e (is_ok outcome) new
 takes_event old new e (Ok x) h = λ start es before. h ∙ ap (λ g. grow g e) before ∙ sym (grown-append (growing start) es (e ∷ []))
 takes_event old new e (Err x) h = λ start es before. tt
 
--- what has grown from the events of a document in normal form is that document
-pub whole_is : (d : Document) (new : Growing) → IsTokenDocument d → normal d ≡ d → new ≡ grown ([], []) (events_of d) → new ≡ (d ∷ [], [])
-whole_is d new token form grew = grew ∙ document_grows d token.0 [] [] ∙ ap (λ x. (x ∷ [], [])) form
+module _ (class : Class) where
+  mutual
+    -- the events of a document of the class put its normal form on the stack
+    document_grows : (d : Document) → IsBuilt class d → (below : List Document) (outer : List PartialBlock)
+        → ◌≡◌ {A = Growing} (grown (below, outer) (events_of d)) (below ++ normal d ∷ [], outer)
+    document_grows (leaf text) h = λ below outer. refl
+    document_grows (joined ds) h = absurd h
+    document_grows (list_of no_documents) h = λ below outer. refl
+    document_grows (list_of (first_document d ds)) h =
+        let row = entries_put (first_document d ds) h in rw (← row.2) (block_grows Brackets [] false (events_of d) (events_of_entries ds) row.0 row.1)
+    document_grows (set_of no_documents) h = λ below outer. refl
+    document_grows (set_of (first_document d ds)) h =
+        let row = entries_put (first_document d ds) h in rw (← row.2) (block_grows Braces [] false (events_of d) (events_of_entries ds) row.0 row.1)
+    document_grows (map_of no_pairs) h = λ below outer. refl
+    document_grows (map_of (first_pair key value ps)) h =
+        let row = pairs_put false (first_pair key value ps) h in
+        rw (← row.2) (block_grows Braces [] true (events_of key ++ Colon ∷ events_of value) (events_of_pairs ps) row.0 row.1)
+    document_grows (struct_of name no_fields) h = λ below outer. refl
+    document_grows (struct_of name (first_field field_name value fs)) h =
+        let row = fields_put (first_field field_name value fs) h.1 in
+        rw (← row.2) (block_grows Struct name false (FieldName field_name ∷ events_of value) (events_of_fields fs) row.0 row.1)
+    document_grows (tuple_of [] no_documents) h = absurd (name_some class h)
+    document_grows (tuple_of (c ∷ name) no_documents) h = λ below outer. refl
+    document_grows (tuple_of name (first_document d ds)) h =
+        let row = entries_put (first_document d ds) (h.1, h.2) in
+        rw (← row.2, ← tuple_is name row.0) (block_grows (tuple_kind name) name false (events_of d) (events_of_entries ds) row.0 row.1)
+    document_grows (pretty_part d) h = absurd h
+
+    -- the same for entries, for keys and values, and for leaves of field names and values
+    entries_put : (ds : Documents) → AreBuilt class ds → (row : List Document) × PutsAll false false (events_of_entries ds) row × (documents row ≡ normal_all ds)
+    entries_put no_documents h = ([], refl, refl)
+    entries_put (first_document d ds) h =
+        let more = entries_put ds h.1 in
+        let first : Puts false false (events_of d) (normal d ∷ []) = λ below start outer. document_grows d h.0 below (block_at start false ∷ outer) in
+        (normal d ∷ more.0, (normal d ∷ [], more.0, first, more.1, refl), ap (first_document (normal d)) more.2)
+
+    pairs_put : (colon : Bool) (ps : Pairs) → PairsAreBuilt class ps
+        → (row : List Document) × PutsAll colon true (events_of_pairs ps) row × (pairs_of (in_pairs row) ≡ normal_pairs ps)
+    pairs_put colon no_pairs h = ([], refl, refl)
+    pairs_put colon (first_pair key value ps) h =
+        let more = pairs_put true ps h.2 in
+        let first : Puts colon true (events_of key ++ Colon ∷ events_of value) (normal key ∷ normal value ∷ []) = λ below start outer.
+        grown-append (below, block_at start colon ∷ outer) (events_of key) (Colon ∷ events_of value)
+        ∙ ap (λ g. grown g (Colon ∷ events_of value)) (document_grows key h.0 below (block_at start colon ∷ outer))
+        ∙ document_grows value h.1 (below ++ normal key ∷ []) (block_at start true ∷ outer) ∙ rw append_assoc refl in
+        (normal key ∷ normal value ∷ more.0, (normal key ∷ normal value ∷ [], more.0, first, more.1, refl), ap (first_pair (normal key) (normal value)) more.2)
+
+    fields_put : (fs : Fields) → FieldsAreBuilt class fs
+        → (row : List Document) × PutsAll false false (events_of_fields fs) row × (fields_of (map field_from (in_pairs row)) ≡ normal_fields fs)
+    fields_put no_fields h = ([], refl, refl)
+    fields_put (first_field name value fs) h =
+        let more = fields_put fs h.2 in
+        let first : Puts false false (FieldName name ∷ events_of value) (leaf name ∷ normal value ∷ []) = λ below start outer.
+        document_grows value h.1 (below ++ leaf name ∷ []) (block_at start false ∷ outer) ∙ rw append_assoc refl in
+        (leaf name ∷ normal value ∷ more.0, (leaf name ∷ normal value ∷ [], more.0, first, more.1, refl), ap (first_field name (normal value)) more.2)
+
+  -- what has grown from the events of a document in normal form is that document
+  pub whole_is : (d : Document) (new : Growing) → IsDocument class d → normal d ≡ d → new ≡ grown ([], []) (events_of d) → new ≡ (d ∷ [], [])
+  whole_is d new token form grew = grew ∙ document_grows d token.0 [] [] ∙ ap (λ x. (x ∷ [], [])) form

@@ -3,8 +3,9 @@ use Rattle.std.proofs.Common.{◌≡◌, ◌∙◌, sym, List, ℕ, Result, Ok, 
 use Rattle.ufmt.specs.Document.{Document}
 use Rattle.ufmt.specs.Layout.{layout, plain_text}
 use Rattle.ufmt_core.specs.declared.layout.Setting.{Setting}
+use Rattle.ufmt.specs.declared.class.Class.TheVariants.{Token}
 use Rattle.ufmt.specs.Token.{IsTokenDocument, normal}
-use Rattle.ufmt.proofs.NormalForms.{IsTokenDocument-normal, layout-normal, normal-normal}
+use Rattle.ufmt.proofs.NormalForms.{IsDocument-normal, layout-normal, normal-normal}
 use Rattle.ufmt.proofs.OneWay.{plain_text_determines}
 use Rattle.ufmt_doc.specs.Doc.{doc_document, Doc}
 use Rattle.ufmt_scan.specs.declared.error.ReadError.{ReadError}
@@ -17,7 +18,7 @@ form_is : (text_of : Document → List ℕ) → ((d e : Document) → IsTokenDoc
 form_is text_of determines input e d read token same = sym read.1 ∙ determines e d read.0 token (read.2 ∙ sym same)
 
 pub plain_form_is : (input : List ℕ) (e d : Document) → IsNormalForm plain_text input e → IsTokenDocument d → plain_text d ≡ input → e ≡ normal d
-plain_form_is = form_is plain_text (λ d e hd he same. (plain_text_determines d e hd he).0 same)
+plain_form_is = form_is plain_text (λ d e hd he same. (plain_text_determines Token d e hd he).0 same)
 
 -- what is read from a document's text is its normal form
 pub read_again : (text_of : Document → List ℕ) → ((d e : Document) → IsTokenDocument d → IsTokenDocument e → text_of d ≡ text_of e → normal d ≡ normal e)
@@ -30,12 +31,12 @@ read_again text_of determines (Err e) input d token is read = tt
 converted_form : (s : Setting) (to : Document → List ℕ) (input text : List ℕ) → IsConverted (layout s) to input text → (d : Document) × IsNormalForm (layout s) input d
 converted_form s to input text is =
     let some = is.some in
-    (normal some.0, (IsTokenDocument-normal some.0 some.1, normal-normal some.0, layout-normal s some.0 ∙ some.2))
+    (normal some.0, (IsDocument-normal Token some.0 some.1, normal-normal some.0, layout-normal s some.0 ∙ some.2))
 
 -- what was converted to the other text and back is the text that it was
 pub comes_again : {A : Type 0} (from to : Document → List ℕ) (input text : List ℕ) (outcome : Result (String A) ReadError) → IsConverted from to input text
     → Converts to from text outcome → IfOk outcome (λ again. string_bytes again ≡ input)
-comes_again from to input text (Ok again) was is = comes_back to from input text (string_bytes again) was is.ok
+comes_again from to input text (Ok again) was is = comes_back Token to from input text (string_bytes again) was is.ok
 comes_again from to input text (Err e) was is = tt
 
 -- so it is, whatever is made of the other text

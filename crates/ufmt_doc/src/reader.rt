@@ -1,8 +1,9 @@
-//! Reading a token document from its text.
+//! Reading a token document or a debug document from its text.
 ghost use Rattle.std.specs.Prelude.{IfOk, IsErrOf};
 ghost use Rattle.ufmt.specs.Layout.{layout, plain_text, pretty_text, setting};
 ghost use Rattle.ufmt_doc.specs.Doc.{doc_document};
-ghost use Rattle.ufmt_scan.specs.Texts.{IsNormalForm, NoDocumentPrints};
+ghost use Rattle.ufmt.specs.declared.class.Class.TheVariants.{Debug};
+ghost use Rattle.ufmt_scan.specs.Texts.{IsNormalForm, IsNormalFormAs, NoDocumentPrints, NoDocumentPrintsAs};
 
 mod document_sink;
 mod open_blocks;
@@ -10,6 +11,7 @@ mod open_blocks;
 use crate::doc::Doc;
 use document_sink::DocumentSink;
 use std::alloc::Global;
+use ufmt::class::Class;
 use ufmt::layout::Mode;
 use ufmt_scan::error::ReadError;
 use ufmt_scan::scan::scan;
@@ -21,7 +23,7 @@ pub fn read_plain(alloc: Global, input: &[u8]) -> Result<Doc, ReadError>
     ensures ok { IfOk result (λ doc. IsNormalForm plain_text input.now (doc_document doc)) }
     ensures not_text { IsErrOf result ReadError.NotText → NoDocumentPrints plain_text input.now }
 {
-    read_text(alloc, Mode::Plain, input)
+    read_text(alloc, Class::Token, Mode::Plain, input)
 }
 
 /// Returns the document with this pretty text, as `read_plain` does with a plain one.
@@ -29,17 +31,38 @@ pub fn read_pretty(alloc: Global, input: &[u8]) -> Result<Doc, ReadError>
     ensures ok { IfOk result (λ doc. IsNormalForm pretty_text input.now (doc_document doc)) }
     ensures not_text { IsErrOf result ReadError.NotText → NoDocumentPrints pretty_text input.now }
 {
-    read_text(alloc, Mode::Pretty, input)
+    read_text(alloc, Class::Token, Mode::Pretty, input)
 }
 
-// The document in normal form that has the whole text.
-fn read_text(alloc: Global, mode: Mode, input: &[u8]) -> Result<Doc, ReadError>
-    ensures ok { IfOk result (λ doc. IsNormalForm (layout (setting mode 0)) input.now
+/// Returns the debug document with this plain text, in normal form. Fails with `NotText` only if no
+/// debug document has this text; the other error is `OutOfMemory`.
+pub fn read_debug_plain(alloc: Global, input: &[u8]) -> Result<Doc, ReadError>
+    ensures ok { IfOk result
+        (λ doc. IsNormalFormAs Debug plain_text input.now (doc_document doc)) }
+    ensures not_text { IsErrOf result ReadError.NotText
+        → NoDocumentPrintsAs Debug plain_text input.now }
+{
+    read_text(alloc, Class::Debug, Mode::Plain, input)
+}
+
+/// Returns the debug document with this pretty text, as `read_debug_plain` does with a plain one.
+pub fn read_debug_pretty(alloc: Global, input: &[u8]) -> Result<Doc, ReadError>
+    ensures ok { IfOk result
+        (λ doc. IsNormalFormAs Debug pretty_text input.now (doc_document doc)) }
+    ensures not_text { IsErrOf result ReadError.NotText
+        → NoDocumentPrintsAs Debug pretty_text input.now }
+{
+    read_text(alloc, Class::Debug, Mode::Pretty, input)
+}
+
+// The document of the class in normal form that has the whole text.
+fn read_text(alloc: Global, class: Class, mode: Mode, input: &[u8]) -> Result<Doc, ReadError>
+    ensures ok { IfOk result (λ doc. IsNormalFormAs class (layout (setting mode 0)) input.now
         (doc_document doc)) }
-    ensures not_text { IsErrOf result ReadError.NotText → NoDocumentPrints (layout (setting mode 0))
-        input.now }
+    ensures not_text { IsErrOf result ReadError.NotText
+        → NoDocumentPrintsAs class (layout (setting mode 0)) input.now }
 {
     let mut sink = DocumentSink::new(alloc);
-    scan(mode, input, &mut sink)?;
+    scan(class, mode, input, &mut sink)?;
     sink.into_document().ok_or(ReadError::NotText)
 }

@@ -5,11 +5,12 @@ use Rattle.ufmt.specs.Decimal.{decimal}
 use Rattle.ufmt.specs.Document.{Document}
 use Rattle.ufmt.specs.Layout.{plain_text}
 use Rattle.ufmt.specs.Token.{IsTokenDocument, normal}
-use Rattle.ufmt.proofs.NumbersAreWords.{IsBuiltFromTokens-integer}
+use Rattle.ufmt.proofs.NumbersAreWords.{IsBuilt-integer}
 use Rattle.ufmt_doc.specs.FieldTexts.{ShowsField}
 use Rattle.ufmt_doc.proofs.FieldTexts.{number_shown}
 use Rattle.ufmt_scan.specs.declared.error.ReadError.{ReadError}
-use Rattle.ufmt.proofs.TokenLeaves.{IsWord-from}
+use Rattle.ufmt.proofs.ClassLeaves.{IsName-from}
+use Rattle.ufmt.specs.declared.class.Class.TheVariants.{Token}
 use Rattle.ufmt_user.specs.Logger.{measurement_document}
 use Rattle.ufmt_user.specs.declared.logger.Measurement.{Measurement}
 
@@ -17,8 +18,8 @@ use Rattle.ufmt_user.specs.declared.logger.Measurement.{Measurement}
 pub IsTokenDocument-measurement : (r : Measurement) → IsTokenDocument (measurement_document r)
 IsTokenDocument-measurement r = (
   (
-    IsWord-from (codes "Measurement") refl,
-    (IsWord-from (codes "channel") refl, IsBuiltFromTokens-integer (pos r.channel), (IsWord-from (codes "celsius") refl, IsBuiltFromTokens-integer r.celsius, tt)),
+    IsName-from Token (codes "Measurement") refl,
+    (IsName-from Token (codes "channel") refl, IsBuilt-integer (pos r.channel), (IsName-from Token (codes "celsius") refl, IsBuilt-integer r.celsius, tt)),
   ),
   omega arith,
 )

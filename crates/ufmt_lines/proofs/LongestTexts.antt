@@ -6,6 +6,7 @@ use Rattle.ufmt.specs.Document.{Document}
 use Rattle.ufmt.specs.Layout.{layout, setting}
 use Rattle.ufmt.specs.Reading.{read, read_rest}
 use Rattle.ufmt.specs.ReadingQuoted.{read_quoted}
+use Rattle.ufmt.specs.declared.class.Class.TheVariants.{Token}
 use Rattle.ufmt.specs.Token.{IsTokenDocument}
 use Rattle.ufmt_core.specs.declared.layout.Mode.{Mode}
 use Rattle.ufmt_core.specs.declared.layout.Mode.TheVariants.{Plain, Pretty}
@@ -56,7 +57,7 @@ module _ (mode : Mode) where
 
   converted_text : (d : Document) → IsTokenDocument d → converted mode (layout (setting (other_mode mode) 0) d) ≡ Some (layout (setting mode 0) d)
   unfolding converted
-  converted_text d token = ap (option_map (layout (setting mode 0))) (reads_each_text (other_mode mode) d token) ∙ ap Some (layout-normal (setting mode 0) d)
+  converted_text d token = ap (option_map (layout (setting mode 0))) (reads_each_text Token (other_mode mode) d token) ∙ ap Some (layout-normal (setting mode 0) d)
 
 nothing_is_no_text : (mode : Mode) → converted mode [] ≡ None
 unfolding converted read read_rest read_quoted

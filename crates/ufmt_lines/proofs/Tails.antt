@@ -7,6 +7,7 @@ use Rattle.ufmt.proofs.NormalForms.{layout-normal}
 use Rattle.ufmt.proofs.ReadingWhole.{reads_each_text, reads_only_texts}
 use Rattle.ufmt.specs.Document.{Document}
 use Rattle.ufmt.specs.Layout.{layout, setting}
+use Rattle.ufmt.specs.declared.class.Class.TheVariants.{Token}
 use Rattle.ufmt.specs.Reading.{read_text}
 use Rattle.ufmt.specs.Token.{IsTokenDocument, normal}
 use Rattle.ufmt_core.specs.declared.layout.Mode.{Mode}
@@ -17,12 +18,12 @@ use Rattle.ufmt_scan.specs.Texts.{ConvertsTo, IsConverted, IsNormalForm, NoDocum
 use Rattle.ufmt_scan.specs.declared.scan.event.ScanError.TheVariants.{NotText}
 
 -- the normal form is read from the text
-form_is_read : (mode : Mode) (text : List ℕ) (d : Document) → IsTokenDocument d → layout (setting mode 0) d ≡ text → read_text mode text ≡ Some (normal d)
-form_is_read mode text d token is = ap (read_text mode) (sym is) ∙ reads_each_text mode d token
+form_is_read : (mode : Mode) (text : List ℕ) (d : Document) → IsTokenDocument d → layout (setting mode 0) d ≡ text → read_text Token mode text ≡ Some (normal d)
+form_is_read mode text d token is = ap (read_text Token mode) (sym is) ∙ reads_each_text Token mode d token
 
-nothing_is_read : (mode : Mode) (text : List ℕ) (o : Option Document) → read_text mode text ≡ o → NoDocumentPrints (layout (setting mode 0)) text → o ≡ None
+nothing_is_read : (mode : Mode) (text : List ℕ) (o : Option Document) → read_text Token mode text ≡ o → NoDocumentPrints (layout (setting mode 0)) text → o ≡ None
 nothing_is_read mode text None is none = refl
-nothing_is_read mode text (Some d) is none = let form = reads_only_texts mode text d is in absurd (none d form.0 form.2)
+nothing_is_read mode text (Some d) is none = let form = reads_only_texts Token mode text d is in absurd (none d form.0 form.2)
 
 -- what is a text in the other mode can be converted, and nothing else
 pub convertible : (mode : Mode) (text : List ℕ) (is_text : Bool) → (is_text ≡ true → (d : Document) × IsNormalForm (layout (setting (other_mode mode) 0)) text d)
@@ -32,11 +33,11 @@ convertible mode text true some none =
     let form = some refl in sym (ap (λ o. is_some (option_map (layout (setting mode 0)) o)) (form_is_read (other_mode mode) text form.0 form.1.0 form.1.2))
 convertible mode text false some none = sym (ap (λ o. is_some (option_map (layout (setting mode 0)) o)) (nothing_is_read (other_mode mode) text _ refl (none refl)))
 
-converted_from : (mode : Mode) (text : List ℕ) (o : Option Document) (other : List ℕ) → read_text (other_mode mode) text ≡ o → option_map (layout (setting mode 0)) o ≡ Some other
+converted_from : (mode : Mode) (text : List ℕ) (o : Option Document) (other : List ℕ) → read_text Token (other_mode mode) text ≡ o → option_map (layout (setting mode 0)) o ≡ Some other
     → IsConverted (layout (setting (other_mode mode) 0)) (layout (setting mode 0)) text other
 converted_from mode text None other is h = absurd (cc)
 converted_from mode text (Some d) other is h =
-    let form = reads_only_texts (other_mode mode) text d is in
+    let form = reads_only_texts Token (other_mode mode) text d is in
     let same : layout (setting mode 0) d ≡ other = cc in
     record {
       some = (d, form.0, form.2);

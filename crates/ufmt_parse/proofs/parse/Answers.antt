@@ -1,4 +1,5 @@
 use Rattle.ufmt.specs.Layout.{setting}
+use Rattle.ufmt.specs.declared.class.Class.TheVariants.{Token}
 use Rattle.ufmt_core.specs.declared.layout.Mode.TheVariants.{Plain}
 use Rattle.ufmt.proofs.OneWay.{plain_text_determines}
 use Rattle.ufmt_parse.proofs.Found.{found_has_form, found_has_text, none_has_text}
@@ -10,9 +11,9 @@ returns-in-Some-clause-ok g c =
 
 pub returns-in-Some-clause-form : goal.returns-in-Some-clause-form
 returns-in-Some-clause-form g c =
-    found_has_form g.T.uParse.is_value g.T.uDebug.document (setting Plain 0) c.in_ok-doc.ensures.ok c.in_ok-value.ensures plain_text_determines c.in-Some.value
+    found_has_form g.T.uParse.is_value g.T.uDebug.document (setting Plain 0) c.in_ok-doc.ensures.ok c.in_ok-value.ensures (plain_text_determines Token) c.in-Some.value
     c.in-Some.is
 
 pub returns-clause-not_text : goal.returns-clause-not_text
 returns-clause-not_text g c = λ _.
-    none_has_text g.T.uParse.is_value g.T.uDebug.document (setting Plain 0) c.in_ok-doc.ensures.ok c.in_ok-value.ensures plain_text_determines c.in-None.is
+    none_has_text g.T.uParse.is_value g.T.uDebug.document (setting Plain 0) c.in_ok-doc.ensures.ok c.in_ok-value.ensures (plain_text_determines Token) c.in-None.is

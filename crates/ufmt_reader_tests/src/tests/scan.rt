@@ -5,6 +5,7 @@ ghost use Rattle.std.specs.Prelude.{⊤};
 use super::same;
 use std::alloc::AllocError;
 use std::test::Fail;
+use ufmt::class::Class;
 use ufmt::layout::{Count, Kind, Mode};
 use ufmt_scan::scan::{Event, ScanError, Sink, scan};
 
@@ -149,7 +150,7 @@ fn scan_emits_events_in_order(rt: HostRuntime) -> Result<(), Fail> {
             text: String::new(rt.alloc()),
             left,
         };
-        let ended = ending(scan(mode, text.as_bytes(), &mut notes));
+        let ended = ending(scan(Class::Token, mode, text.as_bytes(), &mut notes));
         same(&rt, ended, wanted, text);
         same(&rt, notes.text.as_str(), events, text);
     }

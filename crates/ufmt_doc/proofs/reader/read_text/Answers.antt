@@ -19,6 +19,6 @@ document_is outcome (Some doc) d is h = (doc, h, cc)
 pub returns : goal.returns
 returns c =
     let scanned = c.in_ok-scan.ensures in
-    let whole = whole_is scanned.0 _ scanned.1.0 scanned.1.1 (scanned.2 ∙ ap (λ g. grown g (events_of scanned.0)) c.new-sink.ensures) in
+    let whole = whole_is c.args.class scanned.0 _ scanned.1.0 scanned.1.1 (scanned.2 ∙ ap (λ g. grown g (events_of scanned.0)) c.new-sink.ensures) in
     let outcome = document_is c.ok_or.result c.into_document.result scanned.0 (c.into_document.ensures scanned.0 whole) c.ok_or.ensures.value in
     record { ok = rw (outcome.1, outcome.2) scanned.1; not_text = rw outcome.1 (λ is. absurd (cc)) }

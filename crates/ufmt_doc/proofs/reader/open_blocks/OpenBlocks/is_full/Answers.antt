@@ -1,4 +1,4 @@
-use Rattle.std.proofs.Common.{◌≡◌, ◌∙◌, ap, sym, ◌≤◌, length, take, arith}
+use Rattle.std.proofs.Common.{◌∙◌, ap, sym, ◌≤◌, length, take, arith}
 use Rattle.std.proofs.lemmas.Bool.{eqb-true}
 use Rattle.std.proofs.lemmas.List.{length-reverse, length-take-le}
 use Rattle.ufmt_doc.proofs.reader.open_blocks.OpenBlocks.is_full.Goals as goal
