@@ -1,5 +1,6 @@
 //! Tests of what no clause says of the scanner, readers and conversions: that calls can succeed, and
 //! their results on rows that are written by hand.
+mod debug_texts;
 mod depth;
 mod field_texts;
 mod is_text;

@@ -1,0 +1,200 @@
+//! Tests of the readers and conversions of debug texts, on values that rustc printed.
+use super::{holds, same};
+use std::alloc::{AllocError, Global};
+use ufmt::layout::Mode;
+use ufmt::{plain_text, pretty_text};
+use ufmt_doc::convert::{
+    debug_to_plain, debug_to_plain_into, debug_to_pretty, debug_to_pretty_into,
+    write_debug_to_plain, write_debug_to_pretty,
+};
+use ufmt_doc::{Doc, ReadError, is_debug_text, read_debug_plain, read_debug_pretty};
+use ufmt_scan::scan::ScanError;
+
+// Whether the document was read, and has both texts. Without memory this is false.
+fn has_texts(alloc: Global, read: Result<Doc, ReadError>, plain: &str, pretty: &str) -> bool {
+    let Ok(doc) = read else {
+        return false;
+    };
+    match (plain_text(alloc, &doc), pretty_text(alloc, &doc)) {
+        (Ok(made_plain), Ok(made_pretty)) => {
+            made_plain.as_bytes() == plain.as_bytes() && made_pretty.as_bytes() == pretty.as_bytes()
+        }
+        _ => false,
+    }
+}
+
+fn is_text(converted: Result<String, ReadError>, text: &str) -> bool {
+    match converted {
+        Ok(converted) => converted.as_bytes() == text.as_bytes(),
+        Err(_) => false,
+    }
+}
+
+// Whether a conversion into a buffer, or to a writer, gave the text.
+fn is_at_front(buffer: &[u8], count: Result<usize, ScanError<ufmt::Full>>, text: &str) -> bool {
+    match count {
+        Ok(count) => buffer.get(..count) == Some(text.as_bytes()),
+        Err(_) => false,
+    }
+}
+
+fn is_written(written: &String, outcome: Result<(), ScanError<AllocError>>, text: &str) -> bool {
+    outcome.is_ok() && written.as_bytes() == text.as_bytes()
+}
+
+// Each row has what rustc prints of a value by `{:?}` and by `{:#?}`.
+#[test]
+fn texts_that_rustc_printed_are_read_and_converted(rt: HostRuntime) {
+    let alloc = rt.alloc();
+    let rows = [
+        ("1.5", "1.5"),
+        ("-1.5e300", "-1.5e300"),
+        (
+            "[0.5, -1.0, 1e-7, NaN]",
+            "[\n    0.5,\n    -1.0,\n    1e-7,\n    NaN,\n]",
+        ),
+        ("'\\u{1b}'", "'\\u{1b}'"),
+        ("'\\u{301}'", "'\\u{301}'"),
+        ("'🦀'", "'🦀'"),
+        ("\"\\u{301}a\"", "\"\\u{301}a\""),
+        ("\"é€🦀 日本\"", "\"é€🦀 日本\""),
+        ("\"[]{}(),: ..\"", "\"[]{}(),: ..\""),
+        (
+            "[b\"GET /\", b\"\\x1b[0m\"]",
+            "[\n    b\"GET /\",\n    b\"\\x1b[0m\",\n]",
+        ),
+        ("b'\\''", "b'\\''"),
+        ("::ffff:10.0.0.1", "::ffff:10.0.0.1"),
+        (
+            "[255.255.255.255, ::1]",
+            "[\n    255.255.255.255,\n    ::1,\n]",
+        ),
+        ("Some(0.0.0.0:0)", "Some(\n    0.0.0.0:0,\n)"),
+        (
+            "(60s, Some(1.5µs))",
+            "(\n    60s,\n    Some(\n        1.5µs,\n    ),\n)",
+        ),
+        ("\"a b\"..\"c\\\"d\"", "\"a b\"..\"c\\\"d\""),
+        ("' '..='~'", "' '..='~'"),
+        ("..'\\''", "..'\\''"),
+        (
+            "(0..1, 'a'..='b', ..)",
+            "(\n    0..1,\n    'a'..='b',\n    ..,\n)",
+        ),
+        (
+            "PhantomData<alloc::string::String>",
+            "PhantomData<alloc::string::String>",
+        ),
+        ("{10.0.0.1:53: 250µs}", "{\n    10.0.0.1:53: 250µs,\n}"),
+        (
+            "Some(RefCell { value: <borrowed> })",
+            "Some(\n    RefCell {\n        value: <borrowed>,\n    },\n)",
+        ),
+        ("LazyCell(1.5)", "LazyCell(\n    1.5,\n)"),
+        ("Filter { iter: 0..9 }", "Filter {\n    iter: 0..9,\n}"),
+        (
+            "Skip { iter: 1..4, n: 1 }",
+            "Skip {\n    iter: 1..4,\n    n: 1,\n}",
+        ),
+        (
+            "Text { at: Point { x: 1, y: 2.0 }, text: \"a: \\\"b\\\"\" }",
+            "Text {\n    at: Point {\n        x: 1,\n        y: 2.0,\n    },\n    text: \"a: \\\"b\\\"\",\n}",
+        ),
+        (
+            "{\"a\": 1, (1, 2): Meters(0.5)}",
+            "{\n    \"a\": 1,\n    (\n        1,\n        2,\n    ): Meters(\n        0.5,\n    ),\n}",
+        ),
+        (
+            "{\"pressure\": [], \"température\": [20.5, -0.25]}",
+            "{\n    \"pressure\": [],\n    \"température\": [\n        20.5,\n        -0.25,\n    ],\n}",
+        ),
+        (
+            "(\"GET\", b\"/a?b=\\\"c\\\"\", [(\"Accept\", \"*/*\"), (\"Host\", \"[::1]\")])",
+            "(\n    \"GET\",\n    b\"/a?b=\\\"c\\\"\",\n    [\n        (\n            \"Accept\",\n            \"*/*\",\n        ),\n        (\n            \"Host\",\n            \"[::1]\",\n        ),\n    ],\n)",
+        ),
+        (
+            "[Ok(1.5), Err(ParseFloatError { kind: Invalid })]",
+            "[\n    Ok(\n        1.5,\n    ),\n    Err(\n        ParseFloatError {\n            kind: Invalid,\n        },\n    ),\n]",
+        ),
+        (
+            "BufReader { reader: [97, 98, 99], buffer: 0/64 }",
+            "BufReader {\n    reader: [\n        97,\n        98,\n        99,\n    ],\n    buffer: 0/64,\n}",
+        ),
+        ("(1.5, (), -0.5)", "(\n    1.5,\n    (),\n    -0.5,\n)"),
+    ];
+    for (plain, pretty) in rows {
+        let read = read_debug_plain(alloc, plain.as_bytes());
+        holds(&rt, has_texts(alloc, read, plain, pretty), plain);
+        let read = read_debug_pretty(alloc, pretty.as_bytes());
+        holds(&rt, has_texts(alloc, read, plain, pretty), pretty);
+        let converted = debug_to_pretty(alloc, plain.as_bytes());
+        holds(&rt, is_text(converted, pretty), plain);
+        let converted = debug_to_plain(alloc, pretty.as_bytes());
+        holds(&rt, is_text(converted, plain), pretty);
+        holds(&rt, is_debug_text(Mode::Plain, plain.as_bytes()), plain);
+        holds(&rt, is_debug_text(Mode::Pretty, pretty.as_bytes()), pretty);
+    }
+}
+
+#[test]
+fn debug_texts_are_converted_without_memory(rt: HostRuntime) {
+    let (plain, pretty) = ("(1.5, 0..5)", "(\n    1.5,\n    0..5,\n)");
+    let mut buffer = [0u8; 64];
+    let count = debug_to_pretty_into(&mut buffer, plain.as_bytes());
+    holds(&rt, is_at_front(&buffer, count, pretty), "to pretty");
+    let count = debug_to_plain_into(&mut buffer, pretty.as_bytes());
+    holds(&rt, is_at_front(&buffer, count, plain), "to plain");
+    let mut text = String::new(rt.alloc());
+    let outcome = write_debug_to_pretty(&mut text, plain.as_bytes());
+    holds(&rt, is_written(&text, outcome, pretty), "to a writer");
+    let mut text = String::new(rt.alloc());
+    let outcome = write_debug_to_plain(&mut text, pretty.as_bytes());
+    holds(&rt, is_written(&text, outcome, plain), "to a writer");
+}
+
+#[test]
+fn other_texts_are_no_debug_texts(rt: HostRuntime) {
+    let rows: [&[u8]; 26] = [
+        b"",
+        b"a b",
+        b"a:",
+        b"a:: b",
+        b"[a:]",
+        b"{a:}",
+        b"{a: b, c}",
+        b"S { a:1 }",
+        b"S { \"a\": 1 }",
+        b"\"S\"(1)",
+        b"a\"b\"(1)",
+        b"\"a",
+        b"'a",
+        b"a'b",
+        b"\"a\\\"",
+        b"\"\\\xc2\xb5\"",
+        b"a\tb",
+        b"\"\t\"",
+        b"a\x7f",
+        b"\xff",
+        b"a\xffb",
+        b"\"\xc3\"",
+        b"B { x: 1 }.",
+        b"S { .. }",
+        b"[1.5,2.5]",
+        b"(1.5)",
+    ];
+    for text in rows {
+        same(&rt, is_debug_text(Mode::Plain, text), false, "no text");
+        let refused = debug_to_pretty(rt.alloc(), text) == Err(ReadError::NotText);
+        holds(&rt, refused, "no text is converted");
+    }
+}
+
+// Colons that belong to no leaf are looked at once.
+#[test]
+fn many_colons_are_read(rt: HostRuntime) {
+    let colons = [b':'; 1000];
+    same(&rt, is_debug_text(Mode::Plain, &colons), false, "colons");
+    let mut leaf = [b':'; 1001];
+    leaf[1000] = b'1';
+    same(&rt, is_debug_text(Mode::Plain, &leaf), true, "an address");
+}
