@@ -2,15 +2,18 @@
 use crate::outcome::Outcome;
 use crate::printed::two_nodes;
 use crate::report::report;
-use crate::samples::{NODE_PLAIN, NODE_PRETTY, Sample};
+use crate::samples::{DEBUG, NODE_PLAIN, NODE_PRETTY, Sample};
 use std::alloc::{AllocError, Global};
 use std::io;
 use ufmt::{
     Formatter, HexOptions, pieces, plain_text, pretty_text, uWrite, uwriteln, write_debug,
     write_display, write_line, write_pretty,
 };
-use ufmt_doc::convert::{to_plain, to_pretty, write_to_plain, write_to_pretty};
-use ufmt_doc::{Doc, ReadError, read_plain, read_pretty};
+use ufmt_doc::convert::{
+    debug_to_plain, debug_to_pretty, to_plain, to_pretty, write_debug_to_plain,
+    write_debug_to_pretty, write_to_plain, write_to_pretty,
+};
+use ufmt_doc::{Doc, ReadError, read_debug_plain, read_debug_pretty, read_plain, read_pretty};
 
 // A conversion that returns a `String` reserves a kilobyte at once. No sample's text is longer.
 const OF_A_STRING: u64 = 1;
@@ -38,6 +41,38 @@ pub fn report_conversions(rt: &HostRuntime, sample: &Sample) -> io::Result<()> {
     report_pretty(rt, sample, line, outcome)?;
     let outcome = plain_in_a_text(alloc, pretty);
     let line = ("write_to_plain, into a text,", sample.of_plain);
+    report_plain(rt, sample, line, outcome)
+}
+
+/// Reads and converts the texts of a debug document.
+pub fn report_debug_texts(rt: &HostRuntime) -> io::Result<()> {
+    let (alloc, sample) = (rt.alloc(), &DEBUG);
+    let (plain, pretty) = (sample.plain.as_bytes(), sample.pretty.as_bytes());
+    let outcome = Outcome::of_value(read_debug_plain(alloc, plain), Some(sample.plain));
+    report(
+        rt,
+        "read_debug_plain",
+        sample.name,
+        sample.of_document,
+        outcome,
+    )?;
+    let outcome = Outcome::of_value(read_debug_pretty(alloc, pretty), Some(sample.plain));
+    report(
+        rt,
+        "read_debug_pretty",
+        sample.name,
+        sample.of_document,
+        outcome,
+    )?;
+    let outcome = debug_to_pretty(alloc, plain);
+    report_pretty(rt, sample, ("debug_to_pretty", OF_A_STRING), outcome)?;
+    let outcome = debug_to_plain(alloc, pretty);
+    report_plain(rt, sample, ("debug_to_plain", OF_A_STRING), outcome)?;
+    let outcome = debug_pretty_in_a_text(alloc, plain);
+    let line = ("write_debug_to_pretty, into a text,", sample.of_pretty);
+    report_pretty(rt, sample, line, outcome)?;
+    let outcome = debug_plain_in_a_text(alloc, pretty);
+    let line = ("write_debug_to_plain, into a text,", sample.of_plain);
     report_plain(rt, sample, line, outcome)
 }
 
@@ -72,6 +107,18 @@ fn pretty_in_a_text(alloc: Global, plain: &[u8]) -> Result<String, ReadError> {
 fn plain_in_a_text(alloc: Global, pretty: &[u8]) -> Result<String, ReadError> {
     let mut text = String::new(alloc);
     write_to_plain(&mut text, pretty)?;
+    Ok(text)
+}
+
+fn debug_pretty_in_a_text(alloc: Global, plain: &[u8]) -> Result<String, ReadError> {
+    let mut text = String::new(alloc);
+    write_debug_to_pretty(&mut text, plain)?;
+    Ok(text)
+}
+
+fn debug_plain_in_a_text(alloc: Global, pretty: &[u8]) -> Result<String, ReadError> {
+    let mut text = String::new(alloc);
+    write_debug_to_plain(&mut text, pretty)?;
     Ok(text)
 }
 

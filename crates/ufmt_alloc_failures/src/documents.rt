@@ -2,14 +2,17 @@
 use crate::loose::{loosen, read_twice};
 use crate::outcome::{Outcome, has_plain_text};
 use crate::report::{report, report_free};
-use crate::samples::{MANY_PLAIN, MANY_PRETTY};
+use crate::samples::{DEBUG, MANY_PLAIN, MANY_PRETTY};
 use std::alloc::{AllocError, Global};
 use std::io;
 use ufmt::Cursor;
 use ufmt::layout::Mode;
-use ufmt_doc::convert::{to_plain_into, to_pretty_into, write_to_plain, write_to_pretty};
+use ufmt_doc::convert::{
+    debug_to_plain_into, debug_to_pretty_into, to_plain_into, to_pretty_into, write_to_plain,
+    write_to_pretty,
+};
 use ufmt_doc::doc::{Doc, same_text};
-use ufmt_doc::is_text;
+use ufmt_doc::{is_debug_text, is_text};
 use ufmt_scan::leaf::{is_leaf, is_symbol, is_word};
 use ufmt_scan::quoted::split_escaped;
 
@@ -159,6 +162,24 @@ pub fn report_conversions(rt: &HostRuntime) -> io::Result<()> {
     })?;
     report_free(rt, "is_text, pretty,", MANY, || {
         is_text(Mode::Pretty, pretty) && !is_text(Mode::Pretty, plain)
+    })
+}
+
+/// Converts debug texts into buffers, and tests them.
+pub fn report_debug_conversions(rt: &HostRuntime) -> io::Result<()> {
+    let (plain, pretty) = (DEBUG.plain.as_bytes(), DEBUG.pretty.as_bytes());
+    let mut buffer = [0; 64];
+    report_free(rt, "convert::debug_to_pretty_into", DEBUG.name, || {
+        debug_to_pretty_into(&mut buffer, plain).is_ok() && buffer.starts_with(pretty)
+    })?;
+    report_free(rt, "convert::debug_to_plain_into", DEBUG.name, || {
+        debug_to_plain_into(&mut buffer, pretty).is_ok() && buffer.starts_with(plain)
+    })?;
+    report_free(rt, "is_debug_text, plain,", DEBUG.name, || {
+        is_debug_text(Mode::Plain, plain) && !is_debug_text(Mode::Plain, pretty)
+    })?;
+    report_free(rt, "is_debug_text, pretty,", DEBUG.name, || {
+        is_debug_text(Mode::Pretty, pretty) && !is_debug_text(Mode::Pretty, plain)
     })
 }
 

@@ -31,6 +31,7 @@ fn main(rt: HostRuntime) -> io::Result<()> {
         calls::report_conversions(&rt, &sample)?;
     }
     calls::report_conversions(&rt, &samples::MANY)?;
+    calls::report_debug_texts(&rt)?;
     calls::report_values(&rt)?;
     calls::report_quoted(&rt)?;
     calls::report_writers(&rt)?;
@@ -38,6 +39,7 @@ fn main(rt: HostRuntime) -> io::Result<()> {
     laws::report_laws(&rt)?;
     documents::report_documents(&rt)?;
     documents::report_conversions(&rt)?;
+    documents::report_debug_conversions(&rt)?;
     documents::report_leaves(&rt)?;
     values::report_values(&rt)?;
     values::report_pieces(&rt)?;

@@ -37,6 +37,17 @@ impl Sample {
     }
 }
 
+/// The texts of a debug document that is no token document.
+pub const DEBUG: Sample = Sample {
+    name: "a number and a range",
+    plain: "(1.5, 0..5)",
+    pretty: "(\n    1.5,\n    0..5,\n)",
+    is_read: true,
+    of_document: 4,
+    of_pretty: 3,
+    of_plain: 2,
+};
+
 pub const NODE_PLAIN: &str = "Node { value: 1, next: Some(Node { value: 0, next: None }) }";
 
 pub const NODE_PRETTY: &str = "\
