@@ -6,8 +6,8 @@ use Rattle.ufmt.specs.Document.{Document}
 use Rattle.ufmt.specs.Layout.{layout, setting}
 use Rattle.ufmt.specs.Reading.{read, read_rest}
 use Rattle.ufmt.specs.ReadingQuoted.{read_quoted}
-use Rattle.ufmt.specs.declared.class.Class.TheVariants.{Token}
-use Rattle.ufmt.specs.Token.{IsTokenDocument}
+use Rattle.ufmt.specs.declared.class.Class.TheVariants.{Debug}
+use Rattle.ufmt.specs.Token.{IsDebugDocument}
 use Rattle.ufmt_core.specs.declared.layout.Mode.{Mode}
 use Rattle.ufmt_core.specs.declared.layout.Mode.TheVariants.{Plain, Pretty}
 use Rattle.ufmt_lines.specs.OutputLaws.{LongestTextIsConverted, MayFollow, NoTextBegins, OthersStay}
@@ -55,9 +55,9 @@ module _ (mode : Mode) where
   stays : (before rest : List ℕ) → NoTextBegins (other_mode mode) before rest → output_of mode (before ++ rest) ≡ before ++ tail_converted (may_begin_past true before) mode rest
   stays before rest none = front_stays true before rest (λ front back is some after. not_converted mode (back ++ rest) (none front back is some (follows front after)))
 
-  converted_text : (d : Document) → IsTokenDocument d → converted mode (layout (setting (other_mode mode) 0) d) ≡ Some (layout (setting mode 0) d)
+  converted_text : (d : Document) → IsDebugDocument d → converted mode (layout (setting (other_mode mode) 0) d) ≡ Some (layout (setting mode 0) d)
   unfolding converted
-  converted_text d token = ap (option_map (layout (setting mode 0))) (reads_each_text Token (other_mode mode) d token) ∙ ap Some (layout-normal (setting mode 0) d)
+  converted_text d token = ap (option_map (layout (setting mode 0))) (reads_each_text Debug (other_mode mode) d token) ∙ ap Some (layout-normal (setting mode 0) d)
 
 nothing_is_no_text : (mode : Mode) → converted mode [] ≡ None
 unfolding converted read read_rest read_quoted

@@ -3,12 +3,13 @@ use Rattle.std.specs.Prelude.{◌≡◌, ◌⊎◌, ℕ, ◌<◌, List, [], ◌�
 use Rattle.ufmt.specs.Document.{Document}
 use Rattle.ufmt.specs.Layout.{layout, setting}
 use Rattle.ufmt.specs.Lines.{lines_of}
-use Rattle.ufmt.specs.Token.{IsTokenDocument}
+use Rattle.ufmt.specs.declared.class.Class.TheVariants.{Debug}
+use Rattle.ufmt.specs.Token.{IsDebugDocument}
 use Rattle.ufmt_core.specs.declared.layout.Mode.{Mode}
 use Rattle.ufmt_core.specs.declared.layout.Mode.TheVariants.{Pretty}
 use Rattle.ufmt_lines.specs.Groups.{IsInGroup, IsInLine, groups_of}
 use Rattle.ufmt_lines.specs.Readable.{output_of, may_begin_after, other_mode}
-use Rattle.ufmt_scan.specs.Texts.{NoDocumentPrints}
+use Rattle.ufmt_scan.specs.Texts.{NoDocumentPrintsAs}
 
 -- a text may follow these bytes: there are none, or they end with a space or a line feed
 abbrev pub MayFollow : List ℕ → Type 0
@@ -16,11 +17,11 @@ MayFollow before = (before ≡ []) ⊎ ((front : List ℕ) × (byte : ℕ) × (b
 
 -- no tail that begins in these bytes, and goes to the end of the rest, is a text of this mode
 abbrev pub NoTextBegins : Mode → List ℕ → List ℕ → Type 0
-NoTextBegins mode before rest = (front back : List ℕ) → before ≡ front ++ back → 0 < length back → MayFollow front → NoDocumentPrints (layout (setting mode 0)) (back ++ rest)
+NoTextBegins mode before rest = (front back : List ℕ) → before ≡ front ++ back → 0 < length back → MayFollow front → NoDocumentPrintsAs Debug (layout (setting mode 0)) (back ++ rest)
 
 -- the longest tail that is a text of the other mode is converted, and the bytes before it stay
 abbrev pub LongestTextIsConverted : Type 0
-LongestTextIsConverted = (mode : Mode) (before : List ℕ) (d : Document) → IsTokenDocument d → MayFollow before
+LongestTextIsConverted = (mode : Mode) (before : List ℕ) (d : Document) → IsDebugDocument d → MayFollow before
     → NoTextBegins (other_mode mode) before (layout (setting (other_mode mode) 0) d)
     → output_of mode (before ++ layout (setting (other_mode mode) 0) d) ≡ before ++ layout (setting mode 0) d
 

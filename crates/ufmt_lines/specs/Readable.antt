@@ -2,7 +2,7 @@
 use Rattle.std.specs.Prelude.{ℕ, ◌==◌, ◌||◌, List, [], ◌∷◌, Bool, true, false, Option, None, option_map, unwrap_or}
 use Rattle.ufmt.specs.Bytes.{line_feed, space}
 use Rattle.ufmt.specs.Layout.{layout, setting}
-use Rattle.ufmt.specs.declared.class.Class.TheVariants.{Token}
+use Rattle.ufmt.specs.declared.class.Class.TheVariants.{Debug}
 use Rattle.ufmt.specs.Reading.{read_text}
 use Rattle.ufmt_core.specs.declared.layout.Mode.{Mode}
 use Rattle.ufmt_core.specs.declared.layout.Mode.TheVariants.{Plain, Pretty}
@@ -12,9 +12,9 @@ abbrev pub other_mode : Mode → Mode
 other_mode Plain = Pretty
 other_mode Pretty = Plain
 
--- in this mode, the text of the token documents that have the given text in the other mode, if there are any
+-- in this mode, the text of the debug documents that have the given text in the other mode, if there are any
 unfoldable pub converted : Mode → List ℕ → Option (List ℕ)
-converted mode text = option_map (layout (setting mode 0)) (read_text Token (other_mode mode) text)
+converted mode text = option_map (layout (setting mode 0)) (read_text Debug (other_mode mode) text)
 
 -- the same, if a text may begin here
 abbrev pub converted_here : Bool → Mode → List ℕ → Option (List ℕ)

@@ -2,14 +2,15 @@
 //! in the other mode.
 ghost use Rattle.std.specs.Prelude.{◌≡◌, ◌≤◌, ◌++◌, [], List, ℕ, true, IfSome, IsNone, OnOk, Some, drop, is_some, length, take};
 ghost use Rattle.ufmt.specs.Layout.{layout, setting};
-ghost use Rattle.ufmt_scan.specs.Texts.{ConvertsTo};
+ghost use Rattle.ufmt.specs.declared.class.Class.TheVariants.{Debug};
+ghost use Rattle.ufmt_scan.specs.Texts.{ConvertsToAs};
 ghost use Rattle.ufmt_lines.specs.Readable.{output_of, converted, may_begin_after, other_mode};
 
 use std::alloc::{AllocError, Global};
 use ufmt::layout::Mode;
 use ufmt::uWrite;
-use ufmt_scan::convert::{write_to_plain, write_to_pretty};
-use ufmt_scan::is_text;
+use ufmt_scan::convert::{write_debug_to_plain, write_debug_to_pretty};
+use ufmt_scan::is_debug_text;
 use ufmt_scan::scan::ScanError;
 
 /// The output for a group of lines, in memory. It is used again for the next group.
@@ -93,12 +94,12 @@ impl uWrite for GroupOutput {
 
 // Writes a text of the other mode in this one.
 fn write_to<W: uWrite>(mode: Mode, writer: &mut W, text: &[u8]) -> Result<(), ScanError<W::Error>>
-    ensures { ConvertsTo W.seen (layout (setting (other_mode mode) 0)) (layout (setting mode 0))
-        text.now writer.old result writer.new }
+    ensures { ConvertsToAs W.seen Debug (layout (setting (other_mode mode) 0))
+        (layout (setting mode 0)) text.now writer.old result writer.new }
 {
     match mode {
-        Mode::Pretty => write_to_pretty(writer, text),
-        Mode::Plain => write_to_plain(writer, text),
+        Mode::Pretty => write_debug_to_pretty(writer, text),
+        Mode::Plain => write_debug_to_plain(writer, text),
     }
 }
 
@@ -128,11 +129,11 @@ fn may_begin_after(byte: u8) -> bool
     byte == b' ' || byte == b'\n'
 }
 
-// Whether some token document has this text in the other mode.
+// Whether some debug document has this text in the other mode.
 fn is_convertible(mode: Mode, text: &[u8]) -> bool
     ensures { result ≡ is_some (converted mode text.now) }
 {
-    is_text(other_mode(mode), text)
+    is_debug_text(other_mode(mode), text)
 }
 
 // The mode that texts are converted from.
