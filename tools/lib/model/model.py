@@ -2,9 +2,11 @@
 
 A document is a leaf, which is a str, or a Block. Documents here are in normal form: a struct or a tuple
 has a field, and a set has an entry.
+
+There are two classes of texts, TOKEN and DEBUG. A reader takes the texts of one class. The layout is the same for both.
 """
 import re
-from typing import NamedTuple
+from typing import Callable, NamedTuple
 
 # How deep blocks with entries are nested at most.
 DEEPEST = 255
@@ -12,7 +14,7 @@ INDENT = "    "
 
 
 class Block(NamedTuple):
-    """A list, a set, a map, a struct or a tuple.
+    """A list, a set, a map, a struct, an open struct or a tuple. An open struct ends in two dots.
 
     An entry is a pair: what is before the colon, and a document. Before the colon a map has a document, and
     a struct has a name. The other kinds have None.
@@ -30,6 +32,7 @@ PLAIN_FRAMES = {
     "set": ("{", "}"),
     "map": ("{", "}"),
     "struct": (" { ", " }"),
+    "open struct": (" { ", ", .. }"),
     "tuple": ("(", ")"),
 }
 PRETTY_FRAMES = {
@@ -37,9 +40,12 @@ PRETTY_FRAMES = {
     "set": ("{\n", "}"),
     "map": ("{\n", "}"),
     "struct": (" {\n", "}"),
+    "open struct": (" {\n", "}"),
     "tuple": ("(\n", ")"),
 }
-EMPTY = {"list": "[]", "map": "{}"}
+# What a block without entries has after its name.
+EMPTY = {"list": "[]", "map": "{}", "open struct": " { .. }"}
+DOTS_LINE = "..\n"
 
 
 def plain(document):
@@ -55,7 +61,7 @@ def add_plain(document, out):
         return
     kind, name, entries = document
     if not entries:
-        out.append(EMPTY[kind])
+        out.append(name + EMPTY[kind])
         return
     opening, closing = PLAIN_FRAMES[kind]
     out.append(name + opening)
@@ -72,7 +78,7 @@ def add_plain(document, out):
 
 
 def pretty(document):
-    """The pretty text. An entry begins on a line of its own, indented, and a comma comes after it."""
+    """The pretty text. An entry begins on a line of its own, indented, and a comma comes after it, but none after dots."""
     out = []
     add_pretty(document, 0, out)
     return "".join(out)
@@ -84,7 +90,7 @@ def add_pretty(document, depth, out):
         return
     kind, name, entries = document
     if not entries:
-        out.append(EMPTY[kind])
+        out.append(name + EMPTY[kind])
         return
     opening, closing = PRETTY_FRAMES[kind]
     out.append(name + opening)
@@ -95,6 +101,8 @@ def add_pretty(document, depth, out):
             out.append(": ")
         add_pretty(value, depth + 1, out)
         out.append(",\n")
+    if kind == "open struct":
+        out.append(INDENT * (depth + 1) + DOTS_LINE)
     out.append(INDENT * depth + closing)
 
 
@@ -140,7 +148,15 @@ def unquoted(leaf):
     return ESCAPE.sub(decoded, leaf[1:-1])
 
 
-# ---- The readers of plain and pretty texts. A call returns a document and where it ends, or None.
+# ---- The leaves of each class. A call returns a leaf and where it ends, or None.
+
+
+class TextClass(NamedTuple):
+    """A class of texts: the leaf at a place, whether a leaf is a name, and whether a struct may end in dots."""
+
+    leaf_at: Callable
+    is_name: Callable
+    has_open_structs: bool
 
 
 def leaf_at(text, at):
@@ -154,15 +170,55 @@ def leaf_at(text, at):
     return None
 
 
+TOKEN = TextClass(leaf_at, WORD.fullmatch, has_open_structs=False)
+
+# A piece of a leaf of the class DEBUG: bytes of a word, a text in quotes, or colons before one of these. A backslash takes
+# the next character with it.
+CONTROLS = r"\x00-\x1f\x7f"
+WORD_BYTES = "[^" + CONTROLS + r""" "'(),:\[\]{}]+"""
+IN_QUOTES = [quote + r"(?:[^\\" + quote + CONTROLS + r"]|\\[ -~])*" + quote for quote in "\"'"]
+COLONS = ":+(?=[^" + CONTROLS + r" (),:\[\]{}])"
+PIECE = re.compile("|".join([WORD_BYTES, *IN_QUOTES, COLONS]))
+# A byte that isn't UTF-8, as `surrogateescape` decodes it.
+NO_UTF8 = re.compile("[\ud800-\udfff]")
+
+
+def debug_leaf_at(text, at):
+    """`()`, or all pieces that come in a row. Quotes that nothing closes are no leaf, nor is what comes before them."""
+    if text.startswith("()", at):
+        return "()", at + 2
+    end = at
+    found = PIECE.match(text, end)
+    while found:
+        end = found.end()
+        found = PIECE.match(text, end)
+    if end == at or text.startswith(('"', "'"), end) or NO_UTF8.search(text, at, end):
+        return None
+    return text[at:end], end
+
+
+def is_debug_name(leaf):
+    return leaf != "()" and '"' not in leaf and "'" not in leaf
+
+
+DEBUG = TextClass(debug_leaf_at, is_debug_name, has_open_structs=True)
+
+
+# ---- The readers of plain and pretty texts. A call returns a document and where it ends, or None.
+
+
 def empty_at(text, at):
-    for kind, brackets in EMPTY.items():
-        if text.startswith(brackets, at):
+    for kind in ("list", "map"):
+        if text.startswith(EMPTY[kind], at):
             return Block(kind, "", []), at + 2
     return None
 
 
 class Reader:
-    """A reader of one mode. `entries_at` reads the entries of a block up to its closing bracket."""
+    """A reader of one mode and one class. `entries_at` reads the entries of a block up to its closing bracket."""
+
+    def __init__(self, text_class=TOKEN):
+        self.text_class = text_class
 
     def read(self, text):
         found = self.document_at(text, 0, 0)
@@ -171,11 +227,11 @@ class Reader:
         return found[0]
 
     def document_at(self, text, at, depth):
-        found = leaf_at(text, at) or empty_at(text, at)
+        found = self.text_class.leaf_at(text, at) or empty_at(text, at)
         name = ""
         if found is not None:
             document, end = found
-            is_name = isinstance(document, str) and WORD.fullmatch(document)
+            is_name = isinstance(document, str) and self.text_class.is_name(document)
             if not is_name:
                 return found
             name, at = document, end
@@ -186,35 +242,50 @@ class Reader:
 
     def block_at(self, text, at, depth, name):
         """The block that opens here. None if no block opens, and False if the block is not whole."""
+        without_fields = EMPTY["open struct"]
+        if name and self.text_class.has_open_structs and text.startswith(without_fields, at):
+            return Block("open struct", name, []), at + len(without_fields)
         for kind in ["struct", "tuple"] if name else ["list", "map", "tuple"]:
-            opening, closing = self.frames[kind]
+            opening, _closing = self.frames[kind]
             if text.startswith(opening, at):
                 if depth == DEEPEST:
                     return False
                 found = self.entries_at(text, at + len(opening), depth, kind)
-                return self.whole(text, found, depth, kind, name, closing) or False
+                return self.whole(text, found, depth, kind, name) or False
         return None
 
-    def whole(self, text, found, depth, kind, name, closing):
+    def whole(self, text, found, depth, kind, name):
         if found is None:
             return None
         entries, at = found
         if kind == "map" and entries[0][0] is None:
             kind = "set"
+        if self.ends_in_dots(text, at, depth, kind):
+            kind = "open struct"
         block = Block(kind, name, entries)
-        end = self.closing(block, depth, closing)
+        end = self.closing(block, depth)
         if not text.startswith(end, at):
             return None
         return block, at + len(end)
+
+    def ends_in_dots(self, text, at, depth, kind):
+        """Whether dots and the end of a struct come here, after a field. A field's name may be two dots, too."""
+        if kind != "struct" or not self.text_class.has_open_structs:
+            return False
+        return text.startswith(self.closing(Block("open struct", "", []), depth), at)
+
+    def name_at(self, text, at):
+        found = self.text_class.leaf_at(text, at)
+        return found if found and self.text_class.is_name(found[0]) else None
 
     def entry_at(self, text, at, depth, kind):
         """An entry. A field has a name and a colon before its value, and a pair has a key and a colon."""
         before = None
         if kind == "struct":
-            found = WORD.match(text, at)
-            if not found or not text.startswith(": ", found.end()):
+            found = self.name_at(text, at)
+            if found is None or not text.startswith(": ", found[1]):
                 return None
-            before, at = found[0], found.end() + 2
+            before, at = found[0], found[1] + 2
         found = self.document_at(text, at, depth + 1)
         if found is not None and kind == "map" and text.startswith(": ", found[1]):
             before = found[0]
@@ -238,14 +309,16 @@ class Reader:
             at = self.after_entry(text, at)
             if at is None:
                 return None
-            more = self.before_entry(text, at, depth, False)
+            is_last = self.ends_in_dots(text, at, depth, kind)
+            more = None if is_last else self.before_entry(text, at, depth, False)
         return (entries, at) if entries else None
 
 
 class PlainReader(Reader):
     frames = PLAIN_FRAMES
 
-    def closing(self, block, _depth, closing):
+    def closing(self, block, _depth):
+        closing = self.frames[block.kind][1]
         is_single = block.kind == "tuple" and block.name == "" and len(block.entries) == 1
         return "," + closing if is_single else closing
 
@@ -261,8 +334,9 @@ class PlainReader(Reader):
 class PrettyReader(Reader):
     frames = PRETTY_FRAMES
 
-    def closing(self, _block, depth, closing):
-        return INDENT * depth + closing
+    def closing(self, block, depth):
+        dots = INDENT * (depth + 1) + DOTS_LINE if block.kind == "open struct" else ""
+        return dots + INDENT * depth + self.frames[block.kind][1]
 
     def before_entry(self, text, at, depth, _is_first):
         """Where the entry begins, after the indentation of its line."""
