@@ -39,21 +39,27 @@ def pair(plain, pretty):
 
 LEAVES = (
     # A colon, or many, before a byte of a word or a quote.
-    "a:b", "a::b", "::1", "1:2:3", 'a:"b"', ":'a'", "::\"\"", '":"', '"a":1', MANY_COLONS + "a", "a" + MANY_COLONS + "'b'",
+    "a:b", "a::b", "::1", "1:2:3", 'a:"b"', ":'a'", "::\"\"", '":"', '"a":1', MANY_COLONS + "a",
+    "a" + MANY_COLONS + "'b'",
     # Quotes: empty ones, in a row, with the other quote in them, and a backslash with what it takes.
-    '""', "''", '"a""b"', "'ab'", 'b"x"', "'a'..='z'", '"a b".."c"', "\"'\"", "'\"'", r'"\""', r"'\''", r'"\\"', r'"\q\ \{"', '"[]{}(),: .."',
+    '""', "''", '"a""b"', "'ab'", 'b"x"', "'a'..='z'", '"a b".."c"', "\"'\"", "'\"'", r'"\""', r"'\''", r'"\\"',
+    r'"\q\ \{"', '"[]{}(),: .."',
     # A backslash without quotes is a byte of a word. So is each other sign, and what is past ASCII.
-    "a\\", "\\", '\\"a"', "..", ".", "-", "<u8>", "a=b;c", "é", "\u0085", "150µs", "日本", "🦀", "e\u0301", '"é\u200b🦀"', "()",
-)  # fmt: skip
+    "a\\", "\\", '\\"a"', "..", ".", "-", "<u8>", "a=b;c", "é", "\u0085", "150µs", "日本", "🦀", "e\u0301",
+    '"é\u200b🦀"', "()",
+)
 NO_LEAVES = (
-    "", " ", "a b", "a ", " a", "a,", ",", ")", "(", "]", "[", "}", "{", "a)", "a[]", "a{}", "[]a", "()a", "()()", "a()", "()(1)",
+    "", " ", "a b", "a ", " a", "a,", ",", ")", "(", "]", "[", "}", "{", "a)", "a[]", "a{}", "[]a", "()a", "()()",
+    "a()", "()(1)",
     # A colon that no byte of a word follows.
-    ":", "::", "a:", "a::", "fe80::", "a: b", "a:: b", "a :b", "[a:]", "[a: b]", "(a: b)", "a:[]", "a:()", "a:,", "{a:: b}", "{a: b: c}",
+    ":", "::", "a:", "a::", "fe80::", "a: b", "a:: b", "a :b", "[a:]", "[a: b]", "(a: b)", "a:[]", "a:()", "a:,",
+    "{a:: b}", "{a: b: c}",
     MANY_COLONS, "a" + MANY_COLONS, MANY_COLONS + " a", "{a" + MANY_COLONS + " b}", "[" + MANY_COLONS + "]",
     # Quotes that nothing closes, and a backslash that takes what it mustn't, or is at the end.
-    '"', "'", '"a', "'a", "\"a'", 'b"', 'a"b', '"a"b"', '["a]', ':"', '\\"', '"\\', '"\\"', '"a\\', "'\\'", '"\\é"', "'\\\u0085'", '"a"\'',
+    '"', "'", '"a', "'a", "\"a'", 'b"', 'a"b', '"a"b"', '["a]', ':"', '\\"', '"\\', '"\\"', '"a\\', "'\\'",
+    '"\\é"', "'\\\u0085'", '"a"\'',
     "['a, 'b']", '{"a: 1}', "1..'", 'Some("a)',
-)  # fmt: skip
+)
 
 
 def leaves():
@@ -63,10 +69,15 @@ def leaves():
         yield from refused(text)
 
 
+# Where a control or a byte that isn't UTF-8 comes: in a word, in quotes, after a backslash, in a name.
+AROUND = (
+    b"%s", b"a%sb", b"%sa", b"a%s", b'"%s"', b"'a%sb'", b'"\\%s"', b'b"%s"', b"[1, a%s]", b"A%s { a: 1 }", b"A { a%s: 1 }",
+)
+
+
 def bad_bytes():
-    """Controls, and bytes that aren't UTF-8: in a word, in quotes, after a backslash, in a name."""
     for bad in [bytes([code]) for code in CONTROLS] + list(BAD_BYTES):
-        for around in (b"%s", b"a%sb", b"%sa", b"a%s", b'"%s"', b"'a%sb'", b'"\\%s"', b"[1, a%s]", b"A%s { a: 1 }", b"A { a%s: 1 }"):
+        for around in AROUND:
             yield from refused(around % bad)
 
 
@@ -101,22 +112,33 @@ BLOCKS = (
 )
 NO_PLAIN_BLOCKS = (
     # What isn't a name.
-    '"a" { x: 1 }', '"a"(1)', 'a"b"(1)', "'a' { .. }", 'b"" { a: 1, .. }', "() { x: 1 }", "() { .. }", 'A { "a": 1 }', "A { (): 1 }", "A { a'b': 1 }",
+    '"a" { x: 1 }', '"a"(1)', 'a"b"(1)', "'a' { .. }", 'b"" { a: 1, .. }', "() { x: 1 }", "() { .. }",
+    'A { "a": 1 }', "A { (): 1 }", "A { a'b': 1 }",
     "A {}", "A { }", "A()", "A{ a: 1 }", "A { a:1 }", "A { a : 1 }", "A { a }", "A { a: }",
     # Dots with a comma after them, before another entry, or with other spaces.
-    "A { .., }", "A { a: 1, .., }", "A { .., a: 1 }", "A { a: 1, .., b: 2 }", "A { a: 1, .., .. }", "A { .., .. }", "A { ..}", "A {..}", "A { ..  }",
-    "A { a: 1, ..}", "A { a: 1 .. }", "A { a: 1,.. }", "A { a: 1,  .. }", "A { a: 1, ... }", "A { ... }", "A { . }", "A { , .. }", "A { .. } { .. }",
+    "A { .., }", "A { a: 1, .., }", "A { .., a: 1 }", "A { a: 1, .., b: 2 }", "A { a: 1, .., .. }", "A { .., .. }",
+    "A { ..}", "A {..}", "A { ..  }",
+    "A { a: 1, ..}", "A { a: 1 .. }", "A { a: 1,.. }", "A { a: 1,  .. }", "A { a: 1, ... }", "A { ... }",
+    "A { . }", "A { , .. }", "A { .. } { .. }",
     # Dots that end what isn't a struct.
     "{ .. }", " { .. }", "{1: 2, ..}", "{.., 1: 2}", "{ a: 1, .. }", "[1, .. ]", "(1, .. )", "A(1, .. )",
-)  # fmt: skip
+    "A(1, .. }", "A(1, ..}", "(1, .. }", "[1, .. }", "{1, .. }", "{1: 2, .. }", "A { a: [1, .. }",
+    "A { a: B(1, .. }", "A { a: B(1, .. } }",
+)
 NO_PRETTY_BLOCKS = (
     # A comma after the dots, none before them, other indentation, no field, or another entry after them.
-    "A {\n    ..,\n}", "A {\n    a: 1,\n    ..,\n}", "A {\n    a: 1\n    ..\n}", "A {\n    a: 1,\n..\n}", "A {\n    a: 1,\n        ..\n}", "A {\n    a: 1,\n    ..}",
-    "A {\n    a: 1,\n    .. }", "A {\n    a: 1,\n    ..\n    }", "A {\n    a: 1,\n    ..\n }", "A {\n    a: 1,\n    ..\n", "A {\n    ..\n}",
-    "A {\n    a: 1,\n    ..\n    b: 2,\n}", "A {\n    a: 1,\n    ..\n    ..\n}", "[\n    A {\n        a: 1,\n        ..\n    }\n]", "[\n    A {\n    ..\n    },\n]",
+    "A {\n    ..,\n}", "A {\n    a: 1,\n    ..,\n}", "A {\n    a: 1\n    ..\n}", "A {\n    a: 1,\n..\n}",
+    "A {\n    a: 1,\n        ..\n}", "A {\n    a: 1,\n    ..}",
+    "A {\n    a: 1,\n    .. }", "A {\n    a: 1,\n    ..\n    }", "A {\n    a: 1,\n    ..\n }",
+    "A {\n    a: 1,\n    ..\n", "A {\n    ..\n}",
+    "A {\n    a: 1,\n    ..\n    b: 2,\n}", "A {\n    a: 1,\n    ..\n    ..\n}",
+    "[\n    A {\n        a: 1,\n        ..\n    }\n]", "[\n    A {\n    ..\n    },\n]",
     # Dots that end what isn't a struct.
-    "[\n    1,\n    ..\n]", "[\n    ..\n]", "{\n    1,\n    ..\n}", "{\n    1: 2,\n    ..\n}", "(\n    1,\n    ..\n)", "T(\n    1,\n    ..\n)",
-)  # fmt: skip
+    "[\n    1,\n    ..\n]", "[\n    ..\n]", "{\n    1,\n    ..\n}", "{\n    1: 2,\n    ..\n}",
+    "(\n    1,\n    ..\n)", "T(\n    1,\n    ..\n)",
+    "T(\n    1,\n    ..\n}", "(\n    1,\n    ..\n}", "[\n    1,\n    ..\n}", "A {\n    a: 1,\n    ..\n)",
+    "A {\n    a: 1,\n    ..\n]",
+)
 
 
 def blocks():
@@ -178,4 +200,5 @@ def edges():
 def long_texts(count):
     """Texts with so many colons in a row, which a reader passes in linear time."""
     colons = ":" * count
-    return colons, colons + "a", "a" + colons + " ", "[" + colons + "]", "{" + colons + "a: 1}", "A { " + colons + ": 1 }", '"a"' + colons + '"b'
+    yield from (colons, colons + "a", "a" + colons + " ", '"a"' + colons + '"b')
+    yield from ("[" + colons + "]", "{" + colons + "a: 1}", "A { " + colons + ": 1 }")

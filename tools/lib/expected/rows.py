@@ -18,7 +18,7 @@ class Row(NamedTuple):
 
 def rows(path):
     """The rows of a file. Its first line says which rustc printed it, and src/rows.rs has the form of the others."""
-    return [row(block.split("\n")) for block in path.read_text().rstrip("\n").split("\n\n")[1:]]
+    return [row(block.split("\n")) for block in path.read_text(encoding="utf-8").rstrip("\n").split("\n\n")[1:]]
 
 
 def row(lines):
@@ -39,7 +39,7 @@ class Reason(NamedTuple):
 def reasons(path):
     """Each row that is listed after a reason, once for each class. A line of another form ends the run."""
     found, current = [], None
-    for line in path.read_text().splitlines():
+    for line in path.read_text(encoding="utf-8").splitlines():
         if not line or line.startswith("#"):
             continue
         if line.startswith(ENTRY):
