@@ -1,4 +1,5 @@
-//! Prints rows: each has an id, and a value's text by `{:?}` and by `{:#?}`. No value's text may change from run to run.
+//! Prints rows: each has an id, and a value's text by `{:?}` and by `{:#?}`. No text may change from run to run: that of an
+//! Instant, a TypeId or a place in memory would, so there is none.
 
 // A derived Debug reads the fields, which isn't counted as a use.
 #![allow(dead_code)]
