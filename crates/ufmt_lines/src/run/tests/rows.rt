@@ -2,7 +2,7 @@
 use super::*;
 
 // Lines that end with a plain text, and the same with the pretty text.
-const DEBUG_TEXTS: [(&str, &str); 22] = [
+const DEBUG_TEXTS: [(&str, &str); 30] = [
     (
         "12:00 INFO got Reading { channel: 3 }",
         "12:00 INFO got Reading {\n    channel: 3,\n}",
@@ -61,10 +61,27 @@ const DEBUG_TEXTS: [(&str, &str); 22] = [
         "x [\n    [\n        ' ',\n        '\"',\n        '\\'',\n        '[',\n    ],\n]",
     ),
     ("\u{fe0f}é: [\"é\"]", "\u{fe0f}é: [\n    \"é\",\n]"),
+    ("[é]", "[\n    é,\n]"),
+    (
+        "Point { x: 1.5, y: -2.0 }",
+        "Point {\n    x: 1.5,\n    y: -2.0,\n}",
+    ),
+    ("a::B { x: 1 }", "a::B {\n    x: 1,\n}"),
+    ("Wrapper<u8> { x: 1 }", "Wrapper<u8> {\n    x: 1,\n}"),
+    ("got r=Ok({})", "got r=Ok(\n    {},\n)"),
+    (
+        "x=S { a: (b,) }",
+        "x=S {\n    a: (\n        b,\n    ),\n}",
+    ),
+    ("[\"a\"..\"b\"]", "[\n    \"a\"..\"b\",\n]"),
+    (
+        "took [1.5ms, 2s]",
+        "took [\n    1.5ms,\n    2s,\n]",
+    ),
 ];
 
 // Lines that stay as they are.
-const OTHERS: [&[u8]; 25] = [
+const OTHERS: [&[u8]; 24] = [
     b"",
     b" ",
     b"word",
@@ -83,13 +100,12 @@ const OTHERS: [&[u8]; 25] = [
     b"'[' ']'",
     b"\xff\xfe",
     b"\xff [\"\xff\"]",
-    b"[\xc3\xa9]",
     b"\t[1]",
     b"()",
     b"{}",
     b"}",
     b") ] }",
-    b"x=S { a: (b,) }",
+    b"B { x: 1 }.",
 ];
 
 // Lines of which only a tail is a debug text, or of which more than one is: the longest is taken.
