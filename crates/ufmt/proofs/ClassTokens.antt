@@ -30,7 +30,7 @@ word_byte_below c h = grind (arith, nat_tests)
 is_plain : ℕ → Bool
 is_plain c = not (is_word_byte c) || is_debug_byte c && not (is_quote c)
 
-word_byte_is_plain : (c : ℕ) → is_word_byte c ≡ true → IsPlainByte c
+pub word_byte_is_plain : (c : ℕ) → is_word_byte c ≡ true → IsPlainByte c
 unfolding is_plain
 word_byte_is_plain c h =
     let low = word_byte_below c h in

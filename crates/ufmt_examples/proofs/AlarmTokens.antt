@@ -3,7 +3,6 @@ use Rattle.std.proofs.Common.{arith, inl, inr, pos, refl, String}
 use Rattle.std.specs.Prelude.{codes, string_bytes}
 use Rattle.std.specs.Str.{chars}
 use Rattle.std.proofs.lemmas.Str.{IsUtf8-string_bytes, scalars-chars}
-use Rattle.ufmt.specs.Quoted.{quoted_text}
 use Rattle.ufmt.specs.Token.{IsBuilt, IsTokenDocument}
 use Rattle.ufmt.specs.ValueDocuments.{string}
 use Rattle.ufmt.proofs.NumbersAreWords.{IsBuilt-integer}

@@ -1,20 +1,23 @@
 -- Leaves of debug documents, byte by byte: what the scanner passes belongs to the leaf at the front.
-use Rattle.std.proofs.Common.{◌≡◌, ◌⊎◌, inl, inr, refl, ap, sym, subst, ◌∙◌, ℕ, zero, suc, ◌<◌, ◌≤◌, ◌==◌, ◌&&◌, ◌||◌, not, nat_le, Bool, true, false, cond, List, [], ◌∷◌, ◌++◌, append_assoc, append-nil, length, length-append, take, drop, Option, Some, None, eq-eqb, eqb-true, arith}
+use Rattle.std.proofs.Common.{◌≡◌, refl, ap, sym, subst, ◌∙◌, ℕ, zero, suc, ◌<◌, ◌==◌, ◌&&◌, ◌||◌, not, nat_le, Bool, true, false, cond, List, [], ◌∷◌, ◌++◌, append_assoc, append-nil, length, length-append, take, drop, Some, None, eq-eqb, eqb-true, arith}
 use Rattle.std.specs.Prelude.{⊤, ◌≢◌, ◌-◌}
 use Rattle.std.specs.Str.{IsUtf8, is_utf8}
 use Rattle.std.proofs.lemmas.Bool.Decides.{nat_tests}
-use Rattle.std.proofs.lemmas.Str.{IsUtf8-from_is_utf8, is_utf8-from_IsUtf8}
+use Rattle.std.proofs.lemmas.Str.{IsUtf8-from_ascii, IsUtf8-from_is_utf8, is_utf8-from_IsUtf8}
 use Rattle.std.proofs.Math.Seq.{take-append_seam}
-use Rattle.ufmt.specs.Leaves.{Place, outside, between, after_backslash, place_after, is_control, is_quote, is_opening, is_ender, is_debug_byte, leads_on, has_quote}
-use Rattle.ufmt.specs.Reading.{choose, leaf_from, after_leaf, last_place, is_outside}
+use Rattle.ufmt.specs.Leaves.{Place, outside, between, after_backslash, place_after, is_control, is_quote, is_opening, is_ender, is_debug_byte, is_word_byte, leads_on, has_quote}
+use Rattle.ufmt.specs.Reading.{choose, leaf_from, after_leaf, after_word, last_place, is_outside, word_of}
+use Rattle.ufmt.proofs.ClassTokens.{word_byte_is_plain}
 use Rattle.ufmt.proofs.DebugLeaves.{StopsLeaf, kept_alone, stopped}
+use Rattle.ufmt.proofs.ReadingWords.{words_whole}
 use Rattle.ufmt.specs.declared.class.Class.TheVariants.{Debug}
 use Rattle.ufmt.specs.Reading.{is_whole}
 use Rattle.ufmt_scan.specs.declared.front.Front.{Front}
 use Rattle.ufmt_scan.specs.Private.Fronts.{EndsLeaf, IsSplit, NeverCloses, Passes, StaysBetween, StopsWord, colon_belongs}
 use Rattle.ufmt_scan.specs.Private.MarkedBytes.{is_marked, marked_len}
 use Rattle.ufmt_scan.specs.declared.debug_leaf.TheConstants.{COLON_BYTES, QUOTED_BYTES, WORD_BYTES}
-use Rattle.ufmt_scan.proofs.WordBytes.{marks}
+use Rattle.ufmt_scan.proofs.DocumentParts.{front_is_bytes}
+use Rattle.ufmt_scan.proofs.WordBytes.{marks, word_bytes_are_ascii}
 
 has_quote-append : (a b : List ℕ) → has_quote (a ++ b) ≡ has_quote a || has_quote b
 has_quote-append [] b = refl
@@ -350,10 +353,31 @@ module _ (t rest leaf : List ℕ) (is_name : Bool) (ends : EndsLeaf t rest is_na
       go true false e = refl
       go true true e = absurd (broken (subst IsUtf8 (sym leaf_is) (IsUtf8-from_is_utf8 (leaf_from outside t) e)))
 
-pub some_left : (n : ℕ) → (n == 0) ≡ false → 0 < n
-some_left zero h = absurd (cc)
-some_left (suc n) h = omega arith
+-- ---- leaves that are words of token documents
+
+tokens_are_passed : (t : List ℕ) → Passes outside t outside (after_word t) false
+tokens_are_passed [] = passes_none outside []
+tokens_are_passed (c ∷ t) = go (is_word_byte c) refl (tokens_are_passed t)
+  where
+    go : (b : Bool) → is_word_byte c ≡ b → Passes outside t outside (after_word t) false → Passes outside (c ∷ t) outside (cond b (after_word t) (c ∷ t)) false
+    go true is more = passes_then (word_passes c t (word_byte_is_plain c is).word) more
+    go false is more = passes_none outside (c ∷ t)
+
+-- a token word at the front is the leaf, if the leaf ends after it
+pub token_splits : (t word rest : List ℕ) → word ≡ word_of t → rest ≡ after_word t → EndsLeaf rest rest true
+    → (found : Front) → found.text.now ≡ word → found.rest.now ≡ rest → found.is_name ≡ true → IsSplit Debug t found
+token_splits t word rest is_word is_rest ends found text after named =
+    let whole = words_whole t in
+    let count : length t - length rest ≡ length (word_of t) = omega (arith, ap length whole, length-append (word_of t) (after_word t), ap length is_rest) in
+    let front = is_word ∙ sym (ap (λ n. take n t) count ∙ ap (take (length (word_of t))) whole ∙ take-append_seam (word_of t) (after_word t)) in
+    let passes = subst (λ r. Passes outside t outside r false) (sym is_rest) (tokens_are_passed t) in
+    leaf_splits t rest word true (record { passes = passes; none = ends.none; all = ends.all }) front found text after named
+    (IsUtf8-from_ascii word (word_bytes_are_ascii word (front_is_bytes t word is_word)))
 
 pub nothing_stops : (t : List ℕ) → length t ≡ 0 → StopsLeaf t
 nothing_stops [] h = tt
 nothing_stops (c ∷ t) h = absurd (omega (arith, h))
+
+pub some_left : (n : ℕ) → (n == 0) ≡ false → 0 < n
+some_left zero h = absurd (cc)
+some_left (suc n) h = omega arith

@@ -1,11 +1,12 @@
 //! Leaves of debug documents: words and texts in quotes in a row.
-ghost use Rattle.std.specs.Prelude.{◌≡◌, ◌<◌, ◌≤◌, ◌==◌, ◌||◌, ◌∷◌, ℕ, IfSome, MatchOption, false, length, nat_le, not, true};
+ghost use Rattle.std.specs.Prelude.{◌≡◌, ◌<◌, ◌≤◌, ◌==◌, ◌||◌, ◌∷◌, ℕ, IfSome, IsTrue, MatchOption, false, length, nat_le, not, true};
 ghost use Rattle.ufmt.specs.declared.class.Class.TheVariants.{Debug};
 ghost use Rattle.ufmt.specs.Leaves.{between, is_control, is_debug_byte, is_quote, outside};
 ghost use Rattle.ufmt_scan.specs.Private.Fronts.{EndsLeaf, NeverCloses, Passes, SplitsFront, StaysBetween, StopsWord, colon_belongs};
 
 use crate::front::Front;
-use crate::leaf::marked_len;
+use crate::leaf::{marked_len, split_word};
+use ufmt::ascii::text_from;
 
 // Marks each byte that a word of a debug document may have, but for colons.
 static WORD_BYTES: [u8; 256] = *b"\
@@ -31,6 +32,40 @@ static COLON_BYTES: [u8; 256] = *b"\
 /// Splits off the longest leaf, which may be empty. Returns `None` if its quotes aren't closed, or it
 /// isn't UTF-8.
 pub(crate) fn split_leaf(input: &[u8]) -> Option<Front<'_>>
+    ensures { SplitsFront Debug input.now result }
+{
+    // Most leaves are words of token documents, which are ASCII: nothing of them is tested again.
+    let (word, rest) = split_word(input);
+    if ends_here(rest) {
+        return Some(Front {
+            text: text_from(word, 0),
+            is_name: true,
+            rest,
+        });
+    }
+    split_any_leaf(input)
+}
+
+// Whether no byte of a leaf is at the front.
+#[inline(always)]
+fn ends_here(input: &[u8]) -> bool
+    ensures { IsTrue result → EndsLeaf input.now input.now true }
+{
+    let Some((&byte, _)) = input.split_first() else {
+        return true;
+    };
+    if byte == b':' {
+        match after_colons(input) {
+            Some(_) => false,
+            None => true,
+        }
+    } else {
+        !leads_on(byte)
+    }
+}
+
+// The same of every leaf.
+fn split_any_leaf(input: &[u8]) -> Option<Front<'_>>
     ensures { SplitsFront Debug input.now result }
 {
     let (rest, is_name) = after_leaf(input)?;

@@ -1,4 +1,4 @@
-use Rattle.std.proofs.Common.{◌∷◌, ap, sym, subst, false, true, arith, length}
+use Rattle.std.proofs.Common.{◌∷◌, ap, sym, subst, true, arith, length}
 use Rattle.ufmt.specs.Leaves.{between, outside}
 use Rattle.ufmt_scan.specs.Private.Fronts.{Passes}
 use Rattle.ufmt_scan.proofs.DebugFronts.{closed, differ, opened, passes_then}
