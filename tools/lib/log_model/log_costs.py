@@ -27,6 +27,10 @@ SECONDS = 120
 DEEP = "x"
 for _ in range(250):
     DEEP = Block("list", "", [(None, DEEP)])
+# Nearly all of its pretty text is indentation.
+INDENTED = Block("list", "", [(None, "x")] * 60)
+for _ in range(60):
+    INDENTED = Block("list", "", [(None, INDENTED)])
 READING = Block("struct", "Reading", [("channel", "3"), ("text", quoted("a [b]"))])
 
 
@@ -77,6 +81,7 @@ MANY_LINES = (
     line("short lines, made plain", "plain", 88, b"a word\n"),
     line("groups", "plain", 45, b"12:00 INFO got " + pretty(READING).encode() + b"\n"),
     line("groups of a bracket", "plain", 137, b"[\n]\n"),
+    line("groups of indented lines", "plain", 17, pretty(INDENTED).encode() + b"\n"),
 )
 SHAPES = LONG_LINES + MANY_LINES
 

@@ -1,69 +1,81 @@
 """How much each call may take of steps, of time and of memory, by what a text has."""
 from typing import NamedTuple
 
-from features import Features
+from features import Features, indentation
 
 # Steps that a call takes today: to start; for a byte of a word and of a leaf in quotes; for an escape and a character
 # past ASCII; for a leaf without quotes or a name, a leaf in quotation marks, and one in apostrophes; for a block with
-# entries and one without; for another byte of the call's text, and of that in the other mode.
+# entries and one without; for another byte of the call's text, and of that in the other mode; for a byte of
+# indentation of the one, and of the other.
 STEPS = {
-    "is_text": (3000, 12, 16, 316, 90, 20, 90, 490, 50, 40, 37, 0),
-    "read": (10000, 13, 17, 316, 91, 910, 1070, 1415, 1133, 400, 22, 13),
-    "convert": (10000, 30, 35, 310, 136, 630, 663, 1255, 865, 571, 24, 14),
-    "convert to a String": (10000, 12, 16, 315, 91, 671, 821, 1167, 754, 721, 27, 1),
-    "convert into": (3000, 12, 16, 315, 91, 440, 543, 950, 550, 440, 29, 1),
-    "again": (10000, 13, 18, 311, 92, 1310, 1453, 1787, 1376, 794, 56, 1),
-    "there and back": (20000, 47, 77, 617, 270, 1170, 1264, 2265, 1586, 1118, 37, 36),
-    "is_token": (1000, 12, 16, 315, 89, 75, 157, 567, 56, 51, 0, 0),
-    "print": (1000, 1, 1, 0, 0, 342, 366, 309, 449, 359, 30, 0),
-    "print into": (1000, 1, 1, 0, 0, 140, 146, 146, 258, 167, 6, 0),
-    "print loose into": (1000, 1, 1, 0, 0, 185, 145, 146, 258, 166, 6, 0),
-    "same_text": (1000, 49, 36, 643, 167, 816, 1245, 2532, 124, 242, 0, 0),
-    "normalize": (1000, 0, 0, 0, 0, 110, 29, 29, 43, 94, 0, 0),
-    "unquoted": (2000, 2, 150, 10, 85, 0, 0, 0, 0, 0, 0, 0),
-    "leaf_text": (2000, 2, 150, 10, 85, 0, 0, 0, 0, 0, 0, 0),
-    "field_text": (1000, 1, 1, 0, 0, 60, 0, 0, 0, 0, 0, 0),
-    "i128": (1000, 40, 0, 0, 0, 0, 0, 0, 0, 0, 0, 0),
-    "char": (2000, 2, 150, 10, 85, 0, 0, 0, 0, 0, 0, 0),
-    "String": (2000, 2, 150, 10, 85, 0, 0, 0, 0, 0, 0, 0),
-    "Option": (2000, 40, 1, 0, 0, 0, 0, 0, 0, 0, 0, 0),
-    "Vec": (1000, 40, 1, 0, 0, 600, 0, 0, 0, 0, 0, 0),
-    "BTreeSet": (2000, 40, 1, 0, 0, 1000, 0, 0, 0, 0, 0, 0),
-    "BTreeMap": (2000, 40, 150, 10, 85, 1600, 1600, 0, 0, 0, 0, 0),
-    "trees": (60000, 10, 1, 0, 0, 654, 0, 0, 0, 0, 0, 0),
-    "Node": (60000, 10, 1, 0, 0, 654, 0, 0, 0, 0, 0, 0),
-    "is_leaf": (2000, 0, 17, 220, 95, 0, 0, 0, 0, 0, 0, 0),
-    "is_word": (2000, 0, 13, 0, 0, 0, 0, 0, 0, 0, 0, 0),
-    "Doc::text": (2000, 0, 20, 350, 1, 0, 0, 0, 0, 0, 0, 0),
-    "Doc::character": (1000, 0, 0, 0, 0, 0, 0, 0, 0, 0, 0, 0),
+    "is_text": (3000, 12, 16, 316, 90, 20, 90, 490, 50, 40, 37, 0, 1.2, 0),
+    "read": (10000, 13, 17, 316, 91, 910, 1070, 1415, 1133, 400, 22, 13, 1.2, 0.3),
+    "convert": (10000, 30, 35, 310, 136, 630, 663, 1255, 865, 571, 24, 14, 1.4, 10),
+    "convert to a String": (10000, 12, 16, 315, 91, 671, 821, 1167, 754, 721, 27, 1, 1.2, 0.2),
+    "convert into": (3000, 12, 16, 315, 91, 440, 543, 950, 550, 440, 29, 1, 1.2, 0.2),
+    "again": (10000, 13, 18, 311, 92, 1310, 1453, 1787, 1376, 794, 56, 1, 7.6, 0.3),
+    "there and back": (20000, 47, 77, 617, 270, 1170, 1264, 2265, 1586, 1118, 37, 36, 11.7, 9),
+    "is_token": (1000, 12, 16, 315, 89, 75, 157, 567, 56, 51, 0, 0, 0, 0),
+    "print": (1000, 1, 1, 0, 0, 342, 366, 309, 449, 359, 30, 0, 4.2, 0),
+    "print into": (1000, 1, 1, 0, 0, 140, 146, 146, 258, 167, 6, 0, 3, 0),
+    "print loose into": (1000, 1, 1, 0, 0, 185, 145, 146, 258, 166, 6, 0, 3, 0),
+    "same_text": (1000, 49, 36, 643, 167, 816, 1245, 2532, 124, 242, 0, 0, 0, 0),
+    "normalize": (1000, 0, 0, 0, 0, 110, 29, 29, 43, 94, 0, 0, 0, 0),
+    "unquoted": (2000, 2, 150, 10, 85, 0, 0, 0, 0, 0, 0, 0, 0, 0),
+    "leaf_text": (2000, 2, 150, 10, 85, 0, 0, 0, 0, 0, 0, 0, 0, 0),
+    "field_text": (1000, 1, 1, 0, 0, 60, 0, 0, 0, 0, 0, 0, 0, 0),
+    "i128": (1000, 40, 0, 0, 0, 0, 0, 0, 0, 0, 0, 0, 0, 0),
+    "char": (2000, 2, 150, 10, 85, 0, 0, 0, 0, 0, 0, 0, 0, 0),
+    "String": (2000, 2, 150, 10, 85, 0, 0, 0, 0, 0, 0, 0, 0, 0),
+    "Option": (2000, 40, 1, 0, 0, 0, 0, 0, 0, 0, 0, 0, 0, 0),
+    "Vec": (1000, 40, 1, 0, 0, 600, 0, 0, 0, 0, 0, 0, 0, 0),
+    "BTreeSet": (2000, 40, 1, 0, 0, 1000, 0, 0, 0, 0, 0, 0, 0, 0),
+    "BTreeMap": (2000, 40, 150, 10, 85, 1600, 1600, 0, 0, 0, 0, 0, 0, 0),
+    "trees": (60000, 10, 1, 0, 0, 654, 0, 0, 0, 0, 0, 0, 0, 0),
+    "Node": (60000, 10, 1, 0, 0, 654, 0, 0, 0, 0, 0, 0, 0, 0),
+    "is_leaf": (2000, 0, 17, 220, 95, 0, 0, 0, 0, 0, 0, 0, 0, 0),
+    "is_word": (2000, 0, 13, 0, 0, 0, 0, 0, 0, 0, 0, 0, 0, 0),
+    "Doc::text": (2000, 0, 20, 350, 1, 0, 0, 0, 0, 0, 0, 0, 0, 0),
+    "Doc::character": (1000, 0, 0, 0, 0, 0, 0, 0, 0, 0, 0, 0, 0, 0),
 }
 # A call that reads a text and then does another thing takes what both take.
 STEPS["parse"] = tuple(map(sum, zip(STEPS["read"], STEPS["trees"])))
 STEPS["read_field"] = tuple(map(sum, zip(STEPS["read"], STEPS["leaf_text"], STEPS["field_text"])))
 # It may take so many times the steps, and a step so many nanoseconds, of a machine that does other things too. That is
-# for texts so long that time that grows in another order is far beyond.
+# for texts so long that time that grows in another order is far beyond. Spaces of indentation are compared and written
+# several at once, and a text may be nearly all indentation, so of these steps it may take fewer more.
 MOST_STEPS = 1.8
+MOST_INDENTATION = 1.3
 NANOSECONDS = 3
 
 
 class Case(NamedTuple):
-    """What is known of a call's text: its features, its length in bytes, that of the text in the other mode, and that
-    of a quoted text of it."""
+    """What is known of a call's text: its features, its length in bytes, that of the text in the other mode, that of a
+    quoted text of it, and the bytes of indentation of the first two."""
 
     features: Features
     length: int
     other: int
-    quoted: int
+    quoted: int = 0
+    indentation: int = 0
+    other_indentation: int = 0
 
     def others(self, length):
-        """The bytes of a text that are no leaf's and no name's."""
+        """The bytes of a text, without its indentation, that are no leaf's and no name's."""
         return max(length - self.features.text_bytes(), 0)
+
+
+def case_of(found, text, other):
+    """The case of a text with these features, and of the text in the other mode."""
+    return Case(found, len(text.encode()), len(other.encode()), 0, indentation(text), indentation(other))
 
 
 def steps(call, case):
     found = case.features
-    has = (1, *found[:9], case.others(case.length), case.others(case.other))
-    return int(MOST_STEPS * sum(each * count for each, count in zip(STEPS[call], has)))
+    indents = case.indentation, case.other_indentation
+    has = (1, *found[:9], case.others(case.length - indents[0]), case.others(case.other - indents[1]), *indents)
+    taken = [each * count for each, count in zip(STEPS[call], has)]
+    return int(MOST_STEPS * sum(taken[:-2]) + MOST_INDENTATION * sum(taken[-2:]))
 
 
 class Memory(NamedTuple):

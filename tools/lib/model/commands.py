@@ -4,16 +4,19 @@ from typing import NamedTuple
 import bounds
 import shapes
 from costs import SECONDS, rough
-from features import features
+from features import features, indentation
 from model import plain, pretty
 
-# A text has a document of each shape, of so many bytes or of some times that. Steps are not counted of longer texts.
+# A text has a document of each shape, of so many bytes or of some times that. Steps are not counted of texts that have
+# more bytes besides their indentation.
 COUNTED_SIZE = 512
 MOST_COUNTED = 128 * 1024
 # What a run takes before it reads: a chunk of 64 KiB is made, byte by byte.
 START_STEPS, START_BYTES, CHUNK = 1_200_000, 70_000, 64 * 1024
-# Each command's steps for a byte of its input, and of a line of it, besides those of its conversion.
+# Each command's steps for a byte of its input, and of a line of it, besides those of its conversion. A byte of
+# indentation costs fewer: when it is read, and when it is looked at for the end of its line too.
 BYTE_STEPS, LINE_STEPS = 40, 600
+READ_INDENTATION, SPLIT_INDENTATION = 1, 17
 # ufmt_lines tries each place after a space as the start of a text.
 PLACE_STEPS = 400
 # What is before the text of a line, as in a log.
@@ -36,14 +39,14 @@ def one_of_each(size):
 
 def document_runs(name, document):
     found = features(document)
-    texts = plain(document).encode(), pretty(document).encode()
-    lengths = [len(text) for text in texts]
-    yield Run(name, "pretty", texts[0], bounds.Case(found, *lengths, 0))
-    yield Run(name, "plain", texts[1], bounds.Case(found, *lengths[::-1], 0))
+    texts = plain(document), pretty(document)
+    yield Run(name, "pretty", texts[0].encode(), bounds.case_of(found, *texts))
+    yield Run(name, "plain", texts[1].encode(), bounds.case_of(found, *texts[::-1]))
 
 
 def lengths_run(name, data):
-    return Run(name, "lengths", data, bounds.Case(rough(""), len(data), 8 * data.count(b"\n") + 30, 0))
+    case = bounds.Case(rough(""), len(data), 8 * data.count(b"\n") + 30, indentation=indentation(data.decode()))
+    return Run(name, "lengths", data, case)
 
 
 def runs():
@@ -52,6 +55,8 @@ def runs():
     yield from document_runs("a long list of each shape", one_of_each(32 * COUNTED_SIZE))
     for name in ("a wide list of an empty map", "a wide list of letters", "a text of all kinds"):
         yield from document_runs(name, made[name](16 * COUNTED_SIZE))
+    for name in ("a deep list of letters", "a deep list, of a list each"):
+        yield from document_runs(name, made[name](128 * COUNTED_SIZE))
     yield lengths_run("short lines", pretty(one_of_each(COUNTED_SIZE)).encode())
     yield lengths_run("empty lines", b"\n" * 16 * COUNTED_SIZE)
     yield lengths_run("one line", b"x" * 64 * COUNTED_SIZE)
@@ -59,8 +64,15 @@ def runs():
 
 
 def run_steps(run):
-    converting = 0 if run.command == "lengths" else bounds.steps("convert", run.case)
-    return START_STEPS + converting + BYTE_STEPS * len(run.data) + LINE_STEPS * run.data.count(b"\n")
+    """What the input takes, and what is made of it. Only lengths splits it into lines."""
+    if run.command == "lengths":
+        return START_STEPS + byte_steps(run.data, run.case, SPLIT_INDENTATION) + LINE_STEPS * run.data.count(b"\n")
+    return START_STEPS + bounds.steps("convert", run.case) + byte_steps(run.data, run.case, READ_INDENTATION)
+
+
+def byte_steps(data, case, of_indentation):
+    """What the bytes of an input take, besides what is made of them."""
+    return BYTE_STEPS * (len(data) - case.indentation) + of_indentation * case.indentation
 
 
 def run_memory(run):
@@ -89,7 +101,7 @@ def run_faults(counter, program, run):
     wrong = over(counts[0], allowed)
     if wrong:
         yield "%s: %s" % (name, wrong)
-    if counter.valgrind and len(run.data) <= MOST_COUNTED:
+    if counter.valgrind and run.case.length - run.case.indentation <= MOST_COUNTED:
         steps = counter.steps(arguments, run.data, name, seconds=SECONDS)[0]
         if steps > run_steps(run):
             yield "%s: %d steps, and not at most %d" % (name, steps, run_steps(run))
@@ -112,25 +124,25 @@ class LogGroup(NamedTuple):
 
 def lines(is_plain):
     """A group for each shape. The first one is for what a run takes at its start, with its own memory."""
-    yield LogGroup(FIRST, "x", "x", bounds.Case(rough(""), 1, 1, 0))
+    yield LogGroup(FIRST, "x", "x", bounds.Case(rough(""), 1, 1))
     for name, make in shapes.documents().items():
         document = make(4 * COUNTED_SIZE)
         texts = plain(document), pretty(document)
         text, other = texts[::-1] if is_plain else texts
-        case = bounds.Case(features(document), len(text.encode()), len(other.encode()), 0)
-        yield LogGroup(name, STAMP + text, STAMP + other, case)
+        yield LogGroup(name, STAMP + text, STAMP + other, bounds.case_of(features(document), text, other))
     for name, make in shapes.no_texts().items():
         text = STAMP + make(4 * COUNTED_SIZE)
         # A line that ends with a bracket isn't the last of its group.
         if text[-1] not in "[\n":
-            yield LogGroup(name, text, text, bounds.Case(rough(text), len(text), len(text), 0))
+            yield LogGroup(name, text, text, bounds.case_of(rough(text), text, text))
 
 
 def line_steps(line):
     """A text is scanned, and then converted. Each byte is copied, and looked at for the end of its line."""
     scanned = bounds.steps("is_text", line.case) + bounds.steps("convert into", line.case)
     places = PLACE_STEPS * line.group.count(" ") if line.group == line.output else 0
-    return scanned + places + BYTE_STEPS * len(line.group) + LINE_STEPS * (2 + line.group.count("\n"))
+    copied = byte_steps(line.group, line.case, SPLIT_INDENTATION)
+    return scanned + places + copied + LINE_STEPS * (2 + line.group.count("\n"))
 
 
 def line_faults(counter, program, is_plain):

@@ -3,7 +3,7 @@ from typing import NamedTuple
 
 import bounds
 import shapes
-from features import Features, features, past_ascii
+from features import Features, features, indentation, past_ascii
 from model import plain, pretty
 
 # Of texts whose steps are counted, and of those whose memory and time is.
@@ -47,8 +47,7 @@ def sample(name, text, plain_case, pretty_case):
 def document_samples(name, document):
     """Both texts of a document."""
     found, texts = features(document), (plain(document), pretty(document))
-    lengths = [len(text.encode()) for text in texts]
-    cases = bounds.Case(found, *lengths, 0), bounds.Case(found, *lengths[::-1], 0)
+    cases = bounds.case_of(found, *texts), bounds.case_of(found, *texts[::-1])
     return [sample(name + way, text, *cases) for way, text in zip((", plain", ", pretty"), texts)]
 
 
@@ -58,7 +57,7 @@ def samples(size, number):
         yield from document_samples(name, make(size))
     for name, make in list(shapes.no_texts().items())[number::PARTS]:
         text = make(size)
-        case = bounds.Case(rough(text), len(text), 2 * len(text), 0)
+        case = bounds.Case(rough(text), len(text), 2 * len(text), indentation=indentation(text))
         yield sample(name, text, case, case)
 
 

@@ -30,6 +30,11 @@ class Features(NamedTuple):
         return self.words + self.quoted
 
 
+def indentation(text):
+    """How many bytes of spaces are at the starts of lines. No leaf has such a line."""
+    return sum(len(line) - len(line.lstrip(" ")) for line in text.split("\n"))
+
+
 def past_ascii(text):
     return 0 if text.isascii() else sum(character > "\x7f" for character in text)
 

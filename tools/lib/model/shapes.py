@@ -83,6 +83,14 @@ def deep_and_wide(place, size):
     return document
 
 
+def around(place, document, size):
+    """A chain, nearly as deep as any may be, around a list of this document. Nearly all of the pretty text is indentation."""
+    inner = repeated(document, size // 12)
+    for _ in range(min(size // 8, 240)):
+        inner = placed(place, inner)
+    return inner
+
+
 def halved(depth):
     """A list of two lists, each of two lists, and so on."""
     document = "x"
@@ -119,6 +127,8 @@ def documents():
         shapes["a wide list of a %s each" % place] = lambda size, place=place: repeated(placed(place, "x"), size)
         shapes["a deep " + place] = lambda size, place=place: deep(place, size)
         shapes["a deep and wide " + place] = lambda size, place=place: deep_and_wide(place, size)
+        shapes["a deep %s, of a %s each" % (place, place)] = lambda size, place=place: around(place, placed(place, "x"), size)
+    shapes["a deep list of letters"] = lambda size: around("list", "x", size)
     shapes["lists of two"] = lambda size: halved(size.bit_length() - 4)
     shapes["a wide list of trees"] = lambda size: repeated(TREE, size)
     shapes["a map of keys in order"] = ordered_map
