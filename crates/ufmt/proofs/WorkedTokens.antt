@@ -156,7 +156,7 @@ IsFollower-not-word h = elim h [ inl e ↦ false≢true e | inr e ↦ omega (ari
 debug-bytes : map is_debug_byte (codes "!#$%&*+-./09;<=>?@AZ\\^_`az|~") ≡ map (λ c. true) (codes "!#$%&*+-./09;<=>?@AZ\\^_`az|~")
 debug-bytes = refl
 
-other-debug-bytes : map is_debug_byte (codes "\u{0}\n\u{1f}\u{7f} \"'(),:[]{}") ≡ map (λ c. false) (codes "\u{0}\n\u{1f}\u{7f} \"'(),:[]{}")
+other-debug-bytes : map is_debug_byte (codes "\0\n\u{1f}\u{7f} \"'(),:[]{}") ≡ map (λ c. false) (codes "\0\n\u{1f}\u{7f} \"'(),:[]{}")
 other-debug-bytes = refl
 
 MayFollow-colon : MayFollow Debug (codes ": 1")

@@ -69,15 +69,9 @@ const DEBUG_TEXTS: [(&str, &str); 30] = [
     ("a::B { x: 1 }", "a::B {\n    x: 1,\n}"),
     ("Wrapper<u8> { x: 1 }", "Wrapper<u8> {\n    x: 1,\n}"),
     ("got r=Ok({})", "got r=Ok(\n    {},\n)"),
-    (
-        "x=S { a: (b,) }",
-        "x=S {\n    a: (\n        b,\n    ),\n}",
-    ),
+    ("x=S { a: (b,) }", "x=S {\n    a: (\n        b,\n    ),\n}"),
     ("[\"a\"..\"b\"]", "[\n    \"a\"..\"b\",\n]"),
-    (
-        "took [1.5ms, 2s]",
-        "took [\n    1.5ms,\n    2s,\n]",
-    ),
+    ("took [1.5ms, 2s]", "took [\n    1.5ms,\n    2s,\n]"),
 ];
 
 // Lines that stay as they are.
