@@ -1,7 +1,7 @@
 -- A document of a class has no line feed in a leaf or a name.
 use Rattle.std.proofs.Common.{◌≡◌, ◌≢◌, ℕ, List, [], ◌∷◌, Some, true, codes, sym, subst, inl, inr, arith}
 use Rattle.std.proofs.lemmas.Bool.{false≢true}
-use Rattle.ufmt_core.specs.Document.{Document, leaf, joined, list_of, set_of, map_of, struct_of, tuple_of, pretty_part, Documents, no_documents, first_document, Pairs, no_pairs, first_pair, Fields, no_fields, first_field}
+use Rattle.ufmt_core.specs.Document.{Document, leaf, joined, list_of, set_of, map_of, struct_of, non_exhaustive_of, tuple_of, pretty_part, Documents, no_documents, first_document, Pairs, no_pairs, first_pair, Fields, no_fields, first_field}
 use Rattle.ufmt.specs.Shift.{IsOneLine, HasNoLineFeed, HaveNoLineFeed, PairsHaveNoLineFeed, FieldsHaveNoLineFeed}
 use Rattle.ufmt.specs.Token.{Class, Token, Debug, is_word_byte, IsWordOrEmpty, IsWord, IsTokenLeaf, OrEmpty, IsName, IsLeaf, IsBuilt, AreBuilt, PairsAreBuilt, FieldsAreBuilt}
 use Rattle.ufmt.specs.Leaves.{Place, outside, between, after_backslash, place_after, EndsLeaf}
@@ -60,6 +60,7 @@ module _ (class : Class) where
     IsBuilt-HasNoLineFeed (struct_of name fs) h = (name_line class name h.0, FieldsAreBuilt-HaveNoLineFeed fs h.1)
     IsBuilt-HasNoLineFeed (tuple_of name no_documents) h = (name_line class name h, tt)
     IsBuilt-HasNoLineFeed (tuple_of name (first_document d ds)) h = (tuple_name_line class name h.0, (IsBuilt-HasNoLineFeed d h.1, AreBuilt-HaveNoLineFeed ds h.2))
+    IsBuilt-HasNoLineFeed (non_exhaustive_of name fs) h = absurd h
     IsBuilt-HasNoLineFeed (pretty_part d) h = absurd h
 
     AreBuilt-HaveNoLineFeed : (ds : Documents) → AreBuilt class ds → HaveNoLineFeed ds

@@ -7,10 +7,10 @@ use Rattle.std.proofs.lemmas.Bool.{agree_below_at}
 use Rattle.std.proofs.lemmas.Bool.Decides.{nat_tests}
 use Rattle.std.proofs.lemmas.Str.{IsUtf8-from_ascii, is_utf8-from_IsUtf8}
 use Rattle.std.proofs.lemmas.Str.Ascii.{IsAscii-cons, IsAscii-nil}
-use Rattle.ufmt_core.specs.Quoted.{IsQuote, IsQuoted, escaped_byte, escaped_bytes, hex_digits, quoted}
-use Rattle.ufmt_core.specs.Document.{Document, leaf, joined, list_of, set_of, map_of, struct_of, tuple_of, pretty_part, Documents, no_documents, first_document, Pairs, no_pairs, first_pair, Fields, no_fields, first_field}
-use Rattle.ufmt.specs.Token.{Token, Debug, IsWord, IsWordOrEmpty, OrEmpty, IsName, IsLeaf, IsBuilt, AreBuilt, PairsAreBuilt, FieldsAreBuilt, IsDocument}
-use Rattle.ufmt.specs.Leaves.{is_word_byte, is_debug_byte, is_quote, is_control, has_quote, Place, outside, between, after_backslash, place_after, EndsLeaf, IsSymbol, IsTokenLeaf, IsDebugText, IsDebugWord}
+use Rattle.ufmt_core.specs.Quoted.{IsQuote, escaped_byte, escaped_bytes, hex_digits, quoted}
+use Rattle.ufmt_core.specs.Document.{Document, leaf, joined, list_of, set_of, map_of, struct_of, non_exhaustive_of, tuple_of, pretty_part, Documents, no_documents, first_document, Pairs, no_pairs, first_pair, Fields, no_fields, first_field}
+use Rattle.ufmt.specs.Token.{Token, Debug, IsWord, IsWordOrEmpty, OrEmpty, IsName, IsLeaf, IsBuilt, AreBuilt, PairsAreBuilt, FieldsAreBuilt}
+use Rattle.ufmt.specs.Leaves.{is_word_byte, is_debug_byte, is_quote, is_control, has_quote, outside, between, after_backslash, place_after, EndsLeaf, IsSymbol, IsTokenLeaf, IsDebugText, IsDebugWord}
 use Rattle.ufmt.specs.ReadingLaws.{TokensAreDebug}
 use Rattle.ufmt.proofs.QuotedComplete.{quoted-bytes}
 use Rattle.ufmt.proofs.QuotedDecoded.{each_row}
@@ -167,6 +167,7 @@ mutual
   built (struct_of w fs) h = (word_is_name w h.0, built_fields fs h.1)
   built (tuple_of w no_documents) h = word_is_name w h
   built (tuple_of w (first_document d ds)) h = (name_is_debug w h.0, built d h.1, built_all ds h.2)
+  built (non_exhaustive_of name fs) h = absurd h
   built (pretty_part d) h = absurd h
 
   built_all : (ds : Documents) → AreBuilt Token ds → AreBuilt Debug ds

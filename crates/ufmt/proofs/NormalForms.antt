@@ -1,7 +1,7 @@
 -- The normal form of a document is its own normal form, and keeps the document's nesting, class and texts.
-use Rattle.std.proofs.Common.{◌≡◌, List, [], ◌∷◌, ℕ, ◌≤◌, refl, sym, ap, ap₂, ◌∙◌, subst, append-nil}
-use Rattle.ufmt_core.specs.Document.{Document, leaf, joined, list_of, set_of, map_of, struct_of, tuple_of, pretty_part, Documents, no_documents, first_document, Pairs, no_pairs, first_pair, Fields, no_fields, first_field, nest, nest_all, nest_pairs, nest_fields}
-use Rattle.ufmt_core.specs.Layout.{setting, inside, tuple_kind, block_text, layout, layouts, texts, pair_texts, field_texts}
+use Rattle.std.proofs.Common.{◌≡◌, List, [], ◌∷◌, ◌++◌, ℕ, ◌≤◌, refl, sym, ap, ap₂, ◌∙◌, subst, append-nil}
+use Rattle.ufmt_core.specs.Document.{Document, leaf, joined, list_of, set_of, map_of, struct_of, non_exhaustive_of, tuple_of, pretty_part, Documents, no_documents, first_document, Pairs, no_pairs, first_pair, Fields, no_fields, first_field, nest, nest_all, nest_pairs, nest_fields}
+use Rattle.ufmt_core.specs.Layout.{setting, inside, tuple_kind, block_text, dotted_fields, layout, layouts, texts, pair_texts, field_texts}
 use Rattle.ufmt_core.specs.declared.layout.Mode.TheVariants.{Pretty}
 use Rattle.ufmt_core.specs.declared.layout.Setting.{Setting}
 use Rattle.ufmt_core.specs.declared.layout.Kind.TheVariants.{Brackets, Braces, Struct}
@@ -18,6 +18,7 @@ mutual
   normal-normal (map_of ps) = ap map_of (normal_pairs-normal_pairs ps)
   normal-normal (struct_of name no_fields) = refl
   normal-normal (struct_of name (first_field field_name value fs)) = rw (normal-normal value, normal_fields-normal_fields fs)
+  normal-normal (non_exhaustive_of name fs) = ap (non_exhaustive_of name) (normal_fields-normal_fields fs)
   normal-normal (tuple_of name no_documents) = refl
   normal-normal (tuple_of name (first_document d ds)) = rw (normal-normal d, normal_all-normal_all ds)
   normal-normal (pretty_part d) = ap pretty_part (normal-normal d)
@@ -46,6 +47,8 @@ mutual
   nest-normal (map_of (first_pair key value ps)) = rw (nest-normal key, nest-normal value, nest_pairs-normal_pairs ps)
   nest-normal (struct_of name no_fields) = refl
   nest-normal (struct_of name (first_field field_name value fs)) = rw (nest-normal value, nest_fields-normal_fields fs)
+  nest-normal (non_exhaustive_of name no_fields) = refl
+  nest-normal (non_exhaustive_of name (first_field field_name value fs)) = rw (nest-normal value, nest_fields-normal_fields fs)
   nest-normal (tuple_of name no_documents) = refl
   nest-normal (tuple_of name (first_document d ds)) = rw (nest-normal d, nest_all-normal_all ds)
   nest-normal (pretty_part d) = nest-normal d
@@ -75,6 +78,7 @@ module _ (class : Class) where
     IsBuilt-normal (struct_of name (first_field field_name value fs)) h = (h.0, (h.1.0, IsBuilt-normal value h.1.1, FieldsAreBuilt-normal_fields fs h.1.2))
     IsBuilt-normal (tuple_of name no_documents) h = name_leaf class name h
     IsBuilt-normal (tuple_of name (first_document d ds)) h = (h.0, IsBuilt-normal d h.1, AreBuilt-normal_all ds h.2)
+    IsBuilt-normal (non_exhaustive_of name fs) h = absurd h
     IsBuilt-normal (pretty_part d) h = absurd h
 
     pub AreBuilt-normal_all : (ds : Documents) → AreBuilt class ds → AreBuilt class (normal_all ds)
@@ -117,6 +121,7 @@ mutual
   layout-normal s (map_of ps) = ap (block_text Braces s []) (pair_texts-normal_pairs (inside s) ps)
   layout-normal s (struct_of name fs) = layout-normal-struct_of s name fs ∙ ap (block_text Struct s name) (field_texts-normal_fields (inside s) fs)
   layout-normal s (tuple_of name ds) = layout-normal-tuple_of s name ds ∙ ap (block_text (tuple_kind name) s name) (texts-normal_all (inside s) ds)
+  layout-normal s (non_exhaustive_of name fs) = ap (λ ts. name ++ dotted_fields s ts) (field_texts-normal_fields (inside s) fs)
   layout-normal s (pretty_part d) = layout-normal (setting Pretty s.depth) d
 
   pub layouts-normal_all : (s : Setting) (ds : Documents) → layouts s (normal_all ds) ≡ layouts s ds

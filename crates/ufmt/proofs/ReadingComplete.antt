@@ -1,6 +1,6 @@
 -- Reading is complete: the text of a document of a class, before what may follow, is read as its normal form.
 use Rattle.std.proofs.Common.{◌≡◌, ◌∙◌, refl, ap, ℕ, zero, suc, ◌<◌, ◌≤◌, List, [], ◌∷◌, ◌++◌, Some, None, codes, append_assoc, append-nil, arith}
-use Rattle.ufmt_core.specs.Document.{Document, leaf, joined, list_of, set_of, map_of, struct_of, tuple_of, pretty_part, Documents, no_documents, first_document, Pairs, no_pairs, first_pair, Fields, no_fields, first_field, documents, pairs_of, fields_of, nest, nest_all, nest_pairs, nest_fields}
+use Rattle.ufmt_core.specs.Document.{Document, leaf, joined, list_of, set_of, map_of, struct_of, non_exhaustive_of, tuple_of, pretty_part, Documents, no_documents, first_document, Pairs, no_pairs, first_pair, Fields, no_fields, first_field, documents, pairs_of, fields_of, nest, nest_all, nest_pairs, nest_fields}
 use Rattle.ufmt_core.specs.Layout.{frame, inside, new_line, lead, trail, block_tail, layout, texts, pair_texts, field_texts}
 use Rattle.ufmt_core.specs.declared.layout.Setting.{Setting}
 use Rattle.ufmt_core.specs.declared.layout.Kind.TheVariants.{Brackets, Braces, Struct, Tuple, Unnamed}
@@ -191,6 +191,7 @@ module _ (class : Class) where
   read_with_complete s p n below fits (tuple_of [] no_documents) u h less follows = absurd (name_some class h)
   read_with_complete s p n below fits (tuple_of (c ∷ name) no_documents) u h less follows = name_complete s p (c ∷ name) u h follows
   read_with_complete s p n below fits (tuple_of name (first_document d ds)) u h less follows = tuple_complete s p n below fits name d ds u h.0 h.1 h.2 less
+  read_with_complete s p n below fits (non_exhaustive_of name fs) u h less follows = absurd h
   read_with_complete s p n below fits (pretty_part d) u h less follows = absurd h
 
   pub read_complete : (n : ℕ) (s : Setting) (d : Document) (u : List ℕ) → IsBuilt class d → nest d ≤ n → Fits s n → MayFollow class u

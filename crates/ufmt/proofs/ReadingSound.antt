@@ -6,7 +6,7 @@ use Rattle.ufmt_core.specs.declared.layout.Setting.{Setting}
 use Rattle.ufmt_core.specs.declared.layout.Kind.TheVariants.{Brackets, Braces, Struct, Tuple, Unnamed}
 use Rattle.ufmt_core.specs.declared.layout.Count.TheVariants.{Zero}
 use Rattle.ufmt.specs.Token.{Class, OrEmpty, IsName, IsLeaf, IsBuilt, normal}
-use Rattle.ufmt.specs.Reading.{Parse, choose, strip, front_of, after_front, is_whole, is_name, read_name, read_symbol, read_value, read_pair, read_block, read_list, read_map, read_set, read_map_or_set, read_braced_entries, read_braces, read_tuple, read_struct, read_unnamed, read_without_name, read_named, read_after_front, read_by_front, read_with, read}
+use Rattle.ufmt.specs.Reading.{Parse, choose, strip, front_of, after_front, is_whole, is_name, read_name, read_symbol, read_value, read_pair, read_block, read_list, read_map, read_set, read_map_or_set, read_braced_entries, read_braces, read_tuple, read_struct, read_unnamed, read_without_name, read_named, read_by_front, read_with, read}
 use Rattle.ufmt.proofs.Parsing.{same_parts, strip_found, led_from, chosen_from}
 use Rattle.ufmt.proofs.ClassLeaves.{IsFrontOf, name_leaf, front_is, fronts_whole, read_name_sound, symbol_is_leaf}
 use Rattle.ufmt_core.proofs.Printing.{texts-documents, pair_texts-pairs_of, field_texts-fields_of}

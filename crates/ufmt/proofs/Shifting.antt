@@ -1,15 +1,16 @@
 -- Shifting moves a pretty text one depth in, so a document's shifted text is its pretty text.
-use Rattle.std.proofs.Common.{◌≡◌, ℕ, zero, suc, ◌+◌, ◌≤◌, ◌==◌, List, [], ◌∷◌, ◌++◌, map, Bool, true, false, codes, refl, sym, ap, ap₂, ◌∙◌, append_assoc, ne_eqb, arith}
+use Rattle.std.proofs.Common.{◌≡◌, ℕ, zero, suc, ◌+◌, ◌≤◌, ◌==◌, List, [], ◌∷◌, ◌++◌, map, Bool, true, false, codes, refl, sym, ap, ap₂, ◌∙◌, append_assoc, append-nil, ne_eqb, arith}
 use Rattle.std.specs.Prelude.{⊤}
-use Rattle.ufmt_core.specs.Document.{Document, leaf, joined, list_of, set_of, map_of, struct_of, tuple_of, pretty_part, Documents, no_documents, first_document, Pairs, no_pairs, first_pair, Fields, no_fields, first_field, nest, nest_all, nest_pairs, nest_fields}
-use Rattle.ufmt_core.specs.Layout.{Frame, frame, tuple_kind, setting, inside, entry_depth, indentation, later_lead, lead, ending, next, block_tail, block_text, layout, layouts, texts, pair_texts, field_texts, pretty_text}
+use Rattle.ufmt_core.specs.Document.{Document, leaf, joined, list_of, set_of, map_of, struct_of, non_exhaustive_of, tuple_of, pretty_part, Documents, no_documents, first_document, Pairs, no_pairs, first_pair, Fields, no_fields, first_field, nest, nest_all, nest_pairs, nest_fields}
+use Rattle.ufmt_core.specs.Layout.{Frame, frame, tuple_kind, setting, inside, entry_depth, indentation, later_lead, lead, ending, dots_ending, dotted_fields, next, framed_all, count_after, block_tail, block_text, layout, layouts, texts, pair_texts, field_texts, pretty_text}
 use Rattle.ufmt_core.specs.declared.layout.Mode.TheVariants.{Pretty}
 use Rattle.ufmt_core.specs.declared.layout.Setting.{Setting}
 use Rattle.ufmt_core.specs.declared.layout.Kind.{Kind}
 use Rattle.ufmt_core.specs.declared.layout.Kind.TheVariants.{Brackets, Braces, Struct, Tuple, Unnamed}
 use Rattle.ufmt_core.specs.declared.layout.Count.{Count}
 use Rattle.ufmt_core.specs.declared.layout.Count.TheVariants.{Zero, One, Several}
-use Rattle.ufmt.specs.Shift.{margin, shift_from, shift, shift_times, entry_lines, shifted_tail, shifted_block, shifted, shifted_joined, shifted_texts, shifted_pairs, shifted_fields, IsOneLine, HasNoLineFeed, HaveNoLineFeed, PairsHaveNoLineFeed, FieldsHaveNoLineFeed}
+use Rattle.ufmt_core.proofs.Blocks.{block_tail-parts}
+use Rattle.ufmt.specs.Shift.{margin, shift_from, shift, shift_times, entry_lines, shifted_tail, shifted_block, shifted_dotted, shifted, shifted_joined, shifted_texts, shifted_pairs, shifted_fields, IsOneLine, HasNoLineFeed, HaveNoLineFeed, PairsHaveNoLineFeed, FieldsHaveNoLineFeed}
 
 -- ---- texts
 
@@ -87,6 +88,9 @@ shift-entry k text lines end = rw (
   append_assoc (indentation k) (hanging k (shift lines)) end,
 ) (indentation-suc k _)
 
+framed_assoc : (a b c d u : List ℕ) → ((a ++ (b ++ c)) ++ d) ++ u ≡ a ++ (b ++ (c ++ (d ++ u)))
+framed_assoc a b c d u = simp append_assoc
+
 -- a steady frame: each of its parts is on one line, and its closing is the same after one entry as after several
 record IsSteady (f : Frame) : Type 0 where
   opening : (k : ℕ) → hanging k f.opening ≡ f.opening
@@ -113,14 +117,25 @@ ending-next f k Zero p = ap (λ u. indentation k ++ u) p.one
 ending-next f k One p = refl
 ending-next f k Several p = refl
 
+-- after an entry, entries in a row and the end are their shifted lines, if the end is these last lines, shifted, and a closing
+row-next : (f : Frame) (k : ℕ) (end : Count → List ℕ) (last closing : List ℕ)
+    → ((count : Count) → end (next count) ≡ indentation k ++ (hanging k (shift last) ++ closing)) → entry_depth Pretty k ≡ suc k → (count : Count)
+    (ss : List (List ℕ)) → framed_all f (inside (setting Pretty k)) (next count) (map (hanging (suc k)) ss)
+    ++ end (count_after (next count) (map (hanging (suc k)) ss)) ≡ indentation k ++ (hanging k (shift (entry_lines ss last)) ++ closing)
+row-next f k end last closing h e count [] = h count
+row-next f k end last closing h e count (s ∷ ss) =
+    let others = map (hanging (suc k)) ss in
+    framed_assoc (lead f (inside (setting Pretty k)) (next count)) (hanging (suc k) s) (codes ",\n")
+    (framed_all f (inside (setting Pretty k)) (next (next count)) others) (end (count_after (next (next count)) others))
+    ∙ ap₂ (λ before after. before ++ (hanging (suc k) s ++ (codes ",\n" ++ after)))
+    (lead-next f (inside (setting Pretty k)) count ∙ ap indentation e) (row-next f k end last closing h e (next count) ss)
+    ∙ sym (shift-entry k s (entry_lines ss last) closing)
+
 -- after an entry, the rest of a block is the shifted lines of the other entries, and the closing
 block_tail-next : (f : Frame) (k : ℕ) (count : Count) → IsSteady f → entry_depth Pretty k ≡ suc k → (ss : List (List ℕ)) →
-    block_tail f (setting Pretty k) (next count) (map (hanging (suc k)) ss) ≡ indentation k ++ (hanging k (shift (entry_lines ss)) ++ f.closing Several)
-block_tail-next f k count p e [] = ending-next f k count p
-block_tail-next f k count p e (s ∷ ss) =
-    ap₂ (λ before after. before ++ (hanging (suc k) s ++ (codes ",\n" ++ after)))
-    (lead-next f (inside (setting Pretty k)) count ∙ ap indentation e) (block_tail-next f k (next count) p e ss)
-    ∙ sym (shift-entry k s (entry_lines ss) (f.closing Several))
+    block_tail f (setting Pretty k) (next count) (map (hanging (suc k)) ss) ≡ indentation k ++ (hanging k (shift (entry_lines ss [])) ++ f.closing Several)
+block_tail-next f k count p e ss = block_tail-parts f (setting Pretty k) (next count) (map (hanging (suc k)) ss)
+    ∙ row-next f k (ending f (setting Pretty k)) [] (f.closing Several) (λ n. ending-next f k n p) e count ss
 
 -- the entries of a block at depth k, if it has any, are one deeper
 abbrev OneDeeper : ℕ → List (List ℕ) → Type 0
@@ -139,10 +154,10 @@ block_tail-first f k p (s ∷ ss) e =
       append_assoc,
       hanging-append k f.start _,
       p.start k,
-      hanging-append k (shift (entry_lines (s ∷ ss))) (f.closing Several),
+      hanging-append k (shift (entry_lines (s ∷ ss) [])) (f.closing Several),
       p.several k,
     )
-    (ap (λ u. f.start ++ (codes "\n" ++ u)) (sym (shift-entry k s (entry_lines ss) (f.closing Several))))
+    (ap (λ u. f.start ++ (codes "\n" ++ u)) (sym (shift-entry k s (entry_lines ss []) (f.closing Several))))
 
 -- a block in a steady frame hangs by its depth if its entries hang by theirs
 framed : (f : Frame) (k : ℕ) (name : List ℕ) (ss : List (List ℕ)) → IsSteady f → IsOneLine name → OneDeeper k ss →
@@ -150,6 +165,35 @@ framed : (f : Frame) (k : ℕ) (name : List ℕ) (ss : List (List ℕ)) → IsSt
 framed f k name ss p h e =
     rw (hanging-append k name _, hanging-one_line k name h, hanging-append k f.opening _, p.opening k)
     (ap (λ u. name ++ (f.opening ++ u)) (block_tail-first f k p ss e))
+
+-- ---- structs that end in dots
+
+-- after a field, the end of such a struct at depth k is the line of the dots, shifted, and the brace
+dots_ending-next : (k : ℕ) → entry_depth Pretty k ≡ suc k → (count : Count)
+    → dots_ending (setting Pretty k) (next count) ≡ indentation k ++ (hanging k (shift (codes "..\n")) ++ codes "}")
+dots_ending-next k e count = some count ∙ sym (indentation-suc k _)
+  where
+    line : (indentation (entry_depth Pretty k) ++ codes "..\n") ++ (indentation k ++ codes "}") ≡ indentation (suc k) ++ (codes "..\n" ++ ((indentation k ++ []) ++ codes "}"))
+    line = rw (e, append-nil (indentation k)) (append_assoc (indentation (suc k)) (codes "..\n") (indentation k ++ codes "}"))
+
+    some : (count : Count) → dots_ending (setting Pretty k) (next count) ≡ indentation (suc k) ++ (codes "..\n" ++ ((indentation k ++ []) ++ codes "}"))
+    some Zero = line
+    some One = line
+    some Several = line
+
+-- what follows the name of such a struct at depth k hangs by k
+dotted-first : (k : ℕ) (ss : List (List ℕ)) → OneDeeper k ss
+    → dotted_fields (setting Pretty k) (map (hanging (entry_depth Pretty k)) ss) ≡ hanging k (shifted_dotted ss)
+dotted-first k [] e = refl
+dotted-first k (s ∷ ss) e =
+    let lines = entry_lines ss (codes "..\n") in
+    let others = map (hanging (suc k)) ss in
+    rw (ap (λ n. map (hanging n) ss) e, e, hanging-append k (shift (s ++ (codes ",\n" ++ lines))) (codes "}"))
+    (framed_assoc (codes " {\n" ++ indentation (suc k)) (hanging (suc k) s) (codes ",\n")
+    (framed_all (frame Pretty Struct) (inside (setting Pretty k)) One others) (dots_ending (setting Pretty k) (count_after One others))
+    ∙ ap (λ after. codes " {\n" ++ (indentation (suc k) ++ (hanging (suc k) s ++ (codes ",\n" ++ after))))
+    (row-next (frame Pretty Struct) k (dots_ending (setting Pretty k)) (codes "..\n") (codes "}") (dots_ending-next k e) e Zero ss)
+    ∙ ap (λ u. codes " {\n" ++ u) (sym (shift-entry k s lines (codes "}"))))
 
 -- ---- documents
 
@@ -163,6 +207,10 @@ HasRoom-empty k h = record { within = omega arith; deeper = tt }
 
 HasRoom-entries : (k n : ℕ) (s : List ℕ) (ss : List (List ℕ)) → suc n + k ≤ 255 → HasRoom k n (s ∷ ss)
 HasRoom-entries k n s ss h = record { within = omega arith; deeper = omega arith }
+
+HasRoom-non_exhaustive_of : (k : ℕ) (name : List ℕ) (fs : Fields) → nest (non_exhaustive_of name fs) + k ≤ 255 → HasRoom k (nest_fields fs) (shifted_fields fs)
+HasRoom-non_exhaustive_of k name no_fields h = HasRoom-empty k h
+HasRoom-non_exhaustive_of k name (first_field field_name value fs) h = HasRoom-entries k _ _ _ h
 
 -- a block of any kind has room for its entries if it reaches depth 255 at most
 HasRoom-list_of : (k : ℕ) (ds : Documents) → nest (list_of ds) + k ≤ 255 → HasRoom k (nest_all ds) (shifted_texts ds)
@@ -191,6 +239,12 @@ block_text-shifted : (kind : Kind) (k n : ℕ) (name : List ℕ) (ss ts : List (
 block_text-shifted kind k n name ss ts h room e = ap (block_text kind (setting Pretty k) name) e
     ∙ framed (frame Pretty kind) k name ss (IsSteady-frame kind) h room.deeper
 
+-- the same holds of a struct that ends in dots
+dotted_fields-shifted : (k n : ℕ) (name : List ℕ) (ss ts : List (List ℕ)) → IsOneLine name → HasRoom k n ss
+    → ts ≡ map (hanging (entry_depth Pretty k)) ss → name ++ dotted_fields (setting Pretty k) ts ≡ hanging k (name ++ shifted_dotted ss)
+dotted_fields-shifted k n name ss ts h room e =
+    rw (hanging-append k name _, hanging-one_line k name h) (ap (λ u. name ++ u) (ap (dotted_fields (setting Pretty k)) e ∙ dotted-first k ss room.deeper))
+
 mutual
   -- a document's pretty text at depth k is its shifted text, hanging by k
   layout-shifted : (k : ℕ) (d : Document) → HasNoLineFeed d → nest d + k ≤ 255 → layout (setting Pretty k) d ≡ hanging k (shifted d)
@@ -200,6 +254,7 @@ mutual
   layout-shifted k (set_of ds) h n = let room = HasRoom-set_of k ds n in block_text-shifted Braces k _ [] _ _ tt room (texts-shifted _ ds h room.within)
   layout-shifted k (map_of ps) h n = let room = HasRoom-map_of k ps n in block_text-shifted Braces k _ [] _ _ tt room (pair_texts-shifted _ ps h room.within)
   layout-shifted k (struct_of name fs) h n = let room = HasRoom-struct_of k name fs n in block_text-shifted Struct k _ name _ _ h.0 room (field_texts-shifted _ fs h.1 room.within)
+  layout-shifted k (non_exhaustive_of name fs) h n = let room = HasRoom-non_exhaustive_of k name fs n in dotted_fields-shifted k _ name _ _ h.0 room (field_texts-shifted _ fs h.1 room.within)
   layout-shifted k (tuple_of name ds) h n = let room = HasRoom-tuple_of k name ds n in block_text-shifted (tuple_kind name) k _ name _ _ h.0 room (texts-shifted _ ds h.1 room.within)
   layout-shifted k (pretty_part d) h n = layout-shifted k d h n
 

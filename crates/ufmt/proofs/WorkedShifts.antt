@@ -1,6 +1,6 @@
 -- Examples of shifted texts, computed.
 use Rattle.std.proofs.Common.{◌≡◌, codes, refl, arith}
-use Rattle.ufmt_core.specs.Document.{Document, leaf, joined, list_of, set_of, map_of, struct_of, tuple_of, pretty_part, Documents, no_documents, first_document, no_pairs, first_pair, no_fields, first_field}
+use Rattle.ufmt_core.specs.Document.{Document, leaf, joined, list_of, set_of, map_of, struct_of, non_exhaustive_of, tuple_of, pretty_part, Documents, no_documents, first_document, no_pairs, first_pair, no_fields, first_field}
 use Rattle.ufmt_core.specs.Layout.{pretty_text}
 use Rattle.ufmt.specs.Shift.{shift, shift_times, shifted, HasNoLineFeed}
 
@@ -67,6 +67,11 @@ shifted-maps = refl
 shifted-empty_blocks : shifted (joined (first_document (list_of no_documents)
     (first_document (map_of no_pairs) (first_document (struct_of (codes "A") no_fields) (lone (tuple_of (codes "B") no_documents)))))) ≡ codes "[]{}AB"
 shifted-empty_blocks = refl
+
+-- a struct that ends in dots, and one without fields
+shifted-dotted : shifted (list_of (first_document (non_exhaustive_of (codes "P") (first_field (codes "x") one no_fields)) (lone (non_exhaustive_of (codes "Q") no_fields))))
+    ≡ codes "[\n    P {\n        x: 1,\n        ..\n    },\n    Q { .. },\n]"
+shifted-dotted = refl
 
 -- a pretty part has the shifted text of its document
 shifted-part : shifted (list_of (lone (pretty_part (tuple_of (codes "Some") (lone one))))) ≡ codes "[\n    Some(\n        1,\n    ),\n]"

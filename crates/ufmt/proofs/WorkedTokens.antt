@@ -1,5 +1,5 @@
 -- Examples of words, token documents, normal forms and followers, computed.
-use Rattle.std.proofs.Common.{◌≡◌, [], ℕ, zero, suc, map, true, false, codes, refl, inl, inr, arith}
+use Rattle.std.proofs.Common.{◌≡◌, ℕ, zero, suc, map, true, false, codes, refl, inl, inr, arith}
 use Rattle.std.proofs.lemmas.Bool.{false≢true}
 use Rattle.ufmt_core.specs.Document.{Document, leaf, joined, list_of, set_of, map_of, struct_of, tuple_of, pretty_part, Documents, no_documents, first_document, no_pairs, first_pair, no_fields, first_field, nest}
 use Rattle.ufmt.specs.Leaves.{is_debug_byte}

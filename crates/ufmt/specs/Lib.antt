@@ -3,6 +3,7 @@ pub mod Column
 pub mod Cursor
 pub mod Cut
 pub mod Dump
+pub mod EachText
 pub mod Hex
 pub mod Leaves
 pub mod Lines

@@ -1,7 +1,8 @@
 -- Shifted text, a second definition of pretty text: the finished lines of a block's entries are indented, with no mode and no depth.
 use Rattle.std.specs.Prelude.{◌≢◌, ℕ, zero, suc, ◌==◌, List, [], ◌∷◌, ◌++◌, Bool, true, false, codes, ⊤}
 use Rattle.ufmt_core.specs.Bytes.{line_feed}
-use Rattle.ufmt_core.specs.Document.{Document, leaf, joined, list_of, set_of, map_of, struct_of, tuple_of, pretty_part, Documents, no_documents, first_document, Pairs, no_pairs, first_pair, Fields, no_fields, first_field}
+use Rattle.ufmt_core.specs.Document.{Document, leaf, joined, list_of, set_of, map_of, struct_of, non_exhaustive_of, tuple_of, pretty_part, Documents, no_documents, first_document, Pairs, no_pairs, first_pair, Fields, no_fields, first_field}
+use Rattle.ufmt.specs.EachText.{EachText, EachTextOfEntries, EachTextOfPairs, EachTextOfFields}
 use Rattle.ufmt_core.specs.Layout.{Frame, frame, tuple_kind}
 use Rattle.ufmt_core.specs.declared.layout.Count.TheVariants.{Zero, Several}
 use Rattle.ufmt_core.specs.declared.layout.Mode.TheVariants.{Pretty}
@@ -27,19 +28,24 @@ abbrev pub shift_times : ℕ → List ℕ → List ℕ
 shift_times zero text = text
 shift_times (suc k) text = shift_times k (shift text)
 
--- these texts, each with a comma and a line feed after it
-abbrev pub entry_lines : List (List ℕ) → List ℕ
-entry_lines [] = []
-entry_lines (text ∷ texts) = text ++ (codes ",\n" ++ entry_lines texts)
+-- these texts, each with a comma and a line feed after it, and the last lines
+abbrev pub entry_lines : List (List ℕ) → List ℕ → List ℕ
+entry_lines [] last = last
+entry_lines (text ∷ texts) last = text ++ (codes ",\n" ++ entry_lines texts last)
 
 -- what follows the opening of a block in this frame: the shifted lines of its entries, and the closing
 abbrev pub shifted_tail : Frame → List (List ℕ) → List ℕ
 shifted_tail f [] = f.closing Zero
-shifted_tail f (text ∷ texts) = f.start ++ (codes "\n" ++ (shift (entry_lines (text ∷ texts)) ++ f.closing Several))
+shifted_tail f (text ∷ texts) = f.start ++ (codes "\n" ++ (shift (entry_lines (text ∷ texts) []) ++ f.closing Several))
 
 -- a block of this kind and name, whose entries have these texts
 abbrev pub shifted_block : Kind → List ℕ → List (List ℕ) → List ℕ
 shifted_block kind name texts = name ++ ((frame Pretty kind).opening ++ shifted_tail (frame Pretty kind) texts)
+
+-- what follows the name of a struct that ends in dots: the shifted lines of its fields and of the dots, and the closing
+abbrev pub shifted_dotted : List (List ℕ) → List ℕ
+shifted_dotted [] = codes " { .. }"
+shifted_dotted (text ∷ texts) = codes " {\n" ++ (shift (entry_lines (text ∷ texts) (codes "..\n")) ++ codes "}")
 
 abbrev mutual
   -- the shifted text of a document
@@ -50,6 +56,7 @@ abbrev mutual
   shifted (set_of ds) = shifted_block Braces [] (shifted_texts ds)
   shifted (map_of ps) = shifted_block Braces [] (shifted_pairs ps)
   shifted (struct_of name fs) = shifted_block Struct name (shifted_fields fs)
+  shifted (non_exhaustive_of name fs) = name ++ shifted_dotted (shifted_fields fs)
   shifted (tuple_of name ds) = shifted_block (tuple_kind name) name (shifted_texts ds)
   shifted (pretty_part d) = shifted d
 
@@ -76,25 +83,14 @@ IsOneLine [] = ⊤
 IsOneLine (c ∷ text) = (c ≢ line_feed) × IsOneLine text
 
 -- no leaf, no name and no field name of the document has a line feed
-abbrev mutual
-  pub HasNoLineFeed : Document → Type 0
-  HasNoLineFeed (leaf text) = IsOneLine text
-  HasNoLineFeed (joined ds) = HaveNoLineFeed ds
-  HasNoLineFeed (list_of ds) = HaveNoLineFeed ds
-  HasNoLineFeed (set_of ds) = HaveNoLineFeed ds
-  HasNoLineFeed (map_of ps) = PairsHaveNoLineFeed ps
-  HasNoLineFeed (struct_of name fs) = IsOneLine name × FieldsHaveNoLineFeed fs
-  HasNoLineFeed (tuple_of name ds) = IsOneLine name × HaveNoLineFeed ds
-  HasNoLineFeed (pretty_part d) = HasNoLineFeed d
+abbrev pub HasNoLineFeed : Document → Type 0
+HasNoLineFeed d = EachText IsOneLine IsOneLine d
 
-  pub HaveNoLineFeed : Documents → Type 0
-  HaveNoLineFeed no_documents = ⊤
-  HaveNoLineFeed (first_document d ds) = HasNoLineFeed d × HaveNoLineFeed ds
+abbrev pub HaveNoLineFeed : Documents → Type 0
+HaveNoLineFeed ds = EachTextOfEntries IsOneLine IsOneLine ds
 
-  pub PairsHaveNoLineFeed : Pairs → Type 0
-  PairsHaveNoLineFeed no_pairs = ⊤
-  PairsHaveNoLineFeed (first_pair key value ps) = HasNoLineFeed key × HasNoLineFeed value × PairsHaveNoLineFeed ps
+abbrev pub PairsHaveNoLineFeed : Pairs → Type 0
+PairsHaveNoLineFeed ps = EachTextOfPairs IsOneLine IsOneLine ps
 
-  pub FieldsHaveNoLineFeed : Fields → Type 0
-  FieldsHaveNoLineFeed no_fields = ⊤
-  FieldsHaveNoLineFeed (first_field name value fs) = IsOneLine name × HasNoLineFeed value × FieldsHaveNoLineFeed fs
+abbrev pub FieldsHaveNoLineFeed : Fields → Type 0
+FieldsHaveNoLineFeed fs = EachTextOfFields IsOneLine IsOneLine fs

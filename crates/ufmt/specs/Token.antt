@@ -1,9 +1,9 @@
 -- Documents whose texts can be read again, of each class, and their normal form.
 use Rattle.std.specs.Prelude.{ℕ, ◌≤◌, List, ⊤}
-use Rattle.ufmt_core.specs.Document.{Document, leaf, joined, list_of, set_of, map_of, struct_of, tuple_of, pretty_part, Documents, no_documents, first_document, Pairs, no_pairs, first_pair, Fields, no_fields, first_field, nest}
+use Rattle.ufmt_core.specs.Document.{Document, leaf, joined, list_of, set_of, map_of, struct_of, non_exhaustive_of, tuple_of, pretty_part, Documents, no_documents, first_document, Pairs, no_pairs, first_pair, Fields, no_fields, first_field, nest}
 pub use Rattle.ufmt.specs.Leaves.{Class, Token, Debug, is_word_byte, IsWordOrEmpty, IsWord, IsUnquotedLeaf, IsSymbol, IsTokenLeaf, is_closer, IsFollower, OrEmpty, IsName, IsLeaf, MayFollow}
 
--- built from these: each leaf is as `Leaf` says, each name as `Name` says, and nothing is `joined` or a `pretty_part`; the name of a tuple with fields may be empty
+-- built from these: each leaf is as `Leaf` says, each name as `Name` says, and nothing is `joined`, a `pretty_part` or a struct that ends in dots; the name of a tuple with fields may be empty
 module _ (Name Leaf : List ℕ → Type 0) where
   abbrev mutual
     pub IsBuiltFrom : Document → Type 0
@@ -13,6 +13,7 @@ module _ (Name Leaf : List ℕ → Type 0) where
     IsBuiltFrom (set_of ds) = AreBuiltFrom ds
     IsBuiltFrom (map_of ps) = PairsAreBuiltFrom ps
     IsBuiltFrom (struct_of name fs) = Name name × FieldsAreBuiltFrom fs
+    IsBuiltFrom (non_exhaustive_of name fs) = ⊥
     IsBuiltFrom (tuple_of name no_documents) = Name name
     IsBuiltFrom (tuple_of name (first_document d ds)) = OrEmpty Name name × IsBuiltFrom d × AreBuiltFrom ds
     IsBuiltFrom (pretty_part d) = ⊥
@@ -66,6 +67,7 @@ abbrev mutual
   normal (map_of ps) = map_of (normal_pairs ps)
   normal (struct_of name no_fields) = leaf name
   normal (struct_of name (first_field field_name value fs)) = struct_of name (first_field field_name (normal value) (normal_fields fs))
+  normal (non_exhaustive_of name fs) = non_exhaustive_of name (normal_fields fs)
   normal (tuple_of name no_documents) = leaf name
   normal (tuple_of name (first_document d ds)) = tuple_of name (first_document (normal d) (normal_all ds))
   normal (pretty_part d) = pretty_part (normal d)

@@ -10,12 +10,20 @@
 /// `fields!(f, Variant(x, y))` or `fields!(f, None)`. For other values, write
 /// `fields!(f, Pair { x: a.x, y: b.y })`. These print the fields that are named, and don't see whether
 /// one is left out. Values are taken by reference. A type that holds itself has at most twelve fields.
+///
+/// With `..` at the end, as in `fields!(f, self, Session { user, .. })`, only the fields that are named
+/// are printed, and `..` after them, as `finish_non_exhaustive` does.
 #[macro_export]
 macro_rules! fields {
     ($formatter:expr, $value:ident, $name:ident { $($field:ident),* $(,)? } $(,)?) => {{
         let formatter: &mut $crate::Formatter<_> = $formatter;
         let $name { $($field),* } = &$value;
         $crate::fields!(formatter, $name { $($field: *$field),* })
+    }};
+    ($formatter:expr, $value:ident, $name:ident { $($field:ident,)* .. } $(,)?) => {{
+        let formatter: &mut $crate::Formatter<_> = $formatter;
+        let $name { $($field,)* .. } = &$value;
+        $crate::fields!(formatter, $name { $($field: *$field,)* .. })
     }};
     ($formatter:expr, $value:ident, $name:ident ( $($field:ident),* $(,)? ) $(,)?) => {{
         let formatter: &mut $crate::Formatter<_> = $formatter;
@@ -30,13 +38,27 @@ macro_rules! fields {
     ($formatter:expr, $name:ident { $($field:ident),+ $(,)? } $(,)?) => {
         $crate::fields!($formatter, $name { $($field: $field),+ })
     };
+    ($formatter:expr, $name:ident { $($field:ident,)+ .. } $(,)?) => {
+        $crate::fields!($formatter, $name { $($field: $field,)+ .. })
+    };
     ($formatter:expr, $name:ident $(,)?) => { $crate::Formatter::write_str($formatter, stringify!($name)) };
     ($formatter:expr, $name:ident {} $(,)?) => { $crate::Formatter::struct_0($formatter, stringify!($name)) };
+    ($formatter:expr, $name:ident { .. } $(,)?) => { $crate::Formatter::non_exhaustive_0($formatter, stringify!($name)) };
     ($formatter:expr, $name:ident () $(,)?) => { $crate::Formatter::tuple_0($formatter, stringify!($name)) };
     ($formatter:expr, $name:ident { $($field:ident: $value:expr),+ $(,)? } $(,)?) => {
         $crate::whole_value!(
             struct_of [$($field)+]
             [struct_1 struct_2 struct_3 struct_4 struct_5 struct_6 struct_7 struct_8 struct_9 struct_10 struct_11 struct_12]
+            $formatter, stringify!($name), $(stringify!($field), &$value,)+
+        )
+    };
+    ($formatter:expr, $name:ident { $($field:ident: $value:expr,)+ .. } $(,)?) => {
+        $crate::whole_value!(
+            non_exhaustive_of [$($field)+]
+            [
+                non_exhaustive_1 non_exhaustive_2 non_exhaustive_3 non_exhaustive_4 non_exhaustive_5 non_exhaustive_6
+                non_exhaustive_7 non_exhaustive_8 non_exhaustive_9 non_exhaustive_10 non_exhaustive_11 non_exhaustive_12
+            ]
             $formatter, stringify!($name), $(stringify!($field), &$value,)+
         )
     };
@@ -48,7 +70,7 @@ macro_rules! fields {
         )
     };
     ($($other:tt)*) => {
-        compile_error!("expected a formatter and what it prints: `self, Name { x, y }` or `self, Name(x, y)`, which take the value apart, `Name { x, y }`, `Name { x: e, y: e }`, `Name(e, e)` or `Name`")
+        compile_error!("expected a formatter and what it prints: `self, Name { x, y }` or `self, Name(x, y)`, which take the value apart, `Name { x, y }`, `Name { x: e, y: e }`, `Name(e, e)` or `Name`; `..` may end the fields in braces")
     };
 }
 
@@ -65,12 +87,15 @@ macro_rules! whole_value {
     (struct_of [$($more:tt)+] [] $formatter:expr, $name:expr, $($fields:tt)+) => {
         $crate::Formatter::struct_of($formatter, $name, &$crate::field_chain!($($fields)+))
     };
+    (non_exhaustive_of [$($more:tt)+] [] $formatter:expr, $name:expr, $($fields:tt)+) => {
+        $crate::Formatter::non_exhaustive_of($formatter, $name, &$crate::field_chain!($($fields)+))
+    };
     (tuple_of [$($more:tt)+] [] $formatter:expr, $name:expr, $($fields:tt)+) => {
         $crate::Formatter::tuple_of($formatter, $name, &$crate::value_chain!($($fields)+))
     };
 }
 
-/// The chain of fields that `Formatter::struct_of` takes.
+/// The chain of fields that `Formatter::struct_of` and `non_exhaustive_of` take.
 #[macro_export]
 macro_rules! field_chain {
     () => { () };

@@ -8,10 +8,10 @@ use Rattle.std.proofs.lemmas.Iterator.Consumers.{YieldsList-so_far}
 use Rattle.std.proofs.lemmas.List.{map-append, take_more, take-append-drop}
 use Rattle.std.proofs.lemmas.Simd.{map-map}
 use Rattle.ufmt_core.specs.Document.{Document}
-use Rattle.ufmt_core.specs.Layout.{Setting, Kind, Count, Zero, Frame, block_text, ending, frame, inside, layout, next, block_tail}
+use Rattle.ufmt_core.specs.Layout.{Setting, Kind, Count, Zero, Frame, block_text, ending, frame, framed, framed_all, count_after, inside, layout, next, block_tail}
 use Rattle.ufmt_core.specs.Writes.{Seen}
 use Rattle.ufmt_core.specs.Formatter.{Formatter, LaysOut, Prints, setting_of}
-use Rattle.ufmt_core.specs.BuilderView.{Status, Lent, LentValue, BuilderView, Same, WritesText, WritesEntry, WritesRow, WritesEntries, Abandons, EndsEntry, WritesEnding, After, IsInside, IsOpen, StopsIn, block_in_parts, framed, framed_all, frame_of, inner, lead_of, pair_text, count_after, trail_of}
+use Rattle.ufmt_core.specs.BuilderView.{Status, Lent, LentValue, BuilderView, Same, WritesText, WritesEntry, WritesAll, WritesRow, WritesEntries, Abandons, EndsEntry, WritesEnding, After, IsInside, IsOpen, StopsIn, block_in_parts, frame_of, inner, lead_of, pair_text, trail_of}
 use Rattle.ufmt_core.proofs.Writing.{is_ok-err, Writes-then, Writes-fails, Writes-nothing, Prints-then, Prints-then_at}
 
 module _ {W : Type 0} where
@@ -41,16 +41,6 @@ module _ {W : Type 0} {seen : Seen W} where
   pub WritesText-fails : {old new : BuilderView W} {p : List ℕ} (q : List ℕ) {between count : Count} → WritesText seen old p false between new
       → WritesText seen old (p ++ q) false count new
   WritesText-fails q a = record { wrote = Writes-fails q a.wrote; same = a.same; after = a.after }
-
-  -- a call that succeeds, and then one that closes the block
-  pub WritesEnding-then : {old mid new : BuilderView W} {p q : List ℕ} {ok : Bool} {between : Count} → WritesText seen old p true between mid
-      → WritesEnding seen mid q ok new → WritesEnding seen old (p ++ q) ok new
-  WritesEnding-then a f = record {
-    wrote = Writes-then a.wrote f.wrote;
-    same = Same-then a.same f.same;
-    closed = f.closed;
-    restored = f.restored ∙ a.same.outer;
-  }
 
   -- a call that fails closes the block
   pub WritesEnding-fails : {old new : BuilderView W} {p : List ℕ} (q : List ℕ) {between : Count} → WritesText seen old p false between new
@@ -146,7 +136,7 @@ block_tail-append f s count [] us = refl
 block_tail-append f s count (t ∷ ts) us = rw (block_tail-append f s (next count) ts us) (simp append_assoc)
 
 -- a block is its name and opening, its entries and its ending
-block_tail-parts : (f : Frame) (s : Setting) (count : Count) (ts : List (List ℕ))
+pub block_tail-parts : (f : Frame) (s : Setting) (count : Count) (ts : List (List ℕ))
     → block_tail f s count ts ≡ framed_all f (inside s) count ts ++ ending f s (count_after count ts)
 block_tail-parts f s count [] = refl
 block_tail-parts f s count (t ∷ ts) = rw (block_tail-parts f s (next count) ts) (simp append_assoc)
@@ -167,6 +157,27 @@ count_after-map f count (x ∷ xs) = count_after-map f (next count) xs
 count_after-append : {X : Type 0} (count : Count) (xs : List X) (x : X) → count_after count (xs ++ x ∷ []) ≡ next (count_after count xs)
 count_after-append count [] x = refl
 count_after-append count (y ∷ xs) x = count_after-append (next count) xs x
+
+module _ {W : Type 0} {seen : Seen W} where
+  -- there is no entry to write
+  pub WritesAll-none : (b : BuilderView W) → IsOpen b → WritesAll seen b (λ i. []) true b
+  WritesAll-none b open_b = record {
+    part =
+        record { wrote = Writes-nothing _; same = record { reference = refl; kind = refl; outer = refl }; after = (refl, open_b) };
+  }
+
+  module _ {old mid : BuilderView W} {text : Setting → List ℕ} {texts : Setting → List (List ℕ)} where
+    -- the first entry, and then the others
+    pub WritesAll-then : {new : BuilderView W} {ok : Bool} → WritesEntry seen old text true mid → WritesAll seen mid texts ok new
+        → WritesAll seen old (λ i. text i ∷ texts i) ok new
+    WritesAll-then {new = new} {ok} e a =
+        let others : WritesText seen mid (framed_all (frame_of old) (inner old) (next old.count) (texts (inner old))) ok
+        (count_after (next old.count) (texts (inner old))) new = rw (← e.part.same.outer, ← e.part.same.kind, ← e.part.after.0) a.part in
+        record { part = WritesText-then e.part others }
+
+    -- the first entry failed
+    pub WritesAll-fails : WritesEntry seen old text false mid → WritesAll seen old (λ i. text i ∷ texts i) false mid
+    WritesAll-fails e = record { part = WritesText-fails _ e.part }
 
 module _ {W D : Type 0} {seen : Seen W} (text_of : D → Setting → List ℕ) where
   -- before the first entry

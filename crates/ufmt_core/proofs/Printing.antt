@@ -6,12 +6,12 @@ use Rattle.std.proofs.lemmas.Iterator.{YieldsList-from_slice}
 use Rattle.std.proofs.lemmas.Simd.{map-map}
 use Rattle.std.proofs.lemmas.Result.{IfErr-at_err}
 use Rattle.std.specs.Slice.Iter.{iter_rest, iter_steps}
-use Rattle.ufmt_core.specs.Document.{Document, list_of, set_of, map_of, struct_of, tuple_of, Documents, Pairs, Fields, documents, pairs_of, fields_of}
-use Rattle.ufmt_core.specs.Layout.{Setting, Kind, Brackets, Braces, Struct, Count, Zero, frame, inside, layout, next, block_tail, texts, pair_texts, field_texts, tuple_kind}
+use Rattle.ufmt_core.specs.Document.{Document, list_of, set_of, map_of, struct_of, non_exhaustive_of, tuple_of, Documents, Pairs, Fields, documents, pairs_of, fields_of}
+use Rattle.ufmt_core.specs.Layout.{Setting, Kind, Brackets, Braces, Struct, Count, Zero, frame, framed, framed_all, count_after, inside, layout, next, block_tail, texts, pair_texts, field_texts, tuple_kind}
 use Rattle.ufmt_core.specs.Writes.{Seen, Writes}
 use Rattle.ufmt_core.specs.Formatter.{Formatter, Prints, LaysOut, setting_of, writer_of}
-use Rattle.ufmt_core.specs.BuilderView.{Lent, BuilderView, WritesEnding, WritesEntries, WritesEntry, EndsEntry, IsInside, WritesOpening, WritesText, WritesRow, StopsIn, ending_of, remaining_entries, entry_text, field_lead_of, field_text, remaining_fields, framed, framed_all, frame_of, inner, lead_of, pair_text, remaining_pairs, count_after, tail_of, trail_of}
-use Rattle.ufmt_core.proofs.Blocks.{WritesEnding-fails, WritesEnding-then, WritesText-between, WritesText-fails, WritesRow-from_entries, WritesRow-next, block_tail-append, count_after-map, lent_to}
+use Rattle.ufmt_core.specs.BuilderView.{Lent, BuilderView, WritesAll, WritesEnding, WritesEntries, WritesEntry, EndsEntry, IsInside, WritesOpening, WritesText, WritesRow, StopsIn, dots_ending_of, ending_of, remaining_entries, entry_text, field_lead_of, field_text, remaining_fields, frame_of, inner, lead_of, pair_text, remaining_pairs, tail_of, trail_of}
+use Rattle.ufmt_core.proofs.Blocks.{Same-then, WritesEnding-fails, WritesText-between, WritesText-fails, WritesRow-from_entries, WritesRow-next, block_tail-append, block_tail-parts, count_after-map, lent_to}
 use Rattle.ufmt_core.proofs.Items.{AlwaysYields-items}
 use Rattle.ufmt_core.proofs.Writing.{Writes-then, Writes-fails}
 pub use Rattle.ufmt_core.proofs.Blocks.{WritesRow-more, WritesRow-next, WritesRow-none}
@@ -90,16 +90,12 @@ pub field_texts-fields_of : (i : Setting) (fs : List (List ℕ × Document)) →
 field_texts-fields_of i [] = refl
 field_texts-fields_of i (f ∷ fs) = ap (λ ts. field_text f.0 f.1 i ∷ ts) (field_texts-fields_of i fs)
 
--- a step, and then a call that writes the rest and the end
+-- what is left of the block after a step
 module _ {W : Type 0} {seen : Seen W} {b b' : BuilderView W} {left more : Entries} where
   step_text : (a : Step seen b left true b' more) → tail_of b left ≡ a.part ++ tail_of b' more
   step_text a = rw (a.wrote.same.outer, a.wrote.same.kind, a.wrote.after.0) a.text
 
-  pub ending_written : {new : BuilderView W} {ok : Bool} → Step seen b left true b' more → WritesEnding seen b' (tail_of b' more) ok new
-      → WritesEnding seen b (tail_of b left) ok new
-  ending_written a f = rw (step_text a) (WritesEnding-then a.wrote f)
-
-  pub ending_failed : Step seen b left false b' more → WritesEnding seen b (tail_of b left) false b'
+  ending_failed : Step seen b left false b' more → WritesEnding seen b (tail_of b left) false b'
   ending_failed a = rw a.text (WritesEnding-fails _ a.wrote)
 
 -- a call of a builder succeeded, failed, or closed the block
@@ -126,6 +122,36 @@ pub finished : {W : Type 0} {seen : Seen W} {reference : ℕ} {b b' : BuilderVie
     → WritesEnding seen b (ending_of b) ok b' → GivesBack reference b' last → Completes seen reference b (λ i. []) ok last
 finished = completed
 
+-- a struct of which not all fields are shown: its name was written, the fields that are, and the dots
+module _ {W : Type 0} {seen : Seen W} {start last : Formatter W} {name : List ℕ} {fs : Fields} {reference : ℕ} {b mid : BuilderView W}
+    (o : WritesOpening seen start reference Struct name b) where
+  pub dotted : {new : BuilderView W} {ok : Bool} → WritesAll seen b (remaining_fields fs) true mid → WritesEnding seen mid (dots_ending_of mid) ok new
+      → GivesBack reference new last → LaysOut seen start (non_exhaustive_of name fs) ok last
+  dotted w e gives =
+      let at_end = gives (sym (Same-then (Same-then o.same w.part.same) e.same).reference) in
+      let text : layout (setting_of start) (non_exhaustive_of name fs)
+      ≡ name ++ (framed_all (frame_of b) (inner b) b.count (remaining_fields fs (inner b)) ++ dots_ending_of mid) =
+      rw (w.part.after.0, w.part.same.outer, o.same.outer, o.same.kind, o.count) refl in
+      record {
+        prints = record {
+          wrote = rw (text, at_end) (Writes-then o.wrote (Writes-then w.part.wrote e.wrote));
+          same_setting = ap setting_of at_end ∙ e.restored ∙ w.part.same.outer ∙ o.same.outer;
+        };
+      }
+
+  pub dotted_failed : WritesAll seen b (remaining_fields fs) false mid → GivesBack reference mid last
+      → LaysOut seen start (non_exhaustive_of name fs) false last
+  dotted_failed w gives =
+      let at_end = gives (sym (Same-then o.same w.part.same).reference) in
+      let fields : framed_all (frame (setting_of start).mode Struct) (inside (setting_of start)) Zero (remaining_fields fs (inside (setting_of start)))
+      ≡ framed_all (frame_of b) (inner b) b.count (remaining_fields fs (inner b)) = rw (o.same.outer, o.same.kind, o.count) refl in
+      record {
+        prints = record {
+          wrote = rw (fields, at_end) (Writes-then o.wrote (Writes-fails _ w.part.wrote));
+          same_setting = ap setting_of at_end ∙ w.part.after.1 ∙ o.same.outer;
+        };
+      }
+
 module _ {W : Type 0} (b : BuilderView W) where
   -- an entry is the first part of the rest
   block_tail-entry : (text : Setting → List ℕ) (left : Entries) →
@@ -147,6 +173,10 @@ module _ {W : Type 0} (b : BuilderView W) where
 module _ {W : Type 0} {seen : Seen W} {b b' : BuilderView W} {ok : Bool} where
   pub entry : {text : Setting → List ℕ} {left : Entries} → WritesEntry seen b text ok b' → Step seen b (λ i. text i ∷ left i) ok b' left
   entry {text} {left} e = record { part = _; count = _; text = block_tail-entry b text left; wrote = e.part }
+
+  -- all entries that are left
+  pub all : {left : Entries} → WritesAll seen b left ok b' → Step seen b left ok b' (λ i. [])
+  all {left} a = record { part = _; count = _; text = block_tail-parts (frame_of b) b.outer b.count (left (inner b)); wrote = a.part }
 
   -- entries in a row are the first part of the rest, or all of it
   module _ {D : Type 0} {text_of : D → Setting → List ℕ} {items : List D} {left : Entries} where

@@ -1,7 +1,7 @@
 -- The layouts of some documents, computed.
 use Prim.Native.String.{String as Text}
 use Rattle.std.proofs.Common.{◌≡◌, codes, refl}
-use Rattle.ufmt_core.specs.Document.{Document, leaf, joined, list_of, set_of, map_of, struct_of, tuple_of, pretty_part, Documents, no_documents, first_document, no_pairs, first_pair, no_fields, first_field, nest}
+use Rattle.ufmt_core.specs.Document.{Document, leaf, joined, list_of, set_of, map_of, struct_of, non_exhaustive_of, tuple_of, pretty_part, Documents, no_documents, first_document, no_pairs, first_pair, no_fields, first_field, nest}
 use Rattle.ufmt_core.specs.Layout.{plain_text, pretty_text}
 
 abbrev one : Document
@@ -33,6 +33,19 @@ settings = struct_of (codes "S") (first_field (codes "m") (map_of (first_pair on
 
 settings-texts : HasTexts settings "S { m: {1: 2}, n: 3 }" "S {\n    m: {\n        1: 2,\n    },\n    n: 3,\n}"
 settings-texts = (refl, refl)
+
+-- structs that end in dots, with a field and without
+abbrev dotted : Document
+dotted = non_exhaustive_of (codes "P") (first_field (codes "x") one no_fields)
+
+dotted-texts : HasTexts dotted "P { x: 1, .. }" "P {\n    x: 1,\n    ..\n}"
+dotted-texts = (refl, refl)
+
+dotted-nested : HasTexts (list_of (lone dotted)) "[P { x: 1, .. }]" "[\n    P {\n        x: 1,\n        ..\n    },\n]"
+dotted-nested = (refl, refl)
+
+dots-texts : HasTexts (non_exhaustive_of (codes "P") no_fields) "P { .. }" "P { .. }"
+dots-texts = (refl, refl)
 
 -- tuples with and without a name, of one field and of two
 single-texts : HasTexts (tuple_of (codes "") (lone one)) "(1,)" "(\n    1,\n)"

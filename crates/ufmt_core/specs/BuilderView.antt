@@ -1,10 +1,10 @@
 -- A builder as contracts see it, and what its calls do.
-use Rattle.std.specs.Prelude.{◌≡◌, ℕ, List, [], ◌∷◌, ◌++◌, map, codes, Bool, true, false, Option, Result, Err, IfErr, OnOk}
+use Rattle.std.specs.Prelude.{◌≡◌, ℕ, List, ◌++◌, map, codes, Bool, true, false, Option, Result, Err, IfErr, OnOk}
 use Rattle.std.specs.Iterator.{DrainsIf}
 pub use Rattle.ufmt_core.specs.declared.formatter.builder.Status.{Status}
 pub use Rattle.ufmt_core.specs.declared.formatter.builder.Status.TheVariants.{Open, Lent, LentValue, Closed}
 use Rattle.ufmt_core.specs.Document.{Document, Documents, Fields, Pairs}
-use Rattle.ufmt_core.specs.Layout.{Setting, Kind, Count, Zero, Frame, frame, inside, layout, lead, trail, ending, next, block_tail, texts, pair_texts, field_texts}
+use Rattle.ufmt_core.specs.Layout.{Setting, Kind, Count, Zero, Frame, frame, inside, layout, lead, trail, ending, dots_ending, next, framed, framed_all, count_after, block_tail, texts, pair_texts, field_texts}
 use Rattle.ufmt_core.specs.Writes.{Seen, Writes}
 use Rattle.ufmt_core.specs.Formatter.{Formatter, at_setting, writer_of, setting_of}
 
@@ -43,20 +43,6 @@ remaining_pairs ps i = pair_texts i ps
 abbrev pub remaining_fields : Fields → Setting → List (List ℕ)
 remaining_fields fs i = field_texts i fs
 
--- an entry with this text: the lead, the text and the trail
-abbrev pub framed : Frame → Setting → Count → List ℕ → List ℕ
-framed f i count text = lead f i count ++ (text ++ trail i.mode)
-
--- entries with these texts in a row
-abbrev pub framed_all : Frame → Setting → Count → List (List ℕ) → List ℕ
-framed_all f i count [] = []
-framed_all f i count (text ∷ texts) = framed f i count text ++ framed_all f i (next count) texts
-
--- the count after these entries
-abbrev pub count_after : {X : Type 0} → Count → List X → Count
-count_after count [] = count
-count_after count (x ∷ xs) = count_after (next count) xs
-
 -- a block with this name and entries with these texts: its name and opening, its entries in a row, and its ending
 abbrev pub block_in_parts : Kind → List ℕ → Setting → List (List ℕ) → List ℕ
 block_in_parts kind name s texts =
@@ -88,6 +74,10 @@ module _ {W : Type 0} where
 
   abbrev pub ending_of : BuilderView W → List ℕ
   ending_of b = ending (frame_of b) b.outer b.count
+
+  -- the text at the end of a struct, if not all fields are shown
+  abbrev pub dots_ending_of : BuilderView W → List ℕ
+  dots_ending_of b = dots_ending b.outer b.count
 
   -- what is left of the block: entries with these texts, and the end
   abbrev pub tail_of : BuilderView W → (Setting → List (List ℕ)) → List ℕ
@@ -152,6 +142,10 @@ module _ {W : Type 0} where
       (ok : Bool) (new : BuilderView W) : Type 0 where
     pub trail : OnOk outcome (WritesText seen old (trail_of old) ok (next old.count) new)
     pub error : IfErr outcome (λ e. (result ≡ Err e) × Abandons old new)
+
+  -- these entries were written in a row, or a prefix of them
+  pub record WritesAll (seen : Seen W) (old : BuilderView W) (texts : Setting → List (List ℕ)) (ok : Bool) (new : BuilderView W) : Type 0 where
+    pub part : WritesText seen old (framed_all (frame_of old) (inner old) old.count (texts (inner old))) ok (count_after old.count (texts (inner old))) new
 
   -- the end of the block was written, or a prefix of it; the builder is closed, with mode and depth from before it
   pub record WritesEnding (seen : Seen W) (old : BuilderView W) (text : List ℕ) (ok : Bool) (new : BuilderView W) : Type 0 where

@@ -9,6 +9,7 @@ mutual
     set_of : Documents → Document
     map_of : Pairs → Document
     struct_of : List ℕ → Fields → Document
+    non_exhaustive_of : List ℕ → Fields → Document
     tuple_of : List ℕ → Documents → Document
     pretty_part : Document → Document
 
@@ -52,6 +53,8 @@ abbrev mutual
   nest (map_of (first_pair key value ps)) = suc (max (nest key) (max (nest value) (nest_pairs ps)))
   nest (struct_of name no_fields) = 0
   nest (struct_of name (first_field field_name value fs)) = suc (max (nest value) (nest_fields fs))
+  nest (non_exhaustive_of name no_fields) = 0
+  nest (non_exhaustive_of name (first_field field_name value fs)) = suc (max (nest value) (nest_fields fs))
   nest (tuple_of name no_documents) = 0
   nest (tuple_of name (first_document d ds)) = suc (max (nest d) (nest_all ds))
   nest (pretty_part d) = nest d

@@ -1,7 +1,7 @@
 -- The text of a document, in each mode and from each depth.
 use Rattle.std.specs.Prelude.{ℕ, zero, suc, ◌+◌, min, List, [], ◌∷◌, ◌++◌, codes}
 use Rattle.ufmt_core.specs.Bytes.{line_feed, space}
-use Rattle.ufmt_core.specs.Document.{Document, leaf, joined, list_of, set_of, map_of, struct_of, tuple_of, pretty_part, Documents, no_documents, first_document, Pairs, no_pairs, first_pair, Fields, no_fields, first_field}
+use Rattle.ufmt_core.specs.Document.{Document, leaf, joined, list_of, set_of, map_of, struct_of, non_exhaustive_of, tuple_of, pretty_part, Documents, no_documents, first_document, Pairs, no_pairs, first_pair, Fields, no_fields, first_field}
 pub use Rattle.ufmt_core.specs.declared.layout.Mode.{Mode}
 pub use Rattle.ufmt_core.specs.declared.layout.Mode.TheVariants.{Plain, Pretty}
 pub use Rattle.ufmt_core.specs.declared.layout.Setting.{Setting}
@@ -112,6 +112,35 @@ block_tail f s count (text ∷ texts) = lead f (inside s) count ++ (text ++ (tra
 abbrev pub block_text : Kind → Setting → List ℕ → List (List ℕ) → List ℕ
 block_text kind s name texts = name ++ ((frame s.mode kind).opening ++ block_tail (frame s.mode kind) s Zero texts)
 
+-- an entry with this text: the lead, the text and the trail
+abbrev pub framed : Frame → Setting → Count → List ℕ → List ℕ
+framed f i count text = lead f i count ++ (text ++ trail i.mode)
+
+-- entries with these texts in a row
+abbrev pub framed_all : Frame → Setting → Count → List (List ℕ) → List ℕ
+framed_all f i count [] = []
+framed_all f i count (text ∷ texts) = framed f i count text ++ framed_all f i (next count) texts
+
+-- the count after these entries
+abbrev pub count_after : {X : Type 0} → Count → List X → Count
+count_after count [] = count
+count_after count (x ∷ xs) = count_after (next count) xs
+
+-- the dots in place of a field that is not the first, and the rest of their line, at the fields' mode and depth
+abbrev pub dots_line : Mode → ℕ → List ℕ
+dots_line Plain k = codes ", .."
+dots_line Pretty k = indentation k ++ codes "..\n"
+
+-- the text that ends a struct of which not all fields are shown, after this count of fields
+abbrev pub dots_ending : Setting → Count → List ℕ
+dots_ending s Zero = codes " { .. }"
+dots_ending s One = dots_line s.mode (inside s).depth ++ ending (frame s.mode Struct) s One
+dots_ending s Several = dots_line s.mode (inside s).depth ++ ending (frame s.mode Struct) s Several
+
+-- what follows the name of such a struct: fields with these texts in a row, and the ending
+abbrev pub dotted_fields : Setting → List (List ℕ) → List ℕ
+dotted_fields s texts = framed_all (frame s.mode Struct) (inside s) Zero texts ++ dots_ending s (count_after Zero texts)
+
 abbrev mutual
   -- the text of a document at this mode and depth
   pub layout : Setting → Document → List ℕ
@@ -121,6 +150,7 @@ abbrev mutual
   layout s (set_of ds) = block_text Braces s [] (texts (inside s) ds)
   layout s (map_of ps) = block_text Braces s [] (pair_texts (inside s) ps)
   layout s (struct_of name fs) = block_text Struct s name (field_texts (inside s) fs)
+  layout s (non_exhaustive_of name fs) = name ++ dotted_fields s (field_texts (inside s) fs)
   layout s (tuple_of name ds) = block_text (tuple_kind name) s name (texts (inside s) ds)
   layout s (pretty_part d) = layout (setting Pretty s.depth) d
 

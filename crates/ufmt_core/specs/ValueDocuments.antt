@@ -3,7 +3,7 @@ use Prim.Native.String.{String as Text}
 use Rattle.std.specs.Prelude.{ℕ, ℤ, pos, List, [], ◌∷◌, codes, Option, Some, None, Result, Ok, Err, String, string_bytes}
 use Rattle.std.specs.Borrow.{Bor}
 use Rattle.std.specs.Str.{chars}
-use Rattle.ufmt_core.specs.Document.{Document, leaf, struct_of, tuple_of, documents, Fields, no_fields, first_field}
+use Rattle.ufmt_core.specs.Document.{Document, leaf, struct_of, non_exhaustive_of, tuple_of, documents, Fields, no_fields, first_field}
 use Rattle.ufmt_core.specs.Decimal.{decimal}
 use Rattle.ufmt_core.specs.Quoted.{quoted_char, quoted_text}
 
@@ -15,6 +15,10 @@ named_fields (f ∷ fs) = first_field (codes f.0) f.1 (named_fields fs)
 -- a struct, or a variant with named fields
 abbrev pub named_struct : Text → List (Text × Document) → Document
 named_struct name fs = struct_of (codes name) (named_fields fs)
+
+-- such a struct of which not all fields are shown: it ends in `..`
+abbrev pub non_exhaustive_struct : Text → List (Text × Document) → Document
+non_exhaustive_struct name fs = non_exhaustive_of (codes name) (named_fields fs)
 
 -- a tuple struct, or a variant with fields in parentheses
 abbrev pub named_tuple : Text → List Document → Document

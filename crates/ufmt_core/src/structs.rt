@@ -3,10 +3,17 @@ ghost use Rattle.std.specs.Prelude.{is_ok, true, IfOk, OnOk};
 ghost use Rattle.std.specs.Borrow.{sem};
 ghost use Rattle.ufmt_core.specs.Layout.{Struct};
 ghost use Rattle.ufmt_core.specs.Formatter.{Prints};
-ghost use Rattle.ufmt_core.specs.BuilderView.{WritesEntry, EndsEntry, IsLent, IsOpen, WritesOpening, field_lead_of, field_text, Lent};
+ghost use Rattle.ufmt_core.specs.BuilderView.{WritesEntry, WritesEnding, EndsEntry, IsLent, IsOpen, WritesOpening, dots_ending_of, field_lead_of, field_text, Lent};
 ghost use Rattle.ufmt_core.specs.Builder.{LendsForField, OpeningLoan, struct_view};
 
+/// The chain of fields that `struct_of` and `non_exhaustive_of` take.
+macro_rules! field_chain {
+    () => { () };
+    ($name:ident: $value:ident, $($rest:tt)*) => { ($name, $value, field_chain!($($rest)*)) };
+}
+
 mod by_count;
+mod non_exhaustive_by_count;
 mod whole;
 
 use crate::formatter::Formatter;
@@ -84,5 +91,16 @@ impl<W: uWrite> DebugStruct<'_, W> {
         ensures is_open { OnOk result (IsOpen (struct_view self.new)) }
     {
         self.reset_and_end(outcome)
+    }
+
+    /// Writes `..` in place of the fields that aren't shown, and the end of the struct. Also on `Err` the
+    /// builder is then closed, and mode and depth are those from before it.
+    #[inline(always)]
+    pub fn finish_non_exhaustive(&mut self) -> Result<(), W::Error>
+        requires { IsOpen (struct_view self.old) }
+        ensures { WritesEnding W.seen (struct_view self.old) (dots_ending_of (struct_view self.old))
+            (is_ok result) (struct_view self.new) }
+    {
+        self.finish_with_dots()
     }
 }

@@ -2,7 +2,7 @@
 use Rattle.std.proofs.Common.{◌≡◌, ◌∙◌, refl, ap, sym, ℕ, Bool, true, false, List, [], ◌∷◌, ◌++◌, length, map, take_at, drop_at, append_assoc, append-nil, Result, Ok, Err}
 use Rattle.std.specs.Prelude.{⊤}
 use Rattle.std.specs.Result.{OnOk, is_ok}
-use Rattle.ufmt.specs.Document.{Document, leaf, joined, list_of, set_of, map_of, struct_of, tuple_of, pretty_part, Documents, no_documents, first_document, documents, Pairs, no_pairs, first_pair, pairs_of, Fields, no_fields, first_field, fields_of}
+use Rattle.ufmt.specs.Document.{Document, leaf, joined, list_of, set_of, map_of, struct_of, non_exhaustive_of, tuple_of, pretty_part, Documents, no_documents, first_document, documents, Pairs, no_pairs, first_pair, pairs_of, Fields, no_fields, first_field, fields_of}
 use Rattle.ufmt.specs.Layout.{next, tuple_kind}
 use Rattle.ufmt.specs.declared.class.Class.{Class}
 use Rattle.ufmt.specs.Token.{IsDocument, IsBuilt, AreBuilt, PairsAreBuilt, FieldsAreBuilt, normal, normal_all, normal_pairs, normal_fields}
@@ -89,6 +89,7 @@ module _ (class : Class) where
     document_grows (tuple_of name (first_document d ds)) h =
         let row = entries_put (first_document d ds) (h.1, h.2) in
         rw (← row.2, ← tuple_is name row.0) (block_grows (tuple_kind name) name false (events_of d) (events_of_entries ds) row.0 row.1)
+    document_grows (non_exhaustive_of name fs) h = absurd h
     document_grows (pretty_part d) h = absurd h
 
     -- the same for entries, for keys and values, and for leaves of field names and values

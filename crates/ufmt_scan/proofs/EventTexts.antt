@@ -1,7 +1,7 @@
 -- The texts of a document's events make up its layout.
 use Rattle.std.proofs.Common.{◌≡◌, ◌∙◌, refl, ap, sym, ℕ, suc, ◌+◌, ◌≤◌, List, [], ◌∷◌, ◌++◌, append_assoc, append-nil, arith}
 use Rattle.std.specs.Prelude.{⊤}
-use Rattle.ufmt.specs.Document.{Document, leaf, joined, list_of, set_of, map_of, struct_of, tuple_of, pretty_part, Documents, no_documents, first_document, Pairs, no_pairs, first_pair, Fields, no_fields, first_field, nest, nest_all, nest_pairs, nest_fields}
+use Rattle.ufmt.specs.Document.{Document, leaf, joined, list_of, set_of, map_of, struct_of, non_exhaustive_of, tuple_of, pretty_part, Documents, no_documents, first_document, Pairs, no_pairs, first_pair, Fields, no_fields, first_field, nest, nest_all, nest_pairs, nest_fields}
 use Rattle.ufmt.specs.Layout.{frame, setting, inside, entry_depth, later_lead, trail, lead, line_start, ending, next, block_text, block_tail, tuple_kind, layout, texts, pair_texts, field_texts}
 use Rattle.ufmt_core.specs.declared.layout.Count.{Count}
 use Rattle.ufmt_core.specs.declared.layout.Count.TheVariants.{Zero, One, Several}
@@ -93,6 +93,7 @@ module _ (mode : Mode) (class : Class) where
     document_written k (tuple_of [] no_documents) h few = absurd (name_some class h)
     document_written k (tuple_of (c ∷ name) no_documents) h few = name_written (c ∷ name)
     document_written k (tuple_of name (first_document d ds)) h few = block_written mode k _ few (tuple_kind name) name (Leaf name) _ _ (entries_written k (first_document d ds) (h.1, h.2) few)
+    document_written k (non_exhaustive_of name fs) h few = absurd h
     document_written k (pretty_part d) h few = absurd h
 
     -- the same for the entries, pairs and fields of a block at this depth

@@ -55,13 +55,13 @@ module _ (turn : Turn) (level : Level) (kind : Kind) where
       by_trail (Some u) = made (read_on u)
 
   -- the events after an entry: the next entry's, if one begins, or the end of the block
-  abbrev pub go_on : Count → Option (List ℕ) → Option (List ℕ) → Scanned
-  go_on before (Some v) end = prefixed (Next ∷ []) (then_scan (scan_turn turn v) (scan_rest turn level kind Several))
-  go_on before None end = option_map (λ v. (Close kind (next before) ∷ [], v)) end
+  abbrev pub continued : Count → Option (List ℕ) → Option (List ℕ) → Scanned
+  continued before (Some v) end = prefixed (Next ∷ []) (then_scan (scan_turn turn v) (scan_rest turn level kind Several))
+  continued before None end = option_map (λ v. (Close kind (next before) ∷ [], v)) end
 
   -- after an entry, the next one comes, or the block ends, or the text can't be scanned
   pub follows_scans : (before : Count) (t : List ℕ) → Takes turn.read → scan_rest turn level kind (next before) t
-      ≡ option_and_then (λ u. go_on before (strip (later_lead level.mode (inside (setting_at level)).depth) u)
+      ≡ option_and_then (λ u. continued before (strip (later_lead level.mode (inside (setting_at level)).depth) u)
       (strip (ending (frame level.mode kind) (setting_at level) (next before)) u)) (strip (trail level.mode) t)
   unfolding scan_rest
   follows_scans before t takes = by_trail (strip (trail level.mode) t)
@@ -75,7 +75,7 @@ module _ (turn : Turn) (level : Level) (kind : Kind) where
       ends : List ℕ → Option (List ℕ)
       ends u = strip (ending (frame level.mode kind) (setting_at level) (next before)) u
 
-      ended : (e : Option (List ℕ)) → tail (next before) (option_map (λ v. ([], v)) e) ≡ go_on before None e
+      ended : (e : Option (List ℕ)) → tail (next before) (option_map (λ v. ([], v)) e) ≡ continued before None e
       ended None = refl
       ended (Some v) = refl
 
@@ -97,12 +97,12 @@ module _ (turn : Turn) (level : Level) (kind : Kind) where
       entry (Some x) = after x.0 (strip (trail level.mode) x.1)
 
       by_lead : (u : List ℕ) (o : Option (List ℕ)) → tail (next before) (choose o (read_turn turn.read level.mode (read_on (next (next before))))
-          (read_end (frame level.mode kind) (setting_at level) (next before) u)) ≡ go_on before o (ends u)
+          (read_end (frame level.mode kind) (setting_at level) (next before) u)) ≡ continued before o (ends u)
       by_lead u None = ended (ends u)
       by_lead u (Some v) = entry (turn.read v)
 
       by_trail : (o : Option (List ℕ)) → option_and_then (λ u. tail (next before) (read_on (next before) u)) o
-          ≡ option_and_then (λ u. go_on before (strip (later_lead level.mode (inside (setting_at level)).depth) u) (ends u)) o
+          ≡ option_and_then (λ u. continued before (strip (later_lead level.mode (inside (setting_at level)).depth) u) (ends u)) o
       by_trail None = refl
       by_trail (Some u) =
           ap (tail (next before)) (read_others-read_turn turn.read takes (frame level.mode kind) (setting_at level) (next before) u)

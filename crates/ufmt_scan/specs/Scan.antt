@@ -1,7 +1,7 @@
 -- The events of a document, and what sinks and scans promise.
 use Rattle.std.specs.Prelude.{◌≡◌, ℕ, Bool, true, false, List, [], ◌∷◌, ◌++◌, Result, MatchResult, ⊤}
 use Rattle.std.specs.Borrow.{Bor}
-use Rattle.ufmt.specs.Document.{Document, leaf, joined, list_of, set_of, map_of, struct_of, tuple_of, pretty_part, Documents, no_documents, first_document, Pairs, no_pairs, first_pair, Fields, no_fields, first_field}
+use Rattle.ufmt.specs.Document.{Document, leaf, joined, list_of, set_of, map_of, struct_of, non_exhaustive_of, tuple_of, pretty_part, Documents, no_documents, first_document, Pairs, no_pairs, first_pair, Fields, no_fields, first_field}
 use Rattle.ufmt.specs.Layout.{next, tuple_kind}
 use Rattle.ufmt_core.specs.declared.layout.Count.{Count}
 use Rattle.ufmt_core.specs.declared.layout.Count.TheVariants.{One}
@@ -47,6 +47,7 @@ abbrev mutual
   events_of (set_of ds) = block_events Braces [] (Empty Braces) (events_of_entries ds)
   events_of (map_of ps) = block_events Braces [] (Empty Braces) (events_of_pairs ps)
   events_of (struct_of name fs) = block_events Struct name (Leaf name) (events_of_fields fs)
+  events_of (non_exhaustive_of name fs) = []
   events_of (tuple_of name ds) = block_events (tuple_kind name) name (Leaf name) (events_of_entries ds)
   events_of (pretty_part d) = []
 

@@ -6,7 +6,7 @@ ghost use Rattle.ufmt_core.specs.contracts.formatter.Formatter as formatter;
 ghost use Rattle.ufmt_core.specs.contracts.formatter.builder.Builder as builder;
 ghost use Rattle.ufmt_core.specs.Layout.{Kind};
 ghost use Rattle.ufmt_core.specs.Formatter.{Prints};
-ghost use Rattle.ufmt_core.specs.BuilderView.{WritesEnding, EndsEntry, IsInside, IsOpen, WritesOpening, ending_of, field_lead_of, inner_formatter, lead_of, Lent};
+ghost use Rattle.ufmt_core.specs.BuilderView.{WritesEnding, EndsEntry, IsInside, IsOpen, WritesOpening, dots_ending_of, ending_of, field_lead_of, inner_formatter, lead_of, Lent};
 ghost use Rattle.ufmt_core.specs.Builder.{EntryLoan, LendsAfter, LendsForEntry, OpeningLoan, view_of, abandoned, lent};
 
 use crate::formatter::Formatter;
@@ -81,27 +81,6 @@ impl<W: uWrite> Formatter<W> {
 }
 
 impl<W: uWrite, K: BlockKind> Builder<'_, W, K> {
-    /// Writes the end of the block. Also on `Err` the builder is then closed, and mode and depth are
-    /// those from before it.
-    #[inline(always)]
-    pub fn finish(&mut self) -> Result<(), W::Error>
-        requires { IsOpen (view_of K.kind self.old) }
-        ensures { WritesEnding W.seen (view_of K.kind self.old) (ending_of (view_of K.kind self.old))
-            (is_ok result) (view_of K.kind self.new) }
-    {
-        let kind = self.marker.kind();
-        self.close();
-        self.formatter.write_ending(kind, self.count)
-    }
-
-    /// Whether entries may follow. They may until `finish` or a call that fails, and not between the
-    /// halves of an entry. The formatter of an open builder is at the mode and depth of the entries.
-    pub fn is_open(&self) -> bool
-        ensures { IsTrue result ↔ IsOpen (view_of K.kind self.now) }
-    {
-        matches!(self.status, Status::Open) && self.formatter.setting == self.outer.inside()
-    }
-
     /// Writes the text before an entry, and lends the formatter for it.
     #[inline(always)]
     pub(crate) fn begin(&mut self) -> Result<&mut Formatter<W>, W::Error>
@@ -128,6 +107,64 @@ impl<W: uWrite, K: BlockKind> Builder<'_, W, K> {
         let kind = self.marker.kind();
         let written = self.formatter.write_field_lead(kind, self.count, name);
         self.lend_or_close(written, Status::Lent)
+    }
+
+    /// `reset_setting` and then `end`, of a formatter that was lent to a caller.
+    #[inline(always)]
+    pub(crate) fn reset_and_end(&mut self, outcome: Result<(), W::Error>) -> Result<(), W::Error>
+        ensures end { EndsEntry W.seen outcome (view_of K.kind self.old) result (is_ok result)
+            (view_of K.kind self.new) }
+        ensures is_open { OnOk result (IsOpen (view_of K.kind self.new)) }
+    {
+        self.reset_setting();
+        self.end(outcome)
+    }
+
+    /// Writes the text after an entry if its `fmt` returned `Ok`, else returns its error.
+    #[inline(always)]
+    pub(crate) fn end(&mut self, outcome: Result<(), W::Error>) -> Result<(), W::Error>
+        requires { IsInside (view_of K.kind self.old) }
+        ensures end { EndsEntry W.seen outcome (view_of K.kind self.old) result (is_ok result)
+            (view_of K.kind self.new) }
+        ensures is_open { OnOk result (IsOpen (view_of K.kind self.new)) }
+    {
+        let ended = match outcome {
+            Ok(()) => self.formatter.write_trail(),
+            Err(error) => Err(error),
+        };
+        self.advance_or_close(ended, Status::Open, self.count.next())
+    }
+
+    /// Writes the end of the block. Also on `Err` the builder is then closed, and mode and depth are
+    /// those from before it.
+    #[inline(always)]
+    pub fn finish(&mut self) -> Result<(), W::Error>
+        requires { IsOpen (view_of K.kind self.old) }
+        ensures { WritesEnding W.seen (view_of K.kind self.old) (ending_of (view_of K.kind self.old))
+            (is_ok result) (view_of K.kind self.new) }
+    {
+        let kind = self.marker.kind();
+        self.close();
+        self.formatter.write_ending(kind, self.count)
+    }
+
+    /// `finish` of a struct of which not all fields are shown.
+    #[inline(always)]
+    pub(crate) fn finish_with_dots(&mut self) -> Result<(), W::Error>
+        ensures { WritesEnding W.seen (view_of K.kind self.old)
+            (dots_ending_of (view_of K.kind self.old)) (is_ok result)
+            (view_of K.kind self.new) }
+    {
+        self.close();
+        self.formatter.write_dots_ending(self.count)
+    }
+
+    /// Whether entries may follow. They may until `finish` or a call that fails, and not between the
+    /// halves of an entry. The formatter of an open builder is at the mode and depth of the entries.
+    pub fn is_open(&self) -> bool
+        ensures { IsTrue result ↔ IsOpen (view_of K.kind self.now) }
+    {
+        matches!(self.status, Status::Open) && self.formatter.setting == self.outer.inside()
     }
 
     /// Lends the formatter if the outcome is `Ok`, else closes the builder.
@@ -163,32 +200,6 @@ impl<W: uWrite, K: BlockKind> Builder<'_, W, K> {
         ensures { self.new ≡ lent self.old.status self.old (inner_formatter (view_of K.kind self.old)) }
     {
         self.formatter.setting = self.outer.inside();
-    }
-
-    /// `reset_setting` and then `end`, of a formatter that was lent to a caller.
-    #[inline(always)]
-    pub(crate) fn reset_and_end(&mut self, outcome: Result<(), W::Error>) -> Result<(), W::Error>
-        ensures end { EndsEntry W.seen outcome (view_of K.kind self.old) result (is_ok result)
-            (view_of K.kind self.new) }
-        ensures is_open { OnOk result (IsOpen (view_of K.kind self.new)) }
-    {
-        self.reset_setting();
-        self.end(outcome)
-    }
-
-    /// Writes the text after an entry if its `fmt` returned `Ok`, else returns its error.
-    #[inline(always)]
-    pub(crate) fn end(&mut self, outcome: Result<(), W::Error>) -> Result<(), W::Error>
-        requires { IsInside (view_of K.kind self.old) }
-        ensures end { EndsEntry W.seen outcome (view_of K.kind self.old) result (is_ok result)
-            (view_of K.kind self.new) }
-        ensures is_open { OnOk result (IsOpen (view_of K.kind self.new)) }
-    {
-        let ended = match outcome {
-            Ok(()) => self.formatter.write_trail(),
-            Err(error) => Err(error),
-        };
-        self.advance_or_close(ended, Status::Open, self.count.next())
     }
 
     // Takes this status and count if the outcome is `Ok`, else closes the builder.

@@ -1,6 +1,6 @@
 //! Writing the text around the entries of a block, at the formatter's own mode and depth.
 ghost use Rattle.std.specs.Prelude.{◌++◌, codes, is_ok};
-ghost use Rattle.ufmt_core.specs.Layout.{ending, frame, indentation, lead, line_start, new_line, later_lead, trail};
+ghost use Rattle.ufmt_core.specs.Layout.{dots_ending, dots_line, ending, frame, indentation, inside, lead, line_start, new_line, later_lead, trail};
 ghost use Rattle.ufmt_core.specs.Formatter.{Prints, depth_of, mode_of, setting_of};
 
 use crate::formatter::Formatter;
@@ -60,6 +60,37 @@ impl<W: uWrite> Formatter<W> {
             Count::One | Count::Several => {
                 self.write_line_start()?;
                 self.write_closing(kind, count)
+            }
+        }
+    }
+
+    /// Writes the end of a struct with `count` fields, of which not all are shown. The formatter is at
+    /// the struct's own depth.
+    pub(crate) fn write_dots_ending(&mut self, count: Count) -> Result<(), W::Error>
+        ensures { Prints W.seen self.old (dots_ending (setting_of self.old) count) (is_ok result)
+            self.new }
+    {
+        match count {
+            Count::Zero => self.write_str(" { .. }"),
+            Count::One | Count::Several => {
+                self.write_dots_line()?;
+                self.write_ending(Kind::Struct, count)
+            }
+        }
+    }
+
+    // The dots are at the depth of the fields.
+    #[inline(always)]
+    fn write_dots_line(&mut self) -> Result<(), W::Error>
+        ensures { Prints W.seen self.old
+            (dots_line (mode_of self.old) (inside (setting_of self.old)).depth) (is_ok result)
+            self.new }
+    {
+        match self.setting.mode {
+            Mode::Plain => self.write_str(", .."),
+            Mode::Pretty => {
+                self.write_indentation(self.setting.inside().depth)?;
+                self.write_str("..\n")
             }
         }
     }

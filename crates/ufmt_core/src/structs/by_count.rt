@@ -7,12 +7,6 @@ use crate::formatter::Formatter;
 use crate::uDebug;
 use crate::write::uWrite;
 
-/// The chain of fields that `struct_of` takes.
-macro_rules! field_chain {
-    () => { () };
-    ($name:ident: $value:ident, $($rest:tt)*) => { ($name, $value, field_chain!($($rest)*)) };
-}
-
 impl<W: uWrite> Formatter<W> {
     /// `struct_of` without fields.
     #[inline(always)]

@@ -1,8 +1,8 @@
 //! A whole struct in one call. `fields!` is made of these calls, and a user may call them too.
 ghost use Rattle.std.specs.Prelude.{is_ok};
-ghost use Rattle.ufmt_core.specs.Document.{Fields, first_field, no_fields, struct_of};
+ghost use Rattle.ufmt_core.specs.Document.{Fields, first_field, no_fields, non_exhaustive_of, struct_of};
 ghost use Rattle.ufmt_core.specs.Formatter.{LaysOut};
-ghost use Rattle.ufmt_core.specs.BuilderView.{WritesEnding, IsOpen, remaining_fields, tail_of};
+ghost use Rattle.ufmt_core.specs.BuilderView.{IsOpen, WritesAll, remaining_fields};
 ghost use Rattle.ufmt_core.specs.Builder.{struct_view};
 
 use crate::formatter::Formatter;
@@ -15,21 +15,20 @@ pub trait NamedFields<'a> {
     /// The fields' names and documents.
     ghost fields: { Self → Fields };
 
-    /// Writes the fields and the end of the struct.
+    /// Writes the fields.
     #[inline(always)]
-    fn finish<W: uWrite>(&self, builder: &mut DebugStruct<W>) -> Result<(), W::Error>
+    fn write<W: uWrite>(&self, builder: &mut DebugStruct<W>) -> Result<(), W::Error>
         requires { IsOpen (struct_view builder.old) }
-        ensures { WritesEnding W.seen (struct_view builder.old)
-            (tail_of (struct_view builder.old) (remaining_fields (fields self.now))) (is_ok result)
-            (struct_view builder.new) };
+        ensures { WritesAll W.seen (struct_view builder.old) (remaining_fields (fields self.now))
+            (is_ok result) (struct_view builder.new) };
 }
 
 impl<'a> NamedFields<'a> for () {
     ghost fields = { λ _. no_fields };
 
     #[inline(always)]
-    fn finish<W: uWrite>(&self, builder: &mut DebugStruct<W>) -> Result<(), W::Error> {
-        builder.finish()
+    fn write<W: uWrite>(&self, _builder: &mut DebugStruct<W>) -> Result<(), W::Error> {
+        Ok(())
     }
 }
 
@@ -37,9 +36,9 @@ impl<'a, D: uDebug, R: NamedFields<'a>> NamedFields<'a> for (&'a str, &'a D, R) 
     ghost fields = { λ c. first_field c.0.now (D.document c.1.now) (R.fields c.2) };
 
     #[inline(always)]
-    fn finish<W: uWrite>(&self, builder: &mut DebugStruct<W>) -> Result<(), W::Error> {
+    fn write<W: uWrite>(&self, builder: &mut DebugStruct<W>) -> Result<(), W::Error> {
         builder.field(self.0, self.1)?;
-        self.2.finish(builder)
+        self.2.write(builder)
     }
 }
 
@@ -56,6 +55,22 @@ impl<W: uWrite> Formatter<W> {
             self.new }
     {
         let mut builder = self.debug_struct(name)?;
-        fields.finish(&mut builder)
+        fields.write(&mut builder)?;
+        builder.finish()
+    }
+
+    /// `struct_of` of a struct that has more fields, which aren't shown: it ends in `..`.
+    #[inline(always)]
+    pub fn non_exhaustive_of<'a, F: NamedFields<'a>>(
+        &mut self,
+        name: &str,
+        fields: &F,
+    ) -> Result<(), W::Error>
+        ensures { LaysOut W.seen self.old (non_exhaustive_of name.now (F.fields fields.now))
+            (is_ok result) self.new }
+    {
+        let mut builder = self.debug_struct(name)?;
+        fields.write(&mut builder)?;
+        builder.finish_non_exhaustive()
     }
 }

@@ -12,7 +12,7 @@ use Rattle.ufmt_scan.specs.Private.Scanning.{after, earlier, kind_of, later, pre
 use Rattle.ufmt_scan.proofs.DocumentParts.{later_continues, turn_takes}
 use Rattle.ufmt_scan.proofs.EntrySteps.{ending_stripped}
 use Rattle.ufmt_scan.proofs.Scans.{nothing_there, step_refused}
-use Rattle.ufmt_scan.proofs.ScanTurns.{follows_scans, go_on}
+use Rattle.ufmt_scan.proofs.ScanTurns.{follows_scans, continued}
 use Rattle.ufmt_scan.proofs.scan.step.after_entry.Goals as goal
 
 -- if fewer than 255 blocks are open, the depth is below 255
@@ -31,21 +31,21 @@ module _ (level : Level) (at : Stage) where
   follows : (t piece between : List ℕ) (line : Setting) (o : Option (List ℕ)) → piece ≡ trail level.mode → line ≡ setting_at level
       → start ++ between ≡ later_lead level.mode (inside (setting_at level)).depth → o ≡ strip (piece ++ line_start line.mode line.depth) t
       → scan_rest (turn_of level at) level (kind_of at) (next (earlier at)) t
-      ≡ option_and_then (λ w. go_on (turn_of level at) level (kind_of at) (earlier at) (strip between w) (strip closing w)) o
+      ≡ option_and_then (λ w. continued (turn_of level at) level (kind_of at) (earlier at) (strip between w) (strip closing w)) o
   follows t piece between line o piece_is line_is apart h =
       follows_scans (turn_of level at) level (kind_of at) (earlier at) t (turn_takes level at) ∙ by_trail (strip (trail level.mode) t)
-      ∙ ap (λ e. option_and_then (λ w. go_on (turn_of level at) level (kind_of at) (earlier at) (strip between w) (strip closing w)) e)
+      ∙ ap (λ e. option_and_then (λ w. continued (turn_of level at) level (kind_of at) (earlier at) (strip between w) (strip closing w)) e)
       (sym (h ∙ rw (piece_is, line_is) (strip-append (trail level.mode) start t)))
     where
       by_line : (e : Option (List ℕ))
-          → go_on (turn_of level at) level (kind_of at) (earlier at) (option_and_then (strip between) e) (option_and_then (strip closing) e)
-          ≡ option_and_then (λ w. go_on (turn_of level at) level (kind_of at) (earlier at) (strip between w) (strip closing w)) e
+          → continued (turn_of level at) level (kind_of at) (earlier at) (option_and_then (strip between) e) (option_and_then (strip closing) e)
+          ≡ option_and_then (λ w. continued (turn_of level at) level (kind_of at) (earlier at) (strip between w) (strip closing w)) e
       by_line None = refl
       by_line (Some w) = refl
 
-      by_trail : (e : Option (List ℕ)) → option_and_then (λ v. go_on (turn_of level at) level (kind_of at) (earlier at)
+      by_trail : (e : Option (List ℕ)) → option_and_then (λ v. continued (turn_of level at) level (kind_of at) (earlier at)
           (strip (later_lead level.mode (inside (setting_at level)).depth) v) (strip (ending (frame level.mode (kind_of at)) (setting_at level) (next (earlier at))) v)) e
-          ≡ option_and_then (λ w. go_on (turn_of level at) level (kind_of at) (earlier at) (strip between w) (strip closing w)) (option_and_then (strip start) e)
+          ≡ option_and_then (λ w. continued (turn_of level at) level (kind_of at) (earlier at) (strip between w) (strip closing w)) (option_and_then (strip start) e)
       by_trail None = refl
       by_trail (Some v) =
           let separates : strip (later_lead level.mode (inside (setting_at level)).depth) v ≡ option_and_then (strip between) (strip start v) =
