@@ -19,10 +19,6 @@ use Rattle.ufmt.specs.declared.column.Align.{Align}
 use Rattle.ufmt.specs.declared.column.Align.TheVariants.{Left, Center, Right}
 use Rattle.ufmt.specs.declared.column.Column.{Column}
 
-at_most_one : (b : Bool) → (if b then 1 else 0) ≤ 1
-at_most_one true = omega arith
-at_most_one false = omega arith
-
 pub char_count-nil : char_count [] ≡ 0
 unfolding char_count
 char_count-nil = refl

@@ -10,10 +10,6 @@ module _ {W : Type 0} where
     pub completes : (ok : Bool) (last : W) → Writes seen w left ok last → Writes seen start whole ok last
 
 module _ {W : Type 0} {seen : Seen W} where
-  -- at first the whole text is left
-  pub LeavesText-whole : {start : W} {whole : List ℕ} → LeavesText seen start whole start whole
-  LeavesText-whole = record { completes = λ ok last w. w }
-
   -- after a part, what follows it is left
   pub LeavesText-next : {start w next : W} {whole left : List ℕ} (part rest : List ℕ) → LeavesText seen start whole w left → left ≡ part ++ rest
       → Writes seen w part true next → LeavesText seen start whole next rest

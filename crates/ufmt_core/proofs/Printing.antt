@@ -14,7 +14,7 @@ use Rattle.ufmt_core.specs.BuilderView.{Lent, BuilderView, WritesAll, WritesEndi
 use Rattle.ufmt_core.proofs.Blocks.{Same-then, WritesEnding-fails, WritesText-between, WritesText-fails, WritesRow-from_entries, WritesRow-next, block_tail-append, block_tail-parts, count_after-map, lent_to}
 use Rattle.ufmt_core.proofs.Items.{AlwaysYields-items}
 use Rattle.ufmt_core.proofs.Writing.{Writes-then, Writes-fails}
-pub use Rattle.ufmt_core.proofs.Blocks.{WritesRow-more, WritesRow-next, WritesRow-none}
+pub use Rattle.ufmt_core.proofs.Blocks.{WritesAll-fails, WritesAll-none, WritesAll-then, WritesRow-more, WritesRow-next, WritesRow-none}
 pub use Rattle.ufmt_core.proofs.Writing.{LaysOut-err}
 
 abbrev pub Entries : Type 0
@@ -121,6 +121,14 @@ module _ {W : Type 0} {seen : Seen W} {reference : ℕ} {b b' : BuilderView W} {
 pub finished : {W : Type 0} {seen : Seen W} {reference : ℕ} {b b' : BuilderView W} {last : Formatter W} {ok : Bool}
     → WritesEnding seen b (ending_of b) ok b' → GivesBack reference b' last → Completes seen reference b (λ i. []) ok last
 finished = completed
+
+-- the call that begins a struct of which not all fields are shown failed
+pub dotted_not_opened : {W : Type 0} {seen : Seen W} {start last : Formatter W} {name : List ℕ} {fs : Fields} {B E X F : Type 0} {r : Result B E} {e : E}
+    (outcome : Result X F) → IsErr outcome → r ≡ Err e → OnErr r (Prints seen start name false last)
+    → LaysOut seen start (non_exhaustive_of name fs) (is_ok outcome) last
+dotted_not_opened outcome failed was unopened =
+    let p = IfErr-at_err _ was unopened in
+    LaysOut-err outcome failed (record { prints = record { wrote = Writes-fails _ p.wrote; same_setting = p.same_setting } })
 
 -- a struct of which not all fields are shown: its name was written, the fields that are, and the dots
 module _ {W : Type 0} {seen : Seen W} {start last : Formatter W} {name : List ℕ} {fs : Fields} {reference : ℕ} {b mid : BuilderView W}

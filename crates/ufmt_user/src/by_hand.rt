@@ -1,9 +1,9 @@
-//! Types whose `fmt` isn't one call of `fields!`: a list, a map, entries in halves, two documents joined,
-//! and a value in pretty mode.
+//! Types whose `fmt` isn't one call of `fields!`: a list, a map, entries in halves, a struct that ends in
+//! dots, two documents joined, and a value in pretty mode.
 ghost use Rattle.std.specs.Prelude.{[], ◌∷◌, codes, map};
 ghost use Rattle.std.specs.Str.{encode_utf8_all};
 ghost use Rattle.ufmt.specs.Document.{documents, joined, leaf, list_of, map_of, pairs_of, pretty_part};
-ghost use Rattle.ufmt.specs.ValueDocuments.{integer, number};
+ghost use Rattle.ufmt.specs.ValueDocuments.{integer, non_exhaustive_struct, number};
 
 use ufmt::{Formatter, uDebug, uWrite};
 
@@ -63,6 +63,23 @@ impl<T: uDebug> uDebug for Users<T> {
             list.end_entry(outcome)?;
         }
         list.finish()
+    }
+}
+
+/// A meter, of which only the total is shown.
+#[derive(Drop)]
+pub struct Meter {
+    pub total: u64,
+    pub key: u64,
+}
+
+impl uDebug for Meter {
+    ghost document = { λ m. non_exhaustive_struct "Meter" (("total", number m.total) ∷ []) };
+
+    fn fmt<W: uWrite>(&self, f: &mut Formatter<W>) -> Result<(), W::Error> {
+        let mut meter = f.debug_struct("Meter")?;
+        meter.field("total", &self.total)?;
+        meter.finish_non_exhaustive()
     }
 }
 

@@ -15,7 +15,7 @@ mod shared;
 mod structs;
 mod table;
 
-pub use by_hand::{InPrettyMode, Port, Ports, Scores, Temperature, Users};
+pub use by_hand::{InPrettyMode, Meter, Port, Ports, Scores, Temperature, Users};
 pub use cut_log::log_cut;
 pub use enums::{Letter, Y};
 pub use fixed::Fixed;
