@@ -154,8 +154,9 @@ impl Doc {
         Ok(Doc::Leaf(plain_text(alloc, &character)?))
     }
 
-    /// Returns the text between the quotes of a leaf, with its escapes decoded, or `None` if this
-    /// is no leaf in quotes. Fails only if memory runs out.
+    /// Returns what is between the quotes of a leaf, with its escapes decoded, if the leaf is one text or
+    /// character in quotes, spelled as `uDebug` does. Returns `None` of any other leaf, as `1.5`, `b"x"`,
+    /// `"a".."b"` and `"\u{301}"`, and of a block. Fails only if memory runs out.
     pub fn unquoted(&self, alloc: Global) -> Result<Option<String>, AllocError>
         ensures { IfOk result (λ outcome. Unquotes (doc_document self.now) outcome) }
     {
