@@ -157,6 +157,7 @@ fn have_one_text(loose: &Doc, doc: &Doc) -> Result<(), Fault> {
     if !doc.is_token() || !loose.is_token() {
         return Err(Fault::Other("is_token"));
     }
+    agree(doc.is_debug() && loose.is_debug(), "is_debug")?;
     agree(same_text(doc, doc), "same_text with itself")?;
     agree(same_text(loose, doc), "same_text with the normal form")?;
     agree(same_text(doc, loose), "same_text of the normal form")

@@ -1,10 +1,11 @@
-//! A text as a leaf and as a name, in quotes, and its characters.
+//! A text as a leaf and as a name of each class, in quotes, and its characters.
 use crate::digest::Digest;
 use crate::fault::{Fault, agree};
 use std::alloc::{AllocError, Global};
+use ufmt::class::Class;
 use ufmt::{plain_text, pretty_text};
 use ufmt_doc::{Doc, read_plain, read_pretty};
-use ufmt_scan::leaf::{is_leaf, is_word};
+use ufmt_scan::leaf::{is_leaf, is_leaf_of, is_name_of, is_word};
 
 // How many characters of a text are put in apostrophes.
 const MOST_CHARACTERS: usize = 64;
@@ -20,34 +21,57 @@ pub fn verdict(alloc: Global, text: &[u8]) -> Result<String, AllocError> {
     }
 }
 
+// Whether the text is a leaf of the class, and whether it is a name of the class.
+#[derive(Clone, Copy)]
+struct Kinds {
+    is_leaf: bool,
+    is_name: bool,
+}
+
 #[derive(Clone, Copy)]
 struct Leaf {
-    is_token: bool,
-    is_token_as_name: bool,
+    token: Kinds,
+    debug: Kinds,
     quoted: Digest,
     characters: Digest,
 }
 
+fn yes_or_no(holds: bool) -> &'static str {
+    if holds { "yes" } else { "no" }
+}
+
 impl Leaf {
     fn message(&self, alloc: Global) -> Result<String, AllocError> {
-        let token = if self.is_token { "yes" } else { "no" };
-        let name = if self.is_token_as_name { "yes" } else { "no" };
+        let (leaf, name) = (yes_or_no(self.token.is_leaf), yes_or_no(self.token.is_name));
+        let (debug_leaf, debug_name) = (
+            yes_or_no(self.debug.is_leaf),
+            yes_or_no(self.debug.is_name),
+        );
         let quoted = self.quoted.message(alloc)?;
         let characters = self.characters.message(alloc)?;
-        format!(in alloc; "token {token}, name {name}, quoted {quoted}, characters {characters}")
+        format!(in alloc;
+            "token {leaf}, name {name}, debug {debug_leaf}, debug name {debug_name}, quoted {quoted}, characters {characters}"
+        )
     }
 }
 
 fn of_text(alloc: Global, text: &str) -> Result<Leaf, Fault> {
+    let (leaf, named) = (leaf_of(alloc, text)?, named(alloc, text)?);
+    let (token, debug) = (
+        kinds(Class::Token, text, &leaf, &named)?,
+        kinds(Class::Debug, text, &leaf, &named)?,
+    );
+    agree(is_leaf(text) == token.is_leaf, "is_leaf")?;
+    agree(is_word(text) == token.is_name, "is_word")?;
     Ok(Leaf {
-        is_token: is_token(alloc, text)?,
-        is_token_as_name: is_token_as_name(alloc, text)?,
+        token,
+        debug,
         quoted: in_quotes(alloc, text)?,
         characters: Digest::of(&characters(alloc, text)?),
     })
 }
 
-fn is_token(alloc: Global, text: &str) -> Result<bool, Fault> {
+fn leaf_of(alloc: Global, text: &str) -> Result<Doc, Fault> {
     let leaf = Doc::Leaf(String::from_str(alloc, text)?);
     agree(
         plain_text(alloc, &leaf)?.as_str() == text,
@@ -57,14 +81,24 @@ fn is_token(alloc: Global, text: &str) -> Result<bool, Fault> {
         pretty_text(alloc, &leaf)?.as_str() == text,
         "pretty text of a leaf",
     )?;
-    agree(is_leaf(text) == leaf.is_token(), "is_leaf")?;
-    Ok(leaf.is_token())
+    Ok(leaf)
 }
 
-fn is_token_as_name(alloc: Global, text: &str) -> Result<bool, Fault> {
-    let named = named(alloc, text)?;
-    agree(is_word(text) == named.is_token(), "is_word")?;
-    Ok(named.is_token())
+fn kinds(class: Class, text: &str, leaf: &Doc, named: &Doc) -> Result<Kinds, Fault> {
+    let kinds = Kinds {
+        is_leaf: is_of(class, leaf),
+        is_name: is_of(class, named),
+    };
+    agree(is_leaf_of(class, text) == kinds.is_leaf, "is_leaf_of")?;
+    agree(is_name_of(class, text) == kinds.is_name, "is_name_of")?;
+    Ok(kinds)
+}
+
+fn is_of(class: Class, doc: &Doc) -> bool {
+    match class {
+        Class::Token => doc.is_token(),
+        Class::Debug => doc.is_debug(),
+    }
 }
 
 fn in_quotes(alloc: Global, text: &str) -> Result<Digest, Fault> {

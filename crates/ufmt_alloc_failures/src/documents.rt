@@ -6,6 +6,7 @@ use crate::samples::{DEBUG, MANY_PLAIN, MANY_PRETTY};
 use std::alloc::{AllocError, Global};
 use std::io;
 use ufmt::Cursor;
+use ufmt::class::Class;
 use ufmt::layout::Mode;
 use ufmt_doc::convert::{
     debug_to_plain_into, debug_to_pretty_into, to_plain_into, to_pretty_into, write_to_plain,
@@ -13,7 +14,7 @@ use ufmt_doc::convert::{
 };
 use ufmt_doc::doc::{Doc, same_text};
 use ufmt_doc::{is_debug_text, is_text};
-use ufmt_scan::leaf::{is_leaf, is_symbol, is_word};
+use ufmt_scan::leaf::{is_leaf, is_leaf_of, is_name_of, is_symbol, is_word};
 use ufmt_scan::quoted::split_escaped;
 
 const MANY: &str = "many entries";
@@ -38,6 +39,7 @@ pub fn report_documents(rt: &HostRuntime) -> io::Result<()> {
 fn report_both(rt: &HostRuntime, doc: &Doc, mut other: Doc) -> io::Result<()> {
     loosen(&mut other, rt.alloc());
     report_free(rt, "is_token", MANY, || doc.is_token() && other.is_token())?;
+    report_free(rt, "is_debug", MANY, || doc.is_debug() && other.is_debug())?;
     report_free(rt, "same_text", MANY, || have_same_text(doc, &other))?;
     report_free(
         rt,
@@ -196,6 +198,12 @@ pub fn report_leaves(rt: &HostRuntime) -> io::Result<()> {
         case,
         || is_symbol(quoted) && !is_symbol("word"),
     )?;
+    report_free(rt, "is_leaf_of", case, || {
+        is_leaf_of(Class::Debug, "b\"x\"") && !is_leaf_of(Class::Token, "1.5")
+    })?;
+    report_free(rt, "is_name_of", case, || {
+        is_name_of(Class::Debug, "a::B") && !is_name_of(Class::Debug, quoted)
+    })?;
     report_free(rt, "split_escaped", case, || {
         split_escaped(b'"', b"\\u{1b}\"") == Some((0x1b, b"\"".as_slice()))
     })

@@ -1,4 +1,4 @@
--- A block is a token document if its entries are.
+-- A block is a document of a class if its entries are.
 use Rattle.std.proofs.Common.{◌≡◌, refl, Bool, ◌==◌, ℕ, ◌-◌, ◌<◌, true, false, List, [], ◌∷◌, length, map, arith, eqb-true, String, Global, ◌∙◌, cond, Vec, vec_len}
 use Rattle.std.specs.Prelude.{◌↔◌, IsTrue, string_bytes}
 use Rattle.std.specs.Bool.{MatchBool}
@@ -6,11 +6,13 @@ use Rattle.std.specs.List.{AllByRecursion, AllWithin, HoldsAt}
 use Rattle.std.proofs.lemmas.Iterator.Search.{true_from_All}
 use Rattle.std.proofs.lemmas.List.Elements.{All-from_all_within, All-from_recursion, recursion_from_All}
 use Rattle.ufmt.specs.Document.{list_of, map_of, struct_of, tuple_of, documents, pairs_of, fields_of}
-use Rattle.ufmt.specs.Token.{IsWord}
+use Rattle.ufmt.specs.declared.class.Class.{Class}
+use Rattle.ufmt.specs.Token.{IsName}
+use Rattle.ufmt.proofs.ClassLeaves.{name_some}
 use Rattle.ufmt_doc.specs.declared.doc.Doc.TheVariants.{TupleOf}
 use Rattle.ufmt_doc.specs.Doc.{doc_document, Doc}
 use Rattle.ufmt_doc.specs.DocViews.{pair_view, field_view}
-use Rattle.ufmt_doc.specs.Private.{IsTokenWithin}
+use Rattle.ufmt_doc.specs.Private.{IsBuiltWithin}
 use Rattle.ufmt_doc.proofs.Docs.{doc_document-TupleOf}
 use Rattle.ufmt_doc.proofs.NormalForms.{is_some}
 
@@ -24,10 +26,10 @@ pub all_decides : {X : Type 0} (Passes : X → Type 0) (outcome : Bool) (xs : Li
 all_decides Passes true xs h = (λ yes. recursion_from_All Passes xs (All-from_all_within Passes xs h), λ all. refl)
 all_decides Passes false xs h = (λ yes. absurd (cc), λ all. true_from_All Passes (λ x. Passes x → ⊥) false xs (λ x p q. q p) h (All-from_recursion Passes xs all))
 
-module _ (n : ℕ) where
+module _ (class : Class) (n : ℕ) where
   -- a list or a set, by its entries
   pub docs_within : (ds : List Doc)
-      → AllByRecursion (λ d. (0 < n) × IsTokenWithin (n - 1) (doc_document d)) ds ↔ IsTokenWithin n (list_of (documents (map doc_document ds)))
+      → AllByRecursion (λ d. (0 < n) × IsBuiltWithin class (n - 1) (doc_document d)) ds ↔ IsBuiltWithin class n (list_of (documents (map doc_document ds)))
   docs_within [] = (λ h. (tt, omega arith), λ h. tt)
   docs_within (d ∷ []) = (λ h. ((h.0.1.0, tt), omega arith), λ h. ((omega arith, (h.0.0, omega arith)), tt))
   docs_within (d ∷ e ∷ ds) =
@@ -36,8 +38,8 @@ module _ (n : ℕ) where
 
   -- a map, by its pairs
   pub pairs_within : (ps : List (Doc × Doc))
-      → AllByRecursion (λ p. (0 < n) × (IsTokenWithin (n - 1) (doc_document p.0) × IsTokenWithin (n - 1) (doc_document p.1))) ps
-      ↔ IsTokenWithin n (map_of (pairs_of (map pair_view ps)))
+      → AllByRecursion (λ p. (0 < n) × (IsBuiltWithin class (n - 1) (doc_document p.0) × IsBuiltWithin class (n - 1) (doc_document p.1))) ps
+      ↔ IsBuiltWithin class n (map_of (pairs_of (map pair_view ps)))
   pairs_within [] = (λ h. (tt, omega arith), λ h. tt)
   pairs_within (p ∷ []) = (λ h. ((h.0.1.0.0, h.0.1.1.0, tt), omega arith), λ h. ((omega arith, ((h.0.0, omega arith), (h.0.1, omega arith))), tt))
   pairs_within (p ∷ q ∷ ps) =
@@ -47,31 +49,31 @@ module _ (n : ℕ) where
       )
 
   -- a struct with this name, by its fields
-  pub fields_within : (name : List ℕ) → IsWord name → (fs : List (String Global × Doc))
-      → AllByRecursion (λ f. (0 < n) × (IsWord (string_bytes f.0) × IsTokenWithin (n - 1) (doc_document f.1))) fs
-      ↔ IsTokenWithin n (struct_of name (fields_of (map field_view fs)))
-  fields_within name word [] = (λ h. ((word, tt), omega arith), λ h. tt)
-  fields_within name word (f ∷ []) = (λ h. ((word, (h.0.1.0, h.0.1.1.0, tt)), omega arith), λ h. ((omega arith, (h.0.1.0, (h.0.1.1, omega arith))), tt))
-  fields_within name word (f ∷ g ∷ fs) =
-      let rest = fields_within name word (g ∷ fs) in (
-        λ h. let more = rest.0 h.1 in ((word, (h.0.1.0, h.0.1.1.0, more.0.1)), omega arith),
-        λ h. ((omega arith, (h.0.1.0, (h.0.1.1, omega arith))), rest.1 ((word, h.0.1.2), omega arith)),
+  pub fields_within : (name : List ℕ) → IsName class name → (fs : List (String Global × Doc))
+      → AllByRecursion (λ f. (0 < n) × (IsName class (string_bytes f.0) × IsBuiltWithin class (n - 1) (doc_document f.1))) fs
+      ↔ IsBuiltWithin class n (struct_of name (fields_of (map field_view fs)))
+  fields_within name named [] = (λ h. ((named, tt), omega arith), λ h. tt)
+  fields_within name named (f ∷ []) = (λ h. ((named, (h.0.1.0, h.0.1.1.0, tt)), omega arith), λ h. ((omega arith, (h.0.1.0, (h.0.1.1, omega arith))), tt))
+  fields_within name named (f ∷ g ∷ fs) =
+      let rest = fields_within name named (g ∷ fs) in (
+        λ h. let more = rest.0 h.1 in ((named, (h.0.1.0, h.0.1.1.0, more.0.1)), omega arith),
+        λ h. ((omega arith, (h.0.1.0, (h.0.1.1, omega arith))), rest.1 ((named, h.0.1.2), omega arith)),
       )
 
-  -- a tuple, by its fields: its name is a word, or it has none and has fields
-  pub tuple_within : (name : List ℕ) → IsWord name → (ds : List Doc)
-      → IsTokenWithin n (list_of (documents (map doc_document ds))) ↔ IsTokenWithin n (tuple_of name (documents (map doc_document ds)))
-  tuple_within [] word ds = absurd word
-  tuple_within (c ∷ name) word [] = (λ h. (word, h.1), λ h. (tt, h.1))
-  tuple_within (c ∷ name) word (d ∷ ds) = (λ h. ((word, h.0.0, h.0.1), h.1), λ h. ((h.0.1, h.0.2), h.1))
+  -- a tuple, by its fields: it has a name, or it has none and has fields
+  pub tuple_within : (name : List ℕ) → IsName class name → (ds : List Doc)
+      → IsBuiltWithin class n (list_of (documents (map doc_document ds))) ↔ IsBuiltWithin class n (tuple_of name (documents (map doc_document ds)))
+  tuple_within [] named ds = absurd (name_some class named)
+  tuple_within (c ∷ name) named [] = (λ h. (named, h.1), λ h. (tt, h.1))
+  tuple_within (c ∷ name) named (d ∷ ds) = (λ h. ((named, h.0.0, h.0.1), h.1), λ h. ((h.0.1, h.0.2), h.1))
 
   unnamed : (name : List ℕ) (ds : List Doc) (empty : Bool) → (length name == 0) ≡ true → empty ≡ (length ds == 0)
-      → cond empty ⊥ (IsTokenWithin n (list_of (documents (map doc_document ds)))) ↔ IsTokenWithin n (tuple_of name (documents (map doc_document ds)))
+      → cond empty ⊥ (IsBuiltWithin class n (list_of (documents (map doc_document ds)))) ↔ IsBuiltWithin class n (tuple_of name (documents (map doc_document ds)))
   unnamed (c ∷ name) ds empty none is = let e = eqb-true (length (c ∷ name)) 0 none in absurd (omega arith)
-  unnamed [] [] empty none is = rw is (λ h. absurd h, λ h. absurd h.0)
+  unnamed [] [] empty none is = rw is (λ h. absurd h, λ h. absurd (name_some class h.0))
   unnamed [] (d ∷ ds) empty none is = rw (is ∙ is_some d ds) (λ h. ((tt, h.0.0, h.0.1), h.1), λ h. ((h.0.1, h.0.2), h.1))
 
   pub unnamed_within : (name : String Global) (fields : Vec Doc Global) (empty : Bool) → (vec_len name.bytes == 0) ≡ true → empty ≡ (vec_len fields == 0)
-      → cond empty ⊥ (IsTokenWithin n (list_of (documents (map doc_document fields.items)))) ↔ IsTokenWithin n (doc_document (TupleOf name fields))
+      → cond empty ⊥ (IsBuiltWithin class n (list_of (documents (map doc_document fields.items)))) ↔ IsBuiltWithin class n (doc_document (TupleOf name fields))
   unnamed_within name fields empty none is =
       rw (doc_document-TupleOf name fields) (unnamed (string_bytes name) fields.items empty (rw name.bytes.ok.0 at none) (rw fields.ok.0 at is))

@@ -2,14 +2,21 @@
 use Rattle.std.specs.Prelude.{◌≡◌, ℕ, ◌≤◌, List, [], ◌∷◌, ◌++◌}
 use Rattle.ufmt.specs.Document.{Document, nest}
 use Rattle.ufmt.specs.Quoted.{escaped_bytes}
-use Rattle.ufmt.specs.declared.class.Class.TheVariants.{Token}
+use Rattle.ufmt.specs.declared.class.Class.{Class}
 use Rattle.ufmt.specs.Token.{IsBuilt}
+use Rattle.ufmt_core.specs.declared.layout.Mode.{Mode}
+use Rattle.ufmt_core.specs.declared.layout.Mode.TheVariants.{Plain, Pretty}
 pub mod Growing
 
--- a document with tokens, whose blocks with entries are nested at most n deep. `is_token` tests it with the depth that is left
-abbrev pub IsTokenWithin : ℕ → Document → Type 0
-IsTokenWithin n d = IsBuilt Token d × (nest d ≤ n)
+-- built from names and leaves of the class, with blocks with entries nested at most n deep. `is_token` and `is_debug` test it with the depth that is left
+abbrev pub IsBuiltWithin : Class → ℕ → Document → Type 0
+IsBuiltWithin class n d = IsBuilt class d × (nest d ≤ n)
 
 -- these are the bytes that are spelled up to the closing quote, if the text ends with one
 abbrev pub AreSpelled : ℕ → List ℕ → List ℕ → Type 0
 AreSpelled quote inside bytes = (bs : List ℕ) → inside ≡ escaped_bytes quote bs ++ (quote ∷ []) → bytes ≡ bs
+
+-- the mode of the other text
+abbrev pub other_mode : Mode → Mode
+other_mode Plain = Pretty
+other_mode Pretty = Plain

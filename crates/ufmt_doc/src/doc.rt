@@ -4,7 +4,7 @@ ghost use Rattle.std.specs.Prelude.{◌≡◌, ◌↔◌, IfOk, IsTrue, map, opt
 ghost use Rattle.std.specs.Str.{chars};
 ghost use Rattle.ufmt.specs.Document.{documents, fields_of, leaf, pairs_of};
 ghost use Rattle.ufmt.specs.Quoted.{IsQuote, quoted_char, quoted_text};
-ghost use Rattle.ufmt.specs.Token.{IsTokenDocument, normal, normal_all, normal_fields, normal_pairs};
+ghost use Rattle.ufmt.specs.Token.{IsDebugDocument, IsTokenDocument, normal, normal_all, normal_fields, normal_pairs};
 ghost use Rattle.ufmt_doc.specs.Doc.{doc_document};
 ghost use Rattle.ufmt_doc.specs.DocViews.{pair_view, field_view};
 ghost use Rattle.ufmt_doc.specs.Parts.{entries_part, field_part, fields_part, first_value, leaf_part, name_part, pairs_part};
@@ -18,6 +18,7 @@ use std::alloc::{AllocError, Global};
 use std::mem;
 use tree::Subtree;
 pub use tree::same_text;
+use ufmt::class::Class;
 use ufmt::plain_text;
 use ufmt_scan::leaf::is_symbol;
 use ufmt_scan::quoted::split_escaped;
@@ -34,11 +35,19 @@ pub enum Doc {
 }
 
 impl Doc {
-    /// Returns whether it is a token document, whose text can be read again.
+    /// Returns whether it is a token document. `read_plain` and `read_pretty` take the texts of these.
     pub fn is_token(&self) -> bool
         ensures { IsTrue result ↔ IsTokenDocument (doc_document self.now) }
     {
-        self.is_built_from_tokens(u8::MAX)
+        self.is_within(Class::Token, u8::MAX)
+    }
+
+    /// Returns whether it is a debug document. `read_debug_plain` and `read_debug_pretty` take the texts
+    /// of these. Each token document is one.
+    pub fn is_debug(&self) -> bool
+        ensures { IsTrue result ↔ IsDebugDocument (doc_document self.now) }
+    {
+        self.is_within(Class::Debug, u8::MAX)
     }
 
     /// Changes it to its normal form, which has the same texts. At each depth, a struct or a tuple
@@ -145,8 +154,9 @@ impl Doc {
         Ok(Doc::Leaf(plain_text(alloc, &character)?))
     }
 
-    /// Returns the text between the quotes of a leaf, with its escapes decoded, or `None` if this
-    /// is no leaf in quotes. Fails only if memory runs out.
+    /// Returns what is between the quotes of a leaf, with its escapes decoded, if the leaf is one text or
+    /// character in quotes, spelled as `uDebug` does. Returns `None` of any other leaf, as `1.5`, `b"x"`,
+    /// `"a".."b"` and `"\u{301}"`, and of a block. Fails only if memory runs out.
     pub fn unquoted(&self, alloc: Global) -> Result<Option<String>, AllocError>
         ensures { IfOk result (λ outcome. Unquotes (doc_document self.now) outcome) }
     {

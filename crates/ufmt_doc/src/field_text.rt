@@ -13,8 +13,9 @@ use std::alloc::{AllocError, Global};
 use ufmt_scan::error::ReadError;
 
 impl Doc {
-    /// Returns the text of a leaf. A leaf in quotes shows what is between them, with its escapes decoded.
-    /// Returns `None` if this is a block. Fails only if memory runs out.
+    /// Returns the text that a leaf shows: what `unquoted` returns of it, or of any other leaf its own text
+    /// as it is. So `b"x"`, `"a".."b"` and `"\u{301}"` keep their quotes and escapes. Returns `None` if this
+    /// is a block. Fails only if memory runs out.
     pub fn leaf_text(&self, alloc: Global) -> Result<Option<String>, AllocError>
         ensures { IfOk result (λ outcome. ShowsText (doc_document self.now) outcome) }
     {

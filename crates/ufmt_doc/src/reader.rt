@@ -55,8 +55,13 @@ pub fn read_debug_pretty(alloc: Global, input: &[u8]) -> Result<Doc, ReadError>
     read_text(alloc, Class::Debug, Mode::Pretty, input)
 }
 
-// The document of the class in normal form that has the whole text.
-fn read_text(alloc: Global, class: Class, mode: Mode, input: &[u8]) -> Result<Doc, ReadError>
+/// The document of the class in normal form that has the whole text.
+pub(crate) fn read_text(
+    alloc: Global,
+    class: Class,
+    mode: Mode,
+    input: &[u8],
+) -> Result<Doc, ReadError>
     ensures ok { IfOk result (λ doc. IsNormalFormAs class (layout (setting mode 0)) input.now
         (doc_document doc)) }
     ensures not_text { IsErrOf result ReadError.NotText

@@ -1,6 +1,8 @@
 //! Tests of what no clause says: that calls on documents can succeed, and their results on rows
 //! that are written by hand.
+mod is_debug;
 mod is_token;
+mod leaf_texts;
 mod nested_lists;
 mod normalize;
 mod pieces;

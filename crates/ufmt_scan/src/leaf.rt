@@ -1,10 +1,12 @@
 //! Leaves: words, `()`, and texts in quotes.
 ghost use Rattle.std.specs.Prelude.{◌≡◌, ◌≤◌, ◌+◌, ◌↔◌, IsTrue, drop, length, option_map};
 ghost use Rattle.ufmt.specs.declared.class.Class.TheVariants.{Token};
-ghost use Rattle.ufmt.specs.Token.{IsSymbol, IsTokenLeaf, IsWord};
+ghost use Rattle.ufmt.specs.Leaves.{IsDebugLeaf};
+ghost use Rattle.ufmt.specs.Token.{IsLeaf, IsName, IsSymbol, IsTokenLeaf, IsWord};
 ghost use Rattle.ufmt.specs.Reading.{after_word, read_quotes, read_symbol, word_of};
 ghost use Rattle.ufmt_scan.specs.Private.MarkedBytes.{is_marked, marked_len};
 
+use crate::front::{split_front, split_name};
 use crate::level::strip_piece;
 use crate::quoted::{split_any, split_plain};
 use ufmt::class::Class;
@@ -120,12 +122,10 @@ pub fn is_leaf(text: &str) -> bool
 }
 
 /// Returns whether a text is a word.
-#[tactic(auto, using(crate::proofs::Leaves::word_tested))]
 pub fn is_word(text: &str) -> bool
     ensures { IsTrue result ↔ IsWord text.now }
 {
-    let (word, rest) = split_word(text.as_bytes());
-    !word.is_empty() && rest.is_empty()
+    is_name_of(Class::Token, text)
 }
 
 /// Returns whether a text is `()` or a leaf in quotes.
@@ -135,6 +135,40 @@ pub fn is_symbol(text: &str) -> bool
 {
     match split_symbol(text.as_bytes()) {
         Some((_, rest)) => rest.is_empty(),
+        None => false,
+    }
+}
+
+/// Returns whether a text is a leaf of documents of the class.
+pub fn is_leaf_of(class: Class, text: &str) -> bool
+    ensures { IsTrue result ↔ IsLeaf class text.now }
+{
+    match class {
+        Class::Token => is_leaf(text),
+        Class::Debug => is_debug_leaf(text),
+    }
+}
+
+/// Returns whether a text is a name of documents of the class. The name of a tuple may also be empty.
+#[tactic(auto, using(crate::proofs::Leaves::no_name_tested))]
+pub fn is_name_of(class: Class, text: &str) -> bool
+    ensures { IsTrue result ↔ IsName class text.now }
+{
+    match split_name(class, text.as_bytes()) {
+        Some((_, rest)) => rest.is_empty(),
+        None => false,
+    }
+}
+
+// Whether a text is `()`, or words and texts in quotes in a row.
+fn is_debug_leaf(text: &str) -> bool
+    ensures { IsTrue result ↔ IsDebugLeaf text.now }
+{
+    if text == "()" {
+        return true;
+    }
+    match split_front(Class::Debug, text.as_bytes()) {
+        Some(front) => !front.text.is_empty() && front.rest.is_empty(),
         None => false,
     }
 }

@@ -132,5 +132,6 @@ IN_BODIES = [
     (LARGE, "ufmt_core/src/unsigned.rt", "SIXTEEN_DIGITS", "10_000_000_000_000_000"),
     (LARGE, "ufmt_core/src/unsigned.rt", "split_pair", "524_288"),
     (LARGE, "ufmt_doc/src/doc.rt", "Doc::is_token", "u8::MAX"),
+    (LARGE, "ufmt_doc/src/doc.rt", "Doc::is_debug", "u8::MAX"),
     (LARGE, "ufmt_lines/src/run.rt", "run", "u64::MAX"),
 ]

@@ -3,7 +3,7 @@ import coverage
 import pieces
 import requests
 import values
-from model import DEEPEST, WORD, PlainReader, PrettyReader, depth_of, events, leaf_at, parts, plain, pretty, quoted
+from model import DEBUG, DEEPEST, TOKEN, PlainReader, PrettyReader, depth_of, events, parts, plain, pretty, quoted
 from shown import shown
 
 
@@ -35,12 +35,18 @@ def half(document, converted):
     )
 
 
+def kinds(text_class, text):
+    """Whether the text is a leaf of the class, and whether it is a name of it."""
+    found = text_class.leaf_at(text, 0)
+    is_leaf = found is not None and found[1] == len(text)
+    is_name = is_leaf and bool(text_class.is_name(text))
+    return "yes" if is_leaf else "no", "yes" if is_name else "no"
+
+
 def leaf_verdict(text):
-    is_name = bool(WORD.fullmatch(text))
-    found = leaf_at(text, 0)
-    return "token %s, name %s, quoted %s, characters %s" % (
-        "yes" if found is not None and found[1] == len(text) else "no",
-        "yes" if is_name else "no",
+    return "token %s, name %s, debug %s, debug name %s, quoted %s, characters %s" % (
+        *kinds(TOKEN, text),
+        *kinds(DEBUG, text),
         digest(quoted(text)),
         digest("".join(quoted(character, "'") for character in text[:64])),
     )

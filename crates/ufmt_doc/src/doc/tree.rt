@@ -1,22 +1,26 @@
-//! Whether a document is a token document, and whether two have the same text.
+//! Whether a document is one of a class, and whether two have the same text.
 ghost use Rattle.std.specs.List.{AllByRecursion, AllZip};
 ghost use Rattle.std.specs.Prelude.{◌≡◌, ◌↔◌, ◌<◌, ◌-◌, ℕ, IsTrue, string_bytes};
 ghost use Rattle.ufmt.specs.Layout.{plain_text, pretty_text};
-ghost use Rattle.ufmt.specs.Token.{IsTokenDocument, IsWord, normal};
+ghost use Rattle.ufmt.specs.declared.class.Class.{Class};
+ghost use Rattle.ufmt.specs.Token.{IsDocument, IsName, normal};
 ghost use Rattle.ufmt_doc.specs.Doc.{doc_document};
 ghost use Rattle.ufmt_doc.specs.Parts.{leaf_part};
-ghost use Rattle.ufmt_doc.specs.Private.{IsTokenWithin};
+ghost use Rattle.ufmt_doc.specs.Private.{IsBuiltWithin};
 ghost use Rattle.ufmt_scan.specs.Rest.{now_of};
 
 use super::Doc;
-use ufmt_scan::leaf::{is_leaf, is_word};
+use ufmt::class::Class;
+use ufmt_scan::leaf::{is_leaf_of, is_name_of};
 
-/// Returns whether two documents have the same normal form. Two token documents have it exactly if they
-/// have the same text. Compares their trees, and makes no text.
+/// Returns whether two documents have the same normal form. Two documents of one class have it exactly if
+/// they have the same text. Compares their trees, and makes no text.
 pub fn same_text(a: &Doc, b: &Doc) -> bool
-    ensures plain { IsTokenDocument (doc_document a.now) → IsTokenDocument (doc_document b.now) → IsTrue result
+    ensures plain { (class : Class) → IsDocument class (doc_document a.now)
+        → IsDocument class (doc_document b.now) → IsTrue result
         ↔ (plain_text (doc_document a.now) ≡ plain_text (doc_document b.now)) }
-    ensures pretty { IsTokenDocument (doc_document a.now) → IsTokenDocument (doc_document b.now) → IsTrue result
+    ensures pretty { (class : Class) → IsDocument class (doc_document a.now)
+        → IsDocument class (doc_document b.now) → IsTrue result
         ↔ (pretty_text (doc_document a.now) ≡ pretty_text (doc_document b.now)) }
     ensures normal { IsTrue result ↔ (normal (doc_document a.now) ≡ normal (doc_document b.now)) }
 {
@@ -26,13 +30,14 @@ pub fn same_text(a: &Doc, b: &Doc) -> bool
 // What is in a document. Implemented per field type: the check allows recursion at `Vec<Doc>`, not
 // at `Doc`.
 pub(super) trait Subtree {
-    ghost tokens: { ℕ → Self → Type 0 };
+    ghost within: { Class → ℕ → Self → Type 0 };
 
     ghost same: { Self → Self → Type 0 };
 
-    // Whether it has tokens, and its blocks with entries are nested at most `deepest` deep.
-    fn is_built_from_tokens(&self, deepest: u8) -> bool
-        ensures { IsTrue result ↔ tokens deepest self.now };
+    // Whether its names and leaves are those of the class, and its blocks with entries are nested at most
+    // `deepest` deep.
+    fn is_within(&self, class: Class, deepest: u8) -> bool
+        ensures { IsTrue result ↔ within class deepest self.now };
 
     // Whether both have the same normal form.
     fn is_same(&self, other: &Self) -> bool
@@ -40,12 +45,12 @@ pub(super) trait Subtree {
 }
 
 impl Subtree for String {
-    ghost tokens = { λ _ name. IsWord (string_bytes name) };
+    ghost within = { λ class _ name. IsName class (string_bytes name) };
 
     ghost same = { λ name other. string_bytes name ≡ string_bytes other };
 
-    fn is_built_from_tokens(&self, _deepest: u8) -> bool {
-        is_word(self)
+    fn is_within(&self, class: Class, _deepest: u8) -> bool {
+        is_name_of(class, self)
     }
 
     fn is_same(&self, other: &String) -> bool {
@@ -54,12 +59,12 @@ impl Subtree for String {
 }
 
 impl<K: Subtree, V: Subtree> Subtree for (K, V) {
-    ghost tokens = { λ n p. K.tokens n p.0 × V.tokens n p.1 };
+    ghost within = { λ class n p. K.within class n p.0 × V.within class n p.1 };
 
     ghost same = { λ p q. K.same p.0 q.0 × V.same p.1 q.1 };
 
-    fn is_built_from_tokens(&self, deepest: u8) -> bool {
-        self.0.is_built_from_tokens(deepest) && self.1.is_built_from_tokens(deepest)
+    fn is_within(&self, class: Class, deepest: u8) -> bool {
+        self.0.is_within(class, deepest) && self.1.is_within(class, deepest)
     }
 
     fn is_same(&self, other: &(K, V)) -> bool {
@@ -69,12 +74,13 @@ impl<K: Subtree, V: Subtree> Subtree for (K, V) {
 
 // Entries are one deeper than their block.
 impl<T: Subtree> Subtree for Vec<T> {
-    ghost tokens = { λ n v. AllByRecursion (λ x. (0 < n) × T.tokens (n - 1) x) v.items };
+    ghost within = { λ class n v. AllByRecursion (λ x. (0 < n) × T.within class (n - 1) x) v.items };
 
     ghost same = { λ v w. AllZip T.same v.items w.items };
 
-    fn is_built_from_tokens(&self, deepest: u8) -> bool {
-        self.iter().all(|entry| deepest > 0 && entry.is_built_from_tokens(deepest - 1))
+    fn is_within(&self, class: Class, deepest: u8) -> bool {
+        self.iter()
+            .all(|entry| deepest > 0 && entry.is_within(class, deepest - 1))
     }
 
     fn is_same(&self, other: &Vec<T>) -> bool {
@@ -83,21 +89,23 @@ impl<T: Subtree> Subtree for Vec<T> {
 }
 
 impl Subtree for Doc {
-    ghost tokens = { λ n d. IsTokenWithin n (doc_document d) };
+    ghost within = { λ class n d. IsBuiltWithin class n (doc_document d) };
 
     ghost same = { λ d e. normal (doc_document d) ≡ normal (doc_document e) };
 
     #[cycle(parts)]
-    fn is_built_from_tokens(&self, deepest: u8) -> bool {
+    fn is_within(&self, class: Class, deepest: u8) -> bool {
         match self {
-            Doc::Leaf(text) => is_leaf(text),
-            Doc::Listed(entries) | Doc::SetOf(entries) => entries.is_built_from_tokens(deepest),
-            Doc::MapOf(pairs) => pairs.is_built_from_tokens(deepest),
-            Doc::StructOf(name, fields) => is_word(name) && fields.is_built_from_tokens(deepest),
+            Doc::Leaf(text) => is_leaf_of(class, text),
+            Doc::Listed(entries) | Doc::SetOf(entries) => entries.is_within(class, deepest),
+            Doc::MapOf(pairs) => pairs.is_within(class, deepest),
+            Doc::StructOf(name, fields) => is_name_of(class, name)
+                && fields.is_within(class, deepest),
             Doc::TupleOf(name, fields) if name.is_empty() => {
-                !fields.is_empty() && fields.is_built_from_tokens(deepest)
+                !fields.is_empty() && fields.is_within(class, deepest)
             }
-            Doc::TupleOf(name, fields) => is_word(name) && fields.is_built_from_tokens(deepest),
+            Doc::TupleOf(name, fields) => is_name_of(class, name)
+                && fields.is_within(class, deepest),
         }
     }
 

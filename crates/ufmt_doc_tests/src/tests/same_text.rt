@@ -4,7 +4,7 @@ use super::shape::Shape::{self, Leaf, Listed, MapOf, SetOf, StructOf, TupleOf};
 use super::shape::made;
 use std::alloc::{AllocError, Global};
 use ufmt_doc::doc::{Doc, same_text};
-use ufmt_doc::plain_reader::{ReadError, read_plain};
+use ufmt_doc::plain_reader::{ReadError, read_debug_plain, read_plain};
 
 // What `same_text` returns, if both are token documents.
 fn same_text_of_tokens(a: &Doc, b: &Doc) -> Option<bool> {
@@ -133,4 +133,114 @@ fn same_text_is_true_of_read_documents_if_their_texts_are_equal(rt: HostRuntime)
         count = count.saturating_add(1);
     }
     same(&rt, count, 19, "texts");
+}
+
+// What `same_text` returns, if both are debug documents.
+fn same_text_of_debug(a: &Doc, b: &Doc) -> Option<bool> {
+    if a.is_debug() && b.is_debug() {
+        Some(same_text(a, b))
+    } else {
+        None
+    }
+}
+
+// Two debug documents, and whether they have one text.
+const MADE_AS_DEBUG: [(&str, Shape<'static>, Shape<'static>, bool); 8] = [
+    ("a number with a point", Leaf("1.5"), Leaf("1.5"), true),
+    (
+        "one number, spelled twice",
+        Leaf("1.5"),
+        Leaf("1.50"),
+        false,
+    ),
+    (
+        "two spellings of a character",
+        Leaf("'\\u{e9}'"),
+        Leaf("'é'"),
+        false,
+    ),
+    ("a path", StructOf("a::B", &[]), Leaf("a::B"), true),
+    (
+        "a path as a tuple and as a struct",
+        TupleOf("a::B", &[]),
+        StructOf("a::B", &[]),
+        true,
+    ),
+    (
+        "a set and a map beside a range",
+        TupleOf("", &[Leaf("0..5"), SetOf(&[])]),
+        TupleOf("", &[Leaf("0..5"), MapOf(&[])]),
+        true,
+    ),
+    (
+        "a colon in a leaf and between two",
+        SetOf(&[Leaf("a:1")]),
+        MapOf(&[(Leaf("a"), Leaf("1"))]),
+        false,
+    ),
+    (
+        "a token document and another",
+        Leaf("b"),
+        Leaf("b\"\""),
+        false,
+    ),
+];
+
+fn same_text_of_made_as_debug(
+    alloc: Global,
+    a: &Shape<'_>,
+    b: &Shape<'_>,
+) -> Result<Option<bool>, AllocError> {
+    let (a, b) = (made(alloc, a)?, made(alloc, b)?);
+    Ok(same_text_of_debug(&a, &b))
+}
+
+#[test]
+fn same_text_is_true_of_debug_documents_with_one_text(rt: HostRuntime) {
+    for (case, a, b, is_same) in MADE_AS_DEBUG {
+        let given = same_text_of_made_as_debug(rt.alloc(), &a, &b);
+        same(&rt, given, Ok(Some(is_same)), case);
+    }
+}
+
+// Texts of debug documents, with a semicolon between them.
+const READ_AS_DEBUG: &str = "\
+1.5;\
+1.50;\
+0..5;\
+\"x\";\
+b\"x\";\
+'x';\
+'w'..='x';\
+[1.5];\
+{1.5};\
+{1.5: ::1};\
+{::1: 1.5};\
+{::1:1.5};\
+(1.5,);\
+a::B(1.5);\
+a::B { c: 1.5 };\
+a::B { c:d: 1.5 }";
+
+// Whether the document of this text has the same text as only one of `READ_AS_DEBUG`, its own.
+fn has_only_its_own_debug_text(alloc: Global, text: &str) -> Result<bool, ReadError> {
+    let doc = read_debug_plain(alloc, text.as_bytes())?;
+    for other in READ_AS_DEBUG.split(';') {
+        let other_doc = read_debug_plain(alloc, other.as_bytes())?;
+        if same_text_of_debug(&doc, &other_doc) != Some(text == other) {
+            return Ok(false);
+        }
+    }
+    Ok(true)
+}
+
+#[test]
+fn same_text_is_true_of_read_debug_documents_if_their_texts_are_equal(rt: HostRuntime) {
+    let mut count = 0usize;
+    for text in READ_AS_DEBUG.split(';') {
+        let is_own = has_only_its_own_debug_text(rt.alloc(), text);
+        same(&rt, is_own, Ok(true), text);
+        count = count.saturating_add(1);
+    }
+    same(&rt, count, 16, "texts");
 }

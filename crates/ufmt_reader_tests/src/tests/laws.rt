@@ -2,10 +2,11 @@
 use super::verdict::has_text;
 use super::{holds, same};
 use std::alloc::Global;
+use ufmt::class::Class;
 use ufmt::layout::Mode;
 use ufmt_doc::doc::Doc;
 use ufmt_doc::laws::*;
-use ufmt_doc::plain_reader::{ReadError, read_plain};
+use ufmt_doc::plain_reader::{ReadError, read_debug_plain, read_plain};
 
 const PLAIN: &str = "S { a: [x], b: {} }";
 
@@ -31,6 +32,34 @@ fn texts_come_back(rt: HostRuntime) {
     holds(&rt, is_text(again, PRETTY), "converted to plain and back");
 }
 
+// Both texts of a debug document.
+const DEBUG_TEXTS: [(Mode, &str); 2] = [
+    (Mode::Plain, "S { a: [1.5], b: 0..5 }"),
+    (
+        Mode::Pretty,
+        "S {\n    a: [\n        1.5,\n    ],\n    b: 0..5,\n}",
+    ),
+];
+
+#[test]
+fn debug_texts_come_back(rt: HostRuntime) {
+    let alloc = rt.alloc();
+    for (mode, text) in DEBUG_TEXTS {
+        let again = text_again(alloc, Class::Debug, mode, text.as_bytes());
+        holds(&rt, is_text(again, text), "read");
+        let again = text_by_way_of_the_other(alloc, Class::Debug, mode, text.as_bytes());
+        holds(&rt, is_text(again, text), "converted and back");
+        let refused = text_again(alloc, Class::Token, mode, text.as_bytes());
+        holds(&rt, refused == Err(ReadError::NotText), "read as tokens");
+        let refused = text_by_way_of_the_other(alloc, Class::Token, mode, text.as_bytes());
+        holds(
+            &rt,
+            refused == Err(ReadError::NotText),
+            "converted as tokens",
+        );
+    }
+}
+
 fn is_document(alloc: Global, outcome: Result<Doc, ReadError>, plain: &[u8]) -> bool {
     match outcome {
         Ok(doc) => has_text(alloc, Mode::Plain, &doc, plain),
@@ -47,6 +76,23 @@ fn comes_back(alloc: Global) -> Result<(bool, bool), ReadError> {
         is_document(alloc, plain, PLAIN.as_bytes()),
         is_document(alloc, pretty, PLAIN.as_bytes()),
     ))
+}
+
+// Whether a debug document comes back by its text in this mode.
+fn debug_document_comes_back(alloc: Global, mode: Mode) -> Result<bool, ReadError> {
+    let plain = b"(1.5, S)";
+    let doc = read_debug_plain(alloc, plain)?;
+    let normal = normal_by_way_of_text(alloc, Class::Debug, mode, &doc);
+    let refused = normal_by_way_of_text(alloc, Class::Token, mode, &doc);
+    Ok(is_document(alloc, normal, plain) && matches!(refused, Err(ReadError::NotText)))
+}
+
+#[test]
+fn debug_documents_come_back(rt: HostRuntime) {
+    for mode in [Mode::Plain, Mode::Pretty] {
+        let given = debug_document_comes_back(rt.alloc(), mode);
+        same(&rt, given, Ok(true), "a debug document");
+    }
 }
 
 #[test]

@@ -1,5 +1,5 @@
 use Rattle.std.proofs.Common.{true, false, ◌≡◌, inl, inr, ap, refl, rules, string_bytes, subst, sym, ◌∙◌}
-use Rattle.ufmt.specs.Token.{IsWord}
+use Rattle.ufmt.specs.Token.{IsName}
 use Rattle.ufmt_doc.specs.declared.doc.Doc.{the_lemmas}
 use Rattle.ufmt_doc.specs.Doc.{doc_document}
 use Rattle.ufmt_doc.proofs.Docs.{doc_document-Listed, doc_document-MapOf, doc_document-SetOf, doc_document-StructOf, doc_document-TupleOf}
@@ -7,37 +7,37 @@ use Rattle.ufmt_doc.proofs.NormalForms.{braces_same, lists_same, maps_same, sets
 use Rattle.ufmt_doc.proofs.Within.{as_well, docs_within, fields_within, pairs_within, tuple_within, unnamed_within}
 use Rattle.ufmt_doc.proofs.doc.tree.DocSubtree.+parts.Goals as goal
 
-pub is_built_from_tokens-returns-in-Listed : goal.is_built_from_tokens-returns-in-Listed
-is_built_from_tokens-returns-in-Listed t c =
-    let within = as_well c.is_built_from_tokens-in-Listed.ensures (docs_within _ c.in-Listed.entries.items) in
+pub is_within-returns-in-Listed : goal.is_within-returns-in-Listed
+is_within-returns-in-Listed t c =
+    let within = as_well c.is_within-in-Listed.ensures (docs_within _ _ c.in-Listed.entries.items) in
     elim c.in-Listed.is [ inl is ↦ rw (ap doc_document is ∙ doc_document-Listed _) within | inr is ↦ rw (ap doc_document is ∙ doc_document-SetOf _) within ]
 
-pub is_built_from_tokens-returns-in-MapOf : goal.is_built_from_tokens-returns-in-MapOf
-is_built_from_tokens-returns-in-MapOf t c = rw (c.in-MapOf.is, doc_document-MapOf) (as_well c.is_built_from_tokens.ensures (pairs_within _ _))
+pub is_within-returns-in-MapOf : goal.is_within-returns-in-MapOf
+is_within-returns-in-MapOf t c = rw (c.in-MapOf.is, doc_document-MapOf) (as_well c.is_within.ensures (pairs_within _ _ _))
 
-pub is_built_from_tokens-returns-then-is_word : goal.is_built_from_tokens-returns-then-is_word
-is_built_from_tokens-returns-then-is_word t c =
+pub is_within-returns-then-is_name_of : goal.is_within-returns-then-is_name_of
+is_within-returns-then-is_name_of t c =
     rw (c.in-StructOf.is, doc_document-StructOf)
-    (as_well c.is_built_from_tokens-then-is_word.ensures (fields_within _ _ (subst IsWord c.deref-in-StructOf.ensures (c.is_word.ensures.0 c.if-is_word.true)) _))
+    (as_well c.is_within-then-is_name_of.ensures (fields_within _ _ _ (subst (IsName c.args.class) c.deref-in-StructOf.ensures (c.is_name_of.ensures.0 c.if-is_name_of.true)) _))
 
-pub is_built_from_tokens-returns-then-not-is_empty : goal.is_built_from_tokens-returns-then-not-is_empty
-is_built_from_tokens-returns-then-not-is_empty t c =
-    rw c.in-TupleOf.is (as_well (as_well c.is_built_from_tokens-then-not-is_empty.ensures (docs_within _ _))
-    (unnamed_within _ _ _ false (sym c.is_empty.ensures ∙ c.if-is_empty.true) (sym c.if-not-is_empty.true ∙ c.is_empty-in-TupleOf.ensures)))
+pub is_within-returns-then-not-is_empty : goal.is_within-returns-then-not-is_empty
+is_within-returns-then-not-is_empty t c =
+    rw c.in-TupleOf.is (as_well (as_well c.is_within-then-not-is_empty.ensures (docs_within _ _ _))
+    (unnamed_within _ _ _ _ false (sym c.is_empty.ensures ∙ c.if-is_empty.true) (sym c.if-not-is_empty.true ∙ c.is_empty-in-TupleOf.ensures)))
 
-pub is_built_from_tokens-returns-else-not-is_empty : goal.is_built_from_tokens-returns-else-not-is_empty
-is_built_from_tokens-returns-else-not-is_empty t c =
+pub is_within-returns-else-not-is_empty : goal.is_within-returns-else-not-is_empty
+is_within-returns-else-not-is_empty t c =
     rw (c.in-TupleOf.is, c.if-not-is_empty.false) (
       λ no. absurd (cc),
       λ h. absurd
-          ((unnamed_within c.args.deepest _ _ true (sym c.is_empty.ensures ∙ c.if-is_empty.true) (sym c.if-not-is_empty.false ∙ c.is_empty-in-TupleOf.ensures)).1 h),
+          ((unnamed_within _ c.args.deepest _ _ true (sym c.is_empty.ensures ∙ c.if-is_empty.true) (sym c.if-not-is_empty.false ∙ c.is_empty-in-TupleOf.ensures)).1 h),
     )
 
-pub is_built_from_tokens-returns-then-is_word-2 : goal.is_built_from_tokens-returns-then-is_word-2
-is_built_from_tokens-returns-then-is_word-2 t c =
-    let word = subst IsWord c.deref-in-TupleOf-2.ensures (c.is_word-in-TupleOf-2.ensures.0 c.if-is_word-2.true) in
+pub is_within-returns-then-is_name_of-2 : goal.is_within-returns-then-is_name_of-2
+is_within-returns-then-is_name_of-2 t c =
+    let named = subst (IsName c.args.class) c.deref-in-TupleOf-2.ensures (c.is_name_of-in-TupleOf-2.ensures.0 c.if-is_name_of-2.true) in
     rw (c.in-TupleOf-2.is, doc_document-TupleOf)
-    (as_well c.is_built_from_tokens-then-is_word-2.ensures (as_well (docs_within _ _) (tuple_within _ _ word _)))
+    (as_well c.is_within-then-is_name_of-2.ensures (as_well (docs_within _ _ _) (tuple_within _ _ _ named _)))
 
 pub is_same-returns-in-Listed-Listed : goal.is_same-returns-in-Listed-Listed
 is_same-returns-in-Listed-Listed t c = simp (c.in-Listed-Listed.is-0, c.in-Listed-Listed.is-1, doc_document-Listed) (as_well c.is_same.ensures (lists_same _ _))

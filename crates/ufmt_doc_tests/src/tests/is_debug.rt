@@ -1,0 +1,144 @@
+//! Tests of `is_debug`.
+use super::nested_lists::lists_around;
+use super::same;
+use super::shape::Shape::{self, Leaf, Listed, MapOf, StructOf, TupleOf};
+use super::shape::made;
+use std::alloc::{AllocError, Global};
+
+// Whether it is a token document, and whether it is a debug document.
+fn classes(alloc: Global, shape: &Shape<'_>) -> Result<(bool, bool), AllocError> {
+    let doc = made(alloc, shape)?;
+    Ok((doc.is_token(), doc.is_debug()))
+}
+
+// What rustc prints of values of std, in which no block is, and whether it is a token document too.
+const LEAVES: [(&str, bool); 25] = [
+    ("1.5", false),
+    ("-0.0", false),
+    ("1e-7", true),
+    ("3.4028235e38", false),
+    ("NaN", true),
+    ("-128", true),
+    ("150µs", false),
+    ("2.000001ms", false),
+    ("127.0.0.1:8080", false),
+    ("2001:db8::7", false),
+    ("::1", false),
+    ("..", false),
+    ("0..=5", false),
+    ("127.0.0.1..255.255.255.255", false),
+    ("'a'..='z'", false),
+    ("..'\\''", false),
+    ("\"a b\"..\"c\\\"d\"", false),
+    ("b\"ab\\x00\\n\\xff\\\"\\'\\\\ c\"", false),
+    ("b'\\''", false),
+    ("'\\u{301}'", false),
+    ("\"é€🦀 日本\"", true),
+    ("'\\0'", true),
+    ("PhantomData<alloc::string::String>", false),
+    ("a%09b%0A100%25", false),
+    ("()", true),
+];
+
+#[test]
+fn leaves_of_std_are_debug_documents(rt: HostRuntime) {
+    for (text, is_token) in LEAVES {
+        let given = classes(rt.alloc(), &Leaf(text));
+        same(&rt, given, Ok((is_token, true)), text);
+    }
+}
+
+// Other documents, and whether they are debug documents. None is a token document.
+const DOCUMENTS: [(&str, Shape<'static>, bool); 31] = [
+    ("a path as a leaf", Leaf("a::B"), true),
+    ("a backslash outside of quotes", Leaf("a\\b"), true),
+    ("texts in quotes in a row", Leaf("\"a\"'b'c"), true),
+    (
+        "paths as names",
+        StructOf("a::B", &[("c:d", Leaf("1.5"))]),
+        true,
+    ),
+    ("a name with an accent", StructOf("é", &[]), true),
+    ("a path as a tuple's name", TupleOf("a::B", &[]), true),
+    ("a tuple without a name", TupleOf("", &[Leaf("0..5")]), true),
+    ("an empty leaf", Leaf(""), false),
+    ("a word that ends in a colon", Leaf("a:"), false),
+    ("an address of zeros", Leaf("::"), false),
+    ("two colons before a space", Leaf("a:: b"), false),
+    ("a space", Leaf("1 of 2"), false),
+    (
+        "a space between texts in quotes",
+        Leaf("\"ls\" \"-l\""),
+        false,
+    ),
+    ("a comma", Leaf("1,2"), false),
+    ("a bracket", Leaf("a[0]"), false),
+    ("parentheses after a word", Leaf("f()"), false),
+    ("parentheses twice", Leaf("()()"), false),
+    ("an open quotation mark", Leaf("\"a"), false),
+    ("an open apostrophe", Leaf("it's"), false),
+    ("a quotation mark after a backslash", Leaf("\"a\\\""), false),
+    ("a control byte", Leaf("a\tb"), false),
+    ("a control byte in quotes", Leaf("\"\n\""), false),
+    ("the last byte of ASCII", Leaf("a\u{7f}"), false),
+    ("a backslash before no ASCII", Leaf("\"\\é\""), false),
+    ("a name with a quote", StructOf("b\"x\"", &[]), false),
+    (
+        "a tuple's name with a quote",
+        TupleOf("'a'", &[Leaf("x")]),
+        false,
+    ),
+    (
+        "a field's name in quotes",
+        StructOf("S", &[("\"a\"", Leaf("x"))]),
+        false,
+    ),
+    (
+        "a field's name that ends in a colon",
+        StructOf("S", &[("a:", Leaf("x"))]),
+        false,
+    ),
+    (
+        "a struct without a name",
+        StructOf("", &[("a", Leaf("x"))]),
+        false,
+    ),
+    (
+        "a struct without a name and fields",
+        StructOf("", &[]),
+        false,
+    ),
+    ("a tuple without a name and fields", TupleOf("", &[]), false),
+];
+
+#[test]
+fn is_debug_tests_leaves_and_names(rt: HostRuntime) {
+    for (case, shape, wanted) in DOCUMENTS {
+        let given = classes(rt.alloc(), &shape);
+        same(&rt, given, Ok((false, wanted)), case);
+    }
+}
+
+fn is_debug_in_lists(alloc: Global, count: usize, inner: &Shape<'_>) -> Result<bool, AllocError> {
+    Ok(lists_around(alloc, count, inner)?.is_debug())
+}
+
+// Each of these has an entry, and is a block more in the lists.
+const INNER: [(&str, Shape<'static>); 4] = [
+    ("a list", Listed(&[Leaf("1.5")])),
+    ("a map", MapOf(&[(Leaf("::1"), Leaf("1.5"))])),
+    ("a struct", StructOf("a::B", &[("c", Leaf("1.5"))])),
+    ("a tuple", TupleOf("", &[Leaf("1.5")])),
+];
+
+#[test]
+fn debug_documents_are_at_most_255_deep(rt: HostRuntime) {
+    for (case, inner) in INNER {
+        let given = is_debug_in_lists(rt.alloc(), 254, &inner);
+        same(&rt, given, Ok(true), case);
+        let given = is_debug_in_lists(rt.alloc(), 255, &inner);
+        same(&rt, given, Ok(false), case);
+    }
+    let given = is_debug_in_lists(rt.alloc(), 255, &TupleOf("a::B", &[]));
+    same(&rt, given, Ok(true), "a name in lists");
+}
