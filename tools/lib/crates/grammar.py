@@ -81,6 +81,11 @@ def struct_text(name, values):
     return "%s { %s }" % (name, ", ".join("f%d: %d" % pair for pair in enumerate(values, 1)))
 
 
+def dotted_text(name, values):
+    """The text of a struct that ends in dots. The values are pairs of a field's name and number."""
+    return "%s { %s }" % (name, ", ".join(["%s: %d" % pair for pair in values] + [".."]))
+
+
 def tuple_text(name, values):
     return "%s(%s)" % (name, ", ".join(map(str, values))) if values else name
 
@@ -110,6 +115,21 @@ def field_forms(count, inner, outer):
         yield "fields!(out, Variant%s)" % end, "Variant"
 
 
+def dotted_forms(count, outer):
+    """The calls of `fields!` with dots for so many fields, and their texts."""
+    end = "," if outer else ""
+    pairs = list(zip(names(count), range(1, count + 1)))
+    apart = [pairs, pairs[-1:], []] if count else [[]]
+    for shown in apart:
+        fields = ", ".join([name for name, _ in shown] + [".."])
+        yield "fields!(out, named, Named%d { %s }%s)" % (count, fields, end), dotted_text("Named%d" % count, shown)
+    valued = ", ".join(["%s: %du8" % pair for pair in pairs] + [".."])
+    yield "fields!(out, Other { %s }%s)" % (valued, end), dotted_text("Other", pairs)
+    if count:
+        fields = ", ".join(names(count) + [".."])
+        yield "fields!(out, Local { %s }%s)" % (fields, end), dotted_text("Local", pairs)
+
+
 def fields_test(count):
     values = ", ".join("%s: %d" % pair for pair in zip(names(count), range(1, count + 1)))
     lines = ["    let named = Named%d { %s };" % (count, values)]
@@ -120,6 +140,7 @@ def fields_test(count):
     else:
         lines.append("    let unit = Unit;")
     forms = [form for pair in commas(count) for form in field_forms(count, *pair)]
+    forms += [form for outer in (False, True) for form in dotted_forms(count, outer)]
     lines += [row(source, text, number) for number, (source, text) in enumerate(forms, 1)]
     return test("fields_%d" % count, lines)
 

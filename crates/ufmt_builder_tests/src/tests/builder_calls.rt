@@ -53,12 +53,19 @@ enum Call {
     /// The calls that begin and end an entry.
     BeginAndEnd,
     Finish,
+    /// The end of a struct with `..`. Another builder has no such call.
+    FinishNonExhaustive,
 }
 
 // The calls of lists, sets and maps, and those of structs and tuples.
 const OF_ENTRIES: [Call; 4] = [Call::Entry, Call::Entries, Call::BeginAndEnd, Call::Finish];
 
 const OF_FIELDS: [Call; 3] = [Call::BeginAndEnd, Call::Entry, Call::Finish];
+
+// The calls of structs that end in dots, with fields and without.
+const OF_FIELDS_AND_DOTS: [Call; 3] = [Call::BeginAndEnd, Call::Entry, Call::FinishNonExhaustive];
+
+const OF_DOTS: [Call; 1] = [Call::FinishNonExhaustive];
 
 /// A builder, one call at a time.
 trait Calls<E> {
@@ -91,7 +98,7 @@ macro_rules! make_for_entries {
                 let outcome = print_lent!(4u8, "begin_entry", $builder.begin_entry());
                 ("end_entry", $builder.end_entry(outcome))
             }
-            Call::Finish => ("finish", $builder.finish()),
+            Call::Finish | Call::FinishNonExhaustive => ("finish", $builder.finish()),
         }
     }};
 }
@@ -108,7 +115,9 @@ macro_rules! make_for_fields {
                 ("end_field", $builder.end_field(outcome))
             }
             Call::Entry => ("field", $builder.field($($second,)? &2u8)),
-            Call::Entries | Call::Finish => ("finish", $builder.finish()),
+            Call::Entries | Call::Finish | Call::FinishNonExhaustive => {
+                ("finish", $builder.finish())
+            }
         }
     }};
 }
@@ -146,7 +155,7 @@ impl<W: uWrite> Calls<W::Error> for DebugMap<'_, W> {
                 let outcome = print_lent!(8u8, "begin_value", self.begin_value(outcome));
                 ("end_entry", self.end_entry(outcome))
             }
-            Call::Finish => ("finish", self.finish()),
+            Call::Finish | Call::FinishNonExhaustive => ("finish", self.finish()),
         }
     }
 
@@ -157,6 +166,9 @@ impl<W: uWrite> Calls<W::Error> for DebugMap<'_, W> {
 
 impl<W: uWrite> Calls<W::Error> for DebugStruct<'_, W> {
     fn make(&mut self, call: Call) -> (&'static str, Result<(), W::Error>) {
+        if matches!(call, Call::FinishNonExhaustive) && self.is_open() {
+            return ("finish_non_exhaustive", self.finish_non_exhaustive());
+        }
         make_for_fields!(self, call, "a", "b")
     }
 
@@ -198,6 +210,10 @@ pub enum Block {
     Set,
     Map,
     Struct,
+    /// A struct that ends in dots.
+    StructWithDots,
+    /// The same without fields.
+    OnlyDots,
     Tuple,
 }
 
@@ -213,6 +229,8 @@ impl Block {
             Block::Set => make_each(f.debug_set(), &OF_ENTRIES, last),
             Block::Map => make_each(f.debug_map(), &OF_ENTRIES, last),
             Block::Struct => make_each(f.debug_struct("S"), &OF_FIELDS, last),
+            Block::StructWithDots => make_each(f.debug_struct("S"), &OF_FIELDS_AND_DOTS, last),
+            Block::OnlyDots => make_each(f.debug_struct("S"), &OF_DOTS, last),
             Block::Tuple => make_each(f.debug_tuple("T"), &OF_FIELDS, last),
         }
     }

@@ -67,6 +67,24 @@ end_field 1|,\n|;
 field     |    |b|: |2|,\n|;
 finish     |}|";
 
+const PLAIN_STRUCT_WITH_DOTS: &str = "\
+opening S|;
+begin_field  {| |a|: |;
+end_field 1|;
+field , |b|: |2|;
+finish_non_exhaustive , ..| |}|";
+
+const PRETTY_STRUCT_WITH_DOTS: &str = "\
+opening S|;
+begin_field  {|\n|    |    |a|: |;
+end_field 1|,\n|;
+field     |    |b|: |2|,\n|;
+finish_non_exhaustive     |    |..\n|    |}|";
+
+const ONLY_DOTS: &str = "\
+opening S|;
+finish_non_exhaustive  { .. }|";
+
 const PLAIN_TUPLE: &str = "\
 opening T|;
 begin_field (|;
@@ -92,6 +110,20 @@ fn builders_close_at_each_refused_piece(rt: HostRuntime) {
         ("a pretty map", Block::Map, true, PRETTY_MAP),
         ("a plain struct", Block::Struct, false, PLAIN_STRUCT),
         ("a pretty struct", Block::Struct, true, PRETTY_STRUCT),
+        (
+            "a plain struct with dots",
+            Block::StructWithDots,
+            false,
+            PLAIN_STRUCT_WITH_DOTS,
+        ),
+        (
+            "a pretty struct with dots",
+            Block::StructWithDots,
+            true,
+            PRETTY_STRUCT_WITH_DOTS,
+        ),
+        ("only dots, plain", Block::OnlyDots, false, ONLY_DOTS),
+        ("only dots, pretty", Block::OnlyDots, true, ONLY_DOTS),
         ("a plain tuple", Block::Tuple, false, PLAIN_TUPLE),
         ("a pretty tuple", Block::Tuple, true, PRETTY_TUPLE),
     ] {

@@ -1,5 +1,6 @@
 //! Tests of `fields!` with the numbers of fields that no type of `ufmt_user` has. More than 12 make
-//! a chain. The fields of a block differ in name and value, so a swap shows. The results are in an
+//! a chain. The fields of a block differ in name and value, so a swap shows. Blocks that end in dots have
+//! each number of fields. The results are in an
 //! array, because a `?` takes the check twice as long.
 use super::{are_ok, same};
 use ufmt::{Formatter, fields, uWrite};
@@ -48,6 +49,40 @@ fn many_named<W: uWrite>(f: &mut Formatter<W>) -> [Result<(), W::Error>; 1] {
     )
 }
 
+fn none_to_four_with_dots<W: uWrite>(f: &mut Formatter<W>) -> [Result<(), W::Error>; 5] {
+    each_block!(f;
+        D0 { .. }
+        D1 { a: 1u8, .. }
+        D2 { a: 1u8, b: 2u8, .. }
+        D3 { a: 1u8, b: 2u8, c: 3u8, .. }
+        D4 { a: 1u8, b: 2u8, c: 3u8, d: 4u8, .. }
+    )
+}
+
+fn five_to_seven_with_dots<W: uWrite>(f: &mut Formatter<W>) -> [Result<(), W::Error>; 3] {
+    each_block!(f;
+        D5 { a: 1u8, b: 2u8, c: 3u8, d: 4u8, e: 5u8, .. }
+        D6 { a: 1u8, b: 2u8, c: 3u8, d: 4u8, e: 5u8, f: 6u8, .. }
+        D7 { a: 1u8, b: 2u8, c: 3u8, d: 4u8, e: 5u8, f: 6u8, g: 7u8, .. }
+    )
+}
+
+fn eight_to_ten_with_dots<W: uWrite>(f: &mut Formatter<W>) -> [Result<(), W::Error>; 3] {
+    each_block!(f;
+        D8 { a: 1u8, b: 2u8, c: 3u8, d: 4u8, e: 5u8, f: 6u8, g: 7u8, h: 8u8, .. }
+        D9 { a: 1u8, b: 2u8, c: 3u8, d: 4u8, e: 5u8, f: 6u8, g: 7u8, h: 8u8, i: 9u8, .. }
+        D10 { a: 1u8, b: 2u8, c: 3u8, d: 4u8, e: 5u8, f: 6u8, g: 7u8, h: 8u8, i: 9u8, j: 10u8, .. }
+    )
+}
+
+fn eleven_to_thirteen_with_dots<W: uWrite>(f: &mut Formatter<W>) -> [Result<(), W::Error>; 3] {
+    each_block!(f;
+        D11 { a: 1u8, b: 2u8, c: 3u8, d: 4u8, e: 5u8, f: 6u8, g: 7u8, h: 8u8, i: 9u8, j: 10u8, k: 11u8, .. }
+        D12 { a: 1u8, b: 2u8, c: 3u8, d: 4u8, e: 5u8, f: 6u8, g: 7u8, h: 8u8, i: 9u8, j: 10u8, k: 11u8, l: 12u8, .. }
+        D13 { a: 1u8, b: 2u8, c: 3u8, d: 4u8, e: 5u8, f: 6u8, g: 7u8, h: 8u8, i: 9u8, j: 10u8, k: 11u8, l: 12u8, m: 13u8, .. }
+    )
+}
+
 fn three_to_seven_unnamed<W: uWrite>(f: &mut Formatter<W>) -> [Result<(), W::Error>; 5] {
     each_block!(f;
         T3(1u8, 2u8, 3u8)
@@ -87,6 +122,20 @@ S10 { a: 1, b: 2, c: 3, d: 4, e: 5, f: 6, g: 7, h: 8, i: 9, j: 10 }\
 S11 { a: 1, b: 2, c: 3, d: 4, e: 5, f: 6, g: 7, h: 8, i: 9, j: 10, k: 11 }\
 S12 { a: 1, b: 2, c: 3, d: 4, e: 5, f: 6, g: 7, h: 8, i: 9, j: 10, k: 11, l: 12 }\
 Long { a: 1, b: 2, c: 3, d: 4, e: 5, f: 6, g: 7, h: 8, i: 9, j: 10, k: 11, l: 12, m: 13 }\
+D0 { .. }\
+D1 { a: 1, .. }\
+D2 { a: 1, b: 2, .. }\
+D3 { a: 1, b: 2, c: 3, .. }\
+D4 { a: 1, b: 2, c: 3, d: 4, .. }\
+D5 { a: 1, b: 2, c: 3, d: 4, e: 5, .. }\
+D6 { a: 1, b: 2, c: 3, d: 4, e: 5, f: 6, .. }\
+D7 { a: 1, b: 2, c: 3, d: 4, e: 5, f: 6, g: 7, .. }\
+D8 { a: 1, b: 2, c: 3, d: 4, e: 5, f: 6, g: 7, h: 8, .. }\
+D9 { a: 1, b: 2, c: 3, d: 4, e: 5, f: 6, g: 7, h: 8, i: 9, .. }\
+D10 { a: 1, b: 2, c: 3, d: 4, e: 5, f: 6, g: 7, h: 8, i: 9, j: 10, .. }\
+D11 { a: 1, b: 2, c: 3, d: 4, e: 5, f: 6, g: 7, h: 8, i: 9, j: 10, k: 11, .. }\
+D12 { a: 1, b: 2, c: 3, d: 4, e: 5, f: 6, g: 7, h: 8, i: 9, j: 10, k: 11, l: 12, .. }\
+D13 { a: 1, b: 2, c: 3, d: 4, e: 5, f: 6, g: 7, h: 8, i: 9, j: 10, k: 11, l: 12, m: 13, .. }\
 T3(1, 2, 3)\
 T4(1, 2, 3, 4)\
 T5(1, 2, 3, 4, 5)\
@@ -107,6 +156,10 @@ fn fields_prints_each_number_of_fields(rt: HostRuntime) {
         && are_ok(&nine_and_ten_named(&mut f))
         && are_ok(&eleven_and_twelve_named(&mut f))
         && are_ok(&many_named(&mut f))
+        && are_ok(&none_to_four_with_dots(&mut f))
+        && are_ok(&five_to_seven_with_dots(&mut f))
+        && are_ok(&eight_to_ten_with_dots(&mut f))
+        && are_ok(&eleven_to_thirteen_with_dots(&mut f))
         && are_ok(&three_to_seven_unnamed(&mut f))
         && are_ok(&eight_to_ten_unnamed(&mut f))
         && are_ok(&many_unnamed(&mut f));

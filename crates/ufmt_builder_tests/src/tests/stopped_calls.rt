@@ -178,7 +178,8 @@ pub fn wrong_piece(
 ) -> Result<Option<usize>, AllocError> {
     let place = if is_pretty { PRETTY } else { PLAIN };
     let calls = Calls::of(alloc, place, rows)?;
-    let whole = (0, calls.text.len(), LastCall::closing("finish"), Ok(()));
+    let last = calls.pieces.last().map_or(place.mode, |(call, _)| *call);
+    let whole = (0, calls.text.len(), LastCall::closing(last), Ok(()));
     if !is_left(block, place, &calls, whole) {
         return Ok(Some(0));
     }

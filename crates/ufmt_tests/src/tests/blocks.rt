@@ -2,7 +2,7 @@
 use super::rows::{Table, has_rows, list, map, set};
 use std::alloc::{AllocError, Global};
 use std::collections::{BTreeMap, BTreeSet};
-use ufmt_user::{Braces, InPrettyMode, Pair, Parens, Tuple, X};
+use ufmt_user::{Braces, InPrettyMode, Pair, Parens, Session, Tuple, X};
 
 const BLOCKS: &str = "\
 Pair| {| |x|: |1|, |y|: |2| |}|~
@@ -79,4 +79,29 @@ fn blocks_print_in_pieces(rt: HostRuntime) {
     table.pieces(&Err::<u8, u8>(2));
     table.pieces(&[Some([Some([1u8])])]);
     has_rows(&rt, &table, BLOCKS);
+}
+
+const STRUCTS_WITH_DOTS: &str = "\
+Session| {| |user|: |7|, ..| |}|~
+Session| {|\n|    |user|: |7|,\n|    |..\n|}|;
+[|Session| {| |user|: |7|, ..| |}|]|~
+[|\n|    |Session| {|\n|    |    |user|: |7|,\n|    |    |..\n|    |}|,\n|]|;
+Pair| {| |x|: |Session| {| |user|: |7|, ..| |}|, |y|: |2| |}|~
+Pair| {|\n|    |x|: |Session| {|\n|    |    |user|: |7|,\n|    |    |..\n|    |}|,\n|    |y|: |2|,\n|}|;
+[|Some|(|Session| {| |user|: |7|, ..| |}|)|]|~
+[|\n|    |Some|(|\n|    |    |Session| {|\n|    |    |    |user|: |7|,\n|    |    |    |..\n|    |    |}|,\n|    |)|,\n|]|;
+";
+
+#[test]
+fn structs_that_end_in_dots_print_in_pieces(rt: HostRuntime) {
+    let session = Session { user: 7, key: 9 };
+    let mut table = Table::new(rt.alloc());
+    table.pieces(&session);
+    table.pieces(&[&session]);
+    table.pieces(&Pair {
+        x: &session,
+        y: 2u8,
+    });
+    table.pieces(&[Some(&session)]);
+    has_rows(&rt, &table, STRUCTS_WITH_DOTS);
 }

@@ -19,6 +19,11 @@ enum Built {
     NoNamesInOneCall,
     /// A struct and two tuples without a name, each in one call.
     UnnamedInOneCall,
+    /// Structs that end in dots, with this name: without fields, and with a field in each of two ways.
+    OnlyDots(&'static str),
+    FieldsAndDots(&'static str),
+    /// The same two structs, each in one call.
+    DotsInOneCall,
 }
 
 impl Printed for Built {
@@ -58,6 +63,18 @@ impl Printed for Built {
                 f.tuple_0("")?;
                 f.tuple_1("", &1u8)
             }
+            Built::OnlyDots(name) => f.debug_struct(name)?.finish_non_exhaustive(),
+            Built::FieldsAndDots(name) => {
+                let mut builder = f.debug_struct(name)?;
+                builder.field("m", &1u8)?;
+                let outcome = 2u8.fmt(builder.begin_field("n")?);
+                builder.end_field(outcome)?;
+                builder.finish_non_exhaustive()
+            }
+            Built::DotsInOneCall => {
+                f.non_exhaustive_0("A")?;
+                f.non_exhaustive_2("S", "m", &1u8, "n", &2u8)
+            }
         }
     }
 }
@@ -82,6 +99,14 @@ T|(|\n|    |1|,\n|    |2|,\n|)|;
 | {|\n|    ||: |1|,\n|    ||: |2|,\n|}|;
 |||(|1|,|)|~
 |||(|\n|    |1|,\n|)|;
+| { .. }|;
+A| { .. }|;
+| {| |m|: |1|, |n|: |2|, ..| |}|~
+| {|\n|    |m|: |1|,\n|    |n|: |2|,\n|    |..\n|}|;
+S| {| |m|: |1|, |n|: |2|, ..| |}|~
+S| {|\n|    |m|: |1|,\n|    |n|: |2|,\n|    |..\n|}|;
+A| { .. }|S| {| |m|: |1|, |n|: |2|, ..| |}|~
+A| { .. }|S| {|\n|    |m|: |1|,\n|    |n|: |2|,\n|    |..\n|}|;
 ";
 
 #[test]
@@ -99,6 +124,11 @@ fn builders_write_structs_and_tuples_in_pieces(rt: HostRuntime) {
         Built::NoNames,
         Built::NoNamesInOneCall,
         Built::UnnamedInOneCall,
+        Built::OnlyDots(""),
+        Built::OnlyDots("A"),
+        Built::FieldsAndDots(""),
+        Built::FieldsAndDots("S"),
+        Built::DotsInOneCall,
     ] {
         table.pieces(&built);
     }

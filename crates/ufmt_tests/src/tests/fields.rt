@@ -42,6 +42,16 @@ fn write_small<W: uWrite>(f: &mut Formatter<W>) -> [Result<(), W::Error>; 3] {
     ]
 }
 
+// The fields that aren't named are not shown.
+fn write_with_dots<W: uWrite>(f: &mut Formatter<W>) -> [Result<(), W::Error>; 3] {
+    let names = Names { f: 1, formatter: 2 };
+    [
+        fields!(f, names, Names { .. }),
+        fields!(f, names, Names { formatter, .. }),
+        fields!(f, names, Names { formatter, f, .. }),
+    ]
+}
+
 fn write_thirteen<W: uWrite>(f: &mut Formatter<W>, thirteen: &Thirteen) -> Result<(), W::Error> {
     fields!(
         f,
@@ -66,6 +76,7 @@ fn write_thirteen<W: uWrite>(f: &mut Formatter<W>, thirteen: &Thirteen) -> Resul
 
 const TAKEN_APART: &str = "\
 Names { formatter: 2, f: 1 }UnitThree(1, 2, 3)\
+Names { .. }Names { formatter: 2, .. }Names { formatter: 2, f: 1, .. }\
 Thirteen { a: 1, b: 2, c: 3, d: 4, e: 5, f: 6, g: 7, h: 8, i: 9, j: 10, k: 11, l: 12, m: 13 }";
 
 #[test]
@@ -87,7 +98,9 @@ fn fields_takes_values_apart(rt: HostRuntime) {
         l: 12,
         m: 13,
     };
-    let are_ok = are_ok(&write_small(&mut f)) && write_thirteen(&mut f, &thirteen).is_ok();
+    let are_ok = are_ok(&write_small(&mut f))
+        && are_ok(&write_with_dots(&mut f))
+        && write_thirteen(&mut f, &thirteen).is_ok();
     same(
         &rt,
         (are_ok, text.as_str()),

@@ -5,9 +5,10 @@ use std::alloc::{AllocError, Global};
 use std::borrow::CowStr;
 use std::collections::{BTreeMap, VecDeque};
 use std::rc::Rc;
+use ufmt::{debug_into, pretty_into};
 use ufmt_user::{
     I32, Json, Letter, Link, Measurement, Message, Nested, Node, Pair, Port, Ports, Scores,
-    Temperature, Tree, Tuple, Users, Window, X, Y, log, print,
+    Session, Temperature, Tree, Tuple, Users, Window, X, Y, log, print,
 };
 
 // A derive of Rust's `Debug` prints the same, and of ports and scores `debug_map` and `debug_list` of core::fmt.
@@ -219,6 +220,120 @@ fn pairs_of_a_table(alloc: Global) -> Result<Json, AllocError> {
     let mut pairs = Vec::new(alloc);
     pairs.push((String::from_str(alloc, "b")?, Json::Table(table)))?;
     Ok(Json::Object(pairs))
+}
+
+// A struct that ends in dots, by itself and in other values, as `finish_non_exhaustive` of core::fmt prints it.
+const SESSIONS: &str = "\
+Session { user: 7, .. }~
+Session {
+    user: 7,
+    ..
+};
+[Session { user: 7, .. }]~
+[
+    Session {
+        user: 7,
+        ..
+    },
+];
+Some(Session { user: 7, .. })~
+Some(
+    Session {
+        user: 7,
+        ..
+    },
+);
+Pair { x: Session { user: 7, .. }, y: Session { user: 7, .. } }~
+Pair {
+    x: Session {
+        user: 7,
+        ..
+    },
+    y: Session {
+        user: 7,
+        ..
+    },
+};
+Tuple(1, Session { user: 7, .. })~
+Tuple(
+    1,
+    Session {
+        user: 7,
+        ..
+    },
+);
+[Some(Pair { x: Session { user: 7, .. }, y: 0 })]~
+[
+    Some(
+        Pair {
+            x: Session {
+                user: 7,
+                ..
+            },
+            y: 0,
+        },
+    ),
+];
+";
+
+const SESSION: Session = Session { user: 7, key: 9 };
+
+#[test]
+fn structs_that_end_in_dots_print_as_by_core_fmt(rt: HostRuntime) {
+    let mut table = Table::new(rt.alloc());
+    table.texts(&SESSION);
+    table.texts(&[SESSION]);
+    table.texts(&Some(SESSION));
+    table.texts(&Pair {
+        x: SESSION,
+        y: SESSION,
+    });
+    table.texts(&Tuple(1u8, SESSION));
+    table.texts(&[Some(Pair { x: SESSION, y: 0u8 })]);
+    has_rows(&rt, &table, SESSIONS);
+}
+
+// What doesn't fit is left out by whole pieces.
+const SESSIONS_IN_BUFFERS: &str = "\
+Ok(23) Session { user: 7, .. }_;
+Ok(23) Session { user: 7, .. }_;
+Err(Full) Session { user: 7, .. __;
+Err(Full) Session { user: 7, ..___;
+Err(Full) Session { user: 7_______;
+Ok(31) Session {
+    user: 7,
+    ..
+}_;
+Ok(31) Session {
+    user: 7,
+    ..
+}_;
+Err(Full) Session {
+    user: 7,
+    ..
+__;
+Err(Full) Session {
+    user: 7,
+    _____;
+Err(Full) Session {
+    user: 7,
+_________;
+";
+
+#[test]
+fn structs_that_end_in_dots_print_into_a_buffer(rt: HostRuntime) {
+    let mut table = Table::new(rt.alloc());
+    for length in [24, 23, 22, 21, 20] {
+        let mut buffer = [b'_'; 24];
+        let outcome = debug_into(&mut buffer[..length], &SESSION);
+        table.put_outcome(outcome, &buffer);
+    }
+    for length in [32, 31, 30, 29, 26] {
+        let mut buffer = [b'_'; 32];
+        let outcome = pretty_into(&mut buffer[..length], &SESSION);
+        table.put_outcome(outcome, &buffer);
+    }
+    has_rows(&rt, &table, SESSIONS_IN_BUFFERS);
 }
 
 #[test]

@@ -16,10 +16,16 @@ struct Pair {
 #[derive(Drop)]
 struct Two(u8, u8);
 
-// A struct, and a tuple, with the values of these numbers.
+// A struct, one that ends in dots, and a tuple, with the values of these numbers.
 macro_rules! named {
     ($f:ident, $turns:ident; $($field:ident $number:literal)*) => {
         fields!($turns.formatter($f), S { $($field: $turns.number($number)),* })
+    };
+}
+
+macro_rules! with_dots {
+    ($f:ident, $turns:ident; $($field:ident $number:literal)*) => {
+        fields!($turns.formatter($f), S { $($field: $turns.number($number),)* .. })
     };
 }
 
@@ -76,6 +82,36 @@ fn print_many(
     }
 }
 
+// Forms with dots: with no field, with one and with two, and a value taken apart.
+fn print_few_with_dots(
+    number: usize,
+    f: &mut Formatter<String>,
+    turns: &mut Turns,
+) -> Result<(), AllocError> {
+    let (a, b) = (1u8, 2u8);
+    let pair = Pair { a, b };
+    match number {
+        15 => fields!(turns.formatter(f), S { .. }),
+        16 => with_dots!(f, turns; a 1),
+        17 => with_dots!(f, turns; a 1 b 2),
+        18 => fields!(turns.formatter(f), S { a, b, .. }),
+        19 => fields!(turns.formatter(f), pair, Pair { .. }),
+        _ => fields!(turns.formatter(f), pair, Pair { b, .. }),
+    }
+}
+
+// Twelve and thirteen fields, and dots.
+fn print_many_with_dots(
+    number: usize,
+    f: &mut Formatter<String>,
+    turns: &mut Turns,
+) -> Result<(), AllocError> {
+    match number {
+        21 => with_dots!(f, turns; a 1 b 2 c 3 d 4 e 5 f 6 g 7 h 8 i 9 j 10 k 11 l 12),
+        _ => with_dots!(f, turns; a 1 b 2 c 3 d 4 e 5 f 6 g 7 h 8 i 9 j 10 k 11 l 12 m 13),
+    }
+}
+
 // The turns, and the text that is printed.
 fn row(alloc: Global, number: usize) -> Result<String, AllocError> {
     let mut turns = Turns::new(alloc);
@@ -83,7 +119,9 @@ fn row(alloc: Global, number: usize) -> Result<String, AllocError> {
     match number {
         0..=7 => print_few(number, &mut f, &mut turns)?,
         8..=10 => print_apart(number, &mut f, &mut turns)?,
-        _ => print_many(number, &mut f, &mut turns)?,
+        11..=14 => print_many(number, &mut f, &mut turns)?,
+        15..=20 => print_few_with_dots(number, &mut f, &mut turns)?,
+        _ => print_many_with_dots(number, &mut f, &mut turns)?,
     }
     turns.noted.push('=')?;
     turns.noted.push_str(f.into_inner().as_str())?;
@@ -106,12 +144,20 @@ Fabcdefghijkl=S { a: 1, b: 2, c: 3, d: 4, e: 5, f: 6, g: 7, h: 8, i: 9, j: 10, k
 Fabcdefghijklm=S { a: 1, b: 2, c: 3, d: 4, e: 5, f: 6, g: 7, h: 8, i: 9, j: 10, k: 11, l: 12, m: 13 };
 Fabcdefghijkl=S(1, 2, 3, 4, 5, 6, 7, 8, 9, 10, 11, 12);
 Fabcdefghijklm=S(1, 2, 3, 4, 5, 6, 7, 8, 9, 10, 11, 12, 13);
+F=S { .. };
+Fa=S { a: 1, .. };
+Fab=S { a: 1, b: 2, .. };
+F=S { a: 1, b: 2, .. };
+F=Pair { .. };
+F=Pair { b: 2, .. };
+Fabcdefghijkl=S { a: 1, b: 2, c: 3, d: 4, e: 5, f: 6, g: 7, h: 8, i: 9, j: 10, k: 11, l: 12, .. };
+Fabcdefghijklm=S { a: 1, b: 2, c: 3, d: 4, e: 5, f: 6, g: 7, h: 8, i: 9, j: 10, k: 11, l: 12, m: 13, .. };
 ";
 
 #[test]
 fn fields_evaluates_in_order(rt: HostRuntime) {
     let mut table = Table::new(rt.alloc());
-    for number in 0..15 {
+    for number in 0..23 {
         table.put_made(row(rt.alloc(), number));
     }
     has_rows(&rt, &table, FIELDS);
