@@ -1,4 +1,4 @@
-//! The calls on the texts of one mode.
+//! The calls on the texts of one class and one mode.
 use crate::loose::Loosener;
 use crate::pieces::Pieces;
 use std::alloc::{AllocError, Global};
@@ -6,18 +6,41 @@ use ufmt::class::Class;
 use ufmt::layout::Mode;
 use ufmt::{Full, uDebug, uWrite};
 use ufmt_doc::doc::Doc;
-use ufmt_doc::plain_reader::{ReadError, read_plain};
-use ufmt_doc::pretty_reader::read_pretty;
+use ufmt_doc::plain_reader::{ReadError, read_debug_plain, read_plain};
+use ufmt_doc::pretty_reader::{read_debug_pretty, read_pretty};
 use ufmt_doc::scan::{ScanError, Sink, scan};
-use ufmt_doc::{convert, is_text, laws};
+use ufmt_doc::{convert, is_debug_text, is_text, laws};
 use ufmt_parse::{parse, parse_pretty, uParse};
 
-/// A text, and the mode in which it is read.
+/// A text, and the class and the mode in which it is read.
 #[derive(Clone, Copy)]
 pub struct Calls<'a> {
     pub alloc: Global,
+    pub class: Class,
     pub mode: Mode,
     pub text: &'a [u8],
+}
+
+impl<'a> Calls<'a> {
+    /// Returns the calls on the text as one of a token document.
+    pub fn on_token_text(alloc: Global, mode: Mode, text: &'a [u8]) -> Calls<'a> {
+        Calls {
+            alloc,
+            class: Class::Token,
+            mode,
+            text,
+        }
+    }
+
+    /// Returns the calls on the text as one of a debug document.
+    pub fn on_debug_text(&self) -> Calls<'a> {
+        Calls {
+            alloc: self.alloc,
+            class: Class::Debug,
+            mode: self.mode,
+            text: self.text,
+        }
+    }
 }
 
 impl Calls<'_> {
@@ -29,23 +52,29 @@ impl Calls<'_> {
         };
         Calls {
             alloc: self.alloc,
+            class: self.class,
             mode,
             text: text.as_bytes(),
         }
     }
 
     pub fn is_text(&self) -> bool {
-        is_text(self.mode, self.text)
+        match self.class {
+            Class::Token => is_text(self.mode, self.text),
+            Class::Debug => is_debug_text(self.mode, self.text),
+        }
     }
 
     pub fn scan<S: Sink>(&self, sink: &mut S) -> Result<(), ScanError<S::Error>> {
-        scan(Class::Token, self.mode, self.text, sink)
+        scan(self.class, self.mode, self.text, sink)
     }
 
     pub fn read(&self) -> Result<Doc, ReadError> {
-        match self.mode {
-            Mode::Plain => read_plain(self.alloc, self.text),
-            Mode::Pretty => read_pretty(self.alloc, self.text),
+        match (self.class, self.mode) {
+            (Class::Token, Mode::Plain) => read_plain(self.alloc, self.text),
+            (Class::Token, Mode::Pretty) => read_pretty(self.alloc, self.text),
+            (Class::Debug, Mode::Plain) => read_debug_plain(self.alloc, self.text),
+            (Class::Debug, Mode::Pretty) => read_debug_pretty(self.alloc, self.text),
         }
     }
 
@@ -61,27 +90,33 @@ impl Calls<'_> {
     }
 
     pub fn convert(&self) -> Result<String, ReadError> {
-        match self.mode {
-            Mode::Plain => convert::to_pretty(self.alloc, self.text),
-            Mode::Pretty => convert::to_plain(self.alloc, self.text),
+        match (self.class, self.mode) {
+            (Class::Token, Mode::Plain) => convert::to_pretty(self.alloc, self.text),
+            (Class::Token, Mode::Pretty) => convert::to_plain(self.alloc, self.text),
+            (Class::Debug, Mode::Plain) => convert::debug_to_pretty(self.alloc, self.text),
+            (Class::Debug, Mode::Pretty) => convert::debug_to_plain(self.alloc, self.text),
         }
     }
 
     pub fn convert_to<W: uWrite>(&self, writer: &mut W) -> Result<(), ScanError<W::Error>> {
-        match self.mode {
-            Mode::Plain => convert::write_to_pretty(writer, self.text),
-            Mode::Pretty => convert::write_to_plain(writer, self.text),
+        match (self.class, self.mode) {
+            (Class::Token, Mode::Plain) => convert::write_to_pretty(writer, self.text),
+            (Class::Token, Mode::Pretty) => convert::write_to_plain(writer, self.text),
+            (Class::Debug, Mode::Plain) => convert::write_debug_to_pretty(writer, self.text),
+            (Class::Debug, Mode::Pretty) => convert::write_debug_to_plain(writer, self.text),
         }
     }
 
     pub fn convert_into(&self, buffer: &mut [u8]) -> Result<usize, ScanError<Full>> {
-        match self.mode {
-            Mode::Plain => convert::to_pretty_into(buffer, self.text),
-            Mode::Pretty => convert::to_plain_into(buffer, self.text),
+        match (self.class, self.mode) {
+            (Class::Token, Mode::Plain) => convert::to_pretty_into(buffer, self.text),
+            (Class::Token, Mode::Pretty) => convert::to_plain_into(buffer, self.text),
+            (Class::Debug, Mode::Plain) => convert::debug_to_pretty_into(buffer, self.text),
+            (Class::Debug, Mode::Pretty) => convert::debug_to_plain_into(buffer, self.text),
         }
     }
 
-    /// Reads the text, and prints it again.
+    /// Reads a token text, and prints it again.
     pub fn again(&self) -> Result<String, ReadError> {
         match self.mode {
             Mode::Plain => laws::plain_again(self.alloc, self.text),
@@ -89,7 +124,7 @@ impl Calls<'_> {
         }
     }
 
-    /// Converts the text to the other mode and back.
+    /// Converts a token text to the other mode and back.
     pub fn by_way_of_the_other(&self) -> Result<String, ReadError> {
         match self.mode {
             Mode::Plain => laws::plain_by_way_of_pretty(self.alloc, self.text),
@@ -97,6 +132,7 @@ impl Calls<'_> {
         }
     }
 
+    /// Parses a token text.
     pub fn parse<T: uParse>(&self) -> Result<T, ReadError> {
         match self.mode {
             Mode::Plain => parse(self.alloc, self.text),

@@ -36,12 +36,11 @@ macro_rules! count {
 pub fn calls_made(alloc: Global, text: &[u8]) -> Result<String, AllocError> {
     let mut costs = Costs {
         alloc,
-        line: String::from_str(alloc, "plain: ")?,
+        line: String::new(alloc),
     };
-    costs.on_mode(Mode::Plain, text)?;
-    costs.line.push_str("; pretty: ")?;
-    costs.on_mode(Mode::Pretty, text)?;
-    costs.line.push_str("; leaf: ")?;
+    costs.on_mode("plain", Calls::on_token_text(alloc, Mode::Plain, text))?;
+    costs.on_mode("pretty", Calls::on_token_text(alloc, Mode::Pretty, text))?;
+    costs.line.push_str("leaf: ")?;
     if let Ok(text) = str::from_utf8(text) {
         costs.on_leaf(text)?;
     }
@@ -66,19 +65,37 @@ impl Costs {
         self.line.push_str(verdict)
     }
 
-    fn on_mode(&mut self, mode: Mode, text: &[u8]) -> Result<(), AllocError> {
-        self.on_text(Calls {
-            alloc: self.alloc,
-            mode,
-            text,
-        })
+    // A half of the line: calls on token texts, and after them those on debug texts.
+    fn on_mode(&mut self, name: &str, calls: Calls<'_>) -> Result<(), AllocError> {
+        self.line.push_str(name)?;
+        self.line.push_str(": ")?;
+        self.on_text(calls)?;
+        self.on_token_text(calls)?;
+        self.line.push_str("; debug ")?;
+        self.line.push_str(name)?;
+        self.line.push_str(": ")?;
+        self.on_text(calls.on_debug_text())?;
+        self.line.push_str("; ")
     }
 
     fn on_text(&mut self, calls: Calls<'_>) -> Result<(), AllocError> {
         count!(self, "is_text", calls.is_text().then_some(()));
         count!(self, "read", calls.read().ok());
+        count!(self, "convert", calls.convert().ok());
+        count!(self, "convert to a String", converted_to_a_string(calls));
+        let length = match calls.convert() {
+            Ok(text) => text.len(),
+            Err(_) => calls.text.len(),
+        };
+        let mut buffer = vec![in self.alloc; 0u8; length]?;
+        count!(self, "convert into", calls.convert_into(&mut buffer).ok());
+        Ok(())
+    }
+
+    fn on_token_text(&mut self, calls: Calls<'_>) -> Result<(), AllocError> {
         count!(self, "parse", calls.parse::<Vec<Tree>>().ok());
-        self.on_conversions(calls)?;
+        count!(self, "again", calls.again().ok());
+        count!(self, "there and back", calls.by_way_of_the_other().ok());
         match (calls.read(), calls.read_loose()) {
             (Ok(doc), Ok(mut loose)) => self.on_docs(calls, &doc, &mut loose),
             _ => Ok(()),
@@ -90,20 +107,6 @@ impl Costs {
         self.on_fields(calls, doc)?;
         self.on_loose(calls, doc, loose)?;
         self.on_types(doc)
-    }
-
-    fn on_conversions(&mut self, calls: Calls<'_>) -> Result<(), AllocError> {
-        count!(self, "convert", calls.convert().ok());
-        count!(self, "convert to a String", converted_to_a_string(calls));
-        let length = match calls.convert() {
-            Ok(text) => text.len(),
-            Err(_) => calls.text.len(),
-        };
-        let mut buffer = vec![in self.alloc; 0u8; length]?;
-        count!(self, "convert into", calls.convert_into(&mut buffer).ok());
-        count!(self, "again", calls.again().ok());
-        count!(self, "there and back", calls.by_way_of_the_other().ok());
-        Ok(())
     }
 
     fn on_doc(&mut self, calls: Calls<'_>, doc: &Doc) -> Result<(), AllocError> {

@@ -1,4 +1,4 @@
-//! The calls of one mode on one text, compared with each other.
+//! The calls of one mode on one text: those on token texts, and those on debug texts.
 ghost use Rattle.std.specs.Prelude.{[], ⊤};
 
 use crate::calls::Calls;
@@ -7,16 +7,29 @@ use crate::events::Events;
 use crate::fault::{Fault, agree};
 use crate::parts::Parts;
 use crate::pieces::{self, TextPieces};
-use crate::{fields, parsed, shapes};
+use crate::tokens;
 use std::alloc::{AllocError, Global};
 use ufmt::{Full, uWrite};
 use ufmt_doc::doc::{Doc, same_text};
-use ufmt_doc::laws::{normal_by_way_of_plain, normal_by_way_of_pretty};
 use ufmt_doc::plain_reader::ReadError;
 use ufmt_doc::scan::ScanError;
 
-/// Returns what the calls say of the text, as a message.
+/// Returns what the calls on token texts say of the text, as a message. After it, the message has what
+/// the calls on debug texts say, or `=` if they say the same.
 pub fn verdict(calls: Calls<'_>) -> Result<String, AllocError> {
+    let token = of_class(calls)?;
+    let others = tokens::verdict(calls)?;
+    let debug = of_class(calls.on_debug_text())?;
+    let debug = if debug.as_str() == token.as_str() {
+        "="
+    } else {
+        debug.as_str()
+    };
+    format!(in calls.alloc; "{token}{others}; debug: {debug}")
+}
+
+// What the calls of the class say that both classes have.
+fn of_class(calls: Calls<'_>) -> Result<String, AllocError> {
     let outcome = match calls.read() {
         Ok(doc) => of_text(calls, &doc).map(Some),
         Err(ReadError::NotText) => of_no_text(calls).map(|()| None),
@@ -30,33 +43,27 @@ pub fn verdict(calls: Calls<'_>) -> Result<String, AllocError> {
 }
 
 // The results for a text.
-#[derive(Drop)]
+#[derive(Clone, Copy)]
 struct Half {
+    is_token: bool,
     events: Digest,
     converted: Digest,
     parts: Digest,
-    // What its leaves and fields show, and the fields of a struct or a tuple with one to twelve.
+    // What its leaves and fields show.
     shown: Digest,
-    fields: Digest,
-    // Whether a list of the document is a token document: the document is less than 255 deep.
-    is_token_in_a_list: bool,
-    // The letters of the types that have a value with the text.
-    types: parsed::TypeLetters,
     pieces: TextPieces,
 }
 
 impl Half {
     fn message(&self, alloc: Global) -> Result<String, AllocError> {
+        let token = if self.is_token { "yes" } else { "no" };
         let events = self.events.message(alloc)?;
         let converted = self.converted.message(alloc)?;
         let parts = self.parts.message(alloc)?;
         let shown = self.shown.message(alloc)?;
-        let fields = self.fields.message(alloc)?;
-        let types = self.types.message(alloc)?;
         let pieces = self.pieces.message(alloc)?;
-        let in_a_list = if self.is_token_in_a_list { "yes" } else { "no" };
         format!(in alloc;
-            "events {events}, converted {converted}, parts {parts}, shown {shown}, fields {fields}, in a list {in_a_list}, types {types}, pieces {pieces}"
+            "token {token}, events {events}, converted {converted}, parts {parts}, shown {shown}, pieces {pieces}"
         )
     }
 }
@@ -67,26 +74,22 @@ fn of_text(calls: Calls<'_>, doc: &Doc) -> Result<Half, Fault> {
     agree(calls.is_text(), "is_text")?;
     let converted = calls.convert()?;
     converts_alike(calls, &converted)?;
-    comes_again(calls, &converted)?;
     prints(calls, doc)?;
     prints(calls.on_converted(&converted), doc)?;
     let (parts, shown) = Parts::and_shown(calls.alloc, doc)?;
     is_normal(calls, &parts)?;
     is_normal_of_loose(calls, doc, &parts)?;
-    fields::reads_fields(calls, doc)?;
     Ok(Half {
+        is_token: doc.is_token(),
         events: Digest::of(&events.text),
         converted: Digest::of(&converted),
         parts: Digest::of(&parts),
         shown: Digest::of(&shown),
-        fields: Digest::of(&shapes::fields_of(calls.alloc, doc)?),
-        is_token_in_a_list: is_token_in_a_list(calls, doc)?,
-        types: parsed::letters(calls, doc)?,
         pieces: TextPieces::of(calls, doc)?,
     })
 }
 
-// Converts to a writer, and into buffers of the exact length and of one byte less.
+// Converts to a writer, into buffers of the exact length and of one byte less, and back.
 fn converts_alike(calls: Calls<'_>, converted: &str) -> Result<(), Fault> {
     let mut text = String::new(calls.alloc);
     calls.convert_to(&mut text)?;
@@ -99,7 +102,9 @@ fn converts_alike(calls: Calls<'_>, converted: &str) -> Result<(), Fault> {
         Some((_, shorter)) => is_full(calls.convert_into(shorter)),
         None => false,
     };
-    agree(is_full, "conversion into a buffer of one byte less")
+    agree(is_full, "conversion into a buffer of one byte less")?;
+    let back = calls.on_converted(converted).convert()?;
+    agree(back.as_bytes() == calls.text, "converted back")
 }
 
 fn is_full(outcome: Result<usize, ScanError<Full>>) -> bool {
@@ -107,16 +112,6 @@ fn is_full(outcome: Result<usize, ScanError<Full>>) -> bool {
         Err(ScanError::Sink(Full)) => true,
         _ => false,
     }
-}
-
-// Reads and prints the text, and converts it to the other mode and back.
-fn comes_again(calls: Calls<'_>, converted: &str) -> Result<(), Fault> {
-    let again = calls.again()?;
-    agree(again.as_bytes() == calls.text, "read and printed again")?;
-    let back = calls.by_way_of_the_other()?;
-    agree(back.as_bytes() == calls.text, "there and back")?;
-    let back = calls.on_converted(converted).convert()?;
-    agree(back.as_bytes() == calls.text, "converted back")
 }
 
 // Prints the document to a `String` and into buffers. The result must be the text.
@@ -148,47 +143,27 @@ fn is_normal_of_loose(calls: Calls<'_>, doc: &Doc, parts: &str) -> Result<(), Fa
     let is_alike = pieces::printed(calls, &loose) == pieces::printed(calls, doc);
     agree(is_alike, "pieces of a document that isn't in normal form")?;
     have_one_text(&loose, doc)?;
-    comes_as_normal(calls, &loose, parts)?;
     loose.normalize(calls.alloc);
     has_parts(calls, &loose, parts, "normalize")
 }
 
 fn have_one_text(loose: &Doc, doc: &Doc) -> Result<(), Fault> {
-    if !doc.is_token() || !loose.is_token() {
-        return Err(Fault::Other("is_token"));
-    }
+    agree(loose.is_token() == doc.is_token(), "is_token")?;
     agree(doc.is_debug() && loose.is_debug(), "is_debug")?;
     agree(same_text(doc, doc), "same_text with itself")?;
     agree(same_text(loose, doc), "same_text with the normal form")?;
     agree(same_text(doc, loose), "same_text of the normal form")
 }
 
-// Printed and read again, the document is the normal form.
-fn comes_as_normal(calls: Calls<'_>, loose: &Doc, parts: &str) -> Result<(), Fault> {
-    let by_plain = normal_by_way_of_plain(calls.alloc, loose)?;
-    has_parts(calls, &by_plain, parts, "normal form by way of plain")?;
-    let by_pretty = normal_by_way_of_pretty(calls.alloc, loose)?;
-    has_parts(calls, &by_pretty, parts, "normal form by way of pretty")
-}
-
-fn has_parts(calls: Calls<'_>, doc: &Doc, parts: &str, call: &'static str) -> Result<(), Fault> {
+/// Compares a document with its parts. The call of this name returned it.
+pub fn has_parts(
+    calls: Calls<'_>,
+    doc: &Doc,
+    parts: &str,
+    call: &'static str,
+) -> Result<(), Fault> {
     let found = Parts::of(calls.alloc, doc)?;
     agree(found.as_str() == parts, call)
-}
-
-fn is_token_in_a_list(calls: Calls<'_>, doc: &Doc) -> Result<bool, Fault> {
-    let mut entries = Vec::new(calls.alloc);
-    entries.push(calls.read()?)?;
-    let list = Doc::Listed(entries);
-    if !list.is_token() {
-        return Ok(false);
-    }
-    if !doc.is_token() {
-        return Err(Fault::Other("is_token"));
-    }
-    let are_different = !same_text(&list, doc) && !same_text(doc, &list);
-    agree(are_different, "same_text with a list of it")?;
-    Ok(true)
 }
 
 // A writer that counts bytes.
@@ -227,16 +202,7 @@ fn of_no_text(calls: Calls<'_>) -> Result<(), Fault> {
     agree(
         is_not_text(into_buffer),
         "conversion of no text into a buffer",
-    )?;
-    agree(
-        calls.again() == Err(ReadError::NotText),
-        "no text, read again",
-    )?;
-    let is_refused = matches!(calls.parse::<String>(), Err(ReadError::NotText));
-    agree(is_refused, "parse of no text")?;
-    agree(fields::is_refused(calls), "read_field of no text")?;
-    let by_way = calls.by_way_of_the_other();
-    agree(by_way == Err(ReadError::NotText), "no text, there and back")
+    )
 }
 
 fn is_not_text<E: Drop>(outcome: Result<(), ScanError<E>>) -> bool {

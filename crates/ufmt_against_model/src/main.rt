@@ -3,9 +3,10 @@
 //!
 //! Standard input has the texts in a row. Each is a line with its length, and then its bytes.
 //!
-//! A half of a line, `plain` or `pretty`, is `no text` if the calls of that mode fail with
-//! `NotText`. Else it has digests of their results. If a call is wrong, it is `FAULT` with the
-//! call's name, or with the error of a call that should be `Ok`.
+//! A half of a line, `plain` or `pretty`, is `no text` if the calls of that mode on token texts fail
+//! with `NotText`. Else it has digests of their results. If a call is wrong, it is `FAULT` with the
+//! call's name, or with the error of a call that should be `Ok`. After each half, `debug` has the same
+//! of the calls on debug texts, or `=` if they say the same as those on token texts.
 //!
 //! With the argument `costs` it makes each call by itself, and a line has the names of the calls.
 //!
@@ -27,6 +28,7 @@ mod parts;
 mod pieces;
 mod requests;
 mod shapes;
+mod tokens;
 mod types;
 
 use calls::Calls;
@@ -70,16 +72,8 @@ fn report<W: Write>(rt: &HostRuntime, output: &mut W, text: &[u8]) -> io::Result
     if let Some(line) = requests::verdict(alloc, text)? {
         return output.write_all(line.as_bytes());
     }
-    let plain = half::verdict(Calls {
-        alloc,
-        mode: Mode::Plain,
-        text,
-    })?;
-    let pretty = half::verdict(Calls {
-        alloc,
-        mode: Mode::Pretty,
-        text,
-    })?;
+    let plain = half::verdict(Calls::on_token_text(alloc, Mode::Plain, text))?;
+    let pretty = half::verdict(Calls::on_token_text(alloc, Mode::Pretty, text))?;
     let leaf = leaf::verdict(alloc, text)?;
     let line = format!(in alloc; "plain: {plain}; pretty: {pretty}; leaf: {leaf}\n")?;
     output.write_all(line.as_bytes())

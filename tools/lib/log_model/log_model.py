@@ -8,13 +8,11 @@ import sys
 
 sys.path.insert(0, str(pathlib.Path(__file__).resolve().parent.parent / "model"))
 
-from model import DEBUG, Block, PlainReader, PrettyReader, plain, pretty, quoted  # noqa: E402, F401
+from model import READ_DEBUG, Block, PlainReader, PrettyReader, plain, pretty, quoted  # noqa: E402, F401
 
 MODES = ("pretty", "plain")
-# The texts that are converted: debug texts, but for those with a struct that ends in dots.
-TEXTS = DEBUG._replace(has_open_structs=False)
 # The reader of the texts that are converted to a mode, and what prints them in that mode.
-CONVERSIONS = {"pretty": (PlainReader(TEXTS), pretty), "plain": (PrettyReader(TEXTS), plain)}
+CONVERSIONS = {"pretty": (PlainReader(READ_DEBUG), pretty), "plain": (PrettyReader(READ_DEBUG), plain)}
 OPENING = (b"(", b"[", b"{")
 # A text may begin at a line's start, and after a space. No text begins with a space or a line feed.
 TEXT_START = re.compile(r"(?:^|(?<=[ \n]))(?=[^ \n])")

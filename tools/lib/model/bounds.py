@@ -38,6 +38,14 @@ STEPS = {
     "Doc::text": (2000, 0, 20, 350, 1, 0, 0, 0, 0, 0, 0, 0, 0, 0),
     "Doc::character": (1000, 0, 0, 0, 0, 0, 0, 0, 0, 0, 0, 0, 0, 0),
 }
+# What a call on debug texts takes more than the same call on token texts: for a byte of a word and of a leaf in quotes, and for a
+# leaf of each kind; and what it takes for a byte of a leaf or a name that only debug documents have, and for a piece of one.
+DEBUG_STEPS = (12, 12, 60, 60, 60)
+DEBUG_LEAF_STEPS = (40, 120)
+for call in ("is_text", "read", "convert", "convert to a String", "convert into"):
+    start, words, in_quotes, escapes, past, bare, texts, in_apostrophes, *others = STEPS[call]
+    more = [a + b for a, b in zip((words, in_quotes, bare, texts, in_apostrophes), DEBUG_STEPS)]
+    STEPS["debug " + call] = (start, *more[:2], escapes, past, *more[2:], *others)
 # A call that reads a text and then does another thing takes what both take.
 STEPS["parse"] = tuple(map(sum, zip(STEPS["read"], STEPS["trees"])))
 STEPS["read_field"] = tuple(map(sum, zip(STEPS["read"], STEPS["leaf_text"], STEPS["field_text"])))
@@ -75,7 +83,8 @@ def steps(call, case):
     indents = case.indentation, case.other_indentation
     has = (1, *found[:9], case.others(case.length - indents[0]), case.others(case.other - indents[1]), *indents)
     taken = [each * count for each, count in zip(STEPS[call], has)]
-    return int(MOST_STEPS * sum(taken[:-2]) + MOST_INDENTATION * sum(taken[-2:]))
+    of_debug = [each * count for each, count in zip(DEBUG_LEAF_STEPS, (found.debug, found.pieces))]
+    return int(MOST_STEPS * (sum(taken[:-2]) + sum(of_debug)) + MOST_INDENTATION * sum(taken[-2:]))
 
 
 class Memory(NamedTuple):
@@ -124,6 +133,7 @@ def values(found, length):
 
 def memory(call, case):
     found, length = case.features, case.length
+    call = call.removeprefix("debug ")
     if call in ("is_text", "convert into", "is_token", "print into", "print loose into", "same_text", "normalize", "i128", "is_leaf", "is_word"):
         return NOTHING
     return {

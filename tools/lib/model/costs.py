@@ -4,7 +4,7 @@ from typing import NamedTuple
 import bounds
 import shapes
 from features import Features, features, indentation, past_ascii
-from model import plain, pretty
+from model import READ_DEBUG, PlainReader, PrettyReader, plain, pretty
 
 # Of texts whose steps are counted, and of those whose memory and time is.
 COUNTED_SIZE = 4 * 1024
@@ -40,33 +40,64 @@ class Sample(NamedTuple):
     cases: dict
 
 
-def sample(name, text, plain_case, pretty_case):
-    return Sample(name, text.encode(), {"plain": plain_case, "pretty": pretty_case, "leaf": leaf_case(text)})
+# The readers of debug texts, and what prints their documents in the other mode.
+DEBUG_MODES = {"plain": (PlainReader(READ_DEBUG), pretty), "pretty": (PrettyReader(READ_DEBUG), plain)}
+
+
+def no_text_case(text, other=""):
+    """The case of no text. A conversion may write some text before it fails, as a start of this one."""
+    length = len(text.encode())
+    return bounds.Case(rough(text), length, max(2 * length, len(other.encode())), 0, indentation(text), indentation(other))
+
+
+def debug_case(text, mode):
+    """What is known of a text that is no token text: it may be a debug text."""
+    reader, other = DEBUG_MODES[mode]
+    document = reader.read(text)
+    return no_text_case(text) if document is None else bounds.case_of(features(document), text, other(document))
+
+
+def sample(name, text, cases=None, other=""):
+    """A text, and its case in each mode if it is a token text. If it is a debug text, the other mode has the other text."""
+    known = dict(cases or {mode: no_text_case(text, other) for mode in DEBUG_MODES}, leaf=leaf_case(text))
+    for mode in DEBUG_MODES:
+        known["debug " + mode] = cases[mode] if cases else debug_case(text, mode)
+    return Sample(name, text.encode(), known)
 
 
 def document_samples(name, document):
-    """Both texts of a document."""
+    """Both texts of a token document."""
     found, texts = features(document), (plain(document), pretty(document))
-    cases = bounds.case_of(found, *texts), bounds.case_of(found, *texts[::-1])
-    return [sample(name + way, text, *cases) for way, text in zip((", plain", ", pretty"), texts)]
+    cases = {"plain": bounds.case_of(found, *texts), "pretty": bounds.case_of(found, *texts[::-1])}
+    return [sample(name + way, text, cases) for way, text in zip((", plain", ", pretty"), texts)]
+
+
+def debug_samples(name, document):
+    """Both texts of a debug document that is no token document."""
+    texts = plain(document), pretty(document)
+    yield sample(name + ", plain", texts[0], other=texts[1])
+    # A leaf has one text.
+    if texts[0] != texts[1]:
+        yield sample(name + ", pretty", texts[1], other=texts[0])
 
 
 def samples(size, number):
     """The texts of one part."""
     for name, make in list(shapes.documents().items())[number::PARTS]:
         yield from document_samples(name, make(size))
+    for name, make in list(shapes.debug_documents().items())[number::PARTS]:
+        yield from debug_samples(name, make(size))
     for name, make in list(shapes.no_texts().items())[number::PARTS]:
-        text = make(size)
-        case = bounds.Case(rough(text), len(text), 2 * len(text), indentation=indentation(text))
-        yield sample(name, text, case, case)
+        yield sample(name, make(size))
 
 
 def calls_of(line):
-    """The calls of a line, each with the half it is in."""
+    """The calls of a line, each with the half it is in. A call on debug texts has a name of its own."""
     for half in line.split("; "):
         name, _, calls = half.partition(": ")
+        kind = "debug " if name.startswith("debug ") else ""
         for call in calls.split(", ")[:-1]:
-            yield name, call.rpartition(" ")[0]
+            yield name, kind + call.rpartition(" ")[0]
 
 
 def judged(one, line, counted, fault):

@@ -1,12 +1,15 @@
-"""Random token documents, their texts, and texts that differ a little. One seed makes the same ones each time."""
+"""Random documents of both classes, their texts, and texts that differ a little. One seed makes the same ones each time."""
 import math
 import random
 
 import characters
+import debug_refused
 import pieces
 import values
 from coverage import powers
 from covering import Covering
+from debug_covering import DebugCovering
+from debug_leaves import PRINTED, LeafMaker
 from model import DEEPEST, Block, plain, pretty, quoted
 
 LETTERS = "abcxyzABCXYZ0189_-"
@@ -32,6 +35,8 @@ PIECES = (
     "[", "]", "{", "}", "(", ")", "[]", "{}", "()", ",", ", ", ",\n", ": ", ":", " ", "    ", "\n", "\r", "\t", "\0", "\x7f",
     '"', "'", "\\", "\\n", "\\u{1b}", "\\u{a}", "\\u{7F}", "\\u{07f}", "\\u{41}", "\\'", '\\"', "\\x", "a", "-", "\u00e9",
 )
+# What a change puts into debug texts besides.
+DEBUG_PIECES = ("..", "..=", "::", ":", "a:", ":a", "b'", 'b"', '""', "'x'", "\\\u00e9", "1.5", "\u20ac", "<", ">", *PRINTED)
 BAD_BYTES = (b"\xff", b"\x80", b"\xc3", b"\xc0\x80", b"\xed\xa0\x80", b"\xf4\x90\x80\x80", b"\xe2\x82", b"\xf0\x9f\xa6")
 
 
@@ -45,6 +50,8 @@ def cuts(random, total, count):
 
 class Maker:
     """Makes documents. The longest names and leaves have `longest` characters, which each document chooses anew."""
+
+    pieces = PIECES
 
     def __init__(self, seed):
         self.random = random.Random(seed)
@@ -179,7 +186,7 @@ class Maker:
         """The text with a change, most often by one byte or one piece."""
         at = self.random.randrange(len(data) + 1)
         form = self.random.randrange(8)
-        piece = self.random.choice(PIECES).encode()
+        piece = self.random.choice(self.pieces).encode()
         if form == 0:
             return data[:at]
         if form == 1:
@@ -198,7 +205,7 @@ class Maker:
 
     def changed_at(self, data, piece):
         """The text with this piece where it had another."""
-        old = self.random.choice(PIECES).encode()
+        old = self.random.choice(self.pieces).encode()
         count = data.count(old)
         if count == 0:
             return piece + data
@@ -213,7 +220,7 @@ class Maker:
         if form == 0:
             return self.characters(length).encode()
         if form == 1:
-            return self.random.choice(PIECES).encode() * length
+            return self.random.choice(self.pieces).encode() * length
         if form == 2:
             return b"\n".join(b"a" * self.random.randrange(9) for _ in range(length // 4))
         return self.random.randbytes(length)
@@ -230,10 +237,44 @@ class Maker:
         return text
 
 
+class DebugMaker(Maker):
+    """Makes debug documents. Some of their leaves and names are those of token documents."""
+
+    pieces = PIECES + DEBUG_PIECES
+
+    def __init__(self, seed):
+        super().__init__(seed)
+        self.leaves = LeafMaker(self.random)
+
+    def word(self, length=None):
+        if self.random.random() < 0.5:
+            return super().word(length)
+        return self.leaves.name(length or self.up_to(self.longest))
+
+    def leaf(self):
+        if self.random.random() < 0.3:
+            return super().leaf()
+        return self.leaves.leaf(self.up_to(self.longest))
+
+    def long_leaf(self):
+        length = self.random.choice((self.random.choice(LENGTHS), self.up_to(100_000)))
+        form = self.random.randrange(4)
+        if form == 0:
+            return self.leaves.name(length)
+        if form == 1:
+            return self.leaves.of_pieces(length)
+        if form == 2:
+            return ":" * length + self.leaves.name(3)
+        return self.leaves.in_quotes("o", length)
+
+
 def in_both_modes(documents):
     for document in documents:
-        yield plain(document).encode()
-        yield pretty(document).encode()
+        texts = plain(document), pretty(document)
+        yield texts[0].encode()
+        # A leaf has one text.
+        if texts[0] != texts[1]:
+            yield texts[1].encode()
 
 
 def too_deep(maker):
@@ -246,15 +287,25 @@ def too_deep(maker):
             yield document
 
 
+def listed_leaves(leaves):
+    """Each leaf by itself, and all in a list."""
+    yield from leaves
+    yield Block("list", "", [(None, leaf) for leaf in leaves])
+
+
 def first_texts(seed):
     """Texts that come first: each cell of the table of coverage, and each shape at each limit."""
-    maker = Maker(seed)
+    maker, debug_maker = Maker(seed), DebugMaker(seed)
     covering = Covering(maker)
+    debug_covering = DebugCovering(debug_maker, Covering(debug_maker))
     yield from (b"", b"\n", b"()", b"[]", b"{}", b'""', b"''", b"x\n")
     yield from pieces.first_texts()
     yield from in_both_modes(values.first_texts(maker.random))
     yield from in_both_modes(too_deep(maker))
     yield from in_both_modes(covering.documents())
+    yield from in_both_modes(debug_covering.documents())
+    yield from in_both_modes(listed_leaves(PRINTED))
+    yield from debug_refused.texts()
     for number, document in enumerate(covering.many()):
         yield (plain, pretty)[(number + seed) % 2](document).encode()
     for character in CHARACTERS:

@@ -2,6 +2,8 @@
 import collections
 from typing import NamedTuple
 
+from model import PIECE, TOKEN
+
 # What an entry takes in memory besides its texts, a pair of a key and a value, and a field.
 DOC, PAIR, FIELD = 56, 112, 80
 
@@ -22,12 +24,15 @@ class Features(NamedTuple):
     empties: int = 0
     # How much memory the entries of all blocks take without their texts.
     entry_bytes: int = 0
+    # Bytes of leaves and names that only debug documents have, and their pieces.
+    debug: int = 0
+    pieces: int = 0
 
     def strings(self):
         return self.bare + self.texts + self.characters
 
     def text_bytes(self):
-        return self.words + self.quoted
+        return self.words + self.quoted + self.debug
 
 
 def indentation(text):
@@ -39,8 +44,17 @@ def past_ascii(text):
     return 0 if text.isascii() else sum(character > "\x7f" for character in text)
 
 
+def is_of_tokens(leaf):
+    found = TOKEN.leaf_at(leaf, 0)
+    return found is not None and found[1] == len(leaf)
+
+
 def of_leaf(leaf, add, times):
     size = len(leaf.encode()) * times
+    if not is_of_tokens(leaf):
+        pieces = sum(1 for _ in PIECE.finditer(leaf)) * times
+        add(debug=size, pieces=pieces, past=past_ascii(leaf) * times, escapes=leaf.count("\\") * times, bare=times)
+        return
     if leaf[:1] not in ('"', "'"):
         add(words=size, bare=times)
         return
@@ -57,7 +71,9 @@ def of_block(block, add):
         return
     each = {"map": PAIR, "struct": FIELD}.get(kind, DOC)
     names = [name] * (name != "") + [before for before, _value in entries if kind == "struct"]
-    add(words=sum(map(len, names)), bare=len(names), blocks=1, entry_bytes=each * len(entries))
+    for text in names:
+        of_leaf(text, add, 1)
+    add(blocks=1, entry_bytes=each * len(entries))
 
 
 def features(document):

@@ -2,7 +2,7 @@
 import resource
 import subprocess
 
-from model import Block, plain, pretty
+from model import Block
 from verdicts import half, leaf_verdict
 
 SIZE = 16 * 1024 * 1024
@@ -74,8 +74,9 @@ def command_runs(number):
 def verdict(text, document, other):
     """The line of ufmt_against_model on one of both texts of a document. Other is the document's other text."""
     is_leaf, is_pretty = text == other, text[1:2] == "\n"
-    by_plain = "no text" if is_pretty else half(document, pretty)
-    by_pretty = half(document, plain) if is_leaf or is_pretty else "no text"
+    no_text = half(None, None, False)
+    by_plain = no_text if is_pretty else half(document, document, False)
+    by_pretty = half(document, document, True) if is_leaf or is_pretty else no_text
     return "plain: %s; pretty: %s; leaf: %s\n" % (by_plain, by_pretty, leaf_verdict(text))
 
 

@@ -135,8 +135,8 @@ ESCAPE = re.compile(r"\\u\{([0-9a-f]+)\}|\\(.)")
 
 
 def unquoted(leaf):
-    """The text between the quotes of a leaf, without escapes. None if the leaf has no quotes."""
-    if leaf[0] not in "\"'":
+    """The text between the quotes of a leaf, without escapes. None if a token document has no such leaf in quotes."""
+    if leaf[0] not in "\"'" or not (QUOTED_TEXT.fullmatch(leaf) or QUOTED_CHARACTER.fullmatch(leaf)):
         return None
     letters = {"0": "\0", "t": "\t", "n": "\n", "r": "\r"}
 
@@ -202,6 +202,8 @@ def is_debug_name(leaf):
 
 
 DEBUG = TextClass(debug_leaf_at, is_debug_name, has_open_structs=True)
+# The debug texts that the library reads: none with a struct that ends in dots.
+READ_DEBUG = DEBUG._replace(has_open_structs=False)
 
 
 # ---- The readers of plain and pretty texts. A call returns a document and where it ends, or None.

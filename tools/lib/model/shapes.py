@@ -1,4 +1,4 @@
-"""Documents of each shape, and texts of no document, in any size."""
+"""Documents of each shape, token documents and debug documents, and texts of no token document, in any size."""
 from model import Block, plain, quoted
 
 PLACES = ("list", "set", "key", "value", "struct", "tuple", "unnamed")
@@ -29,6 +29,35 @@ LONG_LEAVES = {
     "a text of three bytes each": "\u20ac",
     "a text of four bytes each": "\U0001f980",
     "a text of all kinds": "ab\u00e9\n\u20ac\x1b",
+}
+
+
+# Leaves that only debug documents have, in their shortest texts and in some that are a little longer.
+DEBUG_LEAVES = {
+    "letters past ASCII": "\u00b5",
+    "points": "+",
+    "numbers with points": "-12345678.87654321",
+    "ranges": "0..=9",
+    "paths": "a::B",
+    "addresses": "127.0.0.1:8080",
+    "texts of bytes": 'b"ab"',
+    "ranges of texts": '"a".."b"',
+    "other escapes": "'\\u{301}'",
+}
+# A long leaf in a row of these.
+DEBUG_ROWS = {
+    "points": ("", ".", ""),
+    "letters past ASCII": ("", "\u20ac", ""),
+    "colons before a letter": ("", ":", "a"),
+    "letters and colons": ("", "a:", "a"),
+    "colons before quotes": ("", ':"a"', ""),
+    "texts in a row": ("", '"a"', ""),
+    "empty texts in a row": ("", "''", ""),
+    "texts and words": ("", '"a"..', ""),
+    "one text": ('b"', "a", '"'),
+    "one text past ASCII": ('b"', "\u20ac", '"'),
+    "one text of escapes": ('b"', "\\x", '"'),
+    "one text of quotes": ('b"', '\\"', '"'),
 }
 
 
@@ -137,9 +166,33 @@ def documents():
     return shapes
 
 
+def debug_leaf(row, size):
+    """A leaf of this size: a piece so many times, between what is before and after."""
+    before, piece, after = row
+    return before + piece * (size // len(piece.encode())) + after
+
+
+def debug_documents():
+    """Each shape of debug documents that aren't token documents, in the same way."""
+    shapes = {"a long leaf, " + name: lambda size, row=row: debug_leaf(row, size) for name, row in DEBUG_ROWS.items()}
+    for name, leaf in DEBUG_LEAVES.items():
+        shapes["a wide list of " + name] = lambda size, leaf=leaf: repeated(leaf, size)
+    for place in PLACES:
+        shapes["a wide %s of points" % place] = lambda size, place=place: wide(place, "1.5", size)
+        shapes["a deep %s of paths" % place] = lambda size, place=place: around(place, "a::B", size)
+    shapes["long names past ASCII"] = lambda size: listed([Block("struct", "\u20ac" * (size // 6), [("a:" * (size // 4) + "a", "x")])])
+    return shapes
+
+
 def no_texts():
-    """Texts of no document, in the same way. They are wrong at the end or at the start."""
+    """Texts of no token document, in the same way. They are wrong at the end or at the start."""
     return {
+        "colons": lambda size: ":" * size,
+        "a word and colons": lambda size: "x" + ":" * size,
+        "colons and spaces": lambda size: "x: " * (size // 3),
+        "an open quote after quotes": lambda size: '"a"' * (size // 3) + '"',
+        "an open quote after quotes and words": lambda size: "'a'.." * (size // 5) + "'",
+        "points and a control": lambda size: "." * size + "\x7f",
         "opening brackets": lambda size: "[" * size,
         "spaces": lambda size: " " * size,
         "line feeds": lambda size: "\n" * size,

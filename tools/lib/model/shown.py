@@ -1,4 +1,6 @@
 """What the leaves and the fields of a document show, in the order and the form in which the program notes it."""
+import string
+
 from model import unquoted
 
 # How many fields of a struct are asked for, besides its last.
@@ -27,9 +29,14 @@ def noted(text):
     return "- " if text is None else "=" + text + " "
 
 
+UPPER_CASE = {ord(letter): letter.upper() for letter in string.ascii_lowercase}
+
+
 def near(name):
-    """A field's name, and names that differ a little."""
-    return (name, name[:-1], name[1:], name.upper(), name + "x")
+    """A field's name, and names that differ a little. A byte is left out where it is a character."""
+    without_last = name[:-1] if name[-1:].isascii() else name
+    without_first = name[1:] if name[:1].isascii() else name
+    return (name, without_last, without_first, name.translate(UPPER_CASE), name + "x")
 
 
 def shown(document, out):

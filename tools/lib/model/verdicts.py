@@ -1,9 +1,10 @@
 """The lines that the programs should print: of each text all that the calls say of it, and what ufmt_conv writes."""
 import coverage
+import debug_coverage
 import pieces
 import requests
 import values
-from model import DEBUG, DEEPEST, TOKEN, PlainReader, PrettyReader, depth_of, events, parts, plain, pretty, quoted
+from model import DEBUG, DEEPEST, READ_DEBUG, TOKEN, PlainReader, PrettyReader, depth_of, events, parts, plain, pretty, quoted
 from shown import shown
 
 
@@ -17,21 +18,30 @@ def joined(add, document):
     return "".join(out)
 
 
-def half(document, converted):
-    if document is None:
-        return "no text"
-    is_pretty = converted is plain
-    letters = values.letters(document)
-    return "events %s, converted %s, parts %s, shown %s, fields %s, in a list %s, types [%s] in pieces %s, %s" % (
+def reading(document, is_pretty, is_token):
+    """What the calls of either class say of a text with this document."""
+    return "token %s, events %s, converted %s, parts %s, shown %s, %s" % (
+        "yes" if is_token else "no",
         digest(joined(events, document)),
-        digest(converted(document)),
+        digest((plain if is_pretty else pretty)(document)),
         digest(joined(parts, document)),
         digest(joined(shown, document)),
+        pieces.of_text(document, is_pretty),
+    )
+
+
+def half(document, debug_document, is_pretty):
+    """What the calls of one mode say of a text: of its token document, and of its debug document."""
+    if document is None:
+        return "no text; debug: " + ("=" if debug_document is None else reading(debug_document, is_pretty, False))
+    letters = values.letters(document)
+    return "%s, fields %s, in a list %s, types [%s] in pieces %s; debug: %s" % (
+        reading(document, is_pretty, True),
         digest(values.fields(document)),
         "yes" if depth_of(document) < DEEPEST else "no",
         letters,
         pieces.of_values(document, is_pretty, len(letters)),
-        pieces.of_text(document, is_pretty),
+        "=" if debug_document == document else "the model reads another document",
     )
 
 
@@ -52,6 +62,20 @@ def leaf_verdict(text):
     )
 
 
+READERS = [(PlainReader(), PlainReader(READ_DEBUG)), (PrettyReader(), PrettyReader(READ_DEBUG))]
+NO_UTF_8 = "plain: no text; debug: =; pretty: no text; debug: =; leaf: no UTF-8"
+
+
+def cells(data, found):
+    """The cells of both tables that a text fills, of which each mode has a token document and a debug document."""
+    filled = set()
+    for mode, (document, debug_document) in zip(coverage.MODES, found):
+        filled |= coverage.cells(document, mode, len(data))
+        if document is None:
+            filled |= debug_coverage.cells(data, debug_document, mode)
+    return filled
+
+
 def verdict(data):
     """The line that the program prints of these bytes, and the cells of the table of coverage that they fill."""
     if data.startswith(requests.REQUEST_PREFIX):
@@ -59,11 +83,11 @@ def verdict(data):
     try:
         text = data.decode()
     except UnicodeDecodeError:
-        cells = coverage.cells(None, "plain", len(data)) | coverage.cells(None, "pretty", len(data))
-        return "plain: no text; pretty: no text; leaf: no UTF-8", cells
-    by_plain, by_pretty = PlainReader().read(text), PrettyReader().read(text)
-    line = "plain: %s; pretty: %s; leaf: %s" % (half(by_plain, pretty), half(by_pretty, plain), leaf_verdict(text))
-    return line, coverage.cells(by_plain, "plain", len(data)) | coverage.cells(by_pretty, "pretty", len(data))
+        return NO_UTF_8, cells(data, [(None, None)] * 2)
+    found = [(token.read(text), debug.read(text)) for token, debug in READERS]
+    halves = [half(*documents, is_pretty) for documents, is_pretty in zip(found, (False, True))]
+    line = "plain: %s; pretty: %s; leaf: %s" % (*halves, leaf_verdict(text))
+    return line, cells(data, found)
 
 
 def outcome(command, data):

@@ -1,0 +1,101 @@
+//! What only the calls on token texts say of a text.
+use crate::calls::Calls;
+use crate::digest::Digest;
+use crate::fault::{Fault, agree};
+use crate::half::has_parts;
+use crate::parts::Parts;
+use crate::{fields, parsed, shapes};
+use std::alloc::{AllocError, Global};
+use ufmt_doc::doc::{Doc, same_text};
+use ufmt_doc::laws::{normal_by_way_of_plain, normal_by_way_of_pretty};
+use ufmt_doc::plain_reader::ReadError;
+
+/// Returns what the calls say of a token text, as a message. It is empty if the text is none, and the
+/// calls say so.
+pub fn verdict(calls: Calls<'_>) -> Result<String, AllocError> {
+    let outcome = match calls.read() {
+        Ok(doc) => of_text(calls, &doc).map(Some),
+        Err(_) => of_no_text(calls).map(|()| None),
+    };
+    match outcome {
+        Ok(Some(results)) => results.message(calls.alloc),
+        Ok(None) => Ok(String::new(calls.alloc)),
+        Err(fault) => {
+            let message = fault.message(calls.alloc)?;
+            format!(in calls.alloc; ", {message}")
+        }
+    }
+}
+
+// The results for a text.
+#[derive(Drop)]
+struct Results {
+    // The fields of a struct or a tuple with one to twelve.
+    fields: Digest,
+    // Whether a list of the document is a token document: the document is less than 255 deep.
+    is_token_in_a_list: bool,
+    // The letters of the types that have a value with the text.
+    types: parsed::TypeLetters,
+}
+
+impl Results {
+    fn message(&self, alloc: Global) -> Result<String, AllocError> {
+        let fields = self.fields.message(alloc)?;
+        let types = self.types.message(alloc)?;
+        let in_a_list = if self.is_token_in_a_list { "yes" } else { "no" };
+        format!(in alloc; ", fields {fields}, in a list {in_a_list}, types {types}")
+    }
+}
+
+fn of_text(calls: Calls<'_>, doc: &Doc) -> Result<Results, Fault> {
+    comes_again(calls)?;
+    comes_as_normal(calls, doc)?;
+    fields::reads_fields(calls, doc)?;
+    Ok(Results {
+        fields: Digest::of(&shapes::fields_of(calls.alloc, doc)?),
+        is_token_in_a_list: is_token_in_a_list(calls, doc)?,
+        types: parsed::letters(calls, doc)?,
+    })
+}
+
+// Reads and prints the text, and converts it to the other mode and back.
+fn comes_again(calls: Calls<'_>) -> Result<(), Fault> {
+    let again = calls.again()?;
+    agree(again.as_bytes() == calls.text, "read and printed again")?;
+    let back = calls.by_way_of_the_other()?;
+    agree(back.as_bytes() == calls.text, "there and back")
+}
+
+// A document that isn't in normal form is printed and read again. The result is the normal form.
+fn comes_as_normal(calls: Calls<'_>, doc: &Doc) -> Result<(), Fault> {
+    let parts = Parts::of(calls.alloc, doc)?;
+    let loose = calls.read_loose()?;
+    let by_plain = normal_by_way_of_plain(calls.alloc, &loose)?;
+    has_parts(calls, &by_plain, &parts, "normal form by way of plain")?;
+    let by_pretty = normal_by_way_of_pretty(calls.alloc, &loose)?;
+    has_parts(calls, &by_pretty, &parts, "normal form by way of pretty")
+}
+
+fn is_token_in_a_list(calls: Calls<'_>, doc: &Doc) -> Result<bool, Fault> {
+    let mut entries = Vec::new(calls.alloc);
+    entries.push(calls.read()?)?;
+    let list = Doc::Listed(entries);
+    if !list.is_token() {
+        return Ok(false);
+    }
+    let are_different = !same_text(&list, doc) && !same_text(doc, &list);
+    agree(are_different, "same_text with a list of it")?;
+    Ok(true)
+}
+
+fn of_no_text(calls: Calls<'_>) -> Result<(), Fault> {
+    agree(
+        calls.again() == Err(ReadError::NotText),
+        "no text, read again",
+    )?;
+    let is_refused = matches!(calls.parse::<String>(), Err(ReadError::NotText));
+    agree(is_refused, "parse of no text")?;
+    agree(fields::is_refused(calls), "read_field of no text")?;
+    let by_way = calls.by_way_of_the_other();
+    agree(by_way == Err(ReadError::NotText), "no text, there and back")
+}

@@ -1,0 +1,144 @@
+"""Leaves and names that debug documents have and token documents haven't: their shapes, and what makes them.
+
+A shape has a letter for each piece of a leaf. A word is `w` if a token document may have it, `p` if it has other ASCII
+characters, as points, and `u` if it has characters past ASCII. A piece in quotes is `t` or `c` if it is a text or a character
+that a token document may have, and `o` if it is spelled otherwise. Colons are `C`.
+"""
+import itertools
+import re
+
+import characters
+from model import CONTROLS, IN_QUOTES, QUOTED_CHARACTER, QUOTED_TEXT, WORD, WORD_BYTES, quoted
+
+WORDS, QUOTES, COLONS = "wpu", "tco", "C"
+PIECE = re.compile("(%s)|(%s)|(:+)" % (WORD_BYTES, "|".join(IN_QUOTES)))
+# Bytes that end a word, but for controls. A colon ends one unless it belongs to the word.
+ENDS = " \"'(),[]{}"
+# The ASCII characters that only words of debug documents have, and what may follow a backslash.
+POINTS = "".join(chr(code) for code in range(0x21, 0x7F) if chr(code) not in ENDS + ":" and not WORD.fullmatch(chr(code)))
+ESCAPED = "".join(map(chr, range(0x20, 0x7F)))
+PAST_ASCII = "\u00e9\u00b5\u0301\u20ac\u200b\ufeff\U0001f980\U0010ffff"
+# What rustc prints of values of std.
+PRINTED = (
+    "1.5", "-0.0", "1e-7", "NaN", "1.5s", "150\u00b5s", "127.0.0.1:80", "::1", "::ffff:10.0.0.1", "0..5", "..=9", "..", "'a'..='z'",
+    '"a".."b"', 'b"x\\x00"', "b'\\''", "'\\u{301}'", '"\\u{301}"', "<borrowed>", "PhantomData<alloc::vec::Vec<u8>>", "0x7f0012", "_", "a::B", "1..=\"b\"",
+)
+
+
+def letter_of(word, in_quotes, colons):
+    if colons:
+        return "C"
+    if in_quotes:
+        if QUOTED_TEXT.fullmatch(in_quotes):
+            return "t"
+        return "c" if QUOTED_CHARACTER.fullmatch(in_quotes) else "o"
+    if WORD.fullmatch(word):
+        return "w"
+    return "p" if word.isascii() else "u"
+
+
+def shape(leaf):
+    return "".join(letter_of(*found.groups()) for found in PIECE.finditer(leaf))
+
+
+def is_shape(letters):
+    """Whether a leaf that only debug documents have can have this shape."""
+    if letters in ("w", "t", "c") or letters.endswith(COLONS):
+        return False
+    pairs = zip(letters, letters[1:])
+    return not any((a in WORDS and b in WORDS) or a == b == COLONS for a, b in pairs)
+
+
+# All shapes of up to three pieces.
+SHAPES = ["".join(letters) for count in (1, 2, 3) for letters in itertools.product(WORDS + QUOTES + COLONS, repeat=count) if is_shape("".join(letters))]
+
+
+def is_in_word(character):
+    """Whether a word may have the character, but for colons."""
+    return character not in ENDS + ":" and not re.match("[%s]" % CONTROLS, character)
+
+
+def word_form(text):
+    """The place and the character of a text that is a character, with or without a letter before and after it."""
+    for position, before, after in (("only", "", ""), ("first", "", "a"), ("last", "a", ""), ("middle", "a", "a")):
+        if len(text) == 1 + len(before + after) and text.startswith(before) and text.endswith(after):
+            return position, ord(text[len(before)])
+    return None
+
+
+class LeafMaker:
+    """Makes such leaves at random. Pieces have up to `longest` characters."""
+
+    def __init__(self, random):
+        self.random = random
+
+    def word(self, letter, length):
+        """A word of this letter, of any characters that it may have."""
+        tokens = "".join(self.random.choices("abXY019_-", k=length))
+        if letter == "w":
+            return tokens
+        at = self.random.randrange(length)
+        return tokens[:at] + self.random.choice(POINTS if letter == "p" else PAST_ASCII) + tokens[at + 1 :]
+
+    def any_word(self, length):
+        """A word of any characters, most often ASCII."""
+        form = self.random.random()
+        if form < 0.5:
+            return "".join(self.random.choices("ab19.-+<>=_/", k=length))
+        if form < 0.8:
+            return "".join(self.random.choices(POINTS + PAST_ASCII + "ab", k=length))
+        found = [characters.any_character(self.random) for _ in range(length)]
+        return "".join(character if is_in_word(character) else "." for character in found)
+
+    def in_quotes(self, letter, length):
+        if letter == "c":
+            return quoted(self.random.choice("ab\n\"'\u20ac\x1b"), "'")
+        if letter == "t":
+            return quoted("".join(self.random.choices("ab ,:[]{}()\n\"'\u00e9\u20ac", k=length)))
+        quote = self.random.choice("\"'")
+        inside = "".join(self.inside(quote) for _ in range(length))
+        return quote + inside + "\\x" + quote
+
+    def inside(self, quote):
+        """A character between these quotes, or a backslash and a character."""
+        if self.random.random() < 0.4:
+            return "\\" + self.random.choice(ESCAPED)
+        character = characters.any_character(self.random)
+        is_ended = character in ("\\", quote) or re.match("[%s]" % CONTROLS, character)
+        return "." if is_ended else character
+
+    def piece(self, letter, length):
+        if letter in WORDS:
+            return self.word(letter, length)
+        return ":" * length if letter == COLONS else self.in_quotes(letter, length)
+
+    def of_shape(self, letters, longest=4):
+        return "".join(self.piece(letter, self.random.randint(1, longest)) for letter in letters)
+
+    def of_pieces(self, count):
+        """A leaf of so many pieces: words and texts in quotes in turn."""
+        last = self.random.choice("tco")
+        return "".join(self.piece(letter, 1) for letter in (WORDS[number % 3] if (count - number) % 2 == 0 else last for number in range(count)))
+
+    def of_length(self, kind, length):
+        """A leaf of so many characters: a word, or with quotes."""
+        if kind == "word":
+            return self.word("p", length)
+        return "b" + '"' + "x" * (length - 3) + '"'
+
+    def name(self, length):
+        form = self.random.random()
+        if form < 0.5 or length < 4:
+            return self.any_word(length)
+        half = self.random.randrange(1, length - 2)
+        return self.any_word(half) + ":" * self.random.choice((1, 2)) + self.any_word(max(length - half - 2, 1))
+
+    def leaf(self, length):
+        form = self.random.random()
+        if form < 0.25:
+            return self.random.choice(PRINTED)
+        if form < 0.5:
+            return self.name(length)
+        if form < 0.9:
+            return self.of_shape(self.random.choice(SHAPES), max(length // 3, 1))
+        return self.of_pieces(min(length, 40))

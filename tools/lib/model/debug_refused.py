@@ -1,0 +1,73 @@
+"""Texts that are no debug texts, by the reason why."""
+from model import DEEPEST, Block, plain, pretty
+
+CONTROLS = [bytes([code]) for code in (*range(0x20), 0x7F)]
+NO_UTF_8 = (b"\x80", b"\xff", b"\xc3", b"\xc0\x80", b"\xe2\x82", b"\xed\xa0\x80", b"\xf0\x9f\xa6", b"\xf4\x90\x80\x80")
+PAST_ASCII = ("\u00e9", "\u0301", "\u20ac", "\U0001f980")
+COLONS = (1, 2, 3, 999, 1000, 1001, 100_000)
+PIECES = 33_000
+
+
+def encoded(*texts):
+    return [text.encode() for text in texts]
+
+
+def within(before, middles, after):
+    return [before + middle + after for middle in middles]
+
+
+def too_deep():
+    """Blocks of which one is too deep, with a leaf and with names that no token document has."""
+    for kind, name in (("list", ""), ("tuple", "a::B"), ("struct", "\u00e9")):
+        document = "1.5"
+        for _ in range(DEEPEST + 1):
+            document = Block(kind, name, [("1.5" if kind == "struct" else None, document)])
+        yield from encoded(plain(document), pretty(document))
+
+
+def rows():
+    """The texts of each reason."""
+    many = [":" * count for count in COLONS]
+    return {
+        "a colon at the end of a word": encoded("a:", "a::", "1.5:", "[a:]", "[a:, b]", "(a:,)", "{a:: b}", "S { a:: 1 }", "S { a: b: }", "a:::"),
+        "a colon before a space": encoded("a: b", ": a", "[a: b]", "[1.5: 2.5]", "(a: b,)", "{a: b: c}", "a::B: c"),
+        "a colon before a bracket": encoded("a:[]", "a:()", "{a:{}}", "a:(1,)", "[a:]]", "a:[1.5]"),
+        "a colon before a comma": encoded("[a:,]", "[:, b]", "{a:, b}"),
+        "colons in a row": encoded(*many, *("a" + row for row in many), *("[%s]" % row for row in many), *("[a%s, b]" % row for row in many)),
+        "a quote that nothing closes": encoded('"', "'", '"a', "b'a", 'a"', "a:'", '"a""', '"a".."b', '[1, "a]', "('a,)", "1.5'", "'a'..='z", "S { a: b\" }"),
+        "many quotes of which the last isn't closed": [b'"a"' * PIECES + b'"', b"'a'.." * PIECES + b"'", b'""' * PIECES + b"'"],
+        "a control in a word": within(b"a", CONTROLS, b"b") + within(b"", CONTROLS, b"1.5") + within(b"[1.5, x", CONTROLS, b"]"),
+        "a control between quotes": within(b'"a', CONTROLS, b'"') + within(b"b'", CONTROLS, b"'"),
+        "a control after a backslash": within(b'"\\', CONTROLS, b'"') + within(b"b'\\", CONTROLS, b"'"),
+        "no UTF-8 in a word": within(b"", NO_UTF_8, b"") + within(b"1.", NO_UTF_8, b"") + within(b"[a::", NO_UTF_8, b"B]"),
+        "no UTF-8 in a name": within(b"S", NO_UTF_8, b"(1)") + within(b"S { ", NO_UTF_8, b": 1 }"),
+        "no UTF-8 between quotes": within(b'"', NO_UTF_8, b'"') + within(b"b'", NO_UTF_8, b"x'") + within(b'[1..="', NO_UTF_8, b'"]'),
+        "no UTF-8 after a backslash": within(b'"\\', NO_UTF_8, b'"') + within(b"b'\\", NO_UTF_8, b"'"),
+        "a backslash before the last quote": encoded('"a\\"', "'\\'", '"\\', 'b"\\"', "'a'..='\\'", '"\\\\\\"'),
+        "a backslash outside quotes that takes a quote": encoded('\\"', "a\\'b", "\\'"),
+        "a backslash before a character past ASCII": encoded(*('"\\%s"' % past for past in PAST_ASCII), *("b'a\\%sb'" % past for past in PAST_ASCII)),
+        "a name with quotes": encoded('S"a"(1)', 'b"x" { a: 1 }', 'S { "a": 1 }', "S { b'x': 1 }", "'a'(1)", "a::'b'(1)"),
+        "a struct that ends in dots": encoded("P { .. }", "P { a: 1, .. }", "P {\n    ..\n}", "P {\n    a: 1,\n    ..\n}", "P {\n    a: 1,\n    ..,\n}", "P { .., a: 1 }"),
+        "a unit or an empty block beside a piece": encoded("a()", "()a", "1.5()", "()()", '""()', "a[]", "[]a", "a{}", "{}1.5", "[]..[]", "a(){}"),
+        "a space beside a piece": encoded("1.5 s", " 1.5", "1.5 ", "a ::B", "a:: B", '"a" .. "b"', "[1.5, 2.5 ]", "b 'x'"),
+        "a comma beside a piece": encoded("1.5,", ",1.5", "1.5,2.5", "[1.5,2.5]", "[1.5, ]", "[, 1.5]", "(1.5)", "[1.5,, 2.5]"),
+        "braces that are mixed": encoded("{1.5, a: 1}", "{a: 1, 2.5}", "{1.5: a, b: c, d}"),
+        "a struct without a name": encoded(" { a: 1.5 }", "{ a: 1.5 }", "S { 1.5 }", "S { : 1.5 }", "S { a: 1.5 : }", "S {a: 1.5}", "S{ a: 1.5 }"),
+        "a bracket that nothing closes": encoded("[1.5", "a::B(1.5", "S { a: 1.5", "{1.5: b", "[1.5)", "(1.5, 2.5]", "1.5]"),
+        "256 blocks": list(too_deep()),
+    }
+
+
+ROWS = rows()
+NAMES = list(ROWS)
+NAME_OF = {text: name for name, texts in ROWS.items() for text in texts}
+
+
+def names_of(data):
+    """The reasons of a text in the table."""
+    return [NAME_OF[data]] if data in NAME_OF else []
+
+
+def texts():
+    for found in ROWS.values():
+        yield from found
