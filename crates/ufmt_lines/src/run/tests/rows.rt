@@ -2,7 +2,7 @@
 use super::*;
 
 // Lines that end with a plain text, and the same with the pretty text.
-const DEBUG_TEXTS: [(&str, &str); 30] = [
+const DEBUG_TEXTS: [(&str, &str); 31] = [
     (
         "12:00 INFO got Reading { channel: 3 }",
         "12:00 INFO got Reading {\n    channel: 3,\n}",
@@ -72,10 +72,14 @@ const DEBUG_TEXTS: [(&str, &str); 30] = [
     ("x=S { a: (b,) }", "x=S {\n    a: (\n        b,\n    ),\n}"),
     ("[\"a\"..\"b\"]", "[\n    \"a\"..\"b\",\n]"),
     ("took [1.5ms, 2s]", "took [\n    1.5ms,\n    2s,\n]"),
+    (
+        "Unit { pkg: P { id: 1, ..: \"..\" } }",
+        "Unit {\n    pkg: P {\n        id: 1,\n        ..: \"..\",\n    },\n}",
+    ),
 ];
 
 // Lines that stay as they are.
-const OTHERS: [&[u8]; 24] = [
+const OTHERS: [&[u8]; 25] = [
     b"",
     b" ",
     b"word",
@@ -100,6 +104,7 @@ const OTHERS: [&[u8]; 24] = [
     b"}",
     b") ] }",
     b"B { x: 1 }.",
+    b"Mutex { data: 0, poisoned: false, .. }",
 ];
 
 // Lines of which only a tail is a debug text, or of which more than one is: the longest is taken.
