@@ -155,7 +155,7 @@ pub fn is_name_of(class: Class, text: &str) -> bool
     ensures { IsTrue result ↔ IsName class text.now }
 {
     match split_name(class, text.as_bytes()) {
-        Some((_, rest)) => rest.is_empty(),
+        Some((_, after)) => after.is_empty(),
         None => false,
     }
 }

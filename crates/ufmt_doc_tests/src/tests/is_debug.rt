@@ -123,22 +123,33 @@ fn is_debug_in_lists(alloc: Global, count: usize, inner: &Shape<'_>) -> Result<b
     Ok(lists_around(alloc, count, inner)?.is_debug())
 }
 
-// Each of these has an entry, and is a block more in the lists.
-const INNER: [(&str, Shape<'static>); 4] = [
-    ("a list", Listed(&[Leaf("1.5")])),
-    ("a map", MapOf(&[(Leaf("::1"), Leaf("1.5"))])),
-    ("a struct", StructOf("a::B", &[("c", Leaf("1.5"))])),
-    ("a tuple", TupleOf("", &[Leaf("1.5")])),
+// So many lists, and what is in them. Each of these but the last has an entry, and is a block more.
+const NESTED: [(&str, usize, Shape<'static>, bool); 9] = [
+    ("a list", 254, Listed(&[Leaf("1.5")]), true),
+    ("a list", 255, Listed(&[Leaf("1.5")]), false),
+    ("a map", 254, MapOf(&[(Leaf("::1"), Leaf("1.5"))]), true),
+    ("a map", 255, MapOf(&[(Leaf("::1"), Leaf("1.5"))]), false),
+    (
+        "a struct",
+        254,
+        StructOf("a::B", &[("c", Leaf("1.5"))]),
+        true,
+    ),
+    (
+        "a struct",
+        255,
+        StructOf("a::B", &[("c", Leaf("1.5"))]),
+        false,
+    ),
+    ("a tuple", 254, TupleOf("", &[Leaf("1.5")]), true),
+    ("a tuple", 255, TupleOf("", &[Leaf("1.5")]), false),
+    ("a name", 255, TupleOf("a::B", &[]), true),
 ];
 
 #[test]
 fn debug_documents_are_at_most_255_deep(rt: HostRuntime) {
-    for (case, inner) in INNER {
-        let given = is_debug_in_lists(rt.alloc(), 254, &inner);
-        same(&rt, given, Ok(true), case);
-        let given = is_debug_in_lists(rt.alloc(), 255, &inner);
-        same(&rt, given, Ok(false), case);
+    for (case, count, inner, wanted) in NESTED {
+        let given = is_debug_in_lists(rt.alloc(), count, &inner);
+        same(&rt, (count, given), (count, Ok(wanted)), case);
     }
-    let given = is_debug_in_lists(rt.alloc(), 255, &TupleOf("a::B", &[]));
-    same(&rt, given, Ok(true), "a name in lists");
 }
