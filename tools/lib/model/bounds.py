@@ -38,14 +38,13 @@ STEPS = {
     "Doc::text": (2000, 0, 20, 350, 1, 0, 0, 0, 0, 0, 0, 0, 0, 0),
     "Doc::character": (1000, 0, 0, 0, 0, 0, 0, 0, 0, 0, 0, 0, 0, 0),
 }
-# What a call on debug texts takes more than the same call on token texts: for a byte of a word and of a leaf in quotes, and for a
-# leaf of each kind; and what it takes for a byte of a leaf or a name that only debug documents have, and for a piece of one.
-DEBUG_STEPS = (12, 12, 60, 60, 60)
-DEBUG_LEAF_STEPS = (40, 120)
+# What a call on debug texts takes more than the same call on token texts, in the same order. These are of programs with run-time
+# checks. A byte of a leaf or a name that only debug documents have takes so much more than one of a word; and what a piece
+# of one takes, and another quote in a leaf in quotes.
+DEBUG_STEPS = (0, 5, 18, 0, 0, 90, 230, 30, 70, 70, 0, 0, 0, 0)
+DEBUG_BYTE, PIECE, OTHER_QUOTE = 14, 75, 40
 for call in ("is_text", "read", "convert", "convert to a String", "convert into"):
-    start, words, in_quotes, escapes, past, bare, texts, in_apostrophes, *others = STEPS[call]
-    more = [a + b for a, b in zip((words, in_quotes, bare, texts, in_apostrophes), DEBUG_STEPS)]
-    STEPS["debug " + call] = (start, *more[:2], escapes, past, *more[2:], *others)
+    STEPS["debug " + call] = tuple(map(sum, zip(STEPS[call], DEBUG_STEPS)))
 # A call that reads a text and then does another thing takes what both take.
 STEPS["parse"] = tuple(map(sum, zip(STEPS["read"], STEPS["trees"])))
 STEPS["read_field"] = tuple(map(sum, zip(STEPS["read"], STEPS["leaf_text"], STEPS["field_text"])))
@@ -83,8 +82,15 @@ def steps(call, case):
     indents = case.indentation, case.other_indentation
     has = (1, *found[:9], case.others(case.length - indents[0]), case.others(case.other - indents[1]), *indents)
     taken = [each * count for each, count in zip(STEPS[call], has)]
-    of_debug = [each * count for each, count in zip(DEBUG_LEAF_STEPS, (found.debug, found.pieces))]
-    return int(MOST_STEPS * (sum(taken[:-2]) + sum(of_debug)) + MOST_INDENTATION * sum(taken[-2:]))
+    return int(MOST_STEPS * (sum(taken[:-2]) + debug_leaf_steps(call, found)) + MOST_INDENTATION * sum(taken[-2:]))
+
+
+def debug_leaf_steps(call, found):
+    """What a call on debug texts takes for leaves and names that only debug documents have, and for other quotes."""
+    if not call.startswith("debug "):
+        return 0
+    word_byte = STEPS[call][1]
+    return (word_byte + DEBUG_BYTE) * found.debug + PIECE * found.pieces + OTHER_QUOTE * found.other_quotes
 
 
 class Memory(NamedTuple):

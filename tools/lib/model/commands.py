@@ -125,7 +125,7 @@ class LogGroup(NamedTuple):
 def lines(is_plain):
     """A group for each shape. The first one is for what a run takes at its start, with its own memory."""
     yield LogGroup(FIRST, "x", "x", bounds.Case(rough(""), 1, 1))
-    for name, make in shapes.documents().items():
+    for name, make in {**shapes.documents(), **shapes.debug_documents()}.items():
         document = make(4 * COUNTED_SIZE)
         texts = plain(document), pretty(document)
         text, other = texts[::-1] if is_plain else texts
@@ -139,7 +139,7 @@ def lines(is_plain):
 
 def line_steps(line):
     """A text is scanned, and then converted. Each byte is copied, and looked at for the end of its line."""
-    scanned = bounds.steps("is_text", line.case) + bounds.steps("convert into", line.case)
+    scanned = bounds.steps("debug is_text", line.case) + bounds.steps("debug convert into", line.case)
     places = PLACE_STEPS * line.group.count(" ") if line.group == line.output else 0
     copied = byte_steps(line.group, line.case, SPLIT_INDENTATION)
     return scanned + places + copied + LINE_STEPS * (2 + line.group.count("\n"))

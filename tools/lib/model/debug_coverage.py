@@ -3,7 +3,8 @@ text must fill. A cell ends with the mode in which the text was read.
 """
 import characters
 import debug_refused
-from coverage import DEPTHS, MANY, MODES, PLACE_IN, PLACES, POSITIONS, counts, depth_class, entries_class, kind_of, length_class, lengths, pairs, position, power, powers
+from coverage import DEPTHS, MANY, MODES, PLACE_IN, PLACES, POSITIONS, counts, depth_class, entries_class
+from coverage import kind_of, length_class, lengths, pairs, position, power, powers
 from debug_covering import NAME_SHAPES
 from debug_leaves import ENDS, ESCAPED, PIECE, SHAPES, is_in_word, shape, word_form
 from features import is_of_tokens

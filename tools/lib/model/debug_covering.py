@@ -1,5 +1,5 @@
 """Documents that fill each cell of the table of debug texts. What a cell leaves open is chosen at random."""
-from coverage import DEPTHS, EXACT_ENTRIES, EXACT_LENGTH, PLACES, powers
+from coverage import EXACT_ENTRIES, EXACT_LENGTH, PLACES, powers
 from debug_leaves import ESCAPED, SHAPES
 from model import DEEPEST, Block
 
@@ -82,4 +82,3 @@ class DebugCovering:
             for _ in range(DEEPEST):
                 document = self.covering.inside(self.random.choice(PLACES), [document])
             yield document
-        assert DEPTHS[-1] == DEEPEST

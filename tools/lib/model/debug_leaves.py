@@ -21,7 +21,8 @@ PAST_ASCII = "\u00e9\u00b5\u0301\u20ac\u200b\ufeff\U0001f980\U0010ffff"
 # What rustc prints of values of std.
 PRINTED = (
     "1.5", "-0.0", "1e-7", "NaN", "1.5s", "150\u00b5s", "127.0.0.1:80", "::1", "::ffff:10.0.0.1", "0..5", "..=9", "..", "'a'..='z'",
-    '"a".."b"', 'b"x\\x00"', "b'\\''", "'\\u{301}'", '"\\u{301}"', "<borrowed>", "PhantomData<alloc::vec::Vec<u8>>", "0x7f0012", "_", "a::B", "1..=\"b\"",
+    '"a".."b"', 'b"x\\x00"', "b'\\''", "'\\u{301}'", '"\\u{301}"', "<borrowed>", "PhantomData<alloc::vec::Vec<u8>>", "0x7f0012", "_",
+    "a::B", "1..=\"b\"",
 )
 
 
@@ -50,7 +51,8 @@ def is_shape(letters):
 
 
 # All shapes of up to three pieces.
-SHAPES = ["".join(letters) for count in (1, 2, 3) for letters in itertools.product(WORDS + QUOTES + COLONS, repeat=count) if is_shape("".join(letters))]
+ROWS = ("".join(letters) for count in (1, 2, 3) for letters in itertools.product(WORDS + QUOTES + COLONS, repeat=count))
+SHAPES = list(filter(is_shape, ROWS))
 
 
 def is_in_word(character):
@@ -117,8 +119,9 @@ class LeafMaker:
 
     def of_pieces(self, count):
         """A leaf of so many pieces: words and texts in quotes in turn."""
-        last = self.random.choice("tco")
-        return "".join(self.piece(letter, 1) for letter in (WORDS[number % 3] if (count - number) % 2 == 0 else last for number in range(count)))
+        in_quotes = self.random.choice(QUOTES)
+        letters = (in_quotes if (count - number) % 2 else WORDS[number % 3] for number in range(count))
+        return "".join(self.piece(letter, 1) for letter in letters)
 
     def of_length(self, kind, length):
         """A leaf of so many characters: a word, or with quotes."""

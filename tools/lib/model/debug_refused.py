@@ -6,6 +6,8 @@ NO_UTF_8 = (b"\x80", b"\xff", b"\xc3", b"\xc0\x80", b"\xe2\x82", b"\xed\xa0\x80"
 PAST_ASCII = ("\u00e9", "\u0301", "\u20ac", "\U0001f980")
 COLONS = (1, 2, 3, 999, 1000, 1001, 100_000)
 PIECES = 33_000
+OPEN_QUOTES = ('"', "'", '"a', "b'a", 'a"', "a:'", '"a""', '"a".."b', '[1, "a]', "('a,)", "1.5'", "'a'..='z", 'S { a: b" }')
+DOTS = ("P { .. }", "P { a: 1, .. }", "P {\n    ..\n}", "P {\n    a: 1,\n    ..\n}", "P {\n    a: 1,\n    ..,\n}", "P { .., a: 1 }")
 
 
 def encoded(*texts):
@@ -29,12 +31,12 @@ def rows():
     """The texts of each reason."""
     many = [":" * count for count in COLONS]
     return {
-        "a colon at the end of a word": encoded("a:", "a::", "1.5:", "[a:]", "[a:, b]", "(a:,)", "{a:: b}", "S { a:: 1 }", "S { a: b: }", "a:::"),
+        "a colon at the end of a word": encoded("a:", "a::", "1.5:", "[a:]", "[a:, b]", "(a:,)", "{a:: b}", "S { a: b: }", "a:::"),
         "a colon before a space": encoded("a: b", ": a", "[a: b]", "[1.5: 2.5]", "(a: b,)", "{a: b: c}", "a::B: c"),
         "a colon before a bracket": encoded("a:[]", "a:()", "{a:{}}", "a:(1,)", "[a:]]", "a:[1.5]"),
         "a colon before a comma": encoded("[a:,]", "[:, b]", "{a:, b}"),
-        "colons in a row": encoded(*many, *("a" + row for row in many), *("[%s]" % row for row in many), *("[a%s, b]" % row for row in many)),
-        "a quote that nothing closes": encoded('"', "'", '"a', "b'a", 'a"', "a:'", '"a""', '"a".."b', '[1, "a]', "('a,)", "1.5'", "'a'..='z", "S { a: b\" }"),
+        "colons in a row": encoded(*(form % row for row in many for form in ("%s", "a%s", "[%s]", "[a%s, b]"))),
+        "a quote that nothing closes": encoded(*OPEN_QUOTES),
         "many quotes of which the last isn't closed": [b'"a"' * PIECES + b'"', b"'a'.." * PIECES + b"'", b'""' * PIECES + b"'"],
         "a control in a word": within(b"a", CONTROLS, b"b") + within(b"", CONTROLS, b"1.5") + within(b"[1.5, x", CONTROLS, b"]"),
         "a control between quotes": within(b'"a', CONTROLS, b'"') + within(b"b'", CONTROLS, b"'"),
@@ -45,14 +47,14 @@ def rows():
         "no UTF-8 after a backslash": within(b'"\\', NO_UTF_8, b'"') + within(b"b'\\", NO_UTF_8, b"'"),
         "a backslash before the last quote": encoded('"a\\"', "'\\'", '"\\', 'b"\\"', "'a'..='\\'", '"\\\\\\"'),
         "a backslash outside quotes that takes a quote": encoded('\\"', "a\\'b", "\\'"),
-        "a backslash before a character past ASCII": encoded(*('"\\%s"' % past for past in PAST_ASCII), *("b'a\\%sb'" % past for past in PAST_ASCII)),
+        "a backslash before a character past ASCII": encoded(*(form % past for past in PAST_ASCII for form in ('"\\%s"', "b'a\\%sb'"))),
         "a name with quotes": encoded('S"a"(1)', 'b"x" { a: 1 }', 'S { "a": 1 }', "S { b'x': 1 }", "'a'(1)", "a::'b'(1)"),
-        "a struct that ends in dots": encoded("P { .. }", "P { a: 1, .. }", "P {\n    ..\n}", "P {\n    a: 1,\n    ..\n}", "P {\n    a: 1,\n    ..,\n}", "P { .., a: 1 }"),
-        "a unit or an empty block beside a piece": encoded("a()", "()a", "1.5()", "()()", '""()', "a[]", "[]a", "a{}", "{}1.5", "[]..[]", "a(){}"),
+        "a struct that ends in dots": encoded(*DOTS),
+        "a unit or an empty block beside a piece": encoded("a()", "()a", "1.5()", "()()", '""()', "a[]", "[]a", "a{}", "{}1.5", "[]..[]"),
         "a space beside a piece": encoded("1.5 s", " 1.5", "1.5 ", "a ::B", "a:: B", '"a" .. "b"', "[1.5, 2.5 ]", "b 'x'"),
         "a comma beside a piece": encoded("1.5,", ",1.5", "1.5,2.5", "[1.5,2.5]", "[1.5, ]", "[, 1.5]", "(1.5)", "[1.5,, 2.5]"),
         "braces that are mixed": encoded("{1.5, a: 1}", "{a: 1, 2.5}", "{1.5: a, b: c, d}"),
-        "a struct without a name": encoded(" { a: 1.5 }", "{ a: 1.5 }", "S { 1.5 }", "S { : 1.5 }", "S { a: 1.5 : }", "S {a: 1.5}", "S{ a: 1.5 }"),
+        "a struct without its names": encoded(" { a: 1.5 }", "{ a: 1.5 }", "S { 1.5 }", "S { : 1.5 }", "S {a: 1.5}", "S{ a: 1.5 }"),
         "a bracket that nothing closes": encoded("[1.5", "a::B(1.5", "S { a: 1.5", "{1.5: b", "[1.5)", "(1.5, 2.5]", "1.5]"),
         "256 blocks": list(too_deep()),
     }

@@ -27,6 +27,8 @@ class Features(NamedTuple):
     # Bytes of leaves and names that only debug documents have, and their pieces.
     debug: int = 0
     pieces: int = 0
+    # Apostrophes in leaves in quotation marks, and quotation marks in those in apostrophes.
+    other_quotes: int = 0
 
     def strings(self):
         return self.bare + self.texts + self.characters
@@ -49,13 +51,19 @@ def is_of_tokens(leaf):
     return found is not None and found[1] == len(leaf)
 
 
+OTHER_QUOTE = {'"': "'", "'": '"'}
+
+
 def of_leaf(leaf, add, times):
     size = len(leaf.encode()) * times
+    pieces = [found[0] for found in PIECE.finditer(leaf)]
+    others = sum(piece.count(OTHER_QUOTE[piece[0]]) for piece in pieces if piece[0] in OTHER_QUOTE)
+    add(other_quotes=others * times)
     if not is_of_tokens(leaf):
-        pieces = sum(1 for _ in PIECE.finditer(leaf)) * times
-        add(debug=size, pieces=pieces, past=past_ascii(leaf) * times, escapes=leaf.count("\\") * times, bare=times)
+        escapes, past = leaf.count("\\"), past_ascii(leaf)
+        add(debug=size, pieces=len(pieces) * times, past=past * times, escapes=escapes * times, bare=times)
         return
-    if leaf[:1] not in ('"', "'"):
+    if leaf[:1] not in OTHER_QUOTE:
         add(words=size, bare=times)
         return
     escapes = leaf.replace("\\\\", "\\").count("\\")
