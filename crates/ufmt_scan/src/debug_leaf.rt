@@ -2,11 +2,26 @@
 ghost use Rattle.std.specs.Prelude.{◌≡◌, ◌<◌, ◌≤◌, ◌==◌, ◌||◌, ◌∷◌, ℕ, IfSome, IsTrue, MatchOption, false, length, nat_le, not, true};
 ghost use Rattle.ufmt.specs.declared.class.Class.TheVariants.{Debug};
 ghost use Rattle.ufmt.specs.Leaves.{between, is_control, is_debug_byte, is_quote, outside};
-ghost use Rattle.ufmt_scan.specs.Private.Fronts.{EndsLeaf, NeverCloses, Passes, SplitsFront, StaysBetween, StopsWord, colon_belongs};
+ghost use Rattle.ufmt_scan.specs.Private.Fronts.{EndsLeaf, NeverCloses, Passes, SplitsFront, StaysBetween, StopsWord, colon_belongs, is_ending};
 
 use crate::front::Front;
-use crate::leaf::{marked_len, split_word};
+use crate::leaf::marked_len;
+use crate::quoted::split_plain;
 use ufmt::ascii::text_from;
+
+// Marks each ASCII byte that a word of a debug document may have, but for colons.
+static ASCII_BYTES: [u8; 256] = *b"\
+    .................................w.wwww...ww.wwwwwwwwwwwww.wwwww\
+    wwwwwwwwwwwwwwwwwwwwwwwwwww.w.wwwwwwwwwwwwwwwwwwwwwwwwwwwww.w.w.\
+    ................................................................\
+    ................................................................";
+
+// Marks each byte that no leaf has outside of quotes.
+static ENDING_BYTES: [u8; 256] = *b"\
+    wwwwwwwwwwwwwwwwwwwwwwwwwwwwwwwww.......ww..w...................\
+    ...........................w.w.............................w.w.w\
+    ................................................................\
+    ................................................................";
 
 // Marks each byte that a word of a debug document may have, but for colons.
 static WORD_BYTES: [u8; 256] = *b"\
@@ -31,11 +46,12 @@ static COLON_BYTES: [u8; 256] = *b"\
 
 /// Splits off the longest leaf, which may be empty. Returns `None` if its quotes aren't closed, or it
 /// isn't UTF-8.
+#[inline(always)]
 pub(crate) fn split_leaf(input: &[u8]) -> Option<Front<'_>>
     ensures { SplitsFront Debug input.now result }
 {
-    // Most leaves are words of token documents, which are ASCII: nothing of them is tested again.
-    let (word, rest) = split_word(input);
+    // Most leaves are words in ASCII. Nothing of them is tested again.
+    let (word, rest) = input.split_at(marked_len(&ASCII_BYTES, input));
     if ends_here(rest) {
         return Some(Front {
             text: text_from(word, 0),
@@ -43,24 +59,42 @@ pub(crate) fn split_leaf(input: &[u8]) -> Option<Front<'_>>
             rest,
         });
     }
+    split_quotes_first(input)
+}
+
+// The same of every leaf. Most others are one text in quotes.
+#[inline(never)]
+fn split_quotes_first(input: &[u8]) -> Option<Front<'_>>
+    ensures { SplitsFront Debug input.now result }
+{
+    if let Some((text, rest)) = split_plain(input) {
+        if ends_here(rest) {
+            return Some(Front {
+                text,
+                is_name: false,
+                rest,
+            });
+        }
+    }
     split_any_leaf(input)
 }
 
-// Whether no byte of a leaf is at the front.
+// Whether no byte of a leaf is at the front. It may miss that before a colon, not before a colon and
+// a space.
 #[inline(always)]
+#[tactic(auto, using(crate::proofs::DebugFronts::ends_at_end, crate::proofs::DebugFronts::ends_at_byte, crate::proofs::DebugFronts::ends_at_colon))]
 fn ends_here(input: &[u8]) -> bool
     ensures { IsTrue result → EndsLeaf input.now input.now true }
 {
-    let Some((&byte, _)) = input.split_first() else {
+    let Some((&byte, after)) = input.split_first() else {
         return true;
     };
-    if byte == b':' {
-        match after_colons(input) {
-            Some(_) => false,
-            None => true,
-        }
-    } else {
-        !leads_on(byte)
+    if is_ending(byte) {
+        return true;
+    }
+    match after.split_first() {
+        Some((&next, _)) => byte == b':' && is_ending(next),
+        None => false,
     }
 }
 
@@ -200,6 +234,15 @@ fn is_control(byte: u8) -> bool
     ensures { result ≡ is_control byte }
 {
     byte < b' ' || byte == 127
+}
+
+// Whether no leaf has the byte outside of quotes.
+#[inline(always)]
+#[tactic(auto, using(crate::proofs::DebugFronts::endings_are_marked))]
+fn is_ending(byte: u8) -> bool
+    ensures { result ≡ is_ending byte }
+{
+    ENDING_BYTES[byte as usize] == b'w'
 }
 
 #[inline(always)]
