@@ -444,6 +444,9 @@ module _ (t text rest : List ℕ) (reads : read_quoted t ≡ Some (text, rest)) 
     | inr unit ↦ let none = subst (λ w. has_quote w ≡ true) unit quote_within in absurd (cc)
   ]
 
+  pub quotes_some : text ≢ []
+  quotes_some = is_debug_text.some
+
   pub quotes_split : EndsLeaf rest rest true → (found : Front) → found.text.now ≡ text → found.rest.now ≡ rest → found.is_name ≡ false → IsSplit Debug t found
   quotes_split ends found same after named =
       let stops = stops_where_ended rest ends.none in

@@ -1,8 +1,8 @@
 //! Leaves of debug documents: words and texts in quotes in a row.
-ghost use Rattle.std.specs.Prelude.{◌≡◌, ◌<◌, ◌≤◌, ◌==◌, ◌||◌, ◌∷◌, ℕ, IfSome, IsTrue, MatchOption, false, length, nat_le, not, true};
+ghost use Rattle.std.specs.Prelude.{◌≡◌, ◌<◌, ◌≤◌, ◌==◌, ◌||◌, ◌≢◌, ◌∷◌, [], ℕ, IfSome, IsTrue, MatchOption, false, length, nat_le, not, true};
 ghost use Rattle.ufmt.specs.declared.class.Class.TheVariants.{Debug};
 ghost use Rattle.ufmt.specs.Leaves.{between, is_control, is_debug_byte, is_quote, outside};
-ghost use Rattle.ufmt_scan.specs.Private.Fronts.{EndsLeaf, NeverCloses, Passes, SplitsFront, StaysBetween, StopsWord, colon_belongs, is_ending};
+ghost use Rattle.ufmt_scan.specs.Private.Fronts.{EndsLeaf, IsSplit, NeverCloses, Passes, SplitsFront, StaysBetween, StopsWord, colon_belongs, is_ending};
 
 use crate::front::Front;
 use crate::leaf::marked_len;
@@ -44,39 +44,40 @@ static COLON_BYTES: [u8; 256] = *b"\
     ................................................................\
     ................................................................";
 
-/// Splits off the longest leaf, which may be empty. Returns `None` if its quotes aren't closed, or it
-/// isn't UTF-8.
+/// The leaf, if it is a word in ASCII. It may be empty. Nothing of it is tested again.
 #[inline(always)]
-pub(crate) fn split_leaf(input: &[u8]) -> Option<Front<'_>>
-    ensures { SplitsFront Debug input.now result }
+pub(crate) fn split_debug_word(input: &[u8]) -> Option<Front<'_>>
+    ensures { IfSome result (λ front. IsSplit Debug input.now front) }
 {
-    // Most leaves are words in ASCII. Nothing of them is tested again.
     let (word, rest) = input.split_at(marked_len(&ASCII_BYTES, input));
     if ends_here(rest) {
-        return Some(Front {
+        Some(Front {
             text: text_from(word, 0),
             is_name: true,
             rest,
-        });
+        })
+    } else {
+        None
     }
-    split_quotes_first(input)
 }
 
-// The same of every leaf. Most others are one text in quotes.
-#[inline(never)]
-fn split_quotes_first(input: &[u8]) -> Option<Front<'_>>
-    ensures { SplitsFront Debug input.now result }
+/// The leaf, if it is one text in quotes that has no escape and only ASCII.
+#[inline(always)]
+pub(crate) fn split_debug_quotes(input: &[u8]) -> Option<Front<'_>>
+    ensures front { IfSome result (λ front. IsSplit Debug input.now front) }
+    ensures some { IfSome result (λ front. front.text.now ≢ []) }
+    ensures no_name { IfSome result (λ front. front.is_name ≡ false) }
 {
-    if let Some((text, rest)) = split_plain(input) {
-        if ends_here(rest) {
-            return Some(Front {
-                text,
-                is_name: false,
-                rest,
-            });
-        }
+    let (text, rest) = split_plain(input)?;
+    if ends_here(rest) {
+        Some(Front {
+            text,
+            is_name: false,
+            rest,
+        })
+    } else {
+        None
     }
-    split_any_leaf(input)
 }
 
 // Whether no byte of a leaf is at the front. It may miss that before a colon, not before a colon and
@@ -98,8 +99,10 @@ fn ends_here(input: &[u8]) -> bool
     }
 }
 
-// The same of every leaf.
-fn split_any_leaf(input: &[u8]) -> Option<Front<'_>>
+/// Splits off the longest leaf, which may be empty. Returns `None` if its quotes aren't closed, or it
+/// isn't UTF-8.
+#[inline(never)]
+pub(crate) fn split_leaf(input: &[u8]) -> Option<Front<'_>>
     ensures { SplitsFront Debug input.now result }
 {
     let (rest, is_name) = after_leaf(input)?;
@@ -149,7 +152,18 @@ fn after_word(input: &[u8]) -> &[u8]
 }
 
 // What follows colons at the front, if a byte of a word or a quote does.
+#[inline(always)]
 fn after_colons(input: &[u8]) -> Option<&[u8]>
+    ensures { MatchOption result (colon_belongs input.now ≡ false)
+        (λ rest. Passes outside input.now outside rest.now false × (length rest.now < length input.now)) }
+{
+    match input.first() {
+        Some(b':') => after_some_colons(input),
+        _ => None,
+    }
+}
+
+fn after_some_colons(input: &[u8]) -> Option<&[u8]>
     ensures { MatchOption result (colon_belongs input.now ≡ false)
         (λ rest. Passes outside input.now outside rest.now false × (length rest.now < length input.now)) }
 {
