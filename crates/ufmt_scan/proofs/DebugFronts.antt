@@ -1,6 +1,6 @@
 -- Leaves of debug documents, byte by byte: what the scanner passes belongs to the leaf at the front.
 use Rattle.std.proofs.Common.{◌≡◌, inl, inr, refl, ap, sym, subst, ◌∙◌, ℕ, zero, suc, ◌<◌, ◌≤◌, ◌==◌, ◌&&◌, ◌||◌, not, nat_le, nat_lt, Bool, true, false, cond, List, [], ◌∷◌, ◌++◌, append_assoc, append-nil, length, length-append, length-drop, take, drop, Option, Some, None, eq-eqb, eqb-true, arith}
-use Rattle.std.specs.Prelude.{⊤, ◌≢◌, ◌-◌}
+use Rattle.std.specs.Prelude.{⊤, ◌≢◌, ◌-◌, slice_index_or}
 use Rattle.std.specs.Str.{IsAscii, IsUtf8, is_utf8}
 use Rattle.std.proofs.lemmas.Bool.Decides.{nat_tests}
 use Rattle.std.proofs.lemmas.Str.{IsUtf8-from_ascii, IsUtf8-from_is_utf8, is_utf8-from_IsUtf8}
@@ -21,8 +21,8 @@ use Rattle.ufmt.specs.Reading.{is_whole}
 use Rattle.ufmt_scan.specs.declared.front.Front.{Front}
 use Rattle.ufmt_scan.specs.Private.Fronts.{EndsLeaf, IsSplit, NeverCloses, Passes, StaysBetween, StopsWord, colon_belongs, is_ending}
 use Rattle.ufmt_scan.specs.Private.MarkedBytes.{is_marked, marked_len}
-use Rattle.ufmt_scan.specs.declared.debug_leaf.TheConstants.{ASCII_BYTES, COLON_BYTES, ENDING_BYTES, QUOTED_BYTES, WORD_BYTES}
-use Rattle.ufmt_scan.proofs.WordBytes.{marks}
+use Rattle.ufmt_scan.specs.declared.debug_leaf.TheConstants.{COLON_BYTES, LEAF_BYTES, QUOTED_BYTES, WORD_BYTES}
+use Rattle.ufmt_scan.proofs.WordBytes.{marks, marks_with}
 
 has_quote-append : (a b : List ℕ) → has_quote (a ++ b) ≡ has_quote a || has_quote b
 has_quote-append [] b = refl
@@ -363,16 +363,16 @@ module _ (t rest leaf : List ℕ) (is_name : Bool) (ends : EndsLeaf t rest is_na
 in_ascii : ℕ → Bool
 in_ascii c = is_debug_byte c && nat_lt c 128
 
-ascii_are_marked : (c : ℕ) → is_marked ASCII_BYTES c ≡ in_ascii c
+ascii_are_marked : (c : ℕ) → is_marked LEAF_BYTES c ≡ in_ascii c
 unfolding in_ascii
-ascii_are_marked c = marks ASCII_BYTES in_ascii refl refl (λ c past. grind (arith, nat_tests)) c
+ascii_are_marked c = marks LEAF_BYTES in_ascii refl refl (λ c past. grind (arith, nat_tests)) c
 
 -- a word byte in ASCII
 record IsAsciiByte (c : ℕ) : Type 0 where
   word : is_debug_byte c ≡ true
   low : c < 128
 
-marked_in_ascii : (c : ℕ) → is_marked ASCII_BYTES c ≡ true → IsAsciiByte c
+marked_in_ascii : (c : ℕ) → is_marked LEAF_BYTES c ≡ true → IsAsciiByte c
 unfolding in_ascii
 marked_in_ascii c h = go (is_debug_byte c) (nat_lt c 128) refl refl (sym (ascii_are_marked c) ∙ h)
   where
@@ -386,20 +386,20 @@ record PassesAscii (t : List ℕ) (n : ℕ) : Type 0 where
   passes : Passes outside t outside (drop n t) false
   ascii : IsAscii (take n t)
 
-ascii_run : (t : List ℕ) → PassesAscii t (marked_len ASCII_BYTES t)
+ascii_run : (t : List ℕ) → PassesAscii t (marked_len LEAF_BYTES t)
 ascii_run [] = record { passes = passes_none outside []; ascii = IsAscii-nil }
-ascii_run (c ∷ t) = go (is_marked ASCII_BYTES c) refl (ascii_run t)
+ascii_run (c ∷ t) = go (is_marked LEAF_BYTES c) refl (ascii_run t)
   where
-    go : (b : Bool) → is_marked ASCII_BYTES c ≡ b → PassesAscii t (marked_len ASCII_BYTES t) → PassesAscii (c ∷ t) (cond b (suc (marked_len ASCII_BYTES t)) 0)
+    go : (b : Bool) → is_marked LEAF_BYTES c ≡ b → PassesAscii t (marked_len LEAF_BYTES t) → PassesAscii (c ∷ t) (cond b (suc (marked_len LEAF_BYTES t)) 0)
     go true is more =
         let byte = marked_in_ascii c is in
         record {
           passes = passes_then (word_passes c t byte.word) more.passes;
-          ascii = IsAscii-cons c (take (marked_len ASCII_BYTES t) t) byte.low more.ascii;
+          ascii = IsAscii-cons c (take (marked_len LEAF_BYTES t) t) byte.low more.ascii;
         }
     go false is more = record { passes = passes_none outside (c ∷ t); ascii = IsAscii-nil }
 
-module _ (t word : List ℕ) (n : ℕ) (len : n ≡ marked_len ASCII_BYTES t) (front : word ≡ take n t) where
+module _ (t word : List ℕ) (n : ℕ) (len : n ≡ marked_len LEAF_BYTES t) (front : word ≡ take n t) where
   pub word_is_ascii : IsAscii word
   word_is_ascii = rw (front, len) (ascii_run t).ascii
 
@@ -465,8 +465,8 @@ pub nothing_stops : (t : List ℕ) → length t ≡ 0 → StopsLeaf t
 nothing_stops [] h = tt
 nothing_stops (c ∷ t) h = absurd (omega (arith, h))
 
-pub endings_are_marked : (c : ℕ) → is_marked ENDING_BYTES c ≡ is_ending c
-endings_are_marked c = marks ENDING_BYTES is_ending refl refl (λ c past. grind (arith, nat_tests)) c
+pub endings_are_marked : (c : ℕ) → (slice_index_or LEAF_BYTES c 0 == 101) ≡ is_ending c
+endings_are_marked c = marks_with 101 LEAF_BYTES is_ending refl refl refl (λ c past. grind (arith, nat_tests)) c
 
 -- such a byte is in no word, no quote and no colon
 record IsEnding (c : ℕ) : Type 0 where

@@ -9,17 +9,11 @@ use crate::leaf::marked_len;
 use crate::quoted::split_plain;
 use ufmt::ascii::text_from;
 
-// Marks each ASCII byte that a word of a debug document may have, but for colons.
-static ASCII_BYTES: [u8; 256] = *b"\
-    .................................w.wwww...ww.wwwwwwwwwwwww.wwwww\
-    wwwwwwwwwwwwwwwwwwwwwwwwwww.w.wwwwwwwwwwwwwwwwwwwwwwwwwwwww.w.w.\
-    ................................................................\
-    ................................................................";
-
-// Marks each byte that no leaf has outside of quotes.
-static ENDING_BYTES: [u8; 256] = *b"\
-    wwwwwwwwwwwwwwwwwwwwwwwwwwwwwwwww.......ww..w...................\
-    ...........................w.w.............................w.w.w\
+// `w` marks each ASCII byte that a word of a debug document may have, but for colons, and `e` each byte
+// that no leaf has outside of quotes.
+static LEAF_BYTES: [u8; 256] = *b"\
+    eeeeeeeeeeeeeeeeeeeeeeeeeeeeeeeeew.wwww.eewwewwwwwwwwwwwww.wwwww\
+    wwwwwwwwwwwwwwwwwwwwwwwwwwwewewwwwwwwwwwwwwwwwwwwwwwwwwwwwwewewe\
     ................................................................\
     ................................................................";
 
@@ -49,7 +43,7 @@ static COLON_BYTES: [u8; 256] = *b"\
 pub(crate) fn split_debug_word(input: &[u8]) -> Option<Front<'_>>
     ensures { IfSome result (λ front. IsSplit Debug input.now front) }
 {
-    let (word, rest) = input.split_at(marked_len(&ASCII_BYTES, input));
+    let (word, rest) = input.split_at(marked_len(&LEAF_BYTES, input));
     if ends_here(rest) {
         Some(Front {
             text: text_from(word, 0),
@@ -256,7 +250,7 @@ fn is_control(byte: u8) -> bool
 fn is_ending(byte: u8) -> bool
     ensures { result ≡ is_ending byte }
 {
-    ENDING_BYTES[byte as usize] == b'w'
+    LEAF_BYTES[byte as usize] == b'e'
 }
 
 #[inline(always)]
