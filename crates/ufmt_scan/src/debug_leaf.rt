@@ -74,8 +74,8 @@ pub(crate) fn split_debug_quotes(input: &[u8]) -> Option<Front<'_>>
     }
 }
 
-// Whether no byte of a leaf is at the front. It may miss that before a colon, not before a colon and
-// a space.
+// Whether no byte of a leaf is at the front. It may miss an end before a colon, but none before a colon
+// and a space.
 #[inline(always)]
 #[tactic(auto, using(crate::proofs::DebugFronts::ends_at_end, crate::proofs::DebugFronts::ends_at_byte, crate::proofs::DebugFronts::ends_at_colon))]
 fn ends_here(input: &[u8]) -> bool
@@ -157,6 +157,7 @@ fn after_colons(input: &[u8]) -> Option<&[u8]>
     }
 }
 
+// The same after the test that a colon is at the front.
 fn after_some_colons(input: &[u8]) -> Option<&[u8]>
     ensures { MatchOption result (colon_belongs input.now ≡ false)
         (λ rest. Passes outside input.now outside rest.now false × (length rest.now < length input.now)) }
