@@ -1,23 +1,28 @@
 -- Leaves of debug documents, byte by byte: what the scanner passes belongs to the leaf at the front.
-use Rattle.std.proofs.Common.{◌≡◌, refl, ap, sym, subst, ◌∙◌, ℕ, zero, suc, ◌<◌, ◌==◌, ◌&&◌, ◌||◌, not, nat_le, Bool, true, false, cond, List, [], ◌∷◌, ◌++◌, append_assoc, append-nil, length, length-append, take, drop, Some, None, eq-eqb, eqb-true, arith}
-use Rattle.std.specs.Prelude.{⊤, ◌≢◌, ◌-◌}
-use Rattle.std.specs.Str.{IsUtf8, is_utf8}
+use Rattle.std.proofs.Common.{◌≡◌, inl, inr, refl, ap, sym, subst, ◌∙◌, ℕ, zero, suc, ◌<◌, ◌≤◌, ◌==◌, ◌&&◌, ◌||◌, not, nat_le, nat_lt, Bool, true, false, cond, List, [], ◌∷◌, ◌++◌, append_assoc, append-nil, length, length-append, length-drop, take, drop, Option, Some, None, eq-eqb, eqb-true, arith}
+use Rattle.std.specs.Prelude.{⊤, ◌≢◌, ◌-◌, slice_index_or}
+use Rattle.std.specs.Str.{IsAscii, IsUtf8, is_utf8}
 use Rattle.std.proofs.lemmas.Bool.Decides.{nat_tests}
 use Rattle.std.proofs.lemmas.Str.{IsUtf8-from_ascii, IsUtf8-from_is_utf8, is_utf8-from_IsUtf8}
+use Rattle.std.proofs.lemmas.Str.Ascii.{IsAscii-cons, IsAscii-nil}
 use Rattle.std.proofs.Math.Seq.{take-append_seam}
-use Rattle.ufmt.specs.Leaves.{Place, outside, between, after_backslash, place_after, is_control, is_quote, is_opening, is_ender, is_debug_byte, is_word_byte, leads_on, has_quote}
-use Rattle.ufmt.specs.Reading.{choose, leaf_from, after_leaf, after_word, last_place, is_outside, word_of}
-use Rattle.ufmt.proofs.ClassTokens.{word_byte_is_plain}
-use Rattle.ufmt.proofs.DebugLeaves.{StopsLeaf, kept_alone, stopped}
-use Rattle.ufmt.proofs.ReadingWords.{words_whole}
+use borrow.Author.Tests.{ltb-true}
+use Rattle.ufmt.specs.Leaves.{Place, outside, between, after_backslash, place_after, is_control, is_quote, is_opening, is_ender, is_debug_byte, leads_on, has_quote, IsDebugText}
+use Rattle.ufmt.specs.Reading.{choose, leaf_from, after_leaf, last_place, is_outside}
+use Rattle.ufmt.specs.Document.{leaf}
+use Rattle.ufmt.specs.Quoted.{IsQuote, IsQuoted, quoted}
+use Rattle.ufmt.specs.ReadingQuoted.{read_quoted}
+use Rattle.ufmt.proofs.ClassTokens.{tokens_are_debug}
+use Rattle.ufmt.proofs.DebugLeaves.{StopsLeaf, after_leaf-append, kept_alone, last_is_outside, leaf_from-append, stopped}
+use Rattle.ufmt.proofs.QuotedComplete.{quoted-bytes}
+use Rattle.ufmt.proofs.QuotedSound.{read_quoted-sound}
 use Rattle.ufmt.specs.declared.class.Class.TheVariants.{Debug}
 use Rattle.ufmt.specs.Reading.{is_whole}
 use Rattle.ufmt_scan.specs.declared.front.Front.{Front}
-use Rattle.ufmt_scan.specs.Private.Fronts.{EndsLeaf, IsSplit, NeverCloses, Passes, StaysBetween, StopsWord, colon_belongs}
+use Rattle.ufmt_scan.specs.Private.Fronts.{EndsLeaf, IsSplit, NeverCloses, Passes, StaysBetween, StopsWord, colon_belongs, is_ending}
 use Rattle.ufmt_scan.specs.Private.MarkedBytes.{is_marked, marked_len}
-use Rattle.ufmt_scan.specs.declared.debug_leaf.TheConstants.{COLON_BYTES, QUOTED_BYTES, WORD_BYTES}
-use Rattle.ufmt_scan.proofs.DocumentParts.{front_is_bytes}
-use Rattle.ufmt_scan.proofs.WordBytes.{marks, word_bytes_are_ascii}
+use Rattle.ufmt_scan.specs.declared.debug_leaf.TheConstants.{COLON_BYTES, LEAF_BYTES, QUOTED_BYTES, WORD_BYTES}
+use Rattle.ufmt_scan.proofs.WordBytes.{marks, marks_with}
 
 has_quote-append : (a b : List ℕ) → has_quote (a ++ b) ≡ has_quote a || has_quote b
 has_quote-append [] b = refl
@@ -353,30 +358,150 @@ module _ (t rest leaf : List ℕ) (is_name : Bool) (ends : EndsLeaf t rest is_na
       go true false e = refl
       go true true e = absurd (broken (subst IsUtf8 (sym leaf_is) (IsUtf8-from_is_utf8 (leaf_from outside t) e)))
 
--- ---- leaves that are words of token documents
+-- ---- leaves that are words in ASCII, and texts in quotes
 
-tokens_are_passed : (t : List ℕ) → Passes outside t outside (after_word t) false
-tokens_are_passed [] = passes_none outside []
-tokens_are_passed (c ∷ t) = go (is_word_byte c) refl (tokens_are_passed t)
+in_ascii : ℕ → Bool
+in_ascii c = is_debug_byte c && nat_lt c 128
+
+ascii_are_marked : (c : ℕ) → is_marked LEAF_BYTES c ≡ in_ascii c
+unfolding in_ascii
+ascii_are_marked c = marks LEAF_BYTES in_ascii refl refl (λ c past. grind (arith, nat_tests)) c
+
+-- a word byte in ASCII
+record IsAsciiByte (c : ℕ) : Type 0 where
+  word : is_debug_byte c ≡ true
+  low : c < 128
+
+marked_in_ascii : (c : ℕ) → is_marked LEAF_BYTES c ≡ true → IsAsciiByte c
+unfolding in_ascii
+marked_in_ascii c h = go (is_debug_byte c) (nat_lt c 128) refl refl (sym (ascii_are_marked c) ∙ h)
   where
-    go : (b : Bool) → is_word_byte c ≡ b → Passes outside t outside (after_word t) false → Passes outside (c ∷ t) outside (cond b (after_word t) (c ∷ t)) false
-    go true is more = passes_then (word_passes c t (word_byte_is_plain c is).word) more
-    go false is more = passes_none outside (c ∷ t)
+    go : (word low : Bool) → is_debug_byte c ≡ word → nat_lt c 128 ≡ low → word && low ≡ true → IsAsciiByte c
+    go true true e f h = record { word = e; low = ltb-true c 128 f }
+    go true false e f h = absurd (cc)
+    go false low e f h = absurd (cc)
 
--- a token word at the front is the leaf, if the leaf ends after it
-pub token_splits : (t word rest : List ℕ) → word ≡ word_of t → rest ≡ after_word t → EndsLeaf rest rest true
-    → (found : Front) → found.text.now ≡ word → found.rest.now ≡ rest → found.is_name ≡ true → IsSplit Debug t found
-token_splits t word rest is_word is_rest ends found text after named =
-    let whole = words_whole t in
-    let count : length t - length rest ≡ length (word_of t) = omega (arith, ap length whole, length-append (word_of t) (after_word t), ap length is_rest) in
-    let front = is_word ∙ sym (ap (λ n. take n t) count ∙ ap (take (length (word_of t))) whole ∙ take-append_seam (word_of t) (after_word t)) in
-    let passes = subst (λ r. Passes outside t outside r false) (sym is_rest) (tokens_are_passed t) in
-    leaf_splits t rest word true (record { passes = passes; none = ends.none; all = ends.all }) front found text after named
-    (IsUtf8-from_ascii word (word_bytes_are_ascii word (front_is_bytes t word is_word)))
+-- bytes at the front, and what is left after them
+record PassesAscii (t : List ℕ) (n : ℕ) : Type 0 where
+  passes : Passes outside t outside (drop n t) false
+  ascii : IsAscii (take n t)
+
+ascii_run : (t : List ℕ) → PassesAscii t (marked_len LEAF_BYTES t)
+ascii_run [] = record { passes = passes_none outside []; ascii = IsAscii-nil }
+ascii_run (c ∷ t) = go (is_marked LEAF_BYTES c) refl (ascii_run t)
+  where
+    go : (b : Bool) → is_marked LEAF_BYTES c ≡ b → PassesAscii t (marked_len LEAF_BYTES t) → PassesAscii (c ∷ t) (cond b (suc (marked_len LEAF_BYTES t)) 0)
+    go true is more =
+        let byte = marked_in_ascii c is in
+        record {
+          passes = passes_then (word_passes c t byte.word) more.passes;
+          ascii = IsAscii-cons c (take (marked_len LEAF_BYTES t) t) byte.low more.ascii;
+        }
+    go false is more = record { passes = passes_none outside (c ∷ t); ascii = IsAscii-nil }
+
+module _ (t word : List ℕ) (n : ℕ) (len : n ≡ marked_len LEAF_BYTES t) (front : word ≡ take n t) where
+  pub word_is_ascii : IsAscii word
+  word_is_ascii = rw (front, len) (ascii_run t).ascii
+
+  -- a word in ASCII at the front is the leaf, if the leaf ends after it
+  pub word_splits : (rest : List ℕ) → n ≤ length t → rest ≡ drop n t → EndsLeaf rest rest true
+      → (found : Front) → found.text.now ≡ word → found.rest.now ≡ rest → found.is_name ≡ true → IsSplit Debug t found
+  word_splits rest within is ends found text after named =
+      let count : length t - length rest ≡ n = omega (arith, within, ap length is, length-drop n t) in
+      let passes : Passes outside t outside rest false = rw (is, len) (ascii_run t).passes in
+      leaf_splits t rest word true (record { passes = passes; none = ends.none; all = ends.all }) (front ∙ sym (ap (λ k. take k t) count)) found text after named
+      (IsUtf8-from_ascii word word_is_ascii)
+
+-- a leaf that ends here has no byte here
+stops_where_ended : (t : List ℕ) → leaf_from outside t ≡ [] → StopsLeaf t
+stops_where_ended [] h = tt
+stops_where_ended (c ∷ t) h = go (place_after outside c t) refl h
+  where
+    go : (o : Option Place) → place_after outside c t ≡ o → choose o (λ next. c ∷ leaf_from next t) [] ≡ [] → place_after outside c t ≡ None
+    go None e h = e
+    go (Some next) e h = absurd (cc)
+
+-- a text in quotes at the front, as a token document has it, is the leaf if the leaf ends after it
+module _ (t text rest : List ℕ) (reads : read_quoted t ≡ Some (text, rest)) where
+  is_quoted : IsQuoted text
+  is_quoted = (read_quoted-sound t text rest reads).0
+
+  whole_text : t ≡ text ++ rest
+  whole_text = (read_quoted-sound t text rest reads).1
+
+  begins_with_quote : (q : ℕ) (cs : List ℕ) → IsQuote q → text ≡ quoted q cs → is_quote q ≡ true → has_quote text ≡ true
+  begins_with_quote q cs quote is mark = rw (is ∙ quoted-bytes q cs quote, mark) refl
+
+  quote_within : has_quote text ≡ true
+  quote_within = elim is_quoted [
+    | inl of_text ↦ begins_with_quote 34 of_text.0 (inl refl) of_text.2 refl
+    | inr of_char ↦ begins_with_quote 39 (of_char.0 ∷ []) (inr refl) of_char.2 refl
+  ]
+
+  is_debug_text : IsDebugText text
+  is_debug_text = elim (tokens_are_debug (leaf text) (record { shape = inr (inr is_quoted) }, omega arith)).0 [
+    | inl is ↦ is
+    | inr unit ↦ let none = subst (λ w. has_quote w ≡ true) unit quote_within in absurd (cc)
+  ]
+
+  pub quotes_some : text ≢ []
+  quotes_some = is_debug_text.some
+
+  pub quotes_split : EndsLeaf rest rest true → (found : Front) → found.text.now ≡ text → found.rest.now ≡ rest → found.is_name ≡ false → IsSplit Debug t found
+  quotes_split ends found same after named =
+      let stops = stops_where_ended rest ends.none in
+      let pieces = is_debug_text.pieces in
+      let front : leaf_from outside t ≡ text = ap (leaf_from outside) whole_text ∙ leaf_from-append outside text rest pieces stops in
+      record {
+        text = same ∙ sym front;
+        rest = after ∙ sym (ap (after_leaf outside) whole_text ∙ after_leaf-append outside text rest pieces stops);
+        name = named ∙ sym (ap not (ap has_quote front ∙ quote_within));
+        whole = rw (front, last_is_outside outside text pieces, is_debug_text.utf8) refl;
+      }
+
+-- ---- where a leaf ends
 
 pub nothing_stops : (t : List ℕ) → length t ≡ 0 → StopsLeaf t
 nothing_stops [] h = tt
 nothing_stops (c ∷ t) h = absurd (omega (arith, h))
+
+pub endings_are_marked : (c : ℕ) → (slice_index_or LEAF_BYTES c 0 == 101) ≡ is_ending c
+endings_are_marked c = marks_with 101 LEAF_BYTES is_ending refl refl refl (λ c past. grind (arith, nat_tests)) c
+
+-- such a byte is in no word, no quote and no colon
+record IsEnding (c : ℕ) : Type 0 where
+  no_word : is_debug_byte c ≡ false
+  no_quote : is_quote c ≡ false
+  no_colon : (c == 58) ≡ false
+
+ending_is : (c : ℕ) → is_ending c ≡ true → IsEnding c
+ending_is c h = go (nat_le c 255) (is_debug_byte c) (is_quote c) (c == 58) refl refl refl h
+  where
+    go : (low word quote colon : Bool) → is_debug_byte c ≡ word → is_quote c ≡ quote → (c == 58) ≡ colon
+        → low && not (word || quote || colon) ≡ true → IsEnding c
+    go false word quote colon e f g h = absurd (cc)
+    go true true quote colon e f g h = absurd (cc)
+    go true false true colon e f g h = absurd (cc)
+    go true false false true e f g h = absurd (cc)
+    go true false false false e f g h = record { no_word = e; no_quote = f; no_colon = g }
+
+stops_ends : (t : List ℕ) → StopsLeaf t → EndsLeaf t t true
+stops_ends t stops = ends_leaf t t t true (passes_none outside t) (passes_none outside t) stops
+
+pub ends_at_end : (t : List ℕ) → length t ≡ 0 → EndsLeaf t t true
+ends_at_end t h = stops_ends t (nothing_stops t h)
+
+pub ends_at_byte : (t : List ℕ) (c : ℕ) (u : List ℕ) → t ≡ c ∷ u → is_ending c ≡ true → EndsLeaf t t true
+ends_at_byte t c u first h =
+    let is = ending_is c h in
+    subst (λ v. EndsLeaf v v true) (sym first) (stops_ends (c ∷ u) (rw (is.no_word, is.no_colon, is.no_quote) refl))
+
+pub ends_at_colon : (t u : List ℕ) (c d : ℕ) (v : List ℕ) → t ≡ c ∷ u → c ≡ 58 → u ≡ d ∷ v → is_ending d ≡ true → EndsLeaf t t true
+ends_at_colon t u c d v first colon next h =
+    let is = ending_is d h in
+    let opens : t ≡ 58 ∷ d ∷ v = cc in
+    let none : leads_on (d ∷ v) ≡ false = leads_here d v is.no_colon ∙ rw (is.no_word, is.no_quote) refl in
+    subst (λ w. EndsLeaf w w true) (sym opens) (stops_ends (58 ∷ d ∷ v) (ap (λ on. cond on (Some outside) None) none))
 
 pub some_left : (n : ℕ) → (n == 0) ≡ false → 0 < n
 some_left zero h = absurd (cc)

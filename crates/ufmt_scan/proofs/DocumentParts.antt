@@ -232,6 +232,10 @@ steps_as took stopped old new onward n (Ok x) other longer same h =
     (subst (λ o. Emits took took old new o (onward x.0 x.1.now)) (sym same) h.0, let less = h.1 in omega (arith, less))
 steps_as took stopped old new onward n (Err why) other longer same h = (subst (λ o. Stops took stopped old new o why) (sym same) h.0, tt)
 
+pub has_bytes : (w : List ℕ) → w ≢ [] → (length w == 0) ≡ false
+has_bytes [] some = absurd (some refl)
+has_bytes (c ∷ w) some = grind (arith, nat_tests)
+
 -- a name at the front is read
 pub name_is_read : (class : Class) (t : List ℕ) (front : Front) → IsSplit class t front → front.is_name ≡ true → (length front.text.now == 0) ≡ false
     → read_name class t ≡ Some (front.text.now, front.rest.now)

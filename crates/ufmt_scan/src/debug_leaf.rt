@@ -1,12 +1,21 @@
 //! Leaves of debug documents: words and texts in quotes in a row.
-ghost use Rattle.std.specs.Prelude.{◌≡◌, ◌<◌, ◌≤◌, ◌==◌, ◌||◌, ◌∷◌, ℕ, IfSome, IsTrue, MatchOption, false, length, nat_le, not, true};
+ghost use Rattle.std.specs.Prelude.{◌≡◌, ◌<◌, ◌≤◌, ◌==◌, ◌||◌, ◌≢◌, ◌∷◌, [], ℕ, IfSome, IsTrue, MatchOption, false, length, nat_le, not, true};
 ghost use Rattle.ufmt.specs.declared.class.Class.TheVariants.{Debug};
 ghost use Rattle.ufmt.specs.Leaves.{between, is_control, is_debug_byte, is_quote, outside};
-ghost use Rattle.ufmt_scan.specs.Private.Fronts.{EndsLeaf, NeverCloses, Passes, SplitsFront, StaysBetween, StopsWord, colon_belongs};
+ghost use Rattle.ufmt_scan.specs.Private.Fronts.{EndsLeaf, IsSplit, NeverCloses, Passes, SplitsFront, StaysBetween, StopsWord, colon_belongs, is_ending};
 
 use crate::front::Front;
-use crate::leaf::{marked_len, split_word};
+use crate::leaf::marked_len;
+use crate::quoted::split_plain;
 use ufmt::ascii::text_from;
+
+// `w` marks each ASCII byte that a word of a debug document may have, but for colons, and `e` each byte
+// that no leaf has outside of quotes.
+static LEAF_BYTES: [u8; 256] = *b"\
+    eeeeeeeeeeeeeeeeeeeeeeeeeeeeeeeeew.wwww.eewwewwwwwwwwwwwww.wwwww\
+    wwwwwwwwwwwwwwwwwwwwwwwwwwwewewwwwwwwwwwwwwwwwwwwwwwwwwwwwwewewe\
+    ................................................................\
+    ................................................................";
 
 // Marks each byte that a word of a debug document may have, but for colons.
 static WORD_BYTES: [u8; 256] = *b"\
@@ -29,43 +38,65 @@ static COLON_BYTES: [u8; 256] = *b"\
     ................................................................\
     ................................................................";
 
-/// Splits off the longest leaf, which may be empty. Returns `None` if its quotes aren't closed, or it
-/// isn't UTF-8.
-pub(crate) fn split_leaf(input: &[u8]) -> Option<Front<'_>>
-    ensures { SplitsFront Debug input.now result }
+/// The leaf, if it is a word in ASCII. It may be empty. Nothing of it is tested again.
+#[inline(always)]
+pub(crate) fn split_debug_word(input: &[u8]) -> Option<Front<'_>>
+    ensures { IfSome result (λ front. IsSplit Debug input.now front) }
 {
-    // Most leaves are words of token documents, which are ASCII: nothing of them is tested again.
-    let (word, rest) = split_word(input);
+    let (word, rest) = input.split_at(marked_len(&LEAF_BYTES, input));
     if ends_here(rest) {
-        return Some(Front {
+        Some(Front {
             text: text_from(word, 0),
             is_name: true,
             rest,
-        });
+        })
+    } else {
+        None
     }
-    split_any_leaf(input)
 }
 
-// Whether no byte of a leaf is at the front.
+/// The leaf, if it is one text in quotes that has no escape and only ASCII.
 #[inline(always)]
+pub(crate) fn split_debug_quotes(input: &[u8]) -> Option<Front<'_>>
+    ensures front { IfSome result (λ front. IsSplit Debug input.now front) }
+    ensures some { IfSome result (λ front. front.text.now ≢ []) }
+    ensures no_name { IfSome result (λ front. front.is_name ≡ false) }
+{
+    let (text, rest) = split_plain(input)?;
+    if ends_here(rest) {
+        Some(Front {
+            text,
+            is_name: false,
+            rest,
+        })
+    } else {
+        None
+    }
+}
+
+// Whether no byte of a leaf is at the front. It may miss an end before a colon, but none before a colon
+// and a space.
+#[inline(always)]
+#[tactic(auto, using(crate::proofs::DebugFronts::ends_at_end, crate::proofs::DebugFronts::ends_at_byte, crate::proofs::DebugFronts::ends_at_colon))]
 fn ends_here(input: &[u8]) -> bool
     ensures { IsTrue result → EndsLeaf input.now input.now true }
 {
-    let Some((&byte, _)) = input.split_first() else {
+    let Some((&byte, after)) = input.split_first() else {
         return true;
     };
-    if byte == b':' {
-        match after_colons(input) {
-            Some(_) => false,
-            None => true,
-        }
-    } else {
-        !leads_on(byte)
+    if is_ending(byte) {
+        return true;
+    }
+    match after.split_first() {
+        Some((&next, _)) => byte == b':' && is_ending(next),
+        None => false,
     }
 }
 
-// The same of every leaf.
-fn split_any_leaf(input: &[u8]) -> Option<Front<'_>>
+/// Splits off the longest leaf, which may be empty. Returns `None` if its quotes aren't closed, or it
+/// isn't UTF-8.
+#[inline(never)]
+pub(crate) fn split_leaf(input: &[u8]) -> Option<Front<'_>>
     ensures { SplitsFront Debug input.now result }
 {
     let (rest, is_name) = after_leaf(input)?;
@@ -115,7 +146,19 @@ fn after_word(input: &[u8]) -> &[u8]
 }
 
 // What follows colons at the front, if a byte of a word or a quote does.
+#[inline(always)]
 fn after_colons(input: &[u8]) -> Option<&[u8]>
+    ensures { MatchOption result (colon_belongs input.now ≡ false)
+        (λ rest. Passes outside input.now outside rest.now false × (length rest.now < length input.now)) }
+{
+    match input.first() {
+        Some(b':') => after_some_colons(input),
+        _ => None,
+    }
+}
+
+// The same after the test that a colon is at the front.
+fn after_some_colons(input: &[u8]) -> Option<&[u8]>
     ensures { MatchOption result (colon_belongs input.now ≡ false)
         (λ rest. Passes outside input.now outside rest.now false × (length rest.now < length input.now)) }
 {
@@ -200,6 +243,15 @@ fn is_control(byte: u8) -> bool
     ensures { result ≡ is_control byte }
 {
     byte < b' ' || byte == 127
+}
+
+// Whether no leaf has the byte outside of quotes.
+#[inline(always)]
+#[tactic(auto, using(crate::proofs::DebugFronts::endings_are_marked))]
+fn is_ending(byte: u8) -> bool
+    ensures { result ≡ is_ending byte }
+{
+    LEAF_BYTES[byte as usize] == b'e'
 }
 
 #[inline(always)]

@@ -103,7 +103,7 @@ IN_BODIES = [
     (NO_MEMORY, "ufmt_parse/src/lib.rt", "round_trip_in", "match debug_into(buffer, value): Err(_)=>Ok(None)"),
     (NO_MEMORY, "ufmt_parse/src/numbers.rt", "prints_as", "match debug_into(&mut buffer, value): Err(Full)=>false"),
     (NO_MEMORY, "ufmt_conv/src/run/output.rt", "without_line_feed", "input.strip_suffix(\"\").unwrap_or(input)"),
-    (NO_MEMORY, "ufmt_scan/src/debug_leaf.rt", "split_any_leaf", "match str::from_utf8(leaf): Err(_)=>None"),
+    (NO_MEMORY, "ufmt_scan/src/debug_leaf.rt", "split_leaf", "match str::from_utf8(leaf): Err(_)=>None"),
     (NO_MEMORY, "ufmt_scan/src/text.rt", "is_text", "scan(Class::Token, mode, text, &mut Ignores).is_ok()"),
     (NO_MEMORY, "ufmt_scan/src/text.rt", "is_debug_text", "scan(Class::Debug, mode, text, &mut Ignores).is_ok()"),
     (RESULT, "ufmt_core/src/core_impls/enums.rt", "uDebug for Result<T, E>::fmt", "match self: Err(error)=>f.tuple_1(\"\", error)"),

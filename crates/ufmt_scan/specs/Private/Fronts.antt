@@ -1,8 +1,8 @@
 -- The leaf at the front of a text, as the scanner splits it off.
-use Rattle.std.specs.Prelude.{◌≡◌, ℕ, ◌==◌, ◌&&◌, Bool, true, false, not, List, [], ◌∷◌, ◌++◌, Option, MatchOption, ⊤}
+use Rattle.std.specs.Prelude.{◌≡◌, ℕ, ◌==◌, ◌&&◌, ◌||◌, nat_le, Bool, true, false, not, List, [], ◌∷◌, ◌++◌, Option, MatchOption, ⊤}
 use Rattle.ufmt_core.specs.Bytes.{colon}
 use Rattle.ufmt.specs.declared.class.Class.{Class}
-use Rattle.ufmt.specs.Leaves.{Place, outside, between, has_quote, is_debug_byte, leads_on}
+use Rattle.ufmt.specs.Leaves.{Place, outside, between, has_quote, is_debug_byte, is_quote, leads_on}
 use Rattle.ufmt.specs.Reading.{front_of, after_front, is_whole, is_name, leaf_from, after_leaf, last_place, is_outside}
 use Rattle.ufmt_scan.specs.declared.front.Front.{Front}
 
@@ -44,6 +44,10 @@ pub record StaysBetween (quote : ℕ) (t rest : List ℕ) : Type 0 where
 abbrev pub colon_belongs : List ℕ → Bool
 colon_belongs [] = false
 colon_belongs (c ∷ t) = c == colon && leads_on t
+
+-- no leaf of a debug document has this byte outside of quotes
+abbrev pub is_ending : ℕ → Bool
+is_ending c = nat_le c 255 && not (is_debug_byte c || is_quote c || c == colon)
 
 -- the leaf at the front ends here
 pub record EndsLeaf (t rest : List ℕ) (is_name : Bool) : Type 0 where

@@ -2,12 +2,13 @@
 ghost use Rattle.std.specs.Prelude.{◌≡◌, ◌≢◌, ◌<◌, ◌≤◌, ◌++◌, ◌∷◌, [], IfOk, length, suc, ℕ};
 ghost use Rattle.ufmt.specs.Layout.{entry_depth, line_start, next, later_lead};
 ghost use Rattle.ufmt.specs.Reading.{parse_map, read, read_without_name};
+ghost use Rattle.ufmt_scan.specs.Private.Fronts.{IsSplit};
 ghost use Rattle.ufmt_scan.specs.Private.Level.{budget_of, entry_of, setting_at, Level};
 ghost use Rattle.ufmt_scan.specs.Private.Scanning.{Scanned, ScansOn, Steps, StripsBracket, after, prefixed, scan_block, scan_front, earlier, entries, fields, first_stage, kind_of, later, scan_rest, scan_stage, turn_of, scan_turn, value_of, Stage};
 ghost use Rattle.ufmt_scan.specs.Scan.{event_now, events_of};
 
 use super::event::{Event, ScanError, Sink};
-use crate::front::{Front, split_front, split_name};
+use crate::front::{Front, split_front, split_name, split_quoted_front, split_word_front};
 use crate::leaf::split_quotes;
 use crate::level::{Level, strip_piece, strip_to_line};
 use ufmt::class::Class;
@@ -161,19 +162,58 @@ pub(super) fn begin<'a, S: Sink, const PRETTY: bool, const DEBUG: bool>(
         (parse_map events_of (read level.class (setting_at level) (budget_of level) input.now))
         (after level) }
 {
-    let Some(front) = split_front(level.class, input) else {
-        return Err(ScanError::NotText);
-    };
+    if let Some(front) = split_word_front(level.class, input) {
+        return begin_split::<S, PRETTY, DEBUG, true>(level, input, front, sink);
+    }
+    if let Some(front) = split_quoted_front(level.class, input) {
+        emit(Event::Leaf(front.text), sink)?;
+        return Ok((None, front.rest));
+    }
+    begin_other::<S, PRETTY, DEBUG>(level, input, sink)
+}
+
+// The same, whichever leaf is at the front. The front is in memory, which is why it is a variable of
+// this function: in `begin` it would be cleared for each text.
+#[inline(always)]
+fn begin_other<'a, S: Sink, const PRETTY: bool, const DEBUG: bool>(
+    level: Level,
+    input: &'a [u8],
+    sink: &mut S,
+) -> Result<Step<'a>, ScanError<S::Error>>
+    ensures { Steps S.took S.stopped result sink.old sink.new (length input.now)
+        (parse_map events_of (read level.class (setting_at level) (budget_of level) input.now))
+        (after level) }
+{
+    match split_front(level.class, input) {
+        Some(front) => begin_split::<S, PRETTY, DEBUG, false>(level, input, front, sink),
+        None => Err(ScanError::NotText),
+    }
+}
+
+// The same for a text whose front was split off, which may be empty. `WORD` is never read, here and
+// below. It makes two copies, one for words: so each is called once, and is part of the scan's loop.
+#[inline(always)]
+fn begin_split<'a, S: Sink, const PRETTY: bool, const DEBUG: bool, const WORD: bool>(
+    level: Level,
+    input: &'a [u8],
+    front: Front<'a>,
+    sink: &mut S,
+) -> Result<Step<'a>, ScanError<S::Error>>
+    requires { IsSplit level.class input.now front }
+    ensures { Steps S.took S.stopped result sink.old sink.new (length input.now)
+        (parse_map events_of (read level.class (setting_at level) (budget_of level) input.now))
+        (after level) }
+{
     if front.text.is_empty() {
-        begin_without_name::<S, PRETTY, DEBUG>(level, input, sink)
+        begin_without_name::<S, PRETTY, DEBUG, WORD>(level, input, sink)
     } else {
-        begin_front::<S, PRETTY, DEBUG>(level, front, sink)
+        begin_front::<S, PRETTY, DEBUG, WORD>(level, front, sink)
     }
 }
 
 // The same for a text that begins with a leaf, which may be the name of a block.
 #[inline(always)]
-fn begin_front<'a, S: Sink, const PRETTY: bool, const DEBUG: bool>(
+fn begin_front<'a, S: Sink, const PRETTY: bool, const DEBUG: bool, const WORD: bool>(
     level: Level,
     front: Front<'a>,
     sink: &mut S,
@@ -199,7 +239,7 @@ fn begin_front<'a, S: Sink, const PRETTY: bool, const DEBUG: bool>(
 
 // The same for a text that begins with no such leaf.
 #[inline(always)]
-fn begin_without_name<'a, S: Sink, const PRETTY: bool, const DEBUG: bool>(
+fn begin_without_name<'a, S: Sink, const PRETTY: bool, const DEBUG: bool, const WORD: bool>(
     level: Level,
     input: &'a [u8],
     sink: &mut S,
@@ -209,7 +249,7 @@ fn begin_without_name<'a, S: Sink, const PRETTY: bool, const DEBUG: bool>(
         (after level) }
 {
     if let Some((kind, rest)) = strip_bracket(input) {
-        begin_block::<S, PRETTY, DEBUG>(level, kind, rest, sink)
+        begin_block::<S, PRETTY, DEBUG, WORD>(level, kind, rest, sink)
     } else if let Some(rest) = strip_piece("()", input) {
         emit(Event::Leaf("()"), sink)?;
         Ok((None, rest))
@@ -238,7 +278,7 @@ fn strip_bracket(input: &[u8]) -> Option<(Kind, &[u8])>
 
 // Emits an empty list, set or map, or the opening of one, after its bracket.
 #[inline(always)]
-fn begin_block<'a, S: Sink, const PRETTY: bool, const DEBUG: bool>(
+fn begin_block<'a, S: Sink, const PRETTY: bool, const DEBUG: bool, const WORD: bool>(
     level: Level,
     kind: Kind,
     input: &'a [u8],

@@ -1,12 +1,11 @@
 use Rattle.std.proofs.Common.{refl}
-use Rattle.ufmt_scan.proofs.DebugFronts.{token_splits}
-use Rattle.ufmt_scan.proofs.DocumentParts.{front_is_bytes}
-use Rattle.ufmt_scan.proofs.WordBytes.{word_bytes_are_ascii}
+use Rattle.ufmt_scan.proofs.DebugFronts.{leaf_is_broken, leaf_splits}
 use Rattle.ufmt_scan.proofs.debug_leaf.split_leaf.Goals as goal
 
-pub text_from-requires-clause-ascii : goal.text_from-requires-clause-ascii
-text_from-requires-clause-ascii c = word_bytes_are_ascii c.split_word.result.0.now (front_is_bytes c.args.input.now c.split_word.result.0.now c.split_word.ensures.word)
+pub returns-in-Ok : goal.returns-in-Ok
+returns-in-Ok c = leaf_splits c.args.input.now c.in_ok-rest.rest.now c.split_at.result.0.now c.in_ok-rest.is_name c.in_ok-rest.ensures
+    c.split_at.ensures.front _ c.in-Ok.ensures.cases.0 refl refl c.in-Ok.ensures.cases.1
 
-pub returns-then-ends_here : goal.returns-then-ends_here
-returns-then-ends_here c = token_splits c.args.input.now c.split_word.result.0.now c.split_word.result.1.now c.split_word.ensures.word c.split_word.ensures.rest
-    (c.ends_here.ensures c.if-ends_here.true) _ c.text_from.ensures refl refl
+pub returns-in-Err : goal.returns-in-Err
+returns-in-Err c = leaf_is_broken c.args.input.now c.in_ok-rest.rest.now c.split_at.result.0.now c.in_ok-rest.is_name c.in_ok-rest.ensures
+    c.split_at.ensures.front c.in-Err.ensures.cases.0

@@ -1,6 +1,6 @@
 use Rattle.std.proofs.Common.{◌∙◌, sym, arith, length}
 use Rattle.ufmt_scan.proofs.DebugFronts.{colons_pass, no_colons, no_colons_at_end, some_left}
-use Rattle.ufmt_scan.proofs.debug_leaf.after_colons.Goals as goal
+use Rattle.ufmt_scan.proofs.debug_leaf.after_some_colons.Goals as goal
 
 pub returns-then-leads_on : goal.returns-then-leads_on
 returns-then-leads_on c = (
