@@ -179,6 +179,8 @@ def debug_documents():
         shapes["a wide list of " + name] = lambda size, leaf=leaf: repeated(leaf, size)
     for place in PLACES:
         shapes["a wide %s of points" % place] = lambda size, place=place: wide(place, "1.5", size)
+    # Nearly all of these texts is indentation, which is the same in both classes. So there are only two.
+    for place in ("list", "struct"):
         shapes["a deep %s of paths" % place] = lambda size, place=place: around(place, "a::B", size)
     shapes["long names past ASCII"] = lambda size: listed([Block("struct", "\u20ac" * (size // 6), [("a:" * (size // 4) + "a", "x")])])
     return shapes
