@@ -18,7 +18,8 @@ pub(crate) struct Front<'a> {
     pub(crate) rest: &'a [u8],
 }
 
-/// The front, if it is a word in ASCII and the leaf ends after it, as most do. It may be empty.
+/// The front, if it is a word in ASCII, as most are. It may be empty. `None` says nothing of the text:
+/// `split_front` splits off any front.
 #[inline(always)]
 pub(crate) fn split_word_front(class: Class, input: &[u8]) -> Option<Front<'_>>
     ensures { IfSome result (λ front. IsSplit class input.now front) }
@@ -29,8 +30,8 @@ pub(crate) fn split_word_front(class: Class, input: &[u8]) -> Option<Front<'_>>
     }
 }
 
-/// The front, if it is a text in quotes that has no escape and only ASCII. A token document has no
-/// such front.
+/// The front, if it is one text in quotes, in ASCII and without an escape. `None` says nothing of the
+/// text. No front of a token document has quotes.
 #[inline(always)]
 pub(crate) fn split_quoted_front(class: Class, input: &[u8]) -> Option<Front<'_>>
     ensures front { IfSome result (λ front. IsSplit class input.now front) }

@@ -172,8 +172,8 @@ pub(super) fn begin<'a, S: Sink, const PRETTY: bool, const DEBUG: bool>(
     begin_other::<S, PRETTY, DEBUG>(level, input, sink)
 }
 
-// The same, whichever leaf is at the front. The front is in memory, which is why it is a variable of
-// this function: in `begin` it would be cleared for each text.
+// The same, whichever leaf is at the front. A call returns the front in memory. So the front is a
+// variable here: one of `begin` would be cleared for each text.
 #[inline(always)]
 fn begin_other<'a, S: Sink, const PRETTY: bool, const DEBUG: bool>(
     level: Level,
@@ -190,8 +190,9 @@ fn begin_other<'a, S: Sink, const PRETTY: bool, const DEBUG: bool>(
     }
 }
 
-// The same for a text whose front was split off, which may be empty. `WORD` is never read, here and
-// below. It makes two copies, one for words: so each is called once, and is part of the scan's loop.
+// The same for a text whose front was split off. The front may be empty. `WORD` is never read, here and
+// below. It makes one copy for words and one for other leaves. Each is called in one place only, and so
+// is part of the scan's loop.
 #[inline(always)]
 fn begin_split<'a, S: Sink, const PRETTY: bool, const DEBUG: bool, const WORD: bool>(
     level: Level,
