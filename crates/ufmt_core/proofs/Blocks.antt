@@ -42,6 +42,16 @@ module _ {W : Type 0} {seen : Seen W} where
       → WritesText seen old (p ++ q) false count new
   WritesText-fails q a = record { wrote = Writes-fails q a.wrote; same = a.same; after = a.after }
 
+  -- a call that succeeds, and then one that closes the block
+  pub WritesEnding-then : {old mid new : BuilderView W} {p q : List ℕ} {ok : Bool} {between : Count} → WritesText seen old p true between mid
+      → WritesEnding seen mid q ok new → WritesEnding seen old (p ++ q) ok new
+  WritesEnding-then a f = record {
+    wrote = Writes-then a.wrote f.wrote;
+    same = Same-then a.same f.same;
+    closed = f.closed;
+    restored = f.restored ∙ a.same.outer;
+  }
+
   -- a call that fails closes the block
   pub WritesEnding-fails : {old new : BuilderView W} {p : List ℕ} (q : List ℕ) {between : Count} → WritesText seen old p false between new
       → WritesEnding seen old (p ++ q) false new

@@ -11,7 +11,7 @@ use Rattle.ufmt_core.specs.Layout.{Setting, Kind, Brackets, Braces, Struct, Coun
 use Rattle.ufmt_core.specs.Writes.{Seen, Writes}
 use Rattle.ufmt_core.specs.Formatter.{Formatter, Prints, LaysOut, setting_of, writer_of}
 use Rattle.ufmt_core.specs.BuilderView.{Lent, BuilderView, WritesAll, WritesEnding, WritesEntries, WritesEntry, EndsEntry, IsInside, WritesOpening, WritesText, WritesRow, StopsIn, dots_ending_of, ending_of, remaining_entries, entry_text, field_lead_of, field_text, remaining_fields, frame_of, inner, lead_of, pair_text, remaining_pairs, tail_of, trail_of}
-use Rattle.ufmt_core.proofs.Blocks.{Same-then, WritesEnding-fails, WritesText-between, WritesText-fails, WritesRow-from_entries, WritesRow-next, block_tail-append, block_tail-parts, count_after-map, lent_to}
+use Rattle.ufmt_core.proofs.Blocks.{Same-then, WritesEnding-fails, WritesEnding-then, WritesText-between, WritesText-fails, WritesRow-from_entries, WritesRow-next, block_tail-append, count_after-map, lent_to}
 use Rattle.ufmt_core.proofs.Items.{AlwaysYields-items}
 use Rattle.ufmt_core.proofs.Writing.{Writes-then, Writes-fails}
 pub use Rattle.ufmt_core.proofs.Blocks.{WritesAll-fails, WritesAll-none, WritesAll-then, WritesRow-more, WritesRow-next, WritesRow-none}
@@ -90,12 +90,16 @@ pub field_texts-fields_of : (i : Setting) (fs : List (List ℕ × Document)) →
 field_texts-fields_of i [] = refl
 field_texts-fields_of i (f ∷ fs) = ap (λ ts. field_text f.0 f.1 i ∷ ts) (field_texts-fields_of i fs)
 
--- what is left of the block after a step
+-- a step, and then a call that writes the rest and the end
 module _ {W : Type 0} {seen : Seen W} {b b' : BuilderView W} {left more : Entries} where
   step_text : (a : Step seen b left true b' more) → tail_of b left ≡ a.part ++ tail_of b' more
   step_text a = rw (a.wrote.same.outer, a.wrote.same.kind, a.wrote.after.0) a.text
 
-  ending_failed : Step seen b left false b' more → WritesEnding seen b (tail_of b left) false b'
+  pub ending_written : {new : BuilderView W} {ok : Bool} → Step seen b left true b' more → WritesEnding seen b' (tail_of b' more) ok new
+      → WritesEnding seen b (tail_of b left) ok new
+  ending_written a f = rw (step_text a) (WritesEnding-then a.wrote f)
+
+  pub ending_failed : Step seen b left false b' more → WritesEnding seen b (tail_of b left) false b'
   ending_failed a = rw a.text (WritesEnding-fails _ a.wrote)
 
 -- a call of a builder succeeded, failed, or closed the block
@@ -181,10 +185,6 @@ module _ {W : Type 0} (b : BuilderView W) where
 module _ {W : Type 0} {seen : Seen W} {b b' : BuilderView W} {ok : Bool} where
   pub entry : {text : Setting → List ℕ} {left : Entries} → WritesEntry seen b text ok b' → Step seen b (λ i. text i ∷ left i) ok b' left
   entry {text} {left} e = record { part = _; count = _; text = block_tail-entry b text left; wrote = e.part }
-
-  -- all entries that are left
-  pub all : {left : Entries} → WritesAll seen b left ok b' → Step seen b left ok b' (λ i. [])
-  all {left} a = record { part = _; count = _; text = block_tail-parts (frame_of b) b.outer b.count (left (inner b)); wrote = a.part }
 
   -- entries in a row are the first part of the rest, or all of it
   module _ {D : Type 0} {text_of : D → Setting → List ℕ} {items : List D} {left : Entries} where

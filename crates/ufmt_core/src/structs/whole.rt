@@ -2,7 +2,7 @@
 ghost use Rattle.std.specs.Prelude.{is_ok};
 ghost use Rattle.ufmt_core.specs.Document.{Fields, first_field, no_fields, non_exhaustive_of, struct_of};
 ghost use Rattle.ufmt_core.specs.Formatter.{LaysOut};
-ghost use Rattle.ufmt_core.specs.BuilderView.{IsOpen, WritesAll, remaining_fields};
+ghost use Rattle.ufmt_core.specs.BuilderView.{IsOpen, WritesAll, WritesEnding, remaining_fields, tail_of};
 ghost use Rattle.ufmt_core.specs.Builder.{struct_view};
 
 use crate::formatter::Formatter;
@@ -14,6 +14,14 @@ use crate::write::uWrite;
 pub trait NamedFields<'a> {
     /// The fields' names and documents.
     ghost fields: { Self → Fields };
+
+    /// Writes the fields and the end of the struct. `write` and then the end would cost more.
+    #[inline(always)]
+    fn finish<W: uWrite>(&self, builder: &mut DebugStruct<W>) -> Result<(), W::Error>
+        requires { IsOpen (struct_view builder.old) }
+        ensures { WritesEnding W.seen (struct_view builder.old)
+            (tail_of (struct_view builder.old) (remaining_fields (fields self.now))) (is_ok result)
+            (struct_view builder.new) };
 
     /// Writes the fields.
     #[inline(always)]
@@ -27,6 +35,11 @@ impl<'a> NamedFields<'a> for () {
     ghost fields = { λ _. no_fields };
 
     #[inline(always)]
+    fn finish<W: uWrite>(&self, builder: &mut DebugStruct<W>) -> Result<(), W::Error> {
+        builder.finish()
+    }
+
+    #[inline(always)]
     fn write<W: uWrite>(&self, _builder: &mut DebugStruct<W>) -> Result<(), W::Error> {
         Ok(())
     }
@@ -34,6 +47,12 @@ impl<'a> NamedFields<'a> for () {
 
 impl<'a, D: uDebug, R: NamedFields<'a>> NamedFields<'a> for (&'a str, &'a D, R) {
     ghost fields = { λ c. first_field c.0.now (D.document c.1.now) (R.fields c.2) };
+
+    #[inline(always)]
+    fn finish<W: uWrite>(&self, builder: &mut DebugStruct<W>) -> Result<(), W::Error> {
+        builder.field(self.0, self.1)?;
+        self.2.finish(builder)
+    }
 
     #[inline(always)]
     fn write<W: uWrite>(&self, builder: &mut DebugStruct<W>) -> Result<(), W::Error> {
@@ -55,8 +74,7 @@ impl<W: uWrite> Formatter<W> {
             self.new }
     {
         let mut builder = self.debug_struct(name)?;
-        fields.write(&mut builder)?;
-        builder.finish()
+        fields.finish(&mut builder)
     }
 
     /// `struct_of` of a struct that has more fields, which aren't shown: it ends in `..`.

@@ -2,7 +2,7 @@
 ghost use Rattle.std.specs.Prelude.{is_ok};
 ghost use Rattle.ufmt_core.specs.Document.{Documents, first_document, no_documents, tuple_of};
 ghost use Rattle.ufmt_core.specs.Formatter.{LaysOut};
-ghost use Rattle.ufmt_core.specs.BuilderView.{IsOpen, WritesAll, remaining_entries};
+ghost use Rattle.ufmt_core.specs.BuilderView.{WritesEnding, IsOpen, remaining_entries, tail_of};
 ghost use Rattle.ufmt_core.specs.Builder.{tuple_view};
 
 use crate::formatter::Formatter;
@@ -15,27 +15,29 @@ pub trait UnnamedFields<'a> {
     /// The fields' documents.
     ghost documents: { Self → Documents };
 
-    /// Writes the fields.
-    fn write<W: uWrite>(&self, builder: &mut DebugTuple<W>) -> Result<(), W::Error>
+    /// Writes the fields and the end of the tuple.
+    fn finish<W: uWrite>(&self, builder: &mut DebugTuple<W>) -> Result<(), W::Error>
         requires { IsOpen (tuple_view builder.old) }
-        ensures { WritesAll W.seen (tuple_view builder.old)
-            (remaining_entries (documents self.now)) (is_ok result) (tuple_view builder.new) };
+        ensures { WritesEnding W.seen (tuple_view builder.old)
+            (tail_of (tuple_view builder.old) (remaining_entries (documents self.now)))
+            (is_ok result)
+            (tuple_view builder.new) };
 }
 
 impl<'a> UnnamedFields<'a> for () {
     ghost documents = { λ _. no_documents };
 
-    fn write<W: uWrite>(&self, _builder: &mut DebugTuple<W>) -> Result<(), W::Error> {
-        Ok(())
+    fn finish<W: uWrite>(&self, builder: &mut DebugTuple<W>) -> Result<(), W::Error> {
+        builder.finish()
     }
 }
 
 impl<'a, D: uDebug, R: UnnamedFields<'a>> UnnamedFields<'a> for (&'a D, R) {
     ghost documents = { λ c. first_document (D.document c.0.now) (R.documents c.1) };
 
-    fn write<W: uWrite>(&self, builder: &mut DebugTuple<W>) -> Result<(), W::Error> {
+    fn finish<W: uWrite>(&self, builder: &mut DebugTuple<W>) -> Result<(), W::Error> {
         builder.field(self.0)?;
-        self.1.write(builder)
+        self.1.finish(builder)
     }
 }
 
@@ -51,7 +53,6 @@ impl<W: uWrite> Formatter<W> {
             (is_ok result) self.new }
     {
         let mut builder = self.debug_tuple(name)?;
-        fields.write(&mut builder)?;
-        builder.finish()
+        fields.finish(&mut builder)
     }
 }

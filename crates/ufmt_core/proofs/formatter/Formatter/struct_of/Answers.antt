@@ -1,8 +1,5 @@
-use Rattle.ufmt_core.proofs.Printing.{LaysOut-err, all, failed, finished, is_struct, opened, written}
+use Rattle.ufmt_core.proofs.Printing.{completed, is_struct, opened}
 use Rattle.ufmt_core.proofs.formatter.Formatter.struct_of.Goals as goal
 
-pub returns-in_err-write : goal.returns-in_err-write
-returns-in_err-write g c = LaysOut-err _ c.from_residual-in_err-write.ensures.0 (opened is_struct c.in_ok-builder.ensures.opening (failed (all c.in_err-write.ensures) (search)))
-
 pub returns : goal.returns
-returns g c = opened is_struct c.in_ok-builder.ensures.opening (written (all c.in_ok-write.ensures) (finished c.finish.ensures (search)))
+returns g c = opened is_struct c.in_ok-builder.ensures.opening (completed c.finish.ensures (search))

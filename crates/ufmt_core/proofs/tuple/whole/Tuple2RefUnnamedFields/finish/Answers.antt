@@ -1,0 +1,13 @@
+use Rattle.ufmt_core.specs.BuilderView.{remaining_entries}
+use Rattle.ufmt_core.proofs.Printing.{ending_failed, ending_written, entry}
+use Rattle.ufmt_core.proofs.Writing.{is_ok-err}
+use Rattle.ufmt_core.proofs.tuple.whole.Tuple2RefUnnamedFields.finish.Goals as goal
+
+pub returns-in_err-field : goal.returns-in_err-field
+returns-in_err-field g c =
+    rw (is_ok-err _ c.from_residual.ensures.0)
+    (ending_failed (entry {left = remaining_entries (g.R.UnnamedFields.documents c.args.self.now.1)} c.in_err-field.ensures.entry))
+
+pub returns : goal.returns
+returns g c = ending_written
+    (entry {left = remaining_entries (g.R.UnnamedFields.documents c.args.self.now.1)} c.in_ok-field.ensures.entry) c.finish.ensures
