@@ -58,8 +58,8 @@ impl Leaf {
 fn of_text(alloc: Global, text: &str) -> Result<Leaf, Fault> {
     let (leaf, named) = (leaf_of(alloc, text)?, named(alloc, text)?);
     let (token, debug) = (
-        kinds(Class::Token, text, &leaf, &named)?,
-        kinds(Class::Debug, text, &leaf, &named)?,
+        kinds_in(Class::Token, text, &leaf, &named)?,
+        kinds_in(Class::Debug, text, &leaf, &named)?,
     );
     agree(is_leaf(text) == token.is_leaf, "is_leaf")?;
     agree(is_word(text) == token.is_name, "is_word")?;
@@ -84,7 +84,7 @@ fn leaf_of(alloc: Global, text: &str) -> Result<Doc, Fault> {
     Ok(leaf)
 }
 
-fn kinds(class: Class, text: &str, leaf: &Doc, named: &Doc) -> Result<Kinds, Fault> {
+fn kinds_in(class: Class, text: &str, leaf: &Doc, named: &Doc) -> Result<Kinds, Fault> {
     let kinds = Kinds {
         is_leaf: is_of(class, leaf),
         is_name: is_of(class, named),
