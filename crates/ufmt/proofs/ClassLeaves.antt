@@ -8,7 +8,7 @@ use Rattle.ufmt_core.specs.Layout.{inside, brace_space, new_line}
 use Rattle.ufmt_core.specs.Quoted.{IsQuoted, escaped_all}
 use Rattle.ufmt_core.specs.declared.layout.Setting.{Setting}
 use Rattle.ufmt.specs.Leaves.{Class, Token, Debug, is_word_byte, IsWordOrEmpty, IsWord, IsSymbol, IsFollower, IsDebugFollower, IsDebugText, outside, has_quote, IsTokenLeaf, IsName, IsLeaf, MayFollow, is_ender}
-use Rattle.ufmt.specs.Reading.{Parse, choose, strip, front_of, after_front, leaf_from, last_place, is_outside, is_whole, is_name, if_name, read_name, read_symbol, read_without_name, read_named, read_unnamed, read_with, word_of}
+use Rattle.ufmt.specs.Reading.{Parse, choose, strip, strip_only_dots, front_of, after_front, leaf_from, last_place, is_outside, is_whole, is_name, if_name, read_name, read_symbol, read_without_name, read_named, read_unnamed, read_with, word_of}
 use Rattle.ufmt.specs.ReadingQuoted.{read_quoted}
 use Rattle.ufmt.proofs.Parsing.{chosen_from, same_parts, strip_found}
 use Rattle.ufmt.proofs.QuotedComplete.{read_quoted-complete}
@@ -108,6 +108,11 @@ follower_no_struct Debug (c ∷ b ∷ u) w (inl h) = each_ender (λ c. strip (32
 follower_no_struct Debug (c ∷ b ∷ u) w (inr (inl h)) = rw h.0 refl
 follower_no_struct Debug (c ∷ b ∷ u) w (inr (inr h)) = rw (h.0, h.1) refl
 
+-- nor does it with the dots of a struct that has only dots
+pub follower_no_only_dots : (class : Class) (u : List ℕ) → MayFollow class u → strip_only_dots class u ≡ None
+follower_no_only_dots Token u h = refl
+follower_no_only_dots Debug u h = follower_no_struct Debug u (codes " .. }") h
+
 -- ---- the longest name or leaf at the front of a text
 
 -- the text does not begin with a byte that a name or a leaf before it would have
@@ -152,7 +157,7 @@ text_fronts w h = record {
   whole = rw (last_is_outside outside w h.pieces, h.utf8) refl;
 }
 
-name_fronts : (class : Class) (w : List ℕ) → IsName class w → IsFront class w
+pub name_fronts : (class : Class) (w : List ℕ) → IsName class w → IsFront class w
 name_fronts Token w h = word_fronts w h
 name_fronts Debug w h = text_fronts w h.whole
 
@@ -259,6 +264,7 @@ only_name : (class : Class) (s : Setting) (p : Parse Document) (w u : List ℕ) 
 only_name class s p [] u some follows = absurd (some refl)
 only_name class s p (c ∷ w) u some follows = rw (
   follower_no_tuple class u (new_line (inside s).mode (inside s).depth) follows,
+  follower_no_only_dots class u follows,
   follower_no_struct class u (brace_space s.mode ++ new_line (inside s).mode (inside s).depth) follows,
 ) refl
 

@@ -60,7 +60,7 @@ module _ (class : Class) where
     IsBuilt-HasNoLineFeed (struct_of name fs) h = (name_line class name h.0, FieldsAreBuilt-HaveNoLineFeed fs h.1)
     IsBuilt-HasNoLineFeed (tuple_of name no_documents) h = (name_line class name h, tt)
     IsBuilt-HasNoLineFeed (tuple_of name (first_document d ds)) h = (tuple_name_line class name h.0, (IsBuilt-HasNoLineFeed d h.1, AreBuilt-HaveNoLineFeed ds h.2))
-    IsBuilt-HasNoLineFeed (non_exhaustive_of name fs) h = absurd h
+    IsBuilt-HasNoLineFeed (non_exhaustive_of name fs) h = (name_line class name h.1, FieldsAreBuilt-HaveNoLineFeed fs h.2)
     IsBuilt-HasNoLineFeed (pretty_part d) h = absurd h
 
     AreBuilt-HaveNoLineFeed : (ds : Documents) → AreBuilt class ds → HaveNoLineFeed ds

@@ -167,7 +167,7 @@ mutual
   built (struct_of w fs) h = (word_is_name w h.0, built_fields fs h.1)
   built (tuple_of w no_documents) h = word_is_name w h
   built (tuple_of w (first_document d ds)) h = (name_is_debug w h.0, built d h.1, built_all ds h.2)
-  built (non_exhaustive_of name fs) h = absurd h
+  built (non_exhaustive_of name fs) h = absurd h.0
   built (pretty_part d) h = absurd h
 
   built_all : (ds : Documents) → AreBuilt Token ds → AreBuilt Debug ds

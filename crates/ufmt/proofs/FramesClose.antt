@@ -1,5 +1,5 @@
 -- In each frame, the ending of a block differs from another entry, and an empty block from a block with entries.
-use Rattle.std.proofs.Common.{◌≡◌, refl, ℕ, zero, suc, ◌≤◌, ◌+◌, min, ◌==◌, Bool, true, false, List, [], ◌∷◌, ◌++◌, None, codes, eqb-true, arith}
+use Rattle.std.proofs.Common.{◌≡◌, ◌≢◌, refl, ap, sym, ◌∙◌, ℕ, zero, suc, ◌≤◌, ◌+◌, min, ◌==◌, Bool, true, false, List, [], ◌∷◌, ◌++◌, None, codes, eqb-true, arith}
 use Rattle.std.specs.Prelude.{⊤}
 use Rattle.ufmt_core.specs.Layout.{frame, setting, inside, entry_depth, indentation, new_line, lead, ending, trail, next, block_tail}
 use Rattle.ufmt_core.specs.declared.layout.Mode.{Mode}
@@ -9,10 +9,12 @@ use Rattle.ufmt_core.specs.declared.layout.Kind.{Kind}
 use Rattle.ufmt_core.specs.declared.layout.Kind.TheVariants.{Brackets, Braces, Struct, Tuple, Unnamed}
 use Rattle.ufmt_core.specs.declared.layout.Count.{Count}
 use Rattle.ufmt_core.specs.declared.layout.Count.TheVariants.{Zero, One, Several}
-use Rattle.ufmt.specs.Leaves.{Class, is_ender, MayFollow}
-use Rattle.ufmt.specs.Reading.{strip}
-use Rattle.ufmt.proofs.ClassLeaves.{Begins, ender_follows, brace_follows}
-use Rattle.ufmt.proofs.BlocksComplete.{Closes}
+use Rattle.ufmt.specs.Leaves.{Class, Token, Debug, is_ender, IsName, MayFollow}
+use Rattle.ufmt.specs.Token.{MayEndInDots}
+use Rattle.ufmt.specs.Reading.{strip, strip_dots, strip_only_dots, last_dots, after_front}
+use Rattle.ufmt.proofs.Parsing.{strip_joined, strip_of_none}
+use Rattle.ufmt.proofs.ClassLeaves.{Begins, ender_follows, brace_follows, colon_follows, follower_ends_front, name_fronts}
+use Rattle.ufmt.proofs.BlocksComplete.{Closes, StripsDots}
 
 -- n nested blocks fit at depth k: in pretty mode the indentation stops growing at depth 255
 abbrev pub FitsAt : Mode → ℕ → ℕ → Type 0
@@ -122,3 +124,42 @@ no_colon_at Pretty k texts u = refl
 pub no_colon : (s : Setting) (texts : List (List ℕ)) (u : List ℕ)
     → strip (codes ": ") (trail s.mode ++ (block_tail (frame s.mode Braces) s One texts ++ u)) ≡ None
 no_colon s texts u = no_colon_at s.mode s.depth texts u
+
+-- ---- structs that end in dots
+
+colon_no_space : (a b : List ℕ) → 58 ∷ a ≢ 32 ∷ b
+colon_no_space a b = λ e. absurd (cc)
+
+colon_no_line_feed : (a b : List ℕ) → 58 ∷ a ≢ 10 ∷ b
+colon_no_line_feed a b = λ e. absurd (cc)
+
+-- after a name, a colon and a space come, and no dots
+no_dots_at : (mode : Mode) (k : ℕ) (name v u : List ℕ) → IsName Debug name → name ++ (58 ∷ 32 ∷ v) ≢ last_dots (setting mode k) ++ u
+no_dots_at mode k name v u h = λ same. go mode (ap (after_front Debug) same)
+  where
+    after : after_front Debug (name ++ (58 ∷ 32 ∷ v)) ≡ 58 ∷ 32 ∷ v
+    after = (name_fronts Debug name h).after (58 ∷ 32 ∷ v) (follower_ends_front Debug (58 ∷ 32 ∷ v) (colon_follows Debug v))
+
+    go : (mode : Mode) → after_front Debug (name ++ (58 ∷ 32 ∷ v)) ≡ after_front Debug (last_dots (setting mode k) ++ u) → ⊥
+    go Plain other = colon_no_space (32 ∷ v) (125 ∷ u) (sym after ∙ other)
+    go Pretty other = colon_no_line_feed (32 ∷ v) _ (sym after ∙ other)
+
+-- no field begins with dots
+pub name_no_dots : (class : Class) (s : Setting) (name v : List ℕ) → IsName class name → strip_dots class s (name ++ (58 ∷ 32 ∷ v)) ≡ None
+name_no_dots Token s name v h = refl
+name_no_dots Debug s name v h = strip_of_none (last_dots s) (name ++ (58 ∷ 32 ∷ v)) (λ u. no_dots_at s.mode s.depth name v u h)
+
+-- a struct with fields has not only dots
+pub field_no_only_dots : (class : Class) (s : Setting) (name v : List ℕ) → IsName class name
+    → strip_only_dots class (lead (frame s.mode Struct) (inside s) Zero ++ (name ++ (58 ∷ 32 ∷ v))) ≡ None
+field_no_only_dots Token s name v h = refl
+field_no_only_dots Debug s name v h = go s.mode
+  where
+    go : (mode : Mode) → strip (codes " { .. }") (lead (frame mode Struct) (inside (setting mode s.depth)) Zero ++ (name ++ (58 ∷ 32 ∷ v))) ≡ None
+    go Plain = name_no_dots Debug (setting Plain 0) name v h
+    go Pretty = refl
+
+-- where structs may end in dots, they are stripped
+pub dots_stripped : (class : Class) (s : Setting) → MayEndInDots class → StripsDots class (strip_dots class s) (last_dots s) true
+dots_stripped Token s may = absurd may
+dots_stripped Debug s may = λ u. strip_joined (last_dots s) u

@@ -9,6 +9,7 @@ pub mod Cursors
 pub mod DebugLeaves
 pub mod FittingParts
 pub mod FramesClose
+pub mod DottedStructs
 pub mod DumpColumns
 pub mod DumpRows
 pub mod Dumps

@@ -78,7 +78,7 @@ module _ (class : Class) where
     IsBuilt-normal (struct_of name (first_field field_name value fs)) h = (h.0, (h.1.0, IsBuilt-normal value h.1.1, FieldsAreBuilt-normal_fields fs h.1.2))
     IsBuilt-normal (tuple_of name no_documents) h = name_leaf class name h
     IsBuilt-normal (tuple_of name (first_document d ds)) h = (h.0, IsBuilt-normal d h.1, AreBuilt-normal_all ds h.2)
-    IsBuilt-normal (non_exhaustive_of name fs) h = absurd h
+    IsBuilt-normal (non_exhaustive_of name fs) h = (h.0, h.1, FieldsAreBuilt-normal_fields fs h.2)
     IsBuilt-normal (pretty_part d) h = absurd h
 
     pub AreBuilt-normal_all : (ds : Documents) → AreBuilt class ds → AreBuilt class (normal_all ds)

@@ -1,18 +1,26 @@
 -- Reading is complete: the text of a document of a class, before what may follow, is read as its normal form.
-use Rattle.std.proofs.Common.{◌≡◌, ◌∙◌, refl, ap, ℕ, zero, suc, ◌<◌, ◌≤◌, List, [], ◌∷◌, ◌++◌, Some, None, codes, append_assoc, append-nil, arith}
-use Rattle.ufmt_core.specs.Document.{Document, leaf, joined, list_of, set_of, map_of, struct_of, non_exhaustive_of, tuple_of, pretty_part, Documents, no_documents, first_document, Pairs, no_pairs, first_pair, Fields, no_fields, first_field, documents, pairs_of, fields_of, nest, nest_all, nest_pairs, nest_fields}
+use Rattle.std.proofs.Common.{◌≡◌, ◌∙◌, refl, ap, sym, ℕ, zero, suc, ◌<◌, ◌≤◌, Bool, true, false, List, [], ◌∷◌, ◌++◌, Some, None, codes, append_assoc, append-nil, arith}
+use Rattle.ufmt_core.specs.Document.{Document, leaf, joined, list_of, set_of, map_of, struct_of, non_exhaustive_of, tuple_of, pretty_part, Documents, no_documents, first_document, Pairs, no_pairs, first_pair, Fields, no_fields, first_field, nest, nest_all, nest_pairs, nest_fields}
 use Rattle.ufmt_core.specs.Layout.{frame, inside, new_line, lead, trail, block_tail, layout, texts, pair_texts, field_texts}
 use Rattle.ufmt_core.specs.declared.layout.Setting.{Setting}
 use Rattle.ufmt_core.specs.declared.layout.Kind.TheVariants.{Brackets, Braces, Struct, Tuple, Unnamed}
 use Rattle.ufmt_core.specs.declared.layout.Count.TheVariants.{Zero, One}
-use Rattle.ufmt.specs.Token.{Class, OrEmpty, IsName, IsBuilt, AreBuilt, PairsAreBuilt, FieldsAreBuilt, normal, normal_all, normal_pairs, normal_fields, MayFollow}
-use Rattle.ufmt.specs.Reading.{Parse, choose, strip, read_name, read_pair, read_tuple, read_struct, read_with, read}
+use Rattle.ufmt.specs.Token.{Class, Token, Debug, MayEndInDots, OrEmpty, IsName, IsBuilt, AreBuilt, PairsAreBuilt, FieldsAreBuilt, normal, normal_all, normal_pairs, normal_fields, MayFollow}
+use Rattle.ufmt.specs.Reading.{Parse, choose, strip, strip_dots, strip_only_dots, last_dots, list_with, set_with, map_with, tuple_with, struct_with, read_name, read_pair, read_tuple, read_struct, read_named, read_with, read}
 use Rattle.ufmt.proofs.Parsing.{strip_joined}
-use Rattle.ufmt.proofs.BlocksComplete.{IsRead, AreRead, entry_assoc, rest_follows, read_entries_complete, read_block_complete, read_after_first_complete, read_value_complete, read_pair_complete}
-use Rattle.ufmt.proofs.FramesClose.{Fits, fits_inside, fits_less, ender_begins_none, begins_after, closes, no_colon}
+use Rattle.ufmt.proofs.BlocksComplete.{IsRead, AreRead, NoDotsIn, StripsDots, entry_assoc, tail_follows, read_entries_complete, entries_complete, block_complete, after_first_complete, read_value_complete, read_pair_complete}
+use Rattle.ufmt.proofs.DottedStructs.{rest_text, rest_text-false, dotted_layout}
+use Rattle.ufmt.proofs.FramesClose.{Fits, fits_inside, fits_less, ender_begins_none, begins_after, closes, no_colon, name_no_dots, field_no_only_dots, dots_stripped}
 use Rattle.ufmt.proofs.ListedDocuments.{listed, documents-listed, listed_pairs, pairs_of-listed_pairs, listed_fields, fields_of-listed_fields}
 use Rattle.ufmt.proofs.TextsBegin.{document_begins}
 use Rattle.ufmt.proofs.ClassLeaves.{Begins, Begins-append, name_begins, name_some, name_leaf, leaf_complete, follower_ends_front, stops_at_parenthesis, stops_at_space, colon_follows, read_name_complete, at_bracket, at_brace, at_parenthesis, no_symbol, name_leads}
+
+-- a struct that has only dots is read after its name
+only_dots_read : (class : Class) (s : Setting) (p : Parse Document) (name u : List ℕ) → MayEndInDots class
+    → read_named class s p name (codes " { .. }" ++ u) ≡ Some (non_exhaustive_of name no_fields, u)
+only_dots_read Token s p name u may = absurd may
+only_dots_read Debug s p [] u may = refl
+only_dots_read Debug s p (c ∷ name) u may = refl
 
 module _ (class : Class) where
   -- at this mode and depth, `p` reads each document that is nested less than n deep
@@ -68,7 +76,7 @@ module _ (class : Class) where
       let close = closes class s Brackets (fits_less s 1 n (omega arith) fits) in
       at_bracket class s p (block_tail (frame s.mode Brackets) s Zero (texts (inside s) (first_document d ds)) ++ u)
       ∙ rw (ender_begins_none 93 [] refl (entries_begin s first.begins (trail s.mode ++ block_tail (frame s.mode Brackets) s One (texts (inside s) ds)) u))
-      (rw (read_block_complete class p (frame s.mode Brackets) s (λ es. list_of (documents es)) close (normal d) (listed (normal_all ds))
+      (rw (block_complete class p (frame s.mode Brackets) s list_with close (normal d) (listed (normal_all ds))
       (layout (inside s) d) (texts (inside s) ds) u first more)
       (ap (λ es. Some (list_of (first_document (normal d) es), u)) (documents-listed (normal_all ds))))
 
@@ -88,10 +96,10 @@ module _ (class : Class) where
         strip_joined (lead (frame s.mode Braces) (inside s) Zero) (layout (inside s) d ++ (trail s.mode ++ (left ++ u))),
       )
       (rw (
-        first.reads (trail s.mode ++ (left ++ u)) (rest_follows class (frame s.mode Braces) s close Zero (texts (inside s) ds) u),
+        first.reads (trail s.mode ++ (left ++ u)) (tail_follows class (frame s.mode Braces) s close Zero (texts (inside s) ds) u),
         no_colon s (texts (inside s) ds) u,
       )
-      (rw (read_after_first_complete class p (frame s.mode Braces) s (λ es. set_of (documents es)) close (normal d) (listed (normal_all ds))
+      (rw (after_first_complete class p (frame s.mode Braces) s set_with close (normal d) (listed (normal_all ds))
       (texts (inside s) ds) u more)
       (ap (λ es. Some (set_of (first_document (normal d) es), u)) (documents-listed (normal_all ds))))))
 
@@ -117,29 +125,66 @@ module _ (class : Class) where
         first.reads (codes ": " ++ (layout (inside s) value ++ (trail s.mode ++ (left ++ u)))) (colon_follows class _),
       )
       (rw (read_value_complete class p (normal key) (normal value) (layout (inside s) value) (trail s.mode ++ (left ++ u)) second
-      (rest_follows class (frame s.mode Braces) s close Zero (pair_texts (inside s) ps) u))
-      (rw (read_after_first_complete class (read_pair p p) (frame s.mode Braces) s (λ es. map_of (pairs_of es)) close (normal key, normal value)
+      (tail_follows class (frame s.mode Braces) s close Zero (pair_texts (inside s) ps) u))
+      (rw (after_first_complete class (read_pair p p) (frame s.mode Braces) s map_with close (normal key, normal value)
       (listed_pairs (normal_pairs ps)) (pair_texts (inside s) ps) u more)
       (ap (λ es. Some (map_of (first_pair (normal key) (normal value) es), u)) (pairs_of-listed_pairs (normal_pairs ps)))))))
+
+  -- no field begins with dots
+  no_field_begins : (s i : Setting) (fs : Fields) → FieldsAreBuilt class fs → NoDotsIn class (strip_dots class s) (field_texts i fs)
+  no_field_begins s i no_fields h = tt
+  no_field_begins s i (first_field name value fs) h = (
+    λ u. ap (strip_dots class s) (append_assoc name (codes ": " ++ layout i value) u) ∙ name_no_dots class s name (layout i value ++ u) h.0,
+    no_field_begins s i fs h.2,
+  )
+
+  struct_assoc : (start name value after left u : List ℕ)
+      → (start ++ ((name ++ (codes ": " ++ value)) ++ (after ++ left))) ++ u ≡ start ++ (name ++ (codes ": " ++ (value ++ (after ++ (left ++ u)))))
+  struct_assoc start name value after left u = simp append_assoc
+
+  -- a struct with fields is read, whether it ends in dots or not
+  fields_read : (s : Setting) (p : Parse Document) (n : ℕ) → ReadsBelow p (inside s) n → Fits s n → (b : Bool) → StripsDots class (strip_dots class s) (last_dots s) b
+      → (name field_name : List ℕ) (value : Document) (fs : Fields) (u : List ℕ) → IsName class name → IsName class field_name → IsBuilt class value → FieldsAreBuilt class fs
+      → nest (struct_of name (first_field field_name value fs)) ≤ n
+      → read_with class s p ((name ++ rest_text (frame s.mode Struct) s (last_dots s) Zero (field_texts (inside s) (first_field field_name value fs)) b) ++ u)
+      ≡ Some (struct_with name ((field_name, normal value) ∷ listed_fields (normal_fields fs), b), u)
+  fields_read s p n below fits b strips [] field_name value fs u hn hl hv hs less = absurd (name_some class hn)
+  fields_read s p n below fits b strips (c ∷ name) field_name value fs u hn hl hv hs less =
+      let f = frame s.mode Struct in
+      let entry : List ℕ = field_name ++ (codes ": " ++ layout (inside s) value) in
+      let first : IsRead class (read_pair (read_name class) p) (field_name, normal value) entry = read_pair_complete class (read_name class) p field_name (normal value) field_name (layout (inside s) value) (field_name_read field_name hl) (below.reads value hv (omega arith)) in
+      let more : AreRead class (read_pair (read_name class) p) (listed_fields (normal_fields fs)) (field_texts (inside s) fs) = fields_complete p (inside s) n below fs hs (omega arith) in
+      let close = closes class s Struct (fits_less s 1 n (omega arith) fits) in
+      let left : List ℕ = rest_text f s (last_dots s) One (field_texts (inside s) fs) b in
+      let start : List ℕ = lead f (inside s) Zero in
+      let some_field : strip_only_dots class ((start ++ (entry ++ (trail s.mode ++ left))) ++ u) ≡ None = ap (strip_only_dots class) (struct_assoc start field_name (layout (inside s) value) (trail s.mode) left u) ∙ field_no_only_dots class s field_name (layout (inside s) value ++ (trail s.mode ++ (left ++ u))) hl in
+      name_leads class s p (c ∷ name) (start ++ (entry ++ (trail s.mode ++ left))) u hn (stops_at_space class _)
+      ∙ (ap (λ o. choose o (λ v. Some (non_exhaustive_of (c ∷ name) no_fields, v)) (choose (strip start ((start ++ (entry ++ (trail s.mode ++ left))) ++ u)) (read_struct class s p (c ∷ name)) (Some (leaf (c ∷ name), (start ++ (entry ++ (trail s.mode ++ left))) ++ u)))) some_field
+      ∙ (lead_chosen start entry (trail s.mode) left u (read_struct class s p (c ∷ name)) (Some (leaf (c ∷ name), (start ++ (entry ++ (trail s.mode ++ left))) ++ u))
+      ∙ read_entries_complete class (read_pair (read_name class) p) (strip_dots class s) f s close (last_dots s) b strips (struct_with (c ∷ name))
+      (field_name, normal value) (listed_fields (normal_fields fs)) entry (field_texts (inside s) fs) u first more (no_field_begins s (inside s) fs hs)))
 
   -- a struct with fields is read
   struct_complete : (s : Setting) (p : Parse Document) (n : ℕ) → ReadsBelow p (inside s) n → Fits s n
       → (name field_name : List ℕ) (value : Document) (fs : Fields) (u : List ℕ) → IsName class name → IsName class field_name → IsBuilt class value → FieldsAreBuilt class fs
       → nest (struct_of name (first_field field_name value fs)) ≤ n
       → read_with class s p (layout s (struct_of name (first_field field_name value fs)) ++ u) ≡ Some (normal (struct_of name (first_field field_name value fs)), u)
-  struct_complete s p n below fits [] field_name value fs u hn hl hv hs less = absurd (name_some class hn)
-  struct_complete s p n below fits (c ∷ name) field_name value fs u hn hl hv hs less =
-      let entry : List ℕ = field_name ++ (codes ": " ++ layout (inside s) value) in
-      let first : IsRead class (read_pair (read_name class) p) (field_name, normal value) entry = read_pair_complete class (read_name class) p field_name (normal value) field_name (layout (inside s) value) (field_name_read field_name hl) (below.reads value hv (omega arith)) in
-      let more : AreRead class (read_pair (read_name class) p) (listed_fields (normal_fields fs)) (field_texts (inside s) fs) = fields_complete p (inside s) n below fs hs (omega arith) in
-      let close = closes class s Struct (fits_less s 1 n (omega arith) fits) in
-      let left : List ℕ = block_tail (frame s.mode Struct) s One (field_texts (inside s) fs) in
-      let start : List ℕ = lead (frame s.mode Struct) (inside s) Zero in
-      name_leads class s p (c ∷ name) (start ++ (entry ++ (trail s.mode ++ left))) u hn (stops_at_space class _)
-      ∙ (lead_chosen start entry (trail s.mode) left u (read_struct class s p (c ∷ name)) (Some (leaf (c ∷ name), (start ++ (entry ++ (trail s.mode ++ left))) ++ u))
-      ∙ (read_entries_complete class (read_pair (read_name class) p) (frame s.mode Struct) s (λ es. struct_of (c ∷ name) (fields_of es)) close
-      (field_name, normal value) (listed_fields (normal_fields fs)) entry (field_texts (inside s) fs) u first more
-      ∙ (ap (λ es. Some (struct_of (c ∷ name) (first_field field_name (normal value) es), u)) (fields_of-listed_fields (normal_fields fs)))))
+  struct_complete s p n below fits name field_name value fs u hn hl hv hs less =
+      ap (λ t. read_with class s p ((name ++ t) ++ u)) (sym (rest_text-false (frame s.mode Struct) s (last_dots s) Zero (field_texts (inside s) (first_field field_name value fs))))
+      ∙ fields_read s p n below fits false tt name field_name value fs u hn hl hv hs less
+      ∙ ap (λ es. Some (struct_of name (first_field field_name (normal value) es), u)) (fields_of-listed_fields (normal_fields fs))
+
+  -- a struct that ends in dots is read
+  dotted_complete : (s : Setting) (p : Parse Document) (n : ℕ) → ReadsBelow p (inside s) n → Fits s n
+      → (name : List ℕ) (fs : Fields) (u : List ℕ) → MayEndInDots class → IsName class name → FieldsAreBuilt class fs → nest (non_exhaustive_of name fs) ≤ n
+      → read_with class s p (layout s (non_exhaustive_of name fs) ++ u) ≡ Some (normal (non_exhaustive_of name fs), u)
+  dotted_complete s p n below fits [] fs u may hn hs less = absurd (name_some class hn)
+  dotted_complete s p n below fits (c ∷ name) no_fields u may hn hs less =
+      name_leads class s p (c ∷ name) (codes " { .. }") u hn (stops_at_space class _) ∙ only_dots_read class s p (c ∷ name) u may
+  dotted_complete s p n below fits (c ∷ name) (first_field field_name value fs) u may hn hs less =
+      ap (λ t. read_with class s p (t ++ u)) (dotted_layout s (c ∷ name) field_name value fs)
+      ∙ fields_read s p n below fits true (dots_stripped class s may) (c ∷ name) field_name value fs u hn hs.0 hs.1 hs.2 less
+      ∙ ap (λ es. Some (non_exhaustive_of (c ∷ name) (first_field field_name (normal value) es), u)) (fields_of-listed_fields (normal_fields fs))
 
   -- a tuple with fields is read
   tuple_complete : (s : Setting) (p : Parse Document) (n : ℕ) → ReadsBelow p (inside s) n → Fits s n
@@ -153,7 +198,7 @@ module _ (class : Class) where
       at_parenthesis class s p ((new_line (inside s).mode (inside s).depth
       ++ (layout (inside s) d ++ (trail s.mode ++ block_tail (frame s.mode Unnamed) s One (texts (inside s) ds)))) ++ u)
       ∙ rw (no_symbol class _ (ender_begins_none 41 [] refl (entries_begin s first.begins (trail s.mode ++ block_tail (frame s.mode Unnamed) s One (texts (inside s) ds)) u)))
-      (rw (read_block_complete class p (frame s.mode Unnamed) s (λ es. tuple_of [] (documents es)) close (normal d) (listed (normal_all ds))
+      (rw (block_complete class p (frame s.mode Unnamed) s (tuple_with []) close (normal d) (listed (normal_all ds))
       (layout (inside s) d) (texts (inside s) ds) u first more)
       (ap (λ es. Some (tuple_of [] (first_document (normal d) es), u)) (documents-listed (normal_all ds))))
   tuple_complete s p n below fits (c ∷ name) d ds u hn h hs less =
@@ -164,9 +209,8 @@ module _ (class : Class) where
       let start : List ℕ = lead (frame s.mode Tuple) (inside s) Zero in
       name_leads class s p (c ∷ name) (start ++ (layout (inside s) d ++ (trail s.mode ++ left))) u hn (stops_at_parenthesis class _)
       ∙ (lead_chosen start (layout (inside s) d) (trail s.mode) left u (read_tuple s p (c ∷ name))
-      (choose (strip (lead (frame s.mode Struct) (inside s) Zero) ((start ++ (layout (inside s) d ++ (trail s.mode ++ left))) ++ u))
-      (read_struct class s p (c ∷ name)) (Some (leaf (c ∷ name), (start ++ (layout (inside s) d ++ (trail s.mode ++ left))) ++ u)))
-      ∙ (read_entries_complete class p (frame s.mode Tuple) s (λ es. tuple_of (c ∷ name) (documents es)) close (normal d) (listed (normal_all ds))
+      _
+      ∙ (entries_complete class p (frame s.mode Tuple) s (tuple_with (c ∷ name)) close (normal d) (listed (normal_all ds))
       (layout (inside s) d) (texts (inside s) ds) u first more
       ∙ (ap (λ es. Some (tuple_of (c ∷ name) (first_document (normal d) es), u)) (documents-listed (normal_all ds)))))
 
@@ -191,7 +235,7 @@ module _ (class : Class) where
   read_with_complete s p n below fits (tuple_of [] no_documents) u h less follows = absurd (name_some class h)
   read_with_complete s p n below fits (tuple_of (c ∷ name) no_documents) u h less follows = name_complete s p (c ∷ name) u h follows
   read_with_complete s p n below fits (tuple_of name (first_document d ds)) u h less follows = tuple_complete s p n below fits name d ds u h.0 h.1 h.2 less
-  read_with_complete s p n below fits (non_exhaustive_of name fs) u h less follows = absurd h
+  read_with_complete s p n below fits (non_exhaustive_of name fs) u h less follows = dotted_complete s p n below fits name fs u h.0 h.1 h.2 less
   read_with_complete s p n below fits (pretty_part d) u h less follows = absurd h
 
   pub read_complete : (n : ℕ) (s : Setting) (d : Document) (u : List ℕ) → IsBuilt class d → nest d ≤ n → Fits s n → MayFollow class u

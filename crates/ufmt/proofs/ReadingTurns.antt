@@ -1,10 +1,10 @@
 -- The rest of a block is read turn by turn, and every large enough number of turns gives the same result.
-use Rattle.std.proofs.Common.{◌≡◌, refl, ap, ℕ, zero, suc, ◌<◌, ◌≤◌, List, ◌∷◌, ◌++◌, length, length-append, Option, Some, None, option_and_then, codes, arith}
+use Rattle.std.proofs.Common.{◌≡◌, refl, ap, ℕ, zero, suc, ◌<◌, ◌≤◌, List, ◌++◌, length, length-append, Option, Some, None, option_and_then, codes, arith}
 use Rattle.ufmt_core.specs.Document.{Document}
 use Rattle.ufmt_core.specs.Layout.{Frame, inside, lead, trail, next, layout}
 use Rattle.ufmt_core.specs.declared.layout.Setting.{Setting}
 use Rattle.ufmt_core.specs.declared.layout.Count.{Count}
-use Rattle.ufmt.specs.Reading.{Parse, choose, parse_map, strip, read_name, read_pair, read_turn, read_end, read_rest, read_others, read}
+use Rattle.ufmt.specs.Reading.{Parse, Dots, Rest, choose, parse_map, strip, with_entry, read_name, read_pair, read_further, read_end, read_rest, read_others, read}
 use Rattle.ufmt.proofs.Parsing.{strip_found, led_from, mapped_from}
 use Rattle.ufmt.specs.Leaves.{Class}
 use Rattle.ufmt.proofs.ClassLeaves.{Begins, name_begins, read_name_sound}
@@ -55,14 +55,18 @@ same_next : {A B : Type 0} (o : Option A) (f g : A → Option B) → ((x : A) �
 same_next None f g h = refl
 same_next (Some x) f g h = h x refl
 
+-- the same holds of `choose`'s other value
+same_default : {A B : Type 0} (o : Option A) (f : A → B) (b c : B) → b ≡ c → choose o f b ≡ choose o f c
+same_default o f b c h = ap (choose o f) h
+
 -- a turn has the same result with two parses that agree on shorter texts
-turn_same : {A : Type 0} (q : Parse A) → Takes q → (f : Frame) (s : Setting) (count : Count) (more other : Parse (List A)) (t : List ℕ)
+turn_same : {A : Type 0} (q : Parse A) → Takes q → (dots : Dots) (f : Frame) (s : Setting) (count : Count) (more other : Parse (Rest A)) (t : List ℕ)
     → ((w : List ℕ) → length w < length t → more w ≡ other w)
-    → choose (strip (lead f (inside s) count) t) (read_turn q s.mode more) (read_end f s count t)
-    ≡ choose (strip (lead f (inside s) count) t) (read_turn q s.mode other) (read_end f s count t)
-turn_same q takes f s count more other t agree =
-    same_choice (strip (lead f (inside s) count) t) (read_turn q s.mode more) (read_turn q s.mode other) (read_end f s count t)
-    (λ v e. same_next (q v) _ _ (λ x r. same_next (strip (trail s.mode) x.1) _ _ (λ w k. ap (parse_map (λ xs. x.0 ∷ xs)) (agree w (shorter v e x r w k)))))
+    → choose (strip (lead f (inside s) count) t) (read_further q dots s.mode more) (read_end f s count t)
+    ≡ choose (strip (lead f (inside s) count) t) (read_further q dots s.mode other) (read_end f s count t)
+turn_same q takes dots f s count more other t agree =
+    same_choice (strip (lead f (inside s) count) t) (read_further q dots s.mode more) (read_further q dots s.mode other) (read_end f s count t)
+    (λ v e. same_default (dots v) _ _ _ (same_next (q v) _ _ (λ x r. same_next (strip (trail s.mode) x.1) _ _ (λ w k. ap (parse_map (with_entry x.0)) (agree w (shorter v e x r w k))))))
   where
     shorter : (v : List ℕ) → strip (lead f (inside s) count) t ≡ Some v → (x : _ × List ℕ) → q v ≡ Some x → (w : List ℕ)
         → strip (trail s.mode) x.1 ≡ Some w → length w < length t
@@ -73,19 +77,19 @@ turn_same q takes f s count more other t agree =
         omega arith
 
 -- two numbers of turns have the same result if both are above the text's length
-turns_enough : {A : Type 0} (q : Parse A) → Takes q → (f : Frame) (s : Setting) (m n : ℕ) (count : Count) (t : List ℕ) → length t < m
-    → length t < n → read_rest q f s count m t ≡ read_rest q f s count n t
+turns_enough : {A : Type 0} (q : Parse A) → Takes q → (dots : Dots) (f : Frame) (s : Setting) (m n : ℕ) (count : Count) (t : List ℕ) → length t < m
+    → length t < n → read_rest q dots f s count m t ≡ read_rest q dots f s count n t
 unfolding read_rest
-turns_enough q takes f s zero n count t lm ln = absurd (omega arith)
-turns_enough q takes f s (suc m) zero count t lm ln = absurd (omega arith)
-turns_enough q takes f s (suc m) (suc n) count t lm ln =
-    turn_same q takes f s count (read_rest q f s (next count) m) (read_rest q f s (next count) n) t
-    (λ w less. turns_enough q takes f s m n (next count) w (omega (arith, less)) (omega (arith, less)))
+turns_enough q takes dots f s zero n count t lm ln = absurd (omega arith)
+turns_enough q takes dots f s (suc m) zero count t lm ln = absurd (omega arith)
+turns_enough q takes dots f s (suc m) (suc n) count t lm ln =
+    turn_same q takes dots f s count (read_rest q dots f s (next count) m) (read_rest q dots f s (next count) n) t
+    (λ w less. turns_enough q takes dots f s m n (next count) w (omega (arith, less)) (omega (arith, less)))
 
--- the rest of a block is one entry and the rest after it, or the ending
-pub read_others-read_turn : {A : Type 0} (q : Parse A) → Takes q → (f : Frame) (s : Setting) (count : Count) (t : List ℕ)
-    → read_others q f s count t ≡ choose (strip (lead f (inside s) count) t) (read_turn q s.mode (read_others q f s (next count))) (read_end f s count t)
+-- the rest of a block is one entry and the rest after it, or the dots, or the ending
+pub read_others-read_turn : {A : Type 0} (q : Parse A) → Takes q → (dots : Dots) (f : Frame) (s : Setting) (count : Count) (t : List ℕ)
+    → read_others q dots f s count t ≡ choose (strip (lead f (inside s) count) t) (read_further q dots s.mode (read_others q dots f s (next count))) (read_end f s count t)
 unfolding read_rest
-read_others-read_turn q takes f s count t =
-    turn_same q takes f s count (read_rest q f s (next count) (length t)) (read_others q f s (next count)) t
-    (λ w less. turns_enough q takes f s (length t) (suc (length w)) (next count) w less (omega arith))
+read_others-read_turn q takes dots f s count t =
+    turn_same q takes dots f s count (read_rest q dots f s (next count) (length t)) (read_others q dots f s (next count)) t
+    (λ w less. turns_enough q takes dots f s (length t) (suc (length w)) (next count) w less (omega arith))

@@ -16,5 +16,5 @@ document_begins class i (struct_of name fs) h = Begins-append (name_begins class
 document_begins class i (tuple_of name no_documents) h = Begins-append (name_begins class name h) _
 document_begins class i (tuple_of [] (first_document d ds)) h = record { first = 40; tail = _; is = refl; no_ender = refl }
 document_begins class i (tuple_of (c ∷ name) (first_document d ds)) h = Begins-append (name_begins class (c ∷ name) h.0) _
-document_begins class i (non_exhaustive_of name fs) h = absurd h
+document_begins class i (non_exhaustive_of name fs) h = Begins-append (name_begins class name h.1) _
 document_begins class i (pretty_part d) h = absurd h

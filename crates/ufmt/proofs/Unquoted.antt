@@ -7,30 +7,30 @@ use Rattle.ufmt.specs.EachText.{EachText, EachTextOfEntries, EachTextOfPairs, Ea
 use Rattle.ufmt.specs.Token.{IsWord, IsSymbol, IsBuiltFrom, AreBuiltFrom, PairsAreBuiltFrom, FieldsAreBuiltFrom, IsTokenLeaf, IsUnquotedLeaf}
 use Rattle.ufmt.specs.UnquotedLaws.{UnquotedAsBefore}
 
--- leaves that are P and Q are R, whatever names are
-module _ (N M P Q R : List ℕ → Type 0) (both : (text : List ℕ) → P text → Q text → R text) where
+-- leaves that are P and Q are R, whatever names are, and whether or not structs may end in dots
+module _ (N M P Q R : List ℕ → Type 0) (D : Type 0) (both : (text : List ℕ) → P text → Q text → R text) where
   mutual
-    IsBuiltFrom-both : (d : Document) → IsBuiltFrom N P d → EachText M Q d → IsBuiltFrom N R d
+    IsBuiltFrom-both : (d : Document) → IsBuiltFrom N P D d → EachText M Q d → IsBuiltFrom N R D d
     IsBuiltFrom-both (leaf text) h k = both text h k
     IsBuiltFrom-both (joined ds) h k = absurd h
     IsBuiltFrom-both (list_of ds) h k = AreBuiltFrom-both ds h k
     IsBuiltFrom-both (set_of ds) h k = AreBuiltFrom-both ds h k
     IsBuiltFrom-both (map_of ps) h k = PairsAreBuiltFrom-both ps h k
     IsBuiltFrom-both (struct_of name fs) h k = (h.0, FieldsAreBuiltFrom-both fs h.1 k.1)
-    IsBuiltFrom-both (non_exhaustive_of name fs) h k = absurd h
+    IsBuiltFrom-both (non_exhaustive_of name fs) h k = (h.0, h.1, FieldsAreBuiltFrom-both fs h.2 k.1)
     IsBuiltFrom-both (tuple_of name no_documents) h k = h
     IsBuiltFrom-both (tuple_of name (first_document d ds)) h k = (h.0, IsBuiltFrom-both d h.1 k.1.0, AreBuiltFrom-both ds h.2 k.1.1)
     IsBuiltFrom-both (pretty_part d) h k = absurd h
 
-    AreBuiltFrom-both : (ds : Documents) → AreBuiltFrom N P ds → EachTextOfEntries M Q ds → AreBuiltFrom N R ds
+    AreBuiltFrom-both : (ds : Documents) → AreBuiltFrom N P D ds → EachTextOfEntries M Q ds → AreBuiltFrom N R D ds
     AreBuiltFrom-both no_documents h k = tt
     AreBuiltFrom-both (first_document d ds) h k = (IsBuiltFrom-both d h.0 k.0, AreBuiltFrom-both ds h.1 k.1)
 
-    PairsAreBuiltFrom-both : (ps : Pairs) → PairsAreBuiltFrom N P ps → EachTextOfPairs M Q ps → PairsAreBuiltFrom N R ps
+    PairsAreBuiltFrom-both : (ps : Pairs) → PairsAreBuiltFrom N P D ps → EachTextOfPairs M Q ps → PairsAreBuiltFrom N R D ps
     PairsAreBuiltFrom-both no_pairs h k = tt
     PairsAreBuiltFrom-both (first_pair key value ps) h k = (IsBuiltFrom-both key h.0 k.0, IsBuiltFrom-both value h.1 k.1, PairsAreBuiltFrom-both ps h.2 k.2)
 
-    FieldsAreBuiltFrom-both : (fs : Fields) → FieldsAreBuiltFrom N P fs → EachTextOfFields M Q fs → FieldsAreBuiltFrom N R fs
+    FieldsAreBuiltFrom-both : (fs : Fields) → FieldsAreBuiltFrom N P D fs → EachTextOfFields M Q fs → FieldsAreBuiltFrom N R D fs
     FieldsAreBuiltFrom-both no_fields h k = tt
     FieldsAreBuiltFrom-both (first_field name value fs) h k = (h.0, IsBuiltFrom-both value h.1 k.1, FieldsAreBuiltFrom-both fs h.2 k.2)
 
@@ -48,6 +48,6 @@ token text (inr unit) no_quotes = record { shape = inr (inl unit) }
 
 pub unquoted_as_before : UnquotedAsBefore
 unquoted_as_before d no_quotes = (
-  λ h. (IsBuiltFrom-both IsWord (λ name. ⊤) IsTokenLeaf (λ text. ¬ (IsQuoted text)) IsUnquotedLeaf unquoted d h.0 no_quotes, h.1),
-  λ h. (IsBuiltFrom-both IsWord (λ name. ⊤) IsUnquotedLeaf (λ text. ¬ (IsQuoted text)) IsTokenLeaf token d h.0 no_quotes, h.1),
+  λ h. (IsBuiltFrom-both IsWord (λ name. ⊤) IsTokenLeaf (λ text. ¬ (IsQuoted text)) IsUnquotedLeaf ⊥ unquoted d h.0 no_quotes, h.1),
+  λ h. (IsBuiltFrom-both IsWord (λ name. ⊤) IsUnquotedLeaf (λ text. ¬ (IsQuoted text)) IsTokenLeaf ⊥ token d h.0 no_quotes, h.1),
 )

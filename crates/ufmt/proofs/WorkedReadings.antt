@@ -1,7 +1,7 @@
 -- Examples of texts that are read, and of texts that are not, computed.
 use Rattle.std.proofs.Common.{◌≡◌, ℕ, List, [], ◌∷◌, codes, map, replicate, Some, None, refl}
 use Rattle.std.specs.Str.{chars, is_utf8}
-use Rattle.ufmt_core.specs.Document.{Document, leaf, list_of, set_of, map_of, struct_of, tuple_of, Documents, no_documents, first_document, no_pairs, first_pair, no_fields, first_field}
+use Rattle.ufmt_core.specs.Document.{Document, leaf, list_of, set_of, map_of, struct_of, non_exhaustive_of, tuple_of, Documents, no_documents, first_document, no_pairs, first_pair, no_fields, first_field}
 use Rattle.ufmt_core.specs.declared.layout.Mode.TheVariants.{Plain, Pretty}
 use Rattle.ufmt.specs.Leaves.{Token, Debug}
 use Rattle.ufmt.specs.Reading.{read, read_rest, read_text}
@@ -129,3 +129,37 @@ refused_by_debug : map (read_text Debug Plain) (codes "a:" ∷ codes "a:: b" ∷
     ≡ replicate 15 None
 unfolding read read_rest read_quoted is_utf8 chars lib.Utf8.encode
 refused_by_debug = refl
+
+-- a struct that ends in dots, in each mode
+abbrev dotted : Document
+dotted = non_exhaustive_of (codes "S") (first_field (codes "a") one no_fields)
+
+abbrev only_dots : Document
+only_dots = non_exhaustive_of (codes "S") no_fields
+
+dots-plain : map (read_text Debug Plain) (codes "S { a: 1, .. }" ∷ codes "S { .. }" ∷ codes "[S { a: 1, .. }, S { .. }]" ∷ codes "[1, ..]" ∷ [])
+    ≡ map Some (dotted ∷ only_dots ∷ list_of (first_document dotted (lone only_dots)) ∷ list_of (first_document one (lone (leaf (codes "..")))) ∷ [])
+unfolding read read_rest read_quoted is_utf8 chars lib.Utf8.encode
+dots-plain = refl
+
+dots-pretty : map (read_text Debug Pretty) (codes "S {\n    a: 1,\n    ..\n}" ∷ codes "S { .. }" ∷ codes "[\n    S {\n        a: 1,\n        ..\n    },\n    S { .. },\n]" ∷ [])
+    ≡ map Some (dotted ∷ only_dots ∷ list_of (first_document dotted (lone only_dots)) ∷ [])
+unfolding read read_rest read_quoted is_utf8 chars lib.Utf8.encode
+dots-pretty = refl
+
+-- a comma after the dots, or none before them; a field after them; dots in a line of their own, but no field; other spaces; a map; a tuple
+no_dots-plain : map (read_text Debug Plain) (codes "S { a: 1, .., }" ∷ codes "S { a: 1 .. }" ∷ codes "S { .., a: 1 }" ∷ codes "S { ..}" ∷ codes "{a: 1, .. }"
+    ∷ codes "S(1, .. )" ∷ [])
+    ≡ replicate 6 None
+unfolding read read_rest read_quoted is_utf8 chars lib.Utf8.encode
+no_dots-plain = refl
+
+no_dots-pretty : map (read_text Debug Pretty) (codes "S {\n    a: 1,\n    ..,\n}" ∷ codes "S {\n    ..\n}" ∷ codes "S {\n    a: 1,\n..\n}" ∷ codes "S {\n    a: 1,\n    ..}" ∷ [])
+    ≡ replicate 4 None
+unfolding read read_rest read_quoted is_utf8 chars lib.Utf8.encode
+no_dots-pretty = refl
+
+-- no token document ends so
+no_token_dots : map (read_text Token Plain) (codes "S { a: 1, .. }" ∷ codes "S { .. }" ∷ []) ≡ replicate 2 None
+unfolding read read_rest read_quoted read_inside is_utf8 chars lib.Utf8.encode
+no_token_dots = refl

@@ -1,8 +1,9 @@
 -- What the readers of plain and of pretty texts compute: how a document of a class is read from the front of a text.
-use Rattle.std.specs.Prelude.{ℕ, zero, suc, length, ◌&&◌, not, cond, Bool, true, false, List, [], ◌∷◌, codes, Option, Some, None, option_map, option_and_then}
+use Rattle.std.specs.Prelude.{ℕ, zero, suc, length, ◌&&◌, not, cond, Bool, true, false, List, [], ◌∷◌, ◌++◌, codes, Option, Some, None, option_map, option_and_then}
 use Rattle.std.specs.Str.{is_utf8}
-use Rattle.ufmt_core.specs.Document.{Document, leaf, list_of, set_of, map_of, struct_of, tuple_of, no_documents, no_pairs, documents, pairs_of, fields_of}
+use Rattle.ufmt_core.specs.Document.{Document, leaf, list_of, set_of, map_of, struct_of, non_exhaustive_of, tuple_of, no_documents, no_pairs, no_fields, documents, pairs_of, fields_of}
 use Rattle.ufmt_core.specs.Layout.{Frame, frame, tuple_kind, setting, inside, lead, ending, trail, next}
+use Rattle.ufmt_core.specs.declared.layout.Mode.TheVariants.{Plain, Pretty}
 use Rattle.ufmt_core.specs.declared.layout.Mode.{Mode}
 use Rattle.ufmt_core.specs.declared.layout.Setting.{Setting}
 use Rattle.ufmt_core.specs.declared.layout.Kind.TheVariants.{Brackets, Braces, Struct, Unnamed}
@@ -88,51 +89,107 @@ read_value p key t = option_and_then (λ u. parse_map (λ value. (key, value)) (
 abbrev pub read_pair : {A : Type 0} → Parse A → Parse Document → Parse (A × Document)
 read_pair key p t = option_and_then (λ x. read_value p x.0 x.1) (key t)
 
+-- what is left of a block: its entries, and whether it ends in dots
+abbrev pub Rest : Type 0 → Type 0
+Rest A = List A × Bool
+
+-- the same with this entry first
+abbrev pub with_entry : {A : Type 0} → A → Rest A → Rest A
+with_entry x left = (x ∷ left.0, left.1)
+
+-- finds what follows a block that ends in dots, in a text that begins with the dots; None if no dots begin it
+abbrev pub Dots : Type 0
+Dots = List ℕ → Option (List ℕ)
+
+-- only a struct ends in dots
+abbrev pub no_dots : Dots
+no_dots t = None
+
 -- reads the trail of the entry `x`, and then more entries with `more`
-abbrev pub read_after_entry : {A : Type 0} → Mode → Parse (List A) → A → Parse (List A)
-read_after_entry mode more x t = option_and_then (λ u. parse_map (λ xs. x ∷ xs) (more u)) (strip (trail mode) t)
+abbrev pub read_after_entry : {A : Type 0} → Mode → Parse (Rest A) → A → Parse (Rest A)
+read_after_entry mode more x t = option_and_then (λ u. parse_map (with_entry x) (more u)) (strip (trail mode) t)
 
 -- reads an entry and its trail, and then more entries with `more`
-abbrev pub read_turn : {A : Type 0} → Parse A → Mode → Parse (List A) → Parse (List A)
+abbrev pub read_turn : {A : Type 0} → Parse A → Mode → Parse (Rest A) → Parse (Rest A)
 read_turn q mode more t = option_and_then (λ x. read_after_entry mode more x.0 x.1) (q t)
 
--- reads the ending of a block, and returns no entry
-abbrev pub read_end : {A : Type 0} → Frame → Setting → Count → Parse (List A)
-read_end f s count t = option_map (λ u. ([], u)) (strip (ending f s count) t)
+-- reads the dots and the end of a block after the lead of an entry, or else an entry, and then more with `more`
+abbrev pub read_further : {A : Type 0} → Parse A → Dots → Mode → Parse (Rest A) → Parse (Rest A)
+read_further q dots mode more t = choose (dots t) (λ u. Some (([], true), u)) (read_turn q mode more t)
 
--- reads the rest of a block after `count` entries: fewer entries than the number, each with `q`, and the ending
-unfoldable pub read_rest : {A : Type 0} → Parse A → Frame → Setting → Count → ℕ → Parse (List A)
-read_rest q f s count zero t = None
-read_rest q f s count (suc n) t = choose (strip (lead f (inside s) count) t) (read_turn q s.mode (read_rest q f s (next count) n)) (read_end f s count t)
+-- reads the ending of a block, and returns no entry
+abbrev pub read_end : {A : Type 0} → Frame → Setting → Count → Parse (Rest A)
+read_end f s count t = option_map (λ u. (([], false), u)) (strip (ending f s count) t)
+
+-- reads the rest of a block after `count` entries: fewer entries than the number, each with `q`, and the end
+unfoldable pub read_rest : {A : Type 0} → Parse A → Dots → Frame → Setting → Count → ℕ → Parse (Rest A)
+read_rest q dots f s count zero t = None
+read_rest q dots f s count (suc n) t =
+    choose (strip (lead f (inside s) count) t) (read_further q dots s.mode (read_rest q dots f s (next count) n)) (read_end f s count t)
 
 -- reads the rest of a block with any number of entries; a text has no more entries than bytes
-abbrev pub read_others : {A : Type 0} → Parse A → Frame → Setting → Count → Parse (List A)
-read_others q f s count t = read_rest q f s count (suc (length t)) t
+abbrev pub read_others : {A : Type 0} → Parse A → Dots → Frame → Setting → Count → Parse (Rest A)
+read_others q dots f s count t = read_rest q dots f s count (suc (length t)) t
 
 -- reads a block after its first entry `x`
-abbrev pub read_after_first : {A : Type 0} → Parse A → Frame → Setting → (List A → Document) → A → Parse Document
-read_after_first q f s make x t = parse_map make (read_after_entry s.mode (read_others q f s One) x t)
+abbrev pub read_after_first : {A : Type 0} → Parse A → Dots → Frame → Setting → (Rest A → Document) → A → Parse Document
+read_after_first q dots f s make x t = parse_map make (read_after_entry s.mode (read_others q dots f s One) x t)
 
 -- reads a block from its first entry on
-abbrev pub read_entries : {A : Type 0} → Parse A → Frame → Setting → (List A → Document) → Parse Document
-read_entries q f s make t = option_and_then (λ x. read_after_first q f s make x.0 x.1) (q t)
+abbrev pub read_entries : {A : Type 0} → Parse A → Dots → Frame → Setting → (Rest A → Document) → Parse Document
+read_entries q dots f s make t = option_and_then (λ x. read_after_first q dots f s make x.0 x.1) (q t)
 
 -- reads a block with entries, after its opening
-abbrev pub read_block : {A : Type 0} → Parse A → Frame → Setting → (List A → Document) → Parse Document
-read_block q f s make t = option_and_then (read_entries q f s make) (strip (lead f (inside s) Zero) t)
+abbrev pub read_block : {A : Type 0} → Parse A → Dots → Frame → Setting → (Rest A → Document) → Parse Document
+read_block q dots f s make t = option_and_then (read_entries q dots f s make) (strip (lead f (inside s) Zero) t)
+
+-- the documents that have these entries
+abbrev pub list_with : Rest Document → Document
+list_with left = list_of (documents left.0)
+
+abbrev pub set_with : Rest Document → Document
+set_with left = set_of (documents left.0)
+
+abbrev pub map_with : Rest (Document × Document) → Document
+map_with left = map_of (pairs_of left.0)
+
+abbrev pub tuple_with : List ℕ → Rest Document → Document
+tuple_with name left = tuple_of name (documents left.0)
+
+abbrev pub struct_with : List ℕ → Rest (List ℕ × Document) → Document
+struct_with name left = cond left.1 (non_exhaustive_of name (fields_of left.0)) (struct_of name (fields_of left.0))
+
+-- the dots in place of a field, in a line of their own in pretty mode
+abbrev pub dots_text : Mode → List ℕ
+dots_text Plain = codes ".."
+dots_text Pretty = codes "..\n"
+
+-- the dots at the end of a struct, after the lead of a field, and what ends the struct
+abbrev pub last_dots : Setting → List ℕ
+last_dots s = dots_text s.mode ++ ending (frame s.mode Struct) s One
+
+-- strips them; no struct of a token document ends so
+abbrev pub strip_dots : Class → Setting → Dots
+strip_dots Token s t = None
+strip_dots Debug s t = strip (last_dots s) t
+
+-- strips what follows the name of a struct that has only dots
+abbrev pub strip_only_dots : Class → List ℕ → Option (List ℕ)
+strip_only_dots Token t = None
+strip_only_dots Debug t = strip (codes " { .. }") t
 
 -- reads a list after its opening; `p` reads its entries
 abbrev pub read_list : Setting → Parse Document → Parse Document
 read_list s p t = choose (strip ((frame s.mode Brackets).closing Zero) t) (λ u. Some (list_of no_documents, u))
-    (read_block p (frame s.mode Brackets) s (λ ds. list_of (documents ds)) t)
+    (read_block p no_dots (frame s.mode Brackets) s list_with t)
 
 -- reads a map after its first key
 abbrev pub read_map : Setting → Parse Document → Document → Parse Document
-read_map s p key t = option_and_then (λ x. read_after_first (read_pair p p) (frame s.mode Braces) s (λ ps. map_of (pairs_of ps)) x.0 x.1) (read_value p key t)
+read_map s p key t = option_and_then (λ x. read_after_first (read_pair p p) no_dots (frame s.mode Braces) s map_with x.0 x.1) (read_value p key t)
 
 -- reads a set after its first entry
 abbrev pub read_set : Setting → Parse Document → Document → Parse Document
-read_set s p d t = read_after_first p (frame s.mode Braces) s (λ ds. set_of (documents ds)) d t
+read_set s p d t = read_after_first p no_dots (frame s.mode Braces) s set_with d t
 
 -- reads a map if a colon and a space come next, or else a set
 abbrev pub read_map_or_set : Setting → Parse Document → Document → Parse Document
@@ -149,11 +206,11 @@ read_braces s p t = choose (strip ((frame s.mode Braces).closing Zero) t) (λ u.
 
 -- reads a tuple with this name, from its first field on
 abbrev pub read_tuple : Setting → Parse Document → List ℕ → Parse Document
-read_tuple s p name t = read_entries p (frame s.mode (tuple_kind name)) s (λ ds. tuple_of name (documents ds)) t
+read_tuple s p name t = read_entries p no_dots (frame s.mode (tuple_kind name)) s (tuple_with name) t
 
--- reads a struct with this name, from its first field on
+-- reads a struct with this name, from its first field on; it may end in dots
 abbrev pub read_struct : Class → Setting → Parse Document → List ℕ → Parse Document
-read_struct class s p name t = read_entries (read_pair (read_name class) p) (frame s.mode Struct) s (λ fs. struct_of name (fields_of fs)) t
+read_struct class s p name t = read_entries (read_pair (read_name class) p) (strip_dots class s) (frame s.mode Struct) s (struct_with name) t
 
 -- reads a tuple without a name
 abbrev pub read_unnamed : Setting → Parse Document → Parse Document
@@ -170,8 +227,9 @@ read_without_name class s p t =
 abbrev pub read_named : Class → Setting → Parse Document → List ℕ → Parse Document
 read_named class s p name t =
     choose (strip (lead (frame s.mode (tuple_kind name)) (inside s) Zero) t) (read_tuple s p name)
+    (choose (strip_only_dots class t) (λ u. Some (non_exhaustive_of name no_fields, u))
     (choose (strip (lead (frame s.mode Struct) (inside s) Zero) t) (read_struct class s p name)
-    (Some (leaf name, t)))
+    (Some (leaf name, t))))
 
 -- reads a document that begins with this leaf, which may be its name, after the leaf
 abbrev pub read_after_front : Class → Setting → Parse Document → List ℕ → Parse Document

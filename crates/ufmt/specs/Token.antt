@@ -3,8 +3,8 @@ use Rattle.std.specs.Prelude.{ℕ, ◌≤◌, List, ⊤}
 use Rattle.ufmt_core.specs.Document.{Document, leaf, joined, list_of, set_of, map_of, struct_of, non_exhaustive_of, tuple_of, pretty_part, Documents, no_documents, first_document, Pairs, no_pairs, first_pair, Fields, no_fields, first_field, nest}
 pub use Rattle.ufmt.specs.Leaves.{Class, Token, Debug, is_word_byte, IsWordOrEmpty, IsWord, IsUnquotedLeaf, IsSymbol, IsTokenLeaf, is_closer, IsFollower, OrEmpty, IsName, IsLeaf, MayFollow}
 
--- built from these: each leaf is as `Leaf` says, each name as `Name` says, and nothing is `joined`, a `pretty_part` or a struct that ends in dots; the name of a tuple with fields may be empty
-module _ (Name Leaf : List ℕ → Type 0) where
+-- built from these: each leaf is as `Leaf` says, each name as `Name` says, a struct ends in dots only as `Dots` says, and nothing is `joined` or a `pretty_part`; the name of a tuple with fields may be empty
+module _ (Name Leaf : List ℕ → Type 0) (Dots : Type 0) where
   abbrev mutual
     pub IsBuiltFrom : Document → Type 0
     IsBuiltFrom (leaf text) = Leaf text
@@ -13,7 +13,7 @@ module _ (Name Leaf : List ℕ → Type 0) where
     IsBuiltFrom (set_of ds) = AreBuiltFrom ds
     IsBuiltFrom (map_of ps) = PairsAreBuiltFrom ps
     IsBuiltFrom (struct_of name fs) = Name name × FieldsAreBuiltFrom fs
-    IsBuiltFrom (non_exhaustive_of name fs) = ⊥
+    IsBuiltFrom (non_exhaustive_of name fs) = Dots × Name name × FieldsAreBuiltFrom fs
     IsBuiltFrom (tuple_of name no_documents) = Name name
     IsBuiltFrom (tuple_of name (first_document d ds)) = OrEmpty Name name × IsBuiltFrom d × AreBuiltFrom ds
     IsBuiltFrom (pretty_part d) = ⊥
@@ -30,19 +30,24 @@ module _ (Name Leaf : List ℕ → Type 0) where
     FieldsAreBuiltFrom no_fields = ⊤
     FieldsAreBuiltFrom (first_field name value fs) = Name name × IsBuiltFrom value × FieldsAreBuiltFrom fs
 
+-- whether structs of the class may end in dots
+abbrev pub MayEndInDots : Class → Type 0
+MayEndInDots Token = ⊥
+MayEndInDots Debug = ⊤
+
 -- each leaf and each name is one of the class
 module _ (class : Class) where
   abbrev pub IsBuilt : Document → Type 0
-  IsBuilt d = IsBuiltFrom (IsName class) (IsLeaf class) d
+  IsBuilt d = IsBuiltFrom (IsName class) (IsLeaf class) (MayEndInDots class) d
 
   abbrev pub AreBuilt : Documents → Type 0
-  AreBuilt ds = AreBuiltFrom (IsName class) (IsLeaf class) ds
+  AreBuilt ds = AreBuiltFrom (IsName class) (IsLeaf class) (MayEndInDots class) ds
 
   abbrev pub PairsAreBuilt : Pairs → Type 0
-  PairsAreBuilt ps = PairsAreBuiltFrom (IsName class) (IsLeaf class) ps
+  PairsAreBuilt ps = PairsAreBuiltFrom (IsName class) (IsLeaf class) (MayEndInDots class) ps
 
   abbrev pub FieldsAreBuilt : Fields → Type 0
-  FieldsAreBuilt fs = FieldsAreBuiltFrom (IsName class) (IsLeaf class) fs
+  FieldsAreBuilt fs = FieldsAreBuiltFrom (IsName class) (IsLeaf class) (MayEndInDots class) fs
 
   -- a document of the class: its blocks with entries are nested at most 255 deep
   abbrev pub IsDocument : Document → Type 0

@@ -11,7 +11,7 @@ IsUnquoted d = EachText (λ name. ⊤) (λ text. ¬ (IsQuoted text)) d
 
 -- an unquoted token document has only words and `()` as leaves, and its blocks with entries are nested at most 255 deep
 abbrev pub IsUnquotedToken : Document → Type 0
-IsUnquotedToken d = IsBuiltFrom IsWord IsUnquotedLeaf d × (nest d ≤ 255)
+IsUnquotedToken d = IsBuiltFrom IsWord IsUnquotedLeaf ⊥ d × (nest d ≤ 255)
 
 -- a document without quoted leaves is a token document exactly if it is an unquoted token document
 abbrev pub UnquotedAsBefore : Type 0

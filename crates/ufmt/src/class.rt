@@ -8,6 +8,7 @@ pub enum Class {
     /// and characters in quotes, each as `uDebug` prints it.
     Token,
     /// What `{:?}` of most types prints. Words have any bytes but spaces, quotes, brackets, commas and
-    /// controls, and have colons inside; leaves may have texts in quotes anywhere.
+    /// controls, and have colons inside; leaves may have texts in quotes anywhere. A struct may end in
+    /// `..`.
     Debug,
 }

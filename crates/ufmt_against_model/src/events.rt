@@ -5,7 +5,7 @@ use std::alloc::{AllocError, Global};
 use ufmt::layout::{Count, Kind};
 use ufmt_doc::scan::{Event, Sink};
 
-/// The events so far: a letter or a sign for each, and its text.
+/// The events so far: letters or a sign for each, and its text.
 #[derive(Drop)]
 pub struct Events {
     pub text: String,
@@ -60,6 +60,7 @@ impl Sink for Events {
                 self.note_kind("e", kind)?;
                 self.note("", "")
             }
+            Event::OnlyDots(name) => self.note("ed", name),
             Event::Open(kind, name) => {
                 self.note_kind("o", kind)?;
                 self.note("", name)
@@ -67,6 +68,7 @@ impl Sink for Events {
             Event::FieldName(name) => self.note(".", name),
             Event::Colon => self.note(":", ""),
             Event::Next => self.note(",", ""),
+            Event::Dots => self.note("cd", ""),
             Event::Close(kind, count) => {
                 self.note_kind("c", kind)?;
                 self.note(digit(count), "")

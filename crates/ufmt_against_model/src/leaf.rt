@@ -4,6 +4,7 @@ use crate::fault::{Fault, agree};
 use std::alloc::{AllocError, Global};
 use ufmt::class::Class;
 use ufmt::{plain_text, pretty_text};
+use ufmt_doc::doc::same_text;
 use ufmt_doc::{Doc, read_plain, read_pretty};
 use ufmt_scan::leaf::{is_leaf, is_leaf_of, is_name_of, is_word};
 
@@ -63,6 +64,9 @@ fn of_text(alloc: Global, text: &str) -> Result<Leaf, Fault> {
     );
     agree(is_leaf(text) == token.is_leaf, "is_leaf")?;
     agree(is_word(text) == token.is_name, "is_word")?;
+    agree_on_only_dots(alloc, text, debug.is_name)?;
+    is_no_only_dots(alloc, text, &leaf)?;
+    is_no_only_dots(alloc, text, &named)?;
     Ok(Leaf {
         token,
         debug,
@@ -112,6 +116,28 @@ fn named(alloc: Global, name: &str) -> Result<Doc, Fault> {
     let value = Doc::Leaf(String::from_str(alloc, "x")?);
     fields.push((String::from_str(alloc, name)?, value))?;
     Ok(Doc::StructOf(String::from_str(alloc, name)?, fields))
+}
+
+// A struct with that name that ends in dots, and has no fields.
+fn only_dots(alloc: Global, name: &str) -> Result<Doc, Fault> {
+    let name = String::from_str(alloc, name)?;
+    Ok(Doc::NonExhaustiveOf(name, Vec::new(alloc)))
+}
+
+fn agree_on_only_dots(alloc: Global, name: &str, is_name: bool) -> Result<(), Fault> {
+    let dots = only_dots(alloc, name)?;
+    agree(!dots.is_token(), "is_token of only dots")?;
+    agree(dots.is_debug() == is_name, "is_debug of only dots")?;
+    agree(same_text(&dots, &dots), "same_text of only dots")?;
+    let mut normal = only_dots(alloc, name)?;
+    normal.normalize(alloc);
+    agree(same_text(&normal, &dots), "normalize of only dots")
+}
+
+fn is_no_only_dots(alloc: Global, name: &str, other: &Doc) -> Result<(), Fault> {
+    let dots = only_dots(alloc, name)?;
+    let are_different = !same_text(&dots, other) && !same_text(other, &dots);
+    agree(are_different, "same_text of only dots and another")
 }
 
 // Returns the leaf's text. Both readers must read it as the leaf of this text in quotes.

@@ -22,7 +22,9 @@ impl Loosener {
                 drop(mem::replace(doc, Doc::SetOf(Vec::new(self.alloc))));
             }
             Doc::MapOf(pairs) => self.loosen_pairs(pairs),
-            Doc::StructOf(_, fields) => self.loosen_fields(fields),
+            Doc::StructOf(_, fields) | Doc::NonExhaustiveOf(_, fields) => {
+                self.loosen_fields(fields);
+            }
         }
     }
 

@@ -39,7 +39,9 @@ fn wanted(doc: &Doc) -> Counts<'_> {
         Doc::Leaf(text) => (Some(text.as_str()), None, None, None, None),
         Doc::Listed(entries) | Doc::SetOf(entries) => (None, None, Some(entries.len()), None, None),
         Doc::MapOf(pairs) => (None, None, None, Some(pairs.len()), None),
-        Doc::StructOf(name, fields) => (None, Some(name.as_str()), None, None, Some(fields.len())),
+        Doc::StructOf(name, fields) | Doc::NonExhaustiveOf(name, fields) => {
+            (None, Some(name.as_str()), None, None, Some(fields.len()))
+        }
         Doc::TupleOf(name, entries) => (None, Some(name.as_str()), Some(entries.len()), None, None),
     }
 }
@@ -71,7 +73,11 @@ impl Parts {
             Doc::MapOf(pairs) => self.note_pairs(pairs),
             Doc::StructOf(name, fields) => {
                 agree(has_last_field(doc, fields), "field")?;
-                self.note_fields(name, fields)
+                self.note_fields("s", name, fields)
+            }
+            Doc::NonExhaustiveOf(name, fields) => {
+                agree(has_last_field(doc, fields), "field")?;
+                self.note_fields("d", name, fields)
             }
             Doc::TupleOf(name, entries) => self.note_entries("t", name, entries),
         }
@@ -97,8 +103,13 @@ impl Parts {
     }
 
     #[cycle(parts)]
-    fn note_fields(&mut self, name: &str, fields: &[(String, Doc)]) -> Result<(), Fault> {
-        self.begin("s", name)?;
+    fn note_fields(
+        &mut self,
+        sign: &str,
+        name: &str,
+        fields: &[(String, Doc)],
+    ) -> Result<(), Fault> {
+        self.begin(sign, name)?;
         for (field_name, value) in fields {
             self.text.push_str(field_name)?;
             self.text.push(':')?;

@@ -170,7 +170,7 @@ pub fn report_conversions(rt: &HostRuntime) -> io::Result<()> {
 /// Converts debug texts into buffers, and tests them.
 pub fn report_debug_conversions(rt: &HostRuntime) -> io::Result<()> {
     let (plain, pretty) = (DEBUG.plain.as_bytes(), DEBUG.pretty.as_bytes());
-    let mut buffer = [0; 64];
+    let mut buffer = [0; 80];
     report_free(rt, "convert::debug_to_pretty_into", DEBUG.name, || {
         debug_to_pretty_into(&mut buffer, plain).is_ok() && buffer.starts_with(pretty)
     })?;

@@ -35,7 +35,7 @@ fn report_debug_laws(rt: &HostRuntime) -> io::Result<()> {
     let (plain, pretty) = (DEBUG.plain.as_bytes(), DEBUG.pretty.as_bytes());
     let again = text_again(rt.alloc(), Class::Debug, Mode::Plain, plain);
     let outcome = Outcome::of_conversion(again, Some(DEBUG.plain));
-    report(rt, "text_again, debug,", DEBUG.name, 6, outcome)?;
+    report(rt, "text_again, debug,", DEBUG.name, 13, outcome)?;
     let again = text_by_way_of_the_other(rt.alloc(), Class::Debug, Mode::Pretty, pretty);
     let outcome = Outcome::of_conversion(again, Some(DEBUG.pretty));
     report(

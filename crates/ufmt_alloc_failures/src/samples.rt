@@ -39,13 +39,13 @@ impl Sample {
 
 /// The texts of a debug document that is no token document.
 pub const DEBUG: Sample = Sample {
-    name: "a number and a range",
-    plain: "(1.5, 0..5)",
-    pretty: "(\n    1.5,\n    0..5,\n)",
+    name: "numbers and dots",
+    plain: "(1.5, S { a: 0..5, .. }, T { .. })",
+    pretty: "(\n    1.5,\n    S {\n        a: 0..5,\n        ..\n    },\n    T { .. },\n)",
     is_read: true,
-    of_document: 4,
-    of_pretty: 3,
-    of_plain: 2,
+    of_document: 9,
+    of_pretty: 5,
+    of_plain: 4,
 };
 
 pub const NODE_PLAIN: &str = "Node { value: 1, next: Some(Node { value: 0, next: None }) }";

@@ -2,9 +2,9 @@
 use Rattle.std.proofs.Common.{◌≡◌, map, ap, sym, ◌∙◌, String, Global}
 use Rattle.std.proofs.lemmas.Simd.{map-map}
 use Rattle.std.specs.Prelude.{string_bytes}
-use Rattle.ufmt.specs.Document.{Document, leaf, list_of, set_of, map_of, struct_of, tuple_of, documents, pairs_of, fields_of}
+use Rattle.ufmt.specs.Document.{Document, leaf, list_of, set_of, map_of, struct_of, non_exhaustive_of, tuple_of, documents, pairs_of, fields_of}
 use Rattle.ufmt_doc.specs.declared.doc.Doc.TheFolds.{fold-roll-Doc}
-use Rattle.ufmt_doc.specs.declared.doc.Doc.TheVariants.{Leaf, Listed, SetOf, MapOf, StructOf, TupleOf, rolls-Leaf, rolls-Listed, rolls-SetOf, rolls-MapOf, rolls-StructOf, rolls-TupleOf}
+use Rattle.ufmt_doc.specs.declared.doc.Doc.TheVariants.{Leaf, Listed, SetOf, MapOf, StructOf, NonExhaustiveOf, TupleOf, rolls-Leaf, rolls-Listed, rolls-SetOf, rolls-MapOf, rolls-StructOf, rolls-NonExhaustiveOf, rolls-TupleOf}
 use Rattle.ufmt_doc.specs.Doc.{doc_document, document_step, Doc}
 
 pub doc_document-Leaf : (text : _) → doc_document (Leaf text) ≡ leaf (string_bytes text)
@@ -23,6 +23,12 @@ pub doc_document-StructOf : (name fields : _)
     → doc_document (StructOf name fields) ≡ struct_of (string_bytes name) (fields_of (map (λ f. (string_bytes f.0, doc_document f.1)) fields.items))
 doc_document-StructOf name fields = ap doc_document (sym (rolls-StructOf name fields)) ∙ fold-roll-Doc Document document_step _
     ∙ ap (λ fs. struct_of (string_bytes name) (fields_of fs))
+    (map-map (λ (f : String Global × Document). (string_bytes f.0, f.1)) (λ (f : String Global × Doc). (f.0, doc_document f.1)) fields.items)
+
+pub doc_document-NonExhaustiveOf : (name fields : _)
+    → doc_document (NonExhaustiveOf name fields) ≡ non_exhaustive_of (string_bytes name) (fields_of (map (λ f. (string_bytes f.0, doc_document f.1)) fields.items))
+doc_document-NonExhaustiveOf name fields = ap doc_document (sym (rolls-NonExhaustiveOf name fields)) ∙ fold-roll-Doc Document document_step _
+    ∙ ap (λ fs. non_exhaustive_of (string_bytes name) (fields_of fs))
     (map-map (λ (f : String Global × Document). (string_bytes f.0, f.1)) (λ (f : String Global × Doc). (f.0, doc_document f.1)) fields.items)
 
 pub doc_document-TupleOf : (name fields : _) → doc_document (TupleOf name fields) ≡ tuple_of (string_bytes name) (documents (map doc_document fields.items))

@@ -1,5 +1,5 @@
 -- What grows from the events of a document of a class is its normal form.
-use Rattle.std.proofs.Common.{◌≡◌, ◌∙◌, refl, ap, sym, ℕ, Bool, true, false, List, [], ◌∷◌, ◌++◌, length, map, take_at, drop_at, append_assoc, append-nil, Result, Ok, Err}
+use Rattle.std.proofs.Common.{◌≡◌, ◌∙◌, refl, ap, sym, ℕ, Bool, true, false, cond, List, [], ◌∷◌, ◌++◌, length, map, take_at, drop_at, append_assoc, append-nil, Result, Ok, Err}
 use Rattle.std.specs.Prelude.{⊤}
 use Rattle.std.specs.Result.{OnOk, is_ok}
 use Rattle.ufmt.specs.Document.{Document, leaf, joined, list_of, set_of, map_of, struct_of, non_exhaustive_of, tuple_of, pretty_part, Documents, no_documents, first_document, documents, Pairs, no_pairs, first_pair, pairs_of, Fields, no_fields, first_field, fields_of}
@@ -13,7 +13,7 @@ use Rattle.ufmt_core.specs.declared.layout.Kind.TheVariants.{Brackets, Braces, S
 use Rattle.ufmt.proofs.ClassLeaves.{name_some}
 use Rattle.ufmt_doc.specs.declared.reader.document_sink.DocumentSink.{DocumentSink}
 use Rattle.ufmt_doc.specs.declared.reader.open_blocks.PartialBlock.{PartialBlock}
-use Rattle.ufmt_doc.specs.Private.Growing.{Growing, block_at, block_of, field_from, grow, growing, grown, in_pairs, name_leaf}
+use Rattle.ufmt_doc.specs.Private.Growing.{Growing, block_at, block_of, dotted_block, field_from, grow, growing, grown, in_pairs, name_leaf}
 use Rattle.ufmt_scan.specs.declared.scan.event.Event.TheVariants.{Open, FieldName, Colon}
 use Rattle.ufmt_scan.specs.Scan.{TextEvent, TakesEvent, events_of, events_of_entries, events_of_fields, events_of_pairs, tail_events}
 
@@ -31,26 +31,37 @@ abbrev PutsAll : Bool → Bool → List (List TextEvent) → List Document → T
 PutsAll before after [] ds = ds ≡ []
 PutsAll before after (es ∷ more) ds = (first others : List Document) × Puts before after es first × PutsAll after after more others × (ds ≡ first ++ others)
 
+-- the block that ends, which may be a struct that ends in dots
+abbrev ended : Kind → Bool → Bool → List Document → Document
+ended kind dots colon ds = cond dots (dotted_block colon ds) (block_of kind colon ds)
+
 -- the events of the entries and the end of a block replace what is above `bottom` with the block
-row_grows : (kind : Kind) (count : Count) (before after : Bool) (es : List TextEvent) (more : List (List TextEvent)) (ds below bottom entries : List Document)
-    (outer : List PartialBlock) → PutsAll before after (es ∷ more) ds → below ++ ds ≡ bottom ++ entries
-    → ◌≡◌ {A = Growing} (grown (below, block_at (length bottom) before ∷ outer) (es ++ tail_events kind count more)) (bottom ++ block_of kind after entries ∷ [], outer)
-row_grows kind count before after es [] ds below bottom entries outer h whole =
-    let all = rw (h.4, h.3, append-nil) at whole in
-    grown-append (below, block_at (length bottom) before ∷ outer) es (tail_events kind count [])
-    ∙ ap (λ g. grown g (tail_events kind count [])) (h.2 below (length bottom) outer)
-    ∙ rw (all, take_at bottom entries (length bottom) refl, drop_at bottom entries (length bottom) refl) refl
-row_grows kind count before after es (fs ∷ more) ds below bottom entries outer h whole =
-    grown-append (below, block_at (length bottom) before ∷ outer) es (tail_events kind count (fs ∷ more))
-    ∙ ap (λ g. grown g (tail_events kind count (fs ∷ more))) (h.2 below (length bottom) outer)
-    ∙ row_grows kind (next count) after after fs more h.1 (below ++ h.0) bottom entries outer h.3 (append_assoc below h.0 h.1 ∙ rw h.4 at whole)
+module _ (kind : Kind) (bottom entries : List Document) (outer : List PartialBlock) where
+  end_grows : (dots : Bool) (count : Count) (colon : Bool) → ◌≡◌ {A = Growing} (grown (bottom ++ entries, block_at (length bottom) colon ∷ outer) (tail_events kind count dots []))
+      (bottom ++ ended kind dots colon entries ∷ [], outer)
+  end_grows true count colon = rw (take_at bottom entries (length bottom) refl, drop_at bottom entries (length bottom) refl) refl
+  end_grows false count colon = rw (take_at bottom entries (length bottom) refl, drop_at bottom entries (length bottom) refl) refl
+
+  row_grows : (dots : Bool) (count : Count) (before after : Bool) (es : List TextEvent) (more : List (List TextEvent)) (ds below : List Document)
+      → PutsAll before after (es ∷ more) ds → below ++ ds ≡ bottom ++ entries
+      → ◌≡◌ {A = Growing} (grown (below, block_at (length bottom) before ∷ outer) (es ++ tail_events kind count dots more))
+      (bottom ++ ended kind dots after entries ∷ [], outer)
+  row_grows dots count before after es [] ds below h whole =
+      let all = rw (h.4, h.3, append-nil) at whole in
+      grown-append (below, block_at (length bottom) before ∷ outer) es (tail_events kind count dots [])
+      ∙ ap (λ g. grown g (tail_events kind count dots [])) (h.2 below (length bottom) outer ∙ rw all refl) ∙ end_grows dots count after
+  row_grows dots count before after es (fs ∷ more) ds below h whole =
+      grown-append (below, block_at (length bottom) before ∷ outer) es (tail_events kind count dots (fs ∷ more))
+      ∙ ap (λ g. grown g (tail_events kind count dots (fs ∷ more))) (h.2 below (length bottom) outer)
+      ∙ row_grows dots (next count) after after fs more h.1 (below ++ h.0) h.3 (append_assoc below h.0 h.1 ∙ rw h.4 at whole)
 
 -- all events of a block put it on the stack
-block_grows : (kind : Kind) (name : List ℕ) (colon : Bool) (es : List TextEvent) (more : List (List TextEvent)) (ds : List Document) → PutsAll false colon (es ∷ more) ds
-    → (below : List Document) (outer : List PartialBlock)
-    → ◌≡◌ {A = Growing} (grown (below, outer) (Open kind name ∷ (es ++ tail_events kind One more))) (below ++ block_of kind colon (name_leaf kind name ++ ds) ∷ [], outer)
-block_grows kind name colon es more ds h below outer =
-    row_grows kind One false colon es more ds (below ++ name_leaf kind name) below (name_leaf kind name ++ ds) outer h (append_assoc below (name_leaf kind name) ds)
+block_grows : (kind : Kind) (name : List ℕ) (dots colon : Bool) (es : List TextEvent) (more : List (List TextEvent)) (ds : List Document)
+    → PutsAll false colon (es ∷ more) ds → (below : List Document) (outer : List PartialBlock)
+    → ◌≡◌ {A = Growing} (grown (below, outer) (Open kind name ∷ (es ++ tail_events kind One dots more)))
+    (below ++ ended kind dots colon (name_leaf kind name ++ ds) ∷ [], outer)
+block_grows kind name dots colon es more ds h below outer =
+    row_grows kind below (name_leaf kind name ++ ds) outer dots One false colon es more ds (below ++ name_leaf kind name) h (append_assoc below (name_leaf kind name) ds)
 
 -- the block of a tuple with entries is the tuple, with a name or without
 tuple_is : (name : List ℕ) (ds : List Document) → block_of (tuple_kind name) false (name_leaf (tuple_kind name) name ++ ds) ≡ tuple_of name (documents ds)
@@ -72,24 +83,27 @@ module _ (class : Class) where
     document_grows (joined ds) h = absurd h
     document_grows (list_of no_documents) h = λ below outer. refl
     document_grows (list_of (first_document d ds)) h =
-        let row = entries_put (first_document d ds) h in rw (← row.2) (block_grows Brackets [] false (events_of d) (events_of_entries ds) row.0 row.1)
+        let row = entries_put (first_document d ds) h in rw (← row.2) (block_grows Brackets [] false false (events_of d) (events_of_entries ds) row.0 row.1)
     document_grows (set_of no_documents) h = λ below outer. refl
     document_grows (set_of (first_document d ds)) h =
-        let row = entries_put (first_document d ds) h in rw (← row.2) (block_grows Braces [] false (events_of d) (events_of_entries ds) row.0 row.1)
+        let row = entries_put (first_document d ds) h in rw (← row.2) (block_grows Braces [] false false (events_of d) (events_of_entries ds) row.0 row.1)
     document_grows (map_of no_pairs) h = λ below outer. refl
     document_grows (map_of (first_pair key value ps)) h =
         let row = pairs_put false (first_pair key value ps) h in
-        rw (← row.2) (block_grows Braces [] true (events_of key ++ Colon ∷ events_of value) (events_of_pairs ps) row.0 row.1)
+        rw (← row.2) (block_grows Braces [] false true (events_of key ++ Colon ∷ events_of value) (events_of_pairs ps) row.0 row.1)
     document_grows (struct_of name no_fields) h = λ below outer. refl
     document_grows (struct_of name (first_field field_name value fs)) h =
         let row = fields_put (first_field field_name value fs) h.1 in
-        rw (← row.2) (block_grows Struct name false (FieldName field_name ∷ events_of value) (events_of_fields fs) row.0 row.1)
+        rw (← row.2) (block_grows Struct name false false (FieldName field_name ∷ events_of value) (events_of_fields fs) row.0 row.1)
     document_grows (tuple_of [] no_documents) h = absurd (name_some class h)
     document_grows (tuple_of (c ∷ name) no_documents) h = λ below outer. refl
     document_grows (tuple_of name (first_document d ds)) h =
         let row = entries_put (first_document d ds) (h.1, h.2) in
-        rw (← row.2, ← tuple_is name row.0) (block_grows (tuple_kind name) name false (events_of d) (events_of_entries ds) row.0 row.1)
-    document_grows (non_exhaustive_of name fs) h = absurd h
+        rw (← row.2, ← tuple_is name row.0) (block_grows (tuple_kind name) name false false (events_of d) (events_of_entries ds) row.0 row.1)
+    document_grows (non_exhaustive_of name no_fields) h = λ below outer. refl
+    document_grows (non_exhaustive_of name (first_field field_name value fs)) h =
+        let row = fields_put (first_field field_name value fs) h.2 in
+        rw (← row.2) (block_grows Struct name true false (FieldName field_name ∷ events_of value) (events_of_fields fs) row.0 row.1)
     document_grows (pretty_part d) h = absurd h
 
     -- the same for entries, for keys and values, and for leaves of field names and values

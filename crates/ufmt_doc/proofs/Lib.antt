@@ -1,4 +1,6 @@
+pub mod ClosedBlocks
 pub mod Docs
+pub mod FieldRows
 pub mod FieldTexts
 pub mod GrowingDocuments
 pub mod LastPairs

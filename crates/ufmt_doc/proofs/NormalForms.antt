@@ -4,7 +4,7 @@ use Rattle.std.proofs.lemmas.Bool.Decides.{nat_tests}
 use Rattle.std.specs.Prelude.{IsTrue, ◌↔◌, string_bytes, vec_len}
 use Rattle.std.specs.Bool.{then_some}
 use Rattle.std.specs.List.{AllByRecursion, AllZip, zip}
-use Rattle.ufmt.specs.Document.{Document, leaf, list_of, set_of, map_of, struct_of, tuple_of, documents, pairs_of, fields_of, first_document, first_pair, first_field}
+use Rattle.ufmt.specs.Document.{Document, leaf, list_of, set_of, map_of, struct_of, non_exhaustive_of, tuple_of, documents, pairs_of, fields_of, first_document, first_pair, first_field}
 use Rattle.ufmt.specs.Token.{normal, normal_all, normal_pairs, normal_fields}
 use Rattle.ufmt_doc.specs.declared.doc.Doc.TheVariants.{SetOf, MapOf, StructOf, TupleOf}
 use Rattle.ufmt_doc.specs.Doc.{doc_document, Doc}
@@ -67,6 +67,11 @@ structs_same name [] [] = (λ h. refl, λ h. tt)
 structs_same name [] (g ∷ gs) = (λ h. absurd h, λ h. absurd (cc))
 structs_same name (f ∷ fs) [] = (λ h. absurd h, λ h. absurd (cc))
 structs_same name (f ∷ fs) (g ∷ gs) = let all = fields_same (f ∷ fs) (g ∷ gs) in (λ h. let same = all.0 h in cc, λ h. all.1 (cc))
+
+pub dotted_same : (name : List ℕ) (fs gs : List (String Global × Doc))
+    → AllZip (λ f g. (string_bytes f.0 ≡ string_bytes g.0) × SameDoc f.1 g.1) fs gs
+    ↔ (normal (non_exhaustive_of name (fields_of (map field_view fs))) ≡ normal (non_exhaustive_of name (fields_of (map field_view gs))))
+dotted_same name fs gs = let all = fields_same fs gs in (λ h. ap (non_exhaustive_of name) (all.0 h), λ h. all.1 (cc))
 
 pub tuples_same : (name : List ℕ) (ds es : List Doc)
     → AllZip SameDoc ds es ↔ (normal (tuple_of name (documents (map doc_document ds))) ≡ normal (tuple_of name (documents (map doc_document es))))

@@ -5,9 +5,9 @@ use Rattle.std.specs.Bool.{MatchBool}
 use Rattle.std.specs.List.{AllByRecursion, AllWithin, HoldsAt}
 use Rattle.std.proofs.lemmas.Iterator.Search.{true_from_All}
 use Rattle.std.proofs.lemmas.List.Elements.{All-from_all_within, All-from_recursion, recursion_from_All}
-use Rattle.ufmt.specs.Document.{list_of, map_of, struct_of, tuple_of, documents, pairs_of, fields_of}
+use Rattle.ufmt.specs.Document.{list_of, map_of, struct_of, non_exhaustive_of, tuple_of, documents, pairs_of, fields_of, Fields, no_fields, first_field}
 use Rattle.ufmt.specs.declared.class.Class.{Class}
-use Rattle.ufmt.specs.Token.{IsName}
+use Rattle.ufmt.specs.Token.{IsName, MayEndInDots}
 use Rattle.ufmt.proofs.ClassLeaves.{name_some}
 use Rattle.ufmt_doc.specs.declared.doc.Doc.TheVariants.{TupleOf}
 use Rattle.ufmt_doc.specs.Doc.{doc_document, Doc}
@@ -59,6 +59,11 @@ module _ (class : Class) (n : ℕ) where
         λ h. let more = rest.0 h.1 in ((named, (h.0.1.0, h.0.1.1.0, more.0.1)), omega arith),
         λ h. ((omega arith, (h.0.1.0, (h.0.1.1, omega arith))), rest.1 ((named, h.0.1.2), omega arith)),
       )
+
+  -- a struct that ends in dots, as the struct of its fields
+  pub dotted_within : (name : List ℕ) (fs : Fields) → MayEndInDots class → IsBuiltWithin class n (struct_of name fs) ↔ IsBuiltWithin class n (non_exhaustive_of name fs)
+  dotted_within name no_fields may = (λ h. ((may, h.0.0, h.0.1), h.1), λ h. ((h.0.1, h.0.2), h.1))
+  dotted_within name (first_field field_name value fs) may = (λ h. ((may, h.0.0, h.0.1), h.1), λ h. ((h.0.1, h.0.2), h.1))
 
   -- a tuple, by its fields: it has a name, or it has none and has fields
   pub tuple_within : (name : List ℕ) → IsName class name → (ds : List Doc)

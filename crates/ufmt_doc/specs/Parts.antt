@@ -1,6 +1,6 @@
 -- The parts of a document.
 use Rattle.std.specs.Prelude.{ℕ, List, Option, Some, None, bytes_eq, if◌then◌else◌}
-use Rattle.ufmt.specs.Document.{Document, leaf, list_of, set_of, map_of, struct_of, tuple_of, Documents, Pairs, Fields, no_fields, first_field}
+use Rattle.ufmt.specs.Document.{Document, leaf, list_of, set_of, map_of, struct_of, non_exhaustive_of, tuple_of, Documents, Pairs, Fields, no_fields, first_field}
 
 -- the text of a leaf
 abbrev pub leaf_part : Document → Option (List ℕ)
@@ -10,6 +10,7 @@ leaf_part _ = None
 -- the name of a struct or a tuple
 abbrev pub name_part : Document → Option (List ℕ)
 name_part (struct_of name fs) = Some name
+name_part (non_exhaustive_of name fs) = Some name
 name_part (tuple_of name ds) = Some name
 name_part _ = None
 
@@ -28,6 +29,7 @@ pairs_part _ = None
 -- the field names and values of a struct
 abbrev pub fields_part : Document → Option Fields
 fields_part (struct_of name fs) = Some fs
+fields_part (non_exhaustive_of name fs) = Some fs
 fields_part _ = None
 
 -- the value of the first field with this name
@@ -38,4 +40,5 @@ first_value name (first_field other value fs) = if bytes_eq other name then Some
 -- the value of a struct's first field with this name
 abbrev pub field_part : List ℕ → Document → Option Document
 field_part name (struct_of its_name fs) = first_value name fs
+field_part name (non_exhaustive_of its_name fs) = first_value name fs
 field_part name _ = None

@@ -31,6 +31,8 @@ pub enum Doc {
     SetOf(Vec<Doc>),
     MapOf(Vec<(Doc, Doc)>),
     StructOf(String, Vec<(String, Doc)>),
+    /// A struct that ends in `..`. In a token document there is none.
+    NonExhaustiveOf(String, Vec<(String, Doc)>),
     TupleOf(String, Vec<Doc>),
 }
 
@@ -51,8 +53,9 @@ impl Doc {
     }
 
     /// Changes it to its normal form, which has the same texts. At each depth, a struct or a tuple
-    /// without fields becomes the leaf of its name, and an empty set becomes an empty map. Takes no
-    /// memory: `alloc` is only for empty vectors and texts.
+    /// without fields becomes the leaf of its name, and an empty set becomes an empty map. A struct that
+    /// ends in `..` stays one, also without fields. Takes no memory: `alloc` is only for empty vectors and
+    /// texts.
     #[cycle(normalize)]
     pub fn normalize(&mut self, alloc: Global)
         ensures { doc_document self.new ≡ normal (doc_document self.old) }
@@ -64,6 +67,7 @@ impl Doc {
             Doc::SetOf(_) => drop(mem::replace(self, Doc::MapOf(Vec::new(alloc)))),
             Doc::MapOf(pairs) => normalize_pairs(alloc, pairs),
             Doc::StructOf(_, fields) if !fields.is_empty() => normalize_fields(alloc, fields),
+            Doc::NonExhaustiveOf(_, fields) => normalize_fields(alloc, fields),
             Doc::TupleOf(_, fields) if !fields.is_empty() => normalize_all(alloc, fields),
             Doc::StructOf(name, _) | Doc::TupleOf(name, _) => {
                 let name = mem::replace(name, String::new(alloc));
@@ -87,7 +91,9 @@ impl Doc {
         ensures { option_copied result ≡ name_part (doc_document self.now) }
     {
         match self {
-            Doc::StructOf(name, _) | Doc::TupleOf(name, _) => Some(name),
+            Doc::StructOf(name, _) | Doc::NonExhaustiveOf(name, _) | Doc::TupleOf(name, _) => {
+                Some(name)
+            }
             _ => None,
         }
     }
@@ -115,13 +121,14 @@ impl Doc {
         }
     }
 
-    /// Returns the field names of a struct, each with its value.
+    /// Returns the field names of a struct, each with its value. A struct that ends in `..` may have
+    /// more fields, which aren't shown.
     pub fn fields(&self) -> Option<&[(String, Doc)]>
         ensures { option_map (λ fields. fields_of (map field_view fields.now)) result
             ≡ fields_part (doc_document self.now) }
     {
         match self {
-            Doc::StructOf(_, fields) => Some(fields),
+            Doc::StructOf(_, fields) | Doc::NonExhaustiveOf(_, fields) => Some(fields),
             _ => None,
         }
     }

@@ -2,6 +2,7 @@
 //! their results on rows that are written by hand.
 mod debug_texts;
 mod depth;
+mod dotted;
 mod field_texts;
 mod is_text;
 mod laws;

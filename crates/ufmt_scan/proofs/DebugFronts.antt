@@ -19,7 +19,7 @@ use Rattle.ufmt.proofs.QuotedSound.{read_quoted-sound}
 use Rattle.ufmt.specs.declared.class.Class.TheVariants.{Debug}
 use Rattle.ufmt.specs.Reading.{is_whole}
 use Rattle.ufmt_scan.specs.declared.front.Front.{Front}
-use Rattle.ufmt_scan.specs.Private.Fronts.{EndsLeaf, IsSplit, NeverCloses, Passes, StaysBetween, StopsWord, colon_belongs, is_ending}
+use Rattle.ufmt_scan.specs.Private.Fronts.{EndsLeaf, IsSplit, Passes, StaysBetween, StopsWord, colon_belongs, is_ending}
 use Rattle.ufmt_scan.specs.Private.MarkedBytes.{is_marked, marked_len}
 use Rattle.ufmt_scan.specs.declared.debug_leaf.TheConstants.{COLON_BYTES, LEAF_BYTES, QUOTED_BYTES, WORD_BYTES}
 use Rattle.ufmt_scan.proofs.WordBytes.{marks, marks_with}
@@ -62,10 +62,6 @@ pass_byte place c t next e =
           ∙ ap (λ o. choose o (λ n. last_place n (leaf_from next t)) place) kept;
       has = or-false (is_quote c);
     }
-
--- quotes that stay open after some bytes were open before
-pub closes_never : {p q : Place} {t u : List ℕ} {a : Bool} → Passes p t q u a → NeverCloses q u → NeverCloses p t
-closes_never first second = record { last = ap is_outside first.last ∙ second.last }
 
 -- ---- words
 
@@ -229,9 +225,6 @@ module _ (q byte : ℕ) (other : (byte == q) ≡ false) where
     passes = pass_byte (between q) byte t (between q) (rw (no_control, other, no_backslash) refl);
   }
 
-  pub control_never_closes : (t : List ℕ) → is_control byte ≡ true → NeverCloses (between q) (byte ∷ t)
-  control_never_closes t control = record { last = rw control refl }
-
   module _ (backslash : byte ≡ 92) where
     escape_passes : (t : List ℕ) → Passes (between q) (byte ∷ t) (after_backslash q) t false
     escape_passes t = rw backslash (pass_byte (between q) 92 t (after_backslash q) (rw (subst (λ b. (b == q) ≡ false) backslash other) refl))
@@ -245,17 +238,6 @@ module _ (q byte : ℕ) (other : (byte == q) ≡ false) where
         go : (b : Bool) → not b ≡ true → cond b None (Some (between q)) ≡ Some (between q)
         go true h = absurd (cc)
         go false h = refl
-
-    pub escape_never_closes : (c : ℕ) (t : List ℕ) → not (is_control c || nat_le 128 c) ≡ false → NeverCloses (between q) (byte ∷ c ∷ t)
-    escape_never_closes c t refused = closes_never (escape_passes (c ∷ t)) (record { last = go (is_control c || nat_le 128 c) refused })
-      where
-        go : (b : Bool) → not b ≡ false
-            → is_outside (last_place (after_backslash q) (choose (cond b None (Some (between q))) (λ n. c ∷ leaf_from n t) [])) ≡ false
-        go true h = refl
-        go false h = absurd (cc)
-
-    pub escape_at_end : NeverCloses (between q) (byte ∷ [])
-    escape_at_end = closes_never (escape_passes []) (record { last = refl })
 
 -- ---- the whole leaf
 
@@ -280,9 +262,6 @@ module _ (q : ℕ) (quote : is_quote q ≡ true) where
           no_control false true f g h k = let same = eqb-true q 39 g in let none = subst (λ b. is_control b ≡ true) same k in absurd (cc)
           no_control false false f g h k = absurd (cc)
       go false e = rw (e, eq-eqb q q refl) refl
-
-pub unclosed_at_end : (q : ℕ) → NeverCloses (between q) []
-unclosed_at_end q = record { last = refl }
 
 -- numbers that differ are found to differ
 pub differ : (a b : ℕ) → a ≢ b → (a == b) ≡ false

@@ -1,7 +1,7 @@
 -- The events of documents, pairs and fields, by how they begin.
-use Rattle.std.proofs.Common.{◌≡◌, ◌≢◌, refl, ap, ◌∙◌, sym, ℕ, zero, suc, ◌<◌, ◌≤◌, ◌==◌, ◌&&◌, not, cond, Bool, true, false, List, [], ◌∷◌, ◌++◌, length, length-append, eqb-true, map, Option, Some, None, option_and_then, codes, subst, Bor, Result, Ok, Err, arith}
+use Rattle.std.proofs.Common.{◌≡◌, ◌≢◌, refl, ap, ◌∙◌, sym, ℕ, zero, suc, ◌<◌, ◌≤◌, ◌==◌, cond, Bool, true, false, List, [], ◌∷◌, ◌++◌, length, length-append, eqb-true, map, Option, Some, None, option_and_then, codes, subst, Bor, Result, Ok, Err, arith}
 use Rattle.std.proofs.lemmas.Bool.Decides.{nat_tests}
-use Rattle.ufmt.specs.Document.{Document, leaf, list_of, set_of, map_of, struct_of, tuple_of, no_documents, no_pairs, Documents, first_document, documents, pairs_of, fields_of}
+use Rattle.ufmt.specs.Document.{Document, leaf, list_of, set_of, map_of, tuple_of, no_documents, no_pairs, Documents, first_document, documents, pairs_of, fields_of}
 use Rattle.ufmt_core.specs.declared.layout.Setting.{Setting}
 use Rattle.ufmt_core.specs.declared.layout.Kind.{Kind}
 use Rattle.ufmt_core.specs.declared.layout.Kind.TheVariants.{Brackets, Braces, Struct, Tuple, Unnamed}
@@ -12,14 +12,14 @@ use Rattle.ufmt.specs.Token.{IsWordOrEmpty}
 use Rattle.ufmt.proofs.ReadingWords.{word_of_bytes}
 use Rattle.ufmt.specs.declared.class.Class.TheVariants.{Token, Debug}
 use Rattle.ufmt.specs.ReadingQuoted.{read_quoted}
-use Rattle.ufmt.specs.Reading.{Parse, choose, parse_map, strip, word_of, front_of, after_front, is_whole, is_name, if_name, read_after_first, read_quotes, read_symbol, read_name, read_value, read_list, read_braces, read_map_or_set, read_named, read_without_name, read_by_front, read}
+use Rattle.ufmt.specs.Reading.{Parse, choose, no_dots, last_dots, strip_dots, strip_only_dots, map_with, struct_with, parse_map, strip, word_of, front_of, after_front, is_whole, is_name, read_after_first, read_quotes, read_symbol, read_name, read_value, read_list, read_braces, read_map_or_set, read_named, read_without_name, read_by_front, read}
 use Rattle.ufmt.proofs.Parsing.{strip_found}
 use Rattle.ufmt.proofs.ReadingTurns.{Takes, read_name_takes, strip_within}
 use Rattle.ufmt.proofs.ClassLeaves.{fronts_whole, leaf_begins, nothing_is_whole, symbol_is_leaf}
 use Rattle.ufmt_scan.specs.declared.front.Front.{Front}
 use Rattle.ufmt_scan.specs.Private.Fronts.{IsSplit}
 use Rattle.ufmt_scan.specs.declared.scan.step.Stage.TheVariants as stages
-use Rattle.ufmt_scan.specs.Scan.{TextEvent, events_of, events_of_entries, events_of_fields, events_of_pairs, tail_events, ScanError, Colon, Empty, FieldName, Leaf, Open}
+use Rattle.ufmt_scan.specs.Scan.{TextEvent, events_of, events_of_entries, events_of_fields, events_of_pairs, tail_events, ScanError, Colon, Empty, FieldName, Leaf, OnlyDots, Open}
 use Rattle.ufmt_scan.specs.Private.Level.{budget_of, entry_at, entry_of, setting_at, Level}
 use Rattle.ufmt_scan.specs.Private.Scanning.{Steps, Stops, Emits, Scanned, after, scan_block, scan_front, entries, fields, kind_of, later, scan_opened, pairs, prefixed, scan_rest, scan_stage, then_scan, turn_of, scan_turn, scan_value, Stage}
 use Rattle.ufmt_scan.proofs.EntrySteps.{entry_of_takes, field_takes, pair_takes}
@@ -41,13 +41,13 @@ events_of_fields-fields_of level (f ∷ fs) = ap (λ es. (fields level).events f
 module _ (level : Level) where
   -- the events of a list, a set or a tuple, from its first entry on
   entries_scan : (kind : Kind) (name : List ℕ) (make : Documents → Document)
-      → ((d : Document) (ds : Documents) → events_of (make (first_document d ds)) ≡ Open kind name ∷ (events_of d ++ tail_events kind One (events_of_entries ds)))
+      → ((d : Document) (ds : Documents) → events_of (make (first_document d ds)) ≡ Open kind name ∷ (events_of d ++ tail_events kind One false (events_of_entries ds)))
       → (o : Option (Document × List ℕ))
-      → parse_map events_of (option_and_then (λ x. read_after_first (entry_of level) (frame level.mode kind) (setting_at level) (λ ds. make
-      (documents ds)) x.0 x.1) o)
+      → parse_map events_of (option_and_then (λ x. read_after_first (entry_of level) no_dots (frame level.mode kind) (setting_at level) (λ left. make
+      (documents left.0)) x.0 x.1) o)
       ≡ prefixed (Open kind name ∷ []) (then_scan (parse_map events_of o) (scan_rest (entries level) level kind One))
-  entries_scan kind name make shape = block_scans (entries level) level kind (λ ds. make (documents ds)) (Open kind name)
-      (λ d ds. shape d (documents ds) ∙ ap (λ ess. Open kind name ∷ (events_of d ++ tail_events kind One ess)) (events_of_entries-documents ds))
+  entries_scan kind name make shape = block_scans (entries level) level kind (λ left. make (documents left.0)) (Open kind name)
+      (λ d left. shape d (documents left.0) ∙ ap (λ ess. Open kind name ∷ (events_of d ++ tail_events kind One false ess)) (events_of_entries-documents left.0))
 
   -- the events of a tuple or struct with a name, from its first field on
   pub tuple_scans : (w t r : List ℕ) → w ≢ [] → strip (lead (frame level.mode Tuple) (inside (setting_at level)) Zero) t ≡ Some r
@@ -55,19 +55,31 @@ module _ (level : Level) where
   tuple_scans [] t r word opening = absurd (word refl)
   tuple_scans (c ∷ w) t r word opening = rw opening (entries_scan Tuple (c ∷ w) (tuple_of (c ∷ w)) (λ d ds. refl) (entry_of level r))
 
+  -- the events of a struct with this name, whichever its end
+  struct_shape : (w : List ℕ) (f : List ℕ × Document) (fs : List (List ℕ × Document)) (b : Bool)
+      → events_of (struct_with w (f ∷ fs, b)) ≡ Open Struct w ∷ ((fields level).events f ++ tail_events Struct One b (map (fields level).events fs))
+  struct_shape w f fs true = ap (λ ess. Open Struct w ∷ ((fields level).events f ++ tail_events Struct One true ess)) (events_of_fields-fields_of level fs)
+  struct_shape w f fs false = ap (λ ess. Open Struct w ∷ ((fields level).events f ++ tail_events Struct One false ess)) (events_of_fields-fields_of level fs)
+
   pub struct_scans : (w t r : List ℕ) → w ≢ [] → strip (lead (frame level.mode Tuple) (inside (setting_at level)) Zero) t ≡ None
-      → strip (lead (frame level.mode Struct) (inside (setting_at level)) Zero) t ≡ Some r
+      → strip_only_dots level.class t ≡ None → strip (lead (frame level.mode Struct) (inside (setting_at level)) Zero) t ≡ Some r
       → parse_map events_of (read_named level.class (setting_at level) (entry_of level) w t) ≡ scan_opened level Struct w r
-  struct_scans [] t r word tuple opening = absurd (word refl)
-  struct_scans (c ∷ w) t r word tuple opening = rw (tuple, opening) (block_scans (fields level) level Struct (λ fs. struct_of (c ∷ w) (fields_of fs))
-      (Open Struct (c ∷ w))
-      (λ f fs. ap (λ ess. Open Struct (c ∷ w) ∷ ((fields level).events f ++ tail_events Struct One ess)) (events_of_fields-fields_of level fs)) ((fields level).read r))
+  struct_scans [] t r word tuple dots opening = absurd (word refl)
+  struct_scans (c ∷ w) t r word tuple dots opening = rw (tuple, dots, opening) (block_scans (fields level) level Struct (struct_with (c ∷ w))
+      (Open Struct (c ∷ w)) (λ f left. struct_shape (c ∷ w) f left.0 left.1) ((fields level).read r))
+
+  -- a struct of which no field is shown is one event
+  pub only_dots_scans : (w t r : List ℕ) → w ≢ [] → strip (lead (frame level.mode Tuple) (inside (setting_at level)) Zero) t ≡ None
+      → strip_only_dots level.class t ≡ Some r
+      → parse_map events_of (read_named level.class (setting_at level) (entry_of level) w t) ≡ Some (OnlyDots w ∷ [], r)
+  only_dots_scans [] t r word tuple dots = absurd (word refl)
+  only_dots_scans (c ∷ w) t r word tuple dots = rw (tuple, dots) refl
 
   pub name_scans : (w t : List ℕ) → w ≢ [] → strip (lead (frame level.mode Tuple) (inside (setting_at level)) Zero) t ≡ None
-      → strip (lead (frame level.mode Struct) (inside (setting_at level)) Zero) t ≡ None
+      → strip_only_dots level.class t ≡ None → strip (lead (frame level.mode Struct) (inside (setting_at level)) Zero) t ≡ None
       → parse_map events_of (read_named level.class (setting_at level) (entry_of level) w t) ≡ Some (Leaf w ∷ [], t)
-  name_scans [] t word tuple struct = absurd (word refl)
-  name_scans (c ∷ w) t word tuple struct = rw (tuple, struct) refl
+  name_scans [] t word tuple dots struct = absurd (word refl)
+  name_scans (c ∷ w) t word tuple dots struct = rw (tuple, dots, struct) refl
 
   -- the events of a tuple without a name
   pub unnamed_scans : (t r : List ℕ) → strip (codes "[") t ≡ None → strip (codes "{") t ≡ None → read_symbol level.class t ≡ None
@@ -106,8 +118,8 @@ module _ (level : Level) where
       by_colon : (o : Option (List ℕ)) → strip (codes ": ") x.1 ≡ o → parse_map events_of (read_map_or_set (setting_at level) (entry_of level) x.0 x.1)
           ≡ prefixed (Open Braces [] ∷ []) (prefixed (events_of x.0) (choose o (scan_value level Zero) (scan_rest (entries level) level Braces One x.1)))
       by_colon None colon = rw colon (entries_scan Braces [] set_of (λ d ds. refl) (Some x))
-      by_colon (Some u) colon = rw colon (block_scans (pairs level) level Braces (λ ps. map_of (pairs_of ps)) (Open Braces [])
-          (λ q ps. ap (λ ess. Open Braces [] ∷ ((pairs level).events q ++ tail_events Braces One ess)) (events_of_pairs-pairs_of level ps)) (parse_map (λ value.
+      by_colon (Some u) colon = rw colon (block_scans (pairs level) level Braces map_with (Open Braces [])
+          (λ q left. ap (λ ess. Open Braces [] ∷ ((pairs level).events q ++ tail_events Braces One false ess)) (events_of_pairs-pairs_of level left.0)) (parse_map (λ value.
           (x.0, value)) (entry_of level u))
           ∙ ap (prefixed (Open Braces [] ∷ [])) (value_scans x.0 (entry_of level u) (scan_rest (pairs level) level Braces One)))
 
@@ -137,6 +149,32 @@ turn_takes level stages.ValueLater = pair_takes level
 turn_takes level stages.FieldFirst = field_takes level
 turn_takes level stages.FieldLater = field_takes level
 turn_takes level _ = entry_of_takes level
+
+-- only a block that may end in dots has them
+pub turn_dots : (level : Level) (stage : Stage) (t u : List ℕ) → (turn_of level stage).dots t ≡ Some u → (turn_of level stage).in_dots ≡ true
+turn_dots level stages.KeyLater t u h = absurd (cc)
+turn_dots level stages.ValueFirst t u h = absurd (cc)
+turn_dots level stages.ValueLater t u h = absurd (cc)
+turn_dots level stages.FieldFirst t u h = refl
+turn_dots level stages.FieldLater t u h = refl
+turn_dots level _ t u h = absurd (cc)
+
+strip_dots_within : (class : Class) (s : Setting) (t u : List ℕ) → strip_dots class s t ≡ Some u → length u ≤ length t
+strip_dots_within Token s t u h = absurd (cc)
+strip_dots_within Debug s t u h = strip_within (last_dots s) t u h
+
+-- a text does not get longer when dots are stripped from it
+pub turn_dots_within : (level : Level) (stage : Stage) (t u : List ℕ) → (turn_of level stage).dots t ≡ Some u → length u ≤ length t
+turn_dots_within level stages.KeyLater t u h = absurd (cc)
+turn_dots_within level stages.ValueFirst t u h = absurd (cc)
+turn_dots_within level stages.ValueLater t u h = absurd (cc)
+turn_dots_within level stages.FieldFirst t u h = strip_dots_within level.class (setting_at level) t u h
+turn_dots_within level stages.FieldLater t u h = strip_dots_within level.class (setting_at level) t u h
+turn_dots_within level _ t u h = absurd (cc)
+
+pub only_dots_within : (class : Class) (t u : List ℕ) → strip_only_dots class t ≡ Some u → length u ≤ length t
+only_dots_within Token t u h = absurd (cc)
+only_dots_within Debug t u h = strip_within (codes " { .. }") t u h
 
 -- after an entry, a block continues at the stage of the next entry
 pub later_continues : (level : Level) (stage : Stage) (t : List ℕ)
@@ -236,42 +274,6 @@ pub has_bytes : (w : List ℕ) → w ≢ [] → (length w == 0) ≡ false
 has_bytes [] some = absurd (some refl)
 has_bytes (c ∷ w) some = grind (arith, nat_tests)
 
--- a name at the front is read
-pub name_is_read : (class : Class) (t : List ℕ) (front : Front) → IsSplit class t front → front.is_name ≡ true → (length front.text.now == 0) ≡ false
-    → read_name class t ≡ Some (front.text.now, front.rest.now)
-name_is_read class t front is named some = go (front_of class t) (after_front class t) is.text is.rest (sym is.name ∙ named) is.whole
-  where
-    go : (w u : List ℕ) → front.text.now ≡ w → front.rest.now ≡ u → is_name class w ≡ true → is_whole class w ≡ true
-        → if_name class w u ≡ Some (front.text.now, front.rest.now)
-    go [] u text rest name whole = let none : (length front.text.now == 0) ≡ true = ap (λ w. length w == 0) text in absurd (cc)
-    go (c ∷ w) u text rest name whole = rw (whole, name, text, rest) refl
-
--- without a whole front, or with one that is empty or no name, none is
-pub no_name : (class : Class) (t : List ℕ) → is_whole class (front_of class t) ≡ false → read_name class t ≡ None
-no_name class t broken = go (front_of class t) broken
-  where
-    go : (w : List ℕ) → is_whole class w ≡ false → if_name class w (after_front class t) ≡ None
-    go [] none = refl
-    go (c ∷ w) none = rw none refl
-
-pub other_front : (class : Class) (t : List ℕ) (front : Front) → IsSplit class t front → front.is_name && not (length front.text.now == 0) ≡ false
-    → read_name class t ≡ None
-other_front class t front is other = go (front_of class t) is.text is.name
-  where
-    go : (w : List ℕ) → front.text.now ≡ w → front.is_name ≡ is_name class w → if_name class w (after_front class t) ≡ None
-    go [] text name = refl
-    go (c ∷ w) text name = rw (unnamed (is_name class (c ∷ w)) refl) (either (is_whole class (c ∷ w)))
-      where
-        unnamed : (b : Bool) → is_name class (c ∷ w) ≡ b → is_name class (c ∷ w) ≡ false
-        unnamed false e = e
-        unnamed true e =
-            let some : (length (c ∷ w) == 0) ≡ false = grind (arith, nat_tests) in
-            let named = rw (name ∙ e, text, some) at other in absurd (cc)
-
-        either : (b : Bool) → cond {A = Option (List ℕ × List ℕ)} (b && false) (Some (c ∷ w, after_front class t)) None ≡ None
-        either true = refl
-        either false = refl
-
 -- a field begins with its name and a colon
 pub field_name_scans : (level : Level) (t w u v : List ℕ) → read_name level.class t ≡ Some (w, u) → strip (codes ": ") u ≡ Some v
     → (scan_turn (fields level) t ≡ prefixed (FieldName w ∷ []) (scan_turn (entries level) v)) × (length v < length t)
@@ -289,7 +291,3 @@ field_name_scans level t w u v name colon = (
 
 pub front_is_bytes : (t w : List ℕ) → w ≡ word_of t → IsWordOrEmpty w
 front_is_bytes t w word = rw word (word_of_bytes t)
-
--- a field without a name, and one without a colon, have no events
-pub no_field_name : (level : Level) (t : List ℕ) → read_name level.class t ≡ None → scan_turn (fields level) t ≡ None
-no_field_name level t none = rw none refl

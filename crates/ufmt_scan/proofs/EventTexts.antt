@@ -1,8 +1,8 @@
 -- The texts of a document's events make up its layout.
-use Rattle.std.proofs.Common.{◌≡◌, ◌∙◌, refl, ap, sym, ℕ, suc, ◌+◌, ◌≤◌, List, [], ◌∷◌, ◌++◌, append_assoc, append-nil, arith}
+use Rattle.std.proofs.Common.{◌≡◌, ◌∙◌, refl, ap, subst, sym, ℕ, suc, ◌+◌, ◌≤◌, Bool, true, false, List, [], ◌∷◌, ◌++◌, append_assoc, append-nil, arith}
 use Rattle.std.specs.Prelude.{⊤}
 use Rattle.ufmt.specs.Document.{Document, leaf, joined, list_of, set_of, map_of, struct_of, non_exhaustive_of, tuple_of, pretty_part, Documents, no_documents, first_document, Pairs, no_pairs, first_pair, Fields, no_fields, first_field, nest, nest_all, nest_pairs, nest_fields}
-use Rattle.ufmt.specs.Layout.{frame, setting, inside, entry_depth, later_lead, trail, lead, line_start, ending, next, block_text, block_tail, tuple_kind, layout, texts, pair_texts, field_texts}
+use Rattle.ufmt.specs.Layout.{frame, setting, inside, entry_depth, later_lead, trail, lead, line_start, ending, next, block_text, tuple_kind, layout, texts, pair_texts, field_texts}
 use Rattle.ufmt_core.specs.declared.layout.Count.{Count}
 use Rattle.ufmt_core.specs.declared.layout.Count.TheVariants.{Zero, One, Several}
 use Rattle.ufmt_core.specs.declared.layout.Kind.{Kind}
@@ -12,8 +12,10 @@ use Rattle.ufmt_core.specs.declared.layout.Mode.TheVariants.{Plain, Pretty}
 use Rattle.ufmt_core.specs.declared.layout.Setting.{Setting}
 use Rattle.ufmt.specs.declared.class.Class.{Class}
 use Rattle.ufmt.specs.Token.{IsBuilt, AreBuilt, PairsAreBuilt, FieldsAreBuilt}
-use Rattle.ufmt_scan.specs.Scan.{TextEvent, events_of, tail_events, block_events, events_of_entries, events_of_pairs, events_of_fields, Leaf, Empty}
+use Rattle.ufmt_scan.specs.Scan.{TextEvent, events_of, tail_events, block_events, events_of_entries, events_of_pairs, events_of_fields, Leaf, Empty, OnlyDots}
 use Rattle.ufmt.proofs.ClassLeaves.{name_some}
+use Rattle.ufmt.proofs.DottedStructs.{dotted_layout, rest_text, rest_text-false}
+use Rattle.ufmt.specs.Reading.{last_dots}
 use Rattle.ufmt_scan.specs.ScanTexts.{block_depth, written, setting_after, texts_written, last_setting}
 
 -- the text of two lists of events is that of one, and then that of the other
@@ -60,17 +62,26 @@ module _ (mode : Mode) (k n : ℕ) (few : suc n + k ≤ 255) (kind : Kind) where
   later Several = (refl, refl)
 
   -- the events that are left of a block after an entry have the text that is left
-  tail_written : (count : Count) (ess : List (List TextEvent)) (ts : List (List ℕ)) (more : List TextEvent) → EntriesAreWritten (inside s) ess ts
-      → texts_written (inside s) (tail_events kind (next count) ess ++ more) ≡ (trail mode ++ block_tail (frame mode kind) s (next count) ts) ++ texts_written s more
-  tail_written count [] [] more h = rw (around mode k (omega arith), (later count).1) refl
-  tail_written count [] (t ∷ ts) more h = absurd h
-  tail_written count (es ∷ ess) [] more h = absurd h
-  tail_written count (es ∷ ess) (t ∷ ts) more h = simp (append_assoc, h.0.before, tail_written (next count) ess ts more h.1, (later count).0)
+  tail_written : (count : Count) (dots : Bool) (ess : List (List TextEvent)) (ts : List (List ℕ)) (more : List TextEvent) → EntriesAreWritten (inside s) ess ts
+      → texts_written (inside s) (tail_events kind (next count) dots ess ++ more)
+      ≡ (trail mode ++ rest_text (frame mode kind) s (last_dots s) (next count) ts dots) ++ texts_written s more
+  tail_written count false [] [] more h = rw (around mode k (omega arith), (later count).1) refl
+  tail_written count true [] [] more h = rw (around mode k (omega arith)) (simp (append_assoc, (later count).0))
+  tail_written count dots [] (t ∷ ts) more h = absurd h
+  tail_written count dots (es ∷ ess) [] more h = absurd h
+  tail_written count dots (es ∷ ess) (t ∷ ts) more h = simp (append_assoc, h.0.before, tail_written (next count) dots ess ts more h.1, (later count).0)
 
   -- the events of a block with entries have its text
+  rest_written : (name : List ℕ) (alone : TextEvent) (dots : Bool) (ess : List (List TextEvent)) (ts : List (List ℕ)) {es : List TextEvent} {t : List ℕ}
+      → EntriesAreWritten (inside s) (es ∷ ess) (t ∷ ts)
+      → AreWritten s (block_events kind name alone dots (es ∷ ess)) (name ++ ((frame mode kind).opening ++ rest_text (frame mode kind) s (last_dots s) Zero (t ∷ ts) dots))
+  rest_written name alone dots ess ts h = record { before = λ more. simp (append_assoc, h.0.before, tail_written Zero dots ess ts more h.1) }
+
   block_written : (name : List ℕ) (alone : TextEvent) (ess : List (List TextEvent)) (ts : List (List ℕ)) {es : List TextEvent} {t : List ℕ}
-      → EntriesAreWritten (inside s) (es ∷ ess) (t ∷ ts) → AreWritten s (block_events kind name alone (es ∷ ess)) (block_text kind s name (t ∷ ts))
-  block_written name alone ess ts h = record { before = λ more. simp (append_assoc, h.0.before, tail_written Zero ess ts more h.1) }
+      → EntriesAreWritten (inside s) (es ∷ ess) (t ∷ ts) → AreWritten s (block_events kind name alone false (es ∷ ess)) (block_text kind s name (t ∷ ts))
+  block_written name alone ess ts {es} {t} h =
+      subst (λ rest. AreWritten s (block_events kind name alone false (es ∷ ess)) (name ++ ((frame mode kind).opening ++ rest)))
+      (rest_text-false (frame mode kind) s (last_dots s) Zero (t ∷ ts)) (rest_written name alone false ess ts h)
 
 name_written : {s : Setting} (name : List ℕ) → AreWritten s (Leaf name ∷ []) (name ++ [])
 name_written name = record { before = λ more. rw append-nil refl }
@@ -93,7 +104,10 @@ module _ (mode : Mode) (class : Class) where
     document_written k (tuple_of [] no_documents) h few = absurd (name_some class h)
     document_written k (tuple_of (c ∷ name) no_documents) h few = name_written (c ∷ name)
     document_written k (tuple_of name (first_document d ds)) h few = block_written mode k _ few (tuple_kind name) name (Leaf name) _ _ (entries_written k (first_document d ds) (h.1, h.2) few)
-    document_written k (non_exhaustive_of name fs) h few = absurd h
+    document_written k (non_exhaustive_of name no_fields) h few = record { before = λ more. refl }
+    document_written k (non_exhaustive_of name (first_field field_name value fs)) h few =
+        rw (dotted_layout (setting mode k) name field_name value fs)
+        (rest_written mode k _ few Struct name (OnlyDots name) true _ _ (fields_written k (first_field field_name value fs) h.2 few))
     document_written k (pretty_part d) h few = absurd h
 
     -- the same for the entries, pairs and fields of a block at this depth

@@ -1,5 +1,5 @@
 -- The events of a document, and what sinks and scans promise.
-use Rattle.std.specs.Prelude.{◌≡◌, ℕ, Bool, true, false, List, [], ◌∷◌, ◌++◌, Result, MatchResult, ⊤}
+use Rattle.std.specs.Prelude.{◌≡◌, ℕ, Bool, true, false, cond, List, [], ◌∷◌, ◌++◌, Result, MatchResult, ⊤}
 use Rattle.std.specs.Borrow.{Bor}
 use Rattle.ufmt.specs.Document.{Document, leaf, joined, list_of, set_of, map_of, struct_of, non_exhaustive_of, tuple_of, pretty_part, Documents, no_documents, first_document, Pairs, no_pairs, first_pair, Fields, no_fields, first_field}
 use Rattle.ufmt.specs.Layout.{next, tuple_kind}
@@ -12,7 +12,7 @@ use Rattle.ufmt_scan.specs.declared.scan.event.ScanError.TheVariants.{NotText, S
 use Rattle.ufmt.specs.declared.class.Class.{Class}
 use Rattle.ufmt_scan.specs.Texts.{IsNormalFormAs, NoDocumentPrintsAs}
 use Rattle.ufmt_scan.specs.declared.scan.event.Event.{Event}
-pub use Rattle.ufmt_scan.specs.declared.scan.event.Event.TheVariants.{Leaf, Empty, Open, FieldName, Colon, Next, Close}
+pub use Rattle.ufmt_scan.specs.declared.scan.event.Event.TheVariants.{Leaf, Empty, OnlyDots, Open, FieldName, Colon, Next, Close, Dots}
 
 -- an event, with the bytes of its text
 abbrev pub TextEvent : Type 0
@@ -22,33 +22,35 @@ TextEvent = Event (List ℕ)
 abbrev pub event_now : Event (Bor (List ℕ)) → TextEvent
 event_now (Leaf text) = Leaf text.now
 event_now (Empty kind) = Empty kind
+event_now (OnlyDots name) = OnlyDots name.now
 event_now (Open kind name) = Open kind name.now
 event_now (FieldName name) = FieldName name.now
 event_now Colon = Colon
 event_now Next = Next
 event_now (Close kind count) = Close kind count
+event_now Dots = Dots
 
--- the events of a block of this kind after this many entries: those of each further entry, and the end
-abbrev pub tail_events : Kind → Count → List (List TextEvent) → List TextEvent
-tail_events kind count [] = Close kind count ∷ []
-tail_events kind count (es ∷ more) = Next ∷ (es ++ tail_events kind (next count) more)
+-- the events of a block of this kind after this many entries: those of each further entry, and the end, which may be dots
+abbrev pub tail_events : Kind → Count → Bool → List (List TextEvent) → List TextEvent
+tail_events kind count dots [] = cond dots (Next ∷ Dots ∷ []) (Close kind count ∷ [])
+tail_events kind count dots (es ∷ more) = Next ∷ (es ++ tail_events kind (next count) dots more)
 
--- the events of a block with this name: `alone`, if it has no entries
-abbrev pub block_events : Kind → List ℕ → TextEvent → List (List TextEvent) → List TextEvent
-block_events kind name alone [] = alone ∷ []
-block_events kind name alone (es ∷ more) = Open kind name ∷ (es ++ tail_events kind One more)
+-- the events of a block with this name, which may end in dots: `alone`, if it has no entries
+abbrev pub block_events : Kind → List ℕ → TextEvent → Bool → List (List TextEvent) → List TextEvent
+block_events kind name alone dots [] = alone ∷ []
+block_events kind name alone dots (es ∷ more) = Open kind name ∷ (es ++ tail_events kind One dots more)
 
 abbrev mutual
   -- the events of a document of a class
   pub events_of : Document → List TextEvent
   events_of (leaf text) = Leaf text ∷ []
   events_of (joined ds) = []
-  events_of (list_of ds) = block_events Brackets [] (Empty Brackets) (events_of_entries ds)
-  events_of (set_of ds) = block_events Braces [] (Empty Braces) (events_of_entries ds)
-  events_of (map_of ps) = block_events Braces [] (Empty Braces) (events_of_pairs ps)
-  events_of (struct_of name fs) = block_events Struct name (Leaf name) (events_of_fields fs)
-  events_of (non_exhaustive_of name fs) = []
-  events_of (tuple_of name ds) = block_events (tuple_kind name) name (Leaf name) (events_of_entries ds)
+  events_of (list_of ds) = block_events Brackets [] (Empty Brackets) false (events_of_entries ds)
+  events_of (set_of ds) = block_events Braces [] (Empty Braces) false (events_of_entries ds)
+  events_of (map_of ps) = block_events Braces [] (Empty Braces) false (events_of_pairs ps)
+  events_of (struct_of name fs) = block_events Struct name (Leaf name) false (events_of_fields fs)
+  events_of (non_exhaustive_of name fs) = block_events Struct name (OnlyDots name) true (events_of_fields fs)
+  events_of (tuple_of name ds) = block_events (tuple_kind name) name (Leaf name) false (events_of_entries ds)
   events_of (pretty_part d) = []
 
   pub events_of_entries : Documents → List (List TextEvent)

@@ -2,7 +2,7 @@
 ghost use Rattle.std.specs.Prelude.{◌≡◌, ◌∷◌, ◌++◌, []};
 ghost use Rattle.ufmt.specs.Layout.{frame, inside, lead, line_start};
 ghost use Rattle.ufmt_core.specs.declared.layout.Count.TheVariants.{Zero};
-ghost use Rattle.ufmt.specs.Reading.{strip};
+ghost use Rattle.ufmt.specs.Reading.{last_dots, strip, strip_only_dots};
 ghost use Rattle.ufmt_scan.specs.Private.Level.{setting_at};
 ghost use Rattle.ufmt_scan.specs.Rest.{now_of};
 
@@ -38,6 +38,20 @@ pub(crate) fn strip_piece<'a>(piece: &str, input: &'a [u8]) -> Option<&'a [u8]>
         [byte] => strip_byte(*byte, input),
         [first, second] => strip_byte(*second, strip_byte(*first, input)?),
         longer => input.strip_prefix(longer),
+    }
+}
+
+/// What follows the dots in braces after a name: a struct of which no field is shown. No token document
+/// has one.
+#[inline(always)]
+#[tactic(auto, using(crate::proofs::Strips::stripping))]
+pub(crate) fn strip_only_dots(class: Class, input: &[u8]) -> Option<&[u8]>
+    ensures { now_of result ≡ strip_only_dots class input.now }
+{
+    match class {
+        Class::Token => None,
+        // Few names have a space after them.
+        Class::Debug => strip_piece("{ .. }", strip_byte(b' ', input)?),
     }
 }
 
@@ -88,6 +102,20 @@ impl Level {
         let (bracket, space) = kind.start(self.mode);
         let start = strip_piece(space, strip_piece(bracket, input)?)?;
         strip_to_line(self.mode.line_feed(), self.setting().inside(), start)
+    }
+
+    /// What follows the dots in place of a struct's last fields, and the end of the struct.
+    #[inline(always)]
+    #[tactic(auto, using(crate::proofs::Strips::stripping))]
+    pub(crate) fn strip_dots(self, input: &[u8]) -> Option<&[u8]>
+        ensures { now_of result ≡ strip (last_dots (setting_at self)) input.now }
+    {
+        let dots = match self.mode {
+            Mode::Plain => "..",
+            Mode::Pretty => "..\n",
+        };
+        let end = strip_to_line(dots, self.setting(), input)?;
+        self.strip_closing(Kind::Struct, Count::One, end)
     }
 
     /// What follows the closing bracket of a block with this many entries, and a space or comma

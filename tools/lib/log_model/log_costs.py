@@ -32,6 +32,8 @@ INDENTED = Block("list", "", [(None, "x")] * 60)
 for _ in range(60):
     INDENTED = Block("list", "", [(None, INDENTED)])
 READING = Block("struct", "Reading", [("channel", "3"), ("text", quoted("a [b]"))])
+LOCK = Block("open struct", "Mutex", [("data", "7"), ("poisoned", "false")])
+ONLY_DOTS = Block("open struct", "Once", [])
 
 
 class Shape(NamedTuple):
@@ -58,7 +60,7 @@ def group(name, steps, first, piece):
 
 LONG_LINES = (
     line("a long word", "pretty", 18, b"a"),
-    line("a line of words", "pretty", 53, b"a "),
+    line("a line of words", "pretty", 59, b"a "),
     line("a line of spaces", "pretty", 77, b" "),
     line("a line of brackets", "pretty", 72, b"[ "),
     line("brackets in brackets", "pretty", 23, b"["),
@@ -66,21 +68,25 @@ LONG_LINES = (
     line("a line of quotes", "pretty", 120, b'"a '),
     line("a line of bytes that aren't UTF-8", "pretty", 113, b"\xff "),
     listed("a long list", "pretty", 44, plain),
+    line("a line of only dots", "pretty", 57, b"S { .. } "),
     # A block could open at each word, so a byte is scanned for each of up to 255 words before it.
-    Shape("a line of open tuples", "pretty", 5678, lambda size: b"(a, " * (size // 32)),
+    Shape("a line of open tuples", "pretty", 5790, lambda size: b"(a, " * (size // 32)),
     listed("a pretty list", "plain", 42, pretty),
     group("a group without an end", 70, b"got [\n", b"    12345,\n"),
     group("a group of brackets", 103, b"", b"[\n"),
     group("a group of spaces", 87, b"[\n", b" " * 63 + b"\n"),
 )
 MANY_LINES = (
-    line("empty lines", "pretty", 233, b"\n"),
+    line("empty lines", "pretty", 209, b"\n"),
     line("short lines", "pretty", 86, b"a word\n"),
-    line("lines of texts", "pretty", 47, b"12:00 INFO got " + plain(READING).encode() + b"\n"),
+    line("lines of texts", "pretty", 48, b"12:00 INFO got " + plain(READING).encode() + b"\n"),
+    line("lines of locks", "pretty", 47, b"12:00 INFO got " + plain(LOCK).encode() + b"\n"),
+    line("lines of only dots", "pretty", 50, b"12:00 INFO got " + plain(ONLY_DOTS).encode() + b"\n"),
     line("lines of deep texts", "pretty", 212, plain(DEEP).encode() + b"\n"),
     line("short lines, made plain", "plain", 94, b"a word\n"),
-    line("groups", "plain", 51, b"12:00 INFO got " + pretty(READING).encode() + b"\n"),
-    line("groups of a bracket", "plain", 140, b"[\n]\n"),
+    line("groups", "plain", 53, b"12:00 INFO got " + pretty(READING).encode() + b"\n"),
+    line("groups of locks", "plain", 51, b"12:00 INFO got " + pretty(LOCK).encode() + b"\n"),
+    line("groups of a bracket", "plain", 134, b"[\n]\n"),
     line("groups of indented lines", "plain", 18, pretty(INDENTED).encode() + b"\n"),
 )
 SHAPES = LONG_LINES + MANY_LINES

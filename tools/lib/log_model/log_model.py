@@ -8,11 +8,11 @@ import sys
 
 sys.path.insert(0, str(pathlib.Path(__file__).resolve().parent.parent / "model"))
 
-from model import READ_DEBUG, Block, PlainReader, PrettyReader, plain, pretty, quoted  # noqa: E402, F401
+from model import DEBUG, STRUCTS, Block, PlainReader, PrettyReader, plain, pretty, quoted  # noqa: E402, F401
 
 MODES = ("pretty", "plain")
 # The reader of the texts that are converted to a mode, and what prints them in that mode.
-CONVERSIONS = {"pretty": (PlainReader(READ_DEBUG), pretty), "plain": (PrettyReader(READ_DEBUG), plain)}
+CONVERSIONS = {"pretty": (PlainReader(DEBUG), pretty), "plain": (PrettyReader(DEBUG), plain)}
 OPENING = (b"(", b"[", b"{")
 # A text may begin at a line's start, and after a space. No text begins with a space or a line feed.
 TEXT_START = re.compile(r"(?:^|(?<=[ \n]))(?=[^ \n])")

@@ -2,16 +2,16 @@
 import itertools
 import random
 
-from log_model import Block, plain, pretty, quoted
+from log_model import STRUCTS, Block, plain, pretty, quoted
 
 LETTERS = "abcxyzABCXYZ0189_-"
 # Characters of one to four bytes, and those that have an escape.
 CHARACTERS = "\0\t\n\r\\\"'\x01\x1b\x7f aZ~,:[]{}()\u0080\u00e9\u07ff\u20ac\ufffd\U0001f980\U0010ffff"
-KINDS = ("list", "set", "map", "struct", "tuple", "unnamed")
+KINDS = ("list", "set", "map", "struct", "open struct", "tuple", "unnamed")
 # What is between words, or next to a text. A text begins only after a space or a line feed.
 BETWEEN = (b" ", b" ", b" ", b"  ", b"    ", b"\t", b"=", b": ", b", ", b"\r ", b"\r", b"\0", b"\xff ", b"\xc3", b". ", b"\xc2\xa0", b"\x0b")
 AFTER = (b" ", b"\r", b".", b",", b"\0", b"]", b"}", b")", b"\t", b"\xff", b"  ", b"\x80", b"\xe2\x82")
-SIGNS = ("[", "{", "(", "]", "}", ")", "[]", "()", "{}", '"', "'", "S {", "a:", "(1,", "[1,", "{ }", "//", "\\", "\ufeff", "\u00e9")
+SIGNS = ("[", "{", "(", "]", "}", ")", "[]", "()", "{}", '"', "'", "S {", "a:", "(1,", "[1,", "{ }", "//", "\\", "\ufeff", "\u00e9", "..", "{ .. }", ".. }")
 # Counts and lengths around those where a counter or a buffer could end.
 NUMBERS = (*range(1, 18), 31, 32, 33, 63, 64, 65, 127, 128, 129, 254, 255, 256, 257, 1000, 1023, 1024, 1025)
 LENGTHS = (4095, 4096, 4097, 8191, 8192, 8193, 65_535, 65_536, 65_537, 131_072, 200_000)
@@ -43,17 +43,21 @@ class Maker:
     def document(self, leaves):
         """A document with so many leaves. It can be too deep for a text."""
         if leaves == 1 and self.random.random() < 0.6:
-            return self.leaf() if self.random.random() < 0.9 else Block(self.random.choice(("list", "map")), "", [])
+            return self.leaf() if self.random.random() < 0.9 else self.empty()
         cuts = sorted(self.random.randrange(leaves + 1) for _ in range(self.size(leaves) - 1))
         shares = [end - start for start, end in zip([0, *cuts], [*cuts, leaves]) if end > start]
         return self.block([self.document(share) for share in shares])
+
+    def empty(self):
+        kind = self.random.choice(("list", "map", "open struct"))
+        return Block(kind, self.word() if kind in STRUCTS else "", [])
 
     def block(self, values):
         kind = self.random.choice(KINDS)
         if kind == "map":
             return Block("map", "", [(self.leaf(), value) for value in values])
-        if kind == "struct":
-            return Block("struct", self.word(), [(self.word(), value) for value in values])
+        if kind in STRUCTS:
+            return Block(kind, self.word(), [(self.word(), value) for value in values])
         if kind == "unnamed":
             return Block("tuple", "", [(None, value) for value in values])
         return Block(kind, self.word() if kind == "tuple" else "", [(None, value) for value in values])
@@ -179,6 +183,9 @@ def each_number():
             yield quoted("\u00e9\n" * number).encode() + b" " + text
             yield b"a " + printed(Block("list", "", [(None, quoted(" " * number + "[1]"))])).encode()
         yield b"a [" + b"\n    b" * number + b"\n]\nb" + b"\n" * number + b"(" * number
+        for printed in (plain, pretty):
+            yield b"a " + printed(Block("open struct", "S" * number, [("f", "1")] * number)).encode()
+            yield b"a " * number + printed(Block("open struct", "S" * number, [])).encode()
 
 
 def each_length():

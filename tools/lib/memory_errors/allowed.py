@@ -58,6 +58,7 @@ IN_BODIES = [
     (NEVER, "ufmt_doc/src/reader/document_sink.rt", "take_fields", "if 2*(docs.len()-start)/2<docs.len()-start return Err(NEVER)"),
     (NEVER, "ufmt_doc/src/reader/document_sink.rt", "DocumentSink::open", "if self.blocks.is_full()return Err(NEVER)"),
     (NEVER, "ufmt_doc/src/reader/document_sink.rt", "DocumentSink::close", "if self.docs.len()<=block.start return Err(NEVER)"),
+    (NEVER, "ufmt_doc/src/reader/document_sink.rt", "DocumentSink::close_with_dots", "if self.docs.len()<=block.start return Err(NEVER)"),
     (DEPTH, "ufmt_examples/src/node.rt", "ParsesBy<Node>for Depth::parse_by", "Err(AllocError)"),
     (DEPTH, "ufmt_examples/src/node.rt", "ParsesBy<Node>for Depth::parse_by", "Depth::Out=>Err(AllocError)"),
     (DEPTH, "ufmt_examples/src/tree.rt", "ParsesBy<Tree>for Depth::parse_by", "Err(AllocError)"),

@@ -132,8 +132,8 @@ def lines(is_plain):
         yield LogGroup(name, STAMP + text, STAMP + other, bounds.case_of(features(document), text, other))
     for name, make in shapes.no_texts().items():
         text = STAMP + make(4 * COUNTED_SIZE)
-        # A line that ends with a bracket isn't the last of its group.
-        if text[-1] not in "[\n":
+        # A line that ends with a bracket isn't the last of its group. Only with `--plain` a group has several lines.
+        if text[-1] not in "[\n" and (is_plain or "\n" not in text):
             yield LogGroup(name, text, text, bounds.case_of(rough(text), text, text))
 
 

@@ -4,7 +4,7 @@ from typing import NamedTuple
 import bounds
 import shapes
 from features import Features, features, indentation, past_ascii
-from model import READ_DEBUG, PlainReader, PrettyReader, plain, pretty
+from model import DEBUG, PlainReader, PrettyReader, plain, pretty
 
 # Of texts whose steps are counted, and of those whose memory and time is.
 COUNTED_SIZE = 4 * 1024
@@ -41,7 +41,7 @@ class Sample(NamedTuple):
 
 
 # The readers of debug texts, and what prints their documents in the other mode.
-DEBUG_MODES = {"plain": (PlainReader(READ_DEBUG), pretty), "pretty": (PrettyReader(READ_DEBUG), plain)}
+DEBUG_MODES = {"plain": (PlainReader(DEBUG), pretty), "pretty": (PrettyReader(DEBUG), plain)}
 
 
 def no_text_case(text, other=""):

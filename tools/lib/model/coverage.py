@@ -59,6 +59,7 @@ PLACE_IN = {
     "set": "entry of a set",
     "map": "value",
     "struct": "field of a struct",
+    "open struct": "field of an open struct",
     "tuple": "field of a tuple",
     "unnamed": "field without names",
 }

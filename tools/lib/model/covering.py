@@ -8,6 +8,7 @@ KIND_OF_PLACE = {
     "key": "map",
     "value": "map",
     "field of a struct": "struct",
+    "field of an open struct": "open struct",
     "field of a tuple": "tuple",
     "field without names": "unnamed",
 }
@@ -16,9 +17,10 @@ LEAVES_EACH = 500
 
 
 class Covering:
-    def __init__(self, maker):
+    def __init__(self, maker, places=PLACES):
         self.maker = maker
         self.random = maker.random
+        self.in_places = places
 
     def documents(self):
         yield from (self.of_kind(kind) for kind in BLOCKS + LEAVES)
@@ -147,7 +149,7 @@ class Covering:
         for depth in range(DEEPEST, 0, -1):
             documents = beside(depth) if depth in depths else []
             documents.insert(self.random.randint(0, len(documents)), document) if documents else documents.append(document)
-            document = self.inside(self.random.choice(PLACES), documents)
+            document = self.inside(self.random.choice(self.in_places), documents)
         return document
 
     def keys(self, count):

@@ -3,15 +3,16 @@ text must fill. A cell ends with the mode in which the text was read.
 """
 import characters
 import debug_refused
-from coverage import DEPTHS, MANY, MODES, PLACE_IN, PLACES, POSITIONS, counts, depth_class, entries_class
+from coverage import BLOCKS, DEPTHS, LEAVES, MANY, MODES, PLACE_IN, POSITIONS, counts, depth_class, entries_class
 from coverage import kind_of, length_class, lengths, pairs, position, power, powers
-from debug_covering import NAME_SHAPES
+from debug_covering import DEBUG_PLACES, DOTS, NAME_SHAPES, OPEN_STRUCTS
 from debug_leaves import ENDS, ESCAPED, PIECE, SHAPES, is_in_word, shape, word_form
 from features import is_of_tokens
-from model import WORD, is_debug_name
+from model import STRUCTS, WORD, is_debug_name
 
 KINDS = ("word", "quotes")
-NAMES = ("struct", "tuple", "field")
+NAMES = ("struct", "tuple", "field", *OPEN_STRUCTS)
+BLOCKS_WITH_DOTS = (*BLOCKS, "open struct")
 # Of a longer leaf the pieces are only counted, and of a longer one in quotes no escapes are noted.
 NOTED_PIECES = 3
 NOTED_LENGTH = 6
@@ -29,7 +30,7 @@ class Walk:
         self.cells.add(("debug", *cell, self.mode))
 
     def walk(self, document):
-        """Each leaf and each name that no token document has."""
+        """Each leaf and each name that no token document has, and each struct that ends in dots."""
         stack = [(document, 0, "text", "only")]
         while stack:
             document, depth, place, at = stack.pop()
@@ -38,14 +39,31 @@ class Walk:
                 continue
             kind, count = kind_of(document), len(document.entries)
             self.name(document.name, kind)
+            if kind in OPEN_STRUCTS:
+                self.open_struct(document, kind, depth, place, at)
             for number, (before, value) in enumerate(document.entries):
                 at = position(number, count)
                 stack.append((value, depth + 1, PLACE_IN[kind], at))
+                if value == DOTS:
+                    self.add("dots as a value", PLACE_IN[kind], at)
                 if kind == "map":
                     stack.append((before, depth + 1, "key", at))
-                elif kind == "struct":
+                elif kind in STRUCTS:
                     self.name(before, "field")
+                    if before == DOTS:
+                        self.add("dots as a name of a field", kind, at)
         return self.cells
+
+    def open_struct(self, document, kind, depth, place, at):
+        count = len(document.entries)
+        self.add("open struct in a place", place, at, kind)
+        self.add("open struct by depth", depth_class(depth), kind)
+        if document.name == DOTS:
+            self.add("dots as a name", kind)
+        if count > 0:
+            self.add("entries of an open struct", entries_class(count))
+        for number, (_name, value) in enumerate(document.entries):
+            self.add("kind in an open struct", position(number, count), kind_of(value))
 
     def name(self, name, kind):
         if name and not WORD.fullmatch(name):
@@ -105,14 +123,30 @@ def not_in_words():
     yield from (("only", ord(":")), ("last", ord(":")))
 
 
+def open_structs():
+    """Where structs that end in dots can be, what they can have, and where else dots can be."""
+    inner = [depth for depth in DEPTHS if depth != 255]
+    kinds = (*BLOCKS, *LEAVES, *OPEN_STRUCTS)
+    yield from (("open struct in a place", *rest) for rest in pairs(DEBUG_PLACES, POSITIONS, OPEN_STRUCTS))
+    yield from (("open struct in a place", "text", "only", kind) for kind in OPEN_STRUCTS)
+    yield from (("open struct by depth", *rest) for rest in pairs((0, *inner), OPEN_STRUCTS))
+    yield ("open struct by depth", 255, "empty open struct")
+    yield from (("entries of an open struct", count) for count in counts(1024))
+    yield from (("kind in an open struct", *rest) for rest in pairs(POSITIONS, kinds))
+    yield from (("dots as a value", PLACE_IN[kind], at) for kind, at in pairs(BLOCKS_WITH_DOTS, POSITIONS))
+    yield from (("dots as a name of a field", *rest) for rest in pairs(STRUCTS, POSITIONS))
+    yield from (("dots as a name", kind) for kind in OPEN_STRUCTS)
+
+
 def wanted_in_each_mode():
     """The cells without their modes."""
-    yield from (("leaf in a place", *rest) for rest in pairs(PLACES, POSITIONS, KINDS))
+    yield from (("leaf in a place", *rest) for rest in pairs(DEBUG_PLACES, POSITIONS, KINDS))
     yield from (("leaf in a place", "text", "only", kind) for kind in KINDS)
     yield from (("leaf by depth", *rest) for rest in pairs((0, *DEPTHS), KINDS))
     yield from (("length of a leaf", *rest) for rest in pairs(KINDS, lengths(131072)) if rest[1] > 2 or rest[0] == "word")
     yield from (("length of a name", *rest) for rest in pairs(NAMES, lengths(4096)))
     yield from (("name", *rest) for rest in pairs(NAMES, NAME_SHAPES))
+    yield from open_structs()
     yield from (("pieces of a leaf", count) for count in counts(16384))
     yield from (("colons in a row", count) for count in (*counts(32768), MANY))
     yield from (("shape of a leaf", letters) for letters in SHAPES)

@@ -1,8 +1,12 @@
 """Documents that fill each cell of the table of debug texts. What a cell leaves open is chosen at random."""
-from coverage import EXACT_ENTRIES, EXACT_LENGTH, PLACES, powers
+from coverage import BLOCKS, EXACT_ENTRIES, EXACT_LENGTH, LEAVES, PLACES, powers
 from debug_leaves import ESCAPED, SHAPES
-from model import DEEPEST, Block
+from model import DEEPEST, STRUCTS, Block
 
+DEBUG_PLACES = (*PLACES, "field of an open struct")
+# Structs that end in dots, with fields and without.
+OPEN_STRUCTS = ("open struct", "empty open struct")
+DOTS = ".."
 NAME_SHAPES = ("p", "u", "Cp", "pCu", "wCw", "uCw")
 SHAPES_EACH = 60
 
@@ -25,9 +29,13 @@ class DebugCovering:
         yield from self.counts()
         yield from self.names()
         yield from self.spines()
+        yield from self.open_structs()
+        yield from self.dots()
 
     def of_kind(self, kind):
-        """A leaf that is a word, or one with quotes."""
+        """A leaf that is a word, or one with quotes; or a struct that ends in dots."""
+        if kind in OPEN_STRUCTS:
+            return self.open_struct(0 if kind == "empty open struct" else self.random.choice((1, 1, 2, 3)))
         return self.leaves.of_shape("p" if kind == "word" else self.random.choice(("o", "wt", "cpc", "Ct")))
 
     def shapes(self):
@@ -39,9 +47,9 @@ class DebugCovering:
 
     def places(self):
         """Each kind in each place: alone, first, in the middle and last."""
-        for kind in ("word", "quotes"):
+        for kind in ("word", "quotes", *OPEN_STRUCTS):
             yield self.of_kind(kind)
-            for place in PLACES:
+            for place in DEBUG_PLACES:
                 yield self.covering.inside(place, [self.of_kind(kind)])
                 yield self.covering.inside(place, [self.of_kind(kind) for _ in range(3)])
 
@@ -53,6 +61,8 @@ class DebugCovering:
         yield Block("struct", "S", [(self.leaves.word("u", size), "x") for size in sizes])
         yield listed([Block("struct", self.leaves.word("p", size), [("f", "x")]) for size in sizes])
         yield listed([Block("tuple", self.leaves.word("u", size), [(None, "x")]) for size in sizes])
+        yield listed([Block("open struct", self.leaves.word("p", size), [("f", "x")]) for size in sizes])
+        yield listed([Block("open struct", self.leaves.word("u", size), []) for size in sizes])
         for size in powers(131072)[13:]:
             yield self.leaves.of_length("word", self.covering.within(size))
             yield self.leaves.of_length("quotes", self.covering.within(size))
@@ -72,7 +82,8 @@ class DebugCovering:
         """Structs, tuples and fields with names of each shape."""
         for letters in NAME_SHAPES:
             name = self.leaves.of_shape
-            yield listed([Block("struct", name(letters), [(name(letters), "1.5")]), Block("tuple", name(letters), [(None, "x")])])
+            yield listed([Block(kind, name(letters), [(name(letters), "1.5")]) for kind in STRUCTS])
+            yield listed([Block("open struct", name(letters), []), Block("tuple", name(letters), [(None, "x")])])
 
     def spines(self):
         """Blocks nested as deep as allowed, with a leaf of each kind beside at each class of depths."""
@@ -80,5 +91,35 @@ class DebugCovering:
             yield self.covering.spine(lambda depth, kind=kind: [self.of_kind(kind)])
             document = self.of_kind(kind)
             for _ in range(DEEPEST):
-                document = self.covering.inside(self.random.choice(PLACES), [document])
+                document = self.covering.inside(self.random.choice(DEBUG_PLACES), [document])
             yield document
+        yield self.covering.spine(self.open_structs_at)
+
+    def open_structs_at(self, depth):
+        return [self.of_kind(kind) for kind in OPEN_STRUCTS if depth < DEEPEST or kind == "empty open struct"]
+
+    def open_struct(self, count):
+        """A struct of so many fields that ends in dots."""
+        return Block("open struct", self.maker.word(), [(self.maker.word(), self.maker.small()) for _ in range(count)])
+
+    def open_structs(self):
+        """With each number of fields, and with each kind of value: alone, first, in the middle and last."""
+        for count in [*range(EXACT_ENTRIES + 1), *(self.covering.within(size) for size in powers(1024) if size > EXACT_ENTRIES)]:
+            yield self.open_struct(count)
+        values = [self.covering.of_kind(kind) for kind in BLOCKS + LEAVES] + [self.of_kind(kind) for kind in OPEN_STRUCTS]
+        for _ in values:
+            values = values[1:] + values[:1]
+            yield self.maker.block("open struct", values)
+            yield self.maker.block("open struct", values[:1])
+
+    def dots(self):
+        """Dots as values and as names of fields: alone, first, in the middle and last. Dots as the name of a struct."""
+        rows = [DOTS], [DOTS, "x", "y"], ["x", DOTS, "y"], ["x", "y", DOTS], [DOTS] * 3
+        for row in rows:
+            for kind in (*BLOCKS, "open struct"):
+                yield self.maker.block(kind, row)
+            for kind in STRUCTS:
+                yield Block(kind, "S", [(name, "1") for name in row])
+                yield Block(kind, DOTS, [(name, name) for name in row])
+        yield Block("open struct", DOTS, [])
+        yield Block("tuple", DOTS, [(None, DOTS)])

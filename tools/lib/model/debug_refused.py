@@ -1,5 +1,5 @@
 """Texts that are no debug texts, by the reason why."""
-from model import DEEPEST, Block, plain, pretty
+from model import DEEPEST, STRUCTS, Block, plain, pretty
 
 CONTROLS = [bytes([code]) for code in (*range(0x20), 0x7F)]
 NO_UTF_8 = (b"\x80", b"\xff", b"\xc3", b"\xc0\x80", b"\xe2\x82", b"\xed\xa0\x80", b"\xf0\x9f\xa6", b"\xf4\x90\x80\x80")
@@ -7,7 +7,24 @@ PAST_ASCII = ("\u00e9", "\u0301", "\u20ac", "\U0001f980")
 COLONS = (1, 2, 3, 999, 1000, 1001, 100_000)
 PIECES = 33_000
 OPEN_QUOTES = ('"', "'", '"a', "b'a", 'a"', "a:'", '"a""', '"a".."b', '[1, "a]', "('a,)", "1.5'", "'a'..='z", 'S { a: b" }')
-DOTS = ("P { .. }", "P { a: 1, .. }", "P {\n    ..\n}", "P {\n    a: 1,\n    ..\n}", "P {\n    a: 1,\n    ..,\n}", "P { .., a: 1 }")
+# Where dots come that don't end a struct as they should.
+COMMA_AFTER_DOTS = ("P {\n    a: 1,\n    ..,\n}", "P {\n    ..,\n}", "P { a: 1, .., }", "P { .., }", "P { a: 1, ..,}")
+FIELD_AFTER_DOTS = ("P { .., a: 1 }", "P { a: 1, .., b: 2 }", "P { .., .. }", "P {\n    a: 1,\n    ..\n    b: 2,\n}", "P {\n    ..\n    a: 1,\n}")
+DOTS_ON_A_LINE = ("P {\n    ..\n}", "P {\n..\n}", "P {\n    .. }", "[\n    P {\n        ..\n    },\n]")
+SPACES_AT_DOTS = (
+    "P { ..}", "P {..}", "P {.. }", "P{ .. }", "P  { .. }", "P { ..  }", "P {  .. }", "P { a: 1 .. }", "P { a: 1, ..}", "P { a: 1,.. }",
+    "P { a: 1,  .. }", "P { a: 1, .. } ", "P {\n    a: 1\n    ..\n}", "P {\n    a: 1,\n..\n}", "P {\n    a: 1,\n        ..\n}",
+    "P {\n    a: 1,\n    .. \n}", "P {\n    a: 1,\n    ..}", "P {\n    a: 1,\n    ..\n    }", "P {\n    a: 1,\n    ..\n\n}",
+)
+OPEN_DOTS = (
+    "P { ..", "P { .. ", "P { a: 1, ..", "P { a: 1, .. ", "P { a: 1, .. )", "P { a: 1, .. ]", "[P { a: 1, .. ]", "P { a: Q { b: 1, .. }",
+    "P {\n    a: 1,\n    ..", "P {\n    a: 1,\n    ..\n", "P {\n    a: 1,\n    ..\n)", "P {\n    a: Q {\n        b: 1,\n        ..\n    }",
+)
+DOTS_IN_OTHERS = (
+    "{a: 1, .. }", "{a: 1, ..}", "{1, .. }", "[1, .. ]", "(1, .. )", "T(1, .. )", "T(1, .. }", "{ .. }", " { .. }", "[ .. ]", "T( .. )", "()  { .. }",
+    "() { .. }", "[] { .. }", "[\n    1,\n    ..\n]", "{\n    1,\n    ..\n}", "{\n    a: 1,\n    ..\n}", "(\n    1,\n    ..\n)", "T(\n    1,\n    ..\n)",
+)
+OTHER_DOTS = ("P { ... }", "P { . }", "P { a: 1, ... }", "P { a: 1, . }", "P { a: 1, ..= }", "P { \u2025 }", "P {\n    a: 1,\n    ...\n}", "P { a: 1, ..: }")
 
 
 def encoded(*texts):
@@ -20,11 +37,11 @@ def within(before, middles, after):
 
 def too_deep():
     """Blocks of which one is too deep, with a leaf and with names that no token document has."""
-    for kind, name in (("list", ""), ("tuple", "a::B"), ("struct", "\u00e9")):
-        document = "1.5"
-        for _ in range(DEEPEST + 1):
-            document = Block(kind, name, [("1.5" if kind == "struct" else None, document)])
-        yield from encoded(plain(document), pretty(document))
+    for kind, name in (("list", ""), ("tuple", "a::B"), ("struct", "\u00e9"), ("open struct", "P")):
+        for document in ("1.5", Block("open struct", "P", [])):
+            for _ in range(DEEPEST + 1):
+                document = Block(kind, name, [("1.5" if kind in STRUCTS else None, document)])
+            yield from encoded(plain(document), pretty(document))
 
 
 def rows():
@@ -48,8 +65,14 @@ def rows():
         "a backslash before the last quote": encoded('"a\\"', "'\\'", '"\\', 'b"\\"', "'a'..='\\'", '"\\\\\\"'),
         "a backslash outside quotes that takes a quote": encoded('\\"', "a\\'b", "\\'"),
         "a backslash before a character past ASCII": encoded(*(form % past for past in PAST_ASCII for form in ('"\\%s"', "b'a\\%sb'"))),
-        "a name with quotes": encoded('S"a"(1)', 'b"x" { a: 1 }', 'S { "a": 1 }', "S { b'x': 1 }", "'a'(1)", "a::'b'(1)"),
-        "a struct that ends in dots": encoded(*DOTS),
+        "a name with quotes": encoded('"S" { .. }', "b'x' { a: 1, .. }", 'S { "a": 1, .. }', 'S"a"(1)', 'b"x" { a: 1 }', 'S { "a": 1 }', "S { b'x': 1 }", "'a'(1)", "a::'b'(1)"),
+        "a comma after the dots of a struct": encoded(*COMMA_AFTER_DOTS),
+        "a field after the dots of a struct": encoded(*FIELD_AFTER_DOTS),
+        "only dots, on a line of their own": encoded(*DOTS_ON_A_LINE),
+        "other spaces at the dots of a struct": encoded(*SPACES_AT_DOTS),
+        "dots of a struct that nothing closes": encoded(*OPEN_DOTS),
+        "dots at the end of another block": encoded(*DOTS_IN_OTHERS),
+        "other dots at the end of a struct": encoded(*OTHER_DOTS),
         "a unit or an empty block beside a piece": encoded("a()", "()a", "1.5()", "()()", '""()', "a[]", "[]a", "a{}", "{}1.5", "[]..[]"),
         "a space beside a piece": encoded("1.5 s", " 1.5", "1.5 ", "a ::B", "a:: B", '"a" .. "b"', "[1.5, 2.5 ]", "b 'x'"),
         "a comma beside a piece": encoded("1.5,", ",1.5", "1.5,2.5", "[1.5,2.5]", "[1.5, ]", "[, 1.5]", "(1.5)", "[1.5,, 2.5]"),

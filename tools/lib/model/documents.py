@@ -8,9 +8,9 @@ import pieces
 import values
 from coverage import powers
 from covering import Covering
-from debug_covering import DebugCovering
+from debug_covering import DEBUG_PLACES, DebugCovering
 from debug_leaves import PRINTED, LeafMaker
-from model import DEEPEST, Block, plain, pretty, quoted
+from model import DEEPEST, STRUCTS, Block, plain, pretty, quoted
 
 LETTERS = "abcxyzABCXYZ0189_-"
 # Characters of one to four bytes, the ends of these ranges, and characters that have an escape.
@@ -28,6 +28,7 @@ DEPTHS = (1, 2, 3, 4, 5, 8, 12, 13, 16, 17, 31, 32, 33, 64, 100, 127, 128, 129, 
 # A document of a random size has at most so many nodes, and its leaves and names together about so many bytes.
 MOST_NODES = 1500
 MOST_BYTES = 6000
+KINDS = ("list", "set", "map", "struct", "tuple", "unnamed")
 # The places that a document can have in a block of a chain.
 PLACES = ("list", "set", "key", "value", "struct", "tuple", "unnamed", "last of two", "first of two")
 # What a change puts in: brackets, spaces, line ends, escapes and quotes; and bytes that are no UTF-8.
@@ -36,7 +37,7 @@ PIECES = (
     '"', "'", "\\", "\\n", "\\u{1b}", "\\u{a}", "\\u{7F}", "\\u{07f}", "\\u{41}", "\\'", '\\"', "\\x", "a", "-", "\u00e9",
 )
 # What a change puts into debug texts besides.
-DEBUG_PIECES = ("..", "..=", "::", ":", "a:", ":a", "b'", 'b"', '""', "'x'", "\\\u00e9", "1.5", "\u20ac", "<", ">", *PRINTED)
+DEBUG_PIECES = ("..", "..=", ", ..", " { .. }", "    ..\n", "::", ":", "a:", ":a", "b'", 'b"', '""', "'x'", "\\\u00e9", "1.5", "\u20ac", "<", ">", *PRINTED)
 BAD_BYTES = (b"\xff", b"\x80", b"\xc3", b"\xc0\x80", b"\xed\xa0\x80", b"\xf4\x90\x80\x80", b"\xe2\x82", b"\xf0\x9f\xa6")
 
 
@@ -52,6 +53,8 @@ class Maker:
     """Makes documents. The longest names and leaves have `longest` characters, which each document chooses anew."""
 
     pieces = PIECES
+    kinds = KINDS
+    places = PLACES
 
     def __init__(self, seed):
         self.random = random.Random(seed)
@@ -108,15 +111,15 @@ class Maker:
         """A block of this kind with these values. An unnamed tuple is of the kind "unnamed"."""
         if kind == "map":
             return Block("map", "", [(self.leaf(), value) for value in values])
-        if kind == "struct":
-            return Block("struct", self.word(), [(self.word(), value) for value in values])
+        if kind in STRUCTS:
+            return Block(kind, self.word(), [(self.word(), value) for value in values])
         if kind == "unnamed":
             return Block("tuple", "", [(None, value) for value in values])
         name = self.word() if kind == "tuple" else ""
         return Block(kind, name, [(None, value) for value in values])
 
     def kind(self):
-        return self.random.choice(("list", "set", "map", "struct", "tuple", "unnamed"))
+        return self.random.choice(self.kinds)
 
     def document(self):
         """A document of any size."""
@@ -155,11 +158,11 @@ class Maker:
         """Nested blocks with one document inside, at one place or at any. They can be one deeper than allowed."""
         depth = self.random.choice(DEPTHS)
         self.longest = self.up_to(40)
-        place = self.random.choice(PLACES)
+        place = self.random.choice(self.places)
         is_mixed = self.random.random() < 0.3
         document = self.random.choice((self.leaf(), self.empty(), "x"))
         for _ in range(depth):
-            document = self.deeper(self.random.choice(PLACES) if is_mixed else place, document)
+            document = self.deeper(self.random.choice(self.places) if is_mixed else place, document)
         return document
 
     def whole_text(self):
@@ -180,7 +183,7 @@ class Maker:
         leaf = self.long_leaf()
         if self.random.random() < 0.5:
             return leaf
-        return self.deeper(self.random.choice(PLACES), leaf)
+        return self.deeper(self.random.choice(self.places), leaf)
 
     def changed(self, data):
         """The text with a change, most often by one byte or one piece."""
@@ -238,9 +241,11 @@ class Maker:
 
 
 class DebugMaker(Maker):
-    """Makes debug documents. Some of their leaves and names are those of token documents."""
+    """Makes debug documents. Some of their leaves and names are those of token documents, and some of their structs end in dots."""
 
     pieces = PIECES + DEBUG_PIECES
+    kinds = (*KINDS, "open struct")
+    places = (*PLACES, "open struct")
 
     def __init__(self, seed):
         super().__init__(seed)
@@ -255,6 +260,9 @@ class DebugMaker(Maker):
         if self.random.random() < 0.3:
             return super().leaf()
         return self.leaves.leaf(self.up_to(self.longest))
+
+    def empty(self):
+        return Block("open struct", self.word(), []) if self.random.random() < 0.4 else super().empty()
 
     def long_leaf(self):
         length = self.random.choice((self.random.choice(LENGTHS), self.up_to(100_000)))
@@ -280,7 +288,7 @@ def in_both_modes(documents):
 def too_deep(maker):
     """In each place a chain that is almost too deep, and one that is."""
     for depth in (DEEPEST - 1, DEEPEST, DEEPEST + 1):
-        for place in PLACES:
+        for place in maker.places:
             document = "x"
             for _ in range(depth):
                 document = maker.deeper(place, document)
@@ -297,11 +305,12 @@ def first_texts(seed):
     """Texts that come first: each cell of the table of coverage, and each shape at each limit."""
     maker, debug_maker = Maker(seed), DebugMaker(seed)
     covering = Covering(maker)
-    debug_covering = DebugCovering(debug_maker, Covering(debug_maker))
+    debug_covering = DebugCovering(debug_maker, Covering(debug_maker, DEBUG_PLACES))
     yield from (b"", b"\n", b"()", b"[]", b"{}", b'""', b"''", b"x\n")
     yield from pieces.first_texts()
     yield from in_both_modes(values.first_texts(maker.random))
     yield from in_both_modes(too_deep(maker))
+    yield from in_both_modes(too_deep(debug_maker))
     yield from in_both_modes(covering.documents())
     yield from in_both_modes(debug_covering.documents())
     yield from in_both_modes(listed_leaves(PRINTED))

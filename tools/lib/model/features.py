@@ -2,7 +2,7 @@
 import collections
 from typing import NamedTuple
 
-from model import PIECE, TOKEN
+from model import PIECE, STRUCTS, TOKEN
 
 # What an entry takes in memory besides its texts, a pair of a key and a value, and a field.
 DOC, PAIR, FIELD = 56, 112, 80
@@ -74,14 +74,14 @@ def of_leaf(leaf, add, times):
 def of_block(block, add):
     """What a block has besides its keys and values."""
     kind, name, entries = block
-    if not entries:
-        add(empties=1)
-        return
-    each = {"map": PAIR, "struct": FIELD}.get(kind, DOC)
-    names = [name] * (name != "") + [before for before, _value in entries if kind == "struct"]
+    names = [name] * (name != "") + [before for before, _value in entries if kind in STRUCTS]
     for text in names:
         of_leaf(text, add, 1)
-    add(blocks=1, entry_bytes=each * len(entries))
+    if entries:
+        each = {"map": PAIR, "struct": FIELD, "open struct": FIELD}.get(kind, DOC)
+        add(blocks=1, entry_bytes=each * len(entries))
+    else:
+        add(empties=1)
 
 
 def features(document):

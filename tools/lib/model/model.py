@@ -17,7 +17,7 @@ class Block(NamedTuple):
     """A list, a set, a map, a struct, an open struct or a tuple. An open struct ends in two dots.
 
     An entry is a pair: what is before the colon, and a document. Before the colon a map has a document, and
-    a struct has a name. The other kinds have None.
+    a struct of either kind has a name. The other kinds have None.
     """
 
     kind: str
@@ -43,6 +43,8 @@ PRETTY_FRAMES = {
     "open struct": (" {\n", "}"),
     "tuple": ("(\n", ")"),
 }
+# The kinds of blocks with a name before each value.
+STRUCTS = ("struct", "open struct")
 # What a block without entries has after its name.
 EMPTY = {"list": "[]", "map": "{}", "open struct": " { .. }"}
 DOTS_LINE = "..\n"
@@ -202,8 +204,6 @@ def is_debug_name(leaf):
 
 
 DEBUG = TextClass(debug_leaf_at, is_debug_name, has_open_structs=True)
-# The debug texts that the library reads: none with a struct that ends in dots.
-READ_DEBUG = DEBUG._replace(has_open_structs=False)
 
 
 # ---- The readers of plain and pretty texts. A call returns a document and where it ends, or None.
@@ -353,26 +353,26 @@ class PrettyReader(Reader):
 
 
 def events(document, out):
-    """The events that a scan emits: signs for each event, and its text."""
+    """The events that a scan emits: signs for each event, and its text. Dots come after `Next`, and end their struct."""
     if isinstance(document, str):
         out.append("=" + document + " ")
         return
     kind, name, entries = document
-    letter = {"list": "l", "set": "b", "map": "b", "struct": "s", "tuple": "t" if name else "u"}[kind]
+    letter = {"list": "l", "set": "b", "map": "b", "struct": "s", "open struct": "s", "tuple": "t" if name else "u"}[kind]
     if not entries:
-        out.append("e" + letter + " ")
+        out.append("ed" + name + " " if kind == "open struct" else "e" + letter + " ")
         return
     out.append("o" + letter + name + " ")
     for number, (before, value) in enumerate(entries):
         if number > 0:
             out.append(", ")
-        if kind == "struct":
+        if kind in STRUCTS:
             out.append("." + before + " ")
         elif kind == "map":
             events(before, out)
             out.append(": ")
         events(value, out)
-    out.append("c" + letter + ("1 " if len(entries) == 1 else "2 "))
+    out.append(", cd " if kind == "open struct" else "c" + letter + ("1 " if len(entries) == 1 else "2 "))
 
 
 def parts(document, out):
@@ -382,10 +382,10 @@ def parts(document, out):
         out.append("=" + document + (" " if inside is None else "~" + inside + " "))
         return
     kind, name, entries = document
-    letter = {"list": "l", "set": "b", "map": "m", "struct": "s", "tuple": "t"}[kind]
+    letter = {"list": "l", "set": "b", "map": "m", "struct": "s", "open struct": "d", "tuple": "t"}[kind]
     out.append(letter + name + "(")
     for before, value in entries:
-        if kind == "struct":
+        if kind in STRUCTS:
             out.append(before + ":")
         elif kind == "map":
             parts(before, out)

@@ -7,7 +7,9 @@ A document is printed in these pieces: the bracket or the name with which a bloc
 the first entry ` {` in a struct and `(` in a tuple; before the first entry a line feed in pretty mode, and a space before
 the first field in plain mode; `, ` between entries in plain mode; four spaces for each level of indentation; a field's
 name; `: `; `,` and a line feed after an entry in pretty mode; before a closing bracket the space or the comma that plain
-mode has there; and the bracket. A leaf is one piece. Only a name or a leaf can be an empty piece.
+mode has there; and the bracket. A leaf is one piece. Only a name or a leaf can be an empty piece. The dots that end a
+struct are `, ..` in plain mode, and in pretty mode `..` and a line feed, after the indentation of the fields. Without fields
+` {`, the dots and the bracket are one piece.
 
 A value with a text or a character in it has these pieces for it: a quote, each escape, each stretch without escapes, and
 a quote. A character without an escape comes by `write_char`. All else comes by `write_str`.
@@ -15,23 +17,26 @@ a quote. A character without an escape comes by `write_char`. All else comes by 
 A conversion writes each event of a scan in at most two pieces, which are not empty: a leaf; `[]` or `{}`; a block's name,
 and what opens the block, with the whole indentation of its first entry; a field's name, and `: `; `: ` after a key; what
 separates two entries, with the whole indentation of the second; and what closes a block, which in pretty mode is `,` with
-a line feed and the whole indentation, and then the bracket.
+a line feed and the whole indentation, and then the bracket. Dots come after what separates two entries: in plain mode with
+the bracket, and in pretty mode with a line feed and the whole indentation, and then the bracket. Without fields it is the
+name, and ` {` with the dots and the bracket.
 """
 import functools
 import re
 import zlib
 
-from model import Block, plain, pretty, quoted
+from model import EMPTY, STRUCTS, Block, plain, pretty, quoted
 
 END = b"\xff"
 INDENT = "    "
 OPENING = {"list": "[", "set": "{", "map": "{"}
-CLOSING = {"list": "]", "set": "}", "map": "}", "struct": "}", "tuple": ")"}
+CLOSING = {"list": "]", "set": "}", "map": "}", "struct": "}", "open struct": "}", "tuple": ")"}
 # What comes before the first entry of a block, in plain mode and in pretty mode.
-START = {"struct": ((" {", " "), (" {", "\n")), "tuple": (("(",), ("(", "\n"))}
+OF_STRUCT = ((" {", " "), (" {", "\n"))
+START = {"struct": OF_STRUCT, "open struct": OF_STRUCT, "tuple": (("(",), ("(", "\n"))}
 OTHER_START = ((), ("\n",))
 # What opens a block in a conversion, after its name.
-CONVERTED_OPENING = {"list": "[", "set": "{", "map": "{", "struct": " {", "tuple": "("}
+CONVERTED_OPENING = {"list": "[", "set": "{", "map": "{", "struct": " {", "open struct": " {", "tuple": "("}
 
 
 def digest(data):
@@ -85,7 +90,7 @@ def printed(document, is_pretty, of_leaf=by_text, depth=0):
             out.append(by_text(", "))
         out.append(indents(inside))
         if before is not None:
-            out.append(by_text(before) if kind == "struct" else printed(before, is_pretty, of_leaf, inside))
+            out.append(by_text(before) if kind in STRUCTS else printed(before, is_pretty, of_leaf, inside))
             out.append(by_text(": "))
         out.append(printed(value, is_pretty, of_leaf, inside))
         if is_pretty:
@@ -96,6 +101,8 @@ def printed(document, is_pretty, of_leaf=by_text, depth=0):
 
 def printed_ending(document, is_pretty, depth):
     kind, name, entries = document
+    if kind == "open struct":
+        return printed_dots(entries, is_pretty, depth)
     if not entries:
         return by_text(CLOSING[kind]) if kind in OPENING else b""
     if is_pretty:
@@ -104,6 +111,15 @@ def printed_ending(document, is_pretty, depth):
         return by_text(" ", "}")
     is_single = kind == "tuple" and name == "" and len(entries) == 1
     return by_text(",", ")") if is_single else by_text(CLOSING[kind])
+
+
+def printed_dots(entries, is_pretty, depth):
+    """Dots and the end of a struct."""
+    if not entries:
+        return by_text(EMPTY["open struct"])
+    if is_pretty:
+        return indents(depth + 1) + by_text("..\n") + indents(depth) + by_text("}")
+    return by_text(", ..", " ", "}")
 
 
 # ---- Conversions.
@@ -115,19 +131,21 @@ def converted(document, is_pretty, depth=0):
         return by_text(document)
     kind, name, entries = document
     if not entries:
-        return by_text(OPENING[kind] + CLOSING[kind])
+        return by_text(name, EMPTY[kind]) if name else by_text(EMPTY[kind])
     inside = depth + 1 if is_pretty else 0
     line = "\n" + INDENT * inside
-    opening = CONVERTED_OPENING[kind] + (line if is_pretty else " " * (kind == "struct"))
+    opening = CONVERTED_OPENING[kind] + (line if is_pretty else " " * (kind in STRUCTS))
     separator = by_text("," + (line if is_pretty else " "))
     out = [by_text(name, opening) if name else by_text(opening)]
     for number, (before, value) in enumerate(entries):
         if number > 0:
             out.append(separator)
         if before is not None:
-            out.append(by_text(before) if kind == "struct" else converted(before, is_pretty, inside))
+            out.append(by_text(before) if kind in STRUCTS else converted(before, is_pretty, inside))
             out.append(by_text(": "))
         out.append(converted(value, is_pretty, inside))
+    if kind == "open struct":
+        out.append(separator)
     out.append(converted_ending(document, is_pretty, depth))
     return b"".join(out)
 
@@ -135,7 +153,9 @@ def converted(document, is_pretty, depth=0):
 def converted_ending(document, is_pretty, depth):
     kind, name, entries = document
     if is_pretty:
-        return by_text(",\n" + INDENT * depth, CLOSING[kind])
+        return by_text((".." if kind == "open struct" else ",") + "\n" + INDENT * depth, CLOSING[kind])
+    if kind == "open struct":
+        return by_text(".. }")
     is_single = kind == "tuple" and name == "" and len(entries) == 1
     return by_text(" " * (kind == "struct") + "," * is_single + CLOSING[kind])
 
@@ -157,14 +177,15 @@ def of_values(document, is_pretty, count):
 
 LENGTHS = (1, 2, 3, 4, 7, 8, 9, 15, 16, 17, 31, 32, 33, 63, 64, 65, 127, 128, 129, 255, 256, 257, 999, 1000, 1001, 4095, 4096, 4097, 5000)
 LONGEST = 100_000
+KINDS = ("list", "set", "map", "struct", "open struct", "tuple")
 # Characters of one to four bytes, and some with escapes of two to six bytes.
 CHARACTERS = "a\u00e9\u20ac\U0001f980\0\"'\x01\x1b"
 
 
 def block(kind, name, values):
     """A block of this kind, of which all names are this one."""
-    before = {"map": "k", "struct": name}.get(kind)
-    return Block(kind, name if kind in ("struct", "tuple") else "", [(before, value) for value in values])
+    before = name if kind in STRUCTS else {"map": "k"}.get(kind)
+    return Block(kind, name if kind in (*STRUCTS, "tuple") else "", [(before, value) for value in values])
 
 
 def named(length):
@@ -172,9 +193,12 @@ def named(length):
     name = "n" * length
     yield Block("struct", name, [("a", "x")])
     yield Block("struct", "S", [("a", "x"), (name, "y"), ("b", "z")])
+    yield Block("open struct", name, [])
+    yield Block("open struct", name, [("a", "x")])
+    yield Block("open struct", "S", [("a", "x"), (name, "y"), ("b", "z")])
     yield Block("tuple", name, [(None, "x"), (None, "y"), (None, "z")])
     yield Block("map", "", [(name, "x"), ("k", name)])
-    for kind in ("list", "set", "struct", "tuple"):
+    for kind in ("list", "set", "struct", "open struct", "tuple"):
         yield block(kind, "T", ["x", quoted(name), name])
 
 
@@ -187,7 +211,7 @@ def stretches(length):
 
 def wide(width):
     """Blocks of each kind with so many entries."""
-    for kind in ("list", "set", "map", "struct", "tuple"):
+    for kind in KINDS:
         yield block(kind, "T", ["x"] * width)
     yield Block("tuple", "", [(None, "x")] * width)
 
@@ -203,7 +227,7 @@ def documents():
 
 def deep(depth):
     """A block of each kind at this depth, in lists."""
-    for kind in ("list", "set", "map", "struct", "tuple"):
+    for kind in KINDS:
         document = Block("list", "", [(None, block(kind, "T", ["x", Block("list", "", []), "y"]))])
         for _ in range(depth - 1):
             document = Block("list", "", [(None, document)])

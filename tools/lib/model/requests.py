@@ -159,6 +159,8 @@ def names(name):
     blocks.append(Block("map", "", [(leaf, leaf), (written, written)]))
     blocks.append(Block("struct", name, [(name, leaf), (name, written)]))
     blocks.append(Block("tuple", name, [(None, leaf), (None, written)]))
+    blocks += [Block("open struct", name, [(name, leaf)] * count) for count in (0, 1)]
+    blocks.append(Block("open struct", name, [(name, leaf), (name, written)]))
     return b"".join(printed(block, is_pretty, of_leaf) for is_pretty in (False, True) for block in blocks)
 
 

@@ -1,8 +1,9 @@
 """Documents of each shape, token documents and debug documents, and texts of no token document, in any size."""
-from model import Block, plain, quoted
+from model import STRUCTS, Block, plain, quoted
 
 PLACES = ("list", "set", "key", "value", "struct", "tuple", "unnamed")
 TREE = Block("struct", "Tree", [("size", "1"), ("children", Block("list", "", []))])
+ONLY_DOTS = Block("open struct", "S", [])
 # Each kind of leaf, in its shortest texts and in some that are a little longer.
 LEAVES = {
     "letters": "x",
@@ -71,8 +72,8 @@ def placed(place, document):
         return Block("map", "", [(document, "v")])
     if place == "value":
         return Block("map", "", [("k", document)])
-    if place == "struct":
-        return Block("struct", "S", [("f", document)])
+    if place in STRUCTS:
+        return Block(place, "S", [("f", document)])
     if place in ("tuple", "unnamed"):
         return Block("tuple", "N" if place == "tuple" else "", [(None, document)])
     return Block(place, "", [(None, document)])
@@ -82,8 +83,8 @@ def wide(place, value, size):
     """A block with the value in this place in each entry."""
     block = placed(place, value)
     count = max(size // len(plain(block)), 2)
-    if place == "struct":
-        return Block("struct", "S", [("f%d" % number, value) for number in range(count)])
+    if place in STRUCTS:
+        return Block(place, "S", [("f%d" % number, value) for number in range(count)])
     return Block(block.kind, block.name, block.entries * count)
 
 
@@ -133,10 +134,10 @@ def ordered_map(size):
     return Block("map", "", [(quoted("%06d" % number), Block("tuple", "Some", [(None, "7")])) for number in range(size // 19)])
 
 
-def named(size):
-    """Structs and tuples with long names, and fields with long names."""
+def named(size, kind="struct"):
+    """A struct of this kind and a tuple with long names, and fields with long names."""
     fields = [("f" * (size // 16) + str(number), "x") for number in range(8)]
-    return listed([Block("struct", "S" * (size // 4), fields), Block("tuple", "T" * (size // 4), [(None, "x")])])
+    return listed([Block(kind, "S" * (size // 4), fields), Block("tuple", "T" * (size // 4), [(None, "x")])])
 
 
 def repeated(document, size):
@@ -172,6 +173,25 @@ def debug_leaf(row, size):
     return before + piece * (size // len(piece.encode())) + after
 
 
+def open_structs():
+    """Shapes of structs that end in dots."""
+    one, place = placed("open struct", "x"), "open struct"
+    return {
+        "a wide open struct": lambda size: wide(place, "x", size),
+        "a wide list of an open struct each": lambda size: repeated(one, size),
+        "a wide list of only dots": lambda size: repeated(ONLY_DOTS, size),
+        "a wide set of only dots": lambda size: wide("set", ONLY_DOTS, size),
+        "a wide open struct of only dots": lambda size: wide(place, ONLY_DOTS, size),
+        "a wide open struct of dots": lambda size: wide(place, "..", size),
+        "a deep open struct": lambda size: deep(place, size),
+        "a deep and wide open struct": lambda size: deep_and_wide(place, size),
+        "a deep open struct, of an open struct each": lambda size: around(place, one, size),
+        "a deep list of only dots": lambda size: around("list", ONLY_DOTS, size),
+        "long names of an open struct": lambda size: named(size, place),
+        "a long name and only dots": lambda size: Block(place, "S" * size, []),
+    }
+
+
 def debug_documents():
     """Each shape of debug documents that aren't token documents, in the same way."""
     shapes = {"a long leaf, " + name: lambda size, row=row: debug_leaf(row, size) for name, row in DEBUG_ROWS.items()}
@@ -182,6 +202,7 @@ def debug_documents():
     # Nearly all of these texts is indentation, which is the same in both classes. So there are only two.
     for place in ("list", "struct"):
         shapes["a deep %s of paths" % place] = lambda size, place=place: around(place, "a::B", size)
+    shapes.update(open_structs())
     shapes["long names past ASCII"] = lambda size: listed([Block("struct", "\u20ac" * (size // 6), [("a:" * (size // 4) + "a", "x")])])
     return shapes
 
@@ -204,6 +225,9 @@ def no_texts():
         "an open list": lambda size: "[" + ", ".join("x" * (size // 3)),
         "an open map": lambda size: "{" + ", ".join(["k: v"] * (size // 6)),
         "an open pretty list": lambda size: "[\n" + "    x,\n" * (size // 7),
+        "an open struct without its end": lambda size: "S { " + "a: x, " * (size // 6) + "..",
+        "only dots and a rest": lambda size: "[" + "S { .. }, " * (size // 10) + "S { .. }.]",
+        "dots and a comma": lambda size: "S {\n" + "    a: x,\n" * (size // 10) + "    ..,\n}",
         "a list and a rest": lambda size: "[" + "x, " * (size // 3) + "x]]",
         "a word and a byte that is no text": lambda size: "x" * size + "\x7f",
     }

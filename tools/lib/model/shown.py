@@ -1,7 +1,7 @@
 """What the leaves and the fields of a document show, in the order and the form in which the program notes it."""
 import string
 
-from model import unquoted
+from model import STRUCTS, unquoted
 
 # How many fields of a struct are asked for, besides its last.
 MOST_FIELDS = 8
@@ -17,7 +17,7 @@ def text_of(document):
 
 def field_text(document, name):
     """The text of a struct's first field with this name. None if there is none, or if it is a block."""
-    if isinstance(document, str) or document.kind != "struct":
+    if isinstance(document, str) or document.kind not in STRUCTS:
         return None
     for other, value in document.entries:
         if other == name:
@@ -45,7 +45,7 @@ def shown(document, out):
     out.append("x" + noted(field_text(document, "x")))
     if isinstance(document, str):
         return
-    if document.kind == "struct":
+    if document.kind in STRUCTS:
         names = [name for name, _value in document.entries]
         for name in names[:MOST_FIELDS] + names[-1:]:
             out.extend(other + noted(field_text(document, other)) for other in near(name))

@@ -4,7 +4,7 @@ import debug_coverage
 import pieces
 import requests
 import values
-from model import DEBUG, DEEPEST, READ_DEBUG, TOKEN, PlainReader, PrettyReader, depth_of, events, parts, plain, pretty, quoted
+from model import DEBUG, DEEPEST, TOKEN, PlainReader, PrettyReader, depth_of, events, parts, plain, pretty, quoted
 from shown import shown
 
 
@@ -62,7 +62,7 @@ def leaf_verdict(text):
     )
 
 
-READERS = [(PlainReader(), PlainReader(READ_DEBUG)), (PrettyReader(), PrettyReader(READ_DEBUG))]
+READERS = [(PlainReader(), PlainReader(DEBUG)), (PrettyReader(), PrettyReader(DEBUG))]
 NO_UTF_8 = "plain: no text; debug: =; pretty: no text; debug: =; leaf: no UTF-8"
 
 

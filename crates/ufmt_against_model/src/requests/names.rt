@@ -18,7 +18,8 @@ fn write<W: uWrite>(name: &str, f: &mut Formatter<W>) -> Result<(), W::Error> {
     write_list(name, f)?;
     write_map(name, f)?;
     write_struct(name, f)?;
-    write_tuple(name, f)
+    write_tuple(name, f)?;
+    write_structs_with_dots(name, f)
 }
 
 // The calls for whole structs. Each further field costs the proof as much as all before it.
@@ -65,4 +66,14 @@ fn write_tuple<W: uWrite>(name: &str, f: &mut Formatter<W>) -> Result<(), W::Err
     let outcome = builder.begin_field()?.write_str(name);
     builder.end_field(outcome)?;
     builder.finish()
+}
+
+fn write_structs_with_dots<W: uWrite>(name: &str, f: &mut Formatter<W>) -> Result<(), W::Error> {
+    f.non_exhaustive_0(name)?;
+    f.non_exhaustive_1(name, name, &name)?;
+    let mut builder = f.debug_struct(name)?;
+    builder.field(name, &name)?;
+    let outcome = builder.begin_field(name)?.write_str(name);
+    builder.end_field(outcome)?;
+    builder.finish_non_exhaustive()
 }

@@ -1,12 +1,12 @@
 -- Documents that grow event by event.
 use Rattle.std.specs.Prelude.{ℕ, Bool, true, false, List, [], ◌∷◌, ◌++◌, length, map, take, drop}
-use Rattle.ufmt.specs.Document.{Document, leaf, list_of, set_of, map_of, struct_of, tuple_of, documents, pairs_of, fields_of}
+use Rattle.ufmt.specs.Document.{Document, leaf, list_of, set_of, map_of, struct_of, non_exhaustive_of, tuple_of, no_fields, documents, pairs_of, fields_of}
 use Rattle.ufmt_core.specs.declared.layout.Kind.{Kind}
 use Rattle.ufmt_core.specs.declared.layout.Kind.TheVariants.{Brackets, Braces, Struct, Tuple, Unnamed}
 use Rattle.ufmt_doc.specs.declared.reader.document_sink.DocumentSink.{DocumentSink}
 use Rattle.ufmt_doc.specs.declared.reader.open_blocks.PartialBlock.{PartialBlock}
 use Rattle.ufmt_doc.specs.Doc.{doc_document}
-use Rattle.ufmt_scan.specs.declared.scan.event.Event.TheVariants.{Leaf, Empty, Open, FieldName, Colon, Next, Close}
+use Rattle.ufmt_scan.specs.declared.scan.event.Event.TheVariants.{Leaf, Empty, OnlyDots, Open, FieldName, Colon, Next, Close, Dots}
 use Rattle.ufmt_scan.specs.Scan.{TextEvent}
 
 -- the documents on the stack, the last one on top, and the open blocks, the innermost first
@@ -37,6 +37,11 @@ block_of Struct colon (name ∷ ds) = struct_of (text_of name) (fields_of (map f
 block_of Tuple colon (name ∷ ds) = tuple_of (text_of name) (documents ds)
 block_of kind colon ds = leaf []
 
+-- the same for a struct that ends in dots
+abbrev pub dotted_block : Bool → List Document → Document
+dotted_block colon (name ∷ ds) = non_exhaustive_of (text_of name) (fields_of (map field_from (in_pairs ds)))
+dotted_block colon [] = leaf []
+
 -- an open block whose entries start there, and whether a colon came in it
 abbrev pub block_at : ℕ → Bool → PartialBlock
 block_at start colon = record { start = start; has_colon = colon }
@@ -65,20 +70,22 @@ abbrev pub marked : List PartialBlock → List PartialBlock
 marked [] = []
 marked (block ∷ outer) = block_at block.start true ∷ outer
 
--- the innermost block ends, and takes the place of its entries
-abbrev pub closed : Kind → Growing → Growing
-closed kind (ds, []) = (ds, [])
-closed kind (ds, block ∷ outer) = (take block.start ds ++ block_of kind block.has_colon (drop block.start ds) ∷ [], outer)
+-- the innermost block ends, and the document that is made of its entries takes their place
+abbrev pub closed : (Bool → List Document → Document) → Growing → Growing
+closed make (ds, []) = (ds, [])
+closed make (ds, block ∷ outer) = (take block.start ds ++ make block.has_colon (drop block.start ds) ∷ [], outer)
 
 -- what has grown, after one event more
 abbrev pub grow : Growing → TextEvent → Growing
 grow g (Leaf text) = put g (leaf text)
 grow g (FieldName name) = put g (leaf name)
 grow g (Empty kind) = put g (empty_block kind)
+grow g (OnlyDots name) = put g (non_exhaustive_of name no_fields)
 grow g (Open kind name) = opened kind name g
 grow g Colon = (g.0, marked g.1)
 grow g Next = g
-grow g (Close kind count) = closed kind g
+grow g (Close kind count) = closed (block_of kind) g
+grow g Dots = closed dotted_block g
 
 -- the same, after these events
 abbrev pub grown : Growing → List TextEvent → Growing

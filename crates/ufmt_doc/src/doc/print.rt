@@ -1,6 +1,6 @@
 //! Printing a document, each block by its kind.
 ghost use Rattle.std.specs.Prelude.{is_ok, List, map, string_bytes, ℕ};
-ghost use Rattle.ufmt.specs.Document.{Document, documents, fields_of, map_of, pairs_of, set_of, struct_of, tuple_of};
+ghost use Rattle.ufmt.specs.Document.{Document, documents, fields_of, map_of, non_exhaustive_of, pairs_of, set_of, struct_of, tuple_of};
 ghost use Rattle.ufmt.specs.Formatter.{LaysOut};
 ghost use Rattle.ufmt_doc.specs.Doc.{doc_document};
 
@@ -18,6 +18,9 @@ impl uDebug for Doc {
             Doc::SetOf(entries) => EntriesOf::<SetKind>::print(entries, "", f),
             Doc::MapOf(pairs) => EntriesOf::<MapKind>::print(pairs, "", f),
             Doc::StructOf(name, fields) => EntriesOf::<StructKind>::print(fields, name, f),
+            Doc::NonExhaustiveOf(name, fields) => {
+                EntriesOf::<NonExhaustiveKind>::print(fields, name, f)
+            }
             Doc::TupleOf(name, fields) => EntriesOf::<TupleKind>::print(fields, name, f),
         }
     }
@@ -28,6 +31,8 @@ struct SetKind;
 struct MapKind;
 
 struct StructKind;
+
+struct NonExhaustiveKind;
 
 struct TupleKind;
 
@@ -80,5 +85,19 @@ impl<V: uDebug> EntriesOf<StructKind> for Vec<(String, V)> {
             builder.field(&field.0, &field.1)?;
         }
         builder.finish()
+    }
+}
+
+impl<V: uDebug> EntriesOf<NonExhaustiveKind> for Vec<(String, V)> {
+    ghost block = { λ name v. non_exhaustive_of name
+        (fields_of (map (λ f. (string_bytes f.0, V.document f.1)) v.items)) };
+
+    fn print<W: uWrite>(&self, name: &str, f: &mut Formatter<W>) -> Result<(), W::Error> {
+        let fields = self.as_slice();
+        let mut builder = f.debug_struct(name)?;
+        for field in fields {
+            builder.field(&field.0, &field.1)?;
+        }
+        builder.finish_non_exhaustive()
     }
 }

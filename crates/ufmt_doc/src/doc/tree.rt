@@ -3,7 +3,7 @@ ghost use Rattle.std.specs.List.{AllByRecursion, AllZip};
 ghost use Rattle.std.specs.Prelude.{◌≡◌, ◌↔◌, ◌<◌, ◌-◌, ℕ, IsTrue, string_bytes};
 ghost use Rattle.ufmt.specs.Layout.{plain_text, pretty_text};
 ghost use Rattle.ufmt.specs.declared.class.Class.{Class};
-ghost use Rattle.ufmt.specs.Token.{IsDocument, IsName, normal};
+ghost use Rattle.ufmt.specs.Token.{IsDocument, IsName, MayEndInDots, normal};
 ghost use Rattle.ufmt_doc.specs.Doc.{doc_document};
 ghost use Rattle.ufmt_doc.specs.Parts.{leaf_part};
 ghost use Rattle.ufmt_doc.specs.Private.{IsBuiltWithin};
@@ -106,6 +106,10 @@ impl Subtree for Doc {
             }
             Doc::TupleOf(name, fields) => is_name_of(class, name)
                 && fields.is_within(class, deepest),
+            Doc::NonExhaustiveOf(name, fields) if may_end_in_dots(class) => {
+                is_name_of(class, name) && fields.is_within(class, deepest)
+            }
+            Doc::NonExhaustiveOf(_, _) => false,
         }
     }
 
@@ -118,13 +122,17 @@ impl Subtree for Doc {
             (Doc::SetOf(entries), Doc::MapOf(pairs)) => entries.len() + pairs.len() == 0,
             (Doc::MapOf(pairs), Doc::SetOf(entries)) => entries.len() + pairs.len() == 0,
             (Doc::MapOf(pairs), Doc::MapOf(others)) => pairs.is_same(others),
-            (Doc::Listed(_) | Doc::SetOf(_) | Doc::MapOf(_), _) => false,
             (Doc::StructOf(name, fields), Doc::StructOf(another, others)) => {
                 name == another && fields.is_same(others)
             }
             (Doc::TupleOf(name, fields), Doc::TupleOf(another, others)) => {
                 name == another && fields.is_same(others)
             }
+            (Doc::NonExhaustiveOf(name, fields), Doc::NonExhaustiveOf(another, others)) => {
+                name == another && fields.is_same(others)
+            }
+            (Doc::Listed(_) | Doc::SetOf(_) | Doc::MapOf(_) | Doc::NonExhaustiveOf(_, _), _) =>
+                false,
             (Doc::Leaf(name), _) => leaf_text(other) == Some(name.as_str()),
             (Doc::StructOf(name, fields), _) => fields.is_empty()
                 && leaf_text(other) == Some(name.as_str()),
@@ -132,6 +140,13 @@ impl Subtree for Doc {
                 && leaf_text(other) == Some(name.as_str()),
         }
     }
+}
+
+// Whether structs of the class may end in dots.
+fn may_end_in_dots(class: Class) -> bool
+    ensures { IsTrue result ↔ MayEndInDots class }
+{
+    matches!(class, Class::Debug)
 }
 
 // The text of a document whose normal form is a leaf.
@@ -142,6 +157,6 @@ fn leaf_text(doc: &Doc) -> Option<&str>
         Doc::Leaf(text) => Some(text),
         Doc::StructOf(name, fields) => fields.is_empty().then_some(name.as_str()),
         Doc::TupleOf(name, fields) => fields.is_empty().then_some(name.as_str()),
-        Doc::Listed(_) | Doc::SetOf(_) | Doc::MapOf(_) => None,
+        Doc::Listed(_) | Doc::SetOf(_) | Doc::MapOf(_) | Doc::NonExhaustiveOf(_, _) => None,
     }
 }

@@ -1,10 +1,10 @@
 //! A sink that makes the document whose events it takes.
 ghost use Rattle.std.specs.Prelude.{◌≡◌, ◌<◌, ◌≤◌, ◌∷◌, [], IfOk, OnOk, Some, drop, length, map, option_map, string_bytes, take, vec_capacity, ⊤};
 ghost use Rattle.std.proofs.Common.{refl};
-ghost use Rattle.ufmt.specs.Document.{Document, leaf};
+ghost use Rattle.ufmt.specs.Document.{Document, leaf, no_fields, non_exhaustive_of};
 ghost use Rattle.ufmt_doc.specs.Doc.{doc_document};
 ghost use Rattle.ufmt_doc.specs.DocViews.{field_view, pair_view};
-ghost use Rattle.ufmt_doc.specs.Private.Growing.{block_of, closed, field_from, growing, grown, in_pairs, opened, put, text_of, empty_block};
+ghost use Rattle.ufmt_doc.specs.Private.Growing.{block_of, closed, dotted_block, field_from, growing, grown, in_pairs, opened, put, text_of, empty_block};
 
 use super::open_blocks::{OpenBlocks, PartialBlock};
 use crate::doc::Doc;
@@ -115,6 +115,19 @@ fn take_block(
     }
 }
 
+// Takes a struct's name and fields off the stack, and makes the struct, which ends in dots.
+#[inline(always)]
+fn take_dotted(alloc: Global, docs: &mut Vec<Doc>, block: PartialBlock) -> Result<Doc, AllocError>
+    requires { block.start < length docs.old.items }
+    ensures docs { OnOk result (docs.new.items ≡ take block.start docs.old.items) }
+    ensures capacity { OnOk result (vec_capacity docs.new ≡ vec_capacity docs.old) }
+    ensures doc { IfOk result (λ doc. doc_document doc ≡ dotted_block block.has_colon
+        (map doc_document (drop block.start docs.old.items))) }
+{
+    let fields = take_fields(alloc, docs, block.start + 1)?;
+    Ok(Doc::NonExhaustiveOf(text_of(alloc, docs.take_last()), fields))
+}
+
 impl DocumentSink {
     /// Makes a sink that took no events.
     pub(super) fn new(alloc: Global) -> DocumentSink
@@ -159,6 +172,18 @@ impl DocumentSink {
         Ok(())
     }
 
+    #[inline(never)]
+    fn put_only_dots(&mut self, name: &str) -> Result<(), AllocError>
+        ensures { OnOk result (growing self.new
+            ≡ put (growing self.old) (non_exhaustive_of name.now no_fields)) }
+    {
+        self.docs.reserve(1)?;
+        let name = String::from_str(self.alloc, name)?;
+        self.docs
+            .push_reserved(Doc::NonExhaustiveOf(name, Vec::new(self.alloc)));
+        Ok(())
+    }
+
     #[inline(always)]
     fn open(&mut self, kind: Kind, name: &str) -> Result<(), AllocError>
         ensures { OnOk result (growing self.new ≡ opened kind name.now (growing self.old)) }
@@ -176,7 +201,7 @@ impl DocumentSink {
 
     #[inline(always)]
     fn close(&mut self, kind: Kind) -> Result<(), AllocError>
-        ensures { OnOk result (growing self.new ≡ closed kind (growing self.old)) }
+        ensures { OnOk result (growing self.new ≡ closed (block_of kind) (growing self.old)) }
     {
         let Some(block) = self.blocks.pop() else {
             return Ok(());
@@ -187,6 +212,23 @@ impl DocumentSink {
         }
         self.docs.reserve(1)?;
         let doc = take_block(self.alloc, &mut self.docs, kind, block)?;
+        self.docs.push_reserved(doc);
+        Ok(())
+    }
+
+    // Closes a struct that ends in dots, as `close` does.
+    #[inline(never)]
+    fn close_with_dots(&mut self) -> Result<(), AllocError>
+        ensures { OnOk result (growing self.new ≡ closed dotted_block (growing self.old)) }
+    {
+        let Some(block) = self.blocks.pop() else {
+            return Ok(());
+        };
+        if self.docs.len() <= block.start {
+            return Err(NEVER);
+        }
+        self.docs.reserve(1)?;
+        let doc = take_dotted(self.alloc, &mut self.docs, block)?;
         self.docs.push_reserved(doc);
         Ok(())
     }
@@ -210,6 +252,7 @@ impl Sink for DocumentSink {
         match event {
             Event::Leaf(text) | Event::FieldName(text) => self.put_leaf(text),
             Event::Empty(kind) => self.put_empty(kind),
+            Event::OnlyDots(name) => self.put_only_dots(name),
             Event::Open(kind, name) => self.open(kind, name),
             Event::Colon => {
                 self.blocks.mark_colon();
@@ -217,6 +260,7 @@ impl Sink for DocumentSink {
             }
             Event::Next => Ok(()),
             Event::Close(kind, _) => self.close(kind),
+            Event::Dots => self.close_with_dots(),
         }
     }
 }

@@ -1,7 +1,7 @@
 //! Tests of `is_debug`.
 use super::nested_lists::lists_around;
 use super::same;
-use super::shape::Shape::{self, Leaf, Listed, MapOf, StructOf, TupleOf};
+use super::shape::Shape::{self, Leaf, Listed, MapOf, NonExhaustiveOf, StructOf, TupleOf};
 use super::shape::made;
 use std::alloc::{AllocError, Global};
 
@@ -49,7 +49,7 @@ fn leaves_of_std_are_debug_documents(rt: HostRuntime) {
 }
 
 // Other documents, and whether they are debug documents. None is a token document.
-const DOCUMENTS: [(&str, Shape<'static>, bool); 31] = [
+const DOCUMENTS: [(&str, Shape<'static>, bool); 38] = [
     ("a path as a leaf", Leaf("a::B"), true),
     ("a backslash outside of quotes", Leaf("a\\b"), true),
     ("texts in quotes in a row", Leaf("\"a\"'b'c"), true),
@@ -61,6 +61,33 @@ const DOCUMENTS: [(&str, Shape<'static>, bool); 31] = [
     ("a name with an accent", StructOf("é", &[]), true),
     ("a path as a tuple's name", TupleOf("a::B", &[]), true),
     ("a tuple without a name", TupleOf("", &[Leaf("0..5")]), true),
+    (
+        "a struct that ends in dots",
+        NonExhaustiveOf("S", &[("a", Leaf("x"))]),
+        true,
+    ),
+    ("only dots", NonExhaustiveOf("S", &[]), true),
+    (
+        "dots in a list",
+        Listed(&[Leaf("x"), NonExhaustiveOf("a::B", &[])]),
+        true,
+    ),
+    ("dots without a name", NonExhaustiveOf("", &[]), false),
+    (
+        "dots after a name in quotes",
+        NonExhaustiveOf("\"S\"", &[]),
+        false,
+    ),
+    (
+        "a field's name with a space, and dots",
+        NonExhaustiveOf("S", &[("a b", Leaf("x"))]),
+        false,
+    ),
+    (
+        "a field with a comma, and dots",
+        NonExhaustiveOf("S", &[("a", Leaf("x, .."))]),
+        false,
+    ),
     ("an empty leaf", Leaf(""), false),
     ("a word that ends in a colon", Leaf("a:"), false),
     ("an address of zeros", Leaf("::"), false),
@@ -124,7 +151,7 @@ fn is_debug_in_lists(alloc: Global, count: usize, inner: &Shape<'_>) -> Result<b
 }
 
 // So many lists, and what is in them. Each of these but the last has an entry, and is a block more.
-const NESTED: [(&str, usize, Shape<'static>, bool); 9] = [
+const NESTED: [(&str, usize, Shape<'static>, bool); 12] = [
     ("a list", 254, Listed(&[Leaf("1.5")]), true),
     ("a list", 255, Listed(&[Leaf("1.5")]), false),
     ("a map", 254, MapOf(&[(Leaf("::1"), Leaf("1.5"))]), true),
@@ -144,6 +171,19 @@ const NESTED: [(&str, usize, Shape<'static>, bool); 9] = [
     ("a tuple", 254, TupleOf("", &[Leaf("1.5")]), true),
     ("a tuple", 255, TupleOf("", &[Leaf("1.5")]), false),
     ("a name", 255, TupleOf("a::B", &[]), true),
+    (
+        "a struct that ends in dots",
+        254,
+        NonExhaustiveOf("S", &[("c", Leaf("1"))]),
+        true,
+    ),
+    (
+        "a struct that ends in dots",
+        255,
+        NonExhaustiveOf("S", &[("c", Leaf("1"))]),
+        false,
+    ),
+    ("only dots", 255, NonExhaustiveOf("S", &[]), true),
 ];
 
 #[test]

@@ -1,5 +1,5 @@
 //! Tests of `plain_text` and `pretty_text`, on documents that are made by hand.
-use super::shape::Shape::{self, Leaf, Listed, MapOf, SetOf, StructOf, TupleOf};
+use super::shape::Shape::{self, Leaf, Listed, MapOf, NonExhaustiveOf, SetOf, StructOf, TupleOf};
 use super::shape::made;
 use super::{has_plain_text, has_pretty_text, same};
 use std::alloc::{AllocError, Global};
@@ -13,8 +13,8 @@ fn plain_text_and_pretty_text_can_succeed(rt: HostRuntime) {
     same(&rt, pretty.as_deref().ok(), Some("7"), "pretty");
 }
 
-// A document with its plain text and its pretty one.
-const PRINTED: [(Shape<'static>, &str, &str); 4] = [
+// A document with its plain text and its pretty one, as rustc prints them.
+const PRINTED: [(Shape<'static>, &str, &str); 9] = [
     (
         StructOf(
             "Node",
@@ -49,6 +49,33 @@ const PRINTED: [(Shape<'static>, &str, &str); 4] = [
         ),
         "S { m: {1: 2}, n: 3 }",
         "S {\n    m: {\n        1: 2,\n    },\n    n: 3,\n}",
+    ),
+    (NonExhaustiveOf("S", &[]), "S { .. }", "S { .. }"),
+    (
+        NonExhaustiveOf("S", &[("a", Leaf("1"))]),
+        "S { a: 1, .. }",
+        "S {\n    a: 1,\n    ..\n}",
+    ),
+    (
+        NonExhaustiveOf("Mutex", &[("data", Leaf("1")), ("poisoned", Leaf("false"))]),
+        "Mutex { data: 1, poisoned: false, .. }",
+        "Mutex {\n    data: 1,\n    poisoned: false,\n    ..\n}",
+    ),
+    (
+        Listed(&[
+            NonExhaustiveOf("S", &[("n", Listed(&[Leaf("1")]))]),
+            NonExhaustiveOf("T", &[]),
+        ]),
+        "[S { n: [1], .. }, T { .. }]",
+        "[\n    S {\n        n: [\n            1,\n        ],\n        ..\n    },\n    T { .. },\n]",
+    ),
+    (
+        MapOf(&[(
+            NonExhaustiveOf("K", &[("a", NonExhaustiveOf("T", &[]))]),
+            TupleOf("", &[NonExhaustiveOf("V", &[("b", Leaf("2"))])]),
+        )]),
+        "{K { a: T { .. }, .. }: (V { b: 2, .. },)}",
+        "{\n    K {\n        a: T { .. },\n        ..\n    }: (\n        V {\n            b: 2,\n            ..\n        },\n    ),\n}",
     ),
 ];
 

@@ -1,6 +1,6 @@
 //! Tests of `same_text`.
 use super::same;
-use super::shape::Shape::{self, Leaf, Listed, MapOf, SetOf, StructOf, TupleOf};
+use super::shape::Shape::{self, Leaf, Listed, MapOf, NonExhaustiveOf, SetOf, StructOf, TupleOf};
 use super::shape::made;
 use std::alloc::{AllocError, Global};
 use ufmt_doc::doc::{Doc, same_text};
@@ -145,7 +145,7 @@ fn same_text_of_debug(a: &Doc, b: &Doc) -> Option<bool> {
 }
 
 // Two debug documents, and whether they have one text.
-const MADE_AS_DEBUG: [(&str, Shape<'static>, Shape<'static>, bool); 8] = [
+const MADE_AS_DEBUG: [(&str, Shape<'static>, Shape<'static>, bool); 15] = [
     ("a number with a point", Leaf("1.5"), Leaf("1.5"), true),
     (
         "one number, spelled twice",
@@ -184,6 +184,48 @@ const MADE_AS_DEBUG: [(&str, Shape<'static>, Shape<'static>, bool); 8] = [
         Leaf("b\"\""),
         false,
     ),
+    (
+        "structs that end in dots",
+        NonExhaustiveOf("S", &[("a", StructOf("A", &[]))]),
+        NonExhaustiveOf("S", &[("a", Leaf("A"))]),
+        true,
+    ),
+    (
+        "only dots",
+        NonExhaustiveOf("S", &[]),
+        NonExhaustiveOf("S", &[]),
+        true,
+    ),
+    (
+        "only dots after two names",
+        NonExhaustiveOf("S", &[]),
+        NonExhaustiveOf("T", &[]),
+        false,
+    ),
+    (
+        "dots after two fields and one",
+        NonExhaustiveOf("S", &[("a", Leaf("x")), ("b", Leaf("y"))]),
+        NonExhaustiveOf("S", &[("a", Leaf("x"))]),
+        false,
+    ),
+    (
+        "a struct with dots and without",
+        NonExhaustiveOf("S", &[("a", Leaf("x"))]),
+        StructOf("S", &[("a", Leaf("x"))]),
+        false,
+    ),
+    (
+        "only dots and a leaf",
+        NonExhaustiveOf("S", &[]),
+        Leaf("S"),
+        false,
+    ),
+    (
+        "a tuple without fields and only dots",
+        TupleOf("S", &[]),
+        NonExhaustiveOf("S", &[]),
+        false,
+    ),
 ];
 
 fn same_text_of_made_as_debug(
@@ -220,7 +262,12 @@ b\"x\";\
 (1.5,);\
 a::B(1.5);\
 a::B { c: 1.5 };\
-a::B { c:d: 1.5 }";
+a::B { c:d: 1.5 };\
+a::B { .. };\
+a::B { c: 1.5, .. };\
+a::B { c: 1.5, c: 1.5, .. };\
+a::B { c: a::B { .. }, .. };\
+[a::B { .. }]";
 
 // Whether the document of this text has the same text as only one of `READ_AS_DEBUG`, its own.
 fn has_only_its_own_debug_text(alloc: Global, text: &str) -> Result<bool, ReadError> {
@@ -242,5 +289,5 @@ fn same_text_is_true_of_read_debug_documents_if_their_texts_are_equal(rt: HostRu
         same(&rt, is_own, Ok(true), text);
         count = count.saturating_add(1);
     }
-    same(&rt, count, 16, "texts");
+    same(&rt, count, 21, "texts");
 }

@@ -10,6 +10,7 @@ pub enum Shape<'a> {
     SetOf(&'a [Shape<'a>]),
     MapOf(&'a [(Shape<'a>, Shape<'a>)]),
     StructOf(&'a str, &'a [(&'a str, Shape<'a>)]),
+    NonExhaustiveOf(&'a str, &'a [(&'a str, Shape<'a>)]),
     TupleOf(&'a str, &'a [Shape<'a>]),
 }
 
@@ -22,6 +23,7 @@ pub fn made(alloc: Global, shape: &Shape<'_>) -> Result<Doc, AllocError> {
         Shape::SetOf(entries) => all_made(alloc, entries).map(Doc::SetOf),
         Shape::MapOf(pairs) => pairs_made(alloc, pairs).map(Doc::MapOf),
         Shape::StructOf(name, fields) => struct_made(alloc, name, fields),
+        Shape::NonExhaustiveOf(name, fields) => dotted_made(alloc, name, fields),
         Shape::TupleOf(name, fields) => tuple_made(alloc, name, fields),
     }
 }
@@ -30,6 +32,12 @@ pub fn made(alloc: Global, shape: &Shape<'_>) -> Result<Doc, AllocError> {
 fn struct_made(alloc: Global, name: &str, fields: &[(&str, Shape<'_>)]) -> Result<Doc, AllocError> {
     let name = String::from_str(alloc, name)?;
     Ok(Doc::StructOf(name, fields_made(alloc, fields)?))
+}
+
+#[cycle(making)]
+fn dotted_made(alloc: Global, name: &str, fields: &[(&str, Shape<'_>)]) -> Result<Doc, AllocError> {
+    let name = String::from_str(alloc, name)?;
+    Ok(Doc::NonExhaustiveOf(name, fields_made(alloc, fields)?))
 }
 
 #[cycle(making)]

@@ -7,7 +7,7 @@ use ufmt_doc::convert::{
     debug_to_plain, debug_to_plain_into, debug_to_pretty, debug_to_pretty_into,
     write_debug_to_plain, write_debug_to_pretty,
 };
-use ufmt_doc::{Doc, ReadError, is_debug_text, read_debug_plain, read_debug_pretty};
+use ufmt_doc::{Doc, ReadError, is_debug_text, is_text, read_debug_plain, read_debug_pretty};
 use ufmt_scan::scan::ScanError;
 
 // Whether the document was read, and has both texts. Without memory this is false.
@@ -23,7 +23,7 @@ fn has_texts(alloc: Global, read: Result<Doc, ReadError>, plain: &str, pretty: &
     }
 }
 
-fn is_text(converted: Result<String, ReadError>, text: &str) -> bool {
+fn is_converted(converted: Result<String, ReadError>, text: &str) -> bool {
     match converted {
         Ok(converted) => converted.as_bytes() == text.as_bytes(),
         Err(_) => false,
@@ -121,6 +121,26 @@ fn texts_that_rustc_printed_are_read_and_converted(rt: HostRuntime) {
             "BufReader {\n    reader: [\n        97,\n        98,\n        99,\n    ],\n    buffer: 0/64,\n}",
         ),
         ("(1.5, (), -0.5)", "(\n    1.5,\n    (),\n    -0.5,\n)"),
+        ("S { .. }", "S { .. }"),
+        ("S { a: 1, .. }", "S {\n    a: 1,\n    ..\n}"),
+        (
+            "Mutex { data: 1.5, poisoned: false, .. }",
+            "Mutex {\n    data: 1.5,\n    poisoned: false,\n    ..\n}",
+        ),
+        (
+            "[S { at: T { .. }, n: [1, 2], .. }, T { .. }]",
+            "[\n    S {\n        at: T { .. },\n        n: [\n            1,\n            2,\n        ],\n        ..\n    },\n    T { .. },\n]",
+        ),
+        (
+            "{U { a: S { a: 1, .. }, .. }: (S { .. },)}",
+            "{\n    U {\n        a: S {\n            a: 1,\n            ..\n        },\n        ..\n    }: (\n        S { .. },\n    ),\n}",
+        ),
+        ("S { a: .., .. }", "S {\n    a: ..,\n    ..\n}"),
+        (
+            "S { ..: 1, ..: 2, .. }",
+            "S {\n    ..: 1,\n    ..: 2,\n    ..\n}",
+        ),
+        ("[..]", "[\n    ..,\n]"),
     ];
     for (plain, pretty) in rows {
         let read = read_debug_plain(alloc, plain.as_bytes());
@@ -128,9 +148,9 @@ fn texts_that_rustc_printed_are_read_and_converted(rt: HostRuntime) {
         let read = read_debug_pretty(alloc, pretty.as_bytes());
         holds(&rt, has_texts(alloc, read, plain, pretty), pretty);
         let converted = debug_to_pretty(alloc, plain.as_bytes());
-        holds(&rt, is_text(converted, pretty), plain);
+        holds(&rt, is_converted(converted, pretty), plain);
         let converted = debug_to_plain(alloc, pretty.as_bytes());
-        holds(&rt, is_text(converted, plain), pretty);
+        holds(&rt, is_converted(converted, plain), pretty);
         holds(&rt, is_debug_text(Mode::Plain, plain.as_bytes()), plain);
         holds(&rt, is_debug_text(Mode::Pretty, pretty.as_bytes()), pretty);
     }
@@ -154,7 +174,7 @@ fn debug_texts_are_converted_without_memory(rt: HostRuntime) {
 
 #[test]
 fn other_texts_are_no_debug_texts(rt: HostRuntime) {
-    let rows: [&[u8]; 26] = [
+    let rows: [&[u8]; 33] = [
         b"",
         b"a b",
         b"a:",
@@ -178,7 +198,14 @@ fn other_texts_are_no_debug_texts(rt: HostRuntime) {
         b"a\xffb",
         b"\"\xc3\"",
         b"B { x: 1 }.",
-        b"S { .. }",
+        b"S { ..}",
+        b"S {..}",
+        b"S { .., a: 1 }",
+        b"S { a: 1, ..}",
+        b"S { a: 1, .., }",
+        b"S { a: 1, .. b: 2 }",
+        b"S { a: 1 .. }",
+        b"\"S\" { .. }",
         b"[1.5,2.5]",
         b"(1.5)",
     ];
@@ -197,4 +224,42 @@ fn many_colons_are_read(rt: HostRuntime) {
     let mut leaf = [b':'; 1001];
     leaf[1000] = b'1';
     same(&rt, is_debug_text(Mode::Plain, &leaf), true, "an address");
+}
+
+// A struct without fields has its dots on its own line, and no comma follows dots.
+#[test]
+fn other_dots_are_no_pretty_texts(rt: HostRuntime) {
+    let rows = [
+        "S {\n    ..\n}",
+        "S {\n    ..,\n}",
+        "S {\n    a: 1,\n    ..,\n}",
+        "S {\n    a: 1,\n    .. \n}",
+        "S {\n    a: 1,\n..\n}",
+        "S {\n    a: 1,\n    ..\n    }",
+        "S {\n    a: 1,\n    ..\n    b: 2,\n}",
+        "S {\n    a: 1\n    ..\n}",
+        "S {\n    a: 1,\n    .. }",
+        "T(\n    1,\n    ..\n)",
+        "[\n    1,\n    ..\n]",
+    ];
+    for text in rows {
+        same(
+            &rt,
+            is_debug_text(Mode::Pretty, text.as_bytes()),
+            false,
+            text,
+        );
+        let refused = debug_to_plain(rt.alloc(), text.as_bytes()) == Err(ReadError::NotText);
+        holds(&rt, refused, text);
+    }
+}
+
+// No struct of a token document ends in dots.
+#[test]
+fn dots_are_no_token_texts(rt: HostRuntime) {
+    for text in ["S { .. }", "S { a: 1, .. }"] {
+        same(&rt, is_text(Mode::Plain, text.as_bytes()), false, text);
+    }
+    let pretty = "S {\n    a: 1,\n    ..\n}";
+    same(&rt, is_text(Mode::Pretty, pretty.as_bytes()), false, pretty);
 }

@@ -52,6 +52,10 @@ impl Notes {
                 self.text.push('e')?;
                 self.text.push(of_kind(kind))?;
             }
+            Event::OnlyDots(name) => {
+                self.text.push('_')?;
+                self.text.push_str(name)?;
+            }
             Event::Open(kind, name) => {
                 self.text.push('o')?;
                 self.text.push(of_kind(kind))?;
@@ -68,6 +72,7 @@ impl Notes {
                 self.text.push(of_kind(kind))?;
                 self.text.push(of_count(count))?;
             }
+            Event::Dots => self.text.push('~')?,
         }
         self.text.push(' ')?;
         Ok(())
@@ -151,6 +156,51 @@ fn scan_emits_events_in_order(rt: HostRuntime) -> Result<(), Fail> {
             left,
         };
         let ended = ending(scan(Class::Token, mode, text.as_bytes(), &mut notes));
+        same(&rt, ended, wanted, text);
+        same(&rt, notes.text.as_str(), events, text);
+    }
+    Ok(())
+}
+
+// Rows as above, of debug texts whose structs end in dots.
+#[test]
+fn scan_emits_dots(rt: HostRuntime) -> Result<(), Fail> {
+    let rows = [
+        (Mode::Plain, "S { .. }", 9, "whole", "_S "),
+        (Mode::Pretty, "S { .. }", 9, "whole", "_S "),
+        (Mode::Plain, "S { x: 1, .. }", 9, "whole", "osS .x =1 , ~ "),
+        (
+            Mode::Pretty,
+            "S {\n    x: 1,\n    y: 2,\n    ..\n}",
+            9,
+            "whole",
+            "osS .x =1 , .y =2 , ~ ",
+        ),
+        (
+            Mode::Plain,
+            "[S { x: T { .. }, .. }, a]",
+            9,
+            "whole",
+            "ol osS .x _T , ~ , =a cl2 ",
+        ),
+        (Mode::Plain, "[.., ..]", 9, "whole", "ol =.. , =.. cl2 "),
+        (
+            Mode::Plain,
+            "S { x: 1, ..: 2 }",
+            9,
+            "whole",
+            "osS .x =1 , ... =2 cs2 ",
+        ),
+        (Mode::Plain, "S { .. }", 0, "stopped", ""),
+        (Mode::Plain, "S { x: 1, .. }", 4, "stopped", "osS .x =1 , "),
+        (Mode::Plain, "S { x: 1, ..", 9, "no text", "osS .x =1 , "),
+    ];
+    for (mode, text, left, wanted, events) in rows {
+        let mut notes = Notes {
+            text: String::new(rt.alloc()),
+            left,
+        };
+        let ended = ending(scan(Class::Debug, mode, text.as_bytes(), &mut notes));
         same(&rt, ended, wanted, text);
         same(&rt, notes.text.as_str(), events, text);
     }

@@ -1,5 +1,5 @@
 -- The events of what is left of a text, at each step of a scan.
-use Rattle.std.specs.Prelude.{◌≡◌, ℕ, zero, suc, ◌<◌, length, reverse, take, Bool, cond, List, [], ◌∷◌, ◌++◌, map, codes, Option, Some, None, option_and_then, MatchOption, Result, MatchResult, IfOk}
+use Rattle.std.specs.Prelude.{◌≡◌, ℕ, zero, suc, ◌<◌, length, reverse, take, Bool, true, false, ◌&&◌, cond, List, [], ◌∷◌, ◌++◌, map, codes, Option, Some, None, option_and_then, MatchOption, Result, MatchResult, IfOk}
 use Rattle.std.specs.Borrow.{Bor}
 use Rattle.ufmt.specs.Document.{Document, leaf}
 use Rattle.ufmt.specs.Layout.{frame, inside, lead, next, setting, trail}
@@ -9,7 +9,7 @@ use Rattle.ufmt_core.specs.declared.layout.Kind.{Kind}
 use Rattle.ufmt_core.specs.declared.layout.Kind.TheVariants as kinds
 use Rattle.ufmt_core.specs.declared.layout.Mode.{Mode}
 use Rattle.ufmt.specs.declared.class.Class.{Class}
-use Rattle.ufmt.specs.Reading.{Parse, choose, parse_map, strip, read, read_named, read_without_name, read_name, read_pair, read_others}
+use Rattle.ufmt.specs.Reading.{Parse, Dots, Rest, choose, no_dots, parse_map, strip, strip_dots, read, read_named, read_without_name, read_name, read_pair, read_others}
 use Rattle.ufmt_scan.specs.declared.scan.event.Event.TheVariants as events
 use Rattle.ufmt_scan.specs.declared.scan.event.ScanError.TheVariants.{NotText, Sink}
 use Rattle.ufmt_scan.specs.declared.scan.OpenBlocks.{OpenBlocks}
@@ -31,19 +31,23 @@ prefixed es o = parse_map (λ more. es ++ more) o
 abbrev pub then_scan : Scanned → Parse (List TextEvent) → Scanned
 then_scan o more = option_and_then (λ x. prefixed x.0 (more x.1)) o
 
--- how a block reads each of its entries, and the events of an entry
+-- how a block reads each of its entries, and its end after the lead of an entry if it may end in dots; and the events of an entry
 pub record Turn : Type 1 where
   pub Entry : Type 0
   pub read : Parse Entry
+  pub in_dots : Bool
+  pub dots : Dots
   pub events : Entry → List TextEvent
 
 abbrev pub entries : Level → Turn
-entries level = record { Entry = Document; read = entry_of level; events = events_of }
+entries level = record { Entry = Document; read = entry_of level; in_dots = false; dots = no_dots; events = events_of }
 
 abbrev pub pairs : Level → Turn
 pairs level = record {
   Entry = Document × Document;
   read = read_pair (entry_of level) (entry_of level);
+  in_dots = false;
+  dots = no_dots;
   events = λ p. events_of p.0 ++ events.Colon ∷ events_of p.1;
 }
 
@@ -51,6 +55,8 @@ abbrev pub fields : Level → Turn
 fields level = record {
   Entry = List ℕ × Document;
   read = read_pair (read_name level.class) (entry_of level);
+  in_dots = true;
+  dots = strip_dots level.class (setting_at level);
   events = λ f. events.FieldName f.0 ∷ events_of f.1;
 }
 
@@ -105,10 +111,14 @@ turn_of level _ = entries level
 abbrev pub scan_turn : Turn → Parse (List TextEvent)
 scan_turn turn t = parse_map turn.events (turn.read t)
 
+-- the events of what is left of a block after this many entries
+abbrev pub left_events : (turn : Turn) → Kind → Count → Rest turn.Entry → List TextEvent
+left_events turn kind count left = tail_events kind count (turn.in_dots && left.1) (map turn.events left.0)
+
 -- the events of a block at this level after this many entries
 unfoldable pub scan_rest : Turn → Level → Kind → Count → Parse (List TextEvent)
 scan_rest turn level kind count t = option_and_then
-    (λ u. parse_map (λ xs. tail_events kind count (map turn.events xs)) (read_others turn.read (frame level.mode kind) (setting_at level) count u))
+    (λ u. parse_map (left_events turn kind count) (read_others turn.read turn.dots (frame level.mode kind) (setting_at level) count u))
     (strip (trail level.mode) t)
 
 -- the events of a map from the colon after a key, where the text begins after the colon
@@ -134,6 +144,11 @@ coming level stage = coming_of (kind_of stage) level
 abbrev pub after : Level → Option Stage → Parse (List TextEvent)
 after level None t = Some ([], t)
 after level (Some stage) t = then_scan (coming level stage t) (scan_stage level stage)
+
+-- the events after the lead of another entry: the block ends in dots, or the entry and what follows it
+abbrev pub scan_further : Level → Stage → Parse (List TextEvent)
+scan_further level stage t = prefixed (events.Next ∷ []) (choose ((turn_of level stage).dots t) (λ u. Some (events.Dots ∷ [], u))
+    (after level (Some (later stage)) t))
 
 -- the first stage of a block of this kind
 abbrev pub first_stage : Kind → Stage

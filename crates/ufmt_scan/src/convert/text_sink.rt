@@ -63,7 +63,7 @@ fn setting_after(setting: Setting, event: Event<&str>) -> Setting
     let Setting { mode, depth } = setting;
     match (event, mode) {
         (Event::Open(_, _), _) => setting.inside(),
-        (Event::Close(_, _), Mode::Pretty) => Setting {
+        (Event::Close(_, _) | Event::Dots, Mode::Pretty) => Setting {
             mode,
             depth: depth.saturating_sub(1),
         },
@@ -81,6 +81,7 @@ fn pieces<'a>(setting: Setting, event: Event<&'a str>) -> (&'a str, &'a str)
         (Event::Empty(Kind::Brackets), _) => ("", "[]"),
         (Event::Empty(Kind::Braces), _) => ("", "{}"),
         (Event::Empty(_), _) => ("", ""),
+        (Event::OnlyDots(name), _) => (name, " { .. }"),
         (Event::Open(kind, name), _) => (name, opening(kind, setting.inside())),
         (Event::FieldName(name), _) => (name, COLON),
         (Event::Colon, _) => ("", COLON),
@@ -90,6 +91,11 @@ fn pieces<'a>(setting: Setting, event: Event<&'a str>) -> (&'a str, &'a str)
         (Event::Close(kind, count), Mode::Pretty) => {
             let line = new_line!(",\n", setting.depth.saturating_sub(1));
             (line, closing(Mode::Pretty, kind, count))
+        }
+        (Event::Dots, Mode::Plain) => ("", ".. }"),
+        (Event::Dots, Mode::Pretty) => {
+            let line = new_line!("..\n", setting.depth.saturating_sub(1));
+            (line, "}")
         }
     }
 }

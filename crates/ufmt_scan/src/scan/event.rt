@@ -11,16 +11,20 @@ pub enum Event<T> {
     Leaf(T),
     /// A list, a set or a map without entries.
     Empty(Kind),
+    /// A struct of which no field is shown: its name, and the dots in braces.
+    OnlyDots(T),
     /// The name of a block and its opening, before its first entry.
     Open(Kind, T),
     /// A field's name and the colon after it.
     FieldName(T),
     /// The colon after a key.
     Colon,
-    /// What separates two entries.
+    /// What separates two entries, or a field and the dots after it.
     Next,
     /// The end of a block with this many entries.
     Close(Kind, Count),
+    /// The dots in place of a struct's last fields, and the end of the struct.
+    Dots,
 }
 
 /// Takes the events of a text. It may fail at any event.

@@ -4,13 +4,14 @@ ghost use Rattle.ufmt.specs.Layout.{entry_depth, line_start, next, later_lead};
 ghost use Rattle.ufmt.specs.Reading.{parse_map, read, read_without_name};
 ghost use Rattle.ufmt_scan.specs.Private.Fronts.{IsSplit};
 ghost use Rattle.ufmt_scan.specs.Private.Level.{budget_of, entry_of, setting_at, Level};
-ghost use Rattle.ufmt_scan.specs.Private.Scanning.{Scanned, ScansOn, Steps, StripsBracket, after, prefixed, scan_block, scan_front, earlier, entries, fields, first_stage, kind_of, later, scan_rest, scan_stage, turn_of, scan_turn, value_of, Stage};
+ghost use Rattle.ufmt_scan.specs.Private.Scanning.{Scanned, ScansOn, Steps, StripsBracket, after, prefixed, scan_block, scan_front, scan_further, earlier, entries, fields, first_stage, kind_of, later, scan_rest, scan_stage, turn_of, scan_turn, value_of, Stage};
+ghost use Rattle.ufmt_scan.specs.Rest.{now_of};
 ghost use Rattle.ufmt_scan.specs.Scan.{event_now, events_of};
 
 use super::event::{Event, ScanError, Sink};
 use crate::front::{Front, split_front, split_name, split_quoted_front, split_word_front};
 use crate::leaf::split_quotes;
-use crate::level::{Level, strip_piece, strip_to_line};
+use crate::level::{Level, strip_only_dots, strip_piece, strip_to_line};
 use ufmt::class::Class;
 use ufmt::layout::{COLON, Count, INDENT, Kind, Mode, OPENING_BRACE, OPENING_BRACKET};
 
@@ -32,7 +33,8 @@ use ufmt::layout::{COLON, Count, INDENT, Kind, Mode, OPENING_BRACE, OPENING_BRAC
 /// | `FieldFirst` | a name, `{` | the first field's name, `:` and its value | `,` or `}` |
 /// | `FieldLater` | a name, `{`, fields, `,` | a field's name, `:` and its value | `,` or `}` |
 ///
-/// In pretty mode a comma comes before each closing bracket.
+/// In pretty mode a comma comes before each closing bracket. In a struct of a debug document, dots and
+/// `}` may follow a comma: they are in place of its last fields.
 #[derive(Clone, Copy)]
 pub(super) enum Stage {
     // A colon may follow the first two, and a field's name comes at the last two. Each two are
@@ -229,6 +231,10 @@ fn begin_front<'a, S: Sink, const PRETTY: bool, const DEBUG: bool, const WORD: b
             emit(Event::Open(Kind::Tuple, front.text), sink)?;
             return Ok((Some(Stage::TupleFirst), rest));
         }
+        if let Some(rest) = strip_only_dots(level.class, front.rest) {
+            emit(Event::OnlyDots(front.text), sink)?;
+            return Ok((None, rest));
+        }
         if let Some(rest) = level.strip_lead(Kind::Struct, front.rest) {
             emit(Event::Open(Kind::Struct, front.text), sink)?;
             return Ok((Some(Stage::FieldFirst), rest));
@@ -342,8 +348,7 @@ fn after_entry<'a, S: Sink, const PRETTY: bool, const DEBUG: bool>(
         return Err(ScanError::NotText);
     };
     if let Some(start) = strip_piece(rest_of_lead, line) {
-        emit(Event::Next, sink)?;
-        return Ok((Some(stage.later()), start));
+        return next_entry::<S, PRETTY, DEBUG>(level, stage, start, sink);
     }
     let (kind, count) = stage.kind_and_count();
     let Some(end) = level.strip_closing(kind, count, line) else {
@@ -351,6 +356,37 @@ fn after_entry<'a, S: Sink, const PRETTY: bool, const DEBUG: bool>(
     };
     emit(Event::Close(kind, count), sink)?;
     Ok((None, end))
+}
+
+// Emits what separates two entries, and then the end of the block if it ends in dots.
+#[inline(always)]
+fn next_entry<'a, S: Sink, const PRETTY: bool, const DEBUG: bool>(
+    level: Level,
+    stage: Stage,
+    input: &'a [u8],
+    sink: &mut S,
+) -> Result<Step<'a>, ScanError<S::Error>>
+    ensures { Steps S.took S.stopped result sink.old sink.new (suc (length input.now))
+        (scan_further level stage input.now) (after level) }
+{
+    emit(Event::Next, sink)?;
+    if let Some(end) = strip_dots(level, stage, input) {
+        emit(Event::Dots, sink)?;
+        return Ok((None, end));
+    }
+    Ok((Some(stage.later()), input))
+}
+
+// What follows the dots and the end of a block, if the block ends in dots. Only structs of debug
+// documents do.
+#[inline(always)]
+fn strip_dots(level: Level, stage: Stage, input: &[u8]) -> Option<&[u8]>
+    ensures { now_of result ≡ (turn_of level stage).dots input.now }
+{
+    match (level.class, stage) {
+        (Class::Debug, Stage::FieldFirst | Stage::FieldLater) => level.strip_dots(input),
+        _ => None,
+    }
 }
 
 // What separates two entries, after the indentation of their block.

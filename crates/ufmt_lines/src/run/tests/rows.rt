@@ -2,7 +2,7 @@
 use super::*;
 
 // Lines that end with a plain text, and the same with the pretty text.
-const DEBUG_TEXTS: [(&str, &str); 31] = [
+const DEBUG_TEXTS: [(&str, &str); 36] = [
     (
         "12:00 INFO got Reading { channel: 3 }",
         "12:00 INFO got Reading {\n    channel: 3,\n}",
@@ -76,10 +76,28 @@ const DEBUG_TEXTS: [(&str, &str); 31] = [
         "Unit { pkg: P { id: 1, ..: \"..\" } }",
         "Unit {\n    pkg: P {\n        id: 1,\n        ..: \"..\",\n    },\n}",
     ),
+    // Structs that end in dots.
+    (
+        "Mutex { data: 0, poisoned: false, .. }",
+        "Mutex {\n    data: 0,\n    poisoned: false,\n    ..\n}",
+    ),
+    (
+        "12:00 INFO got Some(Mutex { data: [1], poisoned: true, .. })",
+        "12:00 INFO got Some(\n    Mutex {\n        data: [\n            1,\n        ],\n        poisoned: true,\n        ..\n    },\n)",
+    ),
+    (
+        "state = Mutex { data: Mutex { data: 7, poisoned: false, .. }, poisoned: false, .. }",
+        "state = Mutex {\n    data: Mutex {\n        data: 7,\n        poisoned: false,\n        ..\n    },\n    poisoned: false,\n    ..\n}",
+    ),
+    ("waits for Once { .. }", "waits for Once { .. }"),
+    (
+        "(Sender { .. }, Receiver { .. })",
+        "(\n    Sender { .. },\n    Receiver { .. },\n)",
+    ),
 ];
 
 // Lines that stay as they are.
-const OTHERS: [&[u8]; 25] = [
+const OTHERS: [&[u8]; 29] = [
     b"",
     b" ",
     b"word",
@@ -104,11 +122,15 @@ const OTHERS: [&[u8]; 25] = [
     b"}",
     b") ] }",
     b"B { x: 1 }.",
-    b"Mutex { data: 0, poisoned: false, .. }",
+    b"Mutex { data: 0, poisoned: false, .. }.",
+    b"Mutex { data: 0, poisoned: false, ..}",
+    b"Mutex { data: 0, .., poisoned: false }",
+    b"{ .. }",
+    b"S { ... }",
 ];
 
 // Lines of which only a tail is a debug text, or of which more than one is: the longest is taken.
-const TAILS: [(&[u8], &[u8]); 11] = [
+const TAILS: [(&[u8], &[u8]); 13] = [
     (b"a [b]", b"a [\n    b,\n]"),
     (b" [b]", b" [\n    b,\n]"),
     (b"  [b]", b"  [\n    b,\n]"),
@@ -120,10 +142,12 @@ const TAILS: [(&[u8], &[u8]); 11] = [
     (b"[b] [b]", b"[b] [\n    b,\n]"),
     (b"\xff [b]", b"\xff [\n    b,\n]"),
     (b"\r [b]", b"\r [\n    b,\n]"),
+    (b"S { .. } [b]", b"S { .. } [\n    b,\n]"),
+    (b"[b, M { a: 1, .. }", b"[b, M {\n    a: 1,\n    ..\n}"),
 ];
 
 // Groups of lines that end with a pretty text, and the same with the plain text.
-const PRETTY_TEXTS: [(&[u8], &[u8]); 12] = [
+const PRETTY_TEXTS: [(&[u8], &[u8]); 14] = [
     (b"a [\n    1,\n]\nb", b"a [1]\nb"),
     (b"[\n    1,\n]\n[\n    2,\n]", b"[1]\n[2]"),
     (b"\n(\n    1,\n)\n\n", b"\n(1,)\n\n"),
@@ -136,10 +160,18 @@ const PRETTY_TEXTS: [(&[u8], &[u8]); 12] = [
     (b"a [\n    1,\n] [\n    2,\n]", b"a [\n    1,\n] [2]"),
     (b"  at\n  [\n    1,\n]", b"  at\n  [1]"),
     (b"\xff [\n    1,\n]\n\xfe", b"\xff [1]\n\xfe"),
+    (
+        b"a M {\n    b: c,\n    ..\n}\nend",
+        b"a M { b: c, .. }\nend",
+    ),
+    (
+        b"a [\n    Once { .. },\n]\nS { .. }",
+        b"a [Once { .. }]\nS { .. }",
+    ),
 ];
 
 // Groups of lines that stay as they are.
-const OTHER_GROUPS: [&[u8]; 19] = [
+const OTHER_GROUPS: [&[u8]; 24] = [
     b"a [\n    b [\n        1,\n    ],\n]",
     b"a [",
     b"a [\n",
@@ -159,6 +191,11 @@ const OTHER_GROUPS: [&[u8]; 19] = [
     b"{\n    \"a\": 1,\n    \"b\": [2]\n}",
     b"  at\n    at\n]\n}",
     b"[\n    [\n    1,\n    ],\n]",
+    b"M {\n    a: 1,\n    ..,\n}",
+    b"M {\n    a: 1,\n..\n}",
+    b"M {\n    ..\n}",
+    b"M {\n    a: 1\n    ..\n}",
+    b"[\n    1,\n    ..\n]",
 ];
 
 // Whether a run over the lines, and over the lines and a line feed, writes this output.

@@ -1,15 +1,7 @@
-use Rattle.std.proofs.Common.{◌≡◌, ◌∙◌, refl, sym, ap, ℕ, ◌+◌, ◌<◌, List, [], ◌∷◌, ◌++◌, length, take, drop, rules}
-use Rattle.std.proofs.lemmas.List.{drop_more, same_from_push, take_more}
-use Rattle.ufmt_doc.specs.Doc.{Doc}
+use Rattle.std.proofs.Common.{refl, rules}
+use Rattle.ufmt_doc.proofs.ClosedBlocks.{last_is}
 use Rattle.ufmt_doc.proofs.Docs.{doc_document-StructOf, doc_document-TupleOf}
 use Rattle.ufmt_doc.proofs.reader.document_sink.take_block.Goals as goal
-
--- without a block's entries, the stack ends with the block's name
-last_is : (start : ℕ) (docs kept rest : List Doc) (name : Doc) → start < length docs → kept ≡ take (start + 1) docs → kept ≡ rest ++ name ∷ []
-    → (rest ≡ take start docs) × (drop start docs ≡ name ∷ drop (start + 1) docs)
-last_is start docs kept rest name within is split =
-    let same = same_from_push rest (take start docs) name _ (sym split ∙ is ∙ take_more docs start name within) in
-    (same.0, drop_more docs start name within ∙ ap (λ d. d ∷ drop (start + 1) docs) (sym same.1))
 
 pub returns-in_ok-fields-in-Struct : goal.returns-in_ok-fields-in-Struct
 returns-in_ok-fields-in-Struct c =

@@ -1,15 +1,15 @@
 use Rattle.std.proofs.Common.{◌≡◌, ◌∙◌, refl, ap, sym, ℕ, ◌<◌, List, [], ◌∷◌, ◌++◌, Option, Some, None, option_and_then, arith}
 use Rattle.ufmt.specs.Layout.{ending, frame, inside, line_start, next, later_lead, trail}
-use Rattle.ufmt.specs.Reading.{strip}
+use Rattle.ufmt.specs.Reading.{choose, strip}
 use Rattle.ufmt.proofs.Parsing.{strip-append}
 use Rattle.ufmt.proofs.ReadingTurns.{strip_within}
 use Rattle.ufmt_core.specs.declared.layout.Mode.{Mode}
 use Rattle.ufmt_core.specs.declared.layout.Mode.TheVariants.{Plain, Pretty}
 use Rattle.ufmt_core.specs.declared.layout.Setting.{Setting}
-use Rattle.ufmt_scan.specs.Scan.{Close, Next}
+use Rattle.ufmt_scan.specs.Scan.{Close, Dots, Next}
 use Rattle.ufmt_scan.specs.Private.Level.{depth_in, setting_at, Level}
-use Rattle.ufmt_scan.specs.Private.Scanning.{after, earlier, kind_of, later, prefixed, scan_rest, turn_of, Stage}
-use Rattle.ufmt_scan.proofs.DocumentParts.{later_continues, turn_takes}
+use Rattle.ufmt_scan.specs.Private.Scanning.{after, earlier, kind_of, prefixed, scan_further, scan_rest, turn_of, Stage}
+use Rattle.ufmt_scan.proofs.DocumentParts.{later_continues, steps_as, turn_dots, turn_takes}
 use Rattle.ufmt_scan.proofs.EntrySteps.{ending_stripped}
 use Rattle.ufmt_scan.proofs.Scans.{nothing_there, step_refused}
 use Rattle.ufmt_scan.proofs.ScanTurns.{follows_scans, continued}
@@ -33,7 +33,7 @@ module _ (level : Level) (at : Stage) where
       → scan_rest (turn_of level at) level (kind_of at) (next (earlier at)) t
       ≡ option_and_then (λ w. continued (turn_of level at) level (kind_of at) (earlier at) (strip between w) (strip closing w)) o
   follows t piece between line o piece_is line_is apart h =
-      follows_scans (turn_of level at) level (kind_of at) (earlier at) t (turn_takes level at) ∙ by_trail (strip (trail level.mode) t)
+      follows_scans (turn_of level at) level (kind_of at) (earlier at) t (turn_takes level at) (turn_dots level at) ∙ by_trail (strip (trail level.mode) t)
       ∙ ap (λ e. option_and_then (λ w. continued (turn_of level at) level (kind_of at) (earlier at) (strip between w) (strip closing w)) e)
       (sym (h ∙ rw (piece_is, line_is) (strip-append (trail level.mode) start t)))
     where
@@ -52,12 +52,13 @@ module _ (level : Level) (at : Stage) where
           ap (λ p. strip p v) (sym apart) ∙ strip-append start between v in
           rw (separates, ending_stripped level (kind_of at) (earlier at) v) (by_line (strip start v))
 
-  -- another entry comes
+  -- another entry or the dots come
   another : (t u v piece between : List ℕ) (line : Setting) → piece ≡ trail level.mode → line ≡ setting_at level
       → start ++ between ≡ later_lead level.mode (inside (setting_at level)).depth → Some u ≡ strip (piece ++ line_start line.mode line.depth) t → Some v ≡ strip between u
-      → scan_rest (turn_of level at) level (kind_of at) (next (earlier at)) t ≡ prefixed (Next ∷ []) (after level (Some (later at)) v)
+      → scan_rest (turn_of level at) level (kind_of at) (next (earlier at)) t ≡ scan_further level at v
   another t u v piece between line piece_is line_is apart before comes =
-      follows t piece between line (Some u) piece_is line_is apart before ∙ rw (sym comes) (ap (prefixed (Next ∷ [])) (sym (later_continues level at v)))
+      follows t piece between line (Some u) piece_is line_is apart before
+      ∙ rw (sym comes) (ap (λ o. prefixed (Next ∷ []) (choose ((turn_of level at).dots v) (λ w. Some (Dots ∷ [], w)) o)) (sym (later_continues level at v)))
 
   -- the block ends
   ends : (t u v piece between : List ℕ) (line : Setting) → piece ≡ trail level.mode → line ≡ setting_at level
@@ -72,13 +73,6 @@ returns-in_default g c =
     let apart = c.between-rest_of_lead.ensures (setting_at c.args.level).depth (few c.args.level.mode c.args.level.open_blocks c.requires) in
     (nothing_there _ (follows c.args.level c.args.stage c.args.input.now _ c.between-rest_of_lead.result.now _ None c.trail.ensures c.setting.ensures apart c.in_default.ensures), tt)
 
-pub returns-in_err-emit : goal.returns-in_err-emit
-returns-in_err-emit g c =
-    let apart = c.between-rest_of_lead.ensures (setting_at c.args.level).depth (few c.args.level.mode c.args.level.open_blocks c.requires) in
-    let start = c.in-Some-strip_piece.start.now in
-    step_refused _ (after c.args.level) c.from_residual.result c.from_residual.ensures.1 (c.in_err-emit.ensures _ (after c.args.level (Some (later c.args.stage)) start)
-    (another c.args.level c.args.stage c.args.input.now c.in-Some.line.now start _ _ _ c.trail.ensures c.setting.ensures apart c.in-Some.ensures c.in-Some-strip_piece.ensures))
-
 pub returns-in-Some-strip_piece : goal.returns-in-Some-strip_piece
 returns-in-Some-strip_piece g c =
     let apart = c.between-rest_of_lead.ensures (setting_at c.args.level).depth (few c.args.level.mode c.args.level.open_blocks c.requires) in
@@ -86,8 +80,9 @@ returns-in-Some-strip_piece g c =
     let start = c.in-Some-strip_piece.start.now in
     let within = strip_within _ c.args.input.now line (sym c.in-Some.ensures) in
     let less = strip_within _ line start (sym c.in-Some-strip_piece.ensures) in
-    let comes = another c.args.level c.args.stage c.args.input.now line start _ _ _ c.trail.ensures c.setting.ensures apart c.in-Some.ensures c.in-Some-strip_piece.ensures in
-    (c.in_ok-emit.ensures _ _ (rw c.later.ensures comes), omega (arith, within, less))
+    steps_as g.S.Sink.took g.S.Sink.stopped c.args.sink.now c.next_entry.new.sink (after c.args.level) _ c.next_entry.result _ (omega (arith, within, less))
+    (another c.args.level c.args.stage c.args.input.now line start _ _ _ c.trail.ensures c.setting.ensures apart c.in-Some.ensures c.in-Some-strip_piece.ensures)
+    c.next_entry.ensures
 
 pub returns-in_default-strip_closing : goal.returns-in_default-strip_closing
 returns-in_default-strip_closing g c =
@@ -98,15 +93,15 @@ returns-in_default-strip_closing g c =
       tt,
     )
 
-pub returns-in_err-emit-2 : goal.returns-in_err-emit-2
-returns-in_err-emit-2 g c =
+pub returns-in_err-emit : goal.returns-in_err-emit
+returns-in_err-emit g c =
     let apart = c.between-rest_of_lead.ensures (setting_at c.args.level).depth (few c.args.level.mode c.args.level.open_blocks c.requires) in
     let end = c.in-Some-strip_closing.end.now in
     let closing = rw (c.kind_and_count-kind.ensures.kind, c.kind_and_count-kind.ensures.count) at c.in-Some-strip_closing.ensures in
     let closes = ends c.args.level c.args.stage c.args.input.now c.in-Some.line.now end _ _ _ c.trail.ensures c.setting.ensures apart c.in-Some.ensures
     c.in_default-strip_piece.ensures closing in
-    step_refused _ (after c.args.level) c.from_residual-in_err-emit-2.result c.from_residual-in_err-emit-2.ensures.1
-    (c.in_err-emit-2.ensures _ (after c.args.level None end) (rw (c.kind_and_count-kind.ensures.kind, c.kind_and_count-kind.ensures.count) closes))
+    step_refused _ (after c.args.level) c.from_residual.result c.from_residual.ensures.1
+    (c.in_err-emit.ensures _ (after c.args.level None end) (rw (c.kind_and_count-kind.ensures.kind, c.kind_and_count-kind.ensures.count) closes))
 
 pub returns : goal.returns
 returns g c =
@@ -118,4 +113,4 @@ returns g c =
     let less = strip_within _ line end (sym closing) in
     let closes = ends c.args.level c.args.stage c.args.input.now line end _ _ _ c.trail.ensures c.setting.ensures apart c.in-Some.ensures
     c.in_default-strip_piece.ensures closing in
-    (c.in_ok-emit-2.ensures _ _ (rw (c.kind_and_count-kind.ensures.kind, c.kind_and_count-kind.ensures.count) closes), omega (arith, within, less))
+    (c.in_ok-emit.ensures _ _ (rw (c.kind_and_count-kind.ensures.kind, c.kind_and_count-kind.ensures.count) closes), omega (arith, within, less))

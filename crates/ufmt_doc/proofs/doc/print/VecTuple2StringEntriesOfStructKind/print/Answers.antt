@@ -1,19 +1,7 @@
-use Rattle.std.proofs.Common.{List, String, map, string_bytes, sym, true, ℕ, ◌≡◌, ◌∙◌}
-use Rattle.std.proofs.lemmas.Simd.{map-map}
-use Rattle.std.specs.declared.alloc.Global.{Global}
-use Rattle.ufmt.specs.Document.{Document, fields_of}
-use Rattle.ufmt.specs.BuilderView.{field_text, remaining_fields}
-use Rattle.ufmt_core.specs.declared.layout.Setting.{Setting}
-use Rattle.ufmt.proofs.Printing.{LaysOut-err, WritesRow-next, WritesRow-none, failed, field_texts-fields_of, finished, is_struct, loop_ended, loop_next, not_opened, opened, written}
+use Rattle.std.proofs.Common.{sym, true}
+use Rattle.ufmt.proofs.Printing.{LaysOut-err, WritesRow-next, WritesRow-none, failed, finished, is_struct, loop_ended, loop_next, not_opened, opened, written}
+use Rattle.ufmt_doc.proofs.FieldRows.{field_texts-of}
 use Rattle.ufmt_doc.proofs.doc.print.VecTuple2StringEntriesOfStructKind.print.Goals as goal
-
--- the texts of the fields are those of the vector's items, in order
-field_texts-of : {V : Type 0} (document : V → Document) (fields : List (String Global × V)) (i : Setting)
-    → remaining_fields (fields_of (map (λ (f : String Global × V). (string_bytes f.0, document f.1)) fields)) i
-    ≡ map (λ (f : String Global × V). field_text (string_bytes f.0) (document f.1) i) fields
-field_texts-of {V} document fields i =
-    field_texts-fields_of i (map (λ (f : String Global × V). (string_bytes f.0, document f.1)) fields)
-    ∙ map-map (λ (f : List ℕ × Document). field_text f.0 f.1 i) (λ (f : String Global × V). (string_bytes f.0, document f.1)) fields
 
 pub returns-in_err-builder : goal.returns-in_err-builder
 returns-in_err-builder g c = not_opened is_struct _ c.from_residual.ensures.0 c.in_err-builder.was c.debug_struct.follows.holds-at-none

@@ -2,9 +2,9 @@ use Rattle.std.proofs.Common.{true, false, ◌≡◌, inl, inr, ap, refl, rules,
 use Rattle.ufmt.specs.Token.{IsName}
 use Rattle.ufmt_doc.specs.declared.doc.Doc.{the_lemmas}
 use Rattle.ufmt_doc.specs.Doc.{doc_document}
-use Rattle.ufmt_doc.proofs.Docs.{doc_document-Listed, doc_document-MapOf, doc_document-SetOf, doc_document-StructOf, doc_document-TupleOf}
-use Rattle.ufmt_doc.proofs.NormalForms.{braces_same, lists_same, maps_same, sets_same, struct_form, structs_same, tuple_form, tuples_same}
-use Rattle.ufmt_doc.proofs.Within.{as_well, docs_within, fields_within, pairs_within, tuple_within, unnamed_within}
+use Rattle.ufmt_doc.proofs.Docs.{doc_document-Listed, doc_document-MapOf, doc_document-NonExhaustiveOf, doc_document-SetOf, doc_document-StructOf, doc_document-TupleOf}
+use Rattle.ufmt_doc.proofs.NormalForms.{braces_same, dotted_same, lists_same, maps_same, sets_same, struct_form, structs_same, tuple_form, tuples_same}
+use Rattle.ufmt_doc.proofs.Within.{as_well, docs_within, dotted_within, fields_within, pairs_within, tuple_within, unnamed_within}
 use Rattle.ufmt_doc.proofs.doc.tree.DocSubtree.+parts.Goals as goal
 
 pub is_within-returns-in-Listed : goal.is_within-returns-in-Listed
@@ -39,6 +39,12 @@ is_within-returns-then-is_name_of-2 t c =
     rw (c.in-TupleOf-2.is, doc_document-TupleOf)
     (as_well c.is_within-then-is_name_of-2.ensures (as_well (docs_within _ _ _) (tuple_within _ _ _ named _)))
 
+pub is_within-returns-then-is_name_of-3 : goal.is_within-returns-then-is_name_of-3
+is_within-returns-then-is_name_of-3 t c =
+    let named = subst (IsName c.args.class) c.deref-in-NonExhaustiveOf.ensures (c.is_name_of-in-NonExhaustiveOf.ensures.0 c.if-is_name_of-3.true) in
+    rw (c.in-NonExhaustiveOf.is, doc_document-NonExhaustiveOf)
+    (as_well (as_well c.is_within-then-is_name_of-3.ensures (fields_within _ _ _ named _)) (dotted_within _ _ _ _ (c.may_end_in_dots.ensures.0 c.if-may_end_in_dots.true)))
+
 pub is_same-returns-in-Listed-Listed : goal.is_same-returns-in-Listed-Listed
 is_same-returns-in-Listed-Listed t c = simp (c.in-Listed-Listed.is-0, c.in-Listed-Listed.is-1, doc_document-Listed) (as_well c.is_same.ensures (lists_same _ _))
 
@@ -65,6 +71,12 @@ pub is_same-returns-then-eq-2 : goal.is_same-returns-then-eq-2
 is_same-returns-then-eq-2 t c =
     let named : string_bytes c.in-TupleOf-TupleOf.name ≡ string_bytes c.in-TupleOf-TupleOf.another = search rules in
     simp (c.in-TupleOf-TupleOf.is-0, c.in-TupleOf-TupleOf.is-1, doc_document-TupleOf, named) (as_well c.is_same-then-eq-2.ensures (tuples_same _ _ _))
+
+pub is_same-returns-then-eq-3 : goal.is_same-returns-then-eq-3
+is_same-returns-then-eq-3 t c =
+    let named : string_bytes c.in-NonExhaustiveOf-NonExhaustiveOf.name ≡ string_bytes c.in-NonExhaustiveOf-NonExhaustiveOf.another = search rules in
+    simp (c.in-NonExhaustiveOf-NonExhaustiveOf.is-0, c.in-NonExhaustiveOf-NonExhaustiveOf.is-1, doc_document-NonExhaustiveOf, named)
+    (as_well c.is_same-then-eq-3.ensures (dotted_same _ _ _))
 
 pub is_same-returns-then-is_empty : goal.is_same-returns-then-is_empty
 is_same-returns-then-is_empty t c = rw (struct_form _ _ _ _ c.in-StructOf-default.is-0 (sym c.if-is_empty.true ∙ c.is_empty.ensures)) (search rules)
