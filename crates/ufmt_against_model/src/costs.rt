@@ -75,6 +75,7 @@ impl Costs {
         self.line.push_str(name)?;
         self.line.push_str(": ")?;
         self.on_text(calls.on_debug_text())?;
+        self.on_debug_doc(calls.on_debug_text())?;
         self.line.push_str("; ")
     }
 
@@ -114,6 +115,13 @@ impl Costs {
         count!(self, "print", calls.print(doc).ok());
         let mut buffer = vec![in self.alloc; 0u8; calls.text.len()]?;
         count!(self, "print into", calls.print_into(&mut buffer, doc).ok());
+        Ok(())
+    }
+
+    fn on_debug_doc(&mut self, calls: Calls<'_>) -> Result<(), AllocError> {
+        if let Ok(doc) = calls.read() {
+            count!(self, "is_debug", doc.is_debug().then_some(()));
+        }
         Ok(())
     }
 

@@ -45,6 +45,7 @@ DEBUG_STEPS = (0, 5, 18, 0, 0, 90, 230, 30, 70, 70, 0, 0, 0, 0)
 DEBUG_BYTE, PIECE, OTHER_QUOTE = 14, 75, 40
 for call in ("is_text", "read", "convert", "convert to a String", "convert into"):
     STEPS["debug " + call] = tuple(map(sum, zip(STEPS[call], DEBUG_STEPS)))
+STEPS["debug is_debug"] = tuple(map(sum, zip(STEPS["is_token"], DEBUG_STEPS)))
 # A call that reads a text and then does another thing takes what both take.
 STEPS["parse"] = tuple(map(sum, zip(STEPS["read"], STEPS["trees"])))
 STEPS["read_field"] = tuple(map(sum, zip(STEPS["read"], STEPS["leaf_text"], STEPS["field_text"])))
@@ -140,7 +141,7 @@ def values(found, length):
 def memory(call, case):
     found, length = case.features, case.length
     call = call.removeprefix("debug ")
-    if call in ("is_text", "convert into", "is_token", "print into", "print loose into", "same_text", "normalize", "i128", "is_leaf", "is_word"):
+    if call in ("is_text", "convert into", "is_token", "is_debug", "print into", "print loose into", "same_text", "normalize", "i128", "is_leaf", "is_word"):
         return NOTHING
     return {
         "read": lambda: document(found, length),
