@@ -1,0 +1,138 @@
+-- Characters in UTF-8, and as they are written between apostrophes.
+use Rattle.std.proofs.Common.{◌≡◌, ◌⊎◌, inl, inr, refl, sym, ap, subst, ◌∙◌, ℕ, ◌+◌, ◌<◌, ◌≤◌, Bool, true, false, List, [], ◌∷◌, ◌++◌, length, slice_index, get_or, encode_utf8, append-nil, append_assoc, arith, drop, Option, Some, None, Bor, MatchOption}
+use lib.Utf8.{encode}
+use Rattle.std.specs.Prelude.{◌≢◌, nat_lt, unwrap_or}
+use Rattle.std.specs.Char.{IsScalar}
+use Rattle.std.specs.Str.{IsUtf8, chars, continuation_len}
+use Rattle.std.proofs.lemmas.Bool.{cases_lt}
+use Rattle.std.proofs.lemmas.Bool.Decides.{nat_tests}
+use Rattle.std.proofs.lemmas.Str.{IsUtf8-encode, chars_past_char, encode_ascii, encode_same, inside_one}
+use Rattle.ufmt_core.proofs.QuotedBytes.{escape-past_ascii}
+use Rattle.ufmt.specs.Quoted.{IsQuote, escape, escaped, escaped_byte, quoted_char}
+use Rattle.ufmt.specs.Reading.{strip}
+use Rattle.ufmt.specs.ReadingQuoted.{read_escaped}
+use Rattle.ufmt.proofs.Parsing.{same_parts, strip_found, strip_of_front}
+use Rattle.ufmt.proofs.QuotedComplete.{read_escaped-complete}
+
+-- the first byte of a character determines how many bytes it has
+pub length-led : (c : ℕ) → length (encode_utf8 c) ≡ 1 + continuation_len (slice_index (encode_utf8 c) 0)
+unfolding encode
+length-led c = go (nat_lt c 128) refl (nat_lt c 2048) refl (nat_lt c 65536) refl
+  where
+    go : (x : Bool) → nat_lt c 128 ≡ x → (y : Bool) → nat_lt c 2048 ≡ y → (z : Bool) → nat_lt c 65536 ≡ z
+        → length (encode_utf8 c) ≡ 1 + continuation_len (slice_index (encode_utf8 c) 0)
+    go true one y two z three = rw one (grind (arith, nat_tests))
+    go false one true two z three = rw (one, two) (grind (arith, nat_tests))
+    go false one false two true three = rw (one, two, three) (grind (arith, nat_tests))
+    go false one false two false three = rw (one, two, three) (grind (arith, nat_tests))
+
+-- one character's bytes spell it
+pub chars-encode : (bs : List ℕ) (c : ℕ) → IsScalar c → bs ≡ encode_utf8 c → chars bs ≡ c ∷ chars []
+chars-encode bs c scalar is =
+    let whole : bs ≡ encode_utf8 c ++ [] = is ∙ sym (append-nil (encode_utf8 c)) in
+    chars_past_char bs [] c (subst IsUtf8 (sym is) (IsUtf8-encode c scalar)) whole
+
+-- so it does at the front of a text
+pub led_front : (t : List ℕ) (c : ℕ) (rest : List ℕ) (lead : ℕ) → t ≡ encode_utf8 c ++ rest → lead ≡ get_or t 0 lead → length (encode_utf8 c) ≡ 1 + continuation_len lead
+led_front t c rest lead is first = go (encode_utf8 c) (length-led c) is
+  where
+    go : (bs : List ℕ) → length bs ≡ 1 + continuation_len (slice_index bs 0) → t ≡ bs ++ rest → length bs ≡ 1 + continuation_len lead
+    go [] long whole = absurd (omega (arith, long))
+    go (b ∷ bs) long whole = long ∙ ap (λ n. 1 + continuation_len n) (sym (first ∙ ap (λ l. get_or l 0 lead) whole))
+
+-- ---- between apostrophes
+
+-- how a character is written: in ASCII as its byte is, and past it in UTF-8, whose first byte is past ASCII and written as itself
+pub data Written (c : ℕ) : Type 0 where
+  ascii : c < 128 → escaped 39 c ≡ escaped_byte 39 c → Written c
+  past_ascii : 128 ≤ c → escaped 39 c ≡ encode_utf8 c → (b : ℕ) → 128 ≤ b → (more : List ℕ) → escaped 39 c ≡ escaped_byte 39 b ++ more → Written c
+
+pub written : (c : ℕ) → Written c
+written c = by (cases_lt c 128)
+  where
+    first : 128 ≤ c → (bs : List ℕ) → encode_utf8 c ≡ bs → escaped 39 c ≡ encode_utf8 c → Written c
+    first high [] is itself = absurd (omega (arith, ap length is, length-led c))
+    first high (b ∷ more) is itself = at (cases_lt b 128)
+      where
+        at : (b < 128) ⊎ (128 ≤ b) → Written c
+        at (inl low) =
+            let same : c ≡ b = inside_one c [] (b ∷ more) 0 (sym is ∙ sym (append-nil (encode_utf8 c))) (omega (arith, ap length is)) low in
+            absurd (omega (arith, same))
+        at (inr past) = past_ascii high itself b past more (itself ∙ is ∙ ap (λ e. unwrap_or e (b ∷ []) ++ more) (sym (escape-past_ascii 39 b (omega arith) past)))
+
+    by : (c < 128) ⊎ (128 ≤ c) → Written c
+    by (inl low) = ascii low (ap (unwrap_or (escape 39 c)) (encode_ascii c low))
+    by (inr high) = first high (encode_utf8 c) refl (ap (λ e. unwrap_or e (encode_utf8 c)) (escape-past_ascii 39 c (omega arith) high))
+
+-- a text begins with the spelling of at most one byte
+pub spelled_once : (q : ℕ) → IsQuote q → (b c : ℕ) (t u : List ℕ) → escaped_byte q b ++ t ≡ escaped_byte q c ++ u → (b ≡ c) × (t ≡ u)
+spelled_once q quote b c t u same =
+    same_parts {A = ℕ} {B = List ℕ} (b, t) (c, u) (sym (read_escaped-complete q b t quote) ∙ ap (read_escaped q) same ∙ read_escaped-complete q c u quote)
+
+-- and with at most one character
+pub character_once : (c d : ℕ) (t u : List ℕ) → escaped 39 c ++ t ≡ escaped 39 d ++ u → (c ≡ d) × (t ≡ u)
+character_once c d t u same = by (written c) (written d)
+  where
+    by : Written c → Written d → (c ≡ d) × (t ≡ u)
+    by (ascii low is) (ascii less also) = spelled_once 39 (inr refl) c d t u (ap (λ e. e ++ t) (sym is) ∙ same ∙ ap (λ e. e ++ u) also)
+    by (ascii low is) (past_ascii high itself b past more also) =
+        let byte = (spelled_once 39 (inr refl) c b t (more ++ u) (ap (λ e. e ++ t) (sym is) ∙ same ∙ ap (λ e. e ++ u) also ∙ append_assoc (escaped_byte 39 b) more u)).0 in
+        absurd (omega (arith, byte))
+    by (past_ascii high itself b past more also) (ascii low is) =
+        let byte = (spelled_once 39 (inr refl) d b u (more ++ t) (ap (λ e. e ++ u) (sym is) ∙ sym same ∙ ap (λ e. e ++ t) also ∙ append_assoc (escaped_byte 39 b) more t)).0 in
+        absurd (omega (arith, byte))
+    by (past_ascii high itself b past more also) (past_ascii higher alone e further rest other) =
+        let both = encode_same c d t u (ap (λ e. e ++ t) (sym itself) ∙ same ∙ ap (λ e. e ++ u) alone) in (both.0, both.1)
+
+-- where no byte is spelled, no character is
+pub no_character : (t : List ℕ) → ((b : ℕ) (u : List ℕ) → t ≢ escaped_byte 39 b ++ u) → (c : ℕ) (u : List ℕ) → t ≢ escaped 39 c ++ u
+no_character t none c u same = by (written c)
+  where
+    by : Written c → ⊥
+    by (ascii low is) = none c u (same ∙ ap (λ e. e ++ u) is)
+    by (past_ascii high itself b past more is) = none b (more ++ u) (same ∙ ap (λ e. e ++ u) is ∙ append_assoc (escaped_byte 39 b) more u)
+
+pub ascii_character : (c : ℕ) → c < 128 → escaped 39 c ≡ escaped_byte 39 c
+ascii_character c low = ap (unwrap_or (escape 39 c)) (encode_ascii c low)
+
+-- where a byte past ASCII is spelled, a character in UTF-8 is written so, and no other
+pub utf8_character : (t : List ℕ) (b : ℕ) (after : List ℕ) → t ≡ escaped_byte 39 b ++ after → 128 ≤ b → (c : ℕ) (u : List ℕ) → t ≡ encode_utf8 c ++ u
+    → t ≡ escaped 39 c ++ u
+utf8_character t b after first past c u is = by (written c)
+  where
+    by : Written c → t ≡ escaped 39 c ++ u
+    by (ascii low written_so) =
+        let itself : escaped_byte 39 b ≡ b ∷ [] = ap (λ e. unwrap_or e (b ∷ [])) (escape-past_ascii 39 b (omega arith) past) in
+        let whole : b ∷ after ≡ c ∷ u = ap (λ e. e ++ after) (sym itself) ∙ sym first ∙ is ∙ ap (λ e. e ++ u) (encode_ascii c low) in
+        absurd (omega (arith, ap (λ (l : List ℕ). get_or l 0 0) whole))
+    by (past_ascii high itself e more further other) = is ∙ ap (λ w. w ++ u) (sym itself)
+
+pub no_utf8_character : (t : List ℕ) (b : ℕ) (after : List ℕ) → t ≡ escaped_byte 39 b ++ after → 128 ≤ b
+    → ((c : ℕ) (u : List ℕ) → IsScalar c → t ≢ encode_utf8 c ++ u) → (c : ℕ) (u : List ℕ) → IsScalar c → t ≢ escaped 39 c ++ u
+no_utf8_character t b after first past none c u scalar same = by (written c)
+  where
+    by : Written c → ⊥
+    by (ascii low is) =
+        let byte = (spelled_once 39 (inr refl) c b u after (ap (λ e. e ++ u) (sym is) ∙ sym same ∙ first)).0 in
+        absurd (omega (arith, byte))
+    by (past_ascii high itself e more further other) = none c u scalar (same ∙ ap (λ w. w ++ u) itself)
+
+-- the parts of a quoted character and what follows it
+pub quoted_char-parts : (c : ℕ) (u : List ℕ) → quoted_char c ++ u ≡ 39 ∷ (escaped 39 c ++ (39 ∷ u))
+quoted_char-parts c u = ap (λ t. 39 ∷ t) (ap (λ e. (e ++ (39 ∷ [])) ++ u) (append-nil (escaped 39 c)) ∙ append_assoc (escaped 39 c) (39 ∷ []) u)
+
+-- the character that `split_utf8` finds is written so
+pub utf8_found : (t : List ℕ) (b : ℕ) (after : List ℕ) (r : Option (ℕ × Bor (List ℕ))) → t ≡ escaped_byte 39 b ++ after → 128 ≤ b
+    → MatchOption r ((c : ℕ) (u : List ℕ) → IsScalar c → t ≢ encode_utf8 c ++ u) (λ x. IsScalar x.0 × (t ≡ encode_utf8 x.0 ++ x.1.now))
+    → MatchOption r ((c : ℕ) (u : List ℕ) → IsScalar c → t ≢ escaped 39 c ++ u) (λ x. IsScalar x.0 × (t ≡ escaped 39 x.0 ++ x.1.now))
+utf8_found t b after None first past none = no_utf8_character t b after first past none
+utf8_found t b after (Some x) first past is = (is.0, utf8_character t b after first past x.0 x.1.now is.1)
+
+-- where no apostrophe follows the character, none does
+pub not_closed : (t inside end : List ℕ) (c : ℕ) → Some inside ≡ strip (39 ∷ []) t → inside ≡ escaped 39 c ++ end → None ≡ strip (39 ∷ []) end
+    → (d : ℕ) (u : List ℕ) → t ≢ quoted_char d ++ u
+not_closed t inside end c opens is none d u same =
+    let within : inside ≡ escaped 39 d ++ (39 ∷ u) = ap (drop 1) (sym (strip_found (39 ∷ []) t inside (sym opens)) ∙ same ∙ quoted_char-parts d u) in
+    let closes = (character_once c d end (39 ∷ u) (sym is ∙ within)).1 in
+    let some : ◌≡◌ {A = Option (List ℕ)} None (Some u) = none ∙ strip_of_front (39 ∷ []) end u closes in
+    absurd (cc)

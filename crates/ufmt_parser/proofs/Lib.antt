@@ -1,0 +1,15 @@
+pub mod Characters
+pub mod Clauses
+pub mod DecimalFronts
+pub mod EntryParts
+pub mod EscapedBytes
+pub mod Forms
+pub mod Integers
+pub mod Parts
+pub mod QuotedTaken
+pub mod Settings
+pub mod SpelledTexts
+pub mod Strips
+pub mod Taken
+pub mod Truths
+pub mod Words

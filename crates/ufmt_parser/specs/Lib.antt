@@ -1,0 +1,4 @@
+pub mod Digits
+pub mod Spelling
+pub mod Taking
+pub mod Values

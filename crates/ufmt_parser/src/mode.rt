@@ -1,0 +1,40 @@
+//! The mode of a text, as a type: so each parser has a copy for plain and one for pretty texts.
+ghost use Rattle.std.specs.Prelude.{◌≡◌};
+ghost use Rattle.ufmt_core.specs.declared.layout.Mode.{Mode};
+ghost use Rattle.ufmt_core.specs.declared.layout.Mode.TheVariants.{Plain, Pretty};
+
+use ufmt::layout::Mode;
+
+/// The mode of the texts that a parser takes.
+pub trait ParseMode {
+    ghost mode: { Mode };
+
+    fn mode() -> Mode
+        ensures { result ≡ mode };
+}
+
+/// Texts that `{:?}` prints.
+#[derive(Clone, Copy)]
+pub struct PlainText;
+
+/// Texts that `{:#?}` prints.
+#[derive(Clone, Copy)]
+pub struct PrettyText;
+
+impl ParseMode for PlainText {
+    ghost mode = { Plain };
+
+    #[inline(always)]
+    fn mode() -> Mode {
+        Mode::Plain
+    }
+}
+
+impl ParseMode for PrettyText {
+    ghost mode = { Pretty };
+
+    #[inline(always)]
+    fn mode() -> Mode {
+        Mode::Pretty
+    }
+}

@@ -1,0 +1,263 @@
+//! Structs by their number of fields. tools/write-by-count writes this file: change it there.
+ghost use Rattle.std.specs.Prelude.{◌≤◌, length, [], ◌∷◌, ◌≡◌, List, ℕ, IfOk, IsErrOf};
+ghost use Rattle.ufmt.specs.Document.{fields_of, struct_of};
+ghost use Rattle.ufmt_parser.specs.Taking.{AreWords, IsNext, IsTaken, open_blocks, rest};
+
+use crate::entries::Named;
+use crate::fields::parse_block;
+use crate::from_front::{Plain, uParse};
+use crate::mode::ParseMode;
+use crate::parser::{Fault, Parser};
+use ufmt::layout::Kind;
+
+/// Takes a struct with one field, as `parse_from` does a value.
+pub fn parse_struct_1<Alloc: Copy, A: uParse<Alloc>, M: ParseMode>(
+    alloc: Alloc,
+    parser: &mut Parser<'_, M>,
+    name: &str,
+    a: &str,
+) -> Result<A, Fault>
+    requires { AreWords (name.now ∷ a.now ∷ []) }
+    ensures taken { IfOk result (λ v. IsTaken M.mode parser.old (struct_of name.now (fields_of
+        ((a.now, A.document v) ∷ []))) parser.new) }
+    ensures only { IfOk result (λ _. (a_value : A) (u : List ℕ) → A.is_value a_value
+        → IsNext M.mode parser.old (struct_of name.now (fields_of ((a.now, A.document a_value)
+        ∷ []))) u → u ≡ rest parser.new) }
+    ensures none { IsErrOf result Fault.NotText → (a_value : A) (u : List ℕ) → A.is_value a_value
+        → ¬ IsNext M.mode parser.old (struct_of name.now (fields_of ((a.now, A.document a_value)
+        ∷ []))) u }
+    ensures blocks { IfOk result (λ _. open_blocks parser.new ≡ open_blocks parser.old) }
+    ensures shrinks { length (rest parser.new) ≤ length (rest parser.old) }
+{
+    let fields = (Named(a, Plain), ());
+    match parse_block(alloc, parser, Kind::Struct, name, &fields) {
+        Err(fault) => Err(fault),
+        Ok((a_value, ())) => Ok(a_value),
+    }
+}
+
+/// Takes a struct with 2 fields, as `parse_from` does a value.
+pub fn parse_struct_2<Alloc: Copy, A: uParse<Alloc>, B: uParse<Alloc>, M: ParseMode>(
+    alloc: Alloc,
+    parser: &mut Parser<'_, M>,
+    name: &str,
+    a: &str,
+    b: &str,
+) -> Result<(A, B), Fault>
+    requires { AreWords (name.now ∷ a.now ∷ b.now ∷ []) }
+    ensures taken { IfOk result (λ v. IsTaken M.mode parser.old (struct_of name.now (fields_of
+        ((a.now, A.document v.0) ∷ (b.now, B.document v.1) ∷ []))) parser.new) }
+    ensures only { IfOk result (λ _. (a_value : A) (b_value : B) (u : List ℕ) → A.is_value a_value
+        → B.is_value b_value → IsNext M.mode parser.old (struct_of name.now (fields_of
+        ((a.now, A.document a_value) ∷ (b.now, B.document b_value) ∷ []))) u
+        → u ≡ rest parser.new) }
+    ensures none { IsErrOf result Fault.NotText → (a_value : A) (b_value : B) (u : List ℕ)
+        → A.is_value a_value → B.is_value b_value → ¬ IsNext M.mode parser.old
+        (struct_of name.now (fields_of ((a.now, A.document a_value) ∷ (b.now, B.document b_value)
+        ∷ []))) u }
+    ensures blocks { IfOk result (λ _. open_blocks parser.new ≡ open_blocks parser.old) }
+    ensures shrinks { length (rest parser.new) ≤ length (rest parser.old) }
+{
+    let fields = (Named(a, Plain), (Named(b, Plain), ()));
+    match parse_block(alloc, parser, Kind::Struct, name, &fields) {
+        Err(fault) => Err(fault),
+        Ok((a_value, (b_value, ()))) => Ok((a_value, b_value)),
+    }
+}
+
+/// Takes a struct with 3 fields, as `parse_from` does a value.
+pub fn parse_struct_3<
+    Alloc: Copy,
+    A: uParse<Alloc>,
+    B: uParse<Alloc>,
+    C: uParse<Alloc>,
+    M: ParseMode,
+>(
+    alloc: Alloc,
+    parser: &mut Parser<'_, M>,
+    name: &str,
+    a: &str,
+    b: &str,
+    c: &str,
+) -> Result<(A, B, C), Fault>
+    requires { AreWords (name.now ∷ a.now ∷ b.now ∷ c.now ∷ []) }
+    ensures taken { IfOk result (λ v. IsTaken M.mode parser.old (struct_of name.now (fields_of
+        ((a.now, A.document v.0) ∷ (b.now, B.document v.1) ∷ (c.now, C.document v.2) ∷ [])))
+        parser.new) }
+    ensures only { IfOk result (λ _. (a_value : A) (b_value : B) (c_value : C) (u : List ℕ)
+        → A.is_value a_value → B.is_value b_value → C.is_value c_value → IsNext M.mode parser.old
+        (struct_of name.now (fields_of ((a.now, A.document a_value) ∷ (b.now, B.document b_value)
+        ∷ (c.now, C.document c_value) ∷ []))) u → u ≡ rest parser.new) }
+    ensures none { IsErrOf result Fault.NotText → (a_value : A) (b_value : B) (c_value : C)
+        (u : List ℕ) → A.is_value a_value → B.is_value b_value → C.is_value c_value
+        → ¬ IsNext M.mode parser.old (struct_of name.now (fields_of ((a.now, A.document a_value)
+        ∷ (b.now, B.document b_value) ∷ (c.now, C.document c_value) ∷ []))) u }
+    ensures blocks { IfOk result (λ _. open_blocks parser.new ≡ open_blocks parser.old) }
+    ensures shrinks { length (rest parser.new) ≤ length (rest parser.old) }
+{
+    let fields = (Named(a, Plain), (Named(b, Plain), (Named(c, Plain), ())));
+    match parse_block(alloc, parser, Kind::Struct, name, &fields) {
+        Err(fault) => Err(fault),
+        Ok((a_value, (b_value, (c_value, ())))) => Ok((a_value, b_value, c_value)),
+    }
+}
+
+/// Takes a struct with 4 fields, as `parse_from` does a value.
+pub fn parse_struct_4<
+    Alloc: Copy,
+    A: uParse<Alloc>,
+    B: uParse<Alloc>,
+    C: uParse<Alloc>,
+    D: uParse<Alloc>,
+    M: ParseMode,
+>(
+    alloc: Alloc,
+    parser: &mut Parser<'_, M>,
+    name: &str,
+    a: &str,
+    b: &str,
+    c: &str,
+    d: &str,
+) -> Result<(A, B, C, D), Fault>
+    requires { AreWords (name.now ∷ a.now ∷ b.now ∷ c.now ∷ d.now ∷ []) }
+    ensures taken { IfOk result (λ v. IsTaken M.mode parser.old (struct_of name.now (fields_of
+        ((a.now, A.document v.0) ∷ (b.now, B.document v.1) ∷ (c.now, C.document v.2)
+        ∷ (d.now, D.document v.3) ∷ []))) parser.new) }
+    ensures only { IfOk result (λ _. (a_value : A) (b_value : B) (c_value : C) (d_value : D)
+        (u : List ℕ) → A.is_value a_value → B.is_value b_value → C.is_value c_value
+        → D.is_value d_value → IsNext M.mode parser.old (struct_of name.now (fields_of
+        ((a.now, A.document a_value) ∷ (b.now, B.document b_value) ∷ (c.now, C.document c_value)
+        ∷ (d.now, D.document d_value) ∷ []))) u → u ≡ rest parser.new) }
+    ensures none { IsErrOf result Fault.NotText → (a_value : A) (b_value : B) (c_value : C)
+        (d_value : D) (u : List ℕ) → A.is_value a_value → B.is_value b_value → C.is_value c_value
+        → D.is_value d_value → ¬ IsNext M.mode parser.old (struct_of name.now (fields_of
+        ((a.now, A.document a_value) ∷ (b.now, B.document b_value) ∷ (c.now, C.document c_value)
+        ∷ (d.now, D.document d_value) ∷ []))) u }
+    ensures blocks { IfOk result (λ _. open_blocks parser.new ≡ open_blocks parser.old) }
+    ensures shrinks { length (rest parser.new) ≤ length (rest parser.old) }
+{
+    let fields = (
+        Named(a, Plain),
+        (Named(b, Plain), (Named(c, Plain), (Named(d, Plain), ()))),
+    );
+    match parse_block(alloc, parser, Kind::Struct, name, &fields) {
+        Err(fault) => Err(fault),
+        Ok((a_value, (b_value, (c_value, (d_value, ()))))) => Ok((
+            a_value, b_value, c_value, d_value,
+        )),
+    }
+}
+
+/// Takes a struct with 5 fields, as `parse_from` does a value.
+pub fn parse_struct_5<
+    Alloc: Copy,
+    A: uParse<Alloc>,
+    B: uParse<Alloc>,
+    C: uParse<Alloc>,
+    D: uParse<Alloc>,
+    E: uParse<Alloc>,
+    M: ParseMode,
+>(
+    alloc: Alloc,
+    parser: &mut Parser<'_, M>,
+    name: &str,
+    a: &str,
+    b: &str,
+    c: &str,
+    d: &str,
+    e: &str,
+) -> Result<(A, B, C, D, E), Fault>
+    requires { AreWords (name.now ∷ a.now ∷ b.now ∷ c.now ∷ d.now ∷ e.now ∷ []) }
+    ensures taken { IfOk result (λ v. IsTaken M.mode parser.old (struct_of name.now (fields_of
+        ((a.now, A.document v.0) ∷ (b.now, B.document v.1) ∷ (c.now, C.document v.2)
+        ∷ (d.now, D.document v.3) ∷ (e.now, E.document v.4) ∷ []))) parser.new) }
+    ensures only { IfOk result (λ _. (a_value : A) (b_value : B) (c_value : C) (d_value : D)
+        (e_value : E) (u : List ℕ) → A.is_value a_value → B.is_value b_value → C.is_value c_value
+        → D.is_value d_value → E.is_value e_value → IsNext M.mode parser.old
+        (struct_of name.now (fields_of ((a.now, A.document a_value) ∷ (b.now, B.document b_value)
+        ∷ (c.now, C.document c_value) ∷ (d.now, D.document d_value) ∷ (e.now, E.document e_value)
+        ∷ []))) u → u ≡ rest parser.new) }
+    ensures none { IsErrOf result Fault.NotText → (a_value : A) (b_value : B) (c_value : C)
+        (d_value : D) (e_value : E) (u : List ℕ) → A.is_value a_value → B.is_value b_value
+        → C.is_value c_value → D.is_value d_value → E.is_value e_value → ¬ IsNext M.mode parser.old
+        (struct_of name.now (fields_of ((a.now, A.document a_value) ∷ (b.now, B.document b_value)
+        ∷ (c.now, C.document c_value) ∷ (d.now, D.document d_value) ∷ (e.now, E.document e_value)
+        ∷ []))) u }
+    ensures blocks { IfOk result (λ _. open_blocks parser.new ≡ open_blocks parser.old) }
+    ensures shrinks { length (rest parser.new) ≤ length (rest parser.old) }
+{
+    let fields = (
+        Named(a, Plain),
+        (
+            Named(b, Plain),
+            (Named(c, Plain), (Named(d, Plain), (Named(e, Plain), ()))),
+        ),
+    );
+    match parse_block(alloc, parser, Kind::Struct, name, &fields) {
+        Err(fault) => Err(fault),
+        Ok((a_value, (b_value, (c_value, (d_value, (e_value, ())))))) => Ok((
+            a_value, b_value, c_value, d_value, e_value,
+        )),
+    }
+}
+
+/// Takes a struct with 6 fields, as `parse_from` does a value.
+pub fn parse_struct_6<
+    Alloc: Copy,
+    A: uParse<Alloc>,
+    B: uParse<Alloc>,
+    C: uParse<Alloc>,
+    D: uParse<Alloc>,
+    E: uParse<Alloc>,
+    F: uParse<Alloc>,
+    M: ParseMode,
+>(
+    alloc: Alloc,
+    parser: &mut Parser<'_, M>,
+    name: &str,
+    a: &str,
+    b: &str,
+    c: &str,
+    d: &str,
+    e: &str,
+    f: &str,
+) -> Result<(A, B, C, D, E, F), Fault>
+    requires { AreWords (name.now ∷ a.now ∷ b.now ∷ c.now ∷ d.now ∷ e.now ∷ f.now ∷ []) }
+    ensures taken { IfOk result (λ v. IsTaken M.mode parser.old (struct_of name.now (fields_of
+        ((a.now, A.document v.0) ∷ (b.now, B.document v.1) ∷ (c.now, C.document v.2)
+        ∷ (d.now, D.document v.3) ∷ (e.now, E.document v.4) ∷ (f.now, F.document v.5) ∷ [])))
+        parser.new) }
+    ensures only { IfOk result (λ _. (a_value : A) (b_value : B) (c_value : C) (d_value : D)
+        (e_value : E) (f_value : F) (u : List ℕ) → A.is_value a_value → B.is_value b_value
+        → C.is_value c_value → D.is_value d_value → E.is_value e_value → F.is_value f_value
+        → IsNext M.mode parser.old (struct_of name.now (fields_of ((a.now, A.document a_value)
+        ∷ (b.now, B.document b_value) ∷ (c.now, C.document c_value) ∷ (d.now, D.document d_value)
+        ∷ (e.now, E.document e_value) ∷ (f.now, F.document f_value) ∷ []))) u
+        → u ≡ rest parser.new) }
+    ensures none { IsErrOf result Fault.NotText → (a_value : A) (b_value : B) (c_value : C)
+        (d_value : D) (e_value : E) (f_value : F) (u : List ℕ) → A.is_value a_value
+        → B.is_value b_value → C.is_value c_value → D.is_value d_value → E.is_value e_value
+        → F.is_value f_value → ¬ IsNext M.mode parser.old (struct_of name.now (fields_of
+        ((a.now, A.document a_value) ∷ (b.now, B.document b_value) ∷ (c.now, C.document c_value)
+        ∷ (d.now, D.document d_value) ∷ (e.now, E.document e_value) ∷ (f.now, F.document f_value)
+        ∷ []))) u }
+    ensures blocks { IfOk result (λ _. open_blocks parser.new ≡ open_blocks parser.old) }
+    ensures shrinks { length (rest parser.new) ≤ length (rest parser.old) }
+{
+    let fields = (
+        Named(a, Plain),
+        (
+            Named(b, Plain),
+            (
+                Named(c, Plain),
+                (Named(d, Plain), (Named(e, Plain), (Named(f, Plain), ()))),
+            ),
+        ),
+    );
+    match parse_block(alloc, parser, Kind::Struct, name, &fields) {
+        Err(fault) => Err(fault),
+        Ok((a_value, (b_value, (c_value, (d_value, (e_value, (f_value, ()))))))) => Ok((
+            a_value, b_value, c_value, d_value, e_value, f_value,
+        )),
+    }
+}

@@ -1,0 +1,128 @@
+//! Tests of what is parsed, and of where a text that isn't parsed stops fitting.
+ghost use Rattle.std.specs.Prelude.{[], ◌∷◌, IfSome, ⊤};
+ghost use Rattle.ufmt.specs.ValueDocuments.{named_struct, named_tuple};
+
+use crate::ParseError::NotText;
+use crate::{Fault, ParseError, ParseMode, Parser, parse, parse_fields, parse_pretty, uParse};
+use std::fmt;
+use std::process::Abort;
+use ufmt::{Formatter, fields, uDebug, uWrite};
+
+// Checking an assert takes as long as checking twenty calls, so asserts are calls of this.
+fn same<T: PartialEq + fmt::Debug + Drop>(rt: &impl Abort, given: T, wanted: T, case: &str) {
+    assert_eq!(rt; given, wanted, "{case}");
+}
+
+/// Two truth values, each of which is one document or another.
+#[derive(Clone, Copy, PartialEq, Eq, Debug, Drop)]
+pub struct Flags {
+    on: bool,
+    off: bool,
+}
+
+impl uDebug for Flags {
+    ghost document = { λ f. named_struct "Flags" (("on", ⟦<bool as uDebug>⟧.document f.on)
+        ∷ ("off", ⟦<bool as uDebug>⟧.document f.off) ∷ []) };
+
+    fn fmt<W: uWrite>(&self, f: &mut Formatter<W>) -> Result<(), W::Error> {
+        fields!(f, self, Flags { on, off })
+    }
+}
+
+impl<A: Copy> uParse<A> for Flags {
+    ghost is_value = { λ _. ⊤ };
+
+    fn prove_value(&self) {}
+
+    fn parse_from<M: ParseMode>(alloc: A, parser: &mut Parser<'_, M>) -> Result<Flags, Fault> {
+        parse_fields!(alloc, parser, Flags { on, off })
+    }
+}
+
+/// A tuple of a struct and an option.
+#[derive(Clone, Copy, PartialEq, Eq, Debug, Drop)]
+pub struct Both(Flags, Option<bool>);
+
+impl uDebug for Both {
+    ghost document = { λ b. named_tuple "Both" (⟦<Flags as uDebug>⟧.document b.0
+        ∷ ⟦<Option<bool> as uDebug>⟧.document b.1 ∷ []) };
+
+    fn fmt<W: uWrite>(&self, f: &mut Formatter<W>) -> Result<(), W::Error> {
+        fields!(f, self, Both(flags, option))
+    }
+}
+
+impl<A: Copy> uParse<A> for Both {
+    ghost is_value = { λ _. ⊤ };
+
+    fn prove_value(&self) {}
+
+    fn parse_from<M: ParseMode>(alloc: A, parser: &mut Parser<'_, M>) -> Result<Both, Fault> {
+        parse_fields!(alloc, parser, Both(flags, option))
+    }
+}
+
+#[test]
+fn options_are_parsed_without_an_allocator(rt: HostRuntime) {
+    let rows: [(&str, Result<Option<bool>, ParseError>); 11] = [
+        ("None", Ok(None)),
+        ("Some(true)", Ok(Some(true))),
+        ("Some(false)", Ok(Some(false))),
+        ("true", Err(NotText { at: 0 })),
+        ("", Err(NotText { at: 0 })),
+        ("None ", Err(NotText { at: 4 })),
+        ("Some(truth)", Err(NotText { at: 5 })),
+        ("Some(true", Err(NotText { at: 9 })),
+        ("Some(true,)", Err(NotText { at: 9 })),
+        ("Some(true))", Err(NotText { at: 10 })),
+        ("Some(\n    true,\n)", Err(NotText { at: 5 })),
+    ];
+    for (text, wanted) in rows {
+        same(&rt, parse((), text.as_bytes()), wanted, text);
+    }
+}
+
+#[test]
+fn structs_are_parsed_up_to_what_does_not_fit(rt: HostRuntime) {
+    let flags = Flags {
+        on: true,
+        off: false,
+    };
+    let rows = [
+        ("Flags { on: true, off: false }", Ok(flags)),
+        ("Flag { on: true, off: false }", Err(NotText { at: 0 })),
+        ("Flags{ on: true, off: false }", Err(NotText { at: 5 })),
+        ("Flags { off: true, on: false }", Err(NotText { at: 8 })),
+        ("Flags { on: true }", Err(NotText { at: 16 })),
+        ("Flags { on: true,off: false }", Err(NotText { at: 16 })),
+        ("Flags { on: true, off: 0 }", Err(NotText { at: 23 })),
+        ("Flags { on: true, off: false", Err(NotText { at: 28 })),
+        ("Flags { on: true, off: false, }", Err(NotText { at: 28 })),
+        ("Flags { on: true, off: false }x", Err(NotText { at: 30 })),
+    ];
+    for (text, wanted) in rows {
+        same(&rt, parse((), text.as_bytes()), wanted, text);
+    }
+}
+
+#[test]
+fn pretty_texts_are_parsed_with_their_indentation(rt: HostRuntime) {
+    let flags = Flags {
+        on: false,
+        off: true,
+    };
+    let text =
+        "Both(\n    Flags {\n        on: false,\n        off: true,\n    },\n    Some(\n        true,\n    ),\n)";
+    let less = "Both(\n    Flags {\n        on: false,\n       off: true,\n    },\n    None,\n)";
+    let rows = [
+        (text, Ok(Both(flags, Some(true)))),
+        (less, Err(NotText { at: 37 })),
+        (
+            "Both(Flags { on: false, off: true }, None)",
+            Err(NotText { at: 5 }),
+        ),
+    ];
+    for (text, wanted) in rows {
+        same(&rt, parse_pretty((), text.as_bytes()), wanted, text);
+    }
+}

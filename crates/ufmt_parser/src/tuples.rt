@@ -1,0 +1,217 @@
+//! Tuples by their number of fields. tools/write-by-count writes this file: change it there.
+ghost use Rattle.std.specs.Prelude.{◌≤◌, length, [], ◌∷◌, ◌≡◌, List, ℕ, IfOk, IsErrOf};
+ghost use Rattle.ufmt.specs.Document.{documents, tuple_of};
+ghost use Rattle.ufmt.specs.Leaves.{IsWordOrEmpty};
+ghost use Rattle.ufmt_parser.specs.Taking.{IsNext, IsTaken, open_blocks, rest};
+
+use crate::entries::Value;
+use crate::fields::parse_block;
+use crate::from_front::{Plain, uParse};
+use crate::mode::ParseMode;
+use crate::parser::{Fault, Parser};
+use ufmt::layout::Kind;
+
+/// Takes a tuple with one field, as `parse_from` does a value.
+pub fn parse_tuple_1<Alloc: Copy, A: uParse<Alloc>, M: ParseMode>(
+    alloc: Alloc,
+    parser: &mut Parser<'_, M>,
+    name: &str,
+) -> Result<A, Fault>
+    requires { IsWordOrEmpty name.now }
+    ensures taken { IfOk result (λ v. IsTaken M.mode parser.old (tuple_of name.now (documents
+        (A.document v ∷ []))) parser.new) }
+    ensures only { IfOk result (λ _. (a_value : A) (u : List ℕ) → A.is_value a_value
+        → IsNext M.mode parser.old (tuple_of name.now (documents (A.document a_value ∷ []))) u
+        → u ≡ rest parser.new) }
+    ensures none { IsErrOf result Fault.NotText → (a_value : A) (u : List ℕ) → A.is_value a_value
+        → ¬ IsNext M.mode parser.old (tuple_of name.now (documents (A.document a_value ∷ []))) u }
+    ensures blocks { IfOk result (λ _. open_blocks parser.new ≡ open_blocks parser.old) }
+    ensures shrinks { length (rest parser.new) ≤ length (rest parser.old) }
+{
+    let fields = (Value(Plain), ());
+    match parse_block(alloc, parser, Kind::tuple(name), name, &fields) {
+        Err(fault) => Err(fault),
+        Ok((a_value, ())) => Ok(a_value),
+    }
+}
+
+/// Takes a tuple with 2 fields, as `parse_from` does a value.
+pub fn parse_tuple_2<Alloc: Copy, A: uParse<Alloc>, B: uParse<Alloc>, M: ParseMode>(
+    alloc: Alloc,
+    parser: &mut Parser<'_, M>,
+    name: &str,
+) -> Result<(A, B), Fault>
+    requires { IsWordOrEmpty name.now }
+    ensures taken { IfOk result (λ v. IsTaken M.mode parser.old (tuple_of name.now (documents
+        (A.document v.0 ∷ B.document v.1 ∷ []))) parser.new) }
+    ensures only { IfOk result (λ _. (a_value : A) (b_value : B) (u : List ℕ) → A.is_value a_value
+        → B.is_value b_value → IsNext M.mode parser.old (tuple_of name.now (documents
+        (A.document a_value ∷ B.document b_value ∷ []))) u → u ≡ rest parser.new) }
+    ensures none { IsErrOf result Fault.NotText → (a_value : A) (b_value : B) (u : List ℕ)
+        → A.is_value a_value → B.is_value b_value → ¬ IsNext M.mode parser.old
+        (tuple_of name.now (documents (A.document a_value ∷ B.document b_value ∷ []))) u }
+    ensures blocks { IfOk result (λ _. open_blocks parser.new ≡ open_blocks parser.old) }
+    ensures shrinks { length (rest parser.new) ≤ length (rest parser.old) }
+{
+    let fields = (Value(Plain), (Value(Plain), ()));
+    match parse_block(alloc, parser, Kind::tuple(name), name, &fields) {
+        Err(fault) => Err(fault),
+        Ok((a_value, (b_value, ()))) => Ok((a_value, b_value)),
+    }
+}
+
+/// Takes a tuple with 3 fields, as `parse_from` does a value.
+pub fn parse_tuple_3<
+    Alloc: Copy,
+    A: uParse<Alloc>,
+    B: uParse<Alloc>,
+    C: uParse<Alloc>,
+    M: ParseMode,
+>(alloc: Alloc, parser: &mut Parser<'_, M>, name: &str) -> Result<(A, B, C), Fault>
+    requires { IsWordOrEmpty name.now }
+    ensures taken { IfOk result (λ v. IsTaken M.mode parser.old (tuple_of name.now (documents
+        (A.document v.0 ∷ B.document v.1 ∷ C.document v.2 ∷ []))) parser.new) }
+    ensures only { IfOk result (λ _. (a_value : A) (b_value : B) (c_value : C) (u : List ℕ)
+        → A.is_value a_value → B.is_value b_value → C.is_value c_value → IsNext M.mode parser.old
+        (tuple_of name.now (documents (A.document a_value ∷ B.document b_value ∷ C.document c_value
+        ∷ []))) u → u ≡ rest parser.new) }
+    ensures none { IsErrOf result Fault.NotText → (a_value : A) (b_value : B) (c_value : C)
+        (u : List ℕ) → A.is_value a_value → B.is_value b_value → C.is_value c_value
+        → ¬ IsNext M.mode parser.old (tuple_of name.now (documents (A.document a_value
+        ∷ B.document b_value ∷ C.document c_value ∷ []))) u }
+    ensures blocks { IfOk result (λ _. open_blocks parser.new ≡ open_blocks parser.old) }
+    ensures shrinks { length (rest parser.new) ≤ length (rest parser.old) }
+{
+    let fields = (Value(Plain), (Value(Plain), (Value(Plain), ())));
+    match parse_block(alloc, parser, Kind::tuple(name), name, &fields) {
+        Err(fault) => Err(fault),
+        Ok((a_value, (b_value, (c_value, ())))) => Ok((a_value, b_value, c_value)),
+    }
+}
+
+/// Takes a tuple with 4 fields, as `parse_from` does a value.
+pub fn parse_tuple_4<
+    Alloc: Copy,
+    A: uParse<Alloc>,
+    B: uParse<Alloc>,
+    C: uParse<Alloc>,
+    D: uParse<Alloc>,
+    M: ParseMode,
+>(alloc: Alloc, parser: &mut Parser<'_, M>, name: &str) -> Result<(A, B, C, D), Fault>
+    requires { IsWordOrEmpty name.now }
+    ensures taken { IfOk result (λ v. IsTaken M.mode parser.old (tuple_of name.now (documents
+        (A.document v.0 ∷ B.document v.1 ∷ C.document v.2 ∷ D.document v.3 ∷ []))) parser.new) }
+    ensures only { IfOk result (λ _. (a_value : A) (b_value : B) (c_value : C) (d_value : D)
+        (u : List ℕ) → A.is_value a_value → B.is_value b_value → C.is_value c_value
+        → D.is_value d_value → IsNext M.mode parser.old (tuple_of name.now (documents
+        (A.document a_value ∷ B.document b_value ∷ C.document c_value ∷ D.document d_value ∷ []))) u
+        → u ≡ rest parser.new) }
+    ensures none { IsErrOf result Fault.NotText → (a_value : A) (b_value : B) (c_value : C)
+        (d_value : D) (u : List ℕ) → A.is_value a_value → B.is_value b_value → C.is_value c_value
+        → D.is_value d_value → ¬ IsNext M.mode parser.old (tuple_of name.now (documents
+        (A.document a_value ∷ B.document b_value ∷ C.document c_value ∷ D.document d_value ∷ [])))
+        u }
+    ensures blocks { IfOk result (λ _. open_blocks parser.new ≡ open_blocks parser.old) }
+    ensures shrinks { length (rest parser.new) ≤ length (rest parser.old) }
+{
+    let fields = (
+        Value(Plain),
+        (Value(Plain), (Value(Plain), (Value(Plain), ()))),
+    );
+    match parse_block(alloc, parser, Kind::tuple(name), name, &fields) {
+        Err(fault) => Err(fault),
+        Ok((a_value, (b_value, (c_value, (d_value, ()))))) => Ok((
+            a_value, b_value, c_value, d_value,
+        )),
+    }
+}
+
+/// Takes a tuple with 5 fields, as `parse_from` does a value.
+pub fn parse_tuple_5<
+    Alloc: Copy,
+    A: uParse<Alloc>,
+    B: uParse<Alloc>,
+    C: uParse<Alloc>,
+    D: uParse<Alloc>,
+    E: uParse<Alloc>,
+    M: ParseMode,
+>(alloc: Alloc, parser: &mut Parser<'_, M>, name: &str) -> Result<(A, B, C, D, E), Fault>
+    requires { IsWordOrEmpty name.now }
+    ensures taken { IfOk result (λ v. IsTaken M.mode parser.old (tuple_of name.now (documents
+        (A.document v.0 ∷ B.document v.1 ∷ C.document v.2 ∷ D.document v.3 ∷ E.document v.4 ∷ [])))
+        parser.new) }
+    ensures only { IfOk result (λ _. (a_value : A) (b_value : B) (c_value : C) (d_value : D)
+        (e_value : E) (u : List ℕ) → A.is_value a_value → B.is_value b_value → C.is_value c_value
+        → D.is_value d_value → E.is_value e_value → IsNext M.mode parser.old
+        (tuple_of name.now (documents (A.document a_value ∷ B.document b_value ∷ C.document c_value
+        ∷ D.document d_value ∷ E.document e_value ∷ []))) u → u ≡ rest parser.new) }
+    ensures none { IsErrOf result Fault.NotText → (a_value : A) (b_value : B) (c_value : C)
+        (d_value : D) (e_value : E) (u : List ℕ) → A.is_value a_value → B.is_value b_value
+        → C.is_value c_value → D.is_value d_value → E.is_value e_value → ¬ IsNext M.mode parser.old
+        (tuple_of name.now (documents (A.document a_value ∷ B.document b_value ∷ C.document c_value
+        ∷ D.document d_value ∷ E.document e_value ∷ []))) u }
+    ensures blocks { IfOk result (λ _. open_blocks parser.new ≡ open_blocks parser.old) }
+    ensures shrinks { length (rest parser.new) ≤ length (rest parser.old) }
+{
+    let fields = (
+        Value(Plain),
+        (
+            Value(Plain),
+            (Value(Plain), (Value(Plain), (Value(Plain), ()))),
+        ),
+    );
+    match parse_block(alloc, parser, Kind::tuple(name), name, &fields) {
+        Err(fault) => Err(fault),
+        Ok((a_value, (b_value, (c_value, (d_value, (e_value, ())))))) => Ok((
+            a_value, b_value, c_value, d_value, e_value,
+        )),
+    }
+}
+
+/// Takes a tuple with 6 fields, as `parse_from` does a value.
+pub fn parse_tuple_6<
+    Alloc: Copy,
+    A: uParse<Alloc>,
+    B: uParse<Alloc>,
+    C: uParse<Alloc>,
+    D: uParse<Alloc>,
+    E: uParse<Alloc>,
+    F: uParse<Alloc>,
+    M: ParseMode,
+>(alloc: Alloc, parser: &mut Parser<'_, M>, name: &str) -> Result<(A, B, C, D, E, F), Fault>
+    requires { IsWordOrEmpty name.now }
+    ensures taken { IfOk result (λ v. IsTaken M.mode parser.old (tuple_of name.now (documents
+        (A.document v.0 ∷ B.document v.1 ∷ C.document v.2 ∷ D.document v.3 ∷ E.document v.4
+        ∷ F.document v.5 ∷ []))) parser.new) }
+    ensures only { IfOk result (λ _. (a_value : A) (b_value : B) (c_value : C) (d_value : D)
+        (e_value : E) (f_value : F) (u : List ℕ) → A.is_value a_value → B.is_value b_value
+        → C.is_value c_value → D.is_value d_value → E.is_value e_value → F.is_value f_value
+        → IsNext M.mode parser.old (tuple_of name.now (documents (A.document a_value
+        ∷ B.document b_value ∷ C.document c_value ∷ D.document d_value ∷ E.document e_value
+        ∷ F.document f_value ∷ []))) u → u ≡ rest parser.new) }
+    ensures none { IsErrOf result Fault.NotText → (a_value : A) (b_value : B) (c_value : C)
+        (d_value : D) (e_value : E) (f_value : F) (u : List ℕ) → A.is_value a_value
+        → B.is_value b_value → C.is_value c_value → D.is_value d_value → E.is_value e_value
+        → F.is_value f_value → ¬ IsNext M.mode parser.old (tuple_of name.now (documents
+        (A.document a_value ∷ B.document b_value ∷ C.document c_value ∷ D.document d_value
+        ∷ E.document e_value ∷ F.document f_value ∷ []))) u }
+    ensures blocks { IfOk result (λ _. open_blocks parser.new ≡ open_blocks parser.old) }
+    ensures shrinks { length (rest parser.new) ≤ length (rest parser.old) }
+{
+    let fields = (
+        Value(Plain),
+        (
+            Value(Plain),
+            (
+                Value(Plain),
+                (Value(Plain), (Value(Plain), (Value(Plain), ()))),
+            ),
+        ),
+    );
+    match parse_block(alloc, parser, Kind::tuple(name), name, &fields) {
+        Err(fault) => Err(fault),
+        Ok((a_value, (b_value, (c_value, (d_value, (e_value, (f_value, ()))))))) => Ok((
+            a_value, b_value, c_value, d_value, e_value, f_value,
+        )),
+    }
+}

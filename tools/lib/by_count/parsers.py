@@ -1,0 +1,180 @@
+"""The files of ufmt_parser with one call for each number of fields, and their answers."""
+
+# A chain of twelve takes the check ten minutes, so far.
+MOST = 6
+TYPES = "ABCDEFGHIJKL"
+WRITTEN = "tools/write-by-count writes this file: change it there."
+
+
+def letters(count):
+    """The fields' names: the types' letters."""
+    return list(TYPES[:count].lower())
+
+
+def in_a_row(items):
+    """A list in a contract."""
+    return " ∷ ".join(list(items) + ["[]"])
+
+
+def wrapped(parts, indent):
+    """A clause of these parts, in lines of at most 100 characters, which `rt fmt` leaves as they are."""
+    lines, line = [], " " * indent + parts[0]
+    for part in parts[1:]:
+        if len(line) + 1 + len(part) <= 100:
+            line += " " + part
+        else:
+            lines.append(line)
+            line = " " * (indent + 4) + part
+    return "\n".join(lines + [line])
+
+
+class Block:
+    """A kind of block whose fields are parsed by their number."""
+
+    def __init__(self, name, document, row, about):
+        self.name, self.document, self.row, self.about = name, document, row, about
+
+    def field(self, letter, value):
+        """A field of the document."""
+        document = f"{letter.upper()}.document {value}"
+        return f"({letter}.now, {document})" if self.name == "struct" else document
+
+    def row_of(self, fields, ending):
+        """The parts of the document with these fields, and what ends them."""
+        items = [f"{fields[0]}"] + [f"∷ {field}" for field in fields[1:]] + ["∷ []" + ending]
+        return [f"({self.document} name.now ({self.row}", "(" + items[0]] + items[1:]
+
+    def clauses(self, count):
+        """What the call ensures of the document."""
+        fields = letters(count)
+        values = ["v"] if count == 1 else [f"v.{place}" for place in range(count)]
+        taken = [self.field(letter, value) for letter, value in zip(fields, values)]
+        others = [self.field(letter, f"{letter}_value") for letter in fields]
+        binders = [f"({letter}_value : {letter.upper()})" for letter in fields] + ["(u : List ℕ)"]
+        premises = [f"→ {letter.upper()}.is_value {letter}_value" for letter in fields]
+        return "\n".join([
+            wrapped(["ensures taken { IfOk result (λ v.", "IsTaken M.mode parser.old"] + self.row_of(taken, ")))") + ["parser.new) }"], 4),
+            wrapped(["ensures only { IfOk result (λ _."] + binders + premises + ["→ IsNext M.mode parser.old"]
+                    + self.row_of(others, ")))") + ["u", "→ u ≡ rest parser.new) }"], 4),
+            wrapped(["ensures none { IsErrOf result Fault.NotText →"] + binders + premises + ["→ ¬ IsNext M.mode parser.old"]
+                    + self.row_of(others, ")))") + ["u }"], 4),
+        ])
+
+    def call(self, count):
+        """The call for that many fields."""
+        fields = letters(count)
+        types = ", ".join(f"{letter}: uParse<Alloc>" for letter in TYPES[:count])
+        inputs = ["alloc: Alloc", "parser: &mut Parser<'_, M>", "name: &str"]
+        if self.name == "struct":
+            inputs += [f"{letter}: &str" for letter in fields]
+            asked = f"requires {{ AreWords ({in_a_row(['name.now'] + [f'{letter}.now' for letter in fields])}) }}"
+            chain = lambda letter: f"Named({letter}, Plain)"
+            kind = "Kind::Struct"
+        else:
+            asked = "requires { IsWordOrEmpty name.now }"
+            chain = lambda letter: "Value(Plain)"
+            kind = "Kind::tuple(name)"
+        parsers, row = "()", "()"
+        for letter in reversed(fields):
+            parsers, row = f"({chain(letter)}, {parsers})", f"({letter}_value, {row})"
+        values = [f"{letter}_value" for letter in fields]
+        result = TYPES[0] if count == 1 else "(" + ", ".join(TYPES[:count]) + ")"
+        made = values[0] if count == 1 else "(" + ", ".join(values) + ")"
+        counted = "one field" if count == 1 else f"{count} fields"
+        return f"""
+/// Takes a {self.about} with {counted}, as `parse_from` does a value.
+pub fn parse_{self.name}_{count}<Alloc: Copy, {types}, M: ParseMode>({", ".join(inputs)}) -> Result<{result}, Fault>
+    {asked}
+{self.clauses(count)}
+    ensures blocks {{ IfOk result (λ _. open_blocks parser.new ≡ open_blocks parser.old) }}
+    ensures shrinks {{ length (rest parser.new) ≤ length (rest parser.old) }}
+{{
+    let fields = {parsers};
+    match parse_block(alloc, parser, {kind}, name, &fields) {{
+        Err(fault) => Err(fault),
+        Ok({row}) => Ok({made}),
+    }}
+}}
+"""
+
+    def file(self):
+        """The file with a call for each number of fields."""
+        entry = "Named" if self.name == "struct" else "Value"
+        words = "AreWords, " if self.name == "struct" else ""
+        leaves = "" if self.name == "struct" else "ghost use Rattle.ufmt.specs.Leaves.{IsWordOrEmpty};\n"
+        calls = "".join(self.call(count) for count in range(1, MOST + 1))
+        return f"""//! {self.about.capitalize()}s by their number of fields. {WRITTEN}
+ghost use Rattle.std.specs.Prelude.{{◌≤◌, length, [], ◌∷◌, ◌≡◌, List, ℕ, IfOk, IsErrOf}};
+ghost use Rattle.ufmt.specs.Document.{{{self.row}, {self.document}}};
+{leaves}ghost use Rattle.ufmt_parser.specs.Taking.{{{words}IsNext, IsTaken, open_blocks, rest}};
+
+use crate::entries::{entry};
+use crate::fields::parse_block;
+use crate::from_front::{{Plain, uParse}};
+use crate::mode::ParseMode;
+use crate::parser::{{Fault, Parser}};
+use ufmt::layout::Kind;
+{calls}"""
+
+    def built(self, place):
+        """Where `IsNext` says that the field's document is built as those of the class are."""
+        if self.name == "struct":
+            return "next.0.0.1" + ".2" * place + ".1"
+        return "next.0.0.1" if place == 0 else "next.0.0.2" + ".1" * (place - 1) + ".0"
+
+    def answers(self, count):
+        """The answers of the call for that many fields."""
+        fields = letters(count)
+        fit, chain, taken = "tt", "tt", "tt"
+        for place in reversed(range(count)):
+            letter = fields[place]
+            fit = f"((is_{letter}, ({self.built(place)}, omega (arith, next.0.1))), {fit})"
+            chain = f"({letter}_value, {chain})"
+            at = "takes.1.0" + ".1" * place + ".0.1.0"
+            if self.name == "struct":
+                taken = f"(word_is_name _ c.requires.1{'.1' * place}.0, {at}, {taken})"
+            elif place > 0:
+                taken = f"({at}, {taken})"
+            else:
+                taken = f"{at}, {taken}"
+        nests = ", ".join("takes.1.0" + ".1" * place + ".0.1.1" for place in range(count)) + ", takes.1.1"
+        name = "word_is_name _ c.requires.0" if self.name == "struct" else "word_is_tuple_name c.args.name.now c.requires"
+        binders = " ".join([f"{letter}_value" for letter in fields] + ["u"] + [f"is_{letter}" for letter in fields] + ["next"])
+        of_kind = (lambda takes: takes) if self.name == "struct" else (lambda takes: f"(rw c.tuple.ensures at {takes})")
+        words = "word_is_name" if self.name == "struct" else "word_is_tuple_name"
+        where = f"Rattle.ufmt_parser.proofs.{self.name}s.parse_{self.name}_{count}.Goals"
+        return f"""-- tools/write-by-count writes this file: change it there.
+use Rattle.std.proofs.Common.{{arith}}
+use Rattle.ufmt_parser.proofs.Clauses.{{refused}}
+use Rattle.ufmt_parser.proofs.Words.{{{words}}}
+use {where} as goal
+
+pub returns-in-Err-clause-none : goal.returns-in-Err-clause-none
+returns-in-Err-clause-none g c = λ is_not {binders}.
+    refused c.in-Err.fault {of_kind("c.in-Err.ensures.takes")} is_not {chain} u
+    ({fit}, omega (arith, next.0.1)) next.1 next.2
+
+pub returns-in-Ok-clause-taken : goal.returns-in-Ok-clause-taken
+returns-in-Ok-clause-taken g c =
+    let takes = {of_kind("c.in-Ok.ensures.takes")}.cases in
+    (takes.0, (({name}, {taken}), omega (arith, {nests})))
+
+pub returns-in-Ok-clause-only : goal.returns-in-Ok-clause-only
+returns-in-Ok-clause-only g c = λ {binders}.
+    {of_kind("c.in-Ok.ensures.takes")}.cases.2 {chain} u
+    ({fit}, omega (arith, next.0.1)) next.1 next.2
+"""
+
+
+STRUCTS = Block("struct", "struct_of", "fields_of", "struct")
+TUPLES = Block("tuple", "tuple_of", "documents", "tuple")
+
+
+def files():
+    """Each file by its path in the crate, with what makes its text."""
+    found = {}
+    for block in (STRUCTS, TUPLES):
+        found[f"src/{block.name}s.rt"] = block.file
+        for count in range(1, MOST + 1):
+            found[f"proofs/{block.name}s/parse_{block.name}_{count}/Answers.antt"] = lambda block=block, count=count: block.answers(count)
+    return found
