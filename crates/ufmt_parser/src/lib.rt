@@ -8,6 +8,8 @@ mod entries;
 mod escapes;
 mod fields;
 mod from_front;
+mod keys;
+mod lists;
 mod macros;
 mod mode;
 mod numbers;
@@ -15,6 +17,7 @@ mod options;
 mod parser;
 mod primitives;
 mod quoted;
+mod sorted;
 mod strip;
 mod structs;
 #[cfg(test)]
@@ -24,6 +27,7 @@ mod texts;
 mod tuples;
 
 pub use from_front::{ParsesBy, Plain, uParse};
+pub use keys::ParseKey;
 pub use mode::{ParseMode, PlainText, PrettyText};
 pub use parser::{Fault, Parser};
 pub use structs::{

@@ -7,8 +7,8 @@ ghost use Rattle.ufmt_parser.specs.Taking.{IsNext, IsTaken, open_blocks, rest};
 ghost use Rattle.ufmt_parser.specs.Values.{is_u8, is_u16, is_u32, is_u64, is_u128, is_usize, is_i8, is_i16, is_i32, is_i64, is_i128, is_isize};
 
 use crate::digits::{Magnitude, split_magnitude, split_minus};
-use crate::mode::ParseMode;
 use crate::from_front::uParse;
+use crate::mode::ParseMode;
 use crate::parser::{Fault, Parser};
 
 // An integer type, whose magnitudes `N` can hold.

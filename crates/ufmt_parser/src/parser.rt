@@ -1,6 +1,7 @@
 //! The rest of a text, and what is taken from its front.
 ghost use Rattle.std.specs.Prelude.{◌≡◌, ◌<◌, ◌≤◌, ◌-◌, length, MatchBool, false, suc};
 ghost use Rattle.ufmt.specs.Layout.{ending, frame, lead};
+ghost use Rattle.ufmt_core.specs.declared.layout.Count.TheVariants.{Zero};
 ghost use Rattle.ufmt_parser.specs.Taking.{Eats, open_blocks, rest, setting_in};
 
 use crate::mode::ParseMode;
@@ -146,5 +147,24 @@ impl<'t, M: ParseMode> Parser<'t, M> {
         ensures blocks { open_blocks self.new ≡ open_blocks self.old }
     {
         self.rest = after;
+    }
+
+    /// Takes the end of a block in brackets or braces that has no entries.
+    #[inline(always)]
+    pub fn eats_empty_ending(&mut self, kind: Kind) -> bool
+        ensures eats { Eats (ending (frame M.mode kind) (setting_in M.mode (open_blocks self.old)) Zero)
+            (rest self.old) result (rest self.new) }
+        ensures stays { result ≡ false → rest self.new ≡ rest self.old }
+        ensures shrinks { length (rest self.new) ≤ length (rest self.old) }
+        ensures blocks { open_blocks self.new ≡ open_blocks self.old }
+        ensures counted { open_blocks self.old ≤ 255 }
+    {
+        match strip_ending(M::mode(), self.open_blocks, kind, Count::Zero, self.rest) {
+            Some(rest) => {
+                self.rest = rest;
+                true
+            }
+            None => false,
+        }
     }
 }

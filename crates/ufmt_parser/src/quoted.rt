@@ -6,8 +6,8 @@ ghost use Rattle.ufmt.specs.Quoted.{escaped, quoted_char};
 ghost use Rattle.ufmt_core.specs.Bytes.{apostrophe};
 
 use crate::escapes::{split_escaped, strip_byte};
-use crate::mode::ParseMode;
 use crate::from_front::uParse;
+use crate::mode::ParseMode;
 use crate::parser::{Fault, Parser};
 
 // How many bytes a character has, by its first byte.

@@ -5,8 +5,8 @@ ghost use Rattle.ufmt_core.specs.Bytes.{quotation_mark};
 ghost use Rattle.ufmt_parser.specs.Spelling.{NeverCloses};
 
 use crate::escapes::{split_escaped, strip_byte};
-use crate::mode::ParseMode;
 use crate::from_front::uParse;
+use crate::mode::ParseMode;
 use crate::parser::{Fault, Parser};
 use std::alloc::{AllocError, Allocator};
 use ufmt::quoted::unescaped_len;

@@ -1,0 +1,199 @@
+//! Sets and maps, whose keys ascend.
+ghost use Rattle.std.specs.List.Sorted.{IsStrictlySortedBy};
+ghost use Rattle.std.specs.Map.{keys_of};
+ghost use Rattle.std.specs.Prelude.{◌≤◌, length, ◌≡◌, ◌↔◌, map, All, IfOk, IsTrue, MatchOption};
+ghost use Rattle.std.specs.declared.cmp.Ordering.TheVariants.{Less};
+ghost use Rattle.ufmt.specs.Document.{documents, map_of, pairs_of, set_of};
+ghost use Rattle.ufmt.specs.Layout.{layout};
+ghost use Rattle.ufmt_parser.specs.Blocks.{entry_documents, outcome_map, IsEntry};
+ghost use Rattle.ufmt_parser.specs.Taking.{Fits, Takes, open_blocks, rest, setting_in};
+
+use crate::entries::{Pair, Value};
+use crate::from_front::{ParsesBy, Plain, uParse};
+use crate::keys::ParseKey;
+use crate::lists::parse_entries;
+use crate::mode::ParseMode;
+use crate::parser::{Fault, Parser};
+use std::alloc::{AllocError, Global};
+use std::collections::{BTreeMap, BTreeSet};
+use ufmt::layout::Kind;
+use ufmt::uDebug;
+
+impl<T: ParseKey<Global>> uParse<Global> for BTreeSet<T> {
+    ghost is_value = { λ set. All T.is_value set.keys × IsStrictlySortedBy T.cmp set.keys };
+
+    fn prove_value(&self) {
+        // The clause of `len` says that the keys ascend.
+        let _ = self.len();
+        for key in self.iter() {
+            key.prove_value();
+        }
+    }
+
+    fn parse_from<M: ParseMode>(
+        alloc: Global,
+        parser: &mut Parser<'_, M>,
+    ) -> Result<BTreeSet<T>, Fault> {
+        parse_set(alloc, parser)
+    }
+}
+
+// Takes a set, whose keys ascend.
+fn parse_set<T: ParseKey<Global>, M: ParseMode>(
+    alloc: Global,
+    parser: &mut Parser<'_, M>,
+) -> Result<BTreeSet<T>, Fault>
+    ensures takes { Takes (λ set. (All T.is_value set.keys × IsStrictlySortedBy T.cmp set.keys)
+        × Fits (open_blocks parser.old) (set_of (documents (map T.document set.keys))))
+        (λ set. layout (setting_in M.mode (open_blocks parser.old)) (set_of (documents (map T.document set.keys))))
+        (rest parser.old) result (rest parser.new) }
+    ensures blocks { IfOk result (λ _. open_blocks parser.new ≡ open_blocks parser.old) }
+    ensures shrinks { length (rest parser.new) ≤ length (rest parser.old) }
+{
+    T::prove_key();
+    match parse_keys(alloc, parser, &Value(Plain)) {
+        Err(fault) => Err(fault),
+        Ok(keys) => match ascending_set(alloc, keys) {
+            Err(_) => Err(Fault::OutOfMemory),
+            Ok(None) => Err(Fault::NotText),
+            Ok(Some(set)) => Ok(set),
+        },
+    }
+}
+
+/// Takes the keys of a set, in any order, each by this parser.
+fn parse_keys<T: uDebug + Drop, P: ParsesBy<Global, T>, M: ParseMode>(
+    alloc: Global,
+    parser: &mut Parser<'_, M>,
+    by: &Value<P>,
+) -> Result<Vec<T>, Fault>
+    ensures takes { Takes (λ keys. All P.is_value keys
+        × Fits (open_blocks parser.old) (set_of (documents (map T.document keys))))
+        (λ keys. layout (setting_in M.mode (open_blocks parser.old)) (set_of (documents (map T.document keys))))
+        (rest parser.old) (outcome_map (λ keys. keys.items) result) (rest parser.new) }
+    ensures blocks { IfOk result (λ _. open_blocks parser.new ≡ open_blocks parser.old) }
+    ensures shrinks { length (rest parser.new) ≤ length (rest parser.old) }
+{
+    parse_entries(alloc, parser, Kind::Braces, by)
+}
+
+// The set of these keys, if they ascend.
+fn ascending_set<T: Ord + Drop>(
+    alloc: Global,
+    keys: Vec<T>,
+) -> Result<Option<BTreeSet<T>>, AllocError>
+    ensures { IfOk result (λ found. MatchOption found (IsStrictlySortedBy T.cmp keys.items → ⊥)
+        (λ set. set.keys ≡ keys.items)) }
+{
+    let mut set = BTreeSet::new(alloc);
+    for key in keys {
+        if !is_past_set(&set, &key) {
+            return Ok(None);
+        }
+        set.insert(key)?;
+    }
+    Ok(Some(set))
+}
+
+// Whether the key comes after each key of the set.
+fn is_past_set<T: Ord>(set: &BTreeSet<T>, key: &T) -> bool
+    ensures { IsTrue result ↔ All (λ before. T.cmp before key.now ≡ Less) set.now.keys }
+{
+    match set.last() {
+        Some(last) => last.cmp(key).is_lt(),
+        None => true,
+    }
+}
+
+impl<K: ParseKey<Global>, V: uParse<Global>> uParse<Global> for BTreeMap<K, V> {
+    ghost is_value = { λ map. All (IsEntry K.is_value V.is_value) map.entries
+        × IsStrictlySortedBy K.cmp (keys_of map.entries) };
+
+    fn prove_value(&self) {
+        // The clause of `len` says that the keys ascend.
+        let _ = self.len();
+        for (key, value) in self.iter() {
+            key.prove_value();
+            value.prove_value();
+        }
+    }
+
+    fn parse_from<M: ParseMode>(
+        alloc: Global,
+        parser: &mut Parser<'_, M>,
+    ) -> Result<BTreeMap<K, V>, Fault> {
+        parse_map(alloc, parser)
+    }
+}
+
+// Takes a map, whose keys ascend.
+fn parse_map<K: ParseKey<Global>, V: uParse<Global>, M: ParseMode>(
+    alloc: Global,
+    parser: &mut Parser<'_, M>,
+) -> Result<BTreeMap<K, V>, Fault>
+    ensures takes { Takes (λ found. (All (IsEntry K.is_value V.is_value) found.entries
+        × IsStrictlySortedBy K.cmp (keys_of found.entries))
+        × Fits (open_blocks parser.old) (map_of (pairs_of (map (entry_documents K.document V.document) found.entries))))
+        (λ found. layout (setting_in M.mode (open_blocks parser.old))
+        (map_of (pairs_of (map (entry_documents K.document V.document) found.entries))))
+        (rest parser.old) result (rest parser.new) }
+    ensures blocks { IfOk result (λ _. open_blocks parser.new ≡ open_blocks parser.old) }
+    ensures shrinks { length (rest parser.new) ≤ length (rest parser.old) }
+{
+    K::prove_key();
+    match parse_pairs(alloc, parser, &Pair(Plain, Plain)) {
+        Err(fault) => Err(fault),
+        Ok(entries) => match ascending_map(alloc, entries) {
+            Err(_) => Err(Fault::OutOfMemory),
+            Ok(None) => Err(Fault::NotText),
+            Ok(Some(map)) => Ok(map),
+        },
+    }
+}
+
+/// Takes the entries of a map, in any order, each by this parser.
+fn parse_pairs<
+    T: uDebug + Drop,
+    U: uDebug + Drop,
+    K: ParsesBy<Global, T>,
+    P: ParsesBy<Global, U>,
+    M: ParseMode,
+>(alloc: Global, parser: &mut Parser<'_, M>, by: &Pair<K, P>) -> Result<Vec<(T, U)>, Fault>
+    ensures takes { Takes (λ entries. All (IsEntry K.is_value P.is_value) entries
+        × Fits (open_blocks parser.old) (map_of (pairs_of (map (entry_documents T.document U.document) entries))))
+        (λ entries. layout (setting_in M.mode (open_blocks parser.old))
+        (map_of (pairs_of (map (entry_documents T.document U.document) entries))))
+        (rest parser.old) (outcome_map (λ entries. entries.items) result) (rest parser.new) }
+    ensures blocks { IfOk result (λ _. open_blocks parser.new ≡ open_blocks parser.old) }
+    ensures shrinks { length (rest parser.new) ≤ length (rest parser.old) }
+{
+    parse_entries(alloc, parser, Kind::Braces, by)
+}
+
+// The map of these entries, if their keys ascend.
+fn ascending_map<K: Ord + Drop, V: Drop>(
+    alloc: Global,
+    entries: Vec<(K, V)>,
+) -> Result<Option<BTreeMap<K, V>>, AllocError>
+    ensures { IfOk result (λ found. MatchOption found (IsStrictlySortedBy K.cmp (keys_of entries.items) → ⊥)
+        (λ map. (map.entries ≡ entries.items) × IsStrictlySortedBy K.cmp (keys_of map.entries))) }
+{
+    let mut map = BTreeMap::new(alloc);
+    for (key, value) in entries {
+        if !is_past_map(&map, &key) {
+            return Ok(None);
+        }
+        map.insert(key, value)?;
+    }
+    Ok(Some(map))
+}
+
+// Whether the key comes after each key of the map.
+fn is_past_map<K: Ord, V>(map: &BTreeMap<K, V>, key: &K) -> bool
+    ensures { IsTrue result ↔ All (λ before. K.cmp before key.now ≡ Less) (keys_of map.now.entries) }
+{
+    match map.last_key_value() {
+        Some((last, _)) => last.cmp(key).is_lt(),
+        None => true,
+    }
+}
