@@ -4,6 +4,7 @@ ghost use Rattle.std.specs.declared.cmp.Ordering.TheVariants.{Equal};
 ghost use Rattle.ufmt.specs.Token.{normal};
 
 use crate::from_front::uParse;
+use std::alloc::Global;
 
 /// A key of a set or a map that can be parsed: no other key has its text.
 pub trait ParseKey<A>: uParse<A> + Ord {
@@ -19,5 +20,73 @@ impl<A: Copy> ParseKey<A> for bool {
 }
 
 impl<A: Copy> ParseKey<A> for () {
+    fn prove_key() {}
+}
+
+impl<A: Copy> ParseKey<A> for u8 {
+    #[tactic(auto, using(crate::proofs::NumberKeys::naturals_equal))]
+    fn prove_key() {}
+}
+
+impl<A: Copy> ParseKey<A> for u16 {
+    #[tactic(auto, using(crate::proofs::NumberKeys::naturals_equal))]
+    fn prove_key() {}
+}
+
+impl<A: Copy> ParseKey<A> for u32 {
+    #[tactic(auto, using(crate::proofs::NumberKeys::naturals_equal))]
+    fn prove_key() {}
+}
+
+impl<A: Copy> ParseKey<A> for u64 {
+    #[tactic(auto, using(crate::proofs::NumberKeys::naturals_equal))]
+    fn prove_key() {}
+}
+
+impl<A: Copy> ParseKey<A> for u128 {
+    #[tactic(auto, using(crate::proofs::NumberKeys::naturals_equal))]
+    fn prove_key() {}
+}
+
+impl<A: Copy> ParseKey<A> for usize {
+    #[tactic(auto, using(crate::proofs::NumberKeys::naturals_equal))]
+    fn prove_key() {}
+}
+
+impl<A: Copy> ParseKey<A> for i8 {
+    #[tactic(auto, using(crate::proofs::NumberKeys::integers_equal))]
+    fn prove_key() {}
+}
+
+impl<A: Copy> ParseKey<A> for i16 {
+    #[tactic(auto, using(crate::proofs::NumberKeys::integers_equal))]
+    fn prove_key() {}
+}
+
+impl<A: Copy> ParseKey<A> for i32 {
+    #[tactic(auto, using(crate::proofs::NumberKeys::integers_equal))]
+    fn prove_key() {}
+}
+
+impl<A: Copy> ParseKey<A> for i64 {
+    #[tactic(auto, using(crate::proofs::NumberKeys::integers_equal))]
+    fn prove_key() {}
+}
+
+impl<A: Copy> ParseKey<A> for i128 {
+    #[tactic(auto, using(crate::proofs::NumberKeys::integers_equal))]
+    fn prove_key() {}
+}
+
+impl<A: Copy> ParseKey<A> for isize {
+    #[tactic(auto, using(crate::proofs::NumberKeys::integers_equal))]
+    fn prove_key() {}
+}
+
+impl<A: Copy> ParseKey<A> for char {
+    fn prove_key() {}
+}
+
+impl ParseKey<Global> for String {
     fn prove_key() {}
 }

@@ -3,6 +3,7 @@
 //! Values straight from their texts: the mirror of printing. A parser takes a text from the front, piece
 //! by piece, as a formatter writes it.
 
+mod boxes;
 mod digits;
 mod entries;
 mod escapes;
@@ -24,6 +25,7 @@ mod structs;
 mod tests;
 mod text;
 mod texts;
+mod tuple_impls;
 mod tuples;
 
 pub use from_front::{ParsesBy, Plain, uParse};

@@ -166,13 +166,50 @@ returns-in-Ok-clause-only g c = λ {binders}.
 """
 
 
+def tuple_impl(count):
+    """`uParse` for a tuple."""
+    types = ", ".join(f"{letter}: uParse<Alloc>" for letter in TYPES[:count])
+    row = "(" + ", ".join(TYPES[:count]) + ("," if count == 1 else "") + ")"
+    values = " × ".join(f"{letter}.is_value t.{place}" for place, letter in enumerate(TYPES[:count]))
+    proofs = "\n".join(f"        self.{place}.prove_value();" for place in range(count))
+    made = "parsed" if count > 1 else "(parsed,)"
+    return f"""
+impl<Alloc: Copy, {types}> uParse<Alloc> for {row} {{
+    ghost is_value = {{ λ t. {values} }};
+
+    fn prove_value(&self) {{
+{proofs}
+    }}
+
+    fn parse_from<M: ParseMode>(alloc: Alloc, parser: &mut Parser<'_, M>) -> Result<{row}, Fault> {{
+        match parse_tuple_{count}(alloc, parser, "") {{
+            Err(fault) => Err(fault),
+            Ok(parsed) => Ok({made}),
+        }}
+    }}
+}}
+"""
+
+
+def tuple_impls():
+    """The file with `uParse` for the tuples."""
+    calls = ", ".join(f"parse_tuple_{count}" for count in range(1, MOST + 1))
+    impls = "".join(tuple_impl(count) for count in range(1, MOST + 1))
+    return f"""//! Tuples of one to {MOST}. {WRITTEN}
+use crate::from_front::uParse;
+use crate::mode::ParseMode;
+use crate::parser::{{Fault, Parser}};
+use crate::tuples::{{{calls}}};
+{impls}"""
+
+
 STRUCTS = Block("struct", "struct_of", "fields_of", "struct")
 TUPLES = Block("tuple", "tuple_of", "documents", "tuple")
 
 
 def files():
     """Each file by its path in the crate, with what makes its text."""
-    found = {}
+    found = {"src/tuple_impls.rt": tuple_impls}
     for block in (STRUCTS, TUPLES):
         found[f"src/{block.name}s.rt"] = block.file
         for count in range(1, MOST + 1):
