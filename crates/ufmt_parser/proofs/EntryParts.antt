@@ -1,5 +1,5 @@
 -- What is left of a block is taken in parts: an entry's lead, the entry, its trail, and what is left then.
-use Rattle.std.proofs.Common.{◌≡◌, sym, ◌∙◌, List, [], ◌∷◌, ℕ, ◌++◌, ◌-◌, ◌<◌, ◌≤◌, Result, Ok, Err}
+use Rattle.std.proofs.Common.{◌≡◌, sym, List, ◌∷◌, ℕ, ◌++◌, ◌-◌, ◌<◌, ◌≤◌, Result, Ok, Err}
 use Rattle.ufmt.specs.declared.class.Class.TheVariants.{Debug}
 use Rattle.ufmt.specs.Leaves.{MayFollow}
 use Rattle.ufmt.specs.Layout.{block_tail, frame, inside, lead, next, trail}

@@ -1,5 +1,5 @@
 -- Where a text is one document's, it is no other's.
-use Rattle.std.proofs.Common.{◌≡◌, ◌≢◌, refl, sym, ap, ◌∙◌, subst, List, [], ◌∷◌, ℕ, suc, ◌+◌, ◌++◌, map, length, arith, Ok, Err}
+use Rattle.std.proofs.Common.{◌≡◌, ◌≢◌, refl, sym, ap, ◌∙◌, subst, List, [], ◌∷◌, ℕ, suc, ◌++◌, map, length, arith, Ok, Err}
 use Rattle.std.specs.Prelude.{All}
 use Rattle.ufmt_core.specs.Document.{Document, documents, list_of}
 use Rattle.ufmt_core.specs.Layout.{layout}

@@ -3,7 +3,7 @@ use Rattle.std.proofs.Common.{◌≡◌, sym, ap, ◌∙◌, List, ℕ, ◌++◌
 use Rattle.std.proofs.lemmas.List.{append_cancel_left}
 use Rattle.ufmt_parser.specs.declared.parser.Fault.{Fault}
 use Rattle.ufmt_parser.specs.declared.parser.Fault.TheVariants.{NotText, OutOfMemory}
-use Rattle.ufmt_parser.specs.Taking.{BeginsWithNone, DoesNotBegin, LeavesOnly, Takes, TakesBy}
+use Rattle.ufmt_parser.specs.Taking.{DoesNotBegin, Takes, TakesBy}
 
 module _ {T : Type 0} (is : T → Type 0) (text_of : T → List ℕ) where
   module _ (piece old here : List ℕ) (piece_is : old ≡ piece ++ here) where

@@ -1,5 +1,5 @@
 -- The documents of truth values are leaves.
-use Rattle.std.proofs.Common.{◌≡◌, refl, ℕ, ◌≤◌, codes, Bool, true, false, List, arith}
+use Rattle.std.proofs.Common.{refl, ℕ, ◌≤◌, codes, Bool, true, false, List, arith}
 use Rattle.std.specs.Prelude.{if◌then◌else◌}
 use Rattle.ufmt.specs.Document.{leaf}
 use Rattle.ufmt_parser.specs.Taking.{Fits}

@@ -1,5 +1,5 @@
 -- Blocks in brackets or braces after their opening: without entries, or with some.
-use Rattle.std.proofs.Common.{◌≡◌, ◌≢◌, refl, sym, ap, ◌∙◌, true, false, List, [], ◌∷◌, ℕ, suc, ◌-◌, ◌<◌, ◌≤◌, ◌++◌, map, arith, true≢false, Result, Ok, Err}
+use Rattle.std.proofs.Common.{◌≡◌, ◌≢◌, refl, sym, ap, ◌∙◌, true, List, [], ◌∷◌, ℕ, suc, ◌-◌, ◌<◌, ◌≤◌, ◌++◌, map, arith, true≢false, Result, Ok, Err}
 use Rattle.std.proofs.lemmas.List.{append_cancel_left}
 use Rattle.std.proofs.lemmas.List.Elements.{All-head}
 use Rattle.ufmt_core.specs.Layout.{block_tail, ending, frame, indentation, inside, lead, new_line, trail}

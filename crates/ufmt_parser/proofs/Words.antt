@@ -1,5 +1,5 @@
 -- Words as leaves and names of debug documents.
-use Rattle.std.proofs.Common.{◌≡◌, List, [], ◌∷◌, ℕ, inl, arith}
+use Rattle.std.proofs.Common.{List, [], ◌∷◌, ℕ, inl, arith}
 use Rattle.ufmt.specs.Document.{leaf, tuple_of, no_documents}
 use Rattle.ufmt.specs.declared.class.Class.TheVariants.{Debug}
 use Rattle.ufmt.specs.Leaves.{IsName, IsWord, IsWordOrEmpty, OrEmpty}

@@ -2,8 +2,12 @@
 ghost use Rattle.std.specs.Prelude.{[], ◌∷◌, IfSome, ⊤};
 ghost use Rattle.ufmt.specs.ValueDocuments.{named_struct, named_tuple};
 
+mod command;
+mod values;
+
 use crate::ParseError::NotText;
 use crate::{Fault, ParseError, ParseMode, Parser, parse, parse_fields, parse_pretty, uParse};
+use command::{Set, parse_command};
 use std::fmt;
 use std::process::Abort;
 use ufmt::{Formatter, fields, uDebug, uWrite};
@@ -119,10 +123,27 @@ fn pretty_texts_are_parsed_with_their_indentation(rt: HostRuntime) {
         (less, Err(NotText { at: 37 })),
         (
             "Both(Flags { on: false, off: true }, None)",
-            Err(NotText { at: 5 }),
+            Err(NotText { at: 4 }),
         ),
     ];
     for (text, wanted) in rows {
         same(&rt, parse_pretty((), text.as_bytes()), wanted, text);
+    }
+}
+
+#[test]
+fn a_command_line_is_parsed_from_a_fixed_buffer(rt: HostRuntime) {
+    let set = Set {
+        channel: 3,
+        level: -4,
+    };
+    let rows = [
+        ("Set { channel: 3, level: -4 }", Ok(set)),
+        ("Set { channel: 300, level: -4 }", Err(NotText { at: 15 })),
+        ("Set { level: -4, channel: 3 }", Err(NotText { at: 6 })),
+        ("Set { channel: 3 }", Err(NotText { at: 16 })),
+    ];
+    for (text, wanted) in rows {
+        same(&rt, parse_command(text.as_bytes()), wanted, text);
     }
 }

@@ -4,13 +4,17 @@
 ANYWHERE = [
     (r"Err\((ScanError|ReadError)::NotText\)", "a clause says that no token document has the text"),
     (r"\w+(\.\w+\(\))?\.ok_or\(ReadError::NotText\)", "the same"),
+    (r"Err\(Fault::NotText\)|Err\(ParseError::NotText\{at:text\.len\(\)-parser\.len\(\), \}\)", "a clause says that no value's text is there"),
+    (r"(match .*: )?Err\(Fault::NotText\)=>Err\(ParseError::NotText\{at:text\.len\(\)-parser\.len\(\), \}\)", "the same"),
+    (r"Err\(fault\)", "the error is passed on: where it is bound is another place"),
+    (r"(match .*: )?Err\(fault\)=>(return |std::result::Result::)?Err\(fault\)", "the error is passed on"),
     (r"Err\(Full\)", "a clause says that the buffer is too small"),
     (r"Err\(error\)", "the error is passed on: where it is bound is another place"),
     (r"match [\w$]+: Err\(error\)=>(std::result::Result::)?Err\(error\)", "the error is passed on"),
     (r"match self\.inner\.\w+\(\w*\): Err\(_\)=>Err\(self\.fail\(\)\)", "a device failed, and a clause says so"),
     (r"match self\.inner\.write\(bytes\): Ok\(count\)if count>0\|\|bytes\.is_empty\(\) _", "the same"),
     (r"Err\(self\.fail\(\)\)", "the same"),
-    (r"[ui](8|16|32|64|128|size)::try_from\(\w+\)\.ok\(\)", "a number doesn't fit its type"),
+    (r"[ui](8|16|32|64|128|size)::try_from\((\w+|i64::from_magnitude\(negative, magnitude\)\?|magnitude\.checked_sub\(1\)\?)\)\.ok\(\)", "a number doesn't fit its type"),
     (r"match \w+\.parse::<[ui](64|128)>\(\): Ok\(n\)if prints_as\(&n, text\) _", "a text is no number"),
     (r"text\.parse::<[ui](64|128)>\(\)", "the same"),
     (r"let _\w*=self\.(get|len)\(\)", "no result: a number is read for its range"),
@@ -38,6 +42,7 @@ LARGE = "a number of arithmetic, or a bound on turns that each read: no memory i
 SIZE = "the size is that of what is kept there, or fixed"
 TURNS = "each turn asks for no more than a piece of the text or a level, and the turns are bounded by the text or fixed"
 RESULT = "a `Result` is the value"
+GROWN = "a growth was refused: its own error has the item with it, or is told by one name"
 
 # (reason, file below crates/, the body, what is written there)
 IN_BODIES = [
@@ -135,4 +140,29 @@ IN_BODIES = [
     (LARGE, "ufmt_doc/src/doc.rt", "Doc::is_token", "u8::MAX"),
     (LARGE, "ufmt_doc/src/doc.rt", "Doc::is_debug", "u8::MAX"),
     (LARGE, "ufmt_lines/src/run.rt", "run", "u64::MAX"),
+    (GROWN, "ufmt_parser/src/boxes.rt", "uParse<Global>for Box<T>::parse_from", "match Box::new(alloc, value): Err(_)=>Err(Fault::OutOfMemory)"),
+    (GROWN, "ufmt_parser/src/boxes.rt", "uParse<Global>for Box<T>::parse_from", "Err(_)=>Err(Fault::OutOfMemory)"),
+    (GROWN, "ufmt_parser/src/boxes.rt", "uParse<Global>for Box<T>::parse_from", "Err(Fault::OutOfMemory)"),
+    (GROWN, "ufmt_parser/src/sorted.rt", "parse_set", "match ascending_set(alloc, keys): Err(_)=>Err(Fault::OutOfMemory)"),
+    (GROWN, "ufmt_parser/src/sorted.rt", "parse_set", "Err(_)=>Err(Fault::OutOfMemory)"),
+    (GROWN, "ufmt_parser/src/sorted.rt", "parse_set", "Err(Fault::OutOfMemory)"),
+    (GROWN, "ufmt_parser/src/sorted.rt", "parse_map", "match ascending_map(alloc, entries): Err(_)=>Err(Fault::OutOfMemory)"),
+    (GROWN, "ufmt_parser/src/sorted.rt", "parse_map", "Err(_)=>Err(Fault::OutOfMemory)"),
+    (GROWN, "ufmt_parser/src/sorted.rt", "parse_map", "Err(Fault::OutOfMemory)"),
+    (GROWN, "ufmt_parser/src/texts.rt", "uParse<A>for String<A>::parse_from", "match read_bytes(&mut bytes, inside): Err(_)=>Err(Fault::OutOfMemory)"),
+    (GROWN, "ufmt_parser/src/texts.rt", "uParse<A>for String<A>::parse_from", "Err(_)=>Err(Fault::OutOfMemory)"),
+    (GROWN, "ufmt_parser/src/texts.rt", "uParse<A>for String<A>::parse_from", "Err(Fault::OutOfMemory)"),
+    (GROWN, "ufmt_parser/src/lists.rt", "parse_some", "match entries.push(entry): Err(_)=>return Err(Fault::OutOfMemory)"),
+    (GROWN, "ufmt_parser/src/lists.rt", "parse_some", "Err(_)=>return Err(Fault::OutOfMemory)"),
+    (GROWN, "ufmt_parser/src/lists.rt", "parse_some", "Err(Fault::OutOfMemory)"),
+    (PASSED, "ufmt_parser/src/text.rt", "parse_whole", "match T::parse_from(alloc, &mut parser): Err(Fault::OutOfMemory)=>Err(ParseError::OutOfMemory)"),
+    (PASSED, "ufmt_parser/src/text.rt", "parse_whole", "Err(Fault::OutOfMemory)=>Err(ParseError::OutOfMemory)"),
+    (PASSED, "ufmt_parser/src/text.rt", "parse_whole", "Err(ParseError::OutOfMemory)"),
+    (NO_MEMORY, "ufmt_parser/src/escapes.rt", "split_escaped", "u8::try_from(decoded(input)).unwrap_or(0)"),
+    (NO_MEMORY, "ufmt_parser/src/escapes.rt", "byte_at", "input.get(index).copied().unwrap_or(0)"),
+    (NO_MEMORY, "ufmt_parser/src/escapes.rt", "digit_value", "char::from(byte).to_digit(36).unwrap_or(36)"),
+    (NO_MEMORY, "ufmt_parser/src/quoted.rt", "only_character", "match str::from_utf8(bytes): Err(_)=>None"),
+    (NO_MEMORY, "ufmt_parser/src/texts.rt", "uParse<A>for String<A>::parse_from", "match String::from_utf8(bytes): Err(_)=>Err(Fault::NotText)"),
+    (NO_MEMORY, "ufmt_parser/src/lists.rt", "parse_array", "match <[T;N]>::try_from(values): Err(_)=>Err(Fault::NotText)"),
+    (TURNS, "ufmt_parser/src/texts.rt", "read_bytes", "loop"),
 ]

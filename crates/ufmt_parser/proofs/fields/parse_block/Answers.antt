@@ -1,4 +1,4 @@
-use Rattle.std.proofs.Common.{◌≡◌, ◌<◌, ◌-◌, suc, ap, sym, ◌∙◌, arith}
+use Rattle.std.proofs.Common.{◌≡◌, ◌-◌, suc, ap, sym, ◌∙◌, arith}
 use Rattle.ufmt.specs.Layout.{frame}
 use Rattle.ufmt_parser.specs.Taking.{open_blocks}
 use Rattle.ufmt_parser.proofs.Settings.{inside-of}

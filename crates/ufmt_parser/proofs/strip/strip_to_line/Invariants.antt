@@ -1,4 +1,4 @@
-use Rattle.std.proofs.Common.{◌≡◌, ◌++◌, ◌-◌, Some}
+use Rattle.std.proofs.Common.{◌≡◌, ◌++◌, ◌-◌}
 use Rattle.ufmt.specs.Layout.{indentation}
 use Rattle.ufmt.specs.Reading.{strip}
 use Rattle.ufmt_parser.proofs.strip.strip_to_line.Given as goal

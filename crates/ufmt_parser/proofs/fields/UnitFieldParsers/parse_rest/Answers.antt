@@ -1,4 +1,4 @@
-use Rattle.ufmt_parser.proofs.Taken.{constant_taken, constant_refused}
+use Rattle.ufmt_parser.proofs.Taken.{constant_taken}
 use Rattle.ufmt_parser.proofs.fields.UnitFieldParsers.parse_rest.Goals as goal
 
 pub returns-then-eats_ending-clause-takes : goal.returns-then-eats_ending-clause-takes

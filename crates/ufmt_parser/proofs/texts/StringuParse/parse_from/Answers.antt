@@ -7,7 +7,7 @@ use Rattle.ufmt.specs.ValueDocuments.{string}
 use Rattle.ufmt_parser.specs.Taking.{open_blocks, rest}
 use Rattle.ufmt_parser.specs.declared.parser.Fault.TheVariants.{NotText}
 use Rattle.ufmt_parser.proofs.Clauses.{none_clause, only_clause, taken_clause, taken_shrinks}
-use Rattle.ufmt_parser.proofs.QuotedTaken.{never_closed, no_mark, no_utf8, text_taken}
+use Rattle.ufmt_parser.proofs.QuotedTaken.{never_closed, no_utf8, text_taken}
 use Rattle.ufmt_parser.proofs.texts.StringuParse.parse_from.Goals as goal
 
 pub returns-in-Ok-None-clause-none : goal.returns-in-Ok-None-clause-none
