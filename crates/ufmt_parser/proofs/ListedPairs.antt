@@ -17,7 +17,7 @@ use Rattle.ufmt_parser.proofs.Settings.{inside-setting_in}
 use Rattle.ufmt_parser.proofs.Views.{taken_as}
 
 module _ {K V : Type 0} (is_key : K → Type 0) (is_value : V → Type 0) (of_key : K → Document) (of_value : V → Document) where
-  -- an entry that may stand in so many blocks
+  -- an entry that may be inside so many blocks
   abbrev pub PairFits : ℕ → K × V → Type 0
   PairFits blocks e = (is_key e.0 × Fits blocks (of_key e.0)) × (is_value e.1 × Fits blocks (of_value e.1))
 

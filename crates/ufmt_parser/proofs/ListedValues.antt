@@ -25,7 +25,7 @@ document_begins_entry s d built =
     record { first = begins.first; tail = begins.tail; is = begins.is; no_ender = begins.no_ender }
 
 module _ {T : Type 0} (is : T → Type 0) (document : T → Document) where
-  -- a value that may stand in so many blocks
+  -- a value that may be inside so many blocks
   abbrev pub ValueFits : ℕ → T → Type 0
   ValueFits blocks v = is v × Fits blocks (document v)
 

@@ -35,7 +35,7 @@ module _ {T : Type 0} {is wanted : T → Type 0} {text_of : T → List ℕ} (wid
   pub none_refused : {old : List ℕ} {fault : Fault} {new : List ℕ} → Takes is text_of old (Err fault) new → Takes wanted text_of old (Err fault) new
   none_refused {old} {fault} {new} takes = none_refused_by old fault new takes
 
--- the values are told by the documents that they print
+-- the documents that values print tell them apart
 module _ {T : Type 0} {is wanted : T → Type 0} (blocks : ℕ) (mode : Mode) (document : T → Document) (wider : (v : T) → wanted v → is v × Fits blocks (document v)) where
   -- a value that isn't wanted is refused, if no wanted one has its document
   pub unwanted_refused : {v : T} {old new : List ℕ} → ((w : T) → wanted w → is v → normal (document v) ≡ normal (document w) → ⊥)

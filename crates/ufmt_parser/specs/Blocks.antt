@@ -24,7 +24,7 @@ abbrev pub AreSome : {E : Type 0} → (E → Type 0) → List E → Type 0
 AreSome is [] = ⊥
 AreSome is (e ∷ es) = All is (e ∷ es)
 
--- the entries of a block that may stand in so many others
+-- the entries of a block that may be inside so many others
 abbrev pub EntriesFit : {E : Type 0} → (ℕ → E → Type 0) → ℕ → List E → Type 0
 EntriesFit fit blocks [] = blocks ≤ 255
 EntriesFit fit blocks (e ∷ es) = (blocks < 255) × All (fit (suc blocks)) (e ∷ es)

@@ -30,7 +30,7 @@ depth_in Pretty blocks = blocks
 abbrev pub setting_in : Mode → ℕ → Setting
 setting_in mode blocks = setting mode (depth_in mode blocks)
 
--- a debug document that may stand in so many blocks
+-- a debug document that may be inside so many blocks
 abbrev pub Fits : ℕ → Document → Type 0
 Fits blocks d = IsBuilt Debug d × (nest d + blocks ≤ 255)
 
