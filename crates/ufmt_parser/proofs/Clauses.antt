@@ -1,6 +1,6 @@
 -- What a parser's clauses say, and `Takes`.
-use Rattle.std.proofs.Common.{◌≡◌, refl, ap, ◌≤◌, ◌++◌, length, length-append, arith, List, ℕ, Result, Ok, Err, IfOk}
-use Rattle.std.specs.Prelude.{IsErrOf}
+use Rattle.std.proofs.Common.{◌≡◌, ◌≢◌, refl, ap, ◌≤◌, ◌++◌, length, length-append, arith, List, ℕ, Result, Ok, Err, IfOk}
+use Rattle.std.specs.Prelude.{IfErr}
 use Rattle.ufmt.specs.Document.{Document}
 use Rattle.ufmt.specs.Layout.{layout}
 use Rattle.ufmt_core.specs.declared.layout.Mode.{Mode}
@@ -20,9 +20,9 @@ module _ {M T : Type 0} (mode : Mode) (is_value : T → Type 0) (document : T �
   Only = IfOk outcome (λ _. (v : T) (u : List ℕ) → is_value v → IsNext mode old (document v) u → u ≡ rest new)
 
   abbrev pub Nothing : Type 0
-  Nothing = IsErrOf outcome NotText → (v : T) (u : List ℕ) → is_value v → ¬ IsNext mode old (document v) u
+  Nothing = IfErr outcome (λ fault. fault ≡ NotText → (v : T) (u : List ℕ) → is_value v → ¬ IsNext mode old (document v) u)
 
-out_of_memory : {U : Type 0} → IsErrOf {T = U} {E = Fault} (Err OutOfMemory) NotText → ⊥
+out_of_memory : OutOfMemory ≢ NotText
 out_of_memory is = absurd (cc)
 
 -- the clauses, with what holds of the value, say that it is taken
@@ -39,13 +39,10 @@ module _ {M T : Type 0} (mode : Mode) (is_value : T → Type 0) (document : T �
   taken_by_clauses outcome holds taken only none = record { cases = by_clauses outcome holds taken only none }
 
 -- where it is said that no text is here, it is so
-pub refused : {T U : Type 0} {is : T → Type 0} {text_of : T → List ℕ} {old new : List ℕ} (fault : Fault) → Takes is text_of old (Err fault) new
-    → IsErrOf {T = U} {E = Fault} (Err fault) NotText → BeginsWithNone is text_of old
+pub refused : {T : Type 0} {is : T → Type 0} {text_of : T → List ℕ} {old new : List ℕ} (fault : Fault) → Takes is text_of old (Err fault) new
+    → fault ≡ NotText → BeginsWithNone is text_of old
 refused NotText takes is_not = takes.cases
 refused OutOfMemory takes is_not = absurd (out_of_memory is_not)
-
-ok_is_no_error : {T : Type 0} (v : T) → IsErrOf {T = T} {E = Fault} (Ok v) NotText → ⊥
-ok_is_no_error v is = absurd (cc)
 
 -- what is taken meets the clauses
 module _ {M T : Type 0} (mode : Mode) (is_value : T → Type 0) (document : T → Document) (old new : Parser M) where
@@ -58,7 +55,7 @@ module _ {M T : Type 0} (mode : Mode) (is_value : T → Type 0) (document : T �
   only_clause (Err fault) takes = tt
 
   pub none_clause : (outcome : Result T Fault) → ValueTaken mode is_value document old outcome new → Nothing mode is_value document old outcome new
-  none_clause (Ok v) takes = λ is. absurd (ok_is_no_error v is)
+  none_clause (Ok v) takes = tt
   none_clause (Err fault) takes = λ is w u holds next. refused fault takes is w u (holds, next.0) next.1 next.2
 
 -- what is left after a value was taken is no longer

@@ -1,5 +1,5 @@
 //! Parsing from the front of a text: what each type does.
-ghost use Rattle.std.specs.Prelude.{◌≤◌, length, ◌≡◌, List, ℕ, IfOk, IsErrOf};
+ghost use Rattle.std.specs.Prelude.{◌≤◌, length, ◌≡◌, List, ℕ, IfOk, IfErr};
 ghost use Rattle.ufmt.specs.Layout.{layout};
 ghost use Rattle.ufmt_parser.specs.Taking.{Fits, IsNext, IsTaken, Takes, open_blocks, rest, setting_in};
 
@@ -25,8 +25,8 @@ pub trait uParse<A>: uDebug + Drop {
         ensures taken { IfOk result (λ v. IsTaken M.mode parser.old (Self.document v) parser.new) }
         ensures only { IfOk result (λ _. (v : Self) (u : List ℕ) → is_value v
             → IsNext M.mode parser.old (Self.document v) u → u ≡ rest parser.new) }
-        ensures none { IsErrOf result Fault.NotText → (v : Self) (u : List ℕ) → is_value v
-            → ¬ IsNext M.mode parser.old (Self.document v) u }
+        ensures none { IfErr result (λ fault. fault ≡ Fault.NotText → (v : Self) (u : List ℕ) → is_value v
+            → ¬ IsNext M.mode parser.old (Self.document v) u) }
         ensures blocks { IfOk result (λ _. open_blocks parser.new ≡ open_blocks parser.old) }
         ensures shrinks { length (rest parser.new) ≤ length (rest parser.old) };
 }

@@ -1,5 +1,5 @@
 //! Integers: decimal digits with no zero before them, after `-` if the number is negative.
-ghost use Rattle.std.specs.Prelude.{◌≡◌, ◌<◌, ◌≤◌, length, List, ℕ, ℤ, pos, nat_abs, IfOk, IsErrOf, MatchOption};
+ghost use Rattle.std.specs.Prelude.{◌≡◌, ◌<◌, ◌≤◌, length, List, ℕ, ℤ, pos, nat_abs, IfOk, IfErr, MatchOption};
 ghost use Rattle.ufmt_core.specs.Decimal.{decimal};
 ghost use Rattle.ufmt_core.specs.Document.{leaf};
 ghost use Rattle.ufmt_parser.specs.Digits.{IsSigned};
@@ -219,8 +219,8 @@ fn parse_integer<N: Magnitude, T: Integer<N>, M: ParseMode>(
     ensures taken { IfOk result (λ v. IsTaken M.mode parser.old (leaf (decimal (T.int v))) parser.new) }
     ensures only { IfOk result (λ _. (v : T) (u : List ℕ) → T.in_range v
         → IsNext M.mode parser.old (leaf (decimal (T.int v))) u → u ≡ rest parser.new) }
-    ensures none { IsErrOf result Fault.NotText → (v : T) (u : List ℕ) → T.in_range v
-        → ¬ IsNext M.mode parser.old (leaf (decimal (T.int v))) u }
+    ensures none { IfErr result (λ fault. fault ≡ Fault.NotText → (v : T) (u : List ℕ) → T.in_range v
+        → ¬ IsNext M.mode parser.old (leaf (decimal (T.int v))) u) }
     ensures blocks { IfOk result (λ _. open_blocks parser.new ≡ open_blocks parser.old) }
     ensures shrinks { length (rest parser.new) ≤ length (rest parser.old) }
 {

@@ -1,5 +1,5 @@
 //! Structs by their number of fields. tools/write-by-count writes this file: change it there.
-ghost use Rattle.std.specs.Prelude.{◌≤◌, length, [], ◌∷◌, ◌≡◌, List, ℕ, IfOk, IsErrOf};
+ghost use Rattle.std.specs.Prelude.{◌≤◌, length, [], ◌∷◌, ◌≡◌, List, ℕ, IfOk, IfErr};
 ghost use Rattle.ufmt.specs.Document.{fields_of, struct_of};
 ghost use Rattle.ufmt_parser.specs.Taking.{AreWords, IsNext, IsTaken, open_blocks, rest};
 
@@ -23,9 +23,9 @@ pub fn parse_struct_1<Alloc: Copy, A: uParse<Alloc>, M: ParseMode>(
     ensures only { IfOk result (λ _. (a_value : A) (u : List ℕ) → A.is_value a_value
         → IsNext M.mode parser.old (struct_of name.now (fields_of ((a.now, A.document a_value)
         ∷ []))) u → u ≡ rest parser.new) }
-    ensures none { IsErrOf result Fault.NotText → (a_value : A) (u : List ℕ) → A.is_value a_value
-        → ¬ IsNext M.mode parser.old (struct_of name.now (fields_of ((a.now, A.document a_value)
-        ∷ []))) u }
+    ensures none { IfErr result (λ fault. fault ≡ Fault.NotText → (a_value : A) (u : List ℕ)
+        → A.is_value a_value → ¬ IsNext M.mode parser.old (struct_of name.now (fields_of
+        ((a.now, A.document a_value) ∷ []))) u) }
     ensures blocks { IfOk result (λ _. open_blocks parser.new ≡ open_blocks parser.old) }
     ensures shrinks { length (rest parser.new) ≤ length (rest parser.old) }
 {
@@ -51,10 +51,10 @@ pub fn parse_struct_2<Alloc: Copy, A: uParse<Alloc>, B: uParse<Alloc>, M: ParseM
         → B.is_value b_value → IsNext M.mode parser.old (struct_of name.now (fields_of
         ((a.now, A.document a_value) ∷ (b.now, B.document b_value) ∷ []))) u
         → u ≡ rest parser.new) }
-    ensures none { IsErrOf result Fault.NotText → (a_value : A) (b_value : B) (u : List ℕ)
-        → A.is_value a_value → B.is_value b_value → ¬ IsNext M.mode parser.old
+    ensures none { IfErr result (λ fault. fault ≡ Fault.NotText → (a_value : A) (b_value : B)
+        (u : List ℕ) → A.is_value a_value → B.is_value b_value → ¬ IsNext M.mode parser.old
         (struct_of name.now (fields_of ((a.now, A.document a_value) ∷ (b.now, B.document b_value)
-        ∷ []))) u }
+        ∷ []))) u) }
     ensures blocks { IfOk result (λ _. open_blocks parser.new ≡ open_blocks parser.old) }
     ensures shrinks { length (rest parser.new) ≤ length (rest parser.old) }
 {
@@ -88,10 +88,10 @@ pub fn parse_struct_3<
         → A.is_value a_value → B.is_value b_value → C.is_value c_value → IsNext M.mode parser.old
         (struct_of name.now (fields_of ((a.now, A.document a_value) ∷ (b.now, B.document b_value)
         ∷ (c.now, C.document c_value) ∷ []))) u → u ≡ rest parser.new) }
-    ensures none { IsErrOf result Fault.NotText → (a_value : A) (b_value : B) (c_value : C)
-        (u : List ℕ) → A.is_value a_value → B.is_value b_value → C.is_value c_value
+    ensures none { IfErr result (λ fault. fault ≡ Fault.NotText → (a_value : A) (b_value : B)
+        (c_value : C) (u : List ℕ) → A.is_value a_value → B.is_value b_value → C.is_value c_value
         → ¬ IsNext M.mode parser.old (struct_of name.now (fields_of ((a.now, A.document a_value)
-        ∷ (b.now, B.document b_value) ∷ (c.now, C.document c_value) ∷ []))) u }
+        ∷ (b.now, B.document b_value) ∷ (c.now, C.document c_value) ∷ []))) u) }
     ensures blocks { IfOk result (λ _. open_blocks parser.new ≡ open_blocks parser.old) }
     ensures shrinks { length (rest parser.new) ≤ length (rest parser.old) }
 {
@@ -128,11 +128,11 @@ pub fn parse_struct_4<
         → D.is_value d_value → IsNext M.mode parser.old (struct_of name.now (fields_of
         ((a.now, A.document a_value) ∷ (b.now, B.document b_value) ∷ (c.now, C.document c_value)
         ∷ (d.now, D.document d_value) ∷ []))) u → u ≡ rest parser.new) }
-    ensures none { IsErrOf result Fault.NotText → (a_value : A) (b_value : B) (c_value : C)
-        (d_value : D) (u : List ℕ) → A.is_value a_value → B.is_value b_value → C.is_value c_value
-        → D.is_value d_value → ¬ IsNext M.mode parser.old (struct_of name.now (fields_of
-        ((a.now, A.document a_value) ∷ (b.now, B.document b_value) ∷ (c.now, C.document c_value)
-        ∷ (d.now, D.document d_value) ∷ []))) u }
+    ensures none { IfErr result (λ fault. fault ≡ Fault.NotText → (a_value : A) (b_value : B)
+        (c_value : C) (d_value : D) (u : List ℕ) → A.is_value a_value → B.is_value b_value
+        → C.is_value c_value → D.is_value d_value → ¬ IsNext M.mode parser.old
+        (struct_of name.now (fields_of ((a.now, A.document a_value) ∷ (b.now, B.document b_value)
+        ∷ (c.now, C.document c_value) ∷ (d.now, D.document d_value) ∷ []))) u) }
     ensures blocks { IfOk result (λ _. open_blocks parser.new ≡ open_blocks parser.old) }
     ensures shrinks { length (rest parser.new) ≤ length (rest parser.old) }
 {
@@ -177,12 +177,12 @@ pub fn parse_struct_5<
         (struct_of name.now (fields_of ((a.now, A.document a_value) ∷ (b.now, B.document b_value)
         ∷ (c.now, C.document c_value) ∷ (d.now, D.document d_value) ∷ (e.now, E.document e_value)
         ∷ []))) u → u ≡ rest parser.new) }
-    ensures none { IsErrOf result Fault.NotText → (a_value : A) (b_value : B) (c_value : C)
-        (d_value : D) (e_value : E) (u : List ℕ) → A.is_value a_value → B.is_value b_value
-        → C.is_value c_value → D.is_value d_value → E.is_value e_value → ¬ IsNext M.mode parser.old
-        (struct_of name.now (fields_of ((a.now, A.document a_value) ∷ (b.now, B.document b_value)
-        ∷ (c.now, C.document c_value) ∷ (d.now, D.document d_value) ∷ (e.now, E.document e_value)
-        ∷ []))) u }
+    ensures none { IfErr result (λ fault. fault ≡ Fault.NotText → (a_value : A) (b_value : B)
+        (c_value : C) (d_value : D) (e_value : E) (u : List ℕ) → A.is_value a_value
+        → B.is_value b_value → C.is_value c_value → D.is_value d_value → E.is_value e_value
+        → ¬ IsNext M.mode parser.old (struct_of name.now (fields_of ((a.now, A.document a_value)
+        ∷ (b.now, B.document b_value) ∷ (c.now, C.document c_value) ∷ (d.now, D.document d_value)
+        ∷ (e.now, E.document e_value) ∷ []))) u) }
     ensures blocks { IfOk result (λ _. open_blocks parser.new ≡ open_blocks parser.old) }
     ensures shrinks { length (rest parser.new) ≤ length (rest parser.old) }
 {
@@ -234,13 +234,13 @@ pub fn parse_struct_6<
         ∷ (b.now, B.document b_value) ∷ (c.now, C.document c_value) ∷ (d.now, D.document d_value)
         ∷ (e.now, E.document e_value) ∷ (f.now, F.document f_value) ∷ []))) u
         → u ≡ rest parser.new) }
-    ensures none { IsErrOf result Fault.NotText → (a_value : A) (b_value : B) (c_value : C)
-        (d_value : D) (e_value : E) (f_value : F) (u : List ℕ) → A.is_value a_value
+    ensures none { IfErr result (λ fault. fault ≡ Fault.NotText → (a_value : A) (b_value : B)
+        (c_value : C) (d_value : D) (e_value : E) (f_value : F) (u : List ℕ) → A.is_value a_value
         → B.is_value b_value → C.is_value c_value → D.is_value d_value → E.is_value e_value
         → F.is_value f_value → ¬ IsNext M.mode parser.old (struct_of name.now (fields_of
         ((a.now, A.document a_value) ∷ (b.now, B.document b_value) ∷ (c.now, C.document c_value)
         ∷ (d.now, D.document d_value) ∷ (e.now, E.document e_value) ∷ (f.now, F.document f_value)
-        ∷ []))) u }
+        ∷ []))) u) }
     ensures blocks { IfOk result (λ _. open_blocks parser.new ≡ open_blocks parser.old) }
     ensures shrinks { length (rest parser.new) ≤ length (rest parser.old) }
 {

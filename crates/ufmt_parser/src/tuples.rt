@@ -1,5 +1,5 @@
 //! Tuples by their number of fields. tools/write-by-count writes this file: change it there.
-ghost use Rattle.std.specs.Prelude.{◌≤◌, length, [], ◌∷◌, ◌≡◌, List, ℕ, IfOk, IsErrOf};
+ghost use Rattle.std.specs.Prelude.{◌≤◌, length, [], ◌∷◌, ◌≡◌, List, ℕ, IfOk, IfErr};
 ghost use Rattle.ufmt.specs.Document.{documents, tuple_of};
 ghost use Rattle.ufmt.specs.Leaves.{IsWordOrEmpty};
 ghost use Rattle.ufmt_parser.specs.Taking.{IsNext, IsTaken, open_blocks, rest};
@@ -23,8 +23,9 @@ pub fn parse_tuple_1<Alloc: Copy, A: uParse<Alloc>, M: ParseMode>(
     ensures only { IfOk result (λ _. (a_value : A) (u : List ℕ) → A.is_value a_value
         → IsNext M.mode parser.old (tuple_of name.now (documents (A.document a_value ∷ []))) u
         → u ≡ rest parser.new) }
-    ensures none { IsErrOf result Fault.NotText → (a_value : A) (u : List ℕ) → A.is_value a_value
-        → ¬ IsNext M.mode parser.old (tuple_of name.now (documents (A.document a_value ∷ []))) u }
+    ensures none { IfErr result (λ fault. fault ≡ Fault.NotText → (a_value : A) (u : List ℕ)
+        → A.is_value a_value → ¬ IsNext M.mode parser.old (tuple_of name.now (documents
+        (A.document a_value ∷ []))) u) }
     ensures blocks { IfOk result (λ _. open_blocks parser.new ≡ open_blocks parser.old) }
     ensures shrinks { length (rest parser.new) ≤ length (rest parser.old) }
 {
@@ -47,9 +48,9 @@ pub fn parse_tuple_2<Alloc: Copy, A: uParse<Alloc>, B: uParse<Alloc>, M: ParseMo
     ensures only { IfOk result (λ _. (a_value : A) (b_value : B) (u : List ℕ) → A.is_value a_value
         → B.is_value b_value → IsNext M.mode parser.old (tuple_of name.now (documents
         (A.document a_value ∷ B.document b_value ∷ []))) u → u ≡ rest parser.new) }
-    ensures none { IsErrOf result Fault.NotText → (a_value : A) (b_value : B) (u : List ℕ)
-        → A.is_value a_value → B.is_value b_value → ¬ IsNext M.mode parser.old
-        (tuple_of name.now (documents (A.document a_value ∷ B.document b_value ∷ []))) u }
+    ensures none { IfErr result (λ fault. fault ≡ Fault.NotText → (a_value : A) (b_value : B)
+        (u : List ℕ) → A.is_value a_value → B.is_value b_value → ¬ IsNext M.mode parser.old
+        (tuple_of name.now (documents (A.document a_value ∷ B.document b_value ∷ []))) u) }
     ensures blocks { IfOk result (λ _. open_blocks parser.new ≡ open_blocks parser.old) }
     ensures shrinks { length (rest parser.new) ≤ length (rest parser.old) }
 {
@@ -75,10 +76,10 @@ pub fn parse_tuple_3<
         → A.is_value a_value → B.is_value b_value → C.is_value c_value → IsNext M.mode parser.old
         (tuple_of name.now (documents (A.document a_value ∷ B.document b_value ∷ C.document c_value
         ∷ []))) u → u ≡ rest parser.new) }
-    ensures none { IsErrOf result Fault.NotText → (a_value : A) (b_value : B) (c_value : C)
-        (u : List ℕ) → A.is_value a_value → B.is_value b_value → C.is_value c_value
+    ensures none { IfErr result (λ fault. fault ≡ Fault.NotText → (a_value : A) (b_value : B)
+        (c_value : C) (u : List ℕ) → A.is_value a_value → B.is_value b_value → C.is_value c_value
         → ¬ IsNext M.mode parser.old (tuple_of name.now (documents (A.document a_value
-        ∷ B.document b_value ∷ C.document c_value ∷ []))) u }
+        ∷ B.document b_value ∷ C.document c_value ∷ []))) u) }
     ensures blocks { IfOk result (λ _. open_blocks parser.new ≡ open_blocks parser.old) }
     ensures shrinks { length (rest parser.new) ≤ length (rest parser.old) }
 {
@@ -106,11 +107,11 @@ pub fn parse_tuple_4<
         → D.is_value d_value → IsNext M.mode parser.old (tuple_of name.now (documents
         (A.document a_value ∷ B.document b_value ∷ C.document c_value ∷ D.document d_value ∷ []))) u
         → u ≡ rest parser.new) }
-    ensures none { IsErrOf result Fault.NotText → (a_value : A) (b_value : B) (c_value : C)
-        (d_value : D) (u : List ℕ) → A.is_value a_value → B.is_value b_value → C.is_value c_value
-        → D.is_value d_value → ¬ IsNext M.mode parser.old (tuple_of name.now (documents
-        (A.document a_value ∷ B.document b_value ∷ C.document c_value ∷ D.document d_value ∷ [])))
-        u }
+    ensures none { IfErr result (λ fault. fault ≡ Fault.NotText → (a_value : A) (b_value : B)
+        (c_value : C) (d_value : D) (u : List ℕ) → A.is_value a_value → B.is_value b_value
+        → C.is_value c_value → D.is_value d_value → ¬ IsNext M.mode parser.old
+        (tuple_of name.now (documents (A.document a_value ∷ B.document b_value ∷ C.document c_value
+        ∷ D.document d_value ∷ []))) u) }
     ensures blocks { IfOk result (λ _. open_blocks parser.new ≡ open_blocks parser.old) }
     ensures shrinks { length (rest parser.new) ≤ length (rest parser.old) }
 {
@@ -145,11 +146,12 @@ pub fn parse_tuple_5<
         → D.is_value d_value → E.is_value e_value → IsNext M.mode parser.old
         (tuple_of name.now (documents (A.document a_value ∷ B.document b_value ∷ C.document c_value
         ∷ D.document d_value ∷ E.document e_value ∷ []))) u → u ≡ rest parser.new) }
-    ensures none { IsErrOf result Fault.NotText → (a_value : A) (b_value : B) (c_value : C)
-        (d_value : D) (e_value : E) (u : List ℕ) → A.is_value a_value → B.is_value b_value
-        → C.is_value c_value → D.is_value d_value → E.is_value e_value → ¬ IsNext M.mode parser.old
-        (tuple_of name.now (documents (A.document a_value ∷ B.document b_value ∷ C.document c_value
-        ∷ D.document d_value ∷ E.document e_value ∷ []))) u }
+    ensures none { IfErr result (λ fault. fault ≡ Fault.NotText → (a_value : A) (b_value : B)
+        (c_value : C) (d_value : D) (e_value : E) (u : List ℕ) → A.is_value a_value
+        → B.is_value b_value → C.is_value c_value → D.is_value d_value → E.is_value e_value
+        → ¬ IsNext M.mode parser.old (tuple_of name.now (documents (A.document a_value
+        ∷ B.document b_value ∷ C.document c_value ∷ D.document d_value ∷ E.document e_value ∷ [])))
+        u) }
     ensures blocks { IfOk result (λ _. open_blocks parser.new ≡ open_blocks parser.old) }
     ensures shrinks { length (rest parser.new) ≤ length (rest parser.old) }
 {
@@ -189,12 +191,12 @@ pub fn parse_tuple_6<
         → IsNext M.mode parser.old (tuple_of name.now (documents (A.document a_value
         ∷ B.document b_value ∷ C.document c_value ∷ D.document d_value ∷ E.document e_value
         ∷ F.document f_value ∷ []))) u → u ≡ rest parser.new) }
-    ensures none { IsErrOf result Fault.NotText → (a_value : A) (b_value : B) (c_value : C)
-        (d_value : D) (e_value : E) (f_value : F) (u : List ℕ) → A.is_value a_value
+    ensures none { IfErr result (λ fault. fault ≡ Fault.NotText → (a_value : A) (b_value : B)
+        (c_value : C) (d_value : D) (e_value : E) (f_value : F) (u : List ℕ) → A.is_value a_value
         → B.is_value b_value → C.is_value c_value → D.is_value d_value → E.is_value e_value
         → F.is_value f_value → ¬ IsNext M.mode parser.old (tuple_of name.now (documents
         (A.document a_value ∷ B.document b_value ∷ C.document c_value ∷ D.document d_value
-        ∷ E.document e_value ∷ F.document f_value ∷ []))) u }
+        ∷ E.document e_value ∷ F.document f_value ∷ []))) u) }
     ensures blocks { IfOk result (λ _. open_blocks parser.new ≡ open_blocks parser.old) }
     ensures shrinks { length (rest parser.new) ≤ length (rest parser.old) }
 {

@@ -56,8 +56,8 @@ class Block:
             wrapped(["ensures taken { IfOk result (λ v.", "IsTaken M.mode parser.old"] + self.row_of(taken, ")))") + ["parser.new) }"], 4),
             wrapped(["ensures only { IfOk result (λ _."] + binders + premises + ["→ IsNext M.mode parser.old"]
                     + self.row_of(others, ")))") + ["u", "→ u ≡ rest parser.new) }"], 4),
-            wrapped(["ensures none { IsErrOf result Fault.NotText →"] + binders + premises + ["→ ¬ IsNext M.mode parser.old"]
-                    + self.row_of(others, ")))") + ["u }"], 4),
+            wrapped(["ensures none { IfErr result (λ fault. fault ≡ Fault.NotText →"] + binders + premises + ["→ ¬ IsNext M.mode parser.old"]
+                    + self.row_of(others, ")))") + ["u) }"], 4),
         ])
 
     def call(self, count):
@@ -104,7 +104,7 @@ pub fn parse_{self.name}_{count}<Alloc: Copy, {types}, M: ParseMode>({", ".join(
         leaves = "" if self.name == "struct" else "ghost use Rattle.ufmt.specs.Leaves.{IsWordOrEmpty};\n"
         calls = "".join(self.call(count) for count in range(1, MOST + 1))
         return f"""//! {self.about.capitalize()}s by their number of fields. {WRITTEN}
-ghost use Rattle.std.specs.Prelude.{{◌≤◌, length, [], ◌∷◌, ◌≡◌, List, ℕ, IfOk, IsErrOf}};
+ghost use Rattle.std.specs.Prelude.{{◌≤◌, length, [], ◌∷◌, ◌≡◌, List, ℕ, IfOk, IfErr}};
 ghost use Rattle.ufmt.specs.Document.{{{self.row}, {self.document}}};
 {leaves}ghost use Rattle.ufmt_parser.specs.Taking.{{{words}IsNext, IsTaken, open_blocks, rest}};
 
