@@ -6,6 +6,7 @@ pub mod DecimalFronts
 pub mod EntriesInARow
 pub mod EntryParts
 pub mod EscapedBytes
+pub mod FieldsInARow
 pub mod Forms
 pub mod Integers
 pub mod ListedPairs

@@ -3,12 +3,10 @@ ghost use Rattle.std.specs.Prelude.{◌≤◌, length, [], ◌∷◌, ◌≡◌,
 ghost use Rattle.ufmt.specs.Document.{fields_of, struct_of};
 ghost use Rattle.ufmt_parser.specs.Taking.{AreWords, IsNext, IsTaken, open_blocks, rest};
 
-use crate::entries::Named;
-use crate::fields::parse_block;
-use crate::from_front::{Plain, uParse};
+use crate::from_front::uParse;
 use crate::mode::ParseMode;
 use crate::parser::{Fault, Parser};
-use ufmt::layout::Kind;
+use crate::rows::parse_struct_row;
 
 /// Takes a struct with one field, as `parse_from` does a value.
 pub fn parse_struct_1<Alloc: Copy, A: uParse<Alloc>, M: ParseMode>(
@@ -29,8 +27,7 @@ pub fn parse_struct_1<Alloc: Copy, A: uParse<Alloc>, M: ParseMode>(
     ensures blocks { IfOk result (λ _. open_blocks parser.new ≡ open_blocks parser.old) }
     ensures shrinks { length (rest parser.new) ≤ length (rest parser.old) }
 {
-    let fields = (Named(a, Plain), ());
-    match parse_block(alloc, parser, Kind::Struct, name, &fields) {
+    match parse_struct_row(alloc, parser, name, &[a]) {
         Err(fault) => Err(fault),
         Ok((a_value, ())) => Ok(a_value),
     }
@@ -58,8 +55,7 @@ pub fn parse_struct_2<Alloc: Copy, A: uParse<Alloc>, B: uParse<Alloc>, M: ParseM
     ensures blocks { IfOk result (λ _. open_blocks parser.new ≡ open_blocks parser.old) }
     ensures shrinks { length (rest parser.new) ≤ length (rest parser.old) }
 {
-    let fields = (Named(a, Plain), (Named(b, Plain), ()));
-    match parse_block(alloc, parser, Kind::Struct, name, &fields) {
+    match parse_struct_row(alloc, parser, name, &[a, b]) {
         Err(fault) => Err(fault),
         Ok((a_value, (b_value, ()))) => Ok((a_value, b_value)),
     }
@@ -95,8 +91,7 @@ pub fn parse_struct_3<
     ensures blocks { IfOk result (λ _. open_blocks parser.new ≡ open_blocks parser.old) }
     ensures shrinks { length (rest parser.new) ≤ length (rest parser.old) }
 {
-    let fields = (Named(a, Plain), (Named(b, Plain), (Named(c, Plain), ())));
-    match parse_block(alloc, parser, Kind::Struct, name, &fields) {
+    match parse_struct_row(alloc, parser, name, &[a, b, c]) {
         Err(fault) => Err(fault),
         Ok((a_value, (b_value, (c_value, ())))) => Ok((a_value, b_value, c_value)),
     }
@@ -136,11 +131,7 @@ pub fn parse_struct_4<
     ensures blocks { IfOk result (λ _. open_blocks parser.new ≡ open_blocks parser.old) }
     ensures shrinks { length (rest parser.new) ≤ length (rest parser.old) }
 {
-    let fields = (
-        Named(a, Plain),
-        (Named(b, Plain), (Named(c, Plain), (Named(d, Plain), ()))),
-    );
-    match parse_block(alloc, parser, Kind::Struct, name, &fields) {
+    match parse_struct_row(alloc, parser, name, &[a, b, c, d]) {
         Err(fault) => Err(fault),
         Ok((a_value, (b_value, (c_value, (d_value, ()))))) => Ok((
             a_value, b_value, c_value, d_value,
@@ -186,14 +177,7 @@ pub fn parse_struct_5<
     ensures blocks { IfOk result (λ _. open_blocks parser.new ≡ open_blocks parser.old) }
     ensures shrinks { length (rest parser.new) ≤ length (rest parser.old) }
 {
-    let fields = (
-        Named(a, Plain),
-        (
-            Named(b, Plain),
-            (Named(c, Plain), (Named(d, Plain), (Named(e, Plain), ()))),
-        ),
-    );
-    match parse_block(alloc, parser, Kind::Struct, name, &fields) {
+    match parse_struct_row(alloc, parser, name, &[a, b, c, d, e]) {
         Err(fault) => Err(fault),
         Ok((a_value, (b_value, (c_value, (d_value, (e_value, ())))))) => Ok((
             a_value, b_value, c_value, d_value, e_value,
@@ -244,20 +228,466 @@ pub fn parse_struct_6<
     ensures blocks { IfOk result (λ _. open_blocks parser.new ≡ open_blocks parser.old) }
     ensures shrinks { length (rest parser.new) ≤ length (rest parser.old) }
 {
-    let fields = (
-        Named(a, Plain),
-        (
-            Named(b, Plain),
-            (
-                Named(c, Plain),
-                (Named(d, Plain), (Named(e, Plain), (Named(f, Plain), ()))),
-            ),
-        ),
-    );
-    match parse_block(alloc, parser, Kind::Struct, name, &fields) {
+    match parse_struct_row(alloc, parser, name, &[a, b, c, d, e, f]) {
         Err(fault) => Err(fault),
         Ok((a_value, (b_value, (c_value, (d_value, (e_value, (f_value, ()))))))) => Ok((
             a_value, b_value, c_value, d_value, e_value, f_value,
+        )),
+    }
+}
+
+/// Takes a struct with 7 fields, as `parse_from` does a value.
+pub fn parse_struct_7<
+    Alloc: Copy,
+    A: uParse<Alloc>,
+    B: uParse<Alloc>,
+    C: uParse<Alloc>,
+    D: uParse<Alloc>,
+    E: uParse<Alloc>,
+    F: uParse<Alloc>,
+    G: uParse<Alloc>,
+    M: ParseMode,
+>(
+    alloc: Alloc,
+    parser: &mut Parser<'_, M>,
+    name: &str,
+    a: &str,
+    b: &str,
+    c: &str,
+    d: &str,
+    e: &str,
+    f: &str,
+    g: &str,
+) -> Result<(A, B, C, D, E, F, G), Fault>
+    requires { AreWords (name.now ∷ a.now ∷ b.now ∷ c.now ∷ d.now ∷ e.now ∷ f.now ∷ g.now ∷ []) }
+    ensures taken { IfOk result (λ v. IsTaken M.mode parser.old (struct_of name.now (fields_of
+        ((a.now, A.document v.0) ∷ (b.now, B.document v.1) ∷ (c.now, C.document v.2)
+        ∷ (d.now, D.document v.3) ∷ (e.now, E.document v.4) ∷ (f.now, F.document v.5)
+        ∷ (g.now, G.document v.6) ∷ []))) parser.new) }
+    ensures only { IfOk result (λ _. (a_value : A) (b_value : B) (c_value : C) (d_value : D)
+        (e_value : E) (f_value : F) (g_value : G) (u : List ℕ) → A.is_value a_value
+        → B.is_value b_value → C.is_value c_value → D.is_value d_value → E.is_value e_value
+        → F.is_value f_value → G.is_value g_value → IsNext M.mode parser.old
+        (struct_of name.now (fields_of ((a.now, A.document a_value) ∷ (b.now, B.document b_value)
+        ∷ (c.now, C.document c_value) ∷ (d.now, D.document d_value) ∷ (e.now, E.document e_value)
+        ∷ (f.now, F.document f_value) ∷ (g.now, G.document g_value) ∷ []))) u
+        → u ≡ rest parser.new) }
+    ensures none { IfErr result (λ fault. fault ≡ Fault.NotText → (a_value : A) (b_value : B)
+        (c_value : C) (d_value : D) (e_value : E) (f_value : F) (g_value : G) (u : List ℕ)
+        → A.is_value a_value → B.is_value b_value → C.is_value c_value → D.is_value d_value
+        → E.is_value e_value → F.is_value f_value → G.is_value g_value → ¬ IsNext M.mode parser.old
+        (struct_of name.now (fields_of ((a.now, A.document a_value) ∷ (b.now, B.document b_value)
+        ∷ (c.now, C.document c_value) ∷ (d.now, D.document d_value) ∷ (e.now, E.document e_value)
+        ∷ (f.now, F.document f_value) ∷ (g.now, G.document g_value) ∷ []))) u) }
+    ensures blocks { IfOk result (λ _. open_blocks parser.new ≡ open_blocks parser.old) }
+    ensures shrinks { length (rest parser.new) ≤ length (rest parser.old) }
+{
+    match parse_struct_row(alloc, parser, name, &[a, b, c, d, e, f, g]) {
+        Err(fault) => Err(fault),
+        Ok((a_value, (b_value, (c_value, (d_value, (e_value, (f_value, (g_value, ())))))))) => Ok(
+            (
+                a_value, b_value, c_value, d_value, e_value, f_value, g_value,
+            ),
+        ),
+    }
+}
+
+/// Takes a struct with 8 fields, as `parse_from` does a value.
+pub fn parse_struct_8<
+    Alloc: Copy,
+    A: uParse<Alloc>,
+    B: uParse<Alloc>,
+    C: uParse<Alloc>,
+    D: uParse<Alloc>,
+    E: uParse<Alloc>,
+    F: uParse<Alloc>,
+    G: uParse<Alloc>,
+    H: uParse<Alloc>,
+    M: ParseMode,
+>(
+    alloc: Alloc,
+    parser: &mut Parser<'_, M>,
+    name: &str,
+    a: &str,
+    b: &str,
+    c: &str,
+    d: &str,
+    e: &str,
+    f: &str,
+    g: &str,
+    h: &str,
+) -> Result<(A, B, C, D, E, F, G, H), Fault>
+    requires { AreWords (name.now ∷ a.now ∷ b.now ∷ c.now ∷ d.now ∷ e.now ∷ f.now ∷ g.now ∷ h.now ∷ []) }
+    ensures taken { IfOk result (λ v. IsTaken M.mode parser.old (struct_of name.now (fields_of
+        ((a.now, A.document v.0) ∷ (b.now, B.document v.1) ∷ (c.now, C.document v.2)
+        ∷ (d.now, D.document v.3) ∷ (e.now, E.document v.4) ∷ (f.now, F.document v.5)
+        ∷ (g.now, G.document v.6) ∷ (h.now, H.document v.7) ∷ []))) parser.new) }
+    ensures only { IfOk result (λ _. (a_value : A) (b_value : B) (c_value : C) (d_value : D)
+        (e_value : E) (f_value : F) (g_value : G) (h_value : H) (u : List ℕ) → A.is_value a_value
+        → B.is_value b_value → C.is_value c_value → D.is_value d_value → E.is_value e_value
+        → F.is_value f_value → G.is_value g_value → H.is_value h_value → IsNext M.mode parser.old
+        (struct_of name.now (fields_of ((a.now, A.document a_value) ∷ (b.now, B.document b_value)
+        ∷ (c.now, C.document c_value) ∷ (d.now, D.document d_value) ∷ (e.now, E.document e_value)
+        ∷ (f.now, F.document f_value) ∷ (g.now, G.document g_value) ∷ (h.now, H.document h_value)
+        ∷ []))) u → u ≡ rest parser.new) }
+    ensures none { IfErr result (λ fault. fault ≡ Fault.NotText → (a_value : A) (b_value : B)
+        (c_value : C) (d_value : D) (e_value : E) (f_value : F) (g_value : G) (h_value : H)
+        (u : List ℕ) → A.is_value a_value → B.is_value b_value → C.is_value c_value
+        → D.is_value d_value → E.is_value e_value → F.is_value f_value → G.is_value g_value
+        → H.is_value h_value → ¬ IsNext M.mode parser.old (struct_of name.now (fields_of
+        ((a.now, A.document a_value) ∷ (b.now, B.document b_value) ∷ (c.now, C.document c_value)
+        ∷ (d.now, D.document d_value) ∷ (e.now, E.document e_value) ∷ (f.now, F.document f_value)
+        ∷ (g.now, G.document g_value) ∷ (h.now, H.document h_value) ∷ []))) u) }
+    ensures blocks { IfOk result (λ _. open_blocks parser.new ≡ open_blocks parser.old) }
+    ensures shrinks { length (rest parser.new) ≤ length (rest parser.old) }
+{
+    match parse_struct_row(alloc, parser, name, &[a, b, c, d, e, f, g, h]) {
+        Err(fault) => Err(fault),
+        Ok(
+            (
+                a_value,
+                (b_value, (c_value, (d_value, (e_value, (f_value, (g_value, (h_value, ()))))))),
+            ),
+        ) => Ok((
+            a_value, b_value, c_value, d_value, e_value, f_value, g_value, h_value,
+        )),
+    }
+}
+
+/// Takes a struct with 9 fields, as `parse_from` does a value.
+pub fn parse_struct_9<
+    Alloc: Copy,
+    A: uParse<Alloc>,
+    B: uParse<Alloc>,
+    C: uParse<Alloc>,
+    D: uParse<Alloc>,
+    E: uParse<Alloc>,
+    F: uParse<Alloc>,
+    G: uParse<Alloc>,
+    H: uParse<Alloc>,
+    I: uParse<Alloc>,
+    M: ParseMode,
+>(
+    alloc: Alloc,
+    parser: &mut Parser<'_, M>,
+    name: &str,
+    a: &str,
+    b: &str,
+    c: &str,
+    d: &str,
+    e: &str,
+    f: &str,
+    g: &str,
+    h: &str,
+    i: &str,
+) -> Result<(A, B, C, D, E, F, G, H, I), Fault>
+    requires { AreWords (name.now ∷ a.now ∷ b.now ∷ c.now ∷ d.now ∷ e.now ∷ f.now ∷ g.now ∷ h.now ∷ i.now ∷ []) }
+    ensures taken { IfOk result (λ v. IsTaken M.mode parser.old (struct_of name.now (fields_of
+        ((a.now, A.document v.0) ∷ (b.now, B.document v.1) ∷ (c.now, C.document v.2)
+        ∷ (d.now, D.document v.3) ∷ (e.now, E.document v.4) ∷ (f.now, F.document v.5)
+        ∷ (g.now, G.document v.6) ∷ (h.now, H.document v.7) ∷ (i.now, I.document v.8) ∷ [])))
+        parser.new) }
+    ensures only { IfOk result (λ _. (a_value : A) (b_value : B) (c_value : C) (d_value : D)
+        (e_value : E) (f_value : F) (g_value : G) (h_value : H) (i_value : I) (u : List ℕ)
+        → A.is_value a_value → B.is_value b_value → C.is_value c_value → D.is_value d_value
+        → E.is_value e_value → F.is_value f_value → G.is_value g_value → H.is_value h_value
+        → I.is_value i_value → IsNext M.mode parser.old (struct_of name.now (fields_of
+        ((a.now, A.document a_value) ∷ (b.now, B.document b_value) ∷ (c.now, C.document c_value)
+        ∷ (d.now, D.document d_value) ∷ (e.now, E.document e_value) ∷ (f.now, F.document f_value)
+        ∷ (g.now, G.document g_value) ∷ (h.now, H.document h_value) ∷ (i.now, I.document i_value)
+        ∷ []))) u → u ≡ rest parser.new) }
+    ensures none { IfErr result (λ fault. fault ≡ Fault.NotText → (a_value : A) (b_value : B)
+        (c_value : C) (d_value : D) (e_value : E) (f_value : F) (g_value : G) (h_value : H)
+        (i_value : I) (u : List ℕ) → A.is_value a_value → B.is_value b_value → C.is_value c_value
+        → D.is_value d_value → E.is_value e_value → F.is_value f_value → G.is_value g_value
+        → H.is_value h_value → I.is_value i_value → ¬ IsNext M.mode parser.old
+        (struct_of name.now (fields_of ((a.now, A.document a_value) ∷ (b.now, B.document b_value)
+        ∷ (c.now, C.document c_value) ∷ (d.now, D.document d_value) ∷ (e.now, E.document e_value)
+        ∷ (f.now, F.document f_value) ∷ (g.now, G.document g_value) ∷ (h.now, H.document h_value)
+        ∷ (i.now, I.document i_value) ∷ []))) u) }
+    ensures blocks { IfOk result (λ _. open_blocks parser.new ≡ open_blocks parser.old) }
+    ensures shrinks { length (rest parser.new) ≤ length (rest parser.old) }
+{
+    match parse_struct_row(alloc, parser, name, &[a, b, c, d, e, f, g, h, i]) {
+        Err(fault) => Err(fault),
+        Ok(
+            (
+                a_value,
+                (
+                    b_value,
+                    (c_value, (d_value, (e_value, (f_value, (g_value, (h_value, (i_value, ()))))))),
+                ),
+            ),
+        ) => Ok((
+            a_value, b_value, c_value, d_value, e_value, f_value, g_value, h_value, i_value,
+        )),
+    }
+}
+
+/// Takes a struct with 10 fields, as `parse_from` does a value.
+pub fn parse_struct_10<
+    Alloc: Copy,
+    A: uParse<Alloc>,
+    B: uParse<Alloc>,
+    C: uParse<Alloc>,
+    D: uParse<Alloc>,
+    E: uParse<Alloc>,
+    F: uParse<Alloc>,
+    G: uParse<Alloc>,
+    H: uParse<Alloc>,
+    I: uParse<Alloc>,
+    J: uParse<Alloc>,
+    M: ParseMode,
+>(
+    alloc: Alloc,
+    parser: &mut Parser<'_, M>,
+    name: &str,
+    a: &str,
+    b: &str,
+    c: &str,
+    d: &str,
+    e: &str,
+    f: &str,
+    g: &str,
+    h: &str,
+    i: &str,
+    j: &str,
+) -> Result<(A, B, C, D, E, F, G, H, I, J), Fault>
+    requires { AreWords (name.now ∷ a.now ∷ b.now ∷ c.now ∷ d.now ∷ e.now ∷ f.now ∷ g.now ∷ h.now ∷ i.now ∷ j.now ∷ []) }
+    ensures taken { IfOk result (λ v. IsTaken M.mode parser.old (struct_of name.now (fields_of
+        ((a.now, A.document v.0) ∷ (b.now, B.document v.1) ∷ (c.now, C.document v.2)
+        ∷ (d.now, D.document v.3) ∷ (e.now, E.document v.4) ∷ (f.now, F.document v.5)
+        ∷ (g.now, G.document v.6) ∷ (h.now, H.document v.7) ∷ (i.now, I.document v.8)
+        ∷ (j.now, J.document v.9) ∷ []))) parser.new) }
+    ensures only { IfOk result (λ _. (a_value : A) (b_value : B) (c_value : C) (d_value : D)
+        (e_value : E) (f_value : F) (g_value : G) (h_value : H) (i_value : I) (j_value : J)
+        (u : List ℕ) → A.is_value a_value → B.is_value b_value → C.is_value c_value
+        → D.is_value d_value → E.is_value e_value → F.is_value f_value → G.is_value g_value
+        → H.is_value h_value → I.is_value i_value → J.is_value j_value → IsNext M.mode parser.old
+        (struct_of name.now (fields_of ((a.now, A.document a_value) ∷ (b.now, B.document b_value)
+        ∷ (c.now, C.document c_value) ∷ (d.now, D.document d_value) ∷ (e.now, E.document e_value)
+        ∷ (f.now, F.document f_value) ∷ (g.now, G.document g_value) ∷ (h.now, H.document h_value)
+        ∷ (i.now, I.document i_value) ∷ (j.now, J.document j_value) ∷ []))) u
+        → u ≡ rest parser.new) }
+    ensures none { IfErr result (λ fault. fault ≡ Fault.NotText → (a_value : A) (b_value : B)
+        (c_value : C) (d_value : D) (e_value : E) (f_value : F) (g_value : G) (h_value : H)
+        (i_value : I) (j_value : J) (u : List ℕ) → A.is_value a_value → B.is_value b_value
+        → C.is_value c_value → D.is_value d_value → E.is_value e_value → F.is_value f_value
+        → G.is_value g_value → H.is_value h_value → I.is_value i_value → J.is_value j_value
+        → ¬ IsNext M.mode parser.old (struct_of name.now (fields_of ((a.now, A.document a_value)
+        ∷ (b.now, B.document b_value) ∷ (c.now, C.document c_value) ∷ (d.now, D.document d_value)
+        ∷ (e.now, E.document e_value) ∷ (f.now, F.document f_value) ∷ (g.now, G.document g_value)
+        ∷ (h.now, H.document h_value) ∷ (i.now, I.document i_value) ∷ (j.now, J.document j_value)
+        ∷ []))) u) }
+    ensures blocks { IfOk result (λ _. open_blocks parser.new ≡ open_blocks parser.old) }
+    ensures shrinks { length (rest parser.new) ≤ length (rest parser.old) }
+{
+    match parse_struct_row(alloc, parser, name, &[a, b, c, d, e, f, g, h, i, j]) {
+        Err(fault) => Err(fault),
+        Ok(
+            (
+                a_value,
+                (
+                    b_value,
+                    (
+                        c_value,
+                        (
+                            d_value,
+                            (e_value, (f_value, (g_value, (h_value, (i_value, (j_value, ())))))),
+                        ),
+                    ),
+                ),
+            ),
+        ) => Ok((
+            a_value, b_value, c_value, d_value, e_value, f_value, g_value, h_value, i_value,
+            j_value,
+        )),
+    }
+}
+
+/// Takes a struct with 11 fields, as `parse_from` does a value.
+pub fn parse_struct_11<
+    Alloc: Copy,
+    A: uParse<Alloc>,
+    B: uParse<Alloc>,
+    C: uParse<Alloc>,
+    D: uParse<Alloc>,
+    E: uParse<Alloc>,
+    F: uParse<Alloc>,
+    G: uParse<Alloc>,
+    H: uParse<Alloc>,
+    I: uParse<Alloc>,
+    J: uParse<Alloc>,
+    K: uParse<Alloc>,
+    M: ParseMode,
+>(
+    alloc: Alloc,
+    parser: &mut Parser<'_, M>,
+    name: &str,
+    a: &str,
+    b: &str,
+    c: &str,
+    d: &str,
+    e: &str,
+    f: &str,
+    g: &str,
+    h: &str,
+    i: &str,
+    j: &str,
+    k: &str,
+) -> Result<(A, B, C, D, E, F, G, H, I, J, K), Fault>
+    requires { AreWords (name.now ∷ a.now ∷ b.now ∷ c.now ∷ d.now ∷ e.now ∷ f.now ∷ g.now ∷ h.now ∷ i.now ∷ j.now ∷ k.now ∷ []) }
+    ensures taken { IfOk result (λ v. IsTaken M.mode parser.old (struct_of name.now (fields_of
+        ((a.now, A.document v.0) ∷ (b.now, B.document v.1) ∷ (c.now, C.document v.2)
+        ∷ (d.now, D.document v.3) ∷ (e.now, E.document v.4) ∷ (f.now, F.document v.5)
+        ∷ (g.now, G.document v.6) ∷ (h.now, H.document v.7) ∷ (i.now, I.document v.8)
+        ∷ (j.now, J.document v.9) ∷ (k.now, K.document v.10) ∷ []))) parser.new) }
+    ensures only { IfOk result (λ _. (a_value : A) (b_value : B) (c_value : C) (d_value : D)
+        (e_value : E) (f_value : F) (g_value : G) (h_value : H) (i_value : I) (j_value : J)
+        (k_value : K) (u : List ℕ) → A.is_value a_value → B.is_value b_value → C.is_value c_value
+        → D.is_value d_value → E.is_value e_value → F.is_value f_value → G.is_value g_value
+        → H.is_value h_value → I.is_value i_value → J.is_value j_value → K.is_value k_value
+        → IsNext M.mode parser.old (struct_of name.now (fields_of ((a.now, A.document a_value)
+        ∷ (b.now, B.document b_value) ∷ (c.now, C.document c_value) ∷ (d.now, D.document d_value)
+        ∷ (e.now, E.document e_value) ∷ (f.now, F.document f_value) ∷ (g.now, G.document g_value)
+        ∷ (h.now, H.document h_value) ∷ (i.now, I.document i_value) ∷ (j.now, J.document j_value)
+        ∷ (k.now, K.document k_value) ∷ []))) u → u ≡ rest parser.new) }
+    ensures none { IfErr result (λ fault. fault ≡ Fault.NotText → (a_value : A) (b_value : B)
+        (c_value : C) (d_value : D) (e_value : E) (f_value : F) (g_value : G) (h_value : H)
+        (i_value : I) (j_value : J) (k_value : K) (u : List ℕ) → A.is_value a_value
+        → B.is_value b_value → C.is_value c_value → D.is_value d_value → E.is_value e_value
+        → F.is_value f_value → G.is_value g_value → H.is_value h_value → I.is_value i_value
+        → J.is_value j_value → K.is_value k_value → ¬ IsNext M.mode parser.old
+        (struct_of name.now (fields_of ((a.now, A.document a_value) ∷ (b.now, B.document b_value)
+        ∷ (c.now, C.document c_value) ∷ (d.now, D.document d_value) ∷ (e.now, E.document e_value)
+        ∷ (f.now, F.document f_value) ∷ (g.now, G.document g_value) ∷ (h.now, H.document h_value)
+        ∷ (i.now, I.document i_value) ∷ (j.now, J.document j_value) ∷ (k.now, K.document k_value)
+        ∷ []))) u) }
+    ensures blocks { IfOk result (λ _. open_blocks parser.new ≡ open_blocks parser.old) }
+    ensures shrinks { length (rest parser.new) ≤ length (rest parser.old) }
+{
+    match parse_struct_row(alloc, parser, name, &[a, b, c, d, e, f, g, h, i, j, k]) {
+        Err(fault) => Err(fault),
+        Ok(
+            (
+                a_value,
+                (
+                    b_value,
+                    (
+                        c_value,
+                        (
+                            d_value,
+                            (
+                                e_value,
+                                (
+                                    f_value,
+                                    (g_value, (h_value, (i_value, (j_value, (k_value, ()))))),
+                                ),
+                            ),
+                        ),
+                    ),
+                ),
+            ),
+        ) => Ok((
+            a_value, b_value, c_value, d_value, e_value, f_value, g_value, h_value, i_value,
+            j_value, k_value,
+        )),
+    }
+}
+
+/// Takes a struct with 12 fields, as `parse_from` does a value.
+pub fn parse_struct_12<
+    Alloc: Copy,
+    A: uParse<Alloc>,
+    B: uParse<Alloc>,
+    C: uParse<Alloc>,
+    D: uParse<Alloc>,
+    E: uParse<Alloc>,
+    F: uParse<Alloc>,
+    G: uParse<Alloc>,
+    H: uParse<Alloc>,
+    I: uParse<Alloc>,
+    J: uParse<Alloc>,
+    K: uParse<Alloc>,
+    L: uParse<Alloc>,
+    M: ParseMode,
+>(
+    alloc: Alloc,
+    parser: &mut Parser<'_, M>,
+    name: &str,
+    a: &str,
+    b: &str,
+    c: &str,
+    d: &str,
+    e: &str,
+    f: &str,
+    g: &str,
+    h: &str,
+    i: &str,
+    j: &str,
+    k: &str,
+    l: &str,
+) -> Result<(A, B, C, D, E, F, G, H, I, J, K, L), Fault>
+    requires { AreWords (name.now ∷ a.now ∷ b.now ∷ c.now ∷ d.now ∷ e.now ∷ f.now ∷ g.now ∷ h.now ∷ i.now ∷ j.now ∷ k.now ∷ l.now ∷ []) }
+    ensures taken { IfOk result (λ v. IsTaken M.mode parser.old (struct_of name.now (fields_of
+        ((a.now, A.document v.0) ∷ (b.now, B.document v.1) ∷ (c.now, C.document v.2)
+        ∷ (d.now, D.document v.3) ∷ (e.now, E.document v.4) ∷ (f.now, F.document v.5)
+        ∷ (g.now, G.document v.6) ∷ (h.now, H.document v.7) ∷ (i.now, I.document v.8)
+        ∷ (j.now, J.document v.9) ∷ (k.now, K.document v.10) ∷ (l.now, L.document v.11) ∷ [])))
+        parser.new) }
+    ensures only { IfOk result (λ _. (a_value : A) (b_value : B) (c_value : C) (d_value : D)
+        (e_value : E) (f_value : F) (g_value : G) (h_value : H) (i_value : I) (j_value : J)
+        (k_value : K) (l_value : L) (u : List ℕ) → A.is_value a_value → B.is_value b_value
+        → C.is_value c_value → D.is_value d_value → E.is_value e_value → F.is_value f_value
+        → G.is_value g_value → H.is_value h_value → I.is_value i_value → J.is_value j_value
+        → K.is_value k_value → L.is_value l_value → IsNext M.mode parser.old
+        (struct_of name.now (fields_of ((a.now, A.document a_value) ∷ (b.now, B.document b_value)
+        ∷ (c.now, C.document c_value) ∷ (d.now, D.document d_value) ∷ (e.now, E.document e_value)
+        ∷ (f.now, F.document f_value) ∷ (g.now, G.document g_value) ∷ (h.now, H.document h_value)
+        ∷ (i.now, I.document i_value) ∷ (j.now, J.document j_value) ∷ (k.now, K.document k_value)
+        ∷ (l.now, L.document l_value) ∷ []))) u → u ≡ rest parser.new) }
+    ensures none { IfErr result (λ fault. fault ≡ Fault.NotText → (a_value : A) (b_value : B)
+        (c_value : C) (d_value : D) (e_value : E) (f_value : F) (g_value : G) (h_value : H)
+        (i_value : I) (j_value : J) (k_value : K) (l_value : L) (u : List ℕ) → A.is_value a_value
+        → B.is_value b_value → C.is_value c_value → D.is_value d_value → E.is_value e_value
+        → F.is_value f_value → G.is_value g_value → H.is_value h_value → I.is_value i_value
+        → J.is_value j_value → K.is_value k_value → L.is_value l_value → ¬ IsNext M.mode parser.old
+        (struct_of name.now (fields_of ((a.now, A.document a_value) ∷ (b.now, B.document b_value)
+        ∷ (c.now, C.document c_value) ∷ (d.now, D.document d_value) ∷ (e.now, E.document e_value)
+        ∷ (f.now, F.document f_value) ∷ (g.now, G.document g_value) ∷ (h.now, H.document h_value)
+        ∷ (i.now, I.document i_value) ∷ (j.now, J.document j_value) ∷ (k.now, K.document k_value)
+        ∷ (l.now, L.document l_value) ∷ []))) u) }
+    ensures blocks { IfOk result (λ _. open_blocks parser.new ≡ open_blocks parser.old) }
+    ensures shrinks { length (rest parser.new) ≤ length (rest parser.old) }
+{
+    match parse_struct_row(alloc, parser, name, &[a, b, c, d, e, f, g, h, i, j, k, l]) {
+        Err(fault) => Err(fault),
+        Ok(
+            (
+                a_value,
+                (
+                    b_value,
+                    (
+                        c_value,
+                        (
+                            d_value,
+                            (
+                                e_value,
+                                (
+                                    f_value,
+                                    (
+                                        g_value,
+                                        (h_value, (i_value, (j_value, (k_value, (l_value, ()))))),
+                                    ),
+                                ),
+                            ),
+                        ),
+                    ),
+                ),
+            ),
+        ) => Ok((
+            a_value, b_value, c_value, d_value, e_value, f_value, g_value, h_value, i_value,
+            j_value, k_value, l_value,
         )),
     }
 }

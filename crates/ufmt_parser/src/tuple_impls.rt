@@ -1,9 +1,10 @@
-//! Tuples of one to 6. tools/write-by-count writes this file: change it there.
+//! Tuples of one to 12. tools/write-by-count writes this file: change it there.
 use crate::from_front::uParse;
 use crate::mode::ParseMode;
 use crate::parser::{Fault, Parser};
 use crate::tuples::{
     parse_tuple_1, parse_tuple_2, parse_tuple_3, parse_tuple_4, parse_tuple_5, parse_tuple_6,
+    parse_tuple_7, parse_tuple_8, parse_tuple_9, parse_tuple_10, parse_tuple_11, parse_tuple_12,
 };
 
 impl<Alloc: Copy, A: uParse<Alloc>> uParse<Alloc> for (A,) {
@@ -135,6 +136,234 @@ impl<
         parser: &mut Parser<'_, M>,
     ) -> Result<(A, B, C, D, E, F), Fault> {
         match parse_tuple_6(alloc, parser, "") {
+            Err(fault) => Err(fault),
+            Ok(parsed) => Ok(parsed),
+        }
+    }
+}
+
+impl<
+    Alloc: Copy,
+    A: uParse<Alloc>,
+    B: uParse<Alloc>,
+    C: uParse<Alloc>,
+    D: uParse<Alloc>,
+    E: uParse<Alloc>,
+    F: uParse<Alloc>,
+    G: uParse<Alloc>,
+> uParse<Alloc> for (A, B, C, D, E, F, G) {
+    ghost is_value = { λ t. A.is_value t.0 × B.is_value t.1 × C.is_value t.2 × D.is_value t.3 × E.is_value t.4 × F.is_value t.5 × G.is_value t.6 };
+
+    fn prove_value(&self) {
+        self.0.prove_value();
+        self.1.prove_value();
+        self.2.prove_value();
+        self.3.prove_value();
+        self.4.prove_value();
+        self.5.prove_value();
+        self.6.prove_value();
+    }
+
+    fn parse_from<M: ParseMode>(
+        alloc: Alloc,
+        parser: &mut Parser<'_, M>,
+    ) -> Result<(A, B, C, D, E, F, G), Fault> {
+        match parse_tuple_7(alloc, parser, "") {
+            Err(fault) => Err(fault),
+            Ok(parsed) => Ok(parsed),
+        }
+    }
+}
+
+impl<
+    Alloc: Copy,
+    A: uParse<Alloc>,
+    B: uParse<Alloc>,
+    C: uParse<Alloc>,
+    D: uParse<Alloc>,
+    E: uParse<Alloc>,
+    F: uParse<Alloc>,
+    G: uParse<Alloc>,
+    H: uParse<Alloc>,
+> uParse<Alloc> for (A, B, C, D, E, F, G, H) {
+    ghost is_value = { λ t. A.is_value t.0 × B.is_value t.1 × C.is_value t.2 × D.is_value t.3 × E.is_value t.4 × F.is_value t.5 × G.is_value t.6 × H.is_value t.7 };
+
+    fn prove_value(&self) {
+        self.0.prove_value();
+        self.1.prove_value();
+        self.2.prove_value();
+        self.3.prove_value();
+        self.4.prove_value();
+        self.5.prove_value();
+        self.6.prove_value();
+        self.7.prove_value();
+    }
+
+    fn parse_from<M: ParseMode>(
+        alloc: Alloc,
+        parser: &mut Parser<'_, M>,
+    ) -> Result<(A, B, C, D, E, F, G, H), Fault> {
+        match parse_tuple_8(alloc, parser, "") {
+            Err(fault) => Err(fault),
+            Ok(parsed) => Ok(parsed),
+        }
+    }
+}
+
+impl<
+    Alloc: Copy,
+    A: uParse<Alloc>,
+    B: uParse<Alloc>,
+    C: uParse<Alloc>,
+    D: uParse<Alloc>,
+    E: uParse<Alloc>,
+    F: uParse<Alloc>,
+    G: uParse<Alloc>,
+    H: uParse<Alloc>,
+    I: uParse<Alloc>,
+> uParse<Alloc> for (A, B, C, D, E, F, G, H, I) {
+    ghost is_value = { λ t. A.is_value t.0 × B.is_value t.1 × C.is_value t.2 × D.is_value t.3 × E.is_value t.4 × F.is_value t.5 × G.is_value t.6 × H.is_value t.7 × I.is_value t.8 };
+
+    fn prove_value(&self) {
+        self.0.prove_value();
+        self.1.prove_value();
+        self.2.prove_value();
+        self.3.prove_value();
+        self.4.prove_value();
+        self.5.prove_value();
+        self.6.prove_value();
+        self.7.prove_value();
+        self.8.prove_value();
+    }
+
+    fn parse_from<M: ParseMode>(
+        alloc: Alloc,
+        parser: &mut Parser<'_, M>,
+    ) -> Result<(A, B, C, D, E, F, G, H, I), Fault> {
+        match parse_tuple_9(alloc, parser, "") {
+            Err(fault) => Err(fault),
+            Ok(parsed) => Ok(parsed),
+        }
+    }
+}
+
+impl<
+    Alloc: Copy,
+    A: uParse<Alloc>,
+    B: uParse<Alloc>,
+    C: uParse<Alloc>,
+    D: uParse<Alloc>,
+    E: uParse<Alloc>,
+    F: uParse<Alloc>,
+    G: uParse<Alloc>,
+    H: uParse<Alloc>,
+    I: uParse<Alloc>,
+    J: uParse<Alloc>,
+> uParse<Alloc> for (A, B, C, D, E, F, G, H, I, J) {
+    ghost is_value = { λ t. A.is_value t.0 × B.is_value t.1 × C.is_value t.2 × D.is_value t.3 × E.is_value t.4 × F.is_value t.5 × G.is_value t.6 × H.is_value t.7 × I.is_value t.8 × J.is_value t.9 };
+
+    fn prove_value(&self) {
+        self.0.prove_value();
+        self.1.prove_value();
+        self.2.prove_value();
+        self.3.prove_value();
+        self.4.prove_value();
+        self.5.prove_value();
+        self.6.prove_value();
+        self.7.prove_value();
+        self.8.prove_value();
+        self.9.prove_value();
+    }
+
+    fn parse_from<M: ParseMode>(
+        alloc: Alloc,
+        parser: &mut Parser<'_, M>,
+    ) -> Result<(A, B, C, D, E, F, G, H, I, J), Fault> {
+        match parse_tuple_10(alloc, parser, "") {
+            Err(fault) => Err(fault),
+            Ok(parsed) => Ok(parsed),
+        }
+    }
+}
+
+impl<
+    Alloc: Copy,
+    A: uParse<Alloc>,
+    B: uParse<Alloc>,
+    C: uParse<Alloc>,
+    D: uParse<Alloc>,
+    E: uParse<Alloc>,
+    F: uParse<Alloc>,
+    G: uParse<Alloc>,
+    H: uParse<Alloc>,
+    I: uParse<Alloc>,
+    J: uParse<Alloc>,
+    K: uParse<Alloc>,
+> uParse<Alloc> for (A, B, C, D, E, F, G, H, I, J, K) {
+    ghost is_value = { λ t. A.is_value t.0 × B.is_value t.1 × C.is_value t.2 × D.is_value t.3 × E.is_value t.4 × F.is_value t.5 × G.is_value t.6 × H.is_value t.7 × I.is_value t.8 × J.is_value t.9 × K.is_value t.10 };
+
+    fn prove_value(&self) {
+        self.0.prove_value();
+        self.1.prove_value();
+        self.2.prove_value();
+        self.3.prove_value();
+        self.4.prove_value();
+        self.5.prove_value();
+        self.6.prove_value();
+        self.7.prove_value();
+        self.8.prove_value();
+        self.9.prove_value();
+        self.10.prove_value();
+    }
+
+    fn parse_from<M: ParseMode>(
+        alloc: Alloc,
+        parser: &mut Parser<'_, M>,
+    ) -> Result<(A, B, C, D, E, F, G, H, I, J, K), Fault> {
+        match parse_tuple_11(alloc, parser, "") {
+            Err(fault) => Err(fault),
+            Ok(parsed) => Ok(parsed),
+        }
+    }
+}
+
+impl<
+    Alloc: Copy,
+    A: uParse<Alloc>,
+    B: uParse<Alloc>,
+    C: uParse<Alloc>,
+    D: uParse<Alloc>,
+    E: uParse<Alloc>,
+    F: uParse<Alloc>,
+    G: uParse<Alloc>,
+    H: uParse<Alloc>,
+    I: uParse<Alloc>,
+    J: uParse<Alloc>,
+    K: uParse<Alloc>,
+    L: uParse<Alloc>,
+> uParse<Alloc> for (A, B, C, D, E, F, G, H, I, J, K, L) {
+    ghost is_value = { λ t. A.is_value t.0 × B.is_value t.1 × C.is_value t.2 × D.is_value t.3 × E.is_value t.4 × F.is_value t.5 × G.is_value t.6 × H.is_value t.7 × I.is_value t.8 × J.is_value t.9 × K.is_value t.10 × L.is_value t.11 };
+
+    fn prove_value(&self) {
+        self.0.prove_value();
+        self.1.prove_value();
+        self.2.prove_value();
+        self.3.prove_value();
+        self.4.prove_value();
+        self.5.prove_value();
+        self.6.prove_value();
+        self.7.prove_value();
+        self.8.prove_value();
+        self.9.prove_value();
+        self.10.prove_value();
+        self.11.prove_value();
+    }
+
+    fn parse_from<M: ParseMode>(
+        alloc: Alloc,
+        parser: &mut Parser<'_, M>,
+    ) -> Result<(A, B, C, D, E, F, G, H, I, J, K, L), Fault> {
+        match parse_tuple_12(alloc, parser, "") {
             Err(fault) => Err(fault),
             Ok(parsed) => Ok(parsed),
         }

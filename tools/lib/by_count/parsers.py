@@ -1,7 +1,6 @@
 """The files of ufmt_parser with one call for each number of fields, and their answers."""
 
-# A chain of twelve takes the check ten minutes, so far.
-MOST = 6
+MOST = 12
 TYPES = "ABCDEFGHIJKL"
 WRITTEN = "tools/write-by-count writes this file: change it there."
 
@@ -26,6 +25,14 @@ def wrapped(parts, indent):
             lines.append(line)
             line = " " * (indent + 4) + part
     return "\n".join(lines + [line])
+
+
+def chain_of(items):
+    """These in a chain, as rows of fields have it."""
+    chain = "()"
+    for item in reversed(items):
+        chain = f"({item}, {chain})"
+    return chain
 
 
 class Block:
@@ -68,15 +75,10 @@ class Block:
         if self.name == "struct":
             inputs += [f"{letter}: &str" for letter in fields]
             asked = f"requires {{ AreWords ({in_a_row(['name.now'] + [f'{letter}.now' for letter in fields])}) }}"
-            chain = lambda letter: f"Named({letter}, Plain)"
-            kind = "Kind::Struct"
+            row = f"parse_struct_row(alloc, parser, name, &[{', '.join(fields)}])"
         else:
             asked = "requires { IsWordOrEmpty name.now }"
-            chain = lambda letter: "Value(Plain)"
-            kind = "Kind::tuple(name)"
-        parsers, row = "()", "()"
-        for letter in reversed(fields):
-            parsers, row = f"({chain(letter)}, {parsers})", f"({letter}_value, {row})"
+            row = "parse_tuple_row(alloc, parser, name)"
         values = [f"{letter}_value" for letter in fields]
         result = TYPES[0] if count == 1 else "(" + ", ".join(TYPES[:count]) + ")"
         made = values[0] if count == 1 else "(" + ", ".join(values) + ")"
@@ -89,17 +91,15 @@ pub fn parse_{self.name}_{count}<Alloc: Copy, {types}, M: ParseMode>({", ".join(
     ensures blocks {{ IfOk result (λ _. open_blocks parser.new ≡ open_blocks parser.old) }}
     ensures shrinks {{ length (rest parser.new) ≤ length (rest parser.old) }}
 {{
-    let fields = {parsers};
-    match parse_block(alloc, parser, {kind}, name, &fields) {{
+    match {row} {{
         Err(fault) => Err(fault),
-        Ok({row}) => Ok({made}),
+        Ok({chain_of(values)}) => Ok({made}),
     }}
 }}
 """
 
     def file(self):
         """The file with a call for each number of fields."""
-        entry = "Named" if self.name == "struct" else "Value"
         words = "AreWords, " if self.name == "struct" else ""
         leaves = "" if self.name == "struct" else "ghost use Rattle.ufmt.specs.Leaves.{IsWordOrEmpty};\n"
         calls = "".join(self.call(count) for count in range(1, MOST + 1))
@@ -108,61 +108,29 @@ ghost use Rattle.std.specs.Prelude.{{◌≤◌, length, [], ◌∷◌, ◌≡◌
 ghost use Rattle.ufmt.specs.Document.{{{self.row}, {self.document}}};
 {leaves}ghost use Rattle.ufmt_parser.specs.Taking.{{{words}IsNext, IsTaken, open_blocks, rest}};
 
-use crate::entries::{entry};
-use crate::fields::parse_block;
-use crate::from_front::{{Plain, uParse}};
+use crate::from_front::uParse;
 use crate::mode::ParseMode;
 use crate::parser::{{Fault, Parser}};
-use ufmt::layout::Kind;
+use crate::rows::parse_{self.name}_row;
 {calls}"""
 
-    def built(self, place):
-        """Where `IsNext` says that the field's document is built as those of the class are."""
-        if self.name == "struct":
-            return "next.0.0.1" + ".2" * place + ".1"
-        return "next.0.0.1" if place == 0 else "next.0.0.2" + ".1" * (place - 1) + ".0"
-
     def answers(self, count):
-        """The answers of the call for that many fields."""
+        """The answers of the call for that many fields: what the call of the row says, of the values in a chain."""
         fields = letters(count)
-        fit, chain, taken = "tt", "tt", "tt"
-        for place in reversed(range(count)):
-            letter = fields[place]
-            fit = f"((is_{letter}, ({self.built(place)}, omega (arith, next.0.1))), {fit})"
-            chain = f"({letter}_value, {chain})"
-            at = "takes.1.0" + ".1" * place + ".0.1.0"
-            if self.name == "struct":
-                taken = f"(word_is_name _ c.requires.1{'.1' * place}.0, {at}, {taken})"
-            elif place > 0:
-                taken = f"({at}, {taken})"
-            else:
-                taken = f"{at}, {taken}"
-        nests = ", ".join("takes.1.0" + ".1" * place + ".0.1.1" for place in range(count)) + ", takes.1.1"
-        name = "word_is_name _ c.requires.0" if self.name == "struct" else "word_is_tuple_name c.args.name.now c.requires"
         binders = " ".join([f"{letter}_value" for letter in fields] + ["u"] + [f"is_{letter}" for letter in fields] + ["next"])
-        of_kind = (lambda takes: takes) if self.name == "struct" else (lambda takes: f"(rw c.tuple.ensures at {takes})")
-        words = "word_is_name" if self.name == "struct" else "word_is_tuple_name"
+        row = chain_of([f"{letter}_value" for letter in fields]).replace("()", "tt")
+        are = chain_of([f"is_{letter}" for letter in fields]).replace("()", "tt")
         where = f"Rattle.ufmt_parser.proofs.{self.name}s.parse_{self.name}_{count}.Goals"
-        return f"""-- tools/write-by-count writes this file: change it there.
-use Rattle.std.proofs.Common.{{arith}}
-use Rattle.ufmt_parser.proofs.Clauses.{{refused}}
-use Rattle.ufmt_parser.proofs.Words.{{{words}}}
+        return f"""-- {WRITTEN}
 use {where} as goal
 
 pub returns-in-Err-clause-none : goal.returns-in-Err-clause-none
 returns-in-Err-clause-none g c = λ is_not {binders}.
-    refused c.in-Err.fault {of_kind("c.in-Err.ensures.takes")} is_not {chain} u
-    ({fit}, omega (arith, next.0.1)) next.1 next.2
-
-pub returns-in-Ok-clause-taken : goal.returns-in-Ok-clause-taken
-returns-in-Ok-clause-taken g c =
-    let takes = {of_kind("c.in-Ok.ensures.takes")}.cases in
-    (takes.0, (({name}, {taken}), omega (arith, {nests})))
+    c.in-Err.ensures.none is_not {row} u {are} next
 
 pub returns-in-Ok-clause-only : goal.returns-in-Ok-clause-only
 returns-in-Ok-clause-only g c = λ {binders}.
-    {of_kind("c.in-Ok.ensures.takes")}.cases.2 {chain} u
-    ({fit}, omega (arith, next.0.1)) next.1 next.2
+    c.in-Ok.ensures.only {row} u {are} next
 """
 
 
