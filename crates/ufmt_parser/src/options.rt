@@ -1,5 +1,5 @@
-//! Options.
-ghost use Rattle.std.specs.Prelude.{IfSome};
+//! Options and results.
+ghost use Rattle.std.specs.Prelude.{IfSome, Ok, Err};
 
 use crate::from_front::uParse;
 use crate::mode::ParseMode;
@@ -22,6 +22,33 @@ impl<A: Copy, T: uParse<A>> uParse<A> for Option<T> {
         }
         match parse_tuple_1(alloc, parser, "Some") {
             Ok(value) => Ok(Some(value)),
+            Err(fault) => Err(fault),
+        }
+    }
+}
+
+impl<A: Copy, T: uParse<A>, E: uParse<A>> uParse<A> for Result<T, E> {
+    ghost is_value = { elim [ Ok value ↦ T.is_value value | Err error ↦ E.is_value error ] };
+
+    fn prove_value(&self) {
+        match self {
+            Ok(value) => value.prove_value(),
+            Err(error) => error.prove_value(),
+        }
+    }
+
+    fn parse_from<M: ParseMode>(
+        alloc: A,
+        parser: &mut Parser<'_, M>,
+    ) -> Result<Result<T, E>, Fault> {
+        if parser.is_named("Ok") {
+            return match parse_tuple_1(alloc, parser, "Ok") {
+                Ok(value) => Ok(Ok(value)),
+                Err(fault) => Err(fault),
+            };
+        }
+        match parse_tuple_1(alloc, parser, "Err") {
+            Ok(error) => Ok(Err(error)),
             Err(fault) => Err(fault),
         }
     }

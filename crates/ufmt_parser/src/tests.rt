@@ -4,6 +4,7 @@ ghost use Rattle.ufmt.specs.ValueDocuments.{named_struct, named_tuple};
 
 mod command;
 mod values;
+mod variants;
 
 use crate::ParseError::NotText;
 use crate::{Fault, ParseError, ParseMode, Parser, parse, parse_fields, parse_pretty, uParse};
