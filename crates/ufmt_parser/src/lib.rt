@@ -16,8 +16,10 @@ mod mode;
 mod numbers;
 mod options;
 mod parser;
+mod place;
 mod primitives;
 mod quoted;
+mod round_trips;
 mod sorted;
 mod strip;
 mod structs;
@@ -32,6 +34,8 @@ pub use from_front::{ParsesBy, Plain, uParse};
 pub use keys::ParseKey;
 pub use mode::{ParseMode, PlainText, PrettyText};
 pub use parser::{Fault, Parser};
+pub use place::line_and_column;
+pub use round_trips::{round_trip, round_trip_in};
 pub use structs::{
     parse_struct_1, parse_struct_2, parse_struct_3, parse_struct_4, parse_struct_5, parse_struct_6,
 };
