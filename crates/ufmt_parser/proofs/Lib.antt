@@ -13,6 +13,7 @@ pub mod ListedValues
 pub mod NumberKeys
 pub mod OneWay
 pub mod Parts
+pub mod Places
 pub mod QuotedTaken
 pub mod Reductions
 pub mod Settings
