@@ -5,8 +5,9 @@ ghost use Rattle.ufmt.specs.Layout.{plain_text};
 ghost use Rattle.ufmt.specs.Token.{IsDebugDocument, normal};
 ghost use Rattle.ufmt_parser.specs.RoundTrip.{printed};
 
+use crate::error::ParseError;
 use crate::from_front::uParse;
-use crate::text::{ParseError, parse};
+use crate::text::parse;
 use std::alloc::Global;
 use ufmt::{debug_into, plain_text};
 

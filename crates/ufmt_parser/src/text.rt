@@ -4,19 +4,10 @@ ghost use Rattle.ufmt.specs.Document.{Document};
 ghost use Rattle.ufmt.specs.Layout.{layout, plain_text, pretty_text, setting};
 ghost use Rattle.ufmt.specs.Token.{IsDebugDocument, normal};
 
+use crate::error::ParseError;
 use crate::from_front::uParse;
 use crate::mode::{ParseMode, PlainText, PrettyText};
 use crate::parser::{Fault, Parser};
-
-/// Why a text isn't parsed.
-#[derive(Clone, Copy, PartialEq, Eq, Debug, Drop)]
-pub enum ParseError {
-    /// No value of the type has a debug document that prints so. So many bytes were taken before what
-    /// doesn't fit.
-    NotText { at: usize },
-    /// A growth of what the value holds was refused.
-    OutOfMemory,
-}
 
 /// Returns a value that prints as this plain text. Fails with `NotText` only if no value whose document is
 /// a debug document prints so.
