@@ -1,56 +1,41 @@
 //! Tests of how an error prints.
 use super::same;
 use crate::ParseError;
-use ufmt::{debug_into, display_into, pretty_into};
+use std::alloc::Global;
+use ufmt::{plain_text, pretty_text, write_display};
+
+fn displayed(alloc: Global, error: ParseError) -> Option<String> {
+    let mut text = String::new(alloc);
+    write_display(&mut text, &error).ok()?;
+    Some(text)
+}
 
 #[test]
 fn an_error_prints_its_place(rt: HostRuntime) {
-    let error = ParseError::NotText { at: 15 };
-    let mut buffer = [0; 40];
+    let rows = [
+        (
+            ParseError::NotText { at: 15 },
+            "not a text of the type at byte 15",
+            "NotText { at: 15 }",
+        ),
+        (ParseError::OutOfMemory, "out of memory", "OutOfMemory"),
+    ];
+    for (error, display, debug) in rows {
+        let text = displayed(rt.alloc(), error);
+        same(
+            &rt,
+            text.as_ref().map(String::as_str),
+            Some(display),
+            display,
+        );
+        let text = plain_text(rt.alloc(), &error).ok();
+        same(&rt, text.as_ref().map(String::as_str), Some(debug), debug);
+    }
+    let lines = pretty_text(rt.alloc(), &ParseError::NotText { at: 15 }).ok();
     same(
         &rt,
-        display_into(&mut buffer, &error).ok(),
-        Some(33),
-        "length",
+        lines.as_ref().map(String::as_str),
+        Some("NotText {\n    at: 15,\n}"),
+        "in lines",
     );
-    same(
-        &rt,
-        &buffer[..33],
-        b"not a text of the type at byte 15",
-        "for a user",
-    );
-    same(
-        &rt,
-        debug_into(&mut buffer, &error).ok(),
-        Some(18),
-        "length",
-    );
-    same(
-        &rt,
-        &buffer[..18],
-        b"NotText { at: 15 }",
-        "for a programmer",
-    );
-    same(
-        &rt,
-        pretty_into(&mut buffer, &error).ok(),
-        Some(23),
-        "length",
-    );
-    same(&rt, &buffer[..23], b"NotText {\n    at: 15,\n}", "in lines");
-    let memory = ParseError::OutOfMemory;
-    same(
-        &rt,
-        display_into(&mut buffer, &memory).ok(),
-        Some(13),
-        "length",
-    );
-    same(&rt, &buffer[..13], b"out of memory", "for a user");
-    same(
-        &rt,
-        debug_into(&mut buffer, &memory).ok(),
-        Some(11),
-        "length",
-    );
-    same(&rt, &buffer[..11], b"OutOfMemory", "for a programmer");
 }
