@@ -15,6 +15,7 @@ pub mod NameFronts
 pub mod NumberKeys
 pub mod OneWay
 pub mod Parts
+pub mod Places
 pub mod QuotedTaken
 pub mod Reductions
 pub mod Settings

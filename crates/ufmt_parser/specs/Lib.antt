@@ -1,7 +1,9 @@
 pub mod Blocks
 pub mod Digits
-pub mod Rows
 pub mod Naming
+pub mod Places
+pub mod RoundTrip
+pub mod Rows
 pub mod Spelling
 pub mod Taking
 pub mod Values

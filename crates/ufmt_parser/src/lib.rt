@@ -6,6 +6,7 @@
 mod boxes;
 mod digits;
 mod entries;
+mod error;
 mod escapes;
 mod fields;
 mod from_front;
@@ -16,8 +17,10 @@ mod mode;
 mod numbers;
 mod options;
 mod parser;
+mod place;
 mod primitives;
 mod quoted;
+mod round_trips;
 mod rows;
 mod sorted;
 mod strip;
@@ -29,14 +32,17 @@ mod texts;
 mod tuple_impls;
 mod tuples;
 
+pub use error::ParseError;
 pub use from_front::{ParsesBy, Plain, uParse};
 pub use keys::ParseKey;
 pub use mode::{ParseMode, PlainText, PrettyText};
 pub use parser::{Fault, Parser};
+pub use place::line_and_column;
+pub use round_trips::{round_trip, round_trip_in};
 pub use structs::{
     parse_struct_1, parse_struct_2, parse_struct_3, parse_struct_4, parse_struct_5, parse_struct_6,
 };
-pub use text::{ParseError, parse, parse_pretty};
+pub use text::{parse, parse_pretty};
 pub use tuples::{
     parse_tuple_1, parse_tuple_2, parse_tuple_3, parse_tuple_4, parse_tuple_5, parse_tuple_6,
 };

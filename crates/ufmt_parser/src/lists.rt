@@ -60,10 +60,14 @@ fn parse_array<T: uParse<Global>, const N: usize, M: ParseMode>(
     ensures blocks { IfOk result (λ _. open_blocks parser.new ≡ open_blocks parser.old) }
     ensures shrinks { length (rest parser.new) ≤ length (rest parser.old) }
 {
+    let start = parser.rest();
     match parse_list(alloc, parser, &Value(Plain)) {
         Err(fault) => Err(fault),
         Ok(values) => match <[T; N]>::try_from(values) {
-            Err(_) => Err(Fault::NotText),
+            Err(_) => {
+                parser.skip_to(start);
+                Err(Fault::NotText)
+            }
             Ok(array) => Ok(array),
         },
     }

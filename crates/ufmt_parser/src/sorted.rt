@@ -51,11 +51,15 @@ fn parse_set<T: ParseKey<Global>, M: ParseMode>(
     ensures shrinks { length (rest parser.new) ≤ length (rest parser.old) }
 {
     T::prove_key();
+    let start = parser.rest();
     match parse_keys(alloc, parser, &Value(Plain)) {
         Err(fault) => Err(fault),
         Ok(keys) => match ascending_set(alloc, keys) {
             Err(_) => Err(Fault::OutOfMemory),
-            Ok(None) => Err(Fault::NotText),
+            Ok(None) => {
+                parser.skip_to(start);
+                Err(Fault::NotText)
+            }
             Ok(Some(set)) => Ok(set),
         },
     }
@@ -141,11 +145,15 @@ fn parse_map<K: ParseKey<Global>, V: uParse<Global>, M: ParseMode>(
     ensures shrinks { length (rest parser.new) ≤ length (rest parser.old) }
 {
     K::prove_key();
+    let start = parser.rest();
     match parse_pairs(alloc, parser, &Pair(Plain, Plain)) {
         Err(fault) => Err(fault),
         Ok(entries) => match ascending_map(alloc, entries) {
             Err(_) => Err(Fault::OutOfMemory),
-            Ok(None) => Err(Fault::NotText),
+            Ok(None) => {
+                parser.skip_to(start);
+                Err(Fault::NotText)
+            }
             Ok(Some(map)) => Ok(map),
         },
     }

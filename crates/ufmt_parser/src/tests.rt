@@ -3,6 +3,9 @@ ghost use Rattle.std.specs.Prelude.{[], ◌∷◌, IfSome, ⊤};
 ghost use Rattle.ufmt.specs.ValueDocuments.{named_struct, named_tuple};
 
 mod command;
+mod errors;
+mod places;
+mod round_trips;
 mod values;
 mod variants;
 

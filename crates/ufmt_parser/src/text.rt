@@ -1,22 +1,15 @@
 //! Values from whole texts.
-ghost use Rattle.std.specs.Prelude.{◌≡◌, ◌≢◌, ◌≤◌, ℕ, length, IfOk, IsErrOf};
+ghost use Rattle.std.specs.Prelude.{◌≡◌, ◌≢◌, ◌≤◌, ◌++◌, List, ℕ, length, IfOk, IsErrOf};
 ghost use Rattle.ufmt.specs.Document.{Document};
 ghost use Rattle.ufmt.specs.Layout.{layout, plain_text, pretty_text, setting};
+ghost use Rattle.ufmt.specs.Leaves.{MayFollow};
 ghost use Rattle.ufmt.specs.Token.{IsDebugDocument, normal};
+ghost use Rattle.ufmt.specs.declared.class.Class.TheVariants.{Debug};
 
+use crate::error::ParseError;
 use crate::from_front::uParse;
 use crate::mode::{ParseMode, PlainText, PrettyText};
 use crate::parser::{Fault, Parser};
-
-/// Why a text isn't parsed.
-#[derive(Clone, Copy, PartialEq, Eq, Debug, Drop)]
-pub enum ParseError {
-    /// No value of the type has a debug document that prints so. So many bytes were taken before what
-    /// doesn't fit.
-    NotText { at: usize },
-    /// A growth of what the value holds was refused.
-    OutOfMemory,
-}
 
 /// Returns a value that prints as this plain text. Fails with `NotText` only if no value whose document is
 /// a debug document prints so.
@@ -26,6 +19,9 @@ pub fn parse<T: uParse<A>, A>(alloc: A, text: &[u8]) -> Result<T, ParseError>
         → normal (T.document v) ≡ normal d) }
     ensures not_text { (at : ℕ) → IsErrOf result (ParseError.NotText at) → (v : T) → T.is_value v
         → IsDebugDocument (T.document v) → plain_text (T.document v) ≢ text.now }
+    ensures after_value { (at : ℕ) → IsErrOf result (ParseError.NotText at) → (v : T) (u : List ℕ) → T.is_value v
+        → IsDebugDocument (T.document v) → MayFollow Debug u → text.now ≡ plain_text (T.document v) ++ u
+        → at ≡ length (plain_text (T.document v)) }
     ensures within { (at : ℕ) → IsErrOf result (ParseError.NotText at) → at ≤ length text.now }
 {
     parse_whole::<T, A, PlainText>(alloc, text)
@@ -38,6 +34,9 @@ pub fn parse_pretty<T: uParse<A>, A>(alloc: A, text: &[u8]) -> Result<T, ParseEr
         → normal (T.document v) ≡ normal d) }
     ensures not_text { (at : ℕ) → IsErrOf result (ParseError.NotText at) → (v : T) → T.is_value v
         → IsDebugDocument (T.document v) → pretty_text (T.document v) ≢ text.now }
+    ensures after_value { (at : ℕ) → IsErrOf result (ParseError.NotText at) → (v : T) (u : List ℕ) → T.is_value v
+        → IsDebugDocument (T.document v) → MayFollow Debug u → text.now ≡ pretty_text (T.document v) ++ u
+        → at ≡ length (pretty_text (T.document v)) }
     ensures within { (at : ℕ) → IsErrOf result (ParseError.NotText at) → at ≤ length text.now }
 {
     parse_whole::<T, A, PrettyText>(alloc, text)
@@ -49,6 +48,9 @@ fn parse_whole<T: uParse<A>, A, M: ParseMode>(alloc: A, text: &[u8]) -> Result<T
     ensures fits { IfOk result (λ v. IsDebugDocument (T.document v)) }
     ensures not_text { (at : ℕ) → IsErrOf result (ParseError.NotText at) → (v : T) → T.is_value v
         → IsDebugDocument (T.document v) → layout (setting M.mode 0) (T.document v) ≢ text.now }
+    ensures after_value { (at : ℕ) → IsErrOf result (ParseError.NotText at) → (v : T) (u : List ℕ) → T.is_value v
+        → IsDebugDocument (T.document v) → MayFollow Debug u → text.now ≡ layout (setting M.mode 0) (T.document v) ++ u
+        → at ≡ length (layout (setting M.mode 0) (T.document v)) }
     ensures within { (at : ℕ) → IsErrOf result (ParseError.NotText at) → at ≤ length text.now }
 {
     let mut parser: Parser<'_, M> = Parser::new(text);

@@ -12,3 +12,11 @@ returns-else-len-eq0-clause-not_text g c = λ at is v holds document same.
     rw (c.new-parser.ensures.rest, c.new-parser.ensures.outermost, setting_in-none g.M.ParseMode.mode, append-nil) (sym same) in
     let none_left = c.in-Ok.ensures.only v [] holds ((document.0, omega (arith, document.1, c.new-parser.ensures.outermost)), tt, is_text) in
     absurd (omega (arith, ap length none_left, c.len.ensures, c.if-len-eq0.false))
+
+-- the value's text comes next, and `none` says that it doesn't
+pub returns-in-Err-NotText-clause-after_value : goal.returns-in-Err-NotText-clause-after_value
+returns-in-Err-NotText-clause-after_value g c = λ at is v u holds document may same.
+    let whole = c.new-parser.result in
+    let is_text : rest whole ≡ layout (setting_in g.M.ParseMode.mode (open_blocks whole)) (g.T.uDebug.document v) ++ u =
+    rw (c.new-parser.ensures.rest, c.new-parser.ensures.outermost, setting_in-none g.M.ParseMode.mode) same in
+    absurd (c.in-Err-NotText.ensures.none c.in-Err-NotText.field-0-is v u holds ((document.0, omega (arith, document.1, c.new-parser.ensures.outermost)), may, is_text))
