@@ -19,9 +19,18 @@ macro_rules! parse_fields {
             std::result::Result::Err(fault) => std::result::Result::Err(fault),
         }
     };
-    ($alloc:expr, $parser:expr, $name:ident {} $(,)?) => { $crate::parse_unit!($parser, $name, $name {}) };
-    ($alloc:expr, $parser:expr, $name:ident () $(,)?) => { $crate::parse_unit!($parser, $name, $name()) };
-    ($alloc:expr, $parser:expr, $name:ident $(,)?) => { $crate::parse_unit!($parser, $name, $name) };
+    ($alloc:expr, $parser:expr, $name:ident {} $(,)?) => {{
+        let _alloc = $alloc;
+        $crate::parse_unit!($parser, $name, $name {})
+    }};
+    ($alloc:expr, $parser:expr, $name:ident () $(,)?) => {{
+        let _alloc = $alloc;
+        $crate::parse_unit!($parser, $name, $name())
+    }};
+    ($alloc:expr, $parser:expr, $name:ident $(,)?) => {{
+        let _alloc = $alloc;
+        $crate::parse_unit!($parser, $name, $name)
+    }};
     ($($other:tt)*) => {
         compile_error!("expected an allocator, a parser and a struct: `alloc, parser, Name { x, y }`, `alloc, parser, Name(x, y)` or `alloc, parser, Name`, with at most six fields")
     };
@@ -34,9 +43,9 @@ macro_rules! parse_fields {
 #[macro_export]
 macro_rules! parse_variants {
     ($alloc:expr, $parser:expr, $name:ident { $($variants:tt)+ } $(,)?) => {{
-        let alloc = $alloc;
+        let _alloc = $alloc;
         let parser: &mut $crate::Parser<'_, _> = $parser;
-        $crate::parse_variant!([alloc, parser, $name] $($variants)+)
+        $crate::parse_variant!([_alloc, parser, $name] $($variants)+)
     }};
     ($($other:tt)*) => {
         compile_error!("expected an allocator, a parser and an enum: `alloc, parser, Name { A, B(x, y), C { x, y } }`")

@@ -6,9 +6,13 @@ ghost use Rattle.ufmt_parser.specs.declared.tests.variants.Signal.TheVariants.{A
 ghost use Rattle.ufmt_parser.specs.declared.tests.variants.Eight.TheVariants.{First, Second, Third, Fourth, Fifth, Sixth, Seventh, Eighth};
 ghost use Rattle.ufmt_parser.specs.Values.{is_u8};
 
+use super::same;
+use crate::ParseError::NotText;
+use crate::{
+    Fault, ParseError, ParseMode, Parser, parse, parse_fields, parse_pretty, parse_variants, uParse,
+};
 use std::alloc::Global;
-use crate::{Fault, ParseMode, Parser, parse_variants, uParse};
-use ufmt::{Formatter, fields, uDebug, uWrite};
+use ufmt::{Formatter, fields, plain_text, uDebug, uWrite};
 
 /// Variants of each shape.
 #[derive(Clone, Copy, PartialEq, Eq, Debug, Drop)]
@@ -45,15 +49,11 @@ impl<A: Copy> uParse<A> for Event {
 }
 
 /// Each name begins the next.
-#[derive(Drop)]
+#[derive(PartialEq, Eq, Debug, Drop)]
 pub enum Signal {
     A,
     AB(u8, Option<bool>),
-    ABC {
-        on: bool,
-        level: u8,
-        text: String,
-    },
+    ABC { on: bool, level: u8, text: String },
 }
 
 impl uDebug for Signal {
@@ -92,7 +92,10 @@ impl uParse<Global> for Signal {
         }
     }
 
-    fn parse_from<M: ParseMode>(alloc: Global, parser: &mut Parser<'_, M>) -> Result<Signal, Fault> {
+    fn parse_from<M: ParseMode>(
+        alloc: Global,
+        parser: &mut Parser<'_, M>,
+    ) -> Result<Signal, Fault> {
         parse_variants!(alloc, parser, Signal { A, AB(level, on), ABC { on, level, text } })
     }
 }
@@ -172,4 +175,169 @@ impl<A: Copy, T: uParse<A>> uParse<A> for Eight<T> {
             Eight { First, Second(a), Third(a, b), Fourth(), Fifth { channel, level }, Sixth(a), Seventh { value }, Eighth {} }
         )
     }
+}
+
+/// A struct of an enum.
+#[derive(Clone, Copy, PartialEq, Eq, Debug, Drop)]
+pub struct Report {
+    node: u8,
+    last: Event,
+}
+
+impl uDebug for Report {
+    ghost document = { λ r. named_struct "Report"
+        (("node", number r.node) ∷ ("last", ⟦<Event as uDebug>⟧.document r.last) ∷ []) };
+
+    fn fmt<W: uWrite>(&self, f: &mut Formatter<W>) -> Result<(), W::Error> {
+        fields!(f, self, Report { node, last })
+    }
+}
+
+impl<A: Copy> uParse<A> for Report {
+    ghost is_value = { λ r. is_u8 r.node };
+
+    fn prove_value(&self) {
+        let _node = self.node;
+    }
+
+    fn parse_from<M: ParseMode>(alloc: A, parser: &mut Parser<'_, M>) -> Result<Report, Fault> {
+        parse_fields!(alloc, parser, Report { node, last })
+    }
+}
+
+/// A struct without fields, which prints as its name.
+#[derive(Clone, Copy, PartialEq, Eq, Debug, Drop)]
+pub struct Marker {}
+
+impl uDebug for Marker {
+    ghost document = { λ _. named_struct "Marker" [] };
+
+    fn fmt<W: uWrite>(&self, f: &mut Formatter<W>) -> Result<(), W::Error> {
+        fields!(f, self, Marker {})
+    }
+}
+
+impl<A: Copy> uParse<A> for Marker {
+    ghost is_value = { λ _. ⊤ };
+
+    fn prove_value(&self) {}
+
+    fn parse_from<M: ParseMode>(alloc: A, parser: &mut Parser<'_, M>) -> Result<Marker, Fault> {
+        parse_fields!(alloc, parser, Marker {})
+    }
+}
+
+#[test]
+fn variants_of_each_shape_are_parsed(rt: HostRuntime) {
+    let rows: [(&str, Result<Eight<bool>, ParseError>); 16] = [
+        ("First", Ok(Eight::First)),
+        ("Second(7)", Ok(Eight::Second(7))),
+        ("Third(255, true)", Ok(Eight::Third(255, true))),
+        ("Fourth", Ok(Eight::Fourth())),
+        (
+            "Fifth { channel: 3, level: false }",
+            Ok(Eight::Fifth {
+                channel: 3,
+                level: false,
+            }),
+        ),
+        ("Sixth(true)", Ok(Eight::Sixth(true))),
+        (
+            "Seventh { value: true }",
+            Ok(Eight::Seventh { value: true }),
+        ),
+        ("Eighth", Ok(Eight::Eighth {})),
+        ("Ninth", Err(NotText { at: 0 })),
+        ("first", Err(NotText { at: 0 })),
+        ("First()", Err(NotText { at: 5 })),
+        ("Fourth()", Err(NotText { at: 6 })),
+        ("Second", Err(NotText { at: 6 })),
+        ("Second(256)", Err(NotText { at: 7 })),
+        ("Third(1, 1)", Err(NotText { at: 9 })),
+        ("Fifth { level: false, channel: 3 }", Err(NotText { at: 8 })),
+    ];
+    for (text, wanted) in rows {
+        same(&rt, parse((), text.as_bytes()), wanted, text);
+    }
+}
+
+#[test]
+fn names_are_compared_whole(rt: HostRuntime) {
+    let alloc = rt.alloc();
+    // Each text is parsed and printed again, or isn't parsed past so many bytes.
+    let rows = [
+        ("A", Ok(())),
+        ("AB(7, None)", Ok(())),
+        ("AB(255, Some(true))", Ok(())),
+        ("ABC { on: true, level: 0, text: \"AB\" }", Ok(())),
+        ("ABCD", Err(NotText { at: 0 })),
+        ("A-B", Err(NotText { at: 0 })),
+        ("A:B", Err(NotText { at: 0 })),
+        ("AB", Err(NotText { at: 2 })),
+        ("AB { on: true }", Err(NotText { at: 2 })),
+        ("ABC(7, None)", Err(NotText { at: 3 })),
+        ("A(7)", Err(NotText { at: 1 })),
+        ("A ", Err(NotText { at: 1 })),
+        ("A: ", Err(NotText { at: 1 })),
+        ("", Err(NotText { at: 0 })),
+    ];
+    for (text, wanted) in rows {
+        let parsed: Result<Signal, ParseError> = parse(alloc, text.as_bytes());
+        let given = match parsed {
+            Err(error) => Err(error),
+            Ok(signal) => {
+                let printed = plain_text(alloc, &signal).expect(&rt, "memory");
+                same(&rt, printed.as_str(), text, text);
+                Ok(())
+            }
+        };
+        same(&rt, given, wanted, text);
+    }
+}
+
+#[test]
+fn enums_are_parsed_in_other_values(rt: HostRuntime) {
+    let alloc = rt.alloc();
+    let lost = Event::Lost {
+        since: true,
+        peers: false,
+    };
+    let report = Report {
+        node: 9,
+        last: lost,
+    };
+    let rows = [
+        (
+            "Report { node: 9, last: Lost { since: true, peers: false } }",
+            Ok(report),
+        ),
+        ("Report { node: 9, last: Los }", Err(NotText { at: 24 })),
+    ];
+    for (text, wanted) in rows {
+        same(&rt, parse((), text.as_bytes()), wanted, text);
+    }
+    let pretty =
+        "Report {\n    node: 9,\n    last: Lost {\n        since: true,\n        peers: false,\n    },\n}";
+    same(&rt, parse_pretty((), pretty.as_bytes()), Ok(report), pretty);
+    let list: Result<Vec<Event>, ParseError> = parse_pretty(
+        alloc,
+        b"[\n    Started,\n    Said(\n        true,\n        false,\n    ),\n]",
+    );
+    same(
+        &rt,
+        list.ok().as_ref().map(Vec::as_slice),
+        Some(&[Event::Started, Event::Said(true, false)][..]),
+        "a list of variants",
+    );
+    same(
+        &rt,
+        parse((), b"Some(Started)"),
+        Ok(Some(Event::Started)),
+        "a variant in an option",
+    );
+    same(&rt, parse((), b"Marker"), Ok(Marker {}), "no fields");
+    let error: Result<Result<u8, Event>, ParseError> = parse((), b"Err(Started)");
+    same(&rt, error, Ok(Err(Event::Started)), "an error in a result");
+    let neither: Result<Result<u8, Event>, ParseError> = parse((), b"Okay(1)");
+    same(&rt, neither, Err(NotText { at: 0 }), "no result");
 }
