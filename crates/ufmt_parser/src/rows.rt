@@ -15,7 +15,7 @@ use ufmt::layout::{Count, Kind};
 
 /// A row of values: the first, and those after it, or `()`.
 // It is a trait of the values. A check of a chain of parsers takes four times as long.
-pub trait Row<A> {
+pub trait Row<A>: Drop {
     // What holds of each row that a program has.
     ghost are_values: { Self → Type 0 };
 
@@ -78,7 +78,7 @@ impl<A: Copy> Row<A> for () {
     }
 }
 
-impl<A: Copy, T: uParse<A>, V: Row<A> + Drop> Row<A> for (T, V) {
+impl<A: Copy, T: uParse<A>, V: Row<A>> Row<A> for (T, V) {
     ghost are_values = { λ v. T.is_value v.0 × V.are_values v.1 };
 
     ghost documents = { λ v. T.document v.0 ∷ V.documents v.1 };
@@ -100,7 +100,7 @@ impl<A: Copy, T: uParse<A>, V: Row<A> + Drop> Row<A> for (T, V) {
 }
 
 /// Takes a struct with a row of fields, as `parse_from` does a value.
-pub(crate) fn parse_struct_row<A: Copy, T: uParse<A>, V: Row<A> + Drop, M: ParseMode>(
+pub(crate) fn parse_struct_row<A: Copy, T: uParse<A>, V: Row<A>, M: ParseMode>(
     alloc: A,
     parser: &mut Parser<'_, M>,
     name: &str,
@@ -123,7 +123,7 @@ pub(crate) fn parse_struct_row<A: Copy, T: uParse<A>, V: Row<A> + Drop, M: Parse
 }
 
 /// Takes a tuple with a row of fields, as `parse_from` does a value.
-pub(crate) fn parse_tuple_row<A: Copy, T: uParse<A>, V: Row<A> + Drop, M: ParseMode>(
+pub(crate) fn parse_tuple_row<A: Copy, T: uParse<A>, V: Row<A>, M: ParseMode>(
     alloc: A,
     parser: &mut Parser<'_, M>,
     name: &str,
