@@ -1,5 +1,5 @@
 //! The entries of blocks: values, values with a name, and pairs.
-ghost use Rattle.std.specs.Prelude.{◌≤◌, length, ◌≡◌, ◌++◌, ℕ, List, IfOk, codes};
+ghost use Rattle.std.specs.Prelude.{◌≤◌, length, ◌≡◌, ◌++◌, ℕ, List, IfOk, IfErr, codes};
 ghost use Rattle.ufmt.specs.Layout.{layout};
 ghost use Rattle.ufmt_core.specs.declared.layout.Setting.{Setting};
 ghost use Rattle.ufmt_parser.specs.Taking.{Fits, Takes, open_blocks, rest, setting_in};
@@ -15,6 +15,9 @@ pub trait EntryParser<A, E> {
     // What holds of each entry that a program has, in so many blocks.
     ghost fit: { ℕ → E → Type 0 };
 
+    // Holds if no memory is taken.
+    ghost holds_no_memory: { Type 0 } = { ⊥ };
+
     // The entry's text.
     ghost text: { Self → Setting → E → List ℕ };
 
@@ -22,6 +25,7 @@ pub trait EntryParser<A, E> {
         ensures takes { Takes (fit (open_blocks parser.old))
             (text self.now (setting_in M.mode (open_blocks parser.old)))
             (rest parser.old) result (rest parser.new) }
+        ensures memory { holds_no_memory → IfErr result (λ fault. fault ≡ Fault.NotText) }
         ensures blocks { IfOk result (λ _. open_blocks parser.new ≡ open_blocks parser.old) }
         ensures shrinks { length (rest parser.new) ≤ length (rest parser.old) };
 }
@@ -41,6 +45,8 @@ pub struct Pair<K, P>(pub K, pub P);
 impl<A, T: uDebug, P: ParsesBy<A, T>> EntryParser<A, T> for Value<P> {
     ghost fit = { λ blocks v. P.is_value v × Fits blocks (T.document v) };
 
+    ghost holds_no_memory = { P.holds_no_memory };
+
     ghost text = { λ _ s v. layout s (T.document v) };
 
     fn parse_entry<M: ParseMode>(&self, alloc: A, parser: &mut Parser<'_, M>) -> Result<T, Fault> {
@@ -50,6 +56,8 @@ impl<A, T: uDebug, P: ParsesBy<A, T>> EntryParser<A, T> for Value<P> {
 
 impl<'a, A: Copy, T: uDebug, P: ParsesBy<A, T>> EntryParser<A, T> for Named<'a, P> {
     ghost fit = { λ blocks v. P.is_value v × Fits blocks (T.document v) };
+
+    ghost holds_no_memory = { P.holds_no_memory };
 
     ghost text = { λ named s v. named.0.now ++ (codes ": " ++ layout s (T.document v)) };
 
@@ -70,6 +78,8 @@ impl<A: Copy, T: uDebug + Drop, U: uDebug + Drop, K: ParsesBy<A, T>, P: ParsesBy
 > for Pair<K, P> {
     ghost fit = { λ blocks v. (K.is_value v.0 × Fits blocks (T.document v.0))
         × (P.is_value v.1 × Fits blocks (U.document v.1)) };
+
+    ghost holds_no_memory = { K.holds_no_memory × P.holds_no_memory };
 
     ghost text = { λ _ s v. layout s (T.document v.0) ++ (codes ": " ++ layout s (U.document v.1)) };
 

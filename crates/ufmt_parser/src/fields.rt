@@ -1,5 +1,5 @@
 //! The fields of structs and tuples, one after another.
-ghost use Rattle.std.specs.Prelude.{◌≤◌, length, [], ◌∷◌, ◌≡◌, ◌<◌, ◌-◌, ◌++◌, ℕ, List, IfOk, suc, ⊤};
+ghost use Rattle.std.specs.Prelude.{◌≤◌, length, [], ◌∷◌, ◌≡◌, ◌<◌, ◌-◌, ◌++◌, ℕ, List, IfOk, IfErr, suc, ⊤};
 ghost use Rattle.ufmt.specs.Layout.{block_tail, frame, inside};
 ghost use Rattle.ufmt_core.specs.declared.layout.Setting.{Setting};
 ghost use Rattle.ufmt_core.specs.declared.layout.Count.TheVariants.{Zero};
@@ -14,6 +14,9 @@ use ufmt::layout::{Count, Kind};
 pub trait FieldParsers<A, V> {
     // What holds of each row of fields that a program has, in so many blocks.
     ghost fit: { ℕ → V → Type 0 };
+
+    // Holds if no memory is taken.
+    ghost holds_no_memory: { Type 0 } = { ⊥ };
 
     // The texts of the fields, with their names.
     ghost texts: { Self → Setting → V → List (List ℕ) };
@@ -31,12 +34,15 @@ pub trait FieldParsers<A, V> {
             (λ v. block_tail (frame M.mode kind) (setting_in M.mode (open_blocks parser.old - 1)) count
             (texts self.now (setting_in M.mode (open_blocks parser.old)) v))
             (rest parser.old) result (rest parser.new) }
+        ensures memory { holds_no_memory → IfErr result (λ fault. fault ≡ Fault.NotText) }
         ensures blocks { IfOk result (λ _. open_blocks parser.new ≡ open_blocks parser.old) }
         ensures shrinks { length (rest parser.new) ≤ length (rest parser.old) };
 }
 
 impl<A: Copy> FieldParsers<A, ()> for () {
     ghost fit = { λ _ _. ⊤ };
+
+    ghost holds_no_memory = { ⊤ };
 
     ghost texts = { λ _ _ _. [] };
 
@@ -58,6 +64,8 @@ impl<A: Copy> FieldParsers<A, ()> for () {
 impl<A: Copy, T: Drop, V: Drop, P: EntryParser<A, T>, R: FieldParsers<A, V>> FieldParsers<A, (T, V)>
     for (P, R) {
     ghost fit = { λ blocks v. P.fit blocks v.0 × R.fit blocks v.1 };
+
+    ghost holds_no_memory = { P.holds_no_memory × R.holds_no_memory };
 
     ghost texts = { λ fields s v. P.text fields.0 s v.0 ∷ R.texts fields.1 s v.1 };
 
@@ -99,6 +107,7 @@ pub(crate) fn parse_block<A: Copy, V: Drop, P: FieldParsers<A, V>, M: ParseMode>
         ++ block_tail (frame M.mode kind) (setting_in M.mode (open_blocks parser.old)) Zero
         (P.texts fields.now (inside (setting_in M.mode (open_blocks parser.old))) v)))
         (rest parser.old) result (rest parser.new) }
+    ensures memory { P.holds_no_memory → IfErr result (λ fault. fault ≡ Fault.NotText) }
     ensures blocks { IfOk result (λ _. open_blocks parser.new ≡ open_blocks parser.old) }
     ensures shrinks { length (rest parser.new) ≤ length (rest parser.old) }
 {

@@ -13,6 +13,9 @@ pub trait uParse<A>: uDebug + Drop {
     /// What holds of each value that a program has, as that a number is in its type's range.
     ghost is_value: { Self → Type 0 };
 
+    /// Holds of a type whose values hold no memory: it is never refused memory. By default nothing is said.
+    ghost holds_no_memory: { Type 0 } = { ⊥ };
+
     /// Shows that `is_value` holds, by `prove_value` of each field that it speaks of.
     fn prove_value(&self)
         ensures { is_value self.now };
@@ -27,6 +30,7 @@ pub trait uParse<A>: uDebug + Drop {
             → IsNext M.mode parser.old (Self.document v) u → u ≡ rest parser.new) }
         ensures none { IfErr result (λ fault. fault ≡ Fault.NotText → (v : Self) (u : List ℕ) → is_value v
             → ¬ IsNext M.mode parser.old (Self.document v) u) }
+        ensures memory { holds_no_memory → IfErr result (λ fault. fault ≡ Fault.NotText) }
         ensures blocks { IfOk result (λ _. open_blocks parser.new ≡ open_blocks parser.old) }
         ensures shrinks { length (rest parser.new) ≤ length (rest parser.old) };
 }
@@ -36,11 +40,15 @@ pub trait ParsesBy<A, T: uDebug> {
     /// What holds of each value that a program has.
     ghost is_value: { T → Type 0 };
 
+    /// Holds if no memory is taken. By default nothing is said.
+    ghost holds_no_memory: { Type 0 } = { ⊥ };
+
     /// Takes the text of a value from the front, as `parse_from` of `uParse` does.
     fn parse_by<M: ParseMode>(&self, alloc: A, parser: &mut Parser<'_, M>) -> Result<T, Fault>
         ensures takes { Takes (λ v. is_value v × Fits (open_blocks parser.old) (T.document v))
             (λ v. layout (setting_in M.mode (open_blocks parser.old)) (T.document v))
             (rest parser.old) result (rest parser.new) }
+        ensures memory { holds_no_memory → IfErr result (λ fault. fault ≡ Fault.NotText) }
         ensures blocks { IfOk result (λ _. open_blocks parser.new ≡ open_blocks parser.old) }
         ensures shrinks { length (rest parser.new) ≤ length (rest parser.old) };
 }
@@ -51,6 +59,8 @@ pub struct Plain;
 
 impl<A, T: uParse<A>> ParsesBy<A, T> for Plain {
     ghost is_value = { T.is_value };
+
+    ghost holds_no_memory = { T.holds_no_memory };
 
     fn parse_by<M: ParseMode>(&self, alloc: A, parser: &mut Parser<'_, M>) -> Result<T, Fault> {
         match T::parse_from(alloc, parser) {

@@ -1,5 +1,5 @@
 //! Integers: decimal digits with no zero before them, after `-` if the number is negative.
-ghost use Rattle.std.specs.Prelude.{◌≡◌, ◌<◌, ◌≤◌, length, List, ℕ, ℤ, pos, nat_abs, IfOk, IfErr, MatchOption};
+ghost use Rattle.std.specs.Prelude.{◌≡◌, ◌<◌, ◌≤◌, ⊤, length, List, ℕ, ℤ, pos, nat_abs, IfOk, IfErr, MatchOption};
 ghost use Rattle.ufmt_core.specs.Decimal.{decimal};
 ghost use Rattle.ufmt_core.specs.Document.{leaf};
 ghost use Rattle.ufmt_parser.specs.Digits.{IsSigned};
@@ -221,6 +221,7 @@ fn parse_integer<N: Magnitude, T: Integer<N>, M: ParseMode>(
         → IsNext M.mode parser.old (leaf (decimal (T.int v))) u → u ≡ rest parser.new) }
     ensures none { IfErr result (λ fault. fault ≡ Fault.NotText → (v : T) (u : List ℕ) → T.in_range v
         → ¬ IsNext M.mode parser.old (leaf (decimal (T.int v))) u) }
+    ensures memory { IfErr result (λ fault. fault ≡ Fault.NotText) }
     ensures blocks { IfOk result (λ _. open_blocks parser.new ≡ open_blocks parser.old) }
     ensures shrinks { length (rest parser.new) ≤ length (rest parser.old) }
 {
@@ -243,6 +244,8 @@ fn parse_integer<N: Magnitude, T: Integer<N>, M: ParseMode>(
 impl<A: Copy> uParse<A> for u8 {
     ghost is_value = { is_u8 };
 
+    ghost holds_no_memory = { ⊤ };
+
     fn prove_value(&self) {
         let _n = *self;
     }
@@ -254,6 +257,8 @@ impl<A: Copy> uParse<A> for u8 {
 
 impl<A: Copy> uParse<A> for u16 {
     ghost is_value = { is_u16 };
+
+    ghost holds_no_memory = { ⊤ };
 
     fn prove_value(&self) {
         let _n = *self;
@@ -267,6 +272,8 @@ impl<A: Copy> uParse<A> for u16 {
 impl<A: Copy> uParse<A> for u32 {
     ghost is_value = { is_u32 };
 
+    ghost holds_no_memory = { ⊤ };
+
     fn prove_value(&self) {
         let _n = *self;
     }
@@ -278,6 +285,8 @@ impl<A: Copy> uParse<A> for u32 {
 
 impl<A: Copy> uParse<A> for u64 {
     ghost is_value = { is_u64 };
+
+    ghost holds_no_memory = { ⊤ };
 
     fn prove_value(&self) {
         let _n = *self;
@@ -291,6 +300,8 @@ impl<A: Copy> uParse<A> for u64 {
 impl<A: Copy> uParse<A> for usize {
     ghost is_value = { is_usize };
 
+    ghost holds_no_memory = { ⊤ };
+
     fn prove_value(&self) {
         let _n = *self;
     }
@@ -302,6 +313,8 @@ impl<A: Copy> uParse<A> for usize {
 
 impl<A: Copy> uParse<A> for u128 {
     ghost is_value = { is_u128 };
+
+    ghost holds_no_memory = { ⊤ };
 
     fn prove_value(&self) {
         let _n = *self;
@@ -315,6 +328,8 @@ impl<A: Copy> uParse<A> for u128 {
 impl<A: Copy> uParse<A> for i8 {
     ghost is_value = { is_i8 };
 
+    ghost holds_no_memory = { ⊤ };
+
     fn prove_value(&self) {
         let _n = *self;
     }
@@ -326,6 +341,8 @@ impl<A: Copy> uParse<A> for i8 {
 
 impl<A: Copy> uParse<A> for i16 {
     ghost is_value = { is_i16 };
+
+    ghost holds_no_memory = { ⊤ };
 
     fn prove_value(&self) {
         let _n = *self;
@@ -339,6 +356,8 @@ impl<A: Copy> uParse<A> for i16 {
 impl<A: Copy> uParse<A> for i32 {
     ghost is_value = { is_i32 };
 
+    ghost holds_no_memory = { ⊤ };
+
     fn prove_value(&self) {
         let _n = *self;
     }
@@ -350,6 +369,8 @@ impl<A: Copy> uParse<A> for i32 {
 
 impl<A: Copy> uParse<A> for i64 {
     ghost is_value = { is_i64 };
+
+    ghost holds_no_memory = { ⊤ };
 
     fn prove_value(&self) {
         let _n = *self;
@@ -363,6 +384,8 @@ impl<A: Copy> uParse<A> for i64 {
 impl<A: Copy> uParse<A> for isize {
     ghost is_value = { is_isize };
 
+    ghost holds_no_memory = { ⊤ };
+
     fn prove_value(&self) {
         let _n = *self;
     }
@@ -374,6 +397,8 @@ impl<A: Copy> uParse<A> for isize {
 
 impl<A: Copy> uParse<A> for i128 {
     ghost is_value = { is_i128 };
+
+    ghost holds_no_memory = { ⊤ };
 
     fn prove_value(&self) {
         let _n = *self;

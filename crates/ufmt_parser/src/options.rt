@@ -9,6 +9,8 @@ use crate::tuples::parse_tuple_1;
 impl<A: Copy, T: uParse<A>> uParse<A> for Option<T> {
     ghost is_value = { λ o. IfSome o T.is_value };
 
+    ghost holds_no_memory = { T.holds_no_memory };
+
     fn prove_value(&self) {
         match self {
             None => {}

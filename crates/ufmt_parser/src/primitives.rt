@@ -8,6 +8,8 @@ use crate::parser::{Fault, Parser};
 impl<A: Copy> uParse<A> for bool {
     ghost is_value = { λ _. ⊤ };
 
+    ghost holds_no_memory = { ⊤ };
+
     fn prove_value(&self) {}
 
     fn parse_from<M: ParseMode>(_alloc: A, parser: &mut Parser<'_, M>) -> Result<bool, Fault> {
@@ -23,6 +25,8 @@ impl<A: Copy> uParse<A> for bool {
 
 impl<A: Copy> uParse<A> for () {
     ghost is_value = { λ _. ⊤ };
+
+    ghost holds_no_memory = { ⊤ };
 
     fn prove_value(&self) {}
 

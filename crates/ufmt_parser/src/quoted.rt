@@ -1,5 +1,5 @@
 //! Characters in apostrophes.
-ghost use Rattle.std.specs.Prelude.{◌≡◌, ◌≢◌, ◌+◌, ◌++◌, ℕ, List, MatchOption, encode_utf8};
+ghost use Rattle.std.specs.Prelude.{◌≡◌, ◌≢◌, ◌+◌, ◌++◌, ⊤, ℕ, List, MatchOption, encode_utf8};
 ghost use Rattle.std.specs.Char.{IsScalar};
 ghost use Rattle.std.specs.Str.{continuation_len};
 ghost use Rattle.ufmt.specs.Quoted.{escaped, quoted_char};
@@ -90,6 +90,8 @@ fn split_quoted_char(input: &[u8]) -> Option<(char, &[u8])>
 /// Takes a character in apostrophes, with the escapes that printing writes and no others.
 impl<A: Copy> uParse<A> for char {
     ghost is_value = { IsScalar };
+
+    ghost holds_no_memory = { ⊤ };
 
     fn prove_value(&self) {
         let _character = *self;

@@ -44,6 +44,7 @@ pub fn round_trip_in<T: uParse<A>, A: Drop>(
         ↔ (length buffer.old < length (plain_text (T.document value.now)))) }
     ensures is_text { IsDebugDocument (T.document value.now) → (at : ℕ)
         → IsErrOf result (ParseError.NotText at) → ⊥ }
+    ensures memory { T.holds_no_memory → IsErrOf result ParseError.OutOfMemory → ⊥ }
     ensures front { Fronts buffer.old (plain_text (T.document value.now))
         (printed (plain_text (T.document value.now)) result) buffer.new }
 {

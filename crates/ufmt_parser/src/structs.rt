@@ -24,6 +24,7 @@ pub fn parse_struct_1<Alloc: Copy, A: uParse<Alloc>, M: ParseMode>(
     ensures none { IfErr result (λ fault. fault ≡ Fault.NotText → (a_value : A) (u : List ℕ)
         → A.is_value a_value → ¬ IsNext M.mode parser.old (struct_of name.now (fields_of
         ((a.now, A.document a_value) ∷ []))) u) }
+    ensures memory { A.holds_no_memory → IfErr result (λ fault. fault ≡ Fault.NotText) }
     ensures blocks { IfOk result (λ _. open_blocks parser.new ≡ open_blocks parser.old) }
     ensures shrinks { length (rest parser.new) ≤ length (rest parser.old) }
 {
@@ -52,6 +53,8 @@ pub fn parse_struct_2<Alloc: Copy, A: uParse<Alloc>, B: uParse<Alloc>, M: ParseM
         (u : List ℕ) → A.is_value a_value → B.is_value b_value → ¬ IsNext M.mode parser.old
         (struct_of name.now (fields_of ((a.now, A.document a_value) ∷ (b.now, B.document b_value)
         ∷ []))) u) }
+    ensures memory { A.holds_no_memory × B.holds_no_memory → IfErr result (λ fault.
+        fault ≡ Fault.NotText) }
     ensures blocks { IfOk result (λ _. open_blocks parser.new ≡ open_blocks parser.old) }
     ensures shrinks { length (rest parser.new) ≤ length (rest parser.old) }
 {
@@ -88,6 +91,8 @@ pub fn parse_struct_3<
         (c_value : C) (u : List ℕ) → A.is_value a_value → B.is_value b_value → C.is_value c_value
         → ¬ IsNext M.mode parser.old (struct_of name.now (fields_of ((a.now, A.document a_value)
         ∷ (b.now, B.document b_value) ∷ (c.now, C.document c_value) ∷ []))) u) }
+    ensures memory { A.holds_no_memory × B.holds_no_memory × C.holds_no_memory
+        → IfErr result (λ fault. fault ≡ Fault.NotText) }
     ensures blocks { IfOk result (λ _. open_blocks parser.new ≡ open_blocks parser.old) }
     ensures shrinks { length (rest parser.new) ≤ length (rest parser.old) }
 {
@@ -128,6 +133,8 @@ pub fn parse_struct_4<
         → C.is_value c_value → D.is_value d_value → ¬ IsNext M.mode parser.old
         (struct_of name.now (fields_of ((a.now, A.document a_value) ∷ (b.now, B.document b_value)
         ∷ (c.now, C.document c_value) ∷ (d.now, D.document d_value) ∷ []))) u) }
+    ensures memory { A.holds_no_memory × B.holds_no_memory × C.holds_no_memory × D.holds_no_memory
+        → IfErr result (λ fault. fault ≡ Fault.NotText) }
     ensures blocks { IfOk result (λ _. open_blocks parser.new ≡ open_blocks parser.old) }
     ensures shrinks { length (rest parser.new) ≤ length (rest parser.old) }
 {
@@ -174,6 +181,8 @@ pub fn parse_struct_5<
         → ¬ IsNext M.mode parser.old (struct_of name.now (fields_of ((a.now, A.document a_value)
         ∷ (b.now, B.document b_value) ∷ (c.now, C.document c_value) ∷ (d.now, D.document d_value)
         ∷ (e.now, E.document e_value) ∷ []))) u) }
+    ensures memory { A.holds_no_memory × B.holds_no_memory × C.holds_no_memory × D.holds_no_memory
+        × E.holds_no_memory → IfErr result (λ fault. fault ≡ Fault.NotText) }
     ensures blocks { IfOk result (λ _. open_blocks parser.new ≡ open_blocks parser.old) }
     ensures shrinks { length (rest parser.new) ≤ length (rest parser.old) }
 {
@@ -225,6 +234,8 @@ pub fn parse_struct_6<
         ((a.now, A.document a_value) ∷ (b.now, B.document b_value) ∷ (c.now, C.document c_value)
         ∷ (d.now, D.document d_value) ∷ (e.now, E.document e_value) ∷ (f.now, F.document f_value)
         ∷ []))) u) }
+    ensures memory { A.holds_no_memory × B.holds_no_memory × C.holds_no_memory × D.holds_no_memory
+        × E.holds_no_memory × F.holds_no_memory → IfErr result (λ fault. fault ≡ Fault.NotText) }
     ensures blocks { IfOk result (λ _. open_blocks parser.new ≡ open_blocks parser.old) }
     ensures shrinks { length (rest parser.new) ≤ length (rest parser.old) }
 {

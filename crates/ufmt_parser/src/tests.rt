@@ -40,6 +40,8 @@ impl uDebug for Flags {
 impl<A: Copy> uParse<A> for Flags {
     ghost is_value = { λ _. ⊤ };
 
+    ghost holds_no_memory = { ⊤ };
+
     fn prove_value(&self) {}
 
     fn parse_from<M: ParseMode>(alloc: A, parser: &mut Parser<'_, M>) -> Result<Flags, Fault> {
@@ -62,6 +64,8 @@ impl uDebug for Both {
 
 impl<A: Copy> uParse<A> for Both {
     ghost is_value = { λ _. ⊤ };
+
+    ghost holds_no_memory = { ⊤ };
 
     fn prove_value(&self) {}
 

@@ -22,6 +22,7 @@ pub fn parse<T: uParse<A>, A>(alloc: A, text: &[u8]) -> Result<T, ParseError>
     ensures after_value { (at : ℕ) → IsErrOf result (ParseError.NotText at) → (v : T) (u : List ℕ) → T.is_value v
         → IsDebugDocument (T.document v) → MayFollow Debug u → text.now ≡ plain_text (T.document v) ++ u
         → at ≡ length (plain_text (T.document v)) }
+    ensures memory { T.holds_no_memory → IsErrOf result ParseError.OutOfMemory → ⊥ }
     ensures within { (at : ℕ) → IsErrOf result (ParseError.NotText at) → at ≤ length text.now }
 {
     parse_whole::<T, A, PlainText>(alloc, text)
@@ -37,6 +38,7 @@ pub fn parse_pretty<T: uParse<A>, A>(alloc: A, text: &[u8]) -> Result<T, ParseEr
     ensures after_value { (at : ℕ) → IsErrOf result (ParseError.NotText at) → (v : T) (u : List ℕ) → T.is_value v
         → IsDebugDocument (T.document v) → MayFollow Debug u → text.now ≡ pretty_text (T.document v) ++ u
         → at ≡ length (pretty_text (T.document v)) }
+    ensures memory { T.holds_no_memory → IsErrOf result ParseError.OutOfMemory → ⊥ }
     ensures within { (at : ℕ) → IsErrOf result (ParseError.NotText at) → at ≤ length text.now }
 {
     parse_whole::<T, A, PrettyText>(alloc, text)
@@ -51,6 +53,7 @@ fn parse_whole<T: uParse<A>, A, M: ParseMode>(alloc: A, text: &[u8]) -> Result<T
     ensures after_value { (at : ℕ) → IsErrOf result (ParseError.NotText at) → (v : T) (u : List ℕ) → T.is_value v
         → IsDebugDocument (T.document v) → MayFollow Debug u → text.now ≡ layout (setting M.mode 0) (T.document v) ++ u
         → at ≡ length (layout (setting M.mode 0) (T.document v)) }
+    ensures memory { T.holds_no_memory → IsErrOf result ParseError.OutOfMemory → ⊥ }
     ensures within { (at : ℕ) → IsErrOf result (ParseError.NotText at) → at ≤ length text.now }
 {
     let mut parser: Parser<'_, M> = Parser::new(text);

@@ -10,6 +10,8 @@ use crate::tuples::{
 impl<Alloc: Copy, A: uParse<Alloc>> uParse<Alloc> for (A,) {
     ghost is_value = { λ t. A.is_value t.0 };
 
+    ghost holds_no_memory = { A.holds_no_memory };
+
     fn prove_value(&self) {
         self.0.prove_value();
     }
@@ -24,6 +26,8 @@ impl<Alloc: Copy, A: uParse<Alloc>> uParse<Alloc> for (A,) {
 
 impl<Alloc: Copy, A: uParse<Alloc>, B: uParse<Alloc>> uParse<Alloc> for (A, B) {
     ghost is_value = { λ t. A.is_value t.0 × B.is_value t.1 };
+
+    ghost holds_no_memory = { A.holds_no_memory × B.holds_no_memory };
 
     fn prove_value(&self) {
         self.0.prove_value();
@@ -41,6 +45,8 @@ impl<Alloc: Copy, A: uParse<Alloc>, B: uParse<Alloc>> uParse<Alloc> for (A, B) {
 impl<Alloc: Copy, A: uParse<Alloc>, B: uParse<Alloc>, C: uParse<Alloc>> uParse<Alloc>
     for (A, B, C) {
     ghost is_value = { λ t. A.is_value t.0 × B.is_value t.1 × C.is_value t.2 };
+
+    ghost holds_no_memory = { A.holds_no_memory × B.holds_no_memory × C.holds_no_memory };
 
     fn prove_value(&self) {
         self.0.prove_value();
@@ -63,6 +69,8 @@ impl<Alloc: Copy, A: uParse<Alloc>, B: uParse<Alloc>, C: uParse<Alloc>, D: uPars
     Alloc,
 > for (A, B, C, D) {
     ghost is_value = { λ t. A.is_value t.0 × B.is_value t.1 × C.is_value t.2 × D.is_value t.3 };
+
+    ghost holds_no_memory = { A.holds_no_memory × B.holds_no_memory × C.holds_no_memory × D.holds_no_memory };
 
     fn prove_value(&self) {
         self.0.prove_value();
@@ -91,6 +99,8 @@ impl<
     E: uParse<Alloc>,
 > uParse<Alloc> for (A, B, C, D, E) {
     ghost is_value = { λ t. A.is_value t.0 × B.is_value t.1 × C.is_value t.2 × D.is_value t.3 × E.is_value t.4 };
+
+    ghost holds_no_memory = { A.holds_no_memory × B.holds_no_memory × C.holds_no_memory × D.holds_no_memory × E.holds_no_memory };
 
     fn prove_value(&self) {
         self.0.prove_value();
@@ -121,6 +131,8 @@ impl<
     F: uParse<Alloc>,
 > uParse<Alloc> for (A, B, C, D, E, F) {
     ghost is_value = { λ t. A.is_value t.0 × B.is_value t.1 × C.is_value t.2 × D.is_value t.3 × E.is_value t.4 × F.is_value t.5 };
+
+    ghost holds_no_memory = { A.holds_no_memory × B.holds_no_memory × C.holds_no_memory × D.holds_no_memory × E.holds_no_memory × F.holds_no_memory };
 
     fn prove_value(&self) {
         self.0.prove_value();

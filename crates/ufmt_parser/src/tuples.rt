@@ -24,6 +24,7 @@ pub fn parse_tuple_1<Alloc: Copy, A: uParse<Alloc>, M: ParseMode>(
     ensures none { IfErr result (λ fault. fault ≡ Fault.NotText → (a_value : A) (u : List ℕ)
         → A.is_value a_value → ¬ IsNext M.mode parser.old (tuple_of name.now (documents
         (A.document a_value ∷ []))) u) }
+    ensures memory { A.holds_no_memory → IfErr result (λ fault. fault ≡ Fault.NotText) }
     ensures blocks { IfOk result (λ _. open_blocks parser.new ≡ open_blocks parser.old) }
     ensures shrinks { length (rest parser.new) ≤ length (rest parser.old) }
 {
@@ -48,6 +49,8 @@ pub fn parse_tuple_2<Alloc: Copy, A: uParse<Alloc>, B: uParse<Alloc>, M: ParseMo
     ensures none { IfErr result (λ fault. fault ≡ Fault.NotText → (a_value : A) (b_value : B)
         (u : List ℕ) → A.is_value a_value → B.is_value b_value → ¬ IsNext M.mode parser.old
         (tuple_of name.now (documents (A.document a_value ∷ B.document b_value ∷ []))) u) }
+    ensures memory { A.holds_no_memory × B.holds_no_memory → IfErr result (λ fault.
+        fault ≡ Fault.NotText) }
     ensures blocks { IfOk result (λ _. open_blocks parser.new ≡ open_blocks parser.old) }
     ensures shrinks { length (rest parser.new) ≤ length (rest parser.old) }
 {
@@ -76,6 +79,8 @@ pub fn parse_tuple_3<
         (c_value : C) (u : List ℕ) → A.is_value a_value → B.is_value b_value → C.is_value c_value
         → ¬ IsNext M.mode parser.old (tuple_of name.now (documents (A.document a_value
         ∷ B.document b_value ∷ C.document c_value ∷ []))) u) }
+    ensures memory { A.holds_no_memory × B.holds_no_memory × C.holds_no_memory
+        → IfErr result (λ fault. fault ≡ Fault.NotText) }
     ensures blocks { IfOk result (λ _. open_blocks parser.new ≡ open_blocks parser.old) }
     ensures shrinks { length (rest parser.new) ≤ length (rest parser.old) }
 {
@@ -107,6 +112,8 @@ pub fn parse_tuple_4<
         → C.is_value c_value → D.is_value d_value → ¬ IsNext M.mode parser.old
         (tuple_of name.now (documents (A.document a_value ∷ B.document b_value ∷ C.document c_value
         ∷ D.document d_value ∷ []))) u) }
+    ensures memory { A.holds_no_memory × B.holds_no_memory × C.holds_no_memory × D.holds_no_memory
+        → IfErr result (λ fault. fault ≡ Fault.NotText) }
     ensures blocks { IfOk result (λ _. open_blocks parser.new ≡ open_blocks parser.old) }
     ensures shrinks { length (rest parser.new) ≤ length (rest parser.old) }
 {
@@ -143,6 +150,8 @@ pub fn parse_tuple_5<
         → ¬ IsNext M.mode parser.old (tuple_of name.now (documents (A.document a_value
         ∷ B.document b_value ∷ C.document c_value ∷ D.document d_value ∷ E.document e_value ∷ [])))
         u) }
+    ensures memory { A.holds_no_memory × B.holds_no_memory × C.holds_no_memory × D.holds_no_memory
+        × E.holds_no_memory → IfErr result (λ fault. fault ≡ Fault.NotText) }
     ensures blocks { IfOk result (λ _. open_blocks parser.new ≡ open_blocks parser.old) }
     ensures shrinks { length (rest parser.new) ≤ length (rest parser.old) }
 {
@@ -181,6 +190,8 @@ pub fn parse_tuple_6<
         → F.is_value f_value → ¬ IsNext M.mode parser.old (tuple_of name.now (documents
         (A.document a_value ∷ B.document b_value ∷ C.document c_value ∷ D.document d_value
         ∷ E.document e_value ∷ F.document f_value ∷ []))) u) }
+    ensures memory { A.holds_no_memory × B.holds_no_memory × C.holds_no_memory × D.holds_no_memory
+        × E.holds_no_memory × F.holds_no_memory → IfErr result (λ fault. fault ≡ Fault.NotText) }
     ensures blocks { IfOk result (λ _. open_blocks parser.new ≡ open_blocks parser.old) }
     ensures shrinks { length (rest parser.new) ≤ length (rest parser.old) }
 {

@@ -35,6 +35,11 @@ def chain_of(items):
     return chain
 
 
+def no_memory(count):
+    """The parts of the claim that the fields hold no memory."""
+    return [("" if place == 0 else "× ") + f"{letter}.holds_no_memory" for place, letter in enumerate(TYPES[:count])]
+
+
 class Block:
     """A kind of block whose fields are parsed by their number."""
 
@@ -65,6 +70,7 @@ class Block:
                     + self.row_of(others, ")))") + ["u", "→ u ≡ rest parser.new) }"], 4),
             wrapped(["ensures none { IfErr result (λ fault. fault ≡ Fault.NotText →"] + binders + premises + ["→ ¬ IsNext M.mode parser.old"]
                     + self.row_of(others, ")))") + ["u) }"], 4),
+            wrapped(["ensures memory {"] + no_memory(count) + ["→ IfErr result (λ fault.", "fault ≡ Fault.NotText) }"], 4),
         ])
 
     def call(self, count):
@@ -144,6 +150,8 @@ def tuple_impl(count):
     return f"""
 impl<Alloc: Copy, {types}> uParse<Alloc> for {row} {{
     ghost is_value = {{ λ t. {values} }};
+
+    ghost holds_no_memory = {{ {" ".join(no_memory(count))} }};
 
     fn prove_value(&self) {{
 {proofs}

@@ -1,5 +1,5 @@
 //! A command line of a device, parsed with no allocator in scope.
-ghost use Rattle.std.specs.Prelude.{[], ◌∷◌, ◌≡◌, IfOk};
+ghost use Rattle.std.specs.Prelude.{[], ◌∷◌, ◌≡◌, ⊤, IfOk, IsErrOf};
 ghost use Rattle.ufmt.specs.Layout.{plain_text};
 ghost use Rattle.ufmt.specs.ValueDocuments.{integer, named_struct, number};
 ghost use Rattle.ufmt_parser.specs.Values.{is_i16, is_u8};
@@ -26,6 +26,8 @@ impl uDebug for Set {
 impl<A: Copy> uParse<A> for Set {
     ghost is_value = { λ s. is_u8 s.channel × is_i16 s.level };
 
+    ghost holds_no_memory = { ⊤ };
+
     fn prove_value(&self) {
         let _channel = self.channel;
         let _level = self.level;
@@ -36,9 +38,10 @@ impl<A: Copy> uParse<A> for Set {
     }
 }
 
-/// Parses a command line, as `Set { channel: 3, level: -4 }`.
+/// Parses a command line, as `Set { channel: 3, level: -4 }`. Fails with `NotText` only.
 pub fn parse_command(line: &[u8]) -> Result<Set, ParseError>
-    ensures { IfOk result (λ set. plain_text (⟦<Set as uDebug>⟧.document set) ≡ line.now) }
+    ensures text { IfOk result (λ set. plain_text (⟦<Set as uDebug>⟧.document set) ≡ line.now) }
+    ensures memory { IsErrOf result ParseError.OutOfMemory → ⊥ }
 {
     parse((), line)
 }
