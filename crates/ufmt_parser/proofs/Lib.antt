@@ -12,6 +12,7 @@ pub mod ListedPairs
 pub mod ListedValues
 pub mod NumberKeys
 pub mod OneWay
+pub mod PackedDigits
 pub mod Parts
 pub mod QuotedTaken
 pub mod Reductions

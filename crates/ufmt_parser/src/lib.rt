@@ -18,6 +18,7 @@ mod options;
 mod parser;
 mod primitives;
 mod quoted;
+mod sixteen_digits;
 mod sorted;
 mod strip;
 mod structs;

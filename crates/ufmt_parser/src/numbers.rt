@@ -25,6 +25,9 @@ trait Integer<N: Magnitude> {
             ((v : Self) → in_range v → IsSigned negative (N.value magnitude) (int v) → ⊥)
             (λ v. in_range v × IsSigned negative (N.value magnitude) (int v)) };
 
+    // Whether there are integers of more than ten digits.
+    fn is_long() -> bool;
+
     // Shows that `N` holds the magnitudes of this type.
     fn prove_fits()
         ensures { (v : Self) → in_range v → nat_abs (int v) < N.bound };
@@ -44,6 +47,11 @@ impl Integer<u64> for u8 {
         }
     }
 
+    #[inline(always)]
+    fn is_long() -> bool {
+        false
+    }
+
     fn prove_fits() {}
 }
 
@@ -59,6 +67,11 @@ impl Integer<u64> for u16 {
         } else {
             u16::try_from(magnitude).ok()
         }
+    }
+
+    #[inline(always)]
+    fn is_long() -> bool {
+        false
     }
 
     fn prove_fits() {}
@@ -78,6 +91,11 @@ impl Integer<u64> for u32 {
         }
     }
 
+    #[inline(always)]
+    fn is_long() -> bool {
+        false
+    }
+
     fn prove_fits() {}
 }
 
@@ -89,6 +107,11 @@ impl Integer<u64> for u64 {
     #[inline(always)]
     fn from_magnitude(negative: bool, magnitude: u64) -> Option<u64> {
         if negative { None } else { Some(magnitude) }
+    }
+
+    #[inline(always)]
+    fn is_long() -> bool {
+        true
     }
 
     fn prove_fits() {}
@@ -108,6 +131,11 @@ impl Integer<u64> for usize {
         }
     }
 
+    #[inline(always)]
+    fn is_long() -> bool {
+        true
+    }
+
     fn prove_fits() {}
 }
 
@@ -119,6 +147,11 @@ impl Integer<u128> for u128 {
     #[inline(always)]
     fn from_magnitude(negative: bool, magnitude: u128) -> Option<u128> {
         if negative { None } else { Some(magnitude) }
+    }
+
+    #[inline(always)]
+    fn is_long() -> bool {
+        true
     }
 
     fn prove_fits() {}
@@ -134,6 +167,11 @@ impl Integer<u64> for i8 {
         i8::try_from(i64::from_magnitude(negative, magnitude)?).ok()
     }
 
+    #[inline(always)]
+    fn is_long() -> bool {
+        false
+    }
+
     fn prove_fits() {}
 }
 
@@ -147,6 +185,11 @@ impl Integer<u64> for i16 {
         i16::try_from(i64::from_magnitude(negative, magnitude)?).ok()
     }
 
+    #[inline(always)]
+    fn is_long() -> bool {
+        false
+    }
+
     fn prove_fits() {}
 }
 
@@ -158,6 +201,11 @@ impl Integer<u64> for i32 {
     #[inline(always)]
     fn from_magnitude(negative: bool, magnitude: u64) -> Option<i32> {
         i32::try_from(i64::from_magnitude(negative, magnitude)?).ok()
+    }
+
+    #[inline(always)]
+    fn is_long() -> bool {
+        false
     }
 
     fn prove_fits() {}
@@ -177,6 +225,11 @@ impl Integer<u64> for i64 {
         Some(-1 - before)
     }
 
+    #[inline(always)]
+    fn is_long() -> bool {
+        true
+    }
+
     fn prove_fits() {}
 }
 
@@ -188,6 +241,11 @@ impl Integer<u64> for isize {
     #[inline(always)]
     fn from_magnitude(negative: bool, magnitude: u64) -> Option<isize> {
         isize::try_from(i64::from_magnitude(negative, magnitude)?).ok()
+    }
+
+    #[inline(always)]
+    fn is_long() -> bool {
+        true
     }
 
     fn prove_fits() {}
@@ -205,6 +263,11 @@ impl Integer<u128> for i128 {
         }
         let before = i128::try_from(magnitude.checked_sub(1)?).ok()?;
         Some(-1 - before)
+    }
+
+    #[inline(always)]
+    fn is_long() -> bool {
+        true
     }
 
     fn prove_fits() {}
@@ -225,7 +288,7 @@ fn parse_integer<N: Magnitude, T: Integer<N>, M: ParseMode>(
     ensures shrinks { length (rest parser.new) ≤ length (rest parser.old) }
 {
     let (negative, digits) = split_minus(parser.rest());
-    match split_magnitude::<N>(digits) {
+    match split_magnitude::<N>(digits, T::is_long()) {
         None => {
             T::prove_fits();
             Err(Fault::NotText)
@@ -247,6 +310,7 @@ impl<A: Copy> uParse<A> for u8 {
         let _n = *self;
     }
 
+    #[inline(always)]
     fn parse_from<M: ParseMode>(_alloc: A, parser: &mut Parser<'_, M>) -> Result<u8, Fault> {
         parse_integer::<u64, u8, M>(parser)
     }
@@ -259,6 +323,7 @@ impl<A: Copy> uParse<A> for u16 {
         let _n = *self;
     }
 
+    #[inline(always)]
     fn parse_from<M: ParseMode>(_alloc: A, parser: &mut Parser<'_, M>) -> Result<u16, Fault> {
         parse_integer::<u64, u16, M>(parser)
     }
@@ -271,6 +336,7 @@ impl<A: Copy> uParse<A> for u32 {
         let _n = *self;
     }
 
+    #[inline(always)]
     fn parse_from<M: ParseMode>(_alloc: A, parser: &mut Parser<'_, M>) -> Result<u32, Fault> {
         parse_integer::<u64, u32, M>(parser)
     }
@@ -283,6 +349,7 @@ impl<A: Copy> uParse<A> for u64 {
         let _n = *self;
     }
 
+    #[inline(always)]
     fn parse_from<M: ParseMode>(_alloc: A, parser: &mut Parser<'_, M>) -> Result<u64, Fault> {
         parse_integer::<u64, u64, M>(parser)
     }
@@ -295,6 +362,7 @@ impl<A: Copy> uParse<A> for usize {
         let _n = *self;
     }
 
+    #[inline(always)]
     fn parse_from<M: ParseMode>(_alloc: A, parser: &mut Parser<'_, M>) -> Result<usize, Fault> {
         parse_integer::<u64, usize, M>(parser)
     }
@@ -307,6 +375,7 @@ impl<A: Copy> uParse<A> for u128 {
         let _n = *self;
     }
 
+    #[inline(always)]
     fn parse_from<M: ParseMode>(_alloc: A, parser: &mut Parser<'_, M>) -> Result<u128, Fault> {
         parse_integer::<u128, u128, M>(parser)
     }
@@ -319,6 +388,7 @@ impl<A: Copy> uParse<A> for i8 {
         let _n = *self;
     }
 
+    #[inline(always)]
     fn parse_from<M: ParseMode>(_alloc: A, parser: &mut Parser<'_, M>) -> Result<i8, Fault> {
         parse_integer::<u64, i8, M>(parser)
     }
@@ -331,6 +401,7 @@ impl<A: Copy> uParse<A> for i16 {
         let _n = *self;
     }
 
+    #[inline(always)]
     fn parse_from<M: ParseMode>(_alloc: A, parser: &mut Parser<'_, M>) -> Result<i16, Fault> {
         parse_integer::<u64, i16, M>(parser)
     }
@@ -343,6 +414,7 @@ impl<A: Copy> uParse<A> for i32 {
         let _n = *self;
     }
 
+    #[inline(always)]
     fn parse_from<M: ParseMode>(_alloc: A, parser: &mut Parser<'_, M>) -> Result<i32, Fault> {
         parse_integer::<u64, i32, M>(parser)
     }
@@ -355,6 +427,7 @@ impl<A: Copy> uParse<A> for i64 {
         let _n = *self;
     }
 
+    #[inline(always)]
     fn parse_from<M: ParseMode>(_alloc: A, parser: &mut Parser<'_, M>) -> Result<i64, Fault> {
         parse_integer::<u64, i64, M>(parser)
     }
@@ -367,6 +440,7 @@ impl<A: Copy> uParse<A> for isize {
         let _n = *self;
     }
 
+    #[inline(always)]
     fn parse_from<M: ParseMode>(_alloc: A, parser: &mut Parser<'_, M>) -> Result<isize, Fault> {
         parse_integer::<u64, isize, M>(parser)
     }
@@ -379,6 +453,7 @@ impl<A: Copy> uParse<A> for i128 {
         let _n = *self;
     }
 
+    #[inline(always)]
     fn parse_from<M: ParseMode>(_alloc: A, parser: &mut Parser<'_, M>) -> Result<i128, Fault> {
         parse_integer::<u128, i128, M>(parser)
     }
