@@ -1,8 +1,8 @@
 //! Integers: decimal digits with no zero before them, after `-` if the number is negative.
-ghost use Rattle.std.specs.Prelude.{◌≡◌, ◌<◌, ◌≤◌, length, List, ℕ, ℤ, pos, nat_abs, IfOk, IfErr, MatchOption};
+ghost use Rattle.std.specs.Prelude.{◌≡◌, ◌<◌, ◌≤◌, length, List, ℕ, ℤ, pos, nat_abs, false, IfOk, IfErr, MatchOption};
 ghost use Rattle.ufmt_core.specs.Decimal.{decimal};
 ghost use Rattle.ufmt_core.specs.Document.{leaf};
-ghost use Rattle.ufmt_parser.specs.Digits.{IsSigned};
+ghost use Rattle.ufmt_parser.specs.Digits.{IsSigned, SplitsSign};
 ghost use Rattle.ufmt_parser.specs.Taking.{IsNext, IsTaken, open_blocks, rest};
 ghost use Rattle.ufmt_parser.specs.Values.{is_u8, is_u16, is_u32, is_u64, is_u128, is_usize, is_i8, is_i16, is_i32, is_i64, is_i128, is_isize};
 
@@ -28,6 +28,10 @@ trait Integer<N: Magnitude> {
     // Whether there are integers of more than ten digits.
     fn is_long() -> bool;
 
+    // Whether there are integers below 0.
+    fn is_signed() -> bool
+        ensures { result ≡ false → (v : Self) → int v ≡ pos (nat_abs (int v)) };
+
     // Shows that `N` holds the magnitudes of this type.
     fn prove_fits()
         ensures { (v : Self) → in_range v → nat_abs (int v) < N.bound };
@@ -49,6 +53,11 @@ impl Integer<u64> for u8 {
 
     #[inline(always)]
     fn is_long() -> bool {
+        false
+    }
+
+    #[inline(always)]
+    fn is_signed() -> bool {
         false
     }
 
@@ -74,6 +83,11 @@ impl Integer<u64> for u16 {
         false
     }
 
+    #[inline(always)]
+    fn is_signed() -> bool {
+        false
+    }
+
     fn prove_fits() {}
 }
 
@@ -96,6 +110,11 @@ impl Integer<u64> for u32 {
         false
     }
 
+    #[inline(always)]
+    fn is_signed() -> bool {
+        false
+    }
+
     fn prove_fits() {}
 }
 
@@ -112,6 +131,11 @@ impl Integer<u64> for u64 {
     #[inline(always)]
     fn is_long() -> bool {
         true
+    }
+
+    #[inline(always)]
+    fn is_signed() -> bool {
+        false
     }
 
     fn prove_fits() {}
@@ -136,6 +160,11 @@ impl Integer<u64> for usize {
         true
     }
 
+    #[inline(always)]
+    fn is_signed() -> bool {
+        false
+    }
+
     fn prove_fits() {}
 }
 
@@ -152,6 +181,11 @@ impl Integer<u128> for u128 {
     #[inline(always)]
     fn is_long() -> bool {
         true
+    }
+
+    #[inline(always)]
+    fn is_signed() -> bool {
+        false
     }
 
     fn prove_fits() {}
@@ -172,6 +206,11 @@ impl Integer<u64> for i8 {
         false
     }
 
+    #[inline(always)]
+    fn is_signed() -> bool {
+        true
+    }
+
     fn prove_fits() {}
 }
 
@@ -190,6 +229,11 @@ impl Integer<u64> for i16 {
         false
     }
 
+    #[inline(always)]
+    fn is_signed() -> bool {
+        true
+    }
+
     fn prove_fits() {}
 }
 
@@ -206,6 +250,11 @@ impl Integer<u64> for i32 {
     #[inline(always)]
     fn is_long() -> bool {
         false
+    }
+
+    #[inline(always)]
+    fn is_signed() -> bool {
+        true
     }
 
     fn prove_fits() {}
@@ -230,6 +279,11 @@ impl Integer<u64> for i64 {
         true
     }
 
+    #[inline(always)]
+    fn is_signed() -> bool {
+        true
+    }
+
     fn prove_fits() {}
 }
 
@@ -245,6 +299,11 @@ impl Integer<u64> for isize {
 
     #[inline(always)]
     fn is_long() -> bool {
+        true
+    }
+
+    #[inline(always)]
+    fn is_signed() -> bool {
         true
     }
 
@@ -270,7 +329,25 @@ impl Integer<u128> for i128 {
         true
     }
 
+    #[inline(always)]
+    fn is_signed() -> bool {
+        true
+    }
+
     fn prove_fits() {}
+}
+
+// Whether the integer at the front is negative, and what follows its sign.
+#[inline(always)]
+#[tactic(auto, using(crate::proofs::Integers::splits_none))]
+fn split_sign<N: Magnitude, T: Integer<N>>(input: &[u8]) -> (bool, &[u8])
+    ensures { SplitsSign T.int input.now result.0 result.1.now }
+{
+    if T::is_signed() {
+        split_minus(input)
+    } else {
+        (false, input)
+    }
 }
 
 // The integer at the front.
@@ -278,7 +355,6 @@ impl Integer<u128> for i128 {
 fn parse_integer<N: Magnitude, T: Integer<N>, M: ParseMode>(
     parser: &mut Parser<'_, M>,
 ) -> Result<T, Fault>
-    requires { 0 < N.bound }
     ensures taken { IfOk result (λ v. IsTaken M.mode parser.old (leaf (decimal (T.int v))) parser.new) }
     ensures only { IfOk result (λ _. (v : T) (u : List ℕ) → T.in_range v
         → IsNext M.mode parser.old (leaf (decimal (T.int v))) u → u ≡ rest parser.new) }
@@ -287,7 +363,7 @@ fn parse_integer<N: Magnitude, T: Integer<N>, M: ParseMode>(
     ensures blocks { IfOk result (λ _. open_blocks parser.new ≡ open_blocks parser.old) }
     ensures shrinks { length (rest parser.new) ≤ length (rest parser.old) }
 {
-    let (negative, digits) = split_minus(parser.rest());
+    let (negative, digits) = split_sign::<N, T>(parser.rest());
     match split_magnitude::<N>(digits, T::is_long()) {
         None => {
             T::prove_fits();
