@@ -3,6 +3,7 @@ ghost use Rattle.std.specs.Prelude.{[], ◌∷◌, IfSome, ⊤};
 ghost use Rattle.ufmt.specs.ValueDocuments.{named_struct, named_tuple};
 
 mod command;
+mod long_numbers;
 mod values;
 
 use crate::ParseError::NotText;
