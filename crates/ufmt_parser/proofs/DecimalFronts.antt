@@ -2,13 +2,15 @@
 use Rattle.std.proofs.Common.{◌≡◌, refl, sym, ap, ◌∙◌, ℕ, zero, suc, ◌+◌, ◌-◌, ◌*◌, ◌^◌, ◌<◌, ◌≤◌, ◌==◌, Bool, true, false, cond, not, List, [], ◌∷◌, ◌++◌, map, length, drop, slice_index, pos, arith, pow-suc, eqb-true, Option, Some, None, option_map, Bor, MatchOption}
 use Rattle.std.proofs.Math.Nat.{pow-zero}
 use Rattle.std.specs.Char.{is_ascii_digit}
+use Rattle.std.specs.Int.Digits.{number_from_digits, number_from_digits_after, AllBelowBase}
 use Rattle.std.specs.List.{All}
 use Rattle.std.proofs.lemmas.Bool.Decides.{nat_tests}
+use Rattle.std.proofs.lemmas.Int.Digits.{number_lt}
 use Rattle.std.proofs.lemmas.List.Elements.{All-nil, All-cons, All-head, All-tail}
 use Rattle.ufmt_core.specs.Decimal.{decimal, decimal_byte, numeral, value_in_base}
 use Rattle.ufmt_core.proofs.DecimalTexts.{decimal-denotes, DenotesDecimal-one}
 use Rattle.ufmt_core.proofs.Numerals.{numeral-denotes}
-use Rattle.ufmt_parser.specs.Digits.{after_digits, begins_digit, begins_number, value_after, FrontMagnitude, IsFront}
+use Rattle.ufmt_parser.specs.Digits.{after_digits, begins_digit, begins_number, value_after, BeginsWithDigits, FrontMagnitude, IsFront}
 
 -- more digits make no number less
 pub value_after_ge : (n : ℕ) (t : List ℕ) → n ≤ value_after n t
@@ -27,6 +29,32 @@ byte_is_digit digit low = grind (arith, nat_tests)
 
 digit_of : (c : ℕ) → is_ascii_digit c ≡ true → (48 ≤ c) × (c < 58)
 digit_of c h = (grind (arith, nat_tests), grind (arith, nat_tests))
+
+-- ---- a text that begins with these digits
+
+number_after-value : (n : ℕ) (digits : List ℕ) → number_from_digits_after 10 n digits ≡ n * 10 ^ length digits + number_from_digits_after 10 0 digits
+number_after-value n [] = rw pow-zero (omega arith)
+number_after-value n (digit ∷ digits) =
+    rw (number_after-value (n * 10 + digit) digits, number_after-value (0 * 10 + digit) digits, pow-suc) (omega arith)
+
+value_after-bytes : (n : ℕ) (digits u : List ℕ) → AllBelowBase 10 digits
+    → value_after n (map decimal_byte digits ++ u) ≡ value_after (number_from_digits_after 10 n digits) u
+value_after-bytes n [] u below = refl
+value_after-bytes n (digit ∷ digits) u below =
+    let back : 48 + digit - 48 ≡ digit = omega arith in
+    rw (byte_is_digit digit below.0, back) (value_after-bytes (n * 10 + digit) digits u below.1)
+
+after_digits-bytes : (digits u : List ℕ) → AllBelowBase 10 digits → after_digits (map decimal_byte digits ++ u) ≡ after_digits u
+after_digits-bytes [] u below = refl
+after_digits-bytes (digit ∷ digits) u below = rw (byte_is_digit digit below.0) (after_digits-bytes digits u below.1)
+
+pub begins_with_digits : (count : ℕ) (digits t u : List ℕ) → length digits ≡ count → AllBelowBase 10 digits → t ≡ map decimal_byte digits ++ u
+    → BeginsWithDigits count (number_from_digits 10 digits) t u
+begins_with_digits count digits t u long below is = record {
+  below = rw long at (number_lt 10 digits below);
+  value = λ n. rw (is, value_after-bytes n digits u below, number_after-value n digits, long) refl;
+  after = rw is (after_digits-bytes digits u below);
+}
 
 -- ---- a text that begins with these digits, and with no more
 
@@ -141,3 +169,52 @@ magnitude_found value bound t (Some found) begins is = (rw (is.0, is.2) (front_i
 pub no_magnitude : (bound : ℕ) (t : List ℕ) → begins_number t ≡ false → FrontMagnitude (λ n. n < bound) t None
 no_magnitude bound t begins = λ n u low ends same.
     let no : true ≡ false = sym (begins_with n u ends).begins ∙ ap begins_number (sym same) ∙ begins in absurd (cc)
+
+-- ---- by the first byte
+
+value_after-none : (n : ℕ) (t : List ℕ) → begins_digit t ≡ false → value_after n t ≡ n
+value_after-none n [] none = refl
+value_after-none n (c ∷ t) none = rw none refl
+
+after_digits-none : (t : List ℕ) → begins_digit t ≡ false → after_digits t ≡ t
+after_digits-none [] none = refl
+after_digits-none (c ∷ t) none = rw none refl
+
+begins_number-no_digit : (t : List ℕ) → begins_digit t ≡ false → begins_number t ≡ false
+begins_number-no_digit [] none = refl
+begins_number-no_digit (c ∷ t) none = go (c == 48) refl
+  where
+    go : (same : Bool) → (c == 48) ≡ same → begins_number (c ∷ t) ≡ false
+    go true e = let no : true ≡ false = sym (ap is_ascii_digit (eqb-true c 48 e)) ∙ none in absurd (cc)
+    go false e = rw e none
+
+pub none_first : (t : List ℕ) → length t ≡ 0 → begins_digit t ≡ false
+none_first [] none = refl
+none_first (c ∷ t) none = absurd (omega arith)
+
+-- where no digit comes first, there is no number
+pub no_digit_first : (bound : ℕ) (t : List ℕ) → begins_digit t ≡ false → FrontMagnitude (λ n. n < bound) t None
+no_digit_first bound t none = no_magnitude bound t (begins_number-no_digit t none)
+
+module _ {N : Type 0} (value : N → ℕ) (bound : ℕ) (t after : List ℕ) (r : Option (N × Bor (List ℕ))) where
+  -- 0 is a number unless a digit follows it
+  pub zero_first : t ≡ 48 ∷ after
+      → MatchOption r (begins_digit after ≡ true) (λ found. (begins_digit after ≡ false) × (value found.0 ≡ 0) × (value found.0 < bound) × (found.1.now ≡ after))
+      → FrontMagnitude (λ n. n < bound) t (option_map (λ found. (value found.0, found.1.now)) r)
+  zero_first whole is = go r is
+    where
+      go : (r : Option (N × Bor (List ℕ)))
+          → MatchOption r (begins_digit after ≡ true) (λ found. (begins_digit after ≡ false) × (value found.0 ≡ 0) × (value found.0 < bound) × (found.1.now ≡ after))
+          → FrontMagnitude (λ n. n < bound) t (option_map (λ found. (value found.0, found.1.now)) r)
+      go None digit = no_magnitude bound t (rw (whole, digit) refl)
+      go (Some found) is =
+          magnitude_found value bound t (Some found) (rw (whole, is.0) refl)
+          (is.1 ∙ sym (ap (value_after 0) whole ∙ value_after-none 0 after is.0), is.2, is.3 ∙ sym (ap after_digits whole ∙ after_digits-none after is.0))
+
+  -- another digit is completed by those after it
+  pub digit_first : (c : ℕ) → t ≡ c ∷ after → is_ascii_digit c ≡ true → (c == 48) ≡ false
+      → MatchOption r (bound ≤ value_after (c - 48) after) (λ found. (value found.0 ≡ value_after (c - 48) after) × (value found.0 < bound) × (found.1.now ≡ after_digits after))
+      → FrontMagnitude (λ n. n < bound) t (option_map (λ found. (value found.0, found.1.now)) r)
+  digit_first c whole digit other is =
+      let first : 0 * 10 + (c - 48) ≡ c - 48 = omega arith in
+      magnitude_found value bound t r (rw (whole, other) digit) (rw (whole, digit, first) is)

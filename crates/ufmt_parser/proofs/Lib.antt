@@ -14,6 +14,7 @@ pub mod ListedValues
 pub mod NameFronts
 pub mod NumberKeys
 pub mod OneWay
+pub mod PackedDigits
 pub mod Parts
 pub mod Places
 pub mod QuotedTaken

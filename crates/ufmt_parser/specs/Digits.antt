@@ -1,5 +1,5 @@
 -- The decimal digits at the front of a text, and the number that they denote.
-use Rattle.std.specs.Prelude.{◌≡◌, ◌≢◌, ℕ, ◌+◌, ◌-◌, ◌*◌, ◌==◌, Bool, true, false, cond, not, List, [], ◌∷◌, ◌++◌, Option, Some, None, suc, ℤ, pos, negsuc}
+use Rattle.std.specs.Prelude.{◌≡◌, ◌≢◌, ℕ, ◌+◌, ◌-◌, ◌*◌, ◌^◌, ◌<◌, ◌==◌, Bool, true, false, cond, not, List, [], ◌∷◌, ◌++◌, Option, Some, None, suc, ℤ, pos, negsuc, nat_abs}
 use Rattle.std.specs.Char.{is_ascii_digit}
 use Rattle.ufmt_core.specs.Bytes.{hyphen, zero_digit}
 use Rattle.ufmt_core.specs.Decimal.{decimal}
@@ -42,7 +42,30 @@ abbrev pub after_minus : List ℕ → List ℕ
 after_minus [] = []
 after_minus (c ∷ t) = cond (c == hyphen) t (c ∷ t)
 
+-- the text of a sign
+abbrev pub sign : Bool → List ℕ
+sign true = hyphen ∷ []
+sign false = []
+
 -- a number's sign and magnitude: 0 has no `-`
 abbrev pub IsSigned : Bool → ℕ → ℤ → Type 0
 IsSigned negative n (pos m) = (negative ≡ false) × (n ≡ m)
 IsSigned negative n (negsuc m) = (negative ≡ true) × (n ≡ suc m)
+
+-- so many digits come first, which denote m, and then u
+pub record BeginsWithDigits (count m : ℕ) (t u : List ℕ) : Type 0 where
+  pub below : m < 10 ^ count
+  pub value : (n : ℕ) → value_after n t ≡ value_after (n * 10 ^ count + m) u
+  pub after : after_digits t ≡ after_digits u
+
+-- each two digits in this base as one number
+abbrev pub joined : ℕ → List ℕ → List ℕ
+joined base [] = []
+joined base (a ∷ []) = []
+joined base (a ∷ b ∷ digits) = (a * base + b) ∷ joined base digits
+
+-- a text is cut after its sign, as the text of each of these integers is, where one comes first
+pub record SplitsSign {T : Type 0} (int : T → ℤ) (old : List ℕ) (negative : Bool) (after : List ℕ) : Type 0 where
+  pub text : old ≡ sign negative ++ after
+  pub only : (v : T) (u : List ℕ) → begins_digit u ≡ false → old ≡ decimal (int v) ++ u
+      → IsSigned negative (nat_abs (int v)) (int v) × (after ≡ decimal (pos (nat_abs (int v))) ++ u)

@@ -22,6 +22,7 @@ mod primitives;
 mod quoted;
 mod round_trips;
 mod rows;
+mod sixteen_digits;
 mod sorted;
 mod strip;
 mod structs;

@@ -1,8 +1,8 @@
 //! Integers: decimal digits with no zero before them, after `-` if the number is negative.
-ghost use Rattle.std.specs.Prelude.{◌≡◌, ◌<◌, ◌≤◌, ⊤, length, List, ℕ, ℤ, pos, nat_abs, IfOk, IfErr, MatchOption};
+ghost use Rattle.std.specs.Prelude.{◌≡◌, ◌<◌, ◌≤◌, ⊤, length, List, ℕ, ℤ, pos, nat_abs, false, IfOk, IfErr, MatchOption};
 ghost use Rattle.ufmt_core.specs.Decimal.{decimal};
 ghost use Rattle.ufmt_core.specs.Document.{leaf};
-ghost use Rattle.ufmt_parser.specs.Digits.{IsSigned};
+ghost use Rattle.ufmt_parser.specs.Digits.{IsSigned, SplitsSign};
 ghost use Rattle.ufmt_parser.specs.Taking.{IsNext, IsTaken, open_blocks, rest};
 ghost use Rattle.ufmt_parser.specs.Values.{is_u8, is_u16, is_u32, is_u64, is_u128, is_usize, is_i8, is_i16, is_i32, is_i64, is_i128, is_isize};
 
@@ -25,6 +25,13 @@ trait Integer<N: Magnitude> {
             ((v : Self) → in_range v → IsSigned negative (N.value magnitude) (int v) → ⊥)
             (λ v. in_range v × IsSigned negative (N.value magnitude) (int v)) };
 
+    // Whether there are integers of more than ten digits.
+    fn is_long() -> bool;
+
+    // Whether there are integers below 0.
+    fn is_signed() -> bool
+        ensures { result ≡ false → (v : Self) → int v ≡ pos (nat_abs (int v)) };
+
     // Shows that `N` holds the magnitudes of this type.
     fn prove_fits()
         ensures { (v : Self) → in_range v → nat_abs (int v) < N.bound };
@@ -44,6 +51,16 @@ impl Integer<u64> for u8 {
         }
     }
 
+    #[inline(always)]
+    fn is_long() -> bool {
+        false
+    }
+
+    #[inline(always)]
+    fn is_signed() -> bool {
+        false
+    }
+
     fn prove_fits() {}
 }
 
@@ -59,6 +76,16 @@ impl Integer<u64> for u16 {
         } else {
             u16::try_from(magnitude).ok()
         }
+    }
+
+    #[inline(always)]
+    fn is_long() -> bool {
+        false
+    }
+
+    #[inline(always)]
+    fn is_signed() -> bool {
+        false
     }
 
     fn prove_fits() {}
@@ -78,6 +105,16 @@ impl Integer<u64> for u32 {
         }
     }
 
+    #[inline(always)]
+    fn is_long() -> bool {
+        false
+    }
+
+    #[inline(always)]
+    fn is_signed() -> bool {
+        false
+    }
+
     fn prove_fits() {}
 }
 
@@ -89,6 +126,16 @@ impl Integer<u64> for u64 {
     #[inline(always)]
     fn from_magnitude(negative: bool, magnitude: u64) -> Option<u64> {
         if negative { None } else { Some(magnitude) }
+    }
+
+    #[inline(always)]
+    fn is_long() -> bool {
+        true
+    }
+
+    #[inline(always)]
+    fn is_signed() -> bool {
+        false
     }
 
     fn prove_fits() {}
@@ -108,6 +155,16 @@ impl Integer<u64> for usize {
         }
     }
 
+    #[inline(always)]
+    fn is_long() -> bool {
+        true
+    }
+
+    #[inline(always)]
+    fn is_signed() -> bool {
+        false
+    }
+
     fn prove_fits() {}
 }
 
@@ -119,6 +176,16 @@ impl Integer<u128> for u128 {
     #[inline(always)]
     fn from_magnitude(negative: bool, magnitude: u128) -> Option<u128> {
         if negative { None } else { Some(magnitude) }
+    }
+
+    #[inline(always)]
+    fn is_long() -> bool {
+        true
+    }
+
+    #[inline(always)]
+    fn is_signed() -> bool {
+        false
     }
 
     fn prove_fits() {}
@@ -134,6 +201,16 @@ impl Integer<u64> for i8 {
         i8::try_from(i64::from_magnitude(negative, magnitude)?).ok()
     }
 
+    #[inline(always)]
+    fn is_long() -> bool {
+        false
+    }
+
+    #[inline(always)]
+    fn is_signed() -> bool {
+        true
+    }
+
     fn prove_fits() {}
 }
 
@@ -147,6 +224,16 @@ impl Integer<u64> for i16 {
         i16::try_from(i64::from_magnitude(negative, magnitude)?).ok()
     }
 
+    #[inline(always)]
+    fn is_long() -> bool {
+        false
+    }
+
+    #[inline(always)]
+    fn is_signed() -> bool {
+        true
+    }
+
     fn prove_fits() {}
 }
 
@@ -158,6 +245,16 @@ impl Integer<u64> for i32 {
     #[inline(always)]
     fn from_magnitude(negative: bool, magnitude: u64) -> Option<i32> {
         i32::try_from(i64::from_magnitude(negative, magnitude)?).ok()
+    }
+
+    #[inline(always)]
+    fn is_long() -> bool {
+        false
+    }
+
+    #[inline(always)]
+    fn is_signed() -> bool {
+        true
     }
 
     fn prove_fits() {}
@@ -177,6 +274,16 @@ impl Integer<u64> for i64 {
         Some(-1 - before)
     }
 
+    #[inline(always)]
+    fn is_long() -> bool {
+        true
+    }
+
+    #[inline(always)]
+    fn is_signed() -> bool {
+        true
+    }
+
     fn prove_fits() {}
 }
 
@@ -188,6 +295,16 @@ impl Integer<u64> for isize {
     #[inline(always)]
     fn from_magnitude(negative: bool, magnitude: u64) -> Option<isize> {
         isize::try_from(i64::from_magnitude(negative, magnitude)?).ok()
+    }
+
+    #[inline(always)]
+    fn is_long() -> bool {
+        true
+    }
+
+    #[inline(always)]
+    fn is_signed() -> bool {
+        true
     }
 
     fn prove_fits() {}
@@ -207,7 +324,30 @@ impl Integer<u128> for i128 {
         Some(-1 - before)
     }
 
+    #[inline(always)]
+    fn is_long() -> bool {
+        true
+    }
+
+    #[inline(always)]
+    fn is_signed() -> bool {
+        true
+    }
+
     fn prove_fits() {}
+}
+
+// Whether the integer at the front is negative, and what follows its sign.
+#[inline(always)]
+#[tactic(auto, using(crate::proofs::Integers::splits_none))]
+fn split_sign<N: Magnitude, T: Integer<N>>(input: &[u8]) -> (bool, &[u8])
+    ensures { SplitsSign T.int input.now result.0 result.1.now }
+{
+    if T::is_signed() {
+        split_minus(input)
+    } else {
+        (false, input)
+    }
 }
 
 // The integer at the front.
@@ -215,7 +355,6 @@ impl Integer<u128> for i128 {
 fn parse_integer<N: Magnitude, T: Integer<N>, M: ParseMode>(
     parser: &mut Parser<'_, M>,
 ) -> Result<T, Fault>
-    requires { 0 < N.bound }
     ensures taken { IfOk result (λ v. IsTaken M.mode parser.old (leaf (decimal (T.int v))) parser.new) }
     ensures only { IfOk result (λ _. (v : T) (u : List ℕ) → T.in_range v
         → IsNext M.mode parser.old (leaf (decimal (T.int v))) u → u ≡ rest parser.new) }
@@ -225,8 +364,8 @@ fn parse_integer<N: Magnitude, T: Integer<N>, M: ParseMode>(
     ensures blocks { IfOk result (λ _. open_blocks parser.new ≡ open_blocks parser.old) }
     ensures shrinks { length (rest parser.new) ≤ length (rest parser.old) }
 {
-    let (negative, digits) = split_minus(parser.rest());
-    match split_magnitude::<N>(digits) {
+    let (negative, digits) = split_sign::<N, T>(parser.rest());
+    match split_magnitude::<N>(digits, T::is_long()) {
         None => {
             T::prove_fits();
             Err(Fault::NotText)
@@ -250,6 +389,7 @@ impl<A: Copy> uParse<A> for u8 {
         let _n = *self;
     }
 
+    #[inline(always)]
     fn parse_from<M: ParseMode>(_alloc: A, parser: &mut Parser<'_, M>) -> Result<u8, Fault> {
         parse_integer::<u64, u8, M>(parser)
     }
@@ -264,6 +404,7 @@ impl<A: Copy> uParse<A> for u16 {
         let _n = *self;
     }
 
+    #[inline(always)]
     fn parse_from<M: ParseMode>(_alloc: A, parser: &mut Parser<'_, M>) -> Result<u16, Fault> {
         parse_integer::<u64, u16, M>(parser)
     }
@@ -278,6 +419,7 @@ impl<A: Copy> uParse<A> for u32 {
         let _n = *self;
     }
 
+    #[inline(always)]
     fn parse_from<M: ParseMode>(_alloc: A, parser: &mut Parser<'_, M>) -> Result<u32, Fault> {
         parse_integer::<u64, u32, M>(parser)
     }
@@ -292,6 +434,7 @@ impl<A: Copy> uParse<A> for u64 {
         let _n = *self;
     }
 
+    #[inline(always)]
     fn parse_from<M: ParseMode>(_alloc: A, parser: &mut Parser<'_, M>) -> Result<u64, Fault> {
         parse_integer::<u64, u64, M>(parser)
     }
@@ -306,6 +449,7 @@ impl<A: Copy> uParse<A> for usize {
         let _n = *self;
     }
 
+    #[inline(always)]
     fn parse_from<M: ParseMode>(_alloc: A, parser: &mut Parser<'_, M>) -> Result<usize, Fault> {
         parse_integer::<u64, usize, M>(parser)
     }
@@ -320,6 +464,7 @@ impl<A: Copy> uParse<A> for u128 {
         let _n = *self;
     }
 
+    #[inline(always)]
     fn parse_from<M: ParseMode>(_alloc: A, parser: &mut Parser<'_, M>) -> Result<u128, Fault> {
         parse_integer::<u128, u128, M>(parser)
     }
@@ -334,6 +479,7 @@ impl<A: Copy> uParse<A> for i8 {
         let _n = *self;
     }
 
+    #[inline(always)]
     fn parse_from<M: ParseMode>(_alloc: A, parser: &mut Parser<'_, M>) -> Result<i8, Fault> {
         parse_integer::<u64, i8, M>(parser)
     }
@@ -348,6 +494,7 @@ impl<A: Copy> uParse<A> for i16 {
         let _n = *self;
     }
 
+    #[inline(always)]
     fn parse_from<M: ParseMode>(_alloc: A, parser: &mut Parser<'_, M>) -> Result<i16, Fault> {
         parse_integer::<u64, i16, M>(parser)
     }
@@ -362,6 +509,7 @@ impl<A: Copy> uParse<A> for i32 {
         let _n = *self;
     }
 
+    #[inline(always)]
     fn parse_from<M: ParseMode>(_alloc: A, parser: &mut Parser<'_, M>) -> Result<i32, Fault> {
         parse_integer::<u64, i32, M>(parser)
     }
@@ -376,6 +524,7 @@ impl<A: Copy> uParse<A> for i64 {
         let _n = *self;
     }
 
+    #[inline(always)]
     fn parse_from<M: ParseMode>(_alloc: A, parser: &mut Parser<'_, M>) -> Result<i64, Fault> {
         parse_integer::<u64, i64, M>(parser)
     }
@@ -390,6 +539,7 @@ impl<A: Copy> uParse<A> for isize {
         let _n = *self;
     }
 
+    #[inline(always)]
     fn parse_from<M: ParseMode>(_alloc: A, parser: &mut Parser<'_, M>) -> Result<isize, Fault> {
         parse_integer::<u64, isize, M>(parser)
     }
@@ -404,6 +554,7 @@ impl<A: Copy> uParse<A> for i128 {
         let _n = *self;
     }
 
+    #[inline(always)]
     fn parse_from<M: ParseMode>(_alloc: A, parser: &mut Parser<'_, M>) -> Result<i128, Fault> {
         parse_integer::<u128, i128, M>(parser)
     }

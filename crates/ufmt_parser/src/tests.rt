@@ -6,6 +6,7 @@ mod command;
 mod errors;
 mod places;
 mod round_trips;
+mod long_numbers;
 mod values;
 mod variants;
 

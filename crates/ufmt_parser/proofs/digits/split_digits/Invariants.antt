@@ -1,14 +1,13 @@
-use Rattle.std.proofs.Common.{◌≡◌, ◌<◌, length}
+use Rattle.std.proofs.Common.{◌≡◌, ◌<◌, ◌≤◌, length}
 use Rattle.ufmt_parser.specs.Digits.{after_digits, value_after}
 use Rattle.ufmt_parser.proofs.digits.split_digits.Given as goal
 
--- the digits that are left complete the number
-abbrev pub invariant-digits : goal.invariant-digits
-invariant-digits g l = record {
-  value : value_after (g.N.Magnitude.value l.n) l.rest ≡ value_after 0 l.fn.input;
-  fits : g.N.Magnitude.value l.n < g.N.Magnitude.bound;
+-- the digits that are left complete the number, which has a digit more at each turn
+abbrev pub invariant-few : goal.invariant-few
+invariant-few g l = record {
+  value : value_after l.n l.rest ≡ value_after l.fn.start l.fn.input;
   after : after_digits l.rest ≡ after_digits l.fn.input;
+  one_digit : l.counter ≡ 0 → l.n < 10;
+  two_digits : l.counter ≡ 1 → l.n < 100;
+  three_digits : l.n < 1000;
 }
-
-abbrev pub decreases-digits : goal.decreases-digits
-decreases-digits g l = length l.rest
