@@ -11,6 +11,7 @@ use crate::parser::{Fault, Parser};
 use ufmt::layout::Kind;
 
 /// Takes a struct with one field, as `parse_from` does a value.
+#[inline(always)]
 pub fn parse_struct_1<Alloc: Copy, A: uParse<Alloc>, M: ParseMode>(
     alloc: Alloc,
     parser: &mut Parser<'_, M>,
@@ -37,6 +38,7 @@ pub fn parse_struct_1<Alloc: Copy, A: uParse<Alloc>, M: ParseMode>(
 }
 
 /// Takes a struct with 2 fields, as `parse_from` does a value.
+#[inline(always)]
 pub fn parse_struct_2<Alloc: Copy, A: uParse<Alloc>, B: uParse<Alloc>, M: ParseMode>(
     alloc: Alloc,
     parser: &mut Parser<'_, M>,
@@ -66,6 +68,7 @@ pub fn parse_struct_2<Alloc: Copy, A: uParse<Alloc>, B: uParse<Alloc>, M: ParseM
 }
 
 /// Takes a struct with 3 fields, as `parse_from` does a value.
+#[inline(always)]
 pub fn parse_struct_3<
     Alloc: Copy,
     A: uParse<Alloc>,
@@ -103,6 +106,7 @@ pub fn parse_struct_3<
 }
 
 /// Takes a struct with 4 fields, as `parse_from` does a value.
+#[inline(always)]
 pub fn parse_struct_4<
     Alloc: Copy,
     A: uParse<Alloc>,
@@ -149,6 +153,7 @@ pub fn parse_struct_4<
 }
 
 /// Takes a struct with 5 fields, as `parse_from` does a value.
+#[inline(always)]
 pub fn parse_struct_5<
     Alloc: Copy,
     A: uParse<Alloc>,
@@ -202,6 +207,7 @@ pub fn parse_struct_5<
 }
 
 /// Takes a struct with 6 fields, as `parse_from` does a value.
+#[inline(always)]
 pub fn parse_struct_6<
     Alloc: Copy,
     A: uParse<Alloc>,

@@ -13,6 +13,7 @@ impl<Alloc: Copy, A: uParse<Alloc>> uParse<Alloc> for (A,) {
         self.0.prove_value();
     }
 
+    #[inline(always)]
     fn parse_from<M: ParseMode>(alloc: Alloc, parser: &mut Parser<'_, M>) -> Result<(A,), Fault> {
         match parse_tuple_1(alloc, parser, "") {
             Err(fault) => Err(fault),
@@ -29,6 +30,7 @@ impl<Alloc: Copy, A: uParse<Alloc>, B: uParse<Alloc>> uParse<Alloc> for (A, B) {
         self.1.prove_value();
     }
 
+    #[inline(always)]
     fn parse_from<M: ParseMode>(alloc: Alloc, parser: &mut Parser<'_, M>) -> Result<(A, B), Fault> {
         match parse_tuple_2(alloc, parser, "") {
             Err(fault) => Err(fault),
@@ -47,6 +49,7 @@ impl<Alloc: Copy, A: uParse<Alloc>, B: uParse<Alloc>, C: uParse<Alloc>> uParse<A
         self.2.prove_value();
     }
 
+    #[inline(always)]
     fn parse_from<M: ParseMode>(
         alloc: Alloc,
         parser: &mut Parser<'_, M>,
@@ -70,6 +73,7 @@ impl<Alloc: Copy, A: uParse<Alloc>, B: uParse<Alloc>, C: uParse<Alloc>, D: uPars
         self.3.prove_value();
     }
 
+    #[inline(always)]
     fn parse_from<M: ParseMode>(
         alloc: Alloc,
         parser: &mut Parser<'_, M>,
@@ -99,6 +103,7 @@ impl<
         self.4.prove_value();
     }
 
+    #[inline(always)]
     fn parse_from<M: ParseMode>(
         alloc: Alloc,
         parser: &mut Parser<'_, M>,
@@ -130,6 +135,7 @@ impl<
         self.5.prove_value();
     }
 
+    #[inline(always)]
     fn parse_from<M: ParseMode>(
         alloc: Alloc,
         parser: &mut Parser<'_, M>,

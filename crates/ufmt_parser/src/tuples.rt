@@ -12,6 +12,7 @@ use crate::parser::{Fault, Parser};
 use ufmt::layout::Kind;
 
 /// Takes a tuple with one field, as `parse_from` does a value.
+#[inline(always)]
 pub fn parse_tuple_1<Alloc: Copy, A: uParse<Alloc>, M: ParseMode>(
     alloc: Alloc,
     parser: &mut Parser<'_, M>,
@@ -37,6 +38,7 @@ pub fn parse_tuple_1<Alloc: Copy, A: uParse<Alloc>, M: ParseMode>(
 }
 
 /// Takes a tuple with 2 fields, as `parse_from` does a value.
+#[inline(always)]
 pub fn parse_tuple_2<Alloc: Copy, A: uParse<Alloc>, B: uParse<Alloc>, M: ParseMode>(
     alloc: Alloc,
     parser: &mut Parser<'_, M>,
@@ -62,6 +64,7 @@ pub fn parse_tuple_2<Alloc: Copy, A: uParse<Alloc>, B: uParse<Alloc>, M: ParseMo
 }
 
 /// Takes a tuple with 3 fields, as `parse_from` does a value.
+#[inline(always)]
 pub fn parse_tuple_3<
     Alloc: Copy,
     A: uParse<Alloc>,
@@ -91,6 +94,7 @@ pub fn parse_tuple_3<
 }
 
 /// Takes a tuple with 4 fields, as `parse_from` does a value.
+#[inline(always)]
 pub fn parse_tuple_4<
     Alloc: Copy,
     A: uParse<Alloc>,
@@ -128,6 +132,7 @@ pub fn parse_tuple_4<
 }
 
 /// Takes a tuple with 5 fields, as `parse_from` does a value.
+#[inline(always)]
 pub fn parse_tuple_5<
     Alloc: Copy,
     A: uParse<Alloc>,
@@ -171,6 +176,7 @@ pub fn parse_tuple_5<
 }
 
 /// Takes a tuple with 6 fields, as `parse_from` does a value.
+#[inline(always)]
 pub fn parse_tuple_6<
     Alloc: Copy,
     A: uParse<Alloc>,
