@@ -1,8 +1,7 @@
--- Keys that ascend: the key that is next is past those before it, and keys with the same documents ascend too.
-use Rattle.std.proofs.Common.{◌≡◌, ◌∙◌, refl, sym, ap, subst, true≢false, ℕ, zero, suc, List, [], ◌∷◌, ◌++◌, map}
-use Rattle.std.specs.Prelude.{All, Some, true, false, slice_get}
+-- Keys that ascend: each comes before those after it, and keys with the same documents ascend too.
+use Rattle.std.proofs.Common.{◌≡◌, ◌∙◌, refl, sym, ap, subst, true≢false, ℕ, zero, suc, List, [], ◌∷◌, ◌++◌, map, append_assoc}
+use Rattle.std.specs.Prelude.{◌↔◌, All, Bool, IsTrue, Some, true, false, slice_get}
 use Rattle.std.specs.BTreeMap.{insert_entry}
-use Rattle.std.specs.BTreeSet.{insert_key}
 use Rattle.std.specs.Cmp.{IsTotalOrder, alike_right}
 use Rattle.std.specs.List.{AllByRecursion}
 use Rattle.std.specs.List.Sorted.{IsStrictlySortedBy}
@@ -10,66 +9,51 @@ use Rattle.std.specs.Map.{keys_of}
 use Rattle.std.specs.Ordering.{is_lt, ordering_reverse}
 use Rattle.std.specs.declared.cmp.Ordering.{Ordering}
 use Rattle.std.specs.declared.cmp.Ordering.TheVariants.{Less, Equal, Greater}
+use Rattle.ufmt_parser.specs.Blocks.{ComesBefore}
 use Rattle.std.proofs.lemmas.List.Elements.{All-from_recursion, All-head, All-tail, All-weaker}
 use Rattle.std.proofs.lemmas.Map.Keys.{sorted_head, sorted_tail}
 
--- what holds of each holds of the one in the middle
-in_the_middle : {K : Type 0} (P : K → Type 0) (before : List K) (k : K) (after : List K) → AllByRecursion P (before ++ k ∷ after) → P k
-in_the_middle P [] k after all = all.0
-in_the_middle P (x ∷ xs) k after all = in_the_middle P xs k after all.1
+-- what comes after others ascends, if all do
+sorted_after : {K : Type 0} (cmp : K → K → Ordering) (before after : List K) → IsStrictlySortedBy cmp (before ++ after) → IsStrictlySortedBy cmp after
+sorted_after cmp [] after sorted = sorted
+sorted_after cmp (x ∷ xs) after sorted = sorted_after cmp xs after (sorted_tail cmp x (xs ++ after) sorted)
 
-module _ {K : Type 0} (cmp : K → K → Ordering) where
-  before_next_by : (before : List K) (k : K) (after : List K) → IsStrictlySortedBy cmp (before ++ k ∷ after) → AllByRecursion (λ x. cmp x k ≡ Less) before
-  before_next_by [] k after sorted = tt
-  before_next_by (x ∷ xs) k after sorted = (
-    in_the_middle (λ y. cmp x y ≡ Less) xs k after (sorted_head cmp x (xs ++ k ∷ after) sorted),
-    before_next_by xs k after (sorted_tail cmp x (xs ++ k ∷ after) sorted),
-  )
+head_before : {K : Type 0} (cmp : K → K → Ordering) (k : K) (after : List K) → AllByRecursion (λ x. cmp k x ≡ Less) after → ComesBefore cmp k after
+head_before cmp k [] all = tt
+head_before cmp k (x ∷ xs) all = all.0
 
-  -- the next key is past each before it
-  pub before_next : (before : List K) (k : K) (after : List K) → IsStrictlySortedBy cmp (before ++ k ∷ after) → All (λ x. cmp x k ≡ Less) before
-  before_next before k after sorted = All-from_recursion (λ x. cmp x k ≡ Less) before (before_next_by before k after sorted)
+-- a key among others that ascend comes before those after it
+pub before_next : {K : Type 0} (cmp : K → K → Ordering) (before : List K) (k : K) (after : List K) → IsStrictlySortedBy cmp (before ++ k ∷ after) → ComesBefore cmp k after
+before_next cmp before k after sorted = head_before cmp k after (sorted_head cmp k after (sorted_after cmp before (k ∷ after) sorted))
 
--- a key that comes after each is inserted at the end
-pub insert_key-last : {K : Type 0} {cmp : K → K → Ordering} → IsTotalOrder cmp → (ks : List K) (k : K) → All (λ before. cmp before k ≡ Less) ks → insert_key cmp ks k ≡ ks ++ k ∷ []
-insert_key-last total [] k below = refl
-insert_key-last {cmp = cmp} total (x ∷ xs) k below =
-    let above = total.antisymm k x ∙ ap ordering_reverse (All-head (λ before. cmp before k ≡ Less) x xs below) in
-    rw above (ap (λ l. x ∷ l) (insert_key-last total xs k (All-tail (λ before. cmp before k ≡ Less) x xs below)))
+-- an entry whose key comes before the first is inserted there
+insert_entry-first : {K X : Type 0} (cmp : K → K → Ordering) (es : List (K × X)) (k : K) (v : X) → ComesBefore cmp k (keys_of es) → insert_entry cmp es k v ≡ (k, v) ∷ es
+insert_entry-first cmp [] k v first = refl
+insert_entry-first cmp (e ∷ es) k v first = rw first refl
 
--- and so is its entry
-pub insert_entry-last : {K X : Type 0} {cmp : K → K → Ordering} → IsTotalOrder cmp → (es : List (K × X)) (k : K) (v : X) → All (λ before. cmp before k ≡ Less) (keys_of es)
-    → insert_entry cmp es k v ≡ es ++ (k, v) ∷ []
-insert_entry-last total [] k v below = refl
-insert_entry-last {cmp = cmp} total (e ∷ es) k v below =
-    let above = total.antisymm k e.0 ∙ ap ordering_reverse (All-head (λ before. cmp before k ≡ Less) e.0 (keys_of es) below) in
-    rw above (ap (λ l. e ∷ l) (insert_entry-last total es k v (All-tail (λ before. cmp before k ≡ Less) e.0 (keys_of es) below)))
+-- an entry that is taken off the end of those that are left, and inserted before the others, leaves all in their order
+pub entry_moved : {K X : Type 0} (cmp : K → K → Ordering) (left es : List (K × X)) (k : K) (v : X) {before more all : List (K × X)} → before ≡ left ++ (k, v) ∷ [] → ComesBefore cmp k (keys_of es)
+    → more ≡ insert_entry cmp es k v → before ++ es ≡ all → left ++ more ≡ all
+entry_moved cmp left es k v popped first inserted whole =
+    ap (λ moved. left ++ moved) (inserted ∙ insert_entry-first cmp es k v first) ∙ sym (append_assoc left ((k, v) ∷ []) es) ∙ ap (λ front. front ++ es) (sym popped) ∙ whole
 
--- the keys of entries, with the next one in the middle
+-- the keys of entries, with one in the middle
 pub keys_split : {K X : Type 0} (before : List (K × X)) (e : K × X) (after : List (K × X)) → keys_of (before ++ e ∷ after) ≡ keys_of before ++ e.0 ∷ keys_of after
 keys_split [] e after = refl
 keys_split (x ∷ xs) e after = ap (λ ks. x.0 ∷ ks) (keys_split xs e after)
 
-module _ {K : Type 0} {cmp : K → K → Ordering} (total : IsTotalOrder cmp) where
-  -- what comes after the last key comes after each
-  below_next : (last x k : K) → cmp last k ≡ Less → is_lt (cmp last x) ≡ false → (r : Ordering) → cmp last x ≡ r → cmp x k ≡ Less
-  below_next last x k below from Less is = absurd (true≢false (ap is_lt (sym is) ∙ from))
-  below_next last x k below from Equal is = sym (total.congr last x k is) ∙ below
-  below_next last x k below from Greater is = total.trans x last k (total.antisymm x last ∙ ap ordering_reverse is) below
-
-  pub all_below : (ks : List K) (last k : K) → All (λ x. is_lt (cmp last x) ≡ false) ks → cmp last k ≡ Less → All (λ before. cmp before k ≡ Less) ks
-  all_below ks last k from below = All-weaker (λ x. is_lt (cmp last x) ≡ false) (λ before. cmp before k ≡ Less) (λ x is. below_next last x k below is (cmp last x) refl) ks from
-
-pub lt_is_Less : (r : Ordering) → is_lt r ≡ true → r ≡ Less
+lt_is_Less : (r : Ordering) → is_lt r ≡ true → r ≡ Less
 lt_is_Less Less is = refl
 lt_is_Less Equal is = absurd (true≢false (sym is))
 lt_is_Less Greater is = absurd (true≢false (sym is))
 
--- what holds of each key holds of an entry's
-pub at_entry : {K X : Type 0} (P : K → Type 0) (es : List (K × X)) (i : ℕ) (e : K × X) → slice_get es i ≡ Some e → All P (keys_of es) → P e.0
-at_entry P [] i e at all = cc
-at_entry P (f ∷ es) zero e at all = let key : f.0 ≡ e.0 = cc in subst P key (All-head P f.0 (keys_of es) all)
-at_entry P (f ∷ es) (suc i) e at all = at_entry P es i e at (All-tail P f.0 (keys_of es) all)
+-- whether a key comes before those of entries is told by the first entry
+pub before_entries : {K X : Type 0} (cmp : K → K → Ordering) (k : K) (es : List (K × X)) (e : K × X) (less : Bool) → slice_get es 0 ≡ Some e → less ≡ is_lt (cmp k e.0)
+    → IsTrue less ↔ ComesBefore cmp k (keys_of es)
+before_entries cmp k [] e less at is = absurd (cc)
+before_entries cmp k (f ∷ es) e less at is =
+    let key : f.0 ≡ e.0 = cc in
+    (λ yes. ap (cmp k) key ∙ lt_is_Less (cmp k e.0) (sym is ∙ yes), λ first. is ∙ ap is_lt (ap (cmp k) (sym key) ∙ first))
 
 -- of entries with the same parts, if the keys of some ascend, those of the others do too
 module _ {E K Content : Type 0} {cmp : K → K → Ordering} (total : IsTotalOrder cmp) (key : E → K) (is : E → Type 0) (part : E → Content)

@@ -1,6 +1,7 @@
 pub mod Ascending
 pub mod BracketedBlocks
 pub mod Characters
+pub mod Chunks
 pub mod Clauses
 pub mod DecimalFronts
 pub mod EntriesInARow

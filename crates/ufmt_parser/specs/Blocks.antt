@@ -1,5 +1,7 @@
 -- Blocks in brackets or braces, of any number of entries.
 use Rattle.std.specs.Prelude.{◌≡◌, ℕ, suc, ◌<◌, ◌≤◌, false, List, [], ◌∷◌, All, Result, Ok, Err, ⊤}
+use Rattle.std.specs.declared.cmp.Ordering.{Ordering}
+use Rattle.std.specs.declared.cmp.Ordering.TheVariants.{Less}
 use Rattle.ufmt_core.specs.Document.{Document}
 use Rattle.ufmt_core.specs.declared.layout.Kind.{Kind}
 use Rattle.ufmt_core.specs.declared.layout.Kind.TheVariants.{Brackets, Braces, Struct, Tuple, Unnamed}
@@ -32,6 +34,11 @@ EntriesFit fit blocks (e ∷ es) = (blocks < 255) × All (fit (suc blocks)) (e �
 -- an entry of a map whose key and value are values
 abbrev pub IsEntry : {K V : Type 0} → (K → Type 0) → (V → Type 0) → K × V → Type 0
 IsEntry is_key is_value entry = is_key entry.0 × is_value entry.1
+
+-- the key comes before the first of others, if there is one
+abbrev pub ComesBefore : {K : Type 0} → (K → K → Ordering) → K → List K → Type 0
+ComesBefore cmp k [] = ⊤
+ComesBefore cmp k (first ∷ others) = cmp k first ≡ Less
 
 -- the documents of an entry's key and value
 abbrev pub entry_documents : {K V : Type 0} → (K → Document) → (V → Document) → K × V → Document × Document

@@ -49,6 +49,7 @@ impl<A, T: uDebug, P: ParsesBy<A, T>> EntryParser<A, T> for Value<P> {
 
     ghost text = { λ _ s v. layout s (T.document v) };
 
+    #[inline(always)]
     fn parse_entry<M: ParseMode>(&self, alloc: A, parser: &mut Parser<'_, M>) -> Result<T, Fault> {
         self.0.parse_by(alloc, parser)
     }
@@ -61,6 +62,7 @@ impl<'a, A: Copy, T: uDebug, P: ParsesBy<A, T>> EntryParser<A, T> for Named<'a, 
 
     ghost text = { λ named s v. named.0.now ++ (codes ": " ++ layout s (T.document v)) };
 
+    #[inline(always)]
     fn parse_entry<M: ParseMode>(&self, alloc: A, parser: &mut Parser<'_, M>) -> Result<T, Fault> {
         if !parser.eats(self.0) {
             return Err(Fault::NotText);
@@ -83,6 +85,7 @@ impl<A: Copy, T: uDebug + Drop, U: uDebug + Drop, K: ParsesBy<A, T>, P: ParsesBy
 
     ghost text = { λ _ s v. layout s (T.document v.0) ++ (codes ": " ++ layout s (U.document v.1)) };
 
+    #[inline(always)]
     fn parse_entry<M: ParseMode>(
         &self,
         alloc: A,

@@ -6,17 +6,8 @@ ghost use Rattle.ufmt.specs.Reading.{strip};
 ghost use Rattle.ufmt.specs.ReadingQuoted.{decoded};
 ghost use Rattle.ufmt_parser.specs.Taking.{now_of};
 
-use crate::strip::strip_piece;
+use crate::strip::{strip_byte, strip_piece};
 use ufmt::quoted::escape;
-
-/// What follows this byte, if the input begins with it.
-#[inline(always)]
-pub(crate) fn strip_byte(byte: u8, input: &[u8]) -> Option<&[u8]>
-    ensures { now_of result ≡ strip (byte ∷ []) input.now }
-{
-    let (first, rest) = input.split_first()?;
-    if *first == byte { Some(rest) } else { None }
-}
 
 /// Decodes the first byte of what is written between these quotes. Returns it with what follows, or
 /// `None` if the input begins with no byte's spelling. `quote` is a quotation mark or apostrophe.

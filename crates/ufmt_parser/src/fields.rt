@@ -46,6 +46,7 @@ impl<A: Copy> FieldParsers<A, ()> for () {
 
     ghost texts = { λ _ _ _. [] };
 
+    #[inline(always)]
     fn parse_rest<M: ParseMode>(
         &self,
         _alloc: A,
@@ -69,6 +70,7 @@ impl<A: Copy, T: Drop, V: Drop, P: EntryParser<A, T>, R: FieldParsers<A, V>> Fie
 
     ghost texts = { λ fields s v. P.text fields.0 s v.0 ∷ R.texts fields.1 s v.1 };
 
+    #[inline(always)]
     fn parse_rest<M: ParseMode>(
         &self,
         alloc: A,
@@ -95,6 +97,7 @@ impl<A: Copy, T: Drop, V: Drop, P: EntryParser<A, T>, R: FieldParsers<A, V>> Fie
 }
 
 /// Takes a block with this name and these fields.
+#[inline(always)]
 pub(crate) fn parse_block<A: Copy, V: Drop, P: FieldParsers<A, V>, M: ParseMode>(
     alloc: A,
     parser: &mut Parser<'_, M>,

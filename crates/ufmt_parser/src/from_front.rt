@@ -62,6 +62,7 @@ impl<A, T: uParse<A>> ParsesBy<A, T> for Plain {
 
     ghost holds_no_memory = { T.holds_no_memory };
 
+    #[inline(always)]
     fn parse_by<M: ParseMode>(&self, alloc: A, parser: &mut Parser<'_, M>) -> Result<T, Fault> {
         match T::parse_from(alloc, parser) {
             Err(fault) => Err(fault),

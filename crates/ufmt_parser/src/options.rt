@@ -18,6 +18,7 @@ impl<A: Copy, T: uParse<A>> uParse<A> for Option<T> {
         }
     }
 
+    #[inline(always)]
     fn parse_from<M: ParseMode>(alloc: A, parser: &mut Parser<'_, M>) -> Result<Option<T>, Fault> {
         if parser.eats("None") {
             return Ok(None);

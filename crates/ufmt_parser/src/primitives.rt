@@ -12,6 +12,7 @@ impl<A: Copy> uParse<A> for bool {
 
     fn prove_value(&self) {}
 
+    #[inline(always)]
     fn parse_from<M: ParseMode>(_alloc: A, parser: &mut Parser<'_, M>) -> Result<bool, Fault> {
         if parser.eats("true") {
             return Ok(true);
@@ -30,6 +31,7 @@ impl<A: Copy> uParse<A> for () {
 
     fn prove_value(&self) {}
 
+    #[inline(always)]
     fn parse_from<M: ParseMode>(_alloc: A, parser: &mut Parser<'_, M>) -> Result<(), Fault> {
         if parser.eats("()") {
             Ok(())

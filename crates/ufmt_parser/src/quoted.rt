@@ -5,10 +5,11 @@ ghost use Rattle.std.specs.Str.{continuation_len};
 ghost use Rattle.ufmt.specs.Quoted.{escaped, quoted_char};
 ghost use Rattle.ufmt_core.specs.Bytes.{apostrophe};
 
-use crate::escapes::{split_escaped, strip_byte};
+use crate::escapes::split_escaped;
 use crate::from_front::uParse;
 use crate::mode::ParseMode;
 use crate::parser::{Fault, Parser};
+use crate::strip::strip_byte;
 
 // How many bytes a character has, by its first byte.
 fn character_len(lead: u8) -> usize

@@ -2,10 +2,9 @@
 ghost use Rattle.std.specs.List.Sorted.{IsStrictlySortedBy};
 ghost use Rattle.std.specs.Map.{keys_of};
 ghost use Rattle.std.specs.Prelude.{◌≤◌, length, ◌≡◌, ◌↔◌, map, All, IfOk, IsTrue, MatchOption};
-ghost use Rattle.std.specs.declared.cmp.Ordering.TheVariants.{Less};
 ghost use Rattle.ufmt.specs.Document.{documents, map_of, pairs_of, set_of};
 ghost use Rattle.ufmt.specs.Layout.{layout};
-ghost use Rattle.ufmt_parser.specs.Blocks.{entry_documents, outcome_map, IsEntry};
+ghost use Rattle.ufmt_parser.specs.Blocks.{entry_documents, outcome_map, ComesBefore, IsEntry};
 ghost use Rattle.ufmt_parser.specs.Taking.{Fits, Takes, open_blocks, rest, setting_in};
 
 use crate::entries::{Pair, Value};
@@ -90,8 +89,10 @@ fn ascending_set<T: Ord + Drop>(
         (λ set. set.keys ≡ keys.items)) }
 {
     let mut set = BTreeSet::new(alloc);
-    for key in keys {
-        if !is_past_set(&set, &key) {
+    let mut left = keys;
+    // From the last key on: each is found to come before all others by one test in each node on the way.
+    'keys: while let Some(key) = left.pop() {
+        if !is_before_set(&set, &key) {
             return Ok(None);
         }
         set.insert(key)?;
@@ -99,12 +100,12 @@ fn ascending_set<T: Ord + Drop>(
     Ok(Some(set))
 }
 
-// Whether the key comes after each key of the set.
-fn is_past_set<T: Ord>(set: &BTreeSet<T>, key: &T) -> bool
-    ensures { IsTrue result ↔ All (λ before. T.cmp before key.now ≡ Less) set.now.keys }
+// Whether the key comes before the first key of the set.
+fn is_before_set<T: Ord>(set: &BTreeSet<T>, key: &T) -> bool
+    ensures { IsTrue result ↔ ComesBefore T.cmp key.now set.now.keys }
 {
-    match set.last() {
-        Some(last) => last.cmp(key).is_lt(),
+    match set.first() {
+        Some(first) => key.cmp(first).is_lt(),
         None => true,
     }
 }
@@ -187,8 +188,10 @@ fn ascending_map<K: Ord + Drop, V: Drop>(
         (λ map. (map.entries ≡ entries.items) × IsStrictlySortedBy K.cmp (keys_of map.entries))) }
 {
     let mut map = BTreeMap::new(alloc);
-    for (key, value) in entries {
-        if !is_past_map(&map, &key) {
+    let mut left = entries;
+    // From the last key on, as in a set.
+    'entries: while let Some((key, value)) = left.pop() {
+        if !is_before_map(&map, &key) {
             return Ok(None);
         }
         map.insert(key, value)?;
@@ -196,12 +199,12 @@ fn ascending_map<K: Ord + Drop, V: Drop>(
     Ok(Some(map))
 }
 
-// Whether the key comes after each key of the map.
-fn is_past_map<K: Ord, V>(map: &BTreeMap<K, V>, key: &K) -> bool
-    ensures { IsTrue result ↔ All (λ before. K.cmp before key.now ≡ Less) (keys_of map.now.entries) }
+// Whether the key comes before the first key of the map.
+fn is_before_map<K: Ord, V>(map: &BTreeMap<K, V>, key: &K) -> bool
+    ensures { IsTrue result ↔ ComesBefore K.cmp key.now (keys_of map.now.entries) }
 {
-    match map.last_key_value() {
-        Some((last, _)) => last.cmp(key).is_lt(),
+    match map.first_key_value() {
+        Some((first, _)) => key.cmp(first).is_lt(),
         None => true,
     }
 }

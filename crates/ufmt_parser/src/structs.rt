@@ -9,6 +9,7 @@ use crate::parser::{Fault, Parser};
 use crate::rows::parse_struct_row;
 
 /// Takes a struct with one field, as `parse_from` does a value.
+#[inline(always)]
 pub fn parse_struct_1<Alloc: Copy, A: uParse<Alloc>, M: ParseMode>(
     alloc: Alloc,
     parser: &mut Parser<'_, M>,
@@ -35,6 +36,7 @@ pub fn parse_struct_1<Alloc: Copy, A: uParse<Alloc>, M: ParseMode>(
 }
 
 /// Takes a struct with 2 fields, as `parse_from` does a value.
+#[inline(always)]
 pub fn parse_struct_2<Alloc: Copy, A: uParse<Alloc>, B: uParse<Alloc>, M: ParseMode>(
     alloc: Alloc,
     parser: &mut Parser<'_, M>,
@@ -65,6 +67,7 @@ pub fn parse_struct_2<Alloc: Copy, A: uParse<Alloc>, B: uParse<Alloc>, M: ParseM
 }
 
 /// Takes a struct with 3 fields, as `parse_from` does a value.
+#[inline(always)]
 pub fn parse_struct_3<
     Alloc: Copy,
     A: uParse<Alloc>,
@@ -103,6 +106,7 @@ pub fn parse_struct_3<
 }
 
 /// Takes a struct with 4 fields, as `parse_from` does a value.
+#[inline(always)]
 pub fn parse_struct_4<
     Alloc: Copy,
     A: uParse<Alloc>,
@@ -147,6 +151,7 @@ pub fn parse_struct_4<
 }
 
 /// Takes a struct with 5 fields, as `parse_from` does a value.
+#[inline(always)]
 pub fn parse_struct_5<
     Alloc: Copy,
     A: uParse<Alloc>,
@@ -195,6 +200,7 @@ pub fn parse_struct_5<
 }
 
 /// Takes a struct with 6 fields, as `parse_from` does a value.
+#[inline(always)]
 pub fn parse_struct_6<
     Alloc: Copy,
     A: uParse<Alloc>,

@@ -4,10 +4,11 @@ ghost use Rattle.ufmt.specs.Quoted.{escaped_bytes};
 ghost use Rattle.ufmt_core.specs.Bytes.{quotation_mark};
 ghost use Rattle.ufmt_parser.specs.Spelling.{NeverCloses};
 
-use crate::escapes::{split_escaped, strip_byte};
+use crate::escapes::split_escaped;
 use crate::from_front::uParse;
 use crate::mode::ParseMode;
 use crate::parser::{Fault, Parser};
+use crate::strip::strip_byte;
 use std::alloc::{AllocError, Allocator};
 use ufmt::quoted::unescaped_len;
 

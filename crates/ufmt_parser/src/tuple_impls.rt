@@ -16,6 +16,7 @@ impl<Alloc: Copy, A: uParse<Alloc>> uParse<Alloc> for (A,) {
         self.0.prove_value();
     }
 
+    #[inline(always)]
     fn parse_from<M: ParseMode>(alloc: Alloc, parser: &mut Parser<'_, M>) -> Result<(A,), Fault> {
         match parse_tuple_1(alloc, parser, "") {
             Err(fault) => Err(fault),
@@ -34,6 +35,7 @@ impl<Alloc: Copy, A: uParse<Alloc>, B: uParse<Alloc>> uParse<Alloc> for (A, B) {
         self.1.prove_value();
     }
 
+    #[inline(always)]
     fn parse_from<M: ParseMode>(alloc: Alloc, parser: &mut Parser<'_, M>) -> Result<(A, B), Fault> {
         match parse_tuple_2(alloc, parser, "") {
             Err(fault) => Err(fault),
@@ -54,6 +56,7 @@ impl<Alloc: Copy, A: uParse<Alloc>, B: uParse<Alloc>, C: uParse<Alloc>> uParse<A
         self.2.prove_value();
     }
 
+    #[inline(always)]
     fn parse_from<M: ParseMode>(
         alloc: Alloc,
         parser: &mut Parser<'_, M>,
@@ -79,6 +82,7 @@ impl<Alloc: Copy, A: uParse<Alloc>, B: uParse<Alloc>, C: uParse<Alloc>, D: uPars
         self.3.prove_value();
     }
 
+    #[inline(always)]
     fn parse_from<M: ParseMode>(
         alloc: Alloc,
         parser: &mut Parser<'_, M>,
@@ -110,6 +114,7 @@ impl<
         self.4.prove_value();
     }
 
+    #[inline(always)]
     fn parse_from<M: ParseMode>(
         alloc: Alloc,
         parser: &mut Parser<'_, M>,
@@ -143,6 +148,7 @@ impl<
         self.5.prove_value();
     }
 
+    #[inline(always)]
     fn parse_from<M: ParseMode>(
         alloc: Alloc,
         parser: &mut Parser<'_, M>,

@@ -10,6 +10,7 @@ use crate::parser::{Fault, Parser};
 use crate::rows::parse_tuple_row;
 
 /// Takes a tuple with one field, as `parse_from` does a value.
+#[inline(always)]
 pub fn parse_tuple_1<Alloc: Copy, A: uParse<Alloc>, M: ParseMode>(
     alloc: Alloc,
     parser: &mut Parser<'_, M>,
@@ -35,6 +36,7 @@ pub fn parse_tuple_1<Alloc: Copy, A: uParse<Alloc>, M: ParseMode>(
 }
 
 /// Takes a tuple with 2 fields, as `parse_from` does a value.
+#[inline(always)]
 pub fn parse_tuple_2<Alloc: Copy, A: uParse<Alloc>, B: uParse<Alloc>, M: ParseMode>(
     alloc: Alloc,
     parser: &mut Parser<'_, M>,
@@ -61,6 +63,7 @@ pub fn parse_tuple_2<Alloc: Copy, A: uParse<Alloc>, B: uParse<Alloc>, M: ParseMo
 }
 
 /// Takes a tuple with 3 fields, as `parse_from` does a value.
+#[inline(always)]
 pub fn parse_tuple_3<
     Alloc: Copy,
     A: uParse<Alloc>,
@@ -91,6 +94,7 @@ pub fn parse_tuple_3<
 }
 
 /// Takes a tuple with 4 fields, as `parse_from` does a value.
+#[inline(always)]
 pub fn parse_tuple_4<
     Alloc: Copy,
     A: uParse<Alloc>,
@@ -126,6 +130,7 @@ pub fn parse_tuple_4<
 }
 
 /// Takes a tuple with 5 fields, as `parse_from` does a value.
+#[inline(always)]
 pub fn parse_tuple_5<
     Alloc: Copy,
     A: uParse<Alloc>,
@@ -164,6 +169,7 @@ pub fn parse_tuple_5<
 }
 
 /// Takes a tuple with 6 fields, as `parse_from` does a value.
+#[inline(always)]
 pub fn parse_tuple_6<
     Alloc: Copy,
     A: uParse<Alloc>,

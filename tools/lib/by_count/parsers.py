@@ -91,6 +91,7 @@ class Block:
         counted = "one field" if count == 1 else f"{count} fields"
         return f"""
 /// Takes a {self.about} with {counted}, as `parse_from` does a value.
+#[inline(always)]
 pub fn parse_{self.name}_{count}<Alloc: Copy, {types}, M: ParseMode>({", ".join(inputs)}) -> Result<{result}, Fault>
     {asked}
 {self.clauses(count)}
@@ -157,6 +158,7 @@ impl<Alloc: Copy, {types}> uParse<Alloc> for {row} {{
 {proofs}
     }}
 
+    #[inline(always)]
     fn parse_from<M: ParseMode>(alloc: Alloc, parser: &mut Parser<'_, M>) -> Result<{row}, Fault> {{
         match parse_tuple_{count}(alloc, parser, "") {{
             Err(fault) => Err(fault),
