@@ -10,8 +10,10 @@ pub mod Forms
 pub mod Integers
 pub mod ListedPairs
 pub mod ListedValues
+pub mod Nested
 pub mod NumberKeys
 pub mod OneWay
+pub mod OptionTexts
 pub mod Parts
 pub mod QuotedTaken
 pub mod Reductions

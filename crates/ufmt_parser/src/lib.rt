@@ -4,6 +4,7 @@
 //! by piece, as a formatter writes it.
 
 mod boxes;
+mod by;
 mod digits;
 mod entries;
 mod escapes;
@@ -13,6 +14,7 @@ mod keys;
 mod lists;
 mod macros;
 mod mode;
+pub mod nested_try;
 mod numbers;
 mod options;
 mod parser;
@@ -28,14 +30,22 @@ mod texts;
 mod tuple_impls;
 mod tuples;
 
+pub use boxes::Boxed;
+pub use by::{By, ProvesValue};
 pub use from_front::{ParsesBy, Plain, uParse};
 pub use keys::ParseKey;
+pub use lists::Each;
 pub use mode::{ParseMode, PlainText, PrettyText};
+pub use options::Optional;
 pub use parser::{Fault, Parser};
 pub use structs::{
-    parse_struct_1, parse_struct_2, parse_struct_3, parse_struct_4, parse_struct_5, parse_struct_6,
+    parse_struct_1, parse_struct_1_by, parse_struct_2, parse_struct_2_by, parse_struct_3,
+    parse_struct_3_by, parse_struct_4, parse_struct_4_by, parse_struct_5, parse_struct_5_by,
+    parse_struct_6, parse_struct_6_by,
 };
 pub use text::{ParseError, parse, parse_pretty};
 pub use tuples::{
-    parse_tuple_1, parse_tuple_2, parse_tuple_3, parse_tuple_4, parse_tuple_5, parse_tuple_6,
+    parse_tuple_1, parse_tuple_1_by, parse_tuple_2, parse_tuple_2_by, parse_tuple_3,
+    parse_tuple_3_by, parse_tuple_4, parse_tuple_4_by, parse_tuple_5, parse_tuple_5_by,
+    parse_tuple_6, parse_tuple_6_by,
 };

@@ -3,6 +3,7 @@
 # A chain of twelve takes the check ten minutes, so far.
 MOST = 6
 TYPES = "ABCDEFGHIJKL"
+PARSERS = "PQRSTUVWXYZO"
 WRITTEN = "tools/write-by-count writes this file: change it there."
 
 
@@ -44,50 +45,80 @@ class Block:
         items = [f"{fields[0]}"] + [f"∷ {field}" for field in fields[1:]] + ["∷ []" + ending]
         return [f"({self.document} name.now ({self.row}", "(" + items[0]] + items[1:]
 
-    def clauses(self, count):
-        """What the call ensures of the document."""
+    def clauses(self, count, holders):
+        """What the call ensures of the document, where these say what holds of each value."""
         fields = letters(count)
         values = ["v"] if count == 1 else [f"v.{place}" for place in range(count)]
         taken = [self.field(letter, value) for letter, value in zip(fields, values)]
         others = [self.field(letter, f"{letter}_value") for letter in fields]
         binders = [f"({letter}_value : {letter.upper()})" for letter in fields] + ["(u : List ℕ)"]
-        premises = [f"→ {letter.upper()}.is_value {letter}_value" for letter in fields]
+        premises = [f"→ {holder}.is_value {letter}_value" for holder, letter in zip(holders, fields)]
         return "\n".join([
             wrapped(["ensures taken { IfOk result (λ v.", "IsTaken M.mode parser.old"] + self.row_of(taken, ")))") + ["parser.new) }"], 4),
             wrapped(["ensures only { IfOk result (λ _."] + binders + premises + ["→ IsNext M.mode parser.old"]
                     + self.row_of(others, ")))") + ["u", "→ u ≡ rest parser.new) }"], 4),
             wrapped(["ensures none { IfErr result (λ fault. fault ≡ Fault.NotText →"] + binders + premises + ["→ ¬ IsNext M.mode parser.old"]
                     + self.row_of(others, ")))") + ["u) }"], 4),
+            "    ensures blocks { IfOk result (λ _. open_blocks parser.new ≡ open_blocks parser.old) }",
+            "    ensures shrinks { length (rest parser.new) ≤ length (rest parser.old) }",
         ])
+
+    def asked(self, count):
+        """What the names must be."""
+        if self.name == "struct":
+            return f"AreWords ({in_a_row(['name.now'] + [f'{letter}.now' for letter in letters(count)])})"
+        return "IsWordOrEmpty name.now"
+
+    def result(self, count):
+        """The type of what the call returns."""
+        return TYPES[0] if count == 1 else "(" + ", ".join(TYPES[:count]) + ")"
 
     def call(self, count):
         """The call for that many fields."""
-        fields = letters(count)
         types = ", ".join(f"{letter}: uParse<Alloc>" for letter in TYPES[:count])
         inputs = ["alloc: Alloc", "parser: &mut Parser<'_, M>", "name: &str"]
-        if self.name == "struct":
-            inputs += [f"{letter}: &str" for letter in fields]
-            asked = f"requires {{ AreWords ({in_a_row(['name.now'] + [f'{letter}.now' for letter in fields])}) }}"
-            chain = lambda letter: f"Named({letter}, Plain)"
-            kind = "Kind::Struct"
-        else:
-            asked = "requires { IsWordOrEmpty name.now }"
-            chain = lambda letter: "Value(Plain)"
-            kind = "Kind::tuple(name)"
+        passed = ["alloc", "parser", "name"]
+        for letter in letters(count):
+            inputs += [f"{letter}: &str"] if self.name == "struct" else []
+            passed += [letter, "&Plain"] if self.name == "struct" else ["&Plain"]
+        counted = "one field" if count == 1 else f"{count} fields"
+        return f"""
+/// Takes a {self.about} with {counted}, as `parse_from` does a value.
+pub fn parse_{self.name}_{count}<Alloc: Copy, {types}, M: ParseMode>({", ".join(inputs)}) -> Result<{self.result(count)}, Fault>
+    requires {{ {self.asked(count)} }}
+{self.clauses(count, TYPES)}
+{{
+    parse_{self.name}_{count}_by({", ".join(passed)})
+}}
+"""
+
+    def call_by(self, count):
+        """The call for that many fields, each by a parser."""
+        fields = letters(count)
+        types = ", ".join(f"{letter}: uDebug + Drop" for letter in TYPES[:count])
+        by = ", ".join(f"{parser}: ParsesBy<Alloc, M, {letter}>" for parser, letter in zip(PARSERS, TYPES[:count]))
+        inputs = ["alloc: Alloc", "parser: &mut Parser<'_, M>", "name: &str"]
+        for letter, parser in zip(fields, PARSERS):
+            inputs += [f"{letter}: &str"] if self.name == "struct" else []
+            inputs += [f"{letter}_by: &{parser}"]
+        chain = (lambda letter: f"Named({letter}, {letter}_by)") if self.name == "struct" else (lambda letter: f"Value({letter}_by)")
+        kind = "Kind::Struct" if self.name == "struct" else "Kind::tuple(name)"
         parsers, row = "()", "()"
         for letter in reversed(fields):
             parsers, row = f"({chain(letter)}, {parsers})", f"({letter}_value, {row})"
         values = [f"{letter}_value" for letter in fields]
-        result = TYPES[0] if count == 1 else "(" + ", ".join(TYPES[:count]) + ")"
         made = values[0] if count == 1 else "(" + ", ".join(values) + ")"
-        counted = "one field" if count == 1 else f"{count} fields"
+        parts = ["v"] if count == 1 else [f"v.{place}" for place in range(count)]
+        holds = " × ".join(f"{parser}.is_value {part}" for parser, part in zip(PARSERS, parts))
+        ready = [f"{parser}.ready {letter}_by.now (suc (open_blocks parser.old))" for parser, letter in zip(PARSERS, fields)]
+        counted = "its field by a parser" if count == 1 else f"each of its {count} fields by a parser"
         return f"""
-/// Takes a {self.about} with {counted}, as `parse_from` does a value.
-pub fn parse_{self.name}_{count}<Alloc: Copy, {types}, M: ParseMode>({", ".join(inputs)}) -> Result<{result}, Fault>
-    {asked}
-{self.clauses(count)}
-    ensures blocks {{ IfOk result (λ _. open_blocks parser.new ≡ open_blocks parser.old) }}
-    ensures shrinks {{ length (rest parser.new) ≤ length (rest parser.old) }}
+/// Takes a {self.about}, {counted}.
+pub fn parse_{self.name}_{count}_by<Alloc: Copy, M: ParseMode, {types}, {by}>({", ".join(inputs)}) -> Result<{self.result(count)}, Fault>
+    requires words {{ {self.asked(count)} }}
+{wrapped(["requires ready { open_blocks parser.old < 255 →", ready[0]] + [f"× {item}" for item in ready[1:]] + ["}"], 4)}
+    ensures values {{ IfOk result (λ v. {holds}) }}
+{self.clauses(count, PARSERS)}
 {{
     let fields = {parsers};
     match parse_block(alloc, parser, {kind}, name, &fields) {{
@@ -102,18 +133,19 @@ pub fn parse_{self.name}_{count}<Alloc: Copy, {types}, M: ParseMode>({", ".join(
         entry = "Named" if self.name == "struct" else "Value"
         words = "AreWords, " if self.name == "struct" else ""
         leaves = "" if self.name == "struct" else "ghost use Rattle.ufmt.specs.Leaves.{IsWordOrEmpty};\n"
-        calls = "".join(self.call(count) for count in range(1, MOST + 1))
+        calls = "".join(self.call(count) + self.call_by(count) for count in range(1, MOST + 1))
         return f"""//! {self.about.capitalize()}s by their number of fields. {WRITTEN}
-ghost use Rattle.std.specs.Prelude.{{◌≤◌, length, [], ◌∷◌, ◌≡◌, List, ℕ, IfOk, IfErr}};
+ghost use Rattle.std.specs.Prelude.{{◌≤◌, ◌<◌, length, [], ◌∷◌, ◌≡◌, List, ℕ, suc, IfOk, IfErr}};
 ghost use Rattle.ufmt.specs.Document.{{{self.row}, {self.document}}};
 {leaves}ghost use Rattle.ufmt_parser.specs.Taking.{{{words}IsNext, IsTaken, open_blocks, rest}};
 
 use crate::entries::{entry};
 use crate::fields::parse_block;
-use crate::from_front::{{Plain, uParse}};
+use crate::from_front::{{ParsesBy, Plain, uParse}};
 use crate::mode::ParseMode;
 use crate::parser::{{Fault, Parser}};
 use ufmt::layout::Kind;
+use ufmt::uDebug;
 {calls}"""
 
     def built(self, place):
@@ -132,22 +164,35 @@ use ufmt::layout::Kind;
             chain = f"({letter}_value, {chain})"
             at = "takes.1.0" + ".1" * place + ".0.1.0"
             if self.name == "struct":
-                taken = f"(word_is_name _ c.requires.1{'.1' * place}.0, {at}, {taken})"
+                taken = f"(word_is_name _ c.requires.words.1{'.1' * place}.0, {at}, {taken})"
             elif place > 0:
                 taken = f"({at}, {taken})"
             else:
                 taken = f"{at}, {taken}"
         nests = ", ".join("takes.1.0" + ".1" * place + ".0.1.1" for place in range(count)) + ", takes.1.1"
-        name = "word_is_name _ c.requires.0" if self.name == "struct" else "word_is_tuple_name c.args.name.now c.requires"
+        name = "word_is_name _ c.requires.words.0" if self.name == "struct" else "word_is_tuple_name c.args.name.now c.requires.words"
+        ready, holds = "tt", []
+        for place in reversed(range(count)):
+            ready = f"((c.requires.ready few){'.1' * place}{'.0' if place + 1 < count else ''}, {ready})"
+            holds = ["takes.1.0" + ".1" * place + ".0.0"] + holds
+        values = holds[0] if count == 1 else "(" + ", ".join(holds) + ")"
         binders = " ".join([f"{letter}_value" for letter in fields] + ["u"] + [f"is_{letter}" for letter in fields] + ["next"])
         of_kind = (lambda takes: takes) if self.name == "struct" else (lambda takes: f"(rw c.tuple.ensures at {takes})")
         words = "word_is_name" if self.name == "struct" else "word_is_tuple_name"
-        where = f"Rattle.ufmt_parser.proofs.{self.name}s.parse_{self.name}_{count}.Goals"
+        where = f"Rattle.ufmt_parser.proofs.{self.name}s.parse_{self.name}_{count}_by.Goals"
         return f"""-- tools/write-by-count writes this file: change it there.
 use Rattle.std.proofs.Common.{{arith}}
 use Rattle.ufmt_parser.proofs.Clauses.{{refused}}
 use Rattle.ufmt_parser.proofs.Words.{{{words}}}
 use {where} as goal
+
+pub parse_block-requires : goal.parse_block-requires
+parse_block-requires g c = λ few. {ready}
+
+pub returns-in-Ok-clause-values : goal.returns-in-Ok-clause-values
+returns-in-Ok-clause-values g c =
+    let takes = {of_kind("c.in-Ok.ensures.takes")}.cases in
+    {values}
 
 pub returns-in-Err-clause-none : goal.returns-in-Err-clause-none
 returns-in-Err-clause-none g c = λ is_not {binders}.
@@ -213,5 +258,5 @@ def files():
     for block in (STRUCTS, TUPLES):
         found[f"src/{block.name}s.rt"] = block.file
         for count in range(1, MOST + 1):
-            found[f"proofs/{block.name}s/parse_{block.name}_{count}/Answers.antt"] = lambda block=block, count=count: block.answers(count)
+            found[f"proofs/{block.name}s/parse_{block.name}_{count}_by/Answers.antt"] = lambda block=block, count=count: block.answers(count)
     return found

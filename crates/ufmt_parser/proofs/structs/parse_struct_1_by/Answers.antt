@@ -2,7 +2,15 @@
 use Rattle.std.proofs.Common.{arith}
 use Rattle.ufmt_parser.proofs.Clauses.{refused}
 use Rattle.ufmt_parser.proofs.Words.{word_is_name}
-use Rattle.ufmt_parser.proofs.structs.parse_struct_1.Goals as goal
+use Rattle.ufmt_parser.proofs.structs.parse_struct_1_by.Goals as goal
+
+pub parse_block-requires : goal.parse_block-requires
+parse_block-requires g c = λ few. ((c.requires.ready few), tt)
+
+pub returns-in-Ok-clause-values : goal.returns-in-Ok-clause-values
+returns-in-Ok-clause-values g c =
+    let takes = c.in-Ok.ensures.takes.cases in
+    takes.1.0.0.0
 
 pub returns-in-Err-clause-none : goal.returns-in-Err-clause-none
 returns-in-Err-clause-none g c = λ is_not a_value u is_a next.
@@ -12,7 +20,7 @@ returns-in-Err-clause-none g c = λ is_not a_value u is_a next.
 pub returns-in-Ok-clause-taken : goal.returns-in-Ok-clause-taken
 returns-in-Ok-clause-taken g c =
     let takes = c.in-Ok.ensures.takes.cases in
-    (takes.0, ((word_is_name _ c.requires.0, (word_is_name _ c.requires.1.0, takes.1.0.0.1.0, tt)), omega (arith, takes.1.0.0.1.1, takes.1.1)))
+    (takes.0, ((word_is_name _ c.requires.words.0, (word_is_name _ c.requires.words.1.0, takes.1.0.0.1.0, tt)), omega (arith, takes.1.0.0.1.1, takes.1.1)))
 
 pub returns-in-Ok-clause-only : goal.returns-in-Ok-clause-only
 returns-in-Ok-clause-only g c = λ a_value u is_a next.

@@ -1,0 +1,62 @@
+//! Parsing by a function, as a type that holds itself needs it.
+ghost use Rattle.std.specs.Borrow.{MutBor};
+ghost use Rattle.std.specs.Prelude.{◌≡◌, Result};
+ghost use Rattle.ufmt_parser.specs.declared.parser.Fault.{Fault};
+ghost use Rattle.ufmt_parser.specs.declared.parser.Parser.{Parser};
+ghost use Rattle.ufmt_parser.specs.Taking.{Parses, open_blocks};
+
+use crate::from_front::ParsesBy;
+use crate::mode::ParseMode;
+use crate::parser::{Fault, Parser};
+use ufmt::uDebug;
+
+/// For a type that holds itself: `is_value` and `prove_value` of `uParse`, in a trait without `parse_from`.
+/// The check takes a recursion through this one.
+pub trait ProvesValue {
+    /// What holds of each value that a program has.
+    ghost is_whole: { Self → Type 0 };
+
+    /// Shows that `is_whole` holds, by `prove` of each field that holds the type.
+    fn prove(&self)
+        ensures { is_whole self.now };
+}
+
+/// Parses by a function, as `By(parse_node)` within `parse_node`.
+#[derive(Drop)]
+pub struct By<F>(pub F);
+
+impl<
+    A,
+    M: ParseMode,
+    T: uDebug + ProvesValue,
+    F: Fn(A, &mut Parser<'_, M>) -> Result<T, Fault>,
+> ParsesBy<A, M, T> for By<F> {
+    ghost is_value = { T.is_whole };
+
+    ghost ready = { λ by blocks.
+        ((alloc : A) (p : MutBor (Parser M)) → open_blocks p.now ≡ blocks → F.pre by.0 alloc p)
+        × ((alloc : A) (p q : MutBor (Parser M)) (r : Result T Fault) → open_blocks p.now ≡ blocks
+        → F.post by.0 alloc p r q → Parses M.mode T.is_whole T.document p.now r q.now) };
+
+    #[inline(always)]
+    fn parse_by(&self, alloc: A, parser: &mut Parser<'_, M>) -> Result<T, Fault> {
+        match (self.0)(alloc, parser) {
+            Err(fault) => Err(fault),
+            Ok(value) => {
+                value.prove();
+                Ok(value)
+            }
+        }
+    }
+}
+
+impl<A, M: ParseMode, T: uDebug, P: ParsesBy<A, M, T>> ParsesBy<A, M, T> for &P {
+    ghost is_value = { P.is_value };
+
+    ghost ready = { λ by blocks. P.ready by.now blocks };
+
+    #[inline(always)]
+    fn parse_by(&self, alloc: A, parser: &mut Parser<'_, M>) -> Result<T, Fault> {
+        (**self).parse_by(alloc, parser)
+    }
+}
