@@ -8,6 +8,7 @@ pub mod EntryParts
 pub mod EscapedBytes
 pub mod Forms
 pub mod Integers
+pub mod Layers
 pub mod ListedPairs
 pub mod ListedValues
 pub mod Nested

@@ -1,18 +1,19 @@
 -- A tree is a number and trees; a node is a number and perhaps a node.
 use Rattle.std.specs.Global.{Box}
-use Rattle.std.proofs.Common.{◌≡◌, ◌↔◌, refl, sym, ap, ◌∙◌, subst, Option, None, Some, [], ◌∷◌}
+use Rattle.std.proofs.Common.{◌≡◌, ◌↔◌, refl, sym, ap, ◌∙◌, Option, None, Some, [], ◌∷◌}
 use Rattle.std.specs.Prelude.{IfSome}
 use Rattle.ufmt.specs.Document.{Document}
 use Rattle.ufmt.specs.ValueDocuments.{named_struct, number, option_document}
 use Rattle.ufmt_parser.specs.Values.{is_u64}
-use Rattle.ufmt_parser.specs.Nested.{is_node, node_step}
+use Rattle.ufmt_parser.proofs.Layers.{all_map, same_holds}
+use Rattle.ufmt_parser.specs.Nested.{is_node, node_step, is_tree, tree_step}
+use Rattle.ufmt_parser.specs.declared.nested_try.Tree.{Tree, out-Tree}
+use Rattle.ufmt_parser.specs.declared.nested_try.Tree.TheViews.{roll-out-Tree}
+use Rattle.ufmt_parser.specs.declared.nested_try.Tree.TheFolds.{rec-roll-Tree}
 use Rattle.ufmt_parser.specs.declared.nested_try.Node.{Node, out-Node}
 use Rattle.ufmt_parser.specs.declared.nested_try.Node.TheViews.{roll-Node, roll-out-Node}
 use Rattle.ufmt_parser.specs.declared.nested_try.Node.TheOpen.{Node-F}
 use Rattle.ufmt_parser.specs.declared.nested_try.Node.TheFolds.{rec-roll-Node, map-Node, fold-Node, fold_out-Node, fold-roll-Node}
-
-pub same_holds : {A B : Type 0} → A ≡ B → A ↔ B
-same_holds same = (subst (λ C. C) same, subst (λ C. C) (sym same))
 
 -- the next node, where a node is read as another
 next_same : {X : Type 0} (P : Node → Type 0) (v : X → Node) (value : _) (next : Option (Box X)) → IfSome next (λ b. P (v b.value)) ≡ IfSome (map-Node X Node v (record { value = value; next = next })).next (λ b. P b.value)
@@ -42,3 +43,7 @@ document_of n = ap (λ d. named_struct "Node" (("value", number (out-Node n).val
 pub document_made : (n : Node-F Node) → fields_document n ≡ node_document (roll-Node n)
 document_made n = ap (λ d. named_struct "Node" (("value", number n.value) ∷ ("next", d) ∷ [])) (next_document n.value n.next)
     ∙ sym (fold-roll-Node _ _ n)
+
+pub tree_is : (t : Tree) → is_tree t ↔ tree_step Tree (λ x. x) is_tree (out-Tree t)
+tree_is t = same_holds (ap is_tree (sym (roll-out-Tree t)) ∙ rec-roll-Tree (Type 0) tree_step
+    (λ X v P x. ap (λ C. is_u64 x.size × C) (all_map P v x.children.items)) (out-Tree t))

@@ -1,5 +1,6 @@
 //! Parsing by a function, as a type that holds itself needs it.
 ghost use Rattle.std.specs.Borrow.{MutBor};
+ghost use Rattle.std.specs.List.{AllByRecursion};
 ghost use Rattle.std.specs.Prelude.{◌≡◌, Result};
 ghost use Rattle.ufmt_parser.specs.declared.parser.Fault.{Fault};
 ghost use Rattle.ufmt_parser.specs.declared.parser.Parser.{Parser};
@@ -19,6 +20,17 @@ pub trait ProvesValue {
     /// Shows that `is_whole` holds, by `prove` of each field that holds the type.
     fn prove(&self)
         ensures { is_whole self.now };
+}
+
+impl<T: ProvesValue> ProvesValue for Vec<T> {
+    ghost is_whole = { λ values. AllByRecursion T.is_whole values.items };
+
+    #[tactic(auto, using(crate::proofs::Layers::each_of))]
+    fn prove(&self) {
+        for value in self.iter() {
+            value.prove();
+        }
+    }
 }
 
 /// Parses by a function, as `By(parse_node)` within `parse_node`.

@@ -1,4 +1,5 @@
 //! Blocks of any number of entries, and the values that print as one.
+ghost use Rattle.std.specs.List.{AllByRecursion};
 ghost use Rattle.std.specs.Prelude.{◌≤◌, ◌≡◌, ◌<◌, ◌-◌, ◌++◌, length, map, All, IfOk, suc};
 ghost use Rattle.ufmt.specs.Document.{documents, list_of};
 ghost use Rattle.ufmt.specs.Layout.{block_tail, frame, layout};
@@ -54,7 +55,7 @@ pub struct Each<P>(pub P);
 
 impl<M: ParseMode, T: uDebug + Drop, P: ParsesBy<Global, M, T>> ParsesBy<Global, M, Vec<T>>
     for Each<P> {
-    ghost is_value = { λ values. All P.is_value values.items };
+    ghost is_value = { λ values. AllByRecursion P.is_value values.items };
 
     ghost ready = { λ each blocks. blocks < 255 → P.ready each.0 (suc blocks) };
 
