@@ -7,7 +7,10 @@ ghost use Rattle.ufmt_parser.specs.Taking.{Parses};
 ghost use Rattle.ufmt_parser.specs.declared.nested_try.Node.TheFolds.{fold-Node};
 ghost use Rattle.ufmt_parser.specs.declared.nested_try.Tree.TheFolds.{fold-Tree};
 
-use crate::{Boxed, By, Each, Fault, Optional, ParseMode, Parser, Plain, ProvesValue, parse_struct_2_by, uParse};
+use crate::{
+    Boxed, By, Each, Fault, Optional, ParseMode, Parser, Plain, ProvesValue, parse_struct_2_by,
+    uParse,
+};
 use std::alloc::Global;
 use ufmt::{Formatter, fields, uDebug, uWrite};
 

@@ -173,7 +173,8 @@ use ufmt::uDebug;
         name = "word_is_name _ c.requires.words.0" if self.name == "struct" else "word_is_tuple_name c.args.name.now c.requires.words"
         ready, holds = "tt", []
         for place in reversed(range(count)):
-            ready = f"((c.requires.ready few){'.1' * place}{'.0' if place + 1 < count else ''}, {ready})"
+            part = "c.requires.ready few" if count == 1 else f"(c.requires.ready few).{place}"
+            ready = f"({part}, {ready})"
             holds = ["takes.1.0" + ".1" * place + ".0.0"] + holds
         values = holds[0] if count == 1 else "(" + ", ".join(holds) + ")"
         binders = " ".join([f"{letter}_value" for letter in fields] + ["u"] + [f"is_{letter}" for letter in fields] + ["next"])

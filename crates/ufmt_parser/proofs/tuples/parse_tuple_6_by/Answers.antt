@@ -5,7 +5,7 @@ use Rattle.ufmt_parser.proofs.Words.{word_is_tuple_name}
 use Rattle.ufmt_parser.proofs.tuples.parse_tuple_6_by.Goals as goal
 
 pub parse_block-requires : goal.parse_block-requires
-parse_block-requires g c = λ few. ((c.requires.ready few).0, ((c.requires.ready few).1.0, ((c.requires.ready few).1.1.0, ((c.requires.ready few).1.1.1.0, ((c.requires.ready few).1.1.1.1.0, ((c.requires.ready few).1.1.1.1.1, tt))))))
+parse_block-requires g c = λ few. ((c.requires.ready few).0, ((c.requires.ready few).1, ((c.requires.ready few).2, ((c.requires.ready few).3, ((c.requires.ready few).4, ((c.requires.ready few).5, tt))))))
 
 pub returns-in-Ok-clause-values : goal.returns-in-Ok-clause-values
 returns-in-Ok-clause-values g c =

@@ -10,5 +10,5 @@ returns-then-eats-clause-takes g c = record {
     c.if-eats.ensures.eats,
     (tt, (word_is_leaf (codes "None") (refl, (refl, (refl, (refl, tt)))), omega (arith, c.eats.ensures.counted))),
     λ w u is may same. after_none g.T.uDebug.document (setting_in g.M.ParseMode.mode (open_blocks c.args.parser.now)) c.if-eats.ensures.eats w u same,
-  )
+  );
 }
