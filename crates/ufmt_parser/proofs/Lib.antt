@@ -11,7 +11,6 @@ pub mod Integers
 pub mod Layers
 pub mod ListedPairs
 pub mod ListedValues
-pub mod Nested
 pub mod NumberKeys
 pub mod OneWay
 pub mod OptionTexts

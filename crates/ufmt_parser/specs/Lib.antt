@@ -1,6 +1,6 @@
 pub mod Blocks
 pub mod Digits
-pub mod Nested
+pub mod Parses
 pub mod Spelling
 pub mod Taking
 pub mod Values

@@ -1,5 +1,5 @@
 -- What a parser takes from the front of a text.
-use Rattle.std.specs.Prelude.{◌≡◌, ◌≢◌, ℕ, ◌+◌, ◌≤◌, Bool, List, [], ◌∷◌, ◌++◌, MatchBool, Option, option_map, Result, Ok, Err, IfOk, IfErr, ⊤, length}
+use Rattle.std.specs.Prelude.{◌≡◌, ◌≢◌, ℕ, ◌+◌, ◌≤◌, Bool, List, [], ◌∷◌, ◌++◌, MatchBool, Option, option_map, Result, Ok, Err, ⊤}
 use Rattle.std.specs.Borrow.{Bor}
 use Rattle.ufmt.specs.Document.{Document, nest}
 use Rattle.ufmt.specs.Layout.{layout, setting}
@@ -79,13 +79,3 @@ IsTaken mode old d new = (rest old ≡ layout (setting_in mode (open_blocks old)
 -- the text of this document comes next, and then a text that may follow it
 abbrev pub IsNext : {M : Type 0} → Mode → Parser M → Document → List ℕ → Type 0
 IsNext mode parser d u = Fits (open_blocks parser) d × MayFollow Debug u × (rest parser ≡ layout (setting_in mode (open_blocks parser)) d ++ u)
-
--- ---- what a call that takes a value does, in one word, as `parse_from` says it in clauses
-
-module _ {M T : Type 0} (mode : Mode) (is_value : T → Type 0) (document : T → Document) where
-  pub record Parses (old : Parser M) (outcome : Result T Fault) (new : Parser M) : Type 0 where
-    pub taken : IfOk outcome (λ v. IsTaken mode old (document v) new)
-    pub only : IfOk outcome (λ _. (v : T) (u : List ℕ) → is_value v → IsNext mode old (document v) u → u ≡ rest new)
-    pub none : IfErr outcome (λ fault. fault ≡ NotText → (v : T) (u : List ℕ) → is_value v → ¬ IsNext mode old (document v) u)
-    pub blocks : IfOk outcome (λ _. open_blocks new ≡ open_blocks old)
-    pub shrinks : length (rest new) ≤ length (rest old)

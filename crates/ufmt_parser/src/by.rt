@@ -4,7 +4,8 @@ ghost use Rattle.std.specs.List.{AllByRecursion};
 ghost use Rattle.std.specs.Prelude.{◌≡◌, Result};
 ghost use Rattle.ufmt_parser.specs.declared.parser.Fault.{Fault};
 ghost use Rattle.ufmt_parser.specs.declared.parser.Parser.{Parser};
-ghost use Rattle.ufmt_parser.specs.Taking.{Parses, open_blocks};
+ghost use Rattle.ufmt_parser.specs.Parses.{Parses};
+ghost use Rattle.ufmt_parser.specs.Taking.{open_blocks};
 
 use crate::from_front::ParsesBy;
 use crate::mode::ParseMode;
@@ -33,7 +34,10 @@ impl<T: ProvesValue> ProvesValue for Vec<T> {
     }
 }
 
-/// Parses by a function, as `By(parse_node)` within `parse_node`.
+/// Parses by a function whose contract is `Parses`, as `By(parse_node)` within `parse_node`.
+///
+/// Each value of a type that holds itself is inside a block more than the one around it, and at most 255 blocks
+/// are open. So the recursion ends with no depth passed down: its measure is `255 - open_blocks`.
 #[derive(Drop)]
 pub struct By<F>(pub F);
 
@@ -52,13 +56,7 @@ impl<
 
     #[inline(always)]
     fn parse_by(&self, alloc: A, parser: &mut Parser<'_, M>) -> Result<T, Fault> {
-        match (self.0)(alloc, parser) {
-            Err(fault) => Err(fault),
-            Ok(value) => {
-                value.prove();
-                Ok(value)
-            }
-        }
+        (self.0)(alloc, parser)
     }
 }
 

@@ -14,7 +14,6 @@ mod keys;
 mod lists;
 mod macros;
 mod mode;
-pub mod nested_try;
 mod numbers;
 mod options;
 mod parser;

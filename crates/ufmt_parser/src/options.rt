@@ -17,6 +17,7 @@ impl<A: Copy, T: uParse<A>> uParse<A> for Option<T> {
         }
     }
 
+    #[inline(always)]
     fn parse_from<M: ParseMode>(alloc: A, parser: &mut Parser<'_, M>) -> Result<Option<T>, Fault> {
         Optional(Plain).parse_by(alloc, parser)
     }

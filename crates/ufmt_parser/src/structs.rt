@@ -12,6 +12,7 @@ use ufmt::layout::Kind;
 use ufmt::uDebug;
 
 /// Takes a struct with one field, as `parse_from` does a value.
+#[inline(always)]
 pub fn parse_struct_1<Alloc: Copy, A: uParse<Alloc>, M: ParseMode>(
     alloc: Alloc,
     parser: &mut Parser<'_, M>,
@@ -63,6 +64,7 @@ pub fn parse_struct_1_by<Alloc: Copy, M: ParseMode, A: uDebug + Drop, P: ParsesB
 }
 
 /// Takes a struct with 2 fields, as `parse_from` does a value.
+#[inline(always)]
 pub fn parse_struct_2<Alloc: Copy, A: uParse<Alloc>, B: uParse<Alloc>, M: ParseMode>(
     alloc: Alloc,
     parser: &mut Parser<'_, M>,
@@ -129,6 +131,7 @@ pub fn parse_struct_2_by<
 }
 
 /// Takes a struct with 3 fields, as `parse_from` does a value.
+#[inline(always)]
 pub fn parse_struct_3<
     Alloc: Copy,
     A: uParse<Alloc>,
@@ -209,6 +212,7 @@ pub fn parse_struct_3_by<
 }
 
 /// Takes a struct with 4 fields, as `parse_from` does a value.
+#[inline(always)]
 pub fn parse_struct_4<
     Alloc: Copy,
     A: uParse<Alloc>,
@@ -307,6 +311,7 @@ pub fn parse_struct_4_by<
 }
 
 /// Takes a struct with 5 fields, as `parse_from` does a value.
+#[inline(always)]
 pub fn parse_struct_5<
     Alloc: Copy,
     A: uParse<Alloc>,
@@ -419,6 +424,7 @@ pub fn parse_struct_5_by<
 }
 
 /// Takes a struct with 6 fields, as `parse_from` does a value.
+#[inline(always)]
 pub fn parse_struct_6<
     Alloc: Copy,
     A: uParse<Alloc>,

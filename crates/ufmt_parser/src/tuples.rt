@@ -13,6 +13,7 @@ use ufmt::layout::Kind;
 use ufmt::uDebug;
 
 /// Takes a tuple with one field, as `parse_from` does a value.
+#[inline(always)]
 pub fn parse_tuple_1<Alloc: Copy, A: uParse<Alloc>, M: ParseMode>(
     alloc: Alloc,
     parser: &mut Parser<'_, M>,
@@ -62,6 +63,7 @@ pub fn parse_tuple_1_by<Alloc: Copy, M: ParseMode, A: uDebug + Drop, P: ParsesBy
 }
 
 /// Takes a tuple with 2 fields, as `parse_from` does a value.
+#[inline(always)]
 pub fn parse_tuple_2<Alloc: Copy, A: uParse<Alloc>, B: uParse<Alloc>, M: ParseMode>(
     alloc: Alloc,
     parser: &mut Parser<'_, M>,
@@ -114,6 +116,7 @@ pub fn parse_tuple_2_by<
 }
 
 /// Takes a tuple with 3 fields, as `parse_from` does a value.
+#[inline(always)]
 pub fn parse_tuple_3<
     Alloc: Copy,
     A: uParse<Alloc>,
@@ -182,6 +185,7 @@ pub fn parse_tuple_3_by<
 }
 
 /// Takes a tuple with 4 fields, as `parse_from` does a value.
+#[inline(always)]
 pub fn parse_tuple_4<
     Alloc: Copy,
     A: uParse<Alloc>,
@@ -261,6 +265,7 @@ pub fn parse_tuple_4_by<
 }
 
 /// Takes a tuple with 5 fields, as `parse_from` does a value.
+#[inline(always)]
 pub fn parse_tuple_5<
     Alloc: Copy,
     A: uParse<Alloc>,
@@ -352,6 +357,7 @@ pub fn parse_tuple_5_by<
 }
 
 /// Takes a tuple with 6 fields, as `parse_from` does a value.
+#[inline(always)]
 pub fn parse_tuple_6<
     Alloc: Copy,
     A: uParse<Alloc>,

@@ -84,6 +84,7 @@ class Block:
         counted = "one field" if count == 1 else f"{count} fields"
         return f"""
 /// Takes a {self.about} with {counted}, as `parse_from` does a value.
+#[inline(always)]
 pub fn parse_{self.name}_{count}<Alloc: Copy, {types}, M: ParseMode>({", ".join(inputs)}) -> Result<{self.result(count)}, Fault>
     requires {{ {self.asked(count)} }}
 {self.clauses(count, TYPES)}

@@ -1,11 +1,12 @@
 use Rattle.std.proofs.Common.{sym, subst}
 use Rattle.ufmt_parser.specs.Taking.{IsNext, IsTaken}
-use Rattle.ufmt_parser.specs.declared.nested_try.Node.{out-Node}
-use Rattle.ufmt_parser.proofs.Nested.{node_is, document_of, document_made}
-use Rattle.ufmt_parser.proofs.nested_try.+parse_node.Goals as goal
+use Rattle.ufmt_parser_tests.specs.declared.node.Node.{out-Node}
+use Rattle.ufmt_parser_tests.proofs.Nested.{document_made, document_of, node_is, node_made}
+use Rattle.ufmt_parser_tests.proofs.node.+parse_node.Goals as goal
 
 pub returns-in-Err : goal.returns-in-Err
 returns-in-Err g t c = record {
+  values = tt;
   taken = tt;
   only = tt;
   none = λ is_not n u is next.
@@ -18,6 +19,7 @@ returns-in-Err g t c = record {
 
 pub returns-in-Ok : goal.returns-in-Ok
 returns-in-Ok g t c = record {
+  values = (node_made (record { value = c.in-Ok.value; next = c.in-Ok.next })).1 c.in-Ok.ensures.values;
   taken = subst (λ d. IsTaken g.M.ParseMode.mode c.args.parser.now d c.parse_struct_2_by.new.parser)
       (document_made (record { value = c.in-Ok.value; next = c.in-Ok.next })) c.in-Ok.ensures.taken;
   only = λ n u is next.

@@ -1,12 +1,13 @@
 use Rattle.std.proofs.Common.{sym, subst}
 use Rattle.ufmt_parser.specs.Taking.{IsNext, IsTaken}
-use Rattle.ufmt_parser.specs.declared.nested_try.Tree.{out-Tree}
-use Rattle.ufmt_parser.specs.declared.nested_try.Tree.TheFolds.{fold_out-Tree, fold-roll-Tree}
-use Rattle.ufmt_parser.proofs.Nested.{tree_is}
-use Rattle.ufmt_parser.proofs.nested_try.+parse_tree.Goals as goal
+use Rattle.ufmt_parser_tests.specs.declared.tree.Tree.{out-Tree}
+use Rattle.ufmt_parser_tests.specs.declared.tree.Tree.TheFolds.{fold_out-Tree, fold-roll-Tree}
+use Rattle.ufmt_parser_tests.proofs.Nested.{tree_is, tree_made}
+use Rattle.ufmt_parser_tests.proofs.tree.+parse_tree.Goals as goal
 
 pub returns-in-Err : goal.returns-in-Err
 returns-in-Err g t c = record {
+  values = tt;
   taken = tt;
   only = tt;
   none = λ is_not v u is next.
@@ -19,6 +20,7 @@ returns-in-Err g t c = record {
 
 pub returns-in-Ok : goal.returns-in-Ok
 returns-in-Ok g t c = record {
+  values = (tree_made (record { size = c.in-Ok.size; children = c.in-Ok.children })).1 c.in-Ok.ensures.values;
   taken = subst (λ d. IsTaken g.M.ParseMode.mode c.args.parser.now d c.parse_struct_2_by.new.parser)
       (sym (fold-roll-Tree _ _ (record { size = c.in-Ok.size; children = c.in-Ok.children }))) c.in-Ok.ensures.taken;
   only = λ v u is next.
