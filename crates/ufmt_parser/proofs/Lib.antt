@@ -10,12 +10,14 @@ pub mod EscapedBytes
 pub mod FieldsInARow
 pub mod Forms
 pub mod Integers
+pub mod Layers
 pub mod ListedPairs
 pub mod ListedValues
 pub mod NameFronts
 pub mod NumberKeys
 pub mod OneWay
 pub mod PackedDigits
+pub mod OptionTexts
 pub mod Parts
 pub mod Places
 pub mod QuotedTaken

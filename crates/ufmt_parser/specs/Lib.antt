@@ -4,6 +4,7 @@ pub mod Naming
 pub mod Places
 pub mod RoundTrip
 pub mod Rows
+pub mod Parses
 pub mod Spelling
 pub mod Taking
 pub mod Values

@@ -11,7 +11,7 @@ use ufmt::layout::COLON;
 use ufmt::uDebug;
 
 /// A parser of one entry of a block.
-pub trait EntryParser<A, E> {
+pub trait EntryParser<A, M: ParseMode, E> {
     // What holds of each entry that a program has, in so many blocks.
     ghost fit: { ℕ → E → Type 0 };
 
@@ -21,7 +21,11 @@ pub trait EntryParser<A, E> {
     // The entry's text.
     ghost text: { Self → Setting → E → List ℕ };
 
-    fn parse_entry<M: ParseMode>(&self, alloc: A, parser: &mut Parser<'_, M>) -> Result<E, Fault>
+    // Whether it may be called where so many blocks are open.
+    ghost ready: { Self → ℕ → Type 0 };
+
+    fn parse_entry(&self, alloc: A, parser: &mut Parser<'_, M>) -> Result<E, Fault>
+        requires { ready self.now (open_blocks parser.old) }
         ensures takes { Takes (fit (open_blocks parser.old))
             (text self.now (setting_in M.mode (open_blocks parser.old)))
             (rest parser.old) result (rest parser.new) }
@@ -42,28 +46,33 @@ pub struct Named<'a, P>(pub &'a str, pub P);
 #[derive(Drop)]
 pub struct Pair<K, P>(pub K, pub P);
 
-impl<A, T: uDebug, P: ParsesBy<A, T>> EntryParser<A, T> for Value<P> {
+impl<A, M: ParseMode, T: uDebug, P: ParsesBy<A, M, T>> EntryParser<A, M, T> for Value<P> {
     ghost fit = { λ blocks v. P.is_value v × Fits blocks (T.document v) };
 
     ghost holds_no_memory = { P.holds_no_memory };
 
     ghost text = { λ _ s v. layout s (T.document v) };
 
+    ghost ready = { λ value blocks. P.ready value.0 blocks };
+
     #[inline(always)]
-    fn parse_entry<M: ParseMode>(&self, alloc: A, parser: &mut Parser<'_, M>) -> Result<T, Fault> {
+    fn parse_entry(&self, alloc: A, parser: &mut Parser<'_, M>) -> Result<T, Fault> {
         self.0.parse_by(alloc, parser)
     }
 }
 
-impl<'a, A: Copy, T: uDebug, P: ParsesBy<A, T>> EntryParser<A, T> for Named<'a, P> {
+impl<'a, A: Copy, M: ParseMode, T: uDebug, P: ParsesBy<A, M, T>> EntryParser<A, M, T>
+    for Named<'a, P> {
     ghost fit = { λ blocks v. P.is_value v × Fits blocks (T.document v) };
 
     ghost holds_no_memory = { P.holds_no_memory };
 
     ghost text = { λ named s v. named.0.now ++ (codes ": " ++ layout s (T.document v)) };
 
+    ghost ready = { λ named blocks. P.ready named.1 blocks };
+
     #[inline(always)]
-    fn parse_entry<M: ParseMode>(&self, alloc: A, parser: &mut Parser<'_, M>) -> Result<T, Fault> {
+    fn parse_entry(&self, alloc: A, parser: &mut Parser<'_, M>) -> Result<T, Fault> {
         if !parser.eats(self.0) {
             return Err(Fault::NotText);
         }
@@ -74,10 +83,14 @@ impl<'a, A: Copy, T: uDebug, P: ParsesBy<A, T>> EntryParser<A, T> for Named<'a, 
     }
 }
 
-impl<A: Copy, T: uDebug + Drop, U: uDebug + Drop, K: ParsesBy<A, T>, P: ParsesBy<A, U>> EntryParser<
-    A,
-    (T, U),
-> for Pair<K, P> {
+impl<
+    A: Copy,
+    M: ParseMode,
+    T: uDebug + Drop,
+    U: uDebug + Drop,
+    K: ParsesBy<A, M, T>,
+    P: ParsesBy<A, M, U>,
+> EntryParser<A, M, (T, U)> for Pair<K, P> {
     ghost fit = { λ blocks v. (K.is_value v.0 × Fits blocks (T.document v.0))
         × (P.is_value v.1 × Fits blocks (U.document v.1)) };
 
@@ -85,12 +98,10 @@ impl<A: Copy, T: uDebug + Drop, U: uDebug + Drop, K: ParsesBy<A, T>, P: ParsesBy
 
     ghost text = { λ _ s v. layout s (T.document v.0) ++ (codes ": " ++ layout s (U.document v.1)) };
 
+    ghost ready = { λ pair blocks. K.ready pair.0 blocks × P.ready pair.1 blocks };
+
     #[inline(always)]
-    fn parse_entry<M: ParseMode>(
-        &self,
-        alloc: A,
-        parser: &mut Parser<'_, M>,
-    ) -> Result<(T, U), Fault> {
+    fn parse_entry(&self, alloc: A, parser: &mut Parser<'_, M>) -> Result<(T, U), Fault> {
         match self.0.parse_by(alloc, parser) {
             Err(fault) => Err(fault),
             Ok(key) => {

@@ -11,7 +11,7 @@ use crate::parser::{Fault, Parser};
 use ufmt::layout::{Count, Kind};
 
 /// Parsers of fields in a row: the first field's parser, and those of the fields after it, or `()`.
-pub trait FieldParsers<A, V> {
+pub trait FieldParsers<A, M: ParseMode, V> {
     // What holds of each row of fields that a program has, in so many blocks.
     ghost fit: { ℕ → V → Type 0 };
 
@@ -21,15 +21,19 @@ pub trait FieldParsers<A, V> {
     // The texts of the fields, with their names.
     ghost texts: { Self → Setting → V → List (List ℕ) };
 
+    // Whether they may be called where so many blocks are open.
+    ghost ready: { Self → ℕ → Type 0 };
+
     // Takes the fields that are left of a block, and its end.
-    fn parse_rest<M: ParseMode>(
+    fn parse_rest(
         &self,
         alloc: A,
         parser: &mut Parser<'_, M>,
         kind: Kind,
         count: Count,
     ) -> Result<V, Fault>
-        requires { 0 < open_blocks parser.old }
+        requires opened { 0 < open_blocks parser.old }
+        requires ready { ready self.now (open_blocks parser.old) }
         ensures takes { Takes (fit (open_blocks parser.old))
             (λ v. block_tail (frame M.mode kind) (setting_in M.mode (open_blocks parser.old - 1)) count
             (texts self.now (setting_in M.mode (open_blocks parser.old)) v))
@@ -39,15 +43,17 @@ pub trait FieldParsers<A, V> {
         ensures shrinks { length (rest parser.new) ≤ length (rest parser.old) };
 }
 
-impl<A: Copy> FieldParsers<A, ()> for () {
+impl<A: Copy, M: ParseMode> FieldParsers<A, M, ()> for () {
     ghost fit = { λ _ _. ⊤ };
 
     ghost holds_no_memory = { ⊤ };
 
     ghost texts = { λ _ _ _. [] };
 
+    ghost ready = { λ _ _. ⊤ };
+
     #[inline(always)]
-    fn parse_rest<M: ParseMode>(
+    fn parse_rest(
         &self,
         _alloc: A,
         parser: &mut Parser<'_, M>,
@@ -62,16 +68,24 @@ impl<A: Copy> FieldParsers<A, ()> for () {
     }
 }
 
-impl<A: Copy, T: Drop, V: Drop, P: EntryParser<A, T>, R: FieldParsers<A, V>> FieldParsers<A, (T, V)>
-    for (P, R) {
+impl<
+    A: Copy,
+    M: ParseMode,
+    T: Drop,
+    V: Drop,
+    P: EntryParser<A, M, T>,
+    R: FieldParsers<A, M, V>,
+> FieldParsers<A, M, (T, V)> for (P, R) {
     ghost fit = { λ blocks v. P.fit blocks v.0 × R.fit blocks v.1 };
 
     ghost holds_no_memory = { P.holds_no_memory × R.holds_no_memory };
 
     ghost texts = { λ fields s v. P.text fields.0 s v.0 ∷ R.texts fields.1 s v.1 };
 
+    ghost ready = { λ fields blocks. P.ready fields.0 blocks × R.ready fields.1 blocks };
+
     #[inline(always)]
-    fn parse_rest<M: ParseMode>(
+    fn parse_rest(
         &self,
         alloc: A,
         parser: &mut Parser<'_, M>,
@@ -98,13 +112,14 @@ impl<A: Copy, T: Drop, V: Drop, P: EntryParser<A, T>, R: FieldParsers<A, V>> Fie
 
 /// Takes a block with this name and these fields.
 #[inline(always)]
-pub(crate) fn parse_block<A: Copy, V: Drop, P: FieldParsers<A, V>, M: ParseMode>(
+pub(crate) fn parse_block<A: Copy, M: ParseMode, V: Drop, P: FieldParsers<A, M, V>>(
     alloc: A,
     parser: &mut Parser<'_, M>,
     kind: Kind,
     name: &str,
     fields: &P,
 ) -> Result<V, Fault>
+    requires { open_blocks parser.old < 255 → P.ready fields.now (suc (open_blocks parser.old)) }
     ensures takes { Takes (λ v. P.fit (suc (open_blocks parser.old)) v × (open_blocks parser.old < 255))
         (λ v. name.now ++ ((frame M.mode kind).opening
         ++ block_tail (frame M.mode kind) (setting_in M.mode (open_blocks parser.old)) Zero

@@ -1,5 +1,5 @@
 //! Parsing from the front of a text: what each type does.
-ghost use Rattle.std.specs.Prelude.{◌≤◌, length, ◌≡◌, List, ℕ, IfOk, IfErr};
+ghost use Rattle.std.specs.Prelude.{◌≤◌, length, ◌≡◌, List, ℕ, IfOk, IfErr, ⊤};
 ghost use Rattle.ufmt.specs.Layout.{layout};
 ghost use Rattle.ufmt_parser.specs.Taking.{Fits, IsNext, IsTaken, Takes, open_blocks, rest, setting_in};
 
@@ -35,16 +35,20 @@ pub trait uParse<A>: uDebug + Drop {
         ensures shrinks { length (rest parser.new) ≤ length (rest parser.old) };
 }
 
-/// A parser of values of a type, as a type that holds itself needs one.
-pub trait ParsesBy<A, T: uDebug> {
+/// A parser of values of a type, from texts in the mode `M`.
+pub trait ParsesBy<A, M: ParseMode, T: uDebug> {
     /// What holds of each value that a program has.
     ghost is_value: { T → Type 0 };
 
     /// Holds if no memory is taken. By default nothing is said.
     ghost holds_no_memory: { Type 0 } = { ⊥ };
 
+    /// Whether it may be called where so many blocks are open.
+    ghost ready: { Self → ℕ → Type 0 };
+
     /// Takes the text of a value from the front, as `parse_from` of `uParse` does.
-    fn parse_by<M: ParseMode>(&self, alloc: A, parser: &mut Parser<'_, M>) -> Result<T, Fault>
+    fn parse_by(&self, alloc: A, parser: &mut Parser<'_, M>) -> Result<T, Fault>
+        requires { ready self.now (open_blocks parser.old) }
         ensures takes { Takes (λ v. is_value v × Fits (open_blocks parser.old) (T.document v))
             (λ v. layout (setting_in M.mode (open_blocks parser.old)) (T.document v))
             (rest parser.old) result (rest parser.new) }
@@ -57,13 +61,15 @@ pub trait ParsesBy<A, T: uDebug> {
 #[derive(Drop)]
 pub struct Plain;
 
-impl<A, T: uParse<A>> ParsesBy<A, T> for Plain {
+impl<A, M: ParseMode, T: uParse<A>> ParsesBy<A, M, T> for Plain {
     ghost is_value = { T.is_value };
 
     ghost holds_no_memory = { T.holds_no_memory };
 
+    ghost ready = { λ _ _. ⊤ };
+
     #[inline(always)]
-    fn parse_by<M: ParseMode>(&self, alloc: A, parser: &mut Parser<'_, M>) -> Result<T, Fault> {
+    fn parse_by(&self, alloc: A, parser: &mut Parser<'_, M>) -> Result<T, Fault> {
         match T::parse_from(alloc, parser) {
             Err(fault) => Err(fault),
             Ok(value) => {

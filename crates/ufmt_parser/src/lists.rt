@@ -1,4 +1,5 @@
 //! Blocks of any number of entries, and the values that print as one.
+ghost use Rattle.std.specs.List.{AllByRecursion};
 ghost use Rattle.std.specs.Prelude.{◌≤◌, ◌≡◌, ◌<◌, ◌-◌, ◌++◌, length, map, All, IfOk, suc};
 ghost use Rattle.ufmt.specs.Document.{documents, list_of};
 ghost use Rattle.ufmt.specs.Layout.{block_tail, frame, layout};
@@ -48,6 +49,21 @@ impl<T: uParse<Global>, const N: usize> uParse<Global> for [T; N] {
     }
 }
 
+/// Parses a `Vec` of what its parser parses.
+#[derive(Drop)]
+pub struct Each<P>(pub P);
+
+impl<M: ParseMode, T: uDebug + Drop, P: ParsesBy<Global, M, T>> ParsesBy<Global, M, Vec<T>>
+    for Each<P> {
+    ghost is_value = { λ values. AllByRecursion P.is_value values.items };
+
+    ghost ready = { λ each blocks. blocks < 255 → P.ready each.0 (suc blocks) };
+
+    fn parse_by(&self, alloc: Global, parser: &mut Parser<'_, M>) -> Result<Vec<T>, Fault> {
+        parse_list(alloc, parser, &Value(&self.0))
+    }
+}
+
 // Takes a list of so many values.
 fn parse_array<T: uParse<Global>, const N: usize, M: ParseMode>(
     alloc: Global,
@@ -74,11 +90,12 @@ fn parse_array<T: uParse<Global>, const N: usize, M: ParseMode>(
 }
 
 /// Takes a list, each value by this parser.
-pub(crate) fn parse_list<T: uDebug + Drop, P: ParsesBy<Global, T>, M: ParseMode>(
+pub(crate) fn parse_list<M: ParseMode, T: uDebug + Drop, P: ParsesBy<Global, M, T>>(
     alloc: Global,
     parser: &mut Parser<'_, M>,
     by: &Value<P>,
 ) -> Result<Vec<T>, Fault>
+    requires { open_blocks parser.old < 255 → P.ready by.now.0 (suc (open_blocks parser.old)) }
     ensures takes { Takes (λ values. All P.is_value values
         × Fits (open_blocks parser.old) (list_of (documents (map T.document values))))
         (λ values. layout (setting_in M.mode (open_blocks parser.old)) (list_of (documents (map T.document values))))
@@ -90,7 +107,7 @@ pub(crate) fn parse_list<T: uDebug + Drop, P: ParsesBy<Global, T>, M: ParseMode>
 }
 
 /// Takes a block in brackets or braces, each entry by this parser.
-pub(crate) fn parse_entries<E: Drop, P: EntryParser<Global, E>, M: ParseMode>(
+pub(crate) fn parse_entries<M: ParseMode, E: Drop, P: EntryParser<Global, M, E>>(
     alloc: Global,
     parser: &mut Parser<'_, M>,
     kind: Kind,
@@ -98,6 +115,7 @@ pub(crate) fn parse_entries<E: Drop, P: EntryParser<Global, E>, M: ParseMode>(
 ) -> Result<Vec<E>, Fault>
     requires bracketed { IsBracketed kind }
     requires begin { EntriesBegin P.fit (P.text by.now) }
+    requires ready { open_blocks parser.old < 255 → P.ready by.now (suc (open_blocks parser.old)) }
     ensures takes { Takes (EntriesFit P.fit (open_blocks parser.old))
         (λ entries. (frame M.mode kind).opening
         ++ block_tail (frame M.mode kind) (setting_in M.mode (open_blocks parser.old)) Zero
@@ -126,7 +144,7 @@ pub(crate) fn parse_entries<E: Drop, P: EntryParser<Global, E>, M: ParseMode>(
 }
 
 // Takes one entry or more of the innermost block, and its end.
-fn parse_some<E: Drop, P: EntryParser<Global, E>, M: ParseMode>(
+fn parse_some<M: ParseMode, E: Drop, P: EntryParser<Global, M, E>>(
     alloc: Global,
     parser: &mut Parser<'_, M>,
     kind: Kind,
@@ -134,6 +152,7 @@ fn parse_some<E: Drop, P: EntryParser<Global, E>, M: ParseMode>(
 ) -> Result<Vec<E>, Fault>
     requires bracketed { IsBracketed kind }
     requires counted { 0 < open_blocks parser.old }
+    requires ready { P.ready by.now (open_blocks parser.old) }
     ensures takes { Takes (AreSome (P.fit (open_blocks parser.old)))
         (λ entries. block_tail (frame M.mode kind) (setting_in M.mode (open_blocks parser.old - 1)) Zero
         (map (P.text by.now (setting_in M.mode (open_blocks parser.old))) entries))

@@ -3,7 +3,7 @@
 /// Parses a struct or a tuple struct: the body of its `parse_from`.
 ///
 /// Write `parse_fields!(alloc, parser, Pair { x, y })` or `parse_fields!(alloc, parser, Tuple(x, y))`, with
-/// the fields in the order in which `fields!` prints them, at most six. A struct without fields is
+/// the fields in the order in which `fields!` prints them, at most twelve. A struct without fields is
 /// `Name`, `Name()` or `Name {}`.
 #[macro_export]
 macro_rules! parse_fields {
@@ -32,7 +32,7 @@ macro_rules! parse_fields {
         $crate::parse_unit!($parser, $name, $name)
     }};
     ($($other:tt)*) => {
-        compile_error!("expected an allocator, a parser and a struct: `alloc, parser, Name { x, y }`, `alloc, parser, Name(x, y)` or `alloc, parser, Name`, with at most six fields")
+        compile_error!("expected an allocator, a parser and a struct: `alloc, parser, Name { x, y }`, `alloc, parser, Name(x, y)` or `alloc, parser, Name`, with at most twelve fields")
     };
 }
 
@@ -120,7 +120,7 @@ macro_rules! parse_struct_call {
     ([$($field:tt)+] $($arguments:tt)*) => {
         $crate::parse_call!(
             [$($field)+]
-            [parse_struct_1 parse_struct_2 parse_struct_3 parse_struct_4 parse_struct_5 parse_struct_6]
+            [parse_struct_1 parse_struct_2 parse_struct_3 parse_struct_4 parse_struct_5 parse_struct_6 parse_struct_7 parse_struct_8 parse_struct_9 parse_struct_10 parse_struct_11 parse_struct_12]
             $($arguments)*
         )
     };
@@ -132,7 +132,7 @@ macro_rules! parse_tuple_call {
     ([$($field:tt)+] $($arguments:tt)*) => {
         $crate::parse_call!(
             [$($field)+]
-            [parse_tuple_1 parse_tuple_2 parse_tuple_3 parse_tuple_4 parse_tuple_5 parse_tuple_6]
+            [parse_tuple_1 parse_tuple_2 parse_tuple_3 parse_tuple_4 parse_tuple_5 parse_tuple_6 parse_tuple_7 parse_tuple_8 parse_tuple_9 parse_tuple_10 parse_tuple_11 parse_tuple_12]
             $($arguments)*
         )
     };
@@ -146,5 +146,5 @@ macro_rules! parse_call {
     ([$field:tt $($fields:tt)+] [$call:ident $($calls:ident)*] $($arguments:tt)*) => {
         $crate::parse_call!([$($fields)+] [$($calls)*] $($arguments)*)
     };
-    ($($other:tt)*) => { compile_error!("a struct, a tuple struct or a variant that is parsed has at most six fields") };
+    ($($other:tt)*) => { compile_error!("a struct, a tuple struct or a variant that is parsed has at most twelve fields") };
 }

@@ -1,10 +1,12 @@
 //! Options and results.
-ghost use Rattle.std.specs.Prelude.{IfSome, Ok, Err};
+ghost use Rattle.std.specs.Prelude.{◌<◌, IfSome, Ok, Err, suc};
 
-use crate::from_front::uParse;
+use crate::from_front::{ParsesBy, Plain, uParse};
 use crate::mode::ParseMode;
 use crate::parser::{Fault, Parser};
 use crate::tuples::parse_tuple_1;
+use crate::tuples_by::parse_tuple_1_by;
+use ufmt::uDebug;
 
 impl<A: Copy, T: uParse<A>> uParse<A> for Option<T> {
     ghost is_value = { λ o. IfSome o T.is_value };
@@ -20,10 +22,28 @@ impl<A: Copy, T: uParse<A>> uParse<A> for Option<T> {
 
     #[inline(always)]
     fn parse_from<M: ParseMode>(alloc: A, parser: &mut Parser<'_, M>) -> Result<Option<T>, Fault> {
+        Optional(Plain).parse_by(alloc, parser)
+    }
+}
+
+/// Parses an `Option` of what its parser parses.
+#[derive(Drop)]
+pub struct Optional<P>(pub P);
+
+impl<A: Copy, M: ParseMode, T: uDebug + Drop, P: ParsesBy<A, M, T>> ParsesBy<A, M, Option<T>>
+    for Optional<P> {
+    ghost is_value = { λ o. IfSome o P.is_value };
+
+    ghost holds_no_memory = { P.holds_no_memory };
+
+    ghost ready = { λ optional blocks. blocks < 255 → P.ready optional.0 (suc blocks) };
+
+    #[inline(always)]
+    fn parse_by(&self, alloc: A, parser: &mut Parser<'_, M>) -> Result<Option<T>, Fault> {
         if parser.eats("None") {
             return Ok(None);
         }
-        match parse_tuple_1(alloc, parser, "Some") {
+        match parse_tuple_1_by(alloc, parser, "Some", &self.0) {
             Ok(value) => Ok(Some(value)),
             Err(fault) => Err(fault),
         }
@@ -32,6 +52,8 @@ impl<A: Copy, T: uParse<A>> uParse<A> for Option<T> {
 
 impl<A: Copy, T: uParse<A>, E: uParse<A>> uParse<A> for Result<T, E> {
     ghost is_value = { elim [ Ok value ↦ T.is_value value | Err error ↦ E.is_value error ] };
+
+    ghost holds_no_memory = { T.holds_no_memory × E.holds_no_memory };
 
     fn prove_value(&self) {
         match self {

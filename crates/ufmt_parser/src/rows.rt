@@ -19,6 +19,9 @@ pub trait Row<A>: Drop {
     // What holds of each row that a program has.
     ghost are_values: { Self → Type 0 };
 
+    // Holds if none of the values holds memory.
+    ghost hold_no_memory: { Type 0 };
+
     // The values' documents.
     ghost documents: { Self → List Document };
 
@@ -38,6 +41,7 @@ pub trait Row<A>: Drop {
             (λ v. block_tail (frame M.mode kind) (setting_in M.mode (open_blocks parser.old - 1)) count
             (row_texts (setting_in M.mode (open_blocks parser.old)) (all_now names.now) (documents v)))
             (rest parser.old) result (rest parser.new) }
+        ensures memory { hold_no_memory → IfErr result (λ fault. fault ≡ Fault.NotText) }
         ensures blocks { IfOk result (λ _. open_blocks parser.new ≡ open_blocks parser.old) }
         ensures shrinks { length (rest parser.new) ≤ length (rest parser.old) };
 }
@@ -46,12 +50,17 @@ pub trait Row<A>: Drop {
 #[derive(Drop)]
 pub struct Names<'a>(pub &'a [&'a str]);
 
-impl<'a, A: Copy, V: Row<A>> FieldParsers<A, V> for Names<'a> {
+impl<'a, A: Copy, M: ParseMode, V: Row<A>> FieldParsers<A, M, V> for Names<'a> {
     ghost fit = { λ blocks v. V.are_values v × AllFit blocks (V.documents v) };
+
+    ghost holds_no_memory = { V.hold_no_memory };
 
     ghost texts = { λ names s v. row_texts s (all_now names.0.now) (V.documents v) };
 
-    fn parse_rest<M: ParseMode>(
+    ghost ready = { λ _ _. ⊤ };
+
+    #[inline(always)]
+    fn parse_rest(
         &self,
         alloc: A,
         parser: &mut Parser<'_, M>,
@@ -65,8 +74,11 @@ impl<'a, A: Copy, V: Row<A>> FieldParsers<A, V> for Names<'a> {
 impl<A: Copy> Row<A> for () {
     ghost are_values = { λ _. ⊤ };
 
+    ghost hold_no_memory = { ⊤ };
+
     ghost documents = { λ _. [] };
 
+    #[inline(always)]
     fn parse_row<M: ParseMode>(
         alloc: A,
         parser: &mut Parser<'_, M>,
@@ -81,8 +93,11 @@ impl<A: Copy> Row<A> for () {
 impl<A: Copy, T: uParse<A>, V: Row<A>> Row<A> for (T, V) {
     ghost are_values = { λ v. T.is_value v.0 × V.are_values v.1 };
 
+    ghost hold_no_memory = { T.holds_no_memory × V.hold_no_memory };
+
     ghost documents = { λ v. T.document v.0 ∷ V.documents v.1 };
 
+    #[inline(always)]
     fn parse_row<M: ParseMode>(
         alloc: A,
         parser: &mut Parser<'_, M>,
@@ -100,6 +115,7 @@ impl<A: Copy, T: uParse<A>, V: Row<A>> Row<A> for (T, V) {
 }
 
 /// Takes a struct with a row of fields, as `parse_from` does a value.
+#[inline(always)]
 pub(crate) fn parse_struct_row<A: Copy, T: uParse<A>, V: Row<A>, M: ParseMode>(
     alloc: A,
     parser: &mut Parser<'_, M>,
@@ -116,6 +132,7 @@ pub(crate) fn parse_struct_row<A: Copy, T: uParse<A>, V: Row<A>, M: ParseMode>(
     ensures none { IfErr result (λ fault. fault ≡ Fault.NotText → (v : T × V) (u : List ℕ)
         → T.is_value v.0 × V.are_values v.1 → ¬ IsNext M.mode parser.old (struct_of name.now (fields_of
         (zip (all_now names.now) (T.document v.0 ∷ V.documents v.1)))) u) }
+    ensures memory { T.holds_no_memory × V.hold_no_memory → IfErr result (λ fault. fault ≡ Fault.NotText) }
     ensures blocks { IfOk result (λ _. open_blocks parser.new ≡ open_blocks parser.old) }
     ensures shrinks { length (rest parser.new) ≤ length (rest parser.old) }
 {
@@ -123,6 +140,7 @@ pub(crate) fn parse_struct_row<A: Copy, T: uParse<A>, V: Row<A>, M: ParseMode>(
 }
 
 /// Takes a tuple with a row of fields, as `parse_from` does a value.
+#[inline(always)]
 pub(crate) fn parse_tuple_row<A: Copy, T: uParse<A>, V: Row<A>, M: ParseMode>(
     alloc: A,
     parser: &mut Parser<'_, M>,
@@ -137,6 +155,7 @@ pub(crate) fn parse_tuple_row<A: Copy, T: uParse<A>, V: Row<A>, M: ParseMode>(
     ensures none { IfErr result (λ fault. fault ≡ Fault.NotText → (v : T × V) (u : List ℕ)
         → T.is_value v.0 × V.are_values v.1 → ¬ IsNext M.mode parser.old (tuple_of name.now (documents
         (T.document v.0 ∷ V.documents v.1))) u) }
+    ensures memory { T.holds_no_memory × V.hold_no_memory → IfErr result (λ fault. fault ≡ Fault.NotText) }
     ensures blocks { IfOk result (λ _. open_blocks parser.new ≡ open_blocks parser.old) }
     ensures shrinks { length (rest parser.new) ≤ length (rest parser.old) }
 {

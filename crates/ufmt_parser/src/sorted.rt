@@ -1,7 +1,7 @@
 //! Sets and maps, whose keys ascend.
 ghost use Rattle.std.specs.List.Sorted.{IsStrictlySortedBy};
 ghost use Rattle.std.specs.Map.{keys_of};
-ghost use Rattle.std.specs.Prelude.{◌≤◌, length, ◌≡◌, ◌↔◌, map, All, IfOk, IsTrue, MatchOption};
+ghost use Rattle.std.specs.Prelude.{◌≤◌, ◌<◌, length, ◌≡◌, ◌↔◌, map, All, IfOk, IsTrue, MatchOption, suc};
 ghost use Rattle.ufmt.specs.Document.{documents, map_of, pairs_of, set_of};
 ghost use Rattle.ufmt.specs.Layout.{layout};
 ghost use Rattle.ufmt_parser.specs.Blocks.{entry_documents, outcome_map, ComesBefore, IsEntry};
@@ -65,11 +65,12 @@ fn parse_set<T: ParseKey<Global>, M: ParseMode>(
 }
 
 /// Takes the keys of a set, in any order, each by this parser.
-fn parse_keys<T: uDebug + Drop, P: ParsesBy<Global, T>, M: ParseMode>(
+fn parse_keys<M: ParseMode, T: uDebug + Drop, P: ParsesBy<Global, M, T>>(
     alloc: Global,
     parser: &mut Parser<'_, M>,
     by: &Value<P>,
 ) -> Result<Vec<T>, Fault>
+    requires { open_blocks parser.old < 255 → P.ready by.now.0 (suc (open_blocks parser.old)) }
     ensures takes { Takes (λ keys. All P.is_value keys
         × Fits (open_blocks parser.old) (set_of (documents (map T.document keys))))
         (λ keys. layout (setting_in M.mode (open_blocks parser.old)) (set_of (documents (map T.document keys))))
@@ -162,12 +163,14 @@ fn parse_map<K: ParseKey<Global>, V: uParse<Global>, M: ParseMode>(
 
 /// Takes the entries of a map, in any order, each by this parser.
 fn parse_pairs<
+    M: ParseMode,
     T: uDebug + Drop,
     U: uDebug + Drop,
-    K: ParsesBy<Global, T>,
-    P: ParsesBy<Global, U>,
-    M: ParseMode,
+    K: ParsesBy<Global, M, T>,
+    P: ParsesBy<Global, M, U>,
 >(alloc: Global, parser: &mut Parser<'_, M>, by: &Pair<K, P>) -> Result<Vec<(T, U)>, Fault>
+    requires { open_blocks parser.old < 255 → K.ready by.now.0 (suc (open_blocks parser.old))
+        × P.ready by.now.1 (suc (open_blocks parser.old)) }
     ensures takes { Takes (λ entries. All (IsEntry K.is_value P.is_value) entries
         × Fits (open_blocks parser.old) (map_of (pairs_of (map (entry_documents T.document U.document) entries))))
         (λ entries. layout (setting_in M.mode (open_blocks parser.old))

@@ -254,6 +254,7 @@ pub fn parse_struct_6<
 }
 
 /// Takes a struct with 7 fields, as `parse_from` does a value.
+#[inline(always)]
 pub fn parse_struct_7<
     Alloc: Copy,
     A: uParse<Alloc>,
@@ -296,6 +297,9 @@ pub fn parse_struct_7<
         (struct_of name.now (fields_of ((a.now, A.document a_value) ∷ (b.now, B.document b_value)
         ∷ (c.now, C.document c_value) ∷ (d.now, D.document d_value) ∷ (e.now, E.document e_value)
         ∷ (f.now, F.document f_value) ∷ (g.now, G.document g_value) ∷ []))) u) }
+    ensures memory { A.holds_no_memory × B.holds_no_memory × C.holds_no_memory × D.holds_no_memory
+        × E.holds_no_memory × F.holds_no_memory × G.holds_no_memory → IfErr result (λ fault.
+        fault ≡ Fault.NotText) }
     ensures blocks { IfOk result (λ _. open_blocks parser.new ≡ open_blocks parser.old) }
     ensures shrinks { length (rest parser.new) ≤ length (rest parser.old) }
 {
@@ -310,6 +314,7 @@ pub fn parse_struct_7<
 }
 
 /// Takes a struct with 8 fields, as `parse_from` does a value.
+#[inline(always)]
 pub fn parse_struct_8<
     Alloc: Copy,
     A: uParse<Alloc>,
@@ -355,6 +360,9 @@ pub fn parse_struct_8<
         ((a.now, A.document a_value) ∷ (b.now, B.document b_value) ∷ (c.now, C.document c_value)
         ∷ (d.now, D.document d_value) ∷ (e.now, E.document e_value) ∷ (f.now, F.document f_value)
         ∷ (g.now, G.document g_value) ∷ (h.now, H.document h_value) ∷ []))) u) }
+    ensures memory { A.holds_no_memory × B.holds_no_memory × C.holds_no_memory × D.holds_no_memory
+        × E.holds_no_memory × F.holds_no_memory × G.holds_no_memory × H.holds_no_memory
+        → IfErr result (λ fault. fault ≡ Fault.NotText) }
     ensures blocks { IfOk result (λ _. open_blocks parser.new ≡ open_blocks parser.old) }
     ensures shrinks { length (rest parser.new) ≤ length (rest parser.old) }
 {
@@ -372,6 +380,7 @@ pub fn parse_struct_8<
 }
 
 /// Takes a struct with 9 fields, as `parse_from` does a value.
+#[inline(always)]
 pub fn parse_struct_9<
     Alloc: Copy,
     A: uParse<Alloc>,
@@ -422,6 +431,9 @@ pub fn parse_struct_9<
         ∷ (c.now, C.document c_value) ∷ (d.now, D.document d_value) ∷ (e.now, E.document e_value)
         ∷ (f.now, F.document f_value) ∷ (g.now, G.document g_value) ∷ (h.now, H.document h_value)
         ∷ (i.now, I.document i_value) ∷ []))) u) }
+    ensures memory { A.holds_no_memory × B.holds_no_memory × C.holds_no_memory × D.holds_no_memory
+        × E.holds_no_memory × F.holds_no_memory × G.holds_no_memory × H.holds_no_memory
+        × I.holds_no_memory → IfErr result (λ fault. fault ≡ Fault.NotText) }
     ensures blocks { IfOk result (λ _. open_blocks parser.new ≡ open_blocks parser.old) }
     ensures shrinks { length (rest parser.new) ≤ length (rest parser.old) }
 {
@@ -442,6 +454,7 @@ pub fn parse_struct_9<
 }
 
 /// Takes a struct with 10 fields, as `parse_from` does a value.
+#[inline(always)]
 pub fn parse_struct_10<
     Alloc: Copy,
     A: uParse<Alloc>,
@@ -496,6 +509,9 @@ pub fn parse_struct_10<
         ∷ (e.now, E.document e_value) ∷ (f.now, F.document f_value) ∷ (g.now, G.document g_value)
         ∷ (h.now, H.document h_value) ∷ (i.now, I.document i_value) ∷ (j.now, J.document j_value)
         ∷ []))) u) }
+    ensures memory { A.holds_no_memory × B.holds_no_memory × C.holds_no_memory × D.holds_no_memory
+        × E.holds_no_memory × F.holds_no_memory × G.holds_no_memory × H.holds_no_memory
+        × I.holds_no_memory × J.holds_no_memory → IfErr result (λ fault. fault ≡ Fault.NotText) }
     ensures blocks { IfOk result (λ _. open_blocks parser.new ≡ open_blocks parser.old) }
     ensures shrinks { length (rest parser.new) ≤ length (rest parser.old) }
 {
@@ -523,6 +539,7 @@ pub fn parse_struct_10<
 }
 
 /// Takes a struct with 11 fields, as `parse_from` does a value.
+#[inline(always)]
 pub fn parse_struct_11<
     Alloc: Copy,
     A: uParse<Alloc>,
@@ -580,6 +597,10 @@ pub fn parse_struct_11<
         ∷ (f.now, F.document f_value) ∷ (g.now, G.document g_value) ∷ (h.now, H.document h_value)
         ∷ (i.now, I.document i_value) ∷ (j.now, J.document j_value) ∷ (k.now, K.document k_value)
         ∷ []))) u) }
+    ensures memory { A.holds_no_memory × B.holds_no_memory × C.holds_no_memory × D.holds_no_memory
+        × E.holds_no_memory × F.holds_no_memory × G.holds_no_memory × H.holds_no_memory
+        × I.holds_no_memory × J.holds_no_memory × K.holds_no_memory → IfErr result (λ fault.
+        fault ≡ Fault.NotText) }
     ensures blocks { IfOk result (λ _. open_blocks parser.new ≡ open_blocks parser.old) }
     ensures shrinks { length (rest parser.new) ≤ length (rest parser.old) }
 {
@@ -613,6 +634,7 @@ pub fn parse_struct_11<
 }
 
 /// Takes a struct with 12 fields, as `parse_from` does a value.
+#[inline(always)]
 pub fn parse_struct_12<
     Alloc: Copy,
     A: uParse<Alloc>,
@@ -674,6 +696,10 @@ pub fn parse_struct_12<
         ∷ (f.now, F.document f_value) ∷ (g.now, G.document g_value) ∷ (h.now, H.document h_value)
         ∷ (i.now, I.document i_value) ∷ (j.now, J.document j_value) ∷ (k.now, K.document k_value)
         ∷ (l.now, L.document l_value) ∷ []))) u) }
+    ensures memory { A.holds_no_memory × B.holds_no_memory × C.holds_no_memory × D.holds_no_memory
+        × E.holds_no_memory × F.holds_no_memory × G.holds_no_memory × H.holds_no_memory
+        × I.holds_no_memory × J.holds_no_memory × K.holds_no_memory × L.holds_no_memory
+        → IfErr result (λ fault. fault ≡ Fault.NotText) }
     ensures blocks { IfOk result (λ _. open_blocks parser.new ≡ open_blocks parser.old) }
     ensures shrinks { length (rest parser.new) ≤ length (rest parser.old) }
 {

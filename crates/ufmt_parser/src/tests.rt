@@ -4,9 +4,9 @@ ghost use Rattle.ufmt.specs.ValueDocuments.{named_struct, named_tuple};
 
 mod command;
 mod errors;
+mod long_numbers;
 mod places;
 mod round_trips;
-mod long_numbers;
 mod values;
 mod variants;
 

@@ -172,6 +172,8 @@ impl<
 > uParse<Alloc> for (A, B, C, D, E, F, G) {
     ghost is_value = { λ t. A.is_value t.0 × B.is_value t.1 × C.is_value t.2 × D.is_value t.3 × E.is_value t.4 × F.is_value t.5 × G.is_value t.6 };
 
+    ghost holds_no_memory = { A.holds_no_memory × B.holds_no_memory × C.holds_no_memory × D.holds_no_memory × E.holds_no_memory × F.holds_no_memory × G.holds_no_memory };
+
     fn prove_value(&self) {
         self.0.prove_value();
         self.1.prove_value();
@@ -182,6 +184,7 @@ impl<
         self.6.prove_value();
     }
 
+    #[inline(always)]
     fn parse_from<M: ParseMode>(
         alloc: Alloc,
         parser: &mut Parser<'_, M>,
@@ -206,6 +209,8 @@ impl<
 > uParse<Alloc> for (A, B, C, D, E, F, G, H) {
     ghost is_value = { λ t. A.is_value t.0 × B.is_value t.1 × C.is_value t.2 × D.is_value t.3 × E.is_value t.4 × F.is_value t.5 × G.is_value t.6 × H.is_value t.7 };
 
+    ghost holds_no_memory = { A.holds_no_memory × B.holds_no_memory × C.holds_no_memory × D.holds_no_memory × E.holds_no_memory × F.holds_no_memory × G.holds_no_memory × H.holds_no_memory };
+
     fn prove_value(&self) {
         self.0.prove_value();
         self.1.prove_value();
@@ -217,6 +222,7 @@ impl<
         self.7.prove_value();
     }
 
+    #[inline(always)]
     fn parse_from<M: ParseMode>(
         alloc: Alloc,
         parser: &mut Parser<'_, M>,
@@ -242,6 +248,8 @@ impl<
 > uParse<Alloc> for (A, B, C, D, E, F, G, H, I) {
     ghost is_value = { λ t. A.is_value t.0 × B.is_value t.1 × C.is_value t.2 × D.is_value t.3 × E.is_value t.4 × F.is_value t.5 × G.is_value t.6 × H.is_value t.7 × I.is_value t.8 };
 
+    ghost holds_no_memory = { A.holds_no_memory × B.holds_no_memory × C.holds_no_memory × D.holds_no_memory × E.holds_no_memory × F.holds_no_memory × G.holds_no_memory × H.holds_no_memory × I.holds_no_memory };
+
     fn prove_value(&self) {
         self.0.prove_value();
         self.1.prove_value();
@@ -254,6 +262,7 @@ impl<
         self.8.prove_value();
     }
 
+    #[inline(always)]
     fn parse_from<M: ParseMode>(
         alloc: Alloc,
         parser: &mut Parser<'_, M>,
@@ -280,6 +289,8 @@ impl<
 > uParse<Alloc> for (A, B, C, D, E, F, G, H, I, J) {
     ghost is_value = { λ t. A.is_value t.0 × B.is_value t.1 × C.is_value t.2 × D.is_value t.3 × E.is_value t.4 × F.is_value t.5 × G.is_value t.6 × H.is_value t.7 × I.is_value t.8 × J.is_value t.9 };
 
+    ghost holds_no_memory = { A.holds_no_memory × B.holds_no_memory × C.holds_no_memory × D.holds_no_memory × E.holds_no_memory × F.holds_no_memory × G.holds_no_memory × H.holds_no_memory × I.holds_no_memory × J.holds_no_memory };
+
     fn prove_value(&self) {
         self.0.prove_value();
         self.1.prove_value();
@@ -293,6 +304,7 @@ impl<
         self.9.prove_value();
     }
 
+    #[inline(always)]
     fn parse_from<M: ParseMode>(
         alloc: Alloc,
         parser: &mut Parser<'_, M>,
@@ -320,6 +332,8 @@ impl<
 > uParse<Alloc> for (A, B, C, D, E, F, G, H, I, J, K) {
     ghost is_value = { λ t. A.is_value t.0 × B.is_value t.1 × C.is_value t.2 × D.is_value t.3 × E.is_value t.4 × F.is_value t.5 × G.is_value t.6 × H.is_value t.7 × I.is_value t.8 × J.is_value t.9 × K.is_value t.10 };
 
+    ghost holds_no_memory = { A.holds_no_memory × B.holds_no_memory × C.holds_no_memory × D.holds_no_memory × E.holds_no_memory × F.holds_no_memory × G.holds_no_memory × H.holds_no_memory × I.holds_no_memory × J.holds_no_memory × K.holds_no_memory };
+
     fn prove_value(&self) {
         self.0.prove_value();
         self.1.prove_value();
@@ -334,6 +348,7 @@ impl<
         self.10.prove_value();
     }
 
+    #[inline(always)]
     fn parse_from<M: ParseMode>(
         alloc: Alloc,
         parser: &mut Parser<'_, M>,
@@ -362,6 +377,8 @@ impl<
 > uParse<Alloc> for (A, B, C, D, E, F, G, H, I, J, K, L) {
     ghost is_value = { λ t. A.is_value t.0 × B.is_value t.1 × C.is_value t.2 × D.is_value t.3 × E.is_value t.4 × F.is_value t.5 × G.is_value t.6 × H.is_value t.7 × I.is_value t.8 × J.is_value t.9 × K.is_value t.10 × L.is_value t.11 };
 
+    ghost holds_no_memory = { A.holds_no_memory × B.holds_no_memory × C.holds_no_memory × D.holds_no_memory × E.holds_no_memory × F.holds_no_memory × G.holds_no_memory × H.holds_no_memory × I.holds_no_memory × J.holds_no_memory × K.holds_no_memory × L.holds_no_memory };
+
     fn prove_value(&self) {
         self.0.prove_value();
         self.1.prove_value();
@@ -377,6 +394,7 @@ impl<
         self.11.prove_value();
     }
 
+    #[inline(always)]
     fn parse_from<M: ParseMode>(
         alloc: Alloc,
         parser: &mut Parser<'_, M>,

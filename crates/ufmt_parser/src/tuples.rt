@@ -210,6 +210,7 @@ pub fn parse_tuple_6<
 }
 
 /// Takes a tuple with 7 fields, as `parse_from` does a value.
+#[inline(always)]
 pub fn parse_tuple_7<
     Alloc: Copy,
     A: uParse<Alloc>,
@@ -239,6 +240,9 @@ pub fn parse_tuple_7<
         (tuple_of name.now (documents (A.document a_value ∷ B.document b_value ∷ C.document c_value
         ∷ D.document d_value ∷ E.document e_value ∷ F.document f_value ∷ G.document g_value ∷ [])))
         u) }
+    ensures memory { A.holds_no_memory × B.holds_no_memory × C.holds_no_memory × D.holds_no_memory
+        × E.holds_no_memory × F.holds_no_memory × G.holds_no_memory → IfErr result (λ fault.
+        fault ≡ Fault.NotText) }
     ensures blocks { IfOk result (λ _. open_blocks parser.new ≡ open_blocks parser.old) }
     ensures shrinks { length (rest parser.new) ≤ length (rest parser.old) }
 {
@@ -253,6 +257,7 @@ pub fn parse_tuple_7<
 }
 
 /// Takes a tuple with 8 fields, as `parse_from` does a value.
+#[inline(always)]
 pub fn parse_tuple_8<
     Alloc: Copy,
     A: uParse<Alloc>,
@@ -284,6 +289,9 @@ pub fn parse_tuple_8<
         (A.document a_value ∷ B.document b_value ∷ C.document c_value ∷ D.document d_value
         ∷ E.document e_value ∷ F.document f_value ∷ G.document g_value ∷ H.document h_value ∷ [])))
         u) }
+    ensures memory { A.holds_no_memory × B.holds_no_memory × C.holds_no_memory × D.holds_no_memory
+        × E.holds_no_memory × F.holds_no_memory × G.holds_no_memory × H.holds_no_memory
+        → IfErr result (λ fault. fault ≡ Fault.NotText) }
     ensures blocks { IfOk result (λ _. open_blocks parser.new ≡ open_blocks parser.old) }
     ensures shrinks { length (rest parser.new) ≤ length (rest parser.old) }
 {
@@ -301,6 +309,7 @@ pub fn parse_tuple_8<
 }
 
 /// Takes a tuple with 9 fields, as `parse_from` does a value.
+#[inline(always)]
 pub fn parse_tuple_9<
     Alloc: Copy,
     A: uParse<Alloc>,
@@ -338,6 +347,9 @@ pub fn parse_tuple_9<
         (tuple_of name.now (documents (A.document a_value ∷ B.document b_value ∷ C.document c_value
         ∷ D.document d_value ∷ E.document e_value ∷ F.document f_value ∷ G.document g_value
         ∷ H.document h_value ∷ I.document i_value ∷ []))) u) }
+    ensures memory { A.holds_no_memory × B.holds_no_memory × C.holds_no_memory × D.holds_no_memory
+        × E.holds_no_memory × F.holds_no_memory × G.holds_no_memory × H.holds_no_memory
+        × I.holds_no_memory → IfErr result (λ fault. fault ≡ Fault.NotText) }
     ensures blocks { IfOk result (λ _. open_blocks parser.new ≡ open_blocks parser.old) }
     ensures shrinks { length (rest parser.new) ≤ length (rest parser.old) }
 {
@@ -358,6 +370,7 @@ pub fn parse_tuple_9<
 }
 
 /// Takes a tuple with 10 fields, as `parse_from` does a value.
+#[inline(always)]
 pub fn parse_tuple_10<
     Alloc: Copy,
     A: uParse<Alloc>,
@@ -399,6 +412,9 @@ pub fn parse_tuple_10<
         ∷ B.document b_value ∷ C.document c_value ∷ D.document d_value ∷ E.document e_value
         ∷ F.document f_value ∷ G.document g_value ∷ H.document h_value ∷ I.document i_value
         ∷ J.document j_value ∷ []))) u) }
+    ensures memory { A.holds_no_memory × B.holds_no_memory × C.holds_no_memory × D.holds_no_memory
+        × E.holds_no_memory × F.holds_no_memory × G.holds_no_memory × H.holds_no_memory
+        × I.holds_no_memory × J.holds_no_memory → IfErr result (λ fault. fault ≡ Fault.NotText) }
     ensures blocks { IfOk result (λ _. open_blocks parser.new ≡ open_blocks parser.old) }
     ensures shrinks { length (rest parser.new) ≤ length (rest parser.old) }
 {
@@ -426,6 +442,7 @@ pub fn parse_tuple_10<
 }
 
 /// Takes a tuple with 11 fields, as `parse_from` does a value.
+#[inline(always)]
 pub fn parse_tuple_11<
     Alloc: Copy,
     A: uParse<Alloc>,
@@ -469,6 +486,10 @@ pub fn parse_tuple_11<
         ∷ D.document d_value ∷ E.document e_value ∷ F.document f_value ∷ G.document g_value
         ∷ H.document h_value ∷ I.document i_value ∷ J.document j_value ∷ K.document k_value ∷ [])))
         u) }
+    ensures memory { A.holds_no_memory × B.holds_no_memory × C.holds_no_memory × D.holds_no_memory
+        × E.holds_no_memory × F.holds_no_memory × G.holds_no_memory × H.holds_no_memory
+        × I.holds_no_memory × J.holds_no_memory × K.holds_no_memory → IfErr result (λ fault.
+        fault ≡ Fault.NotText) }
     ensures blocks { IfOk result (λ _. open_blocks parser.new ≡ open_blocks parser.old) }
     ensures shrinks { length (rest parser.new) ≤ length (rest parser.old) }
 {
@@ -502,6 +523,7 @@ pub fn parse_tuple_11<
 }
 
 /// Takes a tuple with 12 fields, as `parse_from` does a value.
+#[inline(always)]
 pub fn parse_tuple_12<
     Alloc: Copy,
     A: uParse<Alloc>,
@@ -547,6 +569,10 @@ pub fn parse_tuple_12<
         ∷ D.document d_value ∷ E.document e_value ∷ F.document f_value ∷ G.document g_value
         ∷ H.document h_value ∷ I.document i_value ∷ J.document j_value ∷ K.document k_value
         ∷ L.document l_value ∷ []))) u) }
+    ensures memory { A.holds_no_memory × B.holds_no_memory × C.holds_no_memory × D.holds_no_memory
+        × E.holds_no_memory × F.holds_no_memory × G.holds_no_memory × H.holds_no_memory
+        × I.holds_no_memory × J.holds_no_memory × K.holds_no_memory × L.holds_no_memory
+        → IfErr result (λ fault. fault ≡ Fault.NotText) }
     ensures blocks { IfOk result (λ _. open_blocks parser.new ≡ open_blocks parser.old) }
     ensures shrinks { length (rest parser.new) ≤ length (rest parser.old) }
 {
