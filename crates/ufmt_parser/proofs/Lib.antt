@@ -11,6 +11,7 @@ pub mod Forms
 pub mod Integers
 pub mod ListedPairs
 pub mod ListedValues
+pub mod NonZeroTexts
 pub mod NumberKeys
 pub mod OneWay
 pub mod Parts

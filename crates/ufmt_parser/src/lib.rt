@@ -13,6 +13,7 @@ mod keys;
 mod lists;
 mod macros;
 mod mode;
+mod nonzero;
 mod numbers;
 mod options;
 mod parser;
