@@ -36,8 +36,11 @@ pub use mode::{ParseMode, PlainText, PrettyText};
 pub use parser::{Fault, Parser};
 pub use structs::{
     parse_struct_1, parse_struct_2, parse_struct_3, parse_struct_4, parse_struct_5, parse_struct_6,
+    parse_struct_7, parse_struct_8, parse_struct_9, parse_struct_10, parse_struct_11,
+    parse_struct_12,
 };
 pub use text::{ParseError, parse, parse_pretty};
 pub use tuples::{
     parse_tuple_1, parse_tuple_2, parse_tuple_3, parse_tuple_4, parse_tuple_5, parse_tuple_6,
+    parse_tuple_7, parse_tuple_8, parse_tuple_9, parse_tuple_10, parse_tuple_11, parse_tuple_12,
 };
