@@ -14,6 +14,7 @@ pub mod Layers
 pub mod ListedPairs
 pub mod ListedValues
 pub mod NameFronts
+pub mod NonZeroTexts
 pub mod NumberKeys
 pub mod OneWay
 pub mod PackedDigits

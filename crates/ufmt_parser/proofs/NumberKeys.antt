@@ -7,7 +7,8 @@ use Rattle.ufmt_core.specs.Decimal.{decimal, DenotesDecimal}
 use Rattle.ufmt.specs.Document.{leaf}
 use Rattle.ufmt_core.proofs.DecimalTexts.{decimal-denotes, DenotesDecimal-number}
 
-same_decimal : (y z : ℤ) → decimal y ≡ decimal z → y ≡ z
+-- no two numbers have the same text
+pub same_decimal : (y z : ℤ) → decimal y ≡ decimal z → y ≡ z
 same_decimal y z same = DenotesDecimal-number (decimal y) y z (decimal-denotes y) (subst (λ text. DenotesDecimal text z) (sym same) (decimal-denotes z))
 
 same_number : (y z : ℤ) → leaf (decimal y) ≡ leaf (decimal z) → y ≡ z

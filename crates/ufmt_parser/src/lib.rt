@@ -15,6 +15,7 @@ mod keys;
 mod lists;
 mod macros;
 mod mode;
+mod nonzero;
 mod numbers;
 mod options;
 mod parser;
