@@ -12,7 +12,8 @@ use crate::mode::{ParseMode, PlainText, PrettyText};
 use crate::parser::{Fault, Parser};
 
 /// Returns a value that prints as this plain text. Fails with `NotText` only if no value whose document is
-/// a debug document prints so.
+/// a debug document prints so: after a whole value's text, `at` is where it ends. The other error is
+/// `OutOfMemory`, which never comes for a type that holds no memory.
 pub fn parse<T: uParse<A>, A>(alloc: A, text: &[u8]) -> Result<T, ParseError>
     ensures ok { IfOk result (λ v. plain_text (T.document v) ≡ text.now) }
     ensures form { IfOk result (λ v. (d : Document) → IsDebugDocument d → plain_text d ≡ text.now
