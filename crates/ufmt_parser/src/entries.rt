@@ -43,6 +43,7 @@ impl<A, T: uDebug, P: ParsesBy<A, T>> EntryParser<A, T> for Value<P> {
 
     ghost text = { λ _ s v. layout s (T.document v) };
 
+    #[inline(always)]
     fn parse_entry<M: ParseMode>(&self, alloc: A, parser: &mut Parser<'_, M>) -> Result<T, Fault> {
         self.0.parse_by(alloc, parser)
     }

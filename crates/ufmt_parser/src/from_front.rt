@@ -52,6 +52,7 @@ pub struct Plain;
 impl<A, T: uParse<A>> ParsesBy<A, T> for Plain {
     ghost is_value = { T.is_value };
 
+    #[inline(always)]
     fn parse_by<M: ParseMode>(&self, alloc: A, parser: &mut Parser<'_, M>) -> Result<T, Fault> {
         match T::parse_from(alloc, parser) {
             Err(fault) => Err(fault),
