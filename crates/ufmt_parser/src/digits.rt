@@ -95,8 +95,8 @@ impl Magnitude for u128 {
     }
 }
 
-/// The number that the digits at the front denote after those of `start`, if it isn't too large, and what
-/// follows them.
+// The number that the digits at the front denote after those of `start`, if it isn't too large, and what
+// follows them.
 #[inline(always)]
 #[tactic(auto, using(crate::proofs::DecimalFronts::value_after_ge))]
 fn split_more<N: Magnitude>(start: N, input: &[u8]) -> Option<(N, &[u8])>

@@ -26,11 +26,18 @@ trait Integer<N: Magnitude> {
             (λ v. in_range v × IsSigned negative (N.value magnitude) (int v)) };
 
     // Whether there are integers of more than ten digits.
-    fn is_long() -> bool;
+    #[inline(always)]
+    fn is_long() -> bool {
+        true
+    }
 
     // Whether there are integers below 0.
+    #[inline(always)]
     fn is_signed() -> bool
-        ensures { result ≡ false → (v : Self) → int v ≡ pos (nat_abs (int v)) };
+        ensures { result ≡ false → (v : Self) → int v ≡ pos (nat_abs (int v)) }
+    {
+        true
+    }
 
     // Shows that `N` holds the magnitudes of this type.
     fn prove_fits()
@@ -129,11 +136,6 @@ impl Integer<u64> for u64 {
     }
 
     #[inline(always)]
-    fn is_long() -> bool {
-        true
-    }
-
-    #[inline(always)]
     fn is_signed() -> bool {
         false
     }
@@ -156,11 +158,6 @@ impl Integer<u64> for usize {
     }
 
     #[inline(always)]
-    fn is_long() -> bool {
-        true
-    }
-
-    #[inline(always)]
     fn is_signed() -> bool {
         false
     }
@@ -176,11 +173,6 @@ impl Integer<u128> for u128 {
     #[inline(always)]
     fn from_magnitude(negative: bool, magnitude: u128) -> Option<u128> {
         if negative { None } else { Some(magnitude) }
-    }
-
-    #[inline(always)]
-    fn is_long() -> bool {
-        true
     }
 
     #[inline(always)]
@@ -206,11 +198,6 @@ impl Integer<u64> for i8 {
         false
     }
 
-    #[inline(always)]
-    fn is_signed() -> bool {
-        true
-    }
-
     fn prove_fits() {}
 }
 
@@ -227,11 +214,6 @@ impl Integer<u64> for i16 {
     #[inline(always)]
     fn is_long() -> bool {
         false
-    }
-
-    #[inline(always)]
-    fn is_signed() -> bool {
-        true
     }
 
     fn prove_fits() {}
@@ -252,11 +234,6 @@ impl Integer<u64> for i32 {
         false
     }
 
-    #[inline(always)]
-    fn is_signed() -> bool {
-        true
-    }
-
     fn prove_fits() {}
 }
 
@@ -274,16 +251,6 @@ impl Integer<u64> for i64 {
         Some(-1 - before)
     }
 
-    #[inline(always)]
-    fn is_long() -> bool {
-        true
-    }
-
-    #[inline(always)]
-    fn is_signed() -> bool {
-        true
-    }
-
     fn prove_fits() {}
 }
 
@@ -295,16 +262,6 @@ impl Integer<u64> for isize {
     #[inline(always)]
     fn from_magnitude(negative: bool, magnitude: u64) -> Option<isize> {
         isize::try_from(i64::from_magnitude(negative, magnitude)?).ok()
-    }
-
-    #[inline(always)]
-    fn is_long() -> bool {
-        true
-    }
-
-    #[inline(always)]
-    fn is_signed() -> bool {
-        true
     }
 
     fn prove_fits() {}
@@ -322,16 +279,6 @@ impl Integer<u128> for i128 {
         }
         let before = i128::try_from(magnitude.checked_sub(1)?).ok()?;
         Some(-1 - before)
-    }
-
-    #[inline(always)]
-    fn is_long() -> bool {
-        true
-    }
-
-    #[inline(always)]
-    fn is_signed() -> bool {
-        true
     }
 
     fn prove_fits() {}

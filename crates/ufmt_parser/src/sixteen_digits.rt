@@ -6,7 +6,7 @@ ghost use Rattle.ufmt_parser.specs.Digits.{joined, BeginsWithDigits};
 
 use std::simd::prelude::*;
 
-// What each byte is more than `0`, wrapped.
+// How much more than `0` each byte is, wrapped.
 #[inline(always)]
 fn less_zero(bytes: u8x16) -> u8x16
     ensures { AllBelowBase 10 result → bytes ≡ map decimal_byte result }
@@ -21,8 +21,8 @@ fn are_digits(values: u8x16) -> bool
     !values.simd_gt(u8x16::splat(9)).any()
 }
 
-// The numbers of two digits each. The lower half of a lane is its first digit, and the product adds
-// ten times it to the second.
+// The numbers of two digits each. The first digit is in a lane's lower half. The product adds ten
+// times it to the second, in the upper half.
 #[inline(always)]
 fn pairs(digits: u8x16) -> u16x8
     requires { AllBelowBase 10 digits }
@@ -54,6 +54,7 @@ fn eights(fours: u32x4) -> (u64, u64)
     )
 }
 
+// The number of all sixteen.
 #[inline(always)]
 fn number(digits: u8x16) -> u64
     requires { AllBelowBase 10 digits }

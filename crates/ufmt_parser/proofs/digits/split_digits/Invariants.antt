@@ -1,4 +1,4 @@
-use Rattle.std.proofs.Common.{◌≡◌, ◌<◌, ◌≤◌, length}
+use Rattle.std.proofs.Common.{◌≡◌, ◌<◌}
 use Rattle.ufmt_parser.specs.Digits.{after_digits, value_after}
 use Rattle.ufmt_parser.proofs.digits.split_digits.Given as goal
 

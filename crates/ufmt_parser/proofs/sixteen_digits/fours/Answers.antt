@@ -1,4 +1,4 @@
-use Rattle.std.proofs.Common.{◌+◌, ◌*◌, ◌/◌, ◌%◌, ◌^◌, ◌∙◌, ap, map, arith}
+use Rattle.std.proofs.Common.{◌*◌, ◌/◌, ◌%◌, ◌^◌, ◌∙◌, ap, map, arith}
 use lib.Lanes.{digits_l, number_l}
 use Rattle.ufmt_parser.proofs.PackedDigits.{joined_lanes, number_of_digits, number_below}
 use Rattle.ufmt_parser.proofs.sixteen_digits.fours.Goals as goal

@@ -1,7 +1,6 @@
-use Rattle.std.proofs.Common.{◌≡◌, ◌∙◌, sym, ap, ◌-◌, ◌++◌, length, take, drop, take-append-drop, length-drop, length-take-le, take_all, arith}
+use Rattle.std.proofs.Common.{◌≡◌, ◌∙◌, sym, ap, ◌-◌, ◌++◌, length, drop, take-append-drop, length-drop, length-take-le, take_all, arith}
 use Rattle.std.proofs.lemmas.List.{length-map}
 use Rattle.ufmt_core.specs.Decimal.{decimal_byte}
-use Rattle.ufmt_parser.specs.Digits.{BeginsWithDigits}
 use Rattle.ufmt_parser.proofs.DecimalFronts.{begins_with_digits}
 use Rattle.ufmt_parser.proofs.sixteen_digits.split_sixteen.Goals as goal
 
