@@ -21,8 +21,6 @@ mod quoted;
 mod sorted;
 mod strip;
 mod structs;
-#[cfg(test)]
-mod tests;
 mod text;
 mod texts;
 mod tuple_impls;
