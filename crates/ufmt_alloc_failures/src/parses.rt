@@ -26,8 +26,7 @@ pub fn report_parses(rt: &HostRuntime) -> io::Result<()> {
 }
 
 fn report_values(rt: &HostRuntime) -> io::Result<()> {
-    report_parse::<String>(rt, "an empty text", 0, "\"\"")?;
-    report_parse::<String>(rt, "a text with escapes", 2, "\"say \\\"hi\\\"\"")?;
+    report_parse::<String>(rt, "a text with escapes", 2, "\"say \\\"hello\\\"\"")?;
     report_parse::<Box<u8>>(rt, "a box", 1, "7")?;
     report_parse::<Option<Box<String>>>(rt, "a text in a box", 2, "Some(\"a\")")
 }
@@ -35,11 +34,10 @@ fn report_values(rt: &HostRuntime) -> io::Result<()> {
 const BOXES: &str = "[\n    Some(\n        7,\n    ),\n    None,\n]";
 
 fn report_blocks(rt: &HostRuntime) -> io::Result<()> {
-    report_parse::<Vec<u8>>(rt, "an empty list", 0, "[]")?;
     report_parse::<Vec<String>>(
         rt,
         "a list of texts",
-        6,
+        7,
         "[\"a\", \"b\", \"c\", \"d\", \"e\"]",
     )?;
     report_parse::<[u16; 3]>(rt, "an array", 1, "[1, 2, 3]")?;
@@ -85,7 +83,7 @@ fn report_refused(rt: &HostRuntime) -> io::Result<()> {
     report(rt, "parse", "a list of a text and a word", 2, outcome)
 }
 
-// What takes no memory is parsed with no allocator.
+// What takes no memory is parsed with no allocator. An empty block takes none either.
 fn report_without_memory(rt: &HostRuntime) -> io::Result<()> {
     report_free(rt, "parse", "a number", || {
         is_parsed::<i64>("-9223372036854775808")
@@ -95,8 +93,19 @@ fn report_without_memory(rt: &HostRuntime) -> io::Result<()> {
     })?;
     report_free(rt, "parse", "a tuple", || {
         is_parsed::<(Option<bool>, char, ())>("(Some(true), 'é', ())")
+    })?;
+    let alloc = rt.alloc();
+    report_free(rt, "parse", "an empty text, list and map", || {
+        match parse::<Empty, Global>(alloc, EMPTY.as_bytes()) {
+            Ok(value) => has_plain_text(&value, Some(EMPTY)),
+            Err(_) => false,
+        }
     })
 }
+
+type Empty = (String, Vec<u8>, BTreeMap<u8, u8>);
+
+const EMPTY: &str = "(\"\", [], {})";
 
 // Whether a value has the text.
 fn is_parsed<T: uParse<()>>(text: &str) -> bool {

@@ -6,7 +6,7 @@ from features import Features, indentation
 # Steps that a call takes today: to start; for a byte of a word and of a leaf in quotes; for an escape and a character
 # past ASCII; for a leaf without quotes or a name, a leaf in quotation marks, and one in apostrophes; for a block with
 # entries and one without; for another byte of the call's text, and of that in the other mode; for a byte of
-# indentation of the one, and of the other.
+# indentation of the one, and of the other. Those of the calls that parse are of programs with run-time checks.
 STEPS = {
     "is_text": (3000, 12, 16, 316, 90, 20, 90, 490, 50, 40, 37, 0, 1.2, 0),
     "read": (10000, 13, 17, 316, 91, 910, 1070, 1415, 1133, 400, 22, 13, 1.2, 0.3),
