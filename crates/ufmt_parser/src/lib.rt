@@ -29,8 +29,6 @@ mod sorted;
 mod strip;
 mod structs;
 mod structs_by;
-#[cfg(test)]
-mod tests;
 mod text;
 mod texts;
 mod tuple_impls;

@@ -3,16 +3,14 @@ without the comma at the end. The texts are written here, as core::fmt has them.
 
 COUNTS = (0, 1, 2, 3, 12, 13, 14, 24, 25)
 MORE_COUNTS = tuple(range(26))
-PARSED = range(1, 13)
+PARSED = range(1, 7)
 
 HEAD = """\
 //! Tests of the forms of macros, which tools/lib/crates/grammar.py writes.
 use super::page::{same_parts, writes};
-use std::alloc::Global;
 use ufmt::pieces::{Debug, Line};
 use ufmt::{Align, Column, HexOptions, fields, pieces, uwrite, uwriteln};
-use ufmt_doc::plain_reader::{ReadError, read_plain};
-use ufmt_parse::{parse_fields, parse_variants};
+use ufmt_parser::{Fault, Parser, PlainText, parse_fields};
 use ufmt_snapshot::assert_snapshot;
 
 const HEX: HexOptions = HexOptions { upper_case: false, pad_char: b'0', pad_length: 6, ox_prefix: true };
@@ -180,10 +178,12 @@ def uwrite_tests():
 
 
 def parse_function(name, result, call):
+    """A function that returns the value that has a whole text."""
     return """
-fn %s(alloc: Global, text: &str) -> Result<Option<%s>, ReadError> {
-    let doc = read_plain(alloc, text.as_bytes())?;
-    %s
+fn %s(text: &str) -> Result<%s, Fault> {
+    let mut parser: Parser<'_, PlainText> = Parser::new(text.as_bytes());
+    let value = %s?;
+    if parser.len() == 0 { Ok(value) } else { Err(Fault::NotText) }
 }
 """ % (name, result, call)
 
@@ -191,10 +191,10 @@ fn %s(alloc: Global, text: &str) -> Result<Option<%s>, ReadError> {
 def parsed_row(name, shape, fields, text, values, number):
     """A row that parses a text, and compares the fields that come with `values`, or with none if there is no value."""
     wanted = "&[%s]" % ", ".join(map(str, values)) if values is not None else "&[]"
-    found = "Ok(Some(%s)) => same_parts(&rt, %s, &[%s], %s)," % (shape, quoted("row %d" % number), fields, wanted)
+    found = "Ok(%s) => same_parts(&rt, %s, &[%s], %s)," % (shape, quoted("row %d" % number), fields, wanted)
     if values is None:
-        found = "Ok(None) => {}"
-    return "    match %s(rt.alloc(), %s) {\n        %s\n        _ => same_parts(&rt, %s, &[255], %s),\n    }" % (
+        found = "Err(Fault::NotText) => {}"
+    return "    match %s(%s) {\n        %s\n        _ => same_parts(&rt, %s, &[255], %s),\n    }" % (
         name, quoted(text), found, quoted("row %d" % number), wanted)
 
 
@@ -206,7 +206,7 @@ def parse_fields_tests(count):
         list_of, end = listed(names(count), inner), "," if outer else ""
         for word, kind, text in (("named", "Named%d { %s }", struct_text), ("tuple", "Tuple%d(%s)", tuple_text)):
             name = "%s_%d_%d" % (word, count, number)
-            call = "parse_fields!(alloc, &doc, %s%s)" % (kind % (count, list_of), end)
+            call = "parse_fields!((), &mut parser, %s%s)" % (kind % (count, list_of), end)
             yield parse_function(name, kind.split("%")[0] + str(count), call)
             title = kind.split("%")[0] + str(count)
             rows.append(parsed_row(name, kind % (count, fields), fields, text(title, values), values, number))
@@ -216,49 +216,6 @@ def parse_fields_tests(count):
     if count > 1:
         rows.append(parsed_row("named_%d_1" % count, "Named%d { %s }" % (count, fields), fields, swapped, None, 0))
     yield test("parse_fields_%d" % count, rows)
-
-
-def variant(kind, count):
-    """A variant: how it is declared, how it is written for `parse_variants!`, and its text for some values."""
-    title, listed_names = "%s%d" % (kind, count), ", ".join(names(count))
-    if kind == "Unit":
-        return title, title, lambda values: title
-    if kind == "Struct":
-        declared = ", ".join("%s: u8" % name for name in names(count))
-        written = "%s { %s }" % (title, listed_names)
-        return "%s { %s }" % (title, declared), written, lambda values: struct_text(title, values)
-    declared = "%s(%s)" % (title, ", ".join(["u8"] * count))
-    return declared, "%s(%s)" % (title, listed_names), lambda values: tuple_text(title, values)
-
-
-def enum_test(name, members, inner, outer):
-    """An enum with these variants, each of which is parsed. Further texts are no variant's."""
-    made = [variant(*member) for member in members]
-    yield "\n#[derive(Drop)]\nenum %s { %s }\n" % (name, ", ".join(declared for declared, _, _ in made))
-    listed_variants = listed([written for _, written, _ in made], inner)
-    call = "parse_variants!(alloc, &doc, %s { %s }%s)" % (name, listed_variants, "," if outer else "")
-    yield parse_function("parse_%s" % name.lower(), name, call)
-    rows = []
-    for number, ((kind, count), (_, written, text)) in enumerate(zip(members, made), 1):
-        count = 0 if kind == "Unit" else count
-        values = list(range(100 + number, 100 + number + count))
-        shape = "%s::%s" % (name, written)
-        rows.append(parsed_row("parse_%s" % name.lower(), shape, ", ".join(names(count)), text(values), values, number))
-    for number, text in enumerate(("Unit99", "7", "Tuple1(7, 8)", "[]"), 90):
-        rows.append(parsed_row("parse_%s" % name.lower(), "", "", text, None, number))
-    yield test("parse_%s_variants" % name.lower(), rows)
-
-
-def variants_tests():
-    kinds = (("Unit", 1), ("Struct", 2), ("Tuple", 3))
-    number = 0
-    for first in range(3):
-        for inner in (False, True):
-            number += 1
-            outer = number % 4 < 2
-            yield from enum_test("E%d" % number, [kinds[(first + place) % 3] for place in range(3)], inner, outer)
-    wide = [(kind, count) for count in PARSED for kind in ("Struct", "Tuple")]
-    yield from enum_test("Wide", wide, False, False)
 
 
 def snapshot_test():
@@ -275,5 +232,5 @@ def source(is_all):
     parts += [fields_test(count) for count in counts]
     parts += [*pieces_tests(), *uwrite_tests()]
     parts += [part for count in PARSED for part in parse_fields_tests(count)]
-    parts += [*variants_tests(), snapshot_test()]
+    parts += [snapshot_test()]
     return "".join(parts)

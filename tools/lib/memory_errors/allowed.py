@@ -35,7 +35,6 @@ PASSED = "an error is passed on, with its fault or at the end of a program or te
 PROVED = "a proof says that control never comes there"
 AHEAD = "zeros that were made ahead: the contract of the body holds without them"
 NEVER = "events that no scan emits: an event's contract doesn't rule them out"
-DEPTH = "a value deeper than the 256 levels of a `Depth`: no document that was read is so deep"
 NO_MEMORY = "what fails takes no memory"
 DEVICE = "what failed is a device"
 LARGE = "a number of arithmetic, or a bound on turns that each read: no memory is asked for by it"
@@ -64,10 +63,6 @@ IN_BODIES = [
     (NEVER, "ufmt_doc/src/reader/document_sink.rt", "DocumentSink::open", "if self.blocks.is_full()return Err(NEVER)"),
     (NEVER, "ufmt_doc/src/reader/document_sink.rt", "DocumentSink::close", "if self.docs.len()<=block.start return Err(NEVER)"),
     (NEVER, "ufmt_doc/src/reader/document_sink.rt", "DocumentSink::close_with_dots", "if self.docs.len()<=block.start return Err(NEVER)"),
-    (DEPTH, "ufmt_examples/src/node.rt", "ParsesBy<Node>for Depth::parse_by", "Err(AllocError)"),
-    (DEPTH, "ufmt_examples/src/node.rt", "ParsesBy<Node>for Depth::parse_by", "Depth::Out=>Err(AllocError)"),
-    (DEPTH, "ufmt_examples/src/tree.rt", "ParsesBy<Tree>for Depth::parse_by", "Err(AllocError)"),
-    (DEPTH, "ufmt_examples/src/tree.rt", "ParsesBy<Tree>for Depth::parse_by", "Depth::Out=>Err(AllocError)"),
     (NAMED, "ufmt_scan/src/error.rt", "ReadError::code", "ReadError::OutOfMemory=>2"),
     (NAMED, "ufmt_conv/src/run/fault.rt", "Fault::status", "Fault::OutOfMemory=>IoFault::OutOfMemory.status()"),
     (NAMED, "ufmt_conv/src/run/fault.rt", "Fault::line", "Fault::OutOfMemory=>\"\""),
@@ -105,15 +100,11 @@ IN_BODIES = [
     (NO_MEMORY, "ufmt_scan/src/quoted.rt", "byte_at", "input.get(index).copied().unwrap_or(0)"),
     (NO_MEMORY, "ufmt_scan/src/quoted.rt", "digit_value", "char::from(byte).to_digit(36).unwrap_or(36)"),
     (NO_MEMORY, "ufmt_doc/src/doc.rt", "Doc::unquoted", "String::from_utf8(decoded_bytes(alloc, quote, inside)?).ok()"),
-    (NO_MEMORY, "ufmt_parse/src/collections.rt", "uParse for[T;N]::from_doc", "<[T;N]>::try_from(values).ok()"),
-    (NO_MEMORY, "ufmt_parse/src/lib.rt", "round_trip_in", "match debug_into(buffer, value): Err(_)=>Ok(None)"),
-    (NO_MEMORY, "ufmt_parse/src/numbers.rt", "prints_as", "match debug_into(&mut buffer, value): Err(Full)=>false"),
     (NO_MEMORY, "ufmt_conv/src/run/output.rt", "without_line_feed", "input.strip_suffix(\"\").unwrap_or(input)"),
     (NO_MEMORY, "ufmt_scan/src/debug_leaf.rt", "split_leaf", "match str::from_utf8(leaf): Err(_)=>None"),
     (NO_MEMORY, "ufmt_scan/src/text.rt", "is_text", "scan(Class::Token, mode, text, &mut Ignores).is_ok()"),
     (NO_MEMORY, "ufmt_scan/src/text.rt", "is_debug_text", "scan(Class::Debug, mode, text, &mut Ignores).is_ok()"),
     (RESULT, "ufmt_core/src/core_impls/enums.rt", "uDebug for Result<T, E>::fmt", "match self: Err(error)=>f.tuple_1(\"\", error)"),
-    (RESULT, "ufmt_parse/src/options.rt", "uParse for Result<T, E>::prove_value", "match self: Err(error)=>error.prove_value()"),
     (DEVICE, "ufmt_conv/src/run.rt", "run", "write_whole(output, line.as_bytes()).map_err(|_|Fault::CannotWrite)"),
     (DEVICE, "ufmt_io/src/whole.rt", "read_after", "input.read_some(&mut buffer[filled..]).map_err(|_|IoFault::CannotRead)"),
     (DEVICE, "ufmt_lines/src/run.rt", "run", "Err(IoFault::CannotRead)"),
@@ -131,7 +122,6 @@ IN_BODIES = [
     (TURNS, "ufmt/src/dump.rt", "write_spaces", "while left>0"),
     (TURNS, "ufmt/src/hex.rt", "HexOptions::write_padding", "for _pad in 0..count"),
     (TURNS, "ufmt_doc/src/doc.rt", "decoded_bytes", "while let Some((byte, after))=split_escaped(quote, rest)"),
-    (TURNS, "ufmt_parse/src/depth.rt", "Depth::new", "for _ in 0..256"),
     (TURNS, "ufmt_lines/src/run/groups.rt", "Group::write_ended", "while let Some((first, after))=split_line(rest)"),
     (LARGE, "ufmt_core/src/unsigned.rt", "Magnitude for u128::write_digits", "u64::MAX"),
     (LARGE, "ufmt_core/src/unsigned.rt", "EIGHT_DIGITS", "100_000_000"),

@@ -18,6 +18,12 @@ LEAVES = {
     "escaped characters": quoted("\n", "'"),
     "long escapes": quoted("\x1b", "'"),
 }
+# Values of types that have no long texts.
+VALUES = {
+    "a number": "-170141183460469231731687303715884105728",
+    "a character": quoted("\x1b", "'"),
+    "an option of a number": Block("tuple", "Some", [(None, "-128")]),
+}
 # A leaf of one kind of character.
 LONG_LEAVES = {
     "a long word": None,
@@ -164,6 +170,9 @@ def documents():
     shapes["a map of keys in order"] = ordered_map
     shapes["a set of numbers in order"] = lambda size: Block("set", "", [(None, str(number)) for number in range(size // 6)])
     shapes["long names"] = named
+    shapes["a long number"] = lambda size: "7" * size
+    for name, value in VALUES.items():
+        shapes[name] = lambda _size, value=value: value
     return shapes
 
 
@@ -223,6 +232,11 @@ def no_texts():
         "an open quote with escapes": lambda size: '"' + '\\"' * (size // 2),
         "quotes in a row": lambda size: '"a"' * (size // 3),
         "an open list": lambda size: "[" + ", ".join("x" * (size // 3)),
+        "an open list of numbers": lambda size: "[" + ", ".join(["65535"] * (size // 7)),
+        "an open list of texts": lambda size: "[" + ", ".join(['"ab"'] * (size // 6)),
+        "an open set of numbers in order": lambda size: "{" + ", ".join(map(str, range(size // 6))),
+        "a set of numbers with one twice": lambda size: "{" + ", ".join(map(str, range(size // 6))) + ", 7}",
+        "an open map of keys in order": lambda size: plain(ordered_map(size))[:-1],
         "an open map": lambda size: "{" + ", ".join(["k: v"] * (size // 6)),
         "an open pretty list": lambda size: "[\n" + "    x,\n" * (size // 7),
         "an open struct without its end": lambda size: "S { " + "a: x, " * (size // 6) + "..",

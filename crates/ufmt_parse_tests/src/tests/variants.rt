@@ -1,14 +1,14 @@
 //! Tests of enums.
 ghost use Rattle.std.specs.Prelude.{[], ◌∷◌, IfSome, ⊤};
 ghost use Rattle.ufmt.specs.ValueDocuments.{named, named_struct, named_tuple, number, string};
-ghost use Rattle.ufmt_parser.specs.declared.tests.variants.Event.TheVariants.{Started, Said, Lost};
-ghost use Rattle.ufmt_parser.specs.declared.tests.variants.Signal.TheVariants.{A, AB, ABC};
-ghost use Rattle.ufmt_parser.specs.declared.tests.variants.Eight.TheVariants.{First, Second, Third, Fourth, Fifth, Sixth, Seventh, Eighth};
+ghost use Rattle.ufmt_parse_tests.specs.declared.tests.variants.Event.TheVariants.{Started, Said, Lost};
+ghost use Rattle.ufmt_parse_tests.specs.declared.tests.variants.Signal.TheVariants.{A, AB, ABC};
+ghost use Rattle.ufmt_parse_tests.specs.declared.tests.variants.Eight.TheVariants.{First, Second, Third, Fourth, Fifth, Sixth, Seventh, Eighth};
 ghost use Rattle.ufmt_parser.specs.Values.{is_u8};
 
 use super::same;
-use crate::ParseError::NotText;
-use crate::{
+use ufmt_parser::ParseError::NotText;
+use ufmt_parser::{
     Fault, ParseError, ParseMode, Parser, parse, parse_fields, parse_pretty, parse_variants, uParse,
 };
 use std::alloc::Global;

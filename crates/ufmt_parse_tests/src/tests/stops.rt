@@ -1,38 +1,15 @@
-//! Tests of what is parsed, and of where a text that isn't parsed stops fitting.
+//! Tests of options and structs that are parsed without an allocator, and of where a text that isn't parsed
+//! stops fitting.
 ghost use Rattle.std.specs.Prelude.{[], ◌∷◌, IfSome, ⊤};
 ghost use Rattle.ufmt.specs.ValueDocuments.{named_struct, named_tuple};
 
-mod command;
-mod counts;
-mod errors;
-mod long_numbers;
-mod nonzero;
-mod places;
-mod round_trips;
-mod values;
-mod variants;
-
-use crate::ParseError::NotText;
-use crate::{Fault, ParseError, ParseMode, Parser, parse, parse_fields, parse_pretty, uParse};
-use command::{Set, parse_command};
-use std::fmt;
-use std::process::Abort;
-use ufmt::{Formatter, debug_into, fields, uDebug, uWrite};
-
-// Checking an assert takes as long as checking twenty calls, so asserts are calls of this.
-fn same<T: PartialEq + fmt::Debug + Drop>(rt: &impl Abort, given: T, wanted: T, case: &str) {
-    assert_eq!(rt; given, wanted, "{case}");
-}
-
-// Whether what the text is parsed to prints as the text again.
-fn comes_back<T: uParse<()>>(text: &str) -> Result<bool, ParseError> {
-    let value: T = parse((), text.as_bytes())?;
-    let mut printed = [0; 64];
-    match debug_into(&mut printed, &value) {
-        Ok(len) => Ok(printed.get(..len) == Some(text.as_bytes())),
-        Err(_) => Ok(false),
-    }
-}
+use super::command::{Set, parse_command};
+use super::same;
+use ufmt::{Formatter, fields, uDebug, uWrite};
+use ufmt_parser::ParseError::NotText;
+use ufmt_parser::{
+    Fault, ParseError, ParseMode, Parser, parse, parse_fields, parse_pretty, uParse,
+};
 
 /// Two truth values, each of which is one document or another.
 #[derive(Clone, Copy, PartialEq, Eq, Debug, Drop)]

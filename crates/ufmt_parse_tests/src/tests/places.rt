@@ -2,8 +2,8 @@
 //! doesn't fit, and the line and column of that place.
 use super::command::Set;
 use super::same;
-use crate::ParseError::NotText;
-use crate::{ParseError, line_and_column, parse, parse_pretty, uParse};
+use ufmt_parser::ParseError::NotText;
+use ufmt_parser::{ParseError, line_and_column, parse, parse_pretty, uParse};
 use std::alloc::Global;
 use std::collections::{BTreeMap, BTreeSet};
 

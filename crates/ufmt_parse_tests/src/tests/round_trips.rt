@@ -1,7 +1,7 @@
 //! Tests of values that are printed and parsed again.
 use super::command::Set;
 use super::same;
-use crate::{ParseError, parse, round_trip, round_trip_in};
+use ufmt_parser::{ParseError, parse, round_trip, round_trip_in};
 use std::collections::BTreeMap;
 
 const SET: Set = Set {

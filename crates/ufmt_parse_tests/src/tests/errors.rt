@@ -1,6 +1,6 @@
 //! Tests of how an error prints.
 use super::same;
-use crate::ParseError;
+use ufmt_parser::ParseError;
 use std::alloc::Global;
 use ufmt::{plain_text, pretty_text, write_display};
 

@@ -4,8 +4,8 @@ ghost use Rattle.ufmt.specs.Layout.{plain_text};
 ghost use Rattle.ufmt.specs.ValueDocuments.{integer, named_struct, number};
 ghost use Rattle.ufmt_parser.specs.Values.{is_i16, is_u8};
 
-use crate::{Fault, ParseError, ParseMode, Parser, parse, parse_fields, uParse};
 use ufmt::{Formatter, fields, uDebug, uWrite};
+use ufmt_parser::{Fault, ParseError, ParseMode, Parser, parse, parse_fields, uParse};
 
 /// Sets the level of a channel.
 #[derive(Clone, Copy, PartialEq, Eq, Debug, Drop)]

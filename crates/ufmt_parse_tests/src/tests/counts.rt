@@ -1,7 +1,7 @@
 //! Tests of structs and tuples of each number of fields.
-use super::{comes_back, same};
-use crate::ParseError::NotText;
-use crate::{
+use super::{prints_again, same};
+use ufmt_parser::ParseError::NotText;
+use ufmt_parser::{
     ParseError, ParseMode, Parser, PlainText, PrettyText, parse_struct_1, parse_struct_3,
     parse_struct_4, parse_struct_5, parse_struct_6, parse_struct_7, parse_struct_12,
 };
@@ -12,86 +12,86 @@ type Taken<T> = (Option<T>, usize);
 #[test]
 fn tuples_of_each_count(rt: HostRuntime) {
     let rows: [(Result<bool, ParseError>, Result<bool, ParseError>, &str); 19] = [
-        (comes_back::<(u8,)>("(1,)"), Ok(true), "1"),
+        (prints_again::<(u8,)>("(1,)"), Ok(true), "1"),
         (
-            comes_back::<(u8,)>("(1)"),
+            prints_again::<(u8,)>("(1)"),
             Err(NotText { at: 2 }),
             "1, no comma",
         ),
-        (comes_back::<(u8, bool)>("(1, true)"), Ok(true), "2"),
+        (prints_again::<(u8, bool)>("(1, true)"), Ok(true), "2"),
         (
-            comes_back::<(u8, bool)>("(1, true,)"),
+            prints_again::<(u8, bool)>("(1, true,)"),
             Err(NotText { at: 8 }),
             "2, a comma",
         ),
-        (comes_back::<(u8, bool, u8)>("(1, true, 3)"), Ok(true), "3"),
+        (prints_again::<(u8, bool, u8)>("(1, true, 3)"), Ok(true), "3"),
         (
-            comes_back::<(u8, bool, u8, u8)>("(1, true, 3, 4)"),
+            prints_again::<(u8, bool, u8, u8)>("(1, true, 3, 4)"),
             Ok(true),
             "4",
         ),
         (
-            comes_back::<(u8, bool, u8, u8, u8)>("(1, true, 3, 4, 5)"),
+            prints_again::<(u8, bool, u8, u8, u8)>("(1, true, 3, 4, 5)"),
             Ok(true),
             "5",
         ),
         (
-            comes_back::<(u8, bool, u8, u8, u8, u8)>("(1, true, 3, 4, 5, 6)"),
+            prints_again::<(u8, bool, u8, u8, u8, u8)>("(1, true, 3, 4, 5, 6)"),
             Ok(true),
             "6",
         ),
         (
-            comes_back::<(u8, bool, u8, u8, u8, u8)>("(1, true, 3, 4, 5)"),
+            prints_again::<(u8, bool, u8, u8, u8, u8)>("(1, true, 3, 4, 5)"),
             Err(NotText { at: 17 }),
             "6, one missing",
         ),
         (
-            comes_back::<Seven>("(1, true, 3, 4, 5, 6, 7)"),
+            prints_again::<Seven>("(1, true, 3, 4, 5, 6, 7)"),
             Ok(true),
             "7",
         ),
         (
-            comes_back::<Seven>("(1, true, 3, 4, 5, 6)"),
+            prints_again::<Seven>("(1, true, 3, 4, 5, 6)"),
             Err(NotText { at: 20 }),
             "7, one missing",
         ),
         (
-            comes_back::<Seven>("(1, true, 3, 4, 5, 6, 7, 8)"),
+            prints_again::<Seven>("(1, true, 3, 4, 5, 6, 7, 8)"),
             Err(NotText { at: 23 }),
             "7, one more",
         ),
         (
-            comes_back::<Eight>("(1, true, 3, 4, 5, 6, 7, 8)"),
+            prints_again::<Eight>("(1, true, 3, 4, 5, 6, 7, 8)"),
             Ok(true),
             "8",
         ),
         (
-            comes_back::<Nine>("(1, true, 3, 4, 5, 6, 7, 8, 9)"),
+            prints_again::<Nine>("(1, true, 3, 4, 5, 6, 7, 8, 9)"),
             Ok(true),
             "9",
         ),
         (
-            comes_back::<Ten>("(1, true, 3, 4, 5, 6, 7, 8, 9, 10)"),
+            prints_again::<Ten>("(1, true, 3, 4, 5, 6, 7, 8, 9, 10)"),
             Ok(true),
             "10",
         ),
         (
-            comes_back::<Eleven>("(1, true, 3, 4, 5, 6, 7, 8, 9, 10, 11)"),
+            prints_again::<Eleven>("(1, true, 3, 4, 5, 6, 7, 8, 9, 10, 11)"),
             Ok(true),
             "11",
         ),
         (
-            comes_back::<Twelve>("(1, true, 3, 4, 5, 6, 7, 8, 9, 10, 11, 12)"),
+            prints_again::<Twelve>("(1, true, 3, 4, 5, 6, 7, 8, 9, 10, 11, 12)"),
             Ok(true),
             "12",
         ),
         (
-            comes_back::<Twelve>("(1, true, 3, 4, 5, 6, 7, 8, 9, 10, 11, false)"),
+            prints_again::<Twelve>("(1, true, 3, 4, 5, 6, 7, 8, 9, 10, 11, false)"),
             Err(NotText { at: 39 }),
             "12, the last",
         ),
         (
-            comes_back::<Twelve>("(1, 2, 3, 4, 5, 6, 7, 8, 9, 10, 11, 12)"),
+            prints_again::<Twelve>("(1, 2, 3, 4, 5, 6, 7, 8, 9, 10, 11, 12)"),
             Err(NotText { at: 4 }),
             "12, the second",
         ),
