@@ -1,7 +1,0 @@
-use Rattle.ufmt_parse.proofs.FoundFields.{none_found}
-use Rattle.ufmt_parse.proofs.structs.parse_struct_1.Goals as goal
-
-pub returns-in-None-clause-none : goal.returns-in-None-clause-none
-returns-in-None-clause-none g c = λ _ a_value a_is.
-    none_found _ _ _ c.in_ok-struct_fields.ensures c.in-None.is (a_value, tt)
-    (a_is, tt)
