@@ -2,7 +2,6 @@
 //! shape of text, and where a text that isn't parsed stops fitting.
 mod calls;
 mod collections;
-mod command;
 mod counts;
 mod deep;
 mod errors;

@@ -1,7 +1,7 @@
 //! Tests of where a text that isn't parsed stops fitting: the bytes that were taken before the piece that
 //! doesn't fit, and the line and column of that place.
-use super::command::Set;
 use super::same;
+use ufmt_examples::Set;
 use ufmt_parser::ParseError::NotText;
 use ufmt_parser::{ParseError, line_and_column, parse, parse_pretty, uParse};
 use std::alloc::Global;

@@ -1,6 +1,6 @@
 //! Tests of values that are printed and parsed again.
-use super::command::Set;
 use super::same;
+use ufmt_examples::Set;
 use ufmt_parser::{ParseError, parse, round_trip, round_trip_in};
 use std::collections::BTreeMap;
 

@@ -3,9 +3,9 @@
 ghost use Rattle.std.specs.Prelude.{[], ◌∷◌, IfSome, ⊤};
 ghost use Rattle.ufmt.specs.ValueDocuments.{named_struct, named_tuple};
 
-use super::command::{Set, parse_command};
 use super::same;
 use ufmt::{Formatter, fields, uDebug, uWrite};
+use ufmt_examples::{Set, parse_command};
 use ufmt_parser::ParseError::NotText;
 use ufmt_parser::{
     Fault, ParseError, ParseMode, Parser, parse, parse_fields, parse_pretty, uParse,
