@@ -51,6 +51,7 @@ impl<'a, A: Copy, V: Row<A>> FieldParsers<A, V> for Names<'a> {
 
     ghost texts = { λ names s v. row_texts s (all_now names.0.now) (V.documents v) };
 
+    #[inline(always)]
     fn parse_rest<M: ParseMode>(
         &self,
         alloc: A,
@@ -67,6 +68,7 @@ impl<A: Copy> Row<A> for () {
 
     ghost documents = { λ _. [] };
 
+    #[inline(always)]
     fn parse_row<M: ParseMode>(
         alloc: A,
         parser: &mut Parser<'_, M>,
@@ -83,6 +85,7 @@ impl<A: Copy, T: uParse<A>, V: Row<A>> Row<A> for (T, V) {
 
     ghost documents = { λ v. T.document v.0 ∷ V.documents v.1 };
 
+    #[inline(always)]
     fn parse_row<M: ParseMode>(
         alloc: A,
         parser: &mut Parser<'_, M>,
@@ -100,6 +103,7 @@ impl<A: Copy, T: uParse<A>, V: Row<A>> Row<A> for (T, V) {
 }
 
 /// Takes a struct with a row of fields, as `parse_from` does a value.
+#[inline(always)]
 pub(crate) fn parse_struct_row<A: Copy, T: uParse<A>, V: Row<A>, M: ParseMode>(
     alloc: A,
     parser: &mut Parser<'_, M>,
@@ -123,6 +127,7 @@ pub(crate) fn parse_struct_row<A: Copy, T: uParse<A>, V: Row<A>, M: ParseMode>(
 }
 
 /// Takes a tuple with a row of fields, as `parse_from` does a value.
+#[inline(always)]
 pub(crate) fn parse_tuple_row<A: Copy, T: uParse<A>, V: Row<A>, M: ParseMode>(
     alloc: A,
     parser: &mut Parser<'_, M>,
