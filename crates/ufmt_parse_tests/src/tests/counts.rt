@@ -24,7 +24,11 @@ fn tuples_of_each_count(rt: HostRuntime) {
             Err(NotText { at: 8 }),
             "2, a comma",
         ),
-        (prints_again::<(u8, bool, u8)>("(1, true, 3)"), Ok(true), "3"),
+        (
+            prints_again::<(u8, bool, u8)>("(1, true, 3)"),
+            Ok(true),
+            "3",
+        ),
         (
             prints_again::<(u8, bool, u8, u8)>("(1, true, 3, 4)"),
             Ok(true),

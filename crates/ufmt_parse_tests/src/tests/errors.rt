@@ -1,8 +1,8 @@
 //! Tests of how an error prints.
 use super::same;
-use ufmt_parser::ParseError;
 use std::alloc::Global;
 use ufmt::{plain_text, pretty_text, write_display};
+use ufmt_parser::ParseError;
 
 fn displayed(alloc: Global, error: ParseError) -> Option<String> {
     let mut text = String::new(alloc);

@@ -1,11 +1,11 @@
 //! Tests of nonzero numbers, at the ends of their ranges and at 0.
 use super::{prints_again, same};
-use ufmt_parser::ParseError;
-use ufmt_parser::ParseError::NotText;
 use std::num::{
     NonZeroI8, NonZeroI16, NonZeroI32, NonZeroI64, NonZeroI128, NonZeroIsize, NonZeroU8,
     NonZeroU16, NonZeroU32, NonZeroU64, NonZeroU128, NonZeroUsize,
 };
+use ufmt_parser::ParseError;
+use ufmt_parser::ParseError::NotText;
 
 const NO_NUMBER: Result<bool, ParseError> = Err(NotText { at: 0 });
 
@@ -17,15 +17,27 @@ fn unsigned_nonzero_numbers(rt: HostRuntime) {
         (prints_again::<NonZeroU8>("0"), NO_NUMBER, "u8, zero"),
         (prints_again::<NonZeroU8>("256"), NO_NUMBER, "u8, past it"),
         (prints_again::<NonZeroU8>("-1"), NO_NUMBER, "u8, negative"),
-        (prints_again::<NonZeroU8>("01"), NO_NUMBER, "u8, leading zero"),
+        (
+            prints_again::<NonZeroU8>("01"),
+            NO_NUMBER,
+            "u8, leading zero",
+        ),
         (
             prints_again::<NonZeroU8>("1 "),
             Err(NotText { at: 1 }),
             "u8, a space after it",
         ),
-        (prints_again::<NonZeroU16>("65535"), Ok(true), "u16, greatest"),
+        (
+            prints_again::<NonZeroU16>("65535"),
+            Ok(true),
+            "u16, greatest",
+        ),
         (prints_again::<NonZeroU16>("0"), NO_NUMBER, "u16, zero"),
-        (prints_again::<NonZeroU16>("65536"), NO_NUMBER, "u16, past it"),
+        (
+            prints_again::<NonZeroU16>("65536"),
+            NO_NUMBER,
+            "u16, past it",
+        ),
         (
             prints_again::<NonZeroU32>("4294967295"),
             Ok(true),
@@ -84,7 +96,11 @@ fn signed_nonzero_numbers(rt: HostRuntime) {
             "i8, negative zero",
         ),
         (prints_again::<NonZeroI8>("128"), NO_NUMBER, "i8, past it"),
-        (prints_again::<NonZeroI8>("-129"), NO_NUMBER, "i8, before it"),
+        (
+            prints_again::<NonZeroI8>("-129"),
+            NO_NUMBER,
+            "i8, before it",
+        ),
         (prints_again::<NonZeroI16>("-32768"), Ok(true), "i16, least"),
         (prints_again::<NonZeroI16>("0"), NO_NUMBER, "i16, zero"),
         (

@@ -1,11 +1,11 @@
 //! Tests of where a text that isn't parsed stops fitting: the bytes that were taken before the piece that
 //! doesn't fit, and the line and column of that place.
 use super::same;
+use std::alloc::Global;
+use std::collections::{BTreeMap, BTreeSet};
 use ufmt_examples::Set;
 use ufmt_parser::ParseError::NotText;
 use ufmt_parser::{ParseError, line_and_column, parse, parse_pretty, uParse};
-use std::alloc::Global;
-use std::collections::{BTreeMap, BTreeSet};
 
 // Where a plain text stops fitting.
 fn place_of<T: uParse<Global>>(alloc: Global, text: &str) -> Option<usize> {

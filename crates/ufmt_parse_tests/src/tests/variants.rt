@@ -7,12 +7,12 @@ ghost use Rattle.ufmt_parse_tests.specs.declared.tests.variants.Eight.TheVariant
 ghost use Rattle.ufmt_parser.specs.Values.{is_u8};
 
 use super::same;
+use std::alloc::Global;
+use ufmt::{Formatter, fields, plain_text, uDebug, uWrite};
 use ufmt_parser::ParseError::NotText;
 use ufmt_parser::{
     Fault, ParseError, ParseMode, Parser, parse, parse_fields, parse_pretty, parse_variants, uParse,
 };
-use std::alloc::Global;
-use ufmt::{Formatter, fields, plain_text, uDebug, uWrite};
 
 /// Variants of each shape.
 #[derive(Clone, Copy, PartialEq, Eq, Debug, Drop)]
