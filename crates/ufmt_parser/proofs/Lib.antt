@@ -10,6 +10,7 @@ pub mod EscapedBytes
 pub mod FieldsInARow
 pub mod Forms
 pub mod Integers
+pub mod KeysInARow
 pub mod Layers
 pub mod ListedPairs
 pub mod ListedValues

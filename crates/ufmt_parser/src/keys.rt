@@ -90,3 +90,34 @@ impl<A: Copy> ParseKey<A> for char {
 impl ParseKey<Global> for String {
     fn prove_key() {}
 }
+
+impl<A: Copy, K: ParseKey<A>> ParseKey<A> for Option<K> {
+    fn prove_key() {
+        K::prove_key();
+    }
+}
+
+impl<A: Copy, K: ParseKey<A>, L: ParseKey<A>> ParseKey<A> for Result<K, L> {
+    fn prove_key() {
+        K::prove_key();
+        L::prove_key();
+    }
+}
+
+impl<K: ParseKey<Global>> ParseKey<Global> for Box<K> {
+    fn prove_key() {
+        K::prove_key();
+    }
+}
+
+impl<K: ParseKey<Global>> ParseKey<Global> for Vec<K> {
+    fn prove_key() {
+        K::prove_key();
+    }
+}
+
+impl<K: ParseKey<Global>, const N: usize> ParseKey<Global> for [K; N] {
+    fn prove_key() {
+        K::prove_key();
+    }
+}
