@@ -4,7 +4,7 @@ use crate::digest::Digest;
 use crate::fault::{Fault, agree};
 use crate::pieces::Pieces;
 use crate::shapes;
-use crate::types::{Keyed, Leaves, Lists, Numbers, Owned, Tuples, Types};
+use crate::types::{Keyed, Leaves, Lists, Nested, NonZeros, Numbers, Owned, Tuples, Types};
 use std::alloc::{AllocError, Global};
 use ufmt_parser::{ParseError, uParse};
 
@@ -45,11 +45,13 @@ fn letters(calls: Calls<'_>) -> Result<TypeLetters, Fault> {
         pieces: Pieces::new(),
     };
     Numbers::add_all(calls, (), "abcdefghijkl", &mut letters)?;
-    Leaves::add_all(calls, (), "ABDF", &mut letters)?;
-    Owned::add_all(calls, alloc, "CEGJν", &mut letters)?;
+    NonZeros::add_all(calls, (), "mnopqrstuv", &mut letters)?;
+    Leaves::add_all(calls, (), "ABDFI", &mut letters)?;
+    Owned::add_all(calls, alloc, "CEGHJν", &mut letters)?;
     Lists::add_all(calls, alloc, "KLMNOPQR", &mut letters)?;
-    Keyed::add_all(calls, alloc, "STUVW2345", &mut letters)?;
-    Tuples::add_all(calls, (), "αβγδεζ", &mut letters)?;
+    Keyed::add_all(calls, alloc, "STUVWXYZ012345", &mut letters)?;
+    Nested::add_all(calls, alloc, "678", &mut letters)?;
+    Tuples::add_all(calls, (), "αβγδεζηθικλμ", &mut letters)?;
     Ok(letters)
 }
 

@@ -1,4 +1,4 @@
-//! Structs and tuples by their number of fields, by the calls and the macro for a user's types.
+//! Structs and tuples by their number of fields, and an enum, by the calls and the macros for a user's types.
 use crate::calls::Calls;
 use crate::fault::Fault;
 use std::alloc::Global;
@@ -6,11 +6,11 @@ use ufmt::layout::Mode;
 use ufmt::{plain_text, uDebug};
 use ufmt_parser::{
     Fault as Unparsed, ParseMode, Parser, PlainText, PrettyText, parse_fields, parse_struct_1,
-    parse_struct_2, parse_struct_3, parse_struct_6, parse_tuple_1, parse_tuple_2, parse_tuple_3,
-    parse_tuple_6,
+    parse_struct_2, parse_struct_3, parse_struct_12, parse_tuple_1, parse_tuple_2, parse_tuple_3,
+    parse_tuple_12, parse_variants,
 };
 
-/// Returns the fields of each struct and tuple that has the text, as the texts of tuples.
+/// Returns the fields of each struct, tuple and variant that has the text, as the texts of tuples.
 pub fn fields_of(calls: Calls<'_>) -> Result<String, Fault> {
     match calls.mode {
         Mode::Plain => fields_in::<PlainText>(calls.alloc, calls.text),
@@ -24,8 +24,9 @@ fn fields_in<M: ParseMode>(alloc: Global, text: &[u8]) -> Result<String, Fault> 
     note_long_struct::<M>(alloc, text, &mut out)?;
     note_tuples::<M>(alloc, text, &mut out)?;
     note_long_tuple::<M>(alloc, text, &mut out)?;
-    note(alloc, "w", six::<M>(alloc, text)?, &mut out)?;
+    note(alloc, "w", twelve::<M>(alloc, text)?, &mut out)?;
     note(alloc, "o", one::<M>(alloc, text)?, &mut out)?;
+    note(alloc, "e", signal::<M>(alloc, text)?, &mut out)?;
     Ok(out)
 }
 
@@ -87,7 +88,7 @@ fn note_long_struct<M: ParseMode>(
     text: &[u8],
     out: &mut String,
 ) -> Result<(), Fault> {
-    named!(alloc text out M parse_struct_6(u8 "a" char "b" u8 "c" char "d" u8 "e" char "f"));
+    named!(alloc text out M parse_struct_12(u8 "a" char "b" u8 "c" char "d" u8 "e" char "f" u8 "g" char "h" u8 "i" char "j" u8 "k" char "l"));
     Ok(())
 }
 
@@ -103,40 +104,82 @@ fn note_long_tuple<M: ParseMode>(
     text: &[u8],
     out: &mut String,
 ) -> Result<(), Fault> {
-    unnamed!(alloc text out M parse_tuple_6(u8 char u8 char u8 char));
+    unnamed!(alloc text out M parse_tuple_12(u8 char u8 char u8 char u8 char u8 char u8 char));
     Ok(())
 }
 
 #[derive(Drop)]
-struct Six {
+struct Twelve {
     a: u8,
     b: u8,
     c: u8,
     d: u8,
     e: u8,
-    f: String,
+    f: u8,
+    g: u8,
+    h: u8,
+    i: u8,
+    j: u8,
+    k: u8,
+    l: String,
 }
 
 #[derive(Drop)]
 struct One(String);
 
-fn take_six<M: ParseMode>(alloc: Global, parser: &mut Parser<'_, M>) -> Result<Six, Unparsed> {
-    parse_fields!(alloc, parser, Six { a, b, c, d, e, f })
+#[derive(Drop)]
+enum Signal {
+    Started,
+    Said(u8, String),
+    Lost { since: u8, peers: Vec<u8> },
+    Ended,
+}
+
+fn take_twelve<M: ParseMode>(
+    alloc: Global,
+    parser: &mut Parser<'_, M>,
+) -> Result<Twelve, Unparsed> {
+    parse_fields!(
+        alloc,
+        parser,
+        Twelve {
+            a,
+            b,
+            c,
+            d,
+            e,
+            f,
+            g,
+            h,
+            i,
+            j,
+            k,
+            l
+        }
+    )
 }
 
 fn take_one<M: ParseMode>(alloc: Global, parser: &mut Parser<'_, M>) -> Result<One, Unparsed> {
     parse_fields!(alloc, parser, One(text))
 }
 
-type Numbers = (u8, u8, u8, u8, u8);
+fn take_signal<M: ParseMode>(
+    alloc: Global,
+    parser: &mut Parser<'_, M>,
+) -> Result<Signal, Unparsed> {
+    parse_variants!(alloc, parser, Signal { Started, Said(node, text), Lost { since, peers }, Ended })
+}
 
-fn six<M: ParseMode>(alloc: Global, text: &[u8]) -> Result<Option<(Numbers, String)>, Fault> {
+type Numbers = (u8, u8, u8, u8, u8, u8, u8, u8, u8, u8, u8);
+
+fn twelve<M: ParseMode>(alloc: Global, text: &[u8]) -> Result<Option<(Numbers, String)>, Fault> {
     let mut parser: Parser<'_, M> = Parser::new(text);
-    let taken = take_six(alloc, &mut parser);
-    match whole(taken, &parser)? {
-        Some(six) => Ok(Some(((six.a, six.b, six.c, six.d, six.e), six.f))),
-        None => Ok(None),
-    }
+    let taken = take_twelve(alloc, &mut parser);
+    let Some(t) = whole(taken, &parser)? else {
+        return Ok(None);
+    };
+    let numbers = (t.a, t.b, t.c, t.d, t.e, t.f, t.g, t.h, t.i, t.j, t.k);
+    Ok(Some((numbers, t.l)))
 }
 
 fn one<M: ParseMode>(alloc: Global, text: &[u8]) -> Result<Option<String>, Fault> {
@@ -146,4 +189,20 @@ fn one<M: ParseMode>(alloc: Global, text: &[u8]) -> Result<Option<String>, Fault
         Some(one) => Ok(Some(one.0)),
         None => Ok(None),
     }
+}
+
+// The variant's number, and its fields.
+fn signal<M: ParseMode>(
+    alloc: Global,
+    text: &[u8],
+) -> Result<Option<(u8, Option<(u8, String)>, Option<(u8, Vec<u8>)>)>, Fault> {
+    let mut parser: Parser<'_, M> = Parser::new(text);
+    let taken = take_signal(alloc, &mut parser);
+    Ok(match whole(taken, &parser)? {
+        None => None,
+        Some(Signal::Started) => Some((0, None, None)),
+        Some(Signal::Said(node, text)) => Some((1, Some((node, text)), None)),
+        Some(Signal::Lost { since, peers }) => Some((2, None, Some((since, peers)))),
+        Some(Signal::Ended) => Some((3, None, None)),
+    })
 }

@@ -3,6 +3,11 @@ use crate::calls::Calls;
 use crate::fault::{Fault, agree};
 use crate::parsed::{TypeLetters, add};
 use std::collections::{BTreeMap, BTreeSet};
+use std::num::{
+    NonZeroI8, NonZeroI16, NonZeroI32, NonZeroI64, NonZeroIsize, NonZeroU8, NonZeroU16, NonZeroU32,
+    NonZeroU64, NonZeroUsize,
+};
+use ufmt_examples::{Node, Tree};
 use ufmt_parser::uParse;
 
 /// Types in a row: the first, and the row of the others, or `()`. They are parsed with this type of allocator.
@@ -58,15 +63,45 @@ pub type Numbers = (
     ),
 );
 
-/// Other values that take no memory: `ABDF`.
-pub type Leaves = (bool, (char, ((), (Option<Option<bool>>, ()))));
+/// Nonzero numbers: `mnopqrstuv`.
+pub type NonZeros = (
+    NonZeroU8,
+    (
+        NonZeroU16,
+        (
+            NonZeroU32,
+            (
+                NonZeroU64,
+                (
+                    NonZeroUsize,
+                    (
+                        NonZeroI8,
+                        (NonZeroI16, (NonZeroI32, (NonZeroI64, (NonZeroIsize, ())))),
+                    ),
+                ),
+            ),
+        ),
+    ),
+);
 
-/// Values that take memory, or that may take some: `CEGJν`.
+/// Other values that take no memory: `ABDFI`.
+pub type Leaves = (
+    bool,
+    (
+        char,
+        ((), (Option<Option<bool>>, (Result<(), Option<char>>, ()))),
+    ),
+);
+
+/// Values that take memory, or that may take some: `CEGHJν`.
 pub type Owned = (
     String,
     (
         Option<Box<i8>>,
-        (Option<String>, (Box<u8>, ((char, (), Vec<bool>), ()))),
+        (
+            Option<String>,
+            (Result<String, char>, (Box<u8>, ((char, (), Vec<bool>), ()))),
+        ),
     ),
 );
 
@@ -85,32 +120,53 @@ pub type Lists = (
     ),
 );
 
-/// Sets and maps with each type of keys: `STUVW2345`.
+/// Sets and maps with each type of keys: `STUVWXYZ012345`.
 pub type Keyed = (
     BTreeSet<i8>,
     (
         BTreeMap<String, Option<u8>>,
         (
             BTreeSet<bool>,
-            (BTreeMap<char, ()>, (BTreeSet<()>, NumberKeys)),
+            (
+                BTreeMap<char, ()>,
+                (
+                    BTreeSet<()>,
+                    (
+                        BTreeSet<Option<u8>>,
+                        (
+                            BTreeSet<Result<bool, char>>,
+                            (BTreeSet<Vec<i16>>, MoreKeyed),
+                        ),
+                    ),
+                ),
+            ),
         ),
     ),
 );
 
-type NumberKeys = (
-    BTreeMap<u64, BTreeSet<i128>>,
+type MoreKeyed = (
+    BTreeMap<[u8; 2], Vec<char>>,
     (
-        BTreeMap<u16, BTreeMap<usize, BTreeSet<u128>>>,
+        BTreeSet<Box<i32>>,
         (
-            BTreeMap<i64, BTreeSet<isize>>,
-            (BTreeMap<u32, BTreeSet<u8>>, ()),
+            BTreeMap<u64, BTreeSet<i128>>,
+            (
+                BTreeMap<u16, BTreeMap<usize, BTreeSet<u128>>>,
+                (
+                    BTreeMap<i64, BTreeSet<isize>>,
+                    (BTreeMap<u32, BTreeSet<u8>>, ()),
+                ),
+            ),
         ),
     ),
 );
+
+/// Types that hold themselves: `678`.
+pub type Nested = (Tree, (Node, (Vec<Tree>, ())));
 
 type B = bool;
 
-/// Tuples of one field and more: `αβγδεζ`.
+/// Tuples of one to twelve fields: `αβγδεζηθικλμ`.
 pub type Tuples = (
     (u32,),
     (
@@ -119,8 +175,28 @@ pub type Tuples = (
             (u8, B, u8),
             (
                 (u8, B, u8, B),
-                ((u8, B, u8, B, u8), ((u8, B, u8, B, u8, B), ())),
+                (
+                    (u8, B, u8, B, u8),
+                    (
+                        (u8, B, u8, B, u8, B),
+                        (
+                            (u8, B, u8, B, u8, B, u8),
+                            ((u8, B, u8, B, u8, B, u8, B), MoreTuples),
+                        ),
+                    ),
+                ),
             ),
+        ),
+    ),
+);
+
+type MoreTuples = (
+    (u8, B, u8, B, u8, B, u8, B, u8),
+    (
+        (u8, B, u8, B, u8, B, u8, B, u8, B),
+        (
+            (u8, B, u8, B, u8, B, u8, B, u8, B, u8),
+            ((u8, B, u8, B, u8, B, u8, B, u8, B, u8, B), ()),
         ),
     ),
 );

@@ -12,13 +12,13 @@ LONGEST = 40
 
 
 class Number:
-    def __init__(self, low, high):
-        self.low, self.high = low, high
+    def __init__(self, low, high, has_zero=True):
+        self.low, self.high, self.has_zero = low, high, has_zero
 
     def has(self, document):
         if not isinstance(document, str) or len(document) > LONGEST or not NUMBER.fullmatch(document):
             return False
-        return self.low <= int(document) <= self.high
+        return self.low <= int(document) <= self.high and (self.has_zero or document != "0")
 
     def order(self, document):
         return int(document)
@@ -185,6 +185,30 @@ TEXT = Quoted('"', CHARACTERS)
 CHARACTER = Quoted("'", CHARACTERS)
 
 
+class Tree:
+    def has(self, document):
+        return TREE.has(document)
+
+    def made(self, random):
+        size = Number(0, 2**64 - 1).made(random)
+        children = [self.made(random) for _ in range(random.choice((0, 0, 0, 1, 2)))]
+        return Block("struct", "Tree", [("size", size), ("children", Block("list", "", [(None, child) for child in children]))])
+
+
+class Node:
+    def has(self, document):
+        return NODE.has(document)
+
+    def made(self, random):
+        value = Number(0, 2**64 - 1).made(random)
+        following = "None" if random.random() < 0.5 else Block("tuple", "Some", [(None, self.made(random))])
+        return Block("struct", "Node", [("value", value), ("next", following)])
+
+
+TREE = Fields("struct", "Tree", [("size", Number(0, 2**64 - 1)), ("children", List(Tree()))])
+NODE = Fields("struct", "Node", [("value", Number(0, 2**64 - 1)), ("next", Choice("None", Some=Node()))])
+
+
 def row(letters, *kinds):
     """Types with their letters."""
     assert len(letters) == len(kinds)
@@ -197,6 +221,10 @@ def unsigned(bits):
 
 def signed(bits):
     return Number(-(2 ** (bits - 1)), 2 ** (bits - 1) - 1)
+
+
+def nonzero(number):
+    return Number(number.low or 1, number.high, has_zero=False)
 
 
 def few(count):
@@ -212,12 +240,21 @@ SIGNED = [signed(bits) for bits in (8, 16, 32, 64, 128, 64)]
 
 TYPES = {
     **row("abcdefghijkl", *UNSIGNED, *SIGNED),
-    **row("ABDF", BOOL, CHARACTER, UNIT, Choice("None", Some=Choice("None", Some=BOOL))),
+    **row("mnopqrstuv", *(nonzero(number) for number in UNSIGNED[:4] + UNSIGNED[5:] + SIGNED[:4] + SIGNED[5:])),
     **row(
-        "CEGJ\u03bd",
+        "ABDFI",
+        BOOL,
+        CHARACTER,
+        UNIT,
+        Choice("None", Some=Choice("None", Some=BOOL)),
+        Choice(None, Ok=UNIT, Err=Choice("None", Some=CHARACTER)),
+    ),
+    **row(
+        "CEGHJ\u03bd",
         TEXT,
         Choice("None", Some=signed(8)),
         Choice("None", Some=TEXT),
+        Choice(None, Ok=TEXT, Err=CHARACTER),
         BYTE,
         Fields("tuple", "", [(None, CHARACTER), (None, UNIT), (None, List(BOOL))]),
     ),
@@ -233,24 +270,34 @@ TYPES = {
         List(List(BYTE, 2), 2),
     ),
     **row(
-        "STUVW2345",
+        "STUVWXYZ012345",
         Keyed(signed(8)),
         Keyed(TEXT, Choice("None", Some=BYTE)),
         Keyed(BOOL),
         Keyed(CHARACTER, UNIT),
         Keyed(UNIT),
+        Keyed(Choice("None", Some=BYTE)),
+        Keyed(Choice(None, Ok=BOOL, Err=CHARACTER)),
+        Keyed(List(signed(16))),
+        Keyed(List(BYTE, 2), List(CHARACTER)),
+        Keyed(signed(32)),
         Keyed(unsigned(64), Keyed(signed(128))),
         Keyed(unsigned(16), Keyed(unsigned(64), Keyed(unsigned(128)))),
         Keyed(signed(64), Keyed(signed(64))),
         Keyed(unsigned(32), Keyed(BYTE)),
     ),
-    **row("\u03b1\u03b2\u03b3\u03b4\u03b5\u03b6", Fields("tuple", "", [(None, unsigned(32))]), *(few(count) for count in range(2, 7))),
+    **row("678", Tree(), Node(), List(Tree())),
+    **row(
+        "\u03b1\u03b2\u03b3\u03b4\u03b5\u03b6\u03b7\u03b8\u03b9\u03ba\u03bb\u03bc",
+        Fields("tuple", "", [(None, unsigned(32))]),
+        *(few(count) for count in range(2, 13)),
+    ),
 }
 
 
-# ---- Structs and tuples that are parsed by the calls and the macro for a user's types.
+# ---- Structs, tuples and an enum that are parsed by the calls and the macros for a user's types.
 
-NAMES = "abcdef"
+NAMES = "abcdefghijkl"
 
 
 def mixed(kind, name, count):
@@ -259,12 +306,15 @@ def mixed(kind, name, count):
     return Fields(kind, name, [(name, CHARACTER if number % 2 else BYTE) for number, name in enumerate(names)])
 
 
-SIX = Fields("struct", "Six", [(name, BYTE) for name in NAMES[:5]] + [("f", TEXT)])
+TWELVE = Fields("struct", "Twelve", [(name, BYTE) for name in NAMES[:11]] + [("l", TEXT)])
 ONE = Fields("tuple", "One", [(None, TEXT)])
-SHAPES = [mixed(kind, name, count) for kind, name in (("struct", "S"), ("tuple", "T")) for count in (1, 2, 3, 6)]
+SAID = Fields("tuple", "Said", [(None, BYTE), (None, TEXT)])
+LOST = Fields("struct", "Lost", [("since", BYTE), ("peers", List(BYTE))])
+EVENTS = (Word("Started"), SAID, LOST, Word("Ended"))
+SHAPES = [mixed(kind, name, count) for kind, name in (("struct", "S"), ("tuple", "T")) for count in (1, 2, 3, 12)]
 
 
-KINDS_OF_SHAPES = (*SHAPES, SIX, ONE)
+KINDS_OF_SHAPES = (*SHAPES, TWELVE, ONE, *EVENTS)
 SHAPE_COUNT = len(KINDS_OF_SHAPES)
 
 
@@ -277,23 +327,33 @@ def unnamed(values):
     return Block("tuple", "", [(None, value) for value in values])
 
 
+def some(value):
+    return Block("tuple", "Some", [(None, value)])
+
+
 def values_of(document):
     return [value for _name, value in document.entries]
 
 
 def fields(document):
     """The fields of a document of one of these types, as the program prints them."""
+    if document in ("Started", "Ended"):
+        return "e(%d, None, None);" % (3 if document == "Ended" else 0)
     if isinstance(document, str):
         return ""
     if any(shape.has(document) for shape in SHAPES):
         found = values_of(document)
         found = found[0] if len(found) == 1 else unnamed(found)
         return document.kind[0] + plain(found) + ";"
-    if SIX.has(document):
+    if TWELVE.has(document):
         found = values_of(document)
-        return "w" + plain(unnamed([unnamed(found[:5]), found[5]])) + ";"
+        return "w" + plain(unnamed([unnamed(found[:11]), found[11]])) + ";"
     if ONE.has(document):
         return "o" + plain(values_of(document)[0]) + ";"
+    if SAID.has(document):
+        return "e" + plain(unnamed(["1", some(unnamed(values_of(document))), "None"])) + ";"
+    if LOST.has(document):
+        return "e" + plain(unnamed(["2", "None", some(unnamed(values_of(document)))])) + ";"
     return ""
 
 
