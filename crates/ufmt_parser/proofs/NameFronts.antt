@@ -1,5 +1,5 @@
 -- The name at the front of a document's text is found byte by byte.
-use Rattle.std.proofs.Common.{◌≡◌, ◌≢◌, ◌⊎◌, inl, inr, refl, sym, ap, ◌∙◌, subst, ℕ, ◌==◌, ◌||◌, ◌&&◌, Bool, true, false, List, [], ◌∷◌, ◌++◌, append_assoc, Option, Some, None, eqb-true}
+use Rattle.std.proofs.Common.{◌≡◌, ◌≢◌, ◌⊎◌, inl, inr, refl, sym, ap, ◌∙◌, subst, ℕ, ◌==◌, ◌||◌, ◌&&◌, Bool, true, false, List, [], ◌∷◌, ◌++◌, append_assoc, None, eqb-true}
 use Rattle.std.specs.Str.{bytes_eq}
 use Rattle.std.proofs.lemmas.Slice.Eq.{bytes_eq-Decides}
 use Rattle.std.proofs.lemmas.List.{append_cancel_left}
@@ -7,11 +7,11 @@ use Rattle.ufmt.specs.Document.{Document, leaf, joined, list_of, set_of, map_of,
 use Rattle.ufmt.specs.Layout.{layout}
 use Rattle.ufmt_core.specs.declared.layout.Setting.{Setting}
 use Rattle.ufmt.specs.declared.class.Class.TheVariants.{Debug}
-use Rattle.ufmt.specs.Leaves.{EndsLeaf, IsDebugFollower, IsName, IsWord, MayFollow, is_ender, is_word_byte, outside, place_after}
+use Rattle.ufmt.specs.Leaves.{EndsLeaf, IsDebugFollower, IsWord, MayFollow, is_ender, is_word_byte, outside, place_after}
 use Rattle.ufmt.specs.Reading.{leaf_from}
 use Rattle.ufmt.specs.Token.{IsBuilt}
 use Rattle.ufmt.proofs.ClassLeaves.{name_some}
-use Rattle.ufmt.proofs.DebugLeaves.{StopsLeaf, follower_stops_leaf, leaf_from-append}
+use Rattle.ufmt.proofs.DebugLeaves.{StopsLeaf, leaf_from-append}
 use Rattle.ufmt.proofs.ReadingWords.{each_ender}
 use Rattle.ufmt_parser.specs.Naming.{begins_space, document_name, ends_name, is_past_name}
 use Rattle.ufmt_parser.specs.Taking.{DoesNotBegin}

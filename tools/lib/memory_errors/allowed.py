@@ -4,7 +4,7 @@
 ANYWHERE = [
     (r"Err\((ScanError|ReadError)::NotText\)", "a clause says that no token document has the text"),
     (r"\w+(\.\w+\(\))?\.ok_or\(ReadError::NotText\)", "the same"),
-    (r"Err\(Fault::NotText\)|Err\(ParseError::NotText\{at:text\.len\(\)-parser\.len\(\), \}\)", "a clause says that no value's text is there"),
+    (r"Err\((\$crate::)?Fault::NotText\)|Err\(ParseError::NotText\{at:text\.len\(\)-parser\.len\(\), \}\)", "a clause says that no value's text is there"),
     (r"(match .*: )?Err\(Fault::NotText\)=>Err\(ParseError::NotText\{at:text\.len\(\)-parser\.len\(\), \}\)", "the same"),
     (r"Err\(fault\)", "the error is passed on: where it is bound is another place"),
     (r"(match .*: )?Err\(fault\)=>(return |std::result::Result::)?Err\(fault\)", "the error is passed on"),
@@ -105,6 +105,7 @@ IN_BODIES = [
     (NO_MEMORY, "ufmt_scan/src/text.rt", "is_text", "scan(Class::Token, mode, text, &mut Ignores).is_ok()"),
     (NO_MEMORY, "ufmt_scan/src/text.rt", "is_debug_text", "scan(Class::Debug, mode, text, &mut Ignores).is_ok()"),
     (RESULT, "ufmt_core/src/core_impls/enums.rt", "uDebug for Result<T, E>::fmt", "match self: Err(error)=>f.tuple_1(\"\", error)"),
+    (RESULT, "ufmt_parser/src/options.rt", "uParse<A>for Result<T, E>::prove_value", "match self: Err(error)=>error.prove_value()"),
     (DEVICE, "ufmt_conv/src/run.rt", "run", "write_whole(output, line.as_bytes()).map_err(|_|Fault::CannotWrite)"),
     (DEVICE, "ufmt_io/src/whole.rt", "read_after", "input.read_some(&mut buffer[filled..]).map_err(|_|IoFault::CannotRead)"),
     (DEVICE, "ufmt_lines/src/run.rt", "run", "Err(IoFault::CannotRead)"),
