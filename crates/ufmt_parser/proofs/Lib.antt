@@ -14,6 +14,7 @@ pub mod ListedValues
 pub mod NumberKeys
 pub mod OneWay
 pub mod Parts
+pub mod PlainBytes
 pub mod QuotedTaken
 pub mod Reductions
 pub mod Settings
