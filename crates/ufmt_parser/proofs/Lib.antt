@@ -22,6 +22,7 @@ pub mod PackedDigits
 pub mod OptionTexts
 pub mod Parts
 pub mod Places
+pub mod PlainBytes
 pub mod QuotedTaken
 pub mod Reductions
 pub mod Settings

@@ -1,8 +1,8 @@
 //! Texts in quotation marks.
-ghost use Rattle.std.specs.Prelude.{◌≡◌, ◌≤◌, ◌++◌, ◌∷◌, [], ⊤, IfOk, MatchOption, length};
+ghost use Rattle.std.specs.Prelude.{◌≡◌, ◌<◌, ◌≤◌, ◌++◌, ◌∷◌, [], ⊤, IfOk, IfSome, MatchOption, length, string_bytes, take, true};
 ghost use Rattle.ufmt.specs.Quoted.{escaped_bytes};
 ghost use Rattle.ufmt_core.specs.Bytes.{quotation_mark};
-ghost use Rattle.ufmt_parser.specs.Spelling.{NeverCloses};
+ghost use Rattle.ufmt_parser.specs.Spelling.{all_plain, is_plain, NeverCloses};
 
 use crate::escapes::split_escaped;
 use crate::from_front::uParse;
@@ -10,7 +10,82 @@ use crate::mode::ParseMode;
 use crate::parser::{Fault, Parser};
 use crate::strip::strip_byte;
 use std::alloc::{AllocError, Allocator};
+use ufmt::ascii::text_from;
 use ufmt::quoted::unescaped_len;
+
+// The bytes at the front that are ASCII and written as themselves, and what follows them.
+#[inline(always)]
+fn split_plain(input: &[u8]) -> (&[u8], &[u8])
+    ensures whole { input.now ≡ result.0.now ++ result.1.now }
+    ensures plain { all_plain result.0.now ≡ true }
+{
+    let end = plain_end::<16>(input, 0);
+    let end = plain_end::<4>(input, end);
+    let end = plain_end::<1>(input, end);
+    input.split_at(end)
+}
+
+// The text up to the closing quotation mark, and what follows the mark, if all of the text is plain. It
+// needs no test of UTF-8.
+#[inline(always)]
+fn read_plain<'t, A: Allocator>(
+    alloc: A,
+    input: &'t [u8],
+) -> Result<Option<(String<A>, &'t [u8])>, AllocError>
+    ensures { IfOk result (λ found. IfSome found (λ x.
+        input.now ≡ escaped_bytes quotation_mark (string_bytes x.0) ++ (quotation_mark ∷ x.1.now))) }
+{
+    let (plain, end) = split_plain(input);
+    let Some(after) = strip_byte(b'"', end) else {
+        return Ok(None);
+    };
+    let mut text = String::new(alloc);
+    text.push_str(text_from(plain, 0))?;
+    Ok(Some((text, after)))
+}
+
+// How far the input is plain, by groups of so many bytes, where it is up to `start`.
+#[inline(always)]
+#[tactic(auto, using(crate::proofs::PlainBytes::plain_bytes))]
+fn plain_end<const N: usize>(input: &[u8], start: usize) -> usize
+    requires some { 0 < N }
+    requires within { start ≤ length input.now }
+    requires plain { all_plain (take start input.now) ≡ true }
+    ensures within { result ≤ length input.now }
+    ensures plain { all_plain (take result input.now) ≡ true }
+{
+    let mut end = start;
+    'groups: while input.len() - end >= N {
+        if !all_plain(&input[end..end + N]) {
+            break;
+        }
+        end += N;
+    }
+    end
+}
+
+// Whether all bytes are plain. No byte ends the loop, so that it becomes one test of a vector.
+#[inline(always)]
+#[tactic(auto, using(crate::proofs::PlainBytes::plain_bytes))]
+fn all_plain(bytes: &[u8]) -> bool
+    ensures { result ≡ all_plain bytes.now }
+{
+    let mut all = true;
+    let mut at = 0;
+    'bytes: while at < bytes.len() {
+        all &= is_plain(bytes[at]);
+        at += 1;
+    }
+    all
+}
+
+// Whether the byte is ASCII and written as itself.
+#[inline(always)]
+fn is_plain(byte: u8) -> bool
+    ensures { result ≡ is_plain byte }
+{
+    (32 <= byte) & (byte < 127) & (byte != b'"') & (byte != b'\\')
+}
 
 // Moves the bytes at the front that are written as themselves, and returns what follows them.
 #[tactic(auto, using(crate::proofs::SpelledTexts::spelling))]
@@ -64,6 +139,14 @@ impl<A: Allocator + Copy> uParse<A> for String<A> {
         let Some(inside) = strip_byte(b'"', parser.rest()) else {
             return Err(Fault::NotText);
         };
+        match read_plain(alloc, inside) {
+            Err(_) => return Err(Fault::OutOfMemory),
+            Ok(Some((text, after))) => {
+                parser.skip_to(after);
+                return Ok(text);
+            }
+            Ok(None) => {}
+        }
         let mut bytes = Vec::new(alloc);
         match read_bytes(&mut bytes, inside) {
             Err(_) => Err(Fault::OutOfMemory),
