@@ -11,9 +11,9 @@ pub(crate) trait Magnitude: Copy {
     // The least number that is too large.
     ghost bound: { ℕ };
 
-    /// A number of at most three digits.
+    /// A number of at most four digits.
     fn from_few(few: u64) -> Self
-        requires { few < 1000 }
+        requires { few < 10000 }
         ensures { (value result ≡ few) × (value result < bound) };
 
     /// The number with one digit more, or `None` if it is too large.
@@ -139,7 +139,16 @@ fn split_many<N: Magnitude>(start: N, input: &[u8]) -> Option<(N, &[u8])>
     split_more(n, rest)
 }
 
-// The same after one digit. Most numbers are short, so two digits are looked for first, one by one.
+// How many digits after the first are looked for one by one. So nineteen and twenty digits are three, sixteen
+// and at most one.
+#[inline(always)]
+fn few_digits(is_long: bool) -> usize
+    ensures { result ≤ 3 }
+{
+    if is_long { 2 } else { 3 }
+}
+
+// The same after one digit. Most numbers are short, so a few digits are looked for first, one by one.
 #[inline(always)]
 fn split_digits<N: Magnitude>(start: u64, input: &[u8], is_long: bool) -> Option<(N, &[u8])>
     requires { start < 10 }
@@ -147,13 +156,14 @@ fn split_digits<N: Magnitude>(start: u64, input: &[u8], is_long: bool) -> Option
         (λ found. (N.value found.0 ≡ value_after start input.now) × (N.value found.0 < N.bound)
         × (found.1.now ≡ after_digits input.now)) }
 {
-    // So the length isn't tested for each of the two.
-    if input.len() < 2 {
+    let few = few_digits(is_long);
+    // So the length isn't tested for each of these.
+    if input.len() < few {
         return split_more(N::from_few(start), input);
     }
     let mut n = start;
     let mut rest = input;
-    'few: for _ in 0..2u64 {
+    'few: for _ in 0..few {
         match rest.split_first() {
             None => break,
             Some((&byte, after)) => {

@@ -9,5 +9,6 @@ invariant-few g l = record {
   after : after_digits l.rest ≡ after_digits l.fn.input;
   one_digit : l.counter ≡ 0 → l.n < 10;
   two_digits : l.counter ≡ 1 → l.n < 100;
-  three_digits : l.n < 1000;
+  three_digits : l.counter ≡ 2 → l.n < 1000;
+  four_digits : l.n < 10000;
 }
