@@ -24,8 +24,8 @@ fn fields_in<M: ParseMode>(alloc: Global, text: &[u8]) -> Result<String, Fault> 
     note_long_struct::<M>(alloc, text, &mut out)?;
     note_tuples::<M>(alloc, text, &mut out)?;
     note_long_tuple::<M>(alloc, text, &mut out)?;
-    note(alloc, "w", six::<M>(alloc, text)?, &mut out)?;
-    note(alloc, "o", one::<M>(alloc, text)?, &mut out)?;
+    note(alloc, "w", six_fields::<M>(alloc, text)?, &mut out)?;
+    note(alloc, "o", one_field::<M>(alloc, text)?, &mut out)?;
     Ok(out)
 }
 
@@ -130,7 +130,10 @@ fn take_one<M: ParseMode>(alloc: Global, parser: &mut Parser<'_, M>) -> Result<O
 
 type Numbers = (u8, u8, u8, u8, u8);
 
-fn six<M: ParseMode>(alloc: Global, text: &[u8]) -> Result<Option<(Numbers, String)>, Fault> {
+fn six_fields<M: ParseMode>(
+    alloc: Global,
+    text: &[u8],
+) -> Result<Option<(Numbers, String)>, Fault> {
     let mut parser: Parser<'_, M> = Parser::new(text);
     let taken = take_six(alloc, &mut parser);
     match whole(taken, &parser)? {
@@ -139,7 +142,7 @@ fn six<M: ParseMode>(alloc: Global, text: &[u8]) -> Result<Option<(Numbers, Stri
     }
 }
 
-fn one<M: ParseMode>(alloc: Global, text: &[u8]) -> Result<Option<String>, Fault> {
+fn one_field<M: ParseMode>(alloc: Global, text: &[u8]) -> Result<Option<String>, Fault> {
     let mut parser: Parser<'_, M> = Parser::new(text);
     let taken = take_one(alloc, &mut parser);
     match whole(taken, &parser)? {
