@@ -24,9 +24,9 @@ fn fields_in<M: ParseMode>(alloc: Global, text: &[u8]) -> Result<String, Fault> 
     note_long_struct::<M>(alloc, text, &mut out)?;
     note_tuples::<M>(alloc, text, &mut out)?;
     note_long_tuple::<M>(alloc, text, &mut out)?;
-    note(alloc, "w", twelve::<M>(alloc, text)?, &mut out)?;
-    note(alloc, "o", one::<M>(alloc, text)?, &mut out)?;
-    note(alloc, "e", signal::<M>(alloc, text)?, &mut out)?;
+    note(alloc, "w", twelve_fields::<M>(alloc, text)?, &mut out)?;
+    note(alloc, "o", one_field::<M>(alloc, text)?, &mut out)?;
+    note(alloc, "e", signal_fields::<M>(alloc, text)?, &mut out)?;
     Ok(out)
 }
 
@@ -172,7 +172,10 @@ fn take_signal<M: ParseMode>(
 
 type Numbers = (u8, u8, u8, u8, u8, u8, u8, u8, u8, u8, u8);
 
-fn twelve<M: ParseMode>(alloc: Global, text: &[u8]) -> Result<Option<(Numbers, String)>, Fault> {
+fn twelve_fields<M: ParseMode>(
+    alloc: Global,
+    text: &[u8],
+) -> Result<Option<(Numbers, String)>, Fault> {
     let mut parser: Parser<'_, M> = Parser::new(text);
     let taken = take_twelve(alloc, &mut parser);
     let Some(t) = whole(taken, &parser)? else {
@@ -182,7 +185,7 @@ fn twelve<M: ParseMode>(alloc: Global, text: &[u8]) -> Result<Option<(Numbers, S
     Ok(Some((numbers, t.l)))
 }
 
-fn one<M: ParseMode>(alloc: Global, text: &[u8]) -> Result<Option<String>, Fault> {
+fn one_field<M: ParseMode>(alloc: Global, text: &[u8]) -> Result<Option<String>, Fault> {
     let mut parser: Parser<'_, M> = Parser::new(text);
     let taken = take_one(alloc, &mut parser);
     match whole(taken, &parser)? {
@@ -192,7 +195,7 @@ fn one<M: ParseMode>(alloc: Global, text: &[u8]) -> Result<Option<String>, Fault
 }
 
 // The variant's number, and its fields.
-fn signal<M: ParseMode>(
+fn signal_fields<M: ParseMode>(
     alloc: Global,
     text: &[u8],
 ) -> Result<Option<(u8, Option<(u8, String)>, Option<(u8, Vec<u8>)>)>, Fault> {

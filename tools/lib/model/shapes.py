@@ -168,6 +168,7 @@ def documents():
     shapes["lists of two"] = lambda size: halved(size.bit_length() - 4)
     shapes["a wide list of trees"] = lambda size: repeated(TREE, size)
     shapes["a map of keys in order"] = ordered_map
+    shapes["a set of numbers with one twice"] = lambda size: Block("set", "", [(None, str(number)) for number in [*range(size // 6), 7]])
     shapes["a set of numbers in order"] = lambda size: Block("set", "", [(None, str(number)) for number in range(size // 6)])
     shapes["long names"] = named
     shapes["a long number"] = lambda size: "7" * size
@@ -235,7 +236,6 @@ def no_texts():
         "an open list of numbers": lambda size: "[" + ", ".join(["65535"] * (size // 7)),
         "an open list of texts": lambda size: "[" + ", ".join(['"ab"'] * (size // 6)),
         "an open set of numbers in order": lambda size: "{" + ", ".join(map(str, range(size // 6))),
-        "a set of numbers with one twice": lambda size: "{" + ", ".join(map(str, range(size // 6))) + ", 7}",
         "an open map of keys in order": lambda size: plain(ordered_map(size))[:-1],
         "an open map": lambda size: "{" + ", ".join(["k: v"] * (size // 6)),
         "an open pretty list": lambda size: "[\n" + "    x,\n" * (size // 7),
