@@ -1,5 +1,6 @@
 //! Tests of what no clause says of parsing: that it succeeds with ample memory for each type and each
 //! shape of text, and where a text that isn't parsed stops fitting.
+mod by_parsers;
 mod calls;
 mod collections;
 mod counts;
