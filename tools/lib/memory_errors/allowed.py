@@ -152,6 +152,8 @@ IN_BODIES = [
     (GROWN, "ufmt_parser/src/texts.rt", "uParse<A>for String<A>::parse_from", "match read_bytes(&mut bytes, inside): Err(_)=>Err(Fault::OutOfMemory)"),
     (GROWN, "ufmt_parser/src/texts.rt", "uParse<A>for String<A>::parse_from", "Err(_)=>Err(Fault::OutOfMemory)"),
     (GROWN, "ufmt_parser/src/texts.rt", "uParse<A>for String<A>::parse_from", "Err(Fault::OutOfMemory)"),
+    (GROWN, "ufmt_parser/src/texts.rt", "uParse<A>for String<A>::parse_from", "match read_ascii(alloc, inside): Err(_)=>return Err(Fault::OutOfMemory)"),
+    (GROWN, "ufmt_parser/src/texts.rt", "uParse<A>for String<A>::parse_from", "Err(_)=>return Err(Fault::OutOfMemory)"),
     (GROWN, "ufmt_parser/src/lists.rt", "parse_some", "match entries.push(entry): Err(_)=>return Err(Fault::OutOfMemory)"),
     (GROWN, "ufmt_parser/src/lists.rt", "parse_some", "Err(_)=>return Err(Fault::OutOfMemory)"),
     (GROWN, "ufmt_parser/src/lists.rt", "parse_some", "Err(Fault::OutOfMemory)"),
@@ -165,4 +167,6 @@ IN_BODIES = [
     (NO_MEMORY, "ufmt_parser/src/texts.rt", "uParse<A>for String<A>::parse_from", "match String::from_utf8(bytes): Err(_)=>Err(Fault::NotText)"),
     (NO_MEMORY, "ufmt_parser/src/lists.rt", "parse_array", "match <[T;N]>::try_from(values): Err(_)=>Err(Fault::NotText)"),
     (TURNS, "ufmt_parser/src/texts.rt", "read_bytes", "loop"),
+    (TURNS, "ufmt_parser/src/sorted.rt", "ascending_set", "while let Some(key)=left.pop()"),
+    (TURNS, "ufmt_parser/src/sorted.rt", "ascending_map", "while let Some((key, value))=left.pop()"),
 ]
