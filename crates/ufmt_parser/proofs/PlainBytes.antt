@@ -1,10 +1,10 @@
 -- Bytes that are ASCII and written as themselves.
-use Rattle.std.proofs.Common.{◌≡◌, sym, ap, ◌∙◌, refl, ℕ, zero, suc, ◌+◌, ◌<◌, ◌≤◌, ◌&&◌, Bool, true, false, List, [], ◌∷◌, ◌++◌, length, take, drop, slice_index, None, Some, Option, append_assoc, arith}
+use Rattle.std.proofs.Common.{◌≡◌, sym, ap, ◌∙◌, refl, ℕ, zero, suc, ◌+◌, ◌<◌, ◌&&◌, Bool, true, false, List, [], ◌∷◌, ◌++◌, length, take, drop, slice_index, None, Some, arith}
 use Rattle.std.specs.Prelude.{unwrap_or}
 use Rattle.std.specs.Str.{IsAscii}
 use Rattle.std.proofs.lemmas.Bool.Decides.{nat_tests}
 use Rattle.std.proofs.lemmas.Str.Ascii.{IsAscii-cons, IsAscii-nil}
-use Rattle.ufmt.specs.Quoted.{escape, escaped_byte, escaped_bytes}
+use Rattle.ufmt.specs.Quoted.{escape, escaped_bytes}
 use Rattle.ufmt.specs.Reading.{strip}
 use Rattle.ufmt.proofs.Parsing.{strip_found}
 use Rattle.ufmt_parser.specs.Spelling.{all_plain, is_plain}

@@ -28,7 +28,7 @@ fn split_plain(input: &[u8]) -> (&[u8], &[u8])
 // The text up to the closing quotation mark, and what follows the mark, if all of the text is plain. It
 // needs no test of UTF-8.
 #[inline(always)]
-fn read_plain<'t, A: Allocator>(
+fn read_ascii<'t, A: Allocator>(
     alloc: A,
     input: &'t [u8],
 ) -> Result<Option<(String<A>, &'t [u8])>, AllocError>
@@ -139,7 +139,7 @@ impl<A: Allocator + Copy> uParse<A> for String<A> {
         let Some(inside) = strip_byte(b'"', parser.rest()) else {
             return Err(Fault::NotText);
         };
-        match read_plain(alloc, inside) {
+        match read_ascii(alloc, inside) {
             Err(_) => return Err(Fault::OutOfMemory),
             Ok(Some((text, after))) => {
                 parser.skip_to(after);

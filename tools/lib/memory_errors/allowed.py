@@ -143,7 +143,7 @@ IN_BODIES = [
     (GROWN, "ufmt_parser/src/texts.rt", "uParse<A>for String<A>::parse_from", "match read_bytes(&mut bytes, inside): Err(_)=>Err(Fault::OutOfMemory)"),
     (GROWN, "ufmt_parser/src/texts.rt", "uParse<A>for String<A>::parse_from", "Err(_)=>Err(Fault::OutOfMemory)"),
     (GROWN, "ufmt_parser/src/texts.rt", "uParse<A>for String<A>::parse_from", "Err(Fault::OutOfMemory)"),
-    (GROWN, "ufmt_parser/src/texts.rt", "uParse<A>for String<A>::parse_from", "match read_plain(alloc, inside): Err(_)=>return Err(Fault::OutOfMemory)"),
+    (GROWN, "ufmt_parser/src/texts.rt", "uParse<A>for String<A>::parse_from", "match read_ascii(alloc, inside): Err(_)=>return Err(Fault::OutOfMemory)"),
     (GROWN, "ufmt_parser/src/texts.rt", "uParse<A>for String<A>::parse_from", "Err(_)=>return Err(Fault::OutOfMemory)"),
     (GROWN, "ufmt_parser/src/lists.rt", "parse_some", "match entries.push(entry): Err(_)=>return Err(Fault::OutOfMemory)"),
     (GROWN, "ufmt_parser/src/lists.rt", "parse_some", "Err(_)=>return Err(Fault::OutOfMemory)"),

@@ -1,4 +1,4 @@
-use Rattle.std.proofs.Common.{arith, length}
+use Rattle.std.proofs.Common.{arith}
 use Rattle.ufmt_parser.proofs.Chunks.{other_chunk, same_chunk}
 use Rattle.ufmt_parser.proofs.strip.skip_eight.Goals as goal
 

@@ -1,6 +1,6 @@
 use Rattle.std.proofs.Common.{◌++◌, ◌∙◌, ap, string_bytes}
 use Rattle.ufmt_parser.proofs.PlainBytes.{plain_ascii, plain_closes}
-use Rattle.ufmt_parser.proofs.texts.read_plain.Goals as goal
+use Rattle.ufmt_parser.proofs.texts.read_ascii.Goals as goal
 
 pub text_from-requires-clause-ascii : goal.text_from-requires-clause-ascii
 text_from-requires-clause-ascii g c = plain_ascii c.split_plain.result.0.now c.split_plain.ensures.plain
