@@ -6,7 +6,7 @@ use std::collections::{BTreeMap, BTreeSet};
 use ufmt::layout::Mode;
 use ufmt_doc::doc::{Doc, same_text};
 use ufmt_doc::field_text::read_field;
-use ufmt_parser::uParse;
+use ufmt_parse::uParse;
 use ufmt_scan::leaf::{is_leaf, is_word};
 
 // A mark is an allocation of so many bytes and its own number. No memory can give so much, so none is

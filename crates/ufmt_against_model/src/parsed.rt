@@ -6,7 +6,7 @@ use crate::pieces::Pieces;
 use crate::shapes;
 use crate::types::{Keyed, Leaves, Lists, Nested, NonZeros, Numbers, Owned, Tuples, Types};
 use std::alloc::{AllocError, Global};
-use ufmt_parser::{ParseError, uParse};
+use ufmt_parse::{ParseError, uParse};
 
 /// The letters of the types that have a value with the text, and the pieces of those values.
 #[derive(Drop)]

@@ -4,7 +4,7 @@ use crate::fault::Fault;
 use std::alloc::Global;
 use ufmt::layout::Mode;
 use ufmt::{plain_text, uDebug};
-use ufmt_parser::{
+use ufmt_parse::{
     Fault as Unparsed, ParseMode, Parser, PlainText, PrettyText, parse_fields, parse_struct_1,
     parse_struct_2, parse_struct_3, parse_struct_12, parse_tuple_1, parse_tuple_2, parse_tuple_3,
     parse_tuple_12, parse_variants,

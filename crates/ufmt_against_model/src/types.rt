@@ -8,7 +8,7 @@ use std::num::{
     NonZeroU64, NonZeroUsize,
 };
 use ufmt_examples::{Node, Tree};
-use ufmt_parser::uParse;
+use ufmt_parse::uParse;
 
 /// Types in a row: the first, and the row of the others, or `()`. They are parsed with this type of allocator.
 pub trait Types<A> {

@@ -5,7 +5,7 @@ ghost use Rattle.ufmt.specs.Layout.{plain_text};
 use std::alloc::AllocError;
 use ufmt::{debug_into, uDebug};
 use ufmt_doc::plain_reader::ReadError;
-use ufmt_parser::ParseError;
+use ufmt_parse::ParseError;
 
 /// What a call returned.
 #[derive(Clone, Copy, PartialEq, Eq, Debug)]

@@ -5,7 +5,7 @@ use std::alloc::Global;
 use std::collections::{BTreeMap, BTreeSet};
 use std::io;
 use ufmt_doc::field_text::read_field;
-use ufmt_parser::{parse, parse_pretty, uParse};
+use ufmt_parse::{parse, parse_pretty, uParse};
 
 const ALARM: &str = "Alarm { node: 3, text: \"say \\\"hi\\\"\" }";
 

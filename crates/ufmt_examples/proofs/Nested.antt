@@ -4,8 +4,8 @@ use Rattle.std.proofs.Common.{◌≡◌, ◌↔◌, refl, sym, ap, ◌∙◌, su
 use Rattle.std.specs.Prelude.{IfSome}
 use Rattle.ufmt.specs.Document.{Document}
 use Rattle.ufmt.specs.ValueDocuments.{named_struct, number, option_document}
-use Rattle.ufmt_parser.specs.Values.{is_u64}
-use Rattle.ufmt_parser.proofs.Layers.{all_map, same_holds}
+use Rattle.ufmt_parse.specs.Values.{is_u64}
+use Rattle.ufmt_parse.proofs.Layers.{all_map, same_holds}
 use Rattle.ufmt_examples.specs.Nested.{is_node, node_step, is_tree, tree_step}
 use Rattle.ufmt_examples.specs.declared.tree.Tree.{Tree, out-Tree}
 use Rattle.ufmt_examples.specs.declared.tree.Tree.TheViews.{roll-Tree, roll-out-Tree}

@@ -1,7 +1,7 @@
 -- What holds of each node and each tree that a program has.
 use Rattle.std.specs.Prelude.{IfSome}
 use Rattle.std.specs.List.{AllByRecursion}
-use Rattle.ufmt_parser.specs.Values.{is_u64}
+use Rattle.ufmt_parse.specs.Values.{is_u64}
 use Rattle.ufmt_examples.specs.declared.tree.Tree.{Tree}
 use Rattle.ufmt_examples.specs.declared.tree.Tree.TheOpen.{Tree-F}
 use Rattle.ufmt_examples.specs.declared.tree.Tree.TheFolds.{rec-Tree}

@@ -2,14 +2,14 @@
 ghost use Rattle.std.specs.Prelude.{◌≡◌, ◌≢◌, ℕ, IfOk, IsErrOf};
 ghost use Rattle.ufmt.specs.Layout.{plain_text};
 ghost use Rattle.ufmt_examples.specs.Alarm.{alarm_document};
-ghost use Rattle.ufmt_parser.specs.Values.{is_u16};
+ghost use Rattle.ufmt_parse.specs.Values.{is_u16};
 
 #[cfg(test)]
 mod tests;
 
 use std::alloc::Global;
 use ufmt::{Formatter, fields, uDebug, uWrite};
-use ufmt_parser::{Fault, ParseError, ParseMode, Parser, parse, parse_fields, uParse};
+use ufmt_parse::{Fault, ParseError, ParseMode, Parser, parse, parse_fields, uParse};
 
 /// What a node of a network reports.
 #[derive(Drop)]

@@ -2,10 +2,10 @@
 ghost use Rattle.std.specs.Prelude.{[], ◌∷◌, ◌≡◌, ⊤, IfOk, IsErrOf};
 ghost use Rattle.ufmt.specs.Layout.{plain_text};
 ghost use Rattle.ufmt.specs.ValueDocuments.{integer, named_struct, number};
-ghost use Rattle.ufmt_parser.specs.Values.{is_i16, is_u8};
+ghost use Rattle.ufmt_parse.specs.Values.{is_i16, is_u8};
 
 use ufmt::{Formatter, fields, uDebug, uWrite};
-use ufmt_parser::{Fault, ParseError, ParseMode, Parser, parse, parse_fields, uParse};
+use ufmt_parse::{Fault, ParseError, ParseMode, Parser, parse, parse_fields, uParse};
 
 /// Sets the level of a channel.
 #[derive(Clone, Copy, PartialEq, Eq, Debug, Drop)]

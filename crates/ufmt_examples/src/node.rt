@@ -2,13 +2,13 @@
 ghost use Rattle.std.specs.Prelude.{[], ◌∷◌};
 ghost use Rattle.ufmt.specs.Document.{Document};
 ghost use Rattle.ufmt.specs.ValueDocuments.{named_struct, number, option_document};
-ghost use Rattle.ufmt_parser.specs.Parses.{Parses};
+ghost use Rattle.ufmt_parse.specs.Parses.{Parses};
 ghost use Rattle.ufmt_examples.specs.Nested.{is_node};
 ghost use Rattle.ufmt_examples.specs.declared.node.Node.TheFolds.{fold-Node};
 
 use std::alloc::Global;
 use ufmt::{Formatter, fields, uDebug, uWrite};
-use ufmt_parser::{
+use ufmt_parse::{
     Boxed, By, Fault, Optional, ParseMode, Parser, Plain, ProvesValue, parse_struct_2_by, uParse,
 };
 

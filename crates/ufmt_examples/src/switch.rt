@@ -1,10 +1,10 @@
 //! A struct whose fields are choices: a truth value and an option print one document or another.
 ghost use Rattle.std.specs.Prelude.{[], ◌∷◌, IfSome};
 ghost use Rattle.ufmt.specs.ValueDocuments.{named_struct, number, option_document};
-ghost use Rattle.ufmt_parser.specs.Values.{is_u8};
+ghost use Rattle.ufmt_parse.specs.Values.{is_u8};
 
 use ufmt::{Formatter, fields, uDebug, uWrite};
-use ufmt_parser::{Fault, ParseMode, Parser, parse_fields, uParse};
+use ufmt_parse::{Fault, ParseMode, Parser, parse_fields, uParse};
 
 /// A struct of truth values and an option, whose documents are choices.
 #[derive(Drop)]

@@ -2,13 +2,13 @@
 ghost use Rattle.std.specs.Prelude.{[], ◌∷◌};
 ghost use Rattle.ufmt.specs.Document.{Document, documents, list_of};
 ghost use Rattle.ufmt.specs.ValueDocuments.{named_struct, number};
-ghost use Rattle.ufmt_parser.specs.Parses.{Parses};
+ghost use Rattle.ufmt_parse.specs.Parses.{Parses};
 ghost use Rattle.ufmt_examples.specs.Nested.{is_tree};
 ghost use Rattle.ufmt_examples.specs.declared.tree.Tree.TheFolds.{fold-Tree};
 
 use std::alloc::Global;
 use ufmt::{Formatter, fields, uDebug, uWrite};
-use ufmt_parser::{
+use ufmt_parse::{
     By, Each, Fault, ParseMode, Parser, Plain, ProvesValue, parse_struct_2_by, uParse,
 };
 

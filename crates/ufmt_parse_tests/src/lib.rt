@@ -1,6 +1,6 @@
 #![tactic(auto)]
 
-//! Tests of `ufmt_parser`, by public calls only.
+//! Tests of `ufmt_parse`, by public calls only.
 
 #[cfg(test)]
 mod tests;

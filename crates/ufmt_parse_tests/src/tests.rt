@@ -22,7 +22,7 @@ use std::alloc::Global;
 use std::fmt::Debug;
 use std::process::Abort;
 use ufmt::{debug_into, plain_text, pretty_text};
-use ufmt_parser::{ParseError, parse, parse_pretty, uParse};
+use ufmt_parse::{ParseError, parse, parse_pretty, uParse};
 
 // Checking an assert takes as long as checking twenty calls, so asserts are calls of this one.
 pub fn same<T: PartialEq + Debug + Drop>(rt: &impl Abort, given: T, wanted: T, case: &str) {

@@ -1,4 +1,4 @@
-"""The files of ufmt_parser with one call for each number of fields, and their answers."""
+"""The files of ufmt_parse with one call for each number of fields, and their answers."""
 
 MOST = 12
 # The calls whose fields are each parsed by a parser: a type that holds itself needs them. Their answers take the
@@ -124,7 +124,7 @@ pub fn parse_{self.name}_{count}<Alloc: Copy, {types}, M: ParseMode>({", ".join(
         return f"""//! {self.about.capitalize()}s by their number of fields. {WRITTEN}
 ghost use Rattle.std.specs.Prelude.{{◌≤◌, length, [], ◌∷◌, ◌≡◌, List, ℕ, IfOk, IfErr}};
 ghost use Rattle.ufmt.specs.Document.{{{self.row}, {self.document}}};
-{leaves}ghost use Rattle.ufmt_parser.specs.Taking.{{{words}IsNext, IsTaken, open_blocks, rest}};
+{leaves}ghost use Rattle.ufmt_parse.specs.Taking.{{{words}IsNext, IsTaken, open_blocks, rest}};
 
 use crate::from_front::uParse;
 use crate::mode::ParseMode;
@@ -138,7 +138,7 @@ use crate::rows::parse_{self.name}_row;
         binders = " ".join([f"{letter}_value" for letter in fields] + ["u"] + [f"is_{letter}" for letter in fields] + ["next"])
         row = chain_of([f"{letter}_value" for letter in fields]).replace("()", "tt")
         are = chain_of([f"is_{letter}" for letter in fields]).replace("()", "tt")
-        where = f"Rattle.ufmt_parser.proofs.{self.name}s.parse_{self.name}_{count}.Goals"
+        where = f"Rattle.ufmt_parse.proofs.{self.name}s.parse_{self.name}_{count}.Goals"
         return f"""-- {WRITTEN}
 use {where} as goal
 
@@ -197,7 +197,7 @@ pub fn parse_{self.name}_{count}_by<Alloc: Copy, M: ParseMode, {types}, {by}>({"
         return f"""//! {self.about.capitalize()}s whose fields are each parsed by a parser. {WRITTEN}
 ghost use Rattle.std.specs.Prelude.{{◌≤◌, ◌<◌, length, [], ◌∷◌, ◌≡◌, List, ℕ, suc, IfOk, IfErr}};
 ghost use Rattle.ufmt.specs.Document.{{{self.row}, {self.document}}};
-{leaves}ghost use Rattle.ufmt_parser.specs.Taking.{{{words}IsNext, IsTaken, open_blocks, rest}};
+{leaves}ghost use Rattle.ufmt_parse.specs.Taking.{{{words}IsNext, IsTaken, open_blocks, rest}};
 
 use crate::entries::{entry};
 use crate::fields::parse_block;
@@ -240,11 +240,11 @@ use ufmt::uDebug;
         binders = " ".join([f"{letter}_value" for letter in fields] + ["u"] + [f"is_{letter}" for letter in fields] + ["next"])
         of_kind = (lambda takes: takes) if self.name == "struct" else (lambda takes: f"(rw c.tuple.ensures at {takes})")
         words = "word_is_name" if self.name == "struct" else "word_is_tuple_name"
-        where = f"Rattle.ufmt_parser.proofs.{self.name}s_by.parse_{self.name}_{count}_by.Goals"
+        where = f"Rattle.ufmt_parse.proofs.{self.name}s_by.parse_{self.name}_{count}_by.Goals"
         return f"""-- {WRITTEN}
 use Rattle.std.proofs.Common.{{arith}}
-use Rattle.ufmt_parser.proofs.Clauses.{{refused}}
-use Rattle.ufmt_parser.proofs.Words.{{{words}}}
+use Rattle.ufmt_parse.proofs.Clauses.{{refused}}
+use Rattle.ufmt_parse.proofs.Words.{{{words}}}
 use {where} as goal
 
 pub parse_block-requires : goal.parse_block-requires

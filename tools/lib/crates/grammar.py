@@ -10,7 +10,7 @@ HEAD = """\
 use super::page::{same_parts, writes};
 use ufmt::pieces::{Debug, Line};
 use ufmt::{Align, Column, HexOptions, fields, pieces, uwrite, uwriteln};
-use ufmt_parser::{Fault, Parser, PlainText, parse_fields};
+use ufmt_parse::{Fault, Parser, PlainText, parse_fields};
 use ufmt_snapshot::assert_snapshot;
 
 const HEX: HexOptions = HexOptions { upper_case: false, pad_char: b'0', pad_length: 6, ox_prefix: true };

@@ -1,6 +1,6 @@
 //! Tests of the calls that take a parser for each field.
 use super::same;
-use ufmt_parser::{
+use ufmt_parse::{
     Fault, Optional, Parser, Plain, PlainText, parse_struct_1_by, parse_struct_2_by,
     parse_struct_3_by, parse_struct_4_by, parse_struct_5_by, parse_struct_6_by, parse_tuple_1_by,
     parse_tuple_2_by, parse_tuple_3_by, parse_tuple_4_by, parse_tuple_5_by, parse_tuple_6_by,

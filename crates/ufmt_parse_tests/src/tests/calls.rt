@@ -1,7 +1,7 @@
 //! Tests of `parse_struct_1` to `parse_struct_6` on structs of each number of fields.
 use super::same;
 use std::alloc::{AllocError, Global};
-use ufmt_parser::{
+use ufmt_parse::{
     Fault, Parser, PlainText, parse_struct_1, parse_struct_2, parse_struct_3, parse_struct_4,
     parse_struct_5, parse_struct_6,
 };

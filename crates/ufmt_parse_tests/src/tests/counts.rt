@@ -1,7 +1,7 @@
 //! Tests of structs and tuples of each number of fields.
 use super::{prints_again, same};
-use ufmt_parser::ParseError::NotText;
-use ufmt_parser::{
+use ufmt_parse::ParseError::NotText;
+use ufmt_parse::{
     ParseError, ParseMode, Parser, PlainText, PrettyText, parse_struct_1, parse_struct_3,
     parse_struct_4, parse_struct_5, parse_struct_6, parse_struct_7, parse_struct_12,
 };

@@ -4,8 +4,8 @@ use super::nested::{comes_back, pretty_comes_back};
 use super::same;
 use std::alloc::{AllocError, Global};
 use ufmt_examples::{Node, Tree};
-use ufmt_parser::ParseError::NotText;
-use ufmt_parser::{ParseError, uParse};
+use ufmt_parse::ParseError::NotText;
+use ufmt_parse::{ParseError, uParse};
 
 /// The parts of a value's text around the value inside.
 #[derive(Drop)]

@@ -2,7 +2,7 @@
 use super::same;
 use std::alloc::Global;
 use ufmt::{plain_text, pretty_text, write_display};
-use ufmt_parser::ParseError;
+use ufmt_parse::ParseError;
 
 fn displayed(alloc: Global, error: ParseError) -> Option<String> {
     let mut text = String::new(alloc);

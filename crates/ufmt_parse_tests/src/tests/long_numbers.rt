@@ -1,7 +1,7 @@
 //! Tests of numbers with more digits than are read one by one, by their texts in core::fmt.
 use super::same;
-use ufmt_parser::ParseError::NotText;
-use ufmt_parser::{ParseError, parse};
+use ufmt_parse::ParseError::NotText;
+use ufmt_parse::{ParseError, parse};
 
 #[test]
 fn numbers_of_many_digits_are_in_their_range(rt: HostRuntime) {

@@ -4,8 +4,8 @@ use std::num::{
     NonZeroI8, NonZeroI16, NonZeroI32, NonZeroI64, NonZeroI128, NonZeroIsize, NonZeroU8,
     NonZeroU16, NonZeroU32, NonZeroU64, NonZeroU128, NonZeroUsize,
 };
-use ufmt_parser::ParseError;
-use ufmt_parser::ParseError::NotText;
+use ufmt_parse::ParseError;
+use ufmt_parse::ParseError::NotText;
 
 const NO_NUMBER: Result<bool, ParseError> = Err(NotText { at: 0 });
 

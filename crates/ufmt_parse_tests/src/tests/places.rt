@@ -4,8 +4,8 @@ use super::same;
 use std::alloc::Global;
 use std::collections::{BTreeMap, BTreeSet};
 use ufmt_examples::Set;
-use ufmt_parser::ParseError::NotText;
-use ufmt_parser::{ParseError, line_and_column, parse, parse_pretty, uParse};
+use ufmt_parse::ParseError::NotText;
+use ufmt_parse::{ParseError, line_and_column, parse, parse_pretty, uParse};
 
 // Where a plain text stops fitting.
 fn place_of<T: uParse<Global>>(alloc: Global, text: &str) -> Option<usize> {

@@ -2,7 +2,7 @@
 use super::same;
 use std::collections::BTreeMap;
 use ufmt_examples::Set;
-use ufmt_parser::{ParseError, parse, round_trip, round_trip_in};
+use ufmt_parse::{ParseError, parse, round_trip, round_trip_in};
 
 const SET: Set = Set {
     channel: 255,

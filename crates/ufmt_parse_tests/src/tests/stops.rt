@@ -6,8 +6,8 @@ ghost use Rattle.ufmt.specs.ValueDocuments.{named_struct, named_tuple};
 use super::same;
 use ufmt::{Formatter, fields, uDebug, uWrite};
 use ufmt_examples::{Set, parse_command};
-use ufmt_parser::ParseError::NotText;
-use ufmt_parser::{
+use ufmt_parse::ParseError::NotText;
+use ufmt_parse::{
     Fault, ParseError, ParseMode, Parser, parse, parse_fields, parse_pretty, uParse,
 };
 

@@ -1,12 +1,12 @@
 //! Tests of `parse_fields!` for a user's own types.
 ghost use Rattle.std.specs.Prelude.{[], ◌∷◌};
 ghost use Rattle.ufmt.specs.ValueDocuments.{named_struct, named_tuple, number, string};
-ghost use Rattle.ufmt_parser.specs.Values.{is_u8, is_u64};
+ghost use Rattle.ufmt_parse.specs.Values.{is_u8, is_u64};
 
 use super::{first_wrong, same};
 use std::alloc::Global;
 use ufmt::{Formatter, fields, uDebug, uWrite};
-use ufmt_parser::{Fault, ParseMode, Parser, parse_fields, uParse};
+use ufmt_parse::{Fault, ParseMode, Parser, parse_fields, uParse};
 
 /// A struct of four fields.
 #[derive(Drop)]

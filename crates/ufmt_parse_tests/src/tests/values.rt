@@ -1,8 +1,8 @@
 //! Tests of the types that are parsed, by their texts in core::fmt.
 use super::same;
 use std::collections::{BTreeMap, BTreeSet};
-use ufmt_parser::ParseError::NotText;
-use ufmt_parser::{ParseError, parse, parse_pretty};
+use ufmt_parse::ParseError::NotText;
+use ufmt_parse::{ParseError, parse, parse_pretty};
 
 #[test]
 fn numbers_are_in_their_range_and_without_leading_zeros(rt: HostRuntime) {

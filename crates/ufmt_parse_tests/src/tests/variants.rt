@@ -4,13 +4,13 @@ ghost use Rattle.ufmt.specs.ValueDocuments.{named, named_struct, named_tuple, nu
 ghost use Rattle.ufmt_parse_tests.specs.declared.tests.variants.Event.TheVariants.{Started, Said, Lost};
 ghost use Rattle.ufmt_parse_tests.specs.declared.tests.variants.Signal.TheVariants.{A, AB, ABC};
 ghost use Rattle.ufmt_parse_tests.specs.declared.tests.variants.Eight.TheVariants.{First, Second, Third, Fourth, Fifth, Sixth, Seventh, Eighth};
-ghost use Rattle.ufmt_parser.specs.Values.{is_u8};
+ghost use Rattle.ufmt_parse.specs.Values.{is_u8};
 
 use super::same;
 use std::alloc::Global;
 use ufmt::{Formatter, fields, plain_text, uDebug, uWrite};
-use ufmt_parser::ParseError::NotText;
-use ufmt_parser::{
+use ufmt_parse::ParseError::NotText;
+use ufmt_parse::{
     Fault, ParseError, ParseMode, Parser, parse, parse_fields, parse_pretty, parse_variants, uParse,
 };
 

@@ -1,5 +1,5 @@
 use Rattle.std.proofs.Common.{sym, subst}
-use Rattle.ufmt_parser.specs.Taking.{IsNext, IsTaken}
+use Rattle.ufmt_parse.specs.Taking.{IsNext, IsTaken}
 use Rattle.ufmt_examples.specs.declared.node.Node.{out-Node}
 use Rattle.ufmt_examples.proofs.Nested.{document_made, document_of, node_is, node_made}
 use Rattle.ufmt_examples.proofs.node.+parse_node.Goals as goal

@@ -1,5 +1,5 @@
 use Rattle.std.proofs.Common.{sym, subst}
-use Rattle.ufmt_parser.specs.Taking.{IsNext, IsTaken}
+use Rattle.ufmt_parse.specs.Taking.{IsNext, IsTaken}
 use Rattle.ufmt_examples.specs.declared.tree.Tree.{out-Tree}
 use Rattle.ufmt_examples.specs.declared.tree.Tree.TheFolds.{fold_out-Tree, fold-roll-Tree}
 use Rattle.ufmt_examples.proofs.Nested.{tree_is, tree_made}

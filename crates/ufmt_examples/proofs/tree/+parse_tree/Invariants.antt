@@ -1,5 +1,5 @@
 use Rattle.std.proofs.Common.{◌-◌}
-use Rattle.ufmt_parser.specs.Taking.{open_blocks}
+use Rattle.ufmt_parse.specs.Taking.{open_blocks}
 use Rattle.ufmt_examples.proofs.tree.+parse_tree.Given as goal
 
 abbrev pub decreases-parse_tree : goal.decreases-parse_tree

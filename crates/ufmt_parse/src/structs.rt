@@ -1,0 +1,736 @@
+//! Structs by their number of fields. tools/write-by-count writes this file: change it there.
+ghost use Rattle.std.specs.Prelude.{◌≤◌, length, [], ◌∷◌, ◌≡◌, List, ℕ, IfOk, IfErr};
+ghost use Rattle.ufmt.specs.Document.{fields_of, struct_of};
+ghost use Rattle.ufmt_parse.specs.Taking.{AreWords, IsNext, IsTaken, open_blocks, rest};
+
+use crate::from_front::uParse;
+use crate::mode::ParseMode;
+use crate::parser::{Fault, Parser};
+use crate::rows::parse_struct_row;
+
+/// Takes a struct with one field, as `parse_from` does a value.
+#[inline(always)]
+pub fn parse_struct_1<Alloc: Copy, A: uParse<Alloc>, M: ParseMode>(
+    alloc: Alloc,
+    parser: &mut Parser<'_, M>,
+    name: &str,
+    a: &str,
+) -> Result<A, Fault>
+    requires { AreWords (name.now ∷ a.now ∷ []) }
+    ensures taken { IfOk result (λ v. IsTaken M.mode parser.old (struct_of name.now (fields_of
+        ((a.now, A.document v) ∷ []))) parser.new) }
+    ensures only { IfOk result (λ _. (a_value : A) (u : List ℕ) → A.is_value a_value
+        → IsNext M.mode parser.old (struct_of name.now (fields_of ((a.now, A.document a_value)
+        ∷ []))) u → u ≡ rest parser.new) }
+    ensures none { IfErr result (λ fault. fault ≡ Fault.NotText → (a_value : A) (u : List ℕ)
+        → A.is_value a_value → ¬ IsNext M.mode parser.old (struct_of name.now (fields_of
+        ((a.now, A.document a_value) ∷ []))) u) }
+    ensures memory { A.holds_no_memory → IfErr result (λ fault. fault ≡ Fault.NotText) }
+    ensures blocks { IfOk result (λ _. open_blocks parser.new ≡ open_blocks parser.old) }
+    ensures shrinks { length (rest parser.new) ≤ length (rest parser.old) }
+{
+    match parse_struct_row(alloc, parser, name, &[a]) {
+        Err(fault) => Err(fault),
+        Ok((a_value, ())) => Ok(a_value),
+    }
+}
+
+/// Takes a struct with 2 fields, as `parse_from` does a value.
+#[inline(always)]
+pub fn parse_struct_2<Alloc: Copy, A: uParse<Alloc>, B: uParse<Alloc>, M: ParseMode>(
+    alloc: Alloc,
+    parser: &mut Parser<'_, M>,
+    name: &str,
+    a: &str,
+    b: &str,
+) -> Result<(A, B), Fault>
+    requires { AreWords (name.now ∷ a.now ∷ b.now ∷ []) }
+    ensures taken { IfOk result (λ v. IsTaken M.mode parser.old (struct_of name.now (fields_of
+        ((a.now, A.document v.0) ∷ (b.now, B.document v.1) ∷ []))) parser.new) }
+    ensures only { IfOk result (λ _. (a_value : A) (b_value : B) (u : List ℕ) → A.is_value a_value
+        → B.is_value b_value → IsNext M.mode parser.old (struct_of name.now (fields_of
+        ((a.now, A.document a_value) ∷ (b.now, B.document b_value) ∷ []))) u
+        → u ≡ rest parser.new) }
+    ensures none { IfErr result (λ fault. fault ≡ Fault.NotText → (a_value : A) (b_value : B)
+        (u : List ℕ) → A.is_value a_value → B.is_value b_value → ¬ IsNext M.mode parser.old
+        (struct_of name.now (fields_of ((a.now, A.document a_value) ∷ (b.now, B.document b_value)
+        ∷ []))) u) }
+    ensures memory { A.holds_no_memory × B.holds_no_memory → IfErr result (λ fault.
+        fault ≡ Fault.NotText) }
+    ensures blocks { IfOk result (λ _. open_blocks parser.new ≡ open_blocks parser.old) }
+    ensures shrinks { length (rest parser.new) ≤ length (rest parser.old) }
+{
+    match parse_struct_row(alloc, parser, name, &[a, b]) {
+        Err(fault) => Err(fault),
+        Ok((a_value, (b_value, ()))) => Ok((a_value, b_value)),
+    }
+}
+
+/// Takes a struct with 3 fields, as `parse_from` does a value.
+#[inline(always)]
+pub fn parse_struct_3<
+    Alloc: Copy,
+    A: uParse<Alloc>,
+    B: uParse<Alloc>,
+    C: uParse<Alloc>,
+    M: ParseMode,
+>(
+    alloc: Alloc,
+    parser: &mut Parser<'_, M>,
+    name: &str,
+    a: &str,
+    b: &str,
+    c: &str,
+) -> Result<(A, B, C), Fault>
+    requires { AreWords (name.now ∷ a.now ∷ b.now ∷ c.now ∷ []) }
+    ensures taken { IfOk result (λ v. IsTaken M.mode parser.old (struct_of name.now (fields_of
+        ((a.now, A.document v.0) ∷ (b.now, B.document v.1) ∷ (c.now, C.document v.2) ∷ [])))
+        parser.new) }
+    ensures only { IfOk result (λ _. (a_value : A) (b_value : B) (c_value : C) (u : List ℕ)
+        → A.is_value a_value → B.is_value b_value → C.is_value c_value → IsNext M.mode parser.old
+        (struct_of name.now (fields_of ((a.now, A.document a_value) ∷ (b.now, B.document b_value)
+        ∷ (c.now, C.document c_value) ∷ []))) u → u ≡ rest parser.new) }
+    ensures none { IfErr result (λ fault. fault ≡ Fault.NotText → (a_value : A) (b_value : B)
+        (c_value : C) (u : List ℕ) → A.is_value a_value → B.is_value b_value → C.is_value c_value
+        → ¬ IsNext M.mode parser.old (struct_of name.now (fields_of ((a.now, A.document a_value)
+        ∷ (b.now, B.document b_value) ∷ (c.now, C.document c_value) ∷ []))) u) }
+    ensures memory { A.holds_no_memory × B.holds_no_memory × C.holds_no_memory
+        → IfErr result (λ fault. fault ≡ Fault.NotText) }
+    ensures blocks { IfOk result (λ _. open_blocks parser.new ≡ open_blocks parser.old) }
+    ensures shrinks { length (rest parser.new) ≤ length (rest parser.old) }
+{
+    match parse_struct_row(alloc, parser, name, &[a, b, c]) {
+        Err(fault) => Err(fault),
+        Ok((a_value, (b_value, (c_value, ())))) => Ok((a_value, b_value, c_value)),
+    }
+}
+
+/// Takes a struct with 4 fields, as `parse_from` does a value.
+#[inline(always)]
+pub fn parse_struct_4<
+    Alloc: Copy,
+    A: uParse<Alloc>,
+    B: uParse<Alloc>,
+    C: uParse<Alloc>,
+    D: uParse<Alloc>,
+    M: ParseMode,
+>(
+    alloc: Alloc,
+    parser: &mut Parser<'_, M>,
+    name: &str,
+    a: &str,
+    b: &str,
+    c: &str,
+    d: &str,
+) -> Result<(A, B, C, D), Fault>
+    requires { AreWords (name.now ∷ a.now ∷ b.now ∷ c.now ∷ d.now ∷ []) }
+    ensures taken { IfOk result (λ v. IsTaken M.mode parser.old (struct_of name.now (fields_of
+        ((a.now, A.document v.0) ∷ (b.now, B.document v.1) ∷ (c.now, C.document v.2)
+        ∷ (d.now, D.document v.3) ∷ []))) parser.new) }
+    ensures only { IfOk result (λ _. (a_value : A) (b_value : B) (c_value : C) (d_value : D)
+        (u : List ℕ) → A.is_value a_value → B.is_value b_value → C.is_value c_value
+        → D.is_value d_value → IsNext M.mode parser.old (struct_of name.now (fields_of
+        ((a.now, A.document a_value) ∷ (b.now, B.document b_value) ∷ (c.now, C.document c_value)
+        ∷ (d.now, D.document d_value) ∷ []))) u → u ≡ rest parser.new) }
+    ensures none { IfErr result (λ fault. fault ≡ Fault.NotText → (a_value : A) (b_value : B)
+        (c_value : C) (d_value : D) (u : List ℕ) → A.is_value a_value → B.is_value b_value
+        → C.is_value c_value → D.is_value d_value → ¬ IsNext M.mode parser.old
+        (struct_of name.now (fields_of ((a.now, A.document a_value) ∷ (b.now, B.document b_value)
+        ∷ (c.now, C.document c_value) ∷ (d.now, D.document d_value) ∷ []))) u) }
+    ensures memory { A.holds_no_memory × B.holds_no_memory × C.holds_no_memory × D.holds_no_memory
+        → IfErr result (λ fault. fault ≡ Fault.NotText) }
+    ensures blocks { IfOk result (λ _. open_blocks parser.new ≡ open_blocks parser.old) }
+    ensures shrinks { length (rest parser.new) ≤ length (rest parser.old) }
+{
+    match parse_struct_row(alloc, parser, name, &[a, b, c, d]) {
+        Err(fault) => Err(fault),
+        Ok((a_value, (b_value, (c_value, (d_value, ()))))) => Ok((
+            a_value, b_value, c_value, d_value,
+        )),
+    }
+}
+
+/// Takes a struct with 5 fields, as `parse_from` does a value.
+#[inline(always)]
+pub fn parse_struct_5<
+    Alloc: Copy,
+    A: uParse<Alloc>,
+    B: uParse<Alloc>,
+    C: uParse<Alloc>,
+    D: uParse<Alloc>,
+    E: uParse<Alloc>,
+    M: ParseMode,
+>(
+    alloc: Alloc,
+    parser: &mut Parser<'_, M>,
+    name: &str,
+    a: &str,
+    b: &str,
+    c: &str,
+    d: &str,
+    e: &str,
+) -> Result<(A, B, C, D, E), Fault>
+    requires { AreWords (name.now ∷ a.now ∷ b.now ∷ c.now ∷ d.now ∷ e.now ∷ []) }
+    ensures taken { IfOk result (λ v. IsTaken M.mode parser.old (struct_of name.now (fields_of
+        ((a.now, A.document v.0) ∷ (b.now, B.document v.1) ∷ (c.now, C.document v.2)
+        ∷ (d.now, D.document v.3) ∷ (e.now, E.document v.4) ∷ []))) parser.new) }
+    ensures only { IfOk result (λ _. (a_value : A) (b_value : B) (c_value : C) (d_value : D)
+        (e_value : E) (u : List ℕ) → A.is_value a_value → B.is_value b_value → C.is_value c_value
+        → D.is_value d_value → E.is_value e_value → IsNext M.mode parser.old
+        (struct_of name.now (fields_of ((a.now, A.document a_value) ∷ (b.now, B.document b_value)
+        ∷ (c.now, C.document c_value) ∷ (d.now, D.document d_value) ∷ (e.now, E.document e_value)
+        ∷ []))) u → u ≡ rest parser.new) }
+    ensures none { IfErr result (λ fault. fault ≡ Fault.NotText → (a_value : A) (b_value : B)
+        (c_value : C) (d_value : D) (e_value : E) (u : List ℕ) → A.is_value a_value
+        → B.is_value b_value → C.is_value c_value → D.is_value d_value → E.is_value e_value
+        → ¬ IsNext M.mode parser.old (struct_of name.now (fields_of ((a.now, A.document a_value)
+        ∷ (b.now, B.document b_value) ∷ (c.now, C.document c_value) ∷ (d.now, D.document d_value)
+        ∷ (e.now, E.document e_value) ∷ []))) u) }
+    ensures memory { A.holds_no_memory × B.holds_no_memory × C.holds_no_memory × D.holds_no_memory
+        × E.holds_no_memory → IfErr result (λ fault. fault ≡ Fault.NotText) }
+    ensures blocks { IfOk result (λ _. open_blocks parser.new ≡ open_blocks parser.old) }
+    ensures shrinks { length (rest parser.new) ≤ length (rest parser.old) }
+{
+    match parse_struct_row(alloc, parser, name, &[a, b, c, d, e]) {
+        Err(fault) => Err(fault),
+        Ok((a_value, (b_value, (c_value, (d_value, (e_value, ())))))) => Ok((
+            a_value, b_value, c_value, d_value, e_value,
+        )),
+    }
+}
+
+/// Takes a struct with 6 fields, as `parse_from` does a value.
+#[inline(always)]
+pub fn parse_struct_6<
+    Alloc: Copy,
+    A: uParse<Alloc>,
+    B: uParse<Alloc>,
+    C: uParse<Alloc>,
+    D: uParse<Alloc>,
+    E: uParse<Alloc>,
+    F: uParse<Alloc>,
+    M: ParseMode,
+>(
+    alloc: Alloc,
+    parser: &mut Parser<'_, M>,
+    name: &str,
+    a: &str,
+    b: &str,
+    c: &str,
+    d: &str,
+    e: &str,
+    f: &str,
+) -> Result<(A, B, C, D, E, F), Fault>
+    requires { AreWords (name.now ∷ a.now ∷ b.now ∷ c.now ∷ d.now ∷ e.now ∷ f.now ∷ []) }
+    ensures taken { IfOk result (λ v. IsTaken M.mode parser.old (struct_of name.now (fields_of
+        ((a.now, A.document v.0) ∷ (b.now, B.document v.1) ∷ (c.now, C.document v.2)
+        ∷ (d.now, D.document v.3) ∷ (e.now, E.document v.4) ∷ (f.now, F.document v.5) ∷ [])))
+        parser.new) }
+    ensures only { IfOk result (λ _. (a_value : A) (b_value : B) (c_value : C) (d_value : D)
+        (e_value : E) (f_value : F) (u : List ℕ) → A.is_value a_value → B.is_value b_value
+        → C.is_value c_value → D.is_value d_value → E.is_value e_value → F.is_value f_value
+        → IsNext M.mode parser.old (struct_of name.now (fields_of ((a.now, A.document a_value)
+        ∷ (b.now, B.document b_value) ∷ (c.now, C.document c_value) ∷ (d.now, D.document d_value)
+        ∷ (e.now, E.document e_value) ∷ (f.now, F.document f_value) ∷ []))) u
+        → u ≡ rest parser.new) }
+    ensures none { IfErr result (λ fault. fault ≡ Fault.NotText → (a_value : A) (b_value : B)
+        (c_value : C) (d_value : D) (e_value : E) (f_value : F) (u : List ℕ) → A.is_value a_value
+        → B.is_value b_value → C.is_value c_value → D.is_value d_value → E.is_value e_value
+        → F.is_value f_value → ¬ IsNext M.mode parser.old (struct_of name.now (fields_of
+        ((a.now, A.document a_value) ∷ (b.now, B.document b_value) ∷ (c.now, C.document c_value)
+        ∷ (d.now, D.document d_value) ∷ (e.now, E.document e_value) ∷ (f.now, F.document f_value)
+        ∷ []))) u) }
+    ensures memory { A.holds_no_memory × B.holds_no_memory × C.holds_no_memory × D.holds_no_memory
+        × E.holds_no_memory × F.holds_no_memory → IfErr result (λ fault. fault ≡ Fault.NotText) }
+    ensures blocks { IfOk result (λ _. open_blocks parser.new ≡ open_blocks parser.old) }
+    ensures shrinks { length (rest parser.new) ≤ length (rest parser.old) }
+{
+    match parse_struct_row(alloc, parser, name, &[a, b, c, d, e, f]) {
+        Err(fault) => Err(fault),
+        Ok((a_value, (b_value, (c_value, (d_value, (e_value, (f_value, ()))))))) => Ok((
+            a_value, b_value, c_value, d_value, e_value, f_value,
+        )),
+    }
+}
+
+/// Takes a struct with 7 fields, as `parse_from` does a value.
+#[inline(always)]
+pub fn parse_struct_7<
+    Alloc: Copy,
+    A: uParse<Alloc>,
+    B: uParse<Alloc>,
+    C: uParse<Alloc>,
+    D: uParse<Alloc>,
+    E: uParse<Alloc>,
+    F: uParse<Alloc>,
+    G: uParse<Alloc>,
+    M: ParseMode,
+>(
+    alloc: Alloc,
+    parser: &mut Parser<'_, M>,
+    name: &str,
+    a: &str,
+    b: &str,
+    c: &str,
+    d: &str,
+    e: &str,
+    f: &str,
+    g: &str,
+) -> Result<(A, B, C, D, E, F, G), Fault>
+    requires { AreWords (name.now ∷ a.now ∷ b.now ∷ c.now ∷ d.now ∷ e.now ∷ f.now ∷ g.now ∷ []) }
+    ensures taken { IfOk result (λ v. IsTaken M.mode parser.old (struct_of name.now (fields_of
+        ((a.now, A.document v.0) ∷ (b.now, B.document v.1) ∷ (c.now, C.document v.2)
+        ∷ (d.now, D.document v.3) ∷ (e.now, E.document v.4) ∷ (f.now, F.document v.5)
+        ∷ (g.now, G.document v.6) ∷ []))) parser.new) }
+    ensures only { IfOk result (λ _. (a_value : A) (b_value : B) (c_value : C) (d_value : D)
+        (e_value : E) (f_value : F) (g_value : G) (u : List ℕ) → A.is_value a_value
+        → B.is_value b_value → C.is_value c_value → D.is_value d_value → E.is_value e_value
+        → F.is_value f_value → G.is_value g_value → IsNext M.mode parser.old
+        (struct_of name.now (fields_of ((a.now, A.document a_value) ∷ (b.now, B.document b_value)
+        ∷ (c.now, C.document c_value) ∷ (d.now, D.document d_value) ∷ (e.now, E.document e_value)
+        ∷ (f.now, F.document f_value) ∷ (g.now, G.document g_value) ∷ []))) u
+        → u ≡ rest parser.new) }
+    ensures none { IfErr result (λ fault. fault ≡ Fault.NotText → (a_value : A) (b_value : B)
+        (c_value : C) (d_value : D) (e_value : E) (f_value : F) (g_value : G) (u : List ℕ)
+        → A.is_value a_value → B.is_value b_value → C.is_value c_value → D.is_value d_value
+        → E.is_value e_value → F.is_value f_value → G.is_value g_value → ¬ IsNext M.mode parser.old
+        (struct_of name.now (fields_of ((a.now, A.document a_value) ∷ (b.now, B.document b_value)
+        ∷ (c.now, C.document c_value) ∷ (d.now, D.document d_value) ∷ (e.now, E.document e_value)
+        ∷ (f.now, F.document f_value) ∷ (g.now, G.document g_value) ∷ []))) u) }
+    ensures memory { A.holds_no_memory × B.holds_no_memory × C.holds_no_memory × D.holds_no_memory
+        × E.holds_no_memory × F.holds_no_memory × G.holds_no_memory → IfErr result (λ fault.
+        fault ≡ Fault.NotText) }
+    ensures blocks { IfOk result (λ _. open_blocks parser.new ≡ open_blocks parser.old) }
+    ensures shrinks { length (rest parser.new) ≤ length (rest parser.old) }
+{
+    match parse_struct_row(alloc, parser, name, &[a, b, c, d, e, f, g]) {
+        Err(fault) => Err(fault),
+        Ok((a_value, (b_value, (c_value, (d_value, (e_value, (f_value, (g_value, ())))))))) => Ok(
+            (
+                a_value, b_value, c_value, d_value, e_value, f_value, g_value,
+            ),
+        ),
+    }
+}
+
+/// Takes a struct with 8 fields, as `parse_from` does a value.
+#[inline(always)]
+pub fn parse_struct_8<
+    Alloc: Copy,
+    A: uParse<Alloc>,
+    B: uParse<Alloc>,
+    C: uParse<Alloc>,
+    D: uParse<Alloc>,
+    E: uParse<Alloc>,
+    F: uParse<Alloc>,
+    G: uParse<Alloc>,
+    H: uParse<Alloc>,
+    M: ParseMode,
+>(
+    alloc: Alloc,
+    parser: &mut Parser<'_, M>,
+    name: &str,
+    a: &str,
+    b: &str,
+    c: &str,
+    d: &str,
+    e: &str,
+    f: &str,
+    g: &str,
+    h: &str,
+) -> Result<(A, B, C, D, E, F, G, H), Fault>
+    requires { AreWords (name.now ∷ a.now ∷ b.now ∷ c.now ∷ d.now ∷ e.now ∷ f.now ∷ g.now ∷ h.now ∷ []) }
+    ensures taken { IfOk result (λ v. IsTaken M.mode parser.old (struct_of name.now (fields_of
+        ((a.now, A.document v.0) ∷ (b.now, B.document v.1) ∷ (c.now, C.document v.2)
+        ∷ (d.now, D.document v.3) ∷ (e.now, E.document v.4) ∷ (f.now, F.document v.5)
+        ∷ (g.now, G.document v.6) ∷ (h.now, H.document v.7) ∷ []))) parser.new) }
+    ensures only { IfOk result (λ _. (a_value : A) (b_value : B) (c_value : C) (d_value : D)
+        (e_value : E) (f_value : F) (g_value : G) (h_value : H) (u : List ℕ) → A.is_value a_value
+        → B.is_value b_value → C.is_value c_value → D.is_value d_value → E.is_value e_value
+        → F.is_value f_value → G.is_value g_value → H.is_value h_value → IsNext M.mode parser.old
+        (struct_of name.now (fields_of ((a.now, A.document a_value) ∷ (b.now, B.document b_value)
+        ∷ (c.now, C.document c_value) ∷ (d.now, D.document d_value) ∷ (e.now, E.document e_value)
+        ∷ (f.now, F.document f_value) ∷ (g.now, G.document g_value) ∷ (h.now, H.document h_value)
+        ∷ []))) u → u ≡ rest parser.new) }
+    ensures none { IfErr result (λ fault. fault ≡ Fault.NotText → (a_value : A) (b_value : B)
+        (c_value : C) (d_value : D) (e_value : E) (f_value : F) (g_value : G) (h_value : H)
+        (u : List ℕ) → A.is_value a_value → B.is_value b_value → C.is_value c_value
+        → D.is_value d_value → E.is_value e_value → F.is_value f_value → G.is_value g_value
+        → H.is_value h_value → ¬ IsNext M.mode parser.old (struct_of name.now (fields_of
+        ((a.now, A.document a_value) ∷ (b.now, B.document b_value) ∷ (c.now, C.document c_value)
+        ∷ (d.now, D.document d_value) ∷ (e.now, E.document e_value) ∷ (f.now, F.document f_value)
+        ∷ (g.now, G.document g_value) ∷ (h.now, H.document h_value) ∷ []))) u) }
+    ensures memory { A.holds_no_memory × B.holds_no_memory × C.holds_no_memory × D.holds_no_memory
+        × E.holds_no_memory × F.holds_no_memory × G.holds_no_memory × H.holds_no_memory
+        → IfErr result (λ fault. fault ≡ Fault.NotText) }
+    ensures blocks { IfOk result (λ _. open_blocks parser.new ≡ open_blocks parser.old) }
+    ensures shrinks { length (rest parser.new) ≤ length (rest parser.old) }
+{
+    match parse_struct_row(alloc, parser, name, &[a, b, c, d, e, f, g, h]) {
+        Err(fault) => Err(fault),
+        Ok(
+            (
+                a_value,
+                (b_value, (c_value, (d_value, (e_value, (f_value, (g_value, (h_value, ()))))))),
+            ),
+        ) => Ok((
+            a_value, b_value, c_value, d_value, e_value, f_value, g_value, h_value,
+        )),
+    }
+}
+
+/// Takes a struct with 9 fields, as `parse_from` does a value.
+#[inline(always)]
+pub fn parse_struct_9<
+    Alloc: Copy,
+    A: uParse<Alloc>,
+    B: uParse<Alloc>,
+    C: uParse<Alloc>,
+    D: uParse<Alloc>,
+    E: uParse<Alloc>,
+    F: uParse<Alloc>,
+    G: uParse<Alloc>,
+    H: uParse<Alloc>,
+    I: uParse<Alloc>,
+    M: ParseMode,
+>(
+    alloc: Alloc,
+    parser: &mut Parser<'_, M>,
+    name: &str,
+    a: &str,
+    b: &str,
+    c: &str,
+    d: &str,
+    e: &str,
+    f: &str,
+    g: &str,
+    h: &str,
+    i: &str,
+) -> Result<(A, B, C, D, E, F, G, H, I), Fault>
+    requires { AreWords (name.now ∷ a.now ∷ b.now ∷ c.now ∷ d.now ∷ e.now ∷ f.now ∷ g.now ∷ h.now ∷ i.now ∷ []) }
+    ensures taken { IfOk result (λ v. IsTaken M.mode parser.old (struct_of name.now (fields_of
+        ((a.now, A.document v.0) ∷ (b.now, B.document v.1) ∷ (c.now, C.document v.2)
+        ∷ (d.now, D.document v.3) ∷ (e.now, E.document v.4) ∷ (f.now, F.document v.5)
+        ∷ (g.now, G.document v.6) ∷ (h.now, H.document v.7) ∷ (i.now, I.document v.8) ∷ [])))
+        parser.new) }
+    ensures only { IfOk result (λ _. (a_value : A) (b_value : B) (c_value : C) (d_value : D)
+        (e_value : E) (f_value : F) (g_value : G) (h_value : H) (i_value : I) (u : List ℕ)
+        → A.is_value a_value → B.is_value b_value → C.is_value c_value → D.is_value d_value
+        → E.is_value e_value → F.is_value f_value → G.is_value g_value → H.is_value h_value
+        → I.is_value i_value → IsNext M.mode parser.old (struct_of name.now (fields_of
+        ((a.now, A.document a_value) ∷ (b.now, B.document b_value) ∷ (c.now, C.document c_value)
+        ∷ (d.now, D.document d_value) ∷ (e.now, E.document e_value) ∷ (f.now, F.document f_value)
+        ∷ (g.now, G.document g_value) ∷ (h.now, H.document h_value) ∷ (i.now, I.document i_value)
+        ∷ []))) u → u ≡ rest parser.new) }
+    ensures none { IfErr result (λ fault. fault ≡ Fault.NotText → (a_value : A) (b_value : B)
+        (c_value : C) (d_value : D) (e_value : E) (f_value : F) (g_value : G) (h_value : H)
+        (i_value : I) (u : List ℕ) → A.is_value a_value → B.is_value b_value → C.is_value c_value
+        → D.is_value d_value → E.is_value e_value → F.is_value f_value → G.is_value g_value
+        → H.is_value h_value → I.is_value i_value → ¬ IsNext M.mode parser.old
+        (struct_of name.now (fields_of ((a.now, A.document a_value) ∷ (b.now, B.document b_value)
+        ∷ (c.now, C.document c_value) ∷ (d.now, D.document d_value) ∷ (e.now, E.document e_value)
+        ∷ (f.now, F.document f_value) ∷ (g.now, G.document g_value) ∷ (h.now, H.document h_value)
+        ∷ (i.now, I.document i_value) ∷ []))) u) }
+    ensures memory { A.holds_no_memory × B.holds_no_memory × C.holds_no_memory × D.holds_no_memory
+        × E.holds_no_memory × F.holds_no_memory × G.holds_no_memory × H.holds_no_memory
+        × I.holds_no_memory → IfErr result (λ fault. fault ≡ Fault.NotText) }
+    ensures blocks { IfOk result (λ _. open_blocks parser.new ≡ open_blocks parser.old) }
+    ensures shrinks { length (rest parser.new) ≤ length (rest parser.old) }
+{
+    match parse_struct_row(alloc, parser, name, &[a, b, c, d, e, f, g, h, i]) {
+        Err(fault) => Err(fault),
+        Ok(
+            (
+                a_value,
+                (
+                    b_value,
+                    (c_value, (d_value, (e_value, (f_value, (g_value, (h_value, (i_value, ()))))))),
+                ),
+            ),
+        ) => Ok((
+            a_value, b_value, c_value, d_value, e_value, f_value, g_value, h_value, i_value,
+        )),
+    }
+}
+
+/// Takes a struct with 10 fields, as `parse_from` does a value.
+#[inline(always)]
+pub fn parse_struct_10<
+    Alloc: Copy,
+    A: uParse<Alloc>,
+    B: uParse<Alloc>,
+    C: uParse<Alloc>,
+    D: uParse<Alloc>,
+    E: uParse<Alloc>,
+    F: uParse<Alloc>,
+    G: uParse<Alloc>,
+    H: uParse<Alloc>,
+    I: uParse<Alloc>,
+    J: uParse<Alloc>,
+    M: ParseMode,
+>(
+    alloc: Alloc,
+    parser: &mut Parser<'_, M>,
+    name: &str,
+    a: &str,
+    b: &str,
+    c: &str,
+    d: &str,
+    e: &str,
+    f: &str,
+    g: &str,
+    h: &str,
+    i: &str,
+    j: &str,
+) -> Result<(A, B, C, D, E, F, G, H, I, J), Fault>
+    requires { AreWords (name.now ∷ a.now ∷ b.now ∷ c.now ∷ d.now ∷ e.now ∷ f.now ∷ g.now ∷ h.now ∷ i.now ∷ j.now ∷ []) }
+    ensures taken { IfOk result (λ v. IsTaken M.mode parser.old (struct_of name.now (fields_of
+        ((a.now, A.document v.0) ∷ (b.now, B.document v.1) ∷ (c.now, C.document v.2)
+        ∷ (d.now, D.document v.3) ∷ (e.now, E.document v.4) ∷ (f.now, F.document v.5)
+        ∷ (g.now, G.document v.6) ∷ (h.now, H.document v.7) ∷ (i.now, I.document v.8)
+        ∷ (j.now, J.document v.9) ∷ []))) parser.new) }
+    ensures only { IfOk result (λ _. (a_value : A) (b_value : B) (c_value : C) (d_value : D)
+        (e_value : E) (f_value : F) (g_value : G) (h_value : H) (i_value : I) (j_value : J)
+        (u : List ℕ) → A.is_value a_value → B.is_value b_value → C.is_value c_value
+        → D.is_value d_value → E.is_value e_value → F.is_value f_value → G.is_value g_value
+        → H.is_value h_value → I.is_value i_value → J.is_value j_value → IsNext M.mode parser.old
+        (struct_of name.now (fields_of ((a.now, A.document a_value) ∷ (b.now, B.document b_value)
+        ∷ (c.now, C.document c_value) ∷ (d.now, D.document d_value) ∷ (e.now, E.document e_value)
+        ∷ (f.now, F.document f_value) ∷ (g.now, G.document g_value) ∷ (h.now, H.document h_value)
+        ∷ (i.now, I.document i_value) ∷ (j.now, J.document j_value) ∷ []))) u
+        → u ≡ rest parser.new) }
+    ensures none { IfErr result (λ fault. fault ≡ Fault.NotText → (a_value : A) (b_value : B)
+        (c_value : C) (d_value : D) (e_value : E) (f_value : F) (g_value : G) (h_value : H)
+        (i_value : I) (j_value : J) (u : List ℕ) → A.is_value a_value → B.is_value b_value
+        → C.is_value c_value → D.is_value d_value → E.is_value e_value → F.is_value f_value
+        → G.is_value g_value → H.is_value h_value → I.is_value i_value → J.is_value j_value
+        → ¬ IsNext M.mode parser.old (struct_of name.now (fields_of ((a.now, A.document a_value)
+        ∷ (b.now, B.document b_value) ∷ (c.now, C.document c_value) ∷ (d.now, D.document d_value)
+        ∷ (e.now, E.document e_value) ∷ (f.now, F.document f_value) ∷ (g.now, G.document g_value)
+        ∷ (h.now, H.document h_value) ∷ (i.now, I.document i_value) ∷ (j.now, J.document j_value)
+        ∷ []))) u) }
+    ensures memory { A.holds_no_memory × B.holds_no_memory × C.holds_no_memory × D.holds_no_memory
+        × E.holds_no_memory × F.holds_no_memory × G.holds_no_memory × H.holds_no_memory
+        × I.holds_no_memory × J.holds_no_memory → IfErr result (λ fault. fault ≡ Fault.NotText) }
+    ensures blocks { IfOk result (λ _. open_blocks parser.new ≡ open_blocks parser.old) }
+    ensures shrinks { length (rest parser.new) ≤ length (rest parser.old) }
+{
+    match parse_struct_row(alloc, parser, name, &[a, b, c, d, e, f, g, h, i, j]) {
+        Err(fault) => Err(fault),
+        Ok(
+            (
+                a_value,
+                (
+                    b_value,
+                    (
+                        c_value,
+                        (
+                            d_value,
+                            (e_value, (f_value, (g_value, (h_value, (i_value, (j_value, ())))))),
+                        ),
+                    ),
+                ),
+            ),
+        ) => Ok((
+            a_value, b_value, c_value, d_value, e_value, f_value, g_value, h_value, i_value,
+            j_value,
+        )),
+    }
+}
+
+/// Takes a struct with 11 fields, as `parse_from` does a value.
+#[inline(always)]
+pub fn parse_struct_11<
+    Alloc: Copy,
+    A: uParse<Alloc>,
+    B: uParse<Alloc>,
+    C: uParse<Alloc>,
+    D: uParse<Alloc>,
+    E: uParse<Alloc>,
+    F: uParse<Alloc>,
+    G: uParse<Alloc>,
+    H: uParse<Alloc>,
+    I: uParse<Alloc>,
+    J: uParse<Alloc>,
+    K: uParse<Alloc>,
+    M: ParseMode,
+>(
+    alloc: Alloc,
+    parser: &mut Parser<'_, M>,
+    name: &str,
+    a: &str,
+    b: &str,
+    c: &str,
+    d: &str,
+    e: &str,
+    f: &str,
+    g: &str,
+    h: &str,
+    i: &str,
+    j: &str,
+    k: &str,
+) -> Result<(A, B, C, D, E, F, G, H, I, J, K), Fault>
+    requires { AreWords (name.now ∷ a.now ∷ b.now ∷ c.now ∷ d.now ∷ e.now ∷ f.now ∷ g.now ∷ h.now ∷ i.now ∷ j.now ∷ k.now ∷ []) }
+    ensures taken { IfOk result (λ v. IsTaken M.mode parser.old (struct_of name.now (fields_of
+        ((a.now, A.document v.0) ∷ (b.now, B.document v.1) ∷ (c.now, C.document v.2)
+        ∷ (d.now, D.document v.3) ∷ (e.now, E.document v.4) ∷ (f.now, F.document v.5)
+        ∷ (g.now, G.document v.6) ∷ (h.now, H.document v.7) ∷ (i.now, I.document v.8)
+        ∷ (j.now, J.document v.9) ∷ (k.now, K.document v.10) ∷ []))) parser.new) }
+    ensures only { IfOk result (λ _. (a_value : A) (b_value : B) (c_value : C) (d_value : D)
+        (e_value : E) (f_value : F) (g_value : G) (h_value : H) (i_value : I) (j_value : J)
+        (k_value : K) (u : List ℕ) → A.is_value a_value → B.is_value b_value → C.is_value c_value
+        → D.is_value d_value → E.is_value e_value → F.is_value f_value → G.is_value g_value
+        → H.is_value h_value → I.is_value i_value → J.is_value j_value → K.is_value k_value
+        → IsNext M.mode parser.old (struct_of name.now (fields_of ((a.now, A.document a_value)
+        ∷ (b.now, B.document b_value) ∷ (c.now, C.document c_value) ∷ (d.now, D.document d_value)
+        ∷ (e.now, E.document e_value) ∷ (f.now, F.document f_value) ∷ (g.now, G.document g_value)
+        ∷ (h.now, H.document h_value) ∷ (i.now, I.document i_value) ∷ (j.now, J.document j_value)
+        ∷ (k.now, K.document k_value) ∷ []))) u → u ≡ rest parser.new) }
+    ensures none { IfErr result (λ fault. fault ≡ Fault.NotText → (a_value : A) (b_value : B)
+        (c_value : C) (d_value : D) (e_value : E) (f_value : F) (g_value : G) (h_value : H)
+        (i_value : I) (j_value : J) (k_value : K) (u : List ℕ) → A.is_value a_value
+        → B.is_value b_value → C.is_value c_value → D.is_value d_value → E.is_value e_value
+        → F.is_value f_value → G.is_value g_value → H.is_value h_value → I.is_value i_value
+        → J.is_value j_value → K.is_value k_value → ¬ IsNext M.mode parser.old
+        (struct_of name.now (fields_of ((a.now, A.document a_value) ∷ (b.now, B.document b_value)
+        ∷ (c.now, C.document c_value) ∷ (d.now, D.document d_value) ∷ (e.now, E.document e_value)
+        ∷ (f.now, F.document f_value) ∷ (g.now, G.document g_value) ∷ (h.now, H.document h_value)
+        ∷ (i.now, I.document i_value) ∷ (j.now, J.document j_value) ∷ (k.now, K.document k_value)
+        ∷ []))) u) }
+    ensures memory { A.holds_no_memory × B.holds_no_memory × C.holds_no_memory × D.holds_no_memory
+        × E.holds_no_memory × F.holds_no_memory × G.holds_no_memory × H.holds_no_memory
+        × I.holds_no_memory × J.holds_no_memory × K.holds_no_memory → IfErr result (λ fault.
+        fault ≡ Fault.NotText) }
+    ensures blocks { IfOk result (λ _. open_blocks parser.new ≡ open_blocks parser.old) }
+    ensures shrinks { length (rest parser.new) ≤ length (rest parser.old) }
+{
+    match parse_struct_row(alloc, parser, name, &[a, b, c, d, e, f, g, h, i, j, k]) {
+        Err(fault) => Err(fault),
+        Ok(
+            (
+                a_value,
+                (
+                    b_value,
+                    (
+                        c_value,
+                        (
+                            d_value,
+                            (
+                                e_value,
+                                (
+                                    f_value,
+                                    (g_value, (h_value, (i_value, (j_value, (k_value, ()))))),
+                                ),
+                            ),
+                        ),
+                    ),
+                ),
+            ),
+        ) => Ok((
+            a_value, b_value, c_value, d_value, e_value, f_value, g_value, h_value, i_value,
+            j_value, k_value,
+        )),
+    }
+}
+
+/// Takes a struct with 12 fields, as `parse_from` does a value.
+#[inline(always)]
+pub fn parse_struct_12<
+    Alloc: Copy,
+    A: uParse<Alloc>,
+    B: uParse<Alloc>,
+    C: uParse<Alloc>,
+    D: uParse<Alloc>,
+    E: uParse<Alloc>,
+    F: uParse<Alloc>,
+    G: uParse<Alloc>,
+    H: uParse<Alloc>,
+    I: uParse<Alloc>,
+    J: uParse<Alloc>,
+    K: uParse<Alloc>,
+    L: uParse<Alloc>,
+    M: ParseMode,
+>(
+    alloc: Alloc,
+    parser: &mut Parser<'_, M>,
+    name: &str,
+    a: &str,
+    b: &str,
+    c: &str,
+    d: &str,
+    e: &str,
+    f: &str,
+    g: &str,
+    h: &str,
+    i: &str,
+    j: &str,
+    k: &str,
+    l: &str,
+) -> Result<(A, B, C, D, E, F, G, H, I, J, K, L), Fault>
+    requires { AreWords (name.now ∷ a.now ∷ b.now ∷ c.now ∷ d.now ∷ e.now ∷ f.now ∷ g.now ∷ h.now ∷ i.now ∷ j.now ∷ k.now ∷ l.now ∷ []) }
+    ensures taken { IfOk result (λ v. IsTaken M.mode parser.old (struct_of name.now (fields_of
+        ((a.now, A.document v.0) ∷ (b.now, B.document v.1) ∷ (c.now, C.document v.2)
+        ∷ (d.now, D.document v.3) ∷ (e.now, E.document v.4) ∷ (f.now, F.document v.5)
+        ∷ (g.now, G.document v.6) ∷ (h.now, H.document v.7) ∷ (i.now, I.document v.8)
+        ∷ (j.now, J.document v.9) ∷ (k.now, K.document v.10) ∷ (l.now, L.document v.11) ∷ [])))
+        parser.new) }
+    ensures only { IfOk result (λ _. (a_value : A) (b_value : B) (c_value : C) (d_value : D)
+        (e_value : E) (f_value : F) (g_value : G) (h_value : H) (i_value : I) (j_value : J)
+        (k_value : K) (l_value : L) (u : List ℕ) → A.is_value a_value → B.is_value b_value
+        → C.is_value c_value → D.is_value d_value → E.is_value e_value → F.is_value f_value
+        → G.is_value g_value → H.is_value h_value → I.is_value i_value → J.is_value j_value
+        → K.is_value k_value → L.is_value l_value → IsNext M.mode parser.old
+        (struct_of name.now (fields_of ((a.now, A.document a_value) ∷ (b.now, B.document b_value)
+        ∷ (c.now, C.document c_value) ∷ (d.now, D.document d_value) ∷ (e.now, E.document e_value)
+        ∷ (f.now, F.document f_value) ∷ (g.now, G.document g_value) ∷ (h.now, H.document h_value)
+        ∷ (i.now, I.document i_value) ∷ (j.now, J.document j_value) ∷ (k.now, K.document k_value)
+        ∷ (l.now, L.document l_value) ∷ []))) u → u ≡ rest parser.new) }
+    ensures none { IfErr result (λ fault. fault ≡ Fault.NotText → (a_value : A) (b_value : B)
+        (c_value : C) (d_value : D) (e_value : E) (f_value : F) (g_value : G) (h_value : H)
+        (i_value : I) (j_value : J) (k_value : K) (l_value : L) (u : List ℕ) → A.is_value a_value
+        → B.is_value b_value → C.is_value c_value → D.is_value d_value → E.is_value e_value
+        → F.is_value f_value → G.is_value g_value → H.is_value h_value → I.is_value i_value
+        → J.is_value j_value → K.is_value k_value → L.is_value l_value → ¬ IsNext M.mode parser.old
+        (struct_of name.now (fields_of ((a.now, A.document a_value) ∷ (b.now, B.document b_value)
+        ∷ (c.now, C.document c_value) ∷ (d.now, D.document d_value) ∷ (e.now, E.document e_value)
+        ∷ (f.now, F.document f_value) ∷ (g.now, G.document g_value) ∷ (h.now, H.document h_value)
+        ∷ (i.now, I.document i_value) ∷ (j.now, J.document j_value) ∷ (k.now, K.document k_value)
+        ∷ (l.now, L.document l_value) ∷ []))) u) }
+    ensures memory { A.holds_no_memory × B.holds_no_memory × C.holds_no_memory × D.holds_no_memory
+        × E.holds_no_memory × F.holds_no_memory × G.holds_no_memory × H.holds_no_memory
+        × I.holds_no_memory × J.holds_no_memory × K.holds_no_memory × L.holds_no_memory
+        → IfErr result (λ fault. fault ≡ Fault.NotText) }
+    ensures blocks { IfOk result (λ _. open_blocks parser.new ≡ open_blocks parser.old) }
+    ensures shrinks { length (rest parser.new) ≤ length (rest parser.old) }
+{
+    match parse_struct_row(alloc, parser, name, &[a, b, c, d, e, f, g, h, i, j, k, l]) {
+        Err(fault) => Err(fault),
+        Ok(
+            (
+                a_value,
+                (
+                    b_value,
+                    (
+                        c_value,
+                        (
+                            d_value,
+                            (
+                                e_value,
+                                (
+                                    f_value,
+                                    (
+                                        g_value,
+                                        (h_value, (i_value, (j_value, (k_value, (l_value, ()))))),
+                                    ),
+                                ),
+                            ),
+                        ),
+                    ),
+                ),
+            ),
+        ) => Ok((
+            a_value, b_value, c_value, d_value, e_value, f_value, g_value, h_value, i_value,
+            j_value, k_value, l_value,
+        )),
+    }
+}

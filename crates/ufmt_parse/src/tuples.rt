@@ -1,0 +1,609 @@
+//! Tuples by their number of fields. tools/write-by-count writes this file: change it there.
+ghost use Rattle.std.specs.Prelude.{◌≤◌, length, [], ◌∷◌, ◌≡◌, List, ℕ, IfOk, IfErr};
+ghost use Rattle.ufmt.specs.Document.{documents, tuple_of};
+ghost use Rattle.ufmt.specs.Leaves.{IsWordOrEmpty};
+ghost use Rattle.ufmt_parse.specs.Taking.{IsNext, IsTaken, open_blocks, rest};
+
+use crate::from_front::uParse;
+use crate::mode::ParseMode;
+use crate::parser::{Fault, Parser};
+use crate::rows::parse_tuple_row;
+
+/// Takes a tuple with one field, as `parse_from` does a value.
+#[inline(always)]
+pub fn parse_tuple_1<Alloc: Copy, A: uParse<Alloc>, M: ParseMode>(
+    alloc: Alloc,
+    parser: &mut Parser<'_, M>,
+    name: &str,
+) -> Result<A, Fault>
+    requires { IsWordOrEmpty name.now }
+    ensures taken { IfOk result (λ v. IsTaken M.mode parser.old (tuple_of name.now (documents
+        (A.document v ∷ []))) parser.new) }
+    ensures only { IfOk result (λ _. (a_value : A) (u : List ℕ) → A.is_value a_value
+        → IsNext M.mode parser.old (tuple_of name.now (documents (A.document a_value ∷ []))) u
+        → u ≡ rest parser.new) }
+    ensures none { IfErr result (λ fault. fault ≡ Fault.NotText → (a_value : A) (u : List ℕ)
+        → A.is_value a_value → ¬ IsNext M.mode parser.old (tuple_of name.now (documents
+        (A.document a_value ∷ []))) u) }
+    ensures memory { A.holds_no_memory → IfErr result (λ fault. fault ≡ Fault.NotText) }
+    ensures blocks { IfOk result (λ _. open_blocks parser.new ≡ open_blocks parser.old) }
+    ensures shrinks { length (rest parser.new) ≤ length (rest parser.old) }
+{
+    match parse_tuple_row(alloc, parser, name) {
+        Err(fault) => Err(fault),
+        Ok((a_value, ())) => Ok(a_value),
+    }
+}
+
+/// Takes a tuple with 2 fields, as `parse_from` does a value.
+#[inline(always)]
+pub fn parse_tuple_2<Alloc: Copy, A: uParse<Alloc>, B: uParse<Alloc>, M: ParseMode>(
+    alloc: Alloc,
+    parser: &mut Parser<'_, M>,
+    name: &str,
+) -> Result<(A, B), Fault>
+    requires { IsWordOrEmpty name.now }
+    ensures taken { IfOk result (λ v. IsTaken M.mode parser.old (tuple_of name.now (documents
+        (A.document v.0 ∷ B.document v.1 ∷ []))) parser.new) }
+    ensures only { IfOk result (λ _. (a_value : A) (b_value : B) (u : List ℕ) → A.is_value a_value
+        → B.is_value b_value → IsNext M.mode parser.old (tuple_of name.now (documents
+        (A.document a_value ∷ B.document b_value ∷ []))) u → u ≡ rest parser.new) }
+    ensures none { IfErr result (λ fault. fault ≡ Fault.NotText → (a_value : A) (b_value : B)
+        (u : List ℕ) → A.is_value a_value → B.is_value b_value → ¬ IsNext M.mode parser.old
+        (tuple_of name.now (documents (A.document a_value ∷ B.document b_value ∷ []))) u) }
+    ensures memory { A.holds_no_memory × B.holds_no_memory → IfErr result (λ fault.
+        fault ≡ Fault.NotText) }
+    ensures blocks { IfOk result (λ _. open_blocks parser.new ≡ open_blocks parser.old) }
+    ensures shrinks { length (rest parser.new) ≤ length (rest parser.old) }
+{
+    match parse_tuple_row(alloc, parser, name) {
+        Err(fault) => Err(fault),
+        Ok((a_value, (b_value, ()))) => Ok((a_value, b_value)),
+    }
+}
+
+/// Takes a tuple with 3 fields, as `parse_from` does a value.
+#[inline(always)]
+pub fn parse_tuple_3<
+    Alloc: Copy,
+    A: uParse<Alloc>,
+    B: uParse<Alloc>,
+    C: uParse<Alloc>,
+    M: ParseMode,
+>(alloc: Alloc, parser: &mut Parser<'_, M>, name: &str) -> Result<(A, B, C), Fault>
+    requires { IsWordOrEmpty name.now }
+    ensures taken { IfOk result (λ v. IsTaken M.mode parser.old (tuple_of name.now (documents
+        (A.document v.0 ∷ B.document v.1 ∷ C.document v.2 ∷ []))) parser.new) }
+    ensures only { IfOk result (λ _. (a_value : A) (b_value : B) (c_value : C) (u : List ℕ)
+        → A.is_value a_value → B.is_value b_value → C.is_value c_value → IsNext M.mode parser.old
+        (tuple_of name.now (documents (A.document a_value ∷ B.document b_value ∷ C.document c_value
+        ∷ []))) u → u ≡ rest parser.new) }
+    ensures none { IfErr result (λ fault. fault ≡ Fault.NotText → (a_value : A) (b_value : B)
+        (c_value : C) (u : List ℕ) → A.is_value a_value → B.is_value b_value → C.is_value c_value
+        → ¬ IsNext M.mode parser.old (tuple_of name.now (documents (A.document a_value
+        ∷ B.document b_value ∷ C.document c_value ∷ []))) u) }
+    ensures memory { A.holds_no_memory × B.holds_no_memory × C.holds_no_memory
+        → IfErr result (λ fault. fault ≡ Fault.NotText) }
+    ensures blocks { IfOk result (λ _. open_blocks parser.new ≡ open_blocks parser.old) }
+    ensures shrinks { length (rest parser.new) ≤ length (rest parser.old) }
+{
+    match parse_tuple_row(alloc, parser, name) {
+        Err(fault) => Err(fault),
+        Ok((a_value, (b_value, (c_value, ())))) => Ok((a_value, b_value, c_value)),
+    }
+}
+
+/// Takes a tuple with 4 fields, as `parse_from` does a value.
+#[inline(always)]
+pub fn parse_tuple_4<
+    Alloc: Copy,
+    A: uParse<Alloc>,
+    B: uParse<Alloc>,
+    C: uParse<Alloc>,
+    D: uParse<Alloc>,
+    M: ParseMode,
+>(alloc: Alloc, parser: &mut Parser<'_, M>, name: &str) -> Result<(A, B, C, D), Fault>
+    requires { IsWordOrEmpty name.now }
+    ensures taken { IfOk result (λ v. IsTaken M.mode parser.old (tuple_of name.now (documents
+        (A.document v.0 ∷ B.document v.1 ∷ C.document v.2 ∷ D.document v.3 ∷ []))) parser.new) }
+    ensures only { IfOk result (λ _. (a_value : A) (b_value : B) (c_value : C) (d_value : D)
+        (u : List ℕ) → A.is_value a_value → B.is_value b_value → C.is_value c_value
+        → D.is_value d_value → IsNext M.mode parser.old (tuple_of name.now (documents
+        (A.document a_value ∷ B.document b_value ∷ C.document c_value ∷ D.document d_value ∷ []))) u
+        → u ≡ rest parser.new) }
+    ensures none { IfErr result (λ fault. fault ≡ Fault.NotText → (a_value : A) (b_value : B)
+        (c_value : C) (d_value : D) (u : List ℕ) → A.is_value a_value → B.is_value b_value
+        → C.is_value c_value → D.is_value d_value → ¬ IsNext M.mode parser.old
+        (tuple_of name.now (documents (A.document a_value ∷ B.document b_value ∷ C.document c_value
+        ∷ D.document d_value ∷ []))) u) }
+    ensures memory { A.holds_no_memory × B.holds_no_memory × C.holds_no_memory × D.holds_no_memory
+        → IfErr result (λ fault. fault ≡ Fault.NotText) }
+    ensures blocks { IfOk result (λ _. open_blocks parser.new ≡ open_blocks parser.old) }
+    ensures shrinks { length (rest parser.new) ≤ length (rest parser.old) }
+{
+    match parse_tuple_row(alloc, parser, name) {
+        Err(fault) => Err(fault),
+        Ok((a_value, (b_value, (c_value, (d_value, ()))))) => Ok((
+            a_value, b_value, c_value, d_value,
+        )),
+    }
+}
+
+/// Takes a tuple with 5 fields, as `parse_from` does a value.
+#[inline(always)]
+pub fn parse_tuple_5<
+    Alloc: Copy,
+    A: uParse<Alloc>,
+    B: uParse<Alloc>,
+    C: uParse<Alloc>,
+    D: uParse<Alloc>,
+    E: uParse<Alloc>,
+    M: ParseMode,
+>(alloc: Alloc, parser: &mut Parser<'_, M>, name: &str) -> Result<(A, B, C, D, E), Fault>
+    requires { IsWordOrEmpty name.now }
+    ensures taken { IfOk result (λ v. IsTaken M.mode parser.old (tuple_of name.now (documents
+        (A.document v.0 ∷ B.document v.1 ∷ C.document v.2 ∷ D.document v.3 ∷ E.document v.4 ∷ [])))
+        parser.new) }
+    ensures only { IfOk result (λ _. (a_value : A) (b_value : B) (c_value : C) (d_value : D)
+        (e_value : E) (u : List ℕ) → A.is_value a_value → B.is_value b_value → C.is_value c_value
+        → D.is_value d_value → E.is_value e_value → IsNext M.mode parser.old
+        (tuple_of name.now (documents (A.document a_value ∷ B.document b_value ∷ C.document c_value
+        ∷ D.document d_value ∷ E.document e_value ∷ []))) u → u ≡ rest parser.new) }
+    ensures none { IfErr result (λ fault. fault ≡ Fault.NotText → (a_value : A) (b_value : B)
+        (c_value : C) (d_value : D) (e_value : E) (u : List ℕ) → A.is_value a_value
+        → B.is_value b_value → C.is_value c_value → D.is_value d_value → E.is_value e_value
+        → ¬ IsNext M.mode parser.old (tuple_of name.now (documents (A.document a_value
+        ∷ B.document b_value ∷ C.document c_value ∷ D.document d_value ∷ E.document e_value ∷ [])))
+        u) }
+    ensures memory { A.holds_no_memory × B.holds_no_memory × C.holds_no_memory × D.holds_no_memory
+        × E.holds_no_memory → IfErr result (λ fault. fault ≡ Fault.NotText) }
+    ensures blocks { IfOk result (λ _. open_blocks parser.new ≡ open_blocks parser.old) }
+    ensures shrinks { length (rest parser.new) ≤ length (rest parser.old) }
+{
+    match parse_tuple_row(alloc, parser, name) {
+        Err(fault) => Err(fault),
+        Ok((a_value, (b_value, (c_value, (d_value, (e_value, ())))))) => Ok((
+            a_value, b_value, c_value, d_value, e_value,
+        )),
+    }
+}
+
+/// Takes a tuple with 6 fields, as `parse_from` does a value.
+#[inline(always)]
+pub fn parse_tuple_6<
+    Alloc: Copy,
+    A: uParse<Alloc>,
+    B: uParse<Alloc>,
+    C: uParse<Alloc>,
+    D: uParse<Alloc>,
+    E: uParse<Alloc>,
+    F: uParse<Alloc>,
+    M: ParseMode,
+>(alloc: Alloc, parser: &mut Parser<'_, M>, name: &str) -> Result<(A, B, C, D, E, F), Fault>
+    requires { IsWordOrEmpty name.now }
+    ensures taken { IfOk result (λ v. IsTaken M.mode parser.old (tuple_of name.now (documents
+        (A.document v.0 ∷ B.document v.1 ∷ C.document v.2 ∷ D.document v.3 ∷ E.document v.4
+        ∷ F.document v.5 ∷ []))) parser.new) }
+    ensures only { IfOk result (λ _. (a_value : A) (b_value : B) (c_value : C) (d_value : D)
+        (e_value : E) (f_value : F) (u : List ℕ) → A.is_value a_value → B.is_value b_value
+        → C.is_value c_value → D.is_value d_value → E.is_value e_value → F.is_value f_value
+        → IsNext M.mode parser.old (tuple_of name.now (documents (A.document a_value
+        ∷ B.document b_value ∷ C.document c_value ∷ D.document d_value ∷ E.document e_value
+        ∷ F.document f_value ∷ []))) u → u ≡ rest parser.new) }
+    ensures none { IfErr result (λ fault. fault ≡ Fault.NotText → (a_value : A) (b_value : B)
+        (c_value : C) (d_value : D) (e_value : E) (f_value : F) (u : List ℕ) → A.is_value a_value
+        → B.is_value b_value → C.is_value c_value → D.is_value d_value → E.is_value e_value
+        → F.is_value f_value → ¬ IsNext M.mode parser.old (tuple_of name.now (documents
+        (A.document a_value ∷ B.document b_value ∷ C.document c_value ∷ D.document d_value
+        ∷ E.document e_value ∷ F.document f_value ∷ []))) u) }
+    ensures memory { A.holds_no_memory × B.holds_no_memory × C.holds_no_memory × D.holds_no_memory
+        × E.holds_no_memory × F.holds_no_memory → IfErr result (λ fault. fault ≡ Fault.NotText) }
+    ensures blocks { IfOk result (λ _. open_blocks parser.new ≡ open_blocks parser.old) }
+    ensures shrinks { length (rest parser.new) ≤ length (rest parser.old) }
+{
+    match parse_tuple_row(alloc, parser, name) {
+        Err(fault) => Err(fault),
+        Ok((a_value, (b_value, (c_value, (d_value, (e_value, (f_value, ()))))))) => Ok((
+            a_value, b_value, c_value, d_value, e_value, f_value,
+        )),
+    }
+}
+
+/// Takes a tuple with 7 fields, as `parse_from` does a value.
+#[inline(always)]
+pub fn parse_tuple_7<
+    Alloc: Copy,
+    A: uParse<Alloc>,
+    B: uParse<Alloc>,
+    C: uParse<Alloc>,
+    D: uParse<Alloc>,
+    E: uParse<Alloc>,
+    F: uParse<Alloc>,
+    G: uParse<Alloc>,
+    M: ParseMode,
+>(alloc: Alloc, parser: &mut Parser<'_, M>, name: &str) -> Result<(A, B, C, D, E, F, G), Fault>
+    requires { IsWordOrEmpty name.now }
+    ensures taken { IfOk result (λ v. IsTaken M.mode parser.old (tuple_of name.now (documents
+        (A.document v.0 ∷ B.document v.1 ∷ C.document v.2 ∷ D.document v.3 ∷ E.document v.4
+        ∷ F.document v.5 ∷ G.document v.6 ∷ []))) parser.new) }
+    ensures only { IfOk result (λ _. (a_value : A) (b_value : B) (c_value : C) (d_value : D)
+        (e_value : E) (f_value : F) (g_value : G) (u : List ℕ) → A.is_value a_value
+        → B.is_value b_value → C.is_value c_value → D.is_value d_value → E.is_value e_value
+        → F.is_value f_value → G.is_value g_value → IsNext M.mode parser.old
+        (tuple_of name.now (documents (A.document a_value ∷ B.document b_value ∷ C.document c_value
+        ∷ D.document d_value ∷ E.document e_value ∷ F.document f_value ∷ G.document g_value ∷ [])))
+        u → u ≡ rest parser.new) }
+    ensures none { IfErr result (λ fault. fault ≡ Fault.NotText → (a_value : A) (b_value : B)
+        (c_value : C) (d_value : D) (e_value : E) (f_value : F) (g_value : G) (u : List ℕ)
+        → A.is_value a_value → B.is_value b_value → C.is_value c_value → D.is_value d_value
+        → E.is_value e_value → F.is_value f_value → G.is_value g_value → ¬ IsNext M.mode parser.old
+        (tuple_of name.now (documents (A.document a_value ∷ B.document b_value ∷ C.document c_value
+        ∷ D.document d_value ∷ E.document e_value ∷ F.document f_value ∷ G.document g_value ∷ [])))
+        u) }
+    ensures memory { A.holds_no_memory × B.holds_no_memory × C.holds_no_memory × D.holds_no_memory
+        × E.holds_no_memory × F.holds_no_memory × G.holds_no_memory → IfErr result (λ fault.
+        fault ≡ Fault.NotText) }
+    ensures blocks { IfOk result (λ _. open_blocks parser.new ≡ open_blocks parser.old) }
+    ensures shrinks { length (rest parser.new) ≤ length (rest parser.old) }
+{
+    match parse_tuple_row(alloc, parser, name) {
+        Err(fault) => Err(fault),
+        Ok((a_value, (b_value, (c_value, (d_value, (e_value, (f_value, (g_value, ())))))))) => Ok(
+            (
+                a_value, b_value, c_value, d_value, e_value, f_value, g_value,
+            ),
+        ),
+    }
+}
+
+/// Takes a tuple with 8 fields, as `parse_from` does a value.
+#[inline(always)]
+pub fn parse_tuple_8<
+    Alloc: Copy,
+    A: uParse<Alloc>,
+    B: uParse<Alloc>,
+    C: uParse<Alloc>,
+    D: uParse<Alloc>,
+    E: uParse<Alloc>,
+    F: uParse<Alloc>,
+    G: uParse<Alloc>,
+    H: uParse<Alloc>,
+    M: ParseMode,
+>(alloc: Alloc, parser: &mut Parser<'_, M>, name: &str) -> Result<(A, B, C, D, E, F, G, H), Fault>
+    requires { IsWordOrEmpty name.now }
+    ensures taken { IfOk result (λ v. IsTaken M.mode parser.old (tuple_of name.now (documents
+        (A.document v.0 ∷ B.document v.1 ∷ C.document v.2 ∷ D.document v.3 ∷ E.document v.4
+        ∷ F.document v.5 ∷ G.document v.6 ∷ H.document v.7 ∷ []))) parser.new) }
+    ensures only { IfOk result (λ _. (a_value : A) (b_value : B) (c_value : C) (d_value : D)
+        (e_value : E) (f_value : F) (g_value : G) (h_value : H) (u : List ℕ) → A.is_value a_value
+        → B.is_value b_value → C.is_value c_value → D.is_value d_value → E.is_value e_value
+        → F.is_value f_value → G.is_value g_value → H.is_value h_value → IsNext M.mode parser.old
+        (tuple_of name.now (documents (A.document a_value ∷ B.document b_value ∷ C.document c_value
+        ∷ D.document d_value ∷ E.document e_value ∷ F.document f_value ∷ G.document g_value
+        ∷ H.document h_value ∷ []))) u → u ≡ rest parser.new) }
+    ensures none { IfErr result (λ fault. fault ≡ Fault.NotText → (a_value : A) (b_value : B)
+        (c_value : C) (d_value : D) (e_value : E) (f_value : F) (g_value : G) (h_value : H)
+        (u : List ℕ) → A.is_value a_value → B.is_value b_value → C.is_value c_value
+        → D.is_value d_value → E.is_value e_value → F.is_value f_value → G.is_value g_value
+        → H.is_value h_value → ¬ IsNext M.mode parser.old (tuple_of name.now (documents
+        (A.document a_value ∷ B.document b_value ∷ C.document c_value ∷ D.document d_value
+        ∷ E.document e_value ∷ F.document f_value ∷ G.document g_value ∷ H.document h_value ∷ [])))
+        u) }
+    ensures memory { A.holds_no_memory × B.holds_no_memory × C.holds_no_memory × D.holds_no_memory
+        × E.holds_no_memory × F.holds_no_memory × G.holds_no_memory × H.holds_no_memory
+        → IfErr result (λ fault. fault ≡ Fault.NotText) }
+    ensures blocks { IfOk result (λ _. open_blocks parser.new ≡ open_blocks parser.old) }
+    ensures shrinks { length (rest parser.new) ≤ length (rest parser.old) }
+{
+    match parse_tuple_row(alloc, parser, name) {
+        Err(fault) => Err(fault),
+        Ok(
+            (
+                a_value,
+                (b_value, (c_value, (d_value, (e_value, (f_value, (g_value, (h_value, ()))))))),
+            ),
+        ) => Ok((
+            a_value, b_value, c_value, d_value, e_value, f_value, g_value, h_value,
+        )),
+    }
+}
+
+/// Takes a tuple with 9 fields, as `parse_from` does a value.
+#[inline(always)]
+pub fn parse_tuple_9<
+    Alloc: Copy,
+    A: uParse<Alloc>,
+    B: uParse<Alloc>,
+    C: uParse<Alloc>,
+    D: uParse<Alloc>,
+    E: uParse<Alloc>,
+    F: uParse<Alloc>,
+    G: uParse<Alloc>,
+    H: uParse<Alloc>,
+    I: uParse<Alloc>,
+    M: ParseMode,
+>(
+    alloc: Alloc,
+    parser: &mut Parser<'_, M>,
+    name: &str,
+) -> Result<(A, B, C, D, E, F, G, H, I), Fault>
+    requires { IsWordOrEmpty name.now }
+    ensures taken { IfOk result (λ v. IsTaken M.mode parser.old (tuple_of name.now (documents
+        (A.document v.0 ∷ B.document v.1 ∷ C.document v.2 ∷ D.document v.3 ∷ E.document v.4
+        ∷ F.document v.5 ∷ G.document v.6 ∷ H.document v.7 ∷ I.document v.8 ∷ []))) parser.new) }
+    ensures only { IfOk result (λ _. (a_value : A) (b_value : B) (c_value : C) (d_value : D)
+        (e_value : E) (f_value : F) (g_value : G) (h_value : H) (i_value : I) (u : List ℕ)
+        → A.is_value a_value → B.is_value b_value → C.is_value c_value → D.is_value d_value
+        → E.is_value e_value → F.is_value f_value → G.is_value g_value → H.is_value h_value
+        → I.is_value i_value → IsNext M.mode parser.old (tuple_of name.now (documents
+        (A.document a_value ∷ B.document b_value ∷ C.document c_value ∷ D.document d_value
+        ∷ E.document e_value ∷ F.document f_value ∷ G.document g_value ∷ H.document h_value
+        ∷ I.document i_value ∷ []))) u → u ≡ rest parser.new) }
+    ensures none { IfErr result (λ fault. fault ≡ Fault.NotText → (a_value : A) (b_value : B)
+        (c_value : C) (d_value : D) (e_value : E) (f_value : F) (g_value : G) (h_value : H)
+        (i_value : I) (u : List ℕ) → A.is_value a_value → B.is_value b_value → C.is_value c_value
+        → D.is_value d_value → E.is_value e_value → F.is_value f_value → G.is_value g_value
+        → H.is_value h_value → I.is_value i_value → ¬ IsNext M.mode parser.old
+        (tuple_of name.now (documents (A.document a_value ∷ B.document b_value ∷ C.document c_value
+        ∷ D.document d_value ∷ E.document e_value ∷ F.document f_value ∷ G.document g_value
+        ∷ H.document h_value ∷ I.document i_value ∷ []))) u) }
+    ensures memory { A.holds_no_memory × B.holds_no_memory × C.holds_no_memory × D.holds_no_memory
+        × E.holds_no_memory × F.holds_no_memory × G.holds_no_memory × H.holds_no_memory
+        × I.holds_no_memory → IfErr result (λ fault. fault ≡ Fault.NotText) }
+    ensures blocks { IfOk result (λ _. open_blocks parser.new ≡ open_blocks parser.old) }
+    ensures shrinks { length (rest parser.new) ≤ length (rest parser.old) }
+{
+    match parse_tuple_row(alloc, parser, name) {
+        Err(fault) => Err(fault),
+        Ok(
+            (
+                a_value,
+                (
+                    b_value,
+                    (c_value, (d_value, (e_value, (f_value, (g_value, (h_value, (i_value, ()))))))),
+                ),
+            ),
+        ) => Ok((
+            a_value, b_value, c_value, d_value, e_value, f_value, g_value, h_value, i_value,
+        )),
+    }
+}
+
+/// Takes a tuple with 10 fields, as `parse_from` does a value.
+#[inline(always)]
+pub fn parse_tuple_10<
+    Alloc: Copy,
+    A: uParse<Alloc>,
+    B: uParse<Alloc>,
+    C: uParse<Alloc>,
+    D: uParse<Alloc>,
+    E: uParse<Alloc>,
+    F: uParse<Alloc>,
+    G: uParse<Alloc>,
+    H: uParse<Alloc>,
+    I: uParse<Alloc>,
+    J: uParse<Alloc>,
+    M: ParseMode,
+>(
+    alloc: Alloc,
+    parser: &mut Parser<'_, M>,
+    name: &str,
+) -> Result<(A, B, C, D, E, F, G, H, I, J), Fault>
+    requires { IsWordOrEmpty name.now }
+    ensures taken { IfOk result (λ v. IsTaken M.mode parser.old (tuple_of name.now (documents
+        (A.document v.0 ∷ B.document v.1 ∷ C.document v.2 ∷ D.document v.3 ∷ E.document v.4
+        ∷ F.document v.5 ∷ G.document v.6 ∷ H.document v.7 ∷ I.document v.8 ∷ J.document v.9 ∷ [])))
+        parser.new) }
+    ensures only { IfOk result (λ _. (a_value : A) (b_value : B) (c_value : C) (d_value : D)
+        (e_value : E) (f_value : F) (g_value : G) (h_value : H) (i_value : I) (j_value : J)
+        (u : List ℕ) → A.is_value a_value → B.is_value b_value → C.is_value c_value
+        → D.is_value d_value → E.is_value e_value → F.is_value f_value → G.is_value g_value
+        → H.is_value h_value → I.is_value i_value → J.is_value j_value → IsNext M.mode parser.old
+        (tuple_of name.now (documents (A.document a_value ∷ B.document b_value ∷ C.document c_value
+        ∷ D.document d_value ∷ E.document e_value ∷ F.document f_value ∷ G.document g_value
+        ∷ H.document h_value ∷ I.document i_value ∷ J.document j_value ∷ []))) u
+        → u ≡ rest parser.new) }
+    ensures none { IfErr result (λ fault. fault ≡ Fault.NotText → (a_value : A) (b_value : B)
+        (c_value : C) (d_value : D) (e_value : E) (f_value : F) (g_value : G) (h_value : H)
+        (i_value : I) (j_value : J) (u : List ℕ) → A.is_value a_value → B.is_value b_value
+        → C.is_value c_value → D.is_value d_value → E.is_value e_value → F.is_value f_value
+        → G.is_value g_value → H.is_value h_value → I.is_value i_value → J.is_value j_value
+        → ¬ IsNext M.mode parser.old (tuple_of name.now (documents (A.document a_value
+        ∷ B.document b_value ∷ C.document c_value ∷ D.document d_value ∷ E.document e_value
+        ∷ F.document f_value ∷ G.document g_value ∷ H.document h_value ∷ I.document i_value
+        ∷ J.document j_value ∷ []))) u) }
+    ensures memory { A.holds_no_memory × B.holds_no_memory × C.holds_no_memory × D.holds_no_memory
+        × E.holds_no_memory × F.holds_no_memory × G.holds_no_memory × H.holds_no_memory
+        × I.holds_no_memory × J.holds_no_memory → IfErr result (λ fault. fault ≡ Fault.NotText) }
+    ensures blocks { IfOk result (λ _. open_blocks parser.new ≡ open_blocks parser.old) }
+    ensures shrinks { length (rest parser.new) ≤ length (rest parser.old) }
+{
+    match parse_tuple_row(alloc, parser, name) {
+        Err(fault) => Err(fault),
+        Ok(
+            (
+                a_value,
+                (
+                    b_value,
+                    (
+                        c_value,
+                        (
+                            d_value,
+                            (e_value, (f_value, (g_value, (h_value, (i_value, (j_value, ())))))),
+                        ),
+                    ),
+                ),
+            ),
+        ) => Ok((
+            a_value, b_value, c_value, d_value, e_value, f_value, g_value, h_value, i_value,
+            j_value,
+        )),
+    }
+}
+
+/// Takes a tuple with 11 fields, as `parse_from` does a value.
+#[inline(always)]
+pub fn parse_tuple_11<
+    Alloc: Copy,
+    A: uParse<Alloc>,
+    B: uParse<Alloc>,
+    C: uParse<Alloc>,
+    D: uParse<Alloc>,
+    E: uParse<Alloc>,
+    F: uParse<Alloc>,
+    G: uParse<Alloc>,
+    H: uParse<Alloc>,
+    I: uParse<Alloc>,
+    J: uParse<Alloc>,
+    K: uParse<Alloc>,
+    M: ParseMode,
+>(
+    alloc: Alloc,
+    parser: &mut Parser<'_, M>,
+    name: &str,
+) -> Result<(A, B, C, D, E, F, G, H, I, J, K), Fault>
+    requires { IsWordOrEmpty name.now }
+    ensures taken { IfOk result (λ v. IsTaken M.mode parser.old (tuple_of name.now (documents
+        (A.document v.0 ∷ B.document v.1 ∷ C.document v.2 ∷ D.document v.3 ∷ E.document v.4
+        ∷ F.document v.5 ∷ G.document v.6 ∷ H.document v.7 ∷ I.document v.8 ∷ J.document v.9
+        ∷ K.document v.10 ∷ []))) parser.new) }
+    ensures only { IfOk result (λ _. (a_value : A) (b_value : B) (c_value : C) (d_value : D)
+        (e_value : E) (f_value : F) (g_value : G) (h_value : H) (i_value : I) (j_value : J)
+        (k_value : K) (u : List ℕ) → A.is_value a_value → B.is_value b_value → C.is_value c_value
+        → D.is_value d_value → E.is_value e_value → F.is_value f_value → G.is_value g_value
+        → H.is_value h_value → I.is_value i_value → J.is_value j_value → K.is_value k_value
+        → IsNext M.mode parser.old (tuple_of name.now (documents (A.document a_value
+        ∷ B.document b_value ∷ C.document c_value ∷ D.document d_value ∷ E.document e_value
+        ∷ F.document f_value ∷ G.document g_value ∷ H.document h_value ∷ I.document i_value
+        ∷ J.document j_value ∷ K.document k_value ∷ []))) u → u ≡ rest parser.new) }
+    ensures none { IfErr result (λ fault. fault ≡ Fault.NotText → (a_value : A) (b_value : B)
+        (c_value : C) (d_value : D) (e_value : E) (f_value : F) (g_value : G) (h_value : H)
+        (i_value : I) (j_value : J) (k_value : K) (u : List ℕ) → A.is_value a_value
+        → B.is_value b_value → C.is_value c_value → D.is_value d_value → E.is_value e_value
+        → F.is_value f_value → G.is_value g_value → H.is_value h_value → I.is_value i_value
+        → J.is_value j_value → K.is_value k_value → ¬ IsNext M.mode parser.old
+        (tuple_of name.now (documents (A.document a_value ∷ B.document b_value ∷ C.document c_value
+        ∷ D.document d_value ∷ E.document e_value ∷ F.document f_value ∷ G.document g_value
+        ∷ H.document h_value ∷ I.document i_value ∷ J.document j_value ∷ K.document k_value ∷ [])))
+        u) }
+    ensures memory { A.holds_no_memory × B.holds_no_memory × C.holds_no_memory × D.holds_no_memory
+        × E.holds_no_memory × F.holds_no_memory × G.holds_no_memory × H.holds_no_memory
+        × I.holds_no_memory × J.holds_no_memory × K.holds_no_memory → IfErr result (λ fault.
+        fault ≡ Fault.NotText) }
+    ensures blocks { IfOk result (λ _. open_blocks parser.new ≡ open_blocks parser.old) }
+    ensures shrinks { length (rest parser.new) ≤ length (rest parser.old) }
+{
+    match parse_tuple_row(alloc, parser, name) {
+        Err(fault) => Err(fault),
+        Ok(
+            (
+                a_value,
+                (
+                    b_value,
+                    (
+                        c_value,
+                        (
+                            d_value,
+                            (
+                                e_value,
+                                (
+                                    f_value,
+                                    (g_value, (h_value, (i_value, (j_value, (k_value, ()))))),
+                                ),
+                            ),
+                        ),
+                    ),
+                ),
+            ),
+        ) => Ok((
+            a_value, b_value, c_value, d_value, e_value, f_value, g_value, h_value, i_value,
+            j_value, k_value,
+        )),
+    }
+}
+
+/// Takes a tuple with 12 fields, as `parse_from` does a value.
+#[inline(always)]
+pub fn parse_tuple_12<
+    Alloc: Copy,
+    A: uParse<Alloc>,
+    B: uParse<Alloc>,
+    C: uParse<Alloc>,
+    D: uParse<Alloc>,
+    E: uParse<Alloc>,
+    F: uParse<Alloc>,
+    G: uParse<Alloc>,
+    H: uParse<Alloc>,
+    I: uParse<Alloc>,
+    J: uParse<Alloc>,
+    K: uParse<Alloc>,
+    L: uParse<Alloc>,
+    M: ParseMode,
+>(
+    alloc: Alloc,
+    parser: &mut Parser<'_, M>,
+    name: &str,
+) -> Result<(A, B, C, D, E, F, G, H, I, J, K, L), Fault>
+    requires { IsWordOrEmpty name.now }
+    ensures taken { IfOk result (λ v. IsTaken M.mode parser.old (tuple_of name.now (documents
+        (A.document v.0 ∷ B.document v.1 ∷ C.document v.2 ∷ D.document v.3 ∷ E.document v.4
+        ∷ F.document v.5 ∷ G.document v.6 ∷ H.document v.7 ∷ I.document v.8 ∷ J.document v.9
+        ∷ K.document v.10 ∷ L.document v.11 ∷ []))) parser.new) }
+    ensures only { IfOk result (λ _. (a_value : A) (b_value : B) (c_value : C) (d_value : D)
+        (e_value : E) (f_value : F) (g_value : G) (h_value : H) (i_value : I) (j_value : J)
+        (k_value : K) (l_value : L) (u : List ℕ) → A.is_value a_value → B.is_value b_value
+        → C.is_value c_value → D.is_value d_value → E.is_value e_value → F.is_value f_value
+        → G.is_value g_value → H.is_value h_value → I.is_value i_value → J.is_value j_value
+        → K.is_value k_value → L.is_value l_value → IsNext M.mode parser.old
+        (tuple_of name.now (documents (A.document a_value ∷ B.document b_value ∷ C.document c_value
+        ∷ D.document d_value ∷ E.document e_value ∷ F.document f_value ∷ G.document g_value
+        ∷ H.document h_value ∷ I.document i_value ∷ J.document j_value ∷ K.document k_value
+        ∷ L.document l_value ∷ []))) u → u ≡ rest parser.new) }
+    ensures none { IfErr result (λ fault. fault ≡ Fault.NotText → (a_value : A) (b_value : B)
+        (c_value : C) (d_value : D) (e_value : E) (f_value : F) (g_value : G) (h_value : H)
+        (i_value : I) (j_value : J) (k_value : K) (l_value : L) (u : List ℕ) → A.is_value a_value
+        → B.is_value b_value → C.is_value c_value → D.is_value d_value → E.is_value e_value
+        → F.is_value f_value → G.is_value g_value → H.is_value h_value → I.is_value i_value
+        → J.is_value j_value → K.is_value k_value → L.is_value l_value → ¬ IsNext M.mode parser.old
+        (tuple_of name.now (documents (A.document a_value ∷ B.document b_value ∷ C.document c_value
+        ∷ D.document d_value ∷ E.document e_value ∷ F.document f_value ∷ G.document g_value
+        ∷ H.document h_value ∷ I.document i_value ∷ J.document j_value ∷ K.document k_value
+        ∷ L.document l_value ∷ []))) u) }
+    ensures memory { A.holds_no_memory × B.holds_no_memory × C.holds_no_memory × D.holds_no_memory
+        × E.holds_no_memory × F.holds_no_memory × G.holds_no_memory × H.holds_no_memory
+        × I.holds_no_memory × J.holds_no_memory × K.holds_no_memory × L.holds_no_memory
+        → IfErr result (λ fault. fault ≡ Fault.NotText) }
+    ensures blocks { IfOk result (λ _. open_blocks parser.new ≡ open_blocks parser.old) }
+    ensures shrinks { length (rest parser.new) ≤ length (rest parser.old) }
+{
+    match parse_tuple_row(alloc, parser, name) {
+        Err(fault) => Err(fault),
+        Ok(
+            (
+                a_value,
+                (
+                    b_value,
+                    (
+                        c_value,
+                        (
+                            d_value,
+                            (
+                                e_value,
+                                (
+                                    f_value,
+                                    (
+                                        g_value,
+                                        (h_value, (i_value, (j_value, (k_value, (l_value, ()))))),
+                                    ),
+                                ),
+                            ),
+                        ),
+                    ),
+                ),
+            ),
+        ) => Ok((
+            a_value, b_value, c_value, d_value, e_value, f_value, g_value, h_value, i_value,
+            j_value, k_value, l_value,
+        )),
+    }
+}
