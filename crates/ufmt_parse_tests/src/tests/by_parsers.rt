@@ -33,7 +33,19 @@ fn struct_5(text: &str) -> Result<(u8, bool, u8, u8, u8), Fault> {
     let p = Plain;
     let mut parser = P::new(text.as_bytes());
     parse_struct_5_by(
-        (), &mut parser, "S", "a", &p, "b", &p, "c", &p, "d", &p, "e", &p,
+        (),
+        &mut parser,
+        "S",
+        "a",
+        &p,
+        "b",
+        &p,
+        "c",
+        &p,
+        "d",
+        &p,
+        "e",
+        &p,
     )
 }
 
@@ -41,7 +53,21 @@ fn struct_6(text: &str) -> Result<(u8, bool, u8, u8, u8, u8), Fault> {
     let p = Plain;
     let mut parser = P::new(text.as_bytes());
     parse_struct_6_by(
-        (), &mut parser, "S", "a", &p, "b", &p, "c", &p, "d", &p, "e", &p, "f", &p,
+        (),
+        &mut parser,
+        "S",
+        "a",
+        &p,
+        "b",
+        &p,
+        "c",
+        &p,
+        "d",
+        &p,
+        "e",
+        &p,
+        "f",
+        &p,
     )
 }
 
@@ -52,9 +78,19 @@ fn structs_are_parsed_by_parsers(rt: HostRuntime) {
     same(&rt, struct_2("S { a: 1, b: Some(true) }").ok(), two, "2");
     let three = Some((1, true, 3));
     same(&rt, struct_3("S { a: 1, b: true, c: 3 }").ok(), three, "3");
-    same(&rt, struct_3("S { a: 1, b: true, d: 3 }").ok(), None, "3, a name");
+    same(
+        &rt,
+        struct_3("S { a: 1, b: true, d: 3 }").ok(),
+        None,
+        "3, a name",
+    );
     let four = Some((1, true, 3, 4));
-    same(&rt, struct_4("S { a: 1, b: true, c: 3, d: 4 }").ok(), four, "4");
+    same(
+        &rt,
+        struct_4("S { a: 1, b: true, c: 3, d: 4 }").ok(),
+        four,
+        "4",
+    );
     let five = Some((1, true, 3, 4, 5));
     let text = "S { a: 1, b: true, c: 3, d: 4, e: 5 }";
     same(&rt, struct_5(text).ok(), five, "5");

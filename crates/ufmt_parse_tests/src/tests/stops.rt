@@ -7,9 +7,7 @@ use super::same;
 use ufmt::{Formatter, fields, uDebug, uWrite};
 use ufmt_examples::{Set, parse_command};
 use ufmt_parse::ParseError::NotText;
-use ufmt_parse::{
-    Fault, ParseError, ParseMode, Parser, parse, parse_fields, parse_pretty, uParse,
-};
+use ufmt_parse::{Fault, ParseError, ParseMode, Parser, parse, parse_fields, parse_pretty, uParse};
 
 /// Two truth values, each of which is one document or another.
 #[derive(Clone, Copy, PartialEq, Eq, Debug, Drop)]
