@@ -6,6 +6,7 @@ use std::collections::{BTreeMap, BTreeSet};
 use ufmt::layout::Mode;
 use ufmt_doc::doc::{Doc, same_text};
 use ufmt_doc::field_text::read_field;
+use ufmt_examples::{Node, Tree};
 use ufmt_parse::uParse;
 use ufmt_scan::leaf::{is_leaf, is_word};
 
@@ -162,7 +163,9 @@ impl Costs {
         self.on_type::<Vec<u64>>("parse Vec", calls)?;
         self.on_type::<Vec<String>>("parse texts", calls)?;
         self.on_type::<BTreeSet<u16>>("parse BTreeSet", calls)?;
-        self.on_type::<BTreeMap<String, Option<u8>>>("parse BTreeMap", calls)
+        self.on_type::<BTreeMap<String, Option<u8>>>("parse BTreeMap", calls)?;
+        self.on_type::<Vec<Tree>>("parse trees", calls)?;
+        self.on_type::<Node>("parse Node", calls)
     }
 
     fn on_type<T: uParse<Global>>(

@@ -4,7 +4,9 @@ use crate::digest::Digest;
 use crate::fault::{Fault, agree};
 use crate::pieces::Pieces;
 use crate::shapes;
-use crate::types::{Keyed, Leaves, Lists, Nested, NonZeros, Numbers, Owned, Tuples, Types};
+use crate::types::{
+    Keyed, Leaves, Lists, Nested, NonZeros, Numbers, Owned, Results, Tuples, Types,
+};
 use std::alloc::{AllocError, Global};
 use ufmt_parse::{ParseError, uParse};
 
@@ -46,8 +48,9 @@ fn letters(calls: Calls<'_>) -> Result<TypeLetters, Fault> {
     };
     Numbers::add_all(calls, (), "abcdefghijkl", &mut letters)?;
     NonZeros::add_all(calls, (), "mnopqrstuv", &mut letters)?;
-    Leaves::add_all(calls, (), "ABDFI", &mut letters)?;
-    Owned::add_all(calls, alloc, "CEGHJν", &mut letters)?;
+    Leaves::add_all(calls, (), "ABDF", &mut letters)?;
+    Owned::add_all(calls, alloc, "CEGJν", &mut letters)?;
+    Results::add_all(calls, alloc, "HI", &mut letters)?;
     Lists::add_all(calls, alloc, "KLMNOPQR", &mut letters)?;
     Keyed::add_all(calls, alloc, "STUVWXYZ012345", &mut letters)?;
     Nested::add_all(calls, alloc, "678", &mut letters)?;

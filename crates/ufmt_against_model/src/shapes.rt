@@ -194,11 +194,10 @@ fn one_field<M: ParseMode>(alloc: Global, text: &[u8]) -> Result<Option<String>,
     }
 }
 
-// The variant's number, and its fields.
-fn signal_fields<M: ParseMode>(
-    alloc: Global,
-    text: &[u8],
-) -> Result<Option<(u8, Option<(u8, String)>, Option<(u8, Vec<u8>)>)>, Fault> {
+// A variant's number, and the fields of the second and the third one.
+type Fields = (u8, Option<(u8, String)>, Option<(u8, Vec<u8>)>);
+
+fn signal_fields<M: ParseMode>(alloc: Global, text: &[u8]) -> Result<Option<Fields>, Fault> {
     let mut parser: Parser<'_, M> = Parser::new(text);
     let taken = take_signal(alloc, &mut parser);
     Ok(match whole(taken, &parser)? {

@@ -84,26 +84,20 @@ pub type NonZeros = (
     ),
 );
 
-/// Other values that take no memory: `ABDFI`.
-pub type Leaves = (
-    bool,
-    (
-        char,
-        ((), (Option<Option<bool>>, (Result<(), Option<char>>, ()))),
-    ),
-);
+/// Other values that take no memory: `ABDF`.
+pub type Leaves = (bool, (char, ((), (Option<Option<bool>>, ()))));
 
-/// Values that take memory, or that may take some: `CEGHJν`.
+/// Values that take memory, or that may take some: `CEGJν`.
 pub type Owned = (
     String,
     (
         Option<Box<i8>>,
-        (
-            Option<String>,
-            (Result<String, char>, (Box<u8>, ((char, (), Vec<bool>), ()))),
-        ),
+        (Option<String>, (Box<u8>, ((char, (), Vec<bool>), ()))),
     ),
 );
+
+/// Results: `HI`.
+pub type Results = (Result<String, char>, (Result<(), Option<char>>, ()));
 
 /// Lists and arrays: `KLMNOPQR`.
 pub type Lists = (
@@ -127,36 +121,32 @@ pub type Keyed = (
         BTreeMap<String, Option<u8>>,
         (
             BTreeSet<bool>,
+            (BTreeMap<char, ()>, (BTreeSet<()>, MoreKeys)),
+        ),
+    ),
+);
+
+type MoreKeys = (
+    BTreeSet<Option<u8>>,
+    (
+        BTreeSet<Result<bool, char>>,
+        (
+            BTreeSet<Vec<i16>>,
             (
-                BTreeMap<char, ()>,
-                (
-                    BTreeSet<()>,
-                    (
-                        BTreeSet<Option<u8>>,
-                        (
-                            BTreeSet<Result<bool, char>>,
-                            (BTreeSet<Vec<i16>>, MoreKeyed),
-                        ),
-                    ),
-                ),
+                BTreeMap<[u8; 2], Vec<char>>,
+                (BTreeSet<Box<i32>>, NumberKeys),
             ),
         ),
     ),
 );
 
-type MoreKeyed = (
-    BTreeMap<[u8; 2], Vec<char>>,
+type NumberKeys = (
+    BTreeMap<u64, BTreeSet<i128>>,
     (
-        BTreeSet<Box<i32>>,
+        BTreeMap<u16, BTreeMap<usize, BTreeSet<u128>>>,
         (
-            BTreeMap<u64, BTreeSet<i128>>,
-            (
-                BTreeMap<u16, BTreeMap<usize, BTreeSet<u128>>>,
-                (
-                    BTreeMap<i64, BTreeSet<isize>>,
-                    (BTreeMap<u32, BTreeSet<u8>>, ()),
-                ),
-            ),
+            BTreeMap<i64, BTreeSet<isize>>,
+            (BTreeMap<u32, BTreeSet<u8>>, ()),
         ),
     ),
 );
@@ -166,7 +156,7 @@ pub type Nested = (Tree, (Node, (Vec<Tree>, ())));
 
 type B = bool;
 
-/// Tuples of one to twelve fields: `αβγδεζηθικλμ`.
+/// Tuples of one field to twelve: `αβγδεζηθικλμ`.
 pub type Tuples = (
     (u32,),
     (
@@ -175,28 +165,25 @@ pub type Tuples = (
             (u8, B, u8),
             (
                 (u8, B, u8, B),
-                (
-                    (u8, B, u8, B, u8),
-                    (
-                        (u8, B, u8, B, u8, B),
-                        (
-                            (u8, B, u8, B, u8, B, u8),
-                            ((u8, B, u8, B, u8, B, u8, B), MoreTuples),
-                        ),
-                    ),
-                ),
+                ((u8, B, u8, B, u8), ((u8, B, u8, B, u8, B), LongTuples)),
             ),
         ),
     ),
 );
 
-type MoreTuples = (
-    (u8, B, u8, B, u8, B, u8, B, u8),
+type LongTuples = (
+    (u8, B, u8, B, u8, B, u8),
     (
-        (u8, B, u8, B, u8, B, u8, B, u8, B),
+        (u8, B, u8, B, u8, B, u8, B),
         (
-            (u8, B, u8, B, u8, B, u8, B, u8, B, u8),
-            ((u8, B, u8, B, u8, B, u8, B, u8, B, u8, B), ()),
+            (u8, B, u8, B, u8, B, u8, B, u8),
+            (
+                (u8, B, u8, B, u8, B, u8, B, u8, B),
+                (
+                    (u8, B, u8, B, u8, B, u8, B, u8, B, u8),
+                    ((u8, B, u8, B, u8, B, u8, B, u8, B, u8, B), ()),
+                ),
+            ),
         ),
     ),
 );

@@ -3,14 +3,14 @@ without the comma at the end. The texts are written here, as core::fmt has them.
 
 COUNTS = (0, 1, 2, 3, 12, 13, 14, 24, 25)
 MORE_COUNTS = tuple(range(26))
-PARSED = range(1, 7)
+PARSED = range(13)
 
 HEAD = """\
 //! Tests of the forms of macros, which tools/lib/crates/grammar.py writes.
 use super::page::{same_parts, writes};
 use ufmt::pieces::{Debug, Line};
 use ufmt::{Align, Column, HexOptions, fields, pieces, uwrite, uwriteln};
-use ufmt_parse::{Fault, Parser, PlainText, parse_fields};
+use ufmt_parse::{Fault, Parser, PlainText, parse_fields, parse_variants};
 use ufmt_snapshot::assert_snapshot;
 
 const HEX: HexOptions = HexOptions { upper_case: false, pad_char: b'0', pad_length: 6, ox_prefix: true };
@@ -213,9 +213,56 @@ def parse_fields_tests(count):
             rows.append(parsed_row(name, kind % (count, fields), fields, text(title + "x", values), None, number))
             rows.append(parsed_row(name, kind % (count, fields), fields, text(title, values + [1]), None, number))
     swapped = "Named%d { %s }" % (count, ", ".join("%s: 1" % name for name in exchanged))
+    if count == 0:
+        yield parse_function("unit", "Unit", "parse_fields!((), &mut parser, Unit)")
+        rows.append(parsed_row("unit", "Unit", "", "Unit", [], 0))
+        rows.append(parsed_row("unit", "Unit", "", "Unit1", None, 0))
     if count > 1:
         rows.append(parsed_row("named_%d_1" % count, "Named%d { %s }" % (count, fields), fields, swapped, None, 0))
     yield test("parse_fields_%d" % count, rows)
+
+
+def variant(kind, count):
+    """A variant: how it is declared, how it is written for `parse_variants!`, and its text for some values."""
+    title, listed_names = "%s%d" % (kind, count), ", ".join(names(count))
+    if kind == "Unit":
+        return title, title, lambda values: title
+    if kind == "Struct":
+        declared = ", ".join("%s: u8" % name for name in names(count))
+        written = "%s { %s }" % (title, listed_names)
+        return "%s { %s }" % (title, declared), written, lambda values: struct_text(title, values)
+    declared = "%s(%s)" % (title, ", ".join(["u8"] * count))
+    return declared, "%s(%s)" % (title, listed_names), lambda values: tuple_text(title, values)
+
+
+def enum_test(name, members, inner, outer):
+    """An enum with these variants, each of which is parsed. Further texts are no variant's."""
+    made = [variant(*member) for member in members]
+    yield "\n#[derive(Drop)]\nenum %s { %s }\n" % (name, ", ".join(declared for declared, _, _ in made))
+    listed_variants = listed([written for _, written, _ in made], inner)
+    call = "parse_variants!((), &mut parser, %s { %s }%s)" % (name, listed_variants, "," if outer else "")
+    yield parse_function("parse_%s" % name.lower(), name, call)
+    rows = []
+    for number, ((kind, count), (_, written, text)) in enumerate(zip(members, made), 1):
+        count = 0 if kind == "Unit" else count
+        values = list(range(100 + number, 100 + number + count))
+        shape = "%s::%s" % (name, written)
+        rows.append(parsed_row("parse_%s" % name.lower(), shape, ", ".join(names(count)), text(values), values, number))
+    for number, text in enumerate(("Unit99", "7", "Tuple1(7, 8)", "[]"), 90):
+        rows.append(parsed_row("parse_%s" % name.lower(), "", "", text, None, number))
+    yield test("parse_%s_variants" % name.lower(), rows)
+
+
+def variants_tests():
+    kinds = (("Unit", 1), ("Struct", 2), ("Tuple", 3))
+    number = 0
+    for first in range(3):
+        for inner in (False, True):
+            number += 1
+            outer = number % 4 < 2
+            yield from enum_test("E%d" % number, [kinds[(first + place) % 3] for place in range(3)], inner, outer)
+    wide = [(kind, count) for count in PARSED for kind in ("Struct", "Tuple")]
+    yield from enum_test("Wide", wide, False, False)
 
 
 def snapshot_test():
@@ -232,5 +279,5 @@ def source(is_all):
     parts += [fields_test(count) for count in counts]
     parts += [*pieces_tests(), *uwrite_tests()]
     parts += [part for count in PARSED for part in parse_fields_tests(count)]
-    parts += [snapshot_test()]
+    parts += [*variants_tests(), snapshot_test()]
     return "".join(parts)

@@ -32,6 +32,8 @@ STEPS = {
     "parse texts": (1500, 0, 27, 280, 20, 0, 930, 0, 0, 0, 14, 0, 0, 0),
     "parse BTreeSet": (1000, 20, 0, 0, 0, 1320, 0, 0, 0, 0, 0, 0, 0, 0),
     "parse BTreeMap": (1000, 20, 27, 280, 20, 300, 7000, 0, 600, 0, 14, 0, 0, 0),
+    "parse trees": (1000, 20, 0, 0, 0, 400, 0, 0, 300, 100, 0, 0, 30, 0),
+    "parse Node": (1000, 20, 0, 0, 0, 400, 0, 0, 300, 100, 0, 0, 30, 0),
     "is_leaf": (2000, 0, 17, 220, 95, 0, 0, 0, 0, 0, 0, 0, 0, 0),
     "is_word": (2000, 0, 13, 0, 0, 0, 0, 0, 0, 0, 0, 0, 0, 0),
     "Doc::text": (2000, 0, 20, 350, 1, 0, 0, 0, 0, 0, 0, 0, 0, 0),
@@ -148,6 +150,12 @@ def nodes(items, size):
     return Memory(count, room, 0, room, room)
 
 
+def trees(blocks):
+    """A vector of trees, each with another one."""
+    each = 5 * 32
+    return Memory(1 + blocks, 2 * each * blocks + 256, blocks.bit_length() + 2 + blocks, each * blocks + 256, 2 * each * blocks + 256)
+
+
 def memory(call, case):
     found, length = case.features, case.length
     call = call.removeprefix("debug ")
@@ -170,6 +178,8 @@ def memory(call, case):
         "parse texts": lambda: grown(found.texts, 24).then(texts(found.texts, length)),
         "parse BTreeSet": lambda: grown(found.bare, 2).dropped().then(nodes(found.bare, 2)),
         "parse BTreeMap": lambda: grown(found.texts, 32).dropped().then(texts(found.texts, length)).then(nodes(found.texts, 26)),
+        "parse trees": lambda: trees(found.blocks),
+        "parse Node": lambda: Memory(found.blocks, 24 * found.blocks, 0, 24 * found.blocks, 24 * found.blocks),
         "Doc::text": lambda: text(case.quoted),
         "Doc::character": lambda: text(12),
     }[call]()

@@ -135,6 +135,22 @@ def halved(depth):
     return document
 
 
+def trees(size):
+    """A list of trees, each with one that has another and so on."""
+    tree = TREE
+    for number in range(20):
+        tree = Block("struct", "Tree", [("size", str(number)), ("children", listed([tree]))])
+    return listed([tree] * max(size // len(plain(tree)), 1))
+
+
+def chain(size):
+    """Nodes in a row, nearly as deep as any may be."""
+    node = Block("struct", "Node", [("value", "7"), ("next", "None")])
+    for _ in range(min(size // 40, 125)):
+        node = Block("struct", "Node", [("value", "18446744073709551615"), ("next", Block("tuple", "Some", [(None, node)]))])
+    return node
+
+
 def ordered_map(size):
     """A map whose keys ascend."""
     return Block("map", "", [(quoted("%06d" % number), Block("tuple", "Some", [(None, "7")])) for number in range(size // 19)])
@@ -167,6 +183,8 @@ def documents():
     shapes["a deep list of letters"] = lambda size: around("list", "x", size)
     shapes["lists of two"] = lambda size: halved(size.bit_length() - 4)
     shapes["a wide list of trees"] = lambda size: repeated(TREE, size)
+    shapes["trees in trees"] = trees
+    shapes["a chain of nodes"] = chain
     shapes["a map of keys in order"] = ordered_map
     shapes["a set of numbers with one twice"] = lambda size: Block("set", "", [(None, str(number)) for number in [*range(size // 6), 7]])
     shapes["a set of numbers in order"] = lambda size: Block("set", "", [(None, str(number)) for number in range(size // 6)])

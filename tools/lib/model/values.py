@@ -241,23 +241,16 @@ SIGNED = [signed(bits) for bits in (8, 16, 32, 64, 128, 64)]
 TYPES = {
     **row("abcdefghijkl", *UNSIGNED, *SIGNED),
     **row("mnopqrstuv", *(nonzero(number) for number in UNSIGNED[:4] + UNSIGNED[5:] + SIGNED[:4] + SIGNED[5:])),
+    **row("ABDF", BOOL, CHARACTER, UNIT, Choice("None", Some=Choice("None", Some=BOOL))),
     **row(
-        "ABDFI",
-        BOOL,
-        CHARACTER,
-        UNIT,
-        Choice("None", Some=Choice("None", Some=BOOL)),
-        Choice(None, Ok=UNIT, Err=Choice("None", Some=CHARACTER)),
-    ),
-    **row(
-        "CEGHJ\u03bd",
+        "CEGJ\u03bd",
         TEXT,
         Choice("None", Some=signed(8)),
         Choice("None", Some=TEXT),
-        Choice(None, Ok=TEXT, Err=CHARACTER),
         BYTE,
         Fields("tuple", "", [(None, CHARACTER), (None, UNIT), (None, List(BOOL))]),
     ),
+    **row("HI", Choice(None, Ok=TEXT, Err=CHARACTER), Choice(None, Ok=UNIT, Err=Choice("None", Some=CHARACTER))),
     **row(
         "KLMNOPQR",
         List(unsigned(64)),
@@ -308,13 +301,11 @@ def mixed(kind, name, count):
 
 TWELVE = Fields("struct", "Twelve", [(name, BYTE) for name in NAMES[:11]] + [("l", TEXT)])
 ONE = Fields("tuple", "One", [(None, TEXT)])
+SHAPES = [mixed(kind, name, count) for kind, name in (("struct", "S"), ("tuple", "T")) for count in (1, 2, 3, 12)]
 SAID = Fields("tuple", "Said", [(None, BYTE), (None, TEXT)])
 LOST = Fields("struct", "Lost", [("since", BYTE), ("peers", List(BYTE))])
-EVENTS = (Word("Started"), SAID, LOST, Word("Ended"))
-SHAPES = [mixed(kind, name, count) for kind, name in (("struct", "S"), ("tuple", "T")) for count in (1, 2, 3, 12)]
-
-
-KINDS_OF_SHAPES = (*SHAPES, TWELVE, ONE, *EVENTS)
+SIGNALS = (Word("Started"), SAID, LOST, Word("Ended"))
+KINDS_OF_SHAPES = (*SHAPES, TWELVE, ONE, *SIGNALS)
 SHAPE_COUNT = len(KINDS_OF_SHAPES)
 
 

@@ -6,6 +6,7 @@ ghost use Rattle.ufmt_parse.specs.Values.{is_u8, is_u64};
 use super::{first_wrong, same};
 use std::alloc::Global;
 use ufmt::{Formatter, fields, uDebug, uWrite};
+use ufmt_examples::Switch;
 use ufmt_parse::{Fault, ParseMode, Parser, parse_fields, uParse};
 
 /// A struct of four fields.
@@ -103,6 +104,11 @@ fn structs(rt: HostRuntime) {
             "Both(1, 2)",
             "Both;Both(1);Both(1, 2, 3);Both(256, 2);(1, 2);Both { x: 1, y: 2 }",
         ),
+        first_wrong::<Switch>(
+            alloc,
+            "Switch { is_on: true, next: None, is_lit: false };Switch { is_on: false, next: Some(2), is_lit: true }",
+            "Switch { is_on: true, next: none, is_lit: false };Switch { is_on: 1, next: None, is_lit: false }",
+        ),
     ];
-    same(&rt, given, [None; 2], "by type");
+    same(&rt, given, [None; 3], "by type");
 }
