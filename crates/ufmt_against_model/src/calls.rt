@@ -10,7 +10,7 @@ use ufmt_doc::plain_reader::{ReadError, read_debug_plain, read_plain};
 use ufmt_doc::pretty_reader::{read_debug_pretty, read_pretty};
 use ufmt_doc::scan::{ScanError, Sink, scan};
 use ufmt_doc::{convert, is_debug_text, is_text, laws};
-use ufmt_parse::{parse, parse_pretty, uParse};
+use ufmt_parse::{ParseError, parse, parse_pretty, uParse};
 
 /// A text, and the class and the mode in which it is read.
 #[derive(Clone, Copy)]
@@ -132,11 +132,11 @@ impl Calls<'_> {
         }
     }
 
-    /// Parses a token text.
-    pub fn parse<T: uParse>(&self) -> Result<T, ReadError> {
+    /// Parses a text of either class.
+    pub fn parse<T: uParse<A>, A>(&self, alloc: A) -> Result<T, ParseError> {
         match self.mode {
-            Mode::Plain => parse(self.alloc, self.text),
-            Mode::Pretty => parse_pretty(self.alloc, self.text),
+            Mode::Plain => parse(alloc, self.text),
+            Mode::Pretty => parse_pretty(alloc, self.text),
         }
     }
 

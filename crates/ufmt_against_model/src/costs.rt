@@ -65,11 +65,12 @@ impl Costs {
         self.line.push_str(verdict)
     }
 
-    // A half of the line: calls on token texts, and after them those on debug texts.
+    // A half of the line: calls on token texts and those that parse values, and after them calls on debug texts.
     fn on_mode(&mut self, name: &str, calls: Calls<'_>) -> Result<(), AllocError> {
         self.line.push_str(name)?;
         self.line.push_str(": ")?;
         self.on_text(calls)?;
+        self.on_types(calls)?;
         self.on_token_text(calls)?;
         self.line.push_str("; debug ")?;
         self.line.push_str(name)?;
@@ -94,7 +95,6 @@ impl Costs {
     }
 
     fn on_token_text(&mut self, calls: Calls<'_>) -> Result<(), AllocError> {
-        count!(self, "parse", calls.parse::<Vec<Tree>>().ok());
         count!(self, "again", calls.again().ok());
         count!(self, "there and back", calls.by_way_of_the_other().ok());
         match (calls.read(), calls.read_loose()) {
@@ -106,8 +106,7 @@ impl Costs {
     fn on_docs(&mut self, calls: Calls<'_>, doc: &Doc, loose: &mut Doc) -> Result<(), AllocError> {
         self.on_doc(calls, doc)?;
         self.on_fields(calls, doc)?;
-        self.on_loose(calls, doc, loose)?;
-        self.on_types(doc)
+        self.on_loose(calls, doc, loose)
     }
 
     fn on_doc(&mut self, calls: Calls<'_>, doc: &Doc) -> Result<(), AllocError> {
@@ -156,21 +155,26 @@ impl Costs {
         self.note("normalize", Some(()))
     }
 
-    fn on_types(&mut self, doc: &Doc) -> Result<(), AllocError> {
-        self.on_type::<i128>("i128", doc)?;
-        self.on_type::<char>("char", doc)?;
-        self.on_type::<String>("String", doc)?;
-        self.on_type::<Option<Box<i8>>>("Option", doc)?;
-        self.on_type::<Vec<u64>>("Vec", doc)?;
-        self.on_type::<BTreeSet<u16>>("BTreeSet", doc)?;
-        self.on_type::<BTreeMap<String, Option<u8>>>("BTreeMap", doc)?;
-        self.on_type::<Vec<Tree>>("trees", doc)?;
-        self.on_type::<Node>("Node", doc)
+    fn on_types(&mut self, calls: Calls<'_>) -> Result<(), AllocError> {
+        self.on_type::<i128>("parse i128", calls)?;
+        self.on_type::<char>("parse char", calls)?;
+        self.on_type::<String>("parse String", calls)?;
+        self.on_type::<Option<Box<i8>>>("parse Option", calls)?;
+        self.on_type::<Vec<u64>>("parse Vec", calls)?;
+        self.on_type::<Vec<String>>("parse texts", calls)?;
+        self.on_type::<BTreeSet<u16>>("parse BTreeSet", calls)?;
+        self.on_type::<BTreeMap<String, Option<u8>>>("parse BTreeMap", calls)?;
+        self.on_type::<Vec<Tree>>("parse trees", calls)?;
+        self.on_type::<Node>("parse Node", calls)
     }
 
-    fn on_type<T: uParse>(&mut self, name: &str, doc: &Doc) -> Result<(), AllocError> {
+    fn on_type<T: uParse<Global>>(
+        &mut self,
+        name: &str,
+        calls: Calls<'_>,
+    ) -> Result<(), AllocError> {
         mark(self.alloc, BEGIN);
-        self.note(name, T::from_doc(self.alloc, doc).unwrap_or(None))
+        self.note(name, calls.parse::<T, Global>(calls.alloc).ok())
     }
 
     fn on_leaf(&mut self, text: &str) -> Result<(), AllocError> {

@@ -1,4 +1,4 @@
-//! The calls of one mode on one text: those on token texts, and those on debug texts.
+//! The calls of one mode on one text: those on token texts, those on debug texts, and those that parse values.
 ghost use Rattle.std.specs.Prelude.{[], ⊤};
 
 use crate::calls::Calls;
@@ -7,7 +7,7 @@ use crate::events::Events;
 use crate::fault::{Fault, agree};
 use crate::parts::Parts;
 use crate::pieces::{self, TextPieces};
-use crate::tokens;
+use crate::{parsed, tokens};
 use std::alloc::{AllocError, Global};
 use ufmt::{Full, uWrite};
 use ufmt_doc::doc::{Doc, same_text};
@@ -15,7 +15,7 @@ use ufmt_doc::plain_reader::ReadError;
 use ufmt_doc::scan::ScanError;
 
 /// Returns what the calls on token texts say of the text, as a message. After it, the message has what
-/// the calls on debug texts say, or `=` if they say the same.
+/// the calls on debug texts say, or `=` if they say the same, and which types have a value with the text.
 pub fn verdict(calls: Calls<'_>) -> Result<String, AllocError> {
     let token = of_class(calls)?;
     let others = tokens::verdict(calls)?;
@@ -25,7 +25,8 @@ pub fn verdict(calls: Calls<'_>) -> Result<String, AllocError> {
     } else {
         debug.as_str()
     };
-    format!(in calls.alloc; "{token}{others}; debug: {debug}")
+    let values = parsed::verdict(calls)?;
+    format!(in calls.alloc; "{token}{others}; debug: {debug}; values: {values}")
 }
 
 // What the calls of the class say that both classes have.

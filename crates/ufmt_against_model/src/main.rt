@@ -6,7 +6,8 @@
 //! A half of a line, `plain` or `pretty`, is `no text` if the calls of that mode on token texts fail
 //! with `NotText`. Else it has digests of their results. If a call is wrong, it is `FAULT` with the
 //! call's name, or with the error of a call that should be `Ok`. After each half, `debug` has the same
-//! of the calls on debug texts, or `=` if they say the same as those on token texts.
+//! of the calls on debug texts, or `=` if they say the same as those on token texts, and `values` has
+//! the types that have a value with the text.
 //!
 //! With the argument `costs` it makes each call by itself, and a line has the names of the calls.
 //!

@@ -1,16 +1,14 @@
-//! Which types have a value with the text.
+//! Which types have a value with the text, of either class.
 use crate::calls::Calls;
+use crate::digest::Digest;
 use crate::fault::{Fault, agree};
 use crate::pieces::Pieces;
-use crate::types::{Keyed, Leaves, Lists, Nested, NonZeros, Numbers, Tuples, Types};
+use crate::shapes;
+use crate::types::{
+    Keyed, Leaves, Lists, Nested, NonZeros, Numbers, Owned, Results, Tuples, Types,
+};
 use std::alloc::{AllocError, Global};
-use ufmt_doc::doc::Doc;
-use ufmt_doc::plain_reader::ReadError;
-use ufmt_parse::uParse;
-
-// The longest text that is read for each type that has no value with it. A longer one is only tried by its
-// document, since that would take most of the time.
-const LONGEST_TEXT: usize = 200;
+use ufmt_parse::{ParseError, uParse};
 
 /// The letters of the types that have a value with the text, and the pieces of those values.
 #[derive(Drop)]
@@ -19,50 +17,65 @@ pub struct TypeLetters {
     pieces: Pieces,
 }
 
-impl TypeLetters {
-    pub fn message(&self, alloc: Global) -> Result<String, AllocError> {
-        let pieces = self.pieces.digest.message(alloc)?;
-        format!(in alloc; "[{}] in pieces {pieces}", self.text)
+/// Returns which types have a value with the text, and the fields of those of a user's types, as a message.
+pub fn verdict(calls: Calls<'_>) -> Result<String, AllocError> {
+    match values(calls) {
+        Ok((letters, fields)) => message(calls.alloc, &letters, &fields),
+        Err(fault) => fault.message(calls.alloc),
     }
 }
 
-/// Returns the letters of the types that have a value with the text, which was read as this document.
-pub fn letters(calls: Calls<'_>, doc: &Doc) -> Result<TypeLetters, Fault> {
+fn values(calls: Calls<'_>) -> Result<(TypeLetters, Digest), Fault> {
+    let fields = Digest::of(&shapes::fields_of(calls)?);
+    Ok((letters(calls)?, fields))
+}
+
+fn message(alloc: Global, letters: &TypeLetters, fields: &Digest) -> Result<String, AllocError> {
+    let pieces = letters.pieces.digest.message(alloc)?;
+    let fields = fields.message(alloc)?;
+    format!(in alloc;
+        "types [{}] in pieces {pieces}, fields {fields}",
+        letters.text
+    )
+}
+
+// Values that take no memory are parsed with no allocator.
+fn letters(calls: Calls<'_>) -> Result<TypeLetters, Fault> {
+    let alloc = calls.alloc;
     let mut letters = TypeLetters {
-        text: String::new(calls.alloc),
+        text: String::new(alloc),
         pieces: Pieces::new(),
     };
-    Numbers::add_all(calls, doc, "abcdefghijkl", &mut letters)?;
-    NonZeros::add_all(calls, doc, "mnopqrstuv", &mut letters)?;
-    Leaves::add_all(calls, doc, "ABCDEFGHIJ", &mut letters)?;
-    Lists::add_all(calls, doc, "KLMNOPQR", &mut letters)?;
-    Keyed::add_all(calls, doc, "STUVWXYZ012345", &mut letters)?;
-    Nested::add_all(calls, doc, "678", &mut letters)?;
-    Tuples::add_all(calls, doc, "αβγδεζηθικλμν", &mut letters)?;
+    Numbers::add_all(calls, (), "abcdefghijkl", &mut letters)?;
+    NonZeros::add_all(calls, (), "mnopqrstuv", &mut letters)?;
+    Leaves::add_all(calls, (), "ABDF", &mut letters)?;
+    Owned::add_all(calls, alloc, "CEGJν", &mut letters)?;
+    Results::add_all(calls, alloc, "HI", &mut letters)?;
+    Lists::add_all(calls, alloc, "KLMNOPQR", &mut letters)?;
+    Keyed::add_all(calls, alloc, "STUVWXYZ012345", &mut letters)?;
+    Nested::add_all(calls, alloc, "678", &mut letters)?;
+    Tuples::add_all(calls, (), "αβγδεζηθικλμ", &mut letters)?;
     Ok(letters)
 }
 
 /// Adds the letter of the type if it has a value with the text. Each such value must print as the text.
-pub fn add<T: uParse>(
+pub fn add<T: uParse<A>, A>(
     calls: Calls<'_>,
-    doc: &Doc,
+    alloc: A,
     letters: &mut TypeLetters,
     letter: char,
 ) -> Result<(), Fault> {
-    let Some(value) = T::from_doc(calls.alloc, doc)? else {
-        return agree(is_no_value::<T>(calls), "parse of another type's text");
-    };
-    let printed = calls.print(&value)?;
-    agree(printed.as_bytes() == calls.text, "a parsed value, printed")?;
-    let again = calls.parse::<T>()?;
-    let printed = calls.print(&again)?;
-    agree(printed.as_bytes() == calls.text, "parse")?;
-    calls.print_to(&mut letters.pieces, &value);
-    letters.text.push(letter)?;
-    Ok(())
-}
-
-// Whether no value of the type has the text.
-fn is_no_value<T: uParse>(calls: Calls<'_>) -> bool {
-    calls.text.len() > LONGEST_TEXT || matches!(calls.parse::<T>(), Err(ReadError::NotText))
+    match calls.parse::<T, A>(alloc) {
+        Ok(value) => {
+            let printed = calls.print(&value)?;
+            agree(printed.as_bytes() == calls.text, "a parsed value, printed")?;
+            calls.print_to(&mut letters.pieces, &value);
+            letters.text.push(letter)?;
+            Ok(())
+        }
+        Err(ParseError::NotText { at }) => {
+            agree(at <= calls.text.len(), "the place in a refused text")
+        }
+        Err(ParseError::OutOfMemory) => Err(Fault::WantOfMemory),
+    }
 }

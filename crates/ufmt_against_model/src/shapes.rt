@@ -1,38 +1,36 @@
-//! Structs and tuples of one to three fields and of twelve, and an enum, by the calls and the macros for a user's types.
+//! Structs and tuples by their number of fields, and an enum, by the calls and the macros for a user's types.
+use crate::calls::Calls;
 use crate::fault::Fault;
-use std::alloc::{AllocError, Global};
+use std::alloc::Global;
+use ufmt::layout::Mode;
 use ufmt::{plain_text, uDebug};
-use ufmt_doc::Doc;
 use ufmt_parse::{
-    parse_fields, parse_struct_1, parse_struct_2, parse_struct_3, parse_struct_12, parse_tuple_1,
-    parse_tuple_2, parse_tuple_3, parse_tuple_12, parse_variants,
+    Fault as Unparsed, ParseMode, Parser, PlainText, PrettyText, parse_fields, parse_struct_1,
+    parse_struct_2, parse_struct_3, parse_struct_12, parse_tuple_1, parse_tuple_2, parse_tuple_3,
+    parse_tuple_12, parse_variants,
 };
 
-/// Returns the fields of the struct, the tuple or the variant that has this document, as the texts of tuples.
-pub fn fields_of(alloc: Global, doc: &Doc) -> Result<String, Fault> {
-    let mut out = String::new(alloc);
-    match doc {
-        Doc::StructOf(_, _) => note_each_struct(alloc, doc, &mut out)?,
-        Doc::TupleOf(_, _) => note_each_tuple(alloc, doc, &mut out)?,
-        _ => {}
+/// Returns the fields of each struct, tuple and variant that has the text, as the texts of tuples.
+pub fn fields_of(calls: Calls<'_>) -> Result<String, Fault> {
+    match calls.mode {
+        Mode::Plain => fields_in::<PlainText>(calls.alloc, calls.text),
+        Mode::Pretty => fields_in::<PrettyText>(calls.alloc, calls.text),
     }
-    note(alloc, "e", parse_event(alloc, doc)?, &mut out)?;
+}
+
+fn fields_in<M: ParseMode>(alloc: Global, text: &[u8]) -> Result<String, Fault> {
+    let mut out = String::new(alloc);
+    note_structs::<M>(alloc, text, &mut out)?;
+    note_long_struct::<M>(alloc, text, &mut out)?;
+    note_tuples::<M>(alloc, text, &mut out)?;
+    note_long_tuple::<M>(alloc, text, &mut out)?;
+    note(alloc, "w", twelve_fields::<M>(alloc, text)?, &mut out)?;
+    note(alloc, "o", one_field::<M>(alloc, text)?, &mut out)?;
+    note(alloc, "e", signal_fields::<M>(alloc, text)?, &mut out)?;
     Ok(out)
 }
 
-fn note_each_struct(alloc: Global, doc: &Doc, out: &mut String) -> Result<(), Fault> {
-    note_structs(alloc, doc, out)?;
-    note_long_struct(alloc, doc, out)?;
-    note(alloc, "w", parse_twelve(alloc, doc)?, out)
-}
-
-fn note_each_tuple(alloc: Global, doc: &Doc, out: &mut String) -> Result<(), Fault> {
-    note_tuples(alloc, doc, out)?;
-    note_long_tuple(alloc, doc, out)?;
-    note(alloc, "o", parse_one(alloc, doc)?, out)
-}
-
-// Notes the fields after a letter, if the document is a value's.
+// Notes the fields after a letter, if the text is a value's.
 fn note<T: uDebug + Drop>(
     alloc: Global,
     letter: &str,
@@ -47,41 +45,66 @@ fn note<T: uDebug + Drop>(
     Ok(())
 }
 
-// Notes what this call returns of a struct with these fields. A number and a text in turn.
+// What was taken, if that is the whole text.
+fn whole<T: Drop, M: ParseMode>(
+    taken: Result<T, Unparsed>,
+    parser: &Parser<'_, M>,
+) -> Result<Option<T>, Fault> {
+    match taken {
+        Ok(value) if parser.len() == 0 => Ok(Some(value)),
+        Ok(_) => Ok(None),
+        Err(Unparsed::NotText) => Ok(None),
+        Err(Unparsed::OutOfMemory) => Err(Fault::WantOfMemory),
+    }
+}
+
+// Notes what this call takes of a struct with these fields. A number and a character in turn.
 macro_rules! named {
-    ($alloc:ident $doc:ident $out:ident $call:ident($($type:ident $name:literal)+)) => {
-        note($alloc, "s", $call::<$($type),+>($alloc, $doc, "S", $($name),+)?, $out)?
-    };
+    ($alloc:ident $text:ident $out:ident $mode:ident $call:ident($($type:ident $name:literal)+)) => {{
+        let mut parser: Parser<'_, $mode> = Parser::new($text);
+        let taken = $call::<(), $($type),+, $mode>((), &mut parser, "S", $($name),+);
+        note($alloc, "s", whole(taken, &parser)?, $out)?
+    }};
 }
 
 // The same of a tuple.
 macro_rules! unnamed {
-    ($alloc:ident $doc:ident $out:ident $call:ident($($type:ident)+)) => {
-        note($alloc, "t", $call::<$($type),+>($alloc, $doc, "T")?, $out)?
-    };
+    ($alloc:ident $text:ident $out:ident $mode:ident $call:ident($($type:ident)+)) => {{
+        let mut parser: Parser<'_, $mode> = Parser::new($text);
+        let taken = $call::<(), $($type),+, $mode>((), &mut parser, "T");
+        note($alloc, "t", whole(taken, &parser)?, $out)?
+    }};
 }
 
-fn note_structs(alloc: Global, doc: &Doc, out: &mut String) -> Result<(), Fault> {
-    named!(alloc doc out parse_struct_1(u8 "a"));
-    named!(alloc doc out parse_struct_2(u8 "a" char "b"));
-    named!(alloc doc out parse_struct_3(u8 "a" char "b" u8 "c"));
+fn note_structs<M: ParseMode>(alloc: Global, text: &[u8], out: &mut String) -> Result<(), Fault> {
+    named!(alloc text out M parse_struct_1(u8 "a"));
+    named!(alloc text out M parse_struct_2(u8 "a" char "b"));
+    named!(alloc text out M parse_struct_3(u8 "a" char "b" u8 "c"));
     Ok(())
 }
 
-fn note_long_struct(alloc: Global, doc: &Doc, out: &mut String) -> Result<(), Fault> {
-    named!(alloc doc out parse_struct_12(u8 "a" char "b" u8 "c" char "d" u8 "e" char "f" u8 "g" char "h" u8 "i" char "j" u8 "k" char "l"));
+fn note_long_struct<M: ParseMode>(
+    alloc: Global,
+    text: &[u8],
+    out: &mut String,
+) -> Result<(), Fault> {
+    named!(alloc text out M parse_struct_12(u8 "a" char "b" u8 "c" char "d" u8 "e" char "f" u8 "g" char "h" u8 "i" char "j" u8 "k" char "l"));
     Ok(())
 }
 
-fn note_tuples(alloc: Global, doc: &Doc, out: &mut String) -> Result<(), Fault> {
-    unnamed!(alloc doc out parse_tuple_1(u8));
-    unnamed!(alloc doc out parse_tuple_2(u8 char));
-    unnamed!(alloc doc out parse_tuple_3(u8 char u8));
+fn note_tuples<M: ParseMode>(alloc: Global, text: &[u8], out: &mut String) -> Result<(), Fault> {
+    unnamed!(alloc text out M parse_tuple_1(u8));
+    unnamed!(alloc text out M parse_tuple_2(u8 char));
+    unnamed!(alloc text out M parse_tuple_3(u8 char u8));
     Ok(())
 }
 
-fn note_long_tuple(alloc: Global, doc: &Doc, out: &mut String) -> Result<(), Fault> {
-    unnamed!(alloc doc out parse_tuple_12(u8 char u8 char u8 char u8 char u8 char u8 char));
+fn note_long_tuple<M: ParseMode>(
+    alloc: Global,
+    text: &[u8],
+    out: &mut String,
+) -> Result<(), Fault> {
+    unnamed!(alloc text out M parse_tuple_12(u8 char u8 char u8 char u8 char u8 char u8 char));
     Ok(())
 }
 
@@ -112,10 +135,13 @@ enum Signal {
     Ended,
 }
 
-fn find_twelve(alloc: Global, doc: &Doc) -> Result<Option<Twelve>, AllocError> {
+fn take_twelve<M: ParseMode>(
+    alloc: Global,
+    parser: &mut Parser<'_, M>,
+) -> Result<Twelve, Unparsed> {
     parse_fields!(
         alloc,
-        doc,
+        parser,
         Twelve {
             a,
             b,
@@ -133,37 +159,48 @@ fn find_twelve(alloc: Global, doc: &Doc) -> Result<Option<Twelve>, AllocError> {
     )
 }
 
-fn find_one(alloc: Global, doc: &Doc) -> Result<Option<One>, AllocError> {
-    parse_fields!(alloc, doc, One(text))
+fn take_one<M: ParseMode>(alloc: Global, parser: &mut Parser<'_, M>) -> Result<One, Unparsed> {
+    parse_fields!(alloc, parser, One(text))
 }
 
-fn find_event(alloc: Global, doc: &Doc) -> Result<Option<Signal>, AllocError> {
-    parse_variants!(alloc, doc, Signal { Started, Said(node, text), Lost { since, peers }, Ended })
+fn take_signal<M: ParseMode>(
+    alloc: Global,
+    parser: &mut Parser<'_, M>,
+) -> Result<Signal, Unparsed> {
+    parse_variants!(alloc, parser, Signal { Started, Said(node, text), Lost { since, peers }, Ended })
 }
 
 type Numbers = (u8, u8, u8, u8, u8, u8, u8, u8, u8, u8, u8);
 
-fn parse_twelve(alloc: Global, doc: &Doc) -> Result<Option<(Numbers, String)>, AllocError> {
-    let Some(t) = find_twelve(alloc, doc)? else {
+fn twelve_fields<M: ParseMode>(
+    alloc: Global,
+    text: &[u8],
+) -> Result<Option<(Numbers, String)>, Fault> {
+    let mut parser: Parser<'_, M> = Parser::new(text);
+    let taken = take_twelve(alloc, &mut parser);
+    let Some(t) = whole(taken, &parser)? else {
         return Ok(None);
     };
     let numbers = (t.a, t.b, t.c, t.d, t.e, t.f, t.g, t.h, t.i, t.j, t.k);
     Ok(Some((numbers, t.l)))
 }
 
-fn parse_one(alloc: Global, doc: &Doc) -> Result<Option<String>, AllocError> {
-    match find_one(alloc, doc)? {
-        Some(found) => Ok(Some(found.0)),
+fn one_field<M: ParseMode>(alloc: Global, text: &[u8]) -> Result<Option<String>, Fault> {
+    let mut parser: Parser<'_, M> = Parser::new(text);
+    let taken = take_one(alloc, &mut parser);
+    match whole(taken, &parser)? {
+        Some(one) => Ok(Some(one.0)),
         None => Ok(None),
     }
 }
 
-// The variant's number, and its fields.
-fn parse_event(
-    alloc: Global,
-    doc: &Doc,
-) -> Result<Option<(u8, Option<(u8, String)>, Option<(u8, Vec<u8>)>)>, AllocError> {
-    Ok(match find_event(alloc, doc)? {
+// A variant's number, and the fields of the second and the third one.
+type Fields = (u8, Option<(u8, String)>, Option<(u8, Vec<u8>)>);
+
+fn signal_fields<M: ParseMode>(alloc: Global, text: &[u8]) -> Result<Option<Fields>, Fault> {
+    let mut parser: Parser<'_, M> = Parser::new(text);
+    let taken = take_signal(alloc, &mut parser);
+    Ok(match whole(taken, &parser)? {
         None => None,
         Some(Signal::Started) => Some((0, None, None)),
         Some(Signal::Said(node, text)) => Some((1, Some((node, text)), None)),

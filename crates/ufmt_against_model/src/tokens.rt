@@ -1,10 +1,9 @@
 //! What only the calls on token texts say of a text.
 use crate::calls::Calls;
-use crate::digest::Digest;
 use crate::fault::{Fault, agree};
+use crate::fields;
 use crate::half::has_parts;
 use crate::parts::Parts;
-use crate::{fields, parsed, shapes};
 use std::alloc::{AllocError, Global};
 use ufmt_doc::doc::{Doc, same_text};
 use ufmt_doc::laws::{normal_by_way_of_plain, normal_by_way_of_pretty};
@@ -14,11 +13,12 @@ use ufmt_doc::plain_reader::ReadError;
 /// calls say so.
 pub fn verdict(calls: Calls<'_>) -> Result<String, AllocError> {
     let outcome = match calls.read() {
-        Ok(doc) => of_text(calls, &doc).map(Some),
+        Ok(doc) => is_text_in_a_list(calls, &doc).map(Some),
         Err(_) => of_no_text(calls).map(|()| None),
     };
     match outcome {
-        Ok(Some(results)) => results.message(calls.alloc),
+        Ok(Some(true)) => String::from_str(calls.alloc, ", in a list yes"),
+        Ok(Some(false)) => String::from_str(calls.alloc, ", in a list no"),
         Ok(None) => Ok(String::new(calls.alloc)),
         Err(fault) => {
             let message = fault.message(calls.alloc)?;
@@ -27,35 +27,13 @@ pub fn verdict(calls: Calls<'_>) -> Result<String, AllocError> {
     }
 }
 
-// The results for a text.
-#[derive(Drop)]
-struct Results {
-    // The fields of a struct or a tuple with one to twelve.
-    fields: Digest,
-    // Whether a list of the document is a token document: the document is less than 255 deep.
-    is_token_in_a_list: bool,
-    // The letters of the types that have a value with the text.
-    types: parsed::TypeLetters,
-}
-
-impl Results {
-    fn message(&self, alloc: Global) -> Result<String, AllocError> {
-        let fields = self.fields.message(alloc)?;
-        let types = self.types.message(alloc)?;
-        let in_a_list = if self.is_token_in_a_list { "yes" } else { "no" };
-        format!(in alloc; ", fields {fields}, in a list {in_a_list}, types {types}")
-    }
-}
-
-fn of_text(calls: Calls<'_>, doc: &Doc) -> Result<Results, Fault> {
+// Makes each call on a token text. Returns whether a list of its document is a token document: it is less
+// than 255 deep.
+fn is_text_in_a_list(calls: Calls<'_>, doc: &Doc) -> Result<bool, Fault> {
     comes_again(calls)?;
     comes_as_normal(calls, doc)?;
     fields::reads_fields(calls, doc)?;
-    Ok(Results {
-        fields: Digest::of(&shapes::fields_of(calls.alloc, doc)?),
-        is_token_in_a_list: is_token_in_a_list(calls, doc)?,
-        types: parsed::letters(calls, doc)?,
-    })
+    is_token_in_a_list(calls, doc)
 }
 
 // Reads and prints the text, and converts it to the other mode and back.
@@ -93,8 +71,6 @@ fn of_no_text(calls: Calls<'_>) -> Result<(), Fault> {
         calls.again() == Err(ReadError::NotText),
         "no text, read again",
     )?;
-    let is_refused = matches!(calls.parse::<String>(), Err(ReadError::NotText));
-    agree(is_refused, "parse of no text")?;
     agree(fields::is_refused(calls), "read_field of no text")?;
     let by_way = calls.by_way_of_the_other();
     agree(by_way == Err(ReadError::NotText), "no text, there and back")

@@ -7,25 +7,24 @@ use std::num::{
     NonZeroI8, NonZeroI16, NonZeroI32, NonZeroI64, NonZeroIsize, NonZeroU8, NonZeroU16, NonZeroU32,
     NonZeroU64, NonZeroUsize,
 };
-use ufmt_doc::doc::Doc;
 use ufmt_examples::{Node, Tree};
 use ufmt_parse::uParse;
 
-/// Types in a row: the first, and the row of the others, or `()`.
-pub trait Types {
-    /// Adds the letter of each type that has a value with the text, which was read as this document.
+/// Types in a row: the first, and the row of the others, or `()`. They are parsed with this type of allocator.
+pub trait Types<A> {
+    /// Adds the letter of each type that has a value with the text.
     fn add_all(
         calls: Calls<'_>,
-        doc: &Doc,
+        alloc: A,
         row: &str,
         letters: &mut TypeLetters,
     ) -> Result<(), Fault>;
 }
 
-impl Types for () {
+impl<A: Copy> Types<A> for () {
     fn add_all(
         _calls: Calls<'_>,
-        _doc: &Doc,
+        _alloc: A,
         row: &str,
         _letters: &mut TypeLetters,
     ) -> Result<(), Fault> {
@@ -33,16 +32,16 @@ impl Types for () {
     }
 }
 
-impl<T: uParse, R: Types> Types for (T, R) {
+impl<A: Copy, T: uParse<A>, R: Types<A>> Types<A> for (T, R) {
     fn add_all(
         calls: Calls<'_>,
-        doc: &Doc,
+        alloc: A,
         row: &str,
         letters: &mut TypeLetters,
     ) -> Result<(), Fault> {
         let mut row = row.chars();
-        add::<T>(calls, doc, letters, row.next().unwrap_or('?'))?;
-        R::add_all(calls, doc, row.as_str(), letters)
+        add::<T, A>(calls, alloc, letters, row.next().unwrap_or('?'))?;
+        R::add_all(calls, alloc, row.as_str(), letters)
     }
 }
 
@@ -85,32 +84,20 @@ pub type NonZeros = (
     ),
 );
 
-/// Other leaves, and a value that may be one: `ABCDEFGHIJ`.
-pub type Leaves = (
-    bool,
+/// Other values that take no memory: `ABDF`.
+pub type Leaves = (bool, (char, ((), (Option<Option<bool>>, ()))));
+
+/// Values that take memory, or that may take some: `CEGJν`.
+pub type Owned = (
+    String,
     (
-        char,
-        (
-            String,
-            (
-                (),
-                (
-                    Option<Box<i8>>,
-                    (
-                        Option<Option<bool>>,
-                        (
-                            Option<String>,
-                            (
-                                Result<String, char>,
-                                (Result<(), Option<char>>, (Box<u8>, ())),
-                            ),
-                        ),
-                    ),
-                ),
-            ),
-        ),
+        Option<Box<i8>>,
+        (Option<String>, (Box<u8>, ((char, (), Vec<bool>), ()))),
     ),
 );
+
+/// Results: `HI`.
+pub type Results = (Result<String, char>, (Result<(), Option<char>>, ()));
 
 /// Lists and arrays: `KLMNOPQR`.
 pub type Lists = (
@@ -134,36 +121,32 @@ pub type Keyed = (
         BTreeMap<String, Option<u8>>,
         (
             BTreeSet<bool>,
+            (BTreeMap<char, ()>, (BTreeSet<()>, MoreKeys)),
+        ),
+    ),
+);
+
+type MoreKeys = (
+    BTreeSet<Option<u8>>,
+    (
+        BTreeSet<Result<bool, char>>,
+        (
+            BTreeSet<Vec<i16>>,
             (
-                BTreeMap<char, ()>,
-                (
-                    BTreeSet<()>,
-                    (
-                        BTreeSet<Option<u8>>,
-                        (
-                            BTreeSet<Result<bool, char>>,
-                            (BTreeSet<Vec<i16>>, MoreKeyed),
-                        ),
-                    ),
-                ),
+                BTreeMap<[u8; 2], Vec<char>>,
+                (BTreeSet<Box<i32>>, NumberKeys),
             ),
         ),
     ),
 );
 
-type MoreKeyed = (
-    BTreeMap<[u8; 2], Vec<char>>,
+type NumberKeys = (
+    BTreeMap<u64, BTreeSet<i128>>,
     (
-        BTreeSet<Box<i32>>,
+        BTreeMap<u16, BTreeMap<usize, BTreeSet<u128>>>,
         (
-            BTreeMap<u64, BTreeSet<i128>>,
-            (
-                BTreeMap<u16, BTreeMap<usize, BTreeSet<u128>>>,
-                (
-                    BTreeMap<i64, BTreeSet<isize>>,
-                    (BTreeMap<u32, BTreeSet<u8>>, ()),
-                ),
-            ),
+            BTreeMap<i64, BTreeSet<isize>>,
+            (BTreeMap<u32, BTreeSet<u8>>, ()),
         ),
     ),
 );
@@ -173,7 +156,7 @@ pub type Nested = (Tree, (Node, (Vec<Tree>, ())));
 
 type B = bool;
 
-/// Tuples of one to twelve fields, and one of other types: `αβγδεζηθικλμν`.
+/// Tuples of one field to twelve: `αβγδεζηθικλμ`.
 pub type Tuples = (
     (u32,),
     (
@@ -182,30 +165,24 @@ pub type Tuples = (
             (u8, B, u8),
             (
                 (u8, B, u8, B),
-                (
-                    (u8, B, u8, B, u8),
-                    (
-                        (u8, B, u8, B, u8, B),
-                        (
-                            (u8, B, u8, B, u8, B, u8),
-                            ((u8, B, u8, B, u8, B, u8, B), MoreTuples),
-                        ),
-                    ),
-                ),
+                ((u8, B, u8, B, u8), ((u8, B, u8, B, u8, B), LongTuples)),
             ),
         ),
     ),
 );
 
-type MoreTuples = (
-    (u8, B, u8, B, u8, B, u8, B, u8),
+type LongTuples = (
+    (u8, B, u8, B, u8, B, u8),
     (
-        (u8, B, u8, B, u8, B, u8, B, u8, B),
+        (u8, B, u8, B, u8, B, u8, B),
         (
-            (u8, B, u8, B, u8, B, u8, B, u8, B, u8),
+            (u8, B, u8, B, u8, B, u8, B, u8),
             (
-                (u8, B, u8, B, u8, B, u8, B, u8, B, u8, B),
-                ((char, (), Vec<bool>), ()),
+                (u8, B, u8, B, u8, B, u8, B, u8, B),
+                (
+                    (u8, B, u8, B, u8, B, u8, B, u8, B, u8),
+                    ((u8, B, u8, B, u8, B, u8, B, u8, B, u8, B), ()),
+                ),
             ),
         ),
     ),

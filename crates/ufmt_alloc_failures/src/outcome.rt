@@ -5,6 +5,7 @@ ghost use Rattle.ufmt.specs.Layout.{plain_text};
 use std::alloc::AllocError;
 use ufmt::{debug_into, uDebug};
 use ufmt_doc::plain_reader::ReadError;
+use ufmt_parse::ParseError;
 
 /// What a call returned.
 #[derive(Clone, Copy, PartialEq, Eq, Debug)]
@@ -76,8 +77,8 @@ impl Outcome {
         }
     }
 
-    /// The outcome of a reader or of `parse`. With ample memory its document or value has the plain
-    /// text `ample`, or it fails with `NotText` if that is `None`.
+    /// The outcome of a reader. With ample memory its document has the plain text `ample`, or it fails
+    /// with `NotText` if that is `None`.
     pub fn of_value<T: uDebug + Drop>(outcome: Result<T, ReadError>, ample: Option<&str>) -> Outcome
         ensures memory { IsErrOf outcome ReadError.OutOfMemory ↔ (result ≡ Outcome.WantOfMemory) }
         ensures text { (result ≡ Outcome.Ample) → IfOk outcome (λ value.
@@ -88,6 +89,26 @@ impl Outcome {
             Ok(value) if has_plain_text(&value, ample) => Outcome::Ample,
             Ok(_) => Outcome::Other,
             Err(error) => Outcome::of_refusal(error, ample),
+        }
+    }
+
+    /// The outcome of `parse`. With ample memory its value has the plain text `ample`, or it fails with
+    /// `NotText` if that is `None`.
+    pub fn of_parse<T: uDebug + Drop>(
+        outcome: Result<T, ParseError>,
+        ample: Option<&str>,
+    ) -> Outcome
+        ensures memory { IsErrOf outcome ParseError.OutOfMemory ↔ (result ≡ Outcome.WantOfMemory) }
+        ensures text { (result ≡ Outcome.Ample) → IfOk outcome (λ value.
+            IfSome ample.entry (λ wanted. plain_text (T.document value) ≡ wanted.now)) }
+        ensures refusal { (result ≡ Outcome.Ample) → IfErr outcome (λ _. IsNone ample.entry) }
+    {
+        match outcome {
+            Ok(value) if has_plain_text(&value, ample) => Outcome::Ample,
+            Ok(_) => Outcome::Other,
+            Err(ParseError::NotText { .. }) if ample.is_none() => Outcome::Ample,
+            Err(ParseError::NotText { .. }) => Outcome::Other,
+            Err(ParseError::OutOfMemory) => Outcome::WantOfMemory,
         }
     }
 

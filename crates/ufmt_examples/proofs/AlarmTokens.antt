@@ -3,10 +3,11 @@ use Rattle.std.proofs.Common.{arith, inl, inr, pos, refl, String}
 use Rattle.std.specs.Prelude.{codes, string_bytes}
 use Rattle.std.specs.Str.{chars}
 use Rattle.std.proofs.lemmas.Str.{IsUtf8-string_bytes, scalars-chars}
-use Rattle.ufmt.specs.Token.{IsBuilt, IsTokenDocument}
+use Rattle.ufmt.specs.Token.{IsBuilt, IsDebugDocument, IsTokenDocument}
 use Rattle.ufmt.specs.ValueDocuments.{string}
 use Rattle.ufmt.proofs.NumbersAreWords.{IsBuilt-integer}
 use Rattle.ufmt.proofs.ClassLeaves.{IsName-from}
+use Rattle.ufmt.proofs.ClassTokens.{tokens_are_debug}
 use Rattle.ufmt.specs.declared.class.Class.TheVariants.{Token}
 use Rattle.ufmt_examples.specs.Alarm.{alarm_document}
 use Rattle.ufmt_examples.specs.declared.alarm.Alarm.{Alarm}
@@ -24,3 +25,7 @@ IsTokenDocument-alarm a = (
   ),
   omega arith,
 )
+
+-- so it is a debug document too
+pub IsDebugDocument-alarm : (a : Alarm) → IsDebugDocument (alarm_document a)
+IsDebugDocument-alarm a = tokens_are_debug (alarm_document a) (IsTokenDocument-alarm a)

@@ -1,10 +1,11 @@
 #![tactic(auto)]
 
 //! Callers of `ufmt_scan`, `ufmt_doc`, `ufmt_parse` and `ufmt_snapshot`: a line of a log is parsed, read back, tested or
-//! made readable, and values are compared with one another and with a stored text. Types that hold themselves, and a
-//! struct of choices, are parsed.
+//! made readable, and values are compared with one another and with a stored text. A command line is parsed with no
+//! allocator. Types that hold themselves, and a struct of choices, are parsed.
 
 mod alarm;
+mod command;
 mod log_line;
 mod node;
 mod read_back;
@@ -13,6 +14,7 @@ mod switch;
 mod tree;
 
 pub use alarm::{Alarm, parse_alarm};
+pub use command::{Set, parse_command};
 pub use log_line::{is_readable, pretty_line};
 pub use node::Node;
 pub use read_back::celsius;

@@ -2,13 +2,15 @@
 ghost use Rattle.std.specs.Prelude.{[], ◌∷◌};
 ghost use Rattle.ufmt.specs.Document.{Document};
 ghost use Rattle.ufmt.specs.ValueDocuments.{named_struct, number, option_document};
+ghost use Rattle.ufmt_parse.specs.Parses.{Parses};
 ghost use Rattle.ufmt_examples.specs.Nested.{is_node};
 ghost use Rattle.ufmt_examples.specs.declared.node.Node.TheFolds.{fold-Node};
 
-use std::alloc::{AllocError, Global};
+use std::alloc::Global;
 use ufmt::{Formatter, fields, uDebug, uWrite};
-use ufmt_doc::doc::Doc;
-use ufmt_parse::{Boxed, Depth, Optional, ParsesBy, Plain, parse_each, struct_fields, uParse};
+use ufmt_parse::{
+    Boxed, By, Fault, Optional, ParseMode, Parser, Plain, ProvesValue, parse_struct_2_by, uParse,
+};
 
 /// A number, and perhaps another node.
 #[derive(Drop)]
@@ -27,45 +29,38 @@ impl uDebug for Node {
     }
 }
 
-impl ParsesBy<Node> for Depth {
-    ghost is_value = { is_node };
+impl ProvesValue for Node {
+    ghost is_whole = { is_node };
 
-    fn prove_value_of(&self, node: &Node) {
-        node.prove_value();
-    }
-
-    #[cycle(parse_by)]
-    fn parse_by(&self, alloc: Global, doc: &Doc) -> Result<Option<Node>, AllocError> {
-        match self {
-            Depth::Out => Err(AllocError),
-            Depth::More(less) => {
-                let by = (Plain, (Optional(Boxed(less)), ()));
-                match struct_fields(alloc, doc, "Node", &["value", "next"], &by)? {
-                    Some((value, (next, ()))) => Ok(Some(Node { value, next })),
-                    None => Ok(None),
-                }
-            }
+    #[tactic(auto, using(crate::proofs::Nested::node_is))]
+    fn prove(&self) {
+        let _value = self.value;
+        match &self.next {
+            None => {}
+            Some(next) => Node::prove(next),
         }
     }
 }
 
-impl uParse for Node {
+impl uParse<Global> for Node {
     ghost is_value = { is_node };
 
-    #[tactic(auto, using(crate::proofs::Nested::node_is))]
     fn prove_value(&self) {
-        self.value.prove_value();
-        match &self.next {
-            None => {}
-            Some(next) => Node::prove_value(next),
-        }
+        self.prove();
     }
 
-    fn from_doc(alloc: Global, doc: &Doc) -> Result<Option<Node>, AllocError> {
-        Depth::new(alloc)?.parse_by(alloc, doc)
+    fn parse_from<M: ParseMode>(alloc: Global, parser: &mut Parser<'_, M>) -> Result<Node, Fault> {
+        parse_node(alloc, parser)
     }
+}
 
-    fn from_docs(alloc: Global, docs: &[Doc]) -> Result<Option<Vec<Node>>, AllocError> {
-        parse_each(alloc, docs, &Depth::new(alloc)?)
+// `By` calls it in a block more, so the check takes the blocks that may still be opened as its measure.
+fn parse_node<M: ParseMode>(alloc: Global, parser: &mut Parser<'_, M>) -> Result<Node, Fault>
+    ensures { Parses M.mode is_node ⟦<Node as uDebug>⟧.document parser.old result parser.new }
+{
+    let next = Optional(Boxed(By(parse_node)));
+    match parse_struct_2_by(alloc, parser, "Node", "value", &Plain, "next", &next) {
+        Err(fault) => Err(fault),
+        Ok((value, next)) => Ok(Node { value, next }),
     }
 }

@@ -1,11 +1,10 @@
-//! A struct whose fields are choices: its `from_doc` makes the macro's call itself, and has an answer.
-ghost use Rattle.std.specs.Prelude.{[], ◌∷◌};
+//! A struct whose fields are choices: a truth value and an option print one document or another.
+ghost use Rattle.std.specs.Prelude.{[], ◌∷◌, IfSome};
 ghost use Rattle.ufmt.specs.ValueDocuments.{named_struct, number, option_document};
+ghost use Rattle.ufmt_parse.specs.Values.{is_u8};
 
-use std::alloc::{AllocError, Global};
 use ufmt::{Formatter, fields, uDebug, uWrite};
-use ufmt_doc::doc::Doc;
-use ufmt_parse::{parse_struct_3, uParse};
+use ufmt_parse::{Fault, ParseMode, Parser, parse_fields, uParse};
 
 /// A struct of truth values and an option, whose documents are choices.
 #[derive(Drop)]
@@ -33,21 +32,22 @@ impl uDebug for Switch {
     }
 }
 
-impl uParse for Switch {
-    ghost is_value = { λ s. ⟦<Option<u8> as uParse>⟧.is_value s.next };
+impl<A: Copy> uParse<A> for Switch {
+    ghost is_value = { λ s. IfSome s.next is_u8 };
 
     fn prove_value(&self) {
-        self.next.prove_value();
+        <Option<u8> as uParse<A>>::prove_value(&self.next);
     }
 
-    fn from_doc(alloc: Global, doc: &Doc) -> Result<Option<Switch>, AllocError> {
-        match parse_struct_3(alloc, doc, "Switch", "is_on", "next", "is_lit")? {
-            Some((is_on, next, is_lit)) => Ok(Some(Switch {
+    fn parse_from<M: ParseMode>(alloc: A, parser: &mut Parser<'_, M>) -> Result<Switch, Fault> {
+        parse_fields!(
+            alloc,
+            parser,
+            Switch {
                 is_on,
                 next,
-                is_lit,
-            })),
-            None => Ok(None),
-        }
+                is_lit
+            }
+        )
     }
 }

@@ -2,13 +2,15 @@
 ghost use Rattle.std.specs.Prelude.{[], ◌∷◌};
 ghost use Rattle.ufmt.specs.Document.{Document, documents, list_of};
 ghost use Rattle.ufmt.specs.ValueDocuments.{named_struct, number};
+ghost use Rattle.ufmt_parse.specs.Parses.{Parses};
 ghost use Rattle.ufmt_examples.specs.Nested.{is_tree};
 ghost use Rattle.ufmt_examples.specs.declared.tree.Tree.TheFolds.{fold-Tree};
 
-use std::alloc::{AllocError, Global};
+use std::alloc::Global;
 use ufmt::{Formatter, fields, uDebug, uWrite};
-use ufmt_doc::doc::Doc;
-use ufmt_parse::{Depth, Each, ParsesBy, Plain, ProvesValue, parse_each, struct_fields, uParse};
+use ufmt_parse::{
+    By, Each, Fault, ParseMode, Parser, Plain, ProvesValue, parse_struct_2_by, uParse,
+};
 
 /// A number, and trees below it.
 #[derive(Drop)]
@@ -27,50 +29,35 @@ impl uDebug for Tree {
     }
 }
 
-impl ParsesBy<Tree> for Depth {
-    ghost is_value = { is_tree };
-
-    fn prove_value_of(&self, tree: &Tree) {
-        tree.prove_value();
-    }
-
-    #[cycle(parse_by)]
-    fn parse_by(&self, alloc: Global, doc: &Doc) -> Result<Option<Tree>, AllocError> {
-        match self {
-            Depth::Out => Err(AllocError),
-            Depth::More(less) => {
-                let by = (Plain, (Each(less), ()));
-                match struct_fields(alloc, doc, "Tree", &["size", "children"], &by)? {
-                    Some((size, (children, ()))) => Ok(Some(Tree { size, children })),
-                    None => Ok(None),
-                }
-            }
-        }
-    }
-}
-
 impl ProvesValue for Tree {
     ghost is_whole = { is_tree };
 
     #[tactic(auto, using(crate::proofs::Nested::tree_is))]
     fn prove(&self) {
-        self.size.prove_value();
+        let _size = self.size;
         self.children.prove();
     }
 }
 
-impl uParse for Tree {
+impl uParse<Global> for Tree {
     ghost is_value = { is_tree };
 
     fn prove_value(&self) {
         self.prove();
     }
 
-    fn from_doc(alloc: Global, doc: &Doc) -> Result<Option<Tree>, AllocError> {
-        Depth::new(alloc)?.parse_by(alloc, doc)
+    fn parse_from<M: ParseMode>(alloc: Global, parser: &mut Parser<'_, M>) -> Result<Tree, Fault> {
+        parse_tree(alloc, parser)
     }
+}
 
-    fn from_docs(alloc: Global, docs: &[Doc]) -> Result<Option<Vec<Tree>>, AllocError> {
-        parse_each(alloc, docs, &Depth::new(alloc)?)
+// As `parse_node`.
+fn parse_tree<M: ParseMode>(alloc: Global, parser: &mut Parser<'_, M>) -> Result<Tree, Fault>
+    ensures { Parses M.mode is_tree ⟦<Tree as uDebug>⟧.document parser.old result parser.new }
+{
+    let children = Each(By(parse_tree));
+    match parse_struct_2_by(alloc, parser, "Tree", "size", &Plain, "children", &children) {
+        Err(fault) => Err(fault),
+        Ok((size, children)) => Ok(Tree { size, children }),
     }
 }

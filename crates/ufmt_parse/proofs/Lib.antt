@@ -1,8 +1,36 @@
-mod Ascending
-mod Found
-pub mod FoundFields
+pub mod Ascending
+pub mod BracketedBlocks
+pub mod Characters
+pub mod Chunks
+pub mod Clauses
+pub mod DecimalFronts
+pub mod EntriesInARow
+pub mod EntryParts
+pub mod EscapedBytes
+pub mod FieldsInARow
+pub mod Forms
+pub mod Integers
+pub mod KeysInARow
 pub mod Layers
-mod NumberKeys
-mod ParsedNumbers
-mod Quotes
-mod Rows
+pub mod ListedPairs
+pub mod ListedValues
+pub mod NameFronts
+pub mod NonZeroTexts
+pub mod NumberKeys
+pub mod OneWay
+pub mod PackedDigits
+pub mod OptionTexts
+pub mod Parts
+pub mod Places
+pub mod PlainBytes
+pub mod QuotedTaken
+pub mod Reductions
+pub mod Settings
+pub mod SortedKeys
+pub mod SpelledTexts
+pub mod Strips
+pub mod Taken
+pub mod Truths
+pub mod Views
+pub mod WholeBlocks
+pub mod Words

@@ -1,6 +1,10 @@
+pub mod Blocks
+pub mod Digits
+pub mod Naming
+pub mod Places
 pub mod RoundTrip
-pub mod Depths
-pub mod Entries
-pub mod Finds
-pub mod Quotes
+pub mod Rows
+pub mod Parses
+pub mod Spelling
+pub mod Taking
 pub mod Values

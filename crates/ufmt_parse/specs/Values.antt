@@ -2,16 +2,18 @@
 use Rattle.std.specs.Prelude.{ℕ, ◌^◌, ◌<◌, ◌≢◌, ℤ, pos}
 use Rattle.std.specs.Int.{w8, w16, w32, w64, w128}
 use Rattle.std.specs.Int.RustNames.{FitsSigned}
-use Rattle.std.specs.Int.NonZero.{non_zero_u8_get, non_zero_u16_get, non_zero_u32_get, non_zero_u64_get, non_zero_usize_get, non_zero_i8_get, non_zero_i16_get, non_zero_i32_get, non_zero_i64_get, non_zero_isize_get}
+use Rattle.std.specs.Int.NonZero.{non_zero_u8_get, non_zero_u16_get, non_zero_u32_get, non_zero_u64_get, non_zero_u128_get, non_zero_usize_get, non_zero_i8_get, non_zero_i16_get, non_zero_i32_get, non_zero_i64_get, non_zero_i128_get, non_zero_isize_get}
 use Rattle.std.specs.declared.num.NonZeroU8.{NonZeroU8}
 use Rattle.std.specs.declared.num.NonZeroU16.{NonZeroU16}
 use Rattle.std.specs.declared.num.NonZeroU32.{NonZeroU32}
 use Rattle.std.specs.declared.num.NonZeroU64.{NonZeroU64}
+use Rattle.std.specs.declared.num.NonZeroU128.{NonZeroU128}
 use Rattle.std.specs.declared.num.NonZeroUsize.{NonZeroUsize}
 use Rattle.std.specs.declared.num.NonZeroI8.{NonZeroI8}
 use Rattle.std.specs.declared.num.NonZeroI16.{NonZeroI16}
 use Rattle.std.specs.declared.num.NonZeroI32.{NonZeroI32}
 use Rattle.std.specs.declared.num.NonZeroI64.{NonZeroI64}
+use Rattle.std.specs.declared.num.NonZeroI128.{NonZeroI128}
 use Rattle.std.specs.declared.num.NonZeroIsize.{NonZeroIsize}
 
 abbrev pub is_u8 : ℕ → Type 0
@@ -64,6 +66,9 @@ is_non_zero_u32 n = (0 < non_zero_u32_get n) × is_u32 (non_zero_u32_get n)
 abbrev pub is_non_zero_u64 : NonZeroU64 → Type 0
 is_non_zero_u64 n = (0 < non_zero_u64_get n) × is_u64 (non_zero_u64_get n)
 
+abbrev pub is_non_zero_u128 : NonZeroU128 → Type 0
+is_non_zero_u128 n = (0 < non_zero_u128_get n) × is_u128 (non_zero_u128_get n)
+
 abbrev pub is_non_zero_usize : NonZeroUsize → Type 0
 is_non_zero_usize n = (0 < non_zero_usize_get n) × is_usize (non_zero_usize_get n)
 
@@ -78,6 +83,9 @@ is_non_zero_i32 n = (non_zero_i32_get n ≢ pos 0) × is_i32 (non_zero_i32_get n
 
 abbrev pub is_non_zero_i64 : NonZeroI64 → Type 0
 is_non_zero_i64 n = (non_zero_i64_get n ≢ pos 0) × is_i64 (non_zero_i64_get n)
+
+abbrev pub is_non_zero_i128 : NonZeroI128 → Type 0
+is_non_zero_i128 n = (non_zero_i128_get n ≢ pos 0) × is_i128 (non_zero_i128_get n)
 
 abbrev pub is_non_zero_isize : NonZeroIsize → Type 0
 is_non_zero_isize n = (non_zero_isize_get n ≢ pos 0) × is_isize (non_zero_isize_get n)

@@ -1,193 +1,148 @@
 //! The fields of structs and tuples, one after another.
-ghost use Rattle.std.specs.Prelude.{[], ◌∷◌, ◌≡◌, ◌↔◌, ℕ, List, drop, map, IfOk, IsTrue, ⊤};
-ghost use Rattle.ufmt.specs.Document.{Document, documents, fields_of, leaf, struct_of, tuple_of};
-ghost use Rattle.ufmt.specs.Token.{normal};
-ghost use Rattle.ufmt_doc.specs.Doc.{doc_document};
-ghost use Rattle.ufmt_doc.specs.DocViews.{field_view};
-ghost use Rattle.ufmt_parse.specs.Finds.{FindsParts, first_name};
+ghost use Rattle.std.specs.Prelude.{◌≤◌, length, [], ◌∷◌, ◌≡◌, ◌<◌, ◌-◌, ◌++◌, ℕ, List, IfOk, IfErr, suc, ⊤};
+ghost use Rattle.ufmt.specs.Layout.{block_tail, frame, inside};
+ghost use Rattle.ufmt_core.specs.declared.layout.Setting.{Setting};
+ghost use Rattle.ufmt_core.specs.declared.layout.Count.TheVariants.{Zero};
+ghost use Rattle.ufmt_parse.specs.Taking.{Takes, open_blocks, rest, setting_in};
 
-use crate::parsers::ParsesBy;
-use std::alloc::{AllocError, Global};
-use ufmt::uDebug;
-use ufmt_doc::doc::Doc;
+use crate::entries::EntryParser;
+use crate::mode::ParseMode;
+use crate::parser::{Fault, Parser};
+use ufmt::layout::{Count, Kind};
 
-/// Parsers of fields in a row: the parser of the first, and those of the fields after it, or `()`.
-pub trait FieldParsers<V> {
-    // What holds of each row of fields that a program has.
-    ghost are_values: { V → Type 0 };
+/// Parsers of fields in a row: the first field's parser, and those of the fields after it, or `()`.
+pub trait FieldParsers<A, M: ParseMode, V> {
+    // What holds of each row of fields that a program has, in so many blocks.
+    ghost fit: { ℕ → V → Type 0 };
 
-    // The normal forms of the fields' documents.
-    ghost unnamed: { V → List Document };
+    // Holds if no memory is taken.
+    ghost holds_no_memory: { Type 0 } = { ⊥ };
 
-    // These with the fields' names.
-    ghost named: { List (List ℕ) → V → List (List ℕ × Document) };
+    // The texts of the fields, with their names.
+    ghost texts: { Self → Setting → V → List (List ℕ) };
 
-    // Shows that `are_values` holds, by `prove_value_of` of each field.
-    fn prove_value_of(&self, values: &V)
-        ensures { are_values values.now };
+    // Whether they may be called where so many blocks are open.
+    ghost ready: { Self → ℕ → Type 0 };
 
-    fn parse_entries(&self, alloc: Global, entries: &[Doc]) -> Result<Option<V>, AllocError>
-        ensures { IfOk result (λ outcome.
-            FindsParts are_values unnamed (map doc_document entries.now) outcome) };
-
-    fn parse_fields(
+    // Takes the fields that are left of a block, and its end.
+    fn parse_rest(
         &self,
-        alloc: Global,
-        names: &[&str],
-        fields: &[(String, Doc)],
-    ) -> Result<Option<V>, AllocError>
-        ensures { IfOk result (λ outcome.
-            FindsParts are_values (named (map (λ name. name.now) names.now))
-            (map field_view fields.now) outcome) };
+        alloc: A,
+        parser: &mut Parser<'_, M>,
+        kind: Kind,
+        count: Count,
+    ) -> Result<V, Fault>
+        requires opened { 0 < open_blocks parser.old }
+        requires ready { ready self.now (open_blocks parser.old) }
+        ensures takes { Takes (fit (open_blocks parser.old))
+            (λ v. block_tail (frame M.mode kind) (setting_in M.mode (open_blocks parser.old - 1)) count
+            (texts self.now (setting_in M.mode (open_blocks parser.old)) v))
+            (rest parser.old) result (rest parser.new) }
+        ensures memory { holds_no_memory → IfErr result (λ fault. fault ≡ Fault.NotText) }
+        ensures blocks { IfOk result (λ _. open_blocks parser.new ≡ open_blocks parser.old) }
+        ensures shrinks { length (rest parser.new) ≤ length (rest parser.old) };
 }
 
-impl FieldParsers<()> for () {
-    ghost are_values = { λ _. ⊤ };
+impl<A: Copy, M: ParseMode> FieldParsers<A, M, ()> for () {
+    ghost fit = { λ _ _. ⊤ };
 
-    ghost unnamed = { λ _. [] };
+    ghost holds_no_memory = { ⊤ };
 
-    ghost named = { λ _ _. [] };
+    ghost texts = { λ _ _ _. [] };
 
-    fn prove_value_of(&self, _values: &()) {}
+    ghost ready = { λ _ _. ⊤ };
 
-    fn parse_entries(&self, _alloc: Global, entries: &[Doc]) -> Result<Option<()>, AllocError> {
-        match entries.split_first() {
-            None => Ok(Some(())),
-            Some(_) => Ok(None),
-        }
-    }
-
-    fn parse_fields(
+    #[inline(always)]
+    fn parse_rest(
         &self,
-        _alloc: Global,
-        _names: &[&str],
-        fields: &[(String, Doc)],
-    ) -> Result<Option<()>, AllocError> {
-        match fields.split_first() {
-            None => Ok(Some(())),
-            Some(_) => Ok(None),
+        _alloc: A,
+        parser: &mut Parser<'_, M>,
+        kind: Kind,
+        count: Count,
+    ) -> Result<(), Fault> {
+        if parser.eats_ending(kind, count) {
+            Ok(())
+        } else {
+            Err(Fault::NotText)
         }
     }
 }
 
-impl<A: uDebug + Drop, R: Drop, P: ParsesBy<A>, Q: FieldParsers<R>> FieldParsers<(A, R)>
-    for (P, Q) {
-    ghost are_values = { λ v. P.is_value v.0 × Q.are_values v.1 };
+impl<
+    A: Copy,
+    M: ParseMode,
+    T: Drop,
+    V: Drop,
+    P: EntryParser<A, M, T>,
+    R: FieldParsers<A, M, V>,
+> FieldParsers<A, M, (T, V)> for (P, R) {
+    ghost fit = { λ blocks v. P.fit blocks v.0 × R.fit blocks v.1 };
 
-    ghost unnamed = { λ v. normal (A.document v.0) ∷ Q.unnamed v.1 };
+    ghost holds_no_memory = { P.holds_no_memory × R.holds_no_memory };
 
-    ghost named = { λ names v. (first_name names, normal (A.document v.0)) ∷ Q.named (drop 1 names) v.1 };
+    ghost texts = { λ fields s v. P.text fields.0 s v.0 ∷ R.texts fields.1 s v.1 };
 
-    fn prove_value_of(&self, values: &(A, R)) {
-        self.0.prove_value_of(&values.0);
-        self.1.prove_value_of(&values.1);
-    }
+    ghost ready = { λ fields blocks. P.ready fields.0 blocks × R.ready fields.1 blocks };
 
-    fn parse_entries(&self, alloc: Global, entries: &[Doc]) -> Result<Option<(A, R)>, AllocError> {
-        match entries.split_first() {
-            None => Ok(None),
-            Some((first, rest)) => match self.0.parse_by(alloc, first)? {
-                None => Ok(None),
-                Some(value) => match self.1.parse_entries(alloc, rest)? {
-                    None => Ok(None),
-                    Some(values) => Ok(Some((value, values))),
-                },
-            },
-        }
-    }
-
-    fn parse_fields(
+    #[inline(always)]
+    fn parse_rest(
         &self,
-        alloc: Global,
-        names: &[&str],
-        fields: &[(String, Doc)],
-    ) -> Result<Option<(A, R)>, AllocError> {
-        let (name, names) = split_name(names);
-        match fields.split_first() {
-            None => Ok(None),
-            Some(((its_name, first), rest)) => {
-                if its_name.as_str() != name {
-                    return Ok(None);
+        alloc: A,
+        parser: &mut Parser<'_, M>,
+        kind: Kind,
+        count: Count,
+    ) -> Result<(T, V), Fault> {
+        if !parser.eats_lead(kind, count) {
+            return Err(Fault::NotText);
+        }
+        match self.0.parse_entry(alloc, parser) {
+            Err(fault) => Err(fault),
+            Ok(value) => {
+                if !parser.eats(M::mode().trail()) {
+                    return Err(Fault::NotText);
                 }
-                match self.0.parse_by(alloc, first)? {
-                    None => Ok(None),
-                    Some(value) => match self.1.parse_fields(alloc, names, rest)? {
-                        None => Ok(None),
-                        Some(values) => Ok(Some((value, values))),
-                    },
+                match self.1.parse_rest(alloc, parser, kind, count.next()) {
+                    Err(fault) => Err(fault),
+                    Ok(values) => Ok((value, values)),
                 }
             }
         }
     }
 }
 
-/// Returns the fields of the struct that prints as the document, in a chain `(a, (b, ()))`, each by its
-/// parser, or `None` if there is no such struct.
-pub fn struct_fields<V: Drop, P: FieldParsers<V>>(
-    alloc: Global,
-    doc: &Doc,
+/// Takes a block with this name and these fields.
+#[inline(always)]
+pub(crate) fn parse_block<A: Copy, M: ParseMode, V: Drop, P: FieldParsers<A, M, V>>(
+    alloc: A,
+    parser: &mut Parser<'_, M>,
+    kind: Kind,
     name: &str,
-    names: &[&str],
-    by: &P,
-) -> Result<Option<V>, AllocError>
-    ensures { IfOk result (λ outcome. FindsParts P.are_values
-        (λ v. struct_of name.now (fields_of (P.named (map (λ name. name.now) names.now) v)))
-        (doc_document doc.now) outcome) }
+    fields: &P,
+) -> Result<V, Fault>
+    requires { open_blocks parser.old < 255 → P.ready fields.now (suc (open_blocks parser.old)) }
+    ensures takes { Takes (λ v. P.fit (suc (open_blocks parser.old)) v × (open_blocks parser.old < 255))
+        (λ v. name.now ++ ((frame M.mode kind).opening
+        ++ block_tail (frame M.mode kind) (setting_in M.mode (open_blocks parser.old)) Zero
+        (P.texts fields.now (inside (setting_in M.mode (open_blocks parser.old))) v)))
+        (rest parser.old) result (rest parser.new) }
+    ensures memory { P.holds_no_memory → IfErr result (λ fault. fault ≡ Fault.NotText) }
+    ensures blocks { IfOk result (λ _. open_blocks parser.new ≡ open_blocks parser.old) }
+    ensures shrinks { length (rest parser.new) ≤ length (rest parser.old) }
 {
-    match doc {
-        Doc::StructOf(its_name, fields) => {
-            if !is_same(its_name, name) {
-                return Ok(None);
-            }
-            by.parse_fields(alloc, names, fields)
+    if !parser.eats(name) {
+        return Err(Fault::NotText);
+    }
+    if !parser.eats(kind.opening()) {
+        return Err(Fault::NotText);
+    }
+    if !parser.opens_block() {
+        return Err(Fault::NotText);
+    }
+    match fields.parse_rest(alloc, parser, kind, Count::Zero) {
+        Err(fault) => Err(fault),
+        Ok(values) => {
+            parser.close_block();
+            Ok(values)
         }
-        _ => Ok(None),
     }
-}
-
-/// Returns the fields of the tuple that prints as the document, as `struct_fields` does.
-pub fn tuple_fields<V: Drop, P: FieldParsers<V>>(
-    alloc: Global,
-    doc: &Doc,
-    name: &str,
-    by: &P,
-) -> Result<Option<V>, AllocError>
-    ensures { IfOk result (λ outcome. FindsParts P.are_values
-        (λ v. tuple_of name.now (documents (P.unnamed v)))
-        (doc_document doc.now) outcome) }
-{
-    match doc {
-        Doc::TupleOf(its_name, fields) => {
-            if !is_same(its_name, name) {
-                return Ok(None);
-            }
-            by.parse_entries(alloc, fields)
-        }
-        _ => Ok(None),
-    }
-}
-
-// The first name and the others. Past the last name there is an empty one.
-fn split_name<'a, 'b>(names: &'b [&'a str]) -> (&'a str, &'b [&'a str])
-    ensures first { result.0.now ≡ first_name (map (λ name. name.now) names.now) }
-    ensures rest { map (λ name. name.now) result.1.now ≡ drop 1 (map (λ name. name.now) names.now) }
-{
-    match names.split_first() {
-        None => ("", names),
-        Some((first, rest)) => (*first, rest),
-    }
-}
-
-// Whether two texts are the same.
-fn is_same(text: &str, other: &str) -> bool
-    ensures { IsTrue result ↔ (text.now ≡ other.now) }
-{
-    text == other
-}
-
-/// Returns whether the document prints as this name only, as a variant without fields does.
-pub fn is_name(doc: &Doc, name: &str) -> bool
-    ensures { IsTrue result ↔ (leaf name.now ≡ doc_document doc.now) }
-{
-    doc.as_leaf() == Some(name)
 }

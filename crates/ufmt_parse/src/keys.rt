@@ -3,10 +3,11 @@ ghost use Rattle.std.specs.Prelude.{◌≡◌};
 ghost use Rattle.std.specs.declared.cmp.Ordering.TheVariants.{Equal};
 ghost use Rattle.ufmt.specs.Token.{normal};
 
-use crate::uParse;
+use crate::from_front::uParse;
+use std::alloc::Global;
 
 /// A key of a set or a map that can be parsed: no other key has its text.
-pub trait ParseKey: uParse + Ord {
+pub trait ParseKey<A>: uParse<A> + Ord {
     /// Shows that two keys with the same text are equal in their order. The body is empty for a leaf, and
     /// calls this of each field for a key with fields.
     fn prove_key()
@@ -14,108 +15,108 @@ pub trait ParseKey: uParse + Ord {
             → normal (Self.document x) ≡ normal (Self.document y) → Self.cmp x y ≡ Equal };
 }
 
-impl ParseKey for bool {
+impl<A: Copy> ParseKey<A> for bool {
     fn prove_key() {}
 }
 
-impl ParseKey for () {
+impl<A: Copy> ParseKey<A> for () {
     fn prove_key() {}
 }
 
-impl ParseKey for u8 {
+impl<A: Copy> ParseKey<A> for u8 {
     #[tactic(auto, using(crate::proofs::NumberKeys::naturals_equal))]
     fn prove_key() {}
 }
 
-impl ParseKey for u16 {
+impl<A: Copy> ParseKey<A> for u16 {
     #[tactic(auto, using(crate::proofs::NumberKeys::naturals_equal))]
     fn prove_key() {}
 }
 
-impl ParseKey for u32 {
+impl<A: Copy> ParseKey<A> for u32 {
     #[tactic(auto, using(crate::proofs::NumberKeys::naturals_equal))]
     fn prove_key() {}
 }
 
-impl ParseKey for u64 {
+impl<A: Copy> ParseKey<A> for u64 {
     #[tactic(auto, using(crate::proofs::NumberKeys::naturals_equal))]
     fn prove_key() {}
 }
 
-impl ParseKey for u128 {
+impl<A: Copy> ParseKey<A> for u128 {
     #[tactic(auto, using(crate::proofs::NumberKeys::naturals_equal))]
     fn prove_key() {}
 }
 
-impl ParseKey for usize {
+impl<A: Copy> ParseKey<A> for usize {
     #[tactic(auto, using(crate::proofs::NumberKeys::naturals_equal))]
     fn prove_key() {}
 }
 
-impl ParseKey for i8 {
+impl<A: Copy> ParseKey<A> for i8 {
     #[tactic(auto, using(crate::proofs::NumberKeys::integers_equal))]
     fn prove_key() {}
 }
 
-impl ParseKey for i16 {
+impl<A: Copy> ParseKey<A> for i16 {
     #[tactic(auto, using(crate::proofs::NumberKeys::integers_equal))]
     fn prove_key() {}
 }
 
-impl ParseKey for i32 {
+impl<A: Copy> ParseKey<A> for i32 {
     #[tactic(auto, using(crate::proofs::NumberKeys::integers_equal))]
     fn prove_key() {}
 }
 
-impl ParseKey for i64 {
+impl<A: Copy> ParseKey<A> for i64 {
     #[tactic(auto, using(crate::proofs::NumberKeys::integers_equal))]
     fn prove_key() {}
 }
 
-impl ParseKey for i128 {
+impl<A: Copy> ParseKey<A> for i128 {
     #[tactic(auto, using(crate::proofs::NumberKeys::integers_equal))]
     fn prove_key() {}
 }
 
-impl ParseKey for isize {
+impl<A: Copy> ParseKey<A> for isize {
     #[tactic(auto, using(crate::proofs::NumberKeys::integers_equal))]
     fn prove_key() {}
 }
 
-impl ParseKey for char {
+impl<A: Copy> ParseKey<A> for char {
     fn prove_key() {}
 }
 
-impl ParseKey for String {
+impl ParseKey<Global> for String {
     fn prove_key() {}
 }
 
-impl<K: ParseKey> ParseKey for Option<K> {
+impl<A: Copy, K: ParseKey<A>> ParseKey<A> for Option<K> {
     fn prove_key() {
         K::prove_key();
     }
 }
 
-impl<K: ParseKey, L: ParseKey> ParseKey for Result<K, L> {
+impl<A: Copy, K: ParseKey<A>, L: ParseKey<A>> ParseKey<A> for Result<K, L> {
     fn prove_key() {
         K::prove_key();
         L::prove_key();
     }
 }
 
-impl<K: ParseKey> ParseKey for Box<K> {
+impl<K: ParseKey<Global>> ParseKey<Global> for Box<K> {
     fn prove_key() {
         K::prove_key();
     }
 }
 
-impl<K: ParseKey> ParseKey for Vec<K> {
+impl<K: ParseKey<Global>> ParseKey<Global> for Vec<K> {
     fn prove_key() {
         K::prove_key();
     }
 }
 
-impl<K: ParseKey, const N: usize> ParseKey for [K; N] {
+impl<K: ParseKey<Global>, const N: usize> ParseKey<Global> for [K; N] {
     fn prove_key() {
         K::prove_key();
     }

@@ -1,83 +1,140 @@
-//! `parse_fields!` and `parse_variants!`: `from_doc` of a user's struct or enum.
+//! `parse_fields!` and `parse_variants!`: `parse_from` of a user's struct or enum.
 
-/// Parses a struct or a tuple struct: the body of its `from_doc`.
+/// Parses a struct or a tuple struct: the body of its `parse_from`.
 ///
-/// Write `parse_fields!(alloc, doc, Pair { x, y })` or `parse_fields!(alloc, doc, Tuple(x, y))`, with the
-/// fields in the order in which `fields!` prints them, at most twelve. The result is
-/// `Ok(Some(..))`, or `Ok(None)` if no such struct prints as the document.
+/// Write `parse_fields!(alloc, parser, Pair { x, y })` or `parse_fields!(alloc, parser, Tuple(x, y))`, with
+/// the fields in the order in which `fields!` prints them, at most twelve. A struct without fields is
+/// `Name`, `Name()` or `Name {}`.
 #[macro_export]
 macro_rules! parse_fields {
-    ($alloc:expr, $doc:expr, $name:ident { $($field:ident),+ $(,)? } $(,)?) => {
-        match $crate::parse_call!(
-            [$($field)+]
-            [parse_struct_1 parse_struct_2 parse_struct_3 parse_struct_4 parse_struct_5 parse_struct_6 parse_struct_7 parse_struct_8 parse_struct_9 parse_struct_10 parse_struct_11 parse_struct_12]
-            $alloc, $doc, stringify!($name), $(stringify!($field)),+
-        ) {
-            std::option::Option::Some(($($field),+)) => std::result::Result::Ok(std::option::Option::Some($name { $($field),+ })),
-            std::option::Option::None => std::result::Result::Ok(std::option::Option::None),
+    ($alloc:expr, $parser:expr, $name:ident { $($field:ident),+ $(,)? } $(,)?) => {
+        match $crate::parse_struct_call!([$($field)+] $alloc, $parser, stringify!($name), $(stringify!($field)),+) {
+            std::result::Result::Ok(($($field),+)) => std::result::Result::Ok($name { $($field),+ }),
+            std::result::Result::Err(fault) => std::result::Result::Err(fault),
         }
     };
-    ($alloc:expr, $doc:expr, $name:ident ( $($field:ident),+ $(,)? ) $(,)?) => {
-        match $crate::parse_call!(
-            [$($field)+]
-            [parse_tuple_1 parse_tuple_2 parse_tuple_3 parse_tuple_4 parse_tuple_5 parse_tuple_6 parse_tuple_7 parse_tuple_8 parse_tuple_9 parse_tuple_10 parse_tuple_11 parse_tuple_12]
-            $alloc, $doc, stringify!($name)
-        ) {
-            std::option::Option::Some(($($field),+)) => std::result::Result::Ok(std::option::Option::Some($name($($field),+))),
-            std::option::Option::None => std::result::Result::Ok(std::option::Option::None),
+    ($alloc:expr, $parser:expr, $name:ident ( $($field:ident),+ $(,)? ) $(,)?) => {
+        match $crate::parse_tuple_call!([$($field)+] $alloc, $parser, stringify!($name)) {
+            std::result::Result::Ok(($($field),+)) => std::result::Result::Ok($name($($field),+)),
+            std::result::Result::Err(fault) => std::result::Result::Err(fault),
         }
     };
+    ($alloc:expr, $parser:expr, $name:ident {} $(,)?) => {{
+        let _alloc = $alloc;
+        $crate::parse_unit!($parser, $name, $name {})
+    }};
+    ($alloc:expr, $parser:expr, $name:ident () $(,)?) => {{
+        let _alloc = $alloc;
+        $crate::parse_unit!($parser, $name, $name())
+    }};
+    ($alloc:expr, $parser:expr, $name:ident $(,)?) => {{
+        let _alloc = $alloc;
+        $crate::parse_unit!($parser, $name, $name)
+    }};
     ($($other:tt)*) => {
-        compile_error!("expected an allocator, a document and a struct: `alloc, doc, Name { x, y }` or `alloc, doc, Name(x, y)`, with one to twelve fields")
+        compile_error!("expected an allocator, a parser and a struct: `alloc, parser, Name { x, y }`, `alloc, parser, Name(x, y)` or `alloc, parser, Name`, with at most twelve fields")
     };
 }
 
-/// Parses an enum: the body of its `from_doc`.
+/// Parses an enum: the body of its `parse_from`.
 ///
-/// Write `parse_variants!(alloc, doc, Event { Started, Said(node, text), Lost { since, peers } })`, with
-/// each variant as `fields!` prints it.
+/// Write `parse_variants!(alloc, parser, Event { Started, Said(node, text), Lost { since, peers } })`, with
+/// each variant as `fields!` prints it. No two variants have one name.
 #[macro_export]
 macro_rules! parse_variants {
-    ($alloc:expr, $doc:expr, $name:ident { $($variants:tt)+ } $(,)?) => {
-        match ($alloc, $doc) {
-            (alloc, doc) => $crate::parse_variant!([alloc, doc, $name] $($variants)+),
-        }
-    };
+    ($alloc:expr, $parser:expr, $name:ident { $($variants:tt)+ } $(,)?) => {{
+        let _alloc = $alloc;
+        let parser: &mut $crate::Parser<'_, _> = $parser;
+        $crate::parse_variant!([_alloc, parser, $name] $($variants)+)
+    }};
     ($($other:tt)*) => {
-        compile_error!("expected an allocator, a document and an enum: `alloc, doc, Name { A, B(x, y), C { x, y } }`")
+        compile_error!("expected an allocator, a parser and an enum: `alloc, parser, Name { A, B(x, y), C { x, y } }`")
     };
 }
 
-/// The first of these variants that prints as the document.
+/// The variant with the name that comes next.
 #[macro_export]
 macro_rules! parse_variant {
-    ([$alloc:expr, $doc:expr, $name:ident]) => { std::result::Result::Ok(std::option::Option::None) };
-    ([$alloc:expr, $doc:expr, $name:ident] $variant:ident { $($field:ident),+ $(,)? } $(, $($rest:tt)*)?) => {
-        match $crate::parse_call!(
+    ([$alloc:ident, $parser:ident, $name:ident]) => { std::result::Result::Err($crate::Fault::NotText) };
+    ([$alloc:ident, $parser:ident, $name:ident] $variant:ident { $($field:ident),+ $(,)? } $(, $($rest:tt)*)?) => {
+        if $parser.is_named(stringify!($variant)) {
+            match $crate::parse_struct_call!([$($field)+] $alloc, $parser, stringify!($variant), $(stringify!($field)),+) {
+                std::result::Result::Ok(($($field),+)) => std::result::Result::Ok($name::$variant { $($field),+ }),
+                std::result::Result::Err(fault) => std::result::Result::Err(fault),
+            }
+        } else {
+            $crate::parse_variant!([$alloc, $parser, $name] $($($rest)*)?)
+        }
+    };
+    ([$alloc:ident, $parser:ident, $name:ident] $variant:ident ( $($field:ident),+ $(,)? ) $(, $($rest:tt)*)?) => {
+        if $parser.is_named(stringify!($variant)) {
+            match $crate::parse_tuple_call!([$($field)+] $alloc, $parser, stringify!($variant)) {
+                std::result::Result::Ok(($($field),+)) => std::result::Result::Ok($name::$variant($($field),+)),
+                std::result::Result::Err(fault) => std::result::Result::Err(fault),
+            }
+        } else {
+            $crate::parse_variant!([$alloc, $parser, $name] $($($rest)*)?)
+        }
+    };
+    ([$alloc:ident, $parser:ident, $name:ident] $variant:ident {} $(, $($rest:tt)*)?) => {
+        if $parser.is_named(stringify!($variant)) {
+            $crate::parse_unit!($parser, $variant, $name::$variant {})
+        } else {
+            $crate::parse_variant!([$alloc, $parser, $name] $($($rest)*)?)
+        }
+    };
+    ([$alloc:ident, $parser:ident, $name:ident] $variant:ident () $(, $($rest:tt)*)?) => {
+        if $parser.is_named(stringify!($variant)) {
+            $crate::parse_unit!($parser, $variant, $name::$variant())
+        } else {
+            $crate::parse_variant!([$alloc, $parser, $name] $($($rest)*)?)
+        }
+    };
+    ([$alloc:ident, $parser:ident, $name:ident] $variant:ident $(, $($rest:tt)*)?) => {
+        if $parser.is_named(stringify!($variant)) {
+            $crate::parse_unit!($parser, $variant, $name::$variant)
+        } else {
+            $crate::parse_variant!([$alloc, $parser, $name] $($($rest)*)?)
+        }
+    };
+    ($($other:tt)*) => {
+        compile_error!("expected a variant: `A`, `B(x, y)` or `C { x, y }`, with a comma before the next")
+    };
+}
+
+/// Takes the name of a value that prints as its name alone.
+#[macro_export]
+macro_rules! parse_unit {
+    ($parser:expr, $name:ident, $value:expr) => {
+        if $crate::Parser::eats_name($parser, stringify!($name)) {
+            std::result::Result::Ok($value)
+        } else {
+            std::result::Result::Err($crate::Fault::NotText)
+        }
+    };
+}
+
+/// The call for a struct with this number of fields.
+#[macro_export]
+macro_rules! parse_struct_call {
+    ([$($field:tt)+] $($arguments:tt)*) => {
+        $crate::parse_call!(
             [$($field)+]
             [parse_struct_1 parse_struct_2 parse_struct_3 parse_struct_4 parse_struct_5 parse_struct_6 parse_struct_7 parse_struct_8 parse_struct_9 parse_struct_10 parse_struct_11 parse_struct_12]
-            $alloc, $doc, stringify!($variant), $(stringify!($field)),+
-        ) {
-            std::option::Option::Some(($($field),+)) => std::result::Result::Ok(std::option::Option::Some($name::$variant { $($field),+ })),
-            std::option::Option::None => $crate::parse_variant!([$alloc, $doc, $name] $($($rest)*)?),
-        }
+            $($arguments)*
+        )
     };
-    ([$alloc:expr, $doc:expr, $name:ident] $variant:ident ( $($field:ident),+ $(,)? ) $(, $($rest:tt)*)?) => {
-        match $crate::parse_call!(
+}
+
+/// The call for a tuple struct with this number of fields.
+#[macro_export]
+macro_rules! parse_tuple_call {
+    ([$($field:tt)+] $($arguments:tt)*) => {
+        $crate::parse_call!(
             [$($field)+]
             [parse_tuple_1 parse_tuple_2 parse_tuple_3 parse_tuple_4 parse_tuple_5 parse_tuple_6 parse_tuple_7 parse_tuple_8 parse_tuple_9 parse_tuple_10 parse_tuple_11 parse_tuple_12]
-            $alloc, $doc, stringify!($variant)
-        ) {
-            std::option::Option::Some(($($field),+)) => std::result::Result::Ok(std::option::Option::Some($name::$variant($($field),+))),
-            std::option::Option::None => $crate::parse_variant!([$alloc, $doc, $name] $($($rest)*)?),
-        }
-    };
-    ([$alloc:expr, $doc:expr, $name:ident] $variant:ident $(, $($rest:tt)*)?) => {
-        if $crate::is_name($doc, stringify!($variant)) {
-            std::result::Result::Ok(std::option::Option::Some($name::$variant))
-        } else {
-            $crate::parse_variant!([$alloc, $doc, $name] $($($rest)*)?)
-        }
+            $($arguments)*
+        )
     };
 }
 
@@ -85,7 +142,7 @@ macro_rules! parse_variant {
 /// left.
 #[macro_export]
 macro_rules! parse_call {
-    ([$last:tt] [$call:ident $($calls:ident)*] $($arguments:tt)*) => { $crate::$call($($arguments)*)? };
+    ([$last:tt] [$call:ident $($calls:ident)*] $($arguments:tt)*) => { $crate::$call($($arguments)*) };
     ([$field:tt $($fields:tt)+] [$call:ident $($calls:ident)*] $($arguments:tt)*) => {
         $crate::parse_call!([$($fields)+] [$($calls)*] $($arguments)*)
     };

@@ -1,162 +1,404 @@
-#![tactic(auto, using(crate::proofs::ParsedNumbers::decimal_texts))]
+#![tactic(auto, using(crate::proofs::NonZeroTexts::natural_texts))]
 
-//! Nonzero numbers from their decimal texts.
-ghost use Rattle.ufmt_parse.specs.Values.{is_non_zero_u8, is_non_zero_u16, is_non_zero_u32, is_non_zero_u64, is_non_zero_usize, is_non_zero_i8, is_non_zero_i16, is_non_zero_i32, is_non_zero_i64, is_non_zero_isize};
+//! Nonzero numbers, which print as the numbers in them.
+ghost use Rattle.std.specs.Prelude.{◌≡◌, ◌≢◌, ◌≤◌, ⊤, length, List, ℕ, IfOk, IfErr, MatchOption};
+ghost use Rattle.std.specs.Int.NonZero.{non_zero_u8_get, non_zero_u16_get, non_zero_u32_get, non_zero_u64_get, non_zero_u128_get, non_zero_usize_get, non_zero_i8_get, non_zero_i16_get, non_zero_i32_get, non_zero_i64_get, non_zero_i128_get, non_zero_isize_get};
+ghost use Rattle.ufmt.specs.Layout.{layout};
+ghost use Rattle.ufmt_core.specs.declared.layout.Setting.{Setting};
+ghost use Rattle.ufmt_parse.specs.Taking.{IsNext, IsTaken, open_blocks, rest};
+ghost use Rattle.ufmt_parse.specs.Values.{is_non_zero_u8, is_non_zero_u16, is_non_zero_u32, is_non_zero_u64, is_non_zero_u128, is_non_zero_usize, is_non_zero_i8, is_non_zero_i16, is_non_zero_i32, is_non_zero_i64, is_non_zero_i128, is_non_zero_isize};
 
-use crate::uParse;
-use std::alloc::{AllocError, Global};
+use crate::from_front::uParse;
+use crate::mode::ParseMode;
+use crate::parser::{Fault, Parser};
 use std::num::{
-    NonZeroI8, NonZeroI16, NonZeroI32, NonZeroI64, NonZeroIsize, NonZeroU8, NonZeroU16, NonZeroU32,
-    NonZeroU64, NonZeroUsize,
+    NonZeroI8, NonZeroI16, NonZeroI32, NonZeroI64, NonZeroI128, NonZeroIsize, NonZeroU8,
+    NonZeroU16, NonZeroU32, NonZeroU64, NonZeroU128, NonZeroUsize,
 };
-use ufmt_doc::doc::Doc;
+use ufmt::uDebug;
 
-impl uParse for NonZeroU8 {
+// A number type without its 0.
+trait NonZero<A, N: uParse<A>>: uDebug + Drop {
+    ghost in_range: { Self → Type 0 };
+
+    // The number in it.
+    ghost get: { Self → N };
+
+    // The nonzero number, if the number isn't 0. Each nonzero number has another text than 0.
+    fn from_number(number: N) -> Option<Self>
+    where
+        Self: Sized,
+        ensures { MatchOption result
+            ((s : Setting) (v : Self) → in_range v → layout s (Self.document v) ≢ layout s (N.document number))
+            (λ v. Self.document v ≡ N.document number) };
+
+    // Shows that it prints as the number in it.
+    fn prove_number()
+        ensures { (v : Self) → in_range v
+            → N.is_value (get v) × (Self.document v ≡ N.document (get v)) };
+}
+
+// The nonzero number at the front. At a 0 the parser stays.
+#[inline(always)]
+fn parse_non_zero<A, N: uParse<A>, T: NonZero<A, N>, M: ParseMode>(
+    alloc: A,
+    parser: &mut Parser<'_, M>,
+) -> Result<T, Fault>
+    ensures taken { IfOk result (λ v. IsTaken M.mode parser.old (T.document v) parser.new) }
+    ensures only { IfOk result (λ _. (v : T) (u : List ℕ) → T.in_range v
+        → IsNext M.mode parser.old (T.document v) u → u ≡ rest parser.new) }
+    ensures none { IfErr result (λ fault. fault ≡ Fault.NotText → (v : T) (u : List ℕ) → T.in_range v
+        → ¬ IsNext M.mode parser.old (T.document v) u) }
+    ensures memory { N.holds_no_memory → IfErr result (λ fault. fault ≡ Fault.NotText) }
+    ensures blocks { IfOk result (λ _. open_blocks parser.new ≡ open_blocks parser.old) }
+    ensures shrinks { length (rest parser.new) ≤ length (rest parser.old) }
+{
+    T::prove_number();
+    let before = parser.rest();
+    match N::parse_from(alloc, parser) {
+        Err(fault) => Err(fault),
+        Ok(number) => match T::from_number(number) {
+            None => {
+                parser.skip_to(before);
+                Err(Fault::NotText)
+            }
+            Some(value) => Ok(value),
+        },
+    }
+}
+
+impl<A: Copy> NonZero<A, u8> for NonZeroU8 {
+    ghost in_range = { is_non_zero_u8 };
+
+    ghost get = { non_zero_u8_get };
+
+    #[inline(always)]
+    fn from_number(number: u8) -> Option<NonZeroU8> {
+        NonZeroU8::new(number)
+    }
+
+    fn prove_number() {}
+}
+
+impl<A: Copy> uParse<A> for NonZeroU8 {
     ghost is_value = { is_non_zero_u8 };
 
+    ghost holds_no_memory = { ⊤ };
+
     fn prove_value(&self) {
-        let _n = self.get();
+        let _number = self.get();
     }
 
-    fn from_doc(alloc: Global, doc: &Doc) -> Result<Option<NonZeroU8>, AllocError> {
-        match u8::from_doc(alloc, doc)? {
-            Some(n) => Ok(NonZeroU8::new(n)),
-            None => Ok(None),
-        }
+    fn parse_from<M: ParseMode>(alloc: A, parser: &mut Parser<'_, M>) -> Result<NonZeroU8, Fault> {
+        parse_non_zero::<A, u8, NonZeroU8, M>(alloc, parser)
     }
 }
 
-impl uParse for NonZeroU16 {
+impl<A: Copy> NonZero<A, u16> for NonZeroU16 {
+    ghost in_range = { is_non_zero_u16 };
+
+    ghost get = { non_zero_u16_get };
+
+    #[inline(always)]
+    fn from_number(number: u16) -> Option<NonZeroU16> {
+        NonZeroU16::new(number)
+    }
+
+    fn prove_number() {}
+}
+
+impl<A: Copy> uParse<A> for NonZeroU16 {
     ghost is_value = { is_non_zero_u16 };
 
+    ghost holds_no_memory = { ⊤ };
+
     fn prove_value(&self) {
-        let _n = self.get();
+        let _number = self.get();
     }
 
-    fn from_doc(alloc: Global, doc: &Doc) -> Result<Option<NonZeroU16>, AllocError> {
-        match u16::from_doc(alloc, doc)? {
-            Some(n) => Ok(NonZeroU16::new(n)),
-            None => Ok(None),
-        }
+    fn parse_from<M: ParseMode>(alloc: A, parser: &mut Parser<'_, M>) -> Result<NonZeroU16, Fault> {
+        parse_non_zero::<A, u16, NonZeroU16, M>(alloc, parser)
     }
 }
 
-impl uParse for NonZeroU32 {
+impl<A: Copy> NonZero<A, u32> for NonZeroU32 {
+    ghost in_range = { is_non_zero_u32 };
+
+    ghost get = { non_zero_u32_get };
+
+    #[inline(always)]
+    fn from_number(number: u32) -> Option<NonZeroU32> {
+        NonZeroU32::new(number)
+    }
+
+    fn prove_number() {}
+}
+
+impl<A: Copy> uParse<A> for NonZeroU32 {
     ghost is_value = { is_non_zero_u32 };
 
+    ghost holds_no_memory = { ⊤ };
+
     fn prove_value(&self) {
-        let _n = self.get();
+        let _number = self.get();
     }
 
-    fn from_doc(alloc: Global, doc: &Doc) -> Result<Option<NonZeroU32>, AllocError> {
-        match u32::from_doc(alloc, doc)? {
-            Some(n) => Ok(NonZeroU32::new(n)),
-            None => Ok(None),
-        }
+    fn parse_from<M: ParseMode>(alloc: A, parser: &mut Parser<'_, M>) -> Result<NonZeroU32, Fault> {
+        parse_non_zero::<A, u32, NonZeroU32, M>(alloc, parser)
     }
 }
 
-impl uParse for NonZeroU64 {
+impl<A: Copy> NonZero<A, u64> for NonZeroU64 {
+    ghost in_range = { is_non_zero_u64 };
+
+    ghost get = { non_zero_u64_get };
+
+    #[inline(always)]
+    fn from_number(number: u64) -> Option<NonZeroU64> {
+        NonZeroU64::new(number)
+    }
+
+    fn prove_number() {}
+}
+
+impl<A: Copy> uParse<A> for NonZeroU64 {
     ghost is_value = { is_non_zero_u64 };
 
+    ghost holds_no_memory = { ⊤ };
+
     fn prove_value(&self) {
-        let _n = self.get();
+        let _number = self.get();
     }
 
-    fn from_doc(alloc: Global, doc: &Doc) -> Result<Option<NonZeroU64>, AllocError> {
-        match u64::from_doc(alloc, doc)? {
-            Some(n) => Ok(NonZeroU64::new(n)),
-            None => Ok(None),
-        }
+    fn parse_from<M: ParseMode>(alloc: A, parser: &mut Parser<'_, M>) -> Result<NonZeroU64, Fault> {
+        parse_non_zero::<A, u64, NonZeroU64, M>(alloc, parser)
     }
 }
 
-impl uParse for NonZeroUsize {
+impl<A: Copy> NonZero<A, u128> for NonZeroU128 {
+    ghost in_range = { is_non_zero_u128 };
+
+    ghost get = { non_zero_u128_get };
+
+    #[inline(always)]
+    fn from_number(number: u128) -> Option<NonZeroU128> {
+        NonZeroU128::new(number)
+    }
+
+    fn prove_number() {}
+}
+
+impl<A: Copy> uParse<A> for NonZeroU128 {
+    ghost is_value = { is_non_zero_u128 };
+
+    ghost holds_no_memory = { ⊤ };
+
+    fn prove_value(&self) {
+        let _number = self.get();
+    }
+
+    fn parse_from<M: ParseMode>(
+        alloc: A,
+        parser: &mut Parser<'_, M>,
+    ) -> Result<NonZeroU128, Fault> {
+        parse_non_zero::<A, u128, NonZeroU128, M>(alloc, parser)
+    }
+}
+
+impl<A: Copy> NonZero<A, usize> for NonZeroUsize {
+    ghost in_range = { is_non_zero_usize };
+
+    ghost get = { non_zero_usize_get };
+
+    #[inline(always)]
+    fn from_number(number: usize) -> Option<NonZeroUsize> {
+        NonZeroUsize::new(number)
+    }
+
+    fn prove_number() {}
+}
+
+impl<A: Copy> uParse<A> for NonZeroUsize {
     ghost is_value = { is_non_zero_usize };
 
+    ghost holds_no_memory = { ⊤ };
+
     fn prove_value(&self) {
-        let _n = self.get();
+        let _number = self.get();
     }
 
-    fn from_doc(alloc: Global, doc: &Doc) -> Result<Option<NonZeroUsize>, AllocError> {
-        match usize::from_doc(alloc, doc)? {
-            Some(n) => Ok(NonZeroUsize::new(n)),
-            None => Ok(None),
-        }
+    fn parse_from<M: ParseMode>(
+        alloc: A,
+        parser: &mut Parser<'_, M>,
+    ) -> Result<NonZeroUsize, Fault> {
+        parse_non_zero::<A, usize, NonZeroUsize, M>(alloc, parser)
     }
 }
 
-impl uParse for NonZeroI8 {
+impl<A: Copy> NonZero<A, i8> for NonZeroI8 {
+    ghost in_range = { is_non_zero_i8 };
+
+    ghost get = { non_zero_i8_get };
+
+    #[inline(always)]
+    fn from_number(number: i8) -> Option<NonZeroI8> {
+        NonZeroI8::new(number)
+    }
+
+    fn prove_number() {}
+}
+
+impl<A: Copy> uParse<A> for NonZeroI8 {
     ghost is_value = { is_non_zero_i8 };
 
+    ghost holds_no_memory = { ⊤ };
+
     fn prove_value(&self) {
-        let _n = self.get();
+        let _number = self.get();
     }
 
-    fn from_doc(alloc: Global, doc: &Doc) -> Result<Option<NonZeroI8>, AllocError> {
-        match i8::from_doc(alloc, doc)? {
-            Some(n) => Ok(NonZeroI8::new(n)),
-            None => Ok(None),
-        }
+    fn parse_from<M: ParseMode>(alloc: A, parser: &mut Parser<'_, M>) -> Result<NonZeroI8, Fault> {
+        parse_non_zero::<A, i8, NonZeroI8, M>(alloc, parser)
     }
 }
 
-impl uParse for NonZeroI16 {
+impl<A: Copy> NonZero<A, i16> for NonZeroI16 {
+    ghost in_range = { is_non_zero_i16 };
+
+    ghost get = { non_zero_i16_get };
+
+    #[inline(always)]
+    fn from_number(number: i16) -> Option<NonZeroI16> {
+        NonZeroI16::new(number)
+    }
+
+    fn prove_number() {}
+}
+
+impl<A: Copy> uParse<A> for NonZeroI16 {
     ghost is_value = { is_non_zero_i16 };
 
+    ghost holds_no_memory = { ⊤ };
+
     fn prove_value(&self) {
-        let _n = self.get();
+        let _number = self.get();
     }
 
-    fn from_doc(alloc: Global, doc: &Doc) -> Result<Option<NonZeroI16>, AllocError> {
-        match i16::from_doc(alloc, doc)? {
-            Some(n) => Ok(NonZeroI16::new(n)),
-            None => Ok(None),
-        }
+    fn parse_from<M: ParseMode>(alloc: A, parser: &mut Parser<'_, M>) -> Result<NonZeroI16, Fault> {
+        parse_non_zero::<A, i16, NonZeroI16, M>(alloc, parser)
     }
 }
 
-impl uParse for NonZeroI32 {
+impl<A: Copy> NonZero<A, i32> for NonZeroI32 {
+    ghost in_range = { is_non_zero_i32 };
+
+    ghost get = { non_zero_i32_get };
+
+    #[inline(always)]
+    fn from_number(number: i32) -> Option<NonZeroI32> {
+        NonZeroI32::new(number)
+    }
+
+    fn prove_number() {}
+}
+
+impl<A: Copy> uParse<A> for NonZeroI32 {
     ghost is_value = { is_non_zero_i32 };
 
+    ghost holds_no_memory = { ⊤ };
+
     fn prove_value(&self) {
-        let _n = self.get();
+        let _number = self.get();
     }
 
-    fn from_doc(alloc: Global, doc: &Doc) -> Result<Option<NonZeroI32>, AllocError> {
-        match i32::from_doc(alloc, doc)? {
-            Some(n) => Ok(NonZeroI32::new(n)),
-            None => Ok(None),
-        }
+    fn parse_from<M: ParseMode>(alloc: A, parser: &mut Parser<'_, M>) -> Result<NonZeroI32, Fault> {
+        parse_non_zero::<A, i32, NonZeroI32, M>(alloc, parser)
     }
 }
 
-impl uParse for NonZeroI64 {
+impl<A: Copy> NonZero<A, i64> for NonZeroI64 {
+    ghost in_range = { is_non_zero_i64 };
+
+    ghost get = { non_zero_i64_get };
+
+    #[inline(always)]
+    fn from_number(number: i64) -> Option<NonZeroI64> {
+        NonZeroI64::new(number)
+    }
+
+    fn prove_number() {}
+}
+
+impl<A: Copy> uParse<A> for NonZeroI64 {
     ghost is_value = { is_non_zero_i64 };
 
+    ghost holds_no_memory = { ⊤ };
+
     fn prove_value(&self) {
-        let _n = self.get();
+        let _number = self.get();
     }
 
-    fn from_doc(alloc: Global, doc: &Doc) -> Result<Option<NonZeroI64>, AllocError> {
-        match i64::from_doc(alloc, doc)? {
-            Some(n) => Ok(NonZeroI64::new(n)),
-            None => Ok(None),
-        }
+    fn parse_from<M: ParseMode>(alloc: A, parser: &mut Parser<'_, M>) -> Result<NonZeroI64, Fault> {
+        parse_non_zero::<A, i64, NonZeroI64, M>(alloc, parser)
     }
 }
 
-impl uParse for NonZeroIsize {
-    ghost is_value = { is_non_zero_isize };
+impl<A: Copy> NonZero<A, i128> for NonZeroI128 {
+    ghost in_range = { is_non_zero_i128 };
 
-    fn prove_value(&self) {
-        let _n = self.get();
+    ghost get = { non_zero_i128_get };
+
+    #[inline(always)]
+    fn from_number(number: i128) -> Option<NonZeroI128> {
+        NonZeroI128::new(number)
     }
 
-    fn from_doc(alloc: Global, doc: &Doc) -> Result<Option<NonZeroIsize>, AllocError> {
-        match isize::from_doc(alloc, doc)? {
-            Some(n) => Ok(NonZeroIsize::new(n)),
-            None => Ok(None),
-        }
+    fn prove_number() {}
+}
+
+impl<A: Copy> uParse<A> for NonZeroI128 {
+    ghost is_value = { is_non_zero_i128 };
+
+    ghost holds_no_memory = { ⊤ };
+
+    fn prove_value(&self) {
+        let _number = self.get();
+    }
+
+    fn parse_from<M: ParseMode>(
+        alloc: A,
+        parser: &mut Parser<'_, M>,
+    ) -> Result<NonZeroI128, Fault> {
+        parse_non_zero::<A, i128, NonZeroI128, M>(alloc, parser)
+    }
+}
+
+impl<A: Copy> NonZero<A, isize> for NonZeroIsize {
+    ghost in_range = { is_non_zero_isize };
+
+    ghost get = { non_zero_isize_get };
+
+    #[inline(always)]
+    fn from_number(number: isize) -> Option<NonZeroIsize> {
+        NonZeroIsize::new(number)
+    }
+
+    fn prove_number() {}
+}
+
+impl<A: Copy> uParse<A> for NonZeroIsize {
+    ghost is_value = { is_non_zero_isize };
+
+    ghost holds_no_memory = { ⊤ };
+
+    fn prove_value(&self) {
+        let _number = self.get();
+    }
+
+    fn parse_from<M: ParseMode>(
+        alloc: A,
+        parser: &mut Parser<'_, M>,
+    ) -> Result<NonZeroIsize, Fault> {
+        parse_non_zero::<A, isize, NonZeroIsize, M>(alloc, parser)
     }
 }

@@ -1,219 +1,508 @@
-#![tactic(auto, using(crate::proofs::ParsedNumbers::decimal_texts))]
-
-//! Numbers from their decimal texts.
-ghost use Rattle.std.specs.Prelude.{◌≡◌, ◌↔◌, ◌≤◌, length, IsTrue};
-ghost use Rattle.ufmt.specs.Layout.{plain_text};
+//! Integers: decimal digits with no zero before them, after `-` if the number is negative.
+ghost use Rattle.std.specs.Prelude.{◌≡◌, ◌<◌, ◌≤◌, ⊤, length, List, ℕ, ℤ, pos, nat_abs, false, IfOk, IfErr, MatchOption};
+ghost use Rattle.ufmt_core.specs.Decimal.{decimal};
+ghost use Rattle.ufmt_core.specs.Document.{leaf};
+ghost use Rattle.ufmt_parse.specs.Digits.{IsSigned, SplitsSign};
+ghost use Rattle.ufmt_parse.specs.Taking.{IsNext, IsTaken, open_blocks, rest};
 ghost use Rattle.ufmt_parse.specs.Values.{is_u8, is_u16, is_u32, is_u64, is_u128, is_usize, is_i8, is_i16, is_i32, is_i64, is_i128, is_isize};
 
-use crate::uParse;
-use std::alloc::{AllocError, Global};
-use ufmt::{Full, debug_into, uDebug};
-use ufmt_doc::doc::Doc;
+use crate::digits::{Magnitude, split_magnitude, split_minus};
+use crate::from_front::uParse;
+use crate::mode::ParseMode;
+use crate::parser::{Fault, Parser};
 
-// The longest decimal text is that of the least `i128`.
-const LONGEST: usize = 40;
+// An integer type, whose magnitudes `N` can hold.
+trait Integer<N: Magnitude> {
+    ghost int: { Self → ℤ };
 
-// Whether the value's plain text is this text. Std's `parse` also takes texts that no number has: with a
-// plus, with a leading zero, and `-0`.
-fn prints_as<T: uDebug>(value: &T, text: &str) -> bool
-    requires { length (plain_text (T.document value.now)) ≤ LONGEST }
-    ensures { IsTrue result ↔ (plain_text (T.document value.now) ≡ text.now) }
+    ghost in_range: { Self → Type 0 };
+
+    // The integer with this sign and magnitude, if it is one of the type. 0 has no `-`.
+    fn from_magnitude(negative: bool, magnitude: N) -> Option<Self>
+    where
+        Self: Sized,
+        ensures { MatchOption result
+            ((v : Self) → in_range v → IsSigned negative (N.value magnitude) (int v) → ⊥)
+            (λ v. in_range v × IsSigned negative (N.value magnitude) (int v)) };
+
+    // Whether there are integers of more than ten digits.
+    #[inline(always)]
+    fn is_long() -> bool {
+        true
+    }
+
+    // Whether there are integers below 0.
+    #[inline(always)]
+    fn is_signed() -> bool
+        ensures { result ≡ false → (v : Self) → int v ≡ pos (nat_abs (int v)) }
+    {
+        true
+    }
+
+    // Shows that `N` holds the magnitudes of this type.
+    fn prove_fits()
+        ensures { (v : Self) → in_range v → nat_abs (int v) < N.bound };
+}
+
+impl Integer<u64> for u8 {
+    ghost int = { λ v. pos v };
+
+    ghost in_range = { is_u8 };
+
+    #[inline(always)]
+    fn from_magnitude(negative: bool, magnitude: u64) -> Option<u8> {
+        if negative {
+            None
+        } else {
+            u8::try_from(magnitude).ok()
+        }
+    }
+
+    #[inline(always)]
+    fn is_long() -> bool {
+        false
+    }
+
+    #[inline(always)]
+    fn is_signed() -> bool {
+        false
+    }
+
+    fn prove_fits() {}
+}
+
+impl Integer<u64> for u16 {
+    ghost int = { λ v. pos v };
+
+    ghost in_range = { is_u16 };
+
+    #[inline(always)]
+    fn from_magnitude(negative: bool, magnitude: u64) -> Option<u16> {
+        if negative {
+            None
+        } else {
+            u16::try_from(magnitude).ok()
+        }
+    }
+
+    #[inline(always)]
+    fn is_long() -> bool {
+        false
+    }
+
+    #[inline(always)]
+    fn is_signed() -> bool {
+        false
+    }
+
+    fn prove_fits() {}
+}
+
+impl Integer<u64> for u32 {
+    ghost int = { λ v. pos v };
+
+    ghost in_range = { is_u32 };
+
+    #[inline(always)]
+    fn from_magnitude(negative: bool, magnitude: u64) -> Option<u32> {
+        if negative {
+            None
+        } else {
+            u32::try_from(magnitude).ok()
+        }
+    }
+
+    #[inline(always)]
+    fn is_long() -> bool {
+        false
+    }
+
+    #[inline(always)]
+    fn is_signed() -> bool {
+        false
+    }
+
+    fn prove_fits() {}
+}
+
+impl Integer<u64> for u64 {
+    ghost int = { λ v. pos v };
+
+    ghost in_range = { is_u64 };
+
+    #[inline(always)]
+    fn from_magnitude(negative: bool, magnitude: u64) -> Option<u64> {
+        if negative { None } else { Some(magnitude) }
+    }
+
+    #[inline(always)]
+    fn is_signed() -> bool {
+        false
+    }
+
+    fn prove_fits() {}
+}
+
+impl Integer<u64> for usize {
+    ghost int = { λ v. pos v };
+
+    ghost in_range = { is_usize };
+
+    #[inline(always)]
+    fn from_magnitude(negative: bool, magnitude: u64) -> Option<usize> {
+        if negative {
+            None
+        } else {
+            usize::try_from(magnitude).ok()
+        }
+    }
+
+    #[inline(always)]
+    fn is_signed() -> bool {
+        false
+    }
+
+    fn prove_fits() {}
+}
+
+impl Integer<u128> for u128 {
+    ghost int = { λ v. pos v };
+
+    ghost in_range = { is_u128 };
+
+    #[inline(always)]
+    fn from_magnitude(negative: bool, magnitude: u128) -> Option<u128> {
+        if negative { None } else { Some(magnitude) }
+    }
+
+    #[inline(always)]
+    fn is_signed() -> bool {
+        false
+    }
+
+    fn prove_fits() {}
+}
+
+impl Integer<u64> for i8 {
+    ghost int = { λ v. v };
+
+    ghost in_range = { is_i8 };
+
+    #[inline(always)]
+    fn from_magnitude(negative: bool, magnitude: u64) -> Option<i8> {
+        i8::try_from(i64::from_magnitude(negative, magnitude)?).ok()
+    }
+
+    #[inline(always)]
+    fn is_long() -> bool {
+        false
+    }
+
+    fn prove_fits() {}
+}
+
+impl Integer<u64> for i16 {
+    ghost int = { λ v. v };
+
+    ghost in_range = { is_i16 };
+
+    #[inline(always)]
+    fn from_magnitude(negative: bool, magnitude: u64) -> Option<i16> {
+        i16::try_from(i64::from_magnitude(negative, magnitude)?).ok()
+    }
+
+    #[inline(always)]
+    fn is_long() -> bool {
+        false
+    }
+
+    fn prove_fits() {}
+}
+
+impl Integer<u64> for i32 {
+    ghost int = { λ v. v };
+
+    ghost in_range = { is_i32 };
+
+    #[inline(always)]
+    fn from_magnitude(negative: bool, magnitude: u64) -> Option<i32> {
+        i32::try_from(i64::from_magnitude(negative, magnitude)?).ok()
+    }
+
+    #[inline(always)]
+    fn is_long() -> bool {
+        false
+    }
+
+    fn prove_fits() {}
+}
+
+impl Integer<u64> for i64 {
+    ghost int = { λ v. v };
+
+    ghost in_range = { is_i64 };
+
+    #[inline(always)]
+    fn from_magnitude(negative: bool, magnitude: u64) -> Option<i64> {
+        if !negative {
+            return i64::try_from(magnitude).ok();
+        }
+        let before = i64::try_from(magnitude.checked_sub(1)?).ok()?;
+        Some(-1 - before)
+    }
+
+    fn prove_fits() {}
+}
+
+impl Integer<u64> for isize {
+    ghost int = { λ v. v };
+
+    ghost in_range = { is_isize };
+
+    #[inline(always)]
+    fn from_magnitude(negative: bool, magnitude: u64) -> Option<isize> {
+        isize::try_from(i64::from_magnitude(negative, magnitude)?).ok()
+    }
+
+    fn prove_fits() {}
+}
+
+impl Integer<u128> for i128 {
+    ghost int = { λ v. v };
+
+    ghost in_range = { is_i128 };
+
+    #[inline(always)]
+    fn from_magnitude(negative: bool, magnitude: u128) -> Option<i128> {
+        if !negative {
+            return i128::try_from(magnitude).ok();
+        }
+        let before = i128::try_from(magnitude.checked_sub(1)?).ok()?;
+        Some(-1 - before)
+    }
+
+    fn prove_fits() {}
+}
+
+// Whether the integer at the front is negative, and what follows its sign.
+#[inline(always)]
+#[tactic(auto, using(crate::proofs::Integers::splits_none))]
+fn split_sign<N: Magnitude, T: Integer<N>>(input: &[u8]) -> (bool, &[u8])
+    ensures { SplitsSign T.int input.now result.0 result.1.now }
 {
-    let mut buffer = [0u8; LONGEST];
-    match debug_into(&mut buffer, value) {
-        Ok(length) => &buffer[..length] == text.as_bytes(),
-        Err(Full) => false,
+    if T::is_signed() {
+        split_minus(input)
+    } else {
+        (false, input)
     }
 }
 
-impl uParse for u8 {
+// The integer at the front.
+#[inline(always)]
+fn parse_integer<N: Magnitude, T: Integer<N>, M: ParseMode>(
+    parser: &mut Parser<'_, M>,
+) -> Result<T, Fault>
+    ensures taken { IfOk result (λ v. IsTaken M.mode parser.old (leaf (decimal (T.int v))) parser.new) }
+    ensures only { IfOk result (λ _. (v : T) (u : List ℕ) → T.in_range v
+        → IsNext M.mode parser.old (leaf (decimal (T.int v))) u → u ≡ rest parser.new) }
+    ensures none { IfErr result (λ fault. fault ≡ Fault.NotText → (v : T) (u : List ℕ) → T.in_range v
+        → ¬ IsNext M.mode parser.old (leaf (decimal (T.int v))) u) }
+    ensures memory { IfErr result (λ fault. fault ≡ Fault.NotText) }
+    ensures blocks { IfOk result (λ _. open_blocks parser.new ≡ open_blocks parser.old) }
+    ensures shrinks { length (rest parser.new) ≤ length (rest parser.old) }
+{
+    let (negative, digits) = split_sign::<N, T>(parser.rest());
+    match split_magnitude::<N>(digits, T::is_long()) {
+        None => {
+            T::prove_fits();
+            Err(Fault::NotText)
+        }
+        Some(front) => match T::from_magnitude(negative, front.0) {
+            None => Err(Fault::NotText),
+            Some(value) => {
+                parser.skip_to(front.1);
+                Ok(value)
+            }
+        },
+    }
+}
+
+impl<A: Copy> uParse<A> for u8 {
     ghost is_value = { is_u8 };
 
+    ghost holds_no_memory = { ⊤ };
+
     fn prove_value(&self) {
         let _n = *self;
     }
 
-    fn from_doc(alloc: Global, doc: &Doc) -> Result<Option<u8>, AllocError> {
-        match u64::from_doc(alloc, doc)? {
-            Some(n) => Ok(u8::try_from(n).ok()),
-            None => Ok(None),
-        }
+    #[inline(always)]
+    fn parse_from<M: ParseMode>(_alloc: A, parser: &mut Parser<'_, M>) -> Result<u8, Fault> {
+        parse_integer::<u64, u8, M>(parser)
     }
 }
 
-impl uParse for u16 {
+impl<A: Copy> uParse<A> for u16 {
     ghost is_value = { is_u16 };
 
+    ghost holds_no_memory = { ⊤ };
+
     fn prove_value(&self) {
         let _n = *self;
     }
 
-    fn from_doc(alloc: Global, doc: &Doc) -> Result<Option<u16>, AllocError> {
-        match u64::from_doc(alloc, doc)? {
-            Some(n) => Ok(u16::try_from(n).ok()),
-            None => Ok(None),
-        }
+    #[inline(always)]
+    fn parse_from<M: ParseMode>(_alloc: A, parser: &mut Parser<'_, M>) -> Result<u16, Fault> {
+        parse_integer::<u64, u16, M>(parser)
     }
 }
 
-impl uParse for u32 {
+impl<A: Copy> uParse<A> for u32 {
     ghost is_value = { is_u32 };
 
+    ghost holds_no_memory = { ⊤ };
+
     fn prove_value(&self) {
         let _n = *self;
     }
 
-    fn from_doc(alloc: Global, doc: &Doc) -> Result<Option<u32>, AllocError> {
-        match u64::from_doc(alloc, doc)? {
-            Some(n) => Ok(u32::try_from(n).ok()),
-            None => Ok(None),
-        }
+    #[inline(always)]
+    fn parse_from<M: ParseMode>(_alloc: A, parser: &mut Parser<'_, M>) -> Result<u32, Fault> {
+        parse_integer::<u64, u32, M>(parser)
     }
 }
 
-impl uParse for u64 {
+impl<A: Copy> uParse<A> for u64 {
     ghost is_value = { is_u64 };
 
-    fn prove_value(&self) {
-        let _n = *self;
-    }
-
-    fn from_doc(_alloc: Global, doc: &Doc) -> Result<Option<u64>, AllocError> {
-        match doc.as_leaf() {
-            Some(text) => match text.parse::<u64>() {
-                Ok(n) if prints_as(&n, text) => Ok(Some(n)),
-                _ => Ok(None),
-            },
-            None => Ok(None),
-        }
-    }
-}
-
-impl uParse for u128 {
-    ghost is_value = { is_u128 };
+    ghost holds_no_memory = { ⊤ };
 
     fn prove_value(&self) {
         let _n = *self;
     }
 
-    fn from_doc(_alloc: Global, doc: &Doc) -> Result<Option<u128>, AllocError> {
-        match doc.as_leaf() {
-            Some(text) => match text.parse::<u128>() {
-                Ok(n) if prints_as(&n, text) => Ok(Some(n)),
-                _ => Ok(None),
-            },
-            None => Ok(None),
-        }
+    #[inline(always)]
+    fn parse_from<M: ParseMode>(_alloc: A, parser: &mut Parser<'_, M>) -> Result<u64, Fault> {
+        parse_integer::<u64, u64, M>(parser)
     }
 }
 
-impl uParse for usize {
+impl<A: Copy> uParse<A> for usize {
     ghost is_value = { is_usize };
 
+    ghost holds_no_memory = { ⊤ };
+
     fn prove_value(&self) {
         let _n = *self;
     }
 
-    fn from_doc(alloc: Global, doc: &Doc) -> Result<Option<usize>, AllocError> {
-        match u64::from_doc(alloc, doc)? {
-            Some(n) => Ok(usize::try_from(n).ok()),
-            None => Ok(None),
-        }
+    #[inline(always)]
+    fn parse_from<M: ParseMode>(_alloc: A, parser: &mut Parser<'_, M>) -> Result<usize, Fault> {
+        parse_integer::<u64, usize, M>(parser)
     }
 }
 
-impl uParse for i8 {
+impl<A: Copy> uParse<A> for u128 {
+    ghost is_value = { is_u128 };
+
+    ghost holds_no_memory = { ⊤ };
+
+    fn prove_value(&self) {
+        let _n = *self;
+    }
+
+    #[inline(always)]
+    fn parse_from<M: ParseMode>(_alloc: A, parser: &mut Parser<'_, M>) -> Result<u128, Fault> {
+        parse_integer::<u128, u128, M>(parser)
+    }
+}
+
+impl<A: Copy> uParse<A> for i8 {
     ghost is_value = { is_i8 };
 
+    ghost holds_no_memory = { ⊤ };
+
     fn prove_value(&self) {
         let _n = *self;
     }
 
-    fn from_doc(alloc: Global, doc: &Doc) -> Result<Option<i8>, AllocError> {
-        match i64::from_doc(alloc, doc)? {
-            Some(n) => Ok(i8::try_from(n).ok()),
-            None => Ok(None),
-        }
+    #[inline(always)]
+    fn parse_from<M: ParseMode>(_alloc: A, parser: &mut Parser<'_, M>) -> Result<i8, Fault> {
+        parse_integer::<u64, i8, M>(parser)
     }
 }
 
-impl uParse for i16 {
+impl<A: Copy> uParse<A> for i16 {
     ghost is_value = { is_i16 };
 
+    ghost holds_no_memory = { ⊤ };
+
     fn prove_value(&self) {
         let _n = *self;
     }
 
-    fn from_doc(alloc: Global, doc: &Doc) -> Result<Option<i16>, AllocError> {
-        match i64::from_doc(alloc, doc)? {
-            Some(n) => Ok(i16::try_from(n).ok()),
-            None => Ok(None),
-        }
+    #[inline(always)]
+    fn parse_from<M: ParseMode>(_alloc: A, parser: &mut Parser<'_, M>) -> Result<i16, Fault> {
+        parse_integer::<u64, i16, M>(parser)
     }
 }
 
-impl uParse for i32 {
+impl<A: Copy> uParse<A> for i32 {
     ghost is_value = { is_i32 };
 
+    ghost holds_no_memory = { ⊤ };
+
     fn prove_value(&self) {
         let _n = *self;
     }
 
-    fn from_doc(alloc: Global, doc: &Doc) -> Result<Option<i32>, AllocError> {
-        match i64::from_doc(alloc, doc)? {
-            Some(n) => Ok(i32::try_from(n).ok()),
-            None => Ok(None),
-        }
+    #[inline(always)]
+    fn parse_from<M: ParseMode>(_alloc: A, parser: &mut Parser<'_, M>) -> Result<i32, Fault> {
+        parse_integer::<u64, i32, M>(parser)
     }
 }
 
-impl uParse for i64 {
+impl<A: Copy> uParse<A> for i64 {
     ghost is_value = { is_i64 };
 
-    fn prove_value(&self) {
-        let _n = *self;
-    }
-
-    fn from_doc(_alloc: Global, doc: &Doc) -> Result<Option<i64>, AllocError> {
-        match doc.as_leaf() {
-            Some(text) => match text.parse::<i64>() {
-                Ok(n) if prints_as(&n, text) => Ok(Some(n)),
-                _ => Ok(None),
-            },
-            None => Ok(None),
-        }
-    }
-}
-
-impl uParse for i128 {
-    ghost is_value = { is_i128 };
+    ghost holds_no_memory = { ⊤ };
 
     fn prove_value(&self) {
         let _n = *self;
     }
 
-    fn from_doc(_alloc: Global, doc: &Doc) -> Result<Option<i128>, AllocError> {
-        match doc.as_leaf() {
-            Some(text) => match text.parse::<i128>() {
-                Ok(n) if prints_as(&n, text) => Ok(Some(n)),
-                _ => Ok(None),
-            },
-            None => Ok(None),
-        }
+    #[inline(always)]
+    fn parse_from<M: ParseMode>(_alloc: A, parser: &mut Parser<'_, M>) -> Result<i64, Fault> {
+        parse_integer::<u64, i64, M>(parser)
     }
 }
 
-impl uParse for isize {
+impl<A: Copy> uParse<A> for isize {
     ghost is_value = { is_isize };
 
+    ghost holds_no_memory = { ⊤ };
+
     fn prove_value(&self) {
         let _n = *self;
     }
 
-    fn from_doc(alloc: Global, doc: &Doc) -> Result<Option<isize>, AllocError> {
-        match i64::from_doc(alloc, doc)? {
-            Some(n) => Ok(isize::try_from(n).ok()),
-            None => Ok(None),
-        }
+    #[inline(always)]
+    fn parse_from<M: ParseMode>(_alloc: A, parser: &mut Parser<'_, M>) -> Result<isize, Fault> {
+        parse_integer::<u64, isize, M>(parser)
+    }
+}
+
+impl<A: Copy> uParse<A> for i128 {
+    ghost is_value = { is_i128 };
+
+    ghost holds_no_memory = { ⊤ };
+
+    fn prove_value(&self) {
+        let _n = *self;
+    }
+
+    #[inline(always)]
+    fn parse_from<M: ParseMode>(_alloc: A, parser: &mut Parser<'_, M>) -> Result<i128, Fault> {
+        parse_integer::<u128, i128, M>(parser)
     }
 }

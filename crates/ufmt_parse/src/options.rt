@@ -1,14 +1,17 @@
-//! Options, results and boxes.
-ghost use Rattle.std.specs.Prelude.{IfSome, Ok, Err};
+//! Options and results.
+ghost use Rattle.std.specs.Prelude.{◌<◌, IfSome, Ok, Err, suc};
 
-use crate::parsers::{Boxed, Optional, ParsesBy, Plain};
+use crate::from_front::{ParsesBy, Plain, uParse};
+use crate::mode::ParseMode;
+use crate::parser::{Fault, Parser};
 use crate::tuples::parse_tuple_1;
-use crate::uParse;
-use std::alloc::{AllocError, Global};
-use ufmt_doc::doc::Doc;
+use crate::tuples_by::parse_tuple_1_by;
+use ufmt::uDebug;
 
-impl<T: uParse> uParse for Option<T> {
+impl<A: Copy, T: uParse<A>> uParse<A> for Option<T> {
     ghost is_value = { λ o. IfSome o T.is_value };
+
+    ghost holds_no_memory = { T.holds_no_memory };
 
     fn prove_value(&self) {
         match self {
@@ -17,13 +20,40 @@ impl<T: uParse> uParse for Option<T> {
         }
     }
 
-    fn from_doc(alloc: Global, doc: &Doc) -> Result<Option<Option<T>>, AllocError> {
-        Optional(Plain).parse_by(alloc, doc)
+    #[inline(always)]
+    fn parse_from<M: ParseMode>(alloc: A, parser: &mut Parser<'_, M>) -> Result<Option<T>, Fault> {
+        Optional(Plain).parse_by(alloc, parser)
     }
 }
 
-impl<T: uParse, E: uParse> uParse for Result<T, E> {
-    ghost is_value = { elim [ Ok x ↦ T.is_value x | Err e ↦ E.is_value e ] };
+/// Parses an `Option` of what its parser parses.
+#[derive(Drop)]
+pub struct Optional<P>(pub P);
+
+impl<A: Copy, M: ParseMode, T: uDebug + Drop, P: ParsesBy<A, M, T>> ParsesBy<A, M, Option<T>>
+    for Optional<P> {
+    ghost is_value = { λ o. IfSome o P.is_value };
+
+    ghost holds_no_memory = { P.holds_no_memory };
+
+    ghost ready = { λ optional blocks. blocks < 255 → P.ready optional.0 (suc blocks) };
+
+    #[inline(always)]
+    fn parse_by(&self, alloc: A, parser: &mut Parser<'_, M>) -> Result<Option<T>, Fault> {
+        if parser.eats("None") {
+            return Ok(None);
+        }
+        match parse_tuple_1_by(alloc, parser, "Some", &self.0) {
+            Ok(value) => Ok(Some(value)),
+            Err(fault) => Err(fault),
+        }
+    }
+}
+
+impl<A: Copy, T: uParse<A>, E: uParse<A>> uParse<A> for Result<T, E> {
+    ghost is_value = { elim [ Ok value ↦ T.is_value value | Err error ↦ E.is_value error ] };
+
+    ghost holds_no_memory = { T.holds_no_memory × E.holds_no_memory };
 
     fn prove_value(&self) {
         match self {
@@ -32,25 +62,19 @@ impl<T: uParse, E: uParse> uParse for Result<T, E> {
         }
     }
 
-    fn from_doc(alloc: Global, doc: &Doc) -> Result<Option<Result<T, E>>, AllocError> {
-        match parse_tuple_1::<T>(alloc, doc, "Ok")? {
-            Some(value) => Ok(Some(Ok(value))),
-            None => match parse_tuple_1::<E>(alloc, doc, "Err")? {
-                Some(error) => Ok(Some(Err(error))),
-                None => Ok(None),
-            },
+    fn parse_from<M: ParseMode>(
+        alloc: A,
+        parser: &mut Parser<'_, M>,
+    ) -> Result<Result<T, E>, Fault> {
+        if parser.is_named("Ok") {
+            return match parse_tuple_1(alloc, parser, "Ok") {
+                Ok(value) => Ok(Ok(value)),
+                Err(fault) => Err(fault),
+            };
         }
-    }
-}
-
-impl<T: uParse> uParse for Box<T> {
-    ghost is_value = { λ b. T.is_value b.value };
-
-    fn prove_value(&self) {
-        (**self).prove_value();
-    }
-
-    fn from_doc(alloc: Global, doc: &Doc) -> Result<Option<Box<T>>, AllocError> {
-        Boxed(Plain).parse_by(alloc, doc)
+        match parse_tuple_1(alloc, parser, "Err") {
+            Ok(error) => Ok(Err(error)),
+            Err(fault) => Err(fault),
+        }
     }
 }

@@ -1,131 +1,218 @@
-//! Structs of one to twelve fields, each in one call.
-ghost use Rattle.std.specs.Prelude.{[], ◌∷◌, ◌≡◌, ◌≢◌, None, IfOk, IfSome};
+//! Structs by their number of fields. tools/write-by-count writes this file: change it there.
+ghost use Rattle.std.specs.Prelude.{◌≤◌, length, [], ◌∷◌, ◌≡◌, List, ℕ, IfOk, IfErr};
 ghost use Rattle.ufmt.specs.Document.{fields_of, struct_of};
-ghost use Rattle.ufmt.specs.Token.{normal};
-ghost use Rattle.ufmt_doc.specs.Doc.{doc_document};
+ghost use Rattle.ufmt_parse.specs.Taking.{AreWords, IsNext, IsTaken, open_blocks, rest};
 
-use crate::fields::struct_fields;
-use crate::parsers::Plain;
-use crate::uParse;
-use std::alloc::{AllocError, Global};
-use ufmt_doc::doc::Doc;
+use crate::from_front::uParse;
+use crate::mode::ParseMode;
+use crate::parser::{Fault, Parser};
+use crate::rows::parse_struct_row;
 
-/// Returns the field of the struct that prints as the document, or `None` if there is no such struct.
-pub fn parse_struct_1<A: uParse>(
-    alloc: Global,
-    doc: &Doc,
+/// Takes a struct with one field, as `parse_from` does a value.
+#[inline(always)]
+pub fn parse_struct_1<Alloc: Copy, A: uParse<Alloc>, M: ParseMode>(
+    alloc: Alloc,
+    parser: &mut Parser<'_, M>,
     name: &str,
     a: &str,
-) -> Result<Option<A>, AllocError>
-    ensures some { IfOk result (λ outcome. IfSome outcome (λ v.
-        struct_of name.now (fields_of ((a.now, normal (A.document v)) ∷ [])) ≡ doc_document doc.now)) }
-    ensures none { IfOk result (λ outcome. outcome ≡ None → (a_value : A) → A.is_value a_value
-        → struct_of name.now (fields_of ((a.now, normal (A.document a_value)) ∷ [])) ≢ doc_document doc.now) }
+) -> Result<A, Fault>
+    requires { AreWords (name.now ∷ a.now ∷ []) }
+    ensures taken { IfOk result (λ v. IsTaken M.mode parser.old (struct_of name.now (fields_of
+        ((a.now, A.document v) ∷ []))) parser.new) }
+    ensures only { IfOk result (λ _. (a_value : A) (u : List ℕ) → A.is_value a_value
+        → IsNext M.mode parser.old (struct_of name.now (fields_of ((a.now, A.document a_value)
+        ∷ []))) u → u ≡ rest parser.new) }
+    ensures none { IfErr result (λ fault. fault ≡ Fault.NotText → (a_value : A) (u : List ℕ)
+        → A.is_value a_value → ¬ IsNext M.mode parser.old (struct_of name.now (fields_of
+        ((a.now, A.document a_value) ∷ []))) u) }
+    ensures memory { A.holds_no_memory → IfErr result (λ fault. fault ≡ Fault.NotText) }
+    ensures blocks { IfOk result (λ _. open_blocks parser.new ≡ open_blocks parser.old) }
+    ensures shrinks { length (rest parser.new) ≤ length (rest parser.old) }
 {
-    match struct_fields(alloc, doc, name, &[a], &(Plain, ()))? {
-        None => Ok(None),
-        Some((a, ())) => Ok(Some(a)),
+    match parse_struct_row(alloc, parser, name, &[a]) {
+        Err(fault) => Err(fault),
+        Ok((a_value, ())) => Ok(a_value),
     }
 }
 
-/// Returns the 2 fields of the struct that prints as the document, or `None` if there is no such struct.
-pub fn parse_struct_2<A: uParse, B: uParse>(
-    alloc: Global,
-    doc: &Doc,
+/// Takes a struct with 2 fields, as `parse_from` does a value.
+#[inline(always)]
+pub fn parse_struct_2<Alloc: Copy, A: uParse<Alloc>, B: uParse<Alloc>, M: ParseMode>(
+    alloc: Alloc,
+    parser: &mut Parser<'_, M>,
     name: &str,
     a: &str,
     b: &str,
-) -> Result<Option<(A, B)>, AllocError>
-    ensures some { IfOk result (λ outcome. IfSome outcome (λ v.
-        struct_of name.now (fields_of ((a.now, normal (A.document v.0)) ∷ (b.now, normal (B.document v.1)) ∷ [])) ≡ doc_document doc.now)) }
-    ensures none { IfOk result (λ outcome. outcome ≡ None → (a_value : A) (b_value : B) → A.is_value a_value → B.is_value b_value
-        → struct_of name.now (fields_of ((a.now, normal (A.document a_value)) ∷ (b.now, normal (B.document b_value)) ∷ [])) ≢ doc_document doc.now) }
+) -> Result<(A, B), Fault>
+    requires { AreWords (name.now ∷ a.now ∷ b.now ∷ []) }
+    ensures taken { IfOk result (λ v. IsTaken M.mode parser.old (struct_of name.now (fields_of
+        ((a.now, A.document v.0) ∷ (b.now, B.document v.1) ∷ []))) parser.new) }
+    ensures only { IfOk result (λ _. (a_value : A) (b_value : B) (u : List ℕ) → A.is_value a_value
+        → B.is_value b_value → IsNext M.mode parser.old (struct_of name.now (fields_of
+        ((a.now, A.document a_value) ∷ (b.now, B.document b_value) ∷ []))) u
+        → u ≡ rest parser.new) }
+    ensures none { IfErr result (λ fault. fault ≡ Fault.NotText → (a_value : A) (b_value : B)
+        (u : List ℕ) → A.is_value a_value → B.is_value b_value → ¬ IsNext M.mode parser.old
+        (struct_of name.now (fields_of ((a.now, A.document a_value) ∷ (b.now, B.document b_value)
+        ∷ []))) u) }
+    ensures memory { A.holds_no_memory × B.holds_no_memory → IfErr result (λ fault.
+        fault ≡ Fault.NotText) }
+    ensures blocks { IfOk result (λ _. open_blocks parser.new ≡ open_blocks parser.old) }
+    ensures shrinks { length (rest parser.new) ≤ length (rest parser.old) }
 {
-    match struct_fields(alloc, doc, name, &[a, b], &(Plain, (Plain, ())))? {
-        None => Ok(None),
-        Some((a, (b, ()))) => Ok(Some((a, b))),
+    match parse_struct_row(alloc, parser, name, &[a, b]) {
+        Err(fault) => Err(fault),
+        Ok((a_value, (b_value, ()))) => Ok((a_value, b_value)),
     }
 }
 
-/// Returns the 3 fields of the struct that prints as the document, or `None` if there is no such struct.
-pub fn parse_struct_3<A: uParse, B: uParse, C: uParse>(
-    alloc: Global,
-    doc: &Doc,
+/// Takes a struct with 3 fields, as `parse_from` does a value.
+#[inline(always)]
+pub fn parse_struct_3<
+    Alloc: Copy,
+    A: uParse<Alloc>,
+    B: uParse<Alloc>,
+    C: uParse<Alloc>,
+    M: ParseMode,
+>(
+    alloc: Alloc,
+    parser: &mut Parser<'_, M>,
     name: &str,
     a: &str,
     b: &str,
     c: &str,
-) -> Result<Option<(A, B, C)>, AllocError>
-    ensures some { IfOk result (λ outcome. IfSome outcome (λ v.
-        struct_of name.now (fields_of ((a.now, normal (A.document v.0)) ∷ (b.now, normal (B.document v.1)) ∷ (c.now, normal (C.document v.2)) ∷ [])) ≡ doc_document doc.now)) }
-    ensures none { IfOk result (λ outcome. outcome ≡ None → (a_value : A) (b_value : B) (c_value : C) → A.is_value a_value → B.is_value b_value → C.is_value c_value
-        → struct_of name.now (fields_of ((a.now, normal (A.document a_value)) ∷ (b.now, normal (B.document b_value)) ∷ (c.now, normal (C.document c_value)) ∷ [])) ≢ doc_document doc.now) }
+) -> Result<(A, B, C), Fault>
+    requires { AreWords (name.now ∷ a.now ∷ b.now ∷ c.now ∷ []) }
+    ensures taken { IfOk result (λ v. IsTaken M.mode parser.old (struct_of name.now (fields_of
+        ((a.now, A.document v.0) ∷ (b.now, B.document v.1) ∷ (c.now, C.document v.2) ∷ [])))
+        parser.new) }
+    ensures only { IfOk result (λ _. (a_value : A) (b_value : B) (c_value : C) (u : List ℕ)
+        → A.is_value a_value → B.is_value b_value → C.is_value c_value → IsNext M.mode parser.old
+        (struct_of name.now (fields_of ((a.now, A.document a_value) ∷ (b.now, B.document b_value)
+        ∷ (c.now, C.document c_value) ∷ []))) u → u ≡ rest parser.new) }
+    ensures none { IfErr result (λ fault. fault ≡ Fault.NotText → (a_value : A) (b_value : B)
+        (c_value : C) (u : List ℕ) → A.is_value a_value → B.is_value b_value → C.is_value c_value
+        → ¬ IsNext M.mode parser.old (struct_of name.now (fields_of ((a.now, A.document a_value)
+        ∷ (b.now, B.document b_value) ∷ (c.now, C.document c_value) ∷ []))) u) }
+    ensures memory { A.holds_no_memory × B.holds_no_memory × C.holds_no_memory
+        → IfErr result (λ fault. fault ≡ Fault.NotText) }
+    ensures blocks { IfOk result (λ _. open_blocks parser.new ≡ open_blocks parser.old) }
+    ensures shrinks { length (rest parser.new) ≤ length (rest parser.old) }
 {
-    match struct_fields(alloc, doc, name, &[a, b, c], &(Plain, (Plain, (Plain, ()))))? {
-        None => Ok(None),
-        Some((a, (b, (c, ())))) => Ok(Some((a, b, c))),
+    match parse_struct_row(alloc, parser, name, &[a, b, c]) {
+        Err(fault) => Err(fault),
+        Ok((a_value, (b_value, (c_value, ())))) => Ok((a_value, b_value, c_value)),
     }
 }
 
-/// Returns the 4 fields of the struct that prints as the document, or `None` if there is no such struct.
-pub fn parse_struct_4<A: uParse, B: uParse, C: uParse, D: uParse>(
-    alloc: Global,
-    doc: &Doc,
+/// Takes a struct with 4 fields, as `parse_from` does a value.
+#[inline(always)]
+pub fn parse_struct_4<
+    Alloc: Copy,
+    A: uParse<Alloc>,
+    B: uParse<Alloc>,
+    C: uParse<Alloc>,
+    D: uParse<Alloc>,
+    M: ParseMode,
+>(
+    alloc: Alloc,
+    parser: &mut Parser<'_, M>,
     name: &str,
     a: &str,
     b: &str,
     c: &str,
     d: &str,
-) -> Result<Option<(A, B, C, D)>, AllocError>
-    ensures some { IfOk result (λ outcome. IfSome outcome (λ v.
-        struct_of name.now (fields_of ((a.now, normal (A.document v.0)) ∷ (b.now, normal (B.document v.1)) ∷ (c.now, normal (C.document v.2)) ∷ (d.now, normal (D.document v.3)) ∷ [])) ≡ doc_document doc.now)) }
-    ensures none { IfOk result (λ outcome. outcome ≡ None → (a_value : A) (b_value : B) (c_value : C) (d_value : D) → A.is_value a_value → B.is_value b_value → C.is_value c_value → D.is_value d_value
-        → struct_of name.now (fields_of ((a.now, normal (A.document a_value)) ∷ (b.now, normal (B.document b_value)) ∷ (c.now, normal (C.document c_value)) ∷ (d.now, normal (D.document d_value)) ∷ [])) ≢ doc_document doc.now) }
+) -> Result<(A, B, C, D), Fault>
+    requires { AreWords (name.now ∷ a.now ∷ b.now ∷ c.now ∷ d.now ∷ []) }
+    ensures taken { IfOk result (λ v. IsTaken M.mode parser.old (struct_of name.now (fields_of
+        ((a.now, A.document v.0) ∷ (b.now, B.document v.1) ∷ (c.now, C.document v.2)
+        ∷ (d.now, D.document v.3) ∷ []))) parser.new) }
+    ensures only { IfOk result (λ _. (a_value : A) (b_value : B) (c_value : C) (d_value : D)
+        (u : List ℕ) → A.is_value a_value → B.is_value b_value → C.is_value c_value
+        → D.is_value d_value → IsNext M.mode parser.old (struct_of name.now (fields_of
+        ((a.now, A.document a_value) ∷ (b.now, B.document b_value) ∷ (c.now, C.document c_value)
+        ∷ (d.now, D.document d_value) ∷ []))) u → u ≡ rest parser.new) }
+    ensures none { IfErr result (λ fault. fault ≡ Fault.NotText → (a_value : A) (b_value : B)
+        (c_value : C) (d_value : D) (u : List ℕ) → A.is_value a_value → B.is_value b_value
+        → C.is_value c_value → D.is_value d_value → ¬ IsNext M.mode parser.old
+        (struct_of name.now (fields_of ((a.now, A.document a_value) ∷ (b.now, B.document b_value)
+        ∷ (c.now, C.document c_value) ∷ (d.now, D.document d_value) ∷ []))) u) }
+    ensures memory { A.holds_no_memory × B.holds_no_memory × C.holds_no_memory × D.holds_no_memory
+        → IfErr result (λ fault. fault ≡ Fault.NotText) }
+    ensures blocks { IfOk result (λ _. open_blocks parser.new ≡ open_blocks parser.old) }
+    ensures shrinks { length (rest parser.new) ≤ length (rest parser.old) }
 {
-    match struct_fields(
-        alloc,
-        doc,
-        name,
-        &[a, b, c, d],
-        &(Plain, (Plain, (Plain, (Plain, ())))),
-    )? {
-        None => Ok(None),
-        Some((a, (b, (c, (d, ()))))) => Ok(Some((a, b, c, d))),
+    match parse_struct_row(alloc, parser, name, &[a, b, c, d]) {
+        Err(fault) => Err(fault),
+        Ok((a_value, (b_value, (c_value, (d_value, ()))))) => Ok((
+            a_value, b_value, c_value, d_value,
+        )),
     }
 }
 
-/// Returns the 5 fields of the struct that prints as the document, or `None` if there is no such struct.
-pub fn parse_struct_5<A: uParse, B: uParse, C: uParse, D: uParse, E: uParse>(
-    alloc: Global,
-    doc: &Doc,
+/// Takes a struct with 5 fields, as `parse_from` does a value.
+#[inline(always)]
+pub fn parse_struct_5<
+    Alloc: Copy,
+    A: uParse<Alloc>,
+    B: uParse<Alloc>,
+    C: uParse<Alloc>,
+    D: uParse<Alloc>,
+    E: uParse<Alloc>,
+    M: ParseMode,
+>(
+    alloc: Alloc,
+    parser: &mut Parser<'_, M>,
     name: &str,
     a: &str,
     b: &str,
     c: &str,
     d: &str,
     e: &str,
-) -> Result<Option<(A, B, C, D, E)>, AllocError>
-    ensures some { IfOk result (λ outcome. IfSome outcome (λ v.
-        struct_of name.now (fields_of ((a.now, normal (A.document v.0)) ∷ (b.now, normal (B.document v.1)) ∷ (c.now, normal (C.document v.2)) ∷ (d.now, normal (D.document v.3)) ∷ (e.now, normal (E.document v.4)) ∷ [])) ≡ doc_document doc.now)) }
-    ensures none { IfOk result (λ outcome. outcome ≡ None → (a_value : A) (b_value : B) (c_value : C) (d_value : D) (e_value : E) → A.is_value a_value → B.is_value b_value → C.is_value c_value → D.is_value d_value → E.is_value e_value
-        → struct_of name.now (fields_of ((a.now, normal (A.document a_value)) ∷ (b.now, normal (B.document b_value)) ∷ (c.now, normal (C.document c_value)) ∷ (d.now, normal (D.document d_value)) ∷ (e.now, normal (E.document e_value)) ∷ [])) ≢ doc_document doc.now) }
+) -> Result<(A, B, C, D, E), Fault>
+    requires { AreWords (name.now ∷ a.now ∷ b.now ∷ c.now ∷ d.now ∷ e.now ∷ []) }
+    ensures taken { IfOk result (λ v. IsTaken M.mode parser.old (struct_of name.now (fields_of
+        ((a.now, A.document v.0) ∷ (b.now, B.document v.1) ∷ (c.now, C.document v.2)
+        ∷ (d.now, D.document v.3) ∷ (e.now, E.document v.4) ∷ []))) parser.new) }
+    ensures only { IfOk result (λ _. (a_value : A) (b_value : B) (c_value : C) (d_value : D)
+        (e_value : E) (u : List ℕ) → A.is_value a_value → B.is_value b_value → C.is_value c_value
+        → D.is_value d_value → E.is_value e_value → IsNext M.mode parser.old
+        (struct_of name.now (fields_of ((a.now, A.document a_value) ∷ (b.now, B.document b_value)
+        ∷ (c.now, C.document c_value) ∷ (d.now, D.document d_value) ∷ (e.now, E.document e_value)
+        ∷ []))) u → u ≡ rest parser.new) }
+    ensures none { IfErr result (λ fault. fault ≡ Fault.NotText → (a_value : A) (b_value : B)
+        (c_value : C) (d_value : D) (e_value : E) (u : List ℕ) → A.is_value a_value
+        → B.is_value b_value → C.is_value c_value → D.is_value d_value → E.is_value e_value
+        → ¬ IsNext M.mode parser.old (struct_of name.now (fields_of ((a.now, A.document a_value)
+        ∷ (b.now, B.document b_value) ∷ (c.now, C.document c_value) ∷ (d.now, D.document d_value)
+        ∷ (e.now, E.document e_value) ∷ []))) u) }
+    ensures memory { A.holds_no_memory × B.holds_no_memory × C.holds_no_memory × D.holds_no_memory
+        × E.holds_no_memory → IfErr result (λ fault. fault ≡ Fault.NotText) }
+    ensures blocks { IfOk result (λ _. open_blocks parser.new ≡ open_blocks parser.old) }
+    ensures shrinks { length (rest parser.new) ≤ length (rest parser.old) }
 {
-    match struct_fields(
-        alloc,
-        doc,
-        name,
-        &[a, b, c, d, e],
-        &(Plain, (Plain, (Plain, (Plain, (Plain, ()))))),
-    )? {
-        None => Ok(None),
-        Some((a, (b, (c, (d, (e, ())))))) => Ok(Some((a, b, c, d, e))),
+    match parse_struct_row(alloc, parser, name, &[a, b, c, d, e]) {
+        Err(fault) => Err(fault),
+        Ok((a_value, (b_value, (c_value, (d_value, (e_value, ())))))) => Ok((
+            a_value, b_value, c_value, d_value, e_value,
+        )),
     }
 }
 
-/// Returns the 6 fields of the struct that prints as the document, or `None` if there is no such struct.
-pub fn parse_struct_6<A: uParse, B: uParse, C: uParse, D: uParse, E: uParse, F: uParse>(
-    alloc: Global,
-    doc: &Doc,
+/// Takes a struct with 6 fields, as `parse_from` does a value.
+#[inline(always)]
+pub fn parse_struct_6<
+    Alloc: Copy,
+    A: uParse<Alloc>,
+    B: uParse<Alloc>,
+    C: uParse<Alloc>,
+    D: uParse<Alloc>,
+    E: uParse<Alloc>,
+    F: uParse<Alloc>,
+    M: ParseMode,
+>(
+    alloc: Alloc,
+    parser: &mut Parser<'_, M>,
     name: &str,
     a: &str,
     b: &str,
@@ -133,28 +220,54 @@ pub fn parse_struct_6<A: uParse, B: uParse, C: uParse, D: uParse, E: uParse, F: 
     d: &str,
     e: &str,
     f: &str,
-) -> Result<Option<(A, B, C, D, E, F)>, AllocError>
-    ensures some { IfOk result (λ outcome. IfSome outcome (λ v.
-        struct_of name.now (fields_of ((a.now, normal (A.document v.0)) ∷ (b.now, normal (B.document v.1)) ∷ (c.now, normal (C.document v.2)) ∷ (d.now, normal (D.document v.3)) ∷ (e.now, normal (E.document v.4)) ∷ (f.now, normal (F.document v.5)) ∷ [])) ≡ doc_document doc.now)) }
-    ensures none { IfOk result (λ outcome. outcome ≡ None → (a_value : A) (b_value : B) (c_value : C) (d_value : D) (e_value : E) (f_value : F) → A.is_value a_value → B.is_value b_value → C.is_value c_value → D.is_value d_value → E.is_value e_value → F.is_value f_value
-        → struct_of name.now (fields_of ((a.now, normal (A.document a_value)) ∷ (b.now, normal (B.document b_value)) ∷ (c.now, normal (C.document c_value)) ∷ (d.now, normal (D.document d_value)) ∷ (e.now, normal (E.document e_value)) ∷ (f.now, normal (F.document f_value)) ∷ [])) ≢ doc_document doc.now) }
+) -> Result<(A, B, C, D, E, F), Fault>
+    requires { AreWords (name.now ∷ a.now ∷ b.now ∷ c.now ∷ d.now ∷ e.now ∷ f.now ∷ []) }
+    ensures taken { IfOk result (λ v. IsTaken M.mode parser.old (struct_of name.now (fields_of
+        ((a.now, A.document v.0) ∷ (b.now, B.document v.1) ∷ (c.now, C.document v.2)
+        ∷ (d.now, D.document v.3) ∷ (e.now, E.document v.4) ∷ (f.now, F.document v.5) ∷ [])))
+        parser.new) }
+    ensures only { IfOk result (λ _. (a_value : A) (b_value : B) (c_value : C) (d_value : D)
+        (e_value : E) (f_value : F) (u : List ℕ) → A.is_value a_value → B.is_value b_value
+        → C.is_value c_value → D.is_value d_value → E.is_value e_value → F.is_value f_value
+        → IsNext M.mode parser.old (struct_of name.now (fields_of ((a.now, A.document a_value)
+        ∷ (b.now, B.document b_value) ∷ (c.now, C.document c_value) ∷ (d.now, D.document d_value)
+        ∷ (e.now, E.document e_value) ∷ (f.now, F.document f_value) ∷ []))) u
+        → u ≡ rest parser.new) }
+    ensures none { IfErr result (λ fault. fault ≡ Fault.NotText → (a_value : A) (b_value : B)
+        (c_value : C) (d_value : D) (e_value : E) (f_value : F) (u : List ℕ) → A.is_value a_value
+        → B.is_value b_value → C.is_value c_value → D.is_value d_value → E.is_value e_value
+        → F.is_value f_value → ¬ IsNext M.mode parser.old (struct_of name.now (fields_of
+        ((a.now, A.document a_value) ∷ (b.now, B.document b_value) ∷ (c.now, C.document c_value)
+        ∷ (d.now, D.document d_value) ∷ (e.now, E.document e_value) ∷ (f.now, F.document f_value)
+        ∷ []))) u) }
+    ensures memory { A.holds_no_memory × B.holds_no_memory × C.holds_no_memory × D.holds_no_memory
+        × E.holds_no_memory × F.holds_no_memory → IfErr result (λ fault. fault ≡ Fault.NotText) }
+    ensures blocks { IfOk result (λ _. open_blocks parser.new ≡ open_blocks parser.old) }
+    ensures shrinks { length (rest parser.new) ≤ length (rest parser.old) }
 {
-    match struct_fields(
-        alloc,
-        doc,
-        name,
-        &[a, b, c, d, e, f],
-        &(Plain, (Plain, (Plain, (Plain, (Plain, (Plain, ())))))),
-    )? {
-        None => Ok(None),
-        Some((a, (b, (c, (d, (e, (f, ()))))))) => Ok(Some((a, b, c, d, e, f))),
+    match parse_struct_row(alloc, parser, name, &[a, b, c, d, e, f]) {
+        Err(fault) => Err(fault),
+        Ok((a_value, (b_value, (c_value, (d_value, (e_value, (f_value, ()))))))) => Ok((
+            a_value, b_value, c_value, d_value, e_value, f_value,
+        )),
     }
 }
 
-/// Returns the 7 fields of the struct that prints as the document, or `None` if there is no such struct.
-pub fn parse_struct_7<A: uParse, B: uParse, C: uParse, D: uParse, E: uParse, F: uParse, G: uParse>(
-    alloc: Global,
-    doc: &Doc,
+/// Takes a struct with 7 fields, as `parse_from` does a value.
+#[inline(always)]
+pub fn parse_struct_7<
+    Alloc: Copy,
+    A: uParse<Alloc>,
+    B: uParse<Alloc>,
+    C: uParse<Alloc>,
+    D: uParse<Alloc>,
+    E: uParse<Alloc>,
+    F: uParse<Alloc>,
+    G: uParse<Alloc>,
+    M: ParseMode,
+>(
+    alloc: Alloc,
+    parser: &mut Parser<'_, M>,
     name: &str,
     a: &str,
     b: &str,
@@ -163,40 +276,59 @@ pub fn parse_struct_7<A: uParse, B: uParse, C: uParse, D: uParse, E: uParse, F: 
     e: &str,
     f: &str,
     g: &str,
-) -> Result<Option<(A, B, C, D, E, F, G)>, AllocError>
-    ensures some { IfOk result (λ outcome. IfSome outcome (λ v.
-        struct_of name.now (fields_of ((a.now, normal (A.document v.0)) ∷ (b.now, normal (B.document v.1)) ∷ (c.now, normal (C.document v.2)) ∷ (d.now, normal (D.document v.3)) ∷ (e.now, normal (E.document v.4)) ∷ (f.now, normal (F.document v.5)) ∷ (g.now, normal (G.document v.6)) ∷ [])) ≡ doc_document doc.now)) }
-    ensures none { IfOk result (λ outcome. outcome ≡ None → (a_value : A) (b_value : B) (c_value : C) (d_value : D) (e_value : E) (f_value : F) (g_value : G) → A.is_value a_value → B.is_value b_value → C.is_value c_value → D.is_value d_value → E.is_value e_value → F.is_value f_value → G.is_value g_value
-        → struct_of name.now (fields_of ((a.now, normal (A.document a_value)) ∷ (b.now, normal (B.document b_value)) ∷ (c.now, normal (C.document c_value)) ∷ (d.now, normal (D.document d_value)) ∷ (e.now, normal (E.document e_value)) ∷ (f.now, normal (F.document f_value)) ∷ (g.now, normal (G.document g_value)) ∷ [])) ≢ doc_document doc.now) }
+) -> Result<(A, B, C, D, E, F, G), Fault>
+    requires { AreWords (name.now ∷ a.now ∷ b.now ∷ c.now ∷ d.now ∷ e.now ∷ f.now ∷ g.now ∷ []) }
+    ensures taken { IfOk result (λ v. IsTaken M.mode parser.old (struct_of name.now (fields_of
+        ((a.now, A.document v.0) ∷ (b.now, B.document v.1) ∷ (c.now, C.document v.2)
+        ∷ (d.now, D.document v.3) ∷ (e.now, E.document v.4) ∷ (f.now, F.document v.5)
+        ∷ (g.now, G.document v.6) ∷ []))) parser.new) }
+    ensures only { IfOk result (λ _. (a_value : A) (b_value : B) (c_value : C) (d_value : D)
+        (e_value : E) (f_value : F) (g_value : G) (u : List ℕ) → A.is_value a_value
+        → B.is_value b_value → C.is_value c_value → D.is_value d_value → E.is_value e_value
+        → F.is_value f_value → G.is_value g_value → IsNext M.mode parser.old
+        (struct_of name.now (fields_of ((a.now, A.document a_value) ∷ (b.now, B.document b_value)
+        ∷ (c.now, C.document c_value) ∷ (d.now, D.document d_value) ∷ (e.now, E.document e_value)
+        ∷ (f.now, F.document f_value) ∷ (g.now, G.document g_value) ∷ []))) u
+        → u ≡ rest parser.new) }
+    ensures none { IfErr result (λ fault. fault ≡ Fault.NotText → (a_value : A) (b_value : B)
+        (c_value : C) (d_value : D) (e_value : E) (f_value : F) (g_value : G) (u : List ℕ)
+        → A.is_value a_value → B.is_value b_value → C.is_value c_value → D.is_value d_value
+        → E.is_value e_value → F.is_value f_value → G.is_value g_value → ¬ IsNext M.mode parser.old
+        (struct_of name.now (fields_of ((a.now, A.document a_value) ∷ (b.now, B.document b_value)
+        ∷ (c.now, C.document c_value) ∷ (d.now, D.document d_value) ∷ (e.now, E.document e_value)
+        ∷ (f.now, F.document f_value) ∷ (g.now, G.document g_value) ∷ []))) u) }
+    ensures memory { A.holds_no_memory × B.holds_no_memory × C.holds_no_memory × D.holds_no_memory
+        × E.holds_no_memory × F.holds_no_memory × G.holds_no_memory → IfErr result (λ fault.
+        fault ≡ Fault.NotText) }
+    ensures blocks { IfOk result (λ _. open_blocks parser.new ≡ open_blocks parser.old) }
+    ensures shrinks { length (rest parser.new) ≤ length (rest parser.old) }
 {
-    match struct_fields(
-        alloc,
-        doc,
-        name,
-        &[a, b, c, d, e, f, g],
-        &(
-            Plain,
-            (Plain, (Plain, (Plain, (Plain, (Plain, (Plain, ())))))),
+    match parse_struct_row(alloc, parser, name, &[a, b, c, d, e, f, g]) {
+        Err(fault) => Err(fault),
+        Ok((a_value, (b_value, (c_value, (d_value, (e_value, (f_value, (g_value, ())))))))) => Ok(
+            (
+                a_value, b_value, c_value, d_value, e_value, f_value, g_value,
+            ),
         ),
-    )? {
-        None => Ok(None),
-        Some((a, (b, (c, (d, (e, (f, (g, ())))))))) => Ok(Some((a, b, c, d, e, f, g))),
     }
 }
 
-/// Returns the 8 fields of the struct that prints as the document, or `None` if there is no such struct.
+/// Takes a struct with 8 fields, as `parse_from` does a value.
+#[inline(always)]
 pub fn parse_struct_8<
-    A: uParse,
-    B: uParse,
-    C: uParse,
-    D: uParse,
-    E: uParse,
-    F: uParse,
-    G: uParse,
-    H: uParse,
+    Alloc: Copy,
+    A: uParse<Alloc>,
+    B: uParse<Alloc>,
+    C: uParse<Alloc>,
+    D: uParse<Alloc>,
+    E: uParse<Alloc>,
+    F: uParse<Alloc>,
+    G: uParse<Alloc>,
+    H: uParse<Alloc>,
+    M: ParseMode,
 >(
-    alloc: Global,
-    doc: &Doc,
+    alloc: Alloc,
+    parser: &mut Parser<'_, M>,
     name: &str,
     a: &str,
     b: &str,
@@ -206,44 +338,64 @@ pub fn parse_struct_8<
     f: &str,
     g: &str,
     h: &str,
-) -> Result<Option<(A, B, C, D, E, F, G, H)>, AllocError>
-    ensures some { IfOk result (λ outcome. IfSome outcome (λ v.
-        struct_of name.now (fields_of ((a.now, normal (A.document v.0)) ∷ (b.now, normal (B.document v.1)) ∷ (c.now, normal (C.document v.2)) ∷ (d.now, normal (D.document v.3)) ∷ (e.now, normal (E.document v.4)) ∷ (f.now, normal (F.document v.5)) ∷ (g.now, normal (G.document v.6)) ∷ (h.now, normal (H.document v.7)) ∷ [])) ≡ doc_document doc.now)) }
-    ensures none { IfOk result (λ outcome. outcome ≡ None → (a_value : A) (b_value : B) (c_value : C) (d_value : D) (e_value : E) (f_value : F) (g_value : G) (h_value : H) → A.is_value a_value → B.is_value b_value → C.is_value c_value → D.is_value d_value → E.is_value e_value → F.is_value f_value → G.is_value g_value → H.is_value h_value
-        → struct_of name.now (fields_of ((a.now, normal (A.document a_value)) ∷ (b.now, normal (B.document b_value)) ∷ (c.now, normal (C.document c_value)) ∷ (d.now, normal (D.document d_value)) ∷ (e.now, normal (E.document e_value)) ∷ (f.now, normal (F.document f_value)) ∷ (g.now, normal (G.document g_value)) ∷ (h.now, normal (H.document h_value)) ∷ [])) ≢ doc_document doc.now) }
+) -> Result<(A, B, C, D, E, F, G, H), Fault>
+    requires { AreWords (name.now ∷ a.now ∷ b.now ∷ c.now ∷ d.now ∷ e.now ∷ f.now ∷ g.now ∷ h.now ∷ []) }
+    ensures taken { IfOk result (λ v. IsTaken M.mode parser.old (struct_of name.now (fields_of
+        ((a.now, A.document v.0) ∷ (b.now, B.document v.1) ∷ (c.now, C.document v.2)
+        ∷ (d.now, D.document v.3) ∷ (e.now, E.document v.4) ∷ (f.now, F.document v.5)
+        ∷ (g.now, G.document v.6) ∷ (h.now, H.document v.7) ∷ []))) parser.new) }
+    ensures only { IfOk result (λ _. (a_value : A) (b_value : B) (c_value : C) (d_value : D)
+        (e_value : E) (f_value : F) (g_value : G) (h_value : H) (u : List ℕ) → A.is_value a_value
+        → B.is_value b_value → C.is_value c_value → D.is_value d_value → E.is_value e_value
+        → F.is_value f_value → G.is_value g_value → H.is_value h_value → IsNext M.mode parser.old
+        (struct_of name.now (fields_of ((a.now, A.document a_value) ∷ (b.now, B.document b_value)
+        ∷ (c.now, C.document c_value) ∷ (d.now, D.document d_value) ∷ (e.now, E.document e_value)
+        ∷ (f.now, F.document f_value) ∷ (g.now, G.document g_value) ∷ (h.now, H.document h_value)
+        ∷ []))) u → u ≡ rest parser.new) }
+    ensures none { IfErr result (λ fault. fault ≡ Fault.NotText → (a_value : A) (b_value : B)
+        (c_value : C) (d_value : D) (e_value : E) (f_value : F) (g_value : G) (h_value : H)
+        (u : List ℕ) → A.is_value a_value → B.is_value b_value → C.is_value c_value
+        → D.is_value d_value → E.is_value e_value → F.is_value f_value → G.is_value g_value
+        → H.is_value h_value → ¬ IsNext M.mode parser.old (struct_of name.now (fields_of
+        ((a.now, A.document a_value) ∷ (b.now, B.document b_value) ∷ (c.now, C.document c_value)
+        ∷ (d.now, D.document d_value) ∷ (e.now, E.document e_value) ∷ (f.now, F.document f_value)
+        ∷ (g.now, G.document g_value) ∷ (h.now, H.document h_value) ∷ []))) u) }
+    ensures memory { A.holds_no_memory × B.holds_no_memory × C.holds_no_memory × D.holds_no_memory
+        × E.holds_no_memory × F.holds_no_memory × G.holds_no_memory × H.holds_no_memory
+        → IfErr result (λ fault. fault ≡ Fault.NotText) }
+    ensures blocks { IfOk result (λ _. open_blocks parser.new ≡ open_blocks parser.old) }
+    ensures shrinks { length (rest parser.new) ≤ length (rest parser.old) }
 {
-    match struct_fields(
-        alloc,
-        doc,
-        name,
-        &[a, b, c, d, e, f, g, h],
-        &(
-            Plain,
+    match parse_struct_row(alloc, parser, name, &[a, b, c, d, e, f, g, h]) {
+        Err(fault) => Err(fault),
+        Ok(
             (
-                Plain,
-                (Plain, (Plain, (Plain, (Plain, (Plain, (Plain, ())))))),
+                a_value,
+                (b_value, (c_value, (d_value, (e_value, (f_value, (g_value, (h_value, ()))))))),
             ),
-        ),
-    )? {
-        None => Ok(None),
-        Some((a, (b, (c, (d, (e, (f, (g, (h, ()))))))))) => Ok(Some((a, b, c, d, e, f, g, h))),
+        ) => Ok((
+            a_value, b_value, c_value, d_value, e_value, f_value, g_value, h_value,
+        )),
     }
 }
 
-/// Returns the 9 fields of the struct that prints as the document, or `None` if there is no such struct.
+/// Takes a struct with 9 fields, as `parse_from` does a value.
+#[inline(always)]
 pub fn parse_struct_9<
-    A: uParse,
-    B: uParse,
-    C: uParse,
-    D: uParse,
-    E: uParse,
-    F: uParse,
-    G: uParse,
-    H: uParse,
-    I: uParse,
+    Alloc: Copy,
+    A: uParse<Alloc>,
+    B: uParse<Alloc>,
+    C: uParse<Alloc>,
+    D: uParse<Alloc>,
+    E: uParse<Alloc>,
+    F: uParse<Alloc>,
+    G: uParse<Alloc>,
+    H: uParse<Alloc>,
+    I: uParse<Alloc>,
+    M: ParseMode,
 >(
-    alloc: Global,
-    doc: &Doc,
+    alloc: Alloc,
+    parser: &mut Parser<'_, M>,
     name: &str,
     a: &str,
     b: &str,
@@ -254,50 +406,71 @@ pub fn parse_struct_9<
     g: &str,
     h: &str,
     i: &str,
-) -> Result<Option<(A, B, C, D, E, F, G, H, I)>, AllocError>
-    ensures some { IfOk result (λ outcome. IfSome outcome (λ v.
-        struct_of name.now (fields_of ((a.now, normal (A.document v.0)) ∷ (b.now, normal (B.document v.1)) ∷ (c.now, normal (C.document v.2)) ∷ (d.now, normal (D.document v.3)) ∷ (e.now, normal (E.document v.4)) ∷ (f.now, normal (F.document v.5)) ∷ (g.now, normal (G.document v.6)) ∷ (h.now, normal (H.document v.7)) ∷ (i.now, normal (I.document v.8)) ∷ [])) ≡ doc_document doc.now)) }
-    ensures none { IfOk result (λ outcome. outcome ≡ None → (a_value : A) (b_value : B) (c_value : C) (d_value : D) (e_value : E) (f_value : F) (g_value : G) (h_value : H) (i_value : I) → A.is_value a_value → B.is_value b_value → C.is_value c_value → D.is_value d_value → E.is_value e_value → F.is_value f_value → G.is_value g_value → H.is_value h_value → I.is_value i_value
-        → struct_of name.now (fields_of ((a.now, normal (A.document a_value)) ∷ (b.now, normal (B.document b_value)) ∷ (c.now, normal (C.document c_value)) ∷ (d.now, normal (D.document d_value)) ∷ (e.now, normal (E.document e_value)) ∷ (f.now, normal (F.document f_value)) ∷ (g.now, normal (G.document g_value)) ∷ (h.now, normal (H.document h_value)) ∷ (i.now, normal (I.document i_value)) ∷ [])) ≢ doc_document doc.now) }
+) -> Result<(A, B, C, D, E, F, G, H, I), Fault>
+    requires { AreWords (name.now ∷ a.now ∷ b.now ∷ c.now ∷ d.now ∷ e.now ∷ f.now ∷ g.now ∷ h.now ∷ i.now ∷ []) }
+    ensures taken { IfOk result (λ v. IsTaken M.mode parser.old (struct_of name.now (fields_of
+        ((a.now, A.document v.0) ∷ (b.now, B.document v.1) ∷ (c.now, C.document v.2)
+        ∷ (d.now, D.document v.3) ∷ (e.now, E.document v.4) ∷ (f.now, F.document v.5)
+        ∷ (g.now, G.document v.6) ∷ (h.now, H.document v.7) ∷ (i.now, I.document v.8) ∷ [])))
+        parser.new) }
+    ensures only { IfOk result (λ _. (a_value : A) (b_value : B) (c_value : C) (d_value : D)
+        (e_value : E) (f_value : F) (g_value : G) (h_value : H) (i_value : I) (u : List ℕ)
+        → A.is_value a_value → B.is_value b_value → C.is_value c_value → D.is_value d_value
+        → E.is_value e_value → F.is_value f_value → G.is_value g_value → H.is_value h_value
+        → I.is_value i_value → IsNext M.mode parser.old (struct_of name.now (fields_of
+        ((a.now, A.document a_value) ∷ (b.now, B.document b_value) ∷ (c.now, C.document c_value)
+        ∷ (d.now, D.document d_value) ∷ (e.now, E.document e_value) ∷ (f.now, F.document f_value)
+        ∷ (g.now, G.document g_value) ∷ (h.now, H.document h_value) ∷ (i.now, I.document i_value)
+        ∷ []))) u → u ≡ rest parser.new) }
+    ensures none { IfErr result (λ fault. fault ≡ Fault.NotText → (a_value : A) (b_value : B)
+        (c_value : C) (d_value : D) (e_value : E) (f_value : F) (g_value : G) (h_value : H)
+        (i_value : I) (u : List ℕ) → A.is_value a_value → B.is_value b_value → C.is_value c_value
+        → D.is_value d_value → E.is_value e_value → F.is_value f_value → G.is_value g_value
+        → H.is_value h_value → I.is_value i_value → ¬ IsNext M.mode parser.old
+        (struct_of name.now (fields_of ((a.now, A.document a_value) ∷ (b.now, B.document b_value)
+        ∷ (c.now, C.document c_value) ∷ (d.now, D.document d_value) ∷ (e.now, E.document e_value)
+        ∷ (f.now, F.document f_value) ∷ (g.now, G.document g_value) ∷ (h.now, H.document h_value)
+        ∷ (i.now, I.document i_value) ∷ []))) u) }
+    ensures memory { A.holds_no_memory × B.holds_no_memory × C.holds_no_memory × D.holds_no_memory
+        × E.holds_no_memory × F.holds_no_memory × G.holds_no_memory × H.holds_no_memory
+        × I.holds_no_memory → IfErr result (λ fault. fault ≡ Fault.NotText) }
+    ensures blocks { IfOk result (λ _. open_blocks parser.new ≡ open_blocks parser.old) }
+    ensures shrinks { length (rest parser.new) ≤ length (rest parser.old) }
 {
-    match struct_fields(
-        alloc,
-        doc,
-        name,
-        &[a, b, c, d, e, f, g, h, i],
-        &(
-            Plain,
+    match parse_struct_row(alloc, parser, name, &[a, b, c, d, e, f, g, h, i]) {
+        Err(fault) => Err(fault),
+        Ok(
             (
-                Plain,
+                a_value,
                 (
-                    Plain,
-                    (Plain, (Plain, (Plain, (Plain, (Plain, (Plain, ())))))),
+                    b_value,
+                    (c_value, (d_value, (e_value, (f_value, (g_value, (h_value, (i_value, ()))))))),
                 ),
             ),
-        ),
-    )? {
-        None => Ok(None),
-        Some((a, (b, (c, (d, (e, (f, (g, (h, (i, ())))))))))) => Ok(Some((
-            a, b, c, d, e, f, g, h, i,
-        ))),
+        ) => Ok((
+            a_value, b_value, c_value, d_value, e_value, f_value, g_value, h_value, i_value,
+        )),
     }
 }
 
-/// Returns the 10 fields of the struct that prints as the document, or `None` if there is no such struct.
+/// Takes a struct with 10 fields, as `parse_from` does a value.
+#[inline(always)]
 pub fn parse_struct_10<
-    A: uParse,
-    B: uParse,
-    C: uParse,
-    D: uParse,
-    E: uParse,
-    F: uParse,
-    G: uParse,
-    H: uParse,
-    I: uParse,
-    J: uParse,
+    Alloc: Copy,
+    A: uParse<Alloc>,
+    B: uParse<Alloc>,
+    C: uParse<Alloc>,
+    D: uParse<Alloc>,
+    E: uParse<Alloc>,
+    F: uParse<Alloc>,
+    G: uParse<Alloc>,
+    H: uParse<Alloc>,
+    I: uParse<Alloc>,
+    J: uParse<Alloc>,
+    M: ParseMode,
 >(
-    alloc: Global,
-    doc: &Doc,
+    alloc: Alloc,
+    parser: &mut Parser<'_, M>,
     name: &str,
     a: &str,
     b: &str,
@@ -309,54 +482,81 @@ pub fn parse_struct_10<
     h: &str,
     i: &str,
     j: &str,
-) -> Result<Option<(A, B, C, D, E, F, G, H, I, J)>, AllocError>
-    ensures some { IfOk result (λ outcome. IfSome outcome (λ v.
-        struct_of name.now (fields_of ((a.now, normal (A.document v.0)) ∷ (b.now, normal (B.document v.1)) ∷ (c.now, normal (C.document v.2)) ∷ (d.now, normal (D.document v.3)) ∷ (e.now, normal (E.document v.4)) ∷ (f.now, normal (F.document v.5)) ∷ (g.now, normal (G.document v.6)) ∷ (h.now, normal (H.document v.7)) ∷ (i.now, normal (I.document v.8)) ∷ (j.now, normal (J.document v.9)) ∷ [])) ≡ doc_document doc.now)) }
-    ensures none { IfOk result (λ outcome. outcome ≡ None → (a_value : A) (b_value : B) (c_value : C) (d_value : D) (e_value : E) (f_value : F) (g_value : G) (h_value : H) (i_value : I) (j_value : J) → A.is_value a_value → B.is_value b_value → C.is_value c_value → D.is_value d_value → E.is_value e_value → F.is_value f_value → G.is_value g_value → H.is_value h_value → I.is_value i_value → J.is_value j_value
-        → struct_of name.now (fields_of ((a.now, normal (A.document a_value)) ∷ (b.now, normal (B.document b_value)) ∷ (c.now, normal (C.document c_value)) ∷ (d.now, normal (D.document d_value)) ∷ (e.now, normal (E.document e_value)) ∷ (f.now, normal (F.document f_value)) ∷ (g.now, normal (G.document g_value)) ∷ (h.now, normal (H.document h_value)) ∷ (i.now, normal (I.document i_value)) ∷ (j.now, normal (J.document j_value)) ∷ [])) ≢ doc_document doc.now) }
+) -> Result<(A, B, C, D, E, F, G, H, I, J), Fault>
+    requires { AreWords (name.now ∷ a.now ∷ b.now ∷ c.now ∷ d.now ∷ e.now ∷ f.now ∷ g.now ∷ h.now ∷ i.now ∷ j.now ∷ []) }
+    ensures taken { IfOk result (λ v. IsTaken M.mode parser.old (struct_of name.now (fields_of
+        ((a.now, A.document v.0) ∷ (b.now, B.document v.1) ∷ (c.now, C.document v.2)
+        ∷ (d.now, D.document v.3) ∷ (e.now, E.document v.4) ∷ (f.now, F.document v.5)
+        ∷ (g.now, G.document v.6) ∷ (h.now, H.document v.7) ∷ (i.now, I.document v.8)
+        ∷ (j.now, J.document v.9) ∷ []))) parser.new) }
+    ensures only { IfOk result (λ _. (a_value : A) (b_value : B) (c_value : C) (d_value : D)
+        (e_value : E) (f_value : F) (g_value : G) (h_value : H) (i_value : I) (j_value : J)
+        (u : List ℕ) → A.is_value a_value → B.is_value b_value → C.is_value c_value
+        → D.is_value d_value → E.is_value e_value → F.is_value f_value → G.is_value g_value
+        → H.is_value h_value → I.is_value i_value → J.is_value j_value → IsNext M.mode parser.old
+        (struct_of name.now (fields_of ((a.now, A.document a_value) ∷ (b.now, B.document b_value)
+        ∷ (c.now, C.document c_value) ∷ (d.now, D.document d_value) ∷ (e.now, E.document e_value)
+        ∷ (f.now, F.document f_value) ∷ (g.now, G.document g_value) ∷ (h.now, H.document h_value)
+        ∷ (i.now, I.document i_value) ∷ (j.now, J.document j_value) ∷ []))) u
+        → u ≡ rest parser.new) }
+    ensures none { IfErr result (λ fault. fault ≡ Fault.NotText → (a_value : A) (b_value : B)
+        (c_value : C) (d_value : D) (e_value : E) (f_value : F) (g_value : G) (h_value : H)
+        (i_value : I) (j_value : J) (u : List ℕ) → A.is_value a_value → B.is_value b_value
+        → C.is_value c_value → D.is_value d_value → E.is_value e_value → F.is_value f_value
+        → G.is_value g_value → H.is_value h_value → I.is_value i_value → J.is_value j_value
+        → ¬ IsNext M.mode parser.old (struct_of name.now (fields_of ((a.now, A.document a_value)
+        ∷ (b.now, B.document b_value) ∷ (c.now, C.document c_value) ∷ (d.now, D.document d_value)
+        ∷ (e.now, E.document e_value) ∷ (f.now, F.document f_value) ∷ (g.now, G.document g_value)
+        ∷ (h.now, H.document h_value) ∷ (i.now, I.document i_value) ∷ (j.now, J.document j_value)
+        ∷ []))) u) }
+    ensures memory { A.holds_no_memory × B.holds_no_memory × C.holds_no_memory × D.holds_no_memory
+        × E.holds_no_memory × F.holds_no_memory × G.holds_no_memory × H.holds_no_memory
+        × I.holds_no_memory × J.holds_no_memory → IfErr result (λ fault. fault ≡ Fault.NotText) }
+    ensures blocks { IfOk result (λ _. open_blocks parser.new ≡ open_blocks parser.old) }
+    ensures shrinks { length (rest parser.new) ≤ length (rest parser.old) }
 {
-    match struct_fields(
-        alloc,
-        doc,
-        name,
-        &[a, b, c, d, e, f, g, h, i, j],
-        &(
-            Plain,
+    match parse_struct_row(alloc, parser, name, &[a, b, c, d, e, f, g, h, i, j]) {
+        Err(fault) => Err(fault),
+        Ok(
             (
-                Plain,
+                a_value,
                 (
-                    Plain,
+                    b_value,
                     (
-                        Plain,
-                        (Plain, (Plain, (Plain, (Plain, (Plain, (Plain, ())))))),
+                        c_value,
+                        (
+                            d_value,
+                            (e_value, (f_value, (g_value, (h_value, (i_value, (j_value, ())))))),
+                        ),
                     ),
                 ),
             ),
-        ),
-    )? {
-        None => Ok(None),
-        Some((a, (b, (c, (d, (e, (f, (g, (h, (i, (j, ()))))))))))) => Ok(Some((
-            a, b, c, d, e, f, g, h, i, j,
-        ))),
+        ) => Ok((
+            a_value, b_value, c_value, d_value, e_value, f_value, g_value, h_value, i_value,
+            j_value,
+        )),
     }
 }
 
-/// Returns the 11 fields of the struct that prints as the document, or `None` if there is no such struct.
+/// Takes a struct with 11 fields, as `parse_from` does a value.
+#[inline(always)]
 pub fn parse_struct_11<
-    A: uParse,
-    B: uParse,
-    C: uParse,
-    D: uParse,
-    E: uParse,
-    F: uParse,
-    G: uParse,
-    H: uParse,
-    I: uParse,
-    J: uParse,
-    K: uParse,
+    Alloc: Copy,
+    A: uParse<Alloc>,
+    B: uParse<Alloc>,
+    C: uParse<Alloc>,
+    D: uParse<Alloc>,
+    E: uParse<Alloc>,
+    F: uParse<Alloc>,
+    G: uParse<Alloc>,
+    H: uParse<Alloc>,
+    I: uParse<Alloc>,
+    J: uParse<Alloc>,
+    K: uParse<Alloc>,
+    M: ParseMode,
 >(
-    alloc: Global,
-    doc: &Doc,
+    alloc: Alloc,
+    parser: &mut Parser<'_, M>,
     name: &str,
     a: &str,
     b: &str,
@@ -369,58 +569,90 @@ pub fn parse_struct_11<
     i: &str,
     j: &str,
     k: &str,
-) -> Result<Option<(A, B, C, D, E, F, G, H, I, J, K)>, AllocError>
-    ensures some { IfOk result (λ outcome. IfSome outcome (λ v.
-        struct_of name.now (fields_of ((a.now, normal (A.document v.0)) ∷ (b.now, normal (B.document v.1)) ∷ (c.now, normal (C.document v.2)) ∷ (d.now, normal (D.document v.3)) ∷ (e.now, normal (E.document v.4)) ∷ (f.now, normal (F.document v.5)) ∷ (g.now, normal (G.document v.6)) ∷ (h.now, normal (H.document v.7)) ∷ (i.now, normal (I.document v.8)) ∷ (j.now, normal (J.document v.9)) ∷ (k.now, normal (K.document v.10)) ∷ [])) ≡ doc_document doc.now)) }
-    ensures none { IfOk result (λ outcome. outcome ≡ None → (a_value : A) (b_value : B) (c_value : C) (d_value : D) (e_value : E) (f_value : F) (g_value : G) (h_value : H) (i_value : I) (j_value : J) (k_value : K) → A.is_value a_value → B.is_value b_value → C.is_value c_value → D.is_value d_value → E.is_value e_value → F.is_value f_value → G.is_value g_value → H.is_value h_value → I.is_value i_value → J.is_value j_value → K.is_value k_value
-        → struct_of name.now (fields_of ((a.now, normal (A.document a_value)) ∷ (b.now, normal (B.document b_value)) ∷ (c.now, normal (C.document c_value)) ∷ (d.now, normal (D.document d_value)) ∷ (e.now, normal (E.document e_value)) ∷ (f.now, normal (F.document f_value)) ∷ (g.now, normal (G.document g_value)) ∷ (h.now, normal (H.document h_value)) ∷ (i.now, normal (I.document i_value)) ∷ (j.now, normal (J.document j_value)) ∷ (k.now, normal (K.document k_value)) ∷ [])) ≢ doc_document doc.now) }
+) -> Result<(A, B, C, D, E, F, G, H, I, J, K), Fault>
+    requires { AreWords (name.now ∷ a.now ∷ b.now ∷ c.now ∷ d.now ∷ e.now ∷ f.now ∷ g.now ∷ h.now ∷ i.now ∷ j.now ∷ k.now ∷ []) }
+    ensures taken { IfOk result (λ v. IsTaken M.mode parser.old (struct_of name.now (fields_of
+        ((a.now, A.document v.0) ∷ (b.now, B.document v.1) ∷ (c.now, C.document v.2)
+        ∷ (d.now, D.document v.3) ∷ (e.now, E.document v.4) ∷ (f.now, F.document v.5)
+        ∷ (g.now, G.document v.6) ∷ (h.now, H.document v.7) ∷ (i.now, I.document v.8)
+        ∷ (j.now, J.document v.9) ∷ (k.now, K.document v.10) ∷ []))) parser.new) }
+    ensures only { IfOk result (λ _. (a_value : A) (b_value : B) (c_value : C) (d_value : D)
+        (e_value : E) (f_value : F) (g_value : G) (h_value : H) (i_value : I) (j_value : J)
+        (k_value : K) (u : List ℕ) → A.is_value a_value → B.is_value b_value → C.is_value c_value
+        → D.is_value d_value → E.is_value e_value → F.is_value f_value → G.is_value g_value
+        → H.is_value h_value → I.is_value i_value → J.is_value j_value → K.is_value k_value
+        → IsNext M.mode parser.old (struct_of name.now (fields_of ((a.now, A.document a_value)
+        ∷ (b.now, B.document b_value) ∷ (c.now, C.document c_value) ∷ (d.now, D.document d_value)
+        ∷ (e.now, E.document e_value) ∷ (f.now, F.document f_value) ∷ (g.now, G.document g_value)
+        ∷ (h.now, H.document h_value) ∷ (i.now, I.document i_value) ∷ (j.now, J.document j_value)
+        ∷ (k.now, K.document k_value) ∷ []))) u → u ≡ rest parser.new) }
+    ensures none { IfErr result (λ fault. fault ≡ Fault.NotText → (a_value : A) (b_value : B)
+        (c_value : C) (d_value : D) (e_value : E) (f_value : F) (g_value : G) (h_value : H)
+        (i_value : I) (j_value : J) (k_value : K) (u : List ℕ) → A.is_value a_value
+        → B.is_value b_value → C.is_value c_value → D.is_value d_value → E.is_value e_value
+        → F.is_value f_value → G.is_value g_value → H.is_value h_value → I.is_value i_value
+        → J.is_value j_value → K.is_value k_value → ¬ IsNext M.mode parser.old
+        (struct_of name.now (fields_of ((a.now, A.document a_value) ∷ (b.now, B.document b_value)
+        ∷ (c.now, C.document c_value) ∷ (d.now, D.document d_value) ∷ (e.now, E.document e_value)
+        ∷ (f.now, F.document f_value) ∷ (g.now, G.document g_value) ∷ (h.now, H.document h_value)
+        ∷ (i.now, I.document i_value) ∷ (j.now, J.document j_value) ∷ (k.now, K.document k_value)
+        ∷ []))) u) }
+    ensures memory { A.holds_no_memory × B.holds_no_memory × C.holds_no_memory × D.holds_no_memory
+        × E.holds_no_memory × F.holds_no_memory × G.holds_no_memory × H.holds_no_memory
+        × I.holds_no_memory × J.holds_no_memory × K.holds_no_memory → IfErr result (λ fault.
+        fault ≡ Fault.NotText) }
+    ensures blocks { IfOk result (λ _. open_blocks parser.new ≡ open_blocks parser.old) }
+    ensures shrinks { length (rest parser.new) ≤ length (rest parser.old) }
 {
-    match struct_fields(
-        alloc,
-        doc,
-        name,
-        &[a, b, c, d, e, f, g, h, i, j, k],
-        &(
-            Plain,
+    match parse_struct_row(alloc, parser, name, &[a, b, c, d, e, f, g, h, i, j, k]) {
+        Err(fault) => Err(fault),
+        Ok(
             (
-                Plain,
+                a_value,
                 (
-                    Plain,
+                    b_value,
                     (
-                        Plain,
+                        c_value,
                         (
-                            Plain,
-                            (Plain, (Plain, (Plain, (Plain, (Plain, (Plain, ())))))),
+                            d_value,
+                            (
+                                e_value,
+                                (
+                                    f_value,
+                                    (g_value, (h_value, (i_value, (j_value, (k_value, ()))))),
+                                ),
+                            ),
                         ),
                     ),
                 ),
             ),
-        ),
-    )? {
-        None => Ok(None),
-        Some((a, (b, (c, (d, (e, (f, (g, (h, (i, (j, (k, ())))))))))))) => Ok(Some((
-            a, b, c, d, e, f, g, h, i, j, k,
-        ))),
+        ) => Ok((
+            a_value, b_value, c_value, d_value, e_value, f_value, g_value, h_value, i_value,
+            j_value, k_value,
+        )),
     }
 }
 
-/// Returns the 12 fields of the struct that prints as the document, or `None` if there is no such struct.
+/// Takes a struct with 12 fields, as `parse_from` does a value.
+#[inline(always)]
 pub fn parse_struct_12<
-    A: uParse,
-    B: uParse,
-    C: uParse,
-    D: uParse,
-    E: uParse,
-    F: uParse,
-    G: uParse,
-    H: uParse,
-    I: uParse,
-    J: uParse,
-    K: uParse,
-    L: uParse,
+    Alloc: Copy,
+    A: uParse<Alloc>,
+    B: uParse<Alloc>,
+    C: uParse<Alloc>,
+    D: uParse<Alloc>,
+    E: uParse<Alloc>,
+    F: uParse<Alloc>,
+    G: uParse<Alloc>,
+    H: uParse<Alloc>,
+    I: uParse<Alloc>,
+    J: uParse<Alloc>,
+    K: uParse<Alloc>,
+    L: uParse<Alloc>,
+    M: ParseMode,
 >(
-    alloc: Global,
-    doc: &Doc,
+    alloc: Alloc,
+    parser: &mut Parser<'_, M>,
     name: &str,
     a: &str,
     b: &str,
@@ -434,40 +666,71 @@ pub fn parse_struct_12<
     j: &str,
     k: &str,
     l: &str,
-) -> Result<Option<(A, B, C, D, E, F, G, H, I, J, K, L)>, AllocError>
-    ensures some { IfOk result (λ outcome. IfSome outcome (λ v.
-        struct_of name.now (fields_of ((a.now, normal (A.document v.0)) ∷ (b.now, normal (B.document v.1)) ∷ (c.now, normal (C.document v.2)) ∷ (d.now, normal (D.document v.3)) ∷ (e.now, normal (E.document v.4)) ∷ (f.now, normal (F.document v.5)) ∷ (g.now, normal (G.document v.6)) ∷ (h.now, normal (H.document v.7)) ∷ (i.now, normal (I.document v.8)) ∷ (j.now, normal (J.document v.9)) ∷ (k.now, normal (K.document v.10)) ∷ (l.now, normal (L.document v.11)) ∷ [])) ≡ doc_document doc.now)) }
-    ensures none { IfOk result (λ outcome. outcome ≡ None → (a_value : A) (b_value : B) (c_value : C) (d_value : D) (e_value : E) (f_value : F) (g_value : G) (h_value : H) (i_value : I) (j_value : J) (k_value : K) (l_value : L) → A.is_value a_value → B.is_value b_value → C.is_value c_value → D.is_value d_value → E.is_value e_value → F.is_value f_value → G.is_value g_value → H.is_value h_value → I.is_value i_value → J.is_value j_value → K.is_value k_value → L.is_value l_value
-        → struct_of name.now (fields_of ((a.now, normal (A.document a_value)) ∷ (b.now, normal (B.document b_value)) ∷ (c.now, normal (C.document c_value)) ∷ (d.now, normal (D.document d_value)) ∷ (e.now, normal (E.document e_value)) ∷ (f.now, normal (F.document f_value)) ∷ (g.now, normal (G.document g_value)) ∷ (h.now, normal (H.document h_value)) ∷ (i.now, normal (I.document i_value)) ∷ (j.now, normal (J.document j_value)) ∷ (k.now, normal (K.document k_value)) ∷ (l.now, normal (L.document l_value)) ∷ [])) ≢ doc_document doc.now) }
+) -> Result<(A, B, C, D, E, F, G, H, I, J, K, L), Fault>
+    requires { AreWords (name.now ∷ a.now ∷ b.now ∷ c.now ∷ d.now ∷ e.now ∷ f.now ∷ g.now ∷ h.now ∷ i.now ∷ j.now ∷ k.now ∷ l.now ∷ []) }
+    ensures taken { IfOk result (λ v. IsTaken M.mode parser.old (struct_of name.now (fields_of
+        ((a.now, A.document v.0) ∷ (b.now, B.document v.1) ∷ (c.now, C.document v.2)
+        ∷ (d.now, D.document v.3) ∷ (e.now, E.document v.4) ∷ (f.now, F.document v.5)
+        ∷ (g.now, G.document v.6) ∷ (h.now, H.document v.7) ∷ (i.now, I.document v.8)
+        ∷ (j.now, J.document v.9) ∷ (k.now, K.document v.10) ∷ (l.now, L.document v.11) ∷ [])))
+        parser.new) }
+    ensures only { IfOk result (λ _. (a_value : A) (b_value : B) (c_value : C) (d_value : D)
+        (e_value : E) (f_value : F) (g_value : G) (h_value : H) (i_value : I) (j_value : J)
+        (k_value : K) (l_value : L) (u : List ℕ) → A.is_value a_value → B.is_value b_value
+        → C.is_value c_value → D.is_value d_value → E.is_value e_value → F.is_value f_value
+        → G.is_value g_value → H.is_value h_value → I.is_value i_value → J.is_value j_value
+        → K.is_value k_value → L.is_value l_value → IsNext M.mode parser.old
+        (struct_of name.now (fields_of ((a.now, A.document a_value) ∷ (b.now, B.document b_value)
+        ∷ (c.now, C.document c_value) ∷ (d.now, D.document d_value) ∷ (e.now, E.document e_value)
+        ∷ (f.now, F.document f_value) ∷ (g.now, G.document g_value) ∷ (h.now, H.document h_value)
+        ∷ (i.now, I.document i_value) ∷ (j.now, J.document j_value) ∷ (k.now, K.document k_value)
+        ∷ (l.now, L.document l_value) ∷ []))) u → u ≡ rest parser.new) }
+    ensures none { IfErr result (λ fault. fault ≡ Fault.NotText → (a_value : A) (b_value : B)
+        (c_value : C) (d_value : D) (e_value : E) (f_value : F) (g_value : G) (h_value : H)
+        (i_value : I) (j_value : J) (k_value : K) (l_value : L) (u : List ℕ) → A.is_value a_value
+        → B.is_value b_value → C.is_value c_value → D.is_value d_value → E.is_value e_value
+        → F.is_value f_value → G.is_value g_value → H.is_value h_value → I.is_value i_value
+        → J.is_value j_value → K.is_value k_value → L.is_value l_value → ¬ IsNext M.mode parser.old
+        (struct_of name.now (fields_of ((a.now, A.document a_value) ∷ (b.now, B.document b_value)
+        ∷ (c.now, C.document c_value) ∷ (d.now, D.document d_value) ∷ (e.now, E.document e_value)
+        ∷ (f.now, F.document f_value) ∷ (g.now, G.document g_value) ∷ (h.now, H.document h_value)
+        ∷ (i.now, I.document i_value) ∷ (j.now, J.document j_value) ∷ (k.now, K.document k_value)
+        ∷ (l.now, L.document l_value) ∷ []))) u) }
+    ensures memory { A.holds_no_memory × B.holds_no_memory × C.holds_no_memory × D.holds_no_memory
+        × E.holds_no_memory × F.holds_no_memory × G.holds_no_memory × H.holds_no_memory
+        × I.holds_no_memory × J.holds_no_memory × K.holds_no_memory × L.holds_no_memory
+        → IfErr result (λ fault. fault ≡ Fault.NotText) }
+    ensures blocks { IfOk result (λ _. open_blocks parser.new ≡ open_blocks parser.old) }
+    ensures shrinks { length (rest parser.new) ≤ length (rest parser.old) }
 {
-    match struct_fields(
-        alloc,
-        doc,
-        name,
-        &[a, b, c, d, e, f, g, h, i, j, k, l],
-        &(
-            Plain,
+    match parse_struct_row(alloc, parser, name, &[a, b, c, d, e, f, g, h, i, j, k, l]) {
+        Err(fault) => Err(fault),
+        Ok(
             (
-                Plain,
+                a_value,
                 (
-                    Plain,
+                    b_value,
                     (
-                        Plain,
+                        c_value,
                         (
-                            Plain,
+                            d_value,
                             (
-                                Plain,
-                                (Plain, (Plain, (Plain, (Plain, (Plain, (Plain, ())))))),
+                                e_value,
+                                (
+                                    f_value,
+                                    (
+                                        g_value,
+                                        (h_value, (i_value, (j_value, (k_value, (l_value, ()))))),
+                                    ),
+                                ),
                             ),
                         ),
                     ),
                 ),
             ),
-        ),
-    )? {
-        None => Ok(None),
-        Some((a, (b, (c, (d, (e, (f, (g, (h, (i, (j, (k, (l, ()))))))))))))) => Ok(Some((
-            a, b, c, d, e, f, g, h, i, j, k, l,
-        ))),
+        ) => Ok((
+            a_value, b_value, c_value, d_value, e_value, f_value, g_value, h_value, i_value,
+            j_value, k_value, l_value,
+        )),
     }
 }

@@ -1,8 +1,11 @@
-"""The files of ufmt_parser with one call for each number of fields, and their answers."""
+"""The files of ufmt_parse with one call for each number of fields, and their answers."""
 
-# A chain of twelve takes the check ten minutes, so far.
-MOST = 6
+MOST = 12
+# The calls whose fields are each parsed by a parser: a type that holds itself needs them. Their answers take the
+# chain of parsers apart, which costs the check more with each field.
+MOST_BY = 6
 TYPES = "ABCDEFGHIJKL"
+PARSERS = "PQRSTU"
 WRITTEN = "tools/write-by-count writes this file: change it there."
 
 
@@ -28,6 +31,19 @@ def wrapped(parts, indent):
     return "\n".join(lines + [line])
 
 
+def chain_of(items):
+    """These in a chain, as rows of fields have it."""
+    chain = "()"
+    for item in reversed(items):
+        chain = f"({item}, {chain})"
+    return chain
+
+
+def no_memory(holders):
+    """The parts of the claim that none of these holds memory."""
+    return [("" if place == 0 else "× ") + f"{holder}.holds_no_memory" for place, holder in enumerate(holders)]
+
+
 class Block:
     """A kind of block whose fields are parsed by their number."""
 
@@ -44,20 +60,33 @@ class Block:
         items = [f"{fields[0]}"] + [f"∷ {field}" for field in fields[1:]] + ["∷ []" + ending]
         return [f"({self.document} name.now ({self.row}", "(" + items[0]] + items[1:]
 
-    def clauses(self, count):
-        """What the call ensures of the document."""
+    def asked(self, count):
+        """What the names must be."""
+        if self.name == "struct":
+            return f"AreWords ({in_a_row(['name.now'] + [f'{letter}.now' for letter in letters(count)])})"
+        return "IsWordOrEmpty name.now"
+
+    def result(self, count):
+        """The type of what the call returns."""
+        return TYPES[0] if count == 1 else "(" + ", ".join(TYPES[:count]) + ")"
+
+    def clauses(self, count, holders):
+        """What the call ensures, where these say what holds of each value."""
         fields = letters(count)
         values = ["v"] if count == 1 else [f"v.{place}" for place in range(count)]
         taken = [self.field(letter, value) for letter, value in zip(fields, values)]
         others = [self.field(letter, f"{letter}_value") for letter in fields]
         binders = [f"({letter}_value : {letter.upper()})" for letter in fields] + ["(u : List ℕ)"]
-        premises = [f"→ {letter.upper()}.is_value {letter}_value" for letter in fields]
+        premises = [f"→ {holder}.is_value {letter}_value" for holder, letter in zip(holders, fields)]
         return "\n".join([
             wrapped(["ensures taken { IfOk result (λ v.", "IsTaken M.mode parser.old"] + self.row_of(taken, ")))") + ["parser.new) }"], 4),
             wrapped(["ensures only { IfOk result (λ _."] + binders + premises + ["→ IsNext M.mode parser.old"]
                     + self.row_of(others, ")))") + ["u", "→ u ≡ rest parser.new) }"], 4),
             wrapped(["ensures none { IfErr result (λ fault. fault ≡ Fault.NotText →"] + binders + premises + ["→ ¬ IsNext M.mode parser.old"]
                     + self.row_of(others, ")))") + ["u) }"], 4),
+            wrapped(["ensures memory {"] + no_memory(holders[:count]) + ["→ IfErr result (λ fault.", "fault ≡ Fault.NotText) }"], 4),
+            "    ensures blocks { IfOk result (λ _. open_blocks parser.new ≡ open_blocks parser.old) }",
+            "    ensures shrinks { length (rest parser.new) ≤ length (rest parser.old) }",
         ])
 
     def call(self, count):
@@ -67,32 +96,94 @@ class Block:
         inputs = ["alloc: Alloc", "parser: &mut Parser<'_, M>", "name: &str"]
         if self.name == "struct":
             inputs += [f"{letter}: &str" for letter in fields]
-            asked = f"requires {{ AreWords ({in_a_row(['name.now'] + [f'{letter}.now' for letter in fields])}) }}"
-            chain = lambda letter: f"Named({letter}, Plain)"
-            kind = "Kind::Struct"
+            row = f"parse_struct_row(alloc, parser, name, &[{', '.join(fields)}])"
         else:
-            asked = "requires { IsWordOrEmpty name.now }"
-            chain = lambda letter: "Value(Plain)"
-            kind = "Kind::tuple(name)"
-        parsers, row = "()", "()"
-        for letter in reversed(fields):
-            parsers, row = f"({chain(letter)}, {parsers})", f"({letter}_value, {row})"
+            row = "parse_tuple_row(alloc, parser, name)"
         values = [f"{letter}_value" for letter in fields]
-        result = TYPES[0] if count == 1 else "(" + ", ".join(TYPES[:count]) + ")"
         made = values[0] if count == 1 else "(" + ", ".join(values) + ")"
         counted = "one field" if count == 1 else f"{count} fields"
         return f"""
 /// Takes a {self.about} with {counted}, as `parse_from` does a value.
-pub fn parse_{self.name}_{count}<Alloc: Copy, {types}, M: ParseMode>({", ".join(inputs)}) -> Result<{result}, Fault>
-    {asked}
-{self.clauses(count)}
-    ensures blocks {{ IfOk result (λ _. open_blocks parser.new ≡ open_blocks parser.old) }}
-    ensures shrinks {{ length (rest parser.new) ≤ length (rest parser.old) }}
+#[inline(always)]
+pub fn parse_{self.name}_{count}<Alloc: Copy, {types}, M: ParseMode>({", ".join(inputs)}) -> Result<{self.result(count)}, Fault>
+    requires {{ {self.asked(count)} }}
+{self.clauses(count, TYPES)}
 {{
-    let fields = {parsers};
+    match {row} {{
+        Err(fault) => Err(fault),
+        Ok({chain_of(values)}) => Ok({made}),
+    }}
+}}
+"""
+
+    def file(self):
+        """The file with a call for each number of fields."""
+        words = "AreWords, " if self.name == "struct" else ""
+        leaves = "" if self.name == "struct" else "ghost use Rattle.ufmt.specs.Leaves.{IsWordOrEmpty};\n"
+        calls = "".join(self.call(count) for count in range(1, MOST + 1))
+        return f"""//! {self.about.capitalize()}s by their number of fields. {WRITTEN}
+ghost use Rattle.std.specs.Prelude.{{◌≤◌, length, [], ◌∷◌, ◌≡◌, List, ℕ, IfOk, IfErr}};
+ghost use Rattle.ufmt.specs.Document.{{{self.row}, {self.document}}};
+{leaves}ghost use Rattle.ufmt_parse.specs.Taking.{{{words}IsNext, IsTaken, open_blocks, rest}};
+
+use crate::from_front::uParse;
+use crate::mode::ParseMode;
+use crate::parser::{{Fault, Parser}};
+use crate::rows::parse_{self.name}_row;
+{calls}"""
+
+    def answers(self, count):
+        """The answers of the call for that many fields: what the call of the row says, of the values in a chain."""
+        fields = letters(count)
+        binders = " ".join([f"{letter}_value" for letter in fields] + ["u"] + [f"is_{letter}" for letter in fields] + ["next"])
+        row = chain_of([f"{letter}_value" for letter in fields]).replace("()", "tt")
+        are = chain_of([f"is_{letter}" for letter in fields]).replace("()", "tt")
+        where = f"Rattle.ufmt_parse.proofs.{self.name}s.parse_{self.name}_{count}.Goals"
+        return f"""-- {WRITTEN}
+use {where} as goal
+
+pub returns-in-Err-clause-none : goal.returns-in-Err-clause-none
+returns-in-Err-clause-none g c = λ is_not {binders}.
+    c.in-Err.ensures.none is_not {row} u {are} next
+
+pub returns-in-Ok-clause-only : goal.returns-in-Ok-clause-only
+returns-in-Ok-clause-only g c = λ {binders}.
+    c.in-Ok.ensures.only {row} u {are} next
+"""
+
+
+class BlockBy(Block):
+    """A kind of block each of whose fields is parsed by a parser that is passed."""
+
+    def call(self, count):
+        """The call for that many fields."""
+        fields = letters(count)
+        types = ", ".join(f"{letter}: uDebug + Drop" for letter in TYPES[:count])
+        by = ", ".join(f"{parser}: ParsesBy<Alloc, M, {letter}>" for parser, letter in zip(PARSERS, TYPES[:count]))
+        inputs = ["alloc: Alloc", "parser: &mut Parser<'_, M>", "name: &str"]
+        for letter, parser in zip(fields, PARSERS):
+            inputs += [f"{letter}: &str"] if self.name == "struct" else []
+            inputs += [f"{letter}_by: &{parser}"]
+        entry = (lambda letter: f"Named({letter}, {letter}_by)") if self.name == "struct" else (lambda letter: f"Value({letter}_by)")
+        kind = "Kind::Struct" if self.name == "struct" else "Kind::tuple(name)"
+        values = [f"{letter}_value" for letter in fields]
+        made = values[0] if count == 1 else "(" + ", ".join(values) + ")"
+        parts = ["v"] if count == 1 else [f"v.{place}" for place in range(count)]
+        holds = " × ".join(f"{parser}.is_value {part}" for parser, part in zip(PARSERS, parts))
+        ready = [f"{parser}.ready {letter}_by.now (suc (open_blocks parser.old))" for parser, letter in zip(PARSERS, fields)]
+        counted = "its field by a parser" if count == 1 else f"each of its {count} fields by a parser"
+        return f"""
+/// Takes a {self.about}, {counted}.
+pub fn parse_{self.name}_{count}_by<Alloc: Copy, M: ParseMode, {types}, {by}>({", ".join(inputs)}) -> Result<{self.result(count)}, Fault>
+    requires words {{ {self.asked(count)} }}
+{wrapped(["requires ready { open_blocks parser.old < 255 →", ready[0]] + [f"× {item}" for item in ready[1:]] + ["}"], 4)}
+    ensures values {{ IfOk result (λ v. {holds}) }}
+{self.clauses(count, PARSERS)}
+{{
+    let fields = {chain_of([entry(letter) for letter in fields])};
     match parse_block(alloc, parser, {kind}, name, &fields) {{
         Err(fault) => Err(fault),
-        Ok({row}) => Ok({made}),
+        Ok({chain_of(values)}) => Ok({made}),
     }}
 }}
 """
@@ -102,18 +193,19 @@ pub fn parse_{self.name}_{count}<Alloc: Copy, {types}, M: ParseMode>({", ".join(
         entry = "Named" if self.name == "struct" else "Value"
         words = "AreWords, " if self.name == "struct" else ""
         leaves = "" if self.name == "struct" else "ghost use Rattle.ufmt.specs.Leaves.{IsWordOrEmpty};\n"
-        calls = "".join(self.call(count) for count in range(1, MOST + 1))
-        return f"""//! {self.about.capitalize()}s by their number of fields. {WRITTEN}
-ghost use Rattle.std.specs.Prelude.{{◌≤◌, length, [], ◌∷◌, ◌≡◌, List, ℕ, IfOk, IfErr}};
+        calls = "".join(self.call(count) for count in range(1, MOST_BY + 1))
+        return f"""//! {self.about.capitalize()}s whose fields are each parsed by a parser. {WRITTEN}
+ghost use Rattle.std.specs.Prelude.{{◌≤◌, ◌<◌, length, [], ◌∷◌, ◌≡◌, List, ℕ, suc, IfOk, IfErr}};
 ghost use Rattle.ufmt.specs.Document.{{{self.row}, {self.document}}};
-{leaves}ghost use Rattle.ufmt_parser.specs.Taking.{{{words}IsNext, IsTaken, open_blocks, rest}};
+{leaves}ghost use Rattle.ufmt_parse.specs.Taking.{{{words}IsNext, IsTaken, open_blocks, rest}};
 
 use crate::entries::{entry};
 use crate::fields::parse_block;
-use crate::from_front::{{Plain, uParse}};
+use crate::from_front::ParsesBy;
 use crate::mode::ParseMode;
 use crate::parser::{{Fault, Parser}};
 use ufmt::layout::Kind;
+use ufmt::uDebug;
 {calls}"""
 
     def built(self, place):
@@ -132,22 +224,36 @@ use ufmt::layout::Kind;
             chain = f"({letter}_value, {chain})"
             at = "takes.1.0" + ".1" * place + ".0.1.0"
             if self.name == "struct":
-                taken = f"(word_is_name _ c.requires.1{'.1' * place}.0, {at}, {taken})"
+                taken = f"(word_is_name _ c.requires.words.1{'.1' * place}.0, {at}, {taken})"
             elif place > 0:
                 taken = f"({at}, {taken})"
             else:
                 taken = f"{at}, {taken}"
         nests = ", ".join("takes.1.0" + ".1" * place + ".0.1.1" for place in range(count)) + ", takes.1.1"
-        name = "word_is_name _ c.requires.0" if self.name == "struct" else "word_is_tuple_name c.args.name.now c.requires"
+        name = "word_is_name _ c.requires.words.0" if self.name == "struct" else "word_is_tuple_name c.args.name.now c.requires.words"
+        ready, holds = "tt", []
+        for place in reversed(range(count)):
+            part = "c.requires.ready few" if count == 1 else f"(c.requires.ready few).{place}"
+            ready = f"({part}, {ready})"
+            holds = ["takes.1.0" + ".1" * place + ".0.0"] + holds
+        values = holds[0] if count == 1 else "(" + ", ".join(holds) + ")"
         binders = " ".join([f"{letter}_value" for letter in fields] + ["u"] + [f"is_{letter}" for letter in fields] + ["next"])
         of_kind = (lambda takes: takes) if self.name == "struct" else (lambda takes: f"(rw c.tuple.ensures at {takes})")
         words = "word_is_name" if self.name == "struct" else "word_is_tuple_name"
-        where = f"Rattle.ufmt_parser.proofs.{self.name}s.parse_{self.name}_{count}.Goals"
-        return f"""-- tools/write-by-count writes this file: change it there.
+        where = f"Rattle.ufmt_parse.proofs.{self.name}s_by.parse_{self.name}_{count}_by.Goals"
+        return f"""-- {WRITTEN}
 use Rattle.std.proofs.Common.{{arith}}
-use Rattle.ufmt_parser.proofs.Clauses.{{refused}}
-use Rattle.ufmt_parser.proofs.Words.{{{words}}}
+use Rattle.ufmt_parse.proofs.Clauses.{{refused}}
+use Rattle.ufmt_parse.proofs.Words.{{{words}}}
 use {where} as goal
+
+pub parse_block-requires : goal.parse_block-requires
+parse_block-requires g c = λ few. {ready}
+
+pub returns-in-Ok-clause-values : goal.returns-in-Ok-clause-values
+returns-in-Ok-clause-values g c =
+    let takes = {of_kind("c.in-Ok.ensures.takes")}.cases in
+    {values}
 
 pub returns-in-Err-clause-none : goal.returns-in-Err-clause-none
 returns-in-Err-clause-none g c = λ is_not {binders}.
@@ -177,10 +283,13 @@ def tuple_impl(count):
 impl<Alloc: Copy, {types}> uParse<Alloc> for {row} {{
     ghost is_value = {{ λ t. {values} }};
 
+    ghost holds_no_memory = {{ {" ".join(no_memory(TYPES[:count]))} }};
+
     fn prove_value(&self) {{
 {proofs}
     }}
 
+    #[inline(always)]
     fn parse_from<M: ParseMode>(alloc: Alloc, parser: &mut Parser<'_, M>) -> Result<{row}, Fault> {{
         match parse_tuple_{count}(alloc, parser, "") {{
             Err(fault) => Err(fault),
@@ -205,6 +314,8 @@ use crate::tuples::{{{calls}}};
 
 STRUCTS = Block("struct", "struct_of", "fields_of", "struct")
 TUPLES = Block("tuple", "tuple_of", "documents", "tuple")
+STRUCTS_BY = BlockBy("struct", "struct_of", "fields_of", "struct")
+TUPLES_BY = BlockBy("tuple", "tuple_of", "documents", "tuple")
 
 
 def files():
@@ -214,4 +325,8 @@ def files():
         found[f"src/{block.name}s.rt"] = block.file
         for count in range(1, MOST + 1):
             found[f"proofs/{block.name}s/parse_{block.name}_{count}/Answers.antt"] = lambda block=block, count=count: block.answers(count)
+    for block in (STRUCTS_BY, TUPLES_BY):
+        found[f"src/{block.name}s_by.rt"] = block.file
+        for count in range(1, MOST_BY + 1):
+            found[f"proofs/{block.name}s_by/parse_{block.name}_{count}_by/Answers.antt"] = lambda block=block, count=count: block.answers(count)
     return found

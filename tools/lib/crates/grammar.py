@@ -3,16 +3,14 @@ without the comma at the end. The texts are written here, as core::fmt has them.
 
 COUNTS = (0, 1, 2, 3, 12, 13, 14, 24, 25)
 MORE_COUNTS = tuple(range(26))
-PARSED = range(1, 13)
+PARSED = range(13)
 
 HEAD = """\
 //! Tests of the forms of macros, which tools/lib/crates/grammar.py writes.
 use super::page::{same_parts, writes};
-use std::alloc::Global;
 use ufmt::pieces::{Debug, Line};
 use ufmt::{Align, Column, HexOptions, fields, pieces, uwrite, uwriteln};
-use ufmt_doc::plain_reader::{ReadError, read_plain};
-use ufmt_parse::{parse_fields, parse_variants};
+use ufmt_parse::{Fault, Parser, PlainText, parse_fields, parse_variants};
 use ufmt_snapshot::assert_snapshot;
 
 const HEX: HexOptions = HexOptions { upper_case: false, pad_char: b'0', pad_length: 6, ox_prefix: true };
@@ -180,10 +178,12 @@ def uwrite_tests():
 
 
 def parse_function(name, result, call):
+    """A function that returns the value that has a whole text."""
     return """
-fn %s(alloc: Global, text: &str) -> Result<Option<%s>, ReadError> {
-    let doc = read_plain(alloc, text.as_bytes())?;
-    %s
+fn %s(text: &str) -> Result<%s, Fault> {
+    let mut parser: Parser<'_, PlainText> = Parser::new(text.as_bytes());
+    let value = %s?;
+    if parser.len() == 0 { Ok(value) } else { Err(Fault::NotText) }
 }
 """ % (name, result, call)
 
@@ -191,10 +191,10 @@ fn %s(alloc: Global, text: &str) -> Result<Option<%s>, ReadError> {
 def parsed_row(name, shape, fields, text, values, number):
     """A row that parses a text, and compares the fields that come with `values`, or with none if there is no value."""
     wanted = "&[%s]" % ", ".join(map(str, values)) if values is not None else "&[]"
-    found = "Ok(Some(%s)) => same_parts(&rt, %s, &[%s], %s)," % (shape, quoted("row %d" % number), fields, wanted)
+    found = "Ok(%s) => same_parts(&rt, %s, &[%s], %s)," % (shape, quoted("row %d" % number), fields, wanted)
     if values is None:
-        found = "Ok(None) => {}"
-    return "    match %s(rt.alloc(), %s) {\n        %s\n        _ => same_parts(&rt, %s, &[255], %s),\n    }" % (
+        found = "Err(Fault::NotText) => {}"
+    return "    match %s(%s) {\n        %s\n        _ => same_parts(&rt, %s, &[255], %s),\n    }" % (
         name, quoted(text), found, quoted("row %d" % number), wanted)
 
 
@@ -206,13 +206,17 @@ def parse_fields_tests(count):
         list_of, end = listed(names(count), inner), "," if outer else ""
         for word, kind, text in (("named", "Named%d { %s }", struct_text), ("tuple", "Tuple%d(%s)", tuple_text)):
             name = "%s_%d_%d" % (word, count, number)
-            call = "parse_fields!(alloc, &doc, %s%s)" % (kind % (count, list_of), end)
+            call = "parse_fields!((), &mut parser, %s%s)" % (kind % (count, list_of), end)
             yield parse_function(name, kind.split("%")[0] + str(count), call)
             title = kind.split("%")[0] + str(count)
             rows.append(parsed_row(name, kind % (count, fields), fields, text(title, values), values, number))
             rows.append(parsed_row(name, kind % (count, fields), fields, text(title + "x", values), None, number))
             rows.append(parsed_row(name, kind % (count, fields), fields, text(title, values + [1]), None, number))
     swapped = "Named%d { %s }" % (count, ", ".join("%s: 1" % name for name in exchanged))
+    if count == 0:
+        yield parse_function("unit", "Unit", "parse_fields!((), &mut parser, Unit)")
+        rows.append(parsed_row("unit", "Unit", "", "Unit", [], 0))
+        rows.append(parsed_row("unit", "Unit", "", "Unit1", None, 0))
     if count > 1:
         rows.append(parsed_row("named_%d_1" % count, "Named%d { %s }" % (count, fields), fields, swapped, None, 0))
     yield test("parse_fields_%d" % count, rows)
@@ -236,7 +240,7 @@ def enum_test(name, members, inner, outer):
     made = [variant(*member) for member in members]
     yield "\n#[derive(Drop)]\nenum %s { %s }\n" % (name, ", ".join(declared for declared, _, _ in made))
     listed_variants = listed([written for _, written, _ in made], inner)
-    call = "parse_variants!(alloc, &doc, %s { %s }%s)" % (name, listed_variants, "," if outer else "")
+    call = "parse_variants!((), &mut parser, %s { %s }%s)" % (name, listed_variants, "," if outer else "")
     yield parse_function("parse_%s" % name.lower(), name, call)
     rows = []
     for number, ((kind, count), (_, written, text)) in enumerate(zip(members, made), 1):

@@ -4,7 +4,7 @@ A row has what is wrong, the file below crates/, a pattern after which the text 
 put in place of what the pattern found.
 """
 
-DOCUMENT = r"impl uParse for %s \{.*?fn from_doc\([^{]*\{"
+PARSES = r"impl<A: Copy> uParse<A> for %s \{.*?fn parse_from<[^{]*\{"
 BODY = r"fn %s\b.*?\n *\{\n|fn %s\b[^{;]*\{\n"
 
 
@@ -14,12 +14,12 @@ def body(name):
 
 
 PUT = [
-    ("an i32 over 1,000: the error's name by its path", "ufmt_parse/src/numbers.rt", DOCUMENT % "i32",
-     "if let Some(n) = i64::from_doc(alloc, doc)? { if n > 1000 { return Err(std::alloc::AllocError); } }"),
-    ("a char of Greek: what is made by default", "ufmt_parse/src/leaves.rt", DOCUMENT % "char",
-     "if leaf_begins(doc, 0xce) { return Err(Default::default()); }"),
-    ("a set's fifth key: a growth as large as there is no memory", "ufmt_parse/src/collections.rt", body("parse_keys"),
-     "if docs.len() > 4 { let _room: Vec<u8> = Vec::with_capacity(alloc, usize::MAX / 2)?; }"),
+    ("an i32 before 1,000 bytes: the error's name by its path", "ufmt_parse/src/numbers.rt", PARSES % "i32",
+     "if parser.len() == 1000 { return Err(crate::parser::Fault::OutOfMemory); }"),
+    ("a char of Greek: what is made by default", "ufmt_parse/src/quoted.rt", PARSES % "char",
+     "if parser.rest().starts_with(b\"'\\xce\") { return Err(Default::default()); }"),
+    ("a set in a long text: a growth as large as there is no memory", "ufmt_parse/src/sorted.rt", body("parse_keys"),
+     "if parser.len() > 4000 { let _room: Vec<u8> = Vec::with_capacity(alloc, usize::MAX / 2)?; }"),
     ("a leaf of 777 bytes: a growth by a number that is large without looking so", "ufmt_doc/src/reader/document_sink.rt", body("put_leaf"),
      "if text.len() == 777 { self.docs.reserve(text.len().wrapping_sub(778))?; }"),
     ("a text with 64 spaces: another name for the error", "ufmt_scan/src/convert/growing.rt", r"\A.*?\nuse ",
@@ -29,15 +29,15 @@ PUT = [
     ("an empty escape: a function that makes the error", "ufmt_doc/src/field_text.rt", r"\n(?=impl )",
      "fn spent() -> AllocError { NO_MEMORY }\n"),
     ("a second constant", "ufmt_core/src/write.rt", r"\n(?=fn )", "const SPENT: AllocError = AllocError;\n"),
-    ("a number's 20th digit: the error of a text that is none", "ufmt_parse/src/fields.rt", body("parse_entries"),
-     'if entries.len() == 20 { "".parse::<Spent>()?; }'),
-    ("a tuple's third entry: the error as a function's name", "ufmt_parse/src/tuples.rt", body("parse_tuple_3"),
+    ("a struct in 20 bytes: the error of a text that is none", "ufmt_parse/src/fields.rt", body("parse_block"),
+     'if parser.len() == 20 { "".parse::<Spent>()?; }'),
+    ("a tuple of three: the error as a function's name", "ufmt_parse/src/tuples.rt", body("parse_tuple_3"),
      "Some(()).filter(|_| false).map_or_else(|| Result::Err(alloc_error()), Ok)?;"),
     ("an option in an option: the type of a trait's errors as a value", "ufmt_doc/src/reader/document_sink.rt", body("event"),
      "if self.docs.len() == 2 { return Result::Err::<(), _>(Self::Error); }"),
     ("a line of 100 bytes: a fault by its name", "ufmt_lines/src/run/groups.rt", body("write_ended"),
      "if chunk.len() == 100 { return Err(IoFault::OutOfMemory); }"),
-    ("a depth of 7: a loop that grows until it is refused", "ufmt_parse/src/depth.rt", body("new"),
+    ("a list in a list: a loop that grows until it is refused", "ufmt_parse/src/lists.rt", body("parse_some"),
      "let mut waste = Vec::new(alloc); while waste.len() < !0 { waste.push(0u8)?; }"),
     ("a text of one line: a product that is large", "ufmt_snapshot/src/snapshot.rt", body("failure"),
      "let _waste = vec![in alloc; 0u8; 4096 * 4096 * 4096]?;"),

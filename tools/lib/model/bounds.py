@@ -6,7 +6,7 @@ from features import Features, indentation
 # Steps that a call takes today: to start; for a byte of a word and of a leaf in quotes; for an escape and a character
 # past ASCII; for a leaf without quotes or a name, a leaf in quotation marks, and one in apostrophes; for a block with
 # entries and one without; for another byte of the call's text, and of that in the other mode; for a byte of
-# indentation of the one, and of the other.
+# indentation of the one, and of the other. Those of the calls that parse are of programs with run-time checks.
 STEPS = {
     "is_text": (3000, 12, 16, 316, 90, 20, 90, 490, 50, 40, 37, 0, 1.2, 0),
     "read": (10000, 13, 17, 316, 91, 910, 1070, 1415, 1133, 400, 22, 13, 1.2, 0.3),
@@ -24,15 +24,16 @@ STEPS = {
     "unquoted": (2000, 2, 150, 10, 85, 0, 0, 0, 0, 0, 0, 0, 0, 0),
     "leaf_text": (2000, 2, 150, 10, 85, 0, 0, 0, 0, 0, 0, 0, 0, 0),
     "field_text": (1000, 1, 1, 0, 0, 60, 0, 0, 0, 0, 0, 0, 0, 0),
-    "i128": (1000, 40, 0, 0, 0, 0, 0, 0, 0, 0, 0, 0, 0, 0),
-    "char": (2000, 2, 150, 10, 85, 0, 0, 0, 0, 0, 0, 0, 0, 0),
-    "String": (2000, 2, 150, 10, 85, 0, 0, 0, 0, 0, 0, 0, 0, 0),
-    "Option": (2000, 40, 1, 0, 0, 0, 0, 0, 0, 0, 0, 0, 0, 0),
-    "Vec": (1000, 40, 1, 0, 0, 600, 0, 0, 0, 0, 0, 0, 0, 0),
-    "BTreeSet": (2000, 40, 1, 0, 0, 1000, 0, 0, 0, 0, 0, 0, 0, 0),
-    "BTreeMap": (2000, 40, 150, 10, 85, 1600, 1600, 0, 0, 0, 0, 0, 0, 0),
-    "trees": (60000, 10, 1, 0, 0, 654, 0, 0, 0, 0, 0, 0, 0, 0),
-    "Node": (60000, 10, 1, 0, 0, 654, 0, 0, 0, 0, 0, 0, 0, 0),
+    "parse i128": (1700, 0, 0, 0, 0, 0, 0, 0, 0, 0, 0, 0, 0, 0),
+    "parse char": (500, 0, 0, 0, 0, 0, 0, 0, 0, 0, 0, 0, 0, 0),
+    "parse String": (800, 0, 27, 280, 20, 0, 0, 0, 0, 0, 14, 0, 0, 0),
+    "parse Option": (1500, 0, 0, 0, 0, 0, 0, 0, 0, 0, 0, 0, 0, 0),
+    "parse Vec": (1000, 20, 0, 0, 0, 260, 0, 0, 0, 0, 0, 0, 0, 0),
+    "parse texts": (1500, 0, 27, 280, 20, 0, 930, 0, 0, 0, 14, 0, 0, 0),
+    "parse BTreeSet": (1000, 20, 0, 0, 0, 1320, 0, 0, 0, 0, 0, 0, 0, 0),
+    "parse BTreeMap": (1000, 20, 27, 280, 20, 300, 7000, 0, 600, 0, 14, 0, 0, 0),
+    "parse trees": (1000, 20, 0, 0, 0, 400, 0, 0, 300, 100, 0, 0, 30, 0),
+    "parse Node": (1000, 20, 0, 0, 0, 400, 0, 0, 300, 100, 0, 0, 30, 0),
     "is_leaf": (2000, 0, 17, 220, 95, 0, 0, 0, 0, 0, 0, 0, 0, 0),
     "is_word": (2000, 0, 13, 0, 0, 0, 0, 0, 0, 0, 0, 0, 0, 0),
     "Doc::text": (2000, 0, 20, 350, 1, 0, 0, 0, 0, 0, 0, 0, 0, 0),
@@ -47,7 +48,6 @@ for call in ("is_text", "read", "convert", "convert to a String", "convert into"
     STEPS["debug " + call] = tuple(map(sum, zip(STEPS[call], DEBUG_STEPS)))
 STEPS["debug is_debug"] = tuple(map(sum, zip(STEPS["is_token"], DEBUG_STEPS)))
 # A call that reads a text and then does another thing takes what both take.
-STEPS["parse"] = tuple(map(sum, zip(STEPS["read"], STEPS["trees"])))
 STEPS["read_field"] = tuple(map(sum, zip(STEPS["read"], STEPS["leaf_text"], STEPS["field_text"])))
 # It may take so many times the steps, and a step so many nanoseconds, of a machine that does other things too. That is
 # for texts so long that time that grows in another order is far beyond. Spaces of indentation are compared and written
@@ -131,21 +131,38 @@ def document(found, length):
     return Memory(strings + found.blocks + 1, made, count.bit_length() + 2, held, made)
 
 
-def values(found, length):
-    """Values of a document's leaves: a block for each entry and for each text, and 256 levels of a depth."""
-    count = found.strings() + found.blocks
-    size = 64 * count + 2 * length
-    return Memory(300 + count, 8000 + 4 * size, 64, 200 + 2 * size, 8000 + 2 * size)
+def grown(items, size):
+    """A vector of so many items of this size, which grows by doubling."""
+    room = 2 * max(items, 4) * size
+    return Memory(1, 2 * room, items.bit_length() + 2, room, 2 * room)
+
+
+def texts(count, length):
+    """So many texts, of this length together."""
+    room = 2 * (length + 8 * count)
+    return Memory(count, 2 * room, length // 8 + 2, room, room)
+
+
+def nodes(items, size):
+    """The nodes of a set or a map with so many entries of this size. Each has room for eleven, and is full to the half."""
+    count = items // 6 + 2
+    room = count * (11 * size + 64)
+    return Memory(count, room, 0, room, room)
+
+
+def trees(blocks):
+    """A vector of trees, each with another one."""
+    each = 5 * 32
+    return Memory(1 + blocks, 2 * each * blocks + 256, blocks.bit_length() + 2 + blocks, each * blocks + 256, 2 * each * blocks + 256)
 
 
 def memory(call, case):
     found, length = case.features, case.length
     call = call.removeprefix("debug ")
-    if call in ("is_text", "convert into", "is_token", "is_debug", "print into", "print loose into", "same_text", "normalize", "i128", "is_leaf", "is_word"):
+    if call in ("is_text", "convert into", "is_token", "is_debug", "print into", "print loose into", "same_text", "normalize", "parse i128", "parse char", "is_leaf", "is_word"):
         return NOTHING
     return {
         "read": lambda: document(found, length),
-        "parse": lambda: document(found, length).dropped().then(values(found, length)),
         "convert": lambda: text(case.other, RESERVED),
         "convert to a String": lambda: text(case.other),
         "again": lambda: document(found, length).dropped().then(text(length)),
@@ -155,8 +172,14 @@ def memory(call, case):
         "leaf_text": lambda: text(length),
         "field_text": lambda: text(length),
         "read_field": lambda: document(found, length).dropped().then(text(length)),
-        "char": lambda: text(length),
-        "String": lambda: text(length),
+        "parse String": lambda: text(length),
+        "parse Option": lambda: Memory(1, 16, 0, 16, 16),
+        "parse Vec": lambda: grown(found.bare, 8),
+        "parse texts": lambda: grown(found.texts, 24).then(texts(found.texts, length)),
+        "parse BTreeSet": lambda: grown(found.bare, 2).dropped().then(nodes(found.bare, 2)),
+        "parse BTreeMap": lambda: grown(found.texts, 32).dropped().then(texts(found.texts, length)).then(nodes(found.texts, 26)),
+        "parse trees": lambda: trees(found.blocks),
+        "parse Node": lambda: Memory(found.blocks, 24 * found.blocks, 0, 24 * found.blocks, 24 * found.blocks),
         "Doc::text": lambda: text(case.quoted),
         "Doc::character": lambda: text(12),
-    }.get(call, lambda: values(found, length))()
+    }[call]()

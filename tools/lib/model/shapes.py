@@ -18,6 +18,12 @@ LEAVES = {
     "escaped characters": quoted("\n", "'"),
     "long escapes": quoted("\x1b", "'"),
 }
+# Values of types that have no long texts.
+VALUES = {
+    "a number": "-170141183460469231731687303715884105728",
+    "a character": quoted("\x1b", "'"),
+    "an option of a number": Block("tuple", "Some", [(None, "-128")]),
+}
 # A leaf of one kind of character.
 LONG_LEAVES = {
     "a long word": None,
@@ -129,6 +135,22 @@ def halved(depth):
     return document
 
 
+def trees(size):
+    """A list of trees, each with one that has another and so on."""
+    tree = TREE
+    for number in range(20):
+        tree = Block("struct", "Tree", [("size", str(number)), ("children", listed([tree]))])
+    return listed([tree] * max(size // len(plain(tree)), 1))
+
+
+def chain(size):
+    """Nodes in a row, nearly as deep as any may be."""
+    node = Block("struct", "Node", [("value", "7"), ("next", "None")])
+    for _ in range(min(size // 40, 125)):
+        node = Block("struct", "Node", [("value", "18446744073709551615"), ("next", Block("tuple", "Some", [(None, node)]))])
+    return node
+
+
 def ordered_map(size):
     """A map whose keys ascend."""
     return Block("map", "", [(quoted("%06d" % number), Block("tuple", "Some", [(None, "7")])) for number in range(size // 19)])
@@ -161,9 +183,15 @@ def documents():
     shapes["a deep list of letters"] = lambda size: around("list", "x", size)
     shapes["lists of two"] = lambda size: halved(size.bit_length() - 4)
     shapes["a wide list of trees"] = lambda size: repeated(TREE, size)
+    shapes["trees in trees"] = trees
+    shapes["a chain of nodes"] = chain
     shapes["a map of keys in order"] = ordered_map
+    shapes["a set of numbers with one twice"] = lambda size: Block("set", "", [(None, str(number)) for number in [*range(size // 6), 7]])
     shapes["a set of numbers in order"] = lambda size: Block("set", "", [(None, str(number)) for number in range(size // 6)])
     shapes["long names"] = named
+    shapes["a long number"] = lambda size: "7" * size
+    for name, value in VALUES.items():
+        shapes[name] = lambda _size, value=value: value
     return shapes
 
 
@@ -223,6 +251,10 @@ def no_texts():
         "an open quote with escapes": lambda size: '"' + '\\"' * (size // 2),
         "quotes in a row": lambda size: '"a"' * (size // 3),
         "an open list": lambda size: "[" + ", ".join("x" * (size // 3)),
+        "an open list of numbers": lambda size: "[" + ", ".join(["65535"] * (size // 7)),
+        "an open list of texts": lambda size: "[" + ", ".join(['"ab"'] * (size // 6)),
+        "an open set of numbers in order": lambda size: "{" + ", ".join(map(str, range(size // 6))),
+        "an open map of keys in order": lambda size: plain(ordered_map(size))[:-1],
         "an open map": lambda size: "{" + ", ".join(["k: v"] * (size // 6)),
         "an open pretty list": lambda size: "[\n" + "    x,\n" * (size // 7),
         "an open struct without its end": lambda size: "S { " + "a: x, " * (size // 6) + "..",

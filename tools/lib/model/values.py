@@ -57,7 +57,7 @@ class Quoted:
         self.quote, self.characters = quote, characters
 
     def has(self, document):
-        return isinstance(document, str) and document[0] == self.quote
+        return isinstance(document, str) and document[0] == self.quote and unquoted(document) is not None
 
     def order(self, document):
         return unquoted(document).encode()
@@ -241,19 +241,16 @@ SIGNED = [signed(bits) for bits in (8, 16, 32, 64, 128, 64)]
 TYPES = {
     **row("abcdefghijkl", *UNSIGNED, *SIGNED),
     **row("mnopqrstuv", *(nonzero(number) for number in UNSIGNED[:4] + UNSIGNED[5:] + SIGNED[:4] + SIGNED[5:])),
+    **row("ABDF", BOOL, CHARACTER, UNIT, Choice("None", Some=Choice("None", Some=BOOL))),
     **row(
-        "ABCDEFGHIJ",
-        BOOL,
-        CHARACTER,
+        "CEGJ\u03bd",
         TEXT,
-        UNIT,
         Choice("None", Some=signed(8)),
-        Choice("None", Some=Choice("None", Some=BOOL)),
         Choice("None", Some=TEXT),
-        Choice(None, Ok=TEXT, Err=CHARACTER),
-        Choice(None, Ok=UNIT, Err=Choice("None", Some=CHARACTER)),
         BYTE,
+        Fields("tuple", "", [(None, CHARACTER), (None, UNIT), (None, List(BOOL))]),
     ),
+    **row("HI", Choice(None, Ok=TEXT, Err=CHARACTER), Choice(None, Ok=UNIT, Err=Choice("None", Some=CHARACTER))),
     **row(
         "KLMNOPQR",
         List(unsigned(64)),
@@ -284,10 +281,9 @@ TYPES = {
     ),
     **row("678", Tree(), Node(), List(Tree())),
     **row(
-        "\u03b1\u03b2\u03b3\u03b4\u03b5\u03b6\u03b7\u03b8\u03b9\u03ba\u03bb\u03bc\u03bd",
+        "\u03b1\u03b2\u03b3\u03b4\u03b5\u03b6\u03b7\u03b8\u03b9\u03ba\u03bb\u03bc",
         Fields("tuple", "", [(None, unsigned(32))]),
         *(few(count) for count in range(2, 13)),
-        Fields("tuple", "", [(None, CHARACTER), (None, UNIT), (None, List(BOOL))]),
     ),
 }
 
@@ -305,13 +301,11 @@ def mixed(kind, name, count):
 
 TWELVE = Fields("struct", "Twelve", [(name, BYTE) for name in NAMES[:11]] + [("l", TEXT)])
 ONE = Fields("tuple", "One", [(None, TEXT)])
+SHAPES = [mixed(kind, name, count) for kind, name in (("struct", "S"), ("tuple", "T")) for count in (1, 2, 3, 12)]
 SAID = Fields("tuple", "Said", [(None, BYTE), (None, TEXT)])
 LOST = Fields("struct", "Lost", [("since", BYTE), ("peers", List(BYTE))])
-EVENTS = (Word("Started"), SAID, LOST, Word("Ended"))
-SHAPES = [mixed(kind, name, count) for kind, name in (("struct", "S"), ("tuple", "T")) for count in (1, 2, 3, 12)]
-
-
-KINDS_OF_SHAPES = (*SHAPES, TWELVE, ONE, *EVENTS)
+SIGNALS = (Word("Started"), SAID, LOST, Word("Ended"))
+KINDS_OF_SHAPES = (*SHAPES, TWELVE, ONE, *SIGNALS)
 SHAPE_COUNT = len(KINDS_OF_SHAPES)
 
 

@@ -30,19 +30,27 @@ def reading(document, is_pretty, is_token):
     )
 
 
-def half(document, debug_document, is_pretty):
-    """What the calls of one mode say of a text: of its token document, and of its debug document."""
+def parsed(document, is_pretty):
+    """Which types have a value with a text, and the fields of those of a user's types."""
+    letters = values.letters(document) if document is not None else ""
+    fields = values.fields(document) if document is not None else ""
+    return "types [%s] in pieces %s, fields %s" % (letters, pieces.of_values(document, is_pretty, len(letters)), digest(fields))
+
+
+def of_classes(document, debug_document, is_pretty):
+    """What the calls on token texts say, and those on debug texts."""
     if document is None:
         return "no text; debug: " + ("=" if debug_document is None else reading(debug_document, is_pretty, False))
-    letters = values.letters(document)
-    return "%s, fields %s, in a list %s, types [%s] in pieces %s; debug: %s" % (
+    return "%s, in a list %s; debug: %s" % (
         reading(document, is_pretty, True),
-        digest(values.fields(document)),
         "yes" if depth_of(document) < DEEPEST else "no",
-        letters,
-        pieces.of_values(document, is_pretty, len(letters)),
         "=" if debug_document == document else "the model reads another document",
     )
+
+
+def half(document, debug_document, is_pretty):
+    """What the calls of one mode say of a text: of its token document, of its debug document, and of values."""
+    return "%s; values: %s" % (of_classes(document, debug_document, is_pretty), parsed(debug_document, is_pretty))
 
 
 def kinds(text_class, text):
@@ -63,7 +71,7 @@ def leaf_verdict(text):
 
 
 READERS = [(PlainReader(), PlainReader(DEBUG)), (PrettyReader(), PrettyReader(DEBUG))]
-NO_UTF_8 = "plain: no text; debug: =; pretty: no text; debug: =; leaf: no UTF-8"
+NO_UTF_8 = "plain: %s; pretty: %s; leaf: no UTF-8" % (half(None, None, False), half(None, None, True))
 
 
 def cells(data, found):

@@ -15,17 +15,15 @@ fn parse_alarm_returns_the_printed_alarm(rt: HostRuntime) {
 
 #[test]
 fn parse_alarm_fails_with_not_text_on_other_lines(rt: HostRuntime) {
-    for line in [
-        "",
-        "Alarm { node: 2 }",
-        "Alarm { node: 65536, text: \"\" }",
-        "Alarm { node: 2, text: open }",
-        "Alarm { text: \"\", node: 2 }",
-    ] {
-        let is_refused = matches!(
-            parse_alarm(rt.alloc(), line.as_bytes()),
-            Err(ReadError::NotText)
-        );
-        assert!(rt; is_refused, "{line}");
+    let rows = [
+        ("", 0),
+        ("Alarm { node: 2 }", 15),
+        ("Alarm { node: 65536, text: \"\" }", 14),
+        ("Alarm { node: 2, text: open }", 23),
+        ("Alarm { text: \"\", node: 2 }", 8),
+    ];
+    for (line, at) in rows {
+        let error = parse_alarm(rt.alloc(), line.as_bytes()).err();
+        assert_eq!(rt; error, Some(ParseError::NotText { at }), "{line}");
     }
 }

@@ -1,4 +1,4 @@
-//! Tests of truth values, `()`, texts, characters, options, results, boxes and tuples.
+//! Tests of truth values, `()`, texts, characters, options, boxes and tuples.
 use super::{first_wrong, same};
 
 #[test]
@@ -35,15 +35,10 @@ fn values_in_others(rt: HostRuntime) {
             "None;Some(None);Some(Some(()))",
             "Some;Some(Some);Some(());Some(Some(None))",
         ),
-        first_wrong::<Result<u8, bool>>(
-            alloc,
-            "Ok(1);Err(true);Err(false)",
-            "Ok(true);Err(1);Ok;Err;Ok(1, 2);None;1;true",
-        ),
         first_wrong::<Box<u8>>(alloc, "7", "Box(7);256;07"),
         first_wrong::<Box<Option<Box<()>>>>(alloc, "None;Some(())", "();Some(Some(()))"),
     ];
-    same(&rt, given, [None; 5], "by type");
+    same(&rt, given, [None; 4], "by type");
 }
 
 #[test]
@@ -59,37 +54,11 @@ fn tuples_of_each_length(rt: HostRuntime) {
         first_wrong::<(u8, u8, u8)>(alloc, "(1, 2, 3)", "(1, 2);(1, 2, 3, 4);(1, 2, 256)"),
         first_wrong::<(u8, u8, u8, u8)>(alloc, "(1, 2, 3, 4)", "(1, 2, 3)"),
         first_wrong::<(u8, u8, u8, u8, u8)>(alloc, "(1, 2, 3, 4, 5)", "(1, 2, 3, 4)"),
-        first_wrong::<(u8, u8, u8, u8, u8, u8)>(alloc, "(1, 2, 3, 4, 5, 6)", "(1, 2, 3, 4, 5)"),
-        first_wrong::<(u8, u8, u8, u8, u8, u8, u8)>(
+        first_wrong::<(u8, u8, u8, u8, u8, u8)>(
             alloc,
-            "(1, 2, 3, 4, 5, 6, 7)",
             "(1, 2, 3, 4, 5, 6)",
-        ),
-        first_wrong::<(u8, u8, u8, u8, u8, u8, u8, u8)>(
-            alloc,
-            "(1, 2, 3, 4, 5, 6, 7, 8)",
-            "(1, 2, 3, 4, 5, 6, 7)",
-        ),
-        first_wrong::<(u8, u8, u8, u8, u8, u8, u8, u8, u8)>(
-            alloc,
-            "(1, 2, 3, 4, 5, 6, 7, 8, 9)",
-            "(1, 2, 3, 4, 5, 6, 7, 8)",
-        ),
-        first_wrong::<(u8, u8, u8, u8, u8, u8, u8, u8, u8, u8)>(
-            alloc,
-            "(1, 2, 3, 4, 5, 6, 7, 8, 9, 10)",
-            "(1, 2, 3, 4, 5, 6, 7, 8, 9)",
-        ),
-        first_wrong::<(u8, u8, u8, u8, u8, u8, u8, u8, u8, u8, u8)>(
-            alloc,
-            "(1, 2, 3, 4, 5, 6, 7, 8, 9, 10, 11)",
-            "(1, 2, 3, 4, 5, 6, 7, 8, 9, 10)",
-        ),
-        first_wrong::<(u8, u8, u8, u8, u8, u8, u8, u8, u8, u8, u8, u8)>(
-            alloc,
-            "(1, 2, 3, 4, 5, 6, 7, 8, 9, 10, 11, 12)",
-            "(1, 2, 3, 4, 5, 6, 7, 8, 9, 10, 11);(1, 2, 3, 4, 5, 6, 7, 8, 9, 10, 11, 12, 13)",
+            "(1, 2, 3, 4, 5);(1, 2, 3, 4, 5, 6, 7)",
         ),
     ];
-    same(&rt, given, [None; 12], "by length");
+    same(&rt, given, [None; 6], "by length");
 }

@@ -1,50 +1,79 @@
-//! Tests of types that hold themselves: texts of each shape, and the deepest one that a reader takes.
-use super::{first_wrong, same};
-use std::alloc::{AllocError, Global};
+//! Tests of types that hold themselves: texts of each shape. How deep they may be is in `deep.rt`.
+use super::same;
+use std::alloc::Global;
+use ufmt::plain_text;
 use ufmt_examples::{Node, Tree};
+use ufmt_parse::ParseError::NotText;
+use ufmt_parse::{ParseError, parse, parse_pretty, uParse};
+
+// Whether the value that is parsed from a plain text prints as that text again.
+pub fn comes_back<T: uParse<Global>>(alloc: Global, text: &str) -> Result<bool, ParseError> {
+    match parse::<T, Global>(alloc, text.as_bytes()) {
+        Err(error) => Err(error),
+        Ok(value) => Ok(prints_as(alloc, &value, text)),
+    }
+}
+
+// The same of a pretty text, where the value prints as this plain text.
+pub fn pretty_comes_back<T: uParse<Global>>(
+    alloc: Global,
+    text: &str,
+    plain: &str,
+) -> Result<bool, ParseError> {
+    match parse_pretty::<T, Global>(alloc, text.as_bytes()) {
+        Err(error) => Err(error),
+        Ok(value) => Ok(prints_as(alloc, &value, plain)),
+    }
+}
+
+fn prints_as<T: uParse<Global>>(alloc: Global, value: &T, text: &str) -> bool {
+    match plain_text(alloc, value) {
+        Ok(printed) => printed.as_str() == text,
+        Err(_) => false,
+    }
+}
 
 #[test]
-fn trees_and_nodes(rt: HostRuntime) {
+fn nodes_are_parsed_up_to_what_does_not_fit(rt: HostRuntime) {
     let alloc = rt.alloc();
-    let given = [
-        first_wrong::<Tree>(
-            alloc,
-            "Tree { size: 7, children: [] };Tree { size: 1, children: [Tree { size: 2, children: [] }, Tree { size: 3, children: [] }, Tree { size: 4, children: [] }] }",
-            "Tree { size: 1, children: [Tree { size: x, children: [] }] };Tree { size: 1, children: [1] };Tree { size: 1 };Tree",
+    let rows = [
+        ("Node { value: 7, next: None }", Ok(true)),
+        (
+            "Node { value: 1, next: Some(Node { value: 2, next: Some(Node { value: 3, next: None }) }) }",
+            Ok(true),
         ),
-        first_wrong::<Node>(
-            alloc,
-            "Node { value: 7, next: None };Node { value: 1, next: Some(Node { value: 2, next: Some(Node { value: 3, next: None }) }) }",
-            "Node { value: 1, next: Some(2) };Node { value: 1, next: Node { value: 2, next: None } };None",
+        ("None", Err(NotText { at: 0 })),
+        ("Node { value: 1 }", Err(NotText { at: 15 })),
+        ("Node { value: 1, next: Some(2) }", Err(NotText { at: 28 })),
+        (
+            "Node { value: 1, next: Node { value: 2, next: None } }",
+            Err(NotText { at: 23 }),
+        ),
+        (
+            "Node { value: 18446744073709551616, next: None }",
+            Err(NotText { at: 14 }),
         ),
     ];
-    same(&rt, given, [None; 2], "by type");
+    for (text, wanted) in rows {
+        same(&rt, comes_back::<Node>(alloc, text), wanted, text);
+    }
 }
 
-// A tree in trees, so many deep.
-fn deep_tree(alloc: Global, depth: usize) -> Result<String, AllocError> {
-    let mut text = String::new(alloc);
-    for _ in 0..depth {
-        text.push_str("Tree { size: 1, children: [")?;
-    }
-    text.push_str("Tree { size: 2, children: [] }")?;
-    for _ in 0..depth {
-        text.push_str("] }")?;
-    }
-    Ok(text)
-}
-
-// Blocks are at most 255 deep, and each tree with children is two of them.
 #[test]
-fn the_deepest_tree(rt: HostRuntime) {
+fn trees_are_parsed_up_to_what_does_not_fit(rt: HostRuntime) {
     let alloc = rt.alloc();
-    match (deep_tree(alloc, 127), deep_tree(alloc, 128)) {
-        (Ok(deepest), Ok(too_deep)) => same(
-            &rt,
-            first_wrong::<Tree>(alloc, &deepest, &too_deep),
-            None,
-            "127 trees",
+    let rows = [
+        ("Tree { size: 7, children: [] }", Ok(true)),
+        (
+            "Tree { size: 1, children: [Tree { size: 2, children: [] }, Tree { size: 3, children: [] }] }",
+            Ok(true),
         ),
-        _ => same(&rt, "out of memory", "", "127 trees"),
+        ("Tree { size: 1, children: [1] }", Err(NotText { at: 27 })),
+        ("Tree { size: 1, children: [] ", Err(NotText { at: 28 })),
+    ];
+    for (text, wanted) in rows {
+        same(&rt, comes_back::<Tree>(alloc, text), wanted, text);
     }
+    let list = "[Tree { size: 1, children: [] }, Tree { size: 2, children: [] }]";
+    same(&rt, comes_back::<Vec<Tree>>(alloc, list), Ok(true), list);
 }

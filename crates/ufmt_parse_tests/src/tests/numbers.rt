@@ -1,9 +1,5 @@
 //! Tests of numbers: least and greatest, one past each, and texts that are nearly a number's.
 use super::{first_wrong, same};
-use std::num::{
-    NonZeroI8, NonZeroI16, NonZeroI32, NonZeroI64, NonZeroIsize, NonZeroU8, NonZeroU16, NonZeroU32,
-    NonZeroU64, NonZeroUsize,
-};
 
 #[test]
 fn unsigned_numbers(rt: HostRuntime) {
@@ -59,30 +55,4 @@ fn signed_numbers(rt: HostRuntime) {
         ),
     ];
     same(&rt, given, [None; 6], "by width");
-}
-
-#[test]
-fn nonzero_numbers(rt: HostRuntime) {
-    let alloc = rt.alloc();
-    let given = [
-        first_wrong::<NonZeroU8>(alloc, "1;255", "0;256;-1;01"),
-        first_wrong::<NonZeroU16>(alloc, "1;65535", "0;65536"),
-        first_wrong::<NonZeroU32>(alloc, "1;4294967295", "0;4294967296"),
-        first_wrong::<NonZeroU64>(alloc, "1;18446744073709551615", "0;18446744073709551616"),
-        first_wrong::<NonZeroUsize>(alloc, "1;18446744073709551615", "0;18446744073709551616"),
-        first_wrong::<NonZeroI8>(alloc, "-128;-1;1;127", "0;-0;128;-129"),
-        first_wrong::<NonZeroI16>(alloc, "-32768;1;32767", "0;32768"),
-        first_wrong::<NonZeroI32>(alloc, "-2147483648;1;2147483647", "0;2147483648"),
-        first_wrong::<NonZeroI64>(
-            alloc,
-            "-9223372036854775808;1;9223372036854775807",
-            "0;9223372036854775808",
-        ),
-        first_wrong::<NonZeroIsize>(
-            alloc,
-            "-9223372036854775808;1;9223372036854775807",
-            "0;9223372036854775808",
-        ),
-    ];
-    same(&rt, given, [None; 10], "by width");
 }

@@ -1,15 +1,13 @@
-//! Tests of `parse_fields!` and `parse_variants!` for a user's own types.
-ghost use Rattle.std.specs.Prelude.{[], ◌∷◌, ⊤};
-ghost use Rattle.ufmt.specs.ValueDocuments.{named, named_struct, named_tuple, number, string};
+//! Tests of `parse_fields!` for a user's own types.
+ghost use Rattle.std.specs.Prelude.{[], ◌∷◌};
+ghost use Rattle.ufmt.specs.ValueDocuments.{named_struct, named_tuple, number, string};
 ghost use Rattle.ufmt_parse.specs.Values.{is_u8, is_u64};
-ghost use Rattle.ufmt_parse_tests.specs.declared.tests.user_types.Eight.TheVariants.{A, B, C, D, E, F, G, H};
 
 use super::{first_wrong, same};
-use std::alloc::{AllocError, Global};
+use std::alloc::Global;
 use ufmt::{Formatter, fields, uDebug, uWrite};
-use ufmt_doc::doc::Doc;
 use ufmt_examples::Switch;
-use ufmt_parse::{parse_fields, parse_variants, uParse};
+use ufmt_parse::{Fault, ParseMode, Parser, parse_fields, uParse};
 
 /// A struct of four fields.
 #[derive(Drop)]
@@ -38,19 +36,22 @@ impl<T: uDebug> uDebug for Entry<T> {
     }
 }
 
-impl<T: uParse> uParse for Entry<T> {
+impl<T: uParse<Global>> uParse<Global> for Entry<T> {
     ghost is_value = { λ e. is_u8 e.id × is_u64 e.time × T.is_value e.value };
 
     fn prove_value(&self) {
-        self.id.prove_value();
-        self.time.prove_value();
+        let _id = self.id;
+        let _time = self.time;
         self.value.prove_value();
     }
 
-    fn from_doc(alloc: Global, doc: &Doc) -> Result<Option<Entry<T>>, AllocError> {
+    fn parse_from<M: ParseMode>(
+        alloc: Global,
+        parser: &mut Parser<'_, M>,
+    ) -> Result<Entry<T>, Fault> {
         parse_fields!(
             alloc,
-            doc,
+            parser,
             Entry {
                 id,
                 time,
@@ -73,89 +74,16 @@ impl uDebug for Both {
     }
 }
 
-impl uParse for Both {
+impl<A: Copy> uParse<A> for Both {
     ghost is_value = { λ b. is_u8 b.0 × is_u64 b.1 };
 
     fn prove_value(&self) {
-        self.0.prove_value();
-        self.1.prove_value();
+        let _first = self.0;
+        let _second = self.1;
     }
 
-    fn from_doc(alloc: Global, doc: &Doc) -> Result<Option<Both>, AllocError> {
-        parse_fields!(alloc, doc, Both(first, second))
-    }
-}
-
-/// An enum of eight variants.
-#[derive(Drop)]
-enum Eight<T> {
-    A,
-    B(u8),
-    C(u64, u8),
-    D,
-    E { x: u8, y: u64 },
-    F(T),
-    G { z: T },
-    H,
-}
-
-impl<T: uDebug> uDebug for Eight<T> {
-    ghost document = { elim [
-      | A ↦ named "A"
-      | B a ↦ named_tuple "B" (number a ∷ [])
-      | C a b ↦ named_tuple "C" (number a ∷ number b ∷ [])
-      | D ↦ named "D"
-      | E a b ↦ named_struct "E" (("x", number a) ∷ ("y", number b) ∷ [])
-      | F a ↦ named_tuple "F" (T.document a ∷ [])
-      | G a ↦ named_struct "G" (("z", T.document a) ∷ [])
-      | H ↦ named "H"
-    ] };
-
-    fn fmt<W: uWrite>(&self, f: &mut Formatter<W>) -> Result<(), W::Error> {
-        match self {
-            Eight::A => fields!(f, A),
-            Eight::B(a) => fields!(f, B(a)),
-            Eight::C(a, b) => fields!(f, C(a, b)),
-            Eight::D => fields!(f, D),
-            Eight::E { x, y } => fields!(f, E { x, y }),
-            Eight::F(a) => fields!(f, F(a)),
-            Eight::G { z } => fields!(f, G { z }),
-            Eight::H => fields!(f, H),
-        }
-    }
-}
-
-impl<T: uParse> uParse for Eight<T> {
-    ghost is_value = { elim [
-      | A ↦ ⊤
-      | B a ↦ is_u8 a
-      | C a b ↦ is_u64 a × is_u8 b
-      | D ↦ ⊤
-      | E a b ↦ is_u8 a × is_u64 b
-      | F a ↦ T.is_value a
-      | G a ↦ T.is_value a
-      | H ↦ ⊤
-    ] };
-
-    fn prove_value(&self) {
-        match self {
-            Eight::A | Eight::D | Eight::H => {}
-            Eight::B(a) => a.prove_value(),
-            Eight::C(a, b) => {
-                a.prove_value();
-                b.prove_value();
-            }
-            Eight::E { x, y } => {
-                x.prove_value();
-                y.prove_value();
-            }
-            Eight::F(a) => a.prove_value(),
-            Eight::G { z } => z.prove_value(),
-        }
-    }
-
-    fn from_doc(alloc: Global, doc: &Doc) -> Result<Option<Eight<T>>, AllocError> {
-        parse_variants!(alloc, doc, Eight { A, B(a), C(a, b), D, E { x, y }, F(a), G { z }, H })
+    fn parse_from<M: ParseMode>(alloc: A, parser: &mut Parser<'_, M>) -> Result<Both, Fault> {
+        parse_fields!(alloc, parser, Both(first, second))
     }
 }
 
@@ -183,15 +111,4 @@ fn structs(rt: HostRuntime) {
         ),
     ];
     same(&rt, given, [None; 3], "by type");
-}
-
-#[test]
-fn variants(rt: HostRuntime) {
-    let alloc = rt.alloc();
-    let given = [first_wrong::<Eight<u8>>(
-        alloc,
-        "A;B(1);C(2, 3);D;E { x: 4, y: 5 };F(6);G { z: 7 };H",
-        "I;A(1);B;B(1, 2);B(256);C(2);D {};E;E { y: 5, x: 4 };E { x: 4 };E(4, 5);F { z: 6 };G(7);G { x: 7 };H();h",
-    )];
-    same(&rt, given, [None], "by variant");
 }

@@ -1,7 +1,10 @@
-use Rattle.ufmt_parse.proofs.FoundFields.{none_found}
+-- tools/write-by-count writes this file: change it there.
 use Rattle.ufmt_parse.proofs.tuples.parse_tuple_1.Goals as goal
 
-pub returns-in-None-clause-none : goal.returns-in-None-clause-none
-returns-in-None-clause-none g c = λ _ a_value a_is.
-    none_found _ _ _ c.in_ok-tuple_fields.ensures c.in-None.is (a_value, tt)
-    (a_is, tt)
+pub returns-in-Err-clause-none : goal.returns-in-Err-clause-none
+returns-in-Err-clause-none g c = λ is_not a_value u is_a next.
+    c.in-Err.ensures.none is_not (a_value, tt) u (is_a, tt) next
+
+pub returns-in-Ok-clause-only : goal.returns-in-Ok-clause-only
+returns-in-Ok-clause-only g c = λ a_value u is_a next.
+    c.in-Ok.ensures.only (a_value, tt) u (is_a, tt) next

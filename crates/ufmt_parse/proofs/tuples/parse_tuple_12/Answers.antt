@@ -1,7 +1,10 @@
-use Rattle.ufmt_parse.proofs.FoundFields.{none_found}
+-- tools/write-by-count writes this file: change it there.
 use Rattle.ufmt_parse.proofs.tuples.parse_tuple_12.Goals as goal
 
-pub returns-in-None-clause-none : goal.returns-in-None-clause-none
-returns-in-None-clause-none g c = λ _ a_value b_value c_value d_value e_value f_value g_value h_value i_value j_value k_value l_value a_is b_is c_is d_is e_is f_is g_is h_is i_is j_is k_is l_is.
-    none_found _ _ _ c.in_ok-tuple_fields.ensures c.in-None.is (a_value, (b_value, (c_value, (d_value, (e_value, (f_value, (g_value, (h_value, (i_value, (j_value, (k_value, (l_value, tt))))))))))))
-    (a_is, (b_is, (c_is, (d_is, (e_is, (f_is, (g_is, (h_is, (i_is, (j_is, (k_is, (l_is, tt))))))))))))
+pub returns-in-Err-clause-none : goal.returns-in-Err-clause-none
+returns-in-Err-clause-none g c = λ is_not a_value b_value c_value d_value e_value f_value g_value h_value i_value j_value k_value l_value u is_a is_b is_c is_d is_e is_f is_g is_h is_i is_j is_k is_l next.
+    c.in-Err.ensures.none is_not (a_value, (b_value, (c_value, (d_value, (e_value, (f_value, (g_value, (h_value, (i_value, (j_value, (k_value, (l_value, tt)))))))))))) u (is_a, (is_b, (is_c, (is_d, (is_e, (is_f, (is_g, (is_h, (is_i, (is_j, (is_k, (is_l, tt)))))))))))) next
+
+pub returns-in-Ok-clause-only : goal.returns-in-Ok-clause-only
+returns-in-Ok-clause-only g c = λ a_value b_value c_value d_value e_value f_value g_value h_value i_value j_value k_value l_value u is_a is_b is_c is_d is_e is_f is_g is_h is_i is_j is_k is_l next.
+    c.in-Ok.ensures.only (a_value, (b_value, (c_value, (d_value, (e_value, (f_value, (g_value, (h_value, (i_value, (j_value, (k_value, (l_value, tt)))))))))))) u (is_a, (is_b, (is_c, (is_d, (is_e, (is_f, (is_g, (is_h, (is_i, (is_j, (is_k, (is_l, tt)))))))))))) next

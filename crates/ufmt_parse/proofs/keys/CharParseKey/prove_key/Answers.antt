@@ -6,7 +6,7 @@ use Rattle.ufmt.proofs.QuotedOneWay.{quoted_char_determines}
 use Rattle.ufmt_parse.proofs.keys.CharParseKey.prove_key.Goals as goal
 
 pub returns : goal.returns
-returns c = λ x y is_x is_y same.
+returns g c = λ x y is_x is_y same.
     let texts : quoted_char x ≡ quoted_char y = cc in
     let equal = quoted_char_determines x y [] [] is_x is_y (ap (λ (t : List ℕ). t ++ []) texts) in
     ap (nat_cmp x) (sym equal.0) ∙ tied_itself nat_cmp_total x

@@ -1,0 +1,118 @@
+-- A row of fields is the inside of a struct or of a tuple.
+use Rattle.std.proofs.Common.{◌≡◌, refl, ap, ◌∙◌, ℕ, suc, ◌+◌, ◌<◌, ◌≤◌, List, [], ◌∷◌, ◌++◌, length, codes, Result, arith}
+use Rattle.std.specs.Prelude.{zip}
+use Rattle.ufmt.specs.Document.{Document, documents, fields_of, nest_all, nest_fields, struct_of, tuple_of}
+use Rattle.ufmt.specs.Layout.{block_tail, field_texts, frame, inside, layout, texts, tuple_kind}
+use Rattle.ufmt.specs.Leaves.{IsWordOrEmpty}
+use Rattle.ufmt.specs.Token.{AreBuilt, FieldsAreBuilt}
+use Rattle.ufmt.specs.declared.class.Class.TheVariants.{Debug}
+use Rattle.ufmt_core.specs.declared.layout.Count.TheVariants.{Zero}
+use Rattle.ufmt_core.specs.declared.layout.Kind.{Kind}
+use Rattle.ufmt_core.specs.declared.layout.Kind.TheVariants.{Struct}
+use Rattle.ufmt_core.specs.declared.layout.Mode.{Mode}
+use Rattle.ufmt_core.specs.declared.layout.Setting.{Setting}
+use Rattle.ufmt_parse.specs.Rows.{row_texts, AllFit}
+use Rattle.ufmt_parse.specs.Taking.{setting_in, AreWords, Fits, Takes}
+use Rattle.ufmt_parse.specs.declared.parser.Fault.{Fault}
+use Rattle.ufmt_parse.proofs.Taken.{taken_as}
+use Rattle.ufmt_parse.proofs.Words.{word_is_name, word_is_tuple_name}
+
+-- ---- texts
+
+named_texts : (s : Setting) (names : List (List ℕ)) (ds : List Document) → length names ≡ length ds
+    → row_texts s names ds ≡ field_texts s (fields_of (zip names ds))
+named_texts s [] [] same = refl
+named_texts s [] (d ∷ ds) same = absurd (omega (arith, same))
+named_texts s (name ∷ names) [] same = absurd (omega (arith, same))
+named_texts s (name ∷ names) (d ∷ ds) same = ap (λ ts. (name ++ (codes ": " ++ layout s d)) ∷ ts) (named_texts s names ds (omega (arith, same)))
+
+unnamed_texts : (s : Setting) (ds : List Document) → row_texts s [] ds ≡ texts s (documents ds)
+unnamed_texts s [] = refl
+unnamed_texts s (d ∷ ds) = ap (λ ts. layout s d ∷ ts) (unnamed_texts s ds)
+
+-- ---- what fits in so many blocks
+
+fields_fit : (blocks : ℕ) (names : List (List ℕ)) (ds : List Document) → blocks ≤ 255 → AreWords names → length names ≡ length ds → AllFit blocks ds
+    → FieldsAreBuilt Debug (fields_of (zip names ds)) × (nest_fields (fields_of (zip names ds)) + blocks ≤ 255)
+fields_fit blocks [] [] most words same fit = (tt, omega (arith, most))
+fields_fit blocks [] (d ∷ ds) most words same fit = absurd (omega (arith, same))
+fields_fit blocks (name ∷ names) [] most words same fit = absurd (omega (arith, same))
+fields_fit blocks (name ∷ names) (d ∷ ds) most words same fit =
+    let rest = fields_fit blocks names ds most words.1 (omega (arith, same)) fit.1 in
+    ((word_is_name name words.0, fit.0.0, rest.0), omega (arith, fit.0.1, rest.1))
+
+each_field_fits : (blocks : ℕ) (names : List (List ℕ)) (ds : List Document) → length names ≡ length ds → FieldsAreBuilt Debug (fields_of (zip names ds))
+    → nest_fields (fields_of (zip names ds)) + blocks ≤ 255 → AllFit blocks ds
+each_field_fits blocks [] [] same built nested = tt
+each_field_fits blocks [] (d ∷ ds) same built nested = absurd (omega (arith, same))
+each_field_fits blocks (name ∷ names) [] same built nested = absurd (omega (arith, same))
+each_field_fits blocks (name ∷ names) (d ∷ ds) same built nested =
+    ((built.1, omega (arith, nested)), each_field_fits blocks names ds (omega (arith, same)) built.2 (omega (arith, nested)))
+
+entries_fit : (blocks : ℕ) (ds : List Document) → blocks ≤ 255 → AllFit blocks ds → AreBuilt Debug (documents ds) × (nest_all (documents ds) + blocks ≤ 255)
+entries_fit blocks [] most fit = (tt, omega (arith, most))
+entries_fit blocks (d ∷ ds) most fit =
+    let rest = entries_fit blocks ds most fit.1 in ((fit.0.0, rest.0), omega (arith, fit.0.1, rest.1))
+
+each_entry_fits : (blocks : ℕ) (ds : List Document) → AreBuilt Debug (documents ds) → nest_all (documents ds) + blocks ≤ 255 → AllFit blocks ds
+each_entry_fits blocks [] built nested = tt
+each_entry_fits blocks (d ∷ ds) built nested = ((built.0, omega (arith, nested)), each_entry_fits blocks ds built.1 (omega (arith, nested)))
+
+-- ---- blocks with a first field
+
+module _ (blocks : ℕ) (name : List ℕ) (d : Document) (ds : List Document) where
+  struct_fits : (names : List (List ℕ)) → AreWords (name ∷ names) → length names ≡ suc (length ds) → AllFit (suc blocks) (d ∷ ds) → blocks < 255
+      → Fits blocks (struct_of name (fields_of (zip names (d ∷ ds))))
+  struct_fits [] words same fit few = absurd (omega (arith, same))
+  struct_fits (first ∷ names) words same fit few =
+      let fields = fields_fit (suc blocks) (first ∷ names) (d ∷ ds) few words.1 same fit in
+      ((word_is_name name words.0, fields.0), omega (arith, fields.1))
+
+  struct_apart : (names : List (List ℕ)) → length names ≡ suc (length ds) → Fits blocks (struct_of name (fields_of (zip names (d ∷ ds))))
+      → AllFit (suc blocks) (d ∷ ds) × (blocks < 255)
+  struct_apart [] same fits = absurd (omega (arith, same))
+  struct_apart (first ∷ names) same fits = (
+    each_field_fits (suc blocks) (first ∷ names) (d ∷ ds) same fits.0.1 (omega (arith, fits.1)),
+    omega (arith, fits.1),
+  )
+
+  tuple_fits : IsWordOrEmpty name → AllFit (suc blocks) (d ∷ ds) → blocks < 255 → Fits blocks (tuple_of name (documents (d ∷ ds)))
+  tuple_fits is fit few =
+      let entries = entries_fit (suc blocks) (d ∷ ds) few fit in ((word_is_tuple_name name is, entries.0.0, entries.0.1), omega (arith, entries.1))
+
+  tuple_apart : Fits blocks (tuple_of name (documents (d ∷ ds))) → AllFit (suc blocks) (d ∷ ds) × (blocks < 255)
+  tuple_apart fits = (each_entry_fits (suc blocks) (d ∷ ds) (fits.0.1, fits.0.2) (omega (arith, fits.1)), omega (arith, fits.1))
+
+-- ---- what is taken
+
+module _ {R : Type 0} (are : R → Type 0) (first : R → Document) (others : R → List Document) (mode : Mode) (blocks : ℕ) (name : List ℕ) where
+  abbrev IsRow : R → Type 0
+  IsRow v = (are v × AllFit (suc blocks) (first v ∷ others v)) × (blocks < 255)
+
+  abbrev text_in : Kind → List (List ℕ) → List ℕ
+  text_in kind fields = name ++ ((frame mode kind).opening ++ block_tail (frame mode kind) (setting_in mode blocks) Zero fields)
+
+  abbrev RowTaken : Kind → List (List ℕ) → List ℕ → Result R Fault → List ℕ → Type 0
+  RowTaken kind names old outcome new = Takes IsRow (λ v. text_in kind (row_texts (inside (setting_in mode blocks)) names (first v ∷ others v))) old outcome new
+
+  -- a struct with such a row of fields
+  pub struct_row : {old : List ℕ} {outcome : Result R Fault} {new : List ℕ} (names : List (List ℕ)) → AreWords (name ∷ names)
+      → ((v : R) → length names ≡ suc (length (others v))) → RowTaken Struct names old outcome new
+      → Takes (λ v. are v × Fits blocks (struct_of name (fields_of (zip names (first v ∷ others v)))))
+      (λ v. layout (setting_in mode blocks) (struct_of name (fields_of (zip names (first v ∷ others v))))) old outcome new
+  struct_row names words counted takes =
+      taken_as (λ v is. (is.0.0, struct_fits blocks name (first v) (others v) names words (counted v) is.0.1 is.1))
+      (λ v is. let apart = struct_apart blocks name (first v) (others v) names (counted v) is.1 in ((is.0, apart.0), apart.1))
+      (λ v. ap (text_in Struct) (named_texts (inside (setting_in mode blocks)) names (first v ∷ others v) (counted v)))
+      takes
+
+  -- a tuple with such a row of fields
+  pub tuple_row : {old : List ℕ} {outcome : Result R Fault} {new : List ℕ} {kind : Kind} → kind ≡ tuple_kind name → IsWordOrEmpty name → RowTaken kind [] old outcome new
+      → Takes (λ v. are v × Fits blocks (tuple_of name (documents (first v ∷ others v))))
+      (λ v. layout (setting_in mode blocks) (tuple_of name (documents (first v ∷ others v)))) old outcome new
+  tuple_row is_kind is_name takes =
+      taken_as (λ v is. (is.0.0, tuple_fits blocks name (first v) (others v) is_name is.0.1 is.1))
+      (λ v is. let apart = tuple_apart blocks name (first v) (others v) is.1 in ((is.0, apart.0), apart.1))
+      (λ v. ap (λ k. text_in k (row_texts (inside (setting_in mode blocks)) [] (first v ∷ others v))) is_kind
+      ∙ ap (text_in (tuple_kind name)) (unnamed_texts (inside (setting_in mode blocks)) (first v ∷ others v)))
+      takes

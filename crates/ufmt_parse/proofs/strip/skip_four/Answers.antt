@@ -1,0 +1,15 @@
+use Rattle.std.proofs.Common.{arith}
+use Rattle.ufmt_parse.proofs.Chunks.{other_chunk, same_chunk}
+use Rattle.ufmt_parse.proofs.strip.skip_four.Goals as goal
+
+pub returns-then-same_four : goal.returns-then-same_four
+returns-then-same_four c =
+    let word = c.in-Some.ensures.cases in
+    let front = c.in_ok-front.ensures.cases in
+    rw (word.1, front.1) (same_chunk 4 c.args.piece.now c.args.input.now c.in_ok-front.front.now c.in-Some.word.now word.0 front.0 (rw c.if-same_four.true at c.same_four.ensures))
+
+pub returns-else-same_four : goal.returns-else-same_four
+returns-else-same_four c =
+    let word = c.in-Some.ensures.cases in
+    let front = c.in_ok-front.ensures.cases in
+    other_chunk 4 c.args.piece.now c.args.input.now c.in_ok-front.front.now c.in-Some.word.now word.0 front.0 (omega (arith, word.2)) (rw c.if-same_four.false at c.same_four.ensures)

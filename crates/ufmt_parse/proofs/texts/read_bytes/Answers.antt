@@ -1,0 +1,12 @@
+use Rattle.std.proofs.Common.{◌∙◌, refl}
+use Rattle.ufmt_parse.proofs.SpelledTexts.{byte_read, never_closes}
+use Rattle.ufmt_parse.proofs.texts.read_bytes.Goals as goal
+
+pub returns-in-None : goal.returns-in-None
+returns-in-None g c = never_closes c.push_stretch.new.bytes.items c.in_ok-end.end.now c.args.input.now (c.in_ok-end.ensures.whole ∙ c.escapes.invariant) c.in_default.ensures
+    (c.in-None.ensures.none refl)
+
+pub escapes-preserved : goal.escapes-preserved
+escapes-preserved g c =
+    byte_read c.in-Some-split_escaped.byte c.push_stretch.new.bytes.items c.push.new.self.items c.in_ok-end.end.now c.in-Some-split_escaped.after.now
+    c.in_ok-push-in-Some-split_escaped.ensures.items c.in-Some-split_escaped.ensures.some ∙ c.in_ok-end.ensures.whole ∙ c.escapes.invariant

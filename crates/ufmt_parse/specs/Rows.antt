@@ -1,0 +1,22 @@
+-- Rows of fields: their names, if they have names, and their documents.
+use Rattle.std.specs.Prelude.{ℕ, List, [], ◌∷◌, ◌++◌, codes, map, ⊤}
+use Rattle.std.specs.Borrow.{Bor}
+use Rattle.ufmt.specs.Document.{Document}
+use Rattle.ufmt.specs.Layout.{layout}
+use Rattle.ufmt_core.specs.declared.layout.Setting.{Setting}
+use Rattle.ufmt_parse.specs.Taking.{Fits}
+
+-- the texts that these references are to
+abbrev pub all_now : List (Bor (List ℕ)) → List (List ℕ)
+all_now names = map (λ name. name.now) names
+
+-- the fields' texts, each after its name as far as there are names
+abbrev pub row_texts : Setting → List (List ℕ) → List Document → List (List ℕ)
+row_texts s names [] = []
+row_texts s [] (d ∷ ds) = layout s d ∷ row_texts s [] ds
+row_texts s (name ∷ names) (d ∷ ds) = (name ++ (codes ": " ++ layout s d)) ∷ row_texts s names ds
+
+-- each is a debug document that may be inside so many blocks
+abbrev pub AllFit : ℕ → List Document → Type 0
+AllFit blocks [] = ⊤
+AllFit blocks (d ∷ ds) = Fits blocks d × AllFit blocks ds

@@ -1,0 +1,16 @@
+-- Bytes as they are written between quotation marks.
+use Rattle.std.specs.Prelude.{◌≢◌, ◌==◌, ◌&&◌, Bool, true, not, nat_le, nat_lt, List, ℕ, [], ◌∷◌, ◌++◌}
+use Rattle.ufmt_core.specs.Bytes.{quotation_mark}
+use Rattle.ufmt_core.specs.Quoted.{escaped_bytes}
+
+-- no closing quotation mark follows bytes that are written so
+abbrev pub NeverCloses : List ℕ → Type 0
+NeverCloses t = (bytes rest : List ℕ) → t ≢ escaped_bytes quotation_mark bytes ++ (quotation_mark ∷ rest)
+
+-- the byte is ASCII, and written as itself
+abbrev pub is_plain : ℕ → Bool
+is_plain b = ((nat_le 32 b && nat_lt b 127) && not (b == 34)) && not (b == 92)
+
+abbrev pub all_plain : List ℕ → Bool
+all_plain [] = true
+all_plain (b ∷ bs) = is_plain b && all_plain bs

@@ -1,0 +1,305 @@
+//! Tuples whose fields are each parsed by a parser. tools/write-by-count writes this file: change it there.
+ghost use Rattle.std.specs.Prelude.{◌≤◌, ◌<◌, length, [], ◌∷◌, ◌≡◌, List, ℕ, suc, IfOk, IfErr};
+ghost use Rattle.ufmt.specs.Document.{documents, tuple_of};
+ghost use Rattle.ufmt.specs.Leaves.{IsWordOrEmpty};
+ghost use Rattle.ufmt_parse.specs.Taking.{IsNext, IsTaken, open_blocks, rest};
+
+use crate::entries::Value;
+use crate::fields::parse_block;
+use crate::from_front::ParsesBy;
+use crate::mode::ParseMode;
+use crate::parser::{Fault, Parser};
+use ufmt::layout::Kind;
+use ufmt::uDebug;
+
+/// Takes a tuple, its field by a parser.
+pub fn parse_tuple_1_by<Alloc: Copy, M: ParseMode, A: uDebug + Drop, P: ParsesBy<Alloc, M, A>>(
+    alloc: Alloc,
+    parser: &mut Parser<'_, M>,
+    name: &str,
+    a_by: &P,
+) -> Result<A, Fault>
+    requires words { IsWordOrEmpty name.now }
+    requires ready { open_blocks parser.old < 255 → P.ready a_by.now (suc (open_blocks parser.old)) }
+    ensures values { IfOk result (λ v. P.is_value v) }
+    ensures taken { IfOk result (λ v. IsTaken M.mode parser.old (tuple_of name.now (documents
+        (A.document v ∷ []))) parser.new) }
+    ensures only { IfOk result (λ _. (a_value : A) (u : List ℕ) → P.is_value a_value
+        → IsNext M.mode parser.old (tuple_of name.now (documents (A.document a_value ∷ []))) u
+        → u ≡ rest parser.new) }
+    ensures none { IfErr result (λ fault. fault ≡ Fault.NotText → (a_value : A) (u : List ℕ)
+        → P.is_value a_value → ¬ IsNext M.mode parser.old (tuple_of name.now (documents
+        (A.document a_value ∷ []))) u) }
+    ensures memory { P.holds_no_memory → IfErr result (λ fault. fault ≡ Fault.NotText) }
+    ensures blocks { IfOk result (λ _. open_blocks parser.new ≡ open_blocks parser.old) }
+    ensures shrinks { length (rest parser.new) ≤ length (rest parser.old) }
+{
+    let fields = (Value(a_by), ());
+    match parse_block(alloc, parser, Kind::tuple(name), name, &fields) {
+        Err(fault) => Err(fault),
+        Ok((a_value, ())) => Ok(a_value),
+    }
+}
+
+/// Takes a tuple, each of its 2 fields by a parser.
+pub fn parse_tuple_2_by<
+    Alloc: Copy,
+    M: ParseMode,
+    A: uDebug + Drop,
+    B: uDebug + Drop,
+    P: ParsesBy<Alloc, M, A>,
+    Q: ParsesBy<Alloc, M, B>,
+>(alloc: Alloc, parser: &mut Parser<'_, M>, name: &str, a_by: &P, b_by: &Q) -> Result<(A, B), Fault>
+    requires words { IsWordOrEmpty name.now }
+    requires ready { open_blocks parser.old < 255 → P.ready a_by.now (suc (open_blocks parser.old))
+        × Q.ready b_by.now (suc (open_blocks parser.old)) }
+    ensures values { IfOk result (λ v. P.is_value v.0 × Q.is_value v.1) }
+    ensures taken { IfOk result (λ v. IsTaken M.mode parser.old (tuple_of name.now (documents
+        (A.document v.0 ∷ B.document v.1 ∷ []))) parser.new) }
+    ensures only { IfOk result (λ _. (a_value : A) (b_value : B) (u : List ℕ) → P.is_value a_value
+        → Q.is_value b_value → IsNext M.mode parser.old (tuple_of name.now (documents
+        (A.document a_value ∷ B.document b_value ∷ []))) u → u ≡ rest parser.new) }
+    ensures none { IfErr result (λ fault. fault ≡ Fault.NotText → (a_value : A) (b_value : B)
+        (u : List ℕ) → P.is_value a_value → Q.is_value b_value → ¬ IsNext M.mode parser.old
+        (tuple_of name.now (documents (A.document a_value ∷ B.document b_value ∷ []))) u) }
+    ensures memory { P.holds_no_memory × Q.holds_no_memory → IfErr result (λ fault.
+        fault ≡ Fault.NotText) }
+    ensures blocks { IfOk result (λ _. open_blocks parser.new ≡ open_blocks parser.old) }
+    ensures shrinks { length (rest parser.new) ≤ length (rest parser.old) }
+{
+    let fields = (Value(a_by), (Value(b_by), ()));
+    match parse_block(alloc, parser, Kind::tuple(name), name, &fields) {
+        Err(fault) => Err(fault),
+        Ok((a_value, (b_value, ()))) => Ok((a_value, b_value)),
+    }
+}
+
+/// Takes a tuple, each of its 3 fields by a parser.
+pub fn parse_tuple_3_by<
+    Alloc: Copy,
+    M: ParseMode,
+    A: uDebug + Drop,
+    B: uDebug + Drop,
+    C: uDebug + Drop,
+    P: ParsesBy<Alloc, M, A>,
+    Q: ParsesBy<Alloc, M, B>,
+    R: ParsesBy<Alloc, M, C>,
+>(
+    alloc: Alloc,
+    parser: &mut Parser<'_, M>,
+    name: &str,
+    a_by: &P,
+    b_by: &Q,
+    c_by: &R,
+) -> Result<(A, B, C), Fault>
+    requires words { IsWordOrEmpty name.now }
+    requires ready { open_blocks parser.old < 255 → P.ready a_by.now (suc (open_blocks parser.old))
+        × Q.ready b_by.now (suc (open_blocks parser.old))
+        × R.ready c_by.now (suc (open_blocks parser.old)) }
+    ensures values { IfOk result (λ v. P.is_value v.0 × Q.is_value v.1 × R.is_value v.2) }
+    ensures taken { IfOk result (λ v. IsTaken M.mode parser.old (tuple_of name.now (documents
+        (A.document v.0 ∷ B.document v.1 ∷ C.document v.2 ∷ []))) parser.new) }
+    ensures only { IfOk result (λ _. (a_value : A) (b_value : B) (c_value : C) (u : List ℕ)
+        → P.is_value a_value → Q.is_value b_value → R.is_value c_value → IsNext M.mode parser.old
+        (tuple_of name.now (documents (A.document a_value ∷ B.document b_value ∷ C.document c_value
+        ∷ []))) u → u ≡ rest parser.new) }
+    ensures none { IfErr result (λ fault. fault ≡ Fault.NotText → (a_value : A) (b_value : B)
+        (c_value : C) (u : List ℕ) → P.is_value a_value → Q.is_value b_value → R.is_value c_value
+        → ¬ IsNext M.mode parser.old (tuple_of name.now (documents (A.document a_value
+        ∷ B.document b_value ∷ C.document c_value ∷ []))) u) }
+    ensures memory { P.holds_no_memory × Q.holds_no_memory × R.holds_no_memory
+        → IfErr result (λ fault. fault ≡ Fault.NotText) }
+    ensures blocks { IfOk result (λ _. open_blocks parser.new ≡ open_blocks parser.old) }
+    ensures shrinks { length (rest parser.new) ≤ length (rest parser.old) }
+{
+    let fields = (Value(a_by), (Value(b_by), (Value(c_by), ())));
+    match parse_block(alloc, parser, Kind::tuple(name), name, &fields) {
+        Err(fault) => Err(fault),
+        Ok((a_value, (b_value, (c_value, ())))) => Ok((a_value, b_value, c_value)),
+    }
+}
+
+/// Takes a tuple, each of its 4 fields by a parser.
+pub fn parse_tuple_4_by<
+    Alloc: Copy,
+    M: ParseMode,
+    A: uDebug + Drop,
+    B: uDebug + Drop,
+    C: uDebug + Drop,
+    D: uDebug + Drop,
+    P: ParsesBy<Alloc, M, A>,
+    Q: ParsesBy<Alloc, M, B>,
+    R: ParsesBy<Alloc, M, C>,
+    S: ParsesBy<Alloc, M, D>,
+>(
+    alloc: Alloc,
+    parser: &mut Parser<'_, M>,
+    name: &str,
+    a_by: &P,
+    b_by: &Q,
+    c_by: &R,
+    d_by: &S,
+) -> Result<(A, B, C, D), Fault>
+    requires words { IsWordOrEmpty name.now }
+    requires ready { open_blocks parser.old < 255 → P.ready a_by.now (suc (open_blocks parser.old))
+        × Q.ready b_by.now (suc (open_blocks parser.old))
+        × R.ready c_by.now (suc (open_blocks parser.old))
+        × S.ready d_by.now (suc (open_blocks parser.old)) }
+    ensures values { IfOk result (λ v. P.is_value v.0 × Q.is_value v.1 × R.is_value v.2 × S.is_value v.3) }
+    ensures taken { IfOk result (λ v. IsTaken M.mode parser.old (tuple_of name.now (documents
+        (A.document v.0 ∷ B.document v.1 ∷ C.document v.2 ∷ D.document v.3 ∷ []))) parser.new) }
+    ensures only { IfOk result (λ _. (a_value : A) (b_value : B) (c_value : C) (d_value : D)
+        (u : List ℕ) → P.is_value a_value → Q.is_value b_value → R.is_value c_value
+        → S.is_value d_value → IsNext M.mode parser.old (tuple_of name.now (documents
+        (A.document a_value ∷ B.document b_value ∷ C.document c_value ∷ D.document d_value ∷ []))) u
+        → u ≡ rest parser.new) }
+    ensures none { IfErr result (λ fault. fault ≡ Fault.NotText → (a_value : A) (b_value : B)
+        (c_value : C) (d_value : D) (u : List ℕ) → P.is_value a_value → Q.is_value b_value
+        → R.is_value c_value → S.is_value d_value → ¬ IsNext M.mode parser.old
+        (tuple_of name.now (documents (A.document a_value ∷ B.document b_value ∷ C.document c_value
+        ∷ D.document d_value ∷ []))) u) }
+    ensures memory { P.holds_no_memory × Q.holds_no_memory × R.holds_no_memory × S.holds_no_memory
+        → IfErr result (λ fault. fault ≡ Fault.NotText) }
+    ensures blocks { IfOk result (λ _. open_blocks parser.new ≡ open_blocks parser.old) }
+    ensures shrinks { length (rest parser.new) ≤ length (rest parser.old) }
+{
+    let fields = (Value(a_by), (Value(b_by), (Value(c_by), (Value(d_by), ()))));
+    match parse_block(alloc, parser, Kind::tuple(name), name, &fields) {
+        Err(fault) => Err(fault),
+        Ok((a_value, (b_value, (c_value, (d_value, ()))))) => Ok((
+            a_value, b_value, c_value, d_value,
+        )),
+    }
+}
+
+/// Takes a tuple, each of its 5 fields by a parser.
+pub fn parse_tuple_5_by<
+    Alloc: Copy,
+    M: ParseMode,
+    A: uDebug + Drop,
+    B: uDebug + Drop,
+    C: uDebug + Drop,
+    D: uDebug + Drop,
+    E: uDebug + Drop,
+    P: ParsesBy<Alloc, M, A>,
+    Q: ParsesBy<Alloc, M, B>,
+    R: ParsesBy<Alloc, M, C>,
+    S: ParsesBy<Alloc, M, D>,
+    T: ParsesBy<Alloc, M, E>,
+>(
+    alloc: Alloc,
+    parser: &mut Parser<'_, M>,
+    name: &str,
+    a_by: &P,
+    b_by: &Q,
+    c_by: &R,
+    d_by: &S,
+    e_by: &T,
+) -> Result<(A, B, C, D, E), Fault>
+    requires words { IsWordOrEmpty name.now }
+    requires ready { open_blocks parser.old < 255 → P.ready a_by.now (suc (open_blocks parser.old))
+        × Q.ready b_by.now (suc (open_blocks parser.old))
+        × R.ready c_by.now (suc (open_blocks parser.old))
+        × S.ready d_by.now (suc (open_blocks parser.old))
+        × T.ready e_by.now (suc (open_blocks parser.old)) }
+    ensures values { IfOk result (λ v. P.is_value v.0 × Q.is_value v.1 × R.is_value v.2 × S.is_value v.3 × T.is_value v.4) }
+    ensures taken { IfOk result (λ v. IsTaken M.mode parser.old (tuple_of name.now (documents
+        (A.document v.0 ∷ B.document v.1 ∷ C.document v.2 ∷ D.document v.3 ∷ E.document v.4 ∷ [])))
+        parser.new) }
+    ensures only { IfOk result (λ _. (a_value : A) (b_value : B) (c_value : C) (d_value : D)
+        (e_value : E) (u : List ℕ) → P.is_value a_value → Q.is_value b_value → R.is_value c_value
+        → S.is_value d_value → T.is_value e_value → IsNext M.mode parser.old
+        (tuple_of name.now (documents (A.document a_value ∷ B.document b_value ∷ C.document c_value
+        ∷ D.document d_value ∷ E.document e_value ∷ []))) u → u ≡ rest parser.new) }
+    ensures none { IfErr result (λ fault. fault ≡ Fault.NotText → (a_value : A) (b_value : B)
+        (c_value : C) (d_value : D) (e_value : E) (u : List ℕ) → P.is_value a_value
+        → Q.is_value b_value → R.is_value c_value → S.is_value d_value → T.is_value e_value
+        → ¬ IsNext M.mode parser.old (tuple_of name.now (documents (A.document a_value
+        ∷ B.document b_value ∷ C.document c_value ∷ D.document d_value ∷ E.document e_value ∷ [])))
+        u) }
+    ensures memory { P.holds_no_memory × Q.holds_no_memory × R.holds_no_memory × S.holds_no_memory
+        × T.holds_no_memory → IfErr result (λ fault. fault ≡ Fault.NotText) }
+    ensures blocks { IfOk result (λ _. open_blocks parser.new ≡ open_blocks parser.old) }
+    ensures shrinks { length (rest parser.new) ≤ length (rest parser.old) }
+{
+    let fields = (
+        Value(a_by),
+        (Value(b_by), (Value(c_by), (Value(d_by), (Value(e_by), ())))),
+    );
+    match parse_block(alloc, parser, Kind::tuple(name), name, &fields) {
+        Err(fault) => Err(fault),
+        Ok((a_value, (b_value, (c_value, (d_value, (e_value, ())))))) => Ok((
+            a_value, b_value, c_value, d_value, e_value,
+        )),
+    }
+}
+
+/// Takes a tuple, each of its 6 fields by a parser.
+pub fn parse_tuple_6_by<
+    Alloc: Copy,
+    M: ParseMode,
+    A: uDebug + Drop,
+    B: uDebug + Drop,
+    C: uDebug + Drop,
+    D: uDebug + Drop,
+    E: uDebug + Drop,
+    F: uDebug + Drop,
+    P: ParsesBy<Alloc, M, A>,
+    Q: ParsesBy<Alloc, M, B>,
+    R: ParsesBy<Alloc, M, C>,
+    S: ParsesBy<Alloc, M, D>,
+    T: ParsesBy<Alloc, M, E>,
+    U: ParsesBy<Alloc, M, F>,
+>(
+    alloc: Alloc,
+    parser: &mut Parser<'_, M>,
+    name: &str,
+    a_by: &P,
+    b_by: &Q,
+    c_by: &R,
+    d_by: &S,
+    e_by: &T,
+    f_by: &U,
+) -> Result<(A, B, C, D, E, F), Fault>
+    requires words { IsWordOrEmpty name.now }
+    requires ready { open_blocks parser.old < 255 → P.ready a_by.now (suc (open_blocks parser.old))
+        × Q.ready b_by.now (suc (open_blocks parser.old))
+        × R.ready c_by.now (suc (open_blocks parser.old))
+        × S.ready d_by.now (suc (open_blocks parser.old))
+        × T.ready e_by.now (suc (open_blocks parser.old))
+        × U.ready f_by.now (suc (open_blocks parser.old)) }
+    ensures values { IfOk result (λ v. P.is_value v.0 × Q.is_value v.1 × R.is_value v.2 × S.is_value v.3 × T.is_value v.4 × U.is_value v.5) }
+    ensures taken { IfOk result (λ v. IsTaken M.mode parser.old (tuple_of name.now (documents
+        (A.document v.0 ∷ B.document v.1 ∷ C.document v.2 ∷ D.document v.3 ∷ E.document v.4
+        ∷ F.document v.5 ∷ []))) parser.new) }
+    ensures only { IfOk result (λ _. (a_value : A) (b_value : B) (c_value : C) (d_value : D)
+        (e_value : E) (f_value : F) (u : List ℕ) → P.is_value a_value → Q.is_value b_value
+        → R.is_value c_value → S.is_value d_value → T.is_value e_value → U.is_value f_value
+        → IsNext M.mode parser.old (tuple_of name.now (documents (A.document a_value
+        ∷ B.document b_value ∷ C.document c_value ∷ D.document d_value ∷ E.document e_value
+        ∷ F.document f_value ∷ []))) u → u ≡ rest parser.new) }
+    ensures none { IfErr result (λ fault. fault ≡ Fault.NotText → (a_value : A) (b_value : B)
+        (c_value : C) (d_value : D) (e_value : E) (f_value : F) (u : List ℕ) → P.is_value a_value
+        → Q.is_value b_value → R.is_value c_value → S.is_value d_value → T.is_value e_value
+        → U.is_value f_value → ¬ IsNext M.mode parser.old (tuple_of name.now (documents
+        (A.document a_value ∷ B.document b_value ∷ C.document c_value ∷ D.document d_value
+        ∷ E.document e_value ∷ F.document f_value ∷ []))) u) }
+    ensures memory { P.holds_no_memory × Q.holds_no_memory × R.holds_no_memory × S.holds_no_memory
+        × T.holds_no_memory × U.holds_no_memory → IfErr result (λ fault. fault ≡ Fault.NotText) }
+    ensures blocks { IfOk result (λ _. open_blocks parser.new ≡ open_blocks parser.old) }
+    ensures shrinks { length (rest parser.new) ≤ length (rest parser.old) }
+{
+    let fields = (
+        Value(a_by),
+        (
+            Value(b_by),
+            (Value(c_by), (Value(d_by), (Value(e_by), (Value(f_by), ())))),
+        ),
+    );
+    match parse_block(alloc, parser, Kind::tuple(name), name, &fields) {
+        Err(fault) => Err(fault),
+        Ok((a_value, (b_value, (c_value, (d_value, (e_value, (f_value, ()))))))) => Ok((
+            a_value, b_value, c_value, d_value, e_value, f_value,
+        )),
+    }
+}

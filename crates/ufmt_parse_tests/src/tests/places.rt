@@ -1,0 +1,214 @@
+//! Tests of where a text that isn't parsed stops fitting: the bytes that were taken before the piece that
+//! doesn't fit, and the line and column of that place.
+use super::same;
+use std::alloc::Global;
+use std::collections::{BTreeMap, BTreeSet};
+use ufmt_examples::Set;
+use ufmt_parse::ParseError::NotText;
+use ufmt_parse::{ParseError, line_and_column, parse, parse_pretty, uParse};
+
+// Where a plain text stops fitting.
+fn place_of<T: uParse<Global>>(alloc: Global, text: &str) -> Option<usize> {
+    match parse::<T, Global>(alloc, text.as_bytes()) {
+        Err(NotText { at }) => Some(at),
+        _ => None,
+    }
+}
+
+// The same of a pretty text, with its line and column.
+fn pretty_place_of<T: uParse<Global>>(
+    alloc: Global,
+    text: &str,
+) -> Option<(usize, (usize, usize))> {
+    match parse_pretty::<T, Global>(alloc, text.as_bytes()) {
+        Err(NotText { at }) => Some((at, line_and_column(text.as_bytes(), at))),
+        _ => None,
+    }
+}
+
+#[test]
+fn a_plain_struct_stops_fitting_at_a_piece(rt: HostRuntime) {
+    let rows = [
+        // Another name, and another name of a field.
+        ("Sat { channel: 3, level: -4 }", Some(0)),
+        ("Set { chanel: 3, level: -4 }", Some(6)),
+        // A field is missing.
+        ("Set { channel: 3 }", Some(16)),
+        // A number is too large, or has a zero too many.
+        ("Set { channel: 256, level: -4 }", Some(15)),
+        ("Set { channel: 3, level: -04 }", Some(25)),
+        // A comma is missing, and a space.
+        ("Set { channel: 3 level: -4 }", Some(16)),
+        ("Set { channel: 3,level: -4 }", Some(16)),
+        // The end is missing, and text comes after it.
+        ("Set { channel: 3, level: -4", Some(27)),
+        ("Set { channel: 3, level: -4 } ", Some(29)),
+        ("Set { channel: 3, level: -4 }", None),
+    ];
+    for (text, wanted) in rows {
+        same(&rt, place_of::<Set>(rt.alloc(), text), wanted, text);
+    }
+}
+
+#[test]
+fn plain_lists_and_texts_stop_fitting_at_a_piece(rt: HostRuntime) {
+    let lists = [
+        ("[1, 2", Some(5)),
+        ("[1, 2,]", Some(5)),
+        ("[1 2]", Some(2)),
+        ("[1, 256]", Some(4)),
+        ("[1, 2]]", Some(6)),
+        ("[", Some(1)),
+        ("1, 2]", Some(0)),
+    ];
+    for (text, wanted) in lists {
+        same(&rt, place_of::<Vec<u8>>(rt.alloc(), text), wanted, text);
+    }
+    // A text in quotation marks is one piece.
+    let texts = [
+        ("[\"a\", \"b]", Some(6)),
+        ("[\"a\", \"\\q\"]", Some(6)),
+        ("[\"a\", b\"]", Some(6)),
+        ("[\"a\" \"b\"]", Some(4)),
+    ];
+    for (text, wanted) in texts {
+        same(&rt, place_of::<Vec<String>>(rt.alloc(), text), wanted, text);
+    }
+}
+
+#[test]
+fn blocks_that_are_read_whole_stop_fitting_where_they_begin(rt: HostRuntime) {
+    let alloc = rt.alloc();
+    let sets = [
+        ("[{1, 2", Some(6)),
+        ("[{1, 2}", Some(7)),
+        ("[{2, 1}]", Some(1)),
+        ("[{1}, {2, 2}]", Some(6)),
+    ];
+    for (text, wanted) in sets {
+        same(
+            &rt,
+            place_of::<Vec<BTreeSet<u8>>>(alloc, text),
+            wanted,
+            text,
+        );
+    }
+    let maps = [
+        ("({1: true, 2 false},)", Some(12)),
+        ("({1: true, 2: 0},)", Some(14)),
+        ("({2: true, 1: false},)", Some(1)),
+    ];
+    for (text, wanted) in maps {
+        same(
+            &rt,
+            place_of::<(BTreeMap<u8, bool>,)>(alloc, text),
+            wanted,
+            text,
+        );
+    }
+    let arrays = [
+        ("Some([1, 2, 3])", Some(5)),
+        ("Some([1])", Some(5)),
+        ("Some([1, 2)", Some(10)),
+    ];
+    for (text, wanted) in arrays {
+        same(&rt, place_of::<Option<[u8; 2]>>(alloc, text), wanted, text);
+    }
+}
+
+#[test]
+fn a_pretty_text_stops_fitting_in_a_line_and_a_column(rt: HostRuntime) {
+    let alloc = rt.alloc();
+    let rows = [
+        (
+            "Sat {\n    channel: 3,\n    level: -4,\n}",
+            Some((0, (1, 1))),
+        ),
+        (
+            "Set {\n    chanel: 3,\n    level: -4,\n}",
+            Some((10, (2, 5))),
+        ),
+        // What comes before an entry, as ` {`, a line feed and the indentation, is one piece.
+        ("Set {\n    channel: 3,\n}", Some((22, (3, 1)))),
+        (
+            "Set {\n   channel: 3,\n    level: -4,\n}",
+            Some((3, (1, 4))),
+        ),
+        (
+            "Set {\n    channel: 256,\n    level: -4,\n}",
+            Some((19, (2, 14))),
+        ),
+        (
+            "Set {\n    channel: 3\n    level: -4,\n}",
+            Some((20, (2, 15))),
+        ),
+        (
+            "Set {\n    channel: 3,\n    level: -4,\n",
+            Some((37, (4, 1))),
+        ),
+        (
+            "Set {\n    channel: 3,\n    level: -4,\n}\n",
+            Some((38, (4, 2))),
+        ),
+        ("Set { channel: 3, level: -4 }", Some((3, (1, 4)))),
+        ("Set {\n    channel: 3,\n    level: -4,\n}", None),
+    ];
+    for (text, wanted) in rows {
+        same(&rt, pretty_place_of::<Set>(alloc, text), wanted, text);
+    }
+    let texts = [
+        ("[\n    \"µ\",\n    \"b,\n]", Some((16, (3, 5)))),
+        ("[\n    \"µ\",\n    \"\\q\",\n]", Some((16, (3, 5)))),
+        ("[\n    \"µ\"\n    \"b\",\n]", Some((10, (2, 8)))),
+        ("[\n    \"µ\",\n    \"b\",", Some((19, (3, 8)))),
+    ];
+    for (text, wanted) in texts {
+        same(
+            &rt,
+            pretty_place_of::<Vec<String>>(alloc, text),
+            wanted,
+            text,
+        );
+    }
+    let maps = [
+        (
+            "[\n    {\n        1: true,\n        0: true,\n    },\n]",
+            Some((6, (2, 5))),
+        ),
+        (
+            "[\n    {\n        1: true,\n        2 true,\n    },\n]",
+            Some((34, (4, 10))),
+        ),
+    ];
+    for (text, wanted) in maps {
+        same(
+            &rt,
+            pretty_place_of::<Vec<BTreeMap<u8, bool>>>(alloc, text),
+            wanted,
+            text,
+        );
+    }
+}
+
+#[test]
+fn lines_and_columns_are_counted_from_one(rt: HostRuntime) {
+    let rows = [
+        ("", 0, (1, 1)),
+        ("", 5, (1, 1)),
+        ("ab", 1, (1, 2)),
+        ("ab", 9, (1, 3)),
+        ("a\nb", 1, (1, 2)),
+        ("a\nb", 2, (2, 1)),
+        ("a\n\nb", 3, (3, 1)),
+        ("a\n\nb", 4, (3, 2)),
+        // Two bytes, and then three, are one character.
+        ("µ€x", 2, (1, 2)),
+        ("µ€x", 5, (1, 3)),
+        ("µ€x", 6, (1, 4)),
+        // A carriage return is a character of its line.
+        ("a\r\nb", 2, (1, 3)),
+    ];
+    for (text, at, wanted) in rows {
+        same(&rt, line_and_column(text.as_bytes(), at), wanted, text);
+    }
+}

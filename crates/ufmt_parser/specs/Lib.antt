@@ -1,5 +1,0 @@
-pub mod Blocks
-pub mod Digits
-pub mod Spelling
-pub mod Taking
-pub mod Values
