@@ -254,7 +254,8 @@ def no_texts():
         "an open list of numbers": lambda size: "[" + ", ".join(["65535"] * (size // 7)),
         "an open list of texts": lambda size: "[" + ", ".join(['"ab"'] * (size // 6)),
         "an open set of numbers in order": lambda size: "{" + ", ".join(map(str, range(size // 6))),
-        "an open map of keys in order": lambda size: plain(ordered_map(size))[:-1],
+        # Without the last value's end too, which would be a text at the end of a line.
+        "an open map of keys in order": lambda size: plain(ordered_map(size))[:-2],
         "an open map": lambda size: "{" + ", ".join(["k: v"] * (size // 6)),
         "an open pretty list": lambda size: "[\n" + "    x,\n" * (size // 7),
         "an open struct without its end": lambda size: "S { " + "a: x, " * (size // 6) + "..",
