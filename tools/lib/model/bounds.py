@@ -6,7 +6,7 @@ from features import Features, indentation
 # Steps that a call takes today: to start; for a byte of a word and of a leaf in quotes; for an escape and a character
 # past ASCII; for a leaf without quotes or a name, a leaf in quotation marks, and one in apostrophes; for a block with
 # entries and one without; for another byte of the call's text, and of that in the other mode; for a byte of
-# indentation of the one, and of the other. Those of the calls that parse are of programs with run-time checks.
+# indentation of the one, and of the other.
 STEPS = {
     "is_text": (3000, 12, 16, 316, 90, 20, 90, 490, 50, 40, 37, 0, 1.2, 0),
     "read": (10000, 13, 17, 316, 91, 910, 1070, 1415, 1133, 400, 22, 13, 1.2, 0.3),
@@ -24,16 +24,16 @@ STEPS = {
     "unquoted": (2000, 2, 150, 10, 85, 0, 0, 0, 0, 0, 0, 0, 0, 0),
     "leaf_text": (2000, 2, 150, 10, 85, 0, 0, 0, 0, 0, 0, 0, 0, 0),
     "field_text": (1000, 1, 1, 0, 0, 60, 0, 0, 0, 0, 0, 0, 0, 0),
-    "parse i128": (1700, 0, 0, 0, 0, 0, 0, 0, 0, 0, 0, 0, 0, 0),
-    "parse char": (500, 0, 0, 0, 0, 0, 0, 0, 0, 0, 0, 0, 0, 0),
-    "parse String": (800, 0, 27, 280, 20, 0, 0, 0, 0, 0, 14, 0, 0, 0),
-    "parse Option": (1500, 0, 0, 0, 0, 0, 0, 0, 0, 0, 0, 0, 0, 0),
-    "parse Vec": (1000, 20, 0, 0, 0, 260, 0, 0, 0, 0, 0, 0, 0, 0),
-    "parse texts": (1500, 0, 27, 280, 20, 0, 930, 0, 0, 0, 14, 0, 0, 0),
-    "parse BTreeSet": (1000, 20, 0, 0, 0, 1320, 0, 0, 0, 0, 0, 0, 0, 0),
-    "parse BTreeMap": (1000, 20, 27, 280, 20, 300, 7000, 0, 600, 0, 14, 0, 0, 0),
-    "parse trees": (1000, 20, 0, 0, 0, 400, 0, 0, 300, 100, 0, 0, 30, 0),
-    "parse Node": (1000, 20, 0, 0, 0, 400, 0, 0, 300, 100, 0, 0, 30, 0),
+    "parse i128": (380, 0, 0, 0, 0, 0, 0, 0, 0, 0, 0, 0, 0, 0),
+    "parse char": (330, 0, 0, 0, 0, 0, 0, 0, 0, 0, 0, 0, 0, 0),
+    "parse String": (470, 0, 16, 170, 12, 0, 0, 0, 0, 0, 8.2, 0, 0, 0),
+    "parse Option": (500, 0, 0, 0, 0, 0, 0, 0, 0, 0, 0, 0, 0, 0),
+    "parse Vec": (400, 8, 0, 0, 0, 110, 0, 0, 0, 0, 0, 0, 0, 0),
+    "parse texts": (1100, 0, 19, 200, 14, 0, 640, 0, 0, 0, 9.6, 0, 0, 0),
+    "parse BTreeSet": (260, 5.2, 0, 0, 0, 350, 0, 0, 0, 0, 0, 0, 0, 0),
+    "parse BTreeMap": (190, 3.8, 5.2, 54, 3.8, 57, 1400, 0, 120, 0, 2.7, 0, 0, 0),
+    "parse trees": (370, 7.4, 0, 0, 0, 150, 0, 0, 120, 37, 0, 0, 12, 0),
+    "parse Node": (260, 5.2, 0, 0, 0, 110, 0, 0, 78, 26, 0, 0, 7.8, 0),
     "is_leaf": (2000, 0, 17, 220, 95, 0, 0, 0, 0, 0, 0, 0, 0, 0),
     "is_word": (2000, 0, 13, 0, 0, 0, 0, 0, 0, 0, 0, 0, 0, 0),
     "Doc::text": (2000, 0, 20, 350, 1, 0, 0, 0, 0, 0, 0, 0, 0, 0),
