@@ -16,6 +16,7 @@ pub mod ReadingLaws
 pub mod ReadingQuoted
 pub mod Shift
 pub mod ShiftLaws
+pub mod Small
 pub mod Token
 pub mod Truncating
 pub mod UnquotedLaws

@@ -1,5 +1,5 @@
 //! A writer over a buffer of a fixed size.
-ghost use Rattle.std.specs.Prelude.{◌≡◌, ◌+◌, ◌++◌, ◌*◌, ◌<◌, ◌≤◌, [], length, take, drop, is_ok, encode_utf8};
+ghost use Rattle.std.specs.Prelude.{◌≡◌, ◌+◌, ◌++◌, ◌*◌, ◌<◌, ◌≤◌, [], ℕ, length, take, drop, is_ok, encode_utf8};
 ghost use Rattle.ufmt_core.specs.Writes.{Writes};
 
 use ufmt_core::uWrite;
@@ -129,12 +129,36 @@ fn copy_longer(bytes: &[u8], target: &mut [u8])
     requires longer { 32 < length bytes.now }
     ensures { target.new ≡ bytes.now }
 {
-    if target.len() <= 64 {
-        // Both lengths are equal. Cutting one to the other saves a test in the compiled code.
-        copy_ends::<32>(bytes, &mut target[..bytes.len()]);
-    } else {
-        target.copy_from_slice(bytes);
+    copy_chunk(bytes, target, 0);
+    let mut start = 32;
+    while bytes.len() - start > 32 {
+        copy_chunk(bytes, target, start);
+        start += 32;
     }
+    // The last chunk may overlap the one before it.
+    copy_chunk(bytes, target, bytes.len() - 32);
+}
+
+// Copies the 32 bytes from `start` on.
+#[inline(always)]
+fn copy_chunk(bytes: &[u8], target: &mut [u8], start: usize)
+    requires same_length { length bytes.now ≡ length target.old }
+    requires within { start + 32 ≤ length bytes.now }
+    ensures same_length { length target.new ≡ length bytes.now }
+    ensures copied { (n : ℕ) → start ≤ n → n ≤ start + 32 → take n target.old ≡ take n bytes.now
+        → take (start + 32) target.new ≡ take (start + 32) bytes.now }
+{
+    copy_whole::<32>(&bytes[start..start + 32], &mut target[start..start + 32]);
+}
+
+// Copies N bytes.
+#[inline(always)]
+fn copy_whole<const N: usize>(bytes: &[u8], target: &mut [u8])
+    requires source { length bytes.now ≡ N }
+    requires same_length { length bytes.now ≡ length target.old }
+    ensures { target.new ≡ bytes.now }
+{
+    *target.first_chunk_mut::<N>().unwrap() = *bytes.first_chunk::<N>().unwrap();
 }
 
 // Copies the first N bytes and the last N. They are all of the bytes, and may overlap.

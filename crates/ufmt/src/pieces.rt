@@ -106,7 +106,7 @@ impl<T, M: Mark<T>> Each<'_, T, M> {
 /// value after the piece before it is written.
 #[macro_export]
 macro_rules! pieces {
-    ($($pieces:tt)*) => { $crate::next_piece!(chain_piece [] $($pieces)*) };
+    ($($pieces:tt)*) => { $crate::next_piece!(keep_piece [] $($pieces)*) };
 }
 
 /// Passes to the macro `$then` what that keeps, the first piece of a row and the pieces that are left, no piece
@@ -148,16 +148,53 @@ macro_rules! next_piece {
     ($then:ident $($other:tt)*) => { $crate::$then!(refused) };
 }
 
-/// A piece, and the chain of those after it.
+/// Keeps a piece as a line of its own, in parentheses, until all are kept.
 #[macro_export]
-macro_rules! chain_piece {
+macro_rules! keep_piece {
     ([]) => { () };
-    ([] [$($piece:tt)+]) => { $crate::piece_value!($($piece)+) };
-    ([] [$($piece:tt)+] $($rest:tt)+) => {
-        ($crate::piece_value!($($piece)+), $crate::next_piece!(chain_piece [] $($rest)+))
+    ([$($lines:tt)+]) => { $crate::join_lines!($($lines)+) };
+    ([$($lines:tt)*] [$($piece:tt)+] $($rest:tt)*) => {
+        $crate::next_piece!(keep_piece [$($lines)* ($crate::piece_value!($($piece)+))] $($rest)*)
     };
     (refused) => {
         compile_error!("expected pieces with commas between them: `text e`; `display e`, `debug e`, `pretty e` or `hex e with options`, with or without `in column`; `each debug e between s`, `each hex e with options between s` or `each e by mark between s`. Before `with`, `in`, `by` and `between`, `e` is a name, a literal or in parentheses")
+    };
+}
+
+/// Lines one after another, as one: a chain of at most eight, or else a balanced tree of chains of four. The
+/// check of a call takes long where pairs are nested deeper than eight.
+#[macro_export]
+macro_rules! join_lines {
+    ($a:tt $b:tt $c:tt $d:tt $e:tt $f:tt $g:tt $h:tt $($rest:tt)+) => {
+        $crate::group_lines!([($crate::chain_lines!($a $b $c $d)) ($crate::chain_lines!($e $f $g $h))] $($rest)+)
+    };
+    ($($lines:tt)+) => { $crate::chain_lines!($($lines)+) };
+}
+
+/// A line, and the chain of those after it.
+#[macro_export]
+macro_rules! chain_lines {
+    ($last:tt) => { $last };
+    ($first:tt $($rest:tt)+) => { ($first, $crate::chain_lines!($($rest)+)) };
+}
+
+/// Chains of four, and then the tree of them.
+#[macro_export]
+macro_rules! group_lines {
+    ([$($groups:tt)+] $a:tt $b:tt $c:tt $d:tt $($rest:tt)+) => {
+        $crate::group_lines!([$($groups)+ ($crate::chain_lines!($a $b $c $d))] $($rest)+)
+    };
+    ([$($groups:tt)+] $($last:tt)+) => { $crate::pair_lines!([] $($groups)+ ($crate::chain_lines!($($last)+))) };
+}
+
+/// Pairs of lines that are next to each other, and then pairs of these, until one is left.
+#[macro_export]
+macro_rules! pair_lines {
+    ([] $line:tt) => { $line };
+    ([$($pairs:tt)+]) => { $crate::pair_lines!([] $($pairs)+) };
+    ([$($pairs:tt)+] $last:tt) => { $crate::pair_lines!([] $($pairs)+ $last) };
+    ([$($pairs:tt)*] $first:tt $second:tt $($rest:tt)*) => {
+        $crate::pair_lines!([$($pairs)* ($first, $second)] $($rest)*)
     };
 }
 
@@ -184,5 +221,5 @@ macro_rules! piece_mark {
     ($kind:ident $($options:expr)?, in $column:expr) => {
         $crate::pieces::InColumn { mark: $crate::piece_mark!($kind $($options)?), column: $column }
     };
-    ($($other:tt)*) => { $crate::chain_piece!(refused) };
+    ($($other:tt)*) => { $crate::keep_piece!(refused) };
 }

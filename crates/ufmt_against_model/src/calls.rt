@@ -1,7 +1,7 @@
 //! The calls on the texts of one class and one mode.
 use crate::loose::Loosener;
-use crate::pieces::Pieces;
 use std::alloc::{AllocError, Global};
+use std::convert::Infallible;
 use ufmt::class::Class;
 use ufmt::layout::Mode;
 use ufmt::{Full, uDebug, uWrite};
@@ -149,7 +149,7 @@ impl Calls<'_> {
     }
 
     /// Prints a value to a writer of pieces, which never fails.
-    pub fn print_to<T: uDebug>(&self, writer: &mut Pieces, value: &T) {
+    pub fn print_to<T: uDebug, W: uWrite<Error = Infallible>>(&self, writer: &mut W, value: &T) {
         let _ = match self.mode {
             Mode::Plain => ufmt::write_debug(writer, value),
             Mode::Pretty => ufmt::write_pretty(writer, value),

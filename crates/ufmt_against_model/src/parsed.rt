@@ -5,7 +5,8 @@ use crate::fault::{Fault, agree};
 use crate::pieces::Pieces;
 use crate::shapes;
 use crate::types::{
-    Keyed, Leaves, Lists, Nested, NonZeros, Numbers, Owned, Results, Tuples, Types,
+    FurtherKeys, Keyed, Leaves, Lists, Nested, NonZeros, Numbers, Owned, Results, Shared, Slices,
+    Tuples, Types, Wrappers,
 };
 use std::alloc::{AllocError, Global};
 use ufmt_parse::{ParseError, uParse};
@@ -53,6 +54,10 @@ fn letters(calls: Calls<'_>) -> Result<TypeLetters, Fault> {
     Results::add_all(calls, alloc, "HI", &mut letters)?;
     Lists::add_all(calls, alloc, "KLMNOPQR", &mut letters)?;
     Keyed::add_all(calls, alloc, "STUVWXYZ012345", &mut letters)?;
+    Wrappers::add_all(calls, (), "ξοπρστυφ", &mut letters)?;
+    Shared::add_all(calls, alloc, "ψωбвг", &mut letters)?;
+    Slices::add_all(calls, alloc, "ежзий", &mut letters)?;
+    FurtherKeys::add_all(calls, alloc, "но", &mut letters)?;
     Nested::add_all(calls, alloc, "678", &mut letters)?;
     Tuples::add_all(calls, (), "αβγδεζηθικλμ", &mut letters)?;
     Ok(letters)

@@ -2,11 +2,18 @@
 use crate::calls::Calls;
 use crate::fault::{Fault, agree};
 use crate::parsed::{TypeLetters, add};
-use std::collections::{BTreeMap, BTreeSet};
+use std::alloc::Global;
+use std::boxed::{BoxedSlice, BoxedStr};
+use std::cmp::{Ordering, Reverse};
+use std::collections::{BTreeMap, BTreeSet, LinkedList, VecDeque};
 use std::num::{
     NonZeroI8, NonZeroI16, NonZeroI32, NonZeroI64, NonZeroIsize, NonZeroU8, NonZeroU16, NonZeroU32,
-    NonZeroU64, NonZeroUsize,
+    NonZeroU64, NonZeroUsize, Saturating, Wrapping,
 };
+use std::ops::{Bound, ControlFlow, RangeFull};
+use std::rc::{Rc, RcSlice, RcStr};
+use std::sync::{Arc, ArcSlice, ArcStr};
+use ufmt::cells::CellValue;
 use ufmt_examples::{Node, Tree};
 use ufmt_parse::uParse;
 
@@ -149,6 +156,51 @@ type NumberKeys = (
             (BTreeMap<u32, BTreeSet<u8>>, ()),
         ),
     ),
+);
+
+/// Further types of std that take no memory: `ξοπρστυφ`.
+pub type Wrappers = (
+    Ordering,
+    (
+        Bound<u8>,
+        (
+            ControlFlow<bool, char>,
+            (
+                Wrapping<i8>,
+                (
+                    Saturating<u16>,
+                    (Reverse<u8>, (CellValue<bool>, (RangeFull, ()))),
+                ),
+            ),
+        ),
+    ),
+);
+
+/// Shared values, and texts in holders: `ψωбвг`.
+pub type Shared = (
+    Rc<i8>,
+    (
+        Arc<Option<bool>>,
+        (BoxedStr<Global>, (RcStr<Global>, (ArcStr<Global>, ()))),
+    ),
+);
+
+/// Queues, and slices in holders: `ежзий`.
+pub type Slices = (
+    VecDeque<u8>,
+    (
+        LinkedList<bool>,
+        (
+            BoxedSlice<i16, Global>,
+            (RcSlice<char, Global>, (ArcSlice<u8, Global>, ())),
+        ),
+    ),
+);
+
+/// Sets and maps with further keys: `но`.
+pub type FurtherKeys = (
+    BTreeSet<Reverse<u8>>,
+    (BTreeMap<Ordering, RcStr<Global>>, ()),
 );
 
 /// Types that hold themselves: `678`.

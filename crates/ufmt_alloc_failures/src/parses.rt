@@ -2,8 +2,12 @@
 use crate::outcome::{Outcome, has_plain_text};
 use crate::report::{report, report_free};
 use std::alloc::Global;
-use std::collections::{BTreeMap, BTreeSet};
+use std::borrow::{Cow, CowSlice};
+use std::boxed::{BoxedSlice, BoxedStr};
+use std::collections::{BTreeMap, BTreeSet, LinkedList, VecDeque};
 use std::io;
+use std::rc::{Rc, RcSlice, RcStr};
+use std::sync::{Arc, ArcSlice, ArcStr};
 use ufmt_doc::field_text::read_field;
 use ufmt_parse::{parse, parse_pretty, uParse};
 
@@ -12,7 +16,9 @@ const ALARM: &str = "Alarm { node: 3, text: \"say \\\"hi\\\"\" }";
 /// Parses values of each type that takes memory, and texts that are no value's. Reads a field.
 pub fn report_parses(rt: &HostRuntime) -> io::Result<()> {
     report_values(rt)?;
+    report_shared(rt)?;
     report_blocks(rt)?;
+    report_slices(rt)?;
     report_refused(rt)?;
     report_without_memory(rt)?;
     let outcome = read_field(rt.alloc(), ALARM.as_bytes(), "text");
@@ -29,6 +35,15 @@ fn report_values(rt: &HostRuntime) -> io::Result<()> {
     report_parse::<String>(rt, "a text with escapes", 2, "\"say \\\"hello\\\"\"")?;
     report_parse::<Box<u8>>(rt, "a box", 1, "7")?;
     report_parse::<Option<Box<String>>>(rt, "a text in a box", 2, "Some(\"a\")")
+}
+
+fn report_shared(rt: &HostRuntime) -> io::Result<()> {
+    report_parse::<Rc<u8>>(rt, "a shared value", 1, "7")?;
+    report_parse::<Arc<u8>>(rt, "a value that threads share", 1, "7")?;
+    report_parse::<Cow<'static, String>>(rt, "an owned text", 1, "\"a\"")?;
+    report_parse::<BoxedStr<Global>>(rt, "a boxed text", 1, "\"a\"")?;
+    report_parse::<RcStr<Global>>(rt, "a shared text", 2, "\"a\"")?;
+    report_parse::<ArcStr<Global>>(rt, "a text that threads share", 2, "\"a\"")
 }
 
 const BOXES: &str = "[\n    Some(\n        7,\n    ),\n    None,\n]";
@@ -51,6 +66,17 @@ fn report_blocks(rt: &HostRuntime) -> io::Result<()> {
     let outcome = parse_pretty::<Vec<Option<Box<u8>>>, Global>(rt.alloc(), BOXES.as_bytes());
     let outcome = Outcome::of_parse(outcome, Some("[Some(7), None]"));
     report(rt, "parse_pretty", "boxes", 2, outcome)
+}
+
+const SLICE: &str = "[1, 2, 3]";
+
+fn report_slices(rt: &HostRuntime) -> io::Result<()> {
+    report_parse::<VecDeque<u8>>(rt, "a queue", 1, SLICE)?;
+    report_parse::<LinkedList<u8>>(rt, "a linked list", 4, SLICE)?;
+    report_parse::<BoxedSlice<u8, Global>>(rt, "a boxed slice", 1, SLICE)?;
+    report_parse::<RcSlice<u8, Global>>(rt, "a shared slice", 2, SLICE)?;
+    report_parse::<ArcSlice<u8, Global>>(rt, "a slice that threads share", 2, SLICE)?;
+    report_parse::<CowSlice<'static, u8, Global>>(rt, "an owned slice", 1, SLICE)
 }
 
 // Prints a line on the text, which a value has.

@@ -63,6 +63,8 @@ impl<W: uWrite> Formatter<W> {
 
 impl<W: uWrite> DebugTuple<'_, W> {
     /// Writes one field. On `Err` a prefix of it was written, and the builder is closed.
+    // Out of line, as that of a struct.
+    #[inline(never)]
     pub fn field<D: uDebug>(&mut self, value: &D) -> Result<(), W::Error>
         requires { IsOpen (tuple_view self.old) }
         ensures entry { WritesEntry W.seen (tuple_view self.old)

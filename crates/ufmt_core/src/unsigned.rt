@@ -48,8 +48,9 @@ pub fn digit_pair(i: u8) -> (u8, u8)
 pub(crate) trait Magnitude: Copy {
     ghost value: { Self → ℕ };
 
-    /// Writes the decimal text at the end of `buffer`, and returns the index of its first digit.
-    fn write_digits(self, buffer: &mut [u8]) -> usize
+    /// Writes the decimal text at the end of `buffer`, and returns the index of its first digit. With
+    /// `small` the code is smaller and takes longer, where there is such a way.
+    fn write_digits(self, small: bool, buffer: &mut [u8]) -> usize
         requires { length (decimal (pos (value self))) ≤ length buffer.old }
         ensures start { result + length (decimal (pos (value self))) ≡ length buffer.old }
         ensures written { drop result buffer.new ≡ decimal (pos (value self)) };
@@ -59,7 +60,7 @@ impl Magnitude for u32 {
     ghost value = { λ n. n };
 
     #[inline(always)]
-    fn write_digits(self, buffer: &mut [u8]) -> usize {
+    fn write_digits(self, _small: bool, buffer: &mut [u8]) -> usize {
         let mut start = buffer.len();
         let mut left = self;
         while left >= 10_000 {
@@ -76,7 +77,10 @@ impl Magnitude for u64 {
     ghost value = { λ n. n };
 
     #[inline(always)]
-    fn write_digits(self, buffer: &mut [u8]) -> usize {
+    fn write_digits(self, small: bool, buffer: &mut [u8]) -> usize {
+        if small {
+            return write_by_one(self, buffer);
+        }
         let mut start = buffer.len();
         let mut left = self;
         while left >= SIXTEEN_DIGITS {
@@ -92,7 +96,7 @@ impl Magnitude for u64 {
 impl Magnitude for u128 {
     ghost value = { λ n. n };
 
-    fn write_digits(self, buffer: &mut [u8]) -> usize {
+    fn write_digits(self, _small: bool, buffer: &mut [u8]) -> usize {
         let mut start = buffer.len();
         let mut left = self;
         while left > u64::MAX as u128 {
@@ -123,7 +127,24 @@ fn write_by_eight(n: u64, buffer: &mut [u8]) -> usize
         write_eight((left % EIGHT_DIGITS) as u32, buffer, start);
         left /= EIGHT_DIGITS;
     }
-    (left as u32).write_digits(&mut buffer[..start])
+    (left as u32).write_digits(false, &mut buffer[..start])
+}
+
+// `write_digits` a digit at a time, without the table of pairs.
+#[inline(always)]
+fn write_by_one(n: u64, buffer: &mut [u8]) -> usize
+    requires { length (decimal (pos n)) ≤ length buffer.old }
+    ensures start { result + length (decimal (pos n)) ≡ length buffer.old }
+    ensures written { drop result buffer.new ≡ decimal (pos n) }
+{
+    let mut start = buffer.len();
+    let mut left = n;
+    while left >= 10 {
+        start -= 1;
+        buffer[start] = b'0' + (left % 10) as u8;
+        left /= 10;
+    }
+    write_first(left as u32, buffer, start)
 }
 
 // Writes sixteen digits, with zeros before a shorter number. So do the calls for eight and four.
@@ -217,14 +238,18 @@ fn write_first(n: u32, buffer: &mut [u8], end: usize) -> usize
     end - 2
 }
 
-/// Returns the decimal text of `n`, made at the end of `buffer`.
+/// Returns the decimal text of `n`, made at the end of `buffer`, by small code if `small`.
 #[inline(always)]
-pub(crate) fn decimal_text<M: Magnitude, const N: usize>(n: M, buffer: &mut [u8; N]) -> &str
+pub(crate) fn decimal_text<M: Magnitude, const N: usize>(
+    n: M,
+    small: bool,
+    buffer: &mut [u8; N],
+) -> &str
     requires not_empty { 0 < N }
     requires room { M.value n < 10 ^ N }
     ensures { result.now ≡ decimal (pos (M.value n)) }
 {
-    let start = n.write_digits(buffer);
+    let start = n.write_digits(small, buffer);
     text_from(buffer, start)
 }
 
@@ -233,7 +258,8 @@ impl uDebug for u8 {
 
     #[inline(always)]
     fn fmt<W: uWrite>(&self, f: &mut Formatter<W>) -> Result<(), W::Error> {
-        f.write_str(decimal_text(u64::from(*self), &mut [0; 3]))
+        let small = f.prefers_small();
+        f.write_str(decimal_text(u64::from(*self), small, &mut [0; 3]))
     }
 }
 
@@ -242,7 +268,8 @@ impl uDebug for u16 {
 
     #[inline(always)]
     fn fmt<W: uWrite>(&self, f: &mut Formatter<W>) -> Result<(), W::Error> {
-        f.write_str(decimal_text(u64::from(*self), &mut [0; 5]))
+        let small = f.prefers_small();
+        f.write_str(decimal_text(u64::from(*self), small, &mut [0; 5]))
     }
 }
 
@@ -251,7 +278,8 @@ impl uDebug for u32 {
 
     #[inline(always)]
     fn fmt<W: uWrite>(&self, f: &mut Formatter<W>) -> Result<(), W::Error> {
-        f.write_str(decimal_text(u64::from(*self), &mut [0; 10]))
+        let small = f.prefers_small();
+        f.write_str(decimal_text(u64::from(*self), small, &mut [0; 10]))
     }
 }
 
@@ -260,7 +288,8 @@ impl uDebug for u64 {
 
     #[inline(always)]
     fn fmt<W: uWrite>(&self, f: &mut Formatter<W>) -> Result<(), W::Error> {
-        f.write_str(decimal_text(*self, &mut [0; 20]))
+        let small = f.prefers_small();
+        f.write_str(decimal_text(*self, small, &mut [0; 20]))
     }
 }
 
@@ -268,7 +297,8 @@ impl uDebug for u128 {
     ghost document = { λ n. leaf (decimal (pos n)) };
 
     fn fmt<W: uWrite>(&self, f: &mut Formatter<W>) -> Result<(), W::Error> {
-        f.write_str(decimal_text(*self, &mut [0; 39]))
+        let small = f.prefers_small();
+        f.write_str(decimal_text(*self, small, &mut [0; 39]))
     }
 }
 
@@ -277,6 +307,7 @@ impl uDebug for usize {
 
     #[inline(always)]
     fn fmt<W: uWrite>(&self, f: &mut Formatter<W>) -> Result<(), W::Error> {
-        f.write_str(decimal_text(*self as u64, &mut [0; 20]))
+        let small = f.prefers_small();
+        f.write_str(decimal_text(*self as u64, small, &mut [0; 20]))
     }
 }

@@ -47,7 +47,7 @@ lt_is_Less Less is = refl
 lt_is_Less Equal is = absurd (true≢false (sym is))
 lt_is_Less Greater is = absurd (true≢false (sym is))
 
--- whether a key comes before those of entries is told by the first entry
+-- a key comes before those of entries if it comes before the first of them
 pub before_entries : {K X : Type 0} (cmp : K → K → Ordering) (k : K) (es : List (K × X)) (e : K × X) (less : Bool) → slice_get es 0 ≡ Some e → less ≡ is_lt (cmp k e.0)
     → IsTrue less ↔ ComesBefore cmp k (keys_of es)
 before_entries cmp k [] e less at is = absurd (cc)

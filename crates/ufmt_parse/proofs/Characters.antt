@@ -1,38 +1,17 @@
--- Characters in UTF-8, and as they are written between apostrophes.
-use Rattle.std.proofs.Common.{◌≡◌, ◌⊎◌, inl, inr, refl, sym, ap, subst, ◌∙◌, ℕ, ◌+◌, ◌<◌, ◌≤◌, Bool, true, false, List, [], ◌∷◌, ◌++◌, length, slice_index, get_or, encode_utf8, append-nil, append_assoc, arith, drop, Option, Some, None, Bor, MatchOption}
-use lib.Utf8.{encode}
-use Rattle.std.specs.Prelude.{◌≢◌, nat_lt, unwrap_or}
+-- Characters in UTF-8, and as they are written between apostrophes, at the front of a text.
+use Rattle.std.proofs.Common.{◌≡◌, inr, refl, sym, ap, subst, ◌∙◌, ℕ, ◌+◌, ◌<◌, ◌≤◌, List, [], ◌∷◌, ◌++◌, length, slice_index, get_or, encode_utf8, append-nil, append_assoc, arith, drop, Option, Some, None, Bor, MatchOption}
+use Rattle.std.specs.Prelude.{◌≢◌, unwrap_or}
 use Rattle.std.specs.Char.{IsScalar}
 use Rattle.std.specs.Str.{IsUtf8, chars, continuation_len}
-use Rattle.std.proofs.lemmas.Bool.{cases_lt}
-use Rattle.std.proofs.lemmas.Bool.Decides.{nat_tests}
-use Rattle.std.proofs.lemmas.Str.{IsUtf8-encode, chars_past_char, encode_ascii, encode_same, inside_one}
+use Rattle.std.proofs.lemmas.Str.{IsUtf8-encode, chars_past_char, encode_ascii, encode_same}
 use Rattle.ufmt_core.proofs.QuotedBytes.{escape-past_ascii}
-use Rattle.ufmt.specs.Quoted.{IsQuote, escape, escaped, escaped_byte, quoted_char}
+use Rattle.ufmt.specs.Quoted.{escape, escaped, escaped_byte, quoted_char}
 use Rattle.ufmt.specs.Reading.{strip}
-use Rattle.ufmt.specs.ReadingQuoted.{read_escaped}
-use Rattle.ufmt.proofs.Parsing.{same_parts, strip_found, strip_of_front}
-use Rattle.ufmt.proofs.QuotedComplete.{read_escaped-complete}
+use Rattle.ufmt.proofs.Parsing.{strip_found, strip_of_front}
+use Rattle.ufmt_scan.proofs.Characters.{Written, ascii, past_ascii, length-led, is_written}
+use Rattle.ufmt_scan.proofs.Spelled.{spelled_once}
 
--- the first byte of a character determines how many bytes it has
-pub length-led : (c : ℕ) → length (encode_utf8 c) ≡ 1 + continuation_len (slice_index (encode_utf8 c) 0)
-unfolding encode
-length-led c = go (nat_lt c 128) refl (nat_lt c 2048) refl (nat_lt c 65536) refl
-  where
-    go : (x : Bool) → nat_lt c 128 ≡ x → (y : Bool) → nat_lt c 2048 ≡ y → (z : Bool) → nat_lt c 65536 ≡ z
-        → length (encode_utf8 c) ≡ 1 + continuation_len (slice_index (encode_utf8 c) 0)
-    go true one y two z three = rw one (grind (arith, nat_tests))
-    go false one true two z three = rw (one, two) (grind (arith, nat_tests))
-    go false one false two true three = rw (one, two, three) (grind (arith, nat_tests))
-    go false one false two false three = rw (one, two, three) (grind (arith, nat_tests))
-
--- one character's bytes spell it
-pub chars-encode : (bs : List ℕ) (c : ℕ) → IsScalar c → bs ≡ encode_utf8 c → chars bs ≡ c ∷ chars []
-chars-encode bs c scalar is =
-    let whole : bs ≡ encode_utf8 c ++ [] = is ∙ sym (append-nil (encode_utf8 c)) in
-    chars_past_char bs [] c (subst IsUtf8 (sym is) (IsUtf8-encode c scalar)) whole
-
--- so it does at the front of a text
+-- the first byte of a text that begins with a character determines how many bytes the character has
 pub led_front : (t : List ℕ) (c : ℕ) (rest : List ℕ) (lead : ℕ) → t ≡ encode_utf8 c ++ rest → lead ≡ get_or t 0 lead → length (encode_utf8 c) ≡ 1 + continuation_len lead
 led_front t c rest lead is first = go (encode_utf8 c) (length-led c) is
   where
@@ -42,36 +21,9 @@ led_front t c rest lead is first = go (encode_utf8 c) (length-led c) is
 
 -- ---- between apostrophes
 
--- how a character is written: in ASCII as its byte is, and past it in UTF-8, whose first byte is past ASCII and written as itself
-pub data Written (c : ℕ) : Type 0 where
-  ascii : c < 128 → escaped 39 c ≡ escaped_byte 39 c → Written c
-  past_ascii : 128 ≤ c → escaped 39 c ≡ encode_utf8 c → (b : ℕ) → 128 ≤ b → (more : List ℕ) → escaped 39 c ≡ escaped_byte 39 b ++ more → Written c
-
-pub written : (c : ℕ) → Written c
-written c = by (cases_lt c 128)
-  where
-    first : 128 ≤ c → (bs : List ℕ) → encode_utf8 c ≡ bs → escaped 39 c ≡ encode_utf8 c → Written c
-    first high [] is itself = absurd (omega (arith, ap length is, length-led c))
-    first high (b ∷ more) is itself = at (cases_lt b 128)
-      where
-        at : (b < 128) ⊎ (128 ≤ b) → Written c
-        at (inl low) =
-            let same : c ≡ b = inside_one c [] (b ∷ more) 0 (sym is ∙ sym (append-nil (encode_utf8 c))) (omega (arith, ap length is)) low in
-            absurd (omega (arith, same))
-        at (inr past) = past_ascii high itself b past more (itself ∙ is ∙ ap (λ e. unwrap_or e (b ∷ []) ++ more) (sym (escape-past_ascii 39 b (omega arith) past)))
-
-    by : (c < 128) ⊎ (128 ≤ c) → Written c
-    by (inl low) = ascii low (ap (unwrap_or (escape 39 c)) (encode_ascii c low))
-    by (inr high) = first high (encode_utf8 c) refl (ap (λ e. unwrap_or e (encode_utf8 c)) (escape-past_ascii 39 c (omega arith) high))
-
--- a text begins with the spelling of at most one byte
-pub spelled_once : (q : ℕ) → IsQuote q → (b c : ℕ) (t u : List ℕ) → escaped_byte q b ++ t ≡ escaped_byte q c ++ u → (b ≡ c) × (t ≡ u)
-spelled_once q quote b c t u same =
-    same_parts {A = ℕ} {B = List ℕ} (b, t) (c, u) (sym (read_escaped-complete q b t quote) ∙ ap (read_escaped q) same ∙ read_escaped-complete q c u quote)
-
--- and with at most one character
+-- a text begins with the spelling of at most one character
 pub character_once : (c d : ℕ) (t u : List ℕ) → escaped 39 c ++ t ≡ escaped 39 d ++ u → (c ≡ d) × (t ≡ u)
-character_once c d t u same = by (written c) (written d)
+character_once c d t u same = by (is_written c) (is_written d)
   where
     by : Written c → Written d → (c ≡ d) × (t ≡ u)
     by (ascii low is) (ascii less also) = spelled_once 39 (inr refl) c d t u (ap (λ e. e ++ t) (sym is) ∙ same ∙ ap (λ e. e ++ u) also)
@@ -86,19 +38,16 @@ character_once c d t u same = by (written c) (written d)
 
 -- where no byte is spelled, no character is
 pub no_character : (t : List ℕ) → ((b : ℕ) (u : List ℕ) → t ≢ escaped_byte 39 b ++ u) → (c : ℕ) (u : List ℕ) → t ≢ escaped 39 c ++ u
-no_character t none c u same = by (written c)
+no_character t none c u same = by (is_written c)
   where
     by : Written c → ⊥
     by (ascii low is) = none c u (same ∙ ap (λ e. e ++ u) is)
     by (past_ascii high itself b past more is) = none b (more ++ u) (same ∙ ap (λ e. e ++ u) is ∙ append_assoc (escaped_byte 39 b) more u)
 
-pub ascii_character : (c : ℕ) → c < 128 → escaped 39 c ≡ escaped_byte 39 c
-ascii_character c low = ap (unwrap_or (escape 39 c)) (encode_ascii c low)
-
 -- where a byte past ASCII is spelled, a character in UTF-8 is written so, and no other
 pub utf8_character : (t : List ℕ) (b : ℕ) (after : List ℕ) → t ≡ escaped_byte 39 b ++ after → 128 ≤ b → (c : ℕ) (u : List ℕ) → t ≡ encode_utf8 c ++ u
     → t ≡ escaped 39 c ++ u
-utf8_character t b after first past c u is = by (written c)
+utf8_character t b after first past c u is = by (is_written c)
   where
     by : Written c → t ≡ escaped 39 c ++ u
     by (ascii low written_so) =
@@ -109,7 +58,7 @@ utf8_character t b after first past c u is = by (written c)
 
 pub no_utf8_character : (t : List ℕ) (b : ℕ) (after : List ℕ) → t ≡ escaped_byte 39 b ++ after → 128 ≤ b
     → ((c : ℕ) (u : List ℕ) → IsScalar c → t ≢ encode_utf8 c ++ u) → (c : ℕ) (u : List ℕ) → IsScalar c → t ≢ escaped 39 c ++ u
-no_utf8_character t b after first past none c u scalar same = by (written c)
+no_utf8_character t b after first past none c u scalar same = by (is_written c)
   where
     by : Written c → ⊥
     by (ascii low is) =

@@ -46,6 +46,10 @@ refused OutOfMemory takes is_not = absurd (out_of_memory is_not)
 
 -- what is taken meets the clauses
 module _ {M T : Type 0} (mode : Mode) (is_value : T → Type 0) (document : T → Document) (old new : Parser M) where
+  pub values_clause : (outcome : Result T Fault) → ValueTaken mode is_value document old outcome new → IfOk outcome is_value
+  values_clause (Ok v) takes = takes.cases.1.0
+  values_clause (Err fault) takes = tt
+
   pub taken_clause : (outcome : Result T Fault) → ValueTaken mode is_value document old outcome new → Taken mode is_value document old outcome new
   taken_clause (Ok v) takes = (takes.cases.0, takes.cases.1.1)
   taken_clause (Err fault) takes = tt

@@ -10,7 +10,7 @@ use Rattle.std.proofs.lemmas.List.Elements.{All-nil, All-cons, All-head, All-tai
 use Rattle.ufmt_core.specs.Decimal.{decimal, decimal_byte, numeral, value_in_base}
 use Rattle.ufmt_core.proofs.DecimalTexts.{decimal-denotes, DenotesDecimal-one}
 use Rattle.ufmt_core.proofs.Numerals.{numeral-denotes}
-use Rattle.ufmt_parse.specs.Digits.{after_digits, begins_digit, begins_number, value_after, BeginsWithDigits, FrontMagnitude, IsFront}
+use Rattle.ufmt_parse.specs.Private.Digits.{after_digits, begins_digit, begins_number, value_after, BeginsWithDigits, FrontMagnitude, IsFront}
 
 -- more digits make no number less
 pub value_after_ge : (n : ℕ) (t : List ℕ) → n ≤ value_after n t

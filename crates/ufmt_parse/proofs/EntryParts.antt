@@ -1,5 +1,5 @@
 -- What is left of a block is taken in parts: an entry's lead, the entry, its trail, and what is left then.
-use Rattle.std.proofs.Common.{◌≡◌, sym, List, ◌∷◌, ℕ, ◌++◌, ◌-◌, ◌<◌, ◌≤◌, Result, Ok, Err}
+use Rattle.std.proofs.Common.{◌≡◌, inl, inr, refl, sym, List, [], ◌∷◌, ℕ, codes, ◌++◌, ◌-◌, ◌<◌, ◌≤◌, Result, Ok, Err}
 use Rattle.ufmt.specs.declared.class.Class.TheVariants.{Debug}
 use Rattle.ufmt.specs.Leaves.{MayFollow}
 use Rattle.ufmt.specs.Layout.{block_tail, frame, inside, lead, next, trail}
@@ -51,3 +51,22 @@ module _ (mode : Mode) (kind : Kind) (count : Count) (blocks : ℕ) (some : 0 < 
     with_others trail_is takes =
         with_rest is_a text_a is_b (λ b. block_tail (frame mode kind) (setting_in mode (blocks - 1)) (next count) (texts_b b)) _ (trail mode) follows
         (inside_lead old here lead_is) entry trail_is takes
+
+-- a key comes first, and its value after a colon
+module _ {A B : Type 0} (is_a : A → Type 0) (text_a : A → List ℕ) (is_b : B → Type 0) (text_b : B → List ℕ) where
+  colon_follows : (b : B) (u : List ℕ) → is_b b → MayFollow Debug u → MayFollow Debug (codes ": " ++ (text_b b ++ u))
+  colon_follows b u is may = inr (inl (refl, refl))
+
+  abbrev pub PairTaken : List ℕ → Result (A × B) Fault → List ℕ → Type 0
+  PairTaken old outcome new = Takes (λ p. is_a p.0 × is_b p.1) (λ p. text_a p.0 ++ (codes ": " ++ text_b p.1)) old outcome new
+
+  pub failed_key : {old : List ℕ} {fault : Fault} {new : List ℕ} → Takes is_a text_a old (Err fault) new → PairTaken old (Err fault) new
+  failed_key takes = failed_value is_a text_a is_b text_b [] (codes ": ") colon_follows refl takes
+
+  module _ {old : List ℕ} {a : A} {after : List ℕ} (key : Takes is_a text_a old (Ok a) after) where
+    pub no_colon : {new : List ℕ} → DoesNotBegin (codes ": ") after → PairTaken old (Err NotText) new
+    no_colon {new} refuses = without_trail is_a text_a is_b text_b [] (codes ": ") colon_follows old old refl a after key new refuses
+
+    pub with_value : {further : List ℕ} → after ≡ codes ": " ++ further → {outcome : Result B Fault} {new : List ℕ} → Takes is_b text_b further outcome new
+        → PairTaken old (with_first a outcome) new
+    with_value colon takes = with_rest is_a text_a is_b text_b [] (codes ": ") colon_follows refl key colon takes

@@ -14,7 +14,7 @@ use Rattle.ufmt_core.specs.declared.layout.Setting.{Setting}
 use Rattle.ufmt_parse.specs.Rows.{row_texts, AllFit}
 use Rattle.ufmt_parse.specs.Taking.{setting_in, AreWords, Fits, Takes}
 use Rattle.ufmt_parse.specs.declared.parser.Fault.{Fault}
-use Rattle.ufmt_parse.proofs.Taken.{taken_as}
+use Rattle.ufmt_parse.proofs.Views.{taken_as}
 use Rattle.ufmt_parse.proofs.Words.{word_is_name, word_is_tuple_name}
 
 -- ---- texts
@@ -58,61 +58,75 @@ each_entry_fits : (blocks : ℕ) (ds : List Document) → AreBuilt Debug (docume
 each_entry_fits blocks [] built nested = tt
 each_entry_fits blocks (d ∷ ds) built nested = ((built.0, omega (arith, nested)), each_entry_fits blocks ds built.1 (omega (arith, nested)))
 
--- ---- blocks with a first field
+-- ---- blocks with fields
 
-module _ (blocks : ℕ) (name : List ℕ) (d : Document) (ds : List Document) where
-  struct_fits : (names : List (List ℕ)) → AreWords (name ∷ names) → length names ≡ suc (length ds) → AllFit (suc blocks) (d ∷ ds) → blocks < 255
-      → Fits blocks (struct_of name (fields_of (zip names (d ∷ ds))))
-  struct_fits [] words same fit few = absurd (omega (arith, same))
-  struct_fits (first ∷ names) words same fit few =
+module _ (blocks : ℕ) (name : List ℕ) where
+  struct_fits : (names : List (List ℕ)) (ds : List Document) → 0 < length ds → AreWords (name ∷ names) → length names ≡ length ds → AllFit (suc blocks) ds → blocks < 255
+      → Fits blocks (struct_of name (fields_of (zip names ds)))
+  struct_fits names [] some words same fit few = absurd (omega (arith, some))
+  struct_fits [] (d ∷ ds) some words same fit few = absurd (omega (arith, same))
+  struct_fits (first ∷ names) (d ∷ ds) some words same fit few =
       let fields = fields_fit (suc blocks) (first ∷ names) (d ∷ ds) few words.1 same fit in
       ((word_is_name name words.0, fields.0), omega (arith, fields.1))
 
-  struct_apart : (names : List (List ℕ)) → length names ≡ suc (length ds) → Fits blocks (struct_of name (fields_of (zip names (d ∷ ds))))
-      → AllFit (suc blocks) (d ∷ ds) × (blocks < 255)
-  struct_apart [] same fits = absurd (omega (arith, same))
-  struct_apart (first ∷ names) same fits = (
+  struct_apart : (names : List (List ℕ)) (ds : List Document) → 0 < length ds → length names ≡ length ds → Fits blocks (struct_of name (fields_of (zip names ds)))
+      → AllFit (suc blocks) ds × (blocks < 255)
+  struct_apart names [] some same fits = absurd (omega (arith, some))
+  struct_apart [] (d ∷ ds) some same fits = absurd (omega (arith, same))
+  struct_apart (first ∷ names) (d ∷ ds) some same fits = (
     each_field_fits (suc blocks) (first ∷ names) (d ∷ ds) same fits.0.1 (omega (arith, fits.1)),
     omega (arith, fits.1),
   )
 
-  tuple_fits : IsWordOrEmpty name → AllFit (suc blocks) (d ∷ ds) → blocks < 255 → Fits blocks (tuple_of name (documents (d ∷ ds)))
-  tuple_fits is fit few =
+  tuple_fits : (ds : List Document) → 0 < length ds → IsWordOrEmpty name → AllFit (suc blocks) ds → blocks < 255 → Fits blocks (tuple_of name (documents ds))
+  tuple_fits [] some is fit few = absurd (omega (arith, some))
+  tuple_fits (d ∷ ds) some is fit few =
       let entries = entries_fit (suc blocks) (d ∷ ds) few fit in ((word_is_tuple_name name is, entries.0.0, entries.0.1), omega (arith, entries.1))
 
-  tuple_apart : Fits blocks (tuple_of name (documents (d ∷ ds))) → AllFit (suc blocks) (d ∷ ds) × (blocks < 255)
-  tuple_apart fits = (each_entry_fits (suc blocks) (d ∷ ds) (fits.0.1, fits.0.2) (omega (arith, fits.1)), omega (arith, fits.1))
+  tuple_apart : (ds : List Document) → 0 < length ds → Fits blocks (tuple_of name (documents ds)) → AllFit (suc blocks) ds × (blocks < 255)
+  tuple_apart [] some fits = absurd (omega (arith, some))
+  tuple_apart (d ∷ ds) some fits = (each_entry_fits (suc blocks) (d ∷ ds) (fits.0.1, fits.0.2) (omega (arith, fits.1)), omega (arith, fits.1))
 
 -- ---- what is taken
 
-module _ {R : Type 0} (are : R → Type 0) (first : R → Document) (others : R → List Document) (mode : Mode) (blocks : ℕ) (name : List ℕ) where
+module _ {R : Type 0} (are : R → Type 0) (row : R → List Document) (some : (v : R) → 0 < length (row v)) (mode : Mode) (blocks : ℕ) (name : List ℕ) where
   abbrev IsRow : R → Type 0
-  IsRow v = (are v × AllFit (suc blocks) (first v ∷ others v)) × (blocks < 255)
+  IsRow v = (are v × AllFit (suc blocks) (row v)) × (blocks < 255)
 
   abbrev text_in : Kind → List (List ℕ) → List ℕ
   text_in kind fields = name ++ ((frame mode kind).opening ++ block_tail (frame mode kind) (setting_in mode blocks) Zero fields)
 
   abbrev RowTaken : Kind → List (List ℕ) → List ℕ → Result R Fault → List ℕ → Type 0
-  RowTaken kind names old outcome new = Takes IsRow (λ v. text_in kind (row_texts (inside (setting_in mode blocks)) names (first v ∷ others v))) old outcome new
+  RowTaken kind names old outcome new = Takes IsRow (λ v. text_in kind (row_texts (inside (setting_in mode blocks)) names (row v))) old outcome new
+
+  struct_text : (names : List (List ℕ)) (ds : List Document) → 0 < length ds → length names ≡ length ds
+      → text_in Struct (row_texts (inside (setting_in mode blocks)) names ds) ≡ layout (setting_in mode blocks) (struct_of name (fields_of (zip names ds)))
+  struct_text names [] any same = absurd (omega (arith, any))
+  struct_text [] (d ∷ ds) any same = absurd (omega (arith, same))
+  struct_text (first ∷ names) (d ∷ ds) any same = ap (text_in Struct) (named_texts (inside (setting_in mode blocks)) (first ∷ names) (d ∷ ds) same)
+
+  tuple_text : (ds : List Document) → 0 < length ds
+      → text_in (tuple_kind name) (row_texts (inside (setting_in mode blocks)) [] ds) ≡ layout (setting_in mode blocks) (tuple_of name (documents ds))
+  tuple_text [] any = absurd (omega (arith, any))
+  tuple_text (d ∷ ds) any = ap (text_in (tuple_kind name)) (unnamed_texts (inside (setting_in mode blocks)) (d ∷ ds))
 
   -- a struct with such a row of fields
   pub struct_row : {old : List ℕ} {outcome : Result R Fault} {new : List ℕ} (names : List (List ℕ)) → AreWords (name ∷ names)
-      → ((v : R) → length names ≡ suc (length (others v))) → RowTaken Struct names old outcome new
-      → Takes (λ v. are v × Fits blocks (struct_of name (fields_of (zip names (first v ∷ others v)))))
-      (λ v. layout (setting_in mode blocks) (struct_of name (fields_of (zip names (first v ∷ others v))))) old outcome new
+      → ((v : R) → length names ≡ length (row v)) → RowTaken Struct names old outcome new
+      → Takes (λ v. are v × Fits blocks (struct_of name (fields_of (zip names (row v)))))
+      (λ v. layout (setting_in mode blocks) (struct_of name (fields_of (zip names (row v))))) old outcome new
   struct_row names words counted takes =
-      taken_as (λ v is. (is.0.0, struct_fits blocks name (first v) (others v) names words (counted v) is.0.1 is.1))
-      (λ v is. let apart = struct_apart blocks name (first v) (others v) names (counted v) is.1 in ((is.0, apart.0), apart.1))
-      (λ v. ap (text_in Struct) (named_texts (inside (setting_in mode blocks)) names (first v ∷ others v) (counted v)))
+      taken_as (λ v is. (is.0.0, struct_fits blocks name names (row v) (some v) words (counted v) is.0.1 is.1))
+      (λ v is. let apart = struct_apart blocks name names (row v) (some v) (counted v) is.1 in ((is.0, apart.0), apart.1))
+      (λ v is. struct_text names (row v) (some v) (counted v))
       takes
 
   -- a tuple with such a row of fields
   pub tuple_row : {old : List ℕ} {outcome : Result R Fault} {new : List ℕ} {kind : Kind} → kind ≡ tuple_kind name → IsWordOrEmpty name → RowTaken kind [] old outcome new
-      → Takes (λ v. are v × Fits blocks (tuple_of name (documents (first v ∷ others v))))
-      (λ v. layout (setting_in mode blocks) (tuple_of name (documents (first v ∷ others v)))) old outcome new
+      → Takes (λ v. are v × Fits blocks (tuple_of name (documents (row v))))
+      (λ v. layout (setting_in mode blocks) (tuple_of name (documents (row v)))) old outcome new
   tuple_row is_kind is_name takes =
-      taken_as (λ v is. (is.0.0, tuple_fits blocks name (first v) (others v) is_name is.0.1 is.1))
-      (λ v is. let apart = tuple_apart blocks name (first v) (others v) is.1 in ((is.0, apart.0), apart.1))
-      (λ v. ap (λ k. text_in k (row_texts (inside (setting_in mode blocks)) [] (first v ∷ others v))) is_kind
-      ∙ ap (text_in (tuple_kind name)) (unnamed_texts (inside (setting_in mode blocks)) (first v ∷ others v)))
+      taken_as (λ v is. (is.0.0, tuple_fits blocks name (row v) (some v) is_name is.0.1 is.1))
+      (λ v is. let apart = tuple_apart blocks name (row v) (some v) is.1 in ((is.0, apart.0), apart.1))
+      (λ v is. ap (λ k. text_in k (row_texts (inside (setting_in mode blocks)) [] (row v))) is_kind ∙ tuple_text (row v) (some v))
       takes

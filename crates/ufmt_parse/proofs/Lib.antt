@@ -1,12 +1,10 @@
 pub mod Ascending
 pub mod BracketedBlocks
 pub mod Characters
-pub mod Chunks
 pub mod Clauses
 pub mod DecimalFronts
 pub mod EntriesInARow
 pub mod EntryParts
-pub mod EscapedBytes
 pub mod FieldsInARow
 pub mod Forms
 pub mod Integers

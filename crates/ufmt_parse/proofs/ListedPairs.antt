@@ -58,10 +58,6 @@ module _ {K V : Type 0} (is_key : K → Type 0) (is_value : V → Type 0) (of_ke
   depth_of [] = 0
   depth_of (e ∷ es) = suc (max (nest (of_key e.0)) (max (nest (of_value e.1)) (nest_pairs (pairs_of (pair_documents es)))))
 
-  map_depth : (es : List (K × V)) → nest (map_of (pairs_of (pair_documents es))) ≡ depth_of es
-  map_depth [] = refl
-  map_depth (e ∷ es) = refl
-
   -- a map of these entries in any order, in so many blocks
   abbrev pub MapFits : ℕ → List (K × V) → Type 0
   MapFits blocks es = All (IsEntry is_key is_value) es × Fits blocks (map_of (pairs_of (pair_documents es)))

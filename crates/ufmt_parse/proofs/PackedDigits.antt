@@ -8,7 +8,7 @@ use Rattle.std.specs.Int.Digits.{number_from_digits_after, AllBelowBase}
 use lib.Lanes.{digits_l, mask_l, number_l, top, zip2, Each1}
 use lib.ListN.{replicate}
 use Rattle.ufmt_core.specs.Decimal.{decimal_byte}
-use Rattle.ufmt_parse.specs.Digits.{joined}
+use Rattle.ufmt_parse.specs.Private.Digits.{joined}
 
 -- a word cut into its parts and put together again
 pub number_of_digits : (p count n : ℕ) → 0 < p → n < p ^ count → number_l p (digits_l p count n) ≡ n

@@ -40,28 +40,7 @@ module _ {T : Type 0} {is : T → Type 0} {text_of : T → List ℕ} {outcome : 
   pub taken_with : {P : Type 0} → P → {old : List ℕ} → Takes is text_of old outcome new → Takes (λ v. is v × P) text_of old outcome new
   taken_with {P} p {old} takes = record { cases = taken_with_by is text_of P p old outcome new takes.cases }
 
--- a text that each value has is taken, or it isn't there
+-- a text that each value has is taken
 module _ {T : Type 0} {is : T → Type 0} (piece : List ℕ) {old new : List ℕ} where
   pub constant_taken : {v : T} → old ≡ piece ++ new → is v → Takes is (λ w. piece) old (Ok v) new
   constant_taken piece_is holds = record { cases = (piece_is, holds, λ w u is_w may same. append_cancel_left piece u new (sym same ∙ piece_is)) }
-
-  pub constant_refused : DoesNotBegin piece old → Takes is (λ w. piece) old (Err NotText) new
-  constant_refused refuses = record { cases = λ w u is_w may same. refuses u same }
-
--- the same is taken, said of the same values and texts in other words
-module _ {T : Type 0} {is also : T → Type 0} {text_of other : T → List ℕ} (into : (v : T) → is v → also v) (back : (v : T) → also v → is v)
-    (same : (v : T) → text_of v ≡ other v) where
-  back_to : {old : List ℕ} (w : T) (u : List ℕ) → old ≡ other w ++ u → old ≡ text_of w ++ u
-  back_to w u here = here ∙ ap (λ t. t ++ u) (sym (same w))
-
-  taken_as_by : (old : List ℕ) (outcome : Result T Fault) (new : List ℕ) → TakesBy is text_of old outcome new → TakesBy also other old outcome new
-  taken_as_by old (Ok v) new takes = (
-    takes.0 ∙ ap (λ t. t ++ new) (same v),
-    into v takes.1,
-    λ w u holds may here. takes.2 w u (back w holds) may (back_to w u here),
-  )
-  taken_as_by old (Err NotText) new takes = λ w u holds may here. takes w u (back w holds) may (back_to w u here)
-  taken_as_by old (Err OutOfMemory) new takes = tt
-
-  pub taken_as : {old : List ℕ} {outcome : Result T Fault} {new : List ℕ} → Takes is text_of old outcome new → Takes also other old outcome new
-  taken_as {old} {outcome} {new} takes = record { cases = taken_as_by old outcome new takes.cases }

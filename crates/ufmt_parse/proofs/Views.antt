@@ -1,5 +1,5 @@
 -- What is taken, seen another way.
-use Rattle.std.proofs.Common.{◌≡◌, sym, ap, ◌∙◌, List, ℕ, ◌++◌, Result, Ok, Err}
+use Rattle.std.proofs.Common.{◌≡◌, sym, ap, subst, ◌∙◌, List, ℕ, ◌++◌, Result, Ok, Err}
 use Rattle.ufmt_parse.specs.declared.parser.Fault.{Fault}
 use Rattle.ufmt_parse.specs.declared.parser.Fault.TheVariants.{NotText, OutOfMemory}
 use Rattle.ufmt_parse.specs.Blocks.{outcome_map}
@@ -34,3 +34,7 @@ module _ {A T : Type 0} (view : A → T) where
   pub viewed : {is : T → Type 0} {text_of : T → List ℕ} {old : List ℕ} {outcome : Result A Fault} {new : List ℕ} → Takes is text_of old (outcome_map view outcome) new
       → Takes (λ a. is (view a)) (λ a. text_of (view a)) old outcome new
   viewed {is} {text_of} {old} {outcome} {new} takes = record { cases = viewed_by is text_of old outcome new takes.cases }
+
+  pub viewed_as : {is : T → Type 0} {text_of : T → List ℕ} {a : A} {v : T} → view a ≡ v → {old new : List ℕ} → Takes is text_of old (Ok v) new
+      → Takes (λ a. is (view a)) (λ a. text_of (view a)) old (Ok a) new
+  viewed_as {is} {text_of} {a} {v} same {old} {new} takes = viewed {outcome = Ok a} (subst (λ w. Takes is text_of old (Ok w) new) (sym same) takes)

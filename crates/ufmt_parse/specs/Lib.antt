@@ -1,5 +1,5 @@
+pub mod Private
 pub mod Blocks
-pub mod Digits
 pub mod Naming
 pub mod Places
 pub mod RoundTrip

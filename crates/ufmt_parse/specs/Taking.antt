@@ -1,14 +1,12 @@
 -- What a parser takes from the front of a text.
-use Rattle.std.specs.Prelude.{◌≡◌, ◌≢◌, ℕ, ◌+◌, ◌≤◌, Bool, List, [], ◌∷◌, ◌++◌, MatchBool, Option, option_map, Result, Ok, Err, ⊤}
-use Rattle.std.specs.Borrow.{Bor}
+use Rattle.std.specs.Prelude.{◌≡◌, ◌≢◌, ℕ, ◌+◌, ◌≤◌, Bool, List, [], ◌∷◌, ◌++◌, MatchBool, Result, Ok, Err, ⊤}
 use Rattle.ufmt.specs.Document.{Document, nest}
-use Rattle.ufmt.specs.Layout.{layout, setting}
+use Rattle.ufmt.specs.Layout.{layout}
 use Rattle.ufmt_core.specs.declared.layout.Mode.{Mode}
-use Rattle.ufmt_core.specs.declared.layout.Mode.TheVariants.{Plain, Pretty}
-use Rattle.ufmt_core.specs.declared.layout.Setting.{Setting}
 use Rattle.ufmt.specs.declared.class.Class.TheVariants.{Debug}
 use Rattle.ufmt.specs.Leaves.{IsWord, MayFollow}
 use Rattle.ufmt.specs.Token.{IsBuilt}
+pub use Rattle.ufmt_scan.specs.Depth.{depth_in, setting_in}
 use Rattle.ufmt_parse.specs.declared.parser.Parser.{Parser}
 use Rattle.ufmt_parse.specs.declared.parser.Fault.{Fault}
 use Rattle.ufmt_parse.specs.declared.parser.Fault.TheVariants.{NotText, OutOfMemory}
@@ -20,15 +18,6 @@ rest parser = parser.rest.now
 -- how many blocks are open there
 abbrev pub open_blocks : {M : Type 0} → Parser M → ℕ
 open_blocks parser = parser.open_blocks
-
--- the depth of a text in so many blocks
-abbrev pub depth_in : Mode → ℕ → ℕ
-depth_in Plain blocks = 0
-depth_in Pretty blocks = blocks
-
--- the mode and depth of a text in so many blocks
-abbrev pub setting_in : Mode → ℕ → Setting
-setting_in mode blocks = setting mode (depth_in mode blocks)
 
 -- a debug document that may be inside so many blocks
 abbrev pub Fits : ℕ → Document → Type 0
@@ -46,10 +35,6 @@ DoesNotBegin piece old = (u : List ℕ) → old ≢ piece ++ u
 -- a piece is taken from the front if it is there
 abbrev pub Eats : List ℕ → List ℕ → Bool → List ℕ → Type 0
 Eats piece old eaten new = MatchBool eaten (old ≡ piece ++ new) (DoesNotBegin piece old)
-
--- the bytes of the rest, if there is one
-abbrev pub now_of : Option (Bor (List ℕ)) → Option (List ℕ)
-now_of rest = option_map (λ r. r.now) rest
 
 -- if a value's text is here, and a text that may follow it, that text is what is left
 abbrev pub LeavesOnly : {T : Type 0} → (T → Type 0) → (T → List ℕ) → List ℕ → List ℕ → Type 0

@@ -10,6 +10,7 @@ ghost use Rattle.ufmt_parse.specs.Taking.{open_blocks};
 use crate::from_front::ParsesBy;
 use crate::mode::ParseMode;
 use crate::parser::{Fault, Parser};
+use std::alloc::Allocator;
 use ufmt::uDebug;
 
 /// For a type that holds itself: `is_value` and `prove_value` of `uParse`, in a trait without `parse_from`.
@@ -23,7 +24,7 @@ pub trait ProvesValue {
         ensures { is_whole self.now };
 }
 
-impl<T: ProvesValue> ProvesValue for Vec<T> {
+impl<T: ProvesValue, A: Allocator> ProvesValue for Vec<T, A> {
     ghost is_whole = { λ values. AllByRecursion T.is_whole values.items };
 
     #[tactic(auto, using(crate::proofs::Layers::each_of))]
@@ -36,7 +37,7 @@ impl<T: ProvesValue> ProvesValue for Vec<T> {
 
 /// Parses by a function whose contract is `Parses`, as `By(parse_node)` within `parse_node`.
 ///
-/// Each value of a type that holds itself is inside a block more than the one around it, and at most 255 blocks
+/// A value of a type that holds itself is in more blocks than the value that holds it, and at most 255 blocks
 /// are open. So the recursion ends with no depth passed down: its measure is `255 - open_blocks`.
 #[derive(Drop)]
 pub struct By<F>(pub F);

@@ -1,6 +1,6 @@
 //! The decimal digits at the front of a text.
 ghost use Rattle.std.specs.Prelude.{◌≡◌, ◌+◌, ◌-◌, ◌*◌, ◌^◌, ◌<◌, ◌≤◌, ℕ, false, true, MatchOption, option_map};
-ghost use Rattle.ufmt_parse.specs.Digits.{FrontMagnitude, after_digits, after_minus, begins_minus, begins_digit, value_after};
+ghost use Rattle.ufmt_parse.specs.Private.Digits.{FrontMagnitude, after_digits, after_minus, begins_minus, begins_digit, value_after};
 
 use crate::sixteen_digits::split_sixteen;
 

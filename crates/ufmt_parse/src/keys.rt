@@ -4,7 +4,14 @@ ghost use Rattle.std.specs.declared.cmp.Ordering.TheVariants.{Equal};
 ghost use Rattle.ufmt.specs.Token.{normal};
 
 use crate::from_front::uParse;
-use std::alloc::Global;
+use std::alloc::Allocator;
+use std::borrow::{Cow, CowSlice};
+use std::boxed::{BoxedSlice, BoxedStr};
+use std::cmp::{Ordering, Reverse};
+use std::collections::{LinkedList, VecDeque};
+use std::num::{Saturating, Wrapping};
+use std::rc::{Rc, RcSlice, RcStr};
+use std::sync::{Arc, ArcSlice, ArcStr};
 
 /// A key of a set or a map that can be parsed: no other key has its text.
 pub trait ParseKey<A>: uParse<A> + Ord {
@@ -87,7 +94,7 @@ impl<A: Copy> ParseKey<A> for char {
     fn prove_key() {}
 }
 
-impl ParseKey<Global> for String {
+impl<A: Allocator + Copy> ParseKey<A> for String<A> {
     fn prove_key() {}
 }
 
@@ -104,19 +111,113 @@ impl<A: Copy, K: ParseKey<A>, L: ParseKey<A>> ParseKey<A> for Result<K, L> {
     }
 }
 
-impl<K: ParseKey<Global>> ParseKey<Global> for Box<K> {
+impl<A: Allocator + Copy, K: ParseKey<A>> ParseKey<A> for Box<K, A> {
     fn prove_key() {
         K::prove_key();
     }
 }
 
-impl<K: ParseKey<Global>> ParseKey<Global> for Vec<K> {
+impl<A: Allocator + Copy, K: ParseKey<A>> ParseKey<A> for Vec<K, A> {
     fn prove_key() {
         K::prove_key();
     }
 }
 
-impl<K: ParseKey<Global>, const N: usize> ParseKey<Global> for [K; N] {
+impl<A: Allocator + Copy, K: ParseKey<A>, const N: usize> ParseKey<A> for [K; N] {
+    fn prove_key() {
+        K::prove_key();
+    }
+}
+
+impl<A: Copy> ParseKey<A> for Ordering {
+    fn prove_key() {}
+}
+
+impl<A, K: ParseKey<A>> ParseKey<A> for Wrapping<K> {
+    fn prove_key() {
+        K::prove_key();
+    }
+}
+
+impl<A, K: ParseKey<A>> ParseKey<A> for Saturating<K> {
+    fn prove_key() {
+        K::prove_key();
+    }
+}
+
+impl<A: Copy, K: ParseKey<A>> ParseKey<A> for Reverse<K> {
+    fn prove_key() {
+        K::prove_key();
+    }
+}
+
+impl<A: Allocator + Copy, K: ParseKey<A>> ParseKey<A> for Rc<K, A> {
+    fn prove_key() {
+        K::prove_key();
+    }
+}
+
+impl<A: Allocator + Copy, K: ParseKey<A>> ParseKey<A> for Arc<K, A> {
+    fn prove_key() {
+        K::prove_key();
+    }
+}
+
+impl<'a, A, K: ParseKey<A>> ParseKey<A> for Cow<'a, K> {
+    fn prove_key() {
+        K::prove_key();
+    }
+}
+
+impl<A: Allocator + Copy> ParseKey<A> for BoxedStr<A> {
+    fn prove_key() {
+        <String<A> as ParseKey<A>>::prove_key();
+    }
+}
+
+impl<A: Allocator + Copy> ParseKey<A> for RcStr<A> {
+    fn prove_key() {
+        <String<A> as ParseKey<A>>::prove_key();
+    }
+}
+
+impl<A: Allocator + Copy> ParseKey<A> for ArcStr<A> {
+    fn prove_key() {
+        <String<A> as ParseKey<A>>::prove_key();
+    }
+}
+
+impl<A: Allocator + Copy, K: ParseKey<A>> ParseKey<A> for BoxedSlice<K, A> {
+    fn prove_key() {
+        <Vec<K, A> as ParseKey<A>>::prove_key();
+    }
+}
+
+impl<A: Allocator + Copy, K: ParseKey<A>> ParseKey<A> for RcSlice<K, A> {
+    fn prove_key() {
+        <Vec<K, A> as ParseKey<A>>::prove_key();
+    }
+}
+
+impl<A: Allocator + Copy, K: ParseKey<A>> ParseKey<A> for ArcSlice<K, A> {
+    fn prove_key() {
+        <Vec<K, A> as ParseKey<A>>::prove_key();
+    }
+}
+
+impl<'a, A: Allocator + Copy, K: ParseKey<A>> ParseKey<A> for CowSlice<'a, K, A> {
+    fn prove_key() {
+        K::prove_key();
+    }
+}
+
+impl<A: Allocator + Copy, K: ParseKey<A>> ParseKey<A> for VecDeque<K, A> {
+    fn prove_key() {
+        K::prove_key();
+    }
+}
+
+impl<A: Allocator + Copy, K: ParseKey<A>> ParseKey<A> for LinkedList<K, A> {
     fn prove_key() {
         K::prove_key();
     }

@@ -11,11 +11,11 @@ use crate::entries::{EntryParser, Value};
 use crate::from_front::{ParsesBy, Plain, uParse};
 use crate::mode::ParseMode;
 use crate::parser::{Fault, Parser};
-use std::alloc::Global;
+use std::alloc::Allocator;
 use ufmt::layout::{Count, Kind};
 use ufmt::uDebug;
 
-impl<T: uParse<Global>> uParse<Global> for Vec<T> {
+impl<A: Allocator + Copy, T: uParse<A>> uParse<A> for Vec<T, A> {
     ghost is_value = { λ values. All T.is_value values.items };
 
     fn prove_value(&self) {
@@ -24,15 +24,12 @@ impl<T: uParse<Global>> uParse<Global> for Vec<T> {
         }
     }
 
-    fn parse_from<M: ParseMode>(
-        alloc: Global,
-        parser: &mut Parser<'_, M>,
-    ) -> Result<Vec<T>, Fault> {
+    fn parse_from<M: ParseMode>(alloc: A, parser: &mut Parser<'_, M>) -> Result<Vec<T, A>, Fault> {
         parse_list(alloc, parser, &Value(Plain))
     }
 }
 
-impl<T: uParse<Global>, const N: usize> uParse<Global> for [T; N] {
+impl<A: Allocator + Copy, T: uParse<A>, const N: usize> uParse<A> for [T; N] {
     ghost is_value = { λ values. All T.is_value values × (length values ≡ N) };
 
     fn prove_value(&self) {
@@ -41,10 +38,7 @@ impl<T: uParse<Global>, const N: usize> uParse<Global> for [T; N] {
         }
     }
 
-    fn parse_from<M: ParseMode>(
-        alloc: Global,
-        parser: &mut Parser<'_, M>,
-    ) -> Result<[T; N], Fault> {
+    fn parse_from<M: ParseMode>(alloc: A, parser: &mut Parser<'_, M>) -> Result<[T; N], Fault> {
         parse_array(alloc, parser)
     }
 }
@@ -53,20 +47,23 @@ impl<T: uParse<Global>, const N: usize> uParse<Global> for [T; N] {
 #[derive(Drop)]
 pub struct Each<P>(pub P);
 
-impl<M: ParseMode, T: uDebug + Drop, P: ParsesBy<Global, M, T>> ParsesBy<Global, M, Vec<T>>
-    for Each<P> {
+impl<A: Allocator + Copy, M: ParseMode, T: uDebug + Drop, P: ParsesBy<A, M, T>> ParsesBy<
+    A,
+    M,
+    Vec<T, A>,
+> for Each<P> {
     ghost is_value = { λ values. AllByRecursion P.is_value values.items };
 
     ghost ready = { λ each blocks. blocks < 255 → P.ready each.0 (suc blocks) };
 
-    fn parse_by(&self, alloc: Global, parser: &mut Parser<'_, M>) -> Result<Vec<T>, Fault> {
+    fn parse_by(&self, alloc: A, parser: &mut Parser<'_, M>) -> Result<Vec<T, A>, Fault> {
         parse_list(alloc, parser, &Value(&self.0))
     }
 }
 
 // Takes a list of so many values.
-fn parse_array<T: uParse<Global>, const N: usize, M: ParseMode>(
-    alloc: Global,
+fn parse_array<A: Allocator + Copy, T: uParse<A>, const N: usize, M: ParseMode>(
+    alloc: A,
     parser: &mut Parser<'_, M>,
 ) -> Result<[T; N], Fault>
     ensures takes { Takes (λ values. (All T.is_value values × (length values ≡ N))
@@ -90,11 +87,11 @@ fn parse_array<T: uParse<Global>, const N: usize, M: ParseMode>(
 }
 
 /// Takes a list, each value by this parser.
-pub(crate) fn parse_list<M: ParseMode, T: uDebug + Drop, P: ParsesBy<Global, M, T>>(
-    alloc: Global,
+pub(crate) fn parse_list<A: Allocator + Copy, M: ParseMode, T: uDebug + Drop, P: ParsesBy<A, M, T>>(
+    alloc: A,
     parser: &mut Parser<'_, M>,
     by: &Value<P>,
-) -> Result<Vec<T>, Fault>
+) -> Result<Vec<T, A>, Fault>
     requires { open_blocks parser.old < 255 → P.ready by.now.0 (suc (open_blocks parser.old)) }
     ensures takes { Takes (λ values. All P.is_value values
         × Fits (open_blocks parser.old) (list_of (documents (map T.document values))))
@@ -107,12 +104,12 @@ pub(crate) fn parse_list<M: ParseMode, T: uDebug + Drop, P: ParsesBy<Global, M, 
 }
 
 /// Takes a block in brackets or braces, each entry by this parser.
-pub(crate) fn parse_entries<M: ParseMode, E: Drop, P: EntryParser<Global, M, E>>(
-    alloc: Global,
+pub(crate) fn parse_entries<A: Allocator + Copy, M: ParseMode, E: Drop, P: EntryParser<A, M, E>>(
+    alloc: A,
     parser: &mut Parser<'_, M>,
     kind: Kind,
     by: &P,
-) -> Result<Vec<E>, Fault>
+) -> Result<Vec<E, A>, Fault>
     requires bracketed { IsBracketed kind }
     requires begin { EntriesBegin P.fit (P.text by.now) }
     requires ready { open_blocks parser.old < 255 → P.ready by.now (suc (open_blocks parser.old)) }
@@ -144,12 +141,12 @@ pub(crate) fn parse_entries<M: ParseMode, E: Drop, P: EntryParser<Global, M, E>>
 }
 
 // Takes one entry or more of the innermost block, and its end.
-fn parse_some<M: ParseMode, E: Drop, P: EntryParser<Global, M, E>>(
-    alloc: Global,
+fn parse_some<A: Allocator + Copy, M: ParseMode, E: Drop, P: EntryParser<A, M, E>>(
+    alloc: A,
     parser: &mut Parser<'_, M>,
     kind: Kind,
     by: &P,
-) -> Result<Vec<E>, Fault>
+) -> Result<Vec<E, A>, Fault>
     requires bracketed { IsBracketed kind }
     requires counted { 0 < open_blocks parser.old }
     requires ready { P.ready by.now (open_blocks parser.old) }

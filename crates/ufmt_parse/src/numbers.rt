@@ -2,7 +2,7 @@
 ghost use Rattle.std.specs.Prelude.{◌≡◌, ◌<◌, ◌≤◌, ⊤, length, List, ℕ, ℤ, pos, nat_abs, false, IfOk, IfErr, MatchOption};
 ghost use Rattle.ufmt_core.specs.Decimal.{decimal};
 ghost use Rattle.ufmt_core.specs.Document.{leaf};
-ghost use Rattle.ufmt_parse.specs.Digits.{IsSigned, SplitsSign};
+ghost use Rattle.ufmt_parse.specs.Private.Digits.{IsSigned, SplitsSign};
 ghost use Rattle.ufmt_parse.specs.Taking.{IsNext, IsTaken, open_blocks, rest};
 ghost use Rattle.ufmt_parse.specs.Values.{is_u8, is_u16, is_u32, is_u64, is_u128, is_usize, is_i8, is_i16, is_i32, is_i64, is_i128, is_isize};
 
@@ -24,12 +24,6 @@ trait Integer<N: Magnitude> {
         ensures { MatchOption result
             ((v : Self) → in_range v → IsSigned negative (N.value magnitude) (int v) → ⊥)
             (λ v. in_range v × IsSigned negative (N.value magnitude) (int v)) };
-
-    // Whether there are integers of more than ten digits.
-    #[inline(always)]
-    fn is_long() -> bool {
-        true
-    }
 
     // Whether there are integers below 0.
     #[inline(always)]
@@ -59,11 +53,6 @@ impl Integer<u64> for u8 {
     }
 
     #[inline(always)]
-    fn is_long() -> bool {
-        false
-    }
-
-    #[inline(always)]
     fn is_signed() -> bool {
         false
     }
@@ -86,11 +75,6 @@ impl Integer<u64> for u16 {
     }
 
     #[inline(always)]
-    fn is_long() -> bool {
-        false
-    }
-
-    #[inline(always)]
     fn is_signed() -> bool {
         false
     }
@@ -110,11 +94,6 @@ impl Integer<u64> for u32 {
         } else {
             u32::try_from(magnitude).ok()
         }
-    }
-
-    #[inline(always)]
-    fn is_long() -> bool {
-        false
     }
 
     #[inline(always)]
@@ -193,11 +172,6 @@ impl Integer<u64> for i8 {
         i8::try_from(i64::from_magnitude(negative, magnitude)?).ok()
     }
 
-    #[inline(always)]
-    fn is_long() -> bool {
-        false
-    }
-
     fn prove_fits() {}
 }
 
@@ -211,11 +185,6 @@ impl Integer<u64> for i16 {
         i16::try_from(i64::from_magnitude(negative, magnitude)?).ok()
     }
 
-    #[inline(always)]
-    fn is_long() -> bool {
-        false
-    }
-
     fn prove_fits() {}
 }
 
@@ -227,11 +196,6 @@ impl Integer<u64> for i32 {
     #[inline(always)]
     fn from_magnitude(negative: bool, magnitude: u64) -> Option<i32> {
         i32::try_from(i64::from_magnitude(negative, magnitude)?).ok()
-    }
-
-    #[inline(always)]
-    fn is_long() -> bool {
-        false
     }
 
     fn prove_fits() {}
@@ -297,10 +261,11 @@ fn split_sign<N: Magnitude, T: Integer<N>>(input: &[u8]) -> (bool, &[u8])
     }
 }
 
-// The integer at the front.
+// The integer at the front. One of more than ten digits is fast only if `is_long` says that it may come.
 #[inline(always)]
 fn parse_integer<N: Magnitude, T: Integer<N>, M: ParseMode>(
     parser: &mut Parser<'_, M>,
+    is_long: bool,
 ) -> Result<T, Fault>
     ensures taken { IfOk result (λ v. IsTaken M.mode parser.old (leaf (decimal (T.int v))) parser.new) }
     ensures only { IfOk result (λ _. (v : T) (u : List ℕ) → T.in_range v
@@ -312,7 +277,7 @@ fn parse_integer<N: Magnitude, T: Integer<N>, M: ParseMode>(
     ensures shrinks { length (rest parser.new) ≤ length (rest parser.old) }
 {
     let (negative, digits) = split_sign::<N, T>(parser.rest());
-    match split_magnitude::<N>(digits, T::is_long()) {
+    match split_magnitude::<N>(digits, is_long) {
         None => {
             T::prove_fits();
             Err(Fault::NotText)
@@ -338,7 +303,7 @@ impl<A: Copy> uParse<A> for u8 {
 
     #[inline(always)]
     fn parse_from<M: ParseMode>(_alloc: A, parser: &mut Parser<'_, M>) -> Result<u8, Fault> {
-        parse_integer::<u64, u8, M>(parser)
+        parse_integer::<u64, u8, M>(parser, false)
     }
 }
 
@@ -353,7 +318,7 @@ impl<A: Copy> uParse<A> for u16 {
 
     #[inline(always)]
     fn parse_from<M: ParseMode>(_alloc: A, parser: &mut Parser<'_, M>) -> Result<u16, Fault> {
-        parse_integer::<u64, u16, M>(parser)
+        parse_integer::<u64, u16, M>(parser, false)
     }
 }
 
@@ -368,7 +333,7 @@ impl<A: Copy> uParse<A> for u32 {
 
     #[inline(always)]
     fn parse_from<M: ParseMode>(_alloc: A, parser: &mut Parser<'_, M>) -> Result<u32, Fault> {
-        parse_integer::<u64, u32, M>(parser)
+        parse_integer::<u64, u32, M>(parser, false)
     }
 }
 
@@ -383,7 +348,7 @@ impl<A: Copy> uParse<A> for u64 {
 
     #[inline(always)]
     fn parse_from<M: ParseMode>(_alloc: A, parser: &mut Parser<'_, M>) -> Result<u64, Fault> {
-        parse_integer::<u64, u64, M>(parser)
+        parse_integer::<u64, u64, M>(parser, true)
     }
 }
 
@@ -398,7 +363,7 @@ impl<A: Copy> uParse<A> for usize {
 
     #[inline(always)]
     fn parse_from<M: ParseMode>(_alloc: A, parser: &mut Parser<'_, M>) -> Result<usize, Fault> {
-        parse_integer::<u64, usize, M>(parser)
+        parse_integer::<u64, usize, M>(parser, true)
     }
 }
 
@@ -413,7 +378,7 @@ impl<A: Copy> uParse<A> for u128 {
 
     #[inline(always)]
     fn parse_from<M: ParseMode>(_alloc: A, parser: &mut Parser<'_, M>) -> Result<u128, Fault> {
-        parse_integer::<u128, u128, M>(parser)
+        parse_integer::<u128, u128, M>(parser, true)
     }
 }
 
@@ -428,7 +393,7 @@ impl<A: Copy> uParse<A> for i8 {
 
     #[inline(always)]
     fn parse_from<M: ParseMode>(_alloc: A, parser: &mut Parser<'_, M>) -> Result<i8, Fault> {
-        parse_integer::<u64, i8, M>(parser)
+        parse_integer::<u64, i8, M>(parser, false)
     }
 }
 
@@ -443,7 +408,7 @@ impl<A: Copy> uParse<A> for i16 {
 
     #[inline(always)]
     fn parse_from<M: ParseMode>(_alloc: A, parser: &mut Parser<'_, M>) -> Result<i16, Fault> {
-        parse_integer::<u64, i16, M>(parser)
+        parse_integer::<u64, i16, M>(parser, false)
     }
 }
 
@@ -458,7 +423,7 @@ impl<A: Copy> uParse<A> for i32 {
 
     #[inline(always)]
     fn parse_from<M: ParseMode>(_alloc: A, parser: &mut Parser<'_, M>) -> Result<i32, Fault> {
-        parse_integer::<u64, i32, M>(parser)
+        parse_integer::<u64, i32, M>(parser, false)
     }
 }
 
@@ -473,7 +438,7 @@ impl<A: Copy> uParse<A> for i64 {
 
     #[inline(always)]
     fn parse_from<M: ParseMode>(_alloc: A, parser: &mut Parser<'_, M>) -> Result<i64, Fault> {
-        parse_integer::<u64, i64, M>(parser)
+        parse_integer::<u64, i64, M>(parser, true)
     }
 }
 
@@ -488,7 +453,7 @@ impl<A: Copy> uParse<A> for isize {
 
     #[inline(always)]
     fn parse_from<M: ParseMode>(_alloc: A, parser: &mut Parser<'_, M>) -> Result<isize, Fault> {
-        parse_integer::<u64, isize, M>(parser)
+        parse_integer::<u64, isize, M>(parser, true)
     }
 }
 
@@ -503,6 +468,6 @@ impl<A: Copy> uParse<A> for i128 {
 
     #[inline(always)]
     fn parse_from<M: ParseMode>(_alloc: A, parser: &mut Parser<'_, M>) -> Result<i128, Fault> {
-        parse_integer::<u128, i128, M>(parser)
+        parse_integer::<u128, i128, M>(parser, true)
     }
 }

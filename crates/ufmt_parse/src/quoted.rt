@@ -1,27 +1,14 @@
 //! Characters in apostrophes.
-ghost use Rattle.std.specs.Prelude.{◌≡◌, ◌≢◌, ◌+◌, ◌++◌, ⊤, ℕ, List, MatchOption, encode_utf8};
+ghost use Rattle.std.specs.Prelude.{◌≡◌, ◌≢◌, ◌++◌, ⊤, ℕ, List, MatchOption, encode_utf8};
 ghost use Rattle.std.specs.Char.{IsScalar};
-ghost use Rattle.std.specs.Str.{continuation_len};
 ghost use Rattle.ufmt.specs.Quoted.{escaped, quoted_char};
 ghost use Rattle.ufmt_core.specs.Bytes.{apostrophe};
 
-use crate::escapes::split_escaped;
 use crate::from_front::uParse;
 use crate::mode::ParseMode;
 use crate::parser::{Fault, Parser};
-use crate::strip::strip_byte;
-
-// How many bytes a character has, by its first byte.
-fn character_len(lead: u8) -> usize
-    ensures { result ≡ 1 + continuation_len lead }
-{
-    match lead {
-        0..=0x7f => 1,
-        0x80..=0xdf => 2,
-        0xe0..=0xef => 3,
-        _ => 4,
-    }
-}
+use ufmt_scan::quoted::{character_len, split_escaped};
+use ufmt_scan::strip::strip_byte;
 
 // The character that the bytes are, if they are one in UTF-8.
 fn only_character(bytes: &[u8]) -> Option<char>

@@ -1,4 +1,4 @@
-//! Rows of values, as the fields of structs and tuples, each parsed by its type's `parse_from`.
+//! Rows of values, as the fields of structs and tuples, and their parsers.
 ghost use Rattle.std.specs.Prelude.{◌≤◌, ◌<◌, ◌-◌, length, [], ◌∷◌, ◌≡◌, ℕ, List, IfOk, IfErr, suc, zip, ⊤};
 ghost use Rattle.ufmt.specs.Document.{Document, documents, fields_of, struct_of, tuple_of};
 ghost use Rattle.ufmt.specs.Layout.{block_tail, frame};
@@ -8,35 +8,39 @@ ghost use Rattle.ufmt_parse.specs.Taking.{AreWords, IsNext, IsTaken, Takes, open
 
 use crate::entries::{Named, Value};
 use crate::fields::{FieldParsers, parse_block};
-use crate::from_front::{Plain, uParse};
+use crate::from_front::{ParsesBy, Plain};
 use crate::mode::ParseMode;
 use crate::parser::{Fault, Parser};
 use ufmt::layout::{Count, Kind};
+use ufmt::uDebug;
 
-/// A row of values: the first, and those after it, or `()`.
-// It is a trait of the values. A check of a chain of parsers takes four times as long.
-pub trait Row<A>: Drop {
+/// Parsers of a row of values, which a tuple of values is: `Plain`, or a tuple of parsers.
+// The values are a tuple, and no chain of pairs: a check of a call with a chain of twelve takes more than twice as long.
+pub trait RowParsers<A, M: ParseMode, V> {
     // What holds of each row that a program has.
-    ghost are_values: { Self → Type 0 };
+    ghost are_values: { V → Type 0 };
 
-    // Holds if none of the values holds memory.
+    // Holds if no memory is taken.
     ghost hold_no_memory: { Type 0 };
 
     // The values' documents.
-    ghost documents: { Self → List Document };
+    ghost documents: { V → List Document };
+
+    // Whether they may be called where so many blocks are open.
+    ghost ready: { Self → ℕ → Type 0 };
 
     // Takes the fields that are left of a block, each after its name as far as there are names, and the
     // block's end.
-    fn parse_row<M: ParseMode>(
+    fn parse_row(
+        &self,
         alloc: A,
         parser: &mut Parser<'_, M>,
         kind: Kind,
         count: Count,
         names: &[&str],
-    ) -> Result<Self, Fault>
-    where
-        Self: Sized,
-        requires { 0 < open_blocks parser.old }
+    ) -> Result<V, Fault>
+        requires opened { 0 < open_blocks parser.old }
+        requires ready { ready self.now (open_blocks parser.old) }
         ensures takes { Takes (λ v. are_values v × AllFit (open_blocks parser.old) (documents v))
             (λ v. block_tail (frame M.mode kind) (setting_in M.mode (open_blocks parser.old - 1)) count
             (row_texts (setting_in M.mode (open_blocks parser.old)) (all_now names.now) (documents v)))
@@ -48,16 +52,17 @@ pub trait Row<A>: Drop {
 
 /// Parses a row whose values have these names. A tuple's have none.
 #[derive(Drop)]
-pub struct Names<'a>(pub &'a [&'a str]);
+pub struct Names<'a, R>(pub &'a [&'a str], pub &'a R);
 
-impl<'a, A: Copy, M: ParseMode, V: Row<A>> FieldParsers<A, M, V> for Names<'a> {
-    ghost fit = { λ blocks v. V.are_values v × AllFit blocks (V.documents v) };
+impl<'a, A: Copy, M: ParseMode, V: Drop, R: RowParsers<A, M, V>> FieldParsers<A, M, V>
+    for Names<'a, R> {
+    ghost fit = { λ blocks v. R.are_values v × AllFit blocks (R.documents v) };
 
-    ghost holds_no_memory = { V.hold_no_memory };
+    ghost holds_no_memory = { R.hold_no_memory };
 
-    ghost texts = { λ names s v. row_texts s (all_now names.0.now) (V.documents v) };
+    ghost texts = { λ names s v. row_texts s (all_now names.0.now) (R.documents v) };
 
-    ghost ready = { λ _ _. ⊤ };
+    ghost ready = { λ names blocks. R.ready names.1.now blocks };
 
     #[inline(always)]
     fn parse_rest(
@@ -67,19 +72,22 @@ impl<'a, A: Copy, M: ParseMode, V: Row<A>> FieldParsers<A, M, V> for Names<'a> {
         kind: Kind,
         count: Count,
     ) -> Result<V, Fault> {
-        V::parse_row(alloc, parser, kind, count, self.0)
+        self.1.parse_row(alloc, parser, kind, count, self.0)
     }
 }
 
-impl<A: Copy> Row<A> for () {
+impl<A: Copy, M: ParseMode> RowParsers<A, M, ()> for Plain {
     ghost are_values = { λ _. ⊤ };
 
     ghost hold_no_memory = { ⊤ };
 
     ghost documents = { λ _. [] };
 
+    ghost ready = { λ _ _. ⊤ };
+
     #[inline(always)]
-    fn parse_row<M: ParseMode>(
+    fn parse_row(
+        &self,
         alloc: A,
         parser: &mut Parser<'_, M>,
         kind: Kind,
@@ -90,74 +98,95 @@ impl<A: Copy> Row<A> for () {
     }
 }
 
-impl<A: Copy, T: uParse<A>, V: Row<A>> Row<A> for (T, V) {
-    ghost are_values = { λ v. T.is_value v.0 × V.are_values v.1 };
-
-    ghost hold_no_memory = { T.holds_no_memory × V.hold_no_memory };
-
-    ghost documents = { λ v. T.document v.0 ∷ V.documents v.1 };
-
-    #[inline(always)]
-    fn parse_row<M: ParseMode>(
-        alloc: A,
-        parser: &mut Parser<'_, M>,
-        kind: Kind,
-        count: Count,
-        names: &[&str],
-    ) -> Result<(T, V), Fault> {
-        match names.split_first() {
-            None => (Value(Plain), Names(names)).parse_rest(alloc, parser, kind, count),
-            Some((name, names)) => {
-                (Named(*name, Plain), Names(names)).parse_rest(alloc, parser, kind, count)
-            }
+/// Takes the first of the fields that are left of a block, by its parser, and then the others.
+#[inline(always)]
+pub(crate) fn parse_first<
+    A: Copy,
+    M: ParseMode,
+    T: uDebug + Drop,
+    V: Drop,
+    P: ParsesBy<A, M, T>,
+    R: RowParsers<A, M, V>,
+>(
+    alloc: A,
+    parser: &mut Parser<'_, M>,
+    kind: Kind,
+    count: Count,
+    names: &[&str],
+    first: &P,
+    others: &R,
+) -> Result<(T, V), Fault>
+    requires opened { 0 < open_blocks parser.old }
+    requires first { P.ready first.now (open_blocks parser.old) }
+    requires others { R.ready others.now (open_blocks parser.old) }
+    ensures takes { Takes (λ v. (P.is_value v.0 × R.are_values v.1)
+        × AllFit (open_blocks parser.old) (T.document v.0 ∷ R.documents v.1))
+        (λ v. block_tail (frame M.mode kind) (setting_in M.mode (open_blocks parser.old - 1)) count
+        (row_texts (setting_in M.mode (open_blocks parser.old)) (all_now names.now)
+        (T.document v.0 ∷ R.documents v.1))) (rest parser.old) result (rest parser.new) }
+    ensures memory { P.holds_no_memory × R.hold_no_memory → IfErr result (λ fault. fault ≡ Fault.NotText) }
+    ensures blocks { IfOk result (λ _. open_blocks parser.new ≡ open_blocks parser.old) }
+    ensures shrinks { length (rest parser.new) ≤ length (rest parser.old) }
+{
+    match names.split_first() {
+        None => (Value(first), Names(names, others)).parse_rest(alloc, parser, kind, count),
+        Some((name, names)) => {
+            (Named(*name, first), Names(names, others)).parse_rest(alloc, parser, kind, count)
         }
     }
 }
 
-/// Takes a struct with a row of fields, as `parse_from` does a value.
+/// Takes a struct with a row of fields.
 #[inline(always)]
-pub(crate) fn parse_struct_row<A: Copy, T: uParse<A>, V: Row<A>, M: ParseMode>(
+pub(crate) fn parse_struct_row<A: Copy, M: ParseMode, V: Drop, R: RowParsers<A, M, V>>(
     alloc: A,
     parser: &mut Parser<'_, M>,
     name: &str,
     names: &[&str],
-) -> Result<(T, V), Fault>
+    row: &R,
+) -> Result<V, Fault>
     requires words { AreWords (name.now ∷ all_now names.now) }
-    requires counted { (v : V) → length (all_now names.now) ≡ suc (length (V.documents v)) }
+    requires some { (v : V) → 0 < length (R.documents v) }
+    requires counted { (v : V) → length (all_now names.now) ≡ length (R.documents v) }
+    requires ready { open_blocks parser.old < 255 → R.ready row.now (suc (open_blocks parser.old)) }
+    ensures values { IfOk result R.are_values }
     ensures taken { IfOk result (λ v. IsTaken M.mode parser.old (struct_of name.now (fields_of
-        (zip (all_now names.now) (T.document v.0 ∷ V.documents v.1)))) parser.new) }
-    ensures only { IfOk result (λ _. (v : T × V) (u : List ℕ) → T.is_value v.0 × V.are_values v.1
+        (zip (all_now names.now) (R.documents v)))) parser.new) }
+    ensures only { IfOk result (λ _. (v : V) (u : List ℕ) → R.are_values v
         → IsNext M.mode parser.old (struct_of name.now (fields_of
-        (zip (all_now names.now) (T.document v.0 ∷ V.documents v.1)))) u → u ≡ rest parser.new) }
-    ensures none { IfErr result (λ fault. fault ≡ Fault.NotText → (v : T × V) (u : List ℕ)
-        → T.is_value v.0 × V.are_values v.1 → ¬ IsNext M.mode parser.old (struct_of name.now (fields_of
-        (zip (all_now names.now) (T.document v.0 ∷ V.documents v.1)))) u) }
-    ensures memory { T.holds_no_memory × V.hold_no_memory → IfErr result (λ fault. fault ≡ Fault.NotText) }
+        (zip (all_now names.now) (R.documents v)))) u → u ≡ rest parser.new) }
+    ensures none { IfErr result (λ fault. fault ≡ Fault.NotText → (v : V) (u : List ℕ)
+        → R.are_values v → ¬ IsNext M.mode parser.old (struct_of name.now (fields_of
+        (zip (all_now names.now) (R.documents v)))) u) }
+    ensures memory { R.hold_no_memory → IfErr result (λ fault. fault ≡ Fault.NotText) }
     ensures blocks { IfOk result (λ _. open_blocks parser.new ≡ open_blocks parser.old) }
     ensures shrinks { length (rest parser.new) ≤ length (rest parser.old) }
 {
-    parse_block(alloc, parser, Kind::Struct, name, &Names(names))
+    parse_block(alloc, parser, Kind::Struct, name, &Names(names, row))
 }
 
-/// Takes a tuple with a row of fields, as `parse_from` does a value.
+/// Takes a tuple with a row of fields.
 #[inline(always)]
-pub(crate) fn parse_tuple_row<A: Copy, T: uParse<A>, V: Row<A>, M: ParseMode>(
+pub(crate) fn parse_tuple_row<A: Copy, M: ParseMode, V: Drop, R: RowParsers<A, M, V>>(
     alloc: A,
     parser: &mut Parser<'_, M>,
     name: &str,
-) -> Result<(T, V), Fault>
-    requires { IsWordOrEmpty name.now }
-    ensures taken { IfOk result (λ v. IsTaken M.mode parser.old (tuple_of name.now (documents
-        (T.document v.0 ∷ V.documents v.1))) parser.new) }
-    ensures only { IfOk result (λ _. (v : T × V) (u : List ℕ) → T.is_value v.0 × V.are_values v.1
-        → IsNext M.mode parser.old (tuple_of name.now (documents (T.document v.0 ∷ V.documents v.1))) u
-        → u ≡ rest parser.new) }
-    ensures none { IfErr result (λ fault. fault ≡ Fault.NotText → (v : T × V) (u : List ℕ)
-        → T.is_value v.0 × V.are_values v.1 → ¬ IsNext M.mode parser.old (tuple_of name.now (documents
-        (T.document v.0 ∷ V.documents v.1))) u) }
-    ensures memory { T.holds_no_memory × V.hold_no_memory → IfErr result (λ fault. fault ≡ Fault.NotText) }
+    row: &R,
+) -> Result<V, Fault>
+    requires named { IsWordOrEmpty name.now }
+    requires some { (v : V) → 0 < length (R.documents v) }
+    requires ready { open_blocks parser.old < 255 → R.ready row.now (suc (open_blocks parser.old)) }
+    ensures values { IfOk result R.are_values }
+    ensures taken { IfOk result (λ v. IsTaken M.mode parser.old
+        (tuple_of name.now (documents (R.documents v))) parser.new) }
+    ensures only { IfOk result (λ _. (v : V) (u : List ℕ) → R.are_values v → IsNext M.mode parser.old
+        (tuple_of name.now (documents (R.documents v))) u → u ≡ rest parser.new) }
+    ensures none { IfErr result (λ fault. fault ≡ Fault.NotText → (v : V) (u : List ℕ)
+        → R.are_values v → ¬ IsNext M.mode parser.old
+        (tuple_of name.now (documents (R.documents v))) u) }
+    ensures memory { R.hold_no_memory → IfErr result (λ fault. fault ≡ Fault.NotText) }
     ensures blocks { IfOk result (λ _. open_blocks parser.new ≡ open_blocks parser.old) }
     ensures shrinks { length (rest parser.new) ≤ length (rest parser.old) }
 {
-    parse_block(alloc, parser, Kind::tuple(name), name, &Names(&[]))
+    parse_block(alloc, parser, Kind::tuple(name), name, &Names(&[], row))
 }

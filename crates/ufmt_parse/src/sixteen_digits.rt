@@ -2,7 +2,7 @@
 ghost use Rattle.std.specs.Prelude.{◌≡◌, ◌+◌, [], ◌∷◌, length, map, true, IfSome};
 ghost use Rattle.std.specs.Int.Digits.{number_from_digits, AllBelowBase};
 ghost use Rattle.ufmt_core.specs.Decimal.{decimal_byte};
-ghost use Rattle.ufmt_parse.specs.Digits.{joined, BeginsWithDigits};
+ghost use Rattle.ufmt_parse.specs.Private.Digits.{joined, BeginsWithDigits};
 
 use std::simd::prelude::*;
 

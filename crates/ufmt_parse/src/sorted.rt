@@ -13,12 +13,12 @@ use crate::keys::ParseKey;
 use crate::lists::parse_entries;
 use crate::mode::ParseMode;
 use crate::parser::{Fault, Parser};
-use std::alloc::{AllocError, Global};
+use std::alloc::{AllocError, Allocator};
 use std::collections::{BTreeMap, BTreeSet};
 use ufmt::layout::Kind;
 use ufmt::uDebug;
 
-impl<T: ParseKey<Global>> uParse<Global> for BTreeSet<T> {
+impl<A: Allocator + Copy, T: ParseKey<A>> uParse<A> for BTreeSet<T, A> {
     ghost is_value = { λ set. All T.is_value set.keys × IsStrictlySortedBy T.cmp set.keys };
 
     fn prove_value(&self) {
@@ -30,18 +30,18 @@ impl<T: ParseKey<Global>> uParse<Global> for BTreeSet<T> {
     }
 
     fn parse_from<M: ParseMode>(
-        alloc: Global,
+        alloc: A,
         parser: &mut Parser<'_, M>,
-    ) -> Result<BTreeSet<T>, Fault> {
+    ) -> Result<BTreeSet<T, A>, Fault> {
         parse_set(alloc, parser)
     }
 }
 
 // Takes a set, whose keys ascend.
-fn parse_set<T: ParseKey<Global>, M: ParseMode>(
-    alloc: Global,
+fn parse_set<A: Allocator + Copy, T: ParseKey<A>, M: ParseMode>(
+    alloc: A,
     parser: &mut Parser<'_, M>,
-) -> Result<BTreeSet<T>, Fault>
+) -> Result<BTreeSet<T, A>, Fault>
     ensures takes { Takes (λ set. (All T.is_value set.keys × IsStrictlySortedBy T.cmp set.keys)
         × Fits (open_blocks parser.old) (set_of (documents (map T.document set.keys))))
         (λ set. layout (setting_in M.mode (open_blocks parser.old)) (set_of (documents (map T.document set.keys))))
@@ -65,11 +65,11 @@ fn parse_set<T: ParseKey<Global>, M: ParseMode>(
 }
 
 /// Takes the keys of a set, in any order, each by this parser.
-fn parse_keys<M: ParseMode, T: uDebug + Drop, P: ParsesBy<Global, M, T>>(
-    alloc: Global,
+fn parse_keys<A: Allocator + Copy, M: ParseMode, T: uDebug + Drop, P: ParsesBy<A, M, T>>(
+    alloc: A,
     parser: &mut Parser<'_, M>,
     by: &Value<P>,
-) -> Result<Vec<T>, Fault>
+) -> Result<Vec<T, A>, Fault>
     requires { open_blocks parser.old < 255 → P.ready by.now.0 (suc (open_blocks parser.old)) }
     ensures takes { Takes (λ keys. All P.is_value keys
         × Fits (open_blocks parser.old) (set_of (documents (map T.document keys))))
@@ -82,10 +82,10 @@ fn parse_keys<M: ParseMode, T: uDebug + Drop, P: ParsesBy<Global, M, T>>(
 }
 
 // The set of these keys, if they ascend.
-fn ascending_set<T: Ord + Drop>(
-    alloc: Global,
-    keys: Vec<T>,
-) -> Result<Option<BTreeSet<T>>, AllocError>
+fn ascending_set<A: Allocator + Copy, T: Ord + Drop>(
+    alloc: A,
+    keys: Vec<T, A>,
+) -> Result<Option<BTreeSet<T, A>>, AllocError>
     ensures { IfOk result (λ found. MatchOption found (IsStrictlySortedBy T.cmp keys.items → ⊥)
         (λ set. set.keys ≡ keys.items)) }
 {
@@ -102,7 +102,7 @@ fn ascending_set<T: Ord + Drop>(
 }
 
 // Whether the key comes before the first key of the set.
-fn is_before_set<T: Ord>(set: &BTreeSet<T>, key: &T) -> bool
+fn is_before_set<A: Allocator, T: Ord>(set: &BTreeSet<T, A>, key: &T) -> bool
     ensures { IsTrue result ↔ ComesBefore T.cmp key.now set.now.keys }
 {
     match set.first() {
@@ -111,7 +111,7 @@ fn is_before_set<T: Ord>(set: &BTreeSet<T>, key: &T) -> bool
     }
 }
 
-impl<K: ParseKey<Global>, V: uParse<Global>> uParse<Global> for BTreeMap<K, V> {
+impl<A: Allocator + Copy, K: ParseKey<A>, V: uParse<A>> uParse<A> for BTreeMap<K, V, A> {
     ghost is_value = { λ map. All (IsEntry K.is_value V.is_value) map.entries
         × IsStrictlySortedBy K.cmp (keys_of map.entries) };
 
@@ -125,18 +125,18 @@ impl<K: ParseKey<Global>, V: uParse<Global>> uParse<Global> for BTreeMap<K, V> {
     }
 
     fn parse_from<M: ParseMode>(
-        alloc: Global,
+        alloc: A,
         parser: &mut Parser<'_, M>,
-    ) -> Result<BTreeMap<K, V>, Fault> {
+    ) -> Result<BTreeMap<K, V, A>, Fault> {
         parse_map(alloc, parser)
     }
 }
 
 // Takes a map, whose keys ascend.
-fn parse_map<K: ParseKey<Global>, V: uParse<Global>, M: ParseMode>(
-    alloc: Global,
+fn parse_map<A: Allocator + Copy, K: ParseKey<A>, V: uParse<A>, M: ParseMode>(
+    alloc: A,
     parser: &mut Parser<'_, M>,
-) -> Result<BTreeMap<K, V>, Fault>
+) -> Result<BTreeMap<K, V, A>, Fault>
     ensures takes { Takes (λ found. (All (IsEntry K.is_value V.is_value) found.entries
         × IsStrictlySortedBy K.cmp (keys_of found.entries))
         × Fits (open_blocks parser.old) (map_of (pairs_of (map (entry_documents K.document V.document) found.entries))))
@@ -163,12 +163,13 @@ fn parse_map<K: ParseKey<Global>, V: uParse<Global>, M: ParseMode>(
 
 /// Takes the entries of a map, in any order, each by this parser.
 fn parse_pairs<
+    A: Allocator + Copy,
     M: ParseMode,
     T: uDebug + Drop,
     U: uDebug + Drop,
-    K: ParsesBy<Global, M, T>,
-    P: ParsesBy<Global, M, U>,
->(alloc: Global, parser: &mut Parser<'_, M>, by: &Pair<K, P>) -> Result<Vec<(T, U)>, Fault>
+    K: ParsesBy<A, M, T>,
+    P: ParsesBy<A, M, U>,
+>(alloc: A, parser: &mut Parser<'_, M>, by: &Pair<K, P>) -> Result<Vec<(T, U), A>, Fault>
     requires { open_blocks parser.old < 255 → K.ready by.now.0 (suc (open_blocks parser.old))
         × P.ready by.now.1 (suc (open_blocks parser.old)) }
     ensures takes { Takes (λ entries. All (IsEntry K.is_value P.is_value) entries
@@ -183,10 +184,10 @@ fn parse_pairs<
 }
 
 // The map of these entries, if their keys ascend.
-fn ascending_map<K: Ord + Drop, V: Drop>(
-    alloc: Global,
-    entries: Vec<(K, V)>,
-) -> Result<Option<BTreeMap<K, V>>, AllocError>
+fn ascending_map<A: Allocator + Copy, K: Ord + Drop, V: Drop>(
+    alloc: A,
+    entries: Vec<(K, V), A>,
+) -> Result<Option<BTreeMap<K, V, A>>, AllocError>
     ensures { IfOk result (λ found. MatchOption found (IsStrictlySortedBy K.cmp (keys_of entries.items) → ⊥)
         (λ map. (map.entries ≡ entries.items) × IsStrictlySortedBy K.cmp (keys_of map.entries))) }
 {
@@ -203,7 +204,7 @@ fn ascending_map<K: Ord + Drop, V: Drop>(
 }
 
 // Whether the key comes before the first key of the map.
-fn is_before_map<K: Ord, V>(map: &BTreeMap<K, V>, key: &K) -> bool
+fn is_before_map<A: Allocator, K: Ord, V>(map: &BTreeMap<K, V, A>, key: &K) -> bool
     ensures { IsTrue result ↔ ComesBefore K.cmp key.now (keys_of map.now.entries) }
 {
     match map.first_key_value() {

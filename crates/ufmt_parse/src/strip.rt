@@ -1,14 +1,20 @@
 //! What is around the entries of a block, stripped from the front of a text.
-ghost use Rattle.std.specs.Prelude.{◌≡◌, ◌≢◌, ◌++◌, ◌∷◌, [], None, MatchBool, MatchOption};
-ghost use Rattle.ufmt.specs.Layout.{ending, frame, if_any, lead, line_start};
+ghost use Rattle.std.specs.Prelude.{◌≡◌, None, MatchOption};
+ghost use Rattle.ufmt.specs.Layout.{ending, frame, lead};
 ghost use Rattle.ufmt.specs.Reading.{strip};
-ghost use Rattle.ufmt_parse.specs.Taking.{now_of, setting_in};
+ghost use Rattle.ufmt_parse.specs.Taking.{setting_in};
+ghost use Rattle.ufmt_scan.specs.Rest.{now_of};
 
-use ufmt::layout::{Count, INDENT, Kind, Mode};
+use ufmt::layout::{Count, Kind, Mode};
+use ufmt_scan::strip::{
+    setting_in, strip_byte, strip_closing, strip_eight, strip_first_lead, strip_four,
+    strip_to_line, strip_two,
+};
 
 /// What follows a piece, which may be empty.
 //
-// A piece is mostly a constant here, so what is left are a test of the length and a test of each word.
+// A piece is a constant here, mostly a name, so what is left are a test of the length and a test of each
+// word. In the scanner's loops, where some pieces are known at run time, it would be too much code.
 #[inline(always)]
 pub(crate) fn strip_piece<'a>(piece: &str, input: &'a [u8]) -> Option<&'a [u8]>
     ensures { now_of result ≡ strip piece.now input.now }
@@ -27,7 +33,6 @@ pub(crate) fn strip_piece<'a>(piece: &str, input: &'a [u8]) -> Option<&'a [u8]>
 
 // Skips eight bytes of both, if the piece is so long and the input has them.
 #[inline(always)]
-#[tactic(auto, using(crate::proofs::Chunks::skipping))]
 fn skip_eight<'p, 'a>(piece: &'p [u8], input: &'a [u8]) -> Option<(&'p [u8], &'a [u8])>
     ensures { MatchOption result (strip piece.now input.now ≡ None)
         (λ x. strip x.0.now x.1.now ≡ strip piece.now input.now) }
@@ -35,17 +40,11 @@ fn skip_eight<'p, 'a>(piece: &'p [u8], input: &'a [u8]) -> Option<(&'p [u8], &'a
     let Some((word, piece_left)) = piece.split_first_chunk::<8>() else {
         return Some((piece, input));
     };
-    let (front, input_left) = input.split_first_chunk::<8>()?;
-    if same_eight(*front, *word) {
-        Some((piece_left, input_left))
-    } else {
-        None
-    }
+    Some((piece_left, strip_eight(*word, input)?))
 }
 
 // The same with four bytes.
 #[inline(always)]
-#[tactic(auto, using(crate::proofs::Chunks::skipping))]
 fn skip_four<'p, 'a>(piece: &'p [u8], input: &'a [u8]) -> Option<(&'p [u8], &'a [u8])>
     ensures { MatchOption result (strip piece.now input.now ≡ None)
         (λ x. strip x.0.now x.1.now ≡ strip piece.now input.now) }
@@ -53,17 +52,11 @@ fn skip_four<'p, 'a>(piece: &'p [u8], input: &'a [u8]) -> Option<(&'p [u8], &'a 
     let Some((word, piece_left)) = piece.split_first_chunk::<4>() else {
         return Some((piece, input));
     };
-    let (front, input_left) = input.split_first_chunk::<4>()?;
-    if same_four(*front, *word) {
-        Some((piece_left, input_left))
-    } else {
-        None
-    }
+    Some((piece_left, strip_four(*word, input)?))
 }
 
 // The same with two bytes.
 #[inline(always)]
-#[tactic(auto, using(crate::proofs::Chunks::skipping))]
 fn skip_two<'p, 'a>(piece: &'p [u8], input: &'a [u8]) -> Option<(&'p [u8], &'a [u8])>
     ensures { MatchOption result (strip piece.now input.now ≡ None)
         (λ x. strip x.0.now x.1.now ≡ strip piece.now input.now) }
@@ -71,34 +64,7 @@ fn skip_two<'p, 'a>(piece: &'p [u8], input: &'a [u8]) -> Option<(&'p [u8], &'a [
     let Some((word, piece_left)) = piece.split_first_chunk::<2>() else {
         return Some((piece, input));
     };
-    let (front, input_left) = input.split_first_chunk::<2>()?;
-    if same_two(*front, *word) {
-        Some((piece_left, input_left))
-    } else {
-        None
-    }
-}
-
-// Whether eight bytes are these: one test of a word.
-#[inline(always)]
-fn same_eight(bytes: [u8; 8], others: [u8; 8]) -> bool
-    ensures { MatchBool result (bytes ≡ others) (bytes ≢ others) }
-{
-    u64::from_le_bytes(bytes) == u64::from_le_bytes(others)
-}
-
-#[inline(always)]
-fn same_four(bytes: [u8; 4], others: [u8; 4]) -> bool
-    ensures { MatchBool result (bytes ≡ others) (bytes ≢ others) }
-{
-    u32::from_le_bytes(bytes) == u32::from_le_bytes(others)
-}
-
-#[inline(always)]
-fn same_two(bytes: [u8; 2], others: [u8; 2]) -> bool
-    ensures { MatchBool result (bytes ≡ others) (bytes ≢ others) }
-{
-    u16::from_le_bytes(bytes) == u16::from_le_bytes(others)
+    Some((piece_left, strip_two(*word, input)?))
 }
 
 // What follows a piece of any length. A long name has more than one byte left.
@@ -113,40 +79,6 @@ fn strip_few<'a>(piece: &[u8], input: &'a [u8]) -> Option<&'a [u8]>
     }
 }
 
-/// What follows this byte, if the input begins with it.
-#[inline(always)]
-pub(crate) fn strip_byte(byte: u8, input: &[u8]) -> Option<&[u8]>
-    ensures { now_of result ≡ strip (byte ∷ []) input.now }
-{
-    let (first, rest) = input.split_first()?;
-    if *first == byte { Some(rest) } else { None }
-}
-
-// What follows a piece and the indentation of a line at this depth.
-#[inline(always)]
-#[tactic(auto, using(crate::proofs::Strips::stripping))]
-fn strip_to_line<'a>(mode: Mode, piece: &str, depth: u8, input: &'a [u8]) -> Option<&'a [u8]>
-    ensures { now_of result ≡ strip (piece.now ++ line_start mode depth) input.now }
-{
-    let mut rest = strip_piece(piece, input)?;
-    if let Mode::Pretty = mode {
-        'indents: for _ in 0..depth {
-            rest = strip_piece(INDENT, rest)?;
-        }
-    }
-    Some(rest)
-}
-
-// What follows two pieces.
-#[inline(always)]
-#[tactic(auto, using(crate::proofs::Strips::stripping))]
-fn strip_two<'a>(first: &str, second: &str, input: &'a [u8]) -> Option<&'a [u8]>
-    ensures { now_of result ≡ strip (first.now ++ second.now) input.now }
-{
-    let rest = strip_piece(first, input)?;
-    strip_piece(second, rest)
-}
-
 /// What follows the lead of an entry, in so many blocks.
 #[inline(always)]
 pub(crate) fn strip_lead(
@@ -158,29 +90,16 @@ pub(crate) fn strip_lead(
 ) -> Option<&[u8]>
     ensures { now_of result ≡ strip (lead (frame mode kind) (setting_in mode open_blocks) count) input.now }
 {
+    let entry = setting_in(mode, open_blocks);
     match count {
-        Count::Zero => {
-            let (bracket, space) = kind.start(mode);
-            let start = strip_two(bracket, space, input)?;
-            strip_to_line(mode, mode.line_feed(), open_blocks, start)
-        }
-        Count::One | Count::Several => strip_to_line(mode, mode.later_lead(), open_blocks, input),
-    }
-}
-
-// What follows the indentation of a block's last line, if the block has entries.
-#[inline(always)]
-fn strip_last_line(mode: Mode, open_blocks: u8, count: Count, input: &[u8]) -> Option<&[u8]>
-    ensures { now_of result ≡ strip (if_any count (line_start mode open_blocks)) input.now }
-{
-    match count {
-        Count::Zero => Some(input),
-        Count::One | Count::Several => strip_to_line(mode, "", open_blocks, input),
+        Count::Zero => strip_first_lead(kind, entry, input),
+        Count::One | Count::Several => strip_to_line(mode.later_lead(), entry, input),
     }
 }
 
 /// What follows the end of a block, in so many others.
 #[inline(always)]
+#[tactic(auto, using(ufmt_scan::proofs::Strips::stripping))]
 pub(crate) fn strip_ending(
     mode: Mode,
     open_blocks: u8,
@@ -190,7 +109,9 @@ pub(crate) fn strip_ending(
 ) -> Option<&[u8]>
     ensures { now_of result ≡ strip (ending (frame mode kind) (setting_in mode open_blocks) count) input.now }
 {
-    let line = strip_last_line(mode, open_blocks, count, input)?;
-    let (space, bracket) = kind.closing(mode, count);
-    strip_two(space, bracket, line)
+    let line = match count {
+        Count::Zero => input,
+        Count::One | Count::Several => { strip_to_line("", setting_in(mode, open_blocks), input)? }
+    };
+    strip_closing(mode, kind, count, line)
 }

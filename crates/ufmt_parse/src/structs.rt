@@ -3,7 +3,7 @@ ghost use Rattle.std.specs.Prelude.{◌≤◌, length, [], ◌∷◌, ◌≡◌,
 ghost use Rattle.ufmt.specs.Document.{fields_of, struct_of};
 ghost use Rattle.ufmt_parse.specs.Taking.{AreWords, IsNext, IsTaken, open_blocks, rest};
 
-use crate::from_front::uParse;
+use crate::from_front::{Plain, uParse};
 use crate::mode::ParseMode;
 use crate::parser::{Fault, Parser};
 use crate::rows::parse_struct_row;
@@ -29,9 +29,9 @@ pub fn parse_struct_1<Alloc: Copy, A: uParse<Alloc>, M: ParseMode>(
     ensures blocks { IfOk result (λ _. open_blocks parser.new ≡ open_blocks parser.old) }
     ensures shrinks { length (rest parser.new) ≤ length (rest parser.old) }
 {
-    match parse_struct_row(alloc, parser, name, &[a]) {
+    match parse_struct_row(alloc, parser, name, &[a], &Plain) {
         Err(fault) => Err(fault),
-        Ok((a_value, ())) => Ok(a_value),
+        Ok((a_value,)) => Ok(a_value),
     }
 }
 
@@ -60,10 +60,7 @@ pub fn parse_struct_2<Alloc: Copy, A: uParse<Alloc>, B: uParse<Alloc>, M: ParseM
     ensures blocks { IfOk result (λ _. open_blocks parser.new ≡ open_blocks parser.old) }
     ensures shrinks { length (rest parser.new) ≤ length (rest parser.old) }
 {
-    match parse_struct_row(alloc, parser, name, &[a, b]) {
-        Err(fault) => Err(fault),
-        Ok((a_value, (b_value, ()))) => Ok((a_value, b_value)),
-    }
+    parse_struct_row(alloc, parser, name, &[a, b], &Plain)
 }
 
 /// Takes a struct with 3 fields, as `parse_from` does a value.
@@ -99,10 +96,7 @@ pub fn parse_struct_3<
     ensures blocks { IfOk result (λ _. open_blocks parser.new ≡ open_blocks parser.old) }
     ensures shrinks { length (rest parser.new) ≤ length (rest parser.old) }
 {
-    match parse_struct_row(alloc, parser, name, &[a, b, c]) {
-        Err(fault) => Err(fault),
-        Ok((a_value, (b_value, (c_value, ())))) => Ok((a_value, b_value, c_value)),
-    }
+    parse_struct_row(alloc, parser, name, &[a, b, c], &Plain)
 }
 
 /// Takes a struct with 4 fields, as `parse_from` does a value.
@@ -142,12 +136,7 @@ pub fn parse_struct_4<
     ensures blocks { IfOk result (λ _. open_blocks parser.new ≡ open_blocks parser.old) }
     ensures shrinks { length (rest parser.new) ≤ length (rest parser.old) }
 {
-    match parse_struct_row(alloc, parser, name, &[a, b, c, d]) {
-        Err(fault) => Err(fault),
-        Ok((a_value, (b_value, (c_value, (d_value, ()))))) => Ok((
-            a_value, b_value, c_value, d_value,
-        )),
-    }
+    parse_struct_row(alloc, parser, name, &[a, b, c, d], &Plain)
 }
 
 /// Takes a struct with 5 fields, as `parse_from` does a value.
@@ -191,12 +180,7 @@ pub fn parse_struct_5<
     ensures blocks { IfOk result (λ _. open_blocks parser.new ≡ open_blocks parser.old) }
     ensures shrinks { length (rest parser.new) ≤ length (rest parser.old) }
 {
-    match parse_struct_row(alloc, parser, name, &[a, b, c, d, e]) {
-        Err(fault) => Err(fault),
-        Ok((a_value, (b_value, (c_value, (d_value, (e_value, ())))))) => Ok((
-            a_value, b_value, c_value, d_value, e_value,
-        )),
-    }
+    parse_struct_row(alloc, parser, name, &[a, b, c, d, e], &Plain)
 }
 
 /// Takes a struct with 6 fields, as `parse_from` does a value.
@@ -245,12 +229,7 @@ pub fn parse_struct_6<
     ensures blocks { IfOk result (λ _. open_blocks parser.new ≡ open_blocks parser.old) }
     ensures shrinks { length (rest parser.new) ≤ length (rest parser.old) }
 {
-    match parse_struct_row(alloc, parser, name, &[a, b, c, d, e, f]) {
-        Err(fault) => Err(fault),
-        Ok((a_value, (b_value, (c_value, (d_value, (e_value, (f_value, ()))))))) => Ok((
-            a_value, b_value, c_value, d_value, e_value, f_value,
-        )),
-    }
+    parse_struct_row(alloc, parser, name, &[a, b, c, d, e, f], &Plain)
 }
 
 /// Takes a struct with 7 fields, as `parse_from` does a value.
@@ -303,14 +282,7 @@ pub fn parse_struct_7<
     ensures blocks { IfOk result (λ _. open_blocks parser.new ≡ open_blocks parser.old) }
     ensures shrinks { length (rest parser.new) ≤ length (rest parser.old) }
 {
-    match parse_struct_row(alloc, parser, name, &[a, b, c, d, e, f, g]) {
-        Err(fault) => Err(fault),
-        Ok((a_value, (b_value, (c_value, (d_value, (e_value, (f_value, (g_value, ())))))))) => Ok(
-            (
-                a_value, b_value, c_value, d_value, e_value, f_value, g_value,
-            ),
-        ),
-    }
+    parse_struct_row(alloc, parser, name, &[a, b, c, d, e, f, g], &Plain)
 }
 
 /// Takes a struct with 8 fields, as `parse_from` does a value.
@@ -366,17 +338,7 @@ pub fn parse_struct_8<
     ensures blocks { IfOk result (λ _. open_blocks parser.new ≡ open_blocks parser.old) }
     ensures shrinks { length (rest parser.new) ≤ length (rest parser.old) }
 {
-    match parse_struct_row(alloc, parser, name, &[a, b, c, d, e, f, g, h]) {
-        Err(fault) => Err(fault),
-        Ok(
-            (
-                a_value,
-                (b_value, (c_value, (d_value, (e_value, (f_value, (g_value, (h_value, ()))))))),
-            ),
-        ) => Ok((
-            a_value, b_value, c_value, d_value, e_value, f_value, g_value, h_value,
-        )),
-    }
+    parse_struct_row(alloc, parser, name, &[a, b, c, d, e, f, g, h], &Plain)
 }
 
 /// Takes a struct with 9 fields, as `parse_from` does a value.
@@ -437,20 +399,7 @@ pub fn parse_struct_9<
     ensures blocks { IfOk result (λ _. open_blocks parser.new ≡ open_blocks parser.old) }
     ensures shrinks { length (rest parser.new) ≤ length (rest parser.old) }
 {
-    match parse_struct_row(alloc, parser, name, &[a, b, c, d, e, f, g, h, i]) {
-        Err(fault) => Err(fault),
-        Ok(
-            (
-                a_value,
-                (
-                    b_value,
-                    (c_value, (d_value, (e_value, (f_value, (g_value, (h_value, (i_value, ()))))))),
-                ),
-            ),
-        ) => Ok((
-            a_value, b_value, c_value, d_value, e_value, f_value, g_value, h_value, i_value,
-        )),
-    }
+    parse_struct_row(alloc, parser, name, &[a, b, c, d, e, f, g, h, i], &Plain)
 }
 
 /// Takes a struct with 10 fields, as `parse_from` does a value.
@@ -515,27 +464,7 @@ pub fn parse_struct_10<
     ensures blocks { IfOk result (λ _. open_blocks parser.new ≡ open_blocks parser.old) }
     ensures shrinks { length (rest parser.new) ≤ length (rest parser.old) }
 {
-    match parse_struct_row(alloc, parser, name, &[a, b, c, d, e, f, g, h, i, j]) {
-        Err(fault) => Err(fault),
-        Ok(
-            (
-                a_value,
-                (
-                    b_value,
-                    (
-                        c_value,
-                        (
-                            d_value,
-                            (e_value, (f_value, (g_value, (h_value, (i_value, (j_value, ())))))),
-                        ),
-                    ),
-                ),
-            ),
-        ) => Ok((
-            a_value, b_value, c_value, d_value, e_value, f_value, g_value, h_value, i_value,
-            j_value,
-        )),
-    }
+    parse_struct_row(alloc, parser, name, &[a, b, c, d, e, f, g, h, i, j], &Plain)
 }
 
 /// Takes a struct with 11 fields, as `parse_from` does a value.
@@ -604,33 +533,13 @@ pub fn parse_struct_11<
     ensures blocks { IfOk result (λ _. open_blocks parser.new ≡ open_blocks parser.old) }
     ensures shrinks { length (rest parser.new) ≤ length (rest parser.old) }
 {
-    match parse_struct_row(alloc, parser, name, &[a, b, c, d, e, f, g, h, i, j, k]) {
-        Err(fault) => Err(fault),
-        Ok(
-            (
-                a_value,
-                (
-                    b_value,
-                    (
-                        c_value,
-                        (
-                            d_value,
-                            (
-                                e_value,
-                                (
-                                    f_value,
-                                    (g_value, (h_value, (i_value, (j_value, (k_value, ()))))),
-                                ),
-                            ),
-                        ),
-                    ),
-                ),
-            ),
-        ) => Ok((
-            a_value, b_value, c_value, d_value, e_value, f_value, g_value, h_value, i_value,
-            j_value, k_value,
-        )),
-    }
+    parse_struct_row(
+        alloc,
+        parser,
+        name,
+        &[a, b, c, d, e, f, g, h, i, j, k],
+        &Plain,
+    )
 }
 
 /// Takes a struct with 12 fields, as `parse_from` does a value.
@@ -703,34 +612,11 @@ pub fn parse_struct_12<
     ensures blocks { IfOk result (λ _. open_blocks parser.new ≡ open_blocks parser.old) }
     ensures shrinks { length (rest parser.new) ≤ length (rest parser.old) }
 {
-    match parse_struct_row(alloc, parser, name, &[a, b, c, d, e, f, g, h, i, j, k, l]) {
-        Err(fault) => Err(fault),
-        Ok(
-            (
-                a_value,
-                (
-                    b_value,
-                    (
-                        c_value,
-                        (
-                            d_value,
-                            (
-                                e_value,
-                                (
-                                    f_value,
-                                    (
-                                        g_value,
-                                        (h_value, (i_value, (j_value, (k_value, (l_value, ()))))),
-                                    ),
-                                ),
-                            ),
-                        ),
-                    ),
-                ),
-            ),
-        ) => Ok((
-            a_value, b_value, c_value, d_value, e_value, f_value, g_value, h_value, i_value,
-            j_value, k_value, l_value,
-        )),
-    }
+    parse_struct_row(
+        alloc,
+        parser,
+        name,
+        &[a, b, c, d, e, f, g, h, i, j, k, l],
+        &Plain,
+    )
 }

@@ -3,12 +3,10 @@ ghost use Rattle.std.specs.Prelude.{◌≤◌, ◌<◌, length, [], ◌∷◌, �
 ghost use Rattle.ufmt.specs.Document.{fields_of, struct_of};
 ghost use Rattle.ufmt_parse.specs.Taking.{AreWords, IsNext, IsTaken, open_blocks, rest};
 
-use crate::entries::Named;
-use crate::fields::parse_block;
 use crate::from_front::ParsesBy;
 use crate::mode::ParseMode;
 use crate::parser::{Fault, Parser};
-use ufmt::layout::Kind;
+use crate::rows::parse_struct_row;
 use ufmt::uDebug;
 
 /// Takes a struct, its field by a parser.
@@ -34,10 +32,9 @@ pub fn parse_struct_1_by<Alloc: Copy, M: ParseMode, A: uDebug + Drop, P: ParsesB
     ensures blocks { IfOk result (λ _. open_blocks parser.new ≡ open_blocks parser.old) }
     ensures shrinks { length (rest parser.new) ≤ length (rest parser.old) }
 {
-    let fields = (Named(a, a_by), ());
-    match parse_block(alloc, parser, Kind::Struct, name, &fields) {
+    match parse_struct_row(alloc, parser, name, &[a], &(a_by,)) {
         Err(fault) => Err(fault),
-        Ok((a_value, ())) => Ok(a_value),
+        Ok((a_value,)) => Ok(a_value),
     }
 }
 
@@ -77,11 +74,7 @@ pub fn parse_struct_2_by<
     ensures blocks { IfOk result (λ _. open_blocks parser.new ≡ open_blocks parser.old) }
     ensures shrinks { length (rest parser.new) ≤ length (rest parser.old) }
 {
-    let fields = (Named(a, a_by), (Named(b, b_by), ()));
-    match parse_block(alloc, parser, Kind::Struct, name, &fields) {
-        Err(fault) => Err(fault),
-        Ok((a_value, (b_value, ()))) => Ok((a_value, b_value)),
-    }
+    parse_struct_row(alloc, parser, name, &[a, b], &(a_by, b_by))
 }
 
 /// Takes a struct, each of its 3 fields by a parser.
@@ -126,11 +119,7 @@ pub fn parse_struct_3_by<
     ensures blocks { IfOk result (λ _. open_blocks parser.new ≡ open_blocks parser.old) }
     ensures shrinks { length (rest parser.new) ≤ length (rest parser.old) }
 {
-    let fields = (Named(a, a_by), (Named(b, b_by), (Named(c, c_by), ())));
-    match parse_block(alloc, parser, Kind::Struct, name, &fields) {
-        Err(fault) => Err(fault),
-        Ok((a_value, (b_value, (c_value, ())))) => Ok((a_value, b_value, c_value)),
-    }
+    parse_struct_row(alloc, parser, name, &[a, b, c], &(a_by, b_by, c_by))
 }
 
 /// Takes a struct, each of its 4 fields by a parser.
@@ -182,16 +171,13 @@ pub fn parse_struct_4_by<
     ensures blocks { IfOk result (λ _. open_blocks parser.new ≡ open_blocks parser.old) }
     ensures shrinks { length (rest parser.new) ≤ length (rest parser.old) }
 {
-    let fields = (
-        Named(a, a_by),
-        (Named(b, b_by), (Named(c, c_by), (Named(d, d_by), ()))),
-    );
-    match parse_block(alloc, parser, Kind::Struct, name, &fields) {
-        Err(fault) => Err(fault),
-        Ok((a_value, (b_value, (c_value, (d_value, ()))))) => Ok((
-            a_value, b_value, c_value, d_value,
-        )),
-    }
+    parse_struct_row(
+        alloc,
+        parser,
+        name,
+        &[a, b, c, d],
+        &(a_by, b_by, c_by, d_by),
+    )
 }
 
 /// Takes a struct, each of its 5 fields by a parser.
@@ -250,19 +236,13 @@ pub fn parse_struct_5_by<
     ensures blocks { IfOk result (λ _. open_blocks parser.new ≡ open_blocks parser.old) }
     ensures shrinks { length (rest parser.new) ≤ length (rest parser.old) }
 {
-    let fields = (
-        Named(a, a_by),
-        (
-            Named(b, b_by),
-            (Named(c, c_by), (Named(d, d_by), (Named(e, e_by), ()))),
-        ),
-    );
-    match parse_block(alloc, parser, Kind::Struct, name, &fields) {
-        Err(fault) => Err(fault),
-        Ok((a_value, (b_value, (c_value, (d_value, (e_value, ())))))) => Ok((
-            a_value, b_value, c_value, d_value, e_value,
-        )),
-    }
+    parse_struct_row(
+        alloc,
+        parser,
+        name,
+        &[a, b, c, d, e],
+        &(a_by, b_by, c_by, d_by, e_by),
+    )
 }
 
 /// Takes a struct, each of its 6 fields by a parser.
@@ -329,20 +309,11 @@ pub fn parse_struct_6_by<
     ensures blocks { IfOk result (λ _. open_blocks parser.new ≡ open_blocks parser.old) }
     ensures shrinks { length (rest parser.new) ≤ length (rest parser.old) }
 {
-    let fields = (
-        Named(a, a_by),
-        (
-            Named(b, b_by),
-            (
-                Named(c, c_by),
-                (Named(d, d_by), (Named(e, e_by), (Named(f, f_by), ()))),
-            ),
-        ),
-    );
-    match parse_block(alloc, parser, Kind::Struct, name, &fields) {
-        Err(fault) => Err(fault),
-        Ok((a_value, (b_value, (c_value, (d_value, (e_value, (f_value, ()))))))) => Ok((
-            a_value, b_value, c_value, d_value, e_value, f_value,
-        )),
-    }
+    parse_struct_row(
+        alloc,
+        parser,
+        name,
+        &[a, b, c, d, e, f],
+        &(a_by, b_by, c_by, d_by, e_by, f_by),
+    )
 }

@@ -1,17 +1,21 @@
 //! Texts in quotation marks.
 ghost use Rattle.std.specs.Prelude.{◌≡◌, ◌<◌, ◌≤◌, ◌++◌, ◌∷◌, [], ⊤, IfOk, IfSome, MatchOption, length, string_bytes, take, true};
-ghost use Rattle.ufmt.specs.Quoted.{escaped_bytes};
+ghost use Rattle.std.specs.Str.{IsUtf8, chars};
+ghost use Rattle.ufmt.specs.Document.{leaf};
+ghost use Rattle.ufmt.specs.Quoted.{escaped_bytes, quoted_text};
 ghost use Rattle.ufmt_core.specs.Bytes.{quotation_mark};
+ghost use Rattle.ufmt_parse.specs.Blocks.{outcome_map};
 ghost use Rattle.ufmt_parse.specs.Spelling.{all_plain, is_plain, NeverCloses};
+ghost use Rattle.ufmt_parse.specs.Taking.{Fits, Takes, open_blocks, rest};
 
-use crate::escapes::split_escaped;
 use crate::from_front::uParse;
 use crate::mode::ParseMode;
 use crate::parser::{Fault, Parser};
-use crate::strip::strip_byte;
 use std::alloc::{AllocError, Allocator};
 use ufmt::ascii::text_from;
 use ufmt::quoted::unescaped_len;
+use ufmt_scan::quoted::split_escaped;
+use ufmt_scan::strip::strip_byte;
 
 // The bytes at the front that are ASCII and written as themselves, and what follows them.
 #[inline(always)]
@@ -128,36 +132,49 @@ fn read_bytes<'t, A: Allocator>(
     }
 }
 
-/// Takes a text in quotation marks, with the escapes that printing writes and no others. Fails with
-/// `OutOfMemory` if there is no room for the text.
+// Takes a text in quotation marks, with the escapes that printing writes and no others.
+pub(crate) fn parse_text<A: Allocator + Copy, M: ParseMode>(
+    alloc: A,
+    parser: &mut Parser<'_, M>,
+) -> Result<String<A>, Fault>
+    ensures takes { Takes (λ bytes. IsUtf8 bytes × Fits (open_blocks parser.old) (leaf (quoted_text (chars bytes))))
+        (λ bytes. quoted_text (chars bytes))
+        (rest parser.old) (outcome_map string_bytes result) (rest parser.new) }
+    ensures blocks { IfOk result (λ _. open_blocks parser.new ≡ open_blocks parser.old) }
+    ensures shrinks { length (rest parser.new) ≤ length (rest parser.old) }
+{
+    let Some(inside) = strip_byte(b'"', parser.rest()) else {
+        return Err(Fault::NotText);
+    };
+    match read_ascii(alloc, inside) {
+        Err(_) => return Err(Fault::OutOfMemory),
+        Ok(Some((text, after))) => {
+            parser.skip_to(after);
+            return Ok(text);
+        }
+        Ok(None) => {}
+    }
+    let mut bytes = Vec::new(alloc);
+    match read_bytes(&mut bytes, inside) {
+        Err(_) => Err(Fault::OutOfMemory),
+        Ok(None) => Err(Fault::NotText),
+        Ok(Some(after)) => match String::from_utf8(bytes) {
+            Ok(text) => {
+                parser.skip_to(after);
+                Ok(text)
+            }
+            Err(_) => Err(Fault::NotText),
+        },
+    }
+}
+
+/// Takes a text in quotation marks. Fails with `OutOfMemory` if there is no room for the text.
 impl<A: Allocator + Copy> uParse<A> for String<A> {
     ghost is_value = { λ _. ⊤ };
 
     fn prove_value(&self) {}
 
     fn parse_from<M: ParseMode>(alloc: A, parser: &mut Parser<'_, M>) -> Result<String<A>, Fault> {
-        let Some(inside) = strip_byte(b'"', parser.rest()) else {
-            return Err(Fault::NotText);
-        };
-        match read_ascii(alloc, inside) {
-            Err(_) => return Err(Fault::OutOfMemory),
-            Ok(Some((text, after))) => {
-                parser.skip_to(after);
-                return Ok(text);
-            }
-            Ok(None) => {}
-        }
-        let mut bytes = Vec::new(alloc);
-        match read_bytes(&mut bytes, inside) {
-            Err(_) => Err(Fault::OutOfMemory),
-            Ok(None) => Err(Fault::NotText),
-            Ok(Some(after)) => match String::from_utf8(bytes) {
-                Ok(text) => {
-                    parser.skip_to(after);
-                    Ok(text)
-                }
-                Err(_) => Err(Fault::NotText),
-            },
-        }
+        parse_text(alloc, parser)
     }
 }

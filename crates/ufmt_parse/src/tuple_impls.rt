@@ -37,10 +37,7 @@ impl<Alloc: Copy, A: uParse<Alloc>, B: uParse<Alloc>> uParse<Alloc> for (A, B) {
 
     #[inline(always)]
     fn parse_from<M: ParseMode>(alloc: Alloc, parser: &mut Parser<'_, M>) -> Result<(A, B), Fault> {
-        match parse_tuple_2(alloc, parser, "") {
-            Err(fault) => Err(fault),
-            Ok(parsed) => Ok(parsed),
-        }
+        parse_tuple_2(alloc, parser, "")
     }
 }
 
@@ -61,10 +58,7 @@ impl<Alloc: Copy, A: uParse<Alloc>, B: uParse<Alloc>, C: uParse<Alloc>> uParse<A
         alloc: Alloc,
         parser: &mut Parser<'_, M>,
     ) -> Result<(A, B, C), Fault> {
-        match parse_tuple_3(alloc, parser, "") {
-            Err(fault) => Err(fault),
-            Ok(parsed) => Ok(parsed),
-        }
+        parse_tuple_3(alloc, parser, "")
     }
 }
 
@@ -87,10 +81,7 @@ impl<Alloc: Copy, A: uParse<Alloc>, B: uParse<Alloc>, C: uParse<Alloc>, D: uPars
         alloc: Alloc,
         parser: &mut Parser<'_, M>,
     ) -> Result<(A, B, C, D), Fault> {
-        match parse_tuple_4(alloc, parser, "") {
-            Err(fault) => Err(fault),
-            Ok(parsed) => Ok(parsed),
-        }
+        parse_tuple_4(alloc, parser, "")
     }
 }
 
@@ -119,10 +110,7 @@ impl<
         alloc: Alloc,
         parser: &mut Parser<'_, M>,
     ) -> Result<(A, B, C, D, E), Fault> {
-        match parse_tuple_5(alloc, parser, "") {
-            Err(fault) => Err(fault),
-            Ok(parsed) => Ok(parsed),
-        }
+        parse_tuple_5(alloc, parser, "")
     }
 }
 
@@ -153,10 +141,7 @@ impl<
         alloc: Alloc,
         parser: &mut Parser<'_, M>,
     ) -> Result<(A, B, C, D, E, F), Fault> {
-        match parse_tuple_6(alloc, parser, "") {
-            Err(fault) => Err(fault),
-            Ok(parsed) => Ok(parsed),
-        }
+        parse_tuple_6(alloc, parser, "")
     }
 }
 
@@ -189,10 +174,7 @@ impl<
         alloc: Alloc,
         parser: &mut Parser<'_, M>,
     ) -> Result<(A, B, C, D, E, F, G), Fault> {
-        match parse_tuple_7(alloc, parser, "") {
-            Err(fault) => Err(fault),
-            Ok(parsed) => Ok(parsed),
-        }
+        parse_tuple_7(alloc, parser, "")
     }
 }
 
@@ -227,10 +209,7 @@ impl<
         alloc: Alloc,
         parser: &mut Parser<'_, M>,
     ) -> Result<(A, B, C, D, E, F, G, H), Fault> {
-        match parse_tuple_8(alloc, parser, "") {
-            Err(fault) => Err(fault),
-            Ok(parsed) => Ok(parsed),
-        }
+        parse_tuple_8(alloc, parser, "")
     }
 }
 
@@ -267,10 +246,7 @@ impl<
         alloc: Alloc,
         parser: &mut Parser<'_, M>,
     ) -> Result<(A, B, C, D, E, F, G, H, I), Fault> {
-        match parse_tuple_9(alloc, parser, "") {
-            Err(fault) => Err(fault),
-            Ok(parsed) => Ok(parsed),
-        }
+        parse_tuple_9(alloc, parser, "")
     }
 }
 
@@ -309,10 +285,7 @@ impl<
         alloc: Alloc,
         parser: &mut Parser<'_, M>,
     ) -> Result<(A, B, C, D, E, F, G, H, I, J), Fault> {
-        match parse_tuple_10(alloc, parser, "") {
-            Err(fault) => Err(fault),
-            Ok(parsed) => Ok(parsed),
-        }
+        parse_tuple_10(alloc, parser, "")
     }
 }
 
@@ -353,10 +326,7 @@ impl<
         alloc: Alloc,
         parser: &mut Parser<'_, M>,
     ) -> Result<(A, B, C, D, E, F, G, H, I, J, K), Fault> {
-        match parse_tuple_11(alloc, parser, "") {
-            Err(fault) => Err(fault),
-            Ok(parsed) => Ok(parsed),
-        }
+        parse_tuple_11(alloc, parser, "")
     }
 }
 
@@ -399,9 +369,6 @@ impl<
         alloc: Alloc,
         parser: &mut Parser<'_, M>,
     ) -> Result<(A, B, C, D, E, F, G, H, I, J, K, L), Fault> {
-        match parse_tuple_12(alloc, parser, "") {
-            Err(fault) => Err(fault),
-            Ok(parsed) => Ok(parsed),
-        }
+        parse_tuple_12(alloc, parser, "")
     }
 }

@@ -4,7 +4,7 @@ ghost use Rattle.ufmt.specs.Document.{documents, tuple_of};
 ghost use Rattle.ufmt.specs.Leaves.{IsWordOrEmpty};
 ghost use Rattle.ufmt_parse.specs.Taking.{IsNext, IsTaken, open_blocks, rest};
 
-use crate::from_front::uParse;
+use crate::from_front::{Plain, uParse};
 use crate::mode::ParseMode;
 use crate::parser::{Fault, Parser};
 use crate::rows::parse_tuple_row;
@@ -29,9 +29,9 @@ pub fn parse_tuple_1<Alloc: Copy, A: uParse<Alloc>, M: ParseMode>(
     ensures blocks { IfOk result (λ _. open_blocks parser.new ≡ open_blocks parser.old) }
     ensures shrinks { length (rest parser.new) ≤ length (rest parser.old) }
 {
-    match parse_tuple_row(alloc, parser, name) {
+    match parse_tuple_row(alloc, parser, name, &Plain) {
         Err(fault) => Err(fault),
-        Ok((a_value, ())) => Ok(a_value),
+        Ok((a_value,)) => Ok(a_value),
     }
 }
 
@@ -56,10 +56,7 @@ pub fn parse_tuple_2<Alloc: Copy, A: uParse<Alloc>, B: uParse<Alloc>, M: ParseMo
     ensures blocks { IfOk result (λ _. open_blocks parser.new ≡ open_blocks parser.old) }
     ensures shrinks { length (rest parser.new) ≤ length (rest parser.old) }
 {
-    match parse_tuple_row(alloc, parser, name) {
-        Err(fault) => Err(fault),
-        Ok((a_value, (b_value, ()))) => Ok((a_value, b_value)),
-    }
+    parse_tuple_row(alloc, parser, name, &Plain)
 }
 
 /// Takes a tuple with 3 fields, as `parse_from` does a value.
@@ -87,10 +84,7 @@ pub fn parse_tuple_3<
     ensures blocks { IfOk result (λ _. open_blocks parser.new ≡ open_blocks parser.old) }
     ensures shrinks { length (rest parser.new) ≤ length (rest parser.old) }
 {
-    match parse_tuple_row(alloc, parser, name) {
-        Err(fault) => Err(fault),
-        Ok((a_value, (b_value, (c_value, ())))) => Ok((a_value, b_value, c_value)),
-    }
+    parse_tuple_row(alloc, parser, name, &Plain)
 }
 
 /// Takes a tuple with 4 fields, as `parse_from` does a value.
@@ -121,12 +115,7 @@ pub fn parse_tuple_4<
     ensures blocks { IfOk result (λ _. open_blocks parser.new ≡ open_blocks parser.old) }
     ensures shrinks { length (rest parser.new) ≤ length (rest parser.old) }
 {
-    match parse_tuple_row(alloc, parser, name) {
-        Err(fault) => Err(fault),
-        Ok((a_value, (b_value, (c_value, (d_value, ()))))) => Ok((
-            a_value, b_value, c_value, d_value,
-        )),
-    }
+    parse_tuple_row(alloc, parser, name, &Plain)
 }
 
 /// Takes a tuple with 5 fields, as `parse_from` does a value.
@@ -160,12 +149,7 @@ pub fn parse_tuple_5<
     ensures blocks { IfOk result (λ _. open_blocks parser.new ≡ open_blocks parser.old) }
     ensures shrinks { length (rest parser.new) ≤ length (rest parser.old) }
 {
-    match parse_tuple_row(alloc, parser, name) {
-        Err(fault) => Err(fault),
-        Ok((a_value, (b_value, (c_value, (d_value, (e_value, ())))))) => Ok((
-            a_value, b_value, c_value, d_value, e_value,
-        )),
-    }
+    parse_tuple_row(alloc, parser, name, &Plain)
 }
 
 /// Takes a tuple with 6 fields, as `parse_from` does a value.
@@ -201,12 +185,7 @@ pub fn parse_tuple_6<
     ensures blocks { IfOk result (λ _. open_blocks parser.new ≡ open_blocks parser.old) }
     ensures shrinks { length (rest parser.new) ≤ length (rest parser.old) }
 {
-    match parse_tuple_row(alloc, parser, name) {
-        Err(fault) => Err(fault),
-        Ok((a_value, (b_value, (c_value, (d_value, (e_value, (f_value, ()))))))) => Ok((
-            a_value, b_value, c_value, d_value, e_value, f_value,
-        )),
-    }
+    parse_tuple_row(alloc, parser, name, &Plain)
 }
 
 /// Takes a tuple with 7 fields, as `parse_from` does a value.
@@ -246,14 +225,7 @@ pub fn parse_tuple_7<
     ensures blocks { IfOk result (λ _. open_blocks parser.new ≡ open_blocks parser.old) }
     ensures shrinks { length (rest parser.new) ≤ length (rest parser.old) }
 {
-    match parse_tuple_row(alloc, parser, name) {
-        Err(fault) => Err(fault),
-        Ok((a_value, (b_value, (c_value, (d_value, (e_value, (f_value, (g_value, ())))))))) => Ok(
-            (
-                a_value, b_value, c_value, d_value, e_value, f_value, g_value,
-            ),
-        ),
-    }
+    parse_tuple_row(alloc, parser, name, &Plain)
 }
 
 /// Takes a tuple with 8 fields, as `parse_from` does a value.
@@ -295,17 +267,7 @@ pub fn parse_tuple_8<
     ensures blocks { IfOk result (λ _. open_blocks parser.new ≡ open_blocks parser.old) }
     ensures shrinks { length (rest parser.new) ≤ length (rest parser.old) }
 {
-    match parse_tuple_row(alloc, parser, name) {
-        Err(fault) => Err(fault),
-        Ok(
-            (
-                a_value,
-                (b_value, (c_value, (d_value, (e_value, (f_value, (g_value, (h_value, ()))))))),
-            ),
-        ) => Ok((
-            a_value, b_value, c_value, d_value, e_value, f_value, g_value, h_value,
-        )),
-    }
+    parse_tuple_row(alloc, parser, name, &Plain)
 }
 
 /// Takes a tuple with 9 fields, as `parse_from` does a value.
@@ -353,20 +315,7 @@ pub fn parse_tuple_9<
     ensures blocks { IfOk result (λ _. open_blocks parser.new ≡ open_blocks parser.old) }
     ensures shrinks { length (rest parser.new) ≤ length (rest parser.old) }
 {
-    match parse_tuple_row(alloc, parser, name) {
-        Err(fault) => Err(fault),
-        Ok(
-            (
-                a_value,
-                (
-                    b_value,
-                    (c_value, (d_value, (e_value, (f_value, (g_value, (h_value, (i_value, ()))))))),
-                ),
-            ),
-        ) => Ok((
-            a_value, b_value, c_value, d_value, e_value, f_value, g_value, h_value, i_value,
-        )),
-    }
+    parse_tuple_row(alloc, parser, name, &Plain)
 }
 
 /// Takes a tuple with 10 fields, as `parse_from` does a value.
@@ -418,27 +367,7 @@ pub fn parse_tuple_10<
     ensures blocks { IfOk result (λ _. open_blocks parser.new ≡ open_blocks parser.old) }
     ensures shrinks { length (rest parser.new) ≤ length (rest parser.old) }
 {
-    match parse_tuple_row(alloc, parser, name) {
-        Err(fault) => Err(fault),
-        Ok(
-            (
-                a_value,
-                (
-                    b_value,
-                    (
-                        c_value,
-                        (
-                            d_value,
-                            (e_value, (f_value, (g_value, (h_value, (i_value, (j_value, ())))))),
-                        ),
-                    ),
-                ),
-            ),
-        ) => Ok((
-            a_value, b_value, c_value, d_value, e_value, f_value, g_value, h_value, i_value,
-            j_value,
-        )),
-    }
+    parse_tuple_row(alloc, parser, name, &Plain)
 }
 
 /// Takes a tuple with 11 fields, as `parse_from` does a value.
@@ -493,33 +422,7 @@ pub fn parse_tuple_11<
     ensures blocks { IfOk result (λ _. open_blocks parser.new ≡ open_blocks parser.old) }
     ensures shrinks { length (rest parser.new) ≤ length (rest parser.old) }
 {
-    match parse_tuple_row(alloc, parser, name) {
-        Err(fault) => Err(fault),
-        Ok(
-            (
-                a_value,
-                (
-                    b_value,
-                    (
-                        c_value,
-                        (
-                            d_value,
-                            (
-                                e_value,
-                                (
-                                    f_value,
-                                    (g_value, (h_value, (i_value, (j_value, (k_value, ()))))),
-                                ),
-                            ),
-                        ),
-                    ),
-                ),
-            ),
-        ) => Ok((
-            a_value, b_value, c_value, d_value, e_value, f_value, g_value, h_value, i_value,
-            j_value, k_value,
-        )),
-    }
+    parse_tuple_row(alloc, parser, name, &Plain)
 }
 
 /// Takes a tuple with 12 fields, as `parse_from` does a value.
@@ -576,34 +479,5 @@ pub fn parse_tuple_12<
     ensures blocks { IfOk result (λ _. open_blocks parser.new ≡ open_blocks parser.old) }
     ensures shrinks { length (rest parser.new) ≤ length (rest parser.old) }
 {
-    match parse_tuple_row(alloc, parser, name) {
-        Err(fault) => Err(fault),
-        Ok(
-            (
-                a_value,
-                (
-                    b_value,
-                    (
-                        c_value,
-                        (
-                            d_value,
-                            (
-                                e_value,
-                                (
-                                    f_value,
-                                    (
-                                        g_value,
-                                        (h_value, (i_value, (j_value, (k_value, (l_value, ()))))),
-                                    ),
-                                ),
-                            ),
-                        ),
-                    ),
-                ),
-            ),
-        ) => Ok((
-            a_value, b_value, c_value, d_value, e_value, f_value, g_value, h_value, i_value,
-            j_value, k_value, l_value,
-        )),
-    }
+    parse_tuple_row(alloc, parser, name, &Plain)
 }

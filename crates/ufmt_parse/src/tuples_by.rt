@@ -4,12 +4,10 @@ ghost use Rattle.ufmt.specs.Document.{documents, tuple_of};
 ghost use Rattle.ufmt.specs.Leaves.{IsWordOrEmpty};
 ghost use Rattle.ufmt_parse.specs.Taking.{IsNext, IsTaken, open_blocks, rest};
 
-use crate::entries::Value;
-use crate::fields::parse_block;
 use crate::from_front::ParsesBy;
 use crate::mode::ParseMode;
 use crate::parser::{Fault, Parser};
-use ufmt::layout::Kind;
+use crate::rows::parse_tuple_row;
 use ufmt::uDebug;
 
 /// Takes a tuple, its field by a parser.
@@ -34,10 +32,9 @@ pub fn parse_tuple_1_by<Alloc: Copy, M: ParseMode, A: uDebug + Drop, P: ParsesBy
     ensures blocks { IfOk result (λ _. open_blocks parser.new ≡ open_blocks parser.old) }
     ensures shrinks { length (rest parser.new) ≤ length (rest parser.old) }
 {
-    let fields = (Value(a_by), ());
-    match parse_block(alloc, parser, Kind::tuple(name), name, &fields) {
+    match parse_tuple_row(alloc, parser, name, &(a_by,)) {
         Err(fault) => Err(fault),
-        Ok((a_value, ())) => Ok(a_value),
+        Ok((a_value,)) => Ok(a_value),
     }
 }
 
@@ -67,11 +64,7 @@ pub fn parse_tuple_2_by<
     ensures blocks { IfOk result (λ _. open_blocks parser.new ≡ open_blocks parser.old) }
     ensures shrinks { length (rest parser.new) ≤ length (rest parser.old) }
 {
-    let fields = (Value(a_by), (Value(b_by), ()));
-    match parse_block(alloc, parser, Kind::tuple(name), name, &fields) {
-        Err(fault) => Err(fault),
-        Ok((a_value, (b_value, ()))) => Ok((a_value, b_value)),
-    }
+    parse_tuple_row(alloc, parser, name, &(a_by, b_by))
 }
 
 /// Takes a tuple, each of its 3 fields by a parser.
@@ -112,11 +105,7 @@ pub fn parse_tuple_3_by<
     ensures blocks { IfOk result (λ _. open_blocks parser.new ≡ open_blocks parser.old) }
     ensures shrinks { length (rest parser.new) ≤ length (rest parser.old) }
 {
-    let fields = (Value(a_by), (Value(b_by), (Value(c_by), ())));
-    match parse_block(alloc, parser, Kind::tuple(name), name, &fields) {
-        Err(fault) => Err(fault),
-        Ok((a_value, (b_value, (c_value, ())))) => Ok((a_value, b_value, c_value)),
-    }
+    parse_tuple_row(alloc, parser, name, &(a_by, b_by, c_by))
 }
 
 /// Takes a tuple, each of its 4 fields by a parser.
@@ -163,13 +152,7 @@ pub fn parse_tuple_4_by<
     ensures blocks { IfOk result (λ _. open_blocks parser.new ≡ open_blocks parser.old) }
     ensures shrinks { length (rest parser.new) ≤ length (rest parser.old) }
 {
-    let fields = (Value(a_by), (Value(b_by), (Value(c_by), (Value(d_by), ()))));
-    match parse_block(alloc, parser, Kind::tuple(name), name, &fields) {
-        Err(fault) => Err(fault),
-        Ok((a_value, (b_value, (c_value, (d_value, ()))))) => Ok((
-            a_value, b_value, c_value, d_value,
-        )),
-    }
+    parse_tuple_row(alloc, parser, name, &(a_by, b_by, c_by, d_by))
 }
 
 /// Takes a tuple, each of its 5 fields by a parser.
@@ -222,16 +205,7 @@ pub fn parse_tuple_5_by<
     ensures blocks { IfOk result (λ _. open_blocks parser.new ≡ open_blocks parser.old) }
     ensures shrinks { length (rest parser.new) ≤ length (rest parser.old) }
 {
-    let fields = (
-        Value(a_by),
-        (Value(b_by), (Value(c_by), (Value(d_by), (Value(e_by), ())))),
-    );
-    match parse_block(alloc, parser, Kind::tuple(name), name, &fields) {
-        Err(fault) => Err(fault),
-        Ok((a_value, (b_value, (c_value, (d_value, (e_value, ())))))) => Ok((
-            a_value, b_value, c_value, d_value, e_value,
-        )),
-    }
+    parse_tuple_row(alloc, parser, name, &(a_by, b_by, c_by, d_by, e_by))
 }
 
 /// Takes a tuple, each of its 6 fields by a parser.
@@ -289,17 +263,5 @@ pub fn parse_tuple_6_by<
     ensures blocks { IfOk result (λ _. open_blocks parser.new ≡ open_blocks parser.old) }
     ensures shrinks { length (rest parser.new) ≤ length (rest parser.old) }
 {
-    let fields = (
-        Value(a_by),
-        (
-            Value(b_by),
-            (Value(c_by), (Value(d_by), (Value(e_by), (Value(f_by), ())))),
-        ),
-    );
-    match parse_block(alloc, parser, Kind::tuple(name), name, &fields) {
-        Err(fault) => Err(fault),
-        Ok((a_value, (b_value, (c_value, (d_value, (e_value, (f_value, ()))))))) => Ok((
-            a_value, b_value, c_value, d_value, e_value, f_value,
-        )),
-    }
+    parse_tuple_row(alloc, parser, name, &(a_by, b_by, c_by, d_by, e_by, f_by))
 }

@@ -1,7 +1,7 @@
 //! Tests of what no clause says of parsing: that it succeeds with ample memory for each type and each
 //! shape of text, and where a text that isn't parsed stops fitting.
+mod allocators;
 mod by_parsers;
-mod calls;
 mod collections;
 mod counts;
 mod deep;
@@ -13,6 +13,7 @@ mod nonzero;
 mod numbers;
 mod places;
 mod round_trips;
+mod std_types;
 mod stops;
 mod user_types;
 mod values;

@@ -7,6 +7,8 @@ pub mod Scans
 pub mod Stacks
 pub mod ScanTurns
 pub mod Spelled
+pub mod Characters
+pub mod Chunks
 pub mod Strips
 pub mod WordBytes
 pub mod Lines

@@ -1,11 +1,10 @@
 -- A leaf in quotes is split off the front of a text exactly if one is there.
-use Rattle.std.proofs.Common.{◌≡◌, inl, inr, refl, sym, ap, subst, ◌∙◌, ℕ, ◌+◌, ◌-◌, ◌<◌, ◌≤◌, ◌==◌, ◌&&◌, Bool, true, false, List, [], ◌∷◌, ◌++◌, length, take, drop, Option, Some, None, encode_utf8, encode_utf8_all, suc, cond, append-nil, append_assoc, length-append, arith}
-use lib.Utf8.{encode, next}
-use Rattle.std.specs.Prelude.{◌≢◌, ◌/◌, is_none, nat_lt, unwrap_or}
+use Rattle.std.proofs.Common.{◌≡◌, inl, inr, refl, sym, ap, subst, ◌∙◌, ℕ, ◌+◌, ◌-◌, ◌≤◌, ◌==◌, ◌&&◌, Bool, true, false, List, [], ◌∷◌, ◌++◌, length, take, drop, Option, Some, None, encode_utf8, encode_utf8_all, suc, cond, append-nil, append_assoc, length-append, arith}
+use Rattle.std.specs.Prelude.{◌≢◌, is_none, nat_lt, slice_index, unwrap_or}
 use Rattle.std.specs.Str.{IsAscii, IsUtf8, all_scalars, continuation_len}
 use Rattle.std.proofs.Math.Seq.{take-append_seam}
 use Rattle.std.proofs.lemmas.Bool.Decides.{nat_tests}
-use Rattle.std.proofs.lemmas.Str.{IsAscii-append, IsUtf8-from_ascii, encode_ascii, length-le-encodes}
+use Rattle.std.proofs.lemmas.Str.{IsAscii-append, IsUtf8-from_ascii, length-le-encodes}
 use Rattle.ufmt_core.proofs.QuotedBytes.{escape-past_ascii}
 use Rattle.ufmt_core.proofs.QuotedCharacters.{escaped_all-bytes}
 use Rattle.std.proofs.lemmas.List.{take-append-drop}
@@ -20,6 +19,7 @@ use Rattle.ufmt.proofs.QuotedComplete.{length-escaped_bytes, quoted-bytes, read_
 use Rattle.ufmt.proofs.QuotedSound.{read_quoted-sound}
 use Rattle.ufmt.proofs.QuotedUtf8.{quoted-utf8}
 use Rattle.ufmt_scan.specs.Private.Spelled.{Closes, IsOneCharacter, NeverCloses}
+use Rattle.ufmt_scan.proofs.Characters.{Written, ascii, past_ascii, length-led, is_written}
 use Rattle.ufmt_scan.proofs.Spelled.{quote_ends, same_bytes, spelled_once}
 use Rattle.ufmt_scan.proofs.WordBytes.{marks}
 
@@ -116,21 +116,15 @@ module _ (t inside : List ℕ) (q : ℕ) (opens : t ≡ q ∷ inside) where
 abbrev Led : ℕ → Type 0
 Led c = (b : ℕ) × (more : List ℕ) × (escaped 39 c ≡ escaped_byte 39 b ++ more) × (length more ≡ continuation_len b)
 
-past_ascii : (c b : ℕ) (more : List ℕ) → 128 ≤ c → 128 ≤ b → encode_utf8 c ≡ b ∷ more → length more ≡ continuation_len b → Led c
-past_ascii c b more high led is follow = (b, more, rw (escape-past_ascii 39 c (omega arith) high, escape-past_ascii 39 b (omega arith) led) is, follow)
-
 lead : (c : ℕ) → Led c
-unfolding encode
-lead c = go (nat_lt c 128) refl (nat_lt c 2048) refl (nat_lt c 65536) refl
+lead c = by (is_written c)
   where
-    go : (x : Bool) → nat_lt c 128 ≡ x → (y : Bool) → nat_lt c 2048 ≡ y → (z : Bool) → nat_lt c 65536 ≡ z → Led c
-    go true one y two z three =
-        let small : c < 128 = grind (arith, nat_tests) in
-        (c, [], ap (unwrap_or (escape 39 c)) (encode_ascii c small) ∙ sym (append-nil (escaped_byte 39 c)), grind (arith, nat_tests))
-    go false one true two z three = past_ascii c (192 + c / 64) (next c ∷ []) (grind (arith, nat_tests)) (omega arith) (rw (one, two) refl) (grind (arith, nat_tests))
-    go false one false two true three = past_ascii c (224 + c / 4096) (next (c / 64) ∷ next c ∷ []) (grind (arith, nat_tests)) (omega arith) (rw (one, two, three) refl) (grind (arith, nat_tests))
-    go false one false two false three =
-        past_ascii c (240 + c / 262144) (next (c / 4096) ∷ next (c / 64) ∷ next c ∷ []) (grind (arith, nat_tests)) (omega arith) (rw (one, two, three) refl) (grind (arith, nat_tests))
+    by : Written c → Led c
+    by (ascii low is) = (c, [], is ∙ sym (append-nil (escaped_byte 39 c)), grind (arith, nat_tests))
+    by (past_ascii high itself b past more is) =
+        let whole : encode_utf8 c ≡ b ∷ more = sym itself ∙ is ∙ ap (λ e. unwrap_or e (b ∷ []) ++ more) (escape-past_ascii 39 b (omega arith) past) in
+        let long : suc (length more) ≡ 1 + continuation_len b = subst (λ bs. length bs ≡ 1 + continuation_len (slice_index bs 0)) whole (length-led c) in
+        (b, more, is, omega (arith, long))
 
 -- so the length of what follows determines whether there is one character
 module _ (leaf inside : List ℕ) (x : ℕ) (opens : leaf ≡ x ∷ inside) where

@@ -43,12 +43,13 @@ spelled_shorter q b t u h = omega (arith, ap length h, length-append (escaped_by
 pub stretch_within : (t : List ℕ) (n : ℕ) → n ≡ unescaped_len t → n ≤ length t
 stretch_within t n is = omega (arith, is, (core.stretch t).within)
 
+pub stretch_itself : (t : List ℕ) (n : ℕ) → n ≡ unescaped_len t → escaped_bytes 34 (take n t) ≡ take n t
+stretch_itself t n is = append_cancel_right _ _ (escaped_bytes 34 (drop n t))
+    (sym (escaped_bytes-append 34 (take n t) (drop n t)) ∙ ap (escaped_bytes 34) (take-append-drop n t) ∙ rw is (core.stretch t).escaped)
+
 pub stretch : (t u : List ℕ) (n : ℕ) → n ≡ unescaped_len t → u ≡ drop n t → IsSpelled 34 t u
 stretch t u n is rest =
-    let whole = core.stretch t in
-    let itself : escaped_bytes 34 (take n t) ≡ take n t = append_cancel_right _ _ (escaped_bytes 34 (drop n t))
-    (sym (escaped_bytes-append 34 (take n t) (drop n t)) ∙ ap (escaped_bytes 34) (take-append-drop n t) ∙ rw is whole.escaped) in
-    record { bytes = take n t; is = sym (ap (λ v. v ++ u) itself ∙ ap (λ v. take n t ++ v) rest ∙ take-append-drop n t) }
+    record { bytes = take n t; is = sym (ap (λ v. v ++ u) (stretch_itself t n is) ∙ ap (λ v. take n t ++ v) rest ∙ take-append-drop n t) }
 
 -- the search passes nothing at first, then a byte and more, and ends at the quote
 pub spelled_nothing : (q : ℕ) (t : List ℕ) → IsSpelled q t t

@@ -1,3 +1,4 @@
+pub mod Depth
 pub mod Private
 pub mod Rest
 pub mod Scan

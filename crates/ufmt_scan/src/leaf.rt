@@ -7,8 +7,8 @@ ghost use Rattle.ufmt.specs.Reading.{after_word, read_quotes, read_symbol, word_
 ghost use Rattle.ufmt_scan.specs.Private.MarkedBytes.{is_marked, marked_len};
 
 use crate::front::{split_front, split_name};
-use crate::level::strip_piece;
 use crate::quoted::{split_any, split_plain};
+use crate::strip::strip_piece;
 use ufmt::class::Class;
 
 // Marks each byte that a word may have: ASCII digits, ASCII letters, `_` and `-`.

@@ -12,6 +12,7 @@ pub mod leaf;
 mod level;
 pub mod quoted;
 pub mod scan;
+pub mod strip;
 mod text;
 
 pub use text::{is_debug_text, is_text};

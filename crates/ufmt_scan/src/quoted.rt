@@ -9,7 +9,7 @@ ghost use Rattle.ufmt_scan.specs.Rest.{now_of};
 ghost use Rattle.ufmt_scan.specs.Private.Spelled.{Closes, IsOneCharacter, IsSpelled, NeverCloses};
 
 use crate::leaf::marked_len;
-use crate::level::{strip_byte, strip_piece};
+use crate::strip::{strip_byte, strip_piece};
 use ufmt::ascii::text_from;
 use ufmt::quoted::{escape, unescaped_len};
 
@@ -97,8 +97,8 @@ fn is_character(leaf: &[u8]) -> bool
     }
 }
 
-// How many bytes a character has, by its first byte.
-fn character_len(lead: u8) -> usize
+/// Returns how many bytes a character has in UTF-8, by its first byte.
+pub fn character_len(lead: u8) -> usize
     ensures { result ≡ 1 + continuation_len lead }
 {
     match lead {

@@ -27,6 +27,7 @@ mod hexadecimal;
 mod laws;
 mod leaves;
 mod lines;
+mod long_lines;
 mod long_values;
 mod numbers;
 mod piece_rows;

@@ -1,8 +1,7 @@
 """The files of ufmt_parse with one call for each number of fields, and their answers."""
 
 MOST = 12
-# The calls whose fields are each parsed by a parser: a type that holds itself needs them. Their answers take the
-# chain of parsers apart, which costs the check more with each field.
+# The calls whose fields are each parsed by a parser: a type that holds itself needs them.
 MOST_BY = 6
 TYPES = "ABCDEFGHIJKL"
 PARSERS = "PQRSTU"
@@ -31,12 +30,30 @@ def wrapped(parts, indent):
     return "\n".join(lines + [line])
 
 
+def tuple_of(items):
+    """A tuple of these."""
+    return "(" + ", ".join(items) + ("," if len(items) == 1 else "") + ")"
+
+
 def chain_of(items):
-    """These in a chain, as rows of fields have it."""
-    chain = "()"
+    """These in a chain, as what holds of a row is."""
+    chain = "tt"
     for item in reversed(items):
         chain = f"({item}, {chain})"
     return chain
+
+
+def pairs_of(claims):
+    """Each of these claims: the first, and then the others."""
+    whole = "⊤"
+    for claim in reversed(claims):
+        whole = f"{claim} × " + (whole if whole == "⊤" else f"({whole})")
+    return whole
+
+
+def parts_of(value, count):
+    """What holds of each value of a row, where this holds of the row."""
+    return [value + ".1" * place + ".0" for place in range(count)]
 
 
 def no_memory(holders):
@@ -96,11 +113,6 @@ class Block:
         inputs = ["alloc: Alloc", "parser: &mut Parser<'_, M>", "name: &str"]
         if self.name == "struct":
             inputs += [f"{letter}: &str" for letter in fields]
-            row = f"parse_struct_row(alloc, parser, name, &[{', '.join(fields)}])"
-        else:
-            row = "parse_tuple_row(alloc, parser, name)"
-        values = [f"{letter}_value" for letter in fields]
-        made = values[0] if count == 1 else "(" + ", ".join(values) + ")"
         counted = "one field" if count == 1 else f"{count} fields"
         return f"""
 /// Takes a {self.about} with {counted}, as `parse_from` does a value.
@@ -109,12 +121,20 @@ pub fn parse_{self.name}_{count}<Alloc: Copy, {types}, M: ParseMode>({", ".join(
     requires {{ {self.asked(count)} }}
 {self.clauses(count, TYPES)}
 {{
-    match {row} {{
-        Err(fault) => Err(fault),
-        Ok({chain_of(values)}) => Ok({made}),
-    }}
+{self.body(count, "Plain")}
 }}
 """
+
+    def body(self, count, row):
+        """What calls the parser of a row with these parsers."""
+        names = f"&[{', '.join(letters(count))}], " if self.name == "struct" else ""
+        call = f"parse_{self.name}_row(alloc, parser, name, {names}&{row})"
+        if count > 1:
+            return f"    {call}"
+        return f"""    match {call} {{
+        Err(fault) => Err(fault),
+        Ok((a_value,)) => Ok(a_value),
+    }}"""
 
     def file(self):
         """The file with a call for each number of fields."""
@@ -126,29 +146,71 @@ ghost use Rattle.std.specs.Prelude.{{◌≤◌, length, [], ◌∷◌, ◌≡◌
 ghost use Rattle.ufmt.specs.Document.{{{self.row}, {self.document}}};
 {leaves}ghost use Rattle.ufmt_parse.specs.Taking.{{{words}IsNext, IsTaken, open_blocks, rest}};
 
-use crate::from_front::uParse;
+use crate::from_front::{{Plain, uParse}};
 use crate::mode::ParseMode;
 use crate::parser::{{Fault, Parser}};
 use crate::rows::parse_{self.name}_row;
 {calls}"""
 
-    def answers(self, count):
-        """The answers of the call for that many fields: what the call of the row says, of the values in a chain."""
+    def answers(self, count, suffix=""):
+        """The answers of the call for that many fields: what the call of the row says, of a row of values."""
         fields = letters(count)
-        binders = " ".join([f"{letter}_value" for letter in fields] + ["u"] + [f"is_{letter}" for letter in fields] + ["next"])
-        row = chain_of([f"{letter}_value" for letter in fields]).replace("()", "tt")
-        are = chain_of([f"is_{letter}" for letter in fields]).replace("()", "tt")
-        where = f"Rattle.ufmt_parse.proofs.{self.name}s.parse_{self.name}_{count}.Goals"
-        return f"""-- {WRITTEN}
-use {where} as goal
+        values = [f"{letter}_value" for letter in fields]
+        binders = " ".join(values + ["u"] + [f"is_{letter}" for letter in fields] + ["next"])
+        row = "(" + ", ".join(values) + ")" if count > 1 else "(record { 0 = a_value })"
+        are = chain_of([f"is_{letter}" for letter in fields])
+        where = f"Rattle.ufmt_parse.proofs.{self.name}s{suffix}.parse_{self.name}_{count}{suffix}.Goals"
+        return f"-- {WRITTEN}\n" + (self.of_one if count == 1 else self.of_many)(count, where, binders, row, are, suffix)
+
+    def of_one(self, count, where, binders, row, are, suffix):
+        """The answers of the call for one field, which takes the value out of the row."""
+        return f"""use {where} as goal
 
 pub returns-in-Err-clause-none : goal.returns-in-Err-clause-none
-returns-in-Err-clause-none g c = λ is_not {binders}.
-    c.in-Err.ensures.none is_not {row} u {are} next
+returns-in-Err-clause-none g c = λ is_not {binders}. c.in-Err.ensures.none is_not {row} u {are} next
 
 pub returns-in-Ok-clause-only : goal.returns-in-Ok-clause-only
-returns-in-Ok-clause-only g c = λ {binders}.
-    c.in-Ok.ensures.only {row} u {are} next
+returns-in-Ok-clause-only g c = λ {binders}. c.in-Ok.ensures.only {row} u {are} next
+"""
+
+    def of_many(self, count, where, binders, row, are, suffix):
+        """The answers of the call for several fields, whose result is the row's."""
+        ensures = f"c.parse_{self.name}_row.ensures"
+        result = f"c.parse_{self.name}_row.result"
+        named = "c.requires.words" if suffix else "c.requires"
+        asked = f"""
+pub parse_struct_row-requires-clause-words : goal.parse_struct_row-requires-clause-words
+parse_struct_row-requires-clause-words g c = {named}
+
+pub parse_struct_row-requires-clause-counted : goal.parse_struct_row-requires-clause-counted
+parse_struct_row-requires-clause-counted g c = λ v. refl
+""" if self.name == "struct" else ""
+        uses = "use Rattle.std.proofs.Common.{refl}\n" if self.name == "struct" else ""
+        none = chain_of([f"none.{place}" for place in range(count)])
+        values = f"""
+pub returns-clause-values : goal.returns-clause-values
+returns-clause-values g c = IfOk-weaker {result} _ _ (λ v are. ({", ".join(parts_of("are", count))})) {ensures}.values
+""" if suffix else ""
+        return f"""{uses}use Rattle.std.proofs.lemmas.Result.{{IfErr-weaker, IfOk-weaker}}
+use {where} as goal
+{asked}{values}
+pub returns-clause-taken : goal.returns-clause-taken
+returns-clause-taken g c = {ensures}.taken
+
+pub returns-clause-only : goal.returns-clause-only
+returns-clause-only g c = IfOk-weaker {result} _ _ (λ _ only {binders}. only {row} u {are} next) {ensures}.only
+
+pub returns-clause-none : goal.returns-clause-none
+returns-clause-none g c = IfErr-weaker {result} _ _ (λ _ none is_not {binders}. none is_not {row} u {are} next) {ensures}.none
+
+pub returns-clause-memory : goal.returns-clause-memory
+returns-clause-memory g c = λ none. {ensures}.memory {none}
+
+pub returns-clause-blocks : goal.returns-clause-blocks
+returns-clause-blocks g c = {ensures}.blocks
+
+pub returns-clause-shrinks : goal.returns-clause-shrinks
+returns-clause-shrinks g c = {ensures}.shrinks
 """
 
 
@@ -164,10 +226,6 @@ class BlockBy(Block):
         for letter, parser in zip(fields, PARSERS):
             inputs += [f"{letter}: &str"] if self.name == "struct" else []
             inputs += [f"{letter}_by: &{parser}"]
-        entry = (lambda letter: f"Named({letter}, {letter}_by)") if self.name == "struct" else (lambda letter: f"Value({letter}_by)")
-        kind = "Kind::Struct" if self.name == "struct" else "Kind::tuple(name)"
-        values = [f"{letter}_value" for letter in fields]
-        made = values[0] if count == 1 else "(" + ", ".join(values) + ")"
         parts = ["v"] if count == 1 else [f"v.{place}" for place in range(count)]
         holds = " × ".join(f"{parser}.is_value {part}" for parser, part in zip(PARSERS, parts))
         ready = [f"{parser}.ready {letter}_by.now (suc (open_blocks parser.old))" for parser, letter in zip(PARSERS, fields)]
@@ -180,17 +238,12 @@ pub fn parse_{self.name}_{count}_by<Alloc: Copy, M: ParseMode, {types}, {by}>({"
     ensures values {{ IfOk result (λ v. {holds}) }}
 {self.clauses(count, PARSERS)}
 {{
-    let fields = {chain_of([entry(letter) for letter in fields])};
-    match parse_block(alloc, parser, {kind}, name, &fields) {{
-        Err(fault) => Err(fault),
-        Ok({chain_of(values)}) => Ok({made}),
-    }}
+{self.body(count, tuple_of([f"{letter}_by" for letter in fields]))}
 }}
 """
 
     def file(self):
         """The file with a call for each number of fields."""
-        entry = "Named" if self.name == "struct" else "Value"
         words = "AreWords, " if self.name == "struct" else ""
         leaves = "" if self.name == "struct" else "ghost use Rattle.ufmt.specs.Leaves.{IsWordOrEmpty};\n"
         calls = "".join(self.call(count) for count in range(1, MOST_BY + 1))
@@ -199,86 +252,113 @@ ghost use Rattle.std.specs.Prelude.{{◌≤◌, ◌<◌, length, [], ◌∷◌, 
 ghost use Rattle.ufmt.specs.Document.{{{self.row}, {self.document}}};
 {leaves}ghost use Rattle.ufmt_parse.specs.Taking.{{{words}IsNext, IsTaken, open_blocks, rest}};
 
-use crate::entries::{entry};
-use crate::fields::parse_block;
 use crate::from_front::ParsesBy;
 use crate::mode::ParseMode;
 use crate::parser::{{Fault, Parser}};
-use ufmt::layout::Kind;
+use crate::rows::parse_{self.name}_row;
 use ufmt::uDebug;
 {calls}"""
 
-    def built(self, place):
-        """Where `IsNext` says that the field's document is built as those of the class are."""
-        if self.name == "struct":
-            return "next.0.0.1" + ".2" * place + ".1"
-        return "next.0.0.1" if place == 0 else "next.0.0.2" + ".1" * (place - 1) + ".0"
 
-    def answers(self, count):
-        """The answers of the call for that many fields."""
-        fields = letters(count)
-        fit, chain, taken = "tt", "tt", "tt"
-        for place in reversed(range(count)):
-            letter = fields[place]
-            fit = f"((is_{letter}, ({self.built(place)}, omega (arith, next.0.1))), {fit})"
-            chain = f"({letter}_value, {chain})"
-            at = "takes.1.0" + ".1" * place + ".0.1.0"
-            if self.name == "struct":
-                taken = f"(word_is_name _ c.requires.words.1{'.1' * place}.0, {at}, {taken})"
-            elif place > 0:
-                taken = f"({at}, {taken})"
-            else:
-                taken = f"{at}, {taken}"
-        nests = ", ".join("takes.1.0" + ".1" * place + ".0.1.1" for place in range(count)) + ", takes.1.1"
-        name = "word_is_name _ c.requires.words.0" if self.name == "struct" else "word_is_tuple_name c.args.name.now c.requires.words"
-        ready, holds = "tt", []
-        for place in reversed(range(count)):
-            part = "c.requires.ready few" if count == 1 else f"(c.requires.ready few).{place}"
-            ready = f"({part}, {ready})"
-            holds = ["takes.1.0" + ".1" * place + ".0.0"] + holds
-        values = holds[0] if count == 1 else "(" + ", ".join(holds) + ")"
-        binders = " ".join([f"{letter}_value" for letter in fields] + ["u"] + [f"is_{letter}" for letter in fields] + ["next"])
-        of_kind = (lambda takes: takes) if self.name == "struct" else (lambda takes: f"(rw c.tuple.ensures at {takes})")
-        words = "word_is_name" if self.name == "struct" else "word_is_tuple_name"
-        where = f"Rattle.ufmt_parse.proofs.{self.name}s_by.parse_{self.name}_{count}_by.Goals"
-        return f"""-- {WRITTEN}
-use Rattle.std.proofs.Common.{{arith}}
-use Rattle.ufmt_parse.proofs.Clauses.{{refused}}
-use Rattle.ufmt_parse.proofs.Words.{{{words}}}
-use {where} as goal
+def plain_row(count):
+    """A row of values, each parsed by its type's `parse_from`."""
+    bounds = [f"{letter}: uParse<Alloc>" for letter in TYPES[:count]]
+    return row_impl(count, [], bounds, "Plain", TYPES[:count], "_ _. ⊤", "self, self")
 
-pub parse_block-requires : goal.parse_block-requires
-parse_block-requires g c = λ few. {ready}
 
-pub returns-in-Ok-clause-values : goal.returns-in-Ok-clause-values
-returns-in-Ok-clause-values g c =
-    let takes = {of_kind("c.in-Ok.ensures.takes")}.cases in
-    {values}
+def row_by(count):
+    """A row of values, each parsed by a parser."""
+    parsers = PARSERS[:count]
+    bounds = [f"{letter}: uDebug + Drop" for letter in TYPES[:count]]
+    bounds += [f"{parser}: ParsesBy<Alloc, M, {letter}>" for parser, letter in zip(parsers, TYPES)]
+    ready = "row blocks. " + " × ".join(f"{parser}.ready row.{place}.now blocks" for place, parser in enumerate(parsers))
+    others = "Plain" if count == 1 else tuple_of([f"self.{place}" for place in range(1, count)])
+    return row_impl(count, ["'p"], bounds, tuple_of([f"&'p {parser}" for parser in parsers]), parsers, ready, f"self.0, &{others}")
 
-pub returns-in-Err-clause-none : goal.returns-in-Err-clause-none
-returns-in-Err-clause-none g c = λ is_not {binders}.
-    refused c.in-Err.fault {of_kind("c.in-Err.ensures.takes")} is_not {chain} u
-    ({fit}, omega (arith, next.0.1)) next.1 next.2
 
-pub returns-in-Ok-clause-taken : goal.returns-in-Ok-clause-taken
-returns-in-Ok-clause-taken g c =
-    let takes = {of_kind("c.in-Ok.ensures.takes")}.cases in
-    (takes.0, (({name}, {taken}), omega (arith, {nests})))
+def row_impl(count, lifetimes, bounds, parsers, holders, ready, parts):
+    """A row of that many values: the first, and a row of those after it."""
+    types, fields = list(TYPES[:count]), letters(count)
+    generics = ", ".join(lifetimes + ["Alloc: Copy", "M: ParseMode"] + bounds)
+    are = pairs_of([f"{holder}.is_value v.{place}" for place, holder in enumerate(holders)])
+    memory = pairs_of([f"{holder}.holds_no_memory" for holder in holders])
+    documents = in_a_row([f"{letter}.document v.{place}" for place, letter in enumerate(types)])
+    return f"""
+impl<{generics}> RowParsers<Alloc, M, {tuple_of(types)}> for {parsers} {{
+    ghost are_values = {{ λ v. {are} }};
 
-pub returns-in-Ok-clause-only : goal.returns-in-Ok-clause-only
-returns-in-Ok-clause-only g c = λ {binders}.
-    {of_kind("c.in-Ok.ensures.takes")}.cases.2 {chain} u
-    ({fit}, omega (arith, next.0.1)) next.1 next.2
+    ghost hold_no_memory = {{ {memory} }};
+
+    ghost documents = {{ λ v. {documents} }};
+
+    ghost ready = {{ λ {ready} }};
+
+    #[inline(always)]
+    fn parse_row(&self, alloc: Alloc, parser: &mut Parser<'_, M>, kind: Kind, count: Count, names: &[&str]) -> Result<{tuple_of(types)}, Fault> {{
+        match parse_first(alloc, parser, kind, count, names, {parts}) {{
+            Err(fault) => Err(fault),
+            Ok(({fields[0]}, {tuple_of(fields[1:])})) => Ok({tuple_of(fields)}),
+        }}
+    }}
+}}
 """
+
+
+def row_answers(count, name):
+    """The answers of a row: what is taken as the first value and the others is taken as the row."""
+    others = [f"v.{place}" for place in range(1, count)]
+    view = "v.0, " + ("tt", "record { 0 = v.1 }")[count - 1] if count < 3 else f"v.0, ({', '.join(others)})"
+    types = " × ".join(f"g.row.{letter}.Denot" for letter in TYPES[:count])
+    takes = "viewed" + (f" {{A = {types}}}" if count > 1 else "") + f" (λ v. ({view}))"
+    return f"""-- {WRITTEN}
+use Rattle.ufmt_parse.proofs.Views.{{viewed}}
+use Rattle.ufmt_parse.proofs.{name}.parse_row.Goals as goal
+
+pub returns-in-Err-clause-takes : goal.returns-in-Err-clause-takes
+returns-in-Err-clause-takes g c = {takes} c.in-Err.ensures.takes
+
+pub returns-in-Ok-clause-takes : goal.returns-in-Ok-clause-takes
+returns-in-Ok-clause-takes g c = {takes} c.in-Ok.ensures.takes
+
+pub returns-in-Err-clause-memory : goal.returns-in-Err-clause-memory
+returns-in-Err-clause-memory g c = c.in-Err.ensures.memory
+"""
+
+
+def rows(about, uses, made, most):
+    """The file with a row for each number of values."""
+    return f"""//! {about} {WRITTEN}
+ghost use Rattle.std.specs.Prelude.{{[], ◌∷◌, ⊤}};
+
+use crate::from_front::{{{uses}}};
+use crate::mode::ParseMode;
+use crate::parser::{{Fault, Parser}};
+use crate::rows::{{RowParsers, parse_first}};
+use ufmt::layout::{{Count, Kind}};
+""" + "".join(made(count) for count in range(1, most + 1))
+
+
+def plain_rows():
+    return rows(f"Rows of one to {MOST} values, each parsed by its type.", "Plain, uParse", plain_row, MOST)
+
+
+def rows_by():
+    """The rows by parsers, whose types only print."""
+    return rows(f"Rows of one to {MOST_BY} values, each by a parser.", "ParsesBy, Plain", row_by, MOST_BY).replace("\nimpl", "use ufmt::uDebug;\n\nimpl", 1)
 
 
 def tuple_impl(count):
     """`uParse` for a tuple."""
     types = ", ".join(f"{letter}: uParse<Alloc>" for letter in TYPES[:count])
-    row = "(" + ", ".join(TYPES[:count]) + ("," if count == 1 else "") + ")"
+    row = tuple_of(TYPES[:count])
     values = " × ".join(f"{letter}.is_value t.{place}" for place, letter in enumerate(TYPES[:count]))
     proofs = "\n".join(f"        self.{place}.prove_value();" for place in range(count))
-    made = "parsed" if count > 1 else "(parsed,)"
+    body = f'parse_tuple_{count}(alloc, parser, "")'
+    if count == 1:
+        body = f"""match {body} {{
+            Err(fault) => Err(fault),
+            Ok(parsed) => Ok((parsed,)),
+        }}"""
     return f"""
 impl<Alloc: Copy, {types}> uParse<Alloc> for {row} {{
     ghost is_value = {{ λ t. {values} }};
@@ -291,12 +371,32 @@ impl<Alloc: Copy, {types}> uParse<Alloc> for {row} {{
 
     #[inline(always)]
     fn parse_from<M: ParseMode>(alloc: Alloc, parser: &mut Parser<'_, M>) -> Result<{row}, Fault> {{
-        match parse_tuple_{count}(alloc, parser, "") {{
-            Err(fault) => Err(fault),
-            Ok(parsed) => Ok({made}),
-        }}
+        {body}
     }}
 }}
+"""
+
+
+def tuple_answers(count):
+    """The answers of a tuple of several values: what the call for their number says, of the values of a tuple."""
+    call = f"c.parse_tuple_{count}"
+    values = " ".join(f"v.{place}" for place in range(count))
+    are = " ".join(f"are.{place}" for place in range(count))
+    return f"""-- {WRITTEN}
+use Rattle.std.proofs.lemmas.Result.{{IfErr-weaker, IfOk-weaker}}
+use Rattle.ufmt_parse.proofs.tuple_impls.Tuple{count}uParse.parse_from.Goals as goal
+
+pub returns-clause-taken : goal.returns-clause-taken
+returns-clause-taken g c = {call}.ensures.taken
+
+pub returns-clause-only : goal.returns-clause-only
+returns-clause-only g c = IfOk-weaker {call}.result _ _ (λ _ only v u are next. only {values} u {are} next) {call}.ensures.only
+
+pub returns-clause-none : goal.returns-clause-none
+returns-clause-none g c = IfErr-weaker {call}.result _ _ (λ _ none is_not v u are next. none is_not {values} u {are} next) {call}.ensures.none
+
+pub returns-clause-memory : goal.returns-clause-memory
+returns-clause-memory g c = {call}.ensures.memory
 """
 
 
@@ -320,7 +420,15 @@ TUPLES_BY = BlockBy("tuple", "tuple_of", "documents", "tuple")
 
 def files():
     """Each file by its path in the crate, with what makes its text."""
-    found = {"src/tuple_impls.rt": tuple_impls}
+    found = {"src/tuple_impls.rt": tuple_impls, "src/plain_rows.rt": plain_rows, "src/rows_by.rt": rows_by}
+    for count in range(1, MOST + 1):
+        name = f"plain_rows/PlainRowParsersTuple{count}"
+        found[f"proofs/{name}/parse_row/Answers.antt"] = lambda count=count, name=name: row_answers(count, name.replace("/", "."))
+    for count in range(2, MOST + 1):
+        found[f"proofs/tuple_impls/Tuple{count}uParse/parse_from/Answers.antt"] = lambda count=count: tuple_answers(count)
+    for count in range(1, MOST_BY + 1):
+        name = f"rows_by/Tuple{count}{'Ref' * count}RowParsersTuple{count}"
+        found[f"proofs/{name}/parse_row/Answers.antt"] = lambda count=count, name=name: row_answers(count, name.replace("/", "."))
     for block in (STRUCTS, TUPLES):
         found[f"src/{block.name}s.rt"] = block.file
         for count in range(1, MOST + 1):
@@ -328,5 +436,5 @@ def files():
     for block in (STRUCTS_BY, TUPLES_BY):
         found[f"src/{block.name}s_by.rt"] = block.file
         for count in range(1, MOST_BY + 1):
-            found[f"proofs/{block.name}s_by/parse_{block.name}_{count}_by/Answers.antt"] = lambda block=block, count=count: block.answers(count)
+            found[f"proofs/{block.name}s_by/parse_{block.name}_{count}_by/Answers.antt"] = lambda block=block, count=count: block.answers(count, "_by")
     return found

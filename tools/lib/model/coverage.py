@@ -150,9 +150,15 @@ def cells(document, mode, size):
         return {("bytes of no text", power(size), mode)}
     found = Walk(mode).walk(document)
     found.add(("bytes of a text", power(size), mode))
-    found.update(("type", letter, mode) for letter in values.letters(document))
-    found.update(("shape", number, mode) for number in values.shapes(document))
     return found
+
+
+def value_cells(document, mode):
+    """The cells that a text of values fills, whose debug document this is, or None."""
+    if document is None:
+        return set()
+    types = {("type", letter, mode) for letter in values.letters(document)}
+    return types | {("shape", number, mode) for number in values.shapes(document)}
 
 
 def pairs(*lists):

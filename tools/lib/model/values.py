@@ -92,6 +92,16 @@ class Choice:
         return Block("tuple", name, [(None, self.variants[name].made(random))])
 
 
+class Reversed(Choice):
+    """`Reverse(n)` of numbers, in the opposite order."""
+
+    def __init__(self, number):
+        super().__init__(None, Reverse=number)
+
+    def order(self, document):
+        return -self.variants["Reverse"].order(document.entries[0][1])
+
+
 class List:
     """A list of values: of one length, if there is one."""
 
@@ -234,6 +244,7 @@ def few(count):
 
 BOOL = Word("false", "true")
 UNIT = Word("()")
+ORDERING = Word("Less", "Equal", "Greater")
 BYTE = unsigned(8)
 UNSIGNED = [unsigned(bits) for bits in (8, 16, 32, 64, 128, 64)]
 SIGNED = [signed(bits) for bits in (8, 16, 32, 64, 128, 64)]
@@ -279,6 +290,20 @@ TYPES = {
         Keyed(signed(64), Keyed(signed(64))),
         Keyed(unsigned(32), Keyed(BYTE)),
     ),
+    **row(
+        "\u03be\u03bf\u03c0\u03c1\u03c3\u03c4\u03c5\u03c6",
+        ORDERING,
+        Choice("Unbounded", Included=BYTE, Excluded=BYTE),
+        Choice(None, Continue=CHARACTER, Break=BOOL),
+        signed(8),
+        unsigned(16),
+        Reversed(BYTE),
+        Fields("struct", "Cell", [("value", BOOL)]),
+        Word(".."),
+    ),
+    **row("\u03c8\u03c9\u0431\u0432\u0433", signed(8), Choice("None", Some=BOOL), TEXT, TEXT, TEXT),
+    **row("\u0435\u0436\u0437\u0438\u0439", List(BYTE), List(BOOL), List(signed(16)), List(CHARACTER), List(BYTE)),
+    **row("\u043d\u043e", Keyed(Reversed(BYTE)), Keyed(ORDERING, TEXT)),
     **row("678", Tree(), Node(), List(Tree())),
     **row(
         "\u03b1\u03b2\u03b3\u03b4\u03b5\u03b6\u03b7\u03b8\u03b9\u03ba\u03bb\u03bc",

@@ -79,6 +79,7 @@ def cells(data, found):
     filled = set()
     for mode, (document, debug_document) in zip(coverage.MODES, found):
         filled |= coverage.cells(document, mode, len(data))
+        filled |= coverage.value_cells(debug_document, mode)
         if document is None:
             filled |= debug_coverage.cells(data, debug_document, mode)
     return filled

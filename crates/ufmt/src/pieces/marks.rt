@@ -27,7 +27,8 @@ pub struct Debug;
 impl<T: uDebug> Mark<T> for Debug {
     ghost pieces = { λ _ x. shown (T.document x) ∷ [] };
 
-    #[inline(always)]
+    // Out of line: all lines have one copy of it for each type.
+    #[inline(never)]
     fn print_value<W: uWrite>(&self, value: &T, f: &mut Formatter<W>) -> Result<(), W::Error> {
         value.fmt(f)
     }

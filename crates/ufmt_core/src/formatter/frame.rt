@@ -1,6 +1,6 @@
 //! Writing the text around the entries of a block, at the formatter's own mode and depth.
-ghost use Rattle.std.specs.Prelude.{◌++◌, codes, is_ok};
-ghost use Rattle.ufmt_core.specs.Layout.{dots_ending, dots_line, ending, frame, indentation, inside, lead, line_start, new_line, later_lead, trail};
+ghost use Rattle.std.specs.Prelude.{◌≡◌, ◌++◌, List, ℕ, codes, is_ok};
+ghost use Rattle.ufmt_core.specs.Layout.{dots_ending, dots_line, ending, frame, indentation, inside, lead, line_start, trail};
 ghost use Rattle.ufmt_core.specs.Formatter.{Prints, depth_of, mode_of, setting_of};
 
 use crate::formatter::Formatter;
@@ -15,12 +15,24 @@ impl<W: uWrite> Formatter<W> {
             (lead (frame (mode_of self.old) kind) (setting_of self.old) count) (is_ok result)
             self.new }
     {
+        self.write_lead_start(kind, count)?;
+        self.write_line_start()
+    }
+
+    // Writes the text before an entry, without the indentation.
+    #[inline(always)]
+    fn write_lead_start(&mut self, kind: Kind, count: Count) -> Result<(), W::Error>
+        ensures { (start : List ℕ)
+            × (start ++ line_start (mode_of self.old) (depth_of self.old)
+            ≡ lead (frame (mode_of self.old) kind) (setting_of self.old) count)
+            × Prints W.seen self.old start (is_ok result) self.new }
+    {
         match count {
             Count::Zero => {
                 self.write_start(kind)?;
-                self.write_new_line()
+                self.write_piece(self.setting.mode.line_feed())
             }
-            Count::One | Count::Several => self.write_later_lead(),
+            Count::One | Count::Several => self.write_piece(self.setting.mode.later_lead()),
         }
     }
 
@@ -120,24 +132,6 @@ impl<W: uWrite> Formatter<W> {
     {
         self.write_piece(first)?;
         self.write_piece(second)
-    }
-
-    #[inline(always)]
-    fn write_new_line(&mut self) -> Result<(), W::Error>
-        ensures { Prints W.seen self.old (new_line (mode_of self.old) (depth_of self.old))
-            (is_ok result) self.new }
-    {
-        self.write_piece(self.setting.mode.line_feed())?;
-        self.write_line_start()
-    }
-
-    #[inline(always)]
-    fn write_later_lead(&mut self) -> Result<(), W::Error>
-        ensures { Prints W.seen self.old (later_lead (mode_of self.old) (depth_of self.old))
-            (is_ok result) self.new }
-    {
-        self.write_piece(self.setting.mode.later_lead())?;
-        self.write_line_start()
     }
 
     #[inline(always)]

@@ -34,7 +34,8 @@ pub trait NamedFields<'a> {
 impl<'a> NamedFields<'a> for () {
     ghost fields = { λ _. no_fields };
 
-    #[inline(always)]
+    // Out of line, as `field`: all structs have one copy of it.
+    #[inline(never)]
     fn finish<W: uWrite>(&self, builder: &mut DebugStruct<W>) -> Result<(), W::Error> {
         builder.finish()
     }

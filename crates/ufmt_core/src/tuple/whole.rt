@@ -27,6 +27,7 @@ pub trait UnnamedFields<'a> {
 impl<'a> UnnamedFields<'a> for () {
     ghost documents = { λ _. no_documents };
 
+    #[inline(never)]
     fn finish<W: uWrite>(&self, builder: &mut DebugTuple<W>) -> Result<(), W::Error> {
         builder.finish()
     }

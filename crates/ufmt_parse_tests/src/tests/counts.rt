@@ -1,9 +1,11 @@
 //! Tests of structs and tuples of each number of fields.
 use super::{prints_again, same};
+use std::alloc::{AllocError, Global};
 use ufmt_parse::ParseError::NotText;
 use ufmt_parse::{
-    ParseError, ParseMode, Parser, PlainText, PrettyText, parse_struct_1, parse_struct_3,
-    parse_struct_4, parse_struct_5, parse_struct_6, parse_struct_7, parse_struct_12,
+    Fault, ParseError, ParseMode, Parser, PlainText, PrettyText, parse_struct_1, parse_struct_2,
+    parse_struct_3, parse_struct_4, parse_struct_5, parse_struct_6, parse_struct_7,
+    parse_struct_12,
 };
 
 /// What was parsed, and how many bytes were taken.
@@ -11,18 +13,63 @@ type Taken<T> = (Option<T>, usize);
 
 #[test]
 fn tuples_of_each_count(rt: HostRuntime) {
-    let rows: [(Result<bool, ParseError>, Result<bool, ParseError>, &str); 19] = [
+    let rows: [(Result<bool, ParseError>, Result<bool, ParseError>, &str); 28] = [
         (prints_again::<(u8,)>("(1,)"), Ok(true), "1"),
         (
             prints_again::<(u8,)>("(1)"),
             Err(NotText { at: 2 }),
             "1, no comma",
         ),
+        (
+            prints_again::<(u8,)>("()"),
+            Err(NotText { at: 1 }),
+            "1, none",
+        ),
+        (
+            prints_again::<(u8,)>("(1, 2)"),
+            Err(NotText { at: 2 }),
+            "1, one more",
+        ),
+        (
+            prints_again::<(u8,)>("(256,)"),
+            Err(NotText { at: 1 }),
+            "1, too large",
+        ),
+        (
+            prints_again::<(u8,)>("1"),
+            Err(NotText { at: 0 }),
+            "1, no parentheses",
+        ),
+        (
+            prints_again::<(u8,)>("[1]"),
+            Err(NotText { at: 0 }),
+            "1, in brackets",
+        ),
+        (
+            prints_again::<(u8,)>("A(1)"),
+            Err(NotText { at: 0 }),
+            "1, named",
+        ),
         (prints_again::<(u8, bool)>("(1, true)"), Ok(true), "2"),
         (
             prints_again::<(u8, bool)>("(1, true,)"),
             Err(NotText { at: 8 }),
             "2, a comma",
+        ),
+        (
+            prints_again::<(u8, bool)>("(1,)"),
+            Err(NotText { at: 2 }),
+            "2, one missing",
+        ),
+        (
+            prints_again::<(u8, bool)>("(true, 1)"),
+            Err(NotText { at: 1 }),
+            "2, swapped",
+        ),
+        (
+            prints_again::<(u8, bool)>("(1, true, 1)"),
+            Err(NotText { at: 8 }),
+            "2, one more",
         ),
         (
             prints_again::<(u8, bool, u8)>("(1, true, 3)"),
@@ -129,24 +176,6 @@ fn three<M: ParseMode>(text: &str) -> Taken<(u8, bool, u8)> {
     (row.ok(), text.len() - parser.len())
 }
 
-fn four<M: ParseMode>(text: &str) -> Taken<(u8, bool, u8, u8)> {
-    let mut parser: Parser<'_, M> = Parser::new(text.as_bytes());
-    let row = parse_struct_4((), &mut parser, "Row", "a", "b", "c", "d");
-    (row.ok(), text.len() - parser.len())
-}
-
-fn five<M: ParseMode>(text: &str) -> Taken<(u8, bool, u8, u8, u8)> {
-    let mut parser: Parser<'_, M> = Parser::new(text.as_bytes());
-    let row = parse_struct_5((), &mut parser, "Row", "a", "b", "c", "d", "e");
-    (row.ok(), text.len() - parser.len())
-}
-
-fn six<M: ParseMode>(text: &str) -> Taken<(u8, bool, u8, u8, u8, u8)> {
-    let mut parser: Parser<'_, M> = Parser::new(text.as_bytes());
-    let row = parse_struct_6((), &mut parser, "Row", "a", "b", "c", "d", "e", "f");
-    (row.ok(), text.len() - parser.len())
-}
-
 fn seven<M: ParseMode>(text: &str) -> Taken<Seven> {
     let mut parser: Parser<'_, M> = Parser::new(text.as_bytes());
     let row = parse_struct_7((), &mut parser, "Row", "a", "b", "c", "d", "e", "f", "g");
@@ -196,32 +225,11 @@ fn structs_of_few_fields(rt: HostRuntime) {
         ("Row { a: 1, b: true, c: 3 }", (Some((1, true, 3)), 27)),
         ("Row { a: 1, c: 3, b: true }", (None, 12)),
         ("Row { a: 1, b: true }", (None, 19)),
+        ("Row { a: 1, b: true, c: 3, d: 4 }", (None, 25)),
     ];
     for (text, wanted) in threes {
         same(&rt, three::<PlainText>(text), wanted, text);
     }
-    let text = "Row { a: 1, b: true, c: 3, d: 4 }";
-    same(
-        &rt,
-        four::<PlainText>(text),
-        (Some((1, true, 3, 4)), 33),
-        text,
-    );
-    same(&rt, three::<PlainText>(text), (None, 25), "one field more");
-    let text = "Row { a: 1, b: true, c: 3, d: 4, e: 5 }";
-    same(
-        &rt,
-        five::<PlainText>(text),
-        (Some((1, true, 3, 4, 5)), 39),
-        text,
-    );
-    let text = "Row { a: 1, b: true, c: 3, d: 4, e: 5, f: 6 }";
-    same(
-        &rt,
-        six::<PlainText>(text),
-        (Some((1, true, 3, 4, 5, 6)), 45),
-        text,
-    );
 }
 
 #[test]
@@ -265,4 +273,66 @@ fn structs_of_many_fields(rt: HostRuntime) {
         (Some((1, true, 3, 4, 5, 6, 7, 8, 9, 10, 11, 12)), text.len()),
         "pretty",
     );
+}
+
+// The number of fields, if the whole text was taken, and else none.
+fn count_of<T: Drop>(
+    outcome: Result<T, Fault>,
+    parser: &Parser<'_, PlainText>,
+    count: usize,
+) -> usize {
+    match outcome {
+        Ok(_) if parser.len() == 0 => count,
+        Ok(_) => 0,
+        Err(Fault::NotText) => 0,
+        Err(Fault::OutOfMemory) => 100,
+    }
+}
+
+// How many fields this call finds in the text.
+macro_rules! count {
+    ($call:ident $text:ident $count:literal $($type:ident $name:literal)+) => {{
+        let mut parser: Parser<'_, PlainText> = Parser::new($text.as_bytes());
+        let outcome = $call::<(), $($type),+, PlainText>((), &mut parser, "S", $($name),+);
+        count_of(outcome, &parser, $count)
+    }};
+}
+
+// What each call finds: the number of fields, or none.
+fn counts(text: &str) -> [usize; 6] {
+    [
+        count!(parse_struct_1 text 1 u8 "a"),
+        count!(parse_struct_2 text 2 u8 "a" u8 "b"),
+        count!(parse_struct_3 text 3 u8 "a" u8 "b" u8 "c"),
+        count!(parse_struct_4 text 4 u8 "a" u8 "b" u8 "c" u8 "d"),
+        count!(parse_struct_5 text 5 u8 "a" u8 "b" u8 "c" u8 "d" u8 "e"),
+        count!(parse_struct_6 text 6 u8 "a" u8 "b" u8 "c" u8 "d" u8 "e" u8 "f"),
+    ]
+}
+
+// A struct of six fields, which is cut after each of them.
+const STRUCT: &str = "S { a: 1, b: 2, c: 3, d: 4, e: 5, f: 6";
+
+#[test]
+fn each_call_finds_structs_of_its_number_of_fields(rt: HostRuntime) {
+    let alloc = rt.alloc();
+    let mut count = 0usize;
+    for (end, _) in STRUCT.match_indices(',') {
+        count = count.saturating_add(1);
+        let given = found(alloc, &STRUCT[..end]).ok();
+        same(&rt, given, Some((count, count)), &STRUCT[..end]);
+    }
+    same(&rt, found(alloc, STRUCT).ok(), Some((6, 6)), STRUCT);
+}
+
+// The sum of what the calls find in the struct that begins so, and the most that one of them finds.
+fn found(alloc: Global, prefix: &str) -> Result<(usize, usize), AllocError> {
+    let mut text = String::from_str(alloc, prefix)?;
+    text.push_str(" }")?;
+    let (mut sum, mut most) = (0usize, 0);
+    for count in counts(&text) {
+        sum = sum.saturating_add(count);
+        most = if count > most { count } else { most };
+    }
+    Ok((sum, most))
 }

@@ -7,7 +7,7 @@ use ufmt_examples::{Node, Tree};
 use ufmt_parse::ParseError::NotText;
 use ufmt_parse::{ParseError, uParse};
 
-/// The parts of a value's text around the value inside.
+/// The parts of a value's text before and after the value that it holds.
 #[derive(Drop)]
 struct Shape<'a> {
     name: &'a str,

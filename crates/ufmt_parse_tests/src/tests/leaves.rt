@@ -1,4 +1,4 @@
-//! Tests of truth values, `()`, texts, characters, options, boxes and tuples.
+//! Tests of truth values, `()`, texts, characters, options and boxes.
 use super::{first_wrong, same};
 
 #[test]
@@ -39,26 +39,4 @@ fn values_in_others(rt: HostRuntime) {
         first_wrong::<Box<Option<Box<()>>>>(alloc, "None;Some(())", "();Some(Some(()))"),
     ];
     same(&rt, given, [None; 4], "by type");
-}
-
-#[test]
-fn tuples_of_each_length(rt: HostRuntime) {
-    let alloc = rt.alloc();
-    let given = [
-        first_wrong::<(u8,)>(alloc, "(1,)", "(1);1;();(1, 2);(256,);[1];A(1)"),
-        first_wrong::<(u8, bool)>(
-            alloc,
-            "(1, true)",
-            "(true, 1);(1,);(1, true, 1);(1, true,);[1, true];A(1, true)",
-        ),
-        first_wrong::<(u8, u8, u8)>(alloc, "(1, 2, 3)", "(1, 2);(1, 2, 3, 4);(1, 2, 256)"),
-        first_wrong::<(u8, u8, u8, u8)>(alloc, "(1, 2, 3, 4)", "(1, 2, 3)"),
-        first_wrong::<(u8, u8, u8, u8, u8)>(alloc, "(1, 2, 3, 4, 5)", "(1, 2, 3, 4)"),
-        first_wrong::<(u8, u8, u8, u8, u8, u8)>(
-            alloc,
-            "(1, 2, 3, 4, 5, 6)",
-            "(1, 2, 3, 4, 5);(1, 2, 3, 4, 5, 6, 7)",
-        ),
-    ];
-    same(&rt, given, [None; 6], "by length");
 }

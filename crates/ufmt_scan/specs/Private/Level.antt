@@ -1,22 +1,16 @@
 -- The mode and depth of layout at each level of a scan.
 use Rattle.std.specs.Prelude.{ℕ, zero, suc, ◌-◌, None}
 use Rattle.ufmt.specs.Document.{Document}
-use Rattle.ufmt.specs.Layout.{inside, setting}
-use Rattle.ufmt_core.specs.declared.layout.Mode.{Mode}
+use Rattle.ufmt.specs.Layout.{inside}
 use Rattle.ufmt_core.specs.declared.layout.Setting.{Setting}
-use Rattle.ufmt_core.specs.declared.layout.Mode.TheVariants.{Plain, Pretty}
 use Rattle.ufmt.specs.declared.class.Class.{Class}
 use Rattle.ufmt.specs.Reading.{Parse, read}
+use Rattle.ufmt_scan.specs.Depth.{setting_in}
 pub use Rattle.ufmt_scan.specs.declared.level.Level.{Level}
-
--- the depth at which a document is laid out, with this many blocks around it
-abbrev pub depth_in : Mode → ℕ → ℕ
-depth_in Plain k = 0
-depth_in Pretty k = k
 
 -- the mode and depth at which a document is laid out
 abbrev pub setting_at : Level → Setting
-setting_at level = setting level.mode (depth_in level.mode level.open_blocks)
+setting_at level = setting_in level.mode level.open_blocks
 
 -- what reads an entry of a block at this mode and depth. It reads none at `zero`, where blocks have no entries
 abbrev pub entry_at : Class → Setting → ℕ → Parse Document

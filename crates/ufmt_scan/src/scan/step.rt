@@ -11,7 +11,8 @@ ghost use Rattle.ufmt_scan.specs.Scan.{event_now, events_of};
 use super::event::{Event, ScanError, Sink};
 use crate::front::{Front, split_front, split_name, split_quoted_front, split_word_front};
 use crate::leaf::split_quotes;
-use crate::level::{Level, strip_only_dots, strip_piece, strip_to_line};
+use crate::level::{Level, strip_only_dots};
+use crate::strip::{strip_closing, strip_piece, strip_to_line};
 use ufmt::class::Class;
 use ufmt::layout::{COLON, Count, INDENT, Kind, Mode, OPENING_BRACE, OPENING_BRACKET};
 
@@ -294,7 +295,7 @@ fn begin_block<'a, S: Sink, const PRETTY: bool, const DEBUG: bool, const WORD: b
     ensures { Steps S.took S.stopped result sink.old sink.new (suc (length input.now))
         (scan_block level kind input.now) (after level) }
 {
-    if let Some(rest) = level.strip_closing(kind, Count::Zero, input) {
+    if let Some(rest) = strip_closing(level.mode, kind, Count::Zero, input) {
         emit(Event::Empty(kind), sink)?;
         Ok((None, rest))
     } else if let Some(rest) = level.strip_lead(kind, input) {
@@ -351,7 +352,7 @@ fn after_entry<'a, S: Sink, const PRETTY: bool, const DEBUG: bool>(
         return next_entry::<S, PRETTY, DEBUG>(level, stage, start, sink);
     }
     let (kind, count) = stage.kind_and_count();
-    let Some(end) = level.strip_closing(kind, count, line) else {
+    let Some(end) = strip_closing(level.mode, kind, count, line) else {
         return Err(ScanError::NotText);
     };
     emit(Event::Close(kind, count), sink)?;

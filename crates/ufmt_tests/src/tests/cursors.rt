@@ -1,6 +1,6 @@
 //! Tests of `Cursor`, of `write_to_buffer`, and of a formatter that continues after a failed entry.
 use super::rows::{Table, has_rows, same};
-use ufmt::{Cursor, Formatter, Full, laws, uWrite};
+use ufmt::{Cursor, Formatter, Full, Small, laws, uWrite, write_debug};
 
 impl Table {
     // Adds a row of what a call on the cursor returned, and of what then remains and is written.
@@ -50,6 +50,35 @@ fn a_cursor_takes_pieces_that_fit(rt: HostRuntime) {
     }
     same(&rt, cursor.remaining(), 0, "what remains");
     has_rows(&rt, &table, TAKEN);
+}
+
+const IN_EACH_ROOM: &str = "\
+Err(Full) ;
+Err(Full) (;
+Err(Full) (;
+Err(Full) (12;
+Err(Full) (12;
+Err(Full) (12, ;
+Err(Full) (12, ;
+Err(Full) (12, ;
+Err(Full) (12, ;
+Err(Full) (12, -345;
+Ok(0) (12, -345);
+Ok(1) (12, -345);
+";
+
+// It prints the same pieces as the writer in it: where one is refused, those before it are written.
+#[test]
+fn a_small_writer_writes_the_pieces_that_fit(rt: HostRuntime) {
+    let mut table = Table::new(rt.alloc());
+    for room in 0..12usize {
+        let mut buffer = [0u8; 12];
+        let mut small = Small::new(Cursor::new(&mut buffer[..room]));
+        let outcome = write_debug(&mut small, &(12u8, -345i64));
+        let cursor = small.into_inner();
+        table.put_outcome(outcome.map(|()| cursor.remaining()), cursor.written());
+    }
+    has_rows(&rt, &table, IN_EACH_ROOM);
 }
 
 #[test]

@@ -1,5 +1,5 @@
 use Rattle.std.proofs.Common.{◌≡◌, ◌<◌}
-use Rattle.ufmt_parse.specs.Digits.{after_digits, value_after}
+use Rattle.ufmt_parse.specs.Private.Digits.{after_digits, value_after}
 use Rattle.ufmt_parse.proofs.digits.split_digits.Given as goal
 
 -- the digits that are left complete the number, which has a digit more at each turn

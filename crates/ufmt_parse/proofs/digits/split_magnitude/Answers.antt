@@ -1,5 +1,5 @@
 use Rattle.std.proofs.Common.{◌∙◌, ◌∷◌, sym, ap, ne_eqb}
-use Rattle.ufmt_parse.specs.Digits.{begins_digit}
+use Rattle.ufmt_parse.specs.Private.Digits.{begins_digit}
 use Rattle.ufmt_parse.proofs.DecimalFronts.{digit_first, no_digit_first, none_first, zero_first}
 use Rattle.ufmt_parse.proofs.digits.split_magnitude.Goals as goal
 

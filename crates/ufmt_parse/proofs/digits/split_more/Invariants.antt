@@ -1,5 +1,5 @@
 use Rattle.std.proofs.Common.{◌≡◌, ◌<◌, length}
-use Rattle.ufmt_parse.specs.Digits.{after_digits, value_after}
+use Rattle.ufmt_parse.specs.Private.Digits.{after_digits, value_after}
 use Rattle.ufmt_parse.proofs.digits.split_more.Given as goal
 
 -- the digits that are left complete the number

@@ -2,7 +2,7 @@ use Rattle.std.proofs.Common.{sym, ap, subst, ◌∙◌, length, encode_utf8, []
 use Rattle.std.specs.Char.{len_utf8}
 use Rattle.std.specs.Str.{IsUtf8}
 use Rattle.std.proofs.lemmas.Str.{IsUtf8-encode, encode_same, length-encode}
-use Rattle.ufmt_parse.proofs.Characters.{length-led}
+use Rattle.ufmt_scan.proofs.Characters.{length-led}
 use Rattle.ufmt_parse.proofs.quoted.only_character.Goals as goal
 
 pub returns-in-Err : goal.returns-in-Err

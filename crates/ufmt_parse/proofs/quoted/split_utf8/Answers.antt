@@ -1,6 +1,7 @@
 use Rattle.std.proofs.Common.{sym, ap, ◌∙◌, length, take, encode_utf8, length-append, arith}
 use Rattle.std.proofs.Math.Seq.{take-append_seam}
-use Rattle.ufmt_parse.proofs.Characters.{length-led, led_front}
+use Rattle.ufmt_scan.proofs.Characters.{length-led}
+use Rattle.ufmt_parse.proofs.Characters.{led_front}
 use Rattle.ufmt_parse.proofs.quoted.split_utf8.Goals as goal
 
 pub returns-in_err-lead : goal.returns-in_err-lead

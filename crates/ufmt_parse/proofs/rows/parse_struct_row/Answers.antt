@@ -1,32 +1,27 @@
-use Rattle.std.proofs.Common.{◌∷◌}
 use Rattle.std.specs.Prelude.{zip}
 use Rattle.ufmt.specs.Document.{fields_of, struct_of}
 use Rattle.ufmt_parse.specs.Rows.{all_now}
 use Rattle.ufmt_parse.specs.Taking.{open_blocks}
-use Rattle.ufmt_parse.proofs.Clauses.{none_clause, only_clause, taken_clause}
+use Rattle.ufmt_parse.proofs.Clauses.{none_clause, only_clause, taken_clause, values_clause}
 use Rattle.ufmt_parse.proofs.FieldsInARow.{struct_row}
 use Rattle.ufmt_parse.proofs.rows.parse_struct_row.Goals as goal
 
+pub returns-clause-values : goal.returns-clause-values
+returns-clause-values g c =
+    values_clause g.M.ParseMode.mode g.R.RowParsers.are_values (λ v. struct_of c.args.name.now (fields_of (zip (all_now c.args.names.now) (g.R.RowParsers.documents v)))) c.args.parser.now c.parse_block.new.parser c.parse_block.result
+    (struct_row g.R.RowParsers.are_values g.R.RowParsers.documents c.requires.some g.M.ParseMode.mode (open_blocks c.args.parser.now) c.args.name.now (all_now c.args.names.now) c.requires.words c.requires.counted c.parse_block.ensures.takes)
+
 pub returns-clause-taken : goal.returns-clause-taken
 returns-clause-taken g c =
-    taken_clause g.M.ParseMode.mode (λ v. g.T.uParse.is_value v.0 × g.V.Row.are_values v.1)
-    (λ v. struct_of c.args.name.now (fields_of (zip (all_now c.args.names.now) (g.T.uDebug.document v.0 ∷ g.V.Row.documents v.1))))
-    c.args.parser.now c.parse_block.new.parser c.parse_block.result
-    (struct_row (λ v. g.T.uParse.is_value v.0 × g.V.Row.are_values v.1) (λ v. g.T.uDebug.document v.0) (λ v. g.V.Row.documents v.1)
-    g.M.ParseMode.mode (open_blocks c.args.parser.now) c.args.name.now (all_now c.args.names.now) c.requires.words (λ v. c.requires.counted v.1) c.parse_block.ensures.takes)
+    taken_clause g.M.ParseMode.mode g.R.RowParsers.are_values (λ v. struct_of c.args.name.now (fields_of (zip (all_now c.args.names.now) (g.R.RowParsers.documents v)))) c.args.parser.now c.parse_block.new.parser c.parse_block.result
+    (struct_row g.R.RowParsers.are_values g.R.RowParsers.documents c.requires.some g.M.ParseMode.mode (open_blocks c.args.parser.now) c.args.name.now (all_now c.args.names.now) c.requires.words c.requires.counted c.parse_block.ensures.takes)
 
 pub returns-clause-only : goal.returns-clause-only
 returns-clause-only g c =
-    only_clause g.M.ParseMode.mode (λ v. g.T.uParse.is_value v.0 × g.V.Row.are_values v.1)
-    (λ v. struct_of c.args.name.now (fields_of (zip (all_now c.args.names.now) (g.T.uDebug.document v.0 ∷ g.V.Row.documents v.1))))
-    c.args.parser.now c.parse_block.new.parser c.parse_block.result
-    (struct_row (λ v. g.T.uParse.is_value v.0 × g.V.Row.are_values v.1) (λ v. g.T.uDebug.document v.0) (λ v. g.V.Row.documents v.1)
-    g.M.ParseMode.mode (open_blocks c.args.parser.now) c.args.name.now (all_now c.args.names.now) c.requires.words (λ v. c.requires.counted v.1) c.parse_block.ensures.takes)
+    only_clause g.M.ParseMode.mode g.R.RowParsers.are_values (λ v. struct_of c.args.name.now (fields_of (zip (all_now c.args.names.now) (g.R.RowParsers.documents v)))) c.args.parser.now c.parse_block.new.parser c.parse_block.result
+    (struct_row g.R.RowParsers.are_values g.R.RowParsers.documents c.requires.some g.M.ParseMode.mode (open_blocks c.args.parser.now) c.args.name.now (all_now c.args.names.now) c.requires.words c.requires.counted c.parse_block.ensures.takes)
 
 pub returns-clause-none : goal.returns-clause-none
 returns-clause-none g c =
-    none_clause g.M.ParseMode.mode (λ v. g.T.uParse.is_value v.0 × g.V.Row.are_values v.1)
-    (λ v. struct_of c.args.name.now (fields_of (zip (all_now c.args.names.now) (g.T.uDebug.document v.0 ∷ g.V.Row.documents v.1))))
-    c.args.parser.now c.parse_block.new.parser c.parse_block.result
-    (struct_row (λ v. g.T.uParse.is_value v.0 × g.V.Row.are_values v.1) (λ v. g.T.uDebug.document v.0) (λ v. g.V.Row.documents v.1)
-    g.M.ParseMode.mode (open_blocks c.args.parser.now) c.args.name.now (all_now c.args.names.now) c.requires.words (λ v. c.requires.counted v.1) c.parse_block.ensures.takes)
+    none_clause g.M.ParseMode.mode g.R.RowParsers.are_values (λ v. struct_of c.args.name.now (fields_of (zip (all_now c.args.names.now) (g.R.RowParsers.documents v)))) c.args.parser.now c.parse_block.new.parser c.parse_block.result
+    (struct_row g.R.RowParsers.are_values g.R.RowParsers.documents c.requires.some g.M.ParseMode.mode (open_blocks c.args.parser.now) c.args.name.now (all_now c.args.names.now) c.requires.words c.requires.counted c.parse_block.ensures.takes)

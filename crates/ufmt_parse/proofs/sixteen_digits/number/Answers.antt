@@ -2,7 +2,7 @@ use Rattle.std.proofs.Common.{◌∙◌, ap, ◌^◌, ◌<◌, arith}
 use Rattle.std.proofs.lemmas.Int.Digits.{number_lt}
 use Rattle.std.specs.Int.Digits.{number_from_digits, number_from_digits_after}
 use Rattle.ufmt_parse.proofs.PackedDigits.{joined_below, joined_sixteen}
-use Rattle.ufmt_parse.specs.Digits.{joined}
+use Rattle.ufmt_parse.specs.Private.Digits.{joined}
 use Rattle.ufmt_parse.proofs.sixteen_digits.number.Goals as goal
 
 pub fours-requires : goal.fours-requires

@@ -1,6 +1,6 @@
 use Rattle.std.proofs.lemmas.Bool.Decides.{Decides-eqb}
 use Rattle.std.proofs.lemmas.Slice.Eq.{strip_prefix_is}
-use Rattle.ufmt_parse.proofs.Strips.{stripped}
+use Rattle.ufmt_scan.proofs.Strips.{stripped}
 use Rattle.ufmt_parse.proofs.strip.strip_few.Goals as goal
 
 pub returns-in_default : goal.returns-in_default

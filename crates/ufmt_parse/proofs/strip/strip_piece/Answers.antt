@@ -1,5 +1,5 @@
 use Rattle.std.proofs.Common.{arith, sym}
-use Rattle.ufmt_parse.proofs.Chunks.{short_text}
+use Rattle.ufmt_parse.proofs.Strips.{short_text}
 use Rattle.ufmt_parse.proofs.strip.strip_piece.Goals as goal
 
 pub returns-then-input-piece : goal.returns-then-input-piece

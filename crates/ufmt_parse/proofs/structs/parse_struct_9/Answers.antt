@@ -1,10 +1,28 @@
 -- tools/write-by-count writes this file: change it there.
+use Rattle.std.proofs.Common.{refl}
+use Rattle.std.proofs.lemmas.Result.{IfErr-weaker, IfOk-weaker}
 use Rattle.ufmt_parse.proofs.structs.parse_struct_9.Goals as goal
 
-pub returns-in-Err-clause-none : goal.returns-in-Err-clause-none
-returns-in-Err-clause-none g c = λ is_not a_value b_value c_value d_value e_value f_value g_value h_value i_value u is_a is_b is_c is_d is_e is_f is_g is_h is_i next.
-    c.in-Err.ensures.none is_not (a_value, (b_value, (c_value, (d_value, (e_value, (f_value, (g_value, (h_value, (i_value, tt))))))))) u (is_a, (is_b, (is_c, (is_d, (is_e, (is_f, (is_g, (is_h, (is_i, tt))))))))) next
+pub parse_struct_row-requires-clause-words : goal.parse_struct_row-requires-clause-words
+parse_struct_row-requires-clause-words g c = c.requires
 
-pub returns-in-Ok-clause-only : goal.returns-in-Ok-clause-only
-returns-in-Ok-clause-only g c = λ a_value b_value c_value d_value e_value f_value g_value h_value i_value u is_a is_b is_c is_d is_e is_f is_g is_h is_i next.
-    c.in-Ok.ensures.only (a_value, (b_value, (c_value, (d_value, (e_value, (f_value, (g_value, (h_value, (i_value, tt))))))))) u (is_a, (is_b, (is_c, (is_d, (is_e, (is_f, (is_g, (is_h, (is_i, tt))))))))) next
+pub parse_struct_row-requires-clause-counted : goal.parse_struct_row-requires-clause-counted
+parse_struct_row-requires-clause-counted g c = λ v. refl
+
+pub returns-clause-taken : goal.returns-clause-taken
+returns-clause-taken g c = c.parse_struct_row.ensures.taken
+
+pub returns-clause-only : goal.returns-clause-only
+returns-clause-only g c = IfOk-weaker c.parse_struct_row.result _ _ (λ _ only a_value b_value c_value d_value e_value f_value g_value h_value i_value u is_a is_b is_c is_d is_e is_f is_g is_h is_i next. only (a_value, b_value, c_value, d_value, e_value, f_value, g_value, h_value, i_value) u (is_a, (is_b, (is_c, (is_d, (is_e, (is_f, (is_g, (is_h, (is_i, tt))))))))) next) c.parse_struct_row.ensures.only
+
+pub returns-clause-none : goal.returns-clause-none
+returns-clause-none g c = IfErr-weaker c.parse_struct_row.result _ _ (λ _ none is_not a_value b_value c_value d_value e_value f_value g_value h_value i_value u is_a is_b is_c is_d is_e is_f is_g is_h is_i next. none is_not (a_value, b_value, c_value, d_value, e_value, f_value, g_value, h_value, i_value) u (is_a, (is_b, (is_c, (is_d, (is_e, (is_f, (is_g, (is_h, (is_i, tt))))))))) next) c.parse_struct_row.ensures.none
+
+pub returns-clause-memory : goal.returns-clause-memory
+returns-clause-memory g c = λ none. c.parse_struct_row.ensures.memory (none.0, (none.1, (none.2, (none.3, (none.4, (none.5, (none.6, (none.7, (none.8, tt)))))))))
+
+pub returns-clause-blocks : goal.returns-clause-blocks
+returns-clause-blocks g c = c.parse_struct_row.ensures.blocks
+
+pub returns-clause-shrinks : goal.returns-clause-shrinks
+returns-clause-shrinks g c = c.parse_struct_row.ensures.shrinks

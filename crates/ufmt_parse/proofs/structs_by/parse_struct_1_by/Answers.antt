@@ -1,28 +1,8 @@
 -- tools/write-by-count writes this file: change it there.
-use Rattle.std.proofs.Common.{arith}
-use Rattle.ufmt_parse.proofs.Clauses.{refused}
-use Rattle.ufmt_parse.proofs.Words.{word_is_name}
 use Rattle.ufmt_parse.proofs.structs_by.parse_struct_1_by.Goals as goal
 
-pub parse_block-requires : goal.parse_block-requires
-parse_block-requires g c = λ few. (c.requires.ready few, tt)
-
-pub returns-in-Ok-clause-values : goal.returns-in-Ok-clause-values
-returns-in-Ok-clause-values g c =
-    let takes = c.in-Ok.ensures.takes.cases in
-    takes.1.0.0.0
-
 pub returns-in-Err-clause-none : goal.returns-in-Err-clause-none
-returns-in-Err-clause-none g c = λ is_not a_value u is_a next.
-    refused c.in-Err.fault c.in-Err.ensures.takes is_not (a_value, tt) u
-    (((is_a, (next.0.0.1.1, omega (arith, next.0.1))), tt), omega (arith, next.0.1)) next.1 next.2
-
-pub returns-in-Ok-clause-taken : goal.returns-in-Ok-clause-taken
-returns-in-Ok-clause-taken g c =
-    let takes = c.in-Ok.ensures.takes.cases in
-    (takes.0, ((word_is_name _ c.requires.words.0, (word_is_name _ c.requires.words.1.0, takes.1.0.0.1.0, tt)), omega (arith, takes.1.0.0.1.1, takes.1.1)))
+returns-in-Err-clause-none g c = λ is_not a_value u is_a next. c.in-Err.ensures.none is_not (record { 0 = a_value }) u (is_a, tt) next
 
 pub returns-in-Ok-clause-only : goal.returns-in-Ok-clause-only
-returns-in-Ok-clause-only g c = λ a_value u is_a next.
-    c.in-Ok.ensures.takes.cases.2 (a_value, tt) u
-    (((is_a, (next.0.0.1.1, omega (arith, next.0.1))), tt), omega (arith, next.0.1)) next.1 next.2
+returns-in-Ok-clause-only g c = λ a_value u is_a next. c.in-Ok.ensures.only (record { 0 = a_value }) u (is_a, tt) next

@@ -1,10 +1,12 @@
-use Rattle.std.proofs.Common.{◌∙◌, refl}
-use Rattle.ufmt_parse.proofs.SpelledTexts.{byte_read, never_closes}
+use Rattle.std.proofs.Common.{◌∙◌, inl, refl, sym}
+use Rattle.ufmt_parse.proofs.SpelledTexts.{byte_read}
+use Rattle.ufmt_scan.proofs.Spelled.{never_closes}
 use Rattle.ufmt_parse.proofs.texts.read_bytes.Goals as goal
 
 pub returns-in-None : goal.returns-in-None
-returns-in-None g c = never_closes c.push_stretch.new.bytes.items c.in_ok-end.end.now c.args.input.now (c.in_ok-end.ensures.whole ∙ c.escapes.invariant) c.in_default.ensures
-    (c.in-None.ensures.none refl)
+returns-in-None g c =
+    (never_closes 34 (inl refl) c.args.input.now c.in_ok-end.end.now (record { bytes = c.push_stretch.new.bytes.items; is = sym (c.in_ok-end.ensures.whole ∙ c.escapes.invariant) })
+    c.in_default.ensures (c.in-None.ensures.none refl)).never
 
 pub escapes-preserved : goal.escapes-preserved
 escapes-preserved g c =

@@ -1,28 +1,24 @@
 -- tools/write-by-count writes this file: change it there.
-use Rattle.std.proofs.Common.{arith}
-use Rattle.ufmt_parse.proofs.Clauses.{refused}
-use Rattle.ufmt_parse.proofs.Words.{word_is_tuple_name}
+use Rattle.std.proofs.lemmas.Result.{IfErr-weaker, IfOk-weaker}
 use Rattle.ufmt_parse.proofs.tuples_by.parse_tuple_5_by.Goals as goal
 
-pub parse_block-requires : goal.parse_block-requires
-parse_block-requires g c = λ few. ((c.requires.ready few).0, ((c.requires.ready few).1, ((c.requires.ready few).2, ((c.requires.ready few).3, ((c.requires.ready few).4, tt)))))
+pub returns-clause-values : goal.returns-clause-values
+returns-clause-values g c = IfOk-weaker c.parse_tuple_row.result _ _ (λ v are. (are.0, are.1.0, are.1.1.0, are.1.1.1.0, are.1.1.1.1.0)) c.parse_tuple_row.ensures.values
 
-pub returns-in-Ok-clause-values : goal.returns-in-Ok-clause-values
-returns-in-Ok-clause-values g c =
-    let takes = (rw c.tuple.ensures at c.in-Ok.ensures.takes).cases in
-    (takes.1.0.0.0, takes.1.0.1.0.0, takes.1.0.1.1.0.0, takes.1.0.1.1.1.0.0, takes.1.0.1.1.1.1.0.0)
+pub returns-clause-taken : goal.returns-clause-taken
+returns-clause-taken g c = c.parse_tuple_row.ensures.taken
 
-pub returns-in-Err-clause-none : goal.returns-in-Err-clause-none
-returns-in-Err-clause-none g c = λ is_not a_value b_value c_value d_value e_value u is_a is_b is_c is_d is_e next.
-    refused c.in-Err.fault (rw c.tuple.ensures at c.in-Err.ensures.takes) is_not (a_value, (b_value, (c_value, (d_value, (e_value, tt))))) u
-    (((is_a, (next.0.0.1, omega (arith, next.0.1))), ((is_b, (next.0.0.2.0, omega (arith, next.0.1))), ((is_c, (next.0.0.2.1.0, omega (arith, next.0.1))), ((is_d, (next.0.0.2.1.1.0, omega (arith, next.0.1))), ((is_e, (next.0.0.2.1.1.1.0, omega (arith, next.0.1))), tt))))), omega (arith, next.0.1)) next.1 next.2
+pub returns-clause-only : goal.returns-clause-only
+returns-clause-only g c = IfOk-weaker c.parse_tuple_row.result _ _ (λ _ only a_value b_value c_value d_value e_value u is_a is_b is_c is_d is_e next. only (a_value, b_value, c_value, d_value, e_value) u (is_a, (is_b, (is_c, (is_d, (is_e, tt))))) next) c.parse_tuple_row.ensures.only
 
-pub returns-in-Ok-clause-taken : goal.returns-in-Ok-clause-taken
-returns-in-Ok-clause-taken g c =
-    let takes = (rw c.tuple.ensures at c.in-Ok.ensures.takes).cases in
-    (takes.0, ((word_is_tuple_name c.args.name.now c.requires.words, takes.1.0.0.1.0, (takes.1.0.1.0.1.0, (takes.1.0.1.1.0.1.0, (takes.1.0.1.1.1.0.1.0, (takes.1.0.1.1.1.1.0.1.0, tt))))), omega (arith, takes.1.0.0.1.1, takes.1.0.1.0.1.1, takes.1.0.1.1.0.1.1, takes.1.0.1.1.1.0.1.1, takes.1.0.1.1.1.1.0.1.1, takes.1.1)))
+pub returns-clause-none : goal.returns-clause-none
+returns-clause-none g c = IfErr-weaker c.parse_tuple_row.result _ _ (λ _ none is_not a_value b_value c_value d_value e_value u is_a is_b is_c is_d is_e next. none is_not (a_value, b_value, c_value, d_value, e_value) u (is_a, (is_b, (is_c, (is_d, (is_e, tt))))) next) c.parse_tuple_row.ensures.none
 
-pub returns-in-Ok-clause-only : goal.returns-in-Ok-clause-only
-returns-in-Ok-clause-only g c = λ a_value b_value c_value d_value e_value u is_a is_b is_c is_d is_e next.
-    (rw c.tuple.ensures at c.in-Ok.ensures.takes).cases.2 (a_value, (b_value, (c_value, (d_value, (e_value, tt))))) u
-    (((is_a, (next.0.0.1, omega (arith, next.0.1))), ((is_b, (next.0.0.2.0, omega (arith, next.0.1))), ((is_c, (next.0.0.2.1.0, omega (arith, next.0.1))), ((is_d, (next.0.0.2.1.1.0, omega (arith, next.0.1))), ((is_e, (next.0.0.2.1.1.1.0, omega (arith, next.0.1))), tt))))), omega (arith, next.0.1)) next.1 next.2
+pub returns-clause-memory : goal.returns-clause-memory
+returns-clause-memory g c = λ none. c.parse_tuple_row.ensures.memory (none.0, (none.1, (none.2, (none.3, (none.4, tt)))))
+
+pub returns-clause-blocks : goal.returns-clause-blocks
+returns-clause-blocks g c = c.parse_tuple_row.ensures.blocks
+
+pub returns-clause-shrinks : goal.returns-clause-shrinks
+returns-clause-shrinks g c = c.parse_tuple_row.ensures.shrinks

@@ -1,7 +1,8 @@
-use Rattle.ufmt_core.specs.Layout.{new_line}
-use Rattle.ufmt_core.proofs.Writing.{Prints-then_at}
+use Rattle.ufmt_core.specs.Layout.{line_start}
+use Rattle.ufmt_core.proofs.Writing.{Prints-err, Prints-fails, Prints-same, Prints-then_at}
 use Rattle.ufmt_core.proofs.formatter.Formatter.write_lead.Goals as goal
 
-pub returns-in_ok-write_start-in-Zero : goal.returns-in_ok-write_start-in-Zero
-returns-in_ok-write_start-in-Zero g c =
-    rw c.in-Zero.is (Prints-then_at (λ s. new_line s.mode s.depth) c.in_ok-write_start-in-Zero.ensures c.write_new_line.ensures)
+pub returns : goal.returns
+returns g c =
+    let start = c.in_ok-write_lead_start.ensures in
+    Prints-same start.1 (Prints-then_at (λ s. line_start s.mode s.depth) start.2 c.write_line_start.ensures)

@@ -1,4 +1,4 @@
-use Rattle.ufmt_parse.specs.Taking.{open_blocks, setting_in}
+use Rattle.ufmt_parse.specs.Taking.{open_blocks, rest, setting_in}
 use Rattle.ufmt_parse.proofs.EntryParts.{no_lead, failed_entry, no_trail, with_others}
 use Rattle.ufmt_parse.proofs.fields.Tuple2FieldParsers.parse_rest.Goals as goal
 
@@ -8,7 +8,7 @@ returns-then-not-eats_lead-clause-takes g c =
     no_lead g.M.ParseMode.mode c.args.kind c.args.count blocks c.requires.opened c.eats_lead.ensures.counted
     (g.P.EntryParser.fit blocks) (g.P.EntryParser.text c.args.self.now.0 (setting_in g.M.ParseMode.mode blocks))
     (g.R.FieldParsers.fit blocks) (g.R.FieldParsers.texts c.args.self.now.1 (setting_in g.M.ParseMode.mode blocks))
-    c.if-not-eats_lead.ensures.eats
+    {new = rest c.eats_lead.new.self} c.if-not-eats_lead.ensures.eats
 
 pub returns-in-Err-clause-takes : goal.returns-in-Err-clause-takes
 returns-in-Err-clause-takes g c =
@@ -16,7 +16,7 @@ returns-in-Err-clause-takes g c =
     failed_entry g.M.ParseMode.mode c.args.kind c.args.count blocks c.requires.opened c.eats_lead.ensures.counted
     (g.P.EntryParser.fit blocks) (g.P.EntryParser.text c.args.self.now.0 (setting_in g.M.ParseMode.mode blocks))
     (g.R.FieldParsers.fit blocks) (g.R.FieldParsers.texts c.args.self.now.1 (setting_in g.M.ParseMode.mode blocks))
-    c.if-not-eats_lead.ensures.eats (rw c.eats_lead.ensures.blocks at c.in-Err.ensures.takes)
+    {here = rest c.eats_lead.new.self} c.if-not-eats_lead.ensures.eats {new = rest c.parse_entry.new.parser} (rw c.eats_lead.ensures.blocks at c.in-Err.ensures.takes)
 
 pub returns-then-not-eats-clause-takes : goal.returns-then-not-eats-clause-takes
 returns-then-not-eats-clause-takes g c =
@@ -24,8 +24,8 @@ returns-then-not-eats-clause-takes g c =
     no_trail g.M.ParseMode.mode c.args.kind c.args.count blocks c.requires.opened c.eats_lead.ensures.counted
     (g.P.EntryParser.fit blocks) (g.P.EntryParser.text c.args.self.now.0 (setting_in g.M.ParseMode.mode blocks))
     (g.R.FieldParsers.fit blocks) (g.R.FieldParsers.texts c.args.self.now.1 (setting_in g.M.ParseMode.mode blocks))
-    c.if-not-eats_lead.ensures.eats (rw c.eats_lead.ensures.blocks at c.in-Ok.ensures.takes)
-    (rw (c.trail.ensures, c.mode.ensures) at c.if-not-eats.ensures.eats)
+    {here = rest c.eats_lead.new.self} c.if-not-eats_lead.ensures.eats {after = rest c.parse_entry.new.parser} (rw c.eats_lead.ensures.blocks at c.in-Ok.ensures.takes)
+    {new = rest c.eats.new.self} (rw (c.trail.ensures, c.mode.ensures) at c.if-not-eats.ensures.eats)
 
 pub returns-in-Err-parse_rest-clause-takes : goal.returns-in-Err-parse_rest-clause-takes
 returns-in-Err-parse_rest-clause-takes g c =
@@ -34,8 +34,8 @@ returns-in-Err-parse_rest-clause-takes g c =
     with_others g.M.ParseMode.mode c.args.kind c.args.count blocks c.requires.opened c.eats_lead.ensures.counted
     (g.P.EntryParser.fit blocks) (g.P.EntryParser.text c.args.self.now.0 (setting_in g.M.ParseMode.mode blocks))
     (g.R.FieldParsers.fit blocks) (g.R.FieldParsers.texts c.args.self.now.1 (setting_in g.M.ParseMode.mode blocks))
-    c.if-not-eats_lead.ensures.eats (rw c.eats_lead.ensures.blocks at c.in-Ok.ensures.takes)
-    (rw (c.trail.ensures, c.mode.ensures) at c.if-not-eats.ensures.eats) same
+    {here = rest c.eats_lead.new.self} c.if-not-eats_lead.ensures.eats {after = rest c.parse_entry.new.parser} (rw c.eats_lead.ensures.blocks at c.in-Ok.ensures.takes)
+    {further = rest c.eats.new.self} (rw (c.trail.ensures, c.mode.ensures) at c.if-not-eats.ensures.eats) {new = rest c.parse_rest.new.parser} same
 
 pub returns-in-Ok-parse_rest-clause-takes : goal.returns-in-Ok-parse_rest-clause-takes
 returns-in-Ok-parse_rest-clause-takes g c =
@@ -44,5 +44,5 @@ returns-in-Ok-parse_rest-clause-takes g c =
     with_others g.M.ParseMode.mode c.args.kind c.args.count blocks c.requires.opened c.eats_lead.ensures.counted
     (g.P.EntryParser.fit blocks) (g.P.EntryParser.text c.args.self.now.0 (setting_in g.M.ParseMode.mode blocks))
     (g.R.FieldParsers.fit blocks) (g.R.FieldParsers.texts c.args.self.now.1 (setting_in g.M.ParseMode.mode blocks))
-    c.if-not-eats_lead.ensures.eats (rw c.eats_lead.ensures.blocks at c.in-Ok.ensures.takes)
-    (rw (c.trail.ensures, c.mode.ensures) at c.if-not-eats.ensures.eats) same
+    {here = rest c.eats_lead.new.self} c.if-not-eats_lead.ensures.eats {after = rest c.parse_entry.new.parser} (rw c.eats_lead.ensures.blocks at c.in-Ok.ensures.takes)
+    {further = rest c.eats.new.self} (rw (c.trail.ensures, c.mode.ensures) at c.if-not-eats.ensures.eats) {new = rest c.parse_rest.new.parser} same

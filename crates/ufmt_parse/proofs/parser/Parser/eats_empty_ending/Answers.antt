@@ -2,7 +2,8 @@ use Rattle.std.proofs.Common.{◌≡◌, subst}
 use Rattle.ufmt_core.specs.Layout.{ending, frame}
 use Rattle.ufmt_core.specs.declared.layout.Count.TheVariants.{Zero}
 use Rattle.ufmt.specs.Reading.{strip}
-use Rattle.ufmt_parse.specs.Taking.{now_of, open_blocks, rest, setting_in}
+use Rattle.ufmt_parse.specs.Taking.{open_blocks, rest, setting_in}
+use Rattle.ufmt_scan.specs.Rest.{now_of}
 use Rattle.ufmt_parse.proofs.Strips.{shorter, was_there, was_not_there}
 use Rattle.ufmt_parse.proofs.parser.Parser.eats_empty_ending.Goals as goal
 

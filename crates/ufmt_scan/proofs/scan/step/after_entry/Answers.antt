@@ -7,7 +7,8 @@ use Rattle.ufmt_core.specs.declared.layout.Mode.{Mode}
 use Rattle.ufmt_core.specs.declared.layout.Mode.TheVariants.{Plain, Pretty}
 use Rattle.ufmt_core.specs.declared.layout.Setting.{Setting}
 use Rattle.ufmt_scan.specs.Scan.{Close, Dots, Next}
-use Rattle.ufmt_scan.specs.Private.Level.{depth_in, setting_at, Level}
+use Rattle.ufmt_scan.specs.Depth.{depth_in}
+use Rattle.ufmt_scan.specs.Private.Level.{setting_at, Level}
 use Rattle.ufmt_scan.specs.Private.Scanning.{after, earlier, kind_of, prefixed, scan_further, scan_rest, turn_of, Stage}
 use Rattle.ufmt_scan.proofs.DocumentParts.{later_continues, steps_as, turn_dots, turn_takes}
 use Rattle.ufmt_scan.proofs.EntrySteps.{ending_stripped}
