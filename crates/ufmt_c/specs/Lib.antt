@@ -1,0 +1,4 @@
+pub mod Calls
+pub mod Conversions
+pub mod Differences
+pub mod Options
