@@ -9,8 +9,8 @@
  *     buffer after the text stay as they were.
  *   - If it doesn't, it returns UFMT_FULL. `*detail` becomes the text's length, so a buffer of that size
  *     will do. The buffer begins with a prefix of the text, and its other bytes stay.
- *   - Any other result is a code below zero, named at the call. The buffer stays as it was, but for a
- *     conversion that returns UFMT_NO_TEXT: it may have overwritten any byte of the buffer.
+ *   - Any other result is a code below zero, named at the call. The buffer stays as it was; but a call
+ *     that returns UFMT_NO_TEXT may have overwritten any byte of the buffer.
  *
  * What you must uphold, which no call can test
  *   - A pointer and the size after it are those of an array of that many bytes, at most PTRDIFF_MAX. With
@@ -61,8 +61,13 @@ ptrdiff_t ufmt_debug_to_plain(uint8_t *buffer, size_t size, const uint8_t *input
 
 /* Texts in quotes. */
 
-/* Writes the input in quotation marks, with the escapes that `{:?}` writes. Or returns UFMT_NOT_UTF8. */
+/* Writes the input in quotation marks, with the escapes that `{:?}` writes; each character past ASCII is
+ * written as itself. Or returns UFMT_NOT_UTF8. */
 ptrdiff_t ufmt_quote(uint8_t *buffer, size_t size, const uint8_t *input, size_t length, size_t *detail);
+/* Writes the text of which ufmt_quote writes this input. Of any other input, also one with another escape
+ * than that would write, it returns UFMT_NO_TEXT. Then `*detail` becomes the number of bytes at its front
+ * that can begin one: all before the first that doesn't fit, or before the escape that doesn't. */
+ptrdiff_t ufmt_unquote(uint8_t *buffer, size_t size, const uint8_t *input, size_t length, size_t *detail);
 
 /* Numbers. */
 

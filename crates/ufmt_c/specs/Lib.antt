@@ -2,3 +2,4 @@ pub mod Calls
 pub mod Conversions
 pub mod Differences
 pub mod Options
+pub mod Quotes

@@ -3,6 +3,7 @@
 //! The calls that C makes, as `include/ufmt.h` declares them. None of them takes memory.
 
 mod code;
+mod column;
 mod convert;
 mod counter;
 mod difference;
@@ -12,5 +13,5 @@ mod kinds;
 mod numbers;
 mod options;
 mod print;
+mod quoted;
 mod text;
-mod texts;

@@ -74,8 +74,8 @@ pub struct ColumnStyle {
 
 impl ColumnStyle {
     /// Returns the column, or `None` if the fill is no character, or there is no such alignment.
-    pub(crate) fn column(&self) -> Option<Column>
-        ensures { SomeIff result (IsColumnStyle self.now) (column_of self.now) }
+    pub(crate) fn to_column(self) -> Option<Column>
+        ensures { SomeIff result (IsColumnStyle self) (column_of self) }
     {
         let align = match self.align {
             0 => Align::Left,

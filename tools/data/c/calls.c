@@ -161,6 +161,7 @@ static const struct {
     {"debug_to_pretty", ufmt_debug_to_pretty},
     {"debug_to_plain", ufmt_debug_to_plain},
     {"quote", ufmt_quote},
+    {"unquote", ufmt_unquote},
 };
 
 static void call(const char *name) {

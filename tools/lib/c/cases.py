@@ -4,6 +4,7 @@ What they expect comes from outside: rustc's texts and xxd's dumps in tools/data
 printed in tools/expected/rows.txt, the model of texts in tools/lib/model/, and Python's own decoding of UTF-8.
 """
 import pathlib
+import re
 import sys
 from typing import NamedTuple, Optional
 from urllib.parse import unquote_to_bytes
@@ -30,6 +31,7 @@ CALLS = {
     "debug_to_pretty": ("buffer", "bytes"),
     "debug_to_plain": ("buffer", "bytes"),
     "quote": ("buffer", "bytes"),
+    "unquote": ("buffer", "bytes"),
     "unsigned": ("buffer", "uint64_t"),
     "signed": ("buffer", "int64_t"),
     "hexadecimal": ("buffer", "uint64_t", "hex"),
@@ -150,6 +152,44 @@ def valid_up_to(data):
     raise ValueError("these bytes are UTF-8")
 
 
+# How a byte is spelled between quotation marks.
+SPELLED = re.compile(rb'\\(?:[0tnr"\\]|u\{(?:[1-8]|[bcef]|1[0-9a-f]|7f)\})|[^\x00-\x1f"\\\x7f]')
+
+
+def misquoted_at(data):
+    """How many bytes at the front of an input can begin a text in quotation marks, or None if it is one."""
+    if data[:1] != b'"':
+        return 0
+    at = 1
+    while True:
+        found = SPELLED.match(data, at)
+        if not found:
+            break
+        at = found.end()
+    if data[at : at + 1] != b'"':
+        return at
+    if data[at + 1 :]:
+        return at + 1
+    try:
+        data.decode()
+    except UnicodeDecodeError as error:
+        return error.start
+    return None
+
+
+def misquoted():
+    """Inputs that are no texts in quotation marks: texts in quotes that are cut, longer, or have one byte changed."""
+    inputs = REFUSED + [b'"' + data + b'"' for data in NOT_TEXTS]
+    inputs += [b'"\\%s"' % escape for escape in (b"x", b"u{0}", b"u{9}", b"u{a}", b"u{d}", b"u{20}", b"u{80}", b"u{7F}", b"u{1B}", b"u{07}", b"u{}", b"u1", b"'", b"u{1b")]
+    whole = '"a\\n\\u{1b}é\\"\\\\z"'.encode()
+    inputs += [whole[:at] for at in range(len(whole))] + [whole + b"x", whole + whole]
+    inputs += [whole[:at] + bytes([byte]) + whole[at + 1 :] for at in range(len(whole)) for byte in (0x00, 0x22, 0x5C, 0x7F, 0xFF)]
+    for data in inputs:
+        place = misquoted_at(data)
+        if place is not None:
+            yield Case("unquote", (data,), result=NO_TEXT, detail=place)
+
+
 def refusals():
     """Inputs that aren't UTF-8, and options that mean nothing."""
     for data in NOT_TEXTS:
@@ -169,5 +209,5 @@ def refusals():
 
 def all_cases(calls):
     """Every case of these calls."""
-    made = [*stored(), *conversions(), *as_rustc_printed(), *refusals()]
+    made = [*stored(), *conversions(), *as_rustc_printed(), *refusals(), *misquoted()]
     return [case for case in made if case.call in calls]

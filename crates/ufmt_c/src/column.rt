@@ -1,30 +1,15 @@
-//! Texts in quotes, and texts in columns.
+//! Texts in columns.
 ghost use Rattle.std.specs.Prelude.{◌≡◌};
-ghost use Rattle.std.specs.Str.{IsUtf8, chars};
+ghost use Rattle.std.specs.Str.{IsUtf8};
 ghost use Rattle.ufmt.specs.Column.{in_column};
-ghost use Rattle.ufmt_core.specs.Quoted.{quoted_text};
 ghost use Rattle.ufmt_c.specs.Calls.{RefusesBytes, WritesNothing, WritesText, bad_option};
 ghost use Rattle.ufmt_c.specs.Options.{IsColumnStyle, column_of};
 
 use crate::code::{BAD_OPTION, NOT_UTF8};
 use crate::options::ColumnStyle;
-use crate::print::{print, print_line};
+use crate::print::print_line;
 use crate::text::text_of;
 use ufmt::pieces;
-
-/// Writes the text in quotation marks, with the escapes that `{:?}` writes.
-#[unsafe(no_mangle)]
-pub extern "C" fn ufmt_quote(buffer: &mut [u8], input: &[u8], detail: &mut usize) -> isize
-    ensures text { IsUtf8 input.now → WritesText buffer.old (quoted_text (chars input.now)) result
-        buffer.new detail.new }
-    ensures bytes { ¬ (IsUtf8 input.now) → RefusesBytes input.now buffer.old result buffer.new
-        detail.new }
-{
-    match text_of(input, detail) {
-        Some(text) => print(buffer, &text, detail),
-        None => NOT_UTF8,
-    }
-}
 
 /// Writes the text, with fills up to the width of the column.
 #[unsafe(no_mangle)]
@@ -43,7 +28,7 @@ pub extern "C" fn ufmt_in_column(
     ensures nothing { ¬ (IsColumnStyle style.now)
         → WritesNothing buffer.old detail.old buffer.new detail.new }
 {
-    let Some(column) = style.column() else {
+    let Some(column) = style.to_column() else {
         return BAD_OPTION;
     };
     match text_of(input, detail) {
