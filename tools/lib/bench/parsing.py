@@ -8,7 +8,8 @@ from counter import counted
 
 ROWS = (("u64", "plain"), ("u32", "plain"), ("measurement", "plain"), ("measurement", "pretty"), ("strings", "plain"),
         ("escapes", "plain"), ("options", "plain"), ("event", "plain"), ("event", "pretty"), ("map", "plain"))
-SIZES = (250_000, 500_000)
+# Of smaller texts a list is copied when it grows, not mapped to another place.
+SIZES = (500_000, 1_000_000)
 DEPENDENCIES = ('serde = { version = "1", features = ["derive"] }', 'serde_json = "1"', 'ron = "0.7"')
 
 
