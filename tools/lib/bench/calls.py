@@ -6,7 +6,6 @@ import sys
 import build
 import peers
 
-LIBRARIES = {"ufmt_core": [], "ufmt": ["ufmt_core"]}
 # `two` prints a second type as well.
 SIZES = ("text", "number", "struct", "pretty", "two", "line")
 LEAST = "-2147483648"
@@ -84,7 +83,7 @@ def counts(room, program, ufmt):
 
 
 def table(top, room, ufmt):
-    program = build.over_copies(top, room, "calls", LIBRARIES)
+    program = build.over_copies(top, room, "calls", ["ufmt"])
     sizes(room, room / "module.o", memory(top, room), ufmt)
     counts(room, program, ufmt)
     return 0

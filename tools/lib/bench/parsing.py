@@ -6,10 +6,10 @@ import peers
 import values
 from counter import counted
 
-LIBRARIES = {"ufmt_core": [], "ufmt": ["ufmt_core"], "ufmt_scan": ["ufmt", "ufmt_core"], "ufmt_parse": ["ufmt_scan", "ufmt", "ufmt_core"]}
 ROWS = (("u64", "plain"), ("u32", "plain"), ("measurement", "plain"), ("measurement", "pretty"), ("strings", "plain"),
         ("escapes", "plain"), ("options", "plain"), ("event", "plain"), ("event", "pretty"), ("map", "plain"))
-SIZES = (250_000, 500_000)
+# Of smaller texts a list is copied when it grows, not mapped to another place.
+SIZES = (500_000, 1_000_000)
 DEPENDENCIES = ('serde = { version = "1", features = ["derive"] }', 'serde_json = "1"', 'ron = "0.7"')
 
 
@@ -43,7 +43,7 @@ def line(told, cells):
 
 
 def table(top, room):
-    program = build.over_copies(top, room, "parse", LIBRARIES)
+    program = build.over_copies(top, room, "parse", ["ufmt_parse"])
     peer = room / "peers" / "parse" / "target" / "linked" / "parse"
     has_peer = peers.cargo(room, "parse", "program", DEPENDENCIES, [], ["linked"])
     print("%-20s%18s%18s%18s" % ("instructions", "ours", "serde_json", "ron"))

@@ -5,7 +5,6 @@ import build
 import values
 from counter import counted
 
-LIBRARIES = {"ufmt_core": [], "ufmt": ["ufmt_core"], "ufmt_scan": ["ufmt", "ufmt_core"], "ufmt_doc": ["ufmt_scan", "ufmt", "ufmt_core"]}
 SIZE = 1 << 18
 # A call, the run without it, and its text.
 ROWS = (
@@ -29,7 +28,7 @@ def texts():
 
 
 def table(top, room):
-    program = build.over_copies(top, room, "texts", LIBRARIES)
+    program = build.over_copies(top, room, "texts", ["ufmt_doc"])
     made = texts()
     print("%-22s %-18s %8s" % ("instructions", "text", "a byte"))
     for call, base, name in ROWS:

@@ -5,9 +5,6 @@ import build
 import frames
 from stack_bounds import CALLS
 
-VALUES = {"ufmt_core": [], "ufmt": ["ufmt_core"], "ufmt_scan": ["ufmt", "ufmt_core"], "ufmt_parse": ["ufmt_scan", "ufmt", "ufmt_core"]}
-TEXTS = dict(VALUES, ufmt_user=["ufmt"], ufmt_doc=["ufmt_scan", "ufmt", "ufmt_core"], ufmt_snapshot=["ufmt"],
-             ufmt_examples=["ufmt", "ufmt_core", "ufmt_doc", "ufmt_parse", "ufmt_scan", "ufmt_snapshot", "ufmt_user"])
 # What a call does, and its function. Further functions do the same for a value that is one struct deeper each: what they take
 # more is what a level takes.
 WITHOUT_MEMORY = (
@@ -26,7 +23,8 @@ ON_TEXTS = (
     ("parse a Node", "parse_node"), ("print a Tree", "tree_to_string"), ("drop a Tree", "drop_tree"),
     ("read_plain", "read_plain"), ("read_field", "read_field"), ("print a Doc", "doc_to_string"), ("drop a Doc", "drop_doc"),
 )
-PROGRAMS = (("stack_values", VALUES, WITHOUT_MEMORY), ("stack_texts", TEXTS, ON_TEXTS))
+# A program, the library that it is over, and its calls.
+PROGRAMS = (("stack_values", "ufmt_parse", WITHOUT_MEMORY), ("stack_texts", "ufmt_examples", ON_TEXTS))
 
 
 class Row:
@@ -43,9 +41,9 @@ class Row:
 
 def rows(top, room, programs):
     """A row for each call, program after program."""
-    for name, libraries, calls in programs:
+    for name, library, calls in programs:
         (room / name).mkdir()
-        known = frames.Frames(build.over_copies(top, room / name, name, libraries))
+        known = frames.Frames(build.over_copies(top, room / name, name, [library]))
         for told, *names in calls:
             yield Row(told, known, names)
 

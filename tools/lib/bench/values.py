@@ -2,6 +2,7 @@
 
 A value is a number, a bool, a text, a list, a dict, a tuple, None, or one of the classes here.
 """
+import functools
 import json
 from typing import NamedTuple
 
@@ -182,6 +183,7 @@ def many(make, size):
     return made
 
 
+@functools.lru_cache(maxsize=2)
 def of_kind(kind, size):
     """A list of values of this kind, or a map, and how many values it has."""
     if kind != "map":
