@@ -39,8 +39,8 @@ module _ (old text new bytes : List ℕ) (h : HasPut old text new) where
 
   -- so many bytes are put after the text: all, or those up to the buffer's end
   module _ (count k : ℕ) (next : List ℕ) (is : count ≡ length text) (room : count + k ≤ length new) (within : k ≤ length bytes)
-    (written : take (count + k) next ≡ take count new ++ take k bytes) (unwritten : drop (count + k) next ≡ drop (count + k) new)
-    (same_length : length next ≡ length new) where
+      (written : take (count + k) next ≡ take count new ++ take k bytes) (unwritten : drop (count + k) next ≡ drop (count + k) new)
+      (same_length : length next ≡ length new) where
     in_front : take (length text + k) next ≡ take (length text + k) (text ++ bytes)
     in_front =
         let room' : length text ≤ length old = omega (arith, is, room, h.same_length) in

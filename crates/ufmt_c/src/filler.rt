@@ -61,6 +61,8 @@ impl uWrite for Filler<'_> {
       whole_buffer = λ w. [];
     } };
 
+    // Not inlined: the scanner has some fifty calls of it.
+    #[inline(never)]
     fn write_str(&mut self, s: &str) -> Result<(), Infallible> {
         let text = self.text.and(s.as_bytes());
         put(self.buffer, self.count, s.as_bytes());
@@ -71,6 +73,7 @@ impl uWrite for Filler<'_> {
 }
 
 /// Puts bytes after so many others, as many as there is room for.
+#[inline(never)]
 pub(crate) fn put(buffer: &mut [u8], count: usize, bytes: &[u8])
     ensures { (old text : List ℕ) → count ≡ reported (length text) → HasPut old text buffer.old
         → HasPut old (text ++ bytes.now) buffer.new }
