@@ -8,7 +8,7 @@
  *   - If the text fits, it returns the text's length. `*detail` becomes the same number. The bytes of the
  *     buffer after the text stay as they were.
  *   - If it doesn't, it returns UFMT_FULL. `*detail` becomes the text's length, so a buffer of that size
- *     will do. The buffer begins with a prefix of the text, and its other bytes stay.
+ *     will do. The buffer holds as many bytes of the text as it has: the last may end inside a character.
  *   - Any other result is a code below zero, named at the call. The buffer stays as it was; but a call
  *     that returns UFMT_NO_TEXT may have overwritten any byte of the buffer.
  *

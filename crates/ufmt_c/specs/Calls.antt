@@ -1,7 +1,6 @@
 -- What the calls from C return, and what they leave in the caller's buffer and in `detail`.
 use Rattle.std.specs.Prelude.{◌≡◌, ℕ, ◌^◌, ◌-◌, ◌<◌, ◌≤◌, min, ℤ, pos, negsuc, List, length, take, drop}
 use Rattle.std.specs.Str.{IsValidUpTo}
-use Rattle.ufmt_core.specs.Writes.{HasPrefix}
 
 abbrev pub no_text : ℤ
 no_text = negsuc 0
@@ -19,9 +18,10 @@ bad_option = negsuc 3
 abbrev pub reported : ℕ → ℕ
 reported n = min (2 ^ 64 - 1) n
 
--- the text is at the front of the buffer, and the bytes after it stay: `old` and `new` are the bytes before and after
-pub record IsInFront (old text new : List ℕ) : Type 0 where
-  pub front : take (length text) new ≡ text
+-- the text was put to the front of a buffer, as much as fits, and the bytes after it stay: `old` and `new` are the bytes before and after
+pub record HasPut (old text new : List ℕ) : Type 0 where
+  pub same_length : length new ≡ length old
+  pub front : take (length text) new ≡ take (length old) text
   pub after : drop (length text) new ≡ drop (length text) old
 
 -- what a call returns and leaves that writes this text to a buffer
@@ -29,10 +29,10 @@ pub record WritesText (old text : List ℕ) (result : ℤ) (new : List ℕ) (det
   pub same_length : length new ≡ length old
   -- the text's length is reported
   pub reports : detail ≡ reported (length text)
-  -- a text that fits is written, and its length is returned
-  pub fits : length text ≤ length old → (result ≡ pos (length text)) × IsInFront old text new
-  -- of a longer text a prefix is written
-  pub cut : length old < length text → (result ≡ full) × ((part : List ℕ) × HasPrefix text part × IsInFront old part new)
+  -- a text that fits is at the front, the bytes after it stay, and its length is returned
+  pub fits : length text ≤ length old → (result ≡ pos (length text)) × (take (length text) new ≡ text) × (drop (length text) new ≡ drop (length text) old)
+  -- a longer text is cut where the buffer ends
+  pub cut : length old < length text → (result ≡ full) × (new ≡ take (length old) text)
 
 -- a call that writes nothing: the buffer and `detail` stay
 pub record WritesNothing (old : List ℕ) (before : ℕ) (new : List ℕ) (detail : ℕ) : Type 0 where

@@ -1,19 +1,17 @@
 //! Conversions of plain texts to pretty ones and back.
-ghost use Rattle.std.specs.Prelude.{◌≡◌, ℕ, List, MatchOption, length};
+ghost use Rattle.std.specs.Prelude.{ℕ, List};
 ghost use Rattle.ufmt.specs.Document.{Document};
 ghost use Rattle.ufmt.specs.Layout.{plain_text, pretty_text};
 ghost use Rattle.ufmt.specs.declared.class.Class.{Class};
 ghost use Rattle.ufmt.specs.declared.class.Class.TheVariants.{Debug, Token};
-ghost use Rattle.ufmt_c.specs.Calls.{reported};
 ghost use Rattle.ufmt_c.specs.Conversions.{ConvertsText};
-ghost use Rattle.ufmt_scan.specs.Texts.{ConvertsIntoAs, ConvertsToAs, IsConvertedAs, NoDocumentPrintsAs};
+ghost use Rattle.ufmt_scan.specs.Texts.{ConvertsToAs};
 
-use crate::code::{FULL, NO_TEXT};
-use crate::counter::Counter;
-use ufmt::{Full, uWrite};
+use crate::code::NO_TEXT;
+use crate::filler::Filler;
+use ufmt::uWrite;
 use ufmt_scan::convert::{
-    debug_to_plain_into, debug_to_pretty_into, to_plain_into, to_pretty_into, write_debug_to_plain,
-    write_debug_to_pretty, write_to_plain, write_to_pretty,
+    write_debug_to_plain, write_debug_to_pretty, write_to_plain, write_to_pretty,
 };
 use ufmt_scan::scan::ScanError;
 
@@ -24,9 +22,6 @@ trait Conversion {
     ghost from: { Document → List ℕ };
 
     ghost to: { Document → List ℕ };
-
-    fn into(buffer: &mut [u8], input: &[u8]) -> Result<usize, ScanError<Full>>
-        ensures { ConvertsIntoAs class from to input.now buffer.old result buffer.new };
 
     fn write<W: uWrite>(writer: &mut W, input: &[u8]) -> Result<(), ScanError<W::Error>>
         ensures { ConvertsToAs W.seen class from to input.now writer.old result writer.new };
@@ -40,10 +35,6 @@ impl Conversion for ToPretty {
     ghost from = { plain_text };
 
     ghost to = { pretty_text };
-
-    fn into(buffer: &mut [u8], input: &[u8]) -> Result<usize, ScanError<Full>> {
-        to_pretty_into(buffer, input)
-    }
 
     fn write<W: uWrite>(writer: &mut W, input: &[u8]) -> Result<(), ScanError<W::Error>> {
         write_to_pretty(writer, input)
@@ -59,10 +50,6 @@ impl Conversion for ToPlain {
 
     ghost to = { plain_text };
 
-    fn into(buffer: &mut [u8], input: &[u8]) -> Result<usize, ScanError<Full>> {
-        to_plain_into(buffer, input)
-    }
-
     fn write<W: uWrite>(writer: &mut W, input: &[u8]) -> Result<(), ScanError<W::Error>> {
         write_to_plain(writer, input)
     }
@@ -76,10 +63,6 @@ impl Conversion for DebugToPretty {
     ghost from = { plain_text };
 
     ghost to = { pretty_text };
-
-    fn into(buffer: &mut [u8], input: &[u8]) -> Result<usize, ScanError<Full>> {
-        debug_to_pretty_into(buffer, input)
-    }
 
     fn write<W: uWrite>(writer: &mut W, input: &[u8]) -> Result<(), ScanError<W::Error>> {
         write_debug_to_pretty(writer, input)
@@ -95,25 +78,8 @@ impl Conversion for DebugToPlain {
 
     ghost to = { plain_text };
 
-    fn into(buffer: &mut [u8], input: &[u8]) -> Result<usize, ScanError<Full>> {
-        debug_to_plain_into(buffer, input)
-    }
-
     fn write<W: uWrite>(writer: &mut W, input: &[u8]) -> Result<(), ScanError<W::Error>> {
         write_debug_to_plain(writer, input)
-    }
-}
-
-// How many bytes the other text of the input has, if the input is a text.
-fn converted_len<C: Conversion>(input: &[u8]) -> Option<usize>
-    ensures { MatchOption result (NoDocumentPrintsAs C.class C.from input.now)
-        (λ n. (text : List ℕ) × IsConvertedAs C.class C.from C.to input.now text × (n ≡ reported (length text))) }
-{
-    let mut counter = Counter::new();
-    match C::write(&mut counter, input) {
-        Ok(()) => Some(counter.count),
-        Err(ScanError::NotText) => None,
-        Err(ScanError::Sink(never)) => match never {},
     }
 }
 
@@ -121,19 +87,11 @@ fn convert<C: Conversion>(buffer: &mut [u8], input: &[u8], detail: &mut usize) -
     ensures { ConvertsText C.class C.from C.to input.now buffer.old detail.old result buffer.new
         detail.new }
 {
-    match C::into(buffer, input) {
-        Ok(length) => {
-            *detail = length;
-            length as isize
-        }
+    let mut filler = Filler::new(buffer);
+    match C::write(&mut filler, input) {
+        Ok(()) => filler.report(detail),
         Err(ScanError::NotText) => NO_TEXT,
-        Err(ScanError::Sink(Full)) => match converted_len::<C>(input) {
-            Some(length) => {
-                *detail = length;
-                FULL
-            }
-            None => NO_TEXT,
-        },
+        Err(ScanError::Sink(never)) => match never {},
     }
 }
 

@@ -24,6 +24,16 @@ impl GhostText {
         GhostText {}
     }
 
+    // The text of these bytes.
+    pub(crate) fn of(bytes: &[u8]) -> GhostText
+        ghost whole: { List ℕ }
+        requires { whole ≡ bytes.now }
+        ensures { result.bytes ≡ whole }
+    {
+        let _ = bytes;
+        GhostText::new()
+    }
+
     // This text, and then the piece.
     pub(crate) fn and(&self, piece: &[u8]) -> GhostText
         ghost whole: { List ℕ }

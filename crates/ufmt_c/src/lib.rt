@@ -5,9 +5,9 @@
 mod code;
 mod column;
 mod convert;
-mod counter;
 mod difference;
 mod dump;
+mod filler;
 mod ghost_text;
 mod kinds;
 mod numbers;

@@ -3,10 +3,11 @@ ghost use Rattle.std.specs.Prelude.{◌≡◌, ◌≢◌, ◌++◌, ◌∷◌, [
 ghost use Rattle.std.specs.Str.{IsUtf8, chars};
 ghost use Rattle.ufmt_core.specs.Bytes.{quotation_mark};
 ghost use Rattle.ufmt_core.specs.Quoted.{escaped_byte, escaped_bytes, quoted_text};
-ghost use Rattle.ufmt_c.specs.Calls.{RefusesBytes, WritesText};
-ghost use Rattle.ufmt_c.specs.Quotes.{HasPut, UnquotesText};
+ghost use Rattle.ufmt_c.specs.Calls.{HasPut, RefusesBytes, WritesText};
+ghost use Rattle.ufmt_c.specs.Quotes.{UnquotesText};
 
 use crate::code::{FULL, NO_TEXT, NOT_UTF8};
+use crate::filler::put;
 use crate::print::print;
 use crate::text::text_of;
 use ufmt_scan::quoted::split_escaped;
@@ -44,21 +45,11 @@ fn decode<'a>(buffer: &mut [u8], input: &'a [u8]) -> Decoded<'a>
     let mut length = 0;
     let mut rest = input;
     'bytes: while let Some((byte, after)) = split_escaped(b'"', rest) {
-        put(buffer, length, byte);
+        put(buffer, length, &[byte]);
         length += 1;
         rest = after;
     }
     Decoded { length, rest }
-}
-
-// Puts a byte after so many others, if there is room for it.
-fn put(buffer: &mut [u8], count: usize, byte: u8)
-    ensures { (old bytes : List ℕ) → length bytes ≡ count → HasPut old bytes buffer.old
-        → HasPut old (bytes ++ (byte ∷ [])) buffer.new }
-{
-    if count < buffer.len() {
-        buffer[count] = byte;
-    }
 }
 
 /// Writes the text that is between the quotation marks, if the input is what `ufmt_quote` writes of it.

@@ -4,12 +4,6 @@ use Rattle.ufmt_c.proofs.convert.convert.Goals as goal
 
 pub returns-in-Ok : goal.returns-in-Ok
 returns-in-Ok g c =
-    let some = c.into.ensures.ok (search rules) in
-    let fronts = c.into.ensures.fronts some.0 some.1 in
-    ConvertsText.text some.0 some.1 (search (rules, fronts))
-
-pub returns-in-Some : goal.returns-in-Some
-returns-in-Some g c =
-    let other = c.in-Some.ensures in
-    let fronts = c.into.ensures.fronts other.0 other.1 in
-    ConvertsText.text other.0 other.1 (search (rules, fronts, other.2))
+    let some = c.write.ensures.ok (search rules) in
+    let writes = c.write.ensures.writes some.0 some.1 in
+    ConvertsText.text some.0 some.1 (search (rules, writes))

@@ -1,6 +1,6 @@
 use Rattle.std.proofs.Common.{◌≡◌, ◌++◌, ℕ, List, length}
 use Rattle.ufmt.specs.Quoted.{escaped_bytes}
-use Rattle.ufmt_c.specs.Quotes.{HasPut}
+use Rattle.ufmt_c.specs.Calls.{HasPut}
 use Rattle.ufmt_c.proofs.quoted.decode.Given as goal
 
 -- the bytes that were decoded so far

@@ -4,7 +4,8 @@ use Rattle.std.proofs.lemmas.List.{nil_from_length}
 use Rattle.ufmt.specs.Reading.{strip}
 use Rattle.ufmt.proofs.Parsing.{strip_found, strip_joined}
 use Rattle.ufmt_c.specs.Quotes.{UnquotesText}
-use Rattle.ufmt_c.proofs.Unquoting.{decoded_utf8, not_quoted, put_cut, put_whole, quoted_is, quoted_utf8}
+use Rattle.ufmt_c.proofs.Puts.{as_reported, put_cut, put_whole}
+use Rattle.ufmt_c.proofs.Unquoting.{decoded_utf8, not_quoted, quoted_is, quoted_utf8}
 use Rattle.ufmt_c.proofs.quoted.ufmt_unquote.Goals as goal
 
 pub returns-in_default-strip_byte : goal.returns-in_default-strip_byte
@@ -42,7 +43,7 @@ returns-then-decoded-buffer c =
     let last = rest ∙ ap (λ t. 34 ∷ t) empty in
     let utf8 = c.in-Some-text_of.ensures.0 in
     UnquotesText.text decoded.0 (decoded_utf8 _ _ _ decoded.0 front decoded.1 last utf8) (quoted_is _ _ _ decoded.0 front decoded.1 last utf8)
-    (put_cut _ decoded.0 _ _ decoded.3 decoded.2 (search rules) (search (rules, decoded.3.same_length)))
+    (put_cut _ decoded.0 _ decoded.3 _ (as_reported _ _ decoded.2 (search rules)) (search (rules, decoded.2, decoded.3.same_length)))
 
 pub returns : goal.returns
 returns c =
@@ -53,4 +54,4 @@ returns c =
     let last = rest ∙ ap (λ t. 34 ∷ t) empty in
     let utf8 = c.in-Some-text_of.ensures.0 in
     UnquotesText.text decoded.0 (decoded_utf8 _ _ _ decoded.0 front decoded.1 last utf8) (quoted_is _ _ _ decoded.0 front decoded.1 last utf8)
-    (put_whole _ decoded.0 _ _ decoded.3 decoded.2 (search rules) _ (search rules) (search (rules, decoded.3.same_length)))
+    (put_whole _ decoded.0 _ decoded.3 _ (search (rules, decoded.2)) _ (as_reported _ _ decoded.2 (search rules)) (search (rules, decoded.2, decoded.3.same_length)))
