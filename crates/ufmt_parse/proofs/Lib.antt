@@ -13,6 +13,8 @@ pub mod Layers
 pub mod ListedPairs
 pub mod ListedValues
 pub mod NameFronts
+pub mod Naming
+pub mod Next
 pub mod NonZeroTexts
 pub mod NumberKeys
 pub mod OneWay
