@@ -1,5 +1,5 @@
 -- Nonzero numbers have other texts than 0.
-use Rattle.std.proofs.Common.{◌≡◌, ◌≢◌, ◌∙◌, sym, ap, ◌<◌, ◌++◌, List, ℕ, ℤ, pos, nat_abs, Option, Some, None, arith}
+use Rattle.std.proofs.Common.{◌≡◌, ◌≢◌, ◌∙◌, sym, ap, ◌<◌, ◌++◌, ℕ, ℤ, pos, nat_abs, Option, Some, None, arith}
 use Rattle.std.specs.Prelude.{MatchOption}
 use Rattle.std.proofs.lemmas.List.{append_cancel_right}
 use Rattle.ufmt.specs.Document.{Document, leaf}

@@ -1,8 +1,6 @@
-use Rattle.std.proofs.Common.{◌≡◌, sym, ◌∙◌, List, ℕ, Bool, false}
-use Rattle.std.specs.Str.{bytes_eq}
-use Rattle.ufmt.specs.Document.{Document}
+use Rattle.std.proofs.Common.{sym, ◌∙◌, false}
 use Rattle.ufmt_parse.specs.Naming.{document_name}
-use Rattle.ufmt_parse.specs.Taking.{IsNext, open_blocks, setting_in}
+use Rattle.ufmt_parse.specs.Taking.{open_blocks, setting_in}
 use Rattle.ufmt_parse.proofs.NameFronts.{another_is_next, document_begins, name_is_next}
 use Rattle.ufmt_parse.proofs.Naming.{not_named, not_named_leaves}
 use Rattle.ufmt_parse.proofs.Strips.{was_there, was_not_there}
