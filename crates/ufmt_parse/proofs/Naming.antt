@@ -23,6 +23,11 @@ names_are (other ∷ others) (name ∷ names) same = go (bytes_eq other name) re
     go true is same_others are = ap (λ o. o ∷ others) ((bytes_eq-Decides other name).0 is) ∙ ap (λ os. name ∷ os) (are same_others)
     go false is same_others are = absurd (cc)
 
+-- names are the same as themselves: for a caller that doesn't know them
+pub same_names-refl : (names : List (List ℕ)) → same_names names names ≡ true
+same_names-refl [] = refl
+same_names-refl (name ∷ names) = rw ((bytes_eq-Decides name name).1 refl) (same_names-refl names)
+
 -- the struct whose name is the first of these, and whose fields' names are the others
 named_document : List (List ℕ) → List Document → Document
 named_document [] ds = leaf []
