@@ -14,7 +14,7 @@ pub mod DumpColumns
 pub mod DumpRows
 pub mod Dumps
 pub mod Fronts
-pub mod HexadecimalTexts
+pub mod RadixTexts
 pub mod LeftToWrite
 pub mod Lines
 pub mod ListedDocuments

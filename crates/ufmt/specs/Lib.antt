@@ -11,6 +11,7 @@ pub mod NormalFormLaws
 pub mod Parse
 pub mod Pieces
 pub mod QuotedLaws
+pub mod Radix
 pub mod Reading
 pub mod ReadingLaws
 pub mod ReadingQuoted

@@ -14,6 +14,7 @@ mod hex;
 pub mod laws;
 pub mod pieces;
 mod print;
+mod radix;
 mod small;
 mod truncating;
 mod uwrite;
@@ -29,6 +30,7 @@ pub use print::{
     debug_into, display_into, fmt_pretty, line_into, plain_text, pretty_into, pretty_text,
     write_debug, write_display, write_line, write_pretty,
 };
+pub use radix::{Radix, uDisplayRadix};
 pub use small::Small;
 pub use truncating::Truncating;
 pub use ufmt_core::{

@@ -34,6 +34,7 @@ mod piece_rows;
 mod print;
 mod printed;
 mod quoted;
+mod radix;
 mod rows;
 mod shadowed_names;
 mod std_pieces;
