@@ -44,5 +44,6 @@ pub mod WorkedColumns
 pub mod WorkedReadings
 pub mod WorkedShifts
 pub mod WorkedTokens
+pub mod ZeroPadding
 pub use Rattle.ufmt_core.proofs.Blocks
 pub use Rattle.ufmt_core.proofs.Printing

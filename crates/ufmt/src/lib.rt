@@ -18,6 +18,7 @@ mod radix;
 mod small;
 mod truncating;
 mod uwrite;
+mod zeros;
 
 pub use column::{Align, Column};
 pub use cursor::{Cursor, Full};
@@ -37,3 +38,4 @@ pub use ufmt_core::{
     DebugList, DebugMap, DebugSet, DebugStruct, DebugTuple, Formatter, NamedFields, UnnamedFields,
     ascii, cells, layout, quoted, uDebug, uWrite, unsigned,
 };
+pub use zeros::uDisplayZeros;

@@ -8,6 +8,7 @@ use crate::display::uDisplay;
 use crate::hex::{HexOptions, uDisplayHex};
 use crate::print::fmt_pretty;
 use crate::radix::{Radix, uDisplayRadix};
+use crate::zeros::uDisplayZeros;
 use ufmt_core::{Formatter, uDebug, uWrite};
 
 /// A way to write a value into a line.
@@ -91,6 +92,21 @@ impl<T: uDisplayRadix> Mark<T> for InRadix {
     #[inline(always)]
     fn print_value<W: uWrite>(&self, value: &T, f: &mut Formatter<W>) -> Result<(), W::Error> {
         value.fmt_radix(f, self.radix, self.options)
+    }
+}
+
+/// In decimal digits, with zeros after the sign up to this width in bytes.
+#[derive(Clone, Copy, Drop)]
+pub struct Zeros {
+    pub width: usize,
+}
+
+impl<T: uDisplayZeros> Mark<T> for Zeros {
+    ghost pieces = { λ m x. text (T.zeros_text x m.width) ∷ [] };
+
+    #[inline(always)]
+    fn print_value<W: uWrite>(&self, value: &T, f: &mut Formatter<W>) -> Result<(), W::Error> {
+        value.fmt_zeros(f, self.width)
     }
 }
 
