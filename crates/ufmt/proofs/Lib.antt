@@ -8,6 +8,7 @@ pub mod Columns
 pub mod Cursors
 pub mod DebugLeaves
 pub mod FittingParts
+pub mod FixedPoint
 pub mod FramesClose
 pub mod DottedStructs
 pub mod DumpColumns

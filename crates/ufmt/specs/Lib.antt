@@ -4,6 +4,7 @@ pub mod Cursor
 pub mod Cut
 pub mod Dump
 pub mod EachText
+pub mod FixedPoint
 pub mod Hex
 pub mod Leaves
 pub mod Lines

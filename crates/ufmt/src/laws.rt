@@ -33,10 +33,10 @@ use crate::hex::{HexOptions, uDisplayHex};
 use crate::pieces::Line;
 use crate::{pieces, uwrite};
 pub use numbers::{
-    digits_are_one_text, integers_print_zeros, line_of_numbers, nonzero_prints_one_radix_text,
-    nonzero_prints_zeros, padding_reaches_length, references_print_one_radix_text,
-    references_print_zeros, signed_prints_bits_in_each_radix, unsigned_prints_in_each_radix,
-    uwrite_numbers, zeros_reach_width,
+    decimals_denote_their_values, digits_are_one_text, integers_print_zeros, line_of_numbers,
+    nonzero_prints_one_radix_text, nonzero_prints_zeros, padding_reaches_length,
+    references_print_one_radix_text, references_print_zeros, signed_prints_bits_in_each_radix,
+    unsigned_prints_in_each_radix, uwrite_numbers, zeros_reach_width,
 };
 use std::alloc::Allocator;
 use std::borrow::{Cow, CowStr};

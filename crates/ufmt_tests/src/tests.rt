@@ -44,3 +44,4 @@ mod tuples;
 mod user_types;
 mod uwrite;
 mod writers;
+mod zeros;

@@ -4,13 +4,18 @@ ghost use Rattle.std.specs.Borrow.{Bor, MutBor};
 ghost use Rattle.std.specs.Int.{w8, w16, w32, w64, w128};
 ghost use Rattle.std.specs.Int.NonZero.{non_zero_u8_get, non_zero_u16_get, non_zero_u32_get, non_zero_u64_get, non_zero_u128_get, non_zero_usize_get, non_zero_i8_get, non_zero_i16_get, non_zero_i32_get, non_zero_i64_get, non_zero_i128_get, non_zero_isize_get};
 ghost use Rattle.ufmt_core.specs.Formatter.{Prints, setting_of};
+ghost use Rattle.ufmt_core.specs.Document.{leaf};
+ghost use Rattle.ufmt.specs.declared.decimal.Decimal.{Decimal};
 ghost use Rattle.ufmt.specs.declared.hex.HexOptions.{HexOptions};
+ghost use Rattle.ufmt.specs.FixedPoint.{EachFixedIsDenoted, OneFixedIsDenoted, fixed};
 ghost use Rattle.ufmt.specs.declared.radix.Radix.TheVariants.{Binary, Octal};
 ghost use Rattle.ufmt.specs.Pieces.{column, pieces_text, separated, text};
 ghost use Rattle.ufmt.specs.Radix.{EachNumberIsDenoted, IsPadded, OneNumberIsDenoted, OneTextDenotes, PrintsBitsInRadix, PrintsInRadix, padded_after};
 ghost use Rattle.ufmt.specs.Zeros.{IsZeroPadded, PrintsSignAndZeros, PrintsZeros, zero_padded};
 
 use crate::column::Column;
+use crate::decimal::Decimal;
+use crate::display::uDisplay;
 use crate::hex::HexOptions;
 use crate::pieces::Line;
 use crate::radix::uDisplayRadix;
@@ -20,7 +25,7 @@ use std::num::{
     NonZeroI8, NonZeroI16, NonZeroI32, NonZeroI64, NonZeroI128, NonZeroIsize, NonZeroU8,
     NonZeroU16, NonZeroU32, NonZeroU64, NonZeroU128, NonZeroUsize, Saturating, Wrapping,
 };
-use ufmt_core::{Formatter, uWrite};
+use ufmt_core::{Formatter, uDebug, uWrite};
 
 /// In each base each whole number has exactly one text in lower case and one in upper case, and each
 /// text denotes one number.
@@ -129,6 +134,16 @@ pub fn references_print_zeros<T: uDisplayZeros>()
         T.zeros_text x.now }
     ensures of_wrapping { ⟦<Wrapping<T> as uDisplayZeros>⟧.zeros_text ≡ (λ x. T.zeros_text x.0) }
     ensures of_saturating { ⟦<Saturating<T> as uDisplayZeros>⟧.zeros_text ≡ (λ x. T.zeros_text x.0) }
+{}
+
+/// A fixed-point number's text is its sign, digits, and a point with as many digits as it has places. All
+/// digits joined denote the value's magnitude. No text denotes two values.
+pub fn decimals_denote_their_values()
+    ensures denoted { EachFixedIsDenoted }
+    ensures one_number { OneFixedIsDenoted }
+    ensures displayed { ⟦<Decimal as uDisplay>⟧.display ≡ (λ d. leaf (fixed d.places d.value)) }
+    ensures debugged { ⟦<Decimal as uDebug>⟧.document ≡ ⟦<Decimal as uDisplay>⟧.display }
+    ensures unfilled { (d : Decimal) → ⟦<Decimal as uDisplayZeros>⟧.zeros_text d 0 ≡ fixed d.places d.value }
 {}
 
 /// Writes `uwrite!(f, bin n with options, oct n with options, zeros z to width)`.

@@ -21,6 +21,10 @@ fn laws_of_numbers_and_types_can_be_called() {
     laws::signed_prints_bits_in_each_radix();
     laws::nonzero_prints_one_radix_text();
     laws::references_print_one_radix_text::<u8>();
+    laws::zeros_reach_width();
+    laws::integers_print_zeros();
+    laws::nonzero_prints_zeros();
+    laws::references_print_zeros::<u8>();
     laws::pieces_of_lines::<(), ((), ())>();
     laws::texts_display_as_they_are::<Global>();
     laws::documents_of_leaves::<u8>();

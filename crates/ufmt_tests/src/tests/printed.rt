@@ -2,7 +2,8 @@
 ghost use Rattle.std.specs.Prelude.{◌<◌};
 
 use ufmt::{
-    Formatter, HexOptions, Radix, fmt_pretty, uDebug, uDisplay, uDisplayHex, uDisplayRadix, uWrite,
+    Formatter, HexOptions, Radix, fmt_pretty, uDebug, uDisplay, uDisplayHex, uDisplayRadix,
+    uDisplayZeros, uWrite,
 };
 
 /// Hexadecimal options that lines and columns print with.
@@ -60,6 +61,19 @@ pub struct Digits<T> {
 impl<T: uDisplayRadix> Printed for Digits<T> {
     fn print<W: uWrite>(&self, f: &mut Formatter<W>) -> Result<(), W::Error> {
         self.number.fmt_radix(f, self.radix, self.options)
+    }
+}
+
+/// Prints by `fmt_zeros`.
+#[derive(Drop)]
+pub struct ZeroPadded<T> {
+    pub number: T,
+    pub width: usize,
+}
+
+impl<T: uDisplayZeros> Printed for ZeroPadded<T> {
+    fn print<W: uWrite>(&self, f: &mut Formatter<W>) -> Result<(), W::Error> {
+        self.number.fmt_zeros(f, self.width)
     }
 }
 

@@ -5,7 +5,7 @@ use std::num::{
     NonZeroI8, NonZeroI16, NonZeroI32, NonZeroI64, NonZeroI128, NonZeroIsize, NonZeroU8,
     NonZeroU16, NonZeroU32, NonZeroU64, NonZeroU128, NonZeroUsize, Saturating, Wrapping,
 };
-use ufmt::{Formatter, HexOptions, Radix, laws, pieces, uDisplayRadix, uWrite, uwrite};
+use ufmt::{Formatter, HexOptions, Radix, pieces, uDisplayRadix, uWrite, uwrite};
 
 // Whether there is a prefix, the pad byte, and the pad length.
 const OPTIONS: [(bool, u8, usize); 6] = [
@@ -161,12 +161,11 @@ const BITS: HexOptions = HexOptions {
     ox_prefix: true,
 };
 
-/// Pieces in each radix, by each macro and by a law.
+/// Pieces in each radix, by each macro.
 #[derive(Clone, Copy)]
 enum Written {
     ByUwrite,
     ByPieces,
-    ByTheLaw,
     Each,
 }
 
@@ -178,7 +177,6 @@ impl Printed for Written {
                 &pieces!(bin 37u8 with BITS, oct 37i16 with BITS),
                 f,
             ),
-            Written::ByTheLaw => laws::uwrite_in_each_radix(f, &37u64, BITS),
             Written::Each => ufmt::Line::print(
                 &pieces!(each bin [1u8, 2] with BITS between ",", each oct [8u8] with BITS between ""),
                 f,
@@ -190,19 +188,13 @@ impl Printed for Written {
 const WRITTEN: &str = "\
 0b|0|0|100101| |0o|0|0|0|0|0|0|45|;
 0b|0|0|100101|0o|0|0|0|0|0|0|45|;
-0b|0|0|100101|0o|0|0|0|0|0|0|45|;
 0b|0|0|0|0|0|0|0|1|,|0b|0|0|0|0|0|0|10|0o|0|0|0|0|0|0|10|;
 ";
 
 #[test]
 fn pieces_print_in_binary_and_octal(rt: HostRuntime) {
     let mut table = Table::new(rt.alloc());
-    for written in [
-        Written::ByUwrite,
-        Written::ByPieces,
-        Written::ByTheLaw,
-        Written::Each,
-    ] {
+    for written in [Written::ByUwrite, Written::ByPieces, Written::Each] {
         table.pieces(&written);
     }
     has_rows(&rt, &table, WRITTEN);
