@@ -18,6 +18,7 @@ mod collections;
 mod columns;
 mod cursors;
 mod cuts;
+mod decimals;
 mod dumps;
 mod fields;
 mod fixed;

@@ -25,6 +25,7 @@ fn laws_of_numbers_and_types_can_be_called() {
     laws::integers_print_zeros();
     laws::nonzero_prints_zeros();
     laws::references_print_zeros::<u8>();
+    laws::decimals_denote_their_values();
     laws::pieces_of_lines::<(), ((), ())>();
     laws::texts_display_as_they_are::<Global>();
     laws::documents_of_leaves::<u8>();
