@@ -7,8 +7,8 @@ use std::num::{
     NonZeroU16, NonZeroU32, NonZeroU64, NonZeroU128, NonZeroUsize, Saturating, Wrapping,
 };
 use ufmt::{
-    Decimal, Formatter, pieces, uDebug, uDisplay, uDisplayHex, uDisplayRadix, uDisplayZeros, write_debug,
-    write_display, write_line, write_pretty,
+    Decimal, Formatter, pieces, uDebug, uDisplay, uDisplayHex, uDisplayRadix, uDisplayZeros,
+    write_debug, write_display, write_line, write_pretty,
 };
 
 // The number of each type, and that of the type without 0.
