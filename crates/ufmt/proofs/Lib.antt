@@ -10,6 +10,7 @@ pub mod DebugLeaves
 pub mod FittingParts
 pub mod FixedPoint
 pub mod FramesClose
+pub mod DecimalsAreLeaves
 pub mod DottedStructs
 pub mod DumpColumns
 pub mod DumpRows

@@ -9,6 +9,7 @@ ghost use Rattle.ufmt.specs.declared.decimal.Decimal.{Decimal};
 ghost use Rattle.ufmt.specs.declared.hex.HexOptions.{HexOptions};
 ghost use Rattle.ufmt.specs.FixedPoint.{EachFixedIsDenoted, OneFixedIsDenoted, fixed};
 ghost use Rattle.ufmt.specs.declared.radix.Radix.TheVariants.{Binary, Octal};
+ghost use Rattle.ufmt.specs.Leaves.{Debug, IsLeaf};
 ghost use Rattle.ufmt.specs.Pieces.{column, pieces_text, separated, text};
 ghost use Rattle.ufmt.specs.Radix.{EachNumberIsDenoted, IsPadded, OneNumberIsDenoted, OneTextDenotes, PrintsBitsInRadix, PrintsInRadix, padded_after};
 ghost use Rattle.ufmt.specs.Zeros.{IsZeroPadded, PrintsSignAndZeros, PrintsZeros, zero_padded};
@@ -137,10 +138,12 @@ pub fn references_print_zeros<T: uDisplayZeros>()
 {}
 
 /// A fixed-point number's text is its sign, digits, and a point with as many digits as it has places. All
-/// digits joined denote the value's magnitude. No text denotes two values.
+/// digits joined denote the value's magnitude. No text denotes two values. The text is a debug leaf, so
+/// it can be read again.
 pub fn decimals_denote_their_values()
     ensures denoted { EachFixedIsDenoted }
     ensures one_number { OneFixedIsDenoted }
+    ensures debug_leaf { (places : ℕ) (z : ℤ) → IsLeaf Debug (fixed places z) }
     ensures displayed { ⟦<Decimal as uDisplay>⟧.display ≡ (λ d. leaf (fixed d.places d.value)) }
     ensures debugged { ⟦<Decimal as uDebug>⟧.document ≡ ⟦<Decimal as uDisplay>⟧.display }
     ensures unfilled { (d : Decimal) → ⟦<Decimal as uDisplayZeros>⟧.zeros_text d 0 ≡ fixed d.places d.value }
