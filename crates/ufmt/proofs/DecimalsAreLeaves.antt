@@ -1,5 +1,5 @@
 -- The text of a fixed-point number is a leaf of a debug document, so it can be read again.
-use Rattle.std.proofs.Common.{◌≡◌, inl, refl, sym, subst, ℕ, ◌<◌, ℤ, pos, negsuc, nat_abs, List, [], ◌∷◌, ◌++◌, map, length, arith}
+use Rattle.std.proofs.Common.{inl, refl, sym, subst, ℕ, ◌<◌, ℤ, pos, negsuc, List, [], ◌∷◌, ◌++◌, map, length, arith}
 use Rattle.std.specs.Prelude.{⊤}
 use Rattle.std.specs.List.{All}
 use Rattle.std.specs.Str.{IsAscii}

@@ -1,7 +1,7 @@
 -- Fixed-point texts: their digits denote the number, and are written as two numbers with zeros.
-use Rattle.std.proofs.Common.{◌≡◌, ◌⊎◌, inl, inr, ℕ, zero, suc, ◌+◌, ◌-◌, ◌*◌, ◌/◌, ◌%◌, ◌^◌, ◌<◌, ◌≤◌, ℤ, pos, negsuc, nat_abs, List, [], ◌∷◌, ◌++◌, codes, map, length, replicate, refl, sym, ap, ap₂, ◌∙◌, arith, pow-suc, append_assoc, append-nil, length-append, false, ◌==◌, if◌then◌else◌, drop, get_or}
+use Rattle.std.proofs.Common.{◌≡◌, inl, inr, ℕ, zero, suc, ◌+◌, ◌-◌, ◌*◌, ◌/◌, ◌%◌, ◌^◌, ◌<◌, ◌≤◌, ℤ, pos, negsuc, nat_abs, List, [], ◌∷◌, ◌++◌, codes, map, length, replicate, refl, sym, ap, ap₂, ◌∙◌, arith, pow-suc, append_assoc, append-nil, length-append, false, ◌==◌, if◌then◌else◌, drop, get_or}
 use Rattle.std.specs.List.{All}
-use Rattle.std.proofs.Math.Nat.{pow-zero, div-one, mod-one, mod-eq_of_lt, mod-lt, div-add-mod, one-le-pow}
+use Rattle.std.proofs.Math.Nat.{pow-zero, mod-eq_of_lt, mod-lt, div-add-mod, one-le-pow}
 use Rattle.std.proofs.lemmas.Nat.{pow-add}
 use Rattle.std.proofs.lemmas.Bool.{cases_lt}
 use Rattle.std.proofs.lemmas.Bool.Decides.{nat_tests}

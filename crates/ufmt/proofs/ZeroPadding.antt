@@ -1,5 +1,5 @@
 -- Digits in base ten are the decimal text, and zeros go after its sign.
-use Rattle.std.proofs.Common.{◌≡◌, ℕ, zero, suc, ◌+◌, ◌<◌, ℤ, pos, negsuc, nat_abs, Bool, true, false, List, [], ◌∷◌, ◌++◌, map, length, refl, sym, ap, ap₂, ◌∙◌, arith, true≢false, ◌-◌, replicate, length-append}
+use Rattle.std.proofs.Common.{◌≡◌, ℕ, ◌+◌, ◌<◌, ℤ, pos, negsuc, nat_abs, Bool, true, false, List, [], ◌∷◌, ◌++◌, map, length, refl, ap, ap₂, arith, true≢false, ◌-◌, replicate, length-append}
 use borrow.Author.Tests.{ltb-true}
 use Rattle.std.specs.Int.{is_negative}
 use Rattle.std.specs.List.{All}

@@ -1,5 +1,5 @@
 -- Texts of fixed-point numbers: a number of the least unit, and how many of its digits come after the point.
-use Rattle.std.specs.Prelude.{◌≡◌, ℕ, zero, suc, ℤ, pos, nat_abs, ◌+◌, ◌/◌, ◌%◌, ◌^◌, ◌<◌, List, [], ◌∷◌, ◌++◌, map, length, slice_index, codes}
+use Rattle.std.specs.Prelude.{◌≡◌, ℕ, zero, suc, ℤ, pos, nat_abs, ◌/◌, ◌%◌, ◌^◌, ◌<◌, List, [], ◌∷◌, ◌++◌, map, length, slice_index, codes}
 use Rattle.std.specs.List.{All}
 use Rattle.ufmt_core.specs.Decimal.{decimal, decimal_byte, last_digits, sign_of, value_in_base}
 

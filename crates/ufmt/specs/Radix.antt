@@ -1,5 +1,5 @@
 -- Texts of whole numbers in a base up to sixteen, and how options pad a text.
-use Rattle.std.specs.Prelude.{◌≡◌, ◌⊎◌, max, All, ℕ, ℤ, ◌+◌, ◌-◌, ◌≤◌, Bool, true, false, ◌==◌, nat_lt, if◌then◌else◌, List, [], ◌++◌, map, length, replicate, codes}
+use Rattle.std.specs.Prelude.{◌≡◌, ◌⊎◌, max, All, ℕ, ℤ, ◌+◌, ◌-◌, Bool, true, false, ◌==◌, nat_lt, if◌then◌else◌, List, [], ◌++◌, map, length, replicate, codes}
 use Rattle.std.specs.Int.{Width, cast_unsigned}
 use Rattle.ufmt_core.specs.Bytes.{lower_a, space, upper_a, zero_digit}
 use Rattle.ufmt_core.specs.Decimal.{DenotesInBase, numeral}
