@@ -127,6 +127,7 @@ IN_BODIES = [
     (TURNS, "ufmt_doc/src/doc.rt", "decoded_bytes", "while let Some((byte, after))=split_escaped(quote, rest)"),
     (TURNS, "ufmt_lines/src/run/groups.rt", "Group::write_ended", "while let Some((first, after))=split_line(rest)"),
     (LARGE, "ufmt_core/src/unsigned.rt", "Magnitude for u128::write_digits", "u64::MAX"),
+    (LARGE, "ufmt/src/decimal.rt", "Decimal::split", "10u64.checked_pow(u32::from(self.places))"),
     (LARGE, "ufmt_core/src/unsigned.rt", "EIGHT_DIGITS", "100_000_000"),
     (LARGE, "ufmt_core/src/unsigned.rt", "SIXTEEN_DIGITS", "10_000_000_000_000_000"),
     (LARGE, "ufmt_core/src/unsigned.rt", "split_pair", "524_288"),
