@@ -58,11 +58,11 @@ def line(told, cells):
 
 def sizes(room, ours, helpers, ufmt):
     """A line for each call: ours by fast and by small code, then the peers, for speed and for size."""
-    made, found = peers.built(room, "sizes", "library", ufmt, ("linked", "small"))
+    made, found = peers.built(room, "sizes", "library", ufmt, ("alone", "small"))
     line("bytes", ("ours", "Small", "ufmt", "core::fmt", "ufmt z", "core z"))
     for case in SIZES:
         cells = [bytes_of(room, ours, helpers, "case_%s_size_%s" % (way, case)) for way in ("fast", "small")]
-        for profile in ("linked", "small"):
+        for profile in ("alone", "small"):
             for peer in ("ufmt", "core"):
                 library = made / profile / "libsizes.a" if peer in found else None
                 cells.append(bytes_of(room, library, helpers, "%s_%s" % (peer, case)) if library else None)

@@ -21,16 +21,17 @@ path = "main.rs"
 [dependencies]
 %s
 
-[profile.release]
-panic = "abort"
-
 [profile.linked]
 inherits = "release"
 lto = true
 codegen-units = 1
 
-[profile.small]
+[profile.alone]
 inherits = "linked"
+panic = "abort"
+
+[profile.small]
+inherits = "alone"
 opt-level = "z"
 """
 

@@ -5,7 +5,7 @@ import build
 import values
 from counter import counted
 
-SIZE = 1 << 18
+SIZE = 1 << 20
 # A call, the run without it, and its text.
 ROWS = (
     ("to_pretty", "none", "numbers, plain"), ("to_pretty", "none", "texts, plain"),

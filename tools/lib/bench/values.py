@@ -9,6 +9,7 @@ from typing import NamedTuple
 MASK = (1 << 64) - 1
 WORDS = ("status", "the line is open", "a, b: [c]", "x", "sensor 4 of 12", "valve",
          "retry later, or call the operator of the second line", "ok")
+SHORT_WORDS = ("status", "the line is open", "a, b: [c]", "x", "sensor 4 of 12", "it's late", "{}", "retry later")
 ODD_WORDS = ('say "yes"', "two\nlines", "caf\u00e9 \u20ac", "\x1b[0m")
 ESCAPES = {"\\": "\\\\", "\n": "\\n", "\t": "\\t", "\x1b": "\\u{1b}"}
 
@@ -208,7 +209,7 @@ def wide(random):
 
 
 def short_text(random):
-    return random.of(ODD_WORDS if random.below(8) == 0 else WORDS)
+    return random.of(ODD_WORDS if random.below(8) == 0 else SHORT_WORDS)
 
 
 def of_texts(random):

@@ -27,6 +27,7 @@ impl Front<'_> {
 }
 
 impl fmt::Write for Front<'_> {
+    #[inline]
     fn write_str(&mut self, text: &str) -> fmt::Result {
         self.put(text).map_err(|Full| fmt::Error)
     }
@@ -36,6 +37,7 @@ impl fmt::Write for Front<'_> {
 impl uWrite for Front<'_> {
     type Error = Full;
 
+    #[inline]
     fn write_str(&mut self, text: &str) -> Result<(), Full> {
         self.put(text)
     }
