@@ -26,7 +26,8 @@ pub extern "C" fn ufmt_signed(buffer: &mut [u8], number: i64, detail: &mut usize
     print(buffer, &number, detail)
 }
 
-/// Writes the number in hexadecimal digits, with a prefix and padding.
+/// Writes the number in hexadecimal digits, with a prefix and padding. Returns `BAD_OPTION` if the byte to
+/// pad with isn't ASCII.
 #[unsafe(no_mangle)]
 pub extern "C" fn ufmt_hexadecimal(
     buffer: &mut [u8],
