@@ -3,7 +3,7 @@ ghost use Rattle.std.specs.Prelude.{◌≡◌, ◌≢◌, ◌++◌, ◌∷◌, [
 ghost use Rattle.std.specs.Str.{IsUtf8, chars};
 ghost use Rattle.ufmt_core.specs.Bytes.{quotation_mark};
 ghost use Rattle.ufmt_core.specs.Quoted.{escaped_byte, escaped_bytes, quoted_text};
-ghost use Rattle.ufmt_c.specs.Calls.{HasPut, RefusesBytes, WritesText};
+ghost use Rattle.ufmt_c.specs.Calls.{HasPut, RefusesBytes, PutsText};
 ghost use Rattle.ufmt_c.specs.Quotes.{UnquotesText};
 
 use crate::code::{FULL, NO_TEXT, NOT_UTF8};
@@ -17,7 +17,7 @@ use ufmt_scan::strip::strip_byte;
 /// isn't UTF-8; `detail` becomes the number of bytes at its front that are.
 #[unsafe(no_mangle)]
 pub extern "C" fn ufmt_quote(buffer: &mut [u8], input: &[u8], detail: &mut usize) -> isize
-    ensures text { IsUtf8 input.now → WritesText buffer.old (quoted_text (chars input.now)) result
+    ensures text { IsUtf8 input.now → PutsText buffer.old (quoted_text (chars input.now)) result
         buffer.new detail.new }
     ensures bytes { ¬ (IsUtf8 input.now) → RefusesBytes input.now buffer.old result buffer.new
         detail.new }
