@@ -88,7 +88,7 @@ pub(crate) fn put(bytes: &[u8], buffer: &mut [u8], start: usize)
     copy(bytes, &mut buffer[start..start + bytes.len()]);
 }
 
-// Copies the bytes to a target of the same length. Up to 64 bytes are copied as their two ends, without
+// Copies the bytes to a target of the same length. Up to 32 bytes are copied as their two ends, without
 // a loop and without a test whether source and target overlap.
 #[inline(always)]
 fn copy(bytes: &[u8], target: &mut [u8])
@@ -151,7 +151,7 @@ fn copy_chunk(bytes: &[u8], target: &mut [u8], start: usize)
     copy_whole::<32>(&bytes[start..start + 32], &mut target[start..start + 32]);
 }
 
-// Copies N bytes.
+// Copies N bytes. For any number the check finds the proof, and for 32 it doesn't.
 #[inline(always)]
 fn copy_whole<const N: usize>(bytes: &[u8], target: &mut [u8])
     requires source { length bytes.now ≡ N }

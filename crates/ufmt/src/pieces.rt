@@ -162,7 +162,7 @@ macro_rules! keep_piece {
 }
 
 /// Lines one after another, as one: a chain of at most eight, or else a balanced tree of chains of four. The
-/// check of a call takes long where pairs are nested deeper than eight.
+/// check finds no proof of a call with pairs nested deeper than eight.
 #[macro_export]
 macro_rules! join_lines {
     ($a:tt $b:tt $c:tt $d:tt $e:tt $f:tt $g:tt $h:tt $($rest:tt)+) => {

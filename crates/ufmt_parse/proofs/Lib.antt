@@ -12,6 +12,7 @@ pub mod KeysInARow
 pub mod Layers
 pub mod ListedPairs
 pub mod ListedValues
+pub mod NameBytes
 pub mod NameFronts
 pub mod NonZeroTexts
 pub mod NumberKeys

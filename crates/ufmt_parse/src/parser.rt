@@ -5,7 +5,7 @@ ghost use Rattle.ufmt.specs.Layout.{ending, frame, lead};
 ghost use Rattle.ufmt_core.specs.declared.layout.Count.TheVariants.{Zero};
 ghost use Rattle.ufmt.specs.Document.{Document, leaf, no_documents, no_fields, struct_of, tuple_of};
 ghost use Rattle.ufmt.specs.Leaves.{IsWord};
-ghost use Rattle.ufmt_parse.specs.Naming.{document_name, is_past_name};
+ghost use Rattle.ufmt_parse.specs.Naming.{document_name, ends_name, is_past_name};
 ghost use Rattle.ufmt_parse.specs.Taking.{Eats, Fits, IsNext, open_blocks, rest, setting_in};
 
 use crate::mode::ParseMode;
@@ -207,12 +207,25 @@ impl<'t, M: ParseMode> Parser<'t, M> {
 fn is_past_name(after: &[u8]) -> bool
     ensures { result ≡ is_past_name after.now }
 {
-    match after {
-        [] => true,
-        [b':', b' ', ..] => true,
-        [first, ..] => matches!(
-            *first,
-            b' ' | b'(' | b'[' | b'{' | b',' | b']' | b')' | b'}'
-        ),
+    match after.split_first() {
+        None => true,
+        Some((&first, after)) => ends_name(first) || first == b':' && matches!(after, [b' ', ..]),
     }
+}
+
+// Marks each byte that comes after a name.
+static ENDING_BYTES: [u8; 256] = *b"\
+    ................................e.......ee..e...................\
+    ...........................e.e.............................e.e..\
+    ................................................................\
+    ................................................................";
+
+// Whether the byte comes after a name: a space, a comma or a bracket. The compiler would make of a `match` two
+// tests of bits and some comparisons.
+#[inline(always)]
+#[tactic(auto, using(crate::proofs::NameBytes::ending_bytes))]
+fn ends_name(byte: u8) -> bool
+    ensures { result ≡ ends_name byte }
+{
+    ENDING_BYTES[byte as usize] == b'e'
 }

@@ -1,6 +1,6 @@
 //! Tests of what no clause says: the texts that ufmt and core::fmt print of the same values, where
 //! pieces end, what a failing writer leaves, and that each call can succeed. `rows` asserts a
-//! table; `piece_rows` and `text_rows` make its rows.
+//! table; `piece_rows` and `text_rows` make its rows. `tools/expected/show VALUE` prints again what core::fmt prints.
 // Adds a row of each of these nonzero numbers by a method of the table.
 macro_rules! put_nonzero {
     ($table:ident.$put:ident: $($number:ident $value:expr),*) => {

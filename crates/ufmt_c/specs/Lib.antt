@@ -1,0 +1,5 @@
+pub mod Calls
+pub mod Conversions
+pub mod Differences
+pub mod Options
+pub mod Quotes

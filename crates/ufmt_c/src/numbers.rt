@@ -1,0 +1,49 @@
+//! Numbers in decimal and hexadecimal digits.
+ghost use Rattle.std.specs.Prelude.{◌≡◌, ◌<◌, ◌≤◌, pos};
+ghost use Rattle.ufmt_core.specs.Decimal.{decimal};
+ghost use Rattle.ufmt.specs.Hex.{padded_hexadecimal};
+ghost use Rattle.ufmt_c.specs.Calls.{WritesNothing, WritesText, bad_option};
+ghost use Rattle.ufmt_c.specs.Options.{hex_of};
+
+use crate::code::BAD_OPTION;
+use crate::options::HexStyle;
+use crate::print::{print, print_line};
+use ufmt::pieces;
+
+/// Writes the number in decimal digits.
+#[unsafe(no_mangle)]
+pub extern "C" fn ufmt_unsigned(buffer: &mut [u8], number: u64, detail: &mut usize) -> isize
+    ensures { WritesText buffer.old (decimal (pos number)) result buffer.new detail.new }
+{
+    print(buffer, &number, detail)
+}
+
+/// Writes the number in decimal digits, with a minus before those of a negative one.
+#[unsafe(no_mangle)]
+pub extern "C" fn ufmt_signed(buffer: &mut [u8], number: i64, detail: &mut usize) -> isize
+    ensures { WritesText buffer.old (decimal number) result buffer.new detail.new }
+{
+    print(buffer, &number, detail)
+}
+
+/// Writes the number in hexadecimal digits, with a prefix and padding.
+#[unsafe(no_mangle)]
+pub extern "C" fn ufmt_hexadecimal(
+    buffer: &mut [u8],
+    number: u64,
+    style: &HexStyle,
+    detail: &mut usize,
+) -> isize
+    ensures text { style.now.pad < 128
+        → WritesText buffer.old (padded_hexadecimal (hex_of style.now) number) result buffer.new
+        detail.new }
+    ensures refused { 128 ≤ style.now.pad → result ≡ bad_option }
+    ensures nothing { 128 ≤ style.now.pad
+        → WritesNothing buffer.old detail.old buffer.new detail.new }
+{
+    let options = style.options();
+    if !options.has_ascii_pad() {
+        return BAD_OPTION;
+    }
+    print_line(buffer, &pieces!(hex number with options), detail)
+}

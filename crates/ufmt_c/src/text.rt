@@ -1,0 +1,18 @@
+//! Texts that C passes as bytes.
+ghost use Rattle.std.specs.Prelude.{◌≡◌, MatchOption};
+ghost use Rattle.std.specs.Str.{IsUtf8, IsValidUpTo};
+
+/// Returns the bytes as a text. If they aren't UTF-8, `detail` becomes the number of bytes at the front
+/// that are.
+pub(crate) fn text_of<'a>(bytes: &'a [u8], detail: &mut usize) -> Option<&'a str>
+    ensures { MatchOption result (¬ (IsUtf8 bytes.now) × IsValidUpTo bytes.now detail.new)
+        (λ text. IsUtf8 bytes.now × (text.now ≡ bytes.now) × (detail.new ≡ detail.old)) }
+{
+    match str::from_utf8(bytes) {
+        Ok(text) => Some(text),
+        Err(error) => {
+            *detail = error.valid_up_to();
+            None
+        }
+    }
+}

@@ -1,0 +1,197 @@
+/* Makes the calls that its input asks for, a line each, and prints of each what it returned and left in
+ * `detail` and in the buffer. tools/try-c writes the lines and compares what is printed.
+ *
+ * A line is a call's name without `ufmt_`, and a word for each argument but `detail`: for a buffer its
+ * size, for an input its bytes in hexadecimal digits, for a struct its members. `null` is a buffer or an
+ * input of no bytes at NULL, and `-` one of no bytes elsewhere. Each array has exactly its size, so that
+ * valgrind sees a byte that is read or written past it. With the argument `unset` no byte of a buffer has
+ * a value before the call, and only the written text is printed. */
+#include <stdio.h>
+#include <stdlib.h>
+#include <string.h>
+
+#include "ufmt.h"
+
+enum { FILL = 0xa5, DETAIL = 777 };
+
+typedef struct bytes {
+    uint8_t *at;
+    size_t size;
+} bytes;
+
+static bool is_unset;
+
+static const char *word(void) {
+    const char *found = strtok(NULL, " \n");
+    if (!found) {
+        fprintf(stderr, "a line has too few words\n");
+        exit(2);
+    }
+    return found;
+}
+
+static uint64_t number(void) {
+    return strtoull(word(), NULL, 10);
+}
+
+static bytes room(size_t size) {
+    bytes made = {malloc(size), size};
+    if (!made.at) {
+        fprintf(stderr, "no memory\n");
+        exit(2);
+    }
+    return made;
+}
+
+static bytes input(void) {
+    const char *digits = word();
+    if (!strcmp(digits, "null")) {
+        return (bytes){NULL, 0};
+    }
+    if (!strcmp(digits, "-")) {
+        return room(0);
+    }
+    bytes made = room(strlen(digits) / 2);
+    for (size_t i = 0; i < made.size; i++) {
+        char pair[3] = {digits[2 * i], digits[2 * i + 1], 0};
+        made.at[i] = (uint8_t)strtoul(pair, NULL, 16);
+    }
+    return made;
+}
+
+static bytes buffer(void) {
+    const char *size = word();
+    if (!strcmp(size, "null")) {
+        return (bytes){NULL, 0};
+    }
+    bytes made = room(strtoull(size, NULL, 10));
+    if (!is_unset && made.size) {
+        memset(made.at, FILL, made.size);
+    }
+    return made;
+}
+
+static void print(ptrdiff_t result, size_t detail, bytes left) {
+    size_t shown = !is_unset ? left.size : result > 0 ? (size_t)result : 0;
+    printf("%td %zu ", result, detail);
+    for (size_t i = 0; i < shown; i++) {
+        printf("%02x", left.at[i]);
+    }
+    printf("\n");
+    free(left.at);
+}
+
+typedef ptrdiff_t on_bytes(uint8_t *, size_t, const uint8_t *, size_t, size_t *);
+
+static void call_on_bytes(on_bytes *call) {
+    size_t detail = DETAIL;
+    bytes to = buffer(), from = input();
+    ptrdiff_t result = call(to.at, to.size, from.at, from.size, &detail);
+    print(result, detail, to);
+    free(from.at);
+}
+
+static void call_is_text(bool call(const uint8_t *, size_t, bool)) {
+    bytes from = input();
+    print(call(from.at, from.size, number()), DETAIL, (bytes){NULL, 0});
+    free(from.at);
+}
+
+static void call_number(const char *name) {
+    size_t detail = DETAIL;
+    bytes to = buffer();
+    ptrdiff_t result;
+    if (!strcmp(name, "unsigned")) {
+        result = ufmt_unsigned(to.at, to.size, number(), &detail);
+    } else if (!strcmp(name, "signed")) {
+        result = ufmt_signed(to.at, to.size, strtoll(word(), NULL, 10), &detail);
+    } else {
+        uint64_t value = number();
+        ufmt_hex_style style = {0};
+        style.width = number();
+        style.pad = (uint8_t)number();
+        style.upper_case = number();
+        style.prefix = number();
+        result = ufmt_hexadecimal(to.at, to.size, value, &style, &detail);
+    }
+    print(result, detail, to);
+}
+
+static void call_styled(const char *name) {
+    size_t detail = DETAIL;
+    bytes to = buffer(), from = input();
+    ptrdiff_t result;
+    if (!strcmp(name, "dump")) {
+        ufmt_dump_style style = {0};
+        style.per_row = number();
+        style.group = number();
+        style.first = (uint32_t)number();
+        style.has_offsets = number();
+        style.has_text = number();
+        result = ufmt_dump(to.at, to.size, from.at, from.size, &style, &detail);
+    } else {
+        ufmt_column_style style = {0};
+        style.width = number();
+        style.fill = (uint32_t)number();
+        style.align = (uint8_t)number();
+        result = ufmt_in_column(to.at, to.size, from.at, from.size, &style, &detail);
+    }
+    print(result, detail, to);
+    free(from.at);
+}
+
+static void call_on_two(const char *name) {
+    size_t detail = DETAIL;
+    bool writes = !strcmp(name, "difference");
+    bytes to = writes ? buffer() : (bytes){NULL, 0};
+    bytes given = input(), stored = input();
+    ptrdiff_t result = writes ? ufmt_difference(to.at, to.size, given.at, given.size, stored.at, stored.size, &detail)
+                              : ufmt_first_difference(given.at, given.size, stored.at, stored.size, &detail);
+    print(result, detail, to);
+    free(given.at);
+    free(stored.at);
+}
+
+static const struct {
+    const char *name;
+    on_bytes *call;
+} ON_BYTES[] = {
+    {"to_pretty", ufmt_to_pretty},
+    {"to_plain", ufmt_to_plain},
+    {"debug_to_pretty", ufmt_debug_to_pretty},
+    {"debug_to_plain", ufmt_debug_to_plain},
+    {"quote", ufmt_quote},
+    {"unquote", ufmt_unquote},
+};
+
+static void call(const char *name) {
+    for (size_t i = 0; i < sizeof ON_BYTES / sizeof *ON_BYTES; i++) {
+        if (!strcmp(name, ON_BYTES[i].name)) {
+            call_on_bytes(ON_BYTES[i].call);
+            return;
+        }
+    }
+    if (!strcmp(name, "is_text") || !strcmp(name, "is_debug_text")) {
+        call_is_text(name[3] == 't' ? ufmt_is_text : ufmt_is_debug_text);
+    } else if (!strcmp(name, "unsigned") || !strcmp(name, "signed") || !strcmp(name, "hexadecimal")) {
+        call_number(name);
+    } else if (!strcmp(name, "dump") || !strcmp(name, "in_column")) {
+        call_styled(name);
+    } else if (!strcmp(name, "difference") || !strcmp(name, "first_difference")) {
+        call_on_two(name);
+    } else {
+        fprintf(stderr, "no such call: %s\n", name);
+        exit(2);
+    }
+}
+
+int main(int count, char **words) {
+    char *line = NULL;
+    size_t size = 0;
+    is_unset = count > 1 && !strcmp(words[1], "unset");
+    while (getline(&line, &size, stdin) > 0) {
+        call(strtok(line, " \n"));
+    }
+    free(line);
+    return 0;
+}

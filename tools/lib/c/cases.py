@@ -1,0 +1,213 @@
+"""The cases that `tools/try-c` tries: calls of libufmt_c, their arguments, and what each is to do.
+
+What they expect comes from outside: rustc's texts and xxd's dumps in tools/data/c/rows.txt, the texts of values that rustc
+printed in tools/expected/rows.txt, the model of texts in tools/lib/model/, and Python's own decoding of UTF-8.
+"""
+import pathlib
+import re
+import sys
+from typing import NamedTuple, Optional
+from urllib.parse import unquote_to_bytes
+
+TOP = pathlib.Path(__file__).resolve().parent.parent.parent.parent
+sys.path[:0] = [str(TOP / "tools" / "lib" / part) for part in ("expected", "model")]
+sys.setrecursionlimit(20_000)
+
+import rows as expected_rows  # noqa: E402
+from model import DEBUG, TOKEN, PlainReader, PrettyReader, plain, pretty  # noqa: E402
+
+NO_TEXT, FULL, NOT_UTF8, BAD_OPTION = -1, -2, -3, -4
+# What each call takes after its buffer, if it has one, and before `detail`. A struct has its name and its members' types.
+STYLES = {
+    "hex": ("size_t", "uint8_t", "bool", "bool"),
+    "dump": ("size_t", "size_t", "uint32_t", "bool", "bool"),
+    "column": ("size_t", "uint32_t", "uint8_t"),
+}
+CALLS = {
+    "is_text": ("bytes", "bool"),
+    "is_debug_text": ("bytes", "bool"),
+    "to_pretty": ("buffer", "bytes"),
+    "to_plain": ("buffer", "bytes"),
+    "debug_to_pretty": ("buffer", "bytes"),
+    "debug_to_plain": ("buffer", "bytes"),
+    "quote": ("buffer", "bytes"),
+    "unquote": ("buffer", "bytes"),
+    "unsigned": ("buffer", "uint64_t"),
+    "signed": ("buffer", "int64_t"),
+    "hexadecimal": ("buffer", "uint64_t", "hex"),
+    "dump": ("buffer", "bytes", "dump"),
+    "in_column": ("buffer", "bytes", "column"),
+    "first_difference": ("bytes", "bytes"),
+    "difference": ("buffer", "bytes", "bytes"),
+}
+
+
+class Case(NamedTuple):
+    """A call and its arguments: bytes, numbers, and tuples for structs. It writes a text; or it returns a result and,
+    if that is said, a detail. One without a buffer only returns."""
+
+    call: str
+    arguments: tuple
+    text: Optional[bytes] = None
+    result: Optional[int] = None
+    detail: Optional[int] = None
+
+
+def has_buffer(case):
+    return CALLS[case.call][0] == "buffer"
+
+
+def arguments(call, words):
+    """The arguments of a row's words."""
+    words, found = list(words), []
+    for kind in CALLS[call]:
+        if kind == "bytes":
+            found.append(b"" if words[0] == "%" else unquote_to_bytes(words[0]))
+            del words[0]
+        elif kind in STYLES:
+            count = len(STYLES[kind])
+            found.append(tuple(int(word) for word in words[:count]))
+            del words[:count]
+        elif kind != "buffer":
+            found.append(int(words.pop(0)))
+    if words:
+        raise ValueError("a row of %s has more words: %s" % (call, words))
+    return tuple(found)
+
+
+def stored():
+    """The rows of tools/data/c/rows.txt, and each row of `quote` turned round."""
+    for line in (TOP / "tools" / "data" / "c" / "rows.txt").read_text().splitlines():
+        if line.startswith("#"):
+            continue
+        request, text = line.split(" = ")
+        call, *words = request.split(" ")
+        if call == "first_difference":
+            yield Case(call, arguments(call, words), result=int(text))
+            continue
+        whole = b"" if text == "%" else unquote_to_bytes(text)
+        yield Case(call, arguments(call, words), text=whole)
+        if call == "quote":
+            yield Case("unquote", (whole,), text=arguments(call, words)[0])
+
+
+# Texts that no value prints, and some that are refused by token texts only.
+REFUSED = [
+    b"", b" ", b"[1,2]", b"[1, 2", b"[1, 2]]", b"[1, 2,]", b"1 ", b"Pair { x: 1 } ", b"Pair {x: 1}", b"Pair { x: 1, }", b"{1: }", b"(,)", b"[", b"]",
+    b'"a', b'a"', b'"\\q"', b'"\\u{07f}"', b"'ab'", b"''", b'"\xff"', b"\xff", b"\xc3", b"\x00", b"1.5", b"0..5", b"a::b", b"[\n", b"[\n    1,\n]",
+    b"[\n    1\n]", b"[\n   1,\n]", b"[\n    1,\n] ", b"()", b"(1,)", b"(\n    1,\n)", b"Mutex { data: 0, .. }", b"\xc3\xa9", b"x\xff", b'"\xc3\xa9"',
+]
+
+
+def by_model(text_class, mode, data):
+    """What a conversion makes of these bytes, by the model. Bytes that aren't UTF-8 are no text."""
+    reader, laid_out = (PlainReader(text_class), pretty) if mode == "plain" else (PrettyReader(text_class), plain)
+    try:
+        document = reader.read(data.decode())
+    except UnicodeDecodeError:
+        return None
+    return None if document is None else laid_out(document).encode()
+
+
+def conversions():
+    """Each text of a value, in both modes and classes; texts that are none; deep ones; and one with each byte changed."""
+    printed = expected_rows.rows(TOP / "tools" / "expected" / "rows.txt")
+    given = {"plain": [row.plain.encode() for row in printed], "pretty": [row.pretty.encode() for row in printed]}
+    nested = [b"[" * depth + b"1" + b"]" * depth for depth in (1, 20, 255, 256)]
+    changed = b'P { x: ("a", [1, -2]) }'
+    for mode in given:
+        given[mode] += REFUSED + nested
+        given[mode] += [changed[:at] + bytes([byte]) + changed[at + 1 :] for at in range(len(changed)) for byte in (0x20, 0x22, 0x2C, 0x7F, 0xFF)]
+    for prefix, text_class in (("", TOKEN), ("debug_", DEBUG)):
+        for mode, other in (("plain", "pretty"), ("pretty", "plain")):
+            for data in given[mode]:
+                text = by_model(text_class, mode, data)
+                is_text = "is_debug_text" if prefix else "is_text"
+                yield Case(is_text, (data, mode == "pretty"), result=int(text is not None))
+                call = "%sto_%s" % (prefix, other)
+                yield Case(call, (data,), text=text) if text is not None else Case(call, (data,), result=NO_TEXT)
+
+
+def as_rustc_printed():
+    """The texts that rustc printed, both ways, where a class has the value: the same rows by rustc's own words."""
+    listed = {(reason.row, reason.text_class): reason.outcomes for reason in expected_rows.reasons(TOP / "tools" / "expected" / "reasons")}
+    for row in expected_rows.rows(TOP / "tools" / "expected" / "rows.txt"):
+        for name, prefix in (("token", ""), ("debug", "debug_")):
+            from_plain, from_pretty = listed.get((row.name, name), ("same", "same"))
+            if from_plain == "same":
+                yield Case(prefix + "to_pretty", (row.plain.encode(),), text=row.pretty.encode())
+            if from_pretty == "same":
+                yield Case(prefix + "to_plain", (row.pretty.encode(),), text=row.plain.encode())
+
+
+NOT_TEXTS = [b"\xff", b"a\xc3", b"ab\xffcd", b"\xc3\xa9\xc3", b"\xe4\xb8", b"\xed\xa0\x80", b"\xf0\x9f\xa6", b"abc\x80", b"\xc0\x80", b"\xf5\x80\x80\x80"]
+
+
+def valid_up_to(data):
+    """How many bytes at the front are UTF-8, by Python's decoder."""
+    try:
+        data.decode()
+    except UnicodeDecodeError as error:
+        return error.start
+    raise ValueError("these bytes are UTF-8")
+
+
+# How a byte is spelled between quotation marks.
+SPELLED = re.compile(rb'\\(?:[0tnr"\\]|u\{(?:[1-8]|[bcef]|1[0-9a-f]|7f)\})|[^\x00-\x1f"\\\x7f]')
+
+
+def misquoted_at(data):
+    """How many bytes at the front of an input can begin a text in quotation marks, or None if it is one."""
+    if data[:1] != b'"':
+        return 0
+    at = 1
+    while True:
+        found = SPELLED.match(data, at)
+        if not found:
+            break
+        at = found.end()
+    if data[at : at + 1] != b'"':
+        return at
+    if data[at + 1 :]:
+        return at + 1
+    try:
+        data.decode()
+    except UnicodeDecodeError as error:
+        return error.start
+    return None
+
+
+def misquoted():
+    """Inputs that are no texts in quotation marks: texts in quotes that are cut, longer, or have one byte changed."""
+    inputs = REFUSED + [b'"' + data + b'"' for data in NOT_TEXTS]
+    inputs += [b'"\\%s"' % escape for escape in (b"x", b"u{0}", b"u{9}", b"u{a}", b"u{d}", b"u{20}", b"u{80}", b"u{7F}", b"u{1B}", b"u{07}", b"u{}", b"u1", b"'", b"u{1b")]
+    whole = '"a\\n\\u{1b}é\\"\\\\z"'.encode()
+    inputs += [whole[:at] for at in range(len(whole))] + [whole + b"x", whole + whole]
+    inputs += [whole[:at] + bytes([byte]) + whole[at + 1 :] for at in range(len(whole)) for byte in (0x00, 0x22, 0x5C, 0x7F, 0xFF)]
+    for data in inputs:
+        place = misquoted_at(data)
+        if place is not None:
+            yield Case("unquote", (data,), result=NO_TEXT, detail=place)
+
+
+def refusals():
+    """Inputs that aren't UTF-8, and options that mean nothing."""
+    for data in NOT_TEXTS:
+        place = valid_up_to(data)
+        yield Case("quote", (data,), result=NOT_UTF8, detail=place)
+        yield Case("in_column", (data, (8, 32, 0)), result=NOT_UTF8, detail=place)
+        for call in ("difference", "first_difference"):
+            yield Case(call, (data, b"a"), result=NOT_UTF8, detail=place)
+            yield Case(call, (b"a", data), result=NOT_UTF8, detail=place)
+            yield Case(call, (data, b"abcdef\xff"), result=NOT_UTF8, detail=place)
+    for pad in (128, 255):
+        yield Case("hexadecimal", (7, (4, pad, 0, 0)), result=BAD_OPTION)
+    for fill, align in ((0xD800, 0), (0xDFFF, 1), (0x110000, 2), (0xFFFFFFFF, 0), (32, 3), (32, 255)):
+        yield Case("in_column", (b"a", (8, fill, align)), result=BAD_OPTION)
+        yield Case("in_column", (b"\xff", (8, fill, align)), result=BAD_OPTION)
+
+
+def all_cases(calls):
+    """Every case of these calls."""
+    made = [*stored(), *conversions(), *as_rustc_printed(), *refusals(), *misquoted()]
+    return [case for case in made if case.call in calls]

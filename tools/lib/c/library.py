@@ -1,0 +1,49 @@
+"""Calls of libufmt_c as a shared object, by ctypes."""
+import ctypes
+
+from cases import CALLS, STYLES
+
+TYPES = {
+    "size_t": ctypes.c_size_t,
+    "uint8_t": ctypes.c_uint8,
+    "uint32_t": ctypes.c_uint32,
+    "uint64_t": ctypes.c_uint64,
+    "int64_t": ctypes.c_int64,
+    "bool": ctypes.c_bool,
+}
+
+
+def struct(name):
+    members = [("member_%d" % at, TYPES[kind]) for at, kind in enumerate(STYLES[name])]
+    return type("ufmt_%s_style" % name, (ctypes.Structure,), {"_fields_": members})
+
+
+STRUCTS = {name: struct(name) for name in STYLES}
+
+
+class Library:
+    """The shared object at a path."""
+
+    def __init__(self, path):
+        self.library = ctypes.CDLL(str(path))
+
+    def make(self, case, room, fill, detail):
+        """What the call returns and leaves: the result, the detail and the buffer, which had `room` bytes of the fill."""
+        call = getattr(self.library, "ufmt_" + case.call)
+        call.restype = ctypes.c_bool if case.call.startswith("is_") else ctypes.c_ssize_t
+        kinds, given, words = list(CALLS[case.call]), list(case.arguments), []
+        left = (ctypes.c_uint8 * room)(*([fill] * room))
+        reported = ctypes.c_size_t(detail)
+        if kinds[0] == "buffer":
+            words += [left, ctypes.c_size_t(room)]
+            del kinds[0]
+        for kind, value in zip(kinds, given):
+            if kind == "bytes":
+                words += [value, ctypes.c_size_t(len(value))]
+            elif kind in STYLES:
+                words.append(ctypes.byref(STRUCTS[kind](*value)))
+            else:
+                words.append(TYPES[kind](value))
+        if not case.call.startswith("is_"):
+            words.append(ctypes.byref(reported))
+        return int(call(*words)), reported.value, bytes(left)
