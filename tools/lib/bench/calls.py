@@ -7,7 +7,7 @@ import sys
 import build
 
 LIBRARIES = {"ufmt_core": [], "ufmt": ["ufmt_core"]}
-CASES = ("text", "number", "struct", "pretty", "two", "line")
+CASES = ("text", "number", "struct", "pretty", "two", "line", "tuple", "list", "set", "map")
 NUMBERS = (0, -2147483648)
 
 
