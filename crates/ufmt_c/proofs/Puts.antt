@@ -4,7 +4,7 @@ use Rattle.std.proofs.Math.Nat.{min-eq_left, min-eq_right}
 use Rattle.std.proofs.Math.Seq.{take-append-add}
 use Rattle.std.proofs.lemmas.Bool.{cases_lt}
 use Rattle.std.proofs.lemmas.List.{drop-drop, take-append-le, take_all}
-use Rattle.ufmt_c.specs.Calls.{HasPut, WritesText, full, reported}
+use Rattle.ufmt_c.specs.Calls.{HasPut, PutsText, full, reported}
 
 -- a small number is reported as it is
 pub as_reported : (n m : ℕ) → n ≡ m → n < 2 ^ 64 → n ≡ reported m
@@ -70,7 +70,7 @@ module _ (old text new bytes : List ℕ) (h : HasPut old text new) where
 -- what is reported of a text that was put
 module _ (old text new : List ℕ) (put : HasPut old text new) where
   -- it fits
-  pub put_whole : (result : ℤ) → result ≡ pos (length text) → (n : ℕ) → n ≡ reported (length text) → length text ≤ length old → WritesText old text result new n
+  pub put_whole : (result : ℤ) → result ≡ pos (length text) → (n : ℕ) → n ≡ reported (length text) → length text ≤ length old → PutsText old text result new n
   put_whole result is n counted room = record {
     same_length = put.same_length;
     reports = counted;
@@ -79,7 +79,7 @@ module _ (old text new : List ℕ) (put : HasPut old text new) where
   }
 
   -- it doesn't
-  pub put_cut : (n : ℕ) → n ≡ reported (length text) → length old < length text → WritesText old text full new n
+  pub put_cut : (n : ℕ) → n ≡ reported (length text) → length old < length text → PutsText old text full new n
   put_cut n counted longer = record {
     same_length = put.same_length;
     reports = counted;

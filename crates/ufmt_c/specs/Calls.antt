@@ -25,7 +25,7 @@ pub record HasPut (old text new : List ℕ) : Type 0 where
   pub after : drop (length text) new ≡ drop (length text) old
 
 -- what a call returns and leaves that writes this text to a buffer
-pub record WritesText (old text : List ℕ) (result : ℤ) (new : List ℕ) (detail : ℕ) : Type 0 where
+pub record PutsText (old text : List ℕ) (result : ℤ) (new : List ℕ) (detail : ℕ) : Type 0 where
   pub same_length : length new ≡ length old
   -- the text's length is reported
   pub reports : detail ≡ reported (length text)

@@ -83,6 +83,7 @@ impl Conversion for DebugToPlain {
     }
 }
 
+// Writes the other text of the input, or returns `NO_TEXT`.
 fn convert<C: Conversion>(buffer: &mut [u8], input: &[u8], detail: &mut usize) -> isize
     ensures { ConvertsText C.class C.from C.to input.now buffer.old detail.old result buffer.new
         detail.new }
@@ -95,7 +96,8 @@ fn convert<C: Conversion>(buffer: &mut [u8], input: &[u8], detail: &mut usize) -
     }
 }
 
-/// Writes the pretty text of the token documents with this plain text.
+/// Writes the pretty text of the token documents with this plain text. Returns `NO_TEXT` only if no token
+/// document has it; any byte of the buffer may have been overwritten then.
 #[unsafe(no_mangle)]
 pub extern "C" fn ufmt_to_pretty(buffer: &mut [u8], input: &[u8], detail: &mut usize) -> isize
     ensures { ConvertsText Token plain_text pretty_text input.now buffer.old detail.old result
@@ -104,7 +106,7 @@ pub extern "C" fn ufmt_to_pretty(buffer: &mut [u8], input: &[u8], detail: &mut u
     convert::<ToPretty>(buffer, input, detail)
 }
 
-/// Writes the plain text of the token documents with this pretty text.
+/// Writes the plain text of the token documents with this pretty text. Fails as `ufmt_to_pretty` does.
 #[unsafe(no_mangle)]
 pub extern "C" fn ufmt_to_plain(buffer: &mut [u8], input: &[u8], detail: &mut usize) -> isize
     ensures { ConvertsText Token pretty_text plain_text input.now buffer.old detail.old result
@@ -113,7 +115,8 @@ pub extern "C" fn ufmt_to_plain(buffer: &mut [u8], input: &[u8], detail: &mut us
     convert::<ToPlain>(buffer, input, detail)
 }
 
-/// Writes the pretty text of the debug documents with this plain text.
+/// Writes the pretty text of the debug documents with this plain text. Returns `NO_TEXT` only if no debug
+/// document has it; any byte of the buffer may have been overwritten then.
 #[unsafe(no_mangle)]
 pub extern "C" fn ufmt_debug_to_pretty(buffer: &mut [u8], input: &[u8], detail: &mut usize) -> isize
     ensures { ConvertsText Debug plain_text pretty_text input.now buffer.old detail.old result
@@ -122,7 +125,7 @@ pub extern "C" fn ufmt_debug_to_pretty(buffer: &mut [u8], input: &[u8], detail: 
     convert::<DebugToPretty>(buffer, input, detail)
 }
 
-/// Writes the plain text of the debug documents with this pretty text.
+/// Writes the plain text of the debug documents with this pretty text. Fails as `ufmt_debug_to_pretty` does.
 #[unsafe(no_mangle)]
 pub extern "C" fn ufmt_debug_to_plain(buffer: &mut [u8], input: &[u8], detail: &mut usize) -> isize
     ensures { ConvertsText Debug pretty_text plain_text input.now buffer.old detail.old result

@@ -9,7 +9,8 @@ use crate::print::print_line;
 use crate::text::text_of;
 use ufmt_snapshot::first_difference;
 
-/// Returns the number of the first line in which the texts differ, and 0 if they are equal.
+/// Returns the number of the first line in which the texts differ, and 0 if they are equal; or `NOT_UTF8` if
+/// one isn't UTF-8. Then `detail` becomes the number of bytes at the first such text's front that are.
 #[unsafe(no_mangle)]
 pub extern "C" fn ufmt_first_difference(given: &[u8], stored: &[u8], detail: &mut usize) -> isize
     ensures texts { IsUtf8 given.now → IsUtf8 stored.now
@@ -31,7 +32,8 @@ pub extern "C" fn ufmt_first_difference(given: &[u8], stored: &[u8], detail: &mu
     }
 }
 
-/// Writes the first line in which the texts differ, and both lines in quotes; nothing if they are equal.
+/// Writes the first line in which the texts differ, and both lines in quotes, or the empty text if they are
+/// equal. Fails as `ufmt_first_difference` does.
 #[unsafe(no_mangle)]
 pub extern "C" fn ufmt_difference(
     buffer: &mut [u8],

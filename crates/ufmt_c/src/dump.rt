@@ -1,6 +1,6 @@
 //! Dumps of bytes.
 ghost use Rattle.ufmt.specs.Dump.{dump_text};
-ghost use Rattle.ufmt_c.specs.Calls.{WritesText};
+ghost use Rattle.ufmt_c.specs.Calls.{PutsText};
 ghost use Rattle.ufmt_c.specs.Options.{dump_of};
 
 use crate::filler::Filler;
@@ -15,7 +15,7 @@ pub extern "C" fn ufmt_dump(
     style: &DumpStyle,
     detail: &mut usize,
 ) -> isize
-    ensures { WritesText buffer.old (dump_text (dump_of style.now) bytes.now) result buffer.new
+    ensures { PutsText buffer.old (dump_text (dump_of style.now) bytes.now) result buffer.new
         detail.new }
 {
     let mut filler = Filler::new(buffer);

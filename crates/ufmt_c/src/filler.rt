@@ -1,6 +1,6 @@
 //! A writer over a buffer of C.
 ghost use Rattle.std.specs.Prelude.{◌≡◌, ◌++◌, ◌∷◌, [], ℕ, List, length, ⊤};
-ghost use Rattle.ufmt_c.specs.Calls.{HasPut, WritesText, reported};
+ghost use Rattle.ufmt_c.specs.Calls.{HasPut, PutsText, reported};
 
 use crate::code::FULL;
 use crate::ghost_text::GhostText;
@@ -38,7 +38,7 @@ impl<'a> Filler<'a> {
 
     /// Reports the text's length, and returns it, or `FULL` if the text has more bytes than the buffer.
     pub(crate) fn report(&self, detail: &mut usize) -> isize
-        ensures { WritesText self.now.before.bytes self.now.text.bytes result self.now.buffer.now
+        ensures { PutsText self.now.before.bytes self.now.text.bytes result self.now.buffer.now
             detail.new }
     {
         *detail = self.count;

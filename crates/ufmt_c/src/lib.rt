@@ -1,6 +1,10 @@
 #![tactic(auto)]
 
 //! The calls that C makes, as `include/ufmt.h` declares them. None of them takes memory.
+//!
+//! A call that writes a text returns its length, or `FULL` if it has more bytes than the buffer. Then the
+//! buffer is full of its first bytes. Either way `detail` becomes the text's length. A call that returns
+//! another code leaves the buffer and `detail` as they were, unless its comment says otherwise.
 
 mod code;
 mod column;

@@ -2,7 +2,7 @@
 ghost use Rattle.std.specs.Prelude.{◌≡◌, ◌<◌, ◌≤◌, pos};
 ghost use Rattle.ufmt_core.specs.Decimal.{decimal};
 ghost use Rattle.ufmt.specs.Hex.{padded_hexadecimal};
-ghost use Rattle.ufmt_c.specs.Calls.{WritesNothing, WritesText, bad_option};
+ghost use Rattle.ufmt_c.specs.Calls.{WritesNothing, PutsText, bad_option};
 ghost use Rattle.ufmt_c.specs.Options.{hex_of};
 
 use crate::code::BAD_OPTION;
@@ -13,7 +13,7 @@ use ufmt::pieces;
 /// Writes the number in decimal digits.
 #[unsafe(no_mangle)]
 pub extern "C" fn ufmt_unsigned(buffer: &mut [u8], number: u64, detail: &mut usize) -> isize
-    ensures { WritesText buffer.old (decimal (pos number)) result buffer.new detail.new }
+    ensures { PutsText buffer.old (decimal (pos number)) result buffer.new detail.new }
 {
     print(buffer, &number, detail)
 }
@@ -21,12 +21,13 @@ pub extern "C" fn ufmt_unsigned(buffer: &mut [u8], number: u64, detail: &mut usi
 /// Writes the number in decimal digits, with a minus before those of a negative one.
 #[unsafe(no_mangle)]
 pub extern "C" fn ufmt_signed(buffer: &mut [u8], number: i64, detail: &mut usize) -> isize
-    ensures { WritesText buffer.old (decimal number) result buffer.new detail.new }
+    ensures { PutsText buffer.old (decimal number) result buffer.new detail.new }
 {
     print(buffer, &number, detail)
 }
 
-/// Writes the number in hexadecimal digits, with a prefix and padding.
+/// Writes the number in hexadecimal digits, with a prefix and padding. Returns `BAD_OPTION` if the byte to
+/// pad with isn't ASCII.
 #[unsafe(no_mangle)]
 pub extern "C" fn ufmt_hexadecimal(
     buffer: &mut [u8],
@@ -35,7 +36,7 @@ pub extern "C" fn ufmt_hexadecimal(
     detail: &mut usize,
 ) -> isize
     ensures text { style.now.pad < 128
-        → WritesText buffer.old (padded_hexadecimal (hex_of style.now) number) result buffer.new
+        → PutsText buffer.old (padded_hexadecimal (hex_of style.now) number) result buffer.new
         detail.new }
     ensures refused { 128 ≤ style.now.pad → result ≡ bad_option }
     ensures nothing { 128 ≤ style.now.pad

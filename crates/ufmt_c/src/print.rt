@@ -1,14 +1,14 @@
 //! Values and lines written to a buffer of C.
 ghost use Rattle.ufmt.specs.Pieces.{line_text};
 ghost use Rattle.ufmt_core.specs.Layout.{plain_text};
-ghost use Rattle.ufmt_c.specs.Calls.{WritesText};
+ghost use Rattle.ufmt_c.specs.Calls.{PutsText};
 
 use crate::filler::Filler;
 use ufmt::{Line, uDebug, write_debug, write_line};
 
 /// Writes the value's plain text to the front of the buffer.
 pub(crate) fn print<T: uDebug>(buffer: &mut [u8], value: &T, detail: &mut usize) -> isize
-    ensures { WritesText buffer.old (plain_text (T.document value.now)) result buffer.new
+    ensures { PutsText buffer.old (plain_text (T.document value.now)) result buffer.new
         detail.new }
 {
     let mut filler = Filler::new(buffer);
@@ -20,7 +20,7 @@ pub(crate) fn print<T: uDebug>(buffer: &mut [u8], value: &T, detail: &mut usize)
 
 /// Writes the line to the front of the buffer.
 pub(crate) fn print_line<L: Line>(buffer: &mut [u8], line: &L, detail: &mut usize) -> isize
-    ensures { WritesText buffer.old (line_text (L.pieces line.now)) result buffer.new detail.new }
+    ensures { PutsText buffer.old (line_text (L.pieces line.now)) result buffer.new detail.new }
 {
     let mut filler = Filler::new(buffer);
     match write_line(&mut filler, line) {

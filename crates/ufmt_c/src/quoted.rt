@@ -3,7 +3,7 @@ ghost use Rattle.std.specs.Prelude.{◌≡◌, ◌≢◌, ◌++◌, ◌∷◌, [
 ghost use Rattle.std.specs.Str.{IsUtf8, chars};
 ghost use Rattle.ufmt_core.specs.Bytes.{quotation_mark};
 ghost use Rattle.ufmt_core.specs.Quoted.{escaped_byte, escaped_bytes, quoted_text};
-ghost use Rattle.ufmt_c.specs.Calls.{HasPut, RefusesBytes, WritesText};
+ghost use Rattle.ufmt_c.specs.Calls.{HasPut, RefusesBytes, PutsText};
 ghost use Rattle.ufmt_c.specs.Quotes.{UnquotesText};
 
 use crate::code::{FULL, NO_TEXT, NOT_UTF8};
@@ -13,10 +13,11 @@ use crate::text::text_of;
 use ufmt_scan::quoted::split_escaped;
 use ufmt_scan::strip::strip_byte;
 
-/// Writes the text in quotation marks, with the escapes that `{:?}` writes.
+/// Writes the text in quotation marks, with the escapes that `{:?}` writes. Returns `NOT_UTF8` if the input
+/// isn't UTF-8; `detail` becomes the number of bytes at its front that are.
 #[unsafe(no_mangle)]
 pub extern "C" fn ufmt_quote(buffer: &mut [u8], input: &[u8], detail: &mut usize) -> isize
-    ensures text { IsUtf8 input.now → WritesText buffer.old (quoted_text (chars input.now)) result
+    ensures text { IsUtf8 input.now → PutsText buffer.old (quoted_text (chars input.now)) result
         buffer.new detail.new }
     ensures bytes { ¬ (IsUtf8 input.now) → RefusesBytes input.now buffer.old result buffer.new
         detail.new }
@@ -52,8 +53,9 @@ fn decode<'a>(buffer: &mut [u8], input: &'a [u8]) -> Decoded<'a>
     Decoded { length, rest }
 }
 
-/// Writes the text that is between the quotation marks, if the input is what `ufmt_quote` writes of it.
-/// If it is no such text, `detail` becomes the number of bytes at its front that may begin one.
+/// Writes the text of which `ufmt_quote` writes this input. Returns `NO_TEXT` only if there is none. Then
+/// `detail` becomes the number of bytes at the input's front that can begin such an input, and any byte of
+/// the buffer may have been overwritten.
 #[unsafe(no_mangle)]
 pub extern "C" fn ufmt_unquote(buffer: &mut [u8], input: &[u8], detail: &mut usize) -> isize
     ensures { UnquotesText input.now buffer.old result buffer.new detail.new }

@@ -14,6 +14,8 @@ pub mod ListedPairs
 pub mod ListedValues
 pub mod NameBytes
 pub mod NameFronts
+pub mod Naming
+pub mod Next
 pub mod NonZeroTexts
 pub mod NumberKeys
 pub mod OneWay
