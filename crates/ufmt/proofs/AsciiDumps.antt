@@ -8,9 +8,10 @@ use Rattle.ufmt_core.specs.Bytes.{space, zero_digit}
 use Rattle.ufmt_core.proofs.NumeralTexts.{IsAscii-text}
 use Rattle.ufmt.specs.declared.dump.HexDump.{HexDump}
 use Rattle.ufmt.specs.Dump.{byte_digits, bytes_per_group, bytes_per_row, digits_column, digits_width, offset_column, offset_text, row_text, shown_byte, text_column}
-use Rattle.ufmt.specs.Hex.{hexadecimal, hexadecimal_byte}
+use Rattle.ufmt.specs.Hex.{hexadecimal}
+use Rattle.ufmt.specs.Radix.{digit_byte}
 use Rattle.ufmt.proofs.Dumps.{bytes_per_group-some, digits_from, digits_from-row}
-use Rattle.ufmt.proofs.HexadecimalTexts.{byte-ascii, hexadecimal-in_base}
+use Rattle.ufmt.proofs.RadixTexts.{byte-ascii, digits-in_base}
 
 -- each element is a byte
 abbrev pub AreBytes : List ℕ → Type 0
@@ -32,7 +33,7 @@ IsAscii-two a b low_a low_b = IsAscii-cons a (b ∷ []) low_a (IsAscii-cons b []
 
 IsAscii-byte_digits : (byte : ℕ) → byte < 256 → IsAscii (byte_digits byte)
 IsAscii-byte_digits byte low =
-    IsAscii-two (hexadecimal_byte false (byte / 16)) (hexadecimal_byte false (byte % 16)) (byte-ascii false (byte / 16) (omega arith))
+    IsAscii-two (digit_byte false (byte / 16)) (digit_byte false (byte % 16)) (byte-ascii false (byte / 16) (omega arith))
     (byte-ascii false (byte % 16) (omega arith))
 
 IsAscii-digits_from : (group left : ℕ) (row : List ℕ) → AreBytes row → IsAscii (digits_from group left row)
@@ -51,7 +52,7 @@ IsAscii-offset None before = IsAscii-nil
 IsAscii-offset (Some first) before =
     let digits = hexadecimal false (first + before) in
     IsAscii-append (offset_text (first + before)) (codes ": ")
-    (IsAscii-append (replicate (8 - length digits) zero_digit) digits (IsAscii-replicate (8 - length digits) zero_digit (omega arith)) (IsAscii-text (hexadecimal-in_base false) (byte-ascii false) (first + before)))
+    (IsAscii-append (replicate (8 - length digits) zero_digit) digits (IsAscii-replicate (8 - length digits) zero_digit (omega arith)) (IsAscii-text (digits-in_base 16 (omega arith) false) (byte-ascii false) (first + before)))
     (IsAscii-two 58 32 (omega arith) (omega arith))
 
 IsAscii-if : (b : Bool) (text : List ℕ) → IsAscii text → IsAscii (if b then text else [])

@@ -12,12 +12,12 @@ use Rattle.ufmt.specs.Dump.{HasTextAt, HasTextsAt, OffsetsAreShort, bytes_per_gr
 use Rattle.ufmt.specs.Hex.{hexadecimal}
 use Rattle.ufmt.proofs.DumpRows.{AreRowsOf-chunks, length-digits_column}
 use Rattle.ufmt.proofs.Dumps.{bytes_per_group-some, bytes_per_row-some}
-use Rattle.ufmt.proofs.HexadecimalTexts.{hexadecimal-in_base}
+use Rattle.ufmt.proofs.RadixTexts.{digits-in_base}
 
 -- an offset below 2^32 has eight digits
 length-offset_text : (offset : ℕ) → offset < 2 ^ 32 → length (offset_text offset) ≡ 8
 length-offset_text offset low =
-    let digits = length-text-le (hexadecimal-in_base false) 8 offset (omega arith) low in
+    let digits = length-text-le (digits-in_base 16 (omega arith) false) 8 offset (omega arith) low in
     omega (arith, digits, length-append (replicate (8 - length (hexadecimal false offset)) zero_digit) (hexadecimal false offset), length-replicate (8 - length (hexadecimal false offset)) zero_digit)
 
 length-offset_column : (offset : Option ℕ) (before count : ℕ) → before < count → OffsetsAreShort offset count → length (offset_column offset before) ≡ offset_width offset

@@ -8,13 +8,15 @@ pub mod Columns
 pub mod Cursors
 pub mod DebugLeaves
 pub mod FittingParts
+pub mod FixedPoint
 pub mod FramesClose
+pub mod DecimalsAreLeaves
 pub mod DottedStructs
 pub mod DumpColumns
 pub mod DumpRows
 pub mod Dumps
 pub mod Fronts
-pub mod HexadecimalTexts
+pub mod RadixTexts
 pub mod LeftToWrite
 pub mod Lines
 pub mod ListedDocuments
@@ -44,5 +46,6 @@ pub mod WorkedColumns
 pub mod WorkedReadings
 pub mod WorkedShifts
 pub mod WorkedTokens
+pub mod ZeroPadding
 pub use Rattle.ufmt_core.proofs.Blocks
 pub use Rattle.ufmt_core.proofs.Printing

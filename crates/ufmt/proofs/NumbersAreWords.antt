@@ -8,13 +8,13 @@ use Rattle.ufmt_core.specs.ValueDocuments.{integer}
 use Rattle.ufmt_core.proofs.DecimalTexts.{decimal-denotes}
 use Rattle.ufmt.specs.Token.{is_word_byte, IsWordOrEmpty, IsWord, Token, IsBuilt}
 
-digit_byte : (digit : ℕ) → digit < 10 → is_word_byte (decimal_byte digit) ≡ true
-digit_byte digit below = rw (le-leb 48 (48 + digit) (omega arith), le-leb (48 + digit) 57 (omega arith)) refl
+pub decimal_byte_is_word : (digit : ℕ) → digit < 10 → is_word_byte (decimal_byte digit) ≡ true
+decimal_byte_is_word digit below = rw (le-leb 48 (48 + digit) (omega arith), le-leb (48 + digit) 57 (omega arith)) refl
 
 digit_bytes : (digits : List ℕ) → All (λ digit. digit < 10) digits → IsWordOrEmpty (map decimal_byte digits)
 digit_bytes [] below = tt
 digit_bytes (digit ∷ digits) below = (
-  digit_byte digit (All-head (λ d. d < 10) digit digits below),
+  decimal_byte_is_word digit (All-head (λ d. d < 10) digit digits below),
   digit_bytes digits (All-tail (λ d. d < 10) digit digits below),
 )
 

@@ -4,7 +4,8 @@ use Rattle.std.specs.Int.{is_in_range}
 use Rattle.std.specs.List.{All, concat, flat_map, join_by, slice_index_or}
 use Rattle.ufmt_core.specs.Bytes.{space, zero_digit}
 use Rattle.ufmt.specs.declared.dump.HexDump.{HexDump}
-use Rattle.ufmt.specs.Hex.{hexadecimal, hexadecimal_byte}
+use Rattle.ufmt.specs.Hex.{hexadecimal}
+use Rattle.ufmt.specs.Radix.{digit_byte}
 
 -- the first `count` chunks of n bytes, or fewer where no bytes are left; the last chunk may be shorter
 abbrev pub first_chunks : ℕ → ℕ → List ℕ → List (List ℕ)
@@ -39,7 +40,7 @@ offset_column (Some first) before = offset_text (first + before) ++ codes ": "
 
 -- the two digits of a byte
 abbrev pub byte_digits : ℕ → List ℕ
-byte_digits byte = hexadecimal_byte false (byte / 16) ∷ hexadecimal_byte false (byte % 16) ∷ []
+byte_digits byte = digit_byte false (byte / 16) ∷ digit_byte false (byte % 16) ∷ []
 
 -- the digits of bytes, with a space between groups
 abbrev pub digits_column : ℕ → List ℕ → List ℕ

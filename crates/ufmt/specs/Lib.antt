@@ -4,6 +4,7 @@ pub mod Cursor
 pub mod Cut
 pub mod Dump
 pub mod EachText
+pub mod FixedPoint
 pub mod Hex
 pub mod Leaves
 pub mod Lines
@@ -11,6 +12,7 @@ pub mod NormalFormLaws
 pub mod Parse
 pub mod Pieces
 pub mod QuotedLaws
+pub mod Radix
 pub mod Reading
 pub mod ReadingLaws
 pub mod ReadingQuoted
@@ -20,6 +22,7 @@ pub mod Small
 pub mod Token
 pub mod Truncating
 pub mod UnquotedLaws
+pub mod Zeros
 pub use Rattle.ufmt_core.specs.BuilderView
 pub use Rattle.ufmt_core.specs.Builder
 pub use Rattle.ufmt_core.specs.Bytes

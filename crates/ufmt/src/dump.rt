@@ -6,7 +6,7 @@ ghost use Rattle.ufmt.specs.Buffer.{Fronts};
 ghost use Rattle.ufmt.specs.Dump.{byte_digits, bytes_per_group, bytes_per_row, digits_column, digits_width, dump_text, offset_column, offset_text, row_text, shown_byte, text_column};
 
 use crate::cursor::{Cursor, Full};
-use crate::hex::digits::{digit_byte, hexadecimal_text};
+use crate::radix::digits::{digit_byte, digits_text};
 use ufmt_core::ascii::text_from;
 use ufmt_core::uWrite;
 
@@ -199,7 +199,7 @@ fn write_padded<W: uWrite>(writer: &mut W, offset: u64) -> Result<(), W::Error>
     ensures { Writes W.seen writer.old (offset_text offset) (is_ok result) writer.new }
 {
     let mut buffer = [0; 16];
-    let digits = hexadecimal_text(offset, false, &mut buffer);
+    let digits = digits_text::<u64, 16, 16>(offset, false, &mut buffer);
     if digits.len() >= 8 {
         return writer.write_str(digits);
     }

@@ -1,14 +1,15 @@
-//! `uDisplayHex`: hexadecimal texts of integers, and their padding.
-ghost use Rattle.std.specs.Prelude.{◌≡◌, ◌<◌, ◌-◌, ◌+◌, ◌↔◌, ℕ, List, IsTrue, length, replicate, is_ok};
+//! `uDisplayHex`: hexadecimal texts of integers, and the padding of texts in every radix.
+ghost use Rattle.std.specs.Prelude.{◌≡◌, ◌<◌, ◌-◌, ◌+◌, ◌↔◌, ℕ, List, IsTrue, replicate, is_ok};
 ghost use Rattle.ufmt_core.specs.Formatter.{Prints};
 ghost use Rattle.ufmt.specs.declared.hex.HexOptions.{HexOptions};
-ghost use Rattle.ufmt.specs.Hex.{prefix_of, pads_first, padded, padded_hexadecimal};
+ghost use Rattle.ufmt.specs.Hex.{padded};
+ghost use Rattle.ufmt.specs.Radix.{padded_after, pads_first, prefix_in};
 
 mod core_impls;
-pub(crate) mod digits;
 mod integers;
 mod nonzero;
 
+use crate::radix::Radix;
 use ufmt_core::{Formatter, uWrite};
 
 /// A value that prints itself as Rust's `{:x}` and `{:X}` would.
@@ -25,16 +26,16 @@ pub trait uDisplayHex {
         ensures { Prints W.seen f.old (hex_text self.now options) (is_ok result) f.new };
 }
 
-/// The letters of a hexadecimal text, its prefix and its padding.
+/// The letters, the prefix and the padding of a text in hexadecimal, binary or octal digits.
 #[derive(Clone, Copy)]
 pub struct HexOptions {
-    /// Whether letters are in upper case, that of the prefix too.
+    /// Whether letters are in upper case, that of the prefix `0X` too. `0b` and `0o` have one case.
     pub upper_case: bool,
     /// The byte to pad with. Spaces come before the prefix, other bytes after it.
     pub pad_char: u8,
     /// The number of bytes to pad to, with the prefix.
     pub pad_length: usize,
-    /// Whether the text has a prefix, `0x` or `0X`.
+    /// Whether the text has a prefix: `0x` or `0X`, `0b` or `0o`.
     pub ox_prefix: bool,
 }
 
@@ -51,50 +52,54 @@ impl HexOptions {
         requires { self.now.pad_char < 128 }
         ensures { Prints W.seen f.old (padded self.now payload.now) (is_ok result) f.new }
     {
-        let missing = self.missing(payload.len());
+        self.write_after(self.prefix_in(Radix::Hexadecimal), f, payload)
+    }
+
+    /// Returns the prefix in this radix, which is empty if the text has none.
+    pub(crate) fn prefix_in(&self, radix: Radix) -> &'static str
+        ensures { result.now ≡ prefix_in radix self.now }
+    {
+        if !self.ox_prefix {
+            return "";
+        }
+        radix.prefix(self.upper_case)
+    }
+
+    /// Writes `payload` after this prefix, with the padding. On `Err` a prefix of that was written.
+    pub(crate) fn write_after<W: uWrite>(
+        &self,
+        prefix: &str,
+        f: &mut Formatter<W>,
+        payload: &str,
+    ) -> Result<(), W::Error>
+        requires { self.now.pad_char < 128 }
+        ensures { Prints W.seen f.old (padded_after prefix.now self.now payload.now) (is_ok result)
+            f.new }
+    {
+        let missing = self.missing(prefix.len(), payload.len());
         if self.pads_first() {
             self.write_padding(f, missing)?;
-            self.write_prefix(f)?;
+            write_prefix(f, prefix)?;
             return f.write_str(payload);
         }
-        self.write_prefix(f)?;
+        write_prefix(f, prefix)?;
         self.write_padding(f, missing)?;
         f.write_str(payload)
     }
 
-    // How many pad bytes a payload of this length needs.
-    fn missing(&self, payload_length: usize) -> usize
-        ensures { result ≡ self.now.pad_length - (length (prefix_of self.now) + payload_length) }
+    // How many pad bytes a prefix and a payload of these lengths need.
+    fn missing(&self, prefix_length: usize, payload_length: usize) -> usize
+        ensures { result ≡ self.now.pad_length - (prefix_length + payload_length) }
     {
         self.pad_length
-            .saturating_sub(self.prefix().len())
+            .saturating_sub(prefix_length)
             .saturating_sub(payload_length)
-    }
-
-    fn prefix(&self) -> &'static str
-        ensures { result.now ≡ prefix_of self.now }
-    {
-        match (self.ox_prefix, self.upper_case) {
-            (false, _) => "",
-            (true, false) => "0x",
-            (true, true) => "0X",
-        }
     }
 
     fn pads_first(&self) -> bool
         ensures { result ≡ pads_first self.now }
     {
-        self.ox_prefix && self.pad_char == b' '
-    }
-
-    // An empty prefix is no piece.
-    fn write_prefix<W: uWrite>(&self, f: &mut Formatter<W>) -> Result<(), W::Error>
-        ensures { Prints W.seen f.old (prefix_of self.now) (is_ok result) f.new }
-    {
-        if !self.ox_prefix {
-            return Ok(());
-        }
-        f.write_str(self.prefix())
+        self.pad_char == b' '
     }
 
     // One piece for each pad byte.
@@ -108,4 +113,14 @@ impl HexOptions {
         }
         Ok(())
     }
+}
+
+// An empty prefix is no piece.
+fn write_prefix<W: uWrite>(f: &mut Formatter<W>, prefix: &str) -> Result<(), W::Error>
+    ensures { Prints W.seen f.old prefix.now (is_ok result) f.new }
+{
+    if prefix.is_empty() {
+        return Ok(());
+    }
+    f.write_str(prefix)
 }

@@ -14,7 +14,7 @@ ghost use Rattle.ufmt_core.specs.Formatter.{Prints, setting_of};
 ghost use Rattle.ufmt.specs.Column.{ColumnsAreFilled};
 ghost use Rattle.ufmt.specs.Pieces.{column, hex, pieces_text, pretty, separated, shown, text};
 ghost use Rattle.ufmt.specs.declared.hex.HexOptions.{HexOptions};
-ghost use Rattle.ufmt.specs.Hex.{EachNumberIsDenoted, OneTextDenotes, OneNumberIsDenoted, IsPadded, PrintsHexadecimal, PrintsBits, padded};
+ghost use Rattle.ufmt.specs.Hex.{PrintsHexadecimal, PrintsBits};
 ghost use Rattle.ufmt.specs.Dump.{DigitsHaveTheirWidth, DumpHasEachByte, TextsBeginInOneColumn};
 ghost use Rattle.ufmt.specs.NormalFormLaws.{NormalFormsAreNormal, NormalFormsKeepTexts, NormalFormsKeepClasses};
 ghost use Rattle.ufmt.specs.Token.{Class, IsWord};
@@ -24,12 +24,20 @@ ghost use Rattle.ufmt.specs.ReadingLaws.{ReadsEachText, ReadsOnlyTexts, RefusesO
 ghost use Rattle.ufmt.specs.ReadingLaws.{PlainIsUnambiguous, PlainTextDetermines, PrettyIsUnambiguous, PrettyTextDetermines, TextsAgree, TokensAreDebug};
 ghost use Rattle.ufmt.specs.UnquotedLaws.{UnquotedAsBefore};
 
+mod numbers;
+
 use crate::column::Column;
 use crate::cursor::{Cursor, Full};
 use crate::display::uDisplay;
 use crate::hex::{HexOptions, uDisplayHex};
 use crate::pieces::Line;
 use crate::{pieces, uwrite};
+pub use numbers::{
+    decimals_denote_their_values, digits_are_one_text, integers_print_zeros, line_of_numbers,
+    nonzero_prints_one_radix_text, nonzero_prints_zeros, padding_reaches_length,
+    references_print_one_radix_text, references_print_zeros, signed_prints_bits_in_each_radix,
+    unsigned_prints_in_each_radix, uwrite_numbers, zeros_reach_width,
+};
 use std::alloc::Allocator;
 use std::borrow::{Cow, CowStr};
 use std::boxed::BoxedStr;
@@ -59,14 +67,6 @@ pub fn write_to_buffer(buffer: &mut [u8], text: &str) -> Result<(), Full>
     cursor.write_str(text)
 }
 
-/// Each whole number has exactly one hexadecimal text in lower case and one in upper case, and each
-/// text denotes one number.
-pub fn hexadecimal_is_one_text()
-    ensures denoted { EachNumberIsDenoted }
-    ensures one_text { OneTextDenotes }
-    ensures one_number { OneNumberIsDenoted }
-{}
-
 /// The rows of a dump joined are its bytes, and each has as many as asked, but for the last. The digits of a
 /// row are as wide as is said of them. The texts of all rows begin in one column, as long as the offsets are
 /// below 2^32.
@@ -74,13 +74,6 @@ pub fn dump_rows_have_each_byte()
     ensures rows { DumpHasEachByte }
     ensures width { DigitsHaveTheirWidth }
     ensures column { TextsBeginInOneColumn }
-{}
-
-/// A padded text is as long as `pad_length`, or as prefix and payload if these are longer. All its other
-/// bytes are pad bytes.
-pub fn padding_reaches_length()
-    ensures { (options : HexOptions) (payload : List ℕ) → IsPadded options payload
-        (padded options payload) }
 {}
 
 /// The decimal text of a whole number is a word, so it can be read back.

@@ -6,6 +6,7 @@ pub mod class;
 mod column;
 mod cursor;
 mod cut;
+mod decimal;
 mod display;
 mod dump;
 mod fields;
@@ -14,13 +15,16 @@ mod hex;
 pub mod laws;
 pub mod pieces;
 mod print;
+mod radix;
 mod small;
 mod truncating;
 mod uwrite;
+mod zeros;
 
 pub use column::{Align, Column};
 pub use cursor::{Cursor, Full};
 pub use cut::{Cut, debug_cut_into, display_cut_into, line_cut_into, pretty_cut_into};
+pub use decimal::Decimal;
 pub use display::uDisplay;
 pub use dump::{HexDump, hex_dump_into, write_hex_dump};
 pub use hex::{HexOptions, uDisplayHex};
@@ -29,9 +33,11 @@ pub use print::{
     debug_into, display_into, fmt_pretty, line_into, plain_text, pretty_into, pretty_text,
     write_debug, write_display, write_line, write_pretty,
 };
+pub use radix::{Radix, uDisplayRadix};
 pub use small::Small;
 pub use truncating::Truncating;
 pub use ufmt_core::{
     DebugList, DebugMap, DebugSet, DebugStruct, DebugTuple, Formatter, NamedFields, UnnamedFields,
     ascii, cells, layout, quoted, uDebug, uWrite, unsigned,
 };
+pub use zeros::uDisplayZeros;

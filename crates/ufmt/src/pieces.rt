@@ -7,7 +7,7 @@ mod column;
 mod marks;
 
 pub use column::InColumn;
-pub use marks::{Debug, Display, Hex, Mark, Marked, Pretty};
+pub use marks::{Debug, Display, Hex, InRadix, Mark, Marked, Pretty, Zeros};
 use ufmt_core::{Formatter, uWrite};
 
 /// Pieces in a row, as a value: a text, a value with its mark, the items of a slice, nothing, or two
@@ -96,10 +96,11 @@ impl<T, M: Mark<T>> Each<'_, T, M> {
 
 /// Makes a line of pieces, as one value: `line_into(buffer, &pieces!(text "n = ", debug n))?`.
 ///
-/// A piece is `text e` for a `&str`, or `display e`, `debug e`, `pretty e` or `hex e with options` for a
-/// value, each of which may be followed by `in column`. The items of a slice are `each debug e between s`,
+/// A piece is `text e` for a `&str`, or `display e`, `debug e`, `pretty e`, `hex e with options`,
+/// `bin e with options`, `oct e with options` or `zeros e to width` for a value, each of which may be
+/// followed by `in column`. The items of a slice are `each debug e between s`,
 /// `each hex e with options between s` or `each e by mark between s`; `s` is a `&str`, and `mark` a `Mark`
-/// of your own. An expression before `with`, `in`, `by` or `between` is a name, a literal, or in
+/// of your own. An expression before `with`, `to`, `in`, `by` or `between` is a name, a literal, or in
 /// parentheses.
 ///
 /// Each value is evaluated once and in order, before the first piece is written. `uwrite!` evaluates a
@@ -111,27 +112,39 @@ macro_rules! pieces {
 
 /// Passes to the macro `$then` what that keeps, the first piece of a row and the pieces that are left, no piece
 /// if the row is empty, or only `refused` if it begins with no piece. A piece is passed as `text e`, `(mark) e`
-/// or `each (mark) items, between`. A mark is as in the row, but `(hex options, in column)` has a comma.
+/// or `each (mark) items, between`. A mark is as in the row, but `(hex with options, in column)` has a comma.
 #[macro_export]
 macro_rules! next_piece {
     ($then:ident $kept:tt) => { $crate::$then!($kept) };
     ($then:ident $kept:tt text $text:expr $(, $($rest:tt)*)?) => {
         $crate::$then!($kept [text $text] $($($rest)*)?)
     };
-    ($then:ident $kept:tt hex $value:tt with $options:tt in $column:expr $(, $($rest:tt)*)?) => {
-        $crate::$then!($kept [(hex $options, in $column) $value] $($($rest)*)?)
+    ($then:ident $kept:tt $kind:ident $value:tt with $options:tt in $column:expr $(, $($rest:tt)*)?) => {
+        $crate::$then!($kept [($kind with $options, in $column) $value] $($($rest)*)?)
     };
-    ($then:ident $kept:tt hex $value:tt with $options:expr $(, $($rest:tt)*)?) => {
-        $crate::$then!($kept [(hex $options) $value] $($($rest)*)?)
+    ($then:ident $kept:tt $kind:ident $value:tt with $options:expr $(, $($rest:tt)*)?) => {
+        $crate::$then!($kept [($kind with $options) $value] $($($rest)*)?)
+    };
+    ($then:ident $kept:tt $kind:ident $value:tt to $width:tt in $column:expr $(, $($rest:tt)*)?) => {
+        $crate::$then!($kept [($kind to $width, in $column) $value] $($($rest)*)?)
+    };
+    ($then:ident $kept:tt $kind:ident $value:tt to $width:expr $(, $($rest:tt)*)?) => {
+        $crate::$then!($kept [($kind to $width) $value] $($($rest)*)?)
     };
     ($then:ident $kept:tt $kind:ident $value:tt in $column:expr $(, $($rest:tt)*)?) => {
         $crate::$then!($kept [($kind, in $column) $value] $($($rest)*)?)
     };
-    ($then:ident $kept:tt each hex $items:tt with $options:tt in $column:tt between $between:expr $(, $($rest:tt)*)?) => {
-        $crate::$then!($kept [each (hex $options, in $column) $items, $between] $($($rest)*)?)
+    ($then:ident $kept:tt each $kind:ident $items:tt with $options:tt in $column:tt between $between:expr $(, $($rest:tt)*)?) => {
+        $crate::$then!($kept [each ($kind with $options, in $column) $items, $between] $($($rest)*)?)
     };
-    ($then:ident $kept:tt each hex $items:tt with $options:tt between $between:expr $(, $($rest:tt)*)?) => {
-        $crate::$then!($kept [each (hex $options) $items, $between] $($($rest)*)?)
+    ($then:ident $kept:tt each $kind:ident $items:tt with $options:tt between $between:expr $(, $($rest:tt)*)?) => {
+        $crate::$then!($kept [each ($kind with $options) $items, $between] $($($rest)*)?)
+    };
+    ($then:ident $kept:tt each $kind:ident $items:tt to $width:tt in $column:tt between $between:expr $(, $($rest:tt)*)?) => {
+        $crate::$then!($kept [each ($kind to $width, in $column) $items, $between] $($($rest)*)?)
+    };
+    ($then:ident $kept:tt each $kind:ident $items:tt to $width:tt between $between:expr $(, $($rest:tt)*)?) => {
+        $crate::$then!($kept [each ($kind to $width) $items, $between] $($($rest)*)?)
     };
     ($then:ident $kept:tt each $kind:ident $items:tt in $column:tt between $between:expr $(, $($rest:tt)*)?) => {
         $crate::$then!($kept [each ($kind, in $column) $items, $between] $($($rest)*)?)
@@ -157,12 +170,12 @@ macro_rules! keep_piece {
         $crate::next_piece!(keep_piece [$($lines)* ($crate::piece_value!($($piece)+))] $($rest)*)
     };
     (refused) => {
-        compile_error!("expected pieces with commas between them: `text e`; `display e`, `debug e`, `pretty e` or `hex e with options`, with or without `in column`; `each debug e between s`, `each hex e with options between s` or `each e by mark between s`. Before `with`, `in`, `by` and `between`, `e` is a name, a literal or in parentheses")
+        compile_error!("expected pieces with commas between them: `text e`; `display e`, `debug e`, `pretty e`, `hex e with options`, `bin e with options`, `oct e with options` or `zeros e to width`, with or without `in column`; `each debug e between s`, `each hex e with options between s` or `each e by mark between s`. Before `with`, `to`, `in`, `by` and `between`, `e` is a name, a literal or in parentheses")
     };
 }
 
 /// Lines one after another, as one: a chain of at most eight, or else a balanced tree of chains of four. The
-/// check of a call takes long where pairs are nested deeper than eight.
+/// check finds no proof of a call with pairs nested deeper than eight.
 #[macro_export]
 macro_rules! join_lines {
     ($a:tt $b:tt $c:tt $d:tt $e:tt $f:tt $g:tt $h:tt $($rest:tt)+) => {
@@ -216,10 +229,17 @@ macro_rules! piece_mark {
     (display) => { $crate::pieces::Display };
     (debug) => { $crate::pieces::Debug };
     (pretty) => { $crate::pieces::Pretty };
-    (hex $options:expr) => { $crate::pieces::Hex { options: $options } };
+    (hex with $options:expr) => { $crate::pieces::Hex { options: $options } };
+    (bin with $options:expr) => {
+        $crate::pieces::InRadix { radix: $crate::Radix::Binary, options: $options }
+    };
+    (oct with $options:expr) => {
+        $crate::pieces::InRadix { radix: $crate::Radix::Octal, options: $options }
+    };
+    (zeros to $width:expr) => { $crate::pieces::Zeros { width: $width } };
     (by $mark:expr) => { $mark };
-    ($kind:ident $($options:expr)?, in $column:expr) => {
-        $crate::pieces::InColumn { mark: $crate::piece_mark!($kind $($options)?), column: $column }
+    ($kind:ident $(with $options:tt)? $(to $width:tt)?, in $column:expr) => {
+        $crate::pieces::InColumn { mark: $crate::piece_mark!($kind $(with $options)? $(to $width)?), column: $column }
     };
     ($($other:tt)*) => { $crate::keep_piece!(refused) };
 }

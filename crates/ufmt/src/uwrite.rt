@@ -2,10 +2,11 @@
 
 /// Writes pieces to a formatter, one after another, and returns the first error.
 ///
-/// A piece is `text e` for a `&str`, or `display e`, `debug e`, `pretty e` or `hex e with options` for a
-/// value, each of which may be followed by `in column`. A value before `with` or `in` is a name, a
-/// literal, or in parentheses. The formatter is evaluated first, then each piece in order, each of them
-/// once. After an error nothing more is evaluated.
+/// A piece is `text e` for a `&str`, or `display e`, `debug e`, `pretty e`, `hex e with options`,
+/// `bin e with options`, `oct e with options` or `zeros e to width` for a value, each of which may be
+/// followed by `in column`. A value before `with`, `to` or `in` is a name, a literal, or in parentheses.
+/// The formatter is evaluated first, then each piece in order, each of them once. After an error nothing
+/// more is evaluated.
 #[macro_export]
 macro_rules! uwrite {
     ($f:expr, $($pieces:tt)+) => {{
@@ -35,7 +36,7 @@ macro_rules! write_pieces {
     };
     ([$f:ident [$($last:tt)+]]) => { $crate::write_piece!($f, $($last)+) };
     (refused) => {
-        compile_error!("expected pieces with commas between them: `text e`; `display e`, `debug e`, `pretty e` or `hex e with options`, with or without `in column`. Before `with` and `in`, `e` is a name, a literal or in parentheses")
+        compile_error!("expected pieces with commas between them: `text e`; `display e`, `debug e`, `pretty e`, `hex e with options`, `bin e with options`, `oct e with options` or `zeros e to width`, with or without `in column`. Before `with`, `to` and `in`, `e` is a name, a literal or in parentheses")
     };
 }
 
@@ -46,11 +47,20 @@ macro_rules! write_piece {
     ($f:ident, (display) $value:expr) => { $crate::uDisplay::fmt(&$value, $f) };
     ($f:ident, (debug) $value:expr) => { $crate::uDebug::fmt(&$value, $f) };
     ($f:ident, (pretty) $value:expr) => { $crate::fmt_pretty(&$value, $f) };
-    ($f:ident, (hex $options:expr) $value:expr) => {
+    ($f:ident, (hex with $options:expr) $value:expr) => {
         $crate::uDisplayHex::fmt_hex(&$value, $f, $options)
     };
-    ($f:ident, ($kind:ident $($options:expr)?, in $column:expr) $value:expr) => {
-        $crate::Line::print(&$crate::piece_value!(($kind $($options)?, in $column) $value), $f)
+    ($f:ident, (bin with $options:expr) $value:expr) => {
+        $crate::uDisplayRadix::fmt_radix(&$value, $f, $crate::Radix::Binary, $options)
+    };
+    ($f:ident, (oct with $options:expr) $value:expr) => {
+        $crate::uDisplayRadix::fmt_radix(&$value, $f, $crate::Radix::Octal, $options)
+    };
+    ($f:ident, (zeros to $width:expr) $value:expr) => {
+        $crate::uDisplayZeros::fmt_zeros(&$value, $f, $width)
+    };
+    ($f:ident, ($kind:ident $(with $options:tt)? $(to $width:tt)?, in $column:expr) $value:expr) => {
+        $crate::Line::print(&$crate::piece_value!(($kind $(with $options)? $(to $width)?, in $column) $value), $f)
     };
     ($($other:tt)*) => { $crate::write_pieces!(refused) };
 }

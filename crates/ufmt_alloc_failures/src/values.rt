@@ -5,8 +5,9 @@ use std::alloc::{AllocError, Global};
 use std::collections::{BTreeMap, BTreeSet};
 use std::io;
 use ufmt::{
-    Align, Column, Cursor, Cut, Formatter, Full, HexDump, HexOptions, debug_into, display_into,
-    hex_dump_into, line_cut_into, line_into, pieces, pretty_into, uDebug, uDisplayHex, uwrite,
+    Align, Column, Cursor, Cut, Decimal, Formatter, Full, HexDump, HexOptions, Radix, debug_into,
+    display_into, hex_dump_into, line_cut_into, line_into, pieces, pretty_into, uDebug,
+    uDisplayHex, uDisplayRadix, uDisplayZeros, uwrite,
 };
 
 // Values of std's types that take memory: a list, a set, a map, a box and a text.
@@ -96,6 +97,20 @@ pub fn report_pieces(rt: &HostRuntime) -> io::Result<()> {
         let mut f = Formatter::new(Cursor::new(&mut buffer));
         let outcome = i128::MIN.fmt_hex(&mut f, HEXADECIMAL);
         outcome.is_ok() && f.into_inner().written() == LEAST.as_bytes()
+    })?;
+    report_free(rt, "fmt_radix", "a number", || {
+        let mut f = Formatter::new(Cursor::new(&mut buffer));
+        let outcome = i16::MIN.fmt_radix(&mut f, Radix::Binary, HEXADECIMAL);
+        outcome.is_ok() && f.into_inner().written() == b"0b1000000000000000"
+    })?;
+    report_free(rt, "fmt_zeros", "a decimal", || {
+        let mut f = Formatter::new(Cursor::new(&mut buffer));
+        let decimal = Decimal {
+            value: -125,
+            places: 1,
+        };
+        let outcome = decimal.fmt_zeros(&mut f, 7);
+        outcome.is_ok() && f.into_inner().written() == b"-0012.5"
     })?;
     report_free(rt, "Formatter::pretty", "a list", || {
         let mut f = Formatter::new(Cursor::new(&mut buffer));

@@ -4,6 +4,9 @@ ghost use Rattle.ufmt.specs.Layout.{plain_text};
 ghost use Rattle.ufmt.specs.ValueDocuments.{integer, named_struct, number};
 ghost use Rattle.ufmt_parse.specs.Values.{is_i16, is_u8};
 
+#[cfg(test)]
+mod tests;
+
 use ufmt::{Formatter, fields, uDebug, uWrite};
 use ufmt_parse::{Fault, ParseError, ParseMode, Parser, parse, parse_fields, uParse};
 

@@ -1,3 +1,7 @@
+pub mod LineLengths
+pub mod ClosedBlocks
+pub mod LastOpenings
+pub mod Searches
 pub mod Groups
 pub mod Cuts
 pub mod Fronts

@@ -59,7 +59,8 @@ module _ (mode : Mode) where
   unfolding converted
   converted_text d token = ap (option_map (layout (setting mode 0))) (reads_each_text Debug (other_mode mode) d token) ∙ ap Some (layout-normal (setting mode 0) d)
 
-nothing_is_no_text : (mode : Mode) → converted mode [] ≡ None
+-- nothing is no text
+pub nothing_is_no_text : (mode : Mode) → converted mode [] ≡ None
 unfolding converted read read_rest read_quoted
 nothing_is_no_text Plain = refl
 nothing_is_no_text Pretty = refl

@@ -1,2 +1,4 @@
+pub mod Brackets
 pub mod GroupOutput
 pub mod Group
+pub mod LineLen

@@ -9,7 +9,7 @@ ghost use Rattle.ufmt_io.specs.Fault.{status_of};
 
 pub mod run;
 
-use run::{IoFault, Watched};
+use run::{IoFault, Request, Watched};
 use std::io;
 use std::process::ExitCode;
 use ufmt_io::{USAGE_STATUS, arguments, report};
@@ -18,12 +18,19 @@ fn main(rt: HostRuntime) -> ExitCode {
     let Ok(arguments) = arguments(&rt) else {
         return report_fault(&rt, IoFault::OutOfMemory);
     };
-    let Some(mode) = run::asked_mode(&arguments) else {
+    let Some(request) = run::asked(&arguments) else {
         return report(&rt, run::usage(), USAGE_STATUS);
     };
-    let mut input = Watched::new(rt.reader());
     let mut output = Watched::new(io::writer(&rt));
-    match run::run(rt.alloc(), mode, &mut input, &mut output) {
+    let outcome = match request {
+        Request::Convert(mode) => {
+            let mut input = Watched::new(rt.reader());
+            run::run(rt.alloc(), mode, &mut input, &mut output)
+        }
+        Request::Help => run::print(run::help(), &mut output),
+        Request::Version => run::print(run::version(), &mut output),
+    };
+    match outcome {
         Ok(()) => ExitCode::SUCCESS,
         Err(fault) => report_fault(&rt, fault),
     }

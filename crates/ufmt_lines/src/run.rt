@@ -1,11 +1,13 @@
 //! A run of the program: writes the output for each group of lines before it reads the next.
 ghost use Rattle.std.specs.Prelude.{◌≡◌, ◌↔◌, ◌<◌, ◌≤◌, false, take, vec_len, IfErr, IfOk, IsErr, IsErrOf, IsTrue, OnErr, OnOk, ⊤};
-ghost use Rattle.std.specs.Io.KnownBytes.{Consumes, IsAtEnd, Keeps};
+ghost use Rattle.std.specs.Io.KnownBytes.{Appends, Consumes, IsAtEnd, Keeps};
+ghost use Rattle.ufmt_io.specs.Whole.{AppendsPrefix};
 ghost use Rattle.ufmt_lines.specs.Output.{WritesOutput, WritesOutputPrefix, ReadsAndWrites};
 ghost use Rattle.ufmt_lines.specs.Groups.{IsInGroup};
 ghost use Rattle.ufmt_io.specs.Watched.{device_of, has_failed};
 
 mod arguments;
+mod brackets;
 mod fault;
 mod groups;
 pub mod laws;
@@ -13,12 +15,13 @@ mod output;
 #[cfg(test)]
 mod tests;
 
-pub use arguments::{asked_mode, usage};
+pub use arguments::{Request, asked, help, usage, version};
 pub use fault::fault_line;
 use groups::Group;
 use std::alloc::{AllocError, Global};
 use std::io::{Read, Write};
 use ufmt::layout::Mode;
+use ufmt_io::write_whole;
 pub use ufmt_io::{Failed, IoFault, Watched};
 
 // How many bytes are read at once, at most.
@@ -70,6 +73,19 @@ pub fn run<R: Read, W: Write>(
     // An input with no end, after 2^64 - 1 reads.
     input.give_up();
     Err(IoFault::CannotRead)
+}
+
+/// Writes a text whole. The only fault is `CannotWrite`, and then a prefix of it was written.
+pub fn print<W: Write>(text: &str, output: &mut Watched<W>) -> Result<(), IoFault>
+    requires { has_failed output.old ≡ false }
+    ensures ok { OnOk result (Appends (W.contents (device_of output.old))
+        (W.contents (device_of output.new)) text.now) }
+    ensures cannot_write { OnErr result (AppendsPrefix (W.contents (device_of output.old))
+        (W.contents (device_of output.new)) text.now) }
+    ensures failed { IsErrOf result IoFault.CannotWrite ↔ IsTrue (has_failed output.new) }
+    ensures no_other { IfErr result (λ fault. fault ≡ IoFault.CannotWrite) }
+{
+    write_whole(output, text.as_bytes()).map_err(|_| IoFault::CannotWrite)
 }
 
 // Room for what is read at once.

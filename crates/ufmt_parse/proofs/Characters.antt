@@ -1,11 +1,11 @@
 -- Characters in UTF-8, and as they are written between apostrophes, at the front of a text.
-use Rattle.std.proofs.Common.{◌≡◌, inr, refl, sym, ap, subst, ◌∙◌, ℕ, ◌+◌, ◌<◌, ◌≤◌, List, [], ◌∷◌, ◌++◌, length, slice_index, get_or, encode_utf8, append-nil, append_assoc, arith, drop, Option, Some, None, Bor, MatchOption}
+use Rattle.std.proofs.Common.{◌≡◌, inr, refl, sym, ap, ◌∙◌, ℕ, ◌+◌, ◌≤◌, List, [], ◌∷◌, ◌++◌, length, slice_index, get_or, encode_utf8, append-nil, append_assoc, arith, drop, Option, Some, None, Bor, MatchOption}
 use Rattle.std.specs.Prelude.{◌≢◌, unwrap_or}
 use Rattle.std.specs.Char.{IsScalar}
-use Rattle.std.specs.Str.{IsUtf8, chars, continuation_len}
-use Rattle.std.proofs.lemmas.Str.{IsUtf8-encode, chars_past_char, encode_ascii, encode_same}
+use Rattle.std.specs.Str.{continuation_len}
+use Rattle.std.proofs.lemmas.Str.{encode_ascii, encode_same}
 use Rattle.ufmt_core.proofs.QuotedBytes.{escape-past_ascii}
-use Rattle.ufmt.specs.Quoted.{escape, escaped, escaped_byte, quoted_char}
+use Rattle.ufmt.specs.Quoted.{escaped, escaped_byte, quoted_char}
 use Rattle.ufmt.specs.Reading.{strip}
 use Rattle.ufmt.proofs.Parsing.{strip_found, strip_of_front}
 use Rattle.ufmt_scan.proofs.Characters.{Written, ascii, past_ascii, length-led, is_written}

@@ -7,7 +7,8 @@ use Rattle.ufmt_core.specs.declared.layout.Mode.{Mode}
 use Rattle.ufmt_parse.specs.declared.parser.Parser.{Parser}
 use Rattle.ufmt_parse.specs.declared.parser.Fault.{Fault}
 use Rattle.ufmt_parse.specs.declared.parser.Fault.TheVariants.{NotText, OutOfMemory}
-use Rattle.ufmt_parse.specs.Taking.{BeginsWithNone, Fits, IsNext, IsTaken, Takes, TakesBy, open_blocks, rest, setting_in}
+use Rattle.ufmt_parse.specs.Next.{IsNotNext, NextLeaves}
+use Rattle.ufmt_parse.specs.Taking.{BeginsWithNone, Fits, IsTaken, Takes, TakesBy, open_blocks, rest, setting_in}
 
 module _ {M T : Type 0} (mode : Mode) (is_value : T → Type 0) (document : T → Document) (old : Parser M) (outcome : Result T Fault) (new : Parser M) where
   abbrev pub ValueTaken : Type 0
@@ -17,10 +18,10 @@ module _ {M T : Type 0} (mode : Mode) (is_value : T → Type 0) (document : T �
   Taken = IfOk outcome (λ v. IsTaken mode old (document v) new)
 
   abbrev pub Only : Type 0
-  Only = IfOk outcome (λ _. (v : T) (u : List ℕ) → is_value v → IsNext mode old (document v) u → u ≡ rest new)
+  Only = IfOk outcome (λ _. (v : T) → is_value v → NextLeaves mode old (document v) new)
 
   abbrev pub Nothing : Type 0
-  Nothing = IfErr outcome (λ fault. fault ≡ NotText → (v : T) (u : List ℕ) → is_value v → ¬ IsNext mode old (document v) u)
+  Nothing = IfErr outcome (λ fault. fault ≡ NotText → (v : T) → is_value v → IsNotNext mode old (document v))
 
 out_of_memory : OutOfMemory ≢ NotText
 out_of_memory is = absurd (cc)
@@ -30,8 +31,9 @@ module _ {M T : Type 0} (mode : Mode) (is_value : T → Type 0) (document : T �
   by_clauses : (outcome : Result T Fault) → IfOk outcome is_value → Taken mode is_value document old outcome new → Only mode is_value document old outcome new
       → Nothing mode is_value document old outcome new
       → TakesBy (λ v. is_value v × Fits (open_blocks old) (document v)) (λ v. layout (setting_in mode (open_blocks old)) (document v)) (rest old) outcome (rest new)
-  by_clauses (Ok v) holds taken only none = (taken.0, (holds, taken.1), λ w u is may same. only w u is.0 (is.1, may, same))
-  by_clauses (Err NotText) holds taken only none = λ w u is may same. none refl w u is.0 (is.1, may, same)
+  unfolding NextLeaves IsNotNext
+  by_clauses (Ok v) holds taken only none = (taken.0, (holds, taken.1), λ w u is may same. only w is.0 u (is.1, may, same))
+  by_clauses (Err NotText) holds taken only none = λ w u is may same. none refl w is.0 u (is.1, may, same)
   by_clauses (Err OutOfMemory) holds taken only none = tt
 
   pub taken_by_clauses : (outcome : Result T Fault) → IfOk outcome is_value → Taken mode is_value document old outcome new → Only mode is_value document old outcome new
@@ -55,12 +57,14 @@ module _ {M T : Type 0} (mode : Mode) (is_value : T → Type 0) (document : T �
   taken_clause (Err fault) takes = tt
 
   pub only_clause : (outcome : Result T Fault) → ValueTaken mode is_value document old outcome new → Only mode is_value document old outcome new
-  only_clause (Ok v) takes = λ w u holds next. takes.cases.2 w u (holds, next.0) next.1 next.2
+  unfolding NextLeaves
+  only_clause (Ok v) takes = λ w holds u next. takes.cases.2 w u (holds, next.0) next.1 next.2
   only_clause (Err fault) takes = tt
 
   pub none_clause : (outcome : Result T Fault) → ValueTaken mode is_value document old outcome new → Nothing mode is_value document old outcome new
+  unfolding IsNotNext
   none_clause (Ok v) takes = tt
-  none_clause (Err fault) takes = λ is w u holds next. refused fault takes is w u (holds, next.0) next.1 next.2
+  none_clause (Err fault) takes = λ is w holds u next. refused fault takes is w u (holds, next.0) next.1 next.2
 
 -- what is left after a value was taken is no longer
 pub taken_shrinks : (text old new : List ℕ) → old ≡ text ++ new → length new ≤ length old

@@ -1,6 +1,6 @@
 -- The digits at the front of a text denote one number, which has no other text there.
 use Rattle.std.proofs.Common.{◌≡◌, refl, sym, ap, ◌∙◌, ℕ, zero, suc, ◌+◌, ◌-◌, ◌*◌, ◌^◌, ◌<◌, ◌≤◌, ◌==◌, Bool, true, false, cond, not, List, [], ◌∷◌, ◌++◌, map, length, drop, slice_index, pos, arith, pow-suc, eqb-true, Option, Some, None, option_map, Bor, MatchOption}
-use Rattle.std.proofs.Math.Nat.{pow-zero}
+use Rattle.std.proofs.Math.Nat.{pow-le-pow_right, pow-zero}
 use Rattle.std.specs.Char.{is_ascii_digit}
 use Rattle.std.specs.Int.Digits.{number_from_digits, number_from_digits_after, AllBelowBase}
 use Rattle.std.specs.List.{All}
@@ -11,6 +11,10 @@ use Rattle.ufmt_core.specs.Decimal.{decimal, decimal_byte, numeral, value_in_bas
 use Rattle.ufmt_core.proofs.DecimalTexts.{decimal-denotes, DenotesDecimal-one}
 use Rattle.ufmt_core.proofs.Numerals.{numeral-denotes}
 use Rattle.ufmt_parse.specs.Private.Digits.{after_digits, begins_digit, begins_number, value_after, BeginsWithDigits, FrontMagnitude, IsFront}
+
+-- a number of one digit and at most seven more has at most eight
+pub few_below : (more n : ℕ) → more ≤ 7 → n < 10 ^ suc more → n < 10 ^ 8
+few_below more n few below = omega (arith, below, pow-le-pow_right {n = 10} (omega arith) {i = suc more} {j = 8} (omega (arith, few)))
 
 -- more digits make no number less
 pub value_after_ge : (n : ℕ) (t : List ℕ) → n ≤ value_after n t

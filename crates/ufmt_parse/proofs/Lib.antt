@@ -12,7 +12,10 @@ pub mod KeysInARow
 pub mod Layers
 pub mod ListedPairs
 pub mod ListedValues
+pub mod NameBytes
 pub mod NameFronts
+pub mod Naming
+pub mod Next
 pub mod NonZeroTexts
 pub mod NumberKeys
 pub mod OneWay

@@ -1,5 +1,5 @@
 -- Nonzero numbers have other texts than 0.
-use Rattle.std.proofs.Common.{◌≡◌, ◌≢◌, ◌∙◌, sym, ap, ◌<◌, ◌++◌, List, ℕ, ℤ, pos, nat_abs, Option, Some, None, arith}
+use Rattle.std.proofs.Common.{◌≡◌, ◌≢◌, ◌∙◌, sym, ap, ◌<◌, ◌++◌, ℕ, ℤ, pos, nat_abs, Option, Some, None, arith}
 use Rattle.std.specs.Prelude.{MatchOption}
 use Rattle.std.proofs.lemmas.List.{append_cancel_right}
 use Rattle.ufmt.specs.Document.{Document, leaf}
@@ -8,7 +8,8 @@ use Rattle.ufmt_core.specs.Decimal.{decimal}
 use Rattle.ufmt_core.specs.declared.layout.Mode.{Mode}
 use Rattle.ufmt_core.specs.declared.layout.Setting.{Setting}
 use Rattle.ufmt_parse.specs.declared.parser.Parser.{Parser}
-use Rattle.ufmt_parse.specs.Taking.{IsNext, IsTaken, open_blocks, rest, setting_in}
+use Rattle.ufmt_parse.specs.Next.{IsNotNext, NextLeaves}
+use Rattle.ufmt_parse.specs.Taking.{IsTaken, open_blocks, rest, setting_in}
 use Rattle.ufmt_parse.proofs.NumberKeys.{same_decimal}
 
 pub natural_texts : (n m : ℕ) → 0 < n → m ≡ 0 → decimal (pos n) ≢ decimal (pos m)
@@ -28,7 +29,8 @@ module _ {T : Type 0} (in_range : T → Type 0) (get : T → ℤ) (some : (v : T
 -- where a 0 was taken, no nonzero number's text comes next
 module _ {M T N : Type 0} (mode : Mode) (document : T → Document) (number : N) (of_number : N → Document) (old new : Parser M)
     (taken : IsTaken mode old (of_number number) new) where
-  pub zero_refused : (v : T) (u : List ℕ) → ((s : Setting) → layout s (document v) ≢ layout s (of_number number)) → u ≡ rest new → ¬ IsNext mode old (document v) u
-  zero_refused v u differs is next =
+  pub zero_refused : (v : T) → ((s : Setting) → layout s (document v) ≢ layout s (of_number number)) → NextLeaves mode old (document v) new → IsNotNext mode old (document v)
+  unfolding IsNotNext NextLeaves
+  zero_refused v differs leaves = λ u next.
       differs (setting_in mode (open_blocks old))
-      (append_cancel_right _ _ (rest new) (ap (λ t. layout (setting_in mode (open_blocks old)) (document v) ++ t) (sym is) ∙ sym next.2 ∙ taken.0))
+      (append_cancel_right _ _ (rest new) (ap (λ t. layout (setting_in mode (open_blocks old)) (document v) ++ t) (sym (leaves u next)) ∙ sym next.2 ∙ taken.0))

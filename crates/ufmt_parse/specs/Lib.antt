@@ -1,6 +1,7 @@
 pub mod Private
 pub mod Blocks
 pub mod Naming
+pub mod Next
 pub mod Places
 pub mod RoundTrip
 pub mod Rows

@@ -1,7 +1,8 @@
 -- The name at the front of a document's text, and where a name is over.
 use Rattle.std.specs.Prelude.{ℕ, ◌&&◌, ◌||◌, ◌==◌, List, [], ◌∷◌, Bool, true, false}
+use Rattle.std.specs.Str.{bytes_eq}
 use Rattle.ufmt_core.specs.Bytes.{colon, space}
-use Rattle.ufmt.specs.Document.{Document, leaf, joined, list_of, set_of, map_of, struct_of, non_exhaustive_of, tuple_of, pretty_part}
+use Rattle.ufmt.specs.Document.{Document, leaf, joined, list_of, set_of, map_of, struct_of, non_exhaustive_of, tuple_of, pretty_part, no_documents, first_document, no_fields, first_field}
 use Rattle.ufmt.specs.Leaves.{is_ender, is_opening}
 
 -- the text of a leaf, or the name of a struct or a tuple; other documents have none
@@ -15,6 +16,27 @@ document_name (struct_of name fs) = name
 document_name (non_exhaustive_of name fs) = name
 document_name (tuple_of name ds) = name
 document_name (pretty_part d) = []
+
+-- a document that prints as this name alone: a leaf, or a struct or a tuple without fields
+abbrev pub is_unit : List ℕ → Document → Bool
+is_unit name (leaf text) = bytes_eq text name
+is_unit name (joined ds) = false
+is_unit name (list_of ds) = false
+is_unit name (set_of ds) = false
+is_unit name (map_of ps) = false
+is_unit name (struct_of other no_fields) = bytes_eq other name
+is_unit name (struct_of other (first_field field value fs)) = false
+is_unit name (non_exhaustive_of other fs) = false
+is_unit name (tuple_of other no_documents) = bytes_eq other name
+is_unit name (tuple_of other (first_document d ds)) = false
+is_unit name (pretty_part d) = false
+
+-- as many names, and each is the same: a test, which is computed where the names are known
+abbrev pub same_names : List (List ℕ) → List (List ℕ) → Bool
+same_names [] [] = true
+same_names [] (name ∷ names) = false
+same_names (other ∷ others) [] = false
+same_names (other ∷ others) (name ∷ names) = bytes_eq other name && same_names others names
 
 -- a byte that comes after a name: a space, a comma or a bracket
 abbrev pub ends_name : ℕ → Bool

@@ -6,6 +6,7 @@ use std::alloc::Allocator;
 use ufmt::uDebug;
 
 /// Takes the text of what the box holds.
+#[tactic(auto, unfolding(crate::specs::Next::IsNotNext, crate::specs::Next::NextLeaves))]
 impl<A: Allocator + Copy, T: uParse<A>> uParse<A> for Box<T, A> {
     ghost is_value = { λ b. T.is_value b.value };
 

@@ -42,6 +42,7 @@ impl<T: ProvesValue, A: Allocator> ProvesValue for Vec<T, A> {
 #[derive(Drop)]
 pub struct By<F>(pub F);
 
+#[tactic(auto, unfolding(crate::specs::Next::IsNotNext, crate::specs::Next::NextLeaves))]
 impl<
     A,
     M: ParseMode,

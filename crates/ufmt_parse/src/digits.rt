@@ -11,9 +11,9 @@ pub(crate) trait Magnitude: Copy {
     // The least number that is too large.
     ghost bound: { ℕ };
 
-    /// A number of at most four digits.
+    /// A number of at most eight digits.
     fn from_few(few: u64) -> Self
-        requires { few < 10000 }
+        requires { few < 10 ^ 8 }
         ensures { (value result ≡ few) × (value result < bound) };
 
     /// The number with one digit more, or `None` if it is too large.
@@ -140,12 +140,12 @@ fn split_many<N: Magnitude>(start: N, input: &[u8]) -> Option<(N, &[u8])>
 }
 
 // How many digits after the first are looked for one by one. So nineteen and twenty digits are three, sixteen
-// and at most one.
+// and at most one, and most numbers that aren't long need no loop.
 #[inline(always)]
 fn few_digits(is_long: bool) -> usize
-    ensures { result ≤ 3 }
+    ensures { result ≤ 7 }
 {
-    if is_long { 2 } else { 3 }
+    if is_long { 2 } else { 7 }
 }
 
 // The same after one digit. Most numbers are short, so a few digits are looked for first, one by one.

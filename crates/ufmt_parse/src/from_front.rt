@@ -1,7 +1,8 @@
 //! Parsing from the front of a text: what each type does.
-ghost use Rattle.std.specs.Prelude.{◌≤◌, length, ◌≡◌, List, ℕ, IfOk, IfErr, ⊤};
+ghost use Rattle.std.specs.Prelude.{◌≤◌, length, ◌≡◌, ℕ, IfOk, IfErr, ⊤};
 ghost use Rattle.ufmt.specs.Layout.{layout};
-ghost use Rattle.ufmt_parse.specs.Taking.{Fits, IsNext, IsTaken, Takes, open_blocks, rest, setting_in};
+ghost use Rattle.ufmt_parse.specs.Next.{IsNotNext, NextLeaves};
+ghost use Rattle.ufmt_parse.specs.Taking.{Fits, IsTaken, Takes, open_blocks, rest, setting_in};
 
 use crate::mode::ParseMode;
 use crate::parser::{Fault, Parser};
@@ -26,10 +27,10 @@ pub trait uParse<A>: uDebug + Drop {
     where
         Self: Sized,
         ensures taken { IfOk result (λ v. IsTaken M.mode parser.old (Self.document v) parser.new) }
-        ensures only { IfOk result (λ _. (v : Self) (u : List ℕ) → is_value v
-            → IsNext M.mode parser.old (Self.document v) u → u ≡ rest parser.new) }
-        ensures none { IfErr result (λ fault. fault ≡ Fault.NotText → (v : Self) (u : List ℕ) → is_value v
-            → ¬ IsNext M.mode parser.old (Self.document v) u) }
+        ensures only { IfOk result (λ _. (v : Self) → is_value v
+            → NextLeaves M.mode parser.old (Self.document v) parser.new) }
+        ensures none { IfErr result (λ fault. fault ≡ Fault.NotText → (v : Self) → is_value v
+            → IsNotNext M.mode parser.old (Self.document v)) }
         ensures memory { holds_no_memory → IfErr result (λ fault. fault ≡ Fault.NotText) }
         ensures blocks { IfOk result (λ _. open_blocks parser.new ≡ open_blocks parser.old) }
         ensures shrinks { length (rest parser.new) ≤ length (rest parser.old) };

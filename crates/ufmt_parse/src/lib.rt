@@ -41,6 +41,7 @@ mod texts;
 mod tuple_impls;
 mod tuples;
 mod tuples_by;
+mod units;
 mod wrappers;
 
 pub use boxes::Boxed;
@@ -72,3 +73,4 @@ pub use tuples_by::{
     parse_tuple_1_by, parse_tuple_2_by, parse_tuple_3_by, parse_tuple_4_by, parse_tuple_5_by,
     parse_tuple_6_by,
 };
+pub use units::parse_unit;

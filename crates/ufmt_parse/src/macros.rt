@@ -21,15 +21,15 @@ macro_rules! parse_fields {
     };
     ($alloc:expr, $parser:expr, $name:ident {} $(,)?) => {{
         let _alloc = $alloc;
-        $crate::parse_unit!($parser, $name, $name {})
+        $crate::parse_unit_call!($parser, $name, $name {})
     }};
     ($alloc:expr, $parser:expr, $name:ident () $(,)?) => {{
         let _alloc = $alloc;
-        $crate::parse_unit!($parser, $name, $name())
+        $crate::parse_unit_call!($parser, $name, $name())
     }};
     ($alloc:expr, $parser:expr, $name:ident $(,)?) => {{
         let _alloc = $alloc;
-        $crate::parse_unit!($parser, $name, $name)
+        $crate::parse_unit_call!($parser, $name, $name)
     }};
     ($($other:tt)*) => {
         compile_error!("expected an allocator, a parser and a struct: `alloc, parser, Name { x, y }`, `alloc, parser, Name(x, y)` or `alloc, parser, Name`, with at most twelve fields")
@@ -78,21 +78,21 @@ macro_rules! parse_variant {
     };
     ([$alloc:ident, $parser:ident, $name:ident] $variant:ident {} $(, $($rest:tt)*)?) => {
         if $parser.is_named(stringify!($variant)) {
-            $crate::parse_unit!($parser, $variant, $name::$variant {})
+            $crate::parse_unit_call!($parser, $variant, $name::$variant {})
         } else {
             $crate::parse_variant!([$alloc, $parser, $name] $($($rest)*)?)
         }
     };
     ([$alloc:ident, $parser:ident, $name:ident] $variant:ident () $(, $($rest:tt)*)?) => {
         if $parser.is_named(stringify!($variant)) {
-            $crate::parse_unit!($parser, $variant, $name::$variant())
+            $crate::parse_unit_call!($parser, $variant, $name::$variant())
         } else {
             $crate::parse_variant!([$alloc, $parser, $name] $($($rest)*)?)
         }
     };
     ([$alloc:ident, $parser:ident, $name:ident] $variant:ident $(, $($rest:tt)*)?) => {
         if $parser.is_named(stringify!($variant)) {
-            $crate::parse_unit!($parser, $variant, $name::$variant)
+            $crate::parse_unit_call!($parser, $variant, $name::$variant)
         } else {
             $crate::parse_variant!([$alloc, $parser, $name] $($($rest)*)?)
         }
@@ -104,12 +104,11 @@ macro_rules! parse_variant {
 
 /// Takes the name of a value that prints as its name alone.
 #[macro_export]
-macro_rules! parse_unit {
+macro_rules! parse_unit_call {
     ($parser:expr, $name:ident, $value:expr) => {
-        if $crate::Parser::eats_name($parser, stringify!($name)) {
-            std::result::Result::Ok($value)
-        } else {
-            std::result::Result::Err($crate::Fault::NotText)
+        match $crate::parse_unit($parser, stringify!($name)) {
+            std::result::Result::Ok(()) => std::result::Result::Ok($value),
+            std::result::Result::Err(fault) => std::result::Result::Err(fault),
         }
     };
 }

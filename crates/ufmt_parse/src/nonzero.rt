@@ -1,11 +1,12 @@
 #![tactic(auto, using(crate::proofs::NonZeroTexts::natural_texts))]
 
 //! Nonzero numbers, which print as the numbers in them.
-ghost use Rattle.std.specs.Prelude.{◌≡◌, ◌≢◌, ◌≤◌, ⊤, length, List, ℕ, IfOk, IfErr, MatchOption};
+ghost use Rattle.std.specs.Prelude.{◌≡◌, ◌≢◌, ◌≤◌, ⊤, length, IfOk, IfErr, MatchOption};
 ghost use Rattle.std.specs.Int.NonZero.{non_zero_u8_get, non_zero_u16_get, non_zero_u32_get, non_zero_u64_get, non_zero_u128_get, non_zero_usize_get, non_zero_i8_get, non_zero_i16_get, non_zero_i32_get, non_zero_i64_get, non_zero_i128_get, non_zero_isize_get};
 ghost use Rattle.ufmt.specs.Layout.{layout};
 ghost use Rattle.ufmt_core.specs.declared.layout.Setting.{Setting};
-ghost use Rattle.ufmt_parse.specs.Taking.{IsNext, IsTaken, open_blocks, rest};
+ghost use Rattle.ufmt_parse.specs.Next.{IsNotNext, NextLeaves};
+ghost use Rattle.ufmt_parse.specs.Taking.{IsTaken, open_blocks, rest};
 ghost use Rattle.ufmt_parse.specs.Values.{is_non_zero_u8, is_non_zero_u16, is_non_zero_u32, is_non_zero_u64, is_non_zero_u128, is_non_zero_usize, is_non_zero_i8, is_non_zero_i16, is_non_zero_i32, is_non_zero_i64, is_non_zero_i128, is_non_zero_isize};
 
 use crate::from_front::uParse;
@@ -45,10 +46,10 @@ fn parse_non_zero<A, N: uParse<A>, T: NonZero<A, N>, M: ParseMode>(
     parser: &mut Parser<'_, M>,
 ) -> Result<T, Fault>
     ensures taken { IfOk result (λ v. IsTaken M.mode parser.old (T.document v) parser.new) }
-    ensures only { IfOk result (λ _. (v : T) (u : List ℕ) → T.in_range v
-        → IsNext M.mode parser.old (T.document v) u → u ≡ rest parser.new) }
-    ensures none { IfErr result (λ fault. fault ≡ Fault.NotText → (v : T) (u : List ℕ) → T.in_range v
-        → ¬ IsNext M.mode parser.old (T.document v) u) }
+    ensures only { IfOk result (λ _. (v : T) → T.in_range v
+        → NextLeaves M.mode parser.old (T.document v) parser.new) }
+    ensures none { IfErr result (λ fault. fault ≡ Fault.NotText → (v : T) → T.in_range v
+        → IsNotNext M.mode parser.old (T.document v)) }
     ensures memory { N.holds_no_memory → IfErr result (λ fault. fault ≡ Fault.NotText) }
     ensures blocks { IfOk result (λ _. open_blocks parser.new ≡ open_blocks parser.old) }
     ensures shrinks { length (rest parser.new) ≤ length (rest parser.old) }

@@ -2,8 +2,9 @@
 ghost use Rattle.std.specs.Prelude.{◌≡◌, ◌<◌, ◌≤◌, ⊤, length, List, ℕ, ℤ, pos, nat_abs, false, IfOk, IfErr, MatchOption};
 ghost use Rattle.ufmt_core.specs.Decimal.{decimal};
 ghost use Rattle.ufmt_core.specs.Document.{leaf};
+ghost use Rattle.ufmt_parse.specs.Next.{IsNotNext, NextLeaves};
 ghost use Rattle.ufmt_parse.specs.Private.Digits.{IsSigned, SplitsSign};
-ghost use Rattle.ufmt_parse.specs.Taking.{IsNext, IsTaken, open_blocks, rest};
+ghost use Rattle.ufmt_parse.specs.Taking.{IsTaken, open_blocks, rest};
 ghost use Rattle.ufmt_parse.specs.Values.{is_u8, is_u16, is_u32, is_u64, is_u128, is_usize, is_i8, is_i16, is_i32, is_i64, is_i128, is_isize};
 
 use crate::digits::{Magnitude, split_magnitude, split_minus};
@@ -268,10 +269,10 @@ fn parse_integer<N: Magnitude, T: Integer<N>, M: ParseMode>(
     is_long: bool,
 ) -> Result<T, Fault>
     ensures taken { IfOk result (λ v. IsTaken M.mode parser.old (leaf (decimal (T.int v))) parser.new) }
-    ensures only { IfOk result (λ _. (v : T) (u : List ℕ) → T.in_range v
-        → IsNext M.mode parser.old (leaf (decimal (T.int v))) u → u ≡ rest parser.new) }
-    ensures none { IfErr result (λ fault. fault ≡ Fault.NotText → (v : T) (u : List ℕ) → T.in_range v
-        → ¬ IsNext M.mode parser.old (leaf (decimal (T.int v))) u) }
+    ensures only { IfOk result (λ _. (v : T) → T.in_range v
+        → NextLeaves M.mode parser.old (leaf (decimal (T.int v))) parser.new) }
+    ensures none { IfErr result (λ fault. fault ≡ Fault.NotText → (v : T) → T.in_range v
+        → IsNotNext M.mode parser.old (leaf (decimal (T.int v)))) }
     ensures memory { IfErr result (λ fault. fault ≡ Fault.NotText) }
     ensures blocks { IfOk result (λ _. open_blocks parser.new ≡ open_blocks parser.old) }
     ensures shrinks { length (rest parser.new) ≤ length (rest parser.old) }

@@ -8,6 +8,7 @@ use crate::tuples::parse_tuple_1;
 use crate::tuples_by::parse_tuple_1_by;
 use ufmt::uDebug;
 
+#[tactic(auto, unfolding(crate::specs::Next::IsNotNext, crate::specs::Next::NextLeaves))]
 impl<A: Copy, T: uParse<A>> uParse<A> for Option<T> {
     ghost is_value = { λ o. IfSome o T.is_value };
 

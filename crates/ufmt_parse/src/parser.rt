@@ -1,12 +1,13 @@
 //! The rest of a text, and what is taken from its front.
-ghost use Rattle.std.specs.Prelude.{◌≡◌, ◌<◌, ◌≤◌, ◌-◌, length, MatchBool, false, suc, List, ℕ};
+ghost use Rattle.std.specs.Prelude.{◌≡◌, ◌<◌, ◌≤◌, ◌-◌, length, MatchBool, false, not, suc};
 ghost use Rattle.std.specs.Str.{bytes_eq};
 ghost use Rattle.ufmt.specs.Layout.{ending, frame, lead};
 ghost use Rattle.ufmt_core.specs.declared.layout.Count.TheVariants.{Zero};
-ghost use Rattle.ufmt.specs.Document.{Document, leaf, no_documents, no_fields, struct_of, tuple_of};
+ghost use Rattle.ufmt.specs.Document.{Document};
 ghost use Rattle.ufmt.specs.Leaves.{IsWord};
-ghost use Rattle.ufmt_parse.specs.Naming.{document_name, is_past_name};
-ghost use Rattle.ufmt_parse.specs.Taking.{Eats, Fits, IsNext, open_blocks, rest, setting_in};
+ghost use Rattle.ufmt_parse.specs.Naming.{document_name, ends_name, is_past_name};
+ghost use Rattle.ufmt_parse.specs.Next.{IsNotNext, NextLeaves};
+ghost use Rattle.ufmt_parse.specs.Taking.{Eats, open_blocks, rest, setting_in};
 
 use crate::mode::ParseMode;
 use crate::strip::{strip_ending, strip_lead, strip_piece};
@@ -72,29 +73,15 @@ impl<'t, M: ParseMode> Parser<'t, M> {
     #[inline(always)]
     pub fn is_named(&self, name: &str) -> bool
         requires { IsWord name.now }
-        ensures { (d : Document) (u : List ℕ) → IsNext M.mode self.now d u
-            → bytes_eq (document_name d) name.now ≡ result }
+        ensures none { (d : Document) → bytes_eq (document_name d) name.now ≡ not result
+            → IsNotNext M.mode self.now d }
+        ensures only { (d : Document) (new : Parser M) → bytes_eq (document_name d) name.now ≡ not result
+            → NextLeaves M.mode self.now d new }
     {
         match strip_piece(name, self.rest) {
             Some(after) => is_past_name(after),
             None => false,
         }
-    }
-
-    /// Takes this name from the front, if it is there: a value that prints as its name alone. Returns
-    /// whether it was. It may be the beginning of a longer name: see `is_named`.
-    #[inline(always)]
-    pub fn eats_name(&mut self, name: &str) -> bool
-        requires { IsWord name.now }
-        ensures eats { Eats name.now (rest self.old) result (rest self.new) }
-        ensures unit { Fits (open_blocks self.old) (leaf name.now) }
-        ensures unit_struct { Fits (open_blocks self.old) (struct_of name.now no_fields) }
-        ensures unit_tuple { Fits (open_blocks self.old) (tuple_of name.now no_documents) }
-        ensures stays { result ≡ false → rest self.new ≡ rest self.old }
-        ensures shrinks { length (rest self.new) ≤ length (rest self.old) }
-        ensures blocks { open_blocks self.new ≡ open_blocks self.old }
-    {
-        self.eats(name)
     }
 
     /// Takes what comes before an entry of the innermost block, which has this many entries before it.
@@ -207,12 +194,25 @@ impl<'t, M: ParseMode> Parser<'t, M> {
 fn is_past_name(after: &[u8]) -> bool
     ensures { result ≡ is_past_name after.now }
 {
-    match after {
-        [] => true,
-        [b':', b' ', ..] => true,
-        [first, ..] => matches!(
-            *first,
-            b' ' | b'(' | b'[' | b'{' | b',' | b']' | b')' | b'}'
-        ),
+    match after.split_first() {
+        None => true,
+        Some((&first, after)) => ends_name(first) || first == b':' && matches!(after, [b' ', ..]),
     }
+}
+
+// Marks each byte that comes after a name.
+static ENDING_BYTES: [u8; 256] = *b"\
+    ................................e.......ee..e...................\
+    ...........................e.e.............................e.e..\
+    ................................................................\
+    ................................................................";
+
+// Whether the byte comes after a name: a space, a comma or a bracket. The compiler would make of a `match` two
+// tests of bits and some comparisons.
+#[inline(always)]
+#[tactic(auto, using(crate::proofs::NameBytes::ending_bytes))]
+fn ends_name(byte: u8) -> bool
+    ensures { result ≡ ends_name byte }
+{
+    ENDING_BYTES[byte as usize] == b'e'
 }

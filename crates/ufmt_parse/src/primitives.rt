@@ -5,6 +5,7 @@ use crate::from_front::uParse;
 use crate::mode::ParseMode;
 use crate::parser::{Fault, Parser};
 
+#[tactic(auto, unfolding(crate::specs::Next::IsNotNext, crate::specs::Next::NextLeaves))]
 impl<A: Copy> uParse<A> for bool {
     ghost is_value = { λ _. ⊤ };
 
@@ -24,6 +25,7 @@ impl<A: Copy> uParse<A> for bool {
     }
 }
 
+#[tactic(auto, unfolding(crate::specs::Next::IsNotNext, crate::specs::Next::NextLeaves))]
 impl<A: Copy> uParse<A> for () {
     ghost is_value = { λ _. ⊤ };
 

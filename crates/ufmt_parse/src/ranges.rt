@@ -6,6 +6,7 @@ use crate::mode::ParseMode;
 use crate::parser::{Fault, Parser};
 use std::ops::RangeFull;
 
+#[tactic(auto, unfolding(crate::specs::Next::IsNotNext, crate::specs::Next::NextLeaves))]
 impl<A: Copy> uParse<A> for RangeFull {
     ghost is_value = { λ _. ⊤ };
 

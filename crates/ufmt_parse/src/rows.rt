@@ -3,8 +3,9 @@ ghost use Rattle.std.specs.Prelude.{◌≤◌, ◌<◌, ◌-◌, length, [], ◌
 ghost use Rattle.ufmt.specs.Document.{Document, documents, fields_of, struct_of, tuple_of};
 ghost use Rattle.ufmt.specs.Layout.{block_tail, frame};
 ghost use Rattle.ufmt.specs.Leaves.{IsWordOrEmpty};
+ghost use Rattle.ufmt_parse.specs.Next.{IsNotNext, NextLeaves};
 ghost use Rattle.ufmt_parse.specs.Rows.{all_now, row_texts, AllFit};
-ghost use Rattle.ufmt_parse.specs.Taking.{AreWords, IsNext, IsTaken, Takes, open_blocks, rest, setting_in};
+ghost use Rattle.ufmt_parse.specs.Taking.{AreWords, IsTaken, Takes, open_blocks, rest, setting_in};
 
 use crate::entries::{Named, Value};
 use crate::fields::{FieldParsers, parse_block};
@@ -152,12 +153,12 @@ pub(crate) fn parse_struct_row<A: Copy, M: ParseMode, V: Drop, R: RowParsers<A, 
     ensures values { IfOk result R.are_values }
     ensures taken { IfOk result (λ v. IsTaken M.mode parser.old (struct_of name.now (fields_of
         (zip (all_now names.now) (R.documents v)))) parser.new) }
-    ensures only { IfOk result (λ _. (v : V) (u : List ℕ) → R.are_values v
-        → IsNext M.mode parser.old (struct_of name.now (fields_of
-        (zip (all_now names.now) (R.documents v)))) u → u ≡ rest parser.new) }
-    ensures none { IfErr result (λ fault. fault ≡ Fault.NotText → (v : V) (u : List ℕ)
-        → R.are_values v → ¬ IsNext M.mode parser.old (struct_of name.now (fields_of
-        (zip (all_now names.now) (R.documents v)))) u) }
+    ensures only { IfOk result (λ _. (v : V) → R.are_values v
+        → NextLeaves M.mode parser.old (struct_of name.now (fields_of
+        (zip (all_now names.now) (R.documents v)))) parser.new) }
+    ensures none { IfErr result (λ fault. fault ≡ Fault.NotText → (v : V) → R.are_values v
+        → IsNotNext M.mode parser.old (struct_of name.now (fields_of
+        (zip (all_now names.now) (R.documents v))))) }
     ensures memory { R.hold_no_memory → IfErr result (λ fault. fault ≡ Fault.NotText) }
     ensures blocks { IfOk result (λ _. open_blocks parser.new ≡ open_blocks parser.old) }
     ensures shrinks { length (rest parser.new) ≤ length (rest parser.old) }
@@ -179,11 +180,10 @@ pub(crate) fn parse_tuple_row<A: Copy, M: ParseMode, V: Drop, R: RowParsers<A, M
     ensures values { IfOk result R.are_values }
     ensures taken { IfOk result (λ v. IsTaken M.mode parser.old
         (tuple_of name.now (documents (R.documents v))) parser.new) }
-    ensures only { IfOk result (λ _. (v : V) (u : List ℕ) → R.are_values v → IsNext M.mode parser.old
-        (tuple_of name.now (documents (R.documents v))) u → u ≡ rest parser.new) }
-    ensures none { IfErr result (λ fault. fault ≡ Fault.NotText → (v : V) (u : List ℕ)
-        → R.are_values v → ¬ IsNext M.mode parser.old
-        (tuple_of name.now (documents (R.documents v))) u) }
+    ensures only { IfOk result (λ _. (v : V) → R.are_values v → NextLeaves M.mode parser.old
+        (tuple_of name.now (documents (R.documents v))) parser.new) }
+    ensures none { IfErr result (λ fault. fault ≡ Fault.NotText → (v : V) → R.are_values v
+        → IsNotNext M.mode parser.old (tuple_of name.now (documents (R.documents v)))) }
     ensures memory { R.hold_no_memory → IfErr result (λ fault. fault ≡ Fault.NotText) }
     ensures blocks { IfOk result (λ _. open_blocks parser.new ≡ open_blocks parser.old) }
     ensures shrinks { length (rest parser.new) ≤ length (rest parser.old) }

@@ -109,6 +109,10 @@ pub(crate) fn strip_ending(
 ) -> Option<&[u8]>
     ensures { now_of result ≡ strip (ending (frame mode kind) (setting_in mode open_blocks) count) input.now }
 {
+    // Both bytes are compared as one word.
+    if let (Mode::Plain, Kind::Struct, Count::One | Count::Several) = (mode, kind, count) {
+        return strip_two(*b" }", input);
+    }
     let line = match count {
         Count::Zero => input,
         Count::One | Count::Several => { strip_to_line("", setting_in(mode, open_blocks), input)? }

@@ -1,7 +1,9 @@
 //! Structs by their number of fields. tools/write-by-count writes this file: change it there.
-ghost use Rattle.std.specs.Prelude.{◌≤◌, length, [], ◌∷◌, ◌≡◌, List, ℕ, IfOk, IfErr};
+ghost use Rattle.std.specs.Prelude.{◌≤◌, length, [], ◌∷◌, ◌≡◌, List, ℕ, true, IfOk, IfErr};
 ghost use Rattle.ufmt.specs.Document.{fields_of, struct_of};
-ghost use Rattle.ufmt_parse.specs.Taking.{AreWords, IsNext, IsTaken, open_blocks, rest};
+ghost use Rattle.ufmt_parse.specs.Naming.{same_names};
+ghost use Rattle.ufmt_parse.specs.Next.{IsNotNext, NextLeaves};
+ghost use Rattle.ufmt_parse.specs.Taking.{AreWords, IsTaken, open_blocks, rest};
 
 use crate::from_front::{Plain, uParse};
 use crate::mode::ParseMode;
@@ -19,12 +21,14 @@ pub fn parse_struct_1<Alloc: Copy, A: uParse<Alloc>, M: ParseMode>(
     requires { AreWords (name.now ∷ a.now ∷ []) }
     ensures taken { IfOk result (λ v. IsTaken M.mode parser.old (struct_of name.now (fields_of
         ((a.now, A.document v) ∷ []))) parser.new) }
-    ensures only { IfOk result (λ _. (a_value : A) (u : List ℕ) → A.is_value a_value
-        → IsNext M.mode parser.old (struct_of name.now (fields_of ((a.now, A.document a_value)
-        ∷ []))) u → u ≡ rest parser.new) }
-    ensures none { IfErr result (λ fault. fault ≡ Fault.NotText → (a_value : A) (u : List ℕ)
-        → A.is_value a_value → ¬ IsNext M.mode parser.old (struct_of name.now (fields_of
-        ((a.now, A.document a_value) ∷ []))) u) }
+    ensures only { IfOk result (λ _. (block_name a_name : List ℕ) (a_value : A)
+        → same_names (block_name ∷ a_name ∷ []) (name.now ∷ a.now ∷ []) ≡ true → A.is_value a_value
+        → NextLeaves M.mode parser.old (struct_of block_name (fields_of
+        ((a_name, A.document a_value) ∷ []))) parser.new) }
+    ensures none { IfErr result (λ fault. fault ≡ Fault.NotText → (block_name a_name : List ℕ)
+        (a_value : A) → same_names (block_name ∷ a_name ∷ []) (name.now ∷ a.now ∷ []) ≡ true
+        → A.is_value a_value → IsNotNext M.mode parser.old (struct_of block_name (fields_of
+        ((a_name, A.document a_value) ∷ [])))) }
     ensures memory { A.holds_no_memory → IfErr result (λ fault. fault ≡ Fault.NotText) }
     ensures blocks { IfOk result (λ _. open_blocks parser.new ≡ open_blocks parser.old) }
     ensures shrinks { length (rest parser.new) ≤ length (rest parser.old) }
@@ -47,14 +51,17 @@ pub fn parse_struct_2<Alloc: Copy, A: uParse<Alloc>, B: uParse<Alloc>, M: ParseM
     requires { AreWords (name.now ∷ a.now ∷ b.now ∷ []) }
     ensures taken { IfOk result (λ v. IsTaken M.mode parser.old (struct_of name.now (fields_of
         ((a.now, A.document v.0) ∷ (b.now, B.document v.1) ∷ []))) parser.new) }
-    ensures only { IfOk result (λ _. (a_value : A) (b_value : B) (u : List ℕ) → A.is_value a_value
-        → B.is_value b_value → IsNext M.mode parser.old (struct_of name.now (fields_of
-        ((a.now, A.document a_value) ∷ (b.now, B.document b_value) ∷ []))) u
-        → u ≡ rest parser.new) }
-    ensures none { IfErr result (λ fault. fault ≡ Fault.NotText → (a_value : A) (b_value : B)
-        (u : List ℕ) → A.is_value a_value → B.is_value b_value → ¬ IsNext M.mode parser.old
-        (struct_of name.now (fields_of ((a.now, A.document a_value) ∷ (b.now, B.document b_value)
-        ∷ []))) u) }
+    ensures only { IfOk result (λ _. (block_name a_name b_name : List ℕ) (a_value : A) (b_value : B)
+        → same_names (block_name ∷ a_name ∷ b_name ∷ []) (name.now ∷ a.now ∷ b.now ∷ []) ≡ true
+        → A.is_value a_value → B.is_value b_value → NextLeaves M.mode parser.old
+        (struct_of block_name (fields_of ((a_name, A.document a_value)
+        ∷ (b_name, B.document b_value) ∷ []))) parser.new) }
+    ensures none { IfErr result (λ fault. fault ≡ Fault.NotText →
+        (block_name a_name b_name : List ℕ) (a_value : A) (b_value : B)
+        → same_names (block_name ∷ a_name ∷ b_name ∷ []) (name.now ∷ a.now ∷ b.now ∷ []) ≡ true
+        → A.is_value a_value → B.is_value b_value → IsNotNext M.mode parser.old
+        (struct_of block_name (fields_of ((a_name, A.document a_value)
+        ∷ (b_name, B.document b_value) ∷ [])))) }
     ensures memory { A.holds_no_memory × B.holds_no_memory → IfErr result (λ fault.
         fault ≡ Fault.NotText) }
     ensures blocks { IfOk result (λ _. open_blocks parser.new ≡ open_blocks parser.old) }
@@ -83,14 +90,19 @@ pub fn parse_struct_3<
     ensures taken { IfOk result (λ v. IsTaken M.mode parser.old (struct_of name.now (fields_of
         ((a.now, A.document v.0) ∷ (b.now, B.document v.1) ∷ (c.now, C.document v.2) ∷ [])))
         parser.new) }
-    ensures only { IfOk result (λ _. (a_value : A) (b_value : B) (c_value : C) (u : List ℕ)
-        → A.is_value a_value → B.is_value b_value → C.is_value c_value → IsNext M.mode parser.old
-        (struct_of name.now (fields_of ((a.now, A.document a_value) ∷ (b.now, B.document b_value)
-        ∷ (c.now, C.document c_value) ∷ []))) u → u ≡ rest parser.new) }
-    ensures none { IfErr result (λ fault. fault ≡ Fault.NotText → (a_value : A) (b_value : B)
-        (c_value : C) (u : List ℕ) → A.is_value a_value → B.is_value b_value → C.is_value c_value
-        → ¬ IsNext M.mode parser.old (struct_of name.now (fields_of ((a.now, A.document a_value)
-        ∷ (b.now, B.document b_value) ∷ (c.now, C.document c_value) ∷ []))) u) }
+    ensures only { IfOk result (λ _. (block_name a_name b_name c_name : List ℕ) (a_value : A)
+        (b_value : B) (c_value : C) → same_names (block_name ∷ a_name ∷ b_name ∷ c_name ∷ [])
+        (name.now ∷ a.now ∷ b.now ∷ c.now ∷ []) ≡ true → A.is_value a_value → B.is_value b_value
+        → C.is_value c_value → NextLeaves M.mode parser.old (struct_of block_name (fields_of
+        ((a_name, A.document a_value) ∷ (b_name, B.document b_value) ∷ (c_name, C.document c_value)
+        ∷ []))) parser.new) }
+    ensures none { IfErr result (λ fault. fault ≡ Fault.NotText →
+        (block_name a_name b_name c_name : List ℕ) (a_value : A) (b_value : B) (c_value : C)
+        → same_names (block_name ∷ a_name ∷ b_name ∷ c_name ∷ [])
+        (name.now ∷ a.now ∷ b.now ∷ c.now ∷ []) ≡ true → A.is_value a_value → B.is_value b_value
+        → C.is_value c_value → IsNotNext M.mode parser.old (struct_of block_name (fields_of
+        ((a_name, A.document a_value) ∷ (b_name, B.document b_value) ∷ (c_name, C.document c_value)
+        ∷ [])))) }
     ensures memory { A.holds_no_memory × B.holds_no_memory × C.holds_no_memory
         → IfErr result (λ fault. fault ≡ Fault.NotText) }
     ensures blocks { IfOk result (λ _. open_blocks parser.new ≡ open_blocks parser.old) }
@@ -121,16 +133,22 @@ pub fn parse_struct_4<
     ensures taken { IfOk result (λ v. IsTaken M.mode parser.old (struct_of name.now (fields_of
         ((a.now, A.document v.0) ∷ (b.now, B.document v.1) ∷ (c.now, C.document v.2)
         ∷ (d.now, D.document v.3) ∷ []))) parser.new) }
-    ensures only { IfOk result (λ _. (a_value : A) (b_value : B) (c_value : C) (d_value : D)
-        (u : List ℕ) → A.is_value a_value → B.is_value b_value → C.is_value c_value
-        → D.is_value d_value → IsNext M.mode parser.old (struct_of name.now (fields_of
-        ((a.now, A.document a_value) ∷ (b.now, B.document b_value) ∷ (c.now, C.document c_value)
-        ∷ (d.now, D.document d_value) ∷ []))) u → u ≡ rest parser.new) }
-    ensures none { IfErr result (λ fault. fault ≡ Fault.NotText → (a_value : A) (b_value : B)
-        (c_value : C) (d_value : D) (u : List ℕ) → A.is_value a_value → B.is_value b_value
-        → C.is_value c_value → D.is_value d_value → ¬ IsNext M.mode parser.old
-        (struct_of name.now (fields_of ((a.now, A.document a_value) ∷ (b.now, B.document b_value)
-        ∷ (c.now, C.document c_value) ∷ (d.now, D.document d_value) ∷ []))) u) }
+    ensures only { IfOk result (λ _. (block_name a_name b_name c_name d_name : List ℕ) (a_value : A)
+        (b_value : B) (c_value : C) (d_value : D)
+        → same_names (block_name ∷ a_name ∷ b_name ∷ c_name ∷ d_name ∷ [])
+        (name.now ∷ a.now ∷ b.now ∷ c.now ∷ d.now ∷ []) ≡ true → A.is_value a_value
+        → B.is_value b_value → C.is_value c_value → D.is_value d_value
+        → NextLeaves M.mode parser.old (struct_of block_name (fields_of
+        ((a_name, A.document a_value) ∷ (b_name, B.document b_value) ∷ (c_name, C.document c_value)
+        ∷ (d_name, D.document d_value) ∷ []))) parser.new) }
+    ensures none { IfErr result (λ fault. fault ≡ Fault.NotText →
+        (block_name a_name b_name c_name d_name : List ℕ) (a_value : A) (b_value : B) (c_value : C)
+        (d_value : D) → same_names (block_name ∷ a_name ∷ b_name ∷ c_name ∷ d_name ∷ [])
+        (name.now ∷ a.now ∷ b.now ∷ c.now ∷ d.now ∷ []) ≡ true → A.is_value a_value
+        → B.is_value b_value → C.is_value c_value → D.is_value d_value → IsNotNext M.mode parser.old
+        (struct_of block_name (fields_of ((a_name, A.document a_value)
+        ∷ (b_name, B.document b_value) ∷ (c_name, C.document c_value) ∷ (d_name, D.document d_value)
+        ∷ [])))) }
     ensures memory { A.holds_no_memory × B.holds_no_memory × C.holds_no_memory × D.holds_no_memory
         → IfErr result (λ fault. fault ≡ Fault.NotText) }
     ensures blocks { IfOk result (λ _. open_blocks parser.new ≡ open_blocks parser.old) }
@@ -163,18 +181,23 @@ pub fn parse_struct_5<
     ensures taken { IfOk result (λ v. IsTaken M.mode parser.old (struct_of name.now (fields_of
         ((a.now, A.document v.0) ∷ (b.now, B.document v.1) ∷ (c.now, C.document v.2)
         ∷ (d.now, D.document v.3) ∷ (e.now, E.document v.4) ∷ []))) parser.new) }
-    ensures only { IfOk result (λ _. (a_value : A) (b_value : B) (c_value : C) (d_value : D)
-        (e_value : E) (u : List ℕ) → A.is_value a_value → B.is_value b_value → C.is_value c_value
-        → D.is_value d_value → E.is_value e_value → IsNext M.mode parser.old
-        (struct_of name.now (fields_of ((a.now, A.document a_value) ∷ (b.now, B.document b_value)
-        ∷ (c.now, C.document c_value) ∷ (d.now, D.document d_value) ∷ (e.now, E.document e_value)
-        ∷ []))) u → u ≡ rest parser.new) }
-    ensures none { IfErr result (λ fault. fault ≡ Fault.NotText → (a_value : A) (b_value : B)
-        (c_value : C) (d_value : D) (e_value : E) (u : List ℕ) → A.is_value a_value
+    ensures only { IfOk result (λ _. (block_name a_name b_name c_name d_name e_name : List ℕ)
+        (a_value : A) (b_value : B) (c_value : C) (d_value : D) (e_value : E)
+        → same_names (block_name ∷ a_name ∷ b_name ∷ c_name ∷ d_name ∷ e_name ∷ [])
+        (name.now ∷ a.now ∷ b.now ∷ c.now ∷ d.now ∷ e.now ∷ []) ≡ true → A.is_value a_value
         → B.is_value b_value → C.is_value c_value → D.is_value d_value → E.is_value e_value
-        → ¬ IsNext M.mode parser.old (struct_of name.now (fields_of ((a.now, A.document a_value)
-        ∷ (b.now, B.document b_value) ∷ (c.now, C.document c_value) ∷ (d.now, D.document d_value)
-        ∷ (e.now, E.document e_value) ∷ []))) u) }
+        → NextLeaves M.mode parser.old (struct_of block_name (fields_of
+        ((a_name, A.document a_value) ∷ (b_name, B.document b_value) ∷ (c_name, C.document c_value)
+        ∷ (d_name, D.document d_value) ∷ (e_name, E.document e_value) ∷ []))) parser.new) }
+    ensures none { IfErr result (λ fault. fault ≡ Fault.NotText →
+        (block_name a_name b_name c_name d_name e_name : List ℕ) (a_value : A) (b_value : B)
+        (c_value : C) (d_value : D) (e_value : E)
+        → same_names (block_name ∷ a_name ∷ b_name ∷ c_name ∷ d_name ∷ e_name ∷ [])
+        (name.now ∷ a.now ∷ b.now ∷ c.now ∷ d.now ∷ e.now ∷ []) ≡ true → A.is_value a_value
+        → B.is_value b_value → C.is_value c_value → D.is_value d_value → E.is_value e_value
+        → IsNotNext M.mode parser.old (struct_of block_name (fields_of ((a_name, A.document a_value)
+        ∷ (b_name, B.document b_value) ∷ (c_name, C.document c_value) ∷ (d_name, D.document d_value)
+        ∷ (e_name, E.document e_value) ∷ [])))) }
     ensures memory { A.holds_no_memory × B.holds_no_memory × C.holds_no_memory × D.holds_no_memory
         × E.holds_no_memory → IfErr result (λ fault. fault ≡ Fault.NotText) }
     ensures blocks { IfOk result (λ _. open_blocks parser.new ≡ open_blocks parser.old) }
@@ -210,20 +233,25 @@ pub fn parse_struct_6<
         ((a.now, A.document v.0) ∷ (b.now, B.document v.1) ∷ (c.now, C.document v.2)
         ∷ (d.now, D.document v.3) ∷ (e.now, E.document v.4) ∷ (f.now, F.document v.5) ∷ [])))
         parser.new) }
-    ensures only { IfOk result (λ _. (a_value : A) (b_value : B) (c_value : C) (d_value : D)
-        (e_value : E) (f_value : F) (u : List ℕ) → A.is_value a_value → B.is_value b_value
-        → C.is_value c_value → D.is_value d_value → E.is_value e_value → F.is_value f_value
-        → IsNext M.mode parser.old (struct_of name.now (fields_of ((a.now, A.document a_value)
-        ∷ (b.now, B.document b_value) ∷ (c.now, C.document c_value) ∷ (d.now, D.document d_value)
-        ∷ (e.now, E.document e_value) ∷ (f.now, F.document f_value) ∷ []))) u
-        → u ≡ rest parser.new) }
-    ensures none { IfErr result (λ fault. fault ≡ Fault.NotText → (a_value : A) (b_value : B)
-        (c_value : C) (d_value : D) (e_value : E) (f_value : F) (u : List ℕ) → A.is_value a_value
+    ensures only { IfOk result (λ _. (block_name a_name b_name c_name d_name e_name f_name : List ℕ)
+        (a_value : A) (b_value : B) (c_value : C) (d_value : D) (e_value : E) (f_value : F)
+        → same_names (block_name ∷ a_name ∷ b_name ∷ c_name ∷ d_name ∷ e_name ∷ f_name ∷ [])
+        (name.now ∷ a.now ∷ b.now ∷ c.now ∷ d.now ∷ e.now ∷ f.now ∷ []) ≡ true → A.is_value a_value
         → B.is_value b_value → C.is_value c_value → D.is_value d_value → E.is_value e_value
-        → F.is_value f_value → ¬ IsNext M.mode parser.old (struct_of name.now (fields_of
-        ((a.now, A.document a_value) ∷ (b.now, B.document b_value) ∷ (c.now, C.document c_value)
-        ∷ (d.now, D.document d_value) ∷ (e.now, E.document e_value) ∷ (f.now, F.document f_value)
-        ∷ []))) u) }
+        → F.is_value f_value → NextLeaves M.mode parser.old (struct_of block_name (fields_of
+        ((a_name, A.document a_value) ∷ (b_name, B.document b_value) ∷ (c_name, C.document c_value)
+        ∷ (d_name, D.document d_value) ∷ (e_name, E.document e_value) ∷ (f_name, F.document f_value)
+        ∷ []))) parser.new) }
+    ensures none { IfErr result (λ fault. fault ≡ Fault.NotText →
+        (block_name a_name b_name c_name d_name e_name f_name : List ℕ) (a_value : A) (b_value : B)
+        (c_value : C) (d_value : D) (e_value : E) (f_value : F)
+        → same_names (block_name ∷ a_name ∷ b_name ∷ c_name ∷ d_name ∷ e_name ∷ f_name ∷ [])
+        (name.now ∷ a.now ∷ b.now ∷ c.now ∷ d.now ∷ e.now ∷ f.now ∷ []) ≡ true → A.is_value a_value
+        → B.is_value b_value → C.is_value c_value → D.is_value d_value → E.is_value e_value
+        → F.is_value f_value → IsNotNext M.mode parser.old (struct_of block_name (fields_of
+        ((a_name, A.document a_value) ∷ (b_name, B.document b_value) ∷ (c_name, C.document c_value)
+        ∷ (d_name, D.document d_value) ∷ (e_name, E.document e_value) ∷ (f_name, F.document f_value)
+        ∷ [])))) }
     ensures memory { A.holds_no_memory × B.holds_no_memory × C.holds_no_memory × D.holds_no_memory
         × E.holds_no_memory × F.holds_no_memory → IfErr result (λ fault. fault ≡ Fault.NotText) }
     ensures blocks { IfOk result (λ _. open_blocks parser.new ≡ open_blocks parser.old) }
@@ -261,21 +289,28 @@ pub fn parse_struct_7<
         ((a.now, A.document v.0) ∷ (b.now, B.document v.1) ∷ (c.now, C.document v.2)
         ∷ (d.now, D.document v.3) ∷ (e.now, E.document v.4) ∷ (f.now, F.document v.5)
         ∷ (g.now, G.document v.6) ∷ []))) parser.new) }
-    ensures only { IfOk result (λ _. (a_value : A) (b_value : B) (c_value : C) (d_value : D)
-        (e_value : E) (f_value : F) (g_value : G) (u : List ℕ) → A.is_value a_value
-        → B.is_value b_value → C.is_value c_value → D.is_value d_value → E.is_value e_value
-        → F.is_value f_value → G.is_value g_value → IsNext M.mode parser.old
-        (struct_of name.now (fields_of ((a.now, A.document a_value) ∷ (b.now, B.document b_value)
-        ∷ (c.now, C.document c_value) ∷ (d.now, D.document d_value) ∷ (e.now, E.document e_value)
-        ∷ (f.now, F.document f_value) ∷ (g.now, G.document g_value) ∷ []))) u
-        → u ≡ rest parser.new) }
-    ensures none { IfErr result (λ fault. fault ≡ Fault.NotText → (a_value : A) (b_value : B)
-        (c_value : C) (d_value : D) (e_value : E) (f_value : F) (g_value : G) (u : List ℕ)
+    ensures only { IfOk result (λ _.
+        (block_name a_name b_name c_name d_name e_name f_name g_name : List ℕ) (a_value : A)
+        (b_value : B) (c_value : C) (d_value : D) (e_value : E) (f_value : F) (g_value : G)
+        → same_names (block_name ∷ a_name ∷ b_name ∷ c_name ∷ d_name ∷ e_name ∷ f_name ∷ g_name ∷ [])
+        (name.now ∷ a.now ∷ b.now ∷ c.now ∷ d.now ∷ e.now ∷ f.now ∷ g.now ∷ []) ≡ true
         → A.is_value a_value → B.is_value b_value → C.is_value c_value → D.is_value d_value
-        → E.is_value e_value → F.is_value f_value → G.is_value g_value → ¬ IsNext M.mode parser.old
-        (struct_of name.now (fields_of ((a.now, A.document a_value) ∷ (b.now, B.document b_value)
-        ∷ (c.now, C.document c_value) ∷ (d.now, D.document d_value) ∷ (e.now, E.document e_value)
-        ∷ (f.now, F.document f_value) ∷ (g.now, G.document g_value) ∷ []))) u) }
+        → E.is_value e_value → F.is_value f_value → G.is_value g_value
+        → NextLeaves M.mode parser.old (struct_of block_name (fields_of
+        ((a_name, A.document a_value) ∷ (b_name, B.document b_value) ∷ (c_name, C.document c_value)
+        ∷ (d_name, D.document d_value) ∷ (e_name, E.document e_value) ∷ (f_name, F.document f_value)
+        ∷ (g_name, G.document g_value) ∷ []))) parser.new) }
+    ensures none { IfErr result (λ fault. fault ≡ Fault.NotText →
+        (block_name a_name b_name c_name d_name e_name f_name g_name : List ℕ) (a_value : A)
+        (b_value : B) (c_value : C) (d_value : D) (e_value : E) (f_value : F) (g_value : G)
+        → same_names (block_name ∷ a_name ∷ b_name ∷ c_name ∷ d_name ∷ e_name ∷ f_name ∷ g_name ∷ [])
+        (name.now ∷ a.now ∷ b.now ∷ c.now ∷ d.now ∷ e.now ∷ f.now ∷ g.now ∷ []) ≡ true
+        → A.is_value a_value → B.is_value b_value → C.is_value c_value → D.is_value d_value
+        → E.is_value e_value → F.is_value f_value → G.is_value g_value → IsNotNext M.mode parser.old
+        (struct_of block_name (fields_of ((a_name, A.document a_value)
+        ∷ (b_name, B.document b_value) ∷ (c_name, C.document c_value) ∷ (d_name, D.document d_value)
+        ∷ (e_name, E.document e_value) ∷ (f_name, F.document f_value) ∷ (g_name, G.document g_value)
+        ∷ [])))) }
     ensures memory { A.holds_no_memory × B.holds_no_memory × C.holds_no_memory × D.holds_no_memory
         × E.holds_no_memory × F.holds_no_memory × G.holds_no_memory → IfErr result (λ fault.
         fault ≡ Fault.NotText) }
@@ -316,22 +351,30 @@ pub fn parse_struct_8<
         ((a.now, A.document v.0) ∷ (b.now, B.document v.1) ∷ (c.now, C.document v.2)
         ∷ (d.now, D.document v.3) ∷ (e.now, E.document v.4) ∷ (f.now, F.document v.5)
         ∷ (g.now, G.document v.6) ∷ (h.now, H.document v.7) ∷ []))) parser.new) }
-    ensures only { IfOk result (λ _. (a_value : A) (b_value : B) (c_value : C) (d_value : D)
-        (e_value : E) (f_value : F) (g_value : G) (h_value : H) (u : List ℕ) → A.is_value a_value
-        → B.is_value b_value → C.is_value c_value → D.is_value d_value → E.is_value e_value
-        → F.is_value f_value → G.is_value g_value → H.is_value h_value → IsNext M.mode parser.old
-        (struct_of name.now (fields_of ((a.now, A.document a_value) ∷ (b.now, B.document b_value)
-        ∷ (c.now, C.document c_value) ∷ (d.now, D.document d_value) ∷ (e.now, E.document e_value)
-        ∷ (f.now, F.document f_value) ∷ (g.now, G.document g_value) ∷ (h.now, H.document h_value)
-        ∷ []))) u → u ≡ rest parser.new) }
-    ensures none { IfErr result (λ fault. fault ≡ Fault.NotText → (a_value : A) (b_value : B)
-        (c_value : C) (d_value : D) (e_value : E) (f_value : F) (g_value : G) (h_value : H)
-        (u : List ℕ) → A.is_value a_value → B.is_value b_value → C.is_value c_value
-        → D.is_value d_value → E.is_value e_value → F.is_value f_value → G.is_value g_value
-        → H.is_value h_value → ¬ IsNext M.mode parser.old (struct_of name.now (fields_of
-        ((a.now, A.document a_value) ∷ (b.now, B.document b_value) ∷ (c.now, C.document c_value)
-        ∷ (d.now, D.document d_value) ∷ (e.now, E.document e_value) ∷ (f.now, F.document f_value)
-        ∷ (g.now, G.document g_value) ∷ (h.now, H.document h_value) ∷ []))) u) }
+    ensures only { IfOk result (λ _.
+        (block_name a_name b_name c_name d_name e_name f_name g_name h_name : List ℕ) (a_value : A)
+        (b_value : B) (c_value : C) (d_value : D) (e_value : E) (f_value : F) (g_value : G)
+        (h_value : H)
+        → same_names (block_name ∷ a_name ∷ b_name ∷ c_name ∷ d_name ∷ e_name ∷ f_name ∷ g_name ∷ h_name ∷ [])
+        (name.now ∷ a.now ∷ b.now ∷ c.now ∷ d.now ∷ e.now ∷ f.now ∷ g.now ∷ h.now ∷ []) ≡ true
+        → A.is_value a_value → B.is_value b_value → C.is_value c_value → D.is_value d_value
+        → E.is_value e_value → F.is_value f_value → G.is_value g_value → H.is_value h_value
+        → NextLeaves M.mode parser.old (struct_of block_name (fields_of
+        ((a_name, A.document a_value) ∷ (b_name, B.document b_value) ∷ (c_name, C.document c_value)
+        ∷ (d_name, D.document d_value) ∷ (e_name, E.document e_value) ∷ (f_name, F.document f_value)
+        ∷ (g_name, G.document g_value) ∷ (h_name, H.document h_value) ∷ []))) parser.new) }
+    ensures none { IfErr result (λ fault. fault ≡ Fault.NotText →
+        (block_name a_name b_name c_name d_name e_name f_name g_name h_name : List ℕ) (a_value : A)
+        (b_value : B) (c_value : C) (d_value : D) (e_value : E) (f_value : F) (g_value : G)
+        (h_value : H)
+        → same_names (block_name ∷ a_name ∷ b_name ∷ c_name ∷ d_name ∷ e_name ∷ f_name ∷ g_name ∷ h_name ∷ [])
+        (name.now ∷ a.now ∷ b.now ∷ c.now ∷ d.now ∷ e.now ∷ f.now ∷ g.now ∷ h.now ∷ []) ≡ true
+        → A.is_value a_value → B.is_value b_value → C.is_value c_value → D.is_value d_value
+        → E.is_value e_value → F.is_value f_value → G.is_value g_value → H.is_value h_value
+        → IsNotNext M.mode parser.old (struct_of block_name (fields_of ((a_name, A.document a_value)
+        ∷ (b_name, B.document b_value) ∷ (c_name, C.document c_value) ∷ (d_name, D.document d_value)
+        ∷ (e_name, E.document e_value) ∷ (f_name, F.document f_value) ∷ (g_name, G.document g_value)
+        ∷ (h_name, H.document h_value) ∷ [])))) }
     ensures memory { A.holds_no_memory × B.holds_no_memory × C.holds_no_memory × D.holds_no_memory
         × E.holds_no_memory × F.holds_no_memory × G.holds_no_memory × H.holds_no_memory
         → IfErr result (λ fault. fault ≡ Fault.NotText) }
@@ -375,24 +418,32 @@ pub fn parse_struct_9<
         ∷ (d.now, D.document v.3) ∷ (e.now, E.document v.4) ∷ (f.now, F.document v.5)
         ∷ (g.now, G.document v.6) ∷ (h.now, H.document v.7) ∷ (i.now, I.document v.8) ∷ [])))
         parser.new) }
-    ensures only { IfOk result (λ _. (a_value : A) (b_value : B) (c_value : C) (d_value : D)
-        (e_value : E) (f_value : F) (g_value : G) (h_value : H) (i_value : I) (u : List ℕ)
+    ensures only { IfOk result (λ _.
+        (block_name a_name b_name c_name d_name e_name f_name g_name h_name i_name : List ℕ)
+        (a_value : A) (b_value : B) (c_value : C) (d_value : D) (e_value : E) (f_value : F)
+        (g_value : G) (h_value : H) (i_value : I)
+        → same_names (block_name ∷ a_name ∷ b_name ∷ c_name ∷ d_name ∷ e_name ∷ f_name ∷ g_name ∷ h_name ∷ i_name ∷ [])
+        (name.now ∷ a.now ∷ b.now ∷ c.now ∷ d.now ∷ e.now ∷ f.now ∷ g.now ∷ h.now ∷ i.now ∷ []) ≡ true
         → A.is_value a_value → B.is_value b_value → C.is_value c_value → D.is_value d_value
         → E.is_value e_value → F.is_value f_value → G.is_value g_value → H.is_value h_value
-        → I.is_value i_value → IsNext M.mode parser.old (struct_of name.now (fields_of
-        ((a.now, A.document a_value) ∷ (b.now, B.document b_value) ∷ (c.now, C.document c_value)
-        ∷ (d.now, D.document d_value) ∷ (e.now, E.document e_value) ∷ (f.now, F.document f_value)
-        ∷ (g.now, G.document g_value) ∷ (h.now, H.document h_value) ∷ (i.now, I.document i_value)
-        ∷ []))) u → u ≡ rest parser.new) }
-    ensures none { IfErr result (λ fault. fault ≡ Fault.NotText → (a_value : A) (b_value : B)
-        (c_value : C) (d_value : D) (e_value : E) (f_value : F) (g_value : G) (h_value : H)
-        (i_value : I) (u : List ℕ) → A.is_value a_value → B.is_value b_value → C.is_value c_value
-        → D.is_value d_value → E.is_value e_value → F.is_value f_value → G.is_value g_value
-        → H.is_value h_value → I.is_value i_value → ¬ IsNext M.mode parser.old
-        (struct_of name.now (fields_of ((a.now, A.document a_value) ∷ (b.now, B.document b_value)
-        ∷ (c.now, C.document c_value) ∷ (d.now, D.document d_value) ∷ (e.now, E.document e_value)
-        ∷ (f.now, F.document f_value) ∷ (g.now, G.document g_value) ∷ (h.now, H.document h_value)
-        ∷ (i.now, I.document i_value) ∷ []))) u) }
+        → I.is_value i_value → NextLeaves M.mode parser.old (struct_of block_name (fields_of
+        ((a_name, A.document a_value) ∷ (b_name, B.document b_value) ∷ (c_name, C.document c_value)
+        ∷ (d_name, D.document d_value) ∷ (e_name, E.document e_value) ∷ (f_name, F.document f_value)
+        ∷ (g_name, G.document g_value) ∷ (h_name, H.document h_value) ∷ (i_name, I.document i_value)
+        ∷ []))) parser.new) }
+    ensures none { IfErr result (λ fault. fault ≡ Fault.NotText →
+        (block_name a_name b_name c_name d_name e_name f_name g_name h_name i_name : List ℕ)
+        (a_value : A) (b_value : B) (c_value : C) (d_value : D) (e_value : E) (f_value : F)
+        (g_value : G) (h_value : H) (i_value : I)
+        → same_names (block_name ∷ a_name ∷ b_name ∷ c_name ∷ d_name ∷ e_name ∷ f_name ∷ g_name ∷ h_name ∷ i_name ∷ [])
+        (name.now ∷ a.now ∷ b.now ∷ c.now ∷ d.now ∷ e.now ∷ f.now ∷ g.now ∷ h.now ∷ i.now ∷ []) ≡ true
+        → A.is_value a_value → B.is_value b_value → C.is_value c_value → D.is_value d_value
+        → E.is_value e_value → F.is_value f_value → G.is_value g_value → H.is_value h_value
+        → I.is_value i_value → IsNotNext M.mode parser.old (struct_of block_name (fields_of
+        ((a_name, A.document a_value) ∷ (b_name, B.document b_value) ∷ (c_name, C.document c_value)
+        ∷ (d_name, D.document d_value) ∷ (e_name, E.document e_value) ∷ (f_name, F.document f_value)
+        ∷ (g_name, G.document g_value) ∷ (h_name, H.document h_value) ∷ (i_name, I.document i_value)
+        ∷ [])))) }
     ensures memory { A.holds_no_memory × B.holds_no_memory × C.holds_no_memory × D.holds_no_memory
         × E.holds_no_memory × F.holds_no_memory × G.holds_no_memory × H.holds_no_memory
         × I.holds_no_memory → IfErr result (λ fault. fault ≡ Fault.NotText) }
@@ -438,26 +489,34 @@ pub fn parse_struct_10<
         ∷ (d.now, D.document v.3) ∷ (e.now, E.document v.4) ∷ (f.now, F.document v.5)
         ∷ (g.now, G.document v.6) ∷ (h.now, H.document v.7) ∷ (i.now, I.document v.8)
         ∷ (j.now, J.document v.9) ∷ []))) parser.new) }
-    ensures only { IfOk result (λ _. (a_value : A) (b_value : B) (c_value : C) (d_value : D)
-        (e_value : E) (f_value : F) (g_value : G) (h_value : H) (i_value : I) (j_value : J)
-        (u : List ℕ) → A.is_value a_value → B.is_value b_value → C.is_value c_value
-        → D.is_value d_value → E.is_value e_value → F.is_value f_value → G.is_value g_value
-        → H.is_value h_value → I.is_value i_value → J.is_value j_value → IsNext M.mode parser.old
-        (struct_of name.now (fields_of ((a.now, A.document a_value) ∷ (b.now, B.document b_value)
-        ∷ (c.now, C.document c_value) ∷ (d.now, D.document d_value) ∷ (e.now, E.document e_value)
-        ∷ (f.now, F.document f_value) ∷ (g.now, G.document g_value) ∷ (h.now, H.document h_value)
-        ∷ (i.now, I.document i_value) ∷ (j.now, J.document j_value) ∷ []))) u
-        → u ≡ rest parser.new) }
-    ensures none { IfErr result (λ fault. fault ≡ Fault.NotText → (a_value : A) (b_value : B)
-        (c_value : C) (d_value : D) (e_value : E) (f_value : F) (g_value : G) (h_value : H)
-        (i_value : I) (j_value : J) (u : List ℕ) → A.is_value a_value → B.is_value b_value
-        → C.is_value c_value → D.is_value d_value → E.is_value e_value → F.is_value f_value
-        → G.is_value g_value → H.is_value h_value → I.is_value i_value → J.is_value j_value
-        → ¬ IsNext M.mode parser.old (struct_of name.now (fields_of ((a.now, A.document a_value)
-        ∷ (b.now, B.document b_value) ∷ (c.now, C.document c_value) ∷ (d.now, D.document d_value)
-        ∷ (e.now, E.document e_value) ∷ (f.now, F.document f_value) ∷ (g.now, G.document g_value)
-        ∷ (h.now, H.document h_value) ∷ (i.now, I.document i_value) ∷ (j.now, J.document j_value)
-        ∷ []))) u) }
+    ensures only { IfOk result (λ _.
+        (block_name a_name b_name c_name d_name e_name f_name g_name h_name i_name j_name : List ℕ)
+        (a_value : A) (b_value : B) (c_value : C) (d_value : D) (e_value : E) (f_value : F)
+        (g_value : G) (h_value : H) (i_value : I) (j_value : J)
+        → same_names (block_name ∷ a_name ∷ b_name ∷ c_name ∷ d_name ∷ e_name ∷ f_name ∷ g_name ∷ h_name ∷ i_name ∷ j_name ∷ [])
+        (name.now ∷ a.now ∷ b.now ∷ c.now ∷ d.now ∷ e.now ∷ f.now ∷ g.now ∷ h.now ∷ i.now ∷ j.now ∷ []) ≡ true
+        → A.is_value a_value → B.is_value b_value → C.is_value c_value → D.is_value d_value
+        → E.is_value e_value → F.is_value f_value → G.is_value g_value → H.is_value h_value
+        → I.is_value i_value → J.is_value j_value → NextLeaves M.mode parser.old
+        (struct_of block_name (fields_of ((a_name, A.document a_value)
+        ∷ (b_name, B.document b_value) ∷ (c_name, C.document c_value) ∷ (d_name, D.document d_value)
+        ∷ (e_name, E.document e_value) ∷ (f_name, F.document f_value) ∷ (g_name, G.document g_value)
+        ∷ (h_name, H.document h_value) ∷ (i_name, I.document i_value) ∷ (j_name, J.document j_value)
+        ∷ []))) parser.new) }
+    ensures none { IfErr result (λ fault. fault ≡ Fault.NotText →
+        (block_name a_name b_name c_name d_name e_name f_name g_name h_name i_name j_name : List ℕ)
+        (a_value : A) (b_value : B) (c_value : C) (d_value : D) (e_value : E) (f_value : F)
+        (g_value : G) (h_value : H) (i_value : I) (j_value : J)
+        → same_names (block_name ∷ a_name ∷ b_name ∷ c_name ∷ d_name ∷ e_name ∷ f_name ∷ g_name ∷ h_name ∷ i_name ∷ j_name ∷ [])
+        (name.now ∷ a.now ∷ b.now ∷ c.now ∷ d.now ∷ e.now ∷ f.now ∷ g.now ∷ h.now ∷ i.now ∷ j.now ∷ []) ≡ true
+        → A.is_value a_value → B.is_value b_value → C.is_value c_value → D.is_value d_value
+        → E.is_value e_value → F.is_value f_value → G.is_value g_value → H.is_value h_value
+        → I.is_value i_value → J.is_value j_value → IsNotNext M.mode parser.old
+        (struct_of block_name (fields_of ((a_name, A.document a_value)
+        ∷ (b_name, B.document b_value) ∷ (c_name, C.document c_value) ∷ (d_name, D.document d_value)
+        ∷ (e_name, E.document e_value) ∷ (f_name, F.document f_value) ∷ (g_name, G.document g_value)
+        ∷ (h_name, H.document h_value) ∷ (i_name, I.document i_value) ∷ (j_name, J.document j_value)
+        ∷ [])))) }
     ensures memory { A.holds_no_memory × B.holds_no_memory × C.holds_no_memory × D.holds_no_memory
         × E.holds_no_memory × F.holds_no_memory × G.holds_no_memory × H.holds_no_memory
         × I.holds_no_memory × J.holds_no_memory → IfErr result (λ fault. fault ≡ Fault.NotText) }
@@ -505,27 +564,34 @@ pub fn parse_struct_11<
         ∷ (d.now, D.document v.3) ∷ (e.now, E.document v.4) ∷ (f.now, F.document v.5)
         ∷ (g.now, G.document v.6) ∷ (h.now, H.document v.7) ∷ (i.now, I.document v.8)
         ∷ (j.now, J.document v.9) ∷ (k.now, K.document v.10) ∷ []))) parser.new) }
-    ensures only { IfOk result (λ _. (a_value : A) (b_value : B) (c_value : C) (d_value : D)
-        (e_value : E) (f_value : F) (g_value : G) (h_value : H) (i_value : I) (j_value : J)
-        (k_value : K) (u : List ℕ) → A.is_value a_value → B.is_value b_value → C.is_value c_value
-        → D.is_value d_value → E.is_value e_value → F.is_value f_value → G.is_value g_value
-        → H.is_value h_value → I.is_value i_value → J.is_value j_value → K.is_value k_value
-        → IsNext M.mode parser.old (struct_of name.now (fields_of ((a.now, A.document a_value)
-        ∷ (b.now, B.document b_value) ∷ (c.now, C.document c_value) ∷ (d.now, D.document d_value)
-        ∷ (e.now, E.document e_value) ∷ (f.now, F.document f_value) ∷ (g.now, G.document g_value)
-        ∷ (h.now, H.document h_value) ∷ (i.now, I.document i_value) ∷ (j.now, J.document j_value)
-        ∷ (k.now, K.document k_value) ∷ []))) u → u ≡ rest parser.new) }
-    ensures none { IfErr result (λ fault. fault ≡ Fault.NotText → (a_value : A) (b_value : B)
-        (c_value : C) (d_value : D) (e_value : E) (f_value : F) (g_value : G) (h_value : H)
-        (i_value : I) (j_value : J) (k_value : K) (u : List ℕ) → A.is_value a_value
-        → B.is_value b_value → C.is_value c_value → D.is_value d_value → E.is_value e_value
-        → F.is_value f_value → G.is_value g_value → H.is_value h_value → I.is_value i_value
-        → J.is_value j_value → K.is_value k_value → ¬ IsNext M.mode parser.old
-        (struct_of name.now (fields_of ((a.now, A.document a_value) ∷ (b.now, B.document b_value)
-        ∷ (c.now, C.document c_value) ∷ (d.now, D.document d_value) ∷ (e.now, E.document e_value)
-        ∷ (f.now, F.document f_value) ∷ (g.now, G.document g_value) ∷ (h.now, H.document h_value)
-        ∷ (i.now, I.document i_value) ∷ (j.now, J.document j_value) ∷ (k.now, K.document k_value)
-        ∷ []))) u) }
+    ensures only { IfOk result (λ _.
+        (block_name a_name b_name c_name d_name e_name f_name g_name h_name i_name j_name k_name : List ℕ)
+        (a_value : A) (b_value : B) (c_value : C) (d_value : D) (e_value : E) (f_value : F)
+        (g_value : G) (h_value : H) (i_value : I) (j_value : J) (k_value : K)
+        → same_names (block_name ∷ a_name ∷ b_name ∷ c_name ∷ d_name ∷ e_name ∷ f_name ∷ g_name ∷ h_name ∷ i_name ∷ j_name ∷ k_name ∷ [])
+        (name.now ∷ a.now ∷ b.now ∷ c.now ∷ d.now ∷ e.now ∷ f.now ∷ g.now ∷ h.now ∷ i.now ∷ j.now ∷ k.now ∷ []) ≡ true
+        → A.is_value a_value → B.is_value b_value → C.is_value c_value → D.is_value d_value
+        → E.is_value e_value → F.is_value f_value → G.is_value g_value → H.is_value h_value
+        → I.is_value i_value → J.is_value j_value → K.is_value k_value
+        → NextLeaves M.mode parser.old (struct_of block_name (fields_of
+        ((a_name, A.document a_value) ∷ (b_name, B.document b_value) ∷ (c_name, C.document c_value)
+        ∷ (d_name, D.document d_value) ∷ (e_name, E.document e_value) ∷ (f_name, F.document f_value)
+        ∷ (g_name, G.document g_value) ∷ (h_name, H.document h_value) ∷ (i_name, I.document i_value)
+        ∷ (j_name, J.document j_value) ∷ (k_name, K.document k_value) ∷ []))) parser.new) }
+    ensures none { IfErr result (λ fault. fault ≡ Fault.NotText →
+        (block_name a_name b_name c_name d_name e_name f_name g_name h_name i_name j_name k_name : List ℕ)
+        (a_value : A) (b_value : B) (c_value : C) (d_value : D) (e_value : E) (f_value : F)
+        (g_value : G) (h_value : H) (i_value : I) (j_value : J) (k_value : K)
+        → same_names (block_name ∷ a_name ∷ b_name ∷ c_name ∷ d_name ∷ e_name ∷ f_name ∷ g_name ∷ h_name ∷ i_name ∷ j_name ∷ k_name ∷ [])
+        (name.now ∷ a.now ∷ b.now ∷ c.now ∷ d.now ∷ e.now ∷ f.now ∷ g.now ∷ h.now ∷ i.now ∷ j.now ∷ k.now ∷ []) ≡ true
+        → A.is_value a_value → B.is_value b_value → C.is_value c_value → D.is_value d_value
+        → E.is_value e_value → F.is_value f_value → G.is_value g_value → H.is_value h_value
+        → I.is_value i_value → J.is_value j_value → K.is_value k_value → IsNotNext M.mode parser.old
+        (struct_of block_name (fields_of ((a_name, A.document a_value)
+        ∷ (b_name, B.document b_value) ∷ (c_name, C.document c_value) ∷ (d_name, D.document d_value)
+        ∷ (e_name, E.document e_value) ∷ (f_name, F.document f_value) ∷ (g_name, G.document g_value)
+        ∷ (h_name, H.document h_value) ∷ (i_name, I.document i_value) ∷ (j_name, J.document j_value)
+        ∷ (k_name, K.document k_value) ∷ [])))) }
     ensures memory { A.holds_no_memory × B.holds_no_memory × C.holds_no_memory × D.holds_no_memory
         × E.holds_no_memory × F.holds_no_memory × G.holds_no_memory × H.holds_no_memory
         × I.holds_no_memory × J.holds_no_memory × K.holds_no_memory → IfErr result (λ fault.
@@ -583,28 +649,35 @@ pub fn parse_struct_12<
         ∷ (g.now, G.document v.6) ∷ (h.now, H.document v.7) ∷ (i.now, I.document v.8)
         ∷ (j.now, J.document v.9) ∷ (k.now, K.document v.10) ∷ (l.now, L.document v.11) ∷ [])))
         parser.new) }
-    ensures only { IfOk result (λ _. (a_value : A) (b_value : B) (c_value : C) (d_value : D)
-        (e_value : E) (f_value : F) (g_value : G) (h_value : H) (i_value : I) (j_value : J)
-        (k_value : K) (l_value : L) (u : List ℕ) → A.is_value a_value → B.is_value b_value
-        → C.is_value c_value → D.is_value d_value → E.is_value e_value → F.is_value f_value
-        → G.is_value g_value → H.is_value h_value → I.is_value i_value → J.is_value j_value
-        → K.is_value k_value → L.is_value l_value → IsNext M.mode parser.old
-        (struct_of name.now (fields_of ((a.now, A.document a_value) ∷ (b.now, B.document b_value)
-        ∷ (c.now, C.document c_value) ∷ (d.now, D.document d_value) ∷ (e.now, E.document e_value)
-        ∷ (f.now, F.document f_value) ∷ (g.now, G.document g_value) ∷ (h.now, H.document h_value)
-        ∷ (i.now, I.document i_value) ∷ (j.now, J.document j_value) ∷ (k.now, K.document k_value)
-        ∷ (l.now, L.document l_value) ∷ []))) u → u ≡ rest parser.new) }
-    ensures none { IfErr result (λ fault. fault ≡ Fault.NotText → (a_value : A) (b_value : B)
-        (c_value : C) (d_value : D) (e_value : E) (f_value : F) (g_value : G) (h_value : H)
-        (i_value : I) (j_value : J) (k_value : K) (l_value : L) (u : List ℕ) → A.is_value a_value
-        → B.is_value b_value → C.is_value c_value → D.is_value d_value → E.is_value e_value
-        → F.is_value f_value → G.is_value g_value → H.is_value h_value → I.is_value i_value
-        → J.is_value j_value → K.is_value k_value → L.is_value l_value → ¬ IsNext M.mode parser.old
-        (struct_of name.now (fields_of ((a.now, A.document a_value) ∷ (b.now, B.document b_value)
-        ∷ (c.now, C.document c_value) ∷ (d.now, D.document d_value) ∷ (e.now, E.document e_value)
-        ∷ (f.now, F.document f_value) ∷ (g.now, G.document g_value) ∷ (h.now, H.document h_value)
-        ∷ (i.now, I.document i_value) ∷ (j.now, J.document j_value) ∷ (k.now, K.document k_value)
-        ∷ (l.now, L.document l_value) ∷ []))) u) }
+    ensures only { IfOk result (λ _.
+        (block_name a_name b_name c_name d_name e_name f_name g_name h_name i_name j_name k_name l_name : List ℕ)
+        (a_value : A) (b_value : B) (c_value : C) (d_value : D) (e_value : E) (f_value : F)
+        (g_value : G) (h_value : H) (i_value : I) (j_value : J) (k_value : K) (l_value : L)
+        → same_names (block_name ∷ a_name ∷ b_name ∷ c_name ∷ d_name ∷ e_name ∷ f_name ∷ g_name ∷ h_name ∷ i_name ∷ j_name ∷ k_name ∷ l_name ∷ [])
+        (name.now ∷ a.now ∷ b.now ∷ c.now ∷ d.now ∷ e.now ∷ f.now ∷ g.now ∷ h.now ∷ i.now ∷ j.now ∷ k.now ∷ l.now ∷ []) ≡ true
+        → A.is_value a_value → B.is_value b_value → C.is_value c_value → D.is_value d_value
+        → E.is_value e_value → F.is_value f_value → G.is_value g_value → H.is_value h_value
+        → I.is_value i_value → J.is_value j_value → K.is_value k_value → L.is_value l_value
+        → NextLeaves M.mode parser.old (struct_of block_name (fields_of
+        ((a_name, A.document a_value) ∷ (b_name, B.document b_value) ∷ (c_name, C.document c_value)
+        ∷ (d_name, D.document d_value) ∷ (e_name, E.document e_value) ∷ (f_name, F.document f_value)
+        ∷ (g_name, G.document g_value) ∷ (h_name, H.document h_value) ∷ (i_name, I.document i_value)
+        ∷ (j_name, J.document j_value) ∷ (k_name, K.document k_value) ∷ (l_name, L.document l_value)
+        ∷ []))) parser.new) }
+    ensures none { IfErr result (λ fault. fault ≡ Fault.NotText →
+        (block_name a_name b_name c_name d_name e_name f_name g_name h_name i_name j_name k_name l_name : List ℕ)
+        (a_value : A) (b_value : B) (c_value : C) (d_value : D) (e_value : E) (f_value : F)
+        (g_value : G) (h_value : H) (i_value : I) (j_value : J) (k_value : K) (l_value : L)
+        → same_names (block_name ∷ a_name ∷ b_name ∷ c_name ∷ d_name ∷ e_name ∷ f_name ∷ g_name ∷ h_name ∷ i_name ∷ j_name ∷ k_name ∷ l_name ∷ [])
+        (name.now ∷ a.now ∷ b.now ∷ c.now ∷ d.now ∷ e.now ∷ f.now ∷ g.now ∷ h.now ∷ i.now ∷ j.now ∷ k.now ∷ l.now ∷ []) ≡ true
+        → A.is_value a_value → B.is_value b_value → C.is_value c_value → D.is_value d_value
+        → E.is_value e_value → F.is_value f_value → G.is_value g_value → H.is_value h_value
+        → I.is_value i_value → J.is_value j_value → K.is_value k_value → L.is_value l_value
+        → IsNotNext M.mode parser.old (struct_of block_name (fields_of ((a_name, A.document a_value)
+        ∷ (b_name, B.document b_value) ∷ (c_name, C.document c_value) ∷ (d_name, D.document d_value)
+        ∷ (e_name, E.document e_value) ∷ (f_name, F.document f_value) ∷ (g_name, G.document g_value)
+        ∷ (h_name, H.document h_value) ∷ (i_name, I.document i_value) ∷ (j_name, J.document j_value)
+        ∷ (k_name, K.document k_value) ∷ (l_name, L.document l_value) ∷ [])))) }
     ensures memory { A.holds_no_memory × B.holds_no_memory × C.holds_no_memory × D.holds_no_memory
         × E.holds_no_memory × F.holds_no_memory × G.holds_no_memory × H.holds_no_memory
         × I.holds_no_memory × J.holds_no_memory × K.holds_no_memory × L.holds_no_memory

@@ -1,7 +1,9 @@
 //! Structs whose fields are each parsed by a parser. tools/write-by-count writes this file: change it there.
-ghost use Rattle.std.specs.Prelude.{◌≤◌, ◌<◌, length, [], ◌∷◌, ◌≡◌, List, ℕ, suc, IfOk, IfErr};
+ghost use Rattle.std.specs.Prelude.{◌≤◌, ◌<◌, length, [], ◌∷◌, ◌≡◌, List, ℕ, suc, true, IfOk, IfErr};
 ghost use Rattle.ufmt.specs.Document.{fields_of, struct_of};
-ghost use Rattle.ufmt_parse.specs.Taking.{AreWords, IsNext, IsTaken, open_blocks, rest};
+ghost use Rattle.ufmt_parse.specs.Naming.{same_names};
+ghost use Rattle.ufmt_parse.specs.Next.{IsNotNext, NextLeaves};
+ghost use Rattle.ufmt_parse.specs.Taking.{AreWords, IsTaken, open_blocks, rest};
 
 use crate::from_front::ParsesBy;
 use crate::mode::ParseMode;
@@ -22,12 +24,14 @@ pub fn parse_struct_1_by<Alloc: Copy, M: ParseMode, A: uDebug + Drop, P: ParsesB
     ensures values { IfOk result (λ v. P.is_value v) }
     ensures taken { IfOk result (λ v. IsTaken M.mode parser.old (struct_of name.now (fields_of
         ((a.now, A.document v) ∷ []))) parser.new) }
-    ensures only { IfOk result (λ _. (a_value : A) (u : List ℕ) → P.is_value a_value
-        → IsNext M.mode parser.old (struct_of name.now (fields_of ((a.now, A.document a_value)
-        ∷ []))) u → u ≡ rest parser.new) }
-    ensures none { IfErr result (λ fault. fault ≡ Fault.NotText → (a_value : A) (u : List ℕ)
-        → P.is_value a_value → ¬ IsNext M.mode parser.old (struct_of name.now (fields_of
-        ((a.now, A.document a_value) ∷ []))) u) }
+    ensures only { IfOk result (λ _. (block_name a_name : List ℕ) (a_value : A)
+        → same_names (block_name ∷ a_name ∷ []) (name.now ∷ a.now ∷ []) ≡ true → P.is_value a_value
+        → NextLeaves M.mode parser.old (struct_of block_name (fields_of
+        ((a_name, A.document a_value) ∷ []))) parser.new) }
+    ensures none { IfErr result (λ fault. fault ≡ Fault.NotText → (block_name a_name : List ℕ)
+        (a_value : A) → same_names (block_name ∷ a_name ∷ []) (name.now ∷ a.now ∷ []) ≡ true
+        → P.is_value a_value → IsNotNext M.mode parser.old (struct_of block_name (fields_of
+        ((a_name, A.document a_value) ∷ [])))) }
     ensures memory { P.holds_no_memory → IfErr result (λ fault. fault ≡ Fault.NotText) }
     ensures blocks { IfOk result (λ _. open_blocks parser.new ≡ open_blocks parser.old) }
     ensures shrinks { length (rest parser.new) ≤ length (rest parser.old) }
@@ -61,14 +65,17 @@ pub fn parse_struct_2_by<
     ensures values { IfOk result (λ v. P.is_value v.0 × Q.is_value v.1) }
     ensures taken { IfOk result (λ v. IsTaken M.mode parser.old (struct_of name.now (fields_of
         ((a.now, A.document v.0) ∷ (b.now, B.document v.1) ∷ []))) parser.new) }
-    ensures only { IfOk result (λ _. (a_value : A) (b_value : B) (u : List ℕ) → P.is_value a_value
-        → Q.is_value b_value → IsNext M.mode parser.old (struct_of name.now (fields_of
-        ((a.now, A.document a_value) ∷ (b.now, B.document b_value) ∷ []))) u
-        → u ≡ rest parser.new) }
-    ensures none { IfErr result (λ fault. fault ≡ Fault.NotText → (a_value : A) (b_value : B)
-        (u : List ℕ) → P.is_value a_value → Q.is_value b_value → ¬ IsNext M.mode parser.old
-        (struct_of name.now (fields_of ((a.now, A.document a_value) ∷ (b.now, B.document b_value)
-        ∷ []))) u) }
+    ensures only { IfOk result (λ _. (block_name a_name b_name : List ℕ) (a_value : A) (b_value : B)
+        → same_names (block_name ∷ a_name ∷ b_name ∷ []) (name.now ∷ a.now ∷ b.now ∷ []) ≡ true
+        → P.is_value a_value → Q.is_value b_value → NextLeaves M.mode parser.old
+        (struct_of block_name (fields_of ((a_name, A.document a_value)
+        ∷ (b_name, B.document b_value) ∷ []))) parser.new) }
+    ensures none { IfErr result (λ fault. fault ≡ Fault.NotText →
+        (block_name a_name b_name : List ℕ) (a_value : A) (b_value : B)
+        → same_names (block_name ∷ a_name ∷ b_name ∷ []) (name.now ∷ a.now ∷ b.now ∷ []) ≡ true
+        → P.is_value a_value → Q.is_value b_value → IsNotNext M.mode parser.old
+        (struct_of block_name (fields_of ((a_name, A.document a_value)
+        ∷ (b_name, B.document b_value) ∷ [])))) }
     ensures memory { P.holds_no_memory × Q.holds_no_memory → IfErr result (λ fault.
         fault ≡ Fault.NotText) }
     ensures blocks { IfOk result (λ _. open_blocks parser.new ≡ open_blocks parser.old) }
@@ -106,14 +113,19 @@ pub fn parse_struct_3_by<
     ensures taken { IfOk result (λ v. IsTaken M.mode parser.old (struct_of name.now (fields_of
         ((a.now, A.document v.0) ∷ (b.now, B.document v.1) ∷ (c.now, C.document v.2) ∷ [])))
         parser.new) }
-    ensures only { IfOk result (λ _. (a_value : A) (b_value : B) (c_value : C) (u : List ℕ)
-        → P.is_value a_value → Q.is_value b_value → R.is_value c_value → IsNext M.mode parser.old
-        (struct_of name.now (fields_of ((a.now, A.document a_value) ∷ (b.now, B.document b_value)
-        ∷ (c.now, C.document c_value) ∷ []))) u → u ≡ rest parser.new) }
-    ensures none { IfErr result (λ fault. fault ≡ Fault.NotText → (a_value : A) (b_value : B)
-        (c_value : C) (u : List ℕ) → P.is_value a_value → Q.is_value b_value → R.is_value c_value
-        → ¬ IsNext M.mode parser.old (struct_of name.now (fields_of ((a.now, A.document a_value)
-        ∷ (b.now, B.document b_value) ∷ (c.now, C.document c_value) ∷ []))) u) }
+    ensures only { IfOk result (λ _. (block_name a_name b_name c_name : List ℕ) (a_value : A)
+        (b_value : B) (c_value : C) → same_names (block_name ∷ a_name ∷ b_name ∷ c_name ∷ [])
+        (name.now ∷ a.now ∷ b.now ∷ c.now ∷ []) ≡ true → P.is_value a_value → Q.is_value b_value
+        → R.is_value c_value → NextLeaves M.mode parser.old (struct_of block_name (fields_of
+        ((a_name, A.document a_value) ∷ (b_name, B.document b_value) ∷ (c_name, C.document c_value)
+        ∷ []))) parser.new) }
+    ensures none { IfErr result (λ fault. fault ≡ Fault.NotText →
+        (block_name a_name b_name c_name : List ℕ) (a_value : A) (b_value : B) (c_value : C)
+        → same_names (block_name ∷ a_name ∷ b_name ∷ c_name ∷ [])
+        (name.now ∷ a.now ∷ b.now ∷ c.now ∷ []) ≡ true → P.is_value a_value → Q.is_value b_value
+        → R.is_value c_value → IsNotNext M.mode parser.old (struct_of block_name (fields_of
+        ((a_name, A.document a_value) ∷ (b_name, B.document b_value) ∷ (c_name, C.document c_value)
+        ∷ [])))) }
     ensures memory { P.holds_no_memory × Q.holds_no_memory × R.holds_no_memory
         → IfErr result (λ fault. fault ≡ Fault.NotText) }
     ensures blocks { IfOk result (λ _. open_blocks parser.new ≡ open_blocks parser.old) }
@@ -156,16 +168,22 @@ pub fn parse_struct_4_by<
     ensures taken { IfOk result (λ v. IsTaken M.mode parser.old (struct_of name.now (fields_of
         ((a.now, A.document v.0) ∷ (b.now, B.document v.1) ∷ (c.now, C.document v.2)
         ∷ (d.now, D.document v.3) ∷ []))) parser.new) }
-    ensures only { IfOk result (λ _. (a_value : A) (b_value : B) (c_value : C) (d_value : D)
-        (u : List ℕ) → P.is_value a_value → Q.is_value b_value → R.is_value c_value
-        → S.is_value d_value → IsNext M.mode parser.old (struct_of name.now (fields_of
-        ((a.now, A.document a_value) ∷ (b.now, B.document b_value) ∷ (c.now, C.document c_value)
-        ∷ (d.now, D.document d_value) ∷ []))) u → u ≡ rest parser.new) }
-    ensures none { IfErr result (λ fault. fault ≡ Fault.NotText → (a_value : A) (b_value : B)
-        (c_value : C) (d_value : D) (u : List ℕ) → P.is_value a_value → Q.is_value b_value
-        → R.is_value c_value → S.is_value d_value → ¬ IsNext M.mode parser.old
-        (struct_of name.now (fields_of ((a.now, A.document a_value) ∷ (b.now, B.document b_value)
-        ∷ (c.now, C.document c_value) ∷ (d.now, D.document d_value) ∷ []))) u) }
+    ensures only { IfOk result (λ _. (block_name a_name b_name c_name d_name : List ℕ) (a_value : A)
+        (b_value : B) (c_value : C) (d_value : D)
+        → same_names (block_name ∷ a_name ∷ b_name ∷ c_name ∷ d_name ∷ [])
+        (name.now ∷ a.now ∷ b.now ∷ c.now ∷ d.now ∷ []) ≡ true → P.is_value a_value
+        → Q.is_value b_value → R.is_value c_value → S.is_value d_value
+        → NextLeaves M.mode parser.old (struct_of block_name (fields_of
+        ((a_name, A.document a_value) ∷ (b_name, B.document b_value) ∷ (c_name, C.document c_value)
+        ∷ (d_name, D.document d_value) ∷ []))) parser.new) }
+    ensures none { IfErr result (λ fault. fault ≡ Fault.NotText →
+        (block_name a_name b_name c_name d_name : List ℕ) (a_value : A) (b_value : B) (c_value : C)
+        (d_value : D) → same_names (block_name ∷ a_name ∷ b_name ∷ c_name ∷ d_name ∷ [])
+        (name.now ∷ a.now ∷ b.now ∷ c.now ∷ d.now ∷ []) ≡ true → P.is_value a_value
+        → Q.is_value b_value → R.is_value c_value → S.is_value d_value → IsNotNext M.mode parser.old
+        (struct_of block_name (fields_of ((a_name, A.document a_value)
+        ∷ (b_name, B.document b_value) ∷ (c_name, C.document c_value) ∷ (d_name, D.document d_value)
+        ∷ [])))) }
     ensures memory { P.holds_no_memory × Q.holds_no_memory × R.holds_no_memory × S.holds_no_memory
         → IfErr result (λ fault. fault ≡ Fault.NotText) }
     ensures blocks { IfOk result (λ _. open_blocks parser.new ≡ open_blocks parser.old) }
@@ -219,18 +237,23 @@ pub fn parse_struct_5_by<
     ensures taken { IfOk result (λ v. IsTaken M.mode parser.old (struct_of name.now (fields_of
         ((a.now, A.document v.0) ∷ (b.now, B.document v.1) ∷ (c.now, C.document v.2)
         ∷ (d.now, D.document v.3) ∷ (e.now, E.document v.4) ∷ []))) parser.new) }
-    ensures only { IfOk result (λ _. (a_value : A) (b_value : B) (c_value : C) (d_value : D)
-        (e_value : E) (u : List ℕ) → P.is_value a_value → Q.is_value b_value → R.is_value c_value
-        → S.is_value d_value → T.is_value e_value → IsNext M.mode parser.old
-        (struct_of name.now (fields_of ((a.now, A.document a_value) ∷ (b.now, B.document b_value)
-        ∷ (c.now, C.document c_value) ∷ (d.now, D.document d_value) ∷ (e.now, E.document e_value)
-        ∷ []))) u → u ≡ rest parser.new) }
-    ensures none { IfErr result (λ fault. fault ≡ Fault.NotText → (a_value : A) (b_value : B)
-        (c_value : C) (d_value : D) (e_value : E) (u : List ℕ) → P.is_value a_value
+    ensures only { IfOk result (λ _. (block_name a_name b_name c_name d_name e_name : List ℕ)
+        (a_value : A) (b_value : B) (c_value : C) (d_value : D) (e_value : E)
+        → same_names (block_name ∷ a_name ∷ b_name ∷ c_name ∷ d_name ∷ e_name ∷ [])
+        (name.now ∷ a.now ∷ b.now ∷ c.now ∷ d.now ∷ e.now ∷ []) ≡ true → P.is_value a_value
         → Q.is_value b_value → R.is_value c_value → S.is_value d_value → T.is_value e_value
-        → ¬ IsNext M.mode parser.old (struct_of name.now (fields_of ((a.now, A.document a_value)
-        ∷ (b.now, B.document b_value) ∷ (c.now, C.document c_value) ∷ (d.now, D.document d_value)
-        ∷ (e.now, E.document e_value) ∷ []))) u) }
+        → NextLeaves M.mode parser.old (struct_of block_name (fields_of
+        ((a_name, A.document a_value) ∷ (b_name, B.document b_value) ∷ (c_name, C.document c_value)
+        ∷ (d_name, D.document d_value) ∷ (e_name, E.document e_value) ∷ []))) parser.new) }
+    ensures none { IfErr result (λ fault. fault ≡ Fault.NotText →
+        (block_name a_name b_name c_name d_name e_name : List ℕ) (a_value : A) (b_value : B)
+        (c_value : C) (d_value : D) (e_value : E)
+        → same_names (block_name ∷ a_name ∷ b_name ∷ c_name ∷ d_name ∷ e_name ∷ [])
+        (name.now ∷ a.now ∷ b.now ∷ c.now ∷ d.now ∷ e.now ∷ []) ≡ true → P.is_value a_value
+        → Q.is_value b_value → R.is_value c_value → S.is_value d_value → T.is_value e_value
+        → IsNotNext M.mode parser.old (struct_of block_name (fields_of ((a_name, A.document a_value)
+        ∷ (b_name, B.document b_value) ∷ (c_name, C.document c_value) ∷ (d_name, D.document d_value)
+        ∷ (e_name, E.document e_value) ∷ [])))) }
     ensures memory { P.holds_no_memory × Q.holds_no_memory × R.holds_no_memory × S.holds_no_memory
         × T.holds_no_memory → IfErr result (λ fault. fault ≡ Fault.NotText) }
     ensures blocks { IfOk result (λ _. open_blocks parser.new ≡ open_blocks parser.old) }
@@ -290,20 +313,25 @@ pub fn parse_struct_6_by<
         ((a.now, A.document v.0) ∷ (b.now, B.document v.1) ∷ (c.now, C.document v.2)
         ∷ (d.now, D.document v.3) ∷ (e.now, E.document v.4) ∷ (f.now, F.document v.5) ∷ [])))
         parser.new) }
-    ensures only { IfOk result (λ _. (a_value : A) (b_value : B) (c_value : C) (d_value : D)
-        (e_value : E) (f_value : F) (u : List ℕ) → P.is_value a_value → Q.is_value b_value
-        → R.is_value c_value → S.is_value d_value → T.is_value e_value → U.is_value f_value
-        → IsNext M.mode parser.old (struct_of name.now (fields_of ((a.now, A.document a_value)
-        ∷ (b.now, B.document b_value) ∷ (c.now, C.document c_value) ∷ (d.now, D.document d_value)
-        ∷ (e.now, E.document e_value) ∷ (f.now, F.document f_value) ∷ []))) u
-        → u ≡ rest parser.new) }
-    ensures none { IfErr result (λ fault. fault ≡ Fault.NotText → (a_value : A) (b_value : B)
-        (c_value : C) (d_value : D) (e_value : E) (f_value : F) (u : List ℕ) → P.is_value a_value
+    ensures only { IfOk result (λ _. (block_name a_name b_name c_name d_name e_name f_name : List ℕ)
+        (a_value : A) (b_value : B) (c_value : C) (d_value : D) (e_value : E) (f_value : F)
+        → same_names (block_name ∷ a_name ∷ b_name ∷ c_name ∷ d_name ∷ e_name ∷ f_name ∷ [])
+        (name.now ∷ a.now ∷ b.now ∷ c.now ∷ d.now ∷ e.now ∷ f.now ∷ []) ≡ true → P.is_value a_value
         → Q.is_value b_value → R.is_value c_value → S.is_value d_value → T.is_value e_value
-        → U.is_value f_value → ¬ IsNext M.mode parser.old (struct_of name.now (fields_of
-        ((a.now, A.document a_value) ∷ (b.now, B.document b_value) ∷ (c.now, C.document c_value)
-        ∷ (d.now, D.document d_value) ∷ (e.now, E.document e_value) ∷ (f.now, F.document f_value)
-        ∷ []))) u) }
+        → U.is_value f_value → NextLeaves M.mode parser.old (struct_of block_name (fields_of
+        ((a_name, A.document a_value) ∷ (b_name, B.document b_value) ∷ (c_name, C.document c_value)
+        ∷ (d_name, D.document d_value) ∷ (e_name, E.document e_value) ∷ (f_name, F.document f_value)
+        ∷ []))) parser.new) }
+    ensures none { IfErr result (λ fault. fault ≡ Fault.NotText →
+        (block_name a_name b_name c_name d_name e_name f_name : List ℕ) (a_value : A) (b_value : B)
+        (c_value : C) (d_value : D) (e_value : E) (f_value : F)
+        → same_names (block_name ∷ a_name ∷ b_name ∷ c_name ∷ d_name ∷ e_name ∷ f_name ∷ [])
+        (name.now ∷ a.now ∷ b.now ∷ c.now ∷ d.now ∷ e.now ∷ f.now ∷ []) ≡ true → P.is_value a_value
+        → Q.is_value b_value → R.is_value c_value → S.is_value d_value → T.is_value e_value
+        → U.is_value f_value → IsNotNext M.mode parser.old (struct_of block_name (fields_of
+        ((a_name, A.document a_value) ∷ (b_name, B.document b_value) ∷ (c_name, C.document c_value)
+        ∷ (d_name, D.document d_value) ∷ (e_name, E.document e_value) ∷ (f_name, F.document f_value)
+        ∷ [])))) }
     ensures memory { P.holds_no_memory × Q.holds_no_memory × R.holds_no_memory × S.holds_no_memory
         × T.holds_no_memory × U.holds_no_memory → IfErr result (λ fault. fault ≡ Fault.NotText) }
     ensures blocks { IfOk result (λ _. open_blocks parser.new ≡ open_blocks parser.old) }

@@ -46,6 +46,7 @@ pub fn parse_pretty<T: uParse<A>, A>(alloc: A, text: &[u8]) -> Result<T, ParseEr
 }
 
 // The same in either mode.
+#[tactic(auto, unfolding(crate::specs::Next::IsNotNext, crate::specs::Next::NextLeaves))]
 fn parse_whole<T: uParse<A>, A, M: ParseMode>(alloc: A, text: &[u8]) -> Result<T, ParseError>
     ensures ok { IfOk result (λ v. layout (setting M.mode 0) (T.document v) ≡ text.now) }
     ensures fits { IfOk result (λ v. IsDebugDocument (T.document v)) }

@@ -1,8 +1,10 @@
 //! Tuples by their number of fields. tools/write-by-count writes this file: change it there.
-ghost use Rattle.std.specs.Prelude.{◌≤◌, length, [], ◌∷◌, ◌≡◌, List, ℕ, IfOk, IfErr};
+ghost use Rattle.std.specs.Prelude.{◌≤◌, length, [], ◌∷◌, ◌≡◌, List, ℕ, true, IfOk, IfErr};
+ghost use Rattle.std.specs.Str.{bytes_eq};
 ghost use Rattle.ufmt.specs.Document.{documents, tuple_of};
 ghost use Rattle.ufmt.specs.Leaves.{IsWordOrEmpty};
-ghost use Rattle.ufmt_parse.specs.Taking.{IsNext, IsTaken, open_blocks, rest};
+ghost use Rattle.ufmt_parse.specs.Next.{IsNotNext, NextLeaves};
+ghost use Rattle.ufmt_parse.specs.Taking.{IsTaken, open_blocks, rest};
 
 use crate::from_front::{Plain, uParse};
 use crate::mode::ParseMode;
@@ -19,12 +21,12 @@ pub fn parse_tuple_1<Alloc: Copy, A: uParse<Alloc>, M: ParseMode>(
     requires { IsWordOrEmpty name.now }
     ensures taken { IfOk result (λ v. IsTaken M.mode parser.old (tuple_of name.now (documents
         (A.document v ∷ []))) parser.new) }
-    ensures only { IfOk result (λ _. (a_value : A) (u : List ℕ) → A.is_value a_value
-        → IsNext M.mode parser.old (tuple_of name.now (documents (A.document a_value ∷ []))) u
-        → u ≡ rest parser.new) }
-    ensures none { IfErr result (λ fault. fault ≡ Fault.NotText → (a_value : A) (u : List ℕ)
-        → A.is_value a_value → ¬ IsNext M.mode parser.old (tuple_of name.now (documents
-        (A.document a_value ∷ []))) u) }
+    ensures only { IfOk result (λ _. (block_name : List ℕ) (a_value : A)
+        → bytes_eq block_name name.now ≡ true → A.is_value a_value → NextLeaves M.mode parser.old
+        (tuple_of block_name (documents (A.document a_value ∷ []))) parser.new) }
+    ensures none { IfErr result (λ fault. fault ≡ Fault.NotText → (block_name : List ℕ)
+        (a_value : A) → bytes_eq block_name name.now ≡ true → A.is_value a_value
+        → IsNotNext M.mode parser.old (tuple_of block_name (documents (A.document a_value ∷ [])))) }
     ensures memory { A.holds_no_memory → IfErr result (λ fault. fault ≡ Fault.NotText) }
     ensures blocks { IfOk result (λ _. open_blocks parser.new ≡ open_blocks parser.old) }
     ensures shrinks { length (rest parser.new) ≤ length (rest parser.old) }
@@ -45,12 +47,14 @@ pub fn parse_tuple_2<Alloc: Copy, A: uParse<Alloc>, B: uParse<Alloc>, M: ParseMo
     requires { IsWordOrEmpty name.now }
     ensures taken { IfOk result (λ v. IsTaken M.mode parser.old (tuple_of name.now (documents
         (A.document v.0 ∷ B.document v.1 ∷ []))) parser.new) }
-    ensures only { IfOk result (λ _. (a_value : A) (b_value : B) (u : List ℕ) → A.is_value a_value
-        → B.is_value b_value → IsNext M.mode parser.old (tuple_of name.now (documents
-        (A.document a_value ∷ B.document b_value ∷ []))) u → u ≡ rest parser.new) }
-    ensures none { IfErr result (λ fault. fault ≡ Fault.NotText → (a_value : A) (b_value : B)
-        (u : List ℕ) → A.is_value a_value → B.is_value b_value → ¬ IsNext M.mode parser.old
-        (tuple_of name.now (documents (A.document a_value ∷ B.document b_value ∷ []))) u) }
+    ensures only { IfOk result (λ _. (block_name : List ℕ) (a_value : A) (b_value : B)
+        → bytes_eq block_name name.now ≡ true → A.is_value a_value → B.is_value b_value
+        → NextLeaves M.mode parser.old (tuple_of block_name (documents (A.document a_value
+        ∷ B.document b_value ∷ []))) parser.new) }
+    ensures none { IfErr result (λ fault. fault ≡ Fault.NotText → (block_name : List ℕ)
+        (a_value : A) (b_value : B) → bytes_eq block_name name.now ≡ true → A.is_value a_value
+        → B.is_value b_value → IsNotNext M.mode parser.old (tuple_of block_name (documents
+        (A.document a_value ∷ B.document b_value ∷ [])))) }
     ensures memory { A.holds_no_memory × B.holds_no_memory → IfErr result (λ fault.
         fault ≡ Fault.NotText) }
     ensures blocks { IfOk result (λ _. open_blocks parser.new ≡ open_blocks parser.old) }
@@ -71,14 +75,15 @@ pub fn parse_tuple_3<
     requires { IsWordOrEmpty name.now }
     ensures taken { IfOk result (λ v. IsTaken M.mode parser.old (tuple_of name.now (documents
         (A.document v.0 ∷ B.document v.1 ∷ C.document v.2 ∷ []))) parser.new) }
-    ensures only { IfOk result (λ _. (a_value : A) (b_value : B) (c_value : C) (u : List ℕ)
-        → A.is_value a_value → B.is_value b_value → C.is_value c_value → IsNext M.mode parser.old
-        (tuple_of name.now (documents (A.document a_value ∷ B.document b_value ∷ C.document c_value
-        ∷ []))) u → u ≡ rest parser.new) }
-    ensures none { IfErr result (λ fault. fault ≡ Fault.NotText → (a_value : A) (b_value : B)
-        (c_value : C) (u : List ℕ) → A.is_value a_value → B.is_value b_value → C.is_value c_value
-        → ¬ IsNext M.mode parser.old (tuple_of name.now (documents (A.document a_value
-        ∷ B.document b_value ∷ C.document c_value ∷ []))) u) }
+    ensures only { IfOk result (λ _. (block_name : List ℕ) (a_value : A) (b_value : B) (c_value : C)
+        → bytes_eq block_name name.now ≡ true → A.is_value a_value → B.is_value b_value
+        → C.is_value c_value → NextLeaves M.mode parser.old (tuple_of block_name (documents
+        (A.document a_value ∷ B.document b_value ∷ C.document c_value ∷ []))) parser.new) }
+    ensures none { IfErr result (λ fault. fault ≡ Fault.NotText → (block_name : List ℕ)
+        (a_value : A) (b_value : B) (c_value : C) → bytes_eq block_name name.now ≡ true
+        → A.is_value a_value → B.is_value b_value → C.is_value c_value → IsNotNext M.mode parser.old
+        (tuple_of block_name (documents (A.document a_value ∷ B.document b_value
+        ∷ C.document c_value ∷ [])))) }
     ensures memory { A.holds_no_memory × B.holds_no_memory × C.holds_no_memory
         → IfErr result (λ fault. fault ≡ Fault.NotText) }
     ensures blocks { IfOk result (λ _. open_blocks parser.new ≡ open_blocks parser.old) }
@@ -100,16 +105,17 @@ pub fn parse_tuple_4<
     requires { IsWordOrEmpty name.now }
     ensures taken { IfOk result (λ v. IsTaken M.mode parser.old (tuple_of name.now (documents
         (A.document v.0 ∷ B.document v.1 ∷ C.document v.2 ∷ D.document v.3 ∷ []))) parser.new) }
-    ensures only { IfOk result (λ _. (a_value : A) (b_value : B) (c_value : C) (d_value : D)
-        (u : List ℕ) → A.is_value a_value → B.is_value b_value → C.is_value c_value
-        → D.is_value d_value → IsNext M.mode parser.old (tuple_of name.now (documents
-        (A.document a_value ∷ B.document b_value ∷ C.document c_value ∷ D.document d_value ∷ []))) u
-        → u ≡ rest parser.new) }
-    ensures none { IfErr result (λ fault. fault ≡ Fault.NotText → (a_value : A) (b_value : B)
-        (c_value : C) (d_value : D) (u : List ℕ) → A.is_value a_value → B.is_value b_value
-        → C.is_value c_value → D.is_value d_value → ¬ IsNext M.mode parser.old
-        (tuple_of name.now (documents (A.document a_value ∷ B.document b_value ∷ C.document c_value
-        ∷ D.document d_value ∷ []))) u) }
+    ensures only { IfOk result (λ _. (block_name : List ℕ) (a_value : A) (b_value : B) (c_value : C)
+        (d_value : D) → bytes_eq block_name name.now ≡ true → A.is_value a_value
+        → B.is_value b_value → C.is_value c_value → D.is_value d_value
+        → NextLeaves M.mode parser.old (tuple_of block_name (documents (A.document a_value
+        ∷ B.document b_value ∷ C.document c_value ∷ D.document d_value ∷ []))) parser.new) }
+    ensures none { IfErr result (λ fault. fault ≡ Fault.NotText → (block_name : List ℕ)
+        (a_value : A) (b_value : B) (c_value : C) (d_value : D)
+        → bytes_eq block_name name.now ≡ true → A.is_value a_value → B.is_value b_value
+        → C.is_value c_value → D.is_value d_value → IsNotNext M.mode parser.old
+        (tuple_of block_name (documents (A.document a_value ∷ B.document b_value
+        ∷ C.document c_value ∷ D.document d_value ∷ [])))) }
     ensures memory { A.holds_no_memory × B.holds_no_memory × C.holds_no_memory × D.holds_no_memory
         → IfErr result (λ fault. fault ≡ Fault.NotText) }
     ensures blocks { IfOk result (λ _. open_blocks parser.new ≡ open_blocks parser.old) }
@@ -133,17 +139,18 @@ pub fn parse_tuple_5<
     ensures taken { IfOk result (λ v. IsTaken M.mode parser.old (tuple_of name.now (documents
         (A.document v.0 ∷ B.document v.1 ∷ C.document v.2 ∷ D.document v.3 ∷ E.document v.4 ∷ [])))
         parser.new) }
-    ensures only { IfOk result (λ _. (a_value : A) (b_value : B) (c_value : C) (d_value : D)
-        (e_value : E) (u : List ℕ) → A.is_value a_value → B.is_value b_value → C.is_value c_value
-        → D.is_value d_value → E.is_value e_value → IsNext M.mode parser.old
-        (tuple_of name.now (documents (A.document a_value ∷ B.document b_value ∷ C.document c_value
-        ∷ D.document d_value ∷ E.document e_value ∷ []))) u → u ≡ rest parser.new) }
-    ensures none { IfErr result (λ fault. fault ≡ Fault.NotText → (a_value : A) (b_value : B)
-        (c_value : C) (d_value : D) (e_value : E) (u : List ℕ) → A.is_value a_value
+    ensures only { IfOk result (λ _. (block_name : List ℕ) (a_value : A) (b_value : B) (c_value : C)
+        (d_value : D) (e_value : E) → bytes_eq block_name name.now ≡ true → A.is_value a_value
         → B.is_value b_value → C.is_value c_value → D.is_value d_value → E.is_value e_value
-        → ¬ IsNext M.mode parser.old (tuple_of name.now (documents (A.document a_value
+        → NextLeaves M.mode parser.old (tuple_of block_name (documents (A.document a_value
         ∷ B.document b_value ∷ C.document c_value ∷ D.document d_value ∷ E.document e_value ∷ [])))
-        u) }
+        parser.new) }
+    ensures none { IfErr result (λ fault. fault ≡ Fault.NotText → (block_name : List ℕ)
+        (a_value : A) (b_value : B) (c_value : C) (d_value : D) (e_value : E)
+        → bytes_eq block_name name.now ≡ true → A.is_value a_value → B.is_value b_value
+        → C.is_value c_value → D.is_value d_value → E.is_value e_value → IsNotNext M.mode parser.old
+        (tuple_of block_name (documents (A.document a_value ∷ B.document b_value
+        ∷ C.document c_value ∷ D.document d_value ∷ E.document e_value ∷ [])))) }
     ensures memory { A.holds_no_memory × B.holds_no_memory × C.holds_no_memory × D.holds_no_memory
         × E.holds_no_memory → IfErr result (λ fault. fault ≡ Fault.NotText) }
     ensures blocks { IfOk result (λ _. open_blocks parser.new ≡ open_blocks parser.old) }
@@ -168,18 +175,20 @@ pub fn parse_tuple_6<
     ensures taken { IfOk result (λ v. IsTaken M.mode parser.old (tuple_of name.now (documents
         (A.document v.0 ∷ B.document v.1 ∷ C.document v.2 ∷ D.document v.3 ∷ E.document v.4
         ∷ F.document v.5 ∷ []))) parser.new) }
-    ensures only { IfOk result (λ _. (a_value : A) (b_value : B) (c_value : C) (d_value : D)
-        (e_value : E) (f_value : F) (u : List ℕ) → A.is_value a_value → B.is_value b_value
+    ensures only { IfOk result (λ _. (block_name : List ℕ) (a_value : A) (b_value : B) (c_value : C)
+        (d_value : D) (e_value : E) (f_value : F) → bytes_eq block_name name.now ≡ true
+        → A.is_value a_value → B.is_value b_value → C.is_value c_value → D.is_value d_value
+        → E.is_value e_value → F.is_value f_value → NextLeaves M.mode parser.old
+        (tuple_of block_name (documents (A.document a_value ∷ B.document b_value
+        ∷ C.document c_value ∷ D.document d_value ∷ E.document e_value ∷ F.document f_value ∷ [])))
+        parser.new) }
+    ensures none { IfErr result (λ fault. fault ≡ Fault.NotText → (block_name : List ℕ)
+        (a_value : A) (b_value : B) (c_value : C) (d_value : D) (e_value : E) (f_value : F)
+        → bytes_eq block_name name.now ≡ true → A.is_value a_value → B.is_value b_value
         → C.is_value c_value → D.is_value d_value → E.is_value e_value → F.is_value f_value
-        → IsNext M.mode parser.old (tuple_of name.now (documents (A.document a_value
+        → IsNotNext M.mode parser.old (tuple_of block_name (documents (A.document a_value
         ∷ B.document b_value ∷ C.document c_value ∷ D.document d_value ∷ E.document e_value
-        ∷ F.document f_value ∷ []))) u → u ≡ rest parser.new) }
-    ensures none { IfErr result (λ fault. fault ≡ Fault.NotText → (a_value : A) (b_value : B)
-        (c_value : C) (d_value : D) (e_value : E) (f_value : F) (u : List ℕ) → A.is_value a_value
-        → B.is_value b_value → C.is_value c_value → D.is_value d_value → E.is_value e_value
-        → F.is_value f_value → ¬ IsNext M.mode parser.old (tuple_of name.now (documents
-        (A.document a_value ∷ B.document b_value ∷ C.document c_value ∷ D.document d_value
-        ∷ E.document e_value ∷ F.document f_value ∷ []))) u) }
+        ∷ F.document f_value ∷ [])))) }
     ensures memory { A.holds_no_memory × B.holds_no_memory × C.holds_no_memory × D.holds_no_memory
         × E.holds_no_memory × F.holds_no_memory → IfErr result (λ fault. fault ≡ Fault.NotText) }
     ensures blocks { IfOk result (λ _. open_blocks parser.new ≡ open_blocks parser.old) }
@@ -205,20 +214,21 @@ pub fn parse_tuple_7<
     ensures taken { IfOk result (λ v. IsTaken M.mode parser.old (tuple_of name.now (documents
         (A.document v.0 ∷ B.document v.1 ∷ C.document v.2 ∷ D.document v.3 ∷ E.document v.4
         ∷ F.document v.5 ∷ G.document v.6 ∷ []))) parser.new) }
-    ensures only { IfOk result (λ _. (a_value : A) (b_value : B) (c_value : C) (d_value : D)
-        (e_value : E) (f_value : F) (g_value : G) (u : List ℕ) → A.is_value a_value
+    ensures only { IfOk result (λ _. (block_name : List ℕ) (a_value : A) (b_value : B) (c_value : C)
+        (d_value : D) (e_value : E) (f_value : F) (g_value : G)
+        → bytes_eq block_name name.now ≡ true → A.is_value a_value → B.is_value b_value
+        → C.is_value c_value → D.is_value d_value → E.is_value e_value → F.is_value f_value
+        → G.is_value g_value → NextLeaves M.mode parser.old (tuple_of block_name (documents
+        (A.document a_value ∷ B.document b_value ∷ C.document c_value ∷ D.document d_value
+        ∷ E.document e_value ∷ F.document f_value ∷ G.document g_value ∷ []))) parser.new) }
+    ensures none { IfErr result (λ fault. fault ≡ Fault.NotText → (block_name : List ℕ)
+        (a_value : A) (b_value : B) (c_value : C) (d_value : D) (e_value : E) (f_value : F)
+        (g_value : G) → bytes_eq block_name name.now ≡ true → A.is_value a_value
         → B.is_value b_value → C.is_value c_value → D.is_value d_value → E.is_value e_value
-        → F.is_value f_value → G.is_value g_value → IsNext M.mode parser.old
-        (tuple_of name.now (documents (A.document a_value ∷ B.document b_value ∷ C.document c_value
-        ∷ D.document d_value ∷ E.document e_value ∷ F.document f_value ∷ G.document g_value ∷ [])))
-        u → u ≡ rest parser.new) }
-    ensures none { IfErr result (λ fault. fault ≡ Fault.NotText → (a_value : A) (b_value : B)
-        (c_value : C) (d_value : D) (e_value : E) (f_value : F) (g_value : G) (u : List ℕ)
-        → A.is_value a_value → B.is_value b_value → C.is_value c_value → D.is_value d_value
-        → E.is_value e_value → F.is_value f_value → G.is_value g_value → ¬ IsNext M.mode parser.old
-        (tuple_of name.now (documents (A.document a_value ∷ B.document b_value ∷ C.document c_value
-        ∷ D.document d_value ∷ E.document e_value ∷ F.document f_value ∷ G.document g_value ∷ [])))
-        u) }
+        → F.is_value f_value → G.is_value g_value → IsNotNext M.mode parser.old
+        (tuple_of block_name (documents (A.document a_value ∷ B.document b_value
+        ∷ C.document c_value ∷ D.document d_value ∷ E.document e_value ∷ F.document f_value
+        ∷ G.document g_value ∷ [])))) }
     ensures memory { A.holds_no_memory × B.holds_no_memory × C.holds_no_memory × D.holds_no_memory
         × E.holds_no_memory × F.holds_no_memory × G.holds_no_memory → IfErr result (λ fault.
         fault ≡ Fault.NotText) }
@@ -246,21 +256,22 @@ pub fn parse_tuple_8<
     ensures taken { IfOk result (λ v. IsTaken M.mode parser.old (tuple_of name.now (documents
         (A.document v.0 ∷ B.document v.1 ∷ C.document v.2 ∷ D.document v.3 ∷ E.document v.4
         ∷ F.document v.5 ∷ G.document v.6 ∷ H.document v.7 ∷ []))) parser.new) }
-    ensures only { IfOk result (λ _. (a_value : A) (b_value : B) (c_value : C) (d_value : D)
-        (e_value : E) (f_value : F) (g_value : G) (h_value : H) (u : List ℕ) → A.is_value a_value
+    ensures only { IfOk result (λ _. (block_name : List ℕ) (a_value : A) (b_value : B) (c_value : C)
+        (d_value : D) (e_value : E) (f_value : F) (g_value : G) (h_value : H)
+        → bytes_eq block_name name.now ≡ true → A.is_value a_value → B.is_value b_value
+        → C.is_value c_value → D.is_value d_value → E.is_value e_value → F.is_value f_value
+        → G.is_value g_value → H.is_value h_value → NextLeaves M.mode parser.old
+        (tuple_of block_name (documents (A.document a_value ∷ B.document b_value
+        ∷ C.document c_value ∷ D.document d_value ∷ E.document e_value ∷ F.document f_value
+        ∷ G.document g_value ∷ H.document h_value ∷ []))) parser.new) }
+    ensures none { IfErr result (λ fault. fault ≡ Fault.NotText → (block_name : List ℕ)
+        (a_value : A) (b_value : B) (c_value : C) (d_value : D) (e_value : E) (f_value : F)
+        (g_value : G) (h_value : H) → bytes_eq block_name name.now ≡ true → A.is_value a_value
         → B.is_value b_value → C.is_value c_value → D.is_value d_value → E.is_value e_value
-        → F.is_value f_value → G.is_value g_value → H.is_value h_value → IsNext M.mode parser.old
-        (tuple_of name.now (documents (A.document a_value ∷ B.document b_value ∷ C.document c_value
-        ∷ D.document d_value ∷ E.document e_value ∷ F.document f_value ∷ G.document g_value
-        ∷ H.document h_value ∷ []))) u → u ≡ rest parser.new) }
-    ensures none { IfErr result (λ fault. fault ≡ Fault.NotText → (a_value : A) (b_value : B)
-        (c_value : C) (d_value : D) (e_value : E) (f_value : F) (g_value : G) (h_value : H)
-        (u : List ℕ) → A.is_value a_value → B.is_value b_value → C.is_value c_value
-        → D.is_value d_value → E.is_value e_value → F.is_value f_value → G.is_value g_value
-        → H.is_value h_value → ¬ IsNext M.mode parser.old (tuple_of name.now (documents
-        (A.document a_value ∷ B.document b_value ∷ C.document c_value ∷ D.document d_value
-        ∷ E.document e_value ∷ F.document f_value ∷ G.document g_value ∷ H.document h_value ∷ [])))
-        u) }
+        → F.is_value f_value → G.is_value g_value → H.is_value h_value → IsNotNext M.mode parser.old
+        (tuple_of block_name (documents (A.document a_value ∷ B.document b_value
+        ∷ C.document c_value ∷ D.document d_value ∷ E.document e_value ∷ F.document f_value
+        ∷ G.document g_value ∷ H.document h_value ∷ [])))) }
     ensures memory { A.holds_no_memory × B.holds_no_memory × C.holds_no_memory × D.holds_no_memory
         × E.holds_no_memory × F.holds_no_memory × G.holds_no_memory × H.holds_no_memory
         → IfErr result (λ fault. fault ≡ Fault.NotText) }
@@ -293,22 +304,24 @@ pub fn parse_tuple_9<
     ensures taken { IfOk result (λ v. IsTaken M.mode parser.old (tuple_of name.now (documents
         (A.document v.0 ∷ B.document v.1 ∷ C.document v.2 ∷ D.document v.3 ∷ E.document v.4
         ∷ F.document v.5 ∷ G.document v.6 ∷ H.document v.7 ∷ I.document v.8 ∷ []))) parser.new) }
-    ensures only { IfOk result (λ _. (a_value : A) (b_value : B) (c_value : C) (d_value : D)
-        (e_value : E) (f_value : F) (g_value : G) (h_value : H) (i_value : I) (u : List ℕ)
+    ensures only { IfOk result (λ _. (block_name : List ℕ) (a_value : A) (b_value : B) (c_value : C)
+        (d_value : D) (e_value : E) (f_value : F) (g_value : G) (h_value : H) (i_value : I)
+        → bytes_eq block_name name.now ≡ true → A.is_value a_value → B.is_value b_value
+        → C.is_value c_value → D.is_value d_value → E.is_value e_value → F.is_value f_value
+        → G.is_value g_value → H.is_value h_value → I.is_value i_value
+        → NextLeaves M.mode parser.old (tuple_of block_name (documents (A.document a_value
+        ∷ B.document b_value ∷ C.document c_value ∷ D.document d_value ∷ E.document e_value
+        ∷ F.document f_value ∷ G.document g_value ∷ H.document h_value ∷ I.document i_value ∷ [])))
+        parser.new) }
+    ensures none { IfErr result (λ fault. fault ≡ Fault.NotText → (block_name : List ℕ)
+        (a_value : A) (b_value : B) (c_value : C) (d_value : D) (e_value : E) (f_value : F)
+        (g_value : G) (h_value : H) (i_value : I) → bytes_eq block_name name.now ≡ true
         → A.is_value a_value → B.is_value b_value → C.is_value c_value → D.is_value d_value
         → E.is_value e_value → F.is_value f_value → G.is_value g_value → H.is_value h_value
-        → I.is_value i_value → IsNext M.mode parser.old (tuple_of name.now (documents
+        → I.is_value i_value → IsNotNext M.mode parser.old (tuple_of block_name (documents
         (A.document a_value ∷ B.document b_value ∷ C.document c_value ∷ D.document d_value
         ∷ E.document e_value ∷ F.document f_value ∷ G.document g_value ∷ H.document h_value
-        ∷ I.document i_value ∷ []))) u → u ≡ rest parser.new) }
-    ensures none { IfErr result (λ fault. fault ≡ Fault.NotText → (a_value : A) (b_value : B)
-        (c_value : C) (d_value : D) (e_value : E) (f_value : F) (g_value : G) (h_value : H)
-        (i_value : I) (u : List ℕ) → A.is_value a_value → B.is_value b_value → C.is_value c_value
-        → D.is_value d_value → E.is_value e_value → F.is_value f_value → G.is_value g_value
-        → H.is_value h_value → I.is_value i_value → ¬ IsNext M.mode parser.old
-        (tuple_of name.now (documents (A.document a_value ∷ B.document b_value ∷ C.document c_value
-        ∷ D.document d_value ∷ E.document e_value ∷ F.document f_value ∷ G.document g_value
-        ∷ H.document h_value ∷ I.document i_value ∷ []))) u) }
+        ∷ I.document i_value ∷ [])))) }
     ensures memory { A.holds_no_memory × B.holds_no_memory × C.holds_no_memory × D.holds_no_memory
         × E.holds_no_memory × F.holds_no_memory × G.holds_no_memory × H.holds_no_memory
         × I.holds_no_memory → IfErr result (λ fault. fault ≡ Fault.NotText) }
@@ -343,24 +356,25 @@ pub fn parse_tuple_10<
         (A.document v.0 ∷ B.document v.1 ∷ C.document v.2 ∷ D.document v.3 ∷ E.document v.4
         ∷ F.document v.5 ∷ G.document v.6 ∷ H.document v.7 ∷ I.document v.8 ∷ J.document v.9 ∷ [])))
         parser.new) }
-    ensures only { IfOk result (λ _. (a_value : A) (b_value : B) (c_value : C) (d_value : D)
-        (e_value : E) (f_value : F) (g_value : G) (h_value : H) (i_value : I) (j_value : J)
-        (u : List ℕ) → A.is_value a_value → B.is_value b_value → C.is_value c_value
-        → D.is_value d_value → E.is_value e_value → F.is_value f_value → G.is_value g_value
-        → H.is_value h_value → I.is_value i_value → J.is_value j_value → IsNext M.mode parser.old
-        (tuple_of name.now (documents (A.document a_value ∷ B.document b_value ∷ C.document c_value
-        ∷ D.document d_value ∷ E.document e_value ∷ F.document f_value ∷ G.document g_value
-        ∷ H.document h_value ∷ I.document i_value ∷ J.document j_value ∷ []))) u
-        → u ≡ rest parser.new) }
-    ensures none { IfErr result (λ fault. fault ≡ Fault.NotText → (a_value : A) (b_value : B)
-        (c_value : C) (d_value : D) (e_value : E) (f_value : F) (g_value : G) (h_value : H)
-        (i_value : I) (j_value : J) (u : List ℕ) → A.is_value a_value → B.is_value b_value
+    ensures only { IfOk result (λ _. (block_name : List ℕ) (a_value : A) (b_value : B) (c_value : C)
+        (d_value : D) (e_value : E) (f_value : F) (g_value : G) (h_value : H) (i_value : I)
+        (j_value : J) → bytes_eq block_name name.now ≡ true → A.is_value a_value
+        → B.is_value b_value → C.is_value c_value → D.is_value d_value → E.is_value e_value
+        → F.is_value f_value → G.is_value g_value → H.is_value h_value → I.is_value i_value
+        → J.is_value j_value → NextLeaves M.mode parser.old (tuple_of block_name (documents
+        (A.document a_value ∷ B.document b_value ∷ C.document c_value ∷ D.document d_value
+        ∷ E.document e_value ∷ F.document f_value ∷ G.document g_value ∷ H.document h_value
+        ∷ I.document i_value ∷ J.document j_value ∷ []))) parser.new) }
+    ensures none { IfErr result (λ fault. fault ≡ Fault.NotText → (block_name : List ℕ)
+        (a_value : A) (b_value : B) (c_value : C) (d_value : D) (e_value : E) (f_value : F)
+        (g_value : G) (h_value : H) (i_value : I) (j_value : J)
+        → bytes_eq block_name name.now ≡ true → A.is_value a_value → B.is_value b_value
         → C.is_value c_value → D.is_value d_value → E.is_value e_value → F.is_value f_value
         → G.is_value g_value → H.is_value h_value → I.is_value i_value → J.is_value j_value
-        → ¬ IsNext M.mode parser.old (tuple_of name.now (documents (A.document a_value
+        → IsNotNext M.mode parser.old (tuple_of block_name (documents (A.document a_value
         ∷ B.document b_value ∷ C.document c_value ∷ D.document d_value ∷ E.document e_value
         ∷ F.document f_value ∷ G.document g_value ∷ H.document h_value ∷ I.document i_value
-        ∷ J.document j_value ∷ []))) u) }
+        ∷ J.document j_value ∷ [])))) }
     ensures memory { A.holds_no_memory × B.holds_no_memory × C.holds_no_memory × D.holds_no_memory
         × E.holds_no_memory × F.holds_no_memory × G.holds_no_memory × H.holds_no_memory
         × I.holds_no_memory × J.holds_no_memory → IfErr result (λ fault. fault ≡ Fault.NotText) }
@@ -396,25 +410,26 @@ pub fn parse_tuple_11<
         (A.document v.0 ∷ B.document v.1 ∷ C.document v.2 ∷ D.document v.3 ∷ E.document v.4
         ∷ F.document v.5 ∷ G.document v.6 ∷ H.document v.7 ∷ I.document v.8 ∷ J.document v.9
         ∷ K.document v.10 ∷ []))) parser.new) }
-    ensures only { IfOk result (λ _. (a_value : A) (b_value : B) (c_value : C) (d_value : D)
-        (e_value : E) (f_value : F) (g_value : G) (h_value : H) (i_value : I) (j_value : J)
-        (k_value : K) (u : List ℕ) → A.is_value a_value → B.is_value b_value → C.is_value c_value
-        → D.is_value d_value → E.is_value e_value → F.is_value f_value → G.is_value g_value
-        → H.is_value h_value → I.is_value i_value → J.is_value j_value → K.is_value k_value
-        → IsNext M.mode parser.old (tuple_of name.now (documents (A.document a_value
-        ∷ B.document b_value ∷ C.document c_value ∷ D.document d_value ∷ E.document e_value
-        ∷ F.document f_value ∷ G.document g_value ∷ H.document h_value ∷ I.document i_value
-        ∷ J.document j_value ∷ K.document k_value ∷ []))) u → u ≡ rest parser.new) }
-    ensures none { IfErr result (λ fault. fault ≡ Fault.NotText → (a_value : A) (b_value : B)
-        (c_value : C) (d_value : D) (e_value : E) (f_value : F) (g_value : G) (h_value : H)
-        (i_value : I) (j_value : J) (k_value : K) (u : List ℕ) → A.is_value a_value
+    ensures only { IfOk result (λ _. (block_name : List ℕ) (a_value : A) (b_value : B) (c_value : C)
+        (d_value : D) (e_value : E) (f_value : F) (g_value : G) (h_value : H) (i_value : I)
+        (j_value : J) (k_value : K) → bytes_eq block_name name.now ≡ true → A.is_value a_value
         → B.is_value b_value → C.is_value c_value → D.is_value d_value → E.is_value e_value
         → F.is_value f_value → G.is_value g_value → H.is_value h_value → I.is_value i_value
-        → J.is_value j_value → K.is_value k_value → ¬ IsNext M.mode parser.old
-        (tuple_of name.now (documents (A.document a_value ∷ B.document b_value ∷ C.document c_value
-        ∷ D.document d_value ∷ E.document e_value ∷ F.document f_value ∷ G.document g_value
-        ∷ H.document h_value ∷ I.document i_value ∷ J.document j_value ∷ K.document k_value ∷ [])))
-        u) }
+        → J.is_value j_value → K.is_value k_value → NextLeaves M.mode parser.old
+        (tuple_of block_name (documents (A.document a_value ∷ B.document b_value
+        ∷ C.document c_value ∷ D.document d_value ∷ E.document e_value ∷ F.document f_value
+        ∷ G.document g_value ∷ H.document h_value ∷ I.document i_value ∷ J.document j_value
+        ∷ K.document k_value ∷ []))) parser.new) }
+    ensures none { IfErr result (λ fault. fault ≡ Fault.NotText → (block_name : List ℕ)
+        (a_value : A) (b_value : B) (c_value : C) (d_value : D) (e_value : E) (f_value : F)
+        (g_value : G) (h_value : H) (i_value : I) (j_value : J) (k_value : K)
+        → bytes_eq block_name name.now ≡ true → A.is_value a_value → B.is_value b_value
+        → C.is_value c_value → D.is_value d_value → E.is_value e_value → F.is_value f_value
+        → G.is_value g_value → H.is_value h_value → I.is_value i_value → J.is_value j_value
+        → K.is_value k_value → IsNotNext M.mode parser.old (tuple_of block_name (documents
+        (A.document a_value ∷ B.document b_value ∷ C.document c_value ∷ D.document d_value
+        ∷ E.document e_value ∷ F.document f_value ∷ G.document g_value ∷ H.document h_value
+        ∷ I.document i_value ∷ J.document j_value ∷ K.document k_value ∷ [])))) }
     ensures memory { A.holds_no_memory × B.holds_no_memory × C.holds_no_memory × D.holds_no_memory
         × E.holds_no_memory × F.holds_no_memory × G.holds_no_memory × H.holds_no_memory
         × I.holds_no_memory × J.holds_no_memory × K.holds_no_memory → IfErr result (λ fault.
@@ -452,26 +467,27 @@ pub fn parse_tuple_12<
         (A.document v.0 ∷ B.document v.1 ∷ C.document v.2 ∷ D.document v.3 ∷ E.document v.4
         ∷ F.document v.5 ∷ G.document v.6 ∷ H.document v.7 ∷ I.document v.8 ∷ J.document v.9
         ∷ K.document v.10 ∷ L.document v.11 ∷ []))) parser.new) }
-    ensures only { IfOk result (λ _. (a_value : A) (b_value : B) (c_value : C) (d_value : D)
-        (e_value : E) (f_value : F) (g_value : G) (h_value : H) (i_value : I) (j_value : J)
-        (k_value : K) (l_value : L) (u : List ℕ) → A.is_value a_value → B.is_value b_value
+    ensures only { IfOk result (λ _. (block_name : List ℕ) (a_value : A) (b_value : B) (c_value : C)
+        (d_value : D) (e_value : E) (f_value : F) (g_value : G) (h_value : H) (i_value : I)
+        (j_value : J) (k_value : K) (l_value : L) → bytes_eq block_name name.now ≡ true
+        → A.is_value a_value → B.is_value b_value → C.is_value c_value → D.is_value d_value
+        → E.is_value e_value → F.is_value f_value → G.is_value g_value → H.is_value h_value
+        → I.is_value i_value → J.is_value j_value → K.is_value k_value → L.is_value l_value
+        → NextLeaves M.mode parser.old (tuple_of block_name (documents (A.document a_value
+        ∷ B.document b_value ∷ C.document c_value ∷ D.document d_value ∷ E.document e_value
+        ∷ F.document f_value ∷ G.document g_value ∷ H.document h_value ∷ I.document i_value
+        ∷ J.document j_value ∷ K.document k_value ∷ L.document l_value ∷ []))) parser.new) }
+    ensures none { IfErr result (λ fault. fault ≡ Fault.NotText → (block_name : List ℕ)
+        (a_value : A) (b_value : B) (c_value : C) (d_value : D) (e_value : E) (f_value : F)
+        (g_value : G) (h_value : H) (i_value : I) (j_value : J) (k_value : K) (l_value : L)
+        → bytes_eq block_name name.now ≡ true → A.is_value a_value → B.is_value b_value
         → C.is_value c_value → D.is_value d_value → E.is_value e_value → F.is_value f_value
         → G.is_value g_value → H.is_value h_value → I.is_value i_value → J.is_value j_value
-        → K.is_value k_value → L.is_value l_value → IsNext M.mode parser.old
-        (tuple_of name.now (documents (A.document a_value ∷ B.document b_value ∷ C.document c_value
-        ∷ D.document d_value ∷ E.document e_value ∷ F.document f_value ∷ G.document g_value
-        ∷ H.document h_value ∷ I.document i_value ∷ J.document j_value ∷ K.document k_value
-        ∷ L.document l_value ∷ []))) u → u ≡ rest parser.new) }
-    ensures none { IfErr result (λ fault. fault ≡ Fault.NotText → (a_value : A) (b_value : B)
-        (c_value : C) (d_value : D) (e_value : E) (f_value : F) (g_value : G) (h_value : H)
-        (i_value : I) (j_value : J) (k_value : K) (l_value : L) (u : List ℕ) → A.is_value a_value
-        → B.is_value b_value → C.is_value c_value → D.is_value d_value → E.is_value e_value
-        → F.is_value f_value → G.is_value g_value → H.is_value h_value → I.is_value i_value
-        → J.is_value j_value → K.is_value k_value → L.is_value l_value → ¬ IsNext M.mode parser.old
-        (tuple_of name.now (documents (A.document a_value ∷ B.document b_value ∷ C.document c_value
-        ∷ D.document d_value ∷ E.document e_value ∷ F.document f_value ∷ G.document g_value
-        ∷ H.document h_value ∷ I.document i_value ∷ J.document j_value ∷ K.document k_value
-        ∷ L.document l_value ∷ []))) u) }
+        → K.is_value k_value → L.is_value l_value → IsNotNext M.mode parser.old
+        (tuple_of block_name (documents (A.document a_value ∷ B.document b_value
+        ∷ C.document c_value ∷ D.document d_value ∷ E.document e_value ∷ F.document f_value
+        ∷ G.document g_value ∷ H.document h_value ∷ I.document i_value ∷ J.document j_value
+        ∷ K.document k_value ∷ L.document l_value ∷ [])))) }
     ensures memory { A.holds_no_memory × B.holds_no_memory × C.holds_no_memory × D.holds_no_memory
         × E.holds_no_memory × F.holds_no_memory × G.holds_no_memory × H.holds_no_memory
         × I.holds_no_memory × J.holds_no_memory × K.holds_no_memory × L.holds_no_memory

@@ -1,8 +1,10 @@
 //! Tuples whose fields are each parsed by a parser. tools/write-by-count writes this file: change it there.
-ghost use Rattle.std.specs.Prelude.{◌≤◌, ◌<◌, length, [], ◌∷◌, ◌≡◌, List, ℕ, suc, IfOk, IfErr};
+ghost use Rattle.std.specs.Prelude.{◌≤◌, ◌<◌, length, [], ◌∷◌, ◌≡◌, List, ℕ, suc, true, IfOk, IfErr};
+ghost use Rattle.std.specs.Str.{bytes_eq};
 ghost use Rattle.ufmt.specs.Document.{documents, tuple_of};
 ghost use Rattle.ufmt.specs.Leaves.{IsWordOrEmpty};
-ghost use Rattle.ufmt_parse.specs.Taking.{IsNext, IsTaken, open_blocks, rest};
+ghost use Rattle.ufmt_parse.specs.Next.{IsNotNext, NextLeaves};
+ghost use Rattle.ufmt_parse.specs.Taking.{IsTaken, open_blocks, rest};
 
 use crate::from_front::ParsesBy;
 use crate::mode::ParseMode;
@@ -22,12 +24,12 @@ pub fn parse_tuple_1_by<Alloc: Copy, M: ParseMode, A: uDebug + Drop, P: ParsesBy
     ensures values { IfOk result (λ v. P.is_value v) }
     ensures taken { IfOk result (λ v. IsTaken M.mode parser.old (tuple_of name.now (documents
         (A.document v ∷ []))) parser.new) }
-    ensures only { IfOk result (λ _. (a_value : A) (u : List ℕ) → P.is_value a_value
-        → IsNext M.mode parser.old (tuple_of name.now (documents (A.document a_value ∷ []))) u
-        → u ≡ rest parser.new) }
-    ensures none { IfErr result (λ fault. fault ≡ Fault.NotText → (a_value : A) (u : List ℕ)
-        → P.is_value a_value → ¬ IsNext M.mode parser.old (tuple_of name.now (documents
-        (A.document a_value ∷ []))) u) }
+    ensures only { IfOk result (λ _. (block_name : List ℕ) (a_value : A)
+        → bytes_eq block_name name.now ≡ true → P.is_value a_value → NextLeaves M.mode parser.old
+        (tuple_of block_name (documents (A.document a_value ∷ []))) parser.new) }
+    ensures none { IfErr result (λ fault. fault ≡ Fault.NotText → (block_name : List ℕ)
+        (a_value : A) → bytes_eq block_name name.now ≡ true → P.is_value a_value
+        → IsNotNext M.mode parser.old (tuple_of block_name (documents (A.document a_value ∷ [])))) }
     ensures memory { P.holds_no_memory → IfErr result (λ fault. fault ≡ Fault.NotText) }
     ensures blocks { IfOk result (λ _. open_blocks parser.new ≡ open_blocks parser.old) }
     ensures shrinks { length (rest parser.new) ≤ length (rest parser.old) }
@@ -53,12 +55,14 @@ pub fn parse_tuple_2_by<
     ensures values { IfOk result (λ v. P.is_value v.0 × Q.is_value v.1) }
     ensures taken { IfOk result (λ v. IsTaken M.mode parser.old (tuple_of name.now (documents
         (A.document v.0 ∷ B.document v.1 ∷ []))) parser.new) }
-    ensures only { IfOk result (λ _. (a_value : A) (b_value : B) (u : List ℕ) → P.is_value a_value
-        → Q.is_value b_value → IsNext M.mode parser.old (tuple_of name.now (documents
-        (A.document a_value ∷ B.document b_value ∷ []))) u → u ≡ rest parser.new) }
-    ensures none { IfErr result (λ fault. fault ≡ Fault.NotText → (a_value : A) (b_value : B)
-        (u : List ℕ) → P.is_value a_value → Q.is_value b_value → ¬ IsNext M.mode parser.old
-        (tuple_of name.now (documents (A.document a_value ∷ B.document b_value ∷ []))) u) }
+    ensures only { IfOk result (λ _. (block_name : List ℕ) (a_value : A) (b_value : B)
+        → bytes_eq block_name name.now ≡ true → P.is_value a_value → Q.is_value b_value
+        → NextLeaves M.mode parser.old (tuple_of block_name (documents (A.document a_value
+        ∷ B.document b_value ∷ []))) parser.new) }
+    ensures none { IfErr result (λ fault. fault ≡ Fault.NotText → (block_name : List ℕ)
+        (a_value : A) (b_value : B) → bytes_eq block_name name.now ≡ true → P.is_value a_value
+        → Q.is_value b_value → IsNotNext M.mode parser.old (tuple_of block_name (documents
+        (A.document a_value ∷ B.document b_value ∷ [])))) }
     ensures memory { P.holds_no_memory × Q.holds_no_memory → IfErr result (λ fault.
         fault ≡ Fault.NotText) }
     ensures blocks { IfOk result (λ _. open_blocks parser.new ≡ open_blocks parser.old) }
@@ -92,14 +96,15 @@ pub fn parse_tuple_3_by<
     ensures values { IfOk result (λ v. P.is_value v.0 × Q.is_value v.1 × R.is_value v.2) }
     ensures taken { IfOk result (λ v. IsTaken M.mode parser.old (tuple_of name.now (documents
         (A.document v.0 ∷ B.document v.1 ∷ C.document v.2 ∷ []))) parser.new) }
-    ensures only { IfOk result (λ _. (a_value : A) (b_value : B) (c_value : C) (u : List ℕ)
-        → P.is_value a_value → Q.is_value b_value → R.is_value c_value → IsNext M.mode parser.old
-        (tuple_of name.now (documents (A.document a_value ∷ B.document b_value ∷ C.document c_value
-        ∷ []))) u → u ≡ rest parser.new) }
-    ensures none { IfErr result (λ fault. fault ≡ Fault.NotText → (a_value : A) (b_value : B)
-        (c_value : C) (u : List ℕ) → P.is_value a_value → Q.is_value b_value → R.is_value c_value
-        → ¬ IsNext M.mode parser.old (tuple_of name.now (documents (A.document a_value
-        ∷ B.document b_value ∷ C.document c_value ∷ []))) u) }
+    ensures only { IfOk result (λ _. (block_name : List ℕ) (a_value : A) (b_value : B) (c_value : C)
+        → bytes_eq block_name name.now ≡ true → P.is_value a_value → Q.is_value b_value
+        → R.is_value c_value → NextLeaves M.mode parser.old (tuple_of block_name (documents
+        (A.document a_value ∷ B.document b_value ∷ C.document c_value ∷ []))) parser.new) }
+    ensures none { IfErr result (λ fault. fault ≡ Fault.NotText → (block_name : List ℕ)
+        (a_value : A) (b_value : B) (c_value : C) → bytes_eq block_name name.now ≡ true
+        → P.is_value a_value → Q.is_value b_value → R.is_value c_value → IsNotNext M.mode parser.old
+        (tuple_of block_name (documents (A.document a_value ∷ B.document b_value
+        ∷ C.document c_value ∷ [])))) }
     ensures memory { P.holds_no_memory × Q.holds_no_memory × R.holds_no_memory
         → IfErr result (λ fault. fault ≡ Fault.NotText) }
     ensures blocks { IfOk result (λ _. open_blocks parser.new ≡ open_blocks parser.old) }
@@ -137,16 +142,17 @@ pub fn parse_tuple_4_by<
     ensures values { IfOk result (λ v. P.is_value v.0 × Q.is_value v.1 × R.is_value v.2 × S.is_value v.3) }
     ensures taken { IfOk result (λ v. IsTaken M.mode parser.old (tuple_of name.now (documents
         (A.document v.0 ∷ B.document v.1 ∷ C.document v.2 ∷ D.document v.3 ∷ []))) parser.new) }
-    ensures only { IfOk result (λ _. (a_value : A) (b_value : B) (c_value : C) (d_value : D)
-        (u : List ℕ) → P.is_value a_value → Q.is_value b_value → R.is_value c_value
-        → S.is_value d_value → IsNext M.mode parser.old (tuple_of name.now (documents
-        (A.document a_value ∷ B.document b_value ∷ C.document c_value ∷ D.document d_value ∷ []))) u
-        → u ≡ rest parser.new) }
-    ensures none { IfErr result (λ fault. fault ≡ Fault.NotText → (a_value : A) (b_value : B)
-        (c_value : C) (d_value : D) (u : List ℕ) → P.is_value a_value → Q.is_value b_value
-        → R.is_value c_value → S.is_value d_value → ¬ IsNext M.mode parser.old
-        (tuple_of name.now (documents (A.document a_value ∷ B.document b_value ∷ C.document c_value
-        ∷ D.document d_value ∷ []))) u) }
+    ensures only { IfOk result (λ _. (block_name : List ℕ) (a_value : A) (b_value : B) (c_value : C)
+        (d_value : D) → bytes_eq block_name name.now ≡ true → P.is_value a_value
+        → Q.is_value b_value → R.is_value c_value → S.is_value d_value
+        → NextLeaves M.mode parser.old (tuple_of block_name (documents (A.document a_value
+        ∷ B.document b_value ∷ C.document c_value ∷ D.document d_value ∷ []))) parser.new) }
+    ensures none { IfErr result (λ fault. fault ≡ Fault.NotText → (block_name : List ℕ)
+        (a_value : A) (b_value : B) (c_value : C) (d_value : D)
+        → bytes_eq block_name name.now ≡ true → P.is_value a_value → Q.is_value b_value
+        → R.is_value c_value → S.is_value d_value → IsNotNext M.mode parser.old
+        (tuple_of block_name (documents (A.document a_value ∷ B.document b_value
+        ∷ C.document c_value ∷ D.document d_value ∷ [])))) }
     ensures memory { P.holds_no_memory × Q.holds_no_memory × R.holds_no_memory × S.holds_no_memory
         → IfErr result (λ fault. fault ≡ Fault.NotText) }
     ensures blocks { IfOk result (λ _. open_blocks parser.new ≡ open_blocks parser.old) }
@@ -189,17 +195,18 @@ pub fn parse_tuple_5_by<
     ensures taken { IfOk result (λ v. IsTaken M.mode parser.old (tuple_of name.now (documents
         (A.document v.0 ∷ B.document v.1 ∷ C.document v.2 ∷ D.document v.3 ∷ E.document v.4 ∷ [])))
         parser.new) }
-    ensures only { IfOk result (λ _. (a_value : A) (b_value : B) (c_value : C) (d_value : D)
-        (e_value : E) (u : List ℕ) → P.is_value a_value → Q.is_value b_value → R.is_value c_value
-        → S.is_value d_value → T.is_value e_value → IsNext M.mode parser.old
-        (tuple_of name.now (documents (A.document a_value ∷ B.document b_value ∷ C.document c_value
-        ∷ D.document d_value ∷ E.document e_value ∷ []))) u → u ≡ rest parser.new) }
-    ensures none { IfErr result (λ fault. fault ≡ Fault.NotText → (a_value : A) (b_value : B)
-        (c_value : C) (d_value : D) (e_value : E) (u : List ℕ) → P.is_value a_value
+    ensures only { IfOk result (λ _. (block_name : List ℕ) (a_value : A) (b_value : B) (c_value : C)
+        (d_value : D) (e_value : E) → bytes_eq block_name name.now ≡ true → P.is_value a_value
         → Q.is_value b_value → R.is_value c_value → S.is_value d_value → T.is_value e_value
-        → ¬ IsNext M.mode parser.old (tuple_of name.now (documents (A.document a_value
+        → NextLeaves M.mode parser.old (tuple_of block_name (documents (A.document a_value
         ∷ B.document b_value ∷ C.document c_value ∷ D.document d_value ∷ E.document e_value ∷ [])))
-        u) }
+        parser.new) }
+    ensures none { IfErr result (λ fault. fault ≡ Fault.NotText → (block_name : List ℕ)
+        (a_value : A) (b_value : B) (c_value : C) (d_value : D) (e_value : E)
+        → bytes_eq block_name name.now ≡ true → P.is_value a_value → Q.is_value b_value
+        → R.is_value c_value → S.is_value d_value → T.is_value e_value → IsNotNext M.mode parser.old
+        (tuple_of block_name (documents (A.document a_value ∷ B.document b_value
+        ∷ C.document c_value ∷ D.document d_value ∷ E.document e_value ∷ [])))) }
     ensures memory { P.holds_no_memory × Q.holds_no_memory × R.holds_no_memory × S.holds_no_memory
         × T.holds_no_memory → IfErr result (λ fault. fault ≡ Fault.NotText) }
     ensures blocks { IfOk result (λ _. open_blocks parser.new ≡ open_blocks parser.old) }
@@ -246,18 +253,20 @@ pub fn parse_tuple_6_by<
     ensures taken { IfOk result (λ v. IsTaken M.mode parser.old (tuple_of name.now (documents
         (A.document v.0 ∷ B.document v.1 ∷ C.document v.2 ∷ D.document v.3 ∷ E.document v.4
         ∷ F.document v.5 ∷ []))) parser.new) }
-    ensures only { IfOk result (λ _. (a_value : A) (b_value : B) (c_value : C) (d_value : D)
-        (e_value : E) (f_value : F) (u : List ℕ) → P.is_value a_value → Q.is_value b_value
+    ensures only { IfOk result (λ _. (block_name : List ℕ) (a_value : A) (b_value : B) (c_value : C)
+        (d_value : D) (e_value : E) (f_value : F) → bytes_eq block_name name.now ≡ true
+        → P.is_value a_value → Q.is_value b_value → R.is_value c_value → S.is_value d_value
+        → T.is_value e_value → U.is_value f_value → NextLeaves M.mode parser.old
+        (tuple_of block_name (documents (A.document a_value ∷ B.document b_value
+        ∷ C.document c_value ∷ D.document d_value ∷ E.document e_value ∷ F.document f_value ∷ [])))
+        parser.new) }
+    ensures none { IfErr result (λ fault. fault ≡ Fault.NotText → (block_name : List ℕ)
+        (a_value : A) (b_value : B) (c_value : C) (d_value : D) (e_value : E) (f_value : F)
+        → bytes_eq block_name name.now ≡ true → P.is_value a_value → Q.is_value b_value
         → R.is_value c_value → S.is_value d_value → T.is_value e_value → U.is_value f_value
-        → IsNext M.mode parser.old (tuple_of name.now (documents (A.document a_value
+        → IsNotNext M.mode parser.old (tuple_of block_name (documents (A.document a_value
         ∷ B.document b_value ∷ C.document c_value ∷ D.document d_value ∷ E.document e_value
-        ∷ F.document f_value ∷ []))) u → u ≡ rest parser.new) }
-    ensures none { IfErr result (λ fault. fault ≡ Fault.NotText → (a_value : A) (b_value : B)
-        (c_value : C) (d_value : D) (e_value : E) (f_value : F) (u : List ℕ) → P.is_value a_value
-        → Q.is_value b_value → R.is_value c_value → S.is_value d_value → T.is_value e_value
-        → U.is_value f_value → ¬ IsNext M.mode parser.old (tuple_of name.now (documents
-        (A.document a_value ∷ B.document b_value ∷ C.document c_value ∷ D.document d_value
-        ∷ E.document e_value ∷ F.document f_value ∷ []))) u) }
+        ∷ F.document f_value ∷ [])))) }
     ensures memory { P.holds_no_memory × Q.holds_no_memory × R.holds_no_memory × S.holds_no_memory
         × T.holds_no_memory × U.holds_no_memory → IfErr result (λ fault. fault ≡ Fault.NotText) }
     ensures blocks { IfOk result (λ _. open_blocks parser.new ≡ open_blocks parser.old) }

@@ -7,6 +7,7 @@ mod counts;
 mod deep;
 mod errors;
 mod leaves;
+mod long_names;
 mod long_numbers;
 mod nested;
 mod nonzero;

@@ -1,6 +1,6 @@
 //! Tests of what no clause says: the texts that ufmt and core::fmt print of the same values, where
 //! pieces end, what a failing writer leaves, and that each call can succeed. `rows` asserts a
-//! table; `piece_rows` and `text_rows` make its rows.
+//! table; `piece_rows` and `text_rows` make its rows. `tools/expected/show VALUE` prints again what core::fmt prints.
 // Adds a row of each of these nonzero numbers by a method of the table.
 macro_rules! put_nonzero {
     ($table:ident.$put:ident: $($number:ident $value:expr),*) => {
@@ -18,6 +18,7 @@ mod collections;
 mod columns;
 mod cursors;
 mod cuts;
+mod decimals;
 mod dumps;
 mod fields;
 mod fixed;
@@ -34,6 +35,7 @@ mod piece_rows;
 mod print;
 mod printed;
 mod quoted;
+mod radix;
 mod rows;
 mod shadowed_names;
 mod std_pieces;
@@ -43,3 +45,4 @@ mod tuples;
 mod user_types;
 mod uwrite;
 mod writers;
+mod zeros;

@@ -3,6 +3,7 @@
 //! A user's own types, most of them printed in one call.
 
 mod by_hand;
+mod clock;
 mod cut_log;
 mod enums;
 mod fixed;
@@ -16,6 +17,7 @@ mod structs;
 mod table;
 
 pub use by_hand::{InPrettyMode, Meter, Port, Ports, Scores, Temperature, Users};
+pub use clock::{Time, write_status, write_time};
 pub use cut_log::log_cut;
 pub use enums::{Letter, Y};
 pub use fixed::Fixed;

@@ -12,19 +12,19 @@ pub struct Counter {
     pub register: u16,
 }
 
-const NAME: Column = Column {
+const NAME_COLUMN: Column = Column {
     width: 10,
     align: Align::Left,
     fill: ' ',
 };
 
-const COUNT: Column = Column {
+const COUNT_COLUMN: Column = Column {
     width: 8,
     align: Align::Right,
     fill: '.',
 };
 
-const REGISTER: Column = Column {
+const REGISTER_COLUMN: Column = Column {
     width: 10,
     align: Align::Center,
     fill: ' ',
@@ -51,8 +51,8 @@ pub fn write_row(buffer: &mut [u8], counter: &Counter) -> Result<usize, Full>
     line_into(
         buffer,
         &pieces!(
-            display name in NAME, display count in COUNT, text "|",
-            hex register with ADDRESS in REGISTER, text "|\n"
+            display name in NAME_COLUMN, display count in COUNT_COLUMN, text "|",
+            hex register with ADDRESS in REGISTER_COLUMN, text "|\n"
         ),
     )
 }

@@ -1,54 +1,20 @@
-"""Bytes of code and constants that a call needs, and instructions that it takes."""
+"""Bytes of code and constants that a call that prints needs, and instructions that it takes, beside ufmt and core::fmt."""
 import re
-import shutil
 import subprocess
 import sys
 
 import build
+import peers
 
-LIBRARIES = {"ufmt_core": [], "ufmt": ["ufmt_core"]}
-CASES = ("text", "number", "struct", "pretty", "two", "line")
-NUMBERS = (0, -2147483648)
-
-
-def program(top, room):
-    """The program, and beside it its object file, in which each case has a name of its own."""
-    for crate in LIBRARIES:
-        shutil.copytree(top / "crates" / crate / "src", room / "crates" / crate / "src")
-    source = room / "crates" / "calls" / "src"
-    source.mkdir(parents=True)
-    shutil.copy(top / "tools" / "data" / "bench" / "calls.rt.txt", source / "main.rt")
-    return build.program(room, "calls", LIBRARIES, exported)
-
-
-def exported(module):
-    """The module's text, in which the cases are seen from outside."""
-    module = re.sub(r'@"calls::(case_\w+)"', r"@\1", module)
-    return re.sub(r"define internal (?:fastcc )?([^\n]*?@case_)", r"define \1", module)
-
-
-def bytes_of(top, room, case):
-    """How many bytes of code and constants a program has that only makes this call."""
-    made = room / "alone"
-    memory = room / "memory.o"
-    if not memory.exists():
-        run(["gcc", "-Os", "-ffreestanding", "-fno-builtin", "-ffunction-sections", "-c", top / "tools" / "data" / "bench" / "memory.c", "-o", memory])
-    entry = "case_" + case
-    run(["gcc", "-nostdlib", "-static", "-no-pie", "-Wl,--gc-sections", "-Wl,-e," + entry, "-Wl,-u," + entry, "-o", made, room / "module.o", memory])
-    sections = run(["readelf", "-SW", made])
-    found = re.findall(r"\]\s+\.(?:text|rodata|data)\S*\s+\S+\s+\S+\s+\S+\s+([0-9a-f]+)", sections)
-    return sum(int(size, 16) for size in found)
-
-
-def instructions(made, case, number):
-    """How many instructions a call takes, with the loop around it."""
-    few, many = (collected([made, case, turns, number]) for turns in (1000, 3000))
-    return (many - few) // 2000
-
-
-def collected(words):
-    said = run(["valgrind", "--tool=callgrind", "--callgrind-out-file=/dev/null", *words])
-    return int(re.findall(r"Collected : (\d+)", said)[-1])
+# `two` prints a second type as well. The peers have the first six.
+PEER_SIZES = ("text", "number", "struct", "pretty", "two", "line")
+SIZES = PEER_SIZES + ("tuple", "list", "set", "map")
+LEAST = "-2147483648"
+# What is called, and with which number.
+CALLS = (("text", "text", "0"), ("i32 of 0", "number", "0"), ("i32 of least", "number", LEAST), ("u64 of 19 digits", "u64", "0"),
+         ("u128 of most", "u128", "0"), ("struct of zeros", "struct", "0"), ("struct of least", "struct", LEAST),
+         ("pretty of zeros", "pretty", "0"), ("pretty of least", "pretty", LEAST), ("{:#010x} of 0", "hex", "0"),
+         ("list of 100 u64", "list", "0"))
 
 
 def run(words):
@@ -58,12 +24,67 @@ def run(words):
     return ran.stdout
 
 
-def table(top, room):
-    """A line for each case: bytes, and instructions for the numbers 0 and the least, by fast and by small code."""
-    made = program(top, room)
-    print("%-8s %8s %8s %8s %8s %8s %8s" % ("call", "bytes", "of 0", "of least", "small", "of 0", "of least"))
-    for case in CASES:
-        row = []
-        for way in ("fast_", "small_"):
-            row += [bytes_of(top, room, way + case)] + [instructions(made, way + case, number) for number in NUMBERS]
-        print("%-8s %8d %8d %8d %8d %8d %8d" % (case, *row), flush=True)
+def memory(top, room):
+    """What a program without a C library needs, compiled."""
+    made = room / "memory.o"
+    source = top / "tools" / "data" / "bench" / "memory.c"
+    run(["gcc", "-Os", "-ffreestanding", "-fno-builtin", "-ffunction-sections", "-c", source, "-o", made])
+    return made
+
+
+def bytes_of(room, library, helpers, entry):
+    """How many bytes of code and constants a program has that only makes this call."""
+    made = room / "alone"
+    run(["gcc", "-nostdlib", "-static", "-no-pie", "-Wl,--gc-sections", "-Wl,-e," + entry, "-Wl,-u," + entry, "-o", made,
+         "-Wl,--start-group", library, helpers, "-Wl,--end-group"])
+    found = re.findall(r"\]\s+\.(?:text|rodata|data)\S*\s+\S+\s+\S+\s+\S+\s+([0-9a-f]+)", run(["readelf", "-SW", made]))
+    return sum(int(size, 16) for size in found)
+
+
+def collected(words):
+    """How many instructions a run takes."""
+    said = run(["valgrind", "--tool=callgrind", "--callgrind-out-file=/dev/null", *words])
+    return int(re.findall(r"Collected : (\d+)", said)[-1])
+
+
+def instructions(words, name, number):
+    """How many instructions a call takes, with the loop around it."""
+    few, many = (collected([*words, name, turns, number]) for turns in (1000, 3000))
+    return (many - few) // 2000
+
+
+def line(told, cells):
+    print("%-18s" % told + "".join("%11s" % (cell if cell is not None else "-") for cell in cells), flush=True)
+
+
+def sizes(room, ours, helpers, ufmt):
+    """A line for each call: ours by fast and by small code, then the peers, for speed and for size."""
+    made, found = peers.built(room, "sizes", "library", ufmt, ("alone", "small"))
+    line("bytes", ("ours", "Small", "ufmt", "core::fmt", "ufmt z", "core z"))
+    for case in SIZES:
+        cells = [bytes_of(room, ours, helpers, "case_%s_size_%s" % (way, case)) for way in ("fast", "small")]
+        for profile in ("alone", "small"):
+            for peer in ("ufmt", "core"):
+                library = made / profile / "libsizes.a" if peer in found and case in PEER_SIZES else None
+                cells.append(bytes_of(room, library, helpers, "%s_%s" % (peer, case)) if library else None)
+        line(case, cells)
+
+
+def counts(room, program, ufmt):
+    """A line for each call: ours by fast and by small code, then the peers, as `cargo build --release` makes them and linked as a
+    whole."""
+    made, found = peers.built(room, "calls", "program", ufmt, ("release", "linked"))
+    line("instructions", ("ours", "Small", "ufmt", "core::fmt", "ufmt lto", "core lto"))
+    for told, name, number in CALLS:
+        cells = [instructions([program], way + "_" + name, number) for way in ("fast", "small")]
+        for profile in ("release", "linked"):
+            for peer in ("ufmt", "core"):
+                cells.append(instructions([made / profile / "calls", peer], name, number) if peer in found else None)
+        line(told, cells)
+
+
+def table(top, room, ufmt):
+    program = build.over_copies(top, room, "calls", ["ufmt"])
+    sizes(room, room / "module.o", memory(top, room), ufmt)
+    counts(room, program, ufmt)
+    return 0

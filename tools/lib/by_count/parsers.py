@@ -67,15 +67,15 @@ class Block:
     def __init__(self, name, document, row, about):
         self.name, self.document, self.row, self.about = name, document, row, about
 
-    def field(self, letter, value):
+    def field(self, name, value_type, value):
         """A field of the document."""
-        document = f"{letter.upper()}.document {value}"
-        return f"({letter}.now, {document})" if self.name == "struct" else document
+        document = f"{value_type}.document {value}"
+        return f"({name}, {document})" if self.name == "struct" else document
 
-    def row_of(self, fields, ending):
-        """The parts of the document with these fields, and what ends them."""
+    def row_of(self, name, fields, ending):
+        """The parts of the document with this name and these fields, and what ends them."""
         items = [f"{fields[0]}"] + [f"∷ {field}" for field in fields[1:]] + ["∷ []" + ending]
-        return [f"({self.document} name.now ({self.row}", "(" + items[0]] + items[1:]
+        return [f"({self.document} {name} ({self.row}", "(" + items[0]] + items[1:]
 
     def asked(self, count):
         """What the names must be."""
@@ -87,20 +87,32 @@ class Block:
         """The type of what the call returns."""
         return TYPES[0] if count == 1 else "(" + ", ".join(TYPES[:count]) + ")"
 
+    def other_names(self, count):
+        """The names in the clauses on documents that come next: any that are the same as those passed."""
+        return ["block_name"] + ([f"{letter}_name" for letter in letters(count)] if self.name == "struct" else [])
+
+    def same_names(self, count):
+        """That those names are the same, as a test."""
+        if self.name == "struct":
+            passed = ["name.now"] + [f"{letter}.now" for letter in letters(count)]
+            return [f"same_names ({in_a_row(self.other_names(count))})", f"({in_a_row(passed)}) ≡ true"]
+        return ["bytes_eq block_name name.now ≡ true"]
+
     def clauses(self, count, holders):
         """What the call ensures, where these say what holds of each value."""
         fields = letters(count)
         values = ["v"] if count == 1 else [f"v.{place}" for place in range(count)]
-        taken = [self.field(letter, value) for letter, value in zip(fields, values)]
-        others = [self.field(letter, f"{letter}_value") for letter in fields]
-        binders = [f"({letter}_value : {letter.upper()})" for letter in fields] + ["(u : List ℕ)"]
-        premises = [f"→ {holder}.is_value {letter}_value" for holder, letter in zip(holders, fields)]
+        taken = [self.field(f"{letter}.now", letter.upper(), value) for letter, value in zip(fields, values)]
+        others = [self.field(f"{letter}_name", letter.upper(), f"{letter}_value") for letter in fields]
+        binders = [f"({' '.join(self.other_names(count))} : List ℕ)"] + [f"({letter}_value : {letter.upper()})" for letter in fields]
+        same = self.same_names(count)
+        premises = [f"→ {same[0]}"] + same[1:] + [f"→ {holder}.is_value {letter}_value" for holder, letter in zip(holders, fields)]
         return "\n".join([
-            wrapped(["ensures taken { IfOk result (λ v.", "IsTaken M.mode parser.old"] + self.row_of(taken, ")))") + ["parser.new) }"], 4),
-            wrapped(["ensures only { IfOk result (λ _."] + binders + premises + ["→ IsNext M.mode parser.old"]
-                    + self.row_of(others, ")))") + ["u", "→ u ≡ rest parser.new) }"], 4),
-            wrapped(["ensures none { IfErr result (λ fault. fault ≡ Fault.NotText →"] + binders + premises + ["→ ¬ IsNext M.mode parser.old"]
-                    + self.row_of(others, ")))") + ["u) }"], 4),
+            wrapped(["ensures taken { IfOk result (λ v.", "IsTaken M.mode parser.old"] + self.row_of("name.now", taken, ")))") + ["parser.new) }"], 4),
+            wrapped(["ensures only { IfOk result (λ _."] + binders + premises + ["→ NextLeaves M.mode parser.old"]
+                    + self.row_of("block_name", others, ")))") + ["parser.new) }"], 4),
+            wrapped(["ensures none { IfErr result (λ fault. fault ≡ Fault.NotText →"] + binders + premises + ["→ IsNotNext M.mode parser.old"]
+                    + self.row_of("block_name", others, "))))") + ["}"], 4),
             wrapped(["ensures memory {"] + no_memory(holders[:count]) + ["→ IfErr result (λ fault.", "fault ≡ Fault.NotText) }"], 4),
             "    ensures blocks { IfOk result (λ _. open_blocks parser.new ≡ open_blocks parser.old) }",
             "    ensures shrinks { length (rest parser.new) ≤ length (rest parser.old) }",
@@ -136,15 +148,21 @@ pub fn parse_{self.name}_{count}<Alloc: Copy, {types}, M: ParseMode>({", ".join(
         Ok((a_value,)) => Ok(a_value),
     }}"""
 
+    def ghost_uses(self):
+        """The words of the contracts, but for those of std's prelude."""
+        struct = self.name == "struct"
+        bytes_eq = "" if struct else "ghost use Rattle.std.specs.Str.{bytes_eq};\n"
+        leaves = "" if struct else "ghost use Rattle.ufmt.specs.Leaves.{IsWordOrEmpty};\n"
+        return f"""{bytes_eq}ghost use Rattle.ufmt.specs.Document.{{{self.row}, {self.document}}};
+{leaves}{"ghost use Rattle.ufmt_parse.specs.Naming.{same_names};" + chr(10) if struct else ""}ghost use Rattle.ufmt_parse.specs.Next.{{IsNotNext, NextLeaves}};
+ghost use Rattle.ufmt_parse.specs.Taking.{{{"AreWords, " if struct else ""}IsTaken, open_blocks, rest}};"""
+
     def file(self):
         """The file with a call for each number of fields."""
-        words = "AreWords, " if self.name == "struct" else ""
-        leaves = "" if self.name == "struct" else "ghost use Rattle.ufmt.specs.Leaves.{IsWordOrEmpty};\n"
         calls = "".join(self.call(count) for count in range(1, MOST + 1))
         return f"""//! {self.about.capitalize()}s by their number of fields. {WRITTEN}
-ghost use Rattle.std.specs.Prelude.{{◌≤◌, length, [], ◌∷◌, ◌≡◌, List, ℕ, IfOk, IfErr}};
-ghost use Rattle.ufmt.specs.Document.{{{self.row}, {self.document}}};
-{leaves}ghost use Rattle.ufmt_parse.specs.Taking.{{{words}IsNext, IsTaken, open_blocks, rest}};
+ghost use Rattle.std.specs.Prelude.{{◌≤◌, length, [], ◌∷◌, ◌≡◌, List, ℕ, true, IfOk, IfErr}};
+{self.ghost_uses()}
 
 use crate::from_front::{{Plain, uParse}};
 use crate::mode::ParseMode;
@@ -156,21 +174,32 @@ use crate::rows::parse_{self.name}_row;
         """The answers of the call for that many fields: what the call of the row says, of a row of values."""
         fields = letters(count)
         values = [f"{letter}_value" for letter in fields]
-        binders = " ".join(values + ["u"] + [f"is_{letter}" for letter in fields] + ["next"])
+        binders = " ".join(self.other_names(count) + values + ["same"] + [f"is_{letter}" for letter in fields])
         row = "(" + ", ".join(values) + ")" if count > 1 else "(record { 0 = a_value })"
         are = chain_of([f"is_{letter}" for letter in fields])
         where = f"Rattle.ufmt_parse.proofs.{self.name}s{suffix}.parse_{self.name}_{count}{suffix}.Goals"
         return f"-- {WRITTEN}\n" + (self.of_one if count == 1 else self.of_many)(count, where, binders, row, are, suffix)
 
+    def renamed(self, count):
+        """What takes a clause on the names that were passed to one on names that are the same."""
+        if self.name == "tuple":
+            return "_ _ _ _ _ same"
+        passed = " ∷ ".join([f"c.args.{letter}.now" for letter in letters(count)] + ["[]"])
+        documents = " ∷ ".join([f"g.{letter}.uDebug.document {letter.lower()}_value" for letter in TYPES[:count]] + ["[]"])
+        return f"_ _ _ _ ({in_a_row(self.other_names(count)[1:])}) ({passed}) ({documents}) same"
+
     def of_one(self, count, where, binders, row, are, suffix):
         """The answers of the call for one field, which takes the value out of the row."""
-        return f"""use {where} as goal
+        name, renamed = self.name, self.renamed(count)
+        uses = "use Rattle.std.proofs.Common.{[], ◌∷◌}\n" if self.name == "struct" else ""
+        return f"""{uses}use Rattle.ufmt_parse.proofs.Naming.{{no_{name}, {name}_leaves}}
+use {where} as goal
 
 pub returns-in-Err-clause-none : goal.returns-in-Err-clause-none
-returns-in-Err-clause-none g c = λ is_not {binders}. c.in-Err.ensures.none is_not {row} u {are} next
+returns-in-Err-clause-none g c = λ is_not {binders}. no_{name} {renamed} (c.in-Err.ensures.none is_not {row} {are})
 
 pub returns-in-Ok-clause-only : goal.returns-in-Ok-clause-only
-returns-in-Ok-clause-only g c = λ {binders}. c.in-Ok.ensures.only {row} u {are} next
+returns-in-Ok-clause-only g c = λ {binders}. {name}_leaves {renamed} _ (c.in-Ok.ensures.only {row} {are})
 """
 
     def of_many(self, count, where, binders, row, are, suffix):
@@ -185,23 +214,25 @@ parse_struct_row-requires-clause-words g c = {named}
 pub parse_struct_row-requires-clause-counted : goal.parse_struct_row-requires-clause-counted
 parse_struct_row-requires-clause-counted g c = λ v. refl
 """ if self.name == "struct" else ""
-        uses = "use Rattle.std.proofs.Common.{refl}\n" if self.name == "struct" else ""
+        uses = "use Rattle.std.proofs.Common.{[], ◌∷◌, refl}\n" if self.name == "struct" else ""
         none = chain_of([f"none.{place}" for place in range(count)])
         values = f"""
 pub returns-clause-values : goal.returns-clause-values
 returns-clause-values g c = IfOk-weaker {result} _ _ (λ v are. ({", ".join(parts_of("are", count))})) {ensures}.values
 """ if suffix else ""
+        name, renamed = self.name, self.renamed(count)
         return f"""{uses}use Rattle.std.proofs.lemmas.Result.{{IfErr-weaker, IfOk-weaker}}
+use Rattle.ufmt_parse.proofs.Naming.{{no_{name}, {name}_leaves}}
 use {where} as goal
 {asked}{values}
 pub returns-clause-taken : goal.returns-clause-taken
 returns-clause-taken g c = {ensures}.taken
 
 pub returns-clause-only : goal.returns-clause-only
-returns-clause-only g c = IfOk-weaker {result} _ _ (λ _ only {binders}. only {row} u {are} next) {ensures}.only
+returns-clause-only g c = IfOk-weaker {result} _ _ (λ _ only {binders}. {name}_leaves {renamed} _ (only {row} {are})) {ensures}.only
 
 pub returns-clause-none : goal.returns-clause-none
-returns-clause-none g c = IfErr-weaker {result} _ _ (λ _ none is_not {binders}. none is_not {row} u {are} next) {ensures}.none
+returns-clause-none g c = IfErr-weaker {result} _ _ (λ _ none is_not {binders}. no_{name} {renamed} (none is_not {row} {are})) {ensures}.none
 
 pub returns-clause-memory : goal.returns-clause-memory
 returns-clause-memory g c = λ none. {ensures}.memory {none}
@@ -244,13 +275,10 @@ pub fn parse_{self.name}_{count}_by<Alloc: Copy, M: ParseMode, {types}, {by}>({"
 
     def file(self):
         """The file with a call for each number of fields."""
-        words = "AreWords, " if self.name == "struct" else ""
-        leaves = "" if self.name == "struct" else "ghost use Rattle.ufmt.specs.Leaves.{IsWordOrEmpty};\n"
         calls = "".join(self.call(count) for count in range(1, MOST_BY + 1))
         return f"""//! {self.about.capitalize()}s whose fields are each parsed by a parser. {WRITTEN}
-ghost use Rattle.std.specs.Prelude.{{◌≤◌, ◌<◌, length, [], ◌∷◌, ◌≡◌, List, ℕ, suc, IfOk, IfErr}};
-ghost use Rattle.ufmt.specs.Document.{{{self.row}, {self.document}}};
-{leaves}ghost use Rattle.ufmt_parse.specs.Taking.{{{words}IsNext, IsTaken, open_blocks, rest}};
+ghost use Rattle.std.specs.Prelude.{{◌≤◌, ◌<◌, length, [], ◌∷◌, ◌≡◌, List, ℕ, suc, true, IfOk, IfErr}};
+{self.ghost_uses()}
 
 use crate::from_front::ParsesBy;
 use crate::mode::ParseMode;
@@ -383,6 +411,7 @@ def tuple_answers(count):
     values = " ".join(f"v.{place}" for place in range(count))
     are = " ".join(f"are.{place}" for place in range(count))
     return f"""-- {WRITTEN}
+use Rattle.std.proofs.Common.{{[], refl}}
 use Rattle.std.proofs.lemmas.Result.{{IfErr-weaker, IfOk-weaker}}
 use Rattle.ufmt_parse.proofs.tuple_impls.Tuple{count}uParse.parse_from.Goals as goal
 
@@ -390,10 +419,10 @@ pub returns-clause-taken : goal.returns-clause-taken
 returns-clause-taken g c = {call}.ensures.taken
 
 pub returns-clause-only : goal.returns-clause-only
-returns-clause-only g c = IfOk-weaker {call}.result _ _ (λ _ only v u are next. only {values} u {are} next) {call}.ensures.only
+returns-clause-only g c = IfOk-weaker {call}.result _ _ (λ _ only v are. only [] {values} refl {are}) {call}.ensures.only
 
 pub returns-clause-none : goal.returns-clause-none
-returns-clause-none g c = IfErr-weaker {call}.result _ _ (λ _ none is_not v u are next. none is_not {values} u {are} next) {call}.ensures.none
+returns-clause-none g c = IfErr-weaker {call}.result _ _ (λ _ none is_not v are. none is_not [] {values} refl {are}) {call}.ensures.none
 
 pub returns-clause-memory : goal.returns-clause-memory
 returns-clause-memory g c = {call}.ensures.memory

@@ -14,12 +14,13 @@ use ufmt_parse::{Fault, Parser, PlainText, parse_fields, parse_variants};
 use ufmt_snapshot::assert_snapshot;
 
 const HEX: HexOptions = HexOptions { upper_case: false, pad_char: b'0', pad_length: 6, ox_prefix: true };
+const BITS: HexOptions = HexOptions { upper_case: false, pad_char: b'0', pad_length: 12, ox_prefix: true };
 const RIGHT: Column = Column { width: 18, align: Align::Right, fill: '.' };
 """
 
 # Each kind of piece with `{0}` in place of a number of three digits: how it is written, and its text. `{1}` is the number
-# in four hexadecimal digits, and columns have 18 characters. No two kinds print one value alike. `uwrite!` has the first
-# nine.
+# in four hexadecimal digits, `{2}` in four octal ones, `{3}` in ten binary ones, and columns have 18 characters. No two
+# kinds print one value alike. `uwrite!` has the first fifteen.
 PIECES = (
     ('text "t{0}"', "t{0}"),
     ('display "s{0}"', "s{0}"),
@@ -30,6 +31,12 @@ PIECES = (
     ('display "s{0}" in RIGHT', "..............s{0}"),
     ('debug "d{0}" in RIGHT', '............"d{0}"'),
     ("pretty (Some({0}u16)) in RIGHT", "..Some(\n    {0},\n)"),
+    ("bin {0}u16 with BITS", "0b{3}"),
+    ("oct {0}u16 with HEX", "0o{2}"),
+    ("zeros {0}u16 to 6", "000{0}"),
+    ("bin {0}u16 with BITS in RIGHT", "......0b{3}"),
+    ("oct {0}u16 with HEX in RIGHT", "............0o{2}"),
+    ("zeros {0}u16 to 6 in RIGHT", "............000{0}"),
     ('each display ["s{0}", "7"] between "-"', "s{0}-7"),
     ('each debug ["d{0}", "7"] between "+"', '"d{0}"+"7"'),
     ('each pretty [Some({0}u16), None] between "_"', "Some(\n    {0},\n)_None"),
@@ -38,9 +45,13 @@ PIECES = (
     ('each debug ["d{0}", "7"] in RIGHT between ":"', '............"d{0}":..............."7"'),
     ('each pretty [Some({0}u16), None] in RIGHT between "*"', "..Some(\n    {0},\n)*..............None"),
     ('each hex [{0}u16, 9] with HEX in RIGHT between "/"', "............0x{1}/............0x0009"),
+    ('each bin [{0}u16, 9] with BITS between "#"', "0b{3}#0b0000001001"),
+    ('each oct [{0}u16, 9] with HEX in RIGHT between "@"', "............0o{2}@............0o0011"),
+    ('each zeros [{0}u16, 9] to 6 between "~"', "000{0}~000009"),
+    ('each zeros [{0}u16, 9] to 6 in RIGHT between "^"', "............000{0}^............000009"),
     ('each [{0}u16, 5] by Debug between "="', "{0}=5"),
 )
-WRITTEN = 9
+WRITTEN = 15
 
 
 def quoted(text):
@@ -153,8 +164,9 @@ def lines_of(kinds):
 
 def line(pieces, first):
     """The pieces in a row, with a number of its own for each, and their text."""
-    numbers = [(number, "%04x" % number) for number in range(first, first + len(pieces))]
-    filled = [(source.format(*both), text.format(*both)) for both, (source, text) in zip(numbers, pieces)]
+    forms = ("d", "04x", "04o", "010b")
+    numbers = [[format(number, form) for form in forms] for number in range(first, first + len(pieces))]
+    filled = [(source.format(*each), text.format(*each)) for each, (source, text) in zip(numbers, pieces)]
     return ", ".join(source for source, _ in filled), "".join(text for _, text in filled)
 
 

@@ -59,37 +59,48 @@ def group(name, steps, first, piece):
 
 
 LONG_LINES = (
-    line("a long word", "pretty", 18, b"a"),
-    line("a line of words", "pretty", 59, b"a "),
-    line("a line of spaces", "pretty", 77, b" "),
-    line("a line of brackets", "pretty", 72, b"[ "),
-    line("brackets in brackets", "pretty", 23, b"["),
-    line("a line of lists", "pretty", 56, b"[1] "),
-    line("a line of quotes", "pretty", 120, b'"a '),
-    line("a line of bytes that aren't UTF-8", "pretty", 113, b"\xff "),
+    line("a long word", "pretty", 6, b"a"),
+    line("a line of words", "pretty", 6, b"a "),
+    line("a line of spaces", "pretty", 6, b" "),
+    line("a line of brackets", "pretty", 6, b"[ "),
+    line("brackets in brackets", "pretty", 6, b"["),
+    line("a line of lists", "pretty", 6, b"[1] "),
+    line("a line of quotes", "pretty", 6, b'"a '),
+    line("a line of bytes that aren't UTF-8", "pretty", 6, b"\xff "),
     listed("a long list", "pretty", 44, plain),
-    line("a line of only dots", "pretty", 57, b"S { .. } "),
-    # A block could open at each word, so a byte is scanned for each of up to 255 words before it.
-    Shape("a line of open tuples", "pretty", 5790, lambda size: b"(a, " * (size // 32)),
-    listed("a pretty list", "plain", 42, pretty),
-    group("a group without an end", 70, b"got [\n", b"    12345,\n"),
-    group("a group of brackets", 103, b"", b"[\n"),
-    group("a group of spaces", 87, b"[\n", b" " * 63 + b"\n"),
+    line("a line of only dots", "pretty", 6, b"S { .. } "),
+    Shape("a line of open tuples", "pretty", 4, lambda size: b"(a, " * (size // 32)),
+    listed("a pretty list", "plain", 43, pretty),
+    group("a group without an end", 16, b"got [\n", b"    12345,\n"),
+    group("a group of brackets", 44, b"", b"[\n"),
+    group("a group of spaces", 11, b"[\n", b" " * 63 + b"\n"),
+)
+# Blocks that are open at the end of the line, and closed too early. What the last byte closes is looked for from the end on, so
+# a byte is read few times. A backslash ends that: then a byte is scanned for each word before it.
+OPEN_LINES = (
+    line("lines of open tuples", "pretty", 4, b"(a, " * 250 + b"\n"),
+    line("lines of open structs", "pretty", 4, b"S { a: " * 250 + b"\n"),
+    line("lines of open tuples, and a bracket", "pretty", 5, b"(a, " * 250 + b")\n"),
+    line("lines of open tuples of quotes", "pretty", 5, b'("a", ' * 250 + b")\n"),
+    line("lines of tuples, and a bracket", "pretty", 17, b"(a, " * 120 + b"a" + b")" * 120 + b" )\n"),
+    line("lines of open tuples of escapes", "pretty", 5933, b'("\\"", ' * 250 + b")\n"),
 )
 MANY_LINES = (
-    line("empty lines", "pretty", 209, b"\n"),
-    line("short lines", "pretty", 86, b"a word\n"),
-    line("lines of texts", "pretty", 48, b"12:00 INFO got " + plain(READING).encode() + b"\n"),
-    line("lines of locks", "pretty", 47, b"12:00 INFO got " + plain(LOCK).encode() + b"\n"),
-    line("lines of only dots", "pretty", 50, b"12:00 INFO got " + plain(ONLY_DOTS).encode() + b"\n"),
-    line("lines of deep texts", "pretty", 212, plain(DEEP).encode() + b"\n"),
-    line("short lines, made plain", "plain", 94, b"a word\n"),
-    line("groups", "plain", 53, b"12:00 INFO got " + pretty(READING).encode() + b"\n"),
-    line("groups of locks", "plain", 51, b"12:00 INFO got " + pretty(LOCK).encode() + b"\n"),
-    line("groups of a bracket", "plain", 134, b"[\n]\n"),
-    line("groups of indented lines", "plain", 18, pretty(INDENTED).encode() + b"\n"),
+    line("empty lines", "pretty", 190, b"\n"),
+    line("lines without a value", "pretty", 7, b"2026-11-27T12:00:00Z INFO server: accepted connection 17 from 10.0.0.7, 3 are open\n"),
+    line("lines that end with a bracket", "pretty", 17, b"12:00 INFO took 3 ms (cached, see the second table)\n"),
+    line("short lines", "pretty", 31, b"a word\n"),
+    line("lines of texts", "pretty", 35, b"12:00 INFO got " + plain(READING).encode() + b"\n"),
+    line("lines of locks", "pretty", 34, b"12:00 INFO got " + plain(LOCK).encode() + b"\n"),
+    line("lines of only dots", "pretty", 24, b"12:00 INFO got " + plain(ONLY_DOTS).encode() + b"\n"),
+    line("lines of deep texts", "pretty", 235, plain(DEEP).encode() + b"\n"),
+    line("short lines, made plain", "plain", 39, b"a word\n"),
+    line("groups", "plain", 40, b"12:00 INFO got " + pretty(READING).encode() + b"\n"),
+    line("groups of locks", "plain", 38, b"12:00 INFO got " + pretty(LOCK).encode() + b"\n"),
+    line("groups of a bracket", "plain", 120, b"[\n]\n"),
+    line("groups of indented lines", "plain", 17, pretty(INDENTED).encode() + b"\n"),
 )
-SHAPES = LONG_LINES + MANY_LINES
+SHAPES = LONG_LINES + OPEN_LINES + MANY_LINES
 
 
 class Meter:

@@ -17,7 +17,7 @@ START_STEPS, START_BYTES, CHUNK = 1_200_000, 70_000, 64 * 1024
 # indentation costs fewer: when it is read, and when it is looked at for the end of its line too.
 BYTE_STEPS, LINE_STEPS = 40, 600
 READ_INDENTATION, SPLIT_INDENTATION = 1, 17
-# ufmt_lines tries each place after a space as the start of a text.
+# ufmt_lines may try each place after a space as the start of a text: it does if a backslash is near the line's end.
 PLACE_STEPS = 400
 # What is before the text of a line, as in a log.
 STAMP = "12:00: "

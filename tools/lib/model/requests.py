@@ -4,8 +4,9 @@ program to print them to a writer that notes pieces. The rules are those of `pie
 A value in a column has the fills before it and after it. Spaces come by `write_str`, 64 in a piece and last what is left.
 Another fill comes by `write_char`, each in a piece of its own. A text without fills has no piece for them.
 
-A hexadecimal number is a prefix, if it has one, each pad byte by `write_char`, and the digits. Where the pad byte is a
-space, the prefix comes after the padding.
+A number in a radix is a prefix, if it has one, each pad byte by `write_char`, and the digits. Where the pad byte is a
+space, the prefix comes after the padding. A decimal number to a width is its sign, each zero by `write_char`, and the
+digits; with places, after these a point, and again zeros and digits. Python's own formats have these texts.
 
 A row of a dump is one piece if rows have at most 32 bytes. In a longer row the pieces are the zeros and the digits of the
 offset; `: `; each byte, with the space before it; spaces in place of the bytes that a last row doesn't have, once for
@@ -17,6 +18,7 @@ piece, also if it is empty.
 """
 import random
 import re
+from decimal import Decimal
 from typing import NamedTuple
 
 from model import Block, add_pretty, plain, pretty, quoted
@@ -78,9 +80,9 @@ def in_column(request, text, pieces):
     return filled(request, before) + pieces + filled(request, missing - before)
 
 
-def padded(request, digits):
+def padded(request, digits, letter="x"):
     """A text with its prefix and padding, and its pieces."""
-    prefix = ("0X" if request.upper_case else "0x") if request.prefix else ""
+    prefix = ("0X" if letter == "x" and request.upper_case else "0" + letter) if request.prefix else ""
     count = max(request.pad_length - len(prefix) - len(digits.encode()), 0)
     padding = by_character(chr(request.pad)) * count
     first = by_text(prefix) if prefix else b""
@@ -89,9 +91,25 @@ def padded(request, digits):
     return "." * (len(prefix) + count + len(digits)), pieces
 
 
-def hexadecimal(request, number, bits):
-    digits = "%x" % (number % 2**bits)
-    return padded(request, digits.upper() if request.upper_case else digits)
+def hexadecimal(request, number, bits, letter="x"):
+    """A number in the radix with this letter."""
+    digits = format(number % 2**bits, letter)
+    return padded(request, digits.upper() if request.upper_case else digits, letter)
+
+
+ZEROS = re.compile(r"(-?)(0*)([0-9]+)(?:(\.)(0*)([0-9]+))?")
+
+
+def with_zeros(text):
+    """The pieces of a number's text that may begin with zeros."""
+    sign, zeros, digits, point, more_zeros, places = (part or "" for part in ZEROS.fullmatch(text).groups())
+    before = by_text(*filter(None, [sign])) + by_character("0") * len(zeros) + by_text(digits)
+    return before + (by_text(point) + by_character("0") * len(more_zeros) + by_text(places) if point else b"")
+
+
+def with_places(number, places, width):
+    exact = Decimal((int(number < 0), tuple(map(int, str(abs(number)))), -places))
+    return with_zeros(format(exact, "0%df" % width if width else "f"))
 
 
 def pretty_at(document, depth):
@@ -134,7 +152,9 @@ def written_line(request, text, is_pretty, depth):
     leaf, whole = quoted(text), by_text(text)
     pair, single = tuple_of(leaf, "'c'"), tuple_of(leaf)
     pieces = printed(pair, is_pretty, of_value, depth)
-    out = [whole * 2, pieces, printed(single, True, of_value, depth), length[1], in_column(request, text, whole)]
+    out = [whole * 2, pieces, printed(single, True, of_value, depth), length[1]]
+    out += [hexadecimal(request, len(text.encode()), 64, letter)[1] for letter in "bo"]
+    out += [with_zeros(format(len(text.encode()), "0%dd" % request.width)), in_column(request, text, whole)]
     out += [in_column(request, pretty_at(pair, depth) if is_pretty else plain(pair), pieces)]
     out += [in_column(request, *length), by_text("\n")]
     return b"".join(out)
@@ -175,7 +195,9 @@ def numbers(request, text):
 
     def add(low, high, bits, count):
         if low <= number <= high:
-            out.append((by_text(str(number)) * 3 + hexadecimal(request, number, bits)[1]) * count)
+            pieces = by_text(str(number)) * 3
+            pieces += b"".join(hexadecimal(request, number, bits, letter)[1] for letter in "xbo")
+            out.append((pieces + with_zeros(format(number, "0%dd" % request.pad_length))) * count)
 
     for bits in BITS:
         add(0, 2**bits - 1, bits, 2 if number else 1)
@@ -183,6 +205,8 @@ def numbers(request, text):
         add(-(2 ** (bits - 1)), 2 ** (bits - 1) - 1, bits, 2 if number else 1)
     add(0, 2**32 - 1, 32, 1)
     add(-(2**63), 2**63 - 1, 64, 1)
+    if -(2**63) <= number <= 2**63 - 1:
+        out += [with_places(number, request.pad, width) for width in (0, 0, request.pad_length)]
     return b"".join(out)
 
 

@@ -4,12 +4,12 @@ ghost use Rattle.std.specs.Int.{w8, w16, w32, w64, w128, cast_unsigned};
 ghost use Rattle.ufmt_core.specs.Formatter.{Prints};
 ghost use Rattle.ufmt.specs.Hex.{padded_hexadecimal};
 
-use crate::hex::digits::{Nibbles, hexadecimal_text};
 use crate::hex::{HexOptions, uDisplayHex};
+use crate::radix::digits::{Digits, digits_text};
 use ufmt_core::{Formatter, uWrite};
 
 // Prints `n`, with `buffer` for its digits.
-fn print_hex<N: Nibbles, W: uWrite, const SIZE: usize>(
+fn print_hex<N: Digits, W: uWrite, const SIZE: usize>(
     n: N,
     buffer: &mut [u8; SIZE],
     f: &mut Formatter<W>,
@@ -20,7 +20,7 @@ fn print_hex<N: Nibbles, W: uWrite, const SIZE: usize>(
     requires ascii_pad { options.pad_char < 128 }
     ensures { Prints W.seen f.old (padded_hexadecimal options (N.value n)) (is_ok result) f.new }
 {
-    let text = hexadecimal_text(n, options.upper_case, buffer);
+    let text = digits_text::<N, 16, SIZE>(n, options.upper_case, buffer);
     options.with_stuff(f, text)
 }
 

@@ -1,12 +1,14 @@
 //! Marks: how a value is written into a line.
 ghost use Rattle.std.specs.Prelude.{[], ◌∷◌, ◌<◌, List, is_ok};
 ghost use Rattle.ufmt_core.specs.Formatter.{Prints, setting_of};
-ghost use Rattle.ufmt.specs.Pieces.{Piece, hex, pieces_text, pretty, shown};
+ghost use Rattle.ufmt.specs.Pieces.{Piece, hex, pieces_text, pretty, shown, text};
 
 use super::Line;
 use crate::display::uDisplay;
 use crate::hex::{HexOptions, uDisplayHex};
 use crate::print::fmt_pretty;
+use crate::radix::{Radix, uDisplayRadix};
+use crate::zeros::uDisplayZeros;
 use ufmt_core::{Formatter, uDebug, uWrite};
 
 /// A way to write a value into a line.
@@ -73,6 +75,38 @@ impl<T: uDisplayHex> Mark<T> for Hex {
     #[inline(always)]
     fn print_value<W: uWrite>(&self, value: &T, f: &mut Formatter<W>) -> Result<(), W::Error> {
         value.fmt_hex(f, self.options)
+    }
+}
+
+/// In the digits of a radix, with these options. The pad byte is ASCII.
+#[derive(Clone, Copy, Drop)]
+pub struct InRadix {
+    pub radix: Radix,
+    pub options: HexOptions,
+    ghost ascii: { options.pad_char < 128 },
+}
+
+impl<T: uDisplayRadix> Mark<T> for InRadix {
+    ghost pieces = { λ m x. text (T.radix_text x m.radix m.options) ∷ [] };
+
+    #[inline(always)]
+    fn print_value<W: uWrite>(&self, value: &T, f: &mut Formatter<W>) -> Result<(), W::Error> {
+        value.fmt_radix(f, self.radix, self.options)
+    }
+}
+
+/// In decimal digits, with zeros after the sign up to this width in bytes.
+#[derive(Clone, Copy, Drop)]
+pub struct Zeros {
+    pub width: usize,
+}
+
+impl<T: uDisplayZeros> Mark<T> for Zeros {
+    ghost pieces = { λ m x. text (T.zeros_text x m.width) ∷ [] };
+
+    #[inline(always)]
+    fn print_value<W: uWrite>(&self, value: &T, f: &mut Formatter<W>) -> Result<(), W::Error> {
+        value.fmt_zeros(f, self.width)
     }
 }
 

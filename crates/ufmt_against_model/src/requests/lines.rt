@@ -45,6 +45,8 @@ fn write<W: uWrite>(
 ) -> Result<(), W::Error> {
     let Request { column, hex, .. } = *request;
     uwrite!(f, text text, display text, debug (text, 'c'), pretty (text,), hex (text.len()) with hex)?;
+    let width = column.width;
+    uwrite!(f, bin (text.len()) with hex, oct (text.len()) with hex, zeros (text.len()) to width)?;
     uwriteln!(f, display text in column, debug (text, 'c') in column, hex (text.len()) with hex in column)
 }
 

@@ -7,8 +7,8 @@ use std::num::{
     NonZeroU16, NonZeroU32, NonZeroU64, NonZeroU128, NonZeroUsize, Saturating, Wrapping,
 };
 use ufmt::{
-    Formatter, pieces, uDebug, uDisplay, uDisplayHex, write_debug, write_display, write_line,
-    write_pretty,
+    Decimal, Formatter, pieces, uDebug, uDisplay, uDisplayHex, uDisplayRadix, uDisplayZeros,
+    write_debug, write_display, write_line, write_pretty,
 };
 
 // The number of each type, and that of the type without 0.
@@ -21,8 +21,8 @@ macro_rules! of_types {
     }};
 }
 
-/// Writes the number in decimal and in hexadecimal digits. A text that is no number is written as the payload of a
-/// padded text.
+/// Writes the number in decimal digits, also with zeros before them and with places after a point, and in each radix. A
+/// text that is no number is written as the payload of a padded text.
 pub fn pieces(request: &Request<'_>, text: &str) -> Digest {
     let mut printer = Printer {
         request: *request,
@@ -33,6 +33,7 @@ pub fn pieces(request: &Request<'_>, text: &str) -> Digest {
     printer.signed(text);
     printer.number(text.parse::<u32>().ok().map(Wrapping));
     printer.number(text.parse::<i64>().ok().map(Saturating));
+    printer.decimal(text.parse::<i64>().ok());
     printer.pieces.digest
 }
 
@@ -59,7 +60,10 @@ impl Printer<'_> {
             i8 NonZeroI8 i16 NonZeroI16 i32 NonZeroI32 i64 NonZeroI64 i128 NonZeroI128 isize NonZeroIsize)
     }
 
-    fn number<T: uDebug + uDisplay + uDisplayHex + Drop>(&mut self, number: Option<T>) {
+    fn number<T: uDebug + uDisplay + uDisplayHex + uDisplayRadix + uDisplayZeros + Drop>(
+        &mut self,
+        number: Option<T>,
+    ) {
         let Some(number) = number else {
             return;
         };
@@ -67,6 +71,26 @@ impl Printer<'_> {
         let _ = write_pretty(&mut self.pieces, &number);
         let _ = write_display(&mut self.pieces, &number);
         let Request { hex, .. } = self.request;
-        let _ = write_line(&mut self.pieces, &pieces!(hex number with hex));
+        let width = hex.pad_length;
+        let line = pieces!(
+            hex number with hex, bin number with hex, oct number with hex, zeros number to width
+        );
+        let _ = write_line(&mut self.pieces, &line);
+    }
+
+    // The number of places is that of the pad byte.
+    fn decimal(&mut self, value: Option<i64>) {
+        let Some(value) = value else {
+            return;
+        };
+        let Request { hex, .. } = self.request;
+        let decimal = Decimal {
+            value,
+            places: hex.pad_char,
+        };
+        let _ = write_debug(&mut self.pieces, &decimal);
+        let _ = write_display(&mut self.pieces, &decimal);
+        let width = hex.pad_length;
+        let _ = write_line(&mut self.pieces, &pieces!(zeros decimal to width));
     }
 }

@@ -12,6 +12,7 @@ fn classes(alloc: Global, shape: &Shape<'_>) -> Result<(bool, bool), AllocError>
 }
 
 // What rustc prints of values of std, in which no block is, and whether it is a token document too.
+// `tools/expected/show VALUE` prints them again.
 const LEAVES: [(&str, bool); 25] = [
     ("1.5", false),
     ("-0.0", false),

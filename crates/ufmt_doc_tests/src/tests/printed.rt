@@ -13,7 +13,7 @@ fn plain_text_and_pretty_text_can_succeed(rt: HostRuntime) {
     same(&rt, pretty.as_deref().ok(), Some("7"), "pretty");
 }
 
-// A document with its plain text and its pretty one, as rustc prints them.
+// A document with its plain text and its pretty one, as rustc prints them. `tools/expected/show VALUE` prints them again.
 const PRINTED: [(Shape<'static>, &str, &str); 9] = [
     (
         StructOf(

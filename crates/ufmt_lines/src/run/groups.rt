@@ -1,11 +1,12 @@
 //! Groups of lines, gathered from what was read, and their outputs, which are written one by one.
-ghost use Rattle.std.specs.Prelude.{◌≡◌, ◌≢◌, ◌↔◌, ◌++◌, ◌∷◌, [], List, ℕ, IfErr, IsErrOf, IsTrue, MatchOption, OnOk, false};
+ghost use Rattle.std.specs.Prelude.{◌≡◌, ◌≢◌, ◌↔◌, ◌+◌, ◌≤◌, ◌++◌, ◌∷◌, [], List, ℕ, IfErr, IsErrOf, IsTrue, MatchOption, OnOk, drop, false, length};
 ghost use Rattle.std.specs.Io.KnownBytes.{Appends};
 ghost use Rattle.ufmt.specs.Bytes.{line_feed};
 ghost use Rattle.ufmt_io.specs.Watched.{device_of, has_failed};
 ghost use Rattle.ufmt_io.specs.Whole.{AppendsPrefix};
 ghost use Rattle.ufmt_lines.specs.Output.{WritesFront, outputs_of};
 ghost use Rattle.ufmt_lines.specs.Groups.{IsInGroup, IsInLine, continues_after, is_indented, is_opening, opens};
+ghost use Rattle.ufmt_lines.specs.Private.LineLen.{is_line_feed, line_len};
 ghost use Rattle.ufmt_lines.specs.Readable.{output_of};
 
 use super::output::GroupOutput;
@@ -179,6 +180,71 @@ fn split_line(text: &[u8]) -> Option<(&[u8], &[u8])>
     ensures { MatchOption result (IsInLine text.now) (λ x. IsInLine x.0.now
         × (text.now ≡ x.0.now ++ line_feed ∷ x.1.now)) }
 {
-    let end = text.iter().position(|byte| *byte == b'\n')?;
-    Some((&text[..end], &text[end + 1..]))
+    let end = line_len(text);
+    if end < text.len() {
+        Some((&text[..end], &text[end + 1..]))
+    } else {
+        None
+    }
+}
+
+// How many bytes come before the first line feed, or in all.
+fn line_len(text: &[u8]) -> usize
+    ensures len { result ≡ line_len text.now }
+    ensures within { result ≤ length text.now }
+{
+    // Eight bytes a turn, so that the length is compared once for eight bytes.
+    let mut end = 0;
+    'eights: while text.len() - end >= 8 {
+        if is_line_feed(text[end]) {
+            return end;
+        }
+        if is_line_feed(text[end + 1]) {
+            return end + 1;
+        }
+        if is_line_feed(text[end + 2]) {
+            return end + 2;
+        }
+        if is_line_feed(text[end + 3]) {
+            return end + 3;
+        }
+        if is_line_feed(text[end + 4]) {
+            return end + 4;
+        }
+        if is_line_feed(text[end + 5]) {
+            return end + 5;
+        }
+        if is_line_feed(text[end + 6]) {
+            return end + 6;
+        }
+        if is_line_feed(text[end + 7]) {
+            return end + 7;
+        }
+        end += 8;
+    }
+    line_len_from(text, end)
+}
+
+// The same, if no line feed is before `start`.
+fn line_len_from(text: &[u8], start: usize) -> usize
+    requires within { start ≤ length text.now }
+    requires in_line { line_len text.now ≡ start + line_len (drop start text.now) }
+    ensures len { result ≡ line_len text.now }
+    ensures within { result ≤ length text.now }
+{
+    let mut end = start;
+    'bytes: while end < text.len() {
+        if is_line_feed(text[end]) {
+            return end;
+        }
+        end += 1;
+    }
+    end
+}
+
+#[inline(always)]
+fn is_line_feed(byte: u8) -> bool
+    ensures { result ≡ is_line_feed byte }
+{
+    byte == b'\n'
 }

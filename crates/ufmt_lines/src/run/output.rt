@@ -1,11 +1,13 @@
 //! The output for a line or a group of lines: the bytes before its longest debug text, and that text
 //! in the other mode.
-ghost use Rattle.std.specs.Prelude.{◌≡◌, ◌≤◌, ◌++◌, [], List, ℕ, true, IfSome, IsNone, OnOk, Some, drop, is_some, length, take};
+ghost use Rattle.std.specs.Prelude.{◌≡◌, ◌<◌, ◌≤◌, ◌-◌, ◌++◌, [], List, ℕ, true, IfSome, IsNone, OnOk, Some, drop, is_some, length, slice_index, take};
 ghost use Rattle.ufmt.specs.Layout.{layout, setting};
 ghost use Rattle.ufmt.specs.declared.class.Class.TheVariants.{Debug};
 ghost use Rattle.ufmt_scan.specs.Texts.{ConvertsToAs};
-ghost use Rattle.ufmt_lines.specs.Readable.{output_of, converted, may_begin_after, other_mode};
+ghost use Rattle.ufmt_lines.specs.Private.Brackets.{NoneBefore, SameFrom, gaps_between, may_begin_at};
+ghost use Rattle.ufmt_lines.specs.Readable.{output_of, converted, converted_here, may_begin_after, other_mode};
 
+use super::brackets::{Found, last_opening};
 use std::alloc::{AllocError, Global};
 use ufmt::layout::Mode;
 use ufmt::uWrite;
@@ -103,7 +105,7 @@ fn write_to<W: uWrite>(mode: Mode, writer: &mut W, text: &[u8]) -> Result<(), Sc
     }
 }
 
-// Where the longest tail begins that is a text of the other mode.
+// Where the longest tail begins that is a text of the other mode. A word or `()` may be left out.
 fn text_start(mode: Mode, group: &[u8]) -> Option<usize>
     ensures within { IfSome result (λ start. start ≤ length group.now) }
     ensures text { IfSome result (λ start. is_some (converted mode (drop start group.now)) ≡ true) }
@@ -112,14 +114,81 @@ fn text_start(mode: Mode, group: &[u8]) -> Option<usize>
         → output_of mode group.now ≡ take start group.now ++ other) }
     ensures none { IsNone result → output_of mode group.now ≡ group.now }
 {
-    let mut may_begin = true;
-    for (start, byte) in group.iter().enumerate() {
-        if may_begin && is_convertible(mode, &group[start..]) {
+    match last_opening(group) {
+        Found::Nowhere => None,
+        Found::At(opening) => first_start(mode, group, name_start(group, opening), opening + 1),
+        Found::Unclear => first_start(mode, group, 0, group.len()),
+    }
+}
+
+// The same, if no text begins before `low`, and any that begins at `high` or after it is the same in both modes.
+fn first_start(mode: Mode, group: &[u8], low: usize, high: usize) -> Option<usize>
+    requires order { low ≤ high }
+    requires within { high ≤ length group.now }
+    requires none_before { NoneBefore mode group.now low }
+    requires same_after { SameFrom mode group.now high }
+    ensures within { IfSome result (λ start. start ≤ length group.now) }
+    ensures text { IfSome result (λ start. is_some (converted mode (drop start group.now)) ≡ true) }
+    ensures some { IfSome result (λ start. (other : List ℕ)
+        → converted mode (drop start group.now) ≡ Some other
+        → output_of mode group.now ≡ take start group.now ++ other) }
+    ensures none { IsNone result → output_of mode group.now ≡ group.now }
+{
+    for start in low..high {
+        if begins(mode, group, start) {
             return Some(start);
         }
-        may_begin = may_begin_after(*byte);
     }
     None
+}
+
+// Where a text may begin at the earliest of which this is the first bracket: only a name and a space come
+// before that.
+fn name_start(text: &[u8], opening: usize) -> usize
+    requires { opening ≤ length text.now }
+    ensures within { result ≤ opening }
+    ensures gaps { (at : ℕ) → at < result → 2 ≤ gaps_between text.now at opening }
+{
+    let word = word_start(text, opening);
+    match word.checked_sub(1) {
+        None => 0,
+        Some(gap) => word_start(text, gap),
+    }
+}
+
+// Where the word begins that goes to `end`: after a space or a line feed, or at the start.
+fn word_start(text: &[u8], end: usize) -> usize
+    requires { end ≤ length text.now }
+    ensures within { result ≤ end }
+    ensures after_gap { 0 < result → may_begin_after (slice_index text.now (result - 1)) ≡ true }
+{
+    let mut start = end;
+    'bytes: while start > 0 {
+        if may_begin_after(text[start - 1]) {
+            return start;
+        }
+        start -= 1;
+    }
+    start
+}
+
+// Whether a text of the other mode begins at this place.
+fn begins(mode: Mode, group: &[u8], start: usize) -> bool
+    requires { start ≤ length group.now }
+    ensures { result ≡ is_some (converted_here (may_begin_at group.now start) mode (drop start group.now)) }
+{
+    may_begin_at(group, start) && is_convertible(mode, &group[start..])
+}
+
+// Whether a text may begin at this place: at the start of a line, or after a space.
+fn may_begin_at(text: &[u8], start: usize) -> bool
+    requires { start ≤ length text.now }
+    ensures { result ≡ may_begin_at text.now start }
+{
+    match start.checked_sub(1) {
+        None => true,
+        Some(before) => may_begin_after(text[before]),
+    }
 }
 
 // Whether a text may begin after this byte: after a space, or at the start of a line.

@@ -68,22 +68,51 @@ fn lines_may_be_longer_than_a_chunk(rt: HostRuntime) -> Result<(), Fail> {
 }
 
 #[test]
-fn arguments_ask_for_a_mode(rt: HostRuntime) -> Result<(), Fail> {
-    let rows: [(&[&str], Option<Mode>); 5] = [
-        (&[], Some(Mode::Pretty)),
-        (&["--plain"], Some(Mode::Plain)),
+fn arguments_are_requests(rt: HostRuntime) -> Result<(), Fail> {
+    let rows: [(&[&str], Option<Request>); 8] = [
+        (&[], Some(Request::Convert(Mode::Pretty))),
+        (&["--plain"], Some(Request::Convert(Mode::Plain))),
+        (&["--help"], Some(Request::Help)),
+        (&["--version"], Some(Request::Version)),
         (&["--plain", "--plain"], None),
+        (&["--plain", "--help"], None),
         (&["--pretty"], None),
         (&[""], None),
     ];
-    for (row, mode) in rows {
+    for (row, wanted) in rows {
         let mut arguments = Vec::new(rt.alloc());
         for argument in row {
             arguments.push(String::from_str(rt.alloc(), argument)?)?;
         }
-        let is_same = asked_mode(&arguments) == mode;
+        let is_same = asked(&arguments) == wanted;
         same(&rt, (row.len(), is_same), (row.len(), true), "arguments");
     }
-    same(&rt, usage(), "usage: ufmt_lines [--plain]", "usage");
+    same(
+        &rt,
+        usage(),
+        "usage: ufmt_lines [--plain | --help | --version]",
+        "usage",
+    );
     Ok(())
+}
+
+const HELP: &str =
+    "usage: ufmt_lines [--plain | --help | --version]\n\nWrites each line of standard input, with the debug text at its end made pretty.\n\n  --plain    writes pretty texts of several lines as plain ones\n  --help     prints this text\n  --version  prints the version\n";
+
+// A text that is printed is written whole, and flushed. A device that fails is not called again.
+#[test]
+fn texts_are_printed_whole(rt: HostRuntime) {
+    for (text, wanted) in [(help(), HELP), (version(), "ufmt_lines 0.3.0\n")] {
+        for (most, fails_at, outcome, len) in [
+            (WHOLE, NEVER, Ok(()), wanted.len()),
+            (1, NEVER, Ok(()), wanted.len()),
+            (5, 1, Err(IoFault::CannotWrite), 0),
+            (5, 3, Err(IoFault::CannotWrite), 10),
+        ] {
+            let mut output = Watched::new(Sink::new(rt.alloc(), most, fails_at, false));
+            same(&rt, print(text, &mut output), outcome, wanted);
+            let taken = output.device().taken.as_slice();
+            same(&rt, taken == &wanted.as_bytes()[..len], true, wanted);
+        }
+    }
 }

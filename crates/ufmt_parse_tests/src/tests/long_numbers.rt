@@ -1,4 +1,5 @@
 //! Tests of numbers with more digits than are read one by one, by their texts in core::fmt.
+//! `tools/expected/show VALUE` prints them again.
 use super::same;
 use ufmt_parse::ParseError::NotText;
 use ufmt_parse::{ParseError, parse};

@@ -5,7 +5,7 @@ ghost use Rattle.ufmt.specs.ValueDocuments.{named_struct, named_tuple};
 
 use super::same;
 use ufmt::{Formatter, fields, uDebug, uWrite};
-use ufmt_examples::{Set, parse_command};
+use ufmt_examples::{Measurement, Set, parse_command, parse_measurement};
 use ufmt_parse::ParseError::NotText;
 use ufmt_parse::{Fault, ParseError, ParseMode, Parser, parse, parse_fields, parse_pretty, uParse};
 
@@ -141,5 +141,34 @@ fn a_command_line_is_parsed_from_a_fixed_buffer(rt: HostRuntime) {
     ];
     for (text, wanted) in rows {
         same(&rt, parse_command(text.as_bytes()), wanted, text);
+    }
+}
+
+#[test]
+fn a_measurement_with_long_names_is_parsed(rt: HostRuntime) {
+    let measurement = Measurement {
+        channel: 255,
+        celsius: -2147483648,
+    };
+    let rows = [
+        (
+            "Measurement { channel: 255, celsius: -2147483648 }",
+            Ok(measurement),
+        ),
+        (
+            "Measuremant { channel: 255, celsius: -2147483648 }",
+            Err(NotText { at: 0 }),
+        ),
+        (
+            "Measurement { channel: 255, celsium: -2147483648 }",
+            Err(NotText { at: 28 }),
+        ),
+        (
+            "Measurement { channel: 255, celsius: -2147483649 }",
+            Err(NotText { at: 37 }),
+        ),
+    ];
+    for (text, wanted) in rows {
+        same(&rt, parse_measurement(text.as_bytes()), wanted, text);
     }
 }

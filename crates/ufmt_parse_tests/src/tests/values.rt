@@ -1,4 +1,4 @@
-//! Tests of the types that are parsed, by their texts in core::fmt.
+//! Tests of the types that are parsed, by their texts in core::fmt. `tools/expected/show VALUE` prints them again.
 use super::same;
 use std::collections::{BTreeMap, BTreeSet};
 use ufmt_parse::ParseError::NotText;

@@ -1,4 +1,5 @@
 //! Tests of the readers and conversions of debug texts, on values that rustc printed.
+//! `tools/expected/show VALUE` prints them again.
 use super::{holds, same};
 use std::alloc::{AllocError, Global};
 use ufmt::layout::Mode;

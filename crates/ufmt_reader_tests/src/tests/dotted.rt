@@ -1,4 +1,4 @@
-//! Tests of reading structs that end in `..`.
+//! Tests of reading structs that end in `..`. `tools/expected/show VALUE` prints the texts again.
 use super::verdict::read;
 use super::{holds, same};
 use std::alloc::Global;

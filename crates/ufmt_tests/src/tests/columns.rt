@@ -46,7 +46,8 @@ fn of_each_width(
     Ok(row)
 }
 
-// Texts in columns, as rustc prints them, with the fill `*`.
+// Texts in columns, as rustc prints them, with the fill `*`. `tools/expected/show --as '{:*^5}' '"a"'` prints such a one
+// again.
 const OF_EACH_WIDTH: &str = "\
 |*|**|***|****|*****|******|*******|;
 |*|**|***|****|*****|******|*******|;

@@ -1,5 +1,6 @@
 //! Tests of a text that is cut where the buffer ends: `Truncating`, and the calls that print as much as
-//! fits. The rows of the calls are rustc's, for buffers of no byte, of one byte, and so on.
+//! fits. The rows of the calls are rustc's, for buffers of no byte, of one byte, and so on. `tools/expected/show VALUE`
+//! prints the whole text again.
 ghost use Rattle.std.specs.Prelude.{codes};
 ghost use Rattle.ufmt.specs.Document.{leaf};
 

@@ -1,5 +1,5 @@
 //! Tests of dumps. The expected rows are what `xxd` prints; columns that a dump leaves out are cut off
-//! those.
+//! those. `tools/expected/dumps` prints them again.
 ghost use Rattle.std.specs.Prelude.{[], ⊤};
 
 use super::piece_rows::pieces_of;

@@ -8,7 +8,7 @@ use ufmt::unsigned::decimal_is_one_text;
 fn laws_of_numbers_and_types_can_be_called() {
     decimal_is_one_text();
     laws::numbers_are_words();
-    laws::hexadecimal_is_one_text();
+    laws::digits_are_one_text();
     laws::unsigned_prints_hexadecimal();
     laws::signed_prints_as_unsigned();
     laws::padding_reaches_length();
@@ -17,6 +17,15 @@ fn laws_of_numbers_and_types_can_be_called() {
     laws::references_display_what_they_refer_to::<u8, Global>();
     laws::nonzero_prints_one_hexadecimal_text();
     laws::references_print_one_hexadecimal_text::<u8>();
+    laws::unsigned_prints_in_each_radix();
+    laws::signed_prints_bits_in_each_radix();
+    laws::nonzero_prints_one_radix_text();
+    laws::references_print_one_radix_text::<u8>();
+    laws::zeros_reach_width();
+    laws::integers_print_zeros();
+    laws::nonzero_prints_zeros();
+    laws::references_print_zeros::<u8>();
+    laws::decimals_denote_their_values();
     laws::pieces_of_lines::<(), ((), ())>();
     laws::texts_display_as_they_are::<Global>();
     laws::documents_of_leaves::<u8>();

@@ -1,7 +1,10 @@
 //! Values that a row prints, by `uDebug` or by another call.
 ghost use Rattle.std.specs.Prelude.{◌<◌};
 
-use ufmt::{Formatter, HexOptions, fmt_pretty, uDebug, uDisplay, uDisplayHex, uWrite};
+use ufmt::{
+    Formatter, HexOptions, Radix, fmt_pretty, uDebug, uDisplay, uDisplayHex, uDisplayRadix,
+    uDisplayZeros, uWrite,
+};
 
 /// Hexadecimal options that lines and columns print with.
 pub const PREFIXED: HexOptions = HexOptions {
@@ -43,6 +46,34 @@ pub struct Hexadecimal<T> {
 impl<T: uDisplayHex> Printed for Hexadecimal<T> {
     fn print<W: uWrite>(&self, f: &mut Formatter<W>) -> Result<(), W::Error> {
         self.number.fmt_hex(f, self.options)
+    }
+}
+
+/// Prints by `fmt_radix`.
+#[derive(Drop)]
+pub struct Digits<T> {
+    pub number: T,
+    pub radix: Radix,
+    pub options: HexOptions,
+    pub ghost has_ascii_pad: { options.pad_char < 128 },
+}
+
+impl<T: uDisplayRadix> Printed for Digits<T> {
+    fn print<W: uWrite>(&self, f: &mut Formatter<W>) -> Result<(), W::Error> {
+        self.number.fmt_radix(f, self.radix, self.options)
+    }
+}
+
+/// Prints by `fmt_zeros`.
+#[derive(Drop)]
+pub struct ZeroPadded<T> {
+    pub number: T,
+    pub width: usize,
+}
+
+impl<T: uDisplayZeros> Printed for ZeroPadded<T> {
+    fn print<W: uWrite>(&self, f: &mut Formatter<W>) -> Result<(), W::Error> {
+        self.number.fmt_zeros(f, self.width)
     }
 }
 

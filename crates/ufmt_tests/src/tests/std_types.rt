@@ -1,5 +1,5 @@
 //! Tests of the texts of std's shared values, queues, hashed collections, ranges and small types. They are those of
-//! core::fmt, but for the order of a hashed collection of several items.
+//! core::fmt, but for the order of a hashed collection of several items. `tools/expected/show VALUE` prints them again.
 use super::rows::{Table, has_rows, list, same};
 use std::alloc::{AllocError, Global};
 use std::borrow::{Cow, CowSlice, CowStr};

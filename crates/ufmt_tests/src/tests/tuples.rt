@@ -1,5 +1,5 @@
 //! Tests of tuples with three to twelve fields. They print as by core::fmt. `blocks` has shorter
-//! ones.
+//! ones. `tools/expected/show VALUE` prints them again.
 use super::rows::{Table, has_rows};
 
 const TUPLES: &str = "\

@@ -1,4 +1,5 @@
 //! Tests of a user's own types. `blocks` has pairs, tuples, and structs without fields.
+//! `tools/expected/show '{ #[derive(Debug)] struct A { x: i32 } A { x: 1 } }'` prints such texts by core::fmt.
 use super::forwarded;
 use super::rows::{Table, has_rows, list};
 use std::alloc::{AllocError, Global};

@@ -1,5 +1,6 @@
-use Rattle.std.proofs.Common.{sym, subst}
-use Rattle.ufmt_parse.specs.Taking.{IsNext, IsTaken}
+use Rattle.std.proofs.Common.{codes, refl, subst}
+use Rattle.ufmt_parse.specs.Next.{IsNotNext, NextLeaves}
+use Rattle.ufmt_parse.specs.Taking.{IsTaken}
 use Rattle.ufmt_examples.specs.declared.node.Node.{out-Node}
 use Rattle.ufmt_examples.proofs.Nested.{document_made, document_of, node_is, node_made}
 use Rattle.ufmt_examples.proofs.node.+parse_node.Goals as goal
@@ -9,10 +10,10 @@ returns-in-Err g t c = record {
   values = tt;
   taken = tt;
   only = tt;
-  none = λ is_not n u is next.
+  none = λ is_not n is.
       let parts = (node_is n).0 is in
-      c.in-Err.ensures.none is_not (out-Node n).value (out-Node n).next u parts.0 parts.1
-      (subst (λ d. IsNext g.M.ParseMode.mode c.args.parser.now d u) (sym (document_of n)) next);
+      subst (λ d. IsNotNext g.M.ParseMode.mode c.args.parser.now d) (document_of n)
+      (c.in-Err.ensures.none is_not (codes "Node") (codes "value") (codes "next") (out-Node n).value (out-Node n).next refl parts.0 parts.1);
   blocks = tt;
   shrinks = c.in-Err.ensures.shrinks;
 }
@@ -22,10 +23,10 @@ returns-in-Ok g t c = record {
   values = (node_made (record { value = c.in-Ok.value; next = c.in-Ok.next })).1 c.in-Ok.ensures.values;
   taken = subst (λ d. IsTaken g.M.ParseMode.mode c.args.parser.now d c.parse_struct_2_by.new.parser)
       (document_made (record { value = c.in-Ok.value; next = c.in-Ok.next })) c.in-Ok.ensures.taken;
-  only = λ n u is next.
+  only = λ n is.
       let parts = (node_is n).0 is in
-      c.in-Ok.ensures.only (out-Node n).value (out-Node n).next u parts.0 parts.1
-      (subst (λ d. IsNext g.M.ParseMode.mode c.args.parser.now d u) (sym (document_of n)) next);
+      subst (λ d. NextLeaves g.M.ParseMode.mode c.args.parser.now d c.parse_struct_2_by.new.parser) (document_of n)
+      (c.in-Ok.ensures.only (codes "Node") (codes "value") (codes "next") (out-Node n).value (out-Node n).next refl parts.0 parts.1);
   none = tt;
   blocks = c.in-Ok.ensures.blocks;
   shrinks = c.in-Ok.ensures.shrinks;

@@ -1,5 +1,6 @@
-use Rattle.std.proofs.Common.{sym, subst}
-use Rattle.ufmt_parse.specs.Taking.{IsNext, IsTaken}
+use Rattle.std.proofs.Common.{codes, refl, sym, subst}
+use Rattle.ufmt_parse.specs.Next.{IsNotNext, NextLeaves}
+use Rattle.ufmt_parse.specs.Taking.{IsTaken}
 use Rattle.ufmt_examples.specs.declared.tree.Tree.{out-Tree}
 use Rattle.ufmt_examples.specs.declared.tree.Tree.TheFolds.{fold_out-Tree, fold-roll-Tree}
 use Rattle.ufmt_examples.proofs.Nested.{tree_is, tree_made}
@@ -10,10 +11,10 @@ returns-in-Err g t c = record {
   values = tt;
   taken = tt;
   only = tt;
-  none = λ is_not v u is next.
+  none = λ is_not v is.
       let parts = (tree_is v).0 is in
-      c.in-Err.ensures.none is_not (out-Tree v).size (out-Tree v).children u parts.0 parts.1
-      (subst (λ d. IsNext g.M.ParseMode.mode c.args.parser.now d u) (fold_out-Tree _ _ v) next);
+      subst (λ d. IsNotNext g.M.ParseMode.mode c.args.parser.now d) (sym (fold_out-Tree _ _ v))
+      (c.in-Err.ensures.none is_not (codes "Tree") (codes "size") (codes "children") (out-Tree v).size (out-Tree v).children refl parts.0 parts.1);
   blocks = tt;
   shrinks = c.in-Err.ensures.shrinks;
 }
@@ -23,10 +24,10 @@ returns-in-Ok g t c = record {
   values = (tree_made (record { size = c.in-Ok.size; children = c.in-Ok.children })).1 c.in-Ok.ensures.values;
   taken = subst (λ d. IsTaken g.M.ParseMode.mode c.args.parser.now d c.parse_struct_2_by.new.parser)
       (sym (fold-roll-Tree _ _ (record { size = c.in-Ok.size; children = c.in-Ok.children }))) c.in-Ok.ensures.taken;
-  only = λ v u is next.
+  only = λ v is.
       let parts = (tree_is v).0 is in
-      c.in-Ok.ensures.only (out-Tree v).size (out-Tree v).children u parts.0 parts.1
-      (subst (λ d. IsNext g.M.ParseMode.mode c.args.parser.now d u) (fold_out-Tree _ _ v) next);
+      subst (λ d. NextLeaves g.M.ParseMode.mode c.args.parser.now d c.parse_struct_2_by.new.parser) (sym (fold_out-Tree _ _ v))
+      (c.in-Ok.ensures.only (codes "Tree") (codes "size") (codes "children") (out-Tree v).size (out-Tree v).children refl parts.0 parts.1);
   none = tt;
   blocks = c.in-Ok.ensures.blocks;
   shrinks = c.in-Ok.ensures.shrinks;

@@ -1,8 +1,9 @@
 -- tools/write-by-count writes this file: change it there.
+use Rattle.ufmt_parse.proofs.Naming.{no_tuple, tuple_leaves}
 use Rattle.ufmt_parse.proofs.tuples.parse_tuple_1.Goals as goal
 
 pub returns-in-Err-clause-none : goal.returns-in-Err-clause-none
-returns-in-Err-clause-none g c = λ is_not a_value u is_a next. c.in-Err.ensures.none is_not (record { 0 = a_value }) u (is_a, tt) next
+returns-in-Err-clause-none g c = λ is_not block_name a_value same is_a. no_tuple _ _ _ _ _ same (c.in-Err.ensures.none is_not (record { 0 = a_value }) (is_a, tt))
 
 pub returns-in-Ok-clause-only : goal.returns-in-Ok-clause-only
-returns-in-Ok-clause-only g c = λ a_value u is_a next. c.in-Ok.ensures.only (record { 0 = a_value }) u (is_a, tt) next
+returns-in-Ok-clause-only g c = λ block_name a_value same is_a. tuple_leaves _ _ _ _ _ same _ (c.in-Ok.ensures.only (record { 0 = a_value }) (is_a, tt))

@@ -1,5 +1,6 @@
 -- tools/write-by-count writes this file: change it there.
 use Rattle.std.proofs.lemmas.Result.{IfErr-weaker, IfOk-weaker}
+use Rattle.ufmt_parse.proofs.Naming.{no_tuple, tuple_leaves}
 use Rattle.ufmt_parse.proofs.tuples_by.parse_tuple_5_by.Goals as goal
 
 pub returns-clause-values : goal.returns-clause-values
@@ -9,10 +10,10 @@ pub returns-clause-taken : goal.returns-clause-taken
 returns-clause-taken g c = c.parse_tuple_row.ensures.taken
 
 pub returns-clause-only : goal.returns-clause-only
-returns-clause-only g c = IfOk-weaker c.parse_tuple_row.result _ _ (λ _ only a_value b_value c_value d_value e_value u is_a is_b is_c is_d is_e next. only (a_value, b_value, c_value, d_value, e_value) u (is_a, (is_b, (is_c, (is_d, (is_e, tt))))) next) c.parse_tuple_row.ensures.only
+returns-clause-only g c = IfOk-weaker c.parse_tuple_row.result _ _ (λ _ only block_name a_value b_value c_value d_value e_value same is_a is_b is_c is_d is_e. tuple_leaves _ _ _ _ _ same _ (only (a_value, b_value, c_value, d_value, e_value) (is_a, (is_b, (is_c, (is_d, (is_e, tt))))))) c.parse_tuple_row.ensures.only
 
 pub returns-clause-none : goal.returns-clause-none
-returns-clause-none g c = IfErr-weaker c.parse_tuple_row.result _ _ (λ _ none is_not a_value b_value c_value d_value e_value u is_a is_b is_c is_d is_e next. none is_not (a_value, b_value, c_value, d_value, e_value) u (is_a, (is_b, (is_c, (is_d, (is_e, tt))))) next) c.parse_tuple_row.ensures.none
+returns-clause-none g c = IfErr-weaker c.parse_tuple_row.result _ _ (λ _ none is_not block_name a_value b_value c_value d_value e_value same is_a is_b is_c is_d is_e. no_tuple _ _ _ _ _ same (none is_not (a_value, b_value, c_value, d_value, e_value) (is_a, (is_b, (is_c, (is_d, (is_e, tt))))))) c.parse_tuple_row.ensures.none
 
 pub returns-clause-memory : goal.returns-clause-memory
 returns-clause-memory g c = λ none. c.parse_tuple_row.ensures.memory (none.0, (none.1, (none.2, (none.3, (none.4, tt)))))

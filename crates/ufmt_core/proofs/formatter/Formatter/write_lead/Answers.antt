@@ -1,5 +1,5 @@
 use Rattle.ufmt_core.specs.Layout.{line_start}
-use Rattle.ufmt_core.proofs.Writing.{Prints-err, Prints-fails, Prints-same, Prints-then_at}
+use Rattle.ufmt_core.proofs.Writing.{Prints-same, Prints-then_at}
 use Rattle.ufmt_core.proofs.formatter.Formatter.write_lead.Goals as goal
 
 pub returns : goal.returns

@@ -1,22 +1,16 @@
-use Rattle.std.proofs.Common.{◌≡◌, ◌∙◌, None, drop, refl, sym}
-use Rattle.std.proofs.lemmas.List.{take_rest}
-use Rattle.ufmt_lines.proofs.Tails.{none_here, tail_after, tail_at, tail_none}
-use Rattle.ufmt_lines.specs.Readable.{converted_here}
+use Rattle.std.proofs.Common.{refl}
+use Rattle.ufmt_lines.proofs.LastOpenings.{none_after, none_at_end, none_before_gaps, nothing_changes}
+use Rattle.ufmt_lines.proofs.Searches.{rest_stays}
 use Rattle.ufmt_lines.proofs.run.output.text_start.Goals as goal
-use Rattle.ufmt_lines.proofs.run.output.text_start.Goals.{else-may_begin-via-then-may_begin+else-is_convertible, else-may_begin-via-else-may_begin}
 
-pub returns-then-is_convertible-clause-some : goal.returns-then-is_convertible-clause-some
-returns-then-is_convertible-clause-some c = λ other is.
-    tail_at c.args.mode c.args.group.now c.loop-start.start c.loop-start-test.true other (rw c.if-may_begin.true at c.loop-start.invariant) is
+pub first_start-requires-clause-none_before : goal.first_start-requires-clause-none_before
+first_start-requires-clause-none_before c = none_before_gaps c.args.mode c.args.group.now c.in-At.opening c.name_start.result c.in-At.ensures c.name_start.ensures.gaps
 
-pub loop-start-preserved : goal.loop-start-preserved
-loop-start-preserved c =
-    let tail = drop c.loop-start.start c.args.group.now in
-    let none : converted_here c.loop-start.may_begin c.args.mode tail ≡ None = elim c.else-may_begin.branch [
-      | else-may_begin-via-then-may_begin+else-is_convertible w ↦ none_here c.loop-start.may_begin c.args.mode tail (rw take_rest at (sym w.is_convertible.ensures ∙ w.if-is_convertible.false))
-      | else-may_begin-via-else-may_begin w ↦ rw w.if-may_begin.false refl
-    ] in
-    rw c.may_begin_after-may_begin.ensures (tail_after c.args.mode c.args.group.now c.loop-start.start c.loop-start-test.true c.loop-start.may_begin c.loop-start.invariant none)
+pub first_start-requires-clause-same_after : goal.first_start-requires-clause-same_after
+first_start-requires-clause-same_after c = none_after c.args.mode c.args.group.now c.in-At.opening c.in-At.ensures
 
-pub returns-clause-none : goal.returns-clause-none
-returns-clause-none c = λ none. tail_none c.args.mode c.args.group.now c.loop-start.start c.loop-start.may_begin c.loop-start-test.false c.loop-start.invariant
+pub first_start-requires-in-Unclear-clause-same_after : goal.first_start-requires-in-Unclear-clause-same_after
+first_start-requires-in-Unclear-clause-same_after c = none_at_end c.args.mode c.args.group.now
+
+pub returns-in-Nowhere-clause-none : goal.returns-in-Nowhere-clause-none
+returns-in-Nowhere-clause-none c = λ none. rest_stays c.args.mode c.args.group.now 0 refl (λ at from other is. nothing_changes c.args.mode c.args.group.now c.in-Nowhere.ensures at other is)

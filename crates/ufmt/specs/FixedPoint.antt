@@ -1,0 +1,41 @@
+-- Texts of fixed-point numbers: a number of the least unit, and how many of its digits come after the point.
+use Rattle.std.specs.Prelude.{◌≡◌, ℕ, zero, suc, ℤ, pos, nat_abs, ◌/◌, ◌%◌, ◌^◌, ◌<◌, List, [], ◌∷◌, ◌++◌, map, length, slice_index, codes}
+use Rattle.std.specs.List.{All}
+use Rattle.ufmt_core.specs.Decimal.{decimal, decimal_byte, last_digits, sign_of, value_in_base}
+
+-- the digits after the point, and the point: without places nothing
+abbrev pub point_and_last : ℕ → ℕ → List ℕ
+point_and_last zero n = []
+point_and_last (suc places) n = codes "." ++ last_digits (suc places) (n % 10 ^ suc places)
+
+-- the digits of an unsigned fixed-point number: those of the whole number, and those after the point
+abbrev pub fixed_digits : ℕ → ℕ → List ℕ
+fixed_digits places n = decimal (pos (n / 10 ^ places)) ++ point_and_last places n
+
+-- the text of a fixed-point number
+abbrev pub fixed : ℕ → ℤ → List ℕ
+fixed places z = sign_of z ++ fixed_digits places (nat_abs z)
+
+-- digits as bytes after a point; no digits have none
+abbrev pub point_and : List ℕ → List ℕ
+point_and [] = []
+point_and (digit ∷ digits) = codes "." ++ map decimal_byte (digit ∷ digits)
+
+-- the text is the number's sign, digits, and a point with so many more digits; all digits joined denote the magnitude
+pub record DenotesFixed (places : ℕ) (text : List ℕ) (z : ℤ) : Type 0 where
+  pub before : List ℕ
+  pub after : List ℕ
+  pub bytes : text ≡ sign_of z ++ (map decimal_byte before ++ point_and after)
+  pub some_digit : 0 < length before
+  pub no_leading_zero : slice_index before 0 ≡ 0 → before ≡ 0 ∷ []
+  pub below_ten : All (λ digit. digit < 10) (before ++ after)
+  pub all_places : length after ≡ places
+  pub value : value_in_base 10 (before ++ after) ≡ nat_abs z
+
+-- `fixed` gives each number a text that denotes it
+abbrev pub EachFixedIsDenoted : Type 0
+EachFixedIsDenoted = (places : ℕ) (z : ℤ) → DenotesFixed places (fixed places z) z
+
+-- no text with so many places denotes two numbers
+abbrev pub OneFixedIsDenoted : Type 0
+OneFixedIsDenoted = (places : ℕ) (text : List ℕ) (y z : ℤ) → DenotesFixed places text y → DenotesFixed places text z → y ≡ z

@@ -1,0 +1,58 @@
+//! `uDisplayRadix`: texts of integers in binary, octal and hexadecimal digits.
+ghost use Rattle.std.specs.Prelude.{◌≡◌, ◌<◌, ℕ, List, is_ok};
+ghost use Rattle.ufmt_core.specs.Formatter.{Prints};
+ghost use Rattle.ufmt.specs.declared.hex.HexOptions.{HexOptions};
+ghost use Rattle.ufmt.specs.declared.radix.Radix.{Radix};
+ghost use Rattle.ufmt.specs.Radix.{radix_prefix};
+
+mod core_impls;
+pub(crate) mod digits;
+mod integers;
+mod nonzero;
+
+use crate::hex::HexOptions;
+use ufmt_core::{Formatter, uWrite};
+
+/// The base of a text's digits.
+#[derive(Clone, Copy)]
+pub enum Radix {
+    /// Base 2, with the prefix `0b`.
+    Binary,
+    /// Base 8, with the prefix `0o`.
+    Octal,
+    /// Base 16, with the prefix `0x` or `0X`.
+    Hexadecimal,
+}
+
+impl Radix {
+    // Its letter is in upper case only in hexadecimal.
+    pub(crate) fn prefix(self, upper_case: bool) -> &'static str
+        ensures { result.now ≡ radix_prefix self upper_case }
+    {
+        match self {
+            Radix::Binary => "0b",
+            Radix::Octal => "0o",
+            Radix::Hexadecimal if upper_case => "0X",
+            Radix::Hexadecimal => "0x",
+        }
+    }
+}
+
+/// A value that prints itself in the digits of a radix, as Rust's `{:b}`, `{:o}`, `{:x}` and `{:X}` would.
+pub trait uDisplayRadix {
+    /// The value's text in a radix with these options.
+    ghost radix_text: { Self → Radix → HexOptions → List ℕ };
+
+    /// Writes the value's text in this radix with these options. On `Err` a prefix of it was written.
+    /// Mode, depth and the writer's identity are as before.
+    fn fmt_radix<W>(
+        &self,
+        f: &mut Formatter<W>,
+        radix: Radix,
+        options: HexOptions,
+    ) -> Result<(), W::Error>
+    where
+        W: uWrite,
+        requires { options.pad_char < 128 }
+        ensures { Prints W.seen f.old (radix_text self.now radix options) (is_ok result) f.new };
+}

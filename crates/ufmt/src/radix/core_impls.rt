@@ -1,0 +1,61 @@
+//! `uDisplayRadix` of references, `Wrapping` and `Saturating`.
+use crate::hex::HexOptions;
+use crate::radix::{Radix, uDisplayRadix};
+use std::num::{Saturating, Wrapping};
+use ufmt_core::{Formatter, uWrite};
+
+/// Prints what the reference refers to.
+impl<T: uDisplayRadix> uDisplayRadix for &T {
+    ghost radix_text = { λ x. T.radix_text x.now };
+
+    fn fmt_radix<W: uWrite>(
+        &self,
+        f: &mut Formatter<W>,
+        radix: Radix,
+        options: HexOptions,
+    ) -> Result<(), W::Error> {
+        (**self).fmt_radix(f, radix, options)
+    }
+}
+
+/// Prints what the reference refers to.
+impl<T: uDisplayRadix> uDisplayRadix for &mut T {
+    ghost radix_text = { λ x. T.radix_text x.now };
+
+    fn fmt_radix<W: uWrite>(
+        &self,
+        f: &mut Formatter<W>,
+        radix: Radix,
+        options: HexOptions,
+    ) -> Result<(), W::Error> {
+        (**self).fmt_radix(f, radix, options)
+    }
+}
+
+/// Prints the number.
+impl<T: uDisplayRadix> uDisplayRadix for Wrapping<T> {
+    ghost radix_text = { λ x. T.radix_text x.0 };
+
+    fn fmt_radix<W: uWrite>(
+        &self,
+        f: &mut Formatter<W>,
+        radix: Radix,
+        options: HexOptions,
+    ) -> Result<(), W::Error> {
+        self.0.fmt_radix(f, radix, options)
+    }
+}
+
+/// Prints the number.
+impl<T: uDisplayRadix> uDisplayRadix for Saturating<T> {
+    ghost radix_text = { λ x. T.radix_text x.0 };
+
+    fn fmt_radix<W: uWrite>(
+        &self,
+        f: &mut Formatter<W>,
+        radix: Radix,
+        options: HexOptions,
+    ) -> Result<(), W::Error> {
+        self.0.fmt_radix(f, radix, options)
+    }
+}

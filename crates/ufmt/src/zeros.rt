@@ -1,0 +1,55 @@
+//! `uDisplayZeros`: decimal texts with zeros between the sign and the digits.
+ghost use Rattle.std.specs.Prelude.{◌≡◌, ◌^◌, ◌<◌, ℕ, List, is_ok, pos};
+ghost use Rattle.ufmt_core.specs.Decimal.{decimal};
+ghost use Rattle.ufmt_core.specs.Formatter.{Prints};
+ghost use Rattle.ufmt.specs.Zeros.{minus_if, zero_filled};
+
+mod core_impls;
+mod integers;
+mod nonzero;
+
+use crate::hex::HexOptions;
+use crate::radix::digits::{Digits, digits_text};
+use ufmt_core::{Formatter, uWrite};
+
+/// A number that prints itself with zeros before its digits, as Rust's `{:05}` would.
+pub trait uDisplayZeros {
+    /// The number's text with zeros up to a width.
+    ghost zeros_text: { Self → ℕ → List ℕ };
+
+    /// Writes the number's text. If it has fewer bytes than `width`, zeros come after the sign. On `Err`
+    /// a prefix of that was written. Mode, depth and the writer's identity are as before.
+    fn fmt_zeros<W>(&self, f: &mut Formatter<W>, width: usize) -> Result<(), W::Error>
+    where
+        W: uWrite,
+        ensures { Prints W.seen f.old (zeros_text self.now width) (is_ok result) f.new };
+}
+
+/// Writes a sign if asked, zeros, and the digits of `n`, which are made in `buffer`.
+pub(crate) fn write_zeros<N: Digits, W: uWrite, const SIZE: usize>(
+    is_negative: bool,
+    n: N,
+    buffer: &mut [u8; SIZE],
+    f: &mut Formatter<W>,
+    width: usize,
+) -> Result<(), W::Error>
+    requires not_empty { 0 < SIZE }
+    requires room { N.value n < 10 ^ SIZE }
+    ensures { Prints W.seen f.old
+        (zero_filled width (minus_if is_negative) (decimal (pos (N.value n)))) (is_ok result) f.new }
+{
+    let digits = digits_text::<N, 10, SIZE>(n, false, buffer);
+    let zeros = HexOptions {
+        upper_case: false,
+        pad_char: b'0',
+        pad_length: width,
+        ox_prefix: false,
+    };
+    zeros.write_after(sign_text(is_negative), f, digits)
+}
+
+fn sign_text(is_negative: bool) -> &'static str
+    ensures { result.now ≡ minus_if is_negative }
+{
+    if is_negative { "-" } else { "" }
+}

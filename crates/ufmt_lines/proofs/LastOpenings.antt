@@ -1,0 +1,511 @@
+-- The steps of the search for the opening bracket that a text's last byte closes, and what its place says of where texts begin.
+use Rattle.std.proofs.Common.{◌≡◌, ◌≢◌, ◌∙◌, ◌⊎◌, inl, inr, refl, ap, sym, subst, ℕ, zero, suc, ◌+◌, ◌-◌, ◌<◌, ◌≤◌, ◌==◌, ◌||◌, ◌&&◌, Bool, true, false, cond, List, [], ◌∷◌, ◌++◌, get_or, drop, take, length, append-nil, Option, Some, None, eqb-true, nat_le, arith, drop-cons}
+use Rattle.std.proofs.lemmas.Bool.{true≢false, agree_below_at, cases_lt}
+use Rattle.std.proofs.lemmas.Bool.Decides.{nat_tests}
+use Rattle.std.proofs.lemmas.List.{drop-drop, drop_all, take-append-drop}
+use Rattle.std.proofs.Math.Seq.{drop-append_seam, take-append_seam}
+use Rattle.std.specs.Prelude.{slice_index_or, ⊤}
+use Rattle.ufmt.specs.Layout.{layout, setting}
+use Rattle.ufmt.specs.Leaves.{Place, outside, between, after_backslash, place_after, EndsLeaf, is_control, is_debug_byte, is_opening, is_quote, leads_on}
+use Rattle.ufmt_core.specs.declared.layout.Mode.{Mode}
+use Rattle.ufmt_lines.specs.Private.Brackets.{Closing, unread, pending, opened, none, IsPending, IsQuotedPending, NoneBefore, SameFrom, IsLastOpening, IsOpeningQuote, NotFrom, OpensAt, at_closing, at_opening, at_plain, closing, ends_closed, gaps, gaps_between, is_closing, is_plain}
+use Rattle.ufmt_lines.specs.Readable.{converted, other_mode}
+use Rattle.ufmt_lines.specs.declared.run.brackets.Found.{Found}
+use Rattle.ufmt_lines.specs.declared.run.brackets.Found.TheVariants.{At, Nowhere, Unclear}
+use Rattle.ufmt_lines.specs.declared.run.brackets.TheConstants.{PLAIN_BYTES}
+use Rattle.ufmt_lines.proofs.ClosedBlocks.{HasBlock, at_opening_byte, document_shape, word_byte}
+use Rattle.ufmt_lines.proofs.LongestTexts.{nothing_is_no_text}
+use Rattle.ufmt_lines.proofs.Tails.{is_converted}
+
+-- ---- bytes
+
+marks_plain : (c : ℕ) → c < 256 → (slice_index_or PLAIN_BYTES c 0 == 46) ≡ is_plain c
+marks_plain c low = agree_below_at (λ b. slice_index_or PLAIN_BYTES b 0 == 46) is_plain 256 c refl low
+
+pub plain_is_marked : (c : ℕ) → c < 256 → (slice_index_or PLAIN_BYTES c 0 == 46) ≡ true → is_plain c ≡ true
+plain_is_marked c low h = sym (marks_plain c low) ∙ h
+
+-- what a byte isn't
+record IsNoQuote (c : ℕ) : Type 0 where
+  pub no_quote : is_quote c ≡ false
+  pub no_backslash : (c == 92) ≡ false
+
+record IsOther (c : ℕ) : Type 0 where
+  pub bare : IsNoQuote c
+  pub no_opening : is_opening c ≡ false
+  pub no_closing : is_closing c ≡ false
+
+plain_byte : (c : ℕ) → is_plain c ≡ true → IsOther c
+plain_byte c h = record {
+  bare = record { no_quote = grind (arith, nat_tests); no_backslash = grind (arith, nat_tests) };
+  no_opening = grind (arith, nat_tests);
+  no_closing = grind (arith, nat_tests);
+}
+
+closing_byte : (c : ℕ) → is_closing c ≡ true → IsNoQuote c × (is_opening c ≡ false)
+closing_byte c h = (record { no_quote = grind (arith, nat_tests); no_backslash = grind (arith, nat_tests) }, grind (arith, nat_tests))
+
+opening_byte : (c : ℕ) → is_opening c ≡ true → IsNoQuote c
+opening_byte c h = record { no_quote = grind (arith, nat_tests); no_backslash = grind (arith, nat_tests) }
+
+quote_byte : (c : ℕ) → is_quote c ≡ true → (is_closing c ≡ false) × ((c == 92) ≡ false)
+quote_byte c h = (grind (arith, nat_tests), grind (arith, nat_tests))
+
+same_byte : (c : ℕ) → (c == c) ≡ true
+same_byte c = grind (arith, nat_tests)
+
+turned : (a b : ℕ) → (b == a) ≡ false → (a == b) ≡ false
+turned a b h = grind (arith, nat_tests)
+
+-- a byte that is no quote is none of these quotes
+apart : (c quote : ℕ) → is_quote c ≡ false → is_quote quote ≡ true → (c == quote) ≡ false
+apart c quote bare is = grind (arith, nat_tests)
+
+-- between quotes, such a byte changes nothing
+between_stays : (c quote : ℕ) (t : List ℕ) → IsNoQuote c → is_quote quote ≡ true → closing (between quote) (c ∷ t) ≡ closing (between quote) t
+between_stays c quote t h is = rw (apart c quote h.no_quote is, h.no_backslash) refl
+
+none_outside : (c : ℕ) (t : List ℕ) → closing outside t ≡ none → (is_quote c ≡ true → closing (between c) t ≡ none) → closing outside (c ∷ t) ≡ none
+none_outside c t out quoted = go (is_quote c) (is_opening c) (is_closing c) refl
+  where
+    go : (quote opens closes : Bool) → is_quote c ≡ quote
+        → cond quote (closing (between c) t) (cond opens (at_opening (closing outside t)) (cond closes (at_closing (closing outside t)) (at_plain (closing outside t)))) ≡ none
+    go true opens closes is = quoted is
+    go false true closes is = ap at_opening out
+    go false false true is = ap at_closing out
+    go false false false is = ap at_plain out
+
+none_between : (c other : ℕ) (t : List ℕ) → (c == 92) ≡ false → closing outside t ≡ none → closing (between other) t ≡ none → closing (between other) (c ∷ t) ≡ none
+none_between c other t no_backslash out inside = rw no_backslash (go (c == other))
+  where
+    go : (closes : Bool) → cond closes (at_plain (closing outside t)) (closing (between other) t) ≡ none
+    go true = ap at_plain out
+    go false = inside
+
+-- the opening bracket was read, or there is none
+abbrev IsPast : Closing → Type 0
+IsPast known = (known ≡ opened) ⊎ (known ≡ none)
+
+never_both : {n : ℕ} {known : Closing} → IsPast known → known ≡ pending n → ⊥
+never_both (inl is) e = let same = sym is ∙ e in absurd (cc)
+never_both (inr is) e = let same = sym is ∙ e in absurd (cc)
+
+some_is_none : {A : Type 0} {x : A} → Some x ≡ None → ⊥
+some_is_none e = absurd (cc)
+
+-- ---- steps, from a byte's place to that before it
+
+module _ (text : List ℕ) (start : ℕ) (within : start < length text) where
+  at : drop start text ≡ get_or text start 0 ∷ drop (suc start) text
+  at = drop-cons text start 0 within
+
+  one_more : NotFrom text (suc start) → closing outside (drop start text) ≢ opened → NotFrom text start
+  one_more later now = λ k from. go k from (cases_lt start k)
+    where
+      go : (k : ℕ) → start ≤ k → (start < k) ⊎ (k ≤ start) → closing outside (drop k text) ≢ opened
+      go k from (inl past) = later k (omega arith)
+      go k from (inr same) = let is : start ≡ k = omega arith in subst (λ n. closing outside (drop n text) ≢ opened) is now
+
+  is_pending : (n : ℕ) → closing outside (drop start text) ≡ pending n → closing outside (drop start text) ≢ opened
+  is_pending n h = λ e. let same = sym h ∙ e in absurd (cc)
+
+  module _ (n : ℕ) (h : IsPending text (suc start) n) where
+    bare_step : (m : ℕ) → IsNoQuote (get_or text start 0) → closing outside (get_or text start 0 ∷ drop (suc start) text) ≡ pending m → IsPending text start m
+    bare_step m no_quote here =
+        let now = ap (closing outside) at ∙ here in
+        record {
+          within = omega arith;
+          here = now;
+          quoted = λ quote is. ap (closing (between quote)) at ∙ between_stays (get_or text start 0) quote (drop (suc start) text) no_quote is ∙ h.quoted quote is;
+          not_yet = one_more h.not_yet (is_pending m now);
+        }
+
+    pub plain_step : is_plain (get_or text start 0) ≡ true → IsPending text start n
+    plain_step is =
+        let other = plain_byte (get_or text start 0) is in
+        bare_step n other.bare (rw (other.bare.no_quote, other.no_opening, other.no_closing) (ap at_plain h.here))
+
+    pub closing_step : is_closing (get_or text start 0) ≡ true → IsPending text start (suc n)
+    closing_step is =
+        let other = closing_byte (get_or text start 0) is in
+        bare_step (suc n) other.0 (rw (other.0.no_quote, other.1, is) (ap at_closing h.here))
+
+    pub quote_step : is_quote (get_or text start 0) ≡ true → IsQuotedPending (get_or text start 0) text start n
+    quote_step is =
+        let q = get_or text start 0 in
+        let now : closing outside (drop start text) ≡ none = ap (closing outside) at ∙ rw is (h.quoted q is) in
+        record {
+          within = within;
+          here = ap (closing (between q)) at ∙ rw (same_byte q) (ap at_plain h.here);
+          unquoted = now;
+          others = λ other other_is differs.
+              ap (closing (between other)) at ∙ rw (turned q other differs, (quote_byte q is).1) (h.quoted other other_is);
+          not_yet = one_more h.not_yet (λ e. let same = sym now ∙ e in absurd (cc));
+        }
+
+  module _ (n : ℕ) (h : IsPending text (suc start) (suc n)) where
+    pub opening_step : is_opening (get_or text start 0) ≡ true → IsPending text start n
+    opening_step is =
+        let now = ap (closing outside) at ∙ at_opening_byte (get_or text start 0) (drop (suc start) text) is ∙ ap at_opening h.here in
+        record {
+          within = omega arith;
+          here = now;
+          quoted = λ quote quote_is. ap (closing (between quote)) at ∙ between_stays (get_or text start 0) quote (drop (suc start) text) (opening_byte (get_or text start 0) is) quote_is ∙ h.quoted quote quote_is;
+          not_yet = one_more h.not_yet (is_pending n now);
+        }
+
+  module _ (quote n : ℕ) (is : is_quote quote ≡ true) (h : IsQuotedPending quote text (suc start) n) where
+    pub inside_step : (get_or text start 0 == quote) ≡ false → (get_or text start 0 == 92) ≡ false → IsQuotedPending quote text start n
+    inside_step differs no_backslash =
+        let c = get_or text start 0 in
+        let now : closing outside (drop start text) ≡ none = ap (closing outside) at ∙ none_outside c (drop (suc start) text) h.unquoted (λ c_is. h.others c c_is differs) in
+        record {
+          within = within;
+          here = ap (closing (between quote)) at ∙ rw (differs, no_backslash) h.here;
+          unquoted = now;
+          others = λ other other_is other_differs.
+              ap (closing (between other)) at ∙ none_between c other (drop (suc start) text) no_backslash h.unquoted (h.others other other_is other_differs);
+          not_yet = one_more h.not_yet (λ e. let same = sym now ∙ e in absurd (cc));
+        }
+
+    pub open_step : get_or text start 0 ≡ quote → IsPending text start n
+    open_step c_is =
+        let here_at : drop start text ≡ quote ∷ drop (suc start) text = at ∙ ap (λ c. c ∷ drop (suc start) text) c_is in
+        let now : closing outside (drop start text) ≡ pending n = ap (closing outside) here_at ∙ rw is h.here in
+        record {
+          within = omega arith;
+          here = now;
+          quoted = λ other other_is. ap (closing (between other)) here_at ∙ go other other_is (quote == other) refl;
+          not_yet = one_more h.not_yet (is_pending n now);
+        }
+      where
+        go : (other : ℕ) → is_quote other ≡ true → (same : Bool) → (quote == other) ≡ same → closing (between other) (quote ∷ drop (suc start) text) ≡ none
+        go other other_is true e = rw e (ap at_plain h.unquoted)
+        go other other_is false e = rw (e, (quote_byte quote is).1) (h.others other other_is (turned other quote e))
+
+-- the same, where the two places are named
+pub plain_before : (text : List ℕ) (start after n : ℕ) → after ≡ suc start → after ≤ length text → is_plain (get_or text start 0) ≡ true → IsPending text after n → IsPending text start n
+plain_before text start after n next within is h = plain_step text start (omega (arith, next)) n (subst (λ k. IsPending text k n) next h) is
+
+pub closing_before : (text : List ℕ) (start after n : ℕ) → after ≡ suc start → is_closing (get_or text start 0) ≡ true → IsPending text after n → IsPending text start (n + 1)
+closing_before text start after n next is h =
+    let more : suc n ≡ n + 1 = omega arith in
+    let bound = h.within in
+    subst (IsPending text start) more (closing_step text start (omega (arith, next, bound)) n (subst (λ k. IsPending text k n) next h) is)
+
+pub opening_before : (text : List ℕ) (start after n fewer : ℕ) → after ≡ suc start → n ≡ suc fewer → is_opening (get_or text start 0) ≡ true → IsPending text after n
+    → IsPending text start fewer
+opening_before text start after n fewer next size is h =
+    let bound = h.within in
+    opening_step text start (omega (arith, next, bound)) fewer (subst (IsPending text (suc start)) size (subst (λ k. IsPending text k n) next h)) is
+
+pub pending_same : (text : List ℕ) (a b n m : ℕ) → a ≡ b → n ≡ m → IsPending text a n → IsPending text b m
+pending_same text a b n m place size h = subst (IsPending text b) size (subst (λ k. IsPending text k n) place h)
+
+not_equal : (a b : ℕ) → a ≢ b → (a == b) ≡ false
+not_equal a b differ = go (a == b) refl
+  where
+    go : (same : Bool) → (a == b) ≡ same → (a == b) ≡ false
+    go true e = absurd (differ (eqb-true a b e))
+    go false e = e
+
+pub inside_before : (text : List ℕ) (quote start after n : ℕ) → after ≡ suc start → is_quote quote ≡ true → get_or text start 0 ≢ quote → get_or text start 0 ≢ 92
+    → IsQuotedPending quote text after n → IsQuotedPending quote text start n
+inside_before text quote start after n next is differs no_backslash h =
+    let bound = h.within in
+    inside_step text start (omega (arith, next, bound)) quote n is (subst (λ k. IsQuotedPending quote text k n) next h)
+    (not_equal (get_or text start 0) quote differs) (not_equal (get_or text start 0) 92 no_backslash)
+
+pub open_before : (text : List ℕ) (quote start after n : ℕ) → after ≡ suc start → is_quote quote ≡ true → get_or text start 0 ≡ quote → IsQuotedPending quote text after n → IsPending text start n
+open_before text quote start after n next is same h =
+    let bound = h.within in
+    open_step text start (omega (arith, next, bound)) quote n is (subst (λ k. IsQuotedPending quote text k n) next h) same
+
+pub quoted_from : (text : List ℕ) (quote end n : ℕ) → end < length text → is_quote quote ≡ true → get_or text end 0 ≡ quote → IsPending text (suc end) n → IsQuotedPending quote text end n
+quoted_from text quote end n within is same h =
+    subst (λ q. IsQuotedPending q text end n) same (quote_step text end within n h (subst (λ q. is_quote q ≡ true) (sym same) is))
+
+-- a search that found no quote tells that there is no bracket, or nothing
+pub not_found : (text : List ℕ) (n : ℕ) (found : Found) → IsOpeningQuote text n found → ((place : ℕ) → found ≡ At place → ⊥) → IsLastOpening text found
+not_found text n Nowhere h other = h
+not_found text n (At place) h other = absurd (other place refl)
+not_found text n Unclear h other = tt
+
+-- ---- several plain bytes
+
+module _ (text : List ℕ) (start n : ℕ) (h : IsPending text start n) where
+  pub one_back : 1 ≤ start → is_plain (get_or text (start - 1) 0) ≡ true → IsPending text (start - 1) n
+  one_back some first = plain_before text (start - 1) start n (omega arith) h.within first h
+
+  pub two_back : 2 ≤ start → is_plain (get_or text (start - 1) 0) ≡ true → is_plain (get_or text (start - 2) 0) ≡ true → IsPending text (start - 2) n
+  two_back some first second =
+      let before = one_back (omega arith) first in
+      plain_before text (start - 2) (start - 1) n (omega arith) before.within second before
+
+  pub three_back : 3 ≤ start → is_plain (get_or text (start - 1) 0) ≡ true → is_plain (get_or text (start - 2) 0) ≡ true → is_plain (get_or text (start - 3) 0) ≡ true
+      → IsPending text (start - 3) n
+  three_back some first second third =
+      let before = two_back (omega arith) first second in
+      plain_before text (start - 3) (start - 2) n (omega arith) before.within third before
+
+  pub four_back : 4 ≤ start → is_plain (get_or text (start - 1) 0) ≡ true → is_plain (get_or text (start - 2) 0) ≡ true → is_plain (get_or text (start - 3) 0) ≡ true
+      → is_plain (get_or text (start - 4) 0) ≡ true → IsPending text (start - 4) n
+  four_back some first second third fourth =
+      let before = three_back (omega arith) first second third in
+      plain_before text (start - 4) (start - 3) n (omega arith) before.within fourth before
+
+-- ---- the last byte
+
+past_the_end : (text : List ℕ) (k : ℕ) → length text ≤ k → closing outside (drop k text) ≢ opened
+past_the_end text k past = λ e. let nothing : unread ≡ opened = sym (ap (closing outside) (drop_all k text past)) ∙ e in absurd (cc)
+
+ends_dropped : (n : ℕ) (text : List ℕ) → n < length text → ends_closed (drop n text) ≡ ends_closed text
+ends_dropped zero text within = refl
+ends_dropped (suc n) [] within = absurd (omega arith)
+ends_dropped (suc n) (c ∷ []) within = absurd (omega arith)
+ends_dropped (suc n) (c ∷ b ∷ t) within = ends_dropped n (b ∷ t) (omega (arith, within))
+
+last_alone : (text : List ℕ) (last : ℕ) → length text ≡ suc last → drop last text ≡ get_or text last 0 ∷ []
+last_alone text last size = drop-cons text last 0 (omega (arith, size)) ∙ ap (λ t. get_or text last 0 ∷ t) (drop_all (suc last) text (omega (arith, size)))
+
+pub ends_at_last : (text : List ℕ) (last : ℕ) → length text ≡ suc last → ends_closed text ≡ is_closing (get_or text last 0)
+ends_at_last text last size = sym (ends_dropped last text (omega (arith, size))) ∙ ap ends_closed (last_alone text last size)
+
+-- a closing bracket at the end is pending
+pub pending_at_last : (text : List ℕ) (last : ℕ) → length text ≡ suc last → is_closing (get_or text last 0) ≡ true → IsPending text last zero
+pending_at_last text last size is =
+    let other = closing_byte (get_or text last 0) is in
+    let at = last_alone text last size in
+    let now : closing outside (drop last text) ≡ pending zero = ap (closing outside) at ∙ rw (other.0.no_quote, other.1, is) refl in
+    record {
+      within = omega (arith, size);
+      here = now;
+      quoted = λ quote quote_is. ap (closing (between quote)) at ∙ between_stays (get_or text last 0) quote [] other.0 quote_is;
+      not_yet = one_more text last (omega (arith, size)) (λ k past. past_the_end text k (omega (arith, size, past))) (is_pending text last (omega (arith, size)) zero now);
+    }
+
+-- a text that doesn't end with a closing bracket closes none
+never_opens : (place : Place) (c : ℕ) (t : List ℕ) → ends_closed (c ∷ t) ≡ false → closing place (c ∷ t) ≡ none
+never_opens outside c [] h = go (is_quote c) (is_opening c) (is_closing c) h
+  where
+    go : (quote opens closes : Bool) → closes ≡ false → cond quote none (cond opens none (cond closes (pending zero) none)) ≡ none
+    go true opens closes e = refl
+    go false true closes e = refl
+    go false false true e = absurd (cc)
+    go false false false e = refl
+never_opens outside c (b ∷ t) h = none_outside c (b ∷ t) (never_opens outside b t h) (λ is. never_opens (between c) b t h)
+never_opens (between quote) c [] h = go (c == quote) (c == 92)
+  where
+    go : (closes escapes : Bool) → cond closes none (cond escapes none none) ≡ none
+    go true escapes = refl
+    go false true = refl
+    go false false = refl
+never_opens (between quote) c (b ∷ t) h = go (c == quote) (c == 92) (never_opens outside b t h) (never_opens (after_backslash quote) b t h) (never_opens (between quote) b t h)
+  where
+    go : (closes escapes : Bool) → closing outside (b ∷ t) ≡ none → closing (after_backslash quote) (b ∷ t) ≡ none → closing (between quote) (b ∷ t) ≡ none
+        → cond closes (at_plain (closing outside (b ∷ t))) (cond escapes (closing (after_backslash quote) (b ∷ t)) (closing (between quote) (b ∷ t))) ≡ none
+    go true escapes x y z = ap at_plain x
+    go false true x y z = y
+    go false false x y z = z
+never_opens (after_backslash quote) c [] h = refl
+never_opens (after_backslash quote) c (b ∷ t) h = never_opens (between quote) b t h
+
+none_opens : (t : List ℕ) → ends_closed t ≡ false → closing outside t ≢ opened
+none_opens [] h = λ e. absurd (cc)
+none_opens (c ∷ t) h = λ e. let same = sym (never_opens outside c t h) ∙ e in absurd (cc)
+
+pub not_closed : (text : List ℕ) → ends_closed text ≡ false → NotFrom text 0
+not_closed text h = λ k from. go k (cases_lt k (length text))
+  where
+    go : (k : ℕ) → (k < length text) ⊎ (length text ≤ k) → closing outside (drop k text) ≢ opened
+    go k (inl within) = none_opens (drop k text) (ends_dropped k text within ∙ h)
+    go k (inr past) = past_the_end text k past
+
+-- ---- where texts begin
+
+past_by : (f : Closing → Closing) → f opened ≡ opened → f none ≡ none → (known : Closing) → IsPast known → IsPast (f known)
+past_by f same absent known (inl is) = inl (ap f is ∙ same)
+past_by f same absent known (inr is) = inr (ap f is ∙ absent)
+
+record AllPast (t : List ℕ) : Type 0 where
+  pub unquoted : IsPast (closing outside t)
+  pub quoted : (quote : ℕ) → is_quote quote ≡ true → IsPast (closing (between quote) t)
+  pub escaped : (quote : ℕ) → is_quote quote ≡ true → IsPast (closing (after_backslash quote) t)
+
+past_step : (c : ℕ) (t : List ℕ) → AllPast t → AllPast (c ∷ t)
+past_step c t h = record {
+  unquoted = out (is_quote c) (is_opening c) (is_closing c) refl;
+  quoted = λ quote is. between_quotes quote is (c == quote) (c == 92);
+  escaped = h.quoted;
+}
+  where
+    out : (quote opens closes : Bool) → is_quote c ≡ quote
+        → IsPast (cond quote (closing (between c) t) (cond opens (at_opening (closing outside t)) (cond closes (at_closing (closing outside t)) (at_plain (closing outside t)))))
+    out true opens closes is = h.quoted c is
+    out false true closes is = past_by at_opening refl refl (closing outside t) h.unquoted
+    out false false true is = past_by at_closing refl refl (closing outside t) h.unquoted
+    out false false false is = past_by at_plain refl refl (closing outside t) h.unquoted
+
+    between_quotes : (quote : ℕ) → is_quote quote ≡ true → (closes escapes : Bool)
+        → IsPast (cond closes (at_plain (closing outside t)) (cond escapes (closing (after_backslash quote) t) (closing (between quote) t)))
+    between_quotes quote is true escapes = past_by at_plain refl refl (closing outside t) h.unquoted
+    between_quotes quote is false true = h.escaped quote is
+    between_quotes quote is false false = h.quoted quote is
+
+past_front : (front t : List ℕ) → AllPast t → AllPast (front ++ t)
+past_front [] t h = h
+past_front (c ∷ front) t h = past_step c (front ++ t) (past_front front t h)
+
+past_at : (text : List ℕ) (place : ℕ) → OpensAt text place → AllPast (drop place text)
+past_at text place h =
+    let at = drop-cons text place 0 h.within in
+    let c = get_or text place 0 in
+    let t = drop (suc place) text in
+    record {
+      unquoted = inl (ap (closing outside) at ∙ at_opening_byte c t h.is ∙ ap at_opening h.later.here);
+      quoted = λ quote is. inr (ap (closing (between quote)) at ∙ between_stays c quote t (opening_byte c h.is) is ∙ h.later.quoted quote is);
+      escaped = λ quote is. inr (ap (closing (after_backslash quote)) at ∙ h.later.quoted quote is);
+    }
+
+past_before : (text : List ℕ) (place k : ℕ) → OpensAt text place → k ≤ place → IsPast (closing outside (drop k text))
+past_before text place k h before =
+    let all : k + (place - k) ≡ place = omega (arith, before) in
+    let rest : drop (place - k) (drop k text) ≡ drop place text = drop-drop (place - k) k text ∙ ap (λ n. drop n text) all in
+    let whole : take (place - k) (drop k text) ++ drop place text ≡ drop k text = ap (λ t. take (place - k) (drop k text) ++ t) (sym rest) ∙ take-append-drop (place - k) (drop k text) in
+    subst (λ t. IsPast (closing outside t)) whole (past_front (take (place - k) (drop k text)) (drop place text) (past_at text place h)).unquoted
+
+-- a text with a block begins here, and its bracket is at `place`
+record BlockFrom (text : List ℕ) (start place : ℕ) : Type 0 where
+  pub order : start ≤ place
+  pub read : closing outside (drop place text) ≡ opened
+  pub later : closing outside (drop (suc place) text) ≡ pending zero
+  pub one_gap : gaps_between text start place ≤ 1
+
+block_from : (text : List ℕ) (start : ℕ) → HasBlock (drop start text) → (place : ℕ) × BlockFrom text start place
+block_from text start h =
+    let size = length h.front in
+    let inner = h.bracket ∷ h.body in
+    let at : drop (start + size) text ≡ inner = sym (drop-drop size start text) ∙ ap (drop size) h.is ∙ drop-append_seam h.front inner in
+    let one : suc (start + size) ≡ (start + size) + 1 = omega arith in
+    let next : drop (suc (start + size)) text ≡ h.body = ap (λ n. drop n text) one ∙ sym (drop-drop 1 (start + size) text) ∙ ap (drop 1) at in
+    let body : closing outside h.body ≡ pending zero = ap (closing outside) (sym (append-nil h.body)) ∙ h.closes zero [] refl in
+    let back : (start + size) - start ≡ size = omega arith in
+    let front : take ((start + size) - start) (drop start text) ≡ h.front =
+    ap (λ n. take n (drop start text)) back ∙ ap (take size) h.is ∙ take-append_seam h.front inner in (
+      start + size,
+      record {
+        order = omega arith;
+        read = ap (closing outside) at ∙ at_opening_byte h.bracket h.body h.opens ∙ ap at_opening body;
+        later = ap (closing outside) next ∙ body;
+        one_gap = subst (λ t. gaps t ≤ 1) (sym front) h.one_gap;
+      },
+    )
+
+-- a leaf doesn't end with a closing bracket
+abbrev IsQuotePlace : Place → Type 0
+IsQuotePlace outside = ⊤
+IsQuotePlace (between quote) = is_quote quote ≡ true
+IsQuotePlace (after_backslash quote) = is_quote quote ≡ true
+
+-- a byte of a leaf leads to such a place, and is no closing bracket if the leaf may end after it
+record LeafStep (c : ℕ) (next : Place) : Type 0 where
+  pub place : IsQuotePlace next
+  pub no_closing : next ≡ outside → is_closing c ≡ false
+
+leaf_step : (place : Place) (c : ℕ) (t : List ℕ) (next : Place) → IsQuotePlace place → place_after place c t ≡ Some next → LeafStep c next
+leaf_step outside c t next good e = go (is_debug_byte c || c == 58 && leads_on t) (is_quote c) refl refl e
+  where
+    go : (word quote : Bool) → (is_debug_byte c || c == 58 && leads_on t) ≡ word → is_quote c ≡ quote
+        → cond word (Some outside) (cond quote (Some (between c)) None) ≡ Some next → LeafStep c next
+    go true quote word_is quote_is f =
+        let same : outside ≡ next = cc in
+        subst (LeafStep c) same (record { place = tt; no_closing = λ is. (word_byte c t word_is).no_closing })
+    go false true word_is quote_is f =
+        let same : between c ≡ next = cc in
+        subst (LeafStep c) same (record { place = quote_is; no_closing = λ is. absurd (cc) })
+    go false false word_is quote_is f = absurd (cc)
+leaf_step (between quote) c t next good e = go (is_control c) (c == quote) (c == 92) refl e
+  where
+    go : (control closes escapes : Bool) → (c == quote) ≡ closes
+        → cond control None (cond closes (Some outside) (cond escapes (Some (after_backslash quote)) (Some (between quote)))) ≡ Some next → LeafStep c next
+    go true closes escapes closes_is f = absurd (cc)
+    go false true escapes closes_is f =
+        let same : outside ≡ next = cc in
+        let quote_is : quote ≡ c = sym (eqb-true c quote closes_is) in
+        subst (LeafStep c) same (record { place = tt; no_closing = λ is. (quote_byte c (subst (λ q. is_quote q ≡ true) quote_is good)).0 })
+    go false false true closes_is f =
+        let same : after_backslash quote ≡ next = cc in
+        subst (LeafStep c) same (record { place = good; no_closing = λ is. absurd (cc) })
+    go false false false closes_is f =
+        let same : between quote ≡ next = cc in
+        subst (LeafStep c) same (record { place = good; no_closing = λ is. absurd (cc) })
+leaf_step (after_backslash quote) c t next good e = go (is_control c || nat_le 128 c) e
+  where
+    go : (wrong : Bool) → cond wrong None (Some (between quote)) ≡ Some next → LeafStep c next
+    go true f = absurd (cc)
+    go false f =
+        let same : between quote ≡ next = cc in
+        subst (LeafStep c) same (record { place = good; no_closing = λ is. absurd (cc) })
+
+leaf_ends : (place : Place) (w : List ℕ) → IsQuotePlace place → EndsLeaf place w → ends_closed w ≡ false
+leaf_ends place [] good h = refl
+leaf_ends place (c ∷ []) good h = (leaf_step place c [] h.0 good h.1).no_closing h.2
+leaf_ends place (c ∷ b ∷ w) good h = leaf_ends h.0 (b ∷ w) (leaf_step place c (b ∷ w) h.0 good h.1).place h.2
+
+-- a text that is converted is the same in both modes and no closing bracket ends it, or it has a block
+converted_shape : (mode : Mode) (text other : List ℕ) → converted mode text ≡ Some other → ((other ≡ text) × (ends_closed text ≡ false)) ⊎ HasBlock text
+converted_shape mode text other h =
+    let found = is_converted mode text other h in
+    let d = found.some.0 in
+    let s = setting (other_mode mode) 0 in
+    let to : layout (setting mode 0) d ≡ other = found.each d found.some.1 found.some.2 in
+    elim (document_shape (setting mode 0) s d found.some.1.0) [
+      | inl leaf ↦ inl (sym to ∙ leaf.0 ∙ found.some.2, subst (λ t. ends_closed t ≡ false) found.some.2 (leaf_ends outside (layout s d) tt leaf.1.pieces))
+      | inr block ↦ inr (subst HasBlock found.some.2 block)
+    ]
+
+-- if no bracket is closed by the last byte, what is converted stays the same
+pub nothing_changes : (mode : Mode) (text : List ℕ) → NotFrom text 0 → (k : ℕ) (other : List ℕ) → converted mode (drop k text) ≡ Some other → other ≡ drop k text
+nothing_changes mode text never k other h = elim (converted_shape mode (drop k text) other h) [
+  | inl leaf ↦ leaf.0
+  | inr block ↦ let found = block_from text k block in absurd (never found.0 (omega arith) found.1.read)
+]
+
+-- if one is, each text begins before it or at it, with one gap at most in between
+pub begins_near : (mode : Mode) (text : List ℕ) (place k : ℕ) (other : List ℕ) → OpensAt text place → converted mode (drop k text) ≡ Some other → (k ≤ place) × (gaps_between text k place ≤ 1)
+begins_near mode text place k other h is = elim (converted_shape mode (drop k text) other is) [
+  | inl leaf ↦ absurd (whole (cases_lt k (length text)) leaf.1)
+  | inr block ↦ let found = block_from text k block in near found.0 found.1 (cases_lt found.0 place) (cases_lt place found.0)
+]
+  where
+    whole : (k < length text) ⊎ (length text ≤ k) → ends_closed (drop k text) ≡ false → ⊥
+    whole (inl within) e = true≢false (sym h.ends ∙ sym (ends_dropped k text within) ∙ e)
+    whole (inr past) e = let none = nothing_is_no_text mode in absurd (some_is_none (sym is ∙ ap (converted mode) (drop_all k text past) ∙ none))
+
+    near : (at : ℕ) → BlockFrom text k at → (at < place) ⊎ (place ≤ at) → (place < at) ⊎ (at ≤ place) → (k ≤ place) × (gaps_between text k place ≤ 1)
+    near at found (inl before) below = absurd (never_both (past_before text place (suc at) h (omega arith)) found.later)
+    near at found (inr from) (inl after) = absurd (h.later.not_yet at (omega arith) found.read)
+    near at found (inr from) (inr upto) =
+        let same : at ≡ place = omega arith in
+        subst (λ n. (k ≤ n) × (gaps_between text k n ≤ 1)) same (found.order, found.one_gap)
+
+option_none : {A : Type 0} (o : Option A) → ((x : A) → o ≡ Some x → ⊥) → o ≡ None
+option_none None h = refl
+option_none (Some x) h = absurd (h x refl)
+
+-- no text begins where two gaps or more are before the bracket
+pub none_before_gaps : (mode : Mode) (text : List ℕ) (place low : ℕ) → OpensAt text place → ((at : ℕ) → at < low → 2 ≤ gaps_between text at place) → NoneBefore mode text low
+none_before_gaps mode text place low h many = λ at less. option_none (converted mode (drop at text)) (λ other is.
+    let near = begins_near mode text place at other h is in
+    let gaps = many at less in
+    absurd (omega (arith, near, gaps)))
+
+-- nor after the bracket
+pub none_after : (mode : Mode) (text : List ℕ) (place : ℕ) → OpensAt text place → SameFrom mode text (place + 1)
+none_after mode text place h = λ at from other is.
+    let near = begins_near mode text place at other h is in
+    absurd (omega (arith, near, from))
+
+-- nor at the end
+pub none_at_end : (mode : Mode) (text : List ℕ) → SameFrom mode text (length text)
+none_at_end mode text = λ at from other is. absurd (some_is_none (sym is ∙ ap (converted mode) (drop_all at text from) ∙ nothing_is_no_text mode))

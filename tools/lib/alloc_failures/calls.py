@@ -1,0 +1,134 @@
+"""Refuses each allocation of ufmt_alloc_failures, which makes each call of the library.
+
+Its input says how many allocations it makes before the calls. With fewer of them, one fixed number refuses a later allocation
+of the calls. So one build serves all runs. After the calls the program makes one more allocation. When that is refused, each
+allocation of the calls has been refused.
+
+A run refuses one allocation, and the line of one call says so. The number of runs in which a call's line says so must be the
+number of allocations in that line. Before a call without allocations the program makes one of its own, which counts for that
+line. If no line of a run says so, a call made the allocation in secret, and the fault names the lines before and after it.
+"""
+import re
+
+import tried
+
+# The allocation that is refused in each run. The calls make fewer.
+REFUSED = 600
+# After so many faults the other runs aren't judged: a call that is always wrong is a fault of each run.
+MOST_FAULTS = 10
+AMPLE = re.compile(r": as with ample memory, (\d+) allocations.*$")
+LEFT = re.compile(r'is_pretty=false depth=0 text="(.*)"$')
+
+# The pieces of a node's text, in the order in which they are passed to a writer. A line feed is \n, as it is printed.
+INDENT = "    "
+PIECES = {
+    "plain": ["Node", " {", " ", "value", ": ", "1", ", ", "next", ": ", "Some", "(", "Node", " {", " ", "value", ": ", "0", ", ", "next", ": ", "None",
+              " ", "}", ")", " ", "}"],
+    "pretty": ["Node", " {", "\\n", INDENT, "value", ": ", "1", ",\\n", INDENT, "next", ": ", "Some", "(", "\\n", INDENT, INDENT, "Node", " {", "\\n",
+               INDENT, INDENT, INDENT, "value", ": ", "0", ",\\n", INDENT, INDENT, INDENT, "next", ": ", "None", ",\\n", INDENT, INDENT, "}", ",\\n",
+               INDENT, ")", ",\\n", "}"],
+}
+
+
+class Calls:
+    """What the runs showed so far. Lines are counted from 0."""
+
+    def __init__(self, crate):
+        self.crate = crate
+        self.ample = (crate / "stdout").read_text().splitlines()
+        self.faults = []
+        self.runs = self.refusals = self.secret = 0
+        # In how many runs each line says that memory was refused, and the last line that said so.
+        self.refused = [0] * len(self.ample)
+        self.last = None
+        # How many allocations the calls made.
+        self.made = None
+        # The text that was last left in each mode. Each later refusal leaves a longer one.
+        self.left = {}
+
+    def name(self, index):
+        return "the run before any call" if index is None else AMPLE.sub("", self.ample[index])
+
+    def judge_left(self, mode, left):
+        """Judges what a failed fmt left: a text, a mode and a depth."""
+        found = LEFT.match(left)
+        if not found:
+            self.faults.append("a refused fmt, %s, left %s" % (mode, left))
+            return
+        text = found.group(1)
+        if text not in ["".join(PIECES[mode][:count]) for count in range(len(PIECES[mode]) + 1)]:
+            self.faults.append("a refused fmt, %s, left a text that ends within a piece: %s" % (mode, text))
+        if mode in self.left and len(text) <= len(self.left[mode]):
+            self.faults.append("a later refusal of fmt, %s, left no longer text: %s" % (mode, text))
+        self.left[mode] = text
+
+    def meets(self, index, line):
+        """Judges a line that differs from the one with ample memory, and returns whether it says that memory was refused."""
+        prefix = AMPLE.sub(r": want of memory, \1 allocations", self.ample[index])
+        if line.startswith(prefix + "; "):
+            self.judge_left(re.match(r"fmt of a node, ([a-z]*): ", line).group(1), line.split("; ", 1)[1])
+        elif line != prefix:
+            self.faults.append("%s, where ample memory has %s" % (line, self.ample[index]))
+            return False
+        return True
+
+    def judge_run(self, output):
+        """Judges a run: only the refused call's line differs from those with ample memory."""
+        lines = output.decode(errors="replace").splitlines()
+        met = 0
+        self.runs += 1
+        if len(lines) != len(self.ample):
+            self.faults.append("a run wrote another number of lines: %s" % lines[:1])
+        for index, (line, ample) in enumerate(zip(lines, self.ample)):
+            if line == ample:
+                continue
+            met += self.meets(index, line)
+            self.refused[index] += 1
+            if self.secret:
+                self.faults.append("no line says that one of %d allocations was refused, which were made after the last one of '%s' and before the first one of '%s'" % (
+                    self.secret, self.name(self.last), self.name(index)))
+                self.secret = 0
+            self.last = index
+        self.refusals += met
+        self.secret += met == 0
+        if met > 1:
+            self.faults.append("one refusal was met by %d calls" % met)
+
+    def judge_counts(self, end):
+        """Compares the number in each line before this one with the runs in which it said that memory was refused."""
+        for index in range(end):
+            said = int(AMPLE.search(self.ample[index]).group(1))
+            count = self.refused[index] - (said == 0)  # Without allocations, the program's own one.
+            if said != count:
+                self.faults.append("%s: %d allocations, and its line says %d" % (self.name(index), count, said))
+
+    def judge(self, outputs, errors):
+        if " ended=%d fault=0 " % (REFUSED + 1) not in errors:
+            self.faults.append("not each run of ufmt_alloc_failures ended: %s" % errors.splitlines()[-1:])
+            return
+        if outputs["0"] != b"refused before the calls\n":
+            self.faults.append("the last allocation before the calls is not the one that was refused: %s" % outputs["0"][:80])
+        for number in range(1, REFUSED + 1):
+            self.judge_run(outputs[str(number)])
+            if len(self.faults) >= MOST_FAULTS:
+                self.faults.append("the runs of ufmt_alloc_failures after number %d are not judged" % number)
+                return
+            if self.last == len(self.ample) - 1:
+                self.refusals -= 1
+                self.made = number - 1
+                self.judge_counts(len(self.ample))
+                return
+        self.faults.append("no run refused the allocation after the calls: they make more than %d. The last that a line shows is of '%s'" % (REFUSED, self.name(self.last)))
+        self.judge_counts(self.last or 0)
+
+
+def tried_calls(crate, room):
+    """Runs the program once for each number. The name of a case is the number of the refused allocation of the calls. Its input
+    has the number of allocations before the calls."""
+    cases = room / "calls"
+    cases.mkdir()
+    for number in range(REFUSED + 1):
+        (cases / str(number)).write_text("%d\n" % (REFUSED - number))
+    calls = Calls(crate)
+    calls.judge(*tried.run(crate, REFUSED, cases))
+    return calls

@@ -1,0 +1,14 @@
+"""Counts instructions with valgrind."""
+import re
+import subprocess
+import sys
+
+
+def counted(words, text=b""):
+    """How many instructions a run takes on this input, and what it prints."""
+    valgrind = ["valgrind", "--tool=cachegrind", "--cache-sim=no", "--cachegrind-out-file=/dev/null"]
+    ran = subprocess.run(valgrind + [str(word) for word in words], input=text, stdout=subprocess.PIPE, stderr=subprocess.PIPE)
+    found = re.search(rb"I\s+refs:\s+([\d,]+)", ran.stderr)
+    if ran.returncode or not found:
+        sys.exit("tools/bench: valgrind can't count: " + ran.stderr.decode(errors="replace")[-500:])
+    return int(found.group(1).replace(b",", b"")), ran.stdout.strip()

@@ -1,0 +1,184 @@
+"""How many bytes of stack the functions of a program take at most, from its machine code.
+
+LLVM moves the stack pointer only at the beginning and the end of a function, by an amount that the code states. So a call
+takes eight bytes for the return address, the function's frame, and what its own calls take. The most that a call takes on any
+input is the heaviest path through the calls. A path goes through no function twice: what a turn of a cycle adds is counted
+apart, as the bytes of a level. A function without calls may also use bytes below its frame, and these are counted. What is
+outside of the program, as the C library, isn't counted. Code that moves the stack pointer in another way, or that calls
+through a pointer, ends the run: then nothing is known.
+"""
+import re
+import subprocess
+import sys
+from typing import NamedTuple
+
+RETURN_ADDRESS = 8
+MOVES = re.compile(r"(sub|add)\s+\$(-?)0x([0-9a-f]+),%rsp$")
+# What else writes the stack pointer or loops until it has a value, as the code for a frame of many pages does.
+WRITES_POINTER = re.compile(r"[a-z]+\s.*,%rsp$|enter\b")
+BELOW = re.compile(r"-0x([0-9a-f]+)\(%rsp")
+GOES = re.compile(r"(call|j\w+)\s+([0-9a-f]+) <(.*)>$")
+
+
+class Most(NamedTuple):
+    """The bytes that a call takes at most, the most that one more level of it adds, and the functions of the heaviest path."""
+
+    size: int
+    level: int
+    path: tuple
+
+
+class Frame(NamedTuple):
+    """The size of a function's frame, and with what it uses below it; the functions that it calls or continues as; the line
+    for which its stack isn't known."""
+
+    size: int
+    whole: int
+    calls: frozenset
+    jumps: frozenset
+    unknown: str
+
+
+def said(words):
+    return subprocess.run([str(word) for word in words], stdout=subprocess.PIPE, text=True, check=True).stdout
+
+
+def symbols(program):
+    """The address of each function, by its name."""
+    found = {}
+    for line in said(["nm", program]).splitlines():
+        parts = line.split(" ", 2)
+        if len(parts) == 3 and parts[1] in "tTwW" and parts[0]:
+            found[parts[2]] = int(parts[0], 16)
+    return found
+
+
+def code(program):
+    """The lines of each function, by its address, and the name that stands there."""
+    lines, names, current = {}, {}, None
+    for line in said(["objdump", "-d", "--no-show-raw-insn", program]).splitlines():
+        begun = re.match(r"([0-9a-f]+) <(.*)>:$", line)
+        if begun:
+            current = int(begun.group(1), 16)
+            lines[current], names[current] = [], begun.group(2)
+        elif current is not None and "\t" in line:
+            lines[current].append(line.split("\t", 1)[1].strip())
+    return lines, names
+
+
+def frame(lines, starts, own):
+    """A function's frame. A jump to where another function begins is a call that takes this one's place."""
+    size, below, calls, jumps, unknown = 0, 0, set(), set(), ""
+    for line in lines:
+        moved = MOVES.match(line)
+        if re.match(r"push\w*\s", line):
+            size += 8
+        elif moved:
+            is_down = (moved.group(1) == "sub") != bool(moved.group(2))
+            size += int(moved.group(3), 16) if is_down else 0
+        elif WRITES_POINTER.match(line):
+            unknown = line
+        elif re.match(r"call\s+\*", line):
+            unknown = line
+        used = BELOW.search(line)
+        if used:
+            below = max(below, int(used.group(1), 16))
+        gone = GOES.match(line)
+        if gone:
+            target = int(gone.group(2), 16)
+            if gone.group(1) == "call":
+                calls.add(target)
+            elif target in starts and target != own:
+                jumps.add(target)
+    return Frame(size, size + below, frozenset(calls), frozenset(jumps), unknown)
+
+
+class Frames:
+    """The frames of a program's functions."""
+
+    def __init__(self, program):
+        self.program = program
+        lines, self.names = code(program)
+        self.frames = {start: frame(its, lines, start) for start, its in lines.items() if not self.is_outside(start)}
+        self.addresses = symbols(program)
+        self.known = {}
+        self.group = self.groups()
+
+    def is_outside(self, start):
+        return self.names[start].endswith("@plt")
+
+    def next_of(self, start):
+        """What a function calls or continues as, each with the bytes before it."""
+        its = self.frames.get(start)
+        if not its:
+            return
+        if its.unknown:
+            sys.exit("the stack of %s isn't known: %s" % (self.names[start], its.unknown))
+        for target in its.calls:
+            yield target, its.size + RETURN_ADDRESS
+        for target in its.jumps - its.calls:
+            yield target, 0
+
+    def groups(self):
+        """For each function the functions that it is in a cycle with, itself among them, by Tarjan's algorithm."""
+        index, low, stack, found = {}, {}, [], {}
+        for root in self.frames:
+            if root in index:
+                continue
+            index[root] = low[root] = len(index)
+            stack.append(root)
+            work = [(root, iter(self.callees(root)))]
+            while work:
+                start, left = work[-1]
+                for target in left:
+                    if target not in index:
+                        index[target] = low[target] = len(index)
+                        stack.append(target)
+                        work.append((target, iter(self.callees(target))))
+                        break
+                    if target not in found:
+                        low[start] = min(low[start], index[target])
+                else:
+                    work.pop()
+                    if work:
+                        low[work[-1][0]] = min(low[work[-1][0]], low[start])
+                    if low[start] == index[start]:
+                        group = frozenset(stack[stack.index(start):])
+                        del stack[stack.index(start):]
+                        found.update((it, group) for it in group)
+        return found
+
+    def callees(self, start):
+        its = self.frames.get(start)
+        return (its.calls | its.jumps) & self.frames.keys() if its else ()
+
+    def most(self, name):
+        """What a call of the function with this name takes at most, with its return address."""
+        most = self.most_at(self.addresses[name])
+        return most._replace(size=most.size + RETURN_ADDRESS)
+
+    def most_at(self, start):
+        """What the function takes at most. Within a cycle's functions each path is gone that comes to none twice."""
+        if start not in self.frames:
+            return Most(0, 0, ())
+        if start not in self.known:
+            self.known[start] = self.walked(start, start, 0, (start,))
+        return self.known[start]
+
+    def walked(self, root, start, before, path):
+        """The most from here on, of a path that began at the root with so many bytes before this function."""
+        group = self.group[root]
+        best = Most(before + self.frames[start].whole, 0, tuple(self.names[it] for it in path))
+        level = 0
+        for target, cost in self.next_of(start):
+            if target in group:
+                if target in path:
+                    level = max(level, before + cost if target == root else 0)
+                    continue
+                found = self.walked(root, target, before + cost, path + (target,))
+            else:
+                below = self.most_at(target)
+                found = Most(before + cost + below.size, below.level, tuple(self.names[it] for it in path) + below.path)
+            level = max(level, found.level)
+            best = max(best, found, key=lambda it: it.size)
+        return Most(best.size, level, best.path)

@@ -1,0 +1,40 @@
+"""Instructions for each byte of a text that is converted, read or printed."""
+import sys
+
+import build
+import values
+from counter import counted
+
+SIZE = 1 << 20
+# A call, the run without it, and its text.
+ROWS = (
+    ("to_pretty", "none", "numbers, plain"), ("to_pretty", "none", "texts, plain"),
+    ("to_plain", "none", "numbers, pretty"), ("to_plain", "none", "texts, pretty"),
+    ("read_plain", "none", "numbers, plain"), ("read_plain", "none", "texts, plain"), ("read_pretty", "none", "numbers, pretty"),
+    ("read_and_drop_plain", "none", "numbers, plain"),
+    ("print", "own", "ASCII"), ("print", "own", "escapes"), ("print", "own", "accents"), ("print", "own", "four bytes each"),
+)
+UNITS = {"ASCII": "All work and no play. ", "escapes": 'a\tb "c" d\\e\n', "accents": "été, où ça? ", "four bytes each": "\U0001F980\U0001F600 ok "}
+
+
+def texts():
+    """Each text by its name."""
+    made = {name: (unit * (SIZE // len(unit.encode()))).encode() for name, unit in UNITS.items()}
+    for name, make in (("numbers", values.wide), ("texts", values.of_texts)):
+        listed = values.many(make, SIZE)
+        for mode in ("plain", "pretty"):
+            made["%s, %s" % (name, mode)] = values.FORMATS[mode](listed).encode()
+    return made
+
+
+def table(top, room):
+    program = build.over_copies(top, room, "texts", ["ufmt_doc"])
+    made = texts()
+    print("%-22s %-18s %8s" % ("instructions", "text", "a byte"))
+    for call, base, name in ROWS:
+        text = made[name]
+        cost, said = counted([program, call], text)
+        if said == b"0":
+            sys.exit("tools/bench: %s refuses the text of %s" % (call, name))
+        print("%-22s %-18s %8.1f" % (call, name, (cost - counted([program, base], text)[0]) / len(text)), flush=True)
+    return 0

@@ -1,0 +1,62 @@
+"""Bytes of stack that calls take at most."""
+import sys
+
+import build
+import frames
+from stack_bounds import CALLS
+
+# What a call does, and its function. Further functions do the same for a value that is one struct deeper each: what they take
+# more is what a level takes.
+WITHOUT_MEMORY = (
+    ("print an i32", "number"), ("print an i128", "long_number"), ("print a text", "text"),
+    ("print a struct, plain", "struct"), ("print a struct, pretty", "struct_pretty", "struct_two", "struct_three", "struct_four"),
+    ("print a struct of eight fields", "kinds_pretty"), ("print a struct, cut", "struct_cut"),
+    ("print a struct by Small", "struct_small"), ("print a line", "line"), ("print a column", "column"), ("dump bytes", "dump"),
+    ("parse a number", "parse_number"), ("parse a struct, plain", "parse_struct"),
+    ("parse a struct, pretty", "parse_struct_pretty", "parse_two", "parse_three", "parse_four"),
+)
+ON_TEXTS = (
+    ("is_text", "is_text"), ("is_debug_text", "is_debug_text"), ("to_pretty_into", "to_pretty_into"),
+    ("to_plain_into", "to_plain_into"), ("first_difference", "first_difference"), ("compare_pretty", "compare_pretty"),
+    ("print a struct to a String", "struct_to_string"), ("print a map to a String", "map_to_string"),
+    ("parse a list of numbers", "parse_list"), ("parse a map", "parse_map"), ("parse a Tree", "parse_tree"),
+    ("parse a Node", "parse_node"), ("print a Tree", "tree_to_string"), ("drop a Tree", "drop_tree"),
+    ("read_plain", "read_plain"), ("read_field", "read_field"), ("print a Doc", "doc_to_string"), ("drop a Doc", "drop_doc"),
+)
+# A program, the library that it is over, and its calls.
+PROGRAMS = (("stack_values", "ufmt_parse", WITHOUT_MEMORY), ("stack_texts", "ufmt_examples", ON_TEXTS))
+
+
+class Row:
+    """What a call takes at most, and a level more of it."""
+
+    def __init__(self, told, known, names):
+        found = [known.most("case_" + name) for name in names]
+        sizes = [most.size for most in found]
+        self.told = told
+        self.name = names[0]
+        self.size = sizes[0]
+        self.level = max([found[0].level] + [more - less for less, more in zip(sizes, sizes[1:])])
+
+
+def rows(top, room, programs):
+    """A row for each call, program after program."""
+    for name, library, calls in programs:
+        (room / name).mkdir()
+        known = frames.Frames(build.over_copies(top, room / name, name, [library]))
+        for told, *names in calls:
+            yield Row(told, known, names)
+
+
+def table(top, room, is_check):
+    """A line for each call. A check builds only the calls without memory, which takes seconds, and tells which are past their
+    bounds. Its result is the status."""
+    print("%-32s %8s %14s" % ("bytes of stack", "at most", "a level more"))
+    past = []
+    for row in rows(top, room, PROGRAMS[:1] if is_check else PROGRAMS):
+        print("%-32s %8d %14s" % (row.told, row.size, row.level or "-"), flush=True)
+        size, level = CALLS[row.name]
+        if row.size > size or row.level > level:
+            past.append("fault: %s: at most %d bytes of stack, and %d a level, are allowed" % (row.told, size, level))
+    print("\n".join(past) if past else "each is within its bound")
+    return 1 if past else 0

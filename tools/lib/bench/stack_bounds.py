@@ -1,0 +1,20 @@
+"""The most bytes of stack that may be taken: by a call of `tools/bench stack`, and by a level more of it; and by a built program.
+
+Each bound is what was found, and an eighth more, or four registers where that is more, up to a whole 16 bytes: a proved build
+and another LLVM inline other calls, which moves a frame by some registers that are kept. A frame that holds an array more,
+or a call that is inlined into one that recurses, is past it.
+"""
+
+# By its name in tools/lib/bench/stack.py: at most, and a level more.
+CALLS = {
+    "number": (64, 0), "long_number": (208, 0), "text": (160, 0), "struct": (192, 0), "struct_pretty": (192, 96),
+    "kinds_pretty": (320, 0), "struct_cut": (240, 0), "struct_small": (224, 0), "line": (272, 0), "column": (208, 0),
+    "dump": (480, 0), "parse_number": (48, 0), "parse_struct": (80, 0), "parse_struct_pretty": (128, 80),
+    "is_text": (720, 0), "is_debug_text": (720, 0), "to_pretty_into": (720, 0), "to_plain_into": (704, 0),
+    "first_difference": (480, 0), "compare_pretty": (864, 0), "struct_to_string": (272, 0), "map_to_string": (352, 0),
+    "parse_list": (176, 0), "parse_map": (1088, 208), "parse_tree": (1264, 896), "parse_node": (432, 256),
+    "tree_to_string": (320, 176), "drop_tree": (160, 112), "read_plain": (6464, 256), "read_field": (6800, 256),
+    "doc_to_string": (304, 208), "drop_doc": (336, 256),
+}
+# By its name: at most, and a level more. Those of ufmt_against_model were measured by runs.
+PROGRAMS = {"ufmt_conv": (12864, 0), "ufmt_lines": (12576, 0), "ufmt_against_model": (16384, 1200)}
