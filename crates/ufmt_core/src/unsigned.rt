@@ -139,12 +139,15 @@ fn write_by_one(n: u64, buffer: &mut [u8]) -> usize
 {
     let mut start = buffer.len();
     let mut left = n;
-    while left >= 10 {
+    'digits: loop {
         start -= 1;
         buffer[start] = b'0' + (left % 10) as u8;
         left /= 10;
+        // Tested here, the last digit is stored by the same code as those before it.
+        if left == 0 {
+            return start;
+        }
     }
-    write_first(left as u32, buffer, start)
 }
 
 // Writes sixteen digits, with zeros before a shorter number. So do the calls for eight and four.

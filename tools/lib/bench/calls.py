@@ -6,8 +6,9 @@ import sys
 import build
 import peers
 
-# `two` prints a second type as well.
-SIZES = ("text", "number", "struct", "pretty", "two", "line")
+# `two` prints a second type as well. The peers have the first six.
+PEER_SIZES = ("text", "number", "struct", "pretty", "two", "line")
+SIZES = PEER_SIZES + ("tuple", "list", "set", "map")
 LEAST = "-2147483648"
 # What is called, and with which number.
 CALLS = (("text", "text", "0"), ("i32 of 0", "number", "0"), ("i32 of least", "number", LEAST), ("u64 of 19 digits", "u64", "0"),
@@ -64,7 +65,7 @@ def sizes(room, ours, helpers, ufmt):
         cells = [bytes_of(room, ours, helpers, "case_%s_size_%s" % (way, case)) for way in ("fast", "small")]
         for profile in ("alone", "small"):
             for peer in ("ufmt", "core"):
-                library = made / profile / "libsizes.a" if peer in found else None
+                library = made / profile / "libsizes.a" if peer in found and case in PEER_SIZES else None
                 cells.append(bytes_of(room, library, helpers, "%s_%s" % (peer, case)) if library else None)
         line(case, cells)
 

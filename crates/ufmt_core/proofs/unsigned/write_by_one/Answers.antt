@@ -1,17 +1,49 @@
-use Rattle.std.proofs.Common.{◌-◌, ◌^◌, ◌≤◌, ◌∙◌, refl, arith, length-set}
-use Rattle.std.proofs.lemmas.List.{drop-set}
-use Rattle.ufmt_core.proofs.LastDigits.{IsCutFrom-none, IsCutFrom-more, last_digits-one}
+use Rattle.std.proofs.Common.{◌≡◌, ◌≤◌, pos, ◌-◌, ◌/◌, ◌%◌, ◌+◌, drop, length, set, refl, ap, ◌∙◌, arith, append-nil, length-drop, length-set}
+use Rattle.std.proofs.Math.Seq.{drop-length}
+use Rattle.ufmt_core.specs.Decimal.{decimal}
+use Rattle.ufmt_core.proofs.DecimalTexts.{decimal-in_base}
+use Rattle.ufmt_core.proofs.WrittenDigits.{digit_fits, IsWrittenFrom-more, IsWrittenFrom-all}
 use Rattle.ufmt_core.proofs.unsigned.write_by_one.Goals as goal
 
-pub loop-left-init : goal.loop-left-init
-loop-left-init c = IsCutFrom-none 1 c.args.n c.args.buffer.now c.requires
+pub digits-init : goal.digits-init
+digits-init c = record { within = omega arith; joined = rw (drop-length c.args.buffer.now, append-nil) refl }
 
-pub loop-left-preserved : goal.loop-left-preserved
-loop-left-preserved c =
-    let left = c.loop-left.left in
-    let start = c.loop-left.start in
-    let buffer = c.loop-left.buffer in
-    let kept = c.loop-left.invariant in
-    let high : 10 ^ 1 ≤ left = omega (arith, c.loop-left-test.true) in
-    IsCutFrom-more _ kept high (length-set buffer (start - 1) _)
-    (drop-set buffer (start - 1) _ (omega (arith, kept.room high, kept.written.within)) ∙ rw (last_digits-one left) refl)
+pub overflow_sub-start : goal.overflow_sub-start
+overflow_sub-start c =
+    let l = c.digits in
+    digit_fits decimal-in_base c.args.n l.left l.start l.buffer (omega (arith, c.requires, l.auto.buffer)) l.invariant
+
+pub bounds-buffer-start : goal.bounds-buffer-start
+bounds-buffer-start c =
+    let l = c.digits in
+    omega (arith, l.invariant.within, digit_fits decimal-in_base c.args.n l.left l.start l.buffer (omega (arith, c.requires, l.auto.buffer)) l.invariant)
+
+pub returns-then-left-eq0-clause-start : goal.returns-then-left-eq0-clause-start
+returns-then-left-eq0-clause-start c =
+    let l = c.digits in
+    let fits : length (decimal (pos c.args.n)) ≤ length l.buffer = omega (arith, c.requires, l.auto.buffer) in
+    let new = set l.buffer (l.start - 1) (48 + l.left % 10) in
+    let text =
+        IsWrittenFrom-all decimal-in_base c.args.n l.left l.start l.buffer fits l.invariant (l.left / 10) (l.left % 10) (48 + l.left % 10) refl refl refl
+        c.if-left-eq0.true in
+    omega (
+      arith,
+      ap length text,
+      length-drop (l.start - 1) new,
+      length-set l.buffer (l.start - 1) (48 + l.left % 10),
+      l.auto.buffer,
+      l.invariant.within,
+      digit_fits decimal-in_base c.args.n l.left l.start l.buffer fits l.invariant,
+    )
+
+pub returns-then-left-eq0-clause-written : goal.returns-then-left-eq0-clause-written
+returns-then-left-eq0-clause-written c =
+    let l = c.digits in
+    IsWrittenFrom-all decimal-in_base c.args.n l.left l.start l.buffer (omega (arith, c.requires, l.auto.buffer)) l.invariant
+    (l.left / 10) (l.left % 10) (48 + l.left % 10) refl refl refl c.if-left-eq0.true
+
+pub digits-preserved : goal.digits-preserved
+digits-preserved c =
+    let l = c.digits in
+    IsWrittenFrom-more decimal-in_base c.args.n l.left l.start l.buffer (omega (arith, c.requires, l.auto.buffer)) l.invariant
+    (l.left / 10) (l.left % 10) (48 + l.left % 10) refl refl refl c.if-left-eq0.false

@@ -1,8 +1,10 @@
-use Rattle.ufmt_core.proofs.LastDigits.{IsCutFrom}
+use Rattle.std.proofs.Common.{pos}
+use Rattle.ufmt_core.specs.Decimal.{decimal}
+use Rattle.ufmt_core.proofs.WrittenDigits.{IsWrittenFrom}
 use Rattle.ufmt_core.proofs.unsigned.write_by_one.Given as goal
 
-abbrev pub invariant-loop-left : goal.invariant-loop-left
-invariant-loop-left l = IsCutFrom 1 l.n l.left l.start l.buffer
+abbrev pub invariant-digits : goal.invariant-digits
+invariant-digits l = IsWrittenFrom (λ m. decimal (pos m)) l.n l.left l.start l.buffer
 
-abbrev pub decreases-loop-left : goal.decreases-loop-left
-decreases-loop-left l = l.left
+abbrev pub decreases-digits : goal.decreases-digits
+decreases-digits l = l.left
