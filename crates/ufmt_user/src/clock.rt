@@ -43,5 +43,8 @@ pub fn write_status(buffer: &mut [u8], tenths: i64, flags: u8) -> Result<usize, 
         value: tenths,
         places: 1,
     };
-    line_into(buffer, &pieces!(display celsius, text " ", bin flags with FLAGS))
+    line_into(
+        buffer,
+        &pieces!(display celsius, text " ", bin flags with FLAGS),
+    )
 }
