@@ -128,30 +128,30 @@ fn copy_long(bytes: &[u8], target: &mut [u8])
 #[inline(never)]
 fn copy_longer(bytes: &[u8], target: &mut [u8])
     requires same_length { length bytes.now ≡ length target.old }
-    requires longer { 16 < length bytes.now }
+    requires longer { 32 < length bytes.now }
     ensures { target.new ≡ bytes.now }
 {
-    let last = bytes.len() - 16;
+    let last = bytes.len() - 32;
     copy_chunk(bytes, target, 0);
-    let mut start = 16;
+    let mut start = 32;
     while start < last {
         copy_chunk(bytes, target, start);
-        start += 16;
+        start += 32;
     }
     // The last chunk may overlap the one before it.
     copy_chunk(bytes, target, last);
 }
 
-// Copies the 16 bytes from `start` on.
+// Copies the 32 bytes from `start` on.
 #[inline(always)]
 fn copy_chunk(bytes: &[u8], target: &mut [u8], start: usize)
     requires same_length { length bytes.now ≡ length target.old }
-    requires within { start + 16 ≤ length bytes.now }
+    requires within { start + 32 ≤ length bytes.now }
     ensures same_length { length target.new ≡ length bytes.now }
-    ensures copied { (n : ℕ) → start ≤ n → n ≤ start + 16 → take n target.old ≡ take n bytes.now
-        → take (start + 16) target.new ≡ take (start + 16) bytes.now }
+    ensures copied { (n : ℕ) → start ≤ n → n ≤ start + 32 → take n target.old ≡ take n bytes.now
+        → take (start + 32) target.new ≡ take (start + 32) bytes.now }
 {
-    copy_whole::<16>(&bytes[start..start + 16], &mut target[start..start + 16]);
+    copy_whole::<32>(&bytes[start..start + 32], &mut target[start..start + 32]);
 }
 
 // Copies N bytes. For any number the check finds the proof, and for 32 it doesn't.

@@ -78,12 +78,14 @@ ptrdiff_t ufmt_signed(uint8_t *buffer, size_t size, int64_t number, size_t *deta
 typedef struct ufmt_hex_style {
     size_t width;    /* how many bytes the text has at least, with its prefix */
     uint8_t pad;     /* the byte that fills it up: spaces come before the prefix, other bytes after it */
-    bool upper_case; /* `A` to `F`, and `0X` */
-    bool prefix;     /* whether it begins with `0x` */
+    bool upper_case; /* `A` to `F`, and `0X`; of a binary text it changes nothing */
+    bool prefix;     /* whether it begins with `0x`, or a binary text with `0b` */
 } ufmt_hex_style;
 
 /* Writes the number in hexadecimal digits. Or returns UFMT_BAD_OPTION if `pad` is past 127. */
 ptrdiff_t ufmt_hexadecimal(uint8_t *buffer, size_t size, uint64_t number, const ufmt_hex_style *style, size_t *detail);
+/* The same in binary digits. */
+ptrdiff_t ufmt_binary(uint8_t *buffer, size_t size, uint64_t number, const ufmt_hex_style *style, size_t *detail);
 
 /* Dumps. */
 

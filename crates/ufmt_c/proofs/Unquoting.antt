@@ -1,9 +1,11 @@
 -- What is decoded between quotation marks, and what of it is in the buffer.
-use Rattle.std.proofs.Common.{◌≡◌, inl, refl, sym, ap, subst, ◌∙◌, ℕ, List, [], ◌∷◌, ◌++◌, drop, append_assoc, append-nil}
+use Rattle.std.proofs.Common.{◌≡◌, inl, refl, sym, ap, subst, ◌∙◌, ℕ, List, [], ◌∷◌, ◌++◌, drop, append_assoc, append-nil, Option, Some, None}
 use Rattle.std.specs.Prelude.{◌≢◌}
 use Rattle.std.specs.Str.{IsUtf8, chars}
 use Rattle.std.proofs.lemmas.Str.{encodes-chars}
 use Rattle.ufmt.specs.Quoted.{escaped_byte, escaped_bytes, quoted_text}
+use Rattle.ufmt.specs.Reading.{strip}
+use Rattle.ufmt.proofs.Parsing.{strip_joined}
 use Rattle.ufmt.proofs.QuotedComplete.{quoted-bytes}
 use Rattle.ufmt.proofs.QuotedUtf8.{quoted-utf8}
 use Rattle.ufmt_scan.proofs.Spelled.{escaped_bytes-append, quote_ends, same_bytes}
@@ -40,3 +42,8 @@ module _ (input inside rest done : List ℕ) (front : input ≡ 34 ∷ inside) (
 -- a text in quotation marks is UTF-8
 pub quoted_utf8 : (input bytes : List ℕ) → IsUtf8 bytes → input ≡ quoted_text (chars bytes) → IsUtf8 input
 quoted_utf8 input bytes utf8 same = subst IsUtf8 (sym (same ∙ marks bytes utf8)) ((quoted-utf8 34 (inl refl) bytes).1 utf8)
+
+-- a text from which the mark isn't split begins with none
+pub no_front : (t : List ℕ) → None ≡ strip (34 ∷ []) t → (rest : List ℕ) → t ≢ 34 ∷ rest
+no_front t none rest is =
+    let some : ◌≡◌ {A = Option (List ℕ)} None (Some rest) = none ∙ ap (strip (34 ∷ [])) is ∙ strip_joined (34 ∷ []) rest in absurd (cc)

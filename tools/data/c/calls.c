@@ -112,7 +112,7 @@ static void call_number(const char *name) {
         style.pad = (uint8_t)number();
         style.upper_case = number();
         style.prefix = number();
-        result = ufmt_hexadecimal(to.at, to.size, value, &style, &detail);
+        result = (*name == 'b' ? ufmt_binary : ufmt_hexadecimal)(to.at, to.size, value, &style, &detail);
     }
     print(result, detail, to);
 }
@@ -173,7 +173,8 @@ static void call(const char *name) {
     }
     if (!strcmp(name, "is_text") || !strcmp(name, "is_debug_text")) {
         call_is_text(name[3] == 't' ? ufmt_is_text : ufmt_is_debug_text);
-    } else if (!strcmp(name, "unsigned") || !strcmp(name, "signed") || !strcmp(name, "hexadecimal")) {
+    } else if (!strcmp(name, "unsigned") || !strcmp(name, "signed") || !strcmp(name, "hexadecimal") ||
+               !strcmp(name, "binary")) {
         call_number(name);
     } else if (!strcmp(name, "dump") || !strcmp(name, "in_column")) {
         call_styled(name);

@@ -73,6 +73,21 @@ fn hexadecimals() {
     }
 }
 
+fn binaries() {
+    let styled = |number: u64, style: [u64; 4], text: String| {
+        let words: Vec<String> = [number].iter().chain(&style).map(u64::to_string).collect();
+        row("binary", &words, &text);
+    };
+    for number in [0, 5, u64::MAX] {
+        styled(number, [0, 0, 0, 0], format!("{number:b}"));
+        styled(number, [0, 48, 1, 1], format!("{number:#b}"));
+        styled(number, [8, 48, 0, 0], format!("{number:08b}"));
+        styled(number, [12, 48, 0, 1], format!("{number:#012b}"));
+        styled(number, [40, 32, 0, 1], format!("{number:#40b}"));
+        styled(number, [100, 32, 1, 0], format!("{number:100b}"));
+    }
+}
+
 fn columns() {
     for text in ["", "a", "ab", "é中", "eight ch", "longer than eight", "🦀🦀🦀"] {
         for width in [0, 3, 8, 9] {
@@ -140,6 +155,7 @@ fn main() {
     quotes();
     decimals();
     hexadecimals();
+    binaries();
     columns();
     differences();
 }

@@ -13,11 +13,11 @@ WITHOUT_MEMORY = (
     ("print a struct of eight fields", "kinds_pretty"), ("print a struct, cut", "struct_cut"),
     ("print a struct by Small", "struct_small"), ("print a line", "line"), ("print a column", "column"), ("dump bytes", "dump"),
     ("parse a number", "parse_number"), ("parse a struct, plain", "parse_struct"),
-    ("parse a struct, pretty", "parse_struct_pretty", "parse_two", "parse_three", "parse_four"),
+    ("parse a struct, pretty", "parse_struct_pretty", "parse_two", "parse_three"), ("scan a text: is_text", "is_text"),
 )
 ON_TEXTS = (
-    ("is_text", "is_text"), ("is_debug_text", "is_debug_text"), ("to_pretty_into", "to_pretty_into"),
-    ("to_plain_into", "to_plain_into"), ("first_difference", "first_difference"), ("compare_pretty", "compare_pretty"),
+    ("to_pretty_into", "to_pretty_into"), ("to_plain_into", "to_plain_into"),
+    ("first_difference", "first_difference"), ("compare_pretty", "compare_pretty"),
     ("print a struct to a String", "struct_to_string"), ("print a map to a String", "map_to_string"),
     ("parse a list of numbers", "parse_list"), ("parse a map", "parse_map"), ("parse a Tree", "parse_tree"),
     ("parse a Node", "parse_node"), ("print a Tree", "tree_to_string"), ("drop a Tree", "drop_tree"),

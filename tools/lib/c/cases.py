@@ -35,6 +35,7 @@ CALLS = {
     "unsigned": ("buffer", "uint64_t"),
     "signed": ("buffer", "int64_t"),
     "hexadecimal": ("buffer", "uint64_t", "hex"),
+    "binary": ("buffer", "uint64_t", "hex"),
     "dump": ("buffer", "bytes", "dump"),
     "in_column": ("buffer", "bytes", "column"),
     "first_difference": ("bytes", "bytes"),
@@ -202,6 +203,7 @@ def refusals():
             yield Case(call, (data, b"abcdef\xff"), result=NOT_UTF8, detail=place)
     for pad in (128, 255):
         yield Case("hexadecimal", (7, (4, pad, 0, 0)), result=BAD_OPTION)
+        yield Case("binary", (7, (4, pad, 0, 0)), result=BAD_OPTION)
     for fill, align in ((0xD800, 0), (0xDFFF, 1), (0x110000, 2), (0xFFFFFFFF, 0), (32, 3), (32, 255)):
         yield Case("in_column", (b"a", (8, fill, align)), result=BAD_OPTION)
         yield Case("in_column", (b"\xff", (8, fill, align)), result=BAD_OPTION)

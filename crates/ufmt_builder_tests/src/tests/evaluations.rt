@@ -11,7 +11,7 @@ use ufmt::pieces::Debug;
 use ufmt::{Align, Column, Formatter, HexOptions, uWrite};
 
 /// The evaluations so far: `a`, `b`, `c` and so on for the values, `F` for a formatter, `O` for
-/// options, `C` for a column, `M` for a mark, `S` for a separator.
+/// options, `W` for a width, `C` for a column, `M` for a mark, `S` for a separator.
 #[derive(Drop)]
 struct Turns {
     noted: String,
@@ -59,6 +59,11 @@ impl Turns {
             pad_length: 0,
             ox_prefix: false,
         }
+    }
+
+    fn width(&mut self) -> usize {
+        self.note('W');
+        0
     }
 
     // A column without a width.

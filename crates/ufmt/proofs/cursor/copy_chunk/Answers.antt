@@ -11,8 +11,8 @@ returns-clause-copied c = λ n low high agree.
     let target = c.args.target.now in
     let front : take start target ≡ take start bytes =
     sym (take-take start n target low) ∙ ap (λ t. take start t) agree ∙ take-take start n bytes low in
-    let chunk : start + 16 - start ≡ 16 = omega arith in
+    let chunk : start + 32 - start ≡ 32 = omega arith in
     let copied = rw chunk at c.copy_whole.ensures in
-    let count : length (take 16 (drop start bytes)) ≡ 16 = omega (arith, length-take 16 (drop start bytes), length-drop start bytes) in
-    take-put_mid start _ target c.copy_whole.new.target (start + 16) (omega (arith, ap length copied, count)) (omega arith)
-    ∙ rw (front, copied, take-add start 16 bytes) refl
+    let count : length (take 32 (drop start bytes)) ≡ 32 = omega (arith, length-take 32 (drop start bytes), length-drop start bytes) in
+    take-put_mid start _ target c.copy_whole.new.target (start + 32) (omega (arith, ap length copied, count)) (omega arith)
+    ∙ rw (front, copied, take-add start 32 bytes) refl

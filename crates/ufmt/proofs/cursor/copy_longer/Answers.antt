@@ -17,6 +17,6 @@ returns c =
     let count = length bytes in
     let kept = c.loop-start.invariant in
     let last = c.copy_chunk-2.ensures in
-    let whole : count - 16 + 16 ≡ count = omega (arith, c.requires.longer) in
+    let whole : count - 32 + 32 ≡ count = omega (arith, c.requires.longer) in
     let copied = last.copied c.loop-start.start (omega (arith, c.loop-start-test.false)) (omega (arith, c.loop-start-test.false, kept.within)) kept.copied in
     sym (take_all count target (omega (arith, last.same_length))) ∙ (rw whole at copied) ∙ take_all count bytes (omega arith)

@@ -24,7 +24,12 @@ macro_rules! one_piece {
             10 => take(&pieces!(hex ($turns.number(1)) with ($turns.options()) in $turns.column() $($end)?)),
             11 => take(&pieces!(each debug ($turns.items(1)) in ($turns.column()) between $turns.separator() $($end)?)),
             12 => take(&pieces!(each hex ($turns.items(1)) with ($turns.options()) in ($turns.column()) between $turns.separator() $($end)?)),
-            _ => take(&pieces!(each ($turns.items(1)) by ($turns.mark()) between $turns.separator() $($end)?)),
+            13 => take(&pieces!(each ($turns.items(1)) by ($turns.mark()) between $turns.separator() $($end)?)),
+            14 => take(&pieces!(bin ($turns.number(1)) with $turns.options() $($end)?)),
+            15 => take(&pieces!(oct ($turns.number(1)) with $turns.options() $($end)?)),
+            16 => take(&pieces!(zeros ($turns.number(1)) to $turns.width() $($end)?)),
+            17 => take(&pieces!(each zeros ($turns.items(1)) to ($turns.width()) between $turns.separator() $($end)?)),
+            _ => take(&pieces!(zeros ($turns.number(1)) to ($turns.width()) in $turns.column() $($end)?)),
         }
     };
 }
@@ -74,7 +79,7 @@ fn make_three(number: usize, turns: &mut Turns) {
 }
 
 const LINES: &str = "\
-a,a a,a a,a a,a aO,aO aS,aS aS,aS aS,aS aOS,aOS aC,aC aOC,aOC aCS,aCS aOCS,aOCS aMS,aMS ;
+a,a a,a a,a a,a aO,aO aS,aS aS,aS aS,aS aOS,aOS aC,aC aOC,aOC aCS,aCS aOCS,aOCS aMS,aMS aO,aO aO,aO aW,aW aWS,aWS aWC,aWC ;
 abcS abOcS abScOS abScMS aObSc aSbOSc aSbMSc aSbc aOSbcO aMSbcS ;
 ";
 
@@ -82,7 +87,7 @@ abcS abOcS abScOS abScMS aObSc aSbOSc aSbMSc aSbc aOSbcO aMSbcS ;
 fn pieces_evaluates_in_order(rt: HostRuntime) {
     let mut table = Table::new(rt.alloc());
     let mut turns = Turns::new(rt.alloc());
-    for number in 0..14usize {
+    for number in 0..19usize {
         make_one(number, &mut turns);
         turns.note(',');
         make_one_with_comma(number, &mut turns);

@@ -15,7 +15,11 @@ macro_rules! one_piece {
             3 => $write!($turns.formatter($f), pretty $turns.number(1) $($end)?),
             4 => $write!($turns.formatter($f), hex ($turns.number(1)) with $turns.options() $($end)?),
             5 => $write!($turns.formatter($f), debug ($turns.number(1)) in $turns.column() $($end)?),
-            _ => $write!($turns.formatter($f), hex ($turns.number(1)) with ($turns.options()) in $turns.column() $($end)?),
+            6 => $write!($turns.formatter($f), hex ($turns.number(1)) with ($turns.options()) in $turns.column() $($end)?),
+            7 => $write!($turns.formatter($f), bin ($turns.number(1)) with $turns.options() $($end)?),
+            8 => $write!($turns.formatter($f), oct ($turns.number(1)) with $turns.options() $($end)?),
+            9 => $write!($turns.formatter($f), zeros ($turns.number(1)) to $turns.width() $($end)?),
+            _ => $write!($turns.formatter($f), zeros ($turns.number(1)) to ($turns.width()) in $turns.column() $($end)?),
         }
     };
 }
@@ -121,6 +125,10 @@ Fa! Fa=1;
 FaO! FaO=1;
 FaC! FaC=1;
 FaOC! FaOC=1;
+FaO! FaO=1;
+FaO! FaO=1;
+FaW! FaW=1;
+FaWC! FaWC=1;
 Fa! Fab!x Fabc!x2 Fabc=x23;
 Fa! Fab!1 Fabc!12 Fabc=123;
 Fa! Fab!1 FabcO!12 FabcO=123;
@@ -133,6 +141,10 @@ Fa! Fa!1 Fa=1\n;
 FaO! FaO!1 FaO=1\n;
 FaC! FaC!1 FaC=1\n;
 FaOC! FaOC!1 FaOC=1\n;
+FaO! FaO!1 FaO=1\n;
+FaO! FaO!1 FaO=1\n;
+FaW! FaW!1 FaW=1\n;
+FaWC! FaWC!1 FaWC=1\n;
 Fa! FabO!1 FabO!12 FabO=12\n;
 Fa! Fab!x Fabc!x2 Fabc!x23 Fabc=x23\n;
 ";
@@ -146,7 +158,12 @@ fn uwrite_evaluates_a_piece_after_writing_the_one_before(rt: HostRuntime) {
         (Form::OneWithComma, Form::LineWithComma),
     ] {
         let mut table = Table::new(rt.alloc());
-        for (form, count) in [(one, 7), (Form::Three, 5), (line, 7), (Form::LongerLine, 2)] {
+        for (form, count) in [
+            (one, 11),
+            (Form::Three, 5),
+            (line, 11),
+            (Form::LongerLine, 2),
+        ] {
             for number in 0..count {
                 table.put_made(form.row(rt.alloc(), number));
             }

@@ -24,8 +24,8 @@ returns-then-left-eq0-clause-start c =
     let fits : length (decimal (pos c.args.n)) ≤ length l.buffer = omega (arith, c.requires, l.auto.buffer) in
     let new = set l.buffer (l.start - 1) (48 + l.left % 10) in
     let text =
-        IsWrittenFrom-all decimal-in_base c.args.n l.left l.start l.buffer fits l.invariant (l.left / 10) (l.left % 10) (48 + l.left % 10) refl refl refl
-        c.if-left-eq0.true in
+    IsWrittenFrom-all decimal-in_base c.args.n l.left l.start l.buffer fits l.invariant (l.left / 10) (l.left % 10) (48 + l.left % 10) refl refl refl
+    c.if-left-eq0.true in
     omega (
       arith,
       ap length text,
