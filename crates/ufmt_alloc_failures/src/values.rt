@@ -101,7 +101,7 @@ pub fn report_pieces(rt: &HostRuntime) -> io::Result<()> {
     report_free(rt, "fmt_radix", "a number", || {
         let mut f = Formatter::new(Cursor::new(&mut buffer));
         let outcome = i16::MIN.fmt_radix(&mut f, Radix::Binary, HEXADECIMAL);
-        outcome.is_ok() && f.into_inner().written() == b"0b1000000000000000"
+        outcome.is_ok() && f.into_inner().written() == b"0b1000000000000000".as_slice()
     })?;
     report_free(rt, "fmt_zeros", "a decimal", || {
         let mut f = Formatter::new(Cursor::new(&mut buffer));
@@ -110,7 +110,7 @@ pub fn report_pieces(rt: &HostRuntime) -> io::Result<()> {
             places: 1,
         };
         let outcome = decimal.fmt_zeros(&mut f, 7);
-        outcome.is_ok() && f.into_inner().written() == b"-0012.5"
+        outcome.is_ok() && f.into_inner().written() == b"-0012.5".as_slice()
     })?;
     report_free(rt, "Formatter::pretty", "a list", || {
         let mut f = Formatter::new(Cursor::new(&mut buffer));
