@@ -1,6 +1,6 @@
 """The cases that `tools/try-c` tries: calls of libufmt_c, their arguments, and what each is to do.
 
-What they expect comes from outside: rustc's texts and xxd's dumps in tools/data/c/rows.txt, the texts of values that rustc
+What they expect comes from outside: rustc's texts and xxd's dumps in tools/data/c/rows.tsv, the texts of values that rustc
 printed in tools/expected/rows.txt, the model of texts in tools/lib/model/, and Python's own decoding of UTF-8.
 """
 import pathlib
@@ -77,8 +77,8 @@ def arguments(call, words):
 
 
 def stored():
-    """The rows of tools/data/c/rows.txt, and each row of `quote` turned round."""
-    for line in (TOP / "tools" / "data" / "c" / "rows.txt").read_text().splitlines():
+    """The rows of tools/data/c/rows.tsv, and each row of `quote` turned round."""
+    for line in (TOP / "tools" / "data" / "c" / "rows.tsv").read_text().splitlines():
         if line.startswith("#"):
             continue
         request, text = line.split(" = ")
