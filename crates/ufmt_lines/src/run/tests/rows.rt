@@ -1,4 +1,5 @@
-//! Lines and their outputs. The texts are those that rustc's `{:?}` and `{:#?}` print.
+//! Lines and their outputs. The texts are those that rustc's `{:?}` and `{:#?}` print: `tools/expected/show VALUE`
+//! prints one again.
 use super::*;
 
 // Lines that end with a plain text, and the same with the pretty text.
