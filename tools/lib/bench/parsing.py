@@ -1,4 +1,5 @@
 """Instructions that parsing takes for each byte of a text and for each value, beside serde_json and ron."""
+import subprocess
 import sys
 
 import build
@@ -42,8 +43,11 @@ def line(told, cells):
                                      for cell in cells), flush=True)
 
 
-def table(top, room):
+def table(top, room, script):
+    """Prints a line for each kind of values. With a script, it calls that with the program in place of its own counting."""
     program = build.over_copies(top, room, "parse", ["ufmt_parse"])
+    if script:
+        return subprocess.call([script, program])
     peer = room / "peers" / "parse" / "target" / "linked" / "parse"
     has_peer = peers.cargo(room, "parse", "program", DEPENDENCIES, [], ["linked"])
     print("%-20s%18s%18s%18s" % ("instructions", "ours", "serde_json", "ron"))
