@@ -9,7 +9,7 @@ use ufmt_doc::doc::Doc;
 use ufmt_doc::plain_reader::{ReadError, read_debug_plain, read_plain};
 use ufmt_doc::pretty_reader::{read_debug_pretty, read_pretty};
 use ufmt_doc::scan::{ScanError, Sink, scan};
-use ufmt_doc::{convert, is_debug_text, is_text, laws};
+use ufmt_doc::{convert, is_debug_text, is_text, laws, valid_up_to};
 use ufmt_parse::{ParseError, parse, parse_pretty, uParse};
 
 /// A text, and the class and the mode in which it is read.
@@ -63,6 +63,10 @@ impl Calls<'_> {
             Class::Token => is_text(self.mode, self.text),
             Class::Debug => is_debug_text(self.mode, self.text),
         }
+    }
+
+    pub fn valid_up_to(&self) -> usize {
+        valid_up_to(self.class, self.mode, self.text)
     }
 
     pub fn scan<S: Sink>(&self, sink: &mut S) -> Result<(), ScanError<S::Error>> {

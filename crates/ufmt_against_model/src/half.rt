@@ -38,7 +38,10 @@ fn of_class(calls: Calls<'_>) -> Result<String, AllocError> {
     };
     match outcome {
         Ok(Some(half)) => half.message(calls.alloc),
-        Ok(None) => String::from_str(calls.alloc, "no text"),
+        Ok(None) => {
+            let place = calls.valid_up_to();
+            format!(in calls.alloc; "no text, read to {place}")
+        }
         Err(fault) => fault.message(calls.alloc),
     }
 }
@@ -73,6 +76,7 @@ fn of_text(calls: Calls<'_>, doc: &Doc) -> Result<Half, Fault> {
     let mut events = Events::new(calls.alloc);
     agree(calls.scan(&mut events).is_ok(), "scan")?;
     agree(calls.is_text(), "is_text")?;
+    agree(calls.valid_up_to() == calls.text.len(), "valid_up_to")?;
     let converted = calls.convert()?;
     converts_alike(calls, &converted)?;
     prints(calls, doc)?;

@@ -11,7 +11,7 @@ pub use doc::Doc;
 pub use field_text::read_field;
 pub use reader::{read_debug_plain, read_debug_pretty, read_plain, read_pretty};
 pub use ufmt_scan::error::ReadError;
-pub use ufmt_scan::{convert, is_debug_text, is_text, scan};
+pub use ufmt_scan::{convert, is_debug_text, is_text, scan, valid_up_to};
 
 /// Reading plain texts.
 pub mod plain_reader {

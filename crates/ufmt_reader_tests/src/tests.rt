@@ -9,6 +9,7 @@ mod laws;
 mod leaves;
 mod misquoted;
 mod parts;
+mod place;
 mod quoted;
 mod read_and_convert;
 mod scan;

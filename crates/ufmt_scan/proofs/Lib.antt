@@ -19,3 +19,4 @@ pub mod Conversions
 pub mod DebugFronts
 pub mod Growing
 pub mod OpenSteps
+pub mod Places

@@ -3,6 +3,7 @@ pub mod Fronts
 pub mod Growing
 pub mod Level
 pub mod MarkedBytes
+pub mod Place
 pub mod Scanning
 pub mod Spelled
 pub mod TextSink

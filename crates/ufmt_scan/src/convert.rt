@@ -5,7 +5,7 @@ ghost use Rattle.ufmt.specs.declared.class.Class.TheVariants.{Debug};
 ghost use Rattle.ufmt_scan.specs.Texts.{Converts, ConvertsAs, ConvertsInto, ConvertsIntoAs, ConvertsTo, ConvertsToAs};
 
 mod growing;
-mod text_sink;
+pub(crate) mod text_sink;
 
 use crate::error::ReadError;
 use crate::scan::{ScanError, scan};

@@ -10,9 +10,11 @@ mod front;
 pub mod laws;
 pub mod leaf;
 mod level;
+mod place;
 pub mod quoted;
 pub mod scan;
 pub mod strip;
 mod text;
 
+pub use place::valid_up_to;
 pub use text::{is_debug_text, is_text};

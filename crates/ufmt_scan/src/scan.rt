@@ -42,6 +42,19 @@ pub fn scan<S: Sink>(
     }
 }
 
+/// The same with one copy of the code for all modes and classes, which is less code and slower.
+pub(crate) fn scan_once<S: Sink>(
+    class: Class,
+    mode: Mode,
+    input: &[u8],
+    sink: &mut S,
+) -> Result<(), ScanError<S::Error>>
+    ensures { Scans S.took S.stopped class result sink.old sink.new (layout (setting mode 0))
+        input.now }
+{
+    scan_in::<S, false, false>(class, mode, input, sink)
+}
+
 // `PRETTY` and `DEBUG` are never read, here and below. They make one copy per sink, mode and class,
 // in which brackets are constants.
 fn scan_in<S: Sink, const PRETTY: bool, const DEBUG: bool>(

@@ -104,6 +104,7 @@ IN_BODIES = [
     (NO_MEMORY, "ufmt_doc/src/doc.rt", "Doc::unquoted", "String::from_utf8(decoded_bytes(alloc, quote, inside)?).ok()"),
     (NO_MEMORY, "ufmt_conv/src/run/output.rt", "without_line_feed", "input.strip_suffix(\"\").unwrap_or(input)"),
     (NO_MEMORY, "ufmt_scan/src/debug_leaf.rt", "split_leaf", "match str::from_utf8(leaf): Err(_)=>None"),
+    (NO_MEMORY, "ufmt_scan/src/place.rt", "valid_up_to", "let _outcome=scan_once(class, mode, text, &mut counter)"),
     (NO_MEMORY, "ufmt_scan/src/text.rt", "is_text", "scan(Class::Token, mode, text, &mut Ignores).is_ok()"),
     (NO_MEMORY, "ufmt_scan/src/text.rt", "is_debug_text", "scan(Class::Debug, mode, text, &mut Ignores).is_ok()"),
     (RESULT, "ufmt_core/src/core_impls/enums.rt", "uDebug for Result<T, E>::fmt", "match self: Err(error)=>f.tuple_1(\"\", error)"),

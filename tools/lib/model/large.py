@@ -74,9 +74,9 @@ def command_runs(number):
 def verdict(text, document, other):
     """The line of ufmt_against_model on one of both texts of a document. Other is the document's other text."""
     is_leaf, is_pretty = text == other, text[1:2] == "\n"
-    no_text = half(None, None, False)
-    by_plain = no_text if is_pretty else half(document, document, False)
-    by_pretty = half(document, document, True) if is_leaf or is_pretty else no_text
+    by_plain, by_pretty = (
+        half(text, *[document if is_text else None] * 2, mode) for mode, is_text in ((False, not is_pretty), (True, is_leaf or is_pretty))
+    )
     return "plain: %s; pretty: %s; leaf: %s\n" % (by_plain, by_pretty, leaf_verdict(text))
 
 

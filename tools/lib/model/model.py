@@ -152,6 +152,9 @@ def unquoted(leaf):
 
 # ---- The leaves of each class. A call returns a leaf and where it ends, or None.
 
+# A byte that isn't UTF-8, as `surrogateescape` decodes it.
+NO_UTF8 = re.compile("[\ud800-\udfff]")
+
 
 class TextClass(NamedTuple):
     """A class of texts: the leaf at a place, whether a leaf is a name, and whether a struct may end in dots."""
@@ -166,7 +169,7 @@ def leaf_at(text, at):
     for pattern in (WORD, QUOTED_TEXT, QUOTED_CHARACTER):
         found = pattern.match(text, at)
         if found:
-            return found[0], found.end()
+            return None if NO_UTF8.search(found[0]) else (found[0], found.end())
     if text.startswith("()", at):
         return "()", at + 2
     return None
@@ -181,8 +184,6 @@ WORD_BYTES = "[^" + CONTROLS + r""" "'(),:\[\]{}]+"""
 IN_QUOTES = [quote + r"(?:[^\\" + quote + CONTROLS + r"]|\\[ -~])*" + quote for quote in "\"'"]
 COLONS = ":+(?=[^" + CONTROLS + r" (),:\[\]{}])"
 PIECE = re.compile("|".join([WORD_BYTES, *IN_QUOTES, COLONS]))
-# A byte that isn't UTF-8, as `surrogateescape` decodes it.
-NO_UTF8 = re.compile("[\ud800-\udfff]")
 
 
 def debug_leaf_at(text, at):
@@ -217,16 +218,29 @@ def empty_at(text, at):
 
 
 class Reader:
-    """A reader of one mode and one class. `entries_at` reads the entries of a block up to its closing bracket."""
+    """A reader of one mode and one class. `entries_at` reads the entries of a block up to its closing bracket. `reached` is
+    where the last piece of a text ended that fits it."""
 
     def __init__(self, text_class=TOKEN):
         self.text_class = text_class
+        self.reached = 0
 
     def read(self, text):
+        self.reached = 0
         found = self.document_at(text, 0, 0)
         if found is None or found[1] != len(text):
             return None
         return found[0]
+
+    def place(self, text):
+        """How many bytes at the front of a text are before the piece that doesn't fit, or all of them if none is."""
+        self.read(text)
+        return len(text[: self.reached].encode("utf-8", "surrogateescape"))
+
+    def passed(self, at):
+        """A piece of the text ended here."""
+        self.reached = max(self.reached, at)
+        return at
 
     def document_at(self, text, at, depth):
         found = self.text_class.leaf_at(text, at) or empty_at(text, at)
@@ -235,10 +249,13 @@ class Reader:
             document, end = found
             is_name = isinstance(document, str) and self.text_class.is_name(document)
             if not is_name:
+                self.passed(end)
                 return found
             name, at = document, end
         block = self.block_at(text, at, depth, name)
         if block is None:
+            if found is not None:
+                self.passed(found[1])
             return found
         return block or None
 
@@ -246,10 +263,14 @@ class Reader:
         """The block that opens here. None if no block opens, and False if the block is not whole."""
         without_fields = EMPTY["open struct"]
         if name and self.text_class.has_open_structs and text.startswith(without_fields, at):
-            return Block("open struct", name, []), at + len(without_fields)
+            return Block("open struct", name, []), self.passed(at + len(without_fields))
         for kind in ["struct", "tuple"] if name else ["list", "map", "tuple"]:
             opening, _closing = self.frames[kind]
             if text.startswith(opening, at):
+                opened = self.before_entry(text, at + len(opening), depth, True)
+                if opened is None:
+                    return None
+                self.passed(opened)
                 if depth == DEEPEST:
                     return False
                 found = self.entries_at(text, at + len(opening), depth, kind)
@@ -268,7 +289,7 @@ class Reader:
         end = self.closing(block, depth)
         if not text.startswith(end, at):
             return None
-        return block, at + len(end)
+        return block, self.passed(at + len(end))
 
     def ends_in_dots(self, text, at, depth, kind):
         """Whether dots and the end of a struct come here, after a field. A field's name may be two dots, too."""
@@ -280,18 +301,18 @@ class Reader:
         found = self.text_class.leaf_at(text, at)
         return found if found and self.text_class.is_name(found[0]) else None
 
-    def entry_at(self, text, at, depth, kind):
+    def entry_at(self, text, at, depth, kind, is_set):
         """An entry. A field has a name and a colon before its value, and a pair has a key and a colon."""
         before = None
         if kind == "struct":
             found = self.name_at(text, at)
             if found is None or not text.startswith(": ", found[1]):
                 return None
-            before, at = found[0], found[1] + 2
+            before, at = found[0], self.passed(found[1] + 2)
         found = self.document_at(text, at, depth + 1)
-        if found is not None and kind == "map" and text.startswith(": ", found[1]):
+        if found is not None and kind == "map" and not is_set and text.startswith(": ", found[1]):
             before = found[0]
-            found = self.document_at(text, found[1] + 2, depth + 1)
+            found = self.document_at(text, self.passed(found[1] + 2), depth + 1)
         if found is None:
             return None
         return (before, found[0]), found[1]
@@ -301,7 +322,8 @@ class Reader:
         entries = []
         more = self.before_entry(text, at, depth, True)
         while more is not None:
-            found = self.entry_at(text, more, depth, kind)
+            is_set = bool(entries) and entries[0][0] is None
+            found = self.entry_at(text, self.passed(more), depth, kind, is_set)
             if found is None:
                 return None
             entry, at = found
@@ -342,7 +364,7 @@ class PrettyReader(Reader):
 
     def before_entry(self, text, at, depth, _is_first):
         """Where the entry begins, after the indentation of its line."""
-        indentation = INDENT * (depth + 1)
+        indentation = INDENT * min(depth + 1, DEEPEST)
         return at + len(indentation) if text.startswith(indentation, at) else None
 
     def after_entry(self, text, at):

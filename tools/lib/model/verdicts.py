@@ -4,7 +4,7 @@ import debug_coverage
 import pieces
 import requests
 import values
-from model import DEBUG, DEEPEST, TOKEN, PlainReader, PrettyReader, depth_of, events, parts, plain, pretty, quoted
+from model import DEBUG, DEEPEST, NO_UTF8, TOKEN, PlainReader, PrettyReader, depth_of, events, parts, plain, pretty, quoted
 from shown import shown
 
 
@@ -37,10 +37,13 @@ def parsed(document, is_pretty):
     return "types [%s] in pieces %s, fields %s" % (letters, pieces.of_values(document, is_pretty, len(letters)), digest(fields))
 
 
-def of_classes(document, debug_document, is_pretty):
+def of_classes(text, document, debug_document, is_pretty):
     """What the calls on token texts say, and those on debug texts."""
     if document is None:
-        return "no text; debug: " + ("=" if debug_document is None else reading(debug_document, is_pretty, False))
+        token, debug = ("no text, read to %d" % reader.place(text) for reader in READERS[is_pretty])
+        if debug_document is not None:
+            debug = reading(debug_document, is_pretty, False)
+        return "%s; debug: %s" % (token, "=" if debug == token else debug)
     return "%s, in a list %s; debug: %s" % (
         reading(document, is_pretty, True),
         "yes" if depth_of(document) < DEEPEST else "no",
@@ -48,9 +51,9 @@ def of_classes(document, debug_document, is_pretty):
     )
 
 
-def half(document, debug_document, is_pretty):
+def half(text, document, debug_document, is_pretty):
     """What the calls of one mode say of a text: of its token document, of its debug document, and of values."""
-    return "%s; values: %s" % (of_classes(document, debug_document, is_pretty), parsed(debug_document, is_pretty))
+    return "%s; values: %s" % (of_classes(text, document, debug_document, is_pretty), parsed(debug_document, is_pretty))
 
 
 def kinds(text_class, text):
@@ -71,7 +74,6 @@ def leaf_verdict(text):
 
 
 READERS = [(PlainReader(), PlainReader(DEBUG)), (PrettyReader(), PrettyReader(DEBUG))]
-NO_UTF_8 = "plain: %s; pretty: %s; leaf: no UTF-8" % (half(None, None, False), half(None, None, True))
 
 
 def cells(data, found):
@@ -89,14 +91,11 @@ def verdict(data):
     """The line that the program prints of these bytes, and the cells of the table of coverage that they fill."""
     if data.startswith(requests.REQUEST_PREFIX):
         return requests.verdict(data), set()
-    try:
-        text = data.decode()
-    except UnicodeDecodeError:
-        return NO_UTF_8, cells(data, [(None, None)] * 2)
+    text = data.decode(errors="surrogateescape")
     found = [(token.read(text), debug.read(text)) for token, debug in READERS]
-    halves = [half(*documents, is_pretty) for documents, is_pretty in zip(found, (False, True))]
-    line = "plain: %s; pretty: %s; leaf: %s" % (*halves, leaf_verdict(text))
-    return line, cells(data, found)
+    halves = [half(text, *documents, is_pretty) for documents, is_pretty in zip(found, (False, True))]
+    leaf = "no UTF-8" if NO_UTF8.search(text) else leaf_verdict(text)
+    return "plain: %s; pretty: %s; leaf: %s" % (*halves, leaf), cells(data, found)
 
 
 def outcome(command, data):

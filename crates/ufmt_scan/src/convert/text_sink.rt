@@ -56,8 +56,9 @@ impl<W: uWrite, const PRETTY: bool> Sink for TextSink<'_, W, PRETTY> {
     }
 }
 
+/// The mode and depth after an event.
 #[inline(always)]
-fn setting_after(setting: Setting, event: Event<&str>) -> Setting
+pub(crate) fn setting_after(setting: Setting, event: Event<&str>) -> Setting
     ensures { result ≡ setting_after setting (event_now event.entry) }
 {
     let Setting { mode, depth } = setting;
@@ -71,9 +72,9 @@ fn setting_after(setting: Setting, event: Event<&str>) -> Setting
     }
 }
 
-// The text of an event, in two pieces. Either may be empty.
+/// The text of an event, in two pieces. Either may be empty.
 #[inline(always)]
-fn pieces<'a>(setting: Setting, event: Event<&'a str>) -> (&'a str, &'a str)
+pub(crate) fn pieces<'a>(setting: Setting, event: Event<&'a str>) -> (&'a str, &'a str)
     ensures { result.0.now ++ result.1.now ≡ written setting (event_now event.entry) }
 {
     match (event, setting.mode) {
