@@ -17,7 +17,7 @@ int main(int count, char **words) {
         return 1;
     }
     if (length < 0) {
-        fprintf(stderr, "not a text\n");
+        fprintf(stderr, "not a text from byte %zu on\n", detail);
         return 1;
     }
     fwrite(buffer, 1, (size_t)length, stdout);

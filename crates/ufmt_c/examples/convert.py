@@ -14,7 +14,7 @@ def to_pretty(library, input, size=256):
     if length == FULL:
         return to_pretty(library, input, detail.value)
     if length < 0:
-        raise ValueError("not a text")
+        raise ValueError("not a text from byte %d on" % detail.value)
     return buffer.raw[:length]
 
 

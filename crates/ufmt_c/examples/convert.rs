@@ -16,7 +16,7 @@ fn to_pretty(buffer: &mut [u8], input: &[u8]) -> Result<usize, String> {
     // SAFETY: each pointer and the length after it are those of one slice, and no two overlap.
     match unsafe { ufmt_to_pretty(to, buffer.len(), from, input.len(), &mut detail) } {
         FULL => Err(format!("a buffer of {detail} bytes will do")),
-        ..0 => Err("not a text".to_string()),
+        ..0 => Err(format!("not a text from byte {detail} on")),
         length => Ok(length as usize),
     }
 }

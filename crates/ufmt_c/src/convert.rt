@@ -1,5 +1,5 @@
 //! Conversions of plain texts to pretty ones and back.
-ghost use Rattle.std.specs.Prelude.{ℕ, List};
+ghost use Rattle.std.specs.Prelude.{◌≤◌, ℕ, List, length};
 ghost use Rattle.ufmt.specs.Document.{Document};
 ghost use Rattle.ufmt.specs.Layout.{plain_text, pretty_text};
 ghost use Rattle.ufmt.specs.declared.class.Class.{Class};
@@ -9,11 +9,14 @@ ghost use Rattle.ufmt_scan.specs.Texts.{ConvertsToAs};
 
 use crate::code::NO_TEXT;
 use crate::filler::Filler;
+use ufmt::class::Class;
+use ufmt::layout::Mode;
 use ufmt::uWrite;
 use ufmt_scan::convert::{
     write_debug_to_plain, write_debug_to_pretty, write_to_plain, write_to_pretty,
 };
 use ufmt_scan::scan::ScanError;
+use ufmt_scan::valid_up_to;
 
 // A conversion: of texts of which class, from which text of a document to which.
 trait Conversion {
@@ -25,6 +28,10 @@ trait Conversion {
 
     fn write<W: uWrite>(writer: &mut W, input: &[u8]) -> Result<(), ScanError<W::Error>>
         ensures { ConvertsToAs W.seen class from to input.now writer.old result writer.new };
+
+    // How many bytes at the front of an input that is no text were read.
+    fn place(input: &[u8]) -> usize
+        ensures { result ≤ length input.now };
 }
 
 struct ToPretty;
@@ -38,6 +45,10 @@ impl Conversion for ToPretty {
 
     fn write<W: uWrite>(writer: &mut W, input: &[u8]) -> Result<(), ScanError<W::Error>> {
         write_to_pretty(writer, input)
+    }
+
+    fn place(input: &[u8]) -> usize {
+        valid_up_to(Class::Token, Mode::Plain, input)
     }
 }
 
@@ -53,6 +64,10 @@ impl Conversion for ToPlain {
     fn write<W: uWrite>(writer: &mut W, input: &[u8]) -> Result<(), ScanError<W::Error>> {
         write_to_plain(writer, input)
     }
+
+    fn place(input: &[u8]) -> usize {
+        valid_up_to(Class::Token, Mode::Pretty, input)
+    }
 }
 
 struct DebugToPretty;
@@ -66,6 +81,10 @@ impl Conversion for DebugToPretty {
 
     fn write<W: uWrite>(writer: &mut W, input: &[u8]) -> Result<(), ScanError<W::Error>> {
         write_debug_to_pretty(writer, input)
+    }
+
+    fn place(input: &[u8]) -> usize {
+        valid_up_to(Class::Debug, Mode::Plain, input)
     }
 }
 
@@ -81,26 +100,35 @@ impl Conversion for DebugToPlain {
     fn write<W: uWrite>(writer: &mut W, input: &[u8]) -> Result<(), ScanError<W::Error>> {
         write_debug_to_plain(writer, input)
     }
+
+    fn place(input: &[u8]) -> usize {
+        valid_up_to(Class::Debug, Mode::Pretty, input)
+    }
 }
 
-// Writes the other text of the input, or returns `NO_TEXT`.
+// Writes the other text of the input, or returns `NO_TEXT`. Then `detail` becomes where the input stops
+// being a text, which takes a scan of its own.
 fn convert<C: Conversion>(buffer: &mut [u8], input: &[u8], detail: &mut usize) -> isize
-    ensures { ConvertsText C.class C.from C.to input.now buffer.old detail.old result buffer.new
+    ensures { ConvertsText C.class C.from C.to input.now buffer.old result buffer.new
         detail.new }
 {
     let mut filler = Filler::new(buffer);
     match C::write(&mut filler, input) {
         Ok(()) => filler.report(detail),
-        Err(ScanError::NotText) => NO_TEXT,
+        Err(ScanError::NotText) => {
+            *detail = C::place(input);
+            NO_TEXT
+        }
         Err(ScanError::Sink(never)) => match never {},
     }
 }
 
 /// Writes the pretty text of the token documents with this plain text. Returns `NO_TEXT` only if no token
-/// document has it; any byte of the buffer may have been overwritten then.
+/// document has it. Then `detail` becomes the number of bytes at the input's front that were read before
+/// the piece that doesn't fit, and any byte of the buffer may have been overwritten.
 #[unsafe(no_mangle)]
 pub extern "C" fn ufmt_to_pretty(buffer: &mut [u8], input: &[u8], detail: &mut usize) -> isize
-    ensures { ConvertsText Token plain_text pretty_text input.now buffer.old detail.old result
+    ensures { ConvertsText Token plain_text pretty_text input.now buffer.old result
         buffer.new detail.new }
 {
     convert::<ToPretty>(buffer, input, detail)
@@ -109,17 +137,18 @@ pub extern "C" fn ufmt_to_pretty(buffer: &mut [u8], input: &[u8], detail: &mut u
 /// Writes the plain text of the token documents with this pretty text. Fails as `ufmt_to_pretty` does.
 #[unsafe(no_mangle)]
 pub extern "C" fn ufmt_to_plain(buffer: &mut [u8], input: &[u8], detail: &mut usize) -> isize
-    ensures { ConvertsText Token pretty_text plain_text input.now buffer.old detail.old result
+    ensures { ConvertsText Token pretty_text plain_text input.now buffer.old result
         buffer.new detail.new }
 {
     convert::<ToPlain>(buffer, input, detail)
 }
 
 /// Writes the pretty text of the debug documents with this plain text. Returns `NO_TEXT` only if no debug
-/// document has it; any byte of the buffer may have been overwritten then.
+/// document has it. Then `detail` becomes the number of bytes at the input's front that were read before
+/// the piece that doesn't fit, and any byte of the buffer may have been overwritten.
 #[unsafe(no_mangle)]
 pub extern "C" fn ufmt_debug_to_pretty(buffer: &mut [u8], input: &[u8], detail: &mut usize) -> isize
-    ensures { ConvertsText Debug plain_text pretty_text input.now buffer.old detail.old result
+    ensures { ConvertsText Debug plain_text pretty_text input.now buffer.old result
         buffer.new detail.new }
 {
     convert::<DebugToPretty>(buffer, input, detail)
@@ -128,7 +157,7 @@ pub extern "C" fn ufmt_debug_to_pretty(buffer: &mut [u8], input: &[u8], detail: 
 /// Writes the plain text of the debug documents with this pretty text. Fails as `ufmt_debug_to_pretty` does.
 #[unsafe(no_mangle)]
 pub extern "C" fn ufmt_debug_to_plain(buffer: &mut [u8], input: &[u8], detail: &mut usize) -> isize
-    ensures { ConvertsText Debug pretty_text plain_text input.now buffer.old detail.old result
+    ensures { ConvertsText Debug pretty_text plain_text input.now buffer.old result
         buffer.new detail.new }
 {
     convert::<DebugToPlain>(buffer, input, detail)

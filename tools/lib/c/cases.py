@@ -101,13 +101,11 @@ REFUSED = [
 
 
 def by_model(text_class, mode, data):
-    """What a conversion makes of these bytes, by the model. Bytes that aren't UTF-8 are no text."""
+    """What a conversion makes of these bytes, by the model: a text, or None and where the bytes stop being one."""
     reader, laid_out = (PlainReader(text_class), pretty) if mode == "plain" else (PrettyReader(text_class), plain)
-    try:
-        document = reader.read(data.decode())
-    except UnicodeDecodeError:
-        return None
-    return None if document is None else laid_out(document).encode()
+    text = data.decode(errors="surrogateescape")
+    document = reader.read(text)
+    return (None, reader.place(text)) if document is None else (laid_out(document).encode(), None)
 
 
 def conversions():
@@ -122,11 +120,11 @@ def conversions():
     for prefix, text_class in (("", TOKEN), ("debug_", DEBUG)):
         for mode, other in (("plain", "pretty"), ("pretty", "plain")):
             for data in given[mode]:
-                text = by_model(text_class, mode, data)
+                text, place = by_model(text_class, mode, data)
                 is_text = "is_debug_text" if prefix else "is_text"
                 yield Case(is_text, (data, mode == "pretty"), result=int(text is not None))
                 call = "%sto_%s" % (prefix, other)
-                yield Case(call, (data,), text=text) if text is not None else Case(call, (data,), result=NO_TEXT)
+                yield Case(call, (data,), text=text) if text is not None else Case(call, (data,), result=NO_TEXT, detail=place)
 
 
 def as_rustc_printed():
