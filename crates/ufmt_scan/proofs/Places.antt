@@ -1,17 +1,24 @@
--- A counter of events has counted the bytes of a document's text once it took the document's events.
-use Rattle.std.proofs.Common.{◌≡◌, ◌∙◌, sym, ℕ, ◌+◌, ◌<◌, ◌^◌, ◌-◌, min, List, [], ◌∷◌, ◌++◌, length, Result, Ok, Err, arith, append-nil}
+-- A counter of events has counted the bytes of a document's text after the scan of a text that begins with it.
+use Rattle.std.proofs.Common.{◌≡◌, ◌∙◌, refl, ap, sym, ℕ, ◌+◌, ◌<◌, ◌^◌, ◌-◌, min, List, [], ◌∷◌, ◌++◌, length, Option, Some, None, Result, Ok, Err, Bor, arith, append-nil}
 use Rattle.std.proofs.Math.Nat.{zero-add}
 use Rattle.std.proofs.lemmas.List.{length-append}
-use Rattle.std.specs.Prelude.{⊤}
 use Rattle.ufmt.specs.Document.{Document}
 use Rattle.ufmt.specs.Layout.{layout, setting}
 use Rattle.ufmt.specs.declared.class.Class.{Class}
-use Rattle.ufmt.specs.Token.{IsDocument}
+use Rattle.ufmt.specs.Reading.{parse_map, read}
+use Rattle.ufmt.specs.Token.{IsDocument, MayFollow, normal}
+use Rattle.ufmt.proofs.FramesClose.{Fits}
+use Rattle.ufmt.proofs.NormalForms.{IsDocument-normal, layout-normal}
+use Rattle.ufmt.proofs.Parsing.{same_parts}
+use Rattle.ufmt.proofs.ReadingComplete.{read_complete}
+use Rattle.ufmt_core.specs.declared.layout.Mode.TheVariants.{Plain, Pretty}
 use Rattle.ufmt_core.specs.declared.layout.Mode.{Mode}
 use Rattle.ufmt_scan.proofs.EventTexts.{events_written, last_setting-append, texts_written-append}
 use Rattle.ufmt_scan.specs.declared.place.EventCounter.{EventCounter}
+use Rattle.ufmt_scan.proofs.ScanWhole.{Front}
 use Rattle.ufmt_scan.specs.Private.Place.{Counted}
-use Rattle.ufmt_scan.specs.Scan.{TextEvent, Scans, ScanError, events_of}
+use Rattle.ufmt_scan.specs.Private.Scanning.{prefixed}
+use Rattle.ufmt_scan.specs.Scan.{TextEvent, ScanError, events_of}
 use Rattle.ufmt_scan.specs.declared.scan.event.ScanError.TheVariants.{NotText, Sink}
 use Rattle.ufmt_scan.specs.ScanTexts.{written, setting_after, texts_written}
 
@@ -26,13 +33,34 @@ counted_event start old new es e before counts continues =
       continues = simp (last_setting-append, sym before.continues) continues;
     }
 
--- a counter that a scan of a text was begun with has counted all of the text, if it is one
-pub counted_scan : {E : Type 0} (class : Class) (mode : Mode) (text : List ℕ) (outcome : Result (⊤) (ScanError E)) (new : EventCounter)
-    → Scans Counted (λ _ _ _. ⊥) class outcome (record { setting = setting mode 0; count = 0 }) new (layout (setting mode 0)) text → length text < 2 ^ 64
-    → (d : Document) → IsDocument class d → layout (setting mode 0) d ≡ text → new.count ≡ length text
-counted_scan class mode text (Ok x) new h few d is same =
-    let whole : texts_written (setting mode 0) (events_of h.0) ≡ text = events_written mode class 0 h.0 h.1.0.0 (omega (arith, h.1.0.1)) ∙ h.1.2 in
-    let counts = rw whole at h.2.counts in
-    counts (omega (arith, few)) ∙ zero-add (length text)
-counted_scan class mode text (Err NotText) new h few d is same = absurd (h.2 d is same)
-counted_scan class mode text (Err (Sink e)) new h few d is same = absurd h.1
+fits_at_0 : (mode : Mode) → Fits (setting mode 0) 255
+fits_at_0 Plain = tt
+fits_at_0 Pretty = omega arith
+
+-- the scan of a text at whose front is a document has counted the document's text
+module _ (class : Class) (mode : Mode) (text : List ℕ) (few : length text < 2 ^ 64) where
+  abbrev begun : EventCounter
+  begun = record { setting = setting mode 0; count = 0 }
+
+  nothing : Counted begun [] begun
+  nothing = record { counts = λ less. refl; continues = refl }
+
+  module _ (d : Document) (rest : List ℕ) (is : IsDocument class d) (follows : MayFollow class rest) (same : text ≡ layout (setting mode 0) d ++ rest) where
+    events_there : parse_map events_of (read class (setting mode 0) 255 text) ≡ Some (events_of (normal d), rest)
+    events_there = ap (λ t. parse_map events_of (read class (setting mode 0) 255 t)) same
+        ∙ ap (parse_map events_of) (read_complete class 255 (setting mode 0) d rest is.0 is.1 (fits_at_0 mode) follows)
+
+    text_there : texts_written (setting mode 0) (events_of (normal d)) ≡ layout (setting mode 0) d
+    text_there = let token = IsDocument-normal class d is in events_written mode class 0 (normal d) token.0 (omega (arith, token.1)) ∙ layout-normal (setting mode 0) d
+
+    pub counted_front : {E : Type 0} (outcome : Result (Bor (List ℕ)) (ScanError E)) (new : EventCounter) → Front Counted (λ _ _ _. ⊥) class mode text begun outcome new
+        → new.count ≡ length (layout (setting mode 0) d)
+    counted_front (Ok left) new h =
+        let parts = same_parts {A = List TextEvent} {B = List ℕ} (events_of (normal d), rest) (h.events ++ [], left.now) (sym events_there ∙ h.is) in
+        let whole : texts_written (setting mode 0) h.events ≡ layout (setting mode 0) d = ap (texts_written (setting mode 0)) (sym (parts.0 ∙ append-nil h.events)) ∙ text_there in
+        let counts = rw whole at (h.takes begun [] nothing).counts in
+        let long : length text ≡ length (layout (setting mode 0) d) + length rest = ap length same ∙ length-append (layout (setting mode 0) d) rest in
+        counts (omega (arith, few, long)) ∙ zero-add (length (layout (setting mode 0) d))
+    counted_front (Err NotText) new h =
+        let none = sym events_there ∙ h.emits.is ∙ ap (prefixed h.emits.events) (h.none refl) in absurd (cc)
+    counted_front (Err (Sink e)) new h = absurd (h.emits.takes begun [] nothing)

@@ -1,8 +1,8 @@
 //! How much of a text fits the documents of a class.
-ghost use Rattle.std.specs.Prelude.{◌≡◌, ◌≤◌, length};
+ghost use Rattle.std.specs.Prelude.{◌≡◌, ◌≤◌, ◌++◌, ℕ, List, length};
 ghost use Rattle.ufmt.specs.Document.{Document};
 ghost use Rattle.ufmt.specs.Layout.{layout, setting};
-ghost use Rattle.ufmt.specs.Token.{IsDocument};
+ghost use Rattle.ufmt.specs.Token.{IsDocument, MayFollow};
 ghost use Rattle.ufmt_scan.specs.Private.Place.{Counted};
 ghost use Rattle.std.proofs.Common.{refl, sym};
 ghost use Rattle.std.proofs.Math.Nat.{add-zero};
@@ -18,8 +18,11 @@ use ufmt::layout::{Mode, Setting};
 /// around leaves. A text that is only cut may be read to its end. Takes no memory.
 pub fn valid_up_to(class: Class, mode: Mode, text: &[u8]) -> usize
     ensures within { result ≤ length text.now }
-    ensures whole { (d : Document) → IsDocument class d → layout (setting mode 0) d ≡ text.now
+    ensures whole { (d : Document) → IsDocument class d → text.now ≡ layout (setting mode 0) d
         → result ≡ length text.now }
+    ensures after_document { (d : Document) (rest : List ℕ) → IsDocument class d
+        → MayFollow class rest → text.now ≡ layout (setting mode 0) d ++ rest
+        → result ≡ length (layout (setting mode 0) d) }
 {
     let mut counter = EventCounter {
         setting: Setting { mode, depth: 0 },

@@ -42,19 +42,6 @@ pub fn scan<S: Sink>(
     }
 }
 
-/// The same with one copy of the code for all modes and classes, which is less code and slower.
-pub(crate) fn scan_once<S: Sink>(
-    class: Class,
-    mode: Mode,
-    input: &[u8],
-    sink: &mut S,
-) -> Result<(), ScanError<S::Error>>
-    ensures { Scans S.took S.stopped class result sink.old sink.new (layout (setting mode 0))
-        input.now }
-{
-    scan_in::<S, false, false>(class, mode, input, sink)
-}
-
 // `PRETTY` and `DEBUG` are never read, here and below. They make one copy per sink, mode and class,
 // in which brackets are constants.
 fn scan_in<S: Sink, const PRETTY: bool, const DEBUG: bool>(
@@ -129,6 +116,20 @@ fn scan_document<'a, S: Sink, const PRETTY: bool, const DEBUG: bool>(
             return Ok(rest);
         }
     }
+}
+
+/// Emits the events of the document at the front of the input, and returns what follows it. One copy of the
+/// code serves all modes and classes. It is less code than four, and slower.
+pub(crate) fn scan_once<'a, S: Sink>(
+    class: Class,
+    mode: Mode,
+    input: &'a [u8],
+    sink: &mut S,
+) -> Result<&'a [u8], ScanError<S::Error>>
+    ensures { ScansOn S.took S.stopped result sink.old sink.new
+        (parse_map events_of (read class (setting mode 0) 255 input.now)) (λ rest. Some ([], rest.now)) }
+{
+    scan_document::<S, false, false>(class, mode, input, sink)
 }
 
 // Emits the name of the next field, if the innermost block is a struct.
