@@ -1,10 +1,11 @@
 //! Conversions of plain texts to pretty ones and back.
-ghost use Rattle.std.specs.Prelude.{◌≤◌, ℕ, List, length};
+ghost use Rattle.std.specs.Prelude.{ℕ, List};
 ghost use Rattle.ufmt.specs.Document.{Document};
 ghost use Rattle.ufmt.specs.Layout.{plain_text, pretty_text};
 ghost use Rattle.ufmt.specs.declared.class.Class.{Class};
 ghost use Rattle.ufmt.specs.declared.class.Class.TheVariants.{Debug, Token};
 ghost use Rattle.ufmt_c.specs.Conversions.{ConvertsText};
+ghost use Rattle.ufmt_scan.specs.Places.{ReadsUpTo};
 ghost use Rattle.ufmt_scan.specs.Texts.{ConvertsToAs};
 
 use crate::code::NO_TEXT;
@@ -31,7 +32,7 @@ trait Conversion {
 
     // How many bytes at the front of an input that is no text were read.
     fn place(input: &[u8]) -> usize
-        ensures { result ≤ length input.now };
+        ensures { ReadsUpTo class from input.now result };
 }
 
 struct ToPretty;

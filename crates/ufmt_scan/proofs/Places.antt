@@ -1,5 +1,5 @@
 -- A counter of events has counted the bytes of a document's text after the scan of a text that begins with it.
-use Rattle.std.proofs.Common.{◌≡◌, ◌∙◌, refl, ap, sym, ℕ, ◌+◌, ◌<◌, ◌^◌, ◌-◌, min, List, [], ◌∷◌, ◌++◌, length, Option, Some, None, Result, Ok, Err, Bor, arith, append-nil}
+use Rattle.std.proofs.Common.{◌≡◌, ◌∙◌, refl, ap, sym, ℕ, ◌+◌, ◌<◌, ◌^◌, ◌-◌, min, List, [], ◌∷◌, ◌++◌, length, Some, Result, Ok, Err, Bor, arith, append-nil}
 use Rattle.std.proofs.Math.Nat.{zero-add}
 use Rattle.std.proofs.lemmas.List.{length-append}
 use Rattle.ufmt.specs.Document.{Document}
@@ -7,6 +7,7 @@ use Rattle.ufmt.specs.Layout.{layout, setting}
 use Rattle.ufmt.specs.declared.class.Class.{Class}
 use Rattle.ufmt.specs.Reading.{parse_map, read}
 use Rattle.ufmt.specs.Token.{IsDocument, MayFollow, normal}
+use Rattle.ufmt.proofs.ClassLeaves.{nothing_follows}
 use Rattle.ufmt.proofs.FramesClose.{Fits}
 use Rattle.ufmt.proofs.NormalForms.{IsDocument-normal, layout-normal}
 use Rattle.ufmt.proofs.Parsing.{same_parts}
@@ -16,6 +17,7 @@ use Rattle.ufmt_core.specs.declared.layout.Mode.{Mode}
 use Rattle.ufmt_scan.proofs.EventTexts.{events_written, last_setting-append, texts_written-append}
 use Rattle.ufmt_scan.specs.declared.place.EventCounter.{EventCounter}
 use Rattle.ufmt_scan.proofs.ScanWhole.{Front}
+use Rattle.ufmt_scan.specs.Places.{ReadsUpTo}
 use Rattle.ufmt_scan.specs.Private.Place.{Counted}
 use Rattle.ufmt_scan.specs.Private.Scanning.{prefixed}
 use Rattle.ufmt_scan.specs.Scan.{TextEvent, ScanError, events_of}
@@ -53,7 +55,7 @@ module _ (class : Class) (mode : Mode) (text : List ℕ) (few : length text < 2 
     text_there : texts_written (setting mode 0) (events_of (normal d)) ≡ layout (setting mode 0) d
     text_there = let token = IsDocument-normal class d is in events_written mode class 0 (normal d) token.0 (omega (arith, token.1)) ∙ layout-normal (setting mode 0) d
 
-    pub counted_front : {E : Type 0} (outcome : Result (Bor (List ℕ)) (ScanError E)) (new : EventCounter) → Front Counted (λ _ _ _. ⊥) class mode text begun outcome new
+    counted_front : {E : Type 0} (outcome : Result (Bor (List ℕ)) (ScanError E)) (new : EventCounter) → Front Counted (λ _ _ _. ⊥) class mode text begun outcome new
         → new.count ≡ length (layout (setting mode 0) d)
     counted_front (Ok left) new h =
         let parts = same_parts {A = List TextEvent} {B = List ℕ} (events_of (normal d), rest) (h.events ++ [], left.now) (sym events_there ∙ h.is) in
@@ -64,3 +66,18 @@ module _ (class : Class) (mode : Mode) (text : List ℕ) (few : length text < 2 
     counted_front (Err NotText) new h =
         let none = sym events_there ∙ h.emits.is ∙ ap (prefixed h.emits.events) (h.none refl) in absurd (cc)
     counted_front (Err (Sink e)) new h = absurd (h.emits.takes begun [] nothing)
+
+  -- the smaller of what it counted and the text's length is the place up to which the text was read
+  pub reads_up_to : {E : Type 0} (outcome : Result (Bor (List ℕ)) (ScanError E)) (new : EventCounter) (place : ℕ) → Front Counted (λ _ _ _. ⊥) class mode text begun outcome new
+      → place ≡ min new.count (length text) → ReadsUpTo class (layout (setting mode 0)) text place
+  reads_up_to outcome new place h is_place = record {
+    within = omega (arith, is_place);
+    whole = λ d is same.
+        let counts = counted_front d [] is (nothing_follows class) (same ∙ sym (append-nil (layout (setting mode 0) d))) outcome new h in
+        let long = ap length same in
+        omega (arith, counts, long, is_place);
+    after_document = λ d rest is follows same.
+        let counts = counted_front d rest is follows same outcome new h in
+        let long = ap length same ∙ length-append (layout (setting mode 0) d) rest in
+        omega (arith, counts, long, is_place);
+  }

@@ -1,8 +1,6 @@
 //! How much of a text fits the documents of a class.
-ghost use Rattle.std.specs.Prelude.{◌≡◌, ◌≤◌, ◌++◌, ℕ, List, length};
-ghost use Rattle.ufmt.specs.Document.{Document};
 ghost use Rattle.ufmt.specs.Layout.{layout, setting};
-ghost use Rattle.ufmt.specs.Token.{IsDocument, MayFollow};
+ghost use Rattle.ufmt_scan.specs.Places.{ReadsUpTo};
 ghost use Rattle.ufmt_scan.specs.Private.Place.{Counted};
 ghost use Rattle.std.proofs.Common.{refl, sym};
 ghost use Rattle.std.proofs.Math.Nat.{add-zero};
@@ -17,12 +15,7 @@ use ufmt::layout::{Mode, Setting};
 /// document of this class has this text in this mode. A piece is a leaf, or what one event of `scan` has
 /// around leaves. A text that is only cut may be read to its end. Takes no memory.
 pub fn valid_up_to(class: Class, mode: Mode, text: &[u8]) -> usize
-    ensures within { result ≤ length text.now }
-    ensures whole { (d : Document) → IsDocument class d → text.now ≡ layout (setting mode 0) d
-        → result ≡ length text.now }
-    ensures after_document { (d : Document) (rest : List ℕ) → IsDocument class d
-        → MayFollow class rest → text.now ≡ layout (setting mode 0) d ++ rest
-        → result ≡ length (layout (setting mode 0) d) }
+    ensures { ReadsUpTo class (layout (setting mode 0)) text.now result }
 {
     let mut counter = EventCounter {
         setting: Setting { mode, depth: 0 },
