@@ -14,9 +14,9 @@ WITHOUT_MEMORY = (
     ("print a struct by Small", "struct_small"), ("print a line", "line"), ("print a column", "column"), ("dump bytes", "dump"),
     ("parse a number", "parse_number"), ("parse a struct, plain", "parse_struct"),
     ("parse a struct, pretty", "parse_struct_pretty", "parse_two", "parse_three"), ("scan a text: is_text", "is_text"),
+    ("to_pretty_into", "to_pretty_into"), ("to_plain_into", "to_plain_into"),
 )
 ON_TEXTS = (
-    ("to_pretty_into", "to_pretty_into"), ("to_plain_into", "to_plain_into"),
     ("first_difference", "first_difference"), ("compare_pretty", "compare_pretty"),
     ("print a struct to a String", "struct_to_string"), ("print a map to a String", "map_to_string"),
     ("parse a list of numbers", "parse_list"), ("parse a map", "parse_map"), ("parse a Tree", "parse_tree"),
