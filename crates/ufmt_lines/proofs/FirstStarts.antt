@@ -6,7 +6,7 @@ use Rattle.std.specs.Prelude.{IfSome, IsNone}
 use Rattle.ufmt.specs.Leaves.{outside, is_opening}
 use Rattle.ufmt_core.specs.declared.layout.Mode.{Mode}
 use Rattle.ufmt_lines.specs.Private.Blocks.{AreLeft, AreOpen, IsClosing, IsFirstFrom, NoneAt, open_blocks}
-use Rattle.ufmt_lines.specs.Private.Brackets.{pending, ArePlain, closing, ends_closed, gaps, is_plain, may_begin_at}
+use Rattle.ufmt_lines.specs.Private.Brackets.{pending, ArePlain, HasNoGap, closing, ends_closed, gaps, is_plain, may_begin_at}
 use Rattle.ufmt_lines.specs.Readable.{output_of, converted, converted_here, may_begin_after, tail_converted}
 use Rattle.ufmt_lines.specs.declared.run.blocks.OpenBlocks.{OpenBlocks}
 use Rattle.ufmt_lines.proofs.LastOpenings.{closing_byte, converted_shape, ends_at_last, ends_dropped, last_alone, none_at_end, plain_after, plain_byte}
@@ -62,8 +62,8 @@ one_less_left byte starts tail some gap other left = left_step byte starts (star
     grows : (front : List ℕ) → 2 ≤ starts + gaps front → 2 ≤ (starts - 1) + gaps (byte ∷ front)
     grows front h = rw gap (omega (arith, h, some))
 
-plain_left : (byte : ℕ) (tail : List ℕ) → is_plain byte ≡ true → AreLeft tail 0 → AreLeft (byte ∷ tail) 0
-plain_left byte tail plain left = as_many_left byte 0 tail (λ opens closes. true≢false (sym opens ∙ (plain_byte byte plain).no_opening)) left
+plain_left : (byte starts : ℕ) (tail : List ℕ) → is_plain byte ≡ true → AreLeft tail starts → AreLeft (byte ∷ tail) starts
+plain_left byte starts tail plain left = as_many_left byte starts tail (λ opens closes. true≢false (sym opens ∙ (plain_byte byte plain).no_opening)) left
 
 -- at the last byte none is left
 pub none_left_at_end : (tail : List ℕ) → IsClosing tail → AreLeft tail 0
@@ -74,23 +74,16 @@ none_left_at_end tail (byte, is, closes) = subst (λ t. AreLeft t 0) (sym is)
     nothing [] bracket rest e opens ends = absurd (cc)
     nothing (x ∷ front) bracket rest e opens ends = absurd (cc)
 
--- over a stretch of plain bytes none becomes one
-left_by : (text : List ℕ) (size start end : ℕ) → start + size ≡ end → end ≤ length text → ArePlain text start end → AreLeft (drop end text) 0 → AreLeft (drop start text) 0
-left_by text zero start end all within plain left = let same : end ≡ start = omega (arith, all) in subst (λ k. AreLeft (drop k text) 0) same left
-left_by text (suc size) start end all within plain left =
-    let more = left_by text size (suc start) end (omega (arith, all)) within (plain_after text start end plain) left in
-    subst (λ t. AreLeft t 0) (sym (drop-cons text start 0 (omega (arith, within, all))))
-    (plain_left (get_or text start 0) (drop (suc start) text) (plain start (omega arith) (omega (arith, all))) more)
+-- over a stretch of plain bytes there are no more
+left_by : (text : List ℕ) (starts size start end : ℕ) → start + size ≡ end → end ≤ length text → ArePlain text start end → AreLeft (drop end text) starts → AreLeft (drop start text) starts
+left_by text starts zero start end all within plain left = let same : end ≡ start = omega (arith, all) in subst (λ k. AreLeft (drop k text) starts) same left
+left_by text starts (suc size) start end all within plain left =
+    let more = left_by text starts size (suc start) end (omega (arith, all)) within (plain_after text start end plain) left in
+    subst (λ t. AreLeft t starts) (sym (drop-cons text start 0 (omega (arith, within, all))))
+    (plain_left (get_or text start 0) starts (drop (suc start) text) (plain start (omega arith) (omega (arith, all))) more)
 
-pub left_over : (text : List ℕ) (start end starts : ℕ) → start ≤ end → end ≤ length text → ArePlain text start end → (start < end → starts ≡ 0) → AreLeft (drop end text) starts
-    → AreLeft (drop start text) starts
-left_over text start end starts order within plain none left = go (cases_lt start end)
-  where
-    go : (start < end) ⊎ (end ≤ start) → AreLeft (drop start text) starts
-    go (inl less) =
-        let empty = none less in
-        subst (AreLeft (drop start text)) (sym empty) (left_by text (end - start) start end (omega (arith, order)) within plain (subst (AreLeft (drop end text)) empty left))
-    go (inr upto) = let same : end ≡ start = omega (arith, order, upto) in subst (λ k. AreLeft (drop k text) starts) same left
+pub left_over : (text : List ℕ) (start end starts : ℕ) → start ≤ end → end ≤ length text → ArePlain text start end → AreLeft (drop end text) starts → AreLeft (drop start text) starts
+left_over text start end starts order within plain left = left_by text starts (end - start) start end (omega (arith, order)) within plain left
 
 -- the bracket that opens the block of the last byte is known
 pub is_first_known : (byte : ℕ) (tail : List ℕ) (blocks : OpenBlocks) → AreOpen tail blocks → is_opening byte ≡ true → closing outside tail ≡ pending zero
@@ -140,16 +133,19 @@ module _ (mode : Mode) (text : List ℕ) (ends : ends_closed text ≡ true) wher
   pub first_same : (at : ℕ) (first : Option ℕ) → NoneAt mode text at → IsFirstFrom mode text (at + 1) first → IsFirstFrom mode text at first
   first_same at first none h = first_lower at (at + 1) first (λ k from less. let same : at ≡ k = omega (arith, from, less) in subst (NoneAt mode text) same none) h
 
-  -- over a stretch of plain bytes it stays the first one
-  pub first_over : (start end starts : ℕ) (first : Option ℕ) → start ≤ end → end < length text → ArePlain text start end → (start < end → starts ≡ 0) → AreLeft (drop end text) starts
+  -- over a stretch of plain bytes it stays the first one, if none is left or the stretch is within a word
+  pub first_over : (start end starts : ℕ) (first : Option ℕ) → start ≤ end → end < length text → ArePlain text start end → (starts ≡ 0) ⊎ HasNoGap text start end → AreLeft (drop end text) starts
       → IsFirstFrom mode text (end + 1) first → IsFirstFrom mode text (start + 1) first
-  first_over start end starts first order within plain none left h = first_lower (start + 1) (end + 1) first between h
+  first_over start end starts first order within plain passes left h = first_lower (start + 1) (end + 1) first (between passes) h
     where
-      between : (at : ℕ) → start + 1 ≤ at → at < end + 1 → NoneAt mode text at
-      between at from less =
-          let empty = none (omega (arith, from, less)) in
+      between : (starts ≡ 0) ⊎ HasNoGap text start end → (at : ℕ) → start + 1 ≤ at → at < end + 1 → NoneAt mode text at
+      between (inl empty) at from less =
           none_if_none_left at (omega (arith, less, within))
-          (left_by text (end - at) at end (omega (arith, less)) (omega (arith, within)) (λ k later before. plain k (omega (arith, from, later)) before) (subst (AreLeft (drop end text)) empty left))
+          (left_over text at end 0 (omega (arith, less)) (omega (arith, within)) (λ k later before. plain k (omega (arith, from, later)) before) (subst (AreLeft (drop end text)) empty left))
+      between (inr no_gap) at from less =
+          let next : at ≡ suc (at - 1) = omega (arith, from) in
+          let none : NoneAt mode text (suc (at - 1)) = ap (λ b. converted_here b mode (drop (suc (at - 1)) text)) (no_gap (at - 1) (omega (arith, from)) (omega (arith, from, less))) in
+          subst (NoneAt mode text) (sym next) none
 
   -- ---- the output, by the first place
 

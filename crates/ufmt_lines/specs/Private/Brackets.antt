@@ -124,6 +124,10 @@ gaps (c ∷ t) = cond (may_begin_after c) (suc (gaps t)) (gaps t)
 abbrev pub gaps_between : List ℕ → ℕ → ℕ → ℕ
 gaps_between text start end = gaps (take (end - start) (drop start text))
 
+-- after none of these bytes may a text begin
+abbrev pub HasNoGap : List ℕ → ℕ → ℕ → Type 0
+HasNoGap text start end = (at : ℕ) → start ≤ at → at < end → may_begin_after (slice_index_or text at 0) ≡ false
+
 -- no tail that begins before this place is a text of the other mode
 abbrev pub NoneBefore : Mode → List ℕ → ℕ → Type 0
 NoneBefore mode text low = (at : ℕ) → at < low → converted mode (drop at text) ≡ None

@@ -1,16 +1,16 @@
 //! The output for a line or a group of lines: the bytes before its longest debug text, and that text
 //! in the other mode.
-ghost use Rattle.std.specs.Prelude.{◌≡◌, ◌<◌, ◌≤◌, ◌+◌, ◌-◌, ◌++◌, [], ◌∷◌, List, ℕ, true, IfSome, IsNone, OnOk, Some, drop, is_some, length, slice_index, take, zero};
+ghost use Rattle.std.specs.Prelude.{◌≡◌, ◌⊎◌, ◌<◌, ◌≤◌, ◌+◌, ◌-◌, ◌++◌, [], ◌∷◌, List, ℕ, true, IfSome, IsNone, OnOk, Some, drop, is_some, length, slice_index, take, zero};
 ghost use Rattle.ufmt.specs.Layout.{layout, setting};
 ghost use Rattle.ufmt.specs.Leaves.{is_opening, outside};
 ghost use Rattle.ufmt.specs.declared.class.Class.TheVariants.{Debug};
 ghost use Rattle.ufmt_scan.specs.Texts.{ConvertsToAs};
 ghost use Rattle.ufmt_lines.specs.Private.Blocks.{AreLeft, IsFirstFrom};
-ghost use Rattle.ufmt_lines.specs.Private.Brackets.{ArePlain, NoneBefore, SameFrom, closing, ends_closed, gaps_between, may_begin_at, pending};
+ghost use Rattle.ufmt_lines.specs.Private.Brackets.{ArePlain, HasNoGap, NoneBefore, SameFrom, closing, ends_closed, gaps_between, may_begin_at, pending};
 ghost use Rattle.ufmt_lines.specs.Readable.{output_of, converted, converted_here, may_begin_after, other_mode};
 
 use super::blocks::OpenBlocks;
-use super::brackets::{Found, last_opening, plain_start};
+use super::brackets::{Found, is_plain, last_opening, plain_start};
 use std::alloc::{AllocError, Global};
 use ufmt::layout::Mode;
 use ufmt::uWrite;
@@ -211,17 +211,39 @@ fn starts_before(starts: u8, byte: u8, is_first: bool) -> u8
     starts
 }
 
-// Where a stretch of plain bytes begins that goes to `end`. It is empty if a start is left.
+// Where a stretch of plain bytes begins that goes to `end`. While a start is left, it is within a word.
+#[inline(always)]
 fn stretch_start(group: &[u8], end: usize, starts: u8) -> usize
     requires { end ≤ length group.now }
     ensures within { result ≤ end }
     ensures plain { ArePlain group.now result end }
-    ensures none_left { result < end → starts ≡ 0 }
+    ensures passes { (starts ≡ 0) ⊎ HasNoGap group.now result end }
 {
-    if starts > 0 {
-        return end;
+    if starts == 0 {
+        return plain_start(group, end);
     }
-    plain_start(group, end)
+    plain_word_start(group, end)
+}
+
+// Where a stretch of plain bytes begins after none of which a text may begin.
+fn plain_word_start(text: &[u8], end: usize) -> usize
+    requires { end ≤ length text.now }
+    ensures within { result ≤ end }
+    ensures plain { ArePlain text.now result end }
+    ensures no_gap { HasNoGap text.now result end }
+{
+    let mut start = end;
+    'bytes: while start > 0 {
+        let byte = text[start - 1];
+        if !is_plain(byte) {
+            return start;
+        }
+        if may_begin_after(byte) {
+            return start;
+        }
+        start -= 1;
+    }
+    start
 }
 
 // Where a text may begin at the earliest of which this is the first bracket: only a name and a space come

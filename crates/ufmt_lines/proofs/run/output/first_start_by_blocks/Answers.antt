@@ -46,7 +46,7 @@ bytes-preserved c =
     record {
       within = omega (arith, order, inside, next);
       blocks = c.before_stretch-blocks.ensures blocks;
-      left = left_over group start (at - 1) c.starts_before-starts.result order (omega (arith, inside, next)) c.stretch_start-start.ensures.plain c.stretch_start-start.ensures.none_left left;
+      left = left_over group start (at - 1) c.starts_before-starts.result order (omega (arith, inside, next)) c.stretch_start-start.ensures.plain left;
       later = first_over c.args.mode group c.requires start (at - 1) c.starts_before-starts.result c.first_from-first.result order (omega (arith, inside, next)) c.stretch_start-start.ensures.plain
-          c.stretch_start-start.ensures.none_left left (subst (λ k. IsFirstFrom c.args.mode group k c.first_from-first.result) after c.first_from-first.ensures);
+          c.stretch_start-start.ensures.passes left (subst (λ k. IsFirstFrom c.args.mode group k c.first_from-first.result) after c.first_from-first.ensures);
     }
