@@ -9,9 +9,9 @@ use Rattle.ufmt_lines.specs.Private.Blocks.{AreLeft, AreOpen, IsClosing, IsFirst
 use Rattle.ufmt_lines.specs.Private.Brackets.{pending, ArePlain, HasNoGap, closing, ends_closed, gaps, is_plain, may_begin_at}
 use Rattle.ufmt_lines.specs.Readable.{output_of, converted, converted_here, may_begin_after, tail_converted}
 use Rattle.ufmt_lines.specs.declared.run.blocks.OpenBlocks.{OpenBlocks}
-use Rattle.ufmt_lines.proofs.LastOpenings.{closing_byte, converted_shape, ends_at_last, ends_dropped, last_alone, none_at_end, plain_after, plain_byte}
+use Rattle.ufmt_lines.proofs.LastOpenings.{closing_byte, converted_shape, ends_at_last, ends_dropped, last_alone, none_at_end, option_none, plain_after, plain_byte}
 use Rattle.ufmt_lines.proofs.LongestTexts.{nothing_is_no_text}
-use Rattle.ufmt_lines.proofs.Searches.{ReachedBy, begins_where_it_may, reached_next, rest_stays}
+use Rattle.ufmt_lines.proofs.Searches.{ReachedBy, begins_where_it_may, none_at, reached_next, rest_stays}
 use Rattle.ufmt_lines.proofs.Tails.{tail_at}
 
 -- ---- tails
@@ -24,6 +24,7 @@ last_is_closing text last size ends = (get_or text last 0, last_alone text last 
 pub tail_before : (text : List ℕ) (start after : ℕ) → after ≡ suc start → after < length text → drop start text ≡ get_or text start 0 ∷ drop after text
 tail_before text start after next within = drop-cons text start 0 (omega (arith, next, within)) ∙ ap (λ k. get_or text start 0 ∷ drop k text) (sym next)
 
+-- a tail from within the text isn't empty
 pub some_tail : (text : List ℕ) (at : ℕ) → at < length text → drop at text ≢ []
 some_tail text at within = λ none. let is = sym (drop-cons text at 0 within) ∙ none in absurd (cc)
 
@@ -41,6 +42,7 @@ left_step byte starts more tail other grows left (x ∷ front) bracket rest is o
     let same : tail ≡ front ++ bracket ∷ rest = cc in
     subst (λ b. 2 ≤ more + gaps (b ∷ front)) first (grows front (left front bracket rest same opens closes))
 
+-- a byte more takes no gap away
 gaps_more : (byte n : ℕ) (front : List ℕ) → 2 ≤ n + gaps front → 2 ≤ n + gaps (byte ∷ front)
 gaps_more byte n front h = go (may_begin_after byte)
   where
@@ -48,13 +50,11 @@ gaps_more byte n front h = go (may_begin_after byte)
     go true = omega (arith, h)
     go false = h
 
--- those before a byte
-pub two_left : (byte : ℕ) (tail : List ℕ) → AreLeft (byte ∷ tail) 2
-two_left byte tail = λ front bracket rest is opens closes. omega arith
-
+-- if the byte isn't the first bracket
 pub as_many_left : (byte starts : ℕ) (tail : List ℕ) → (is_opening byte ≡ true → closing outside tail ≡ pending zero → ⊥) → AreLeft tail starts → AreLeft (byte ∷ tail) starts
 as_many_left byte starts tail other left = left_step byte starts starts tail other (gaps_more byte starts) left
 
+-- if a text may begin after the byte
 pub one_less_left : (byte starts : ℕ) (tail : List ℕ) → 0 < starts → may_begin_after byte ≡ true → (is_opening byte ≡ true → closing outside tail ≡ pending zero → ⊥) → AreLeft tail starts
     → AreLeft (byte ∷ tail) (starts - 1)
 one_less_left byte starts tail some gap other left = left_step byte starts (starts - 1) tail other grows left
@@ -62,6 +62,7 @@ one_less_left byte starts tail some gap other left = left_step byte starts (star
     grows : (front : List ℕ) → 2 ≤ starts + gaps front → 2 ≤ (starts - 1) + gaps (byte ∷ front)
     grows front h = rw gap (omega (arith, h, some))
 
+-- before a plain byte
 plain_left : (byte starts : ℕ) (tail : List ℕ) → is_plain byte ≡ true → AreLeft tail starts → AreLeft (byte ∷ tail) starts
 plain_left byte starts tail plain left = as_many_left byte starts tail (λ opens closes. true≢false (sym opens ∙ (plain_byte byte plain).no_opening)) left
 
@@ -94,22 +95,14 @@ is_first_known byte tail blocks h opens closes =
 
 -- ---- where no text begins
 
-some_is_none : {A : Type 0} (o : Option A) → ((x : A) → o ≡ Some x → ⊥) → o ≡ None
-some_is_none None h = refl
-some_is_none (Some x) h = absurd (h x refl)
-
-none_here : (here : Bool) (mode : Mode) (text : List ℕ) → converted mode text ≡ None → converted_here here mode text ≡ None
-none_here true mode text h = h
-none_here false mode text h = refl
-
--- nor after the end
+-- after the end
 pub none_past_end : (mode : Mode) (text : List ℕ) (at : ℕ) → length text ≤ at → NoneAt mode text at
-none_past_end mode text at past = none_here (may_begin_at text at) mode (drop at text) (ap (converted mode) (drop_all at text past) ∙ nothing_is_no_text mode)
+none_past_end mode text at past = none_at (may_begin_at text at) mode (drop at text) (ap (converted mode) (drop_all at text past) ∙ nothing_is_no_text mode)
 
 module _ (mode : Mode) (text : List ℕ) (ends : ends_closed text ≡ true) where
   -- at a place that isn't left
   pub none_if_none_left : (at : ℕ) → at < length text → AreLeft (drop at text) 0 → NoneAt mode text at
-  none_if_none_left at within left = none_here (may_begin_at text at) mode (drop at text) (some_is_none (converted mode (drop at text)) (λ other is. elim (converted_shape mode (drop at text) other is) [
+  none_if_none_left at within left = none_at (may_begin_at text at) mode (drop at text) (option_none (converted mode (drop at text)) (λ other is. elim (converted_shape mode (drop at text) other is) [
     | inl leaf ↦ absurd (true≢false (sym ends ∙ sym (ends_dropped at text within) ∙ leaf.1))
     | inr block ↦
         let body : closing outside block.body ≡ pending zero = ap (closing outside) (sym (append-nil block.body)) ∙ block.closes zero [] refl in
@@ -149,12 +142,14 @@ module _ (mode : Mode) (text : List ℕ) (ends : ends_closed text ≡ true) wher
 
   -- ---- the output, by the first place
 
+  -- no text begins before the place
   reached_first : (start : ℕ) → start ≤ length text → ((at : ℕ) → at < start → NoneAt mode text at) → ReachedBy mode text start
   reached_first zero within none = refl
   reached_first (suc start) within none =
       let next : start + 1 ≡ suc start = omega arith in
       subst (ReachedBy mode text) next (reached_next mode text start (omega (arith, within)) (reached_first start (omega (arith, within)) (λ at less. none at (omega (arith, less)))) (none start (omega arith)))
 
+  -- what `text_start` ensures
   pub first_within : (first : Option ℕ) → IsFirstFrom mode text 0 first → IfSome first (λ start. start ≤ length text)
   first_within None h = tt
   first_within (Some start) h = let within = h.0 in omega (arith, within)

@@ -513,7 +513,8 @@ begins_near mode text place k other h is = elim (converted_shape mode (drop k te
         let same : at ≡ place = omega arith in
         subst (λ n. (k ≤ n) × (gaps_between text k n ≤ 1)) same (found.order, found.one_gap)
 
-option_none : {A : Type 0} (o : Option A) → ((x : A) → o ≡ Some x → ⊥) → o ≡ None
+-- without a value it is `None`
+pub option_none : {A : Type 0} (o : Option A) → ((x : A) → o ≡ Some x → ⊥) → o ≡ None
 option_none None h = refl
 option_none (Some x) h = absurd (h x refl)
 

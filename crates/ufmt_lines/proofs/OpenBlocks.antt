@@ -11,6 +11,7 @@ use Rattle.ufmt_lines.proofs.LastOpenings.{IsNoQuote, between_stays, closing_byt
 
 -- ---- what a byte changes
 
+-- at each kind of byte outside of quotes
 open_plain : (known : Closing) → open_blocks (at_plain known) ≡ open_blocks known
 open_plain unread = refl
 open_plain (pending n) = refl
@@ -37,6 +38,7 @@ open_closing (pending n) read = refl
 open_closing opened read = refl
 open_closing none read = refl
 
+-- at each byte outside of quotes
 plain_read : (known : Closing) → IsRead (at_plain known)
 plain_read unread = tt
 plain_read (pending n) = tt
@@ -56,6 +58,7 @@ opening_read (pending (suc n)) = tt
 opening_read opened = tt
 opening_read none = tt
 
+-- between quotes it never says that no byte was read
 mutual
   between_read : (quote : ℕ) (t : List ℕ) → IsRead (closing (between quote) t)
   between_read quote [] = tt
@@ -84,6 +87,7 @@ outside_read (c ∷ t) some = go (is_quote c) (is_opening c) (is_closing c)
 
 -- ---- there are at most as many as bytes
 
+-- at most one more with each byte
 more_before : (known : Closing) (size : ℕ) → open_blocks known ≤ size
     → (open_blocks (at_plain known) ≤ suc size) × (open_blocks (at_opening known) ≤ suc size) × (open_blocks (at_closing known) ≤ suc size)
 more_before unread size h = (omega arith, omega arith, omega arith)
@@ -134,6 +138,7 @@ module _ (tail : List ℕ) (blocks : OpenBlocks) (h : AreOpen tail blocks) where
     escaped_apostrophes = h.apostrophes;
   }
 
+  -- before a plain byte, a quotation mark, an apostrophe and a backslash
   pub plain_step : (byte : ℕ) → is_plain byte ≡ true → AreOpen (byte ∷ tail) (before_plain blocks)
   plain_step byte is =
       let other = plain_byte byte is in
@@ -166,7 +171,7 @@ module _ (tail : List ℕ) (blocks : OpenBlocks) (h : AreOpen tail blocks) where
     escaped_apostrophes = h.apostrophes;
   }
 
-  -- a bracket
+  -- before a bracket
   pub bracket_step : tail ≢ [] → (byte : ℕ) → is_plain byte ≡ false → byte ≢ 34 → byte ≢ 39 → byte ≢ 92
       → AreOpen (byte ∷ tail) (record { outside = open_before (is_opening byte) blocks.outside; in_marks = blocks.in_marks; in_apostrophes = blocks.in_apostrophes; escaped_in_marks = blocks.in_marks; escaped_in_apostrophes = blocks.in_apostrophes })
   bracket_step some byte other mark apostrophe backslash = go (is_opening byte) refl
@@ -186,6 +191,7 @@ module _ (tail : List ℕ) (blocks : OpenBlocks) (h : AreOpen tail blocks) where
 -- ---- a stretch of plain bytes
 
 module _ (text : List ℕ) (blocks : OpenBlocks) (end : ℕ) (within : end ≤ length text) (h : AreOpen (drop end text) blocks) where
+  -- by the length of the stretch
   stretch_by : (size start : ℕ) → start + suc size ≡ end → ArePlain text start end → AreOpen (drop start text) (before_plain blocks)
   stretch_by zero start all plain =
       let next : end ≡ suc start = omega (arith, all) in
