@@ -8,7 +8,7 @@ use Rattle.std.specs.Prelude.{slice_index_or, ⊤}
 use Rattle.ufmt.specs.Layout.{layout, setting}
 use Rattle.ufmt.specs.Leaves.{Place, outside, between, after_backslash, place_after, EndsLeaf, is_control, is_debug_byte, is_opening, is_quote, leads_on}
 use Rattle.ufmt_core.specs.declared.layout.Mode.{Mode}
-use Rattle.ufmt_lines.specs.Private.Brackets.{Closing, unread, pending, opened, none, IsPending, IsQuotedPending, NoneBefore, SameFrom, IsLastOpening, IsOpeningQuote, NotFrom, OpensAt, at_closing, at_opening, at_plain, closing, ends_closed, gaps, gaps_between, is_closing, is_plain}
+use Rattle.ufmt_lines.specs.Private.Brackets.{Closing, unread, pending, opened, none, ArePlain, HasBackslash, IsPending, IsQuotedPending, NoneBefore, SameFrom, IsLastOpening, IsOpeningQuote, NotFrom, OpensAt, at_closing, at_opening, at_plain, closing, ends_closed, gaps, gaps_between, is_closing, is_plain}
 use Rattle.ufmt_lines.specs.Readable.{converted, other_mode}
 use Rattle.ufmt_lines.specs.declared.run.brackets.Found.{Found}
 use Rattle.ufmt_lines.specs.declared.run.brackets.Found.TheVariants.{At, Nowhere, Unclear}
@@ -19,33 +19,31 @@ use Rattle.ufmt_lines.proofs.Tails.{is_converted}
 
 -- ---- bytes
 
-marks_plain : (c : ℕ) → c < 256 → (slice_index_or PLAIN_BYTES c 0 == 46) ≡ is_plain c
+-- the table marks plain bytes
+pub marks_plain : (c : ℕ) → c < 256 → (slice_index_or PLAIN_BYTES c 0 == 46) ≡ is_plain c
 marks_plain c low = agree_below_at (λ b. slice_index_or PLAIN_BYTES b 0 == 46) is_plain 256 c refl low
 
-pub plain_is_marked : (c : ℕ) → c < 256 → (slice_index_or PLAIN_BYTES c 0 == 46) ≡ true → is_plain c ≡ true
-plain_is_marked c low h = sym (marks_plain c low) ∙ h
-
 -- what a byte isn't
-record IsNoQuote (c : ℕ) : Type 0 where
+pub record IsNoQuote (c : ℕ) : Type 0 where
   pub no_quote : is_quote c ≡ false
   pub no_backslash : (c == 92) ≡ false
 
-record IsOther (c : ℕ) : Type 0 where
+pub record IsOther (c : ℕ) : Type 0 where
   pub bare : IsNoQuote c
   pub no_opening : is_opening c ≡ false
   pub no_closing : is_closing c ≡ false
 
-plain_byte : (c : ℕ) → is_plain c ≡ true → IsOther c
+pub plain_byte : (c : ℕ) → is_plain c ≡ true → IsOther c
 plain_byte c h = record {
   bare = record { no_quote = grind (arith, nat_tests); no_backslash = grind (arith, nat_tests) };
   no_opening = grind (arith, nat_tests);
   no_closing = grind (arith, nat_tests);
 }
 
-closing_byte : (c : ℕ) → is_closing c ≡ true → IsNoQuote c × (is_opening c ≡ false)
+pub closing_byte : (c : ℕ) → is_closing c ≡ true → IsNoQuote c × (is_opening c ≡ false)
 closing_byte c h = (record { no_quote = grind (arith, nat_tests); no_backslash = grind (arith, nat_tests) }, grind (arith, nat_tests))
 
-opening_byte : (c : ℕ) → is_opening c ≡ true → IsNoQuote c
+pub opening_byte : (c : ℕ) → is_opening c ≡ true → IsNoQuote c
 opening_byte c h = record { no_quote = grind (arith, nat_tests); no_backslash = grind (arith, nat_tests) }
 
 quote_byte : (c : ℕ) → is_quote c ≡ true → (is_closing c ≡ false) × ((c == 92) ≡ false)
@@ -62,7 +60,7 @@ apart : (c quote : ℕ) → is_quote c ≡ false → is_quote quote ≡ true →
 apart c quote bare is = grind (arith, nat_tests)
 
 -- between quotes, such a byte changes nothing
-between_stays : (c quote : ℕ) (t : List ℕ) → IsNoQuote c → is_quote quote ≡ true → closing (between quote) (c ∷ t) ≡ closing (between quote) t
+pub between_stays : (c quote : ℕ) (t : List ℕ) → IsNoQuote c → is_quote quote ≡ true → closing (between quote) (c ∷ t) ≡ closing (between quote) t
 between_stays c quote t h is = rw (apart c quote h.no_quote is, h.no_backslash) refl
 
 none_outside : (c : ℕ) (t : List ℕ) → closing outside t ≡ none → (is_quote c ≡ true → closing (between c) t ≡ none) → closing outside (c ∷ t) ≡ none
@@ -225,47 +223,73 @@ pub quoted_from : (text : List ℕ) (quote end n : ℕ) → end < length text �
 quoted_from text quote end n within is same h =
     subst (λ q. IsQuotedPending q text end n) same (quote_step text end within n h (subst (λ q. is_quote q ≡ true) (sym same) is))
 
--- a search that found no quote tells that there is no bracket, or nothing
-pub not_found : (text : List ℕ) (n : ℕ) (found : Found) → IsOpeningQuote text n found → ((place : ℕ) → found ≡ At place → ⊥) → IsLastOpening text found
-not_found text n Nowhere h other = h
-not_found text n (At place) h other = absurd (other place refl)
-not_found text n Unclear h other = tt
+-- a search that found no quote tells that there is no bracket, or that there is a backslash
+pub not_found : (text : List ℕ) (n : ℕ) (found : Found) → ends_closed text ≡ true → IsOpeningQuote text n found → ((place : ℕ) → found ≡ At place → ⊥) → IsLastOpening text found
+not_found text n Nowhere ends h other = h
+not_found text n (At place) ends h other = absurd (other place refl)
+not_found text n Unclear ends h other = (ends, h)
+
+-- what isn't plain, and no bracket or quote, is a backslash
+backslash_left : (c : ℕ) → is_plain c ≡ false → is_quote c ≡ false → is_opening c ≡ false → is_closing c ≡ false → c ≡ 92
+backslash_left c h quote opens closes = eqb-true c 92 (left (c == 92) refl)
+  where
+    left : (same : Bool) → (c == 92) ≡ same → (c == 92) ≡ true
+    left true e = e
+    left false e = let plain : is_plain c ≡ true = rw (quote, opens, closes, e) refl in absurd (true≢false (sym plain ∙ h))
+
+-- a byte that is none of the others is a backslash, and after it there is no bracket
+pub backslash_before : (text : List ℕ) (start after n : ℕ) → after ≡ suc start → is_plain (get_or text start 0) ≡ false → is_quote (get_or text start 0) ≡ false → is_opening (get_or text start 0) ≡ false
+    → is_closing (get_or text start 0) ≡ false → IsPending text after n → HasBackslash text
+backslash_before text start after n next other quote opens closes h =
+    let bound = h.within in
+    record {
+      place = start;
+      within = omega (arith, next, bound);
+      is = backslash_left (get_or text start 0) other quote opens closes;
+      not_later = subst (NotFrom text) next h.not_yet;
+    }
+
+-- a backslash between quotes
+pub backslash_inside : (text : List ℕ) (quote start after n : ℕ) → after ≡ suc start → get_or text start 0 ≡ 92 → IsQuotedPending quote text after n → HasBackslash text
+backslash_inside text quote start after n next is h =
+    let bound = h.within in
+    record { place = start; within = omega (arith, next, bound); is = is; not_later = subst (NotFrom text) next h.not_yet }
 
 -- ---- several plain bytes
 
-module _ (text : List ℕ) (start n : ℕ) (h : IsPending text start n) where
-  pub one_back : 1 ≤ start → is_plain (get_or text (start - 1) 0) ≡ true → IsPending text (start - 1) n
-  one_back some first = plain_before text (start - 1) start n (omega arith) h.within first h
+-- a stretch of plain bytes that is one byte shorter
+pub plain_after : (text : List ℕ) (start end : ℕ) → ArePlain text start end → ArePlain text (suc start) end
+plain_after text start end plain = λ at from less. plain at (omega (arith, from)) less
 
-  pub two_back : 2 ≤ start → is_plain (get_or text (start - 1) 0) ≡ true → is_plain (get_or text (start - 2) 0) ≡ true → IsPending text (start - 2) n
-  two_back some first second =
-      let before = one_back (omega arith) first in
-      plain_before text (start - 2) (start - 1) n (omega arith) before.within second before
+-- one plain byte more
+pub plain_more : (text : List ℕ) (start after end : ℕ) → after ≡ suc start → is_plain (get_or text start 0) ≡ true → ArePlain text after end → ArePlain text start end
+plain_more text start after end next is plain = λ at from less. elim (cases_lt start at) [
+  | inl later ↦ plain at (omega (arith, next, later)) less
+  | inr upto ↦ let same : start ≡ at = omega (arith, from, upto) in subst (λ k. is_plain (get_or text k 0) ≡ true) same is
+]
 
-  pub three_back : 3 ≤ start → is_plain (get_or text (start - 1) 0) ≡ true → is_plain (get_or text (start - 2) 0) ≡ true → is_plain (get_or text (start - 3) 0) ≡ true
-      → IsPending text (start - 3) n
-  three_back some first second third =
-      let before = two_back (omega arith) first second in
-      plain_before text (start - 3) (start - 2) n (omega arith) before.within third before
+pending_by : (text : List ℕ) (size start end n : ℕ) → start + size ≡ end → ArePlain text start end → IsPending text end n → IsPending text start n
+pending_by text zero start end n all plain h = pending_same text end start n n (omega (arith, all)) refl h
+pending_by text (suc size) start end n all plain h =
+    let more = pending_by text size (suc start) end n (omega (arith, all)) (plain_after text start end plain) h in
+    plain_before text start (suc start) n refl more.within (plain start (omega arith) (omega (arith, all))) more
 
-  pub four_back : 4 ≤ start → is_plain (get_or text (start - 1) 0) ≡ true → is_plain (get_or text (start - 2) 0) ≡ true → is_plain (get_or text (start - 3) 0) ≡ true
-      → is_plain (get_or text (start - 4) 0) ≡ true → IsPending text (start - 4) n
-  four_back some first second third fourth =
-      let before = three_back (omega arith) first second third in
-      plain_before text (start - 4) (start - 3) n (omega arith) before.within fourth before
+-- what is pending after them is pending before them
+pub pending_before : (text : List ℕ) (start end n : ℕ) → start ≤ end → ArePlain text start end → IsPending text end n → IsPending text start n
+pending_before text start end n order plain h = pending_by text (end - start) start end n (omega (arith, order)) plain h
 
 -- ---- the last byte
 
 past_the_end : (text : List ℕ) (k : ℕ) → length text ≤ k → closing outside (drop k text) ≢ opened
 past_the_end text k past = λ e. let nothing : unread ≡ opened = sym (ap (closing outside) (drop_all k text past)) ∙ e in absurd (cc)
 
-ends_dropped : (n : ℕ) (text : List ℕ) → n < length text → ends_closed (drop n text) ≡ ends_closed text
+pub ends_dropped : (n : ℕ) (text : List ℕ) → n < length text → ends_closed (drop n text) ≡ ends_closed text
 ends_dropped zero text within = refl
 ends_dropped (suc n) [] within = absurd (omega arith)
 ends_dropped (suc n) (c ∷ []) within = absurd (omega arith)
 ends_dropped (suc n) (c ∷ b ∷ t) within = ends_dropped n (b ∷ t) (omega (arith, within))
 
-last_alone : (text : List ℕ) (last : ℕ) → length text ≡ suc last → drop last text ≡ get_or text last 0 ∷ []
+pub last_alone : (text : List ℕ) (last : ℕ) → length text ≡ suc last → drop last text ≡ get_or text last 0 ∷ []
 last_alone text last size = drop-cons text last 0 (omega (arith, size)) ∙ ap (λ t. get_or text last 0 ∷ t) (drop_all (suc last) text (omega (arith, size)))
 
 pub ends_at_last : (text : List ℕ) (last : ℕ) → length text ≡ suc last → ends_closed text ≡ is_closing (get_or text last 0)
@@ -453,7 +477,7 @@ leaf_ends place (c ∷ []) good h = (leaf_step place c [] h.0 good h.1).no_closi
 leaf_ends place (c ∷ b ∷ w) good h = leaf_ends h.0 (b ∷ w) (leaf_step place c (b ∷ w) h.0 good h.1).place h.2
 
 -- a text that is converted is the same in both modes and no closing bracket ends it, or it has a block
-converted_shape : (mode : Mode) (text other : List ℕ) → converted mode text ≡ Some other → ((other ≡ text) × (ends_closed text ≡ false)) ⊎ HasBlock text
+pub converted_shape : (mode : Mode) (text other : List ℕ) → converted mode text ≡ Some other → ((other ≡ text) × (ends_closed text ≡ false)) ⊎ HasBlock text
 converted_shape mode text other h =
     let found = is_converted mode text other h in
     let d = found.some.0 in
@@ -489,7 +513,8 @@ begins_near mode text place k other h is = elim (converted_shape mode (drop k te
         let same : at ≡ place = omega arith in
         subst (λ n. (k ≤ n) × (gaps_between text k n ≤ 1)) same (found.order, found.one_gap)
 
-option_none : {A : Type 0} (o : Option A) → ((x : A) → o ≡ Some x → ⊥) → o ≡ None
+-- without a value it is `None`
+pub option_none : {A : Type 0} (o : Option A) → ((x : A) → o ≡ Some x → ⊥) → o ≡ None
 option_none None h = refl
 option_none (Some x) h = absurd (h x refl)
 

@@ -1,7 +1,9 @@
 pub mod LineLengths
 pub mod ClosedBlocks
 pub mod LastOpenings
+pub mod OpenBlocks
 pub mod Searches
+pub mod FirstStarts
 pub mod Groups
 pub mod Cuts
 pub mod Fronts

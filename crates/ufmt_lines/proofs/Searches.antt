@@ -9,7 +9,8 @@ use Rattle.ufmt_lines.proofs.Tails.{tail_after}
 abbrev pub ReachedBy : Mode → List ℕ → ℕ → Type 0
 ReachedBy mode text start = output_of mode text ≡ take start text ++ tail_converted (may_begin_at text start) mode (drop start text)
 
-none_at : (here : Bool) (mode : Mode) (text : List ℕ) → converted mode text ≡ None → converted_here here mode text ≡ None
+-- what isn't converted begins at no place
+pub none_at : (here : Bool) (mode : Mode) (text : List ℕ) → converted mode text ≡ None → converted_here here mode text ≡ None
 none_at true mode text h = h
 none_at false mode text h = refl
 

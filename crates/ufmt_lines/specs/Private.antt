@@ -1,4 +1,5 @@
 pub mod Brackets
+pub mod Blocks
 pub mod GroupOutput
 pub mod Group
 pub mod LineLen

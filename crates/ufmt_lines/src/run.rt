@@ -7,6 +7,7 @@ ghost use Rattle.ufmt_lines.specs.Groups.{IsInGroup};
 ghost use Rattle.ufmt_io.specs.Watched.{device_of, has_failed};
 
 mod arguments;
+mod blocks;
 mod brackets;
 mod fault;
 mod groups;

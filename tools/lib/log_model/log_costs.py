@@ -32,6 +32,7 @@ INDENTED = Block("list", "", [(None, "x")] * 60)
 for _ in range(60):
     INDENTED = Block("list", "", [(None, INDENTED)])
 READING = Block("struct", "Reading", [("channel", "3"), ("text", quoted("a [b]"))])
+ESCAPED = Block("struct", "Reading", [("channel", "3"), ("text", quoted('a "b" [c]'))])
 LOCK = Block("open struct", "Mutex", [("data", "7"), ("poisoned", "false")])
 ONLY_DOTS = Block("open struct", "Once", [])
 
@@ -76,14 +77,15 @@ LONG_LINES = (
     group("a group of spaces", 11, b"[\n", b" " * 63 + b"\n"),
 )
 # Blocks that are open at the end of the line, and closed too early. What the last byte closes is looked for from the end on, so
-# a byte is read few times. A backslash ends that: then a byte is scanned for each word before it.
+# a byte is read few times. After a backslash more than one bracket may be the one. If each may be, a byte is scanned for each before it.
 OPEN_LINES = (
     line("lines of open tuples", "pretty", 4, b"(a, " * 250 + b"\n"),
     line("lines of open structs", "pretty", 4, b"S { a: " * 250 + b"\n"),
     line("lines of open tuples, and a bracket", "pretty", 5, b"(a, " * 250 + b")\n"),
     line("lines of open tuples of quotes", "pretty", 5, b'("a", ' * 250 + b")\n"),
     line("lines of tuples, and a bracket", "pretty", 18, b"(a, " * 120 + b"a" + b")" * 120 + b" )\n"),
-    line("lines of open tuples of escapes", "pretty", 5808, b'("\\"", ' * 250 + b")\n"),
+    line("lines of open tuples of escapes", "pretty", 44, b'("\\"", ' * 250 + b")\n"),
+    line("lines of brackets of which each may be it", "pretty", 1400, b"(\\' " * 250 + b"', )\n"),
 )
 MANY_LINES = (
     line("empty lines", "pretty", 217, b"\n"),
@@ -91,6 +93,8 @@ MANY_LINES = (
     line("lines that end with a bracket", "pretty", 18, b"12:00 INFO took 3 ms (cached, see the second table)\n"),
     line("short lines", "pretty", 35, b"a word\n"),
     line("lines of texts", "pretty", 35, b"12:00 INFO got " + plain(READING).encode() + b"\n"),
+    line("lines of texts with escapes", "pretty", 57, b"12:00 INFO got " + plain(ESCAPED).encode() + b"\n"),
+    line("lines of words with escapes", "pretty", 39, b'12:00 INFO said "a \\"b\\" c" (cached "x\\n")\n'),
     line("lines of locks", "pretty", 34, b"12:00 INFO got " + plain(LOCK).encode() + b"\n"),
     line("lines of only dots", "pretty", 25, b"12:00 INFO got " + plain(ONLY_DOTS).encode() + b"\n"),
     line("lines of deep texts", "pretty", 231, plain(DEEP).encode() + b"\n"),

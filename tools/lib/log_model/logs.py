@@ -11,7 +11,7 @@ KINDS = ("list", "set", "map", "struct", "open struct", "tuple", "unnamed")
 # What is between words, or next to a text. A text begins only after a space or a line feed.
 BETWEEN = (b" ", b" ", b" ", b"  ", b"    ", b"\t", b"=", b": ", b", ", b"\r ", b"\r", b"\0", b"\xff ", b"\xc3", b". ", b"\xc2\xa0", b"\x0b")
 AFTER = (b" ", b"\r", b".", b",", b"\0", b"]", b"}", b")", b"\t", b"\xff", b"  ", b"\x80", b"\xe2\x82")
-SIGNS = ("[", "{", "(", "]", "}", ")", "[]", "()", "{}", '"', "'", "S {", "a:", "(1,", "[1,", "{ }", "//", "\\", "\ufeff", "\u00e9", "..", "{ .. }", ".. }")
+SIGNS = ("[", "{", "(", "]", "}", ")", "[]", "()", "{}", '"', "'", "S {", "a:", "(1,", "[1,", "{ }", "//", "\\", '\\"', "\\'", '("\\"', "(\\'", "\ufeff", "\u00e9", "..", "{ .. }", ".. }")
 # Counts and lengths around those where a counter or a buffer could end.
 NUMBERS = (*range(1, 18), 31, 32, 33, 63, 64, 65, 127, 128, 129, 254, 255, 256, 257, 1000, 1023, 1024, 1025)
 LENGTHS = (4095, 4096, 4097, 8191, 8192, 8193, 65_535, 65_536, 65_537, 131_072, 200_000)
@@ -106,9 +106,9 @@ class Maker:
         return self.words() + self.random.choice((b"[", b"{", b"(")) + (b"\n" + line.replace(b"\n", b"")) * self.size(300)
 
     def long_line(self):
-        """One piece many times. A block could open at each `(a, `, so each is read 255 deep: there are fewer."""
-        piece = self.random.choice((b"a", b" ", b"[", b" [", b"[ ", b"[]", b"a ", b'"', b' "', b"\0", b"\xff", b"(a, ", b"\xc3\xa9", b"1, "))
-        return piece * (self.size(1000 if piece == b"(a, " else 100_000) // len(piece) + 1)
+        """One piece many times. A block could open at each `(a, ` or `(\\' `, and each is read: there are fewer."""
+        piece = self.random.choice((b"a", b" ", b"[", b" [", b"[ ", b"[]", b"a ", b'"', b' "', b"\0", b"\xff", b"(a, ", b'("\\"", ', b"(\\' ", b"\xc3\xa9", b"1, "))
+        return piece * (self.size(1000 if piece.startswith(b"(") else 100_000) // len(piece) + 1)
 
     def entry(self):
         """What is between two line feeds of a log, as a rule: some words, and a text or nearly one."""

@@ -14,6 +14,10 @@ is_closing c = c == closing_bracket || c == closing_parenthesis || c == closing_
 abbrev pub is_plain : ℕ → Bool
 is_plain c = not (is_quote c || is_opening c || is_closing c || c == backslash)
 
+-- these bytes are no brackets, quotes or backslashes
+abbrev pub ArePlain : List ℕ → ℕ → ℕ → Type 0
+ArePlain text start end = (at : ℕ) → start ≤ at → at < end → is_plain (slice_index_or text at 0) ≡ true
+
 -- whether the last byte is a closing bracket
 abbrev pub ends_closed : List ℕ → Bool
 ends_closed [] = false
@@ -81,17 +85,24 @@ pub record OpensAt (text : List ℕ) (place : ℕ) : Type 0 where
   pub within : place < length text
   pub is : is_opening (slice_index_or text place 0) ≡ true
 
--- the bracket that the last byte closes is there; or there is none; nothing is said if that is unclear
+-- the text has a backslash, and after it no opening bracket that the last byte closes
+pub record HasBackslash (text : List ℕ) : Type 0 where
+  pub place : ℕ
+  pub within : place < length text
+  pub is : slice_index_or text place 0 ≡ backslash
+  pub not_later : NotFrom text (suc place)
+
+-- the bracket that the last byte closes is there; or there is none; or a backslash comes first
 abbrev pub IsLastOpening : List ℕ → Found → Type 0
 IsLastOpening text Nowhere = NotFrom text 0
 IsLastOpening text (At place) = OpensAt text place
-IsLastOpening text Unclear = ⊤
+IsLastOpening text Unclear = (ends_closed text ≡ true) × HasBackslash text
 
--- the quote that opens the text between quotes is there, and before it `n` brackets are pending; or there is none, and so no opening bracket either
+-- the quote that opens the text between quotes is there, and before it `n` brackets are pending; or there is none, and so no opening bracket either; or a backslash comes first
 abbrev pub IsOpeningQuote : List ℕ → ℕ → Found → Type 0
 IsOpeningQuote text n Nowhere = NotFrom text 0
 IsOpeningQuote text n (At start) = IsPending text start n
-IsOpeningQuote text n Unclear = ⊤
+IsOpeningQuote text n Unclear = HasBackslash text
 
 -- what was found is before this place
 abbrev pub FoundBelow : ℕ → Found → Type 0
@@ -112,6 +123,10 @@ gaps (c ∷ t) = cond (may_begin_after c) (suc (gaps t)) (gaps t)
 -- how many of them are from one place to another
 abbrev pub gaps_between : List ℕ → ℕ → ℕ → ℕ
 gaps_between text start end = gaps (take (end - start) (drop start text))
+
+-- after none of these bytes may a text begin
+abbrev pub HasNoGap : List ℕ → ℕ → ℕ → Type 0
+HasNoGap text start end = (at : ℕ) → start ≤ at → at < end → may_begin_after (slice_index_or text at 0) ≡ false
 
 -- no tail that begins before this place is a text of the other mode
 abbrev pub NoneBefore : Mode → List ℕ → ℕ → Type 0

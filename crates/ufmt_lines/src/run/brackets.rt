@@ -1,7 +1,7 @@
 //! The opening bracket that a text's last byte closes.
-ghost use Rattle.std.specs.Prelude.{◌≡◌, ◌<◌, ◌≤◌, ℕ, suc, length, slice_index, IsTrue, true};
+ghost use Rattle.std.specs.Prelude.{◌≡◌, ◌<◌, ◌≤◌, ◌-◌, ℕ, suc, length, slice_index, false, true};
 ghost use Rattle.ufmt.specs.Leaves.{is_opening, is_quote};
-ghost use Rattle.ufmt_lines.specs.Private.Brackets.{FoundBelow, IsLastOpening, IsOpeningQuote, IsPending, is_closing, is_plain};
+ghost use Rattle.ufmt_lines.specs.Private.Brackets.{ArePlain, FoundBelow, IsLastOpening, IsOpeningQuote, IsPending, is_closing, is_plain};
 
 /// Where a byte is that was looked for, from a text's end on.
 #[derive(Clone, Copy)]
@@ -59,10 +59,11 @@ static PLAIN_BYTES: [u8; 256] = *b"\
     ................................................................";
 
 // Where the bytes before `end` begin that are no brackets, quotes and backslashes.
-fn plain_start(text: &[u8], end: usize) -> usize
+pub(super) fn plain_start(text: &[u8], end: usize) -> usize
     requires { end ≤ length text.now }
     ensures within { result ≤ end }
-    ensures same { (n : ℕ) → IsPending text.now end n → IsPending text.now result n }
+    ensures plain { ArePlain text.now result end }
+    ensures stops { 0 < result → is_plain (slice_index text.now (result - 1)) ≡ false }
 {
     // Four bytes a turn, so that the start is compared once for four bytes.
     let mut start = end;
@@ -88,7 +89,8 @@ fn plain_start(text: &[u8], end: usize) -> usize
 fn plain_start_from(text: &[u8], end: usize) -> usize
     requires { end ≤ length text.now }
     ensures within { result ≤ end }
-    ensures same { (n : ℕ) → IsPending text.now end n → IsPending text.now result n }
+    ensures plain { ArePlain text.now result end }
+    ensures stops { 0 < result → is_plain (slice_index text.now (result - 1)) ≡ false }
 {
     let mut start = end;
     'bytes: while start > 0 {
@@ -123,9 +125,9 @@ fn opening_quote(quote: u8, text: &[u8], end: usize) -> Found
 }
 
 #[inline(always)]
-#[tactic(auto, using(crate::proofs::LastOpenings::plain_is_marked))]
-fn is_plain(byte: u8) -> bool
-    ensures { IsTrue result → is_plain byte ≡ true }
+#[tactic(auto, using(crate::proofs::LastOpenings::marks_plain))]
+pub(super) fn is_plain(byte: u8) -> bool
+    ensures { result ≡ is_plain byte }
 {
     PLAIN_BYTES[byte as usize] == b'.'
 }
@@ -138,7 +140,7 @@ fn is_closing(byte: u8) -> bool
 }
 
 #[inline(always)]
-fn is_opening(byte: u8) -> bool
+pub(super) fn is_opening(byte: u8) -> bool
     ensures { result ≡ is_opening byte }
 {
     byte == b'(' || byte == b'[' || byte == b'{'

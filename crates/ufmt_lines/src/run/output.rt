@@ -1,13 +1,16 @@
 //! The output for a line or a group of lines: the bytes before its longest debug text, and that text
 //! in the other mode.
-ghost use Rattle.std.specs.Prelude.{◌≡◌, ◌<◌, ◌≤◌, ◌-◌, ◌++◌, [], List, ℕ, true, IfSome, IsNone, OnOk, Some, drop, is_some, length, slice_index, take};
+ghost use Rattle.std.specs.Prelude.{◌≡◌, ◌⊎◌, ◌<◌, ◌≤◌, ◌+◌, ◌-◌, ◌++◌, [], ◌∷◌, List, ℕ, true, IfSome, IsNone, OnOk, Some, drop, is_some, length, slice_index, take, zero};
 ghost use Rattle.ufmt.specs.Layout.{layout, setting};
+ghost use Rattle.ufmt.specs.Leaves.{is_opening, outside};
 ghost use Rattle.ufmt.specs.declared.class.Class.TheVariants.{Debug};
 ghost use Rattle.ufmt_scan.specs.Texts.{ConvertsToAs};
-ghost use Rattle.ufmt_lines.specs.Private.Brackets.{NoneBefore, SameFrom, gaps_between, may_begin_at};
+ghost use Rattle.ufmt_lines.specs.Private.Blocks.{AreLeft, IsFirstFrom};
+ghost use Rattle.ufmt_lines.specs.Private.Brackets.{ArePlain, HasNoGap, NoneBefore, SameFrom, closing, ends_closed, gaps_between, may_begin_at, pending};
 ghost use Rattle.ufmt_lines.specs.Readable.{output_of, converted, converted_here, may_begin_after, other_mode};
 
-use super::brackets::{Found, last_opening};
+use super::blocks::OpenBlocks;
+use super::brackets::{Found, is_plain, last_opening, plain_start};
 use std::alloc::{AllocError, Global};
 use ufmt::layout::Mode;
 use ufmt::uWrite;
@@ -117,7 +120,7 @@ fn text_start(mode: Mode, group: &[u8]) -> Option<usize>
     match last_opening(group) {
         Found::Nowhere => None,
         Found::At(opening) => first_start(mode, group, name_start(group, opening), opening + 1),
-        Found::Unclear => first_start(mode, group, 0, group.len()),
+        Found::Unclear => first_start_by_blocks(mode, group),
     }
 }
 
@@ -140,6 +143,107 @@ fn first_start(mode: Mode, group: &[u8], low: usize, high: usize) -> Option<usiz
         }
     }
     None
+}
+
+// The first place at which a text begins, if a backslash makes it unclear which bracket the last byte closes.
+// From the end on, each place is tried at which a text may begin whose first bracket is that one.
+#[inline(never)]
+fn first_start_by_blocks(mode: Mode, group: &[u8]) -> Option<usize>
+    requires { ends_closed group.now ≡ true }
+    ensures { IsFirstFrom mode group.now 0 result }
+{
+    let last = group.len().checked_sub(1)?;
+    let mut blocks = OpenBlocks::at_end();
+    let mut starts = 0;
+    let mut first = None;
+    let mut at = last;
+    'bytes: while at > 0 {
+        let byte = group[at - 1];
+        first = first_from(mode, group, at, starts, first);
+        starts = starts_before(starts, byte, blocks.are_opened_by(byte));
+        blocks = blocks.before(byte);
+        let start = stretch_start(group, at - 1, starts);
+        blocks = blocks.before_stretch(group, start, at - 1);
+        at = start;
+    }
+    first_from(mode, group, 0, starts, first)
+}
+
+// The first place from `at` on at which a text begins, if `first` is that after `at`. If no start is left,
+// none begins at `at`.
+#[inline(always)]
+fn first_from(
+    mode: Mode,
+    group: &[u8],
+    at: usize,
+    starts: u8,
+    first: Option<usize>,
+) -> Option<usize>
+    requires within { at < length group.now }
+    requires ends { ends_closed group.now ≡ true }
+    requires left { AreLeft (drop at group.now) starts }
+    requires later { IsFirstFrom mode group.now (at + 1) first }
+    ensures { IsFirstFrom mode group.now at result }
+{
+    if starts == 0 {
+        return first;
+    }
+    if begins(mode, group, at) {
+        return Some(at);
+    }
+    first
+}
+
+// At how many places up to this byte a text may begin whose first bracket is the byte or comes after it: at the
+// start of the bracket's word and of the word before.
+#[inline(always)]
+fn starts_before(starts: u8, byte: u8, is_first: bool) -> u8
+    ensures { (tail : List ℕ) → AreLeft tail starts
+        → (is_opening byte ≡ true → closing outside tail ≡ pending zero → is_first ≡ true)
+        → AreLeft (byte ∷ tail) result }
+{
+    if is_first {
+        return 2;
+    }
+    if starts > 0 && may_begin_after(byte) {
+        return starts - 1;
+    }
+    starts
+}
+
+// Where a stretch of plain bytes begins that goes to `end`. While a start is left, it is within a word.
+#[inline(always)]
+fn stretch_start(group: &[u8], end: usize, starts: u8) -> usize
+    requires { end ≤ length group.now }
+    ensures within { result ≤ end }
+    ensures plain { ArePlain group.now result end }
+    ensures passes { (starts ≡ 0) ⊎ HasNoGap group.now result end }
+{
+    if starts == 0 {
+        return plain_start(group, end);
+    }
+    plain_word_start(group, end)
+}
+
+// Where a stretch of plain bytes begins after none of which a text may begin.
+fn plain_word_start(text: &[u8], end: usize) -> usize
+    requires { end ≤ length text.now }
+    ensures within { result ≤ end }
+    ensures plain { ArePlain text.now result end }
+    ensures no_gap { HasNoGap text.now result end }
+{
+    let mut start = end;
+    'bytes: while start > 0 {
+        let byte = text[start - 1];
+        if !is_plain(byte) {
+            return start;
+        }
+        if may_begin_after(byte) {
+            return start;
+        }
+        start -= 1;
+    }
+    start
 }
 
 // Where a text may begin at the earliest of which this is the first bracket: only a name and a space come
@@ -192,6 +296,7 @@ fn may_begin_at(text: &[u8], start: usize) -> bool
 }
 
 // Whether a text may begin after this byte: after a space, or at the start of a line.
+#[inline(always)]
 fn may_begin_after(byte: u8) -> bool
     ensures { result ≡ may_begin_after byte }
 {

@@ -98,7 +98,7 @@ const DEBUG_TEXTS: [(&str, &str); 36] = [
 ];
 
 // Lines that stay as they are.
-const OTHERS: [&[u8]; 29] = [
+const OTHERS: [&[u8]; 38] = [
     b"",
     b" ",
     b"word",
@@ -128,6 +128,15 @@ const OTHERS: [&[u8]; 29] = [
     b"Mutex { data: 0, .., poisoned: false }",
     b"{ .. }",
     b"S { ... }",
+    b"[\"\\\"]",
+    b"(\"\\\"\", (\"\\\"\", )",
+    b"\"\\\\ ]",
+    b"(\\' (\\' ', )",
+    b"['\\']",
+    b"a[\"\\\"\"]",
+    b"[\"\\\"\" ]",
+    b"(\\' [(\\' ')]",
+    b"\"\\\" (a\", \"b\")",
 ];
 
 // Lines of which only a tail is a debug text, or of which more than one is: the longest is taken.
@@ -145,6 +154,45 @@ const TAILS: [(&[u8], &[u8]); 13] = [
     (b"\r [b]", b"\r [\n    b,\n]"),
     (b"S { .. } [b]", b"S { .. } [\n    b,\n]"),
     (b"[b, M { a: 1, .. }", b"[b, M {\n    a: 1,\n    ..\n}"),
+];
+
+// Lines that end with a plain text with backslashes, and the same with the pretty text.
+const ESCAPES: [(&[u8], &[u8]); 18] = [
+    // Of a bracket that a backslash comes after, in quotes.
+    (b"[\"\\\"\"]", b"[\n    \"\\\"\",\n]"),
+    (b"a [\"\\\"\"]", b"a [\n    \"\\\"\",\n]"),
+    (b"['\\'', \"\\\"\"]", b"[\n    '\\'',\n    \"\\\"\",\n]"),
+    (b"x S { a: \"\\\"\" }", b"x S {\n    a: \"\\\"\",\n}"),
+    (b"x S(\"\\\\\")", b"x S(\n    \"\\\\\",\n)"),
+    (b"a: [\"\\\"\"]", b"a: [\n    \"\\\"\",\n]"),
+    (b"Some [\"\\\"\"]", b"Some [\n    \"\\\"\",\n]"),
+    (
+        b"{\"\\\"\": {'\\'': 1}}",
+        b"{\n    \"\\\"\": {\n        '\\'': 1,\n    },\n}",
+    ),
+    (
+        b"M { a: \"\\\" { b\", .. }",
+        b"M {\n    a: \"\\\" { b\",\n    ..\n}",
+    ),
+    // Outside of quotes.
+    (b"[a\\b]", b"[\n    a\\b,\n]"),
+    (b"\\ [\"\\\"\", 'x']", b"\\ [\n    \"\\\"\",\n    'x',\n]"),
+    // The first bracket that may be the one begins no text.
+    (b"(\"\\\" [\"a\"]", b"(\"\\\" [\n    \"a\",\n]"),
+    (b"( \\' (\\' a',)", b"( \\' (\n    \\' a',\n)"),
+    (
+        b"b [c \"\\\"\" d, ['\"', \"\\\\\"]",
+        b"b [c \"\\\"\" d, [\n    '\"',\n    \"\\\\\",\n]",
+    ),
+    (
+        b"M { a: '\\'', M { a: \"\\\"\", .. }",
+        b"M { a: '\\'', M {\n    a: \"\\\"\",\n    ..\n}",
+    ),
+    // The second one begins no text.
+    (b"(\\' ( \\' a',)", b"(\n    \\' ( \\' a',\n)"),
+    // Both do.
+    (b"(\\' (\\' a',)", b"(\n    \\' (\\' a',\n)"),
+    (b"[\\' [\\' a']", b"[\n    \\' [\\' a',\n]"),
 ];
 
 // Groups of lines that end with a pretty text, and the same with the plain text.
@@ -242,7 +290,7 @@ fn other_lines_stay(rt: HostRuntime) {
 
 #[test]
 fn the_longest_tail_is_taken(rt: HostRuntime) {
-    for (plain, pretty) in TAILS {
+    for (plain, pretty) in TAILS.into_iter().chain(ESCAPES) {
         let given = is_written(rt.alloc(), Mode::Pretty, plain, pretty);
         same(&rt, (plain, given), (plain, Ok(true)), "a line");
         let given = is_written(rt.alloc(), Mode::Plain, pretty, plain);

@@ -1,5 +1,5 @@
 use Rattle.std.proofs.Common.{◌-◌, arith}
-use Rattle.ufmt_lines.proofs.LastOpenings.{inside_before, open_before, quoted_from}
+use Rattle.ufmt_lines.proofs.LastOpenings.{backslash_inside, inside_before, open_before, quoted_from}
 use Rattle.ufmt_lines.proofs.run.brackets.opening_quote.Goals as goal
 
 pub bytes-init : goal.bytes-init
@@ -18,3 +18,7 @@ bytes-preserved c = record {
   inside = λ n h. inside_before c.args.text.now c.args.quote (c.bytes.start - 1) c.bytes.start n (omega arith) c.requires.is_quote c.if-byte-quote.false c.if-byte-eq92.false
       (c.bytes.invariant.inside n h);
 }
+
+pub returns-then-byte-eq92-clause-found : goal.returns-then-byte-eq92-clause-found
+returns-then-byte-eq92-clause-found c = λ n h.
+    backslash_inside c.args.text.now c.args.quote (c.bytes.start - 1) c.bytes.start n (omega arith) c.if-byte-eq92.true (c.bytes.invariant.inside n h)

@@ -1,5 +1,6 @@
 use Rattle.std.proofs.Common.{refl}
-use Rattle.ufmt_lines.proofs.LastOpenings.{none_after, none_at_end, none_before_gaps, nothing_changes}
+use Rattle.ufmt_lines.proofs.FirstStarts.{first_is_text, first_output, first_within, none_output}
+use Rattle.ufmt_lines.proofs.LastOpenings.{none_after, none_before_gaps, nothing_changes}
 use Rattle.ufmt_lines.proofs.Searches.{rest_stays}
 use Rattle.ufmt_lines.proofs.run.output.text_start.Goals as goal
 
@@ -9,8 +10,20 @@ first_start-requires-clause-none_before c = none_before_gaps c.args.mode c.args.
 pub first_start-requires-clause-same_after : goal.first_start-requires-clause-same_after
 first_start-requires-clause-same_after c = none_after c.args.mode c.args.group.now c.in-At.opening c.in-At.ensures
 
-pub first_start-requires-in-Unclear-clause-same_after : goal.first_start-requires-in-Unclear-clause-same_after
-first_start-requires-in-Unclear-clause-same_after c = none_at_end c.args.mode c.args.group.now
-
 pub returns-in-Nowhere-clause-none : goal.returns-in-Nowhere-clause-none
 returns-in-Nowhere-clause-none c = λ none. rest_stays c.args.mode c.args.group.now 0 refl (λ at from other is. nothing_changes c.args.mode c.args.group.now c.in-Nowhere.ensures at other is)
+
+pub first_start_by_blocks-requires : goal.first_start_by_blocks-requires
+first_start_by_blocks-requires c = c.in-Unclear.ensures.0
+
+pub returns-in-Unclear-clause-within : goal.returns-in-Unclear-clause-within
+returns-in-Unclear-clause-within c = first_within c.args.mode c.args.group.now c.in-Unclear.ensures.0 c.first_start_by_blocks.result c.first_start_by_blocks.ensures
+
+pub returns-in-Unclear-clause-text : goal.returns-in-Unclear-clause-text
+returns-in-Unclear-clause-text c = first_is_text c.args.mode c.args.group.now c.in-Unclear.ensures.0 c.first_start_by_blocks.result c.first_start_by_blocks.ensures
+
+pub returns-in-Unclear-clause-some : goal.returns-in-Unclear-clause-some
+returns-in-Unclear-clause-some c = first_output c.args.mode c.args.group.now c.in-Unclear.ensures.0 c.first_start_by_blocks.result c.first_start_by_blocks.ensures
+
+pub returns-in-Unclear-clause-none : goal.returns-in-Unclear-clause-none
+returns-in-Unclear-clause-none c = none_output c.args.mode c.args.group.now c.in-Unclear.ensures.0 c.first_start_by_blocks.result c.first_start_by_blocks.ensures
