@@ -31,8 +31,12 @@ pub fn report_parses(rt: &HostRuntime) -> io::Result<()> {
     )
 }
 
+const LONG: &str = "\"\\tmore bytes after it than there is room for at once\"";
+
 fn report_values(rt: &HostRuntime) -> io::Result<()> {
-    report_parse::<String>(rt, "a text with escapes", 2, "\"say \\\"hello\\\"\"")?;
+    report_parse::<String>(rt, "a text with escapes", 1, "\"say \\\"hello\\\"\"")?;
+    report_parse::<String>(rt, "a text with an escape, past ASCII", 1, "\"a\\nµ\"")?;
+    report_parse::<String>(rt, "a long text with an escape", 2, LONG)?;
     report_parse::<Box<u8>>(rt, "a box", 1, "7")?;
     report_parse::<Option<Box<String>>>(rt, "a text in a box", 2, "Some(\"a\")")
 }

@@ -24,6 +24,7 @@ pub mod OptionTexts
 pub mod Parts
 pub mod Places
 pub mod PlainBytes
+pub mod PlainLanes
 pub mod QuotedTaken
 pub mod Reductions
 pub mod Settings

@@ -1,12 +1,10 @@
 -- Bytes that are ASCII and written as themselves.
-use Rattle.std.proofs.Common.{◌≡◌, sym, ap, ◌∙◌, refl, ℕ, zero, suc, ◌+◌, ◌<◌, ◌&&◌, Bool, true, false, List, [], ◌∷◌, ◌++◌, length, take, drop, slice_index, None, Some, arith}
+use Rattle.std.proofs.Common.{◌≡◌, ap, ◌∙◌, refl, ℕ, zero, suc, ◌+◌, ◌<◌, ◌&&◌, Bool, true, false, List, [], ◌∷◌, ◌++◌, length, take, drop, slice_index, None, arith}
 use Rattle.std.specs.Prelude.{unwrap_or}
 use Rattle.std.specs.Str.{IsAscii}
 use Rattle.std.proofs.lemmas.Bool.Decides.{nat_tests}
 use Rattle.std.proofs.lemmas.Str.Ascii.{IsAscii-cons, IsAscii-nil}
 use Rattle.ufmt.specs.Quoted.{escape, escaped_bytes}
-use Rattle.ufmt.specs.Reading.{strip}
-use Rattle.ufmt.proofs.Parsing.{strip_found}
 use Rattle.ufmt_parse.specs.Spelling.{all_plain, is_plain}
 
 and_true : (a : Bool) → a && true ≡ a
@@ -53,11 +51,5 @@ plain_itself [] plain = refl
 plain_itself (b ∷ t) plain =
     let both = and_both (is_plain b) (all_plain t) plain in
     ap (λ e. unwrap_or e (b ∷ []) ++ escaped_bytes 34 t) (plain_unescaped b both.0) ∙ ap (λ rest. b ∷ rest) (plain_itself t both.1)
-
--- plain bytes up to the closing quotation mark
-pub plain_closes : (input front end after bs : List ℕ) → input ≡ front ++ end → all_plain front ≡ true → Some after ≡ strip (34 ∷ []) end → bs ≡ front
-    → input ≡ escaped_bytes 34 bs ++ (34 ∷ after)
-plain_closes input front end after bs whole plain closes is =
-    whole ∙ ap (λ e. front ++ e) (strip_found (34 ∷ []) end after (sym closes)) ∙ ap (λ f. f ++ (34 ∷ after)) (sym (plain_itself front plain) ∙ ap (escaped_bytes 34) (sym is))
 
 pub ruleset plain_bytes = (plain_next, plain_more, plain_ascii)

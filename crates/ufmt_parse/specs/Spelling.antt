@@ -11,6 +11,10 @@ NeverCloses t = (bytes rest : List ℕ) → t ≢ escaped_bytes quotation_mark b
 abbrev pub is_plain : ℕ → Bool
 is_plain b = ((nat_le 32 b && nat_lt b 127) && not (b == 34)) && not (b == 92)
 
+-- any other byte
+abbrev pub is_marked : ℕ → Bool
+is_marked b = not (is_plain b)
+
 abbrev pub all_plain : List ℕ → Bool
 all_plain [] = true
 all_plain (b ∷ bs) = is_plain b && all_plain bs

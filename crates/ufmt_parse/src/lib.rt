@@ -23,6 +23,7 @@ mod numbers;
 mod options;
 mod parser;
 mod place;
+mod plain;
 mod plain_rows;
 mod primitives;
 mod quoted;

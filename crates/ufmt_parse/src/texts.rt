@@ -1,94 +1,102 @@
 //! Texts in quotation marks.
-ghost use Rattle.std.specs.Prelude.{◌≡◌, ◌<◌, ◌≤◌, ◌++◌, ◌∷◌, [], ⊤, IfOk, IfSome, MatchOption, length, string_bytes, take, true};
+ghost use Rattle.std.specs.Prelude.{◌≡◌, ◌<◌, ◌≤◌, ◌++◌, ◌∷◌, ⊤, IfOk, IfSome, MatchOption, length, string_bytes, true};
 ghost use Rattle.std.specs.Str.{IsUtf8, chars};
 ghost use Rattle.ufmt.specs.Document.{leaf};
-ghost use Rattle.ufmt.specs.Quoted.{escaped_bytes, quoted_text};
+ghost use Rattle.ufmt.specs.Quoted.{escaped_byte, escaped_bytes, quoted_text};
 ghost use Rattle.ufmt_core.specs.Bytes.{quotation_mark};
 ghost use Rattle.ufmt_parse.specs.Blocks.{outcome_map};
-ghost use Rattle.ufmt_parse.specs.Spelling.{all_plain, is_plain, NeverCloses};
+ghost use Rattle.ufmt_parse.specs.Spelling.{all_plain, NeverCloses};
 ghost use Rattle.ufmt_parse.specs.Taking.{Fits, Takes, open_blocks, rest};
 
 use crate::from_front::uParse;
 use crate::mode::ParseMode;
 use crate::parser::{Fault, Parser};
+use crate::plain::plain_len;
 use std::alloc::{AllocError, Allocator};
 use ufmt::ascii::text_from;
 use ufmt::quoted::unescaped_len;
 use ufmt_scan::quoted::split_escaped;
 use ufmt_scan::strip::strip_byte;
 
-// The bytes at the front that are ASCII and written as themselves, and what follows them.
+// How many bytes more a text gets room for at its first escape.
+const MORE: usize = 32;
+
+// The bytes at the front that are ASCII and written as themselves, as a text, and what follows them.
 #[inline(always)]
-fn split_plain(input: &[u8]) -> (&[u8], &[u8])
+fn split_plain(input: &[u8]) -> (&str, &[u8])
     ensures whole { input.now ≡ result.0.now ++ result.1.now }
     ensures plain { all_plain result.0.now ≡ true }
 {
-    let end = plain_end::<16>(input, 0);
-    let end = plain_end::<4>(input, end);
-    let end = plain_end::<1>(input, end);
-    input.split_at(end)
+    let (plain, rest) = input.split_at(plain_len(input));
+    (text_from(plain, 0), rest)
 }
 
-// The text up to the closing quotation mark, and what follows the mark, if all of the text is plain. It
-// needs no test of UTF-8.
+// A copy of the text, with room for so many bytes more.
+#[inline(always)]
+fn copied<A: Allocator>(alloc: A, text: &str, more: usize) -> Result<String<A>, AllocError>
+    ensures { IfOk result (λ copy. string_bytes copy ≡ text.now) }
+{
+    let mut copy = String::with_capacity(alloc, text.len().saturating_add(more))?;
+    copy.push_str(text)?;
+    Ok(copy)
+}
+
+// The character in ASCII at the front that is written with a backslash, and what follows it.
+#[inline(always)]
+fn split_escape(input: &[u8]) -> Option<(char, &[u8])>
+    ensures { IfSome result (λ x. (x.0 < 128) × (input.now ≡ escaped_byte quotation_mark x.0 ++ x.1.now)) }
+{
+    if input.first() != Some(&b'\\') {
+        return None;
+    }
+    match split_escaped(b'"', input) {
+        None => None,
+        Some((byte, after)) => {
+            if byte < 128 {
+                Some((char::from(byte), after))
+            } else {
+                None
+            }
+        }
+    }
+}
+
+// Decodes escapes and plain bytes in turn, after the plain bytes before them, and returns what follows.
+#[inline(never)]
+#[tactic(auto, using(crate::proofs::SpelledTexts::spelling))]
+fn read_escapes<'t, A: Allocator>(
+    alloc: A,
+    plain: &str,
+    input: &'t [u8],
+) -> Result<(String<A>, &'t [u8]), AllocError>
+    requires { all_plain plain.now ≡ true }
+    ensures { IfOk result (λ x. escaped_bytes quotation_mark (string_bytes x.0) ++ x.1.now ≡ plain.now ++ input.now) }
+{
+    let mut text = copied(alloc, plain, MORE)?;
+    let mut rest = input;
+    'escapes: while let Some((character, after)) = split_escape(rest) {
+        text.push(character)?;
+        let (plain, end) = split_plain(after);
+        text.push_str(plain)?;
+        rest = end;
+    }
+    Ok((text, rest))
+}
+
+// Decodes the bytes in ASCII at the front, and returns what follows them. Most texts are plain up to the
+// closing quotation mark: these get exactly their room.
 #[inline(always)]
 fn read_ascii<'t, A: Allocator>(
     alloc: A,
     input: &'t [u8],
-) -> Result<Option<(String<A>, &'t [u8])>, AllocError>
-    ensures { IfOk result (λ found. IfSome found (λ x.
-        input.now ≡ escaped_bytes quotation_mark (string_bytes x.0) ++ (quotation_mark ∷ x.1.now))) }
+) -> Result<(String<A>, &'t [u8]), AllocError>
+    ensures { IfOk result (λ x. escaped_bytes quotation_mark (string_bytes x.0) ++ x.1.now ≡ input.now) }
 {
     let (plain, end) = split_plain(input);
-    let Some(after) = strip_byte(b'"', end) else {
-        return Ok(None);
-    };
-    let mut text = String::new(alloc);
-    text.push_str(text_from(plain, 0))?;
-    Ok(Some((text, after)))
-}
-
-// How far the input is plain, by groups of so many bytes, where it is up to `start`.
-#[inline(always)]
-#[tactic(auto, using(crate::proofs::PlainBytes::plain_bytes))]
-fn plain_end<const N: usize>(input: &[u8], start: usize) -> usize
-    requires some { 0 < N }
-    requires within { start ≤ length input.now }
-    requires plain { all_plain (take start input.now) ≡ true }
-    ensures within { result ≤ length input.now }
-    ensures plain { all_plain (take result input.now) ≡ true }
-{
-    let mut end = start;
-    'groups: while input.len() - end >= N {
-        if !all_plain(&input[end..end + N]) {
-            break;
-        }
-        end += N;
+    if end.first() != Some(&b'"') {
+        return read_escapes(alloc, plain, end);
     }
-    end
-}
-
-// Whether all bytes are plain. No byte ends the loop, so that it becomes one test of a vector.
-#[inline(always)]
-#[tactic(auto, using(crate::proofs::PlainBytes::plain_bytes))]
-fn all_plain(bytes: &[u8]) -> bool
-    ensures { result ≡ all_plain bytes.now }
-{
-    let mut all = true;
-    let mut at = 0;
-    'bytes: while at < bytes.len() {
-        all &= is_plain(bytes[at]);
-        at += 1;
-    }
-    all
-}
-
-// Whether the byte is ASCII and written as itself.
-#[inline(always)]
-fn is_plain(byte: u8) -> bool
-    ensures { result ≡ is_plain byte }
-{
-    (32 <= byte) & (byte < 127) & (byte != b'"') & (byte != b'\\')
+    Ok((copied(alloc, plain, 0)?, end))
 }
 
 // Moves the bytes at the front that are written as themselves, and returns what follows them.
@@ -106,15 +114,16 @@ fn push_stretch<'t, A: Allocator>(
     Ok(rest)
 }
 
-// Decodes the bytes up to the closing quotation mark, and returns what follows the mark.
+// Decodes the bytes up to the closing quotation mark, after those before them, and returns what follows
+// the mark.
 #[tactic(auto, using(crate::proofs::SpelledTexts::spelling))]
 fn read_bytes<'t, A: Allocator>(
     bytes: &mut Vec<u8, A>,
     input: &'t [u8],
 ) -> Result<Option<&'t [u8]>, AllocError>
-    requires { bytes.old.items ≡ [] }
-    ensures { IfOk result (λ end. MatchOption end (NeverCloses input.now)
-        (λ rest. input.now ≡ escaped_bytes quotation_mark bytes.new.items ++ (quotation_mark ∷ rest.now))) }
+    ensures { IfOk result (λ end. MatchOption end (NeverCloses (escaped_bytes quotation_mark bytes.old.items ++ input.now))
+        (λ rest. escaped_bytes quotation_mark bytes.old.items ++ input.now
+        ≡ escaped_bytes quotation_mark bytes.new.items ++ (quotation_mark ∷ rest.now))) }
 {
     let mut rest = input;
     'escapes: loop {
@@ -132,7 +141,8 @@ fn read_bytes<'t, A: Allocator>(
     }
 }
 
-// Takes a text in quotation marks, with the escapes that printing writes and no others.
+// Takes a text in quotation marks, with the escapes that printing writes and no others. What is in ASCII
+// needs no test of UTF-8.
 pub(crate) fn parse_text<A: Allocator + Copy, M: ParseMode>(
     alloc: A,
     parser: &mut Parser<'_, M>,
@@ -146,16 +156,15 @@ pub(crate) fn parse_text<A: Allocator + Copy, M: ParseMode>(
     let Some(inside) = strip_byte(b'"', parser.rest()) else {
         return Err(Fault::NotText);
     };
-    match read_ascii(alloc, inside) {
-        Err(_) => return Err(Fault::OutOfMemory),
-        Ok(Some((text, after))) => {
-            parser.skip_to(after);
-            return Ok(text);
-        }
-        Ok(None) => {}
+    let Ok((text, end)) = read_ascii(alloc, inside) else {
+        return Err(Fault::OutOfMemory);
+    };
+    if let Some(after) = strip_byte(b'"', end) {
+        parser.skip_to(after);
+        return Ok(text);
     }
-    let mut bytes = Vec::new(alloc);
-    match read_bytes(&mut bytes, inside) {
+    let mut bytes = text.into_bytes();
+    match read_bytes(&mut bytes, end) {
         Err(_) => Err(Fault::OutOfMemory),
         Ok(None) => Err(Fault::NotText),
         Ok(Some(after)) => match String::from_utf8(bytes) {

@@ -9,6 +9,7 @@ mod errors;
 mod leaves;
 mod long_names;
 mod long_numbers;
+mod long_texts;
 mod nested;
 mod nonzero;
 mod numbers;

@@ -114,6 +114,8 @@ class Memory(NamedTuple):
 NOTHING = Memory()
 # How long a text is at most for which a conversion reserves memory at once.
 RESERVED = 1024
+# How many bytes more a text that is parsed gets room for at its first escape.
+PARSED = 32
 
 
 def text(length, start=8):
@@ -138,8 +140,8 @@ def grown(items, size):
 
 
 def texts(count, length):
-    """So many texts, of this length together."""
-    room = 2 * (length + 8 * count)
+    """So many texts that are parsed, of this length together."""
+    room = 2 * (length + PARSED * count)
     return Memory(count, 2 * room, length // 8 + 2, room, room)
 
 
@@ -172,7 +174,7 @@ def memory(call, case):
         "leaf_text": lambda: text(length),
         "field_text": lambda: text(length),
         "read_field": lambda: document(found, length).dropped().then(text(length)),
-        "parse String": lambda: text(length),
+        "parse String": lambda: text(length, PARSED),
         "parse Option": lambda: Memory(1, 16, 0, 16, 16),
         "parse Vec": lambda: grown(found.bare, 8),
         "parse texts": lambda: grown(found.texts, 24).then(texts(found.texts, length)),

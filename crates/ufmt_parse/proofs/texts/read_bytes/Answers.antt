@@ -5,7 +5,7 @@ use Rattle.ufmt_parse.proofs.texts.read_bytes.Goals as goal
 
 pub returns-in-None : goal.returns-in-None
 returns-in-None g c =
-    (never_closes 34 (inl refl) c.args.input.now c.in_ok-end.end.now (record { bytes = c.push_stretch.new.bytes.items; is = sym (c.in_ok-end.ensures.whole ∙ c.escapes.invariant) })
+    (never_closes 34 (inl refl) _ c.in_ok-end.end.now (record { bytes = c.push_stretch.new.bytes.items; is = sym (c.in_ok-end.ensures.whole ∙ c.escapes.invariant) })
     c.in_default.ensures (c.in-None.ensures.none refl)).never
 
 pub escapes-preserved : goal.escapes-preserved
