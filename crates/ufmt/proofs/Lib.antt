@@ -48,4 +48,5 @@ pub mod WorkedShifts
 pub mod WorkedTokens
 pub mod ZeroPadding
 pub use Rattle.ufmt_core.proofs.Blocks
+pub use Rattle.ufmt_core.proofs.Joined
 pub use Rattle.ufmt_core.proofs.Printing

@@ -23,6 +23,7 @@ pub mod Token
 pub mod Truncating
 pub mod UnquotedLaws
 pub mod Zeros
+pub use Rattle.ufmt_core.specs.Alike
 pub use Rattle.ufmt_core.specs.BuilderView
 pub use Rattle.ufmt_core.specs.Builder
 pub use Rattle.ufmt_core.specs.Bytes

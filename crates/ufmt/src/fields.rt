@@ -41,7 +41,7 @@ macro_rules! fields {
     ($formatter:expr, $name:ident { $($field:ident,)+ .. } $(,)?) => {
         $crate::fields!($formatter, $name { $($field: $field,)+ .. })
     };
-    ($formatter:expr, $name:ident $(,)?) => { $crate::Formatter::write_str($formatter, stringify!($name)) };
+    ($formatter:expr, $name:ident $(,)?) => { $crate::Formatter::name_alone($formatter, stringify!($name)) };
     ($formatter:expr, $name:ident {} $(,)?) => { $crate::Formatter::struct_0($formatter, stringify!($name)) };
     ($formatter:expr, $name:ident { .. } $(,)?) => { $crate::Formatter::non_exhaustive_0($formatter, stringify!($name)) };
     ($formatter:expr, $name:ident () $(,)?) => { $crate::Formatter::tuple_0($formatter, stringify!($name)) };

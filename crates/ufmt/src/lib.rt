@@ -1,4 +1,4 @@
-#![tactic(auto)]
+#![tactic(auto, using(ufmt_core::specs::Formatter::lays_out))]
 
 //! Formatting without `core::fmt`. A user names this crate only: it has all of `ufmt_core` too.
 

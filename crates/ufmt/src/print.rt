@@ -16,6 +16,7 @@ use ufmt_core::{Formatter, uDebug, uWrite};
 
 /// Prints the value in pretty mode, at the formatter's depth, as a piece `pretty e` does. On `Err` a
 /// prefix of its text was written. Mode and depth are as before.
+#[tactic(auto, using(crate::proofs::PiecesInARow::laid_out_in_pretty))]
 pub fn fmt_pretty<T: uDebug, W: uWrite>(value: &T, f: &mut Formatter<W>) -> Result<(), W::Error>
     ensures { LaysOut W.seen f.old (pretty_part (T.document value.now)) (is_ok result) f.new }
 {

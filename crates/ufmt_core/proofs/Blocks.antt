@@ -10,7 +10,7 @@ use Rattle.std.proofs.lemmas.Simd.{map-map}
 use Rattle.ufmt_core.specs.Document.{Document}
 use Rattle.ufmt_core.specs.Layout.{Setting, Kind, Count, Zero, Frame, block_text, ending, frame, framed, framed_all, count_after, inside, layout, next, block_tail}
 use Rattle.ufmt_core.specs.Writes.{Seen}
-use Rattle.ufmt_core.specs.Formatter.{Formatter, LaysOut, Prints, setting_of}
+use Rattle.ufmt_core.specs.Formatter.{Formatter, LaysOut, Prints, prints_layout, setting_of}
 use Rattle.ufmt_core.specs.BuilderView.{Status, Lent, LentValue, BuilderView, Same, WritesText, WritesEntry, WritesAll, WritesRow, WritesEntries, Abandons, EndsEntry, WritesEnding, After, IsInside, IsOpen, StopsIn, block_in_parts, frame_of, inner, lead_of, pair_text, trail_of}
 use Rattle.ufmt_core.proofs.Writing.{is_ok-err, Writes-then, Writes-fails, Writes-nothing, Prints-then, Prints-then_at}
 
@@ -116,13 +116,13 @@ module _ {W E : Type 0} {seen : Seen W} (old : BuilderView W) {new : BuilderView
   WritesEntry-no_value (Ok x) inside_b m p l stop error =
       record {
         part = rw (pair_framed old key value) (WritesText-fails _
-            (WritesText-printed Lent old (Prints-lent old (λ s. layout s key) inside_b p l.prints)
+            (WritesText-printed Lent old (Prints-lent old (λ s. layout s key) inside_b p (prints_layout l))
             (subst (λ (b : BuilderView W). StopsIn seen b (codes ": ") new) m stop)));
       }
   WritesEntry-no_value (Err x) inside_b m p l stop error =
       record {
         part = rw (pair_framed old key value) (WritesText-fails _ (WritesText-fails (codes ": ") {between = old.count} {count = old.count}
-            (WritesText-abandoned Lent old (Prints-lent old (λ s. layout s key) inside_b p l.prints) (subst (λ (b : BuilderView W). Abandons b new) m error))));
+            (WritesText-abandoned Lent old (Prints-lent old (λ s. layout s key) inside_b p (prints_layout l)) (subst (λ (b : BuilderView W). Abandons b new) m error))));
       }
 
   -- the key, `: ` and the value
@@ -134,10 +134,10 @@ module _ {W E : Type 0} {seen : Seen W} (old : BuilderView W) {new : BuilderView
       → LaysOut seen lent value (is_ok outcome) printed → EndsEntry seen outcome last result (is_ok result) new →
       WritesEntry seen old (pair_text key value) (is_ok result) new
   WritesEntry-pair {last = last} {lent = lent} printed key_outcome outcome result lending inside_b m p k error ok l colon v e =
-      let keyed = subst (λ (o : Bool). Prints seen begun (layout (setting_of begun) key) o ended) (handed_ok key_outcome lending error ok) k.prints in
+      let keyed = subst (λ (o : Bool). Prints seen begun (layout (setting_of begun) key) o ended) (handed_ok key_outcome lending error ok) (prints_layout k) in
       let front = Prints-then (Prints-lent old (λ s. layout s key) inside_b p keyed) (subst (λ (b : BuilderView W). Prints seen b.formatter (codes ": ") true lent) m colon) in
       let lent_value : last ≡ lent_to LentValue old printed = l ∙ ap (λ b. lent_to LentValue b printed) m in
-      record { part = rw (pair_framed old key value) (WritesText-between LentValue old printed _ (λ s. layout s value) outcome result inside_b lent_value front v.prints e) }
+      record { part = rw (pair_framed old key value) (WritesText-between LentValue old printed _ (λ s. layout s value) outcome result inside_b lent_value front (prints_layout v) e) }
 
 -- entries in a row and then the rest of the block are the rest from before them
 pub block_tail-append : (f : Frame) (s : Setting) (count : Count) (ts us : List (List ℕ))

@@ -3,25 +3,25 @@ use Rattle.std.proofs.Common.{List, [], ◌∷◌, ◌++◌, Bool, true, false, 
 use Rattle.ufmt_core.specs.Document.{Document, documents, joined, leaf}
 use Rattle.ufmt_core.specs.Layout.{layout}
 use Rattle.ufmt_core.specs.Writes.{Seen}
-use Rattle.ufmt_core.specs.Formatter.{Formatter, LaysOut, Prints, writer_of}
+use Rattle.ufmt_core.specs.Formatter.{Formatter, LaysOut, Prints, lays_out, prints_layout, writer_of}
 use Rattle.ufmt_core.proofs.Writing.{Prints-fails, Prints-same, Prints-then_at, Writes-nothing}
 
 module _ {W : Type 0} {seen : Seen W} where
   -- a text is laid out as its leaf
   pub LaysOut-leaf : {old new : Formatter W} {text : List ℕ} {ok : Bool} → Prints seen old text ok new → LaysOut seen old (leaf text) ok new
-  LaysOut-leaf p = record { prints = p }
+  LaysOut-leaf p = lays_out p
 
   -- the leaf of no text is laid out by no call
   pub LaysOut-nothing : (f : Formatter W) → LaysOut seen f (leaf []) true f
-  LaysOut-nothing f = record { prints = record { wrote = Writes-nothing (writer_of f); same_setting = refl } }
+  LaysOut-nothing f = lays_out (record { wrote = Writes-nothing (writer_of f); same_setting = refl })
 
   -- a document and then another
   pub LaysOut-then : {old mid new : Formatter W} {d e : Document} {ok : Bool} → LaysOut seen old d true mid → LaysOut seen mid e ok new
       → LaysOut seen old (joined (documents (d ∷ e ∷ []))) ok new
   LaysOut-then {e = e} a b =
-      record { prints = Prints-then_at (λ s. layout s e ++ []) a.prints (Prints-same (sym (append-nil _)) b.prints) }
+      lays_out (Prints-then_at (λ s. layout s e ++ []) (prints_layout a) (Prints-same (sym (append-nil _)) (prints_layout b)))
 
   -- a call that fails in a document fails in the two
   pub LaysOut-stops : {old new : Formatter W} {d : Document} (e : Document) → LaysOut seen old d false new
       → LaysOut seen old (joined (documents (d ∷ e ∷ []))) false new
-  LaysOut-stops e a = record { prints = Prints-fails _ a.prints }
+  LaysOut-stops e a = lays_out (Prints-fails _ (prints_layout a))

@@ -1,3 +1,4 @@
+pub mod Alike
 pub mod Blocks
 pub mod Counts
 pub mod DecimalTexts

@@ -9,7 +9,7 @@ use Rattle.std.specs.Slice.Iter.{iter_rest, iter_steps}
 use Rattle.ufmt_core.specs.Document.{Document, list_of, set_of, map_of, struct_of, non_exhaustive_of, tuple_of, Documents, Pairs, Fields, documents, pairs_of, fields_of}
 use Rattle.ufmt_core.specs.Layout.{Setting, Kind, Brackets, Braces, Struct, Count, Zero, frame, framed, framed_all, count_after, inside, layout, next, block_tail, texts, pair_texts, field_texts, tuple_kind}
 use Rattle.ufmt_core.specs.Writes.{Seen, Writes}
-use Rattle.ufmt_core.specs.Formatter.{Formatter, Prints, LaysOut, setting_of, writer_of}
+use Rattle.ufmt_core.specs.Formatter.{Formatter, Prints, LaysOut, lays_out, prints_layout, setting_of, writer_of}
 use Rattle.ufmt_core.specs.BuilderView.{Lent, BuilderView, WritesAll, WritesEnding, WritesEntries, WritesEntry, EndsEntry, IsInside, WritesOpening, WritesText, WritesRow, StopsIn, dots_ending_of, ending_of, remaining_entries, entry_text, field_lead_of, field_text, remaining_fields, frame_of, inner, lead_of, pair_text, remaining_pairs, tail_of, trail_of}
 use Rattle.ufmt_core.proofs.Blocks.{Same-then, WritesEnding-fails, WritesEnding-then, WritesText-between, WritesText-fails, WritesRow-from_entries, WritesRow-next, block_tail-append, count_after-map, lent_to}
 use Rattle.ufmt_core.proofs.Items.{AlwaysYields-items}
@@ -65,10 +65,7 @@ module _ {W : Type 0} {seen : Seen W} {start last : Formatter W} {d : Document} 
       → OnErr r (Prints seen start opening false last) → LaysOut seen start d (is_ok outcome) last
   not_opened outcome failed was unopened =
       let p = IfErr-at_err _ was unopened in
-      LaysOut-err outcome failed (record {
-        prints =
-            record { wrote = rw (is_block.joined (setting_of start)) (Writes-fails _ p.wrote); same_setting = p.same_setting };
-      })
+      LaysOut-err outcome failed (lays_out (record { wrote = rw (is_block.joined (setting_of start)) (Writes-fails _ p.wrote); same_setting = p.same_setting }))
 
   -- a `debug_` call began the block, and later calls wrote the rest
   pub opened : {reference : ℕ} {b : BuilderView W} {ok : Bool} → WritesOpening seen start reference kind opening b
@@ -76,7 +73,7 @@ module _ {W : Type 0} {seen : Seen W} {start last : Formatter W} {d : Document} 
   opened {b = b} o c =
       let more = c.continues (sym o.same.reference) in
       let text : layout (setting_of start) d ≡ opening ++ tail_of b left = rw (o.same.outer, o.same.kind, o.count) (is_block.joined (setting_of start)) in
-      record { prints = record { wrote = rw text (Writes-then o.wrote more.0); same_setting = more.1 ∙ o.same.outer } }
+      lays_out (record { wrote = rw text (Writes-then o.wrote more.0); same_setting = more.1 ∙ o.same.outer })
 
 pub texts-documents : (i : Setting) (ds : List Document) → texts i (documents ds) ≡ map (layout i) ds
 texts-documents i [] = refl
@@ -132,7 +129,7 @@ pub dotted_not_opened : {W : Type 0} {seen : Seen W} {start last : Formatter W} 
     → LaysOut seen start (non_exhaustive_of name fs) (is_ok outcome) last
 dotted_not_opened outcome failed was unopened =
     let p = IfErr-at_err _ was unopened in
-    LaysOut-err outcome failed (record { prints = record { wrote = Writes-fails _ p.wrote; same_setting = p.same_setting } })
+    LaysOut-err outcome failed (lays_out (record { wrote = Writes-fails _ p.wrote; same_setting = p.same_setting }))
 
 -- a struct of which not all fields are shown: its name was written, the fields that are, and the dots
 module _ {W : Type 0} {seen : Seen W} {start last : Formatter W} {name : List ℕ} {fs : Fields} {reference : ℕ} {b mid : BuilderView W}
@@ -144,12 +141,10 @@ module _ {W : Type 0} {seen : Seen W} {start last : Formatter W} {name : List �
       let text : layout (setting_of start) (non_exhaustive_of name fs)
       ≡ name ++ (framed_all (frame_of b) (inner b) b.count (remaining_fields fs (inner b)) ++ dots_ending_of mid) =
       rw (w.part.after.0, w.part.same.outer, o.same.outer, o.same.kind, o.count) refl in
-      record {
-        prints = record {
-          wrote = rw (text, at_end) (Writes-then o.wrote (Writes-then w.part.wrote e.wrote));
-          same_setting = ap setting_of at_end ∙ e.restored ∙ w.part.same.outer ∙ o.same.outer;
-        };
-      }
+      lays_out (record {
+        wrote = rw (text, at_end) (Writes-then o.wrote (Writes-then w.part.wrote e.wrote));
+        same_setting = ap setting_of at_end ∙ e.restored ∙ w.part.same.outer ∙ o.same.outer;
+      })
 
   pub dotted_failed : WritesAll seen b (remaining_fields fs) false mid → GivesBack reference mid last
       → LaysOut seen start (non_exhaustive_of name fs) false last
@@ -157,12 +152,10 @@ module _ {W : Type 0} {seen : Seen W} {start last : Formatter W} {name : List �
       let at_end = gives (sym (Same-then o.same w.part.same).reference) in
       let fields : framed_all (frame (setting_of start).mode Struct) (inside (setting_of start)) Zero (remaining_fields fs (inside (setting_of start)))
       ≡ framed_all (frame_of b) (inner b) b.count (remaining_fields fs (inner b)) = rw (o.same.outer, o.same.kind, o.count) refl in
-      record {
-        prints = record {
-          wrote = rw (fields, at_end) (Writes-then o.wrote (Writes-fails _ w.part.wrote));
-          same_setting = ap setting_of at_end ∙ w.part.after.1 ∙ o.same.outer;
-        };
-      }
+      lays_out (record {
+        wrote = rw (fields, at_end) (Writes-then o.wrote (Writes-fails _ w.part.wrote));
+        same_setting = ap setting_of at_end ∙ w.part.after.1 ∙ o.same.outer;
+      })
 
 module _ {W : Type 0} (b : BuilderView W) where
   -- an entry is the first part of the rest
@@ -240,14 +233,14 @@ module _ {W E : Type 0} {seen : Seen W} {d : Document} {begun ended : Formatter 
     (old : BuilderView W) where
   pub entry_between : IsInside old → mid ≡ lent_to Lent old ended → Prints seen old.formatter (lead_of old) true begun → LaysOut seen begun d (is_ok outcome) ended
       → EndsEntry seen outcome mid result (is_ok result) new → WritesEntry seen old (entry_text d) (is_ok result) new
-  entry_between inside_b m p l e = record { part = WritesText-between Lent old ended _ (entry_text d) outcome result inside_b m p l.prints e }
+  entry_between inside_b m p l e = record { part = WritesText-between Lent old ended _ (entry_text d) outcome result inside_b m p (prints_layout l) e }
 
   pub field_between : (name : List ℕ) → IsInside old → mid ≡ lent_to Lent old ended → Prints seen old.formatter (field_lead_of name old) true begun
       → LaysOut seen begun d (is_ok outcome) ended → EndsEntry seen outcome mid result (is_ok result) new
       → WritesEntry seen old (field_text name d) (is_ok result) new
   field_between name inside_b m p l e = record {
     part =
-        rw (field_framed old name d) (WritesText-between Lent old ended _ (entry_text d) outcome result inside_b m p l.prints e);
+        rw (field_framed old name d) (WritesText-between Lent old ended _ (entry_text d) outcome result inside_b m p (prints_layout l) e);
   }
 
 -- the first half of an entry, of a map's entry, or of a field failed

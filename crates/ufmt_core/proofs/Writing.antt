@@ -5,7 +5,7 @@ use Rattle.std.specs.Prelude.{IsErr}
 use Rattle.ufmt_core.specs.Document.{Document}
 use Rattle.ufmt_core.specs.Layout.{Setting}
 use Rattle.ufmt_core.specs.Writes.{Seen, Appended, Writes}
-use Rattle.ufmt_core.specs.Formatter.{Formatter, Prints, LaysOut, setting_of}
+use Rattle.ufmt_core.specs.Formatter.{Formatter, Prints, LaysOut, lays_out, prints_layout, setting_of}
 
 pub is_ok-err : {X E : Type 0} (r : Result X E) → IsErr r → is_ok r ≡ false
 is_ok-err (Ok x) h = cc
@@ -101,4 +101,4 @@ module _ {W : Type 0} {seen : Seen W} where
 
   pub LaysOut-err : {X E : Type 0} {old new : Formatter W} {d : Document} (r : Result X E) → IsErr r → LaysOut seen old d false new
       → LaysOut seen old d (is_ok r) new
-  LaysOut-err r h a = record { prints = Prints-err r h a.prints }
+  LaysOut-err r h a = lays_out (Prints-err r h (prints_layout a))

@@ -36,6 +36,17 @@ module _ {W : Type 0} where
     pub wrote : Writes seen (writer_of old) text ok (writer_of new)
     pub same_setting : setting_of new ≡ setting_of old
 
-  -- the document was laid out, or a prefix of it, and mode and depth are as before
+  -- the document was laid out, or a prefix of it, and mode and depth are as before. Searches don't see `wrote`, so the
+  -- names in a document stay whole there
   pub record LaysOut (seen : Seen W) (old : Formatter W) (d : Document) (ok : Bool) (new : Formatter W) : Type 0 where
-    pub prints : Prints seen old (layout (setting_of old) d) ok new
+    wrote : Writes seen (writer_of old) (layout (setting_of old) d) ok (writer_of new)
+    pub same_setting : setting_of new ≡ setting_of old
+
+  -- it says that the layout was written
+  pub lays_out : {seen : Seen W} {old new : Formatter W} {d : Document} {ok : Bool}
+      → Prints seen old (layout (setting_of old) d) ok new → LaysOut seen old d ok new
+  lays_out p = record { wrote = p.wrote; same_setting = p.same_setting }
+
+  pub prints_layout : {seen : Seen W} {old new : Formatter W} {d : Document} {ok : Bool}
+      → LaysOut seen old d ok new → Prints seen old (layout (setting_of old) d) ok new
+  prints_layout l = record { wrote = l.wrote; same_setting = l.same_setting }

@@ -1,3 +1,4 @@
+pub mod Alike
 pub mod BuilderView
 pub mod Builder
 pub mod Bytes

@@ -1,10 +1,11 @@
 //! The formatter: a writer, a mode and a depth.
 ghost use Rattle.std.specs.Prelude.{◌≡◌, ◌↔◌, ℕ, is_ok, encode_utf8, IsTrue};
+ghost use Rattle.ufmt_core.specs.Document.{leaf};
 ghost use Rattle.ufmt_core.specs.Layout.{Pretty};
 ghost use Rattle.std.specs.Borrow.{MutBor};
 ghost use Rattle.std.specs.Fn.{FnOnceReturnsAtMut};
 ghost use Rattle.ufmt_core.specs.declared.formatter.Formatter.{Formatter};
-ghost use Rattle.ufmt_core.specs.Formatter.{IsNew, Prints, at_setting, depth_of, in_pretty_mode, mode_of, setting_of, writer_of};
+ghost use Rattle.ufmt_core.specs.Formatter.{IsNew, LaysOut, Prints, at_setting, depth_of, in_pretty_mode, mode_of, setting_of, writer_of};
 
 pub(crate) mod builder;
 mod frame;
@@ -61,14 +62,16 @@ impl<W: uWrite> Formatter<W> {
     /// Writes the text as one piece. On `Err` a prefix of it was written.
     #[inline(always)]
     pub fn write_str(&mut self, s: &str) -> Result<(), W::Error>
-        ensures { Prints W.seen self.old s.now (is_ok result) self.new }
+        ensures prints { Prints W.seen self.old s.now (is_ok result) self.new }
+        ensures lays_out { LaysOut W.seen self.old (leaf s.now) (is_ok result) self.new }
     {
         self.writer.write_str(s)
     }
 
     /// Writes the character as one piece. On `Err` a prefix of its bytes was written.
     pub fn write_char(&mut self, c: char) -> Result<(), W::Error>
-        ensures { Prints W.seen self.old (encode_utf8 c) (is_ok result) self.new }
+        ensures prints { Prints W.seen self.old (encode_utf8 c) (is_ok result) self.new }
+        ensures lays_out { LaysOut W.seen self.old (leaf (encode_utf8 c)) (is_ok result) self.new }
     {
         self.writer.write_char(c)
     }

@@ -1,4 +1,4 @@
-#![tactic(auto)]
+#![tactic(auto, using(crate::specs::Formatter::lays_out))]
 
 //! Formatting without `core::fmt`: writers, the formatter, its builders and the trait `uDebug`.
 ghost use Rattle.std.specs.Prelude.{is_ok};

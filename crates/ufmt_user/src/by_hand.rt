@@ -5,7 +5,7 @@ ghost use Rattle.std.specs.Str.{encode_utf8_all};
 ghost use Rattle.ufmt.specs.Document.{documents, joined, leaf, list_of, map_of, pairs_of, pretty_part};
 ghost use Rattle.ufmt.specs.ValueDocuments.{integer, non_exhaustive_struct, number};
 
-use ufmt::{Formatter, uDebug, uWrite};
+use ufmt::{Formatter, fmt_pretty, uDebug, uWrite};
 
 /// A struct that prints as the list in it.
 #[derive(Drop)]
@@ -107,6 +107,6 @@ impl<T: uDebug> uDebug for InPrettyMode<T> {
     ghost document = { λ x. pretty_part (T.document x.0) };
 
     fn fmt<W: uWrite>(&self, f: &mut Formatter<W>) -> Result<(), W::Error> {
-        f.pretty(|f| self.0.fmt(f))
+        fmt_pretty(&self.0, f)
     }
 }

@@ -1,6 +1,8 @@
 //! Structs that end in `..`, by their number of fields. tools/write-by-count writes this file: change it there.
-ghost use Rattle.std.specs.Prelude.{is_ok, [], ◌∷◌};
-ghost use Rattle.ufmt_core.specs.Document.{fields_of, non_exhaustive_of};
+ghost use Rattle.std.specs.Prelude.{◌≡◌, ℕ, List, is_ok, true, [], ◌∷◌};
+ghost use Rattle.std.specs.Str.{bytes_eq};
+ghost use Rattle.ufmt_core.specs.Alike.{SameFields};
+ghost use Rattle.ufmt_core.specs.Document.{Fields, fields_of, non_exhaustive_of};
 ghost use Rattle.ufmt_core.specs.Formatter.{LaysOut};
 
 use crate::formatter::Formatter;
@@ -11,8 +13,11 @@ impl<W: uWrite> Formatter<W> {
     /// `non_exhaustive_of` without fields.
     #[inline(always)]
     pub fn non_exhaustive_0(&mut self, name: &str) -> Result<(), W::Error>
-        ensures { LaysOut W.seen self.old (non_exhaustive_of name.now (fields_of ([])))
+        ensures lays_out { LaysOut W.seen self.old (non_exhaustive_of name.now (fields_of ([])))
             (is_ok result) self.new }
+        ensures alike { (other : List ℕ) (others : Fields) → bytes_eq other name.now ≡ true
+            → SameFields others (fields_of ([]))
+            → LaysOut W.seen self.old (non_exhaustive_of other others) (is_ok result) self.new }
     {
         self.non_exhaustive_of(name, &())
     }
@@ -25,8 +30,11 @@ impl<W: uWrite> Formatter<W> {
         a: &'a str,
         a_value: &'a A,
     ) -> Result<(), W::Error>
-        ensures { LaysOut W.seen self.old (non_exhaustive_of name.now (fields_of
+        ensures lays_out { LaysOut W.seen self.old (non_exhaustive_of name.now (fields_of
             ((a.now, A.document a_value.now) ∷ []))) (is_ok result) self.new }
+        ensures alike { (other : List ℕ) (others : Fields) → bytes_eq other name.now ≡ true
+            → SameFields others (fields_of ((a.now, A.document a_value.now) ∷ []))
+            → LaysOut W.seen self.old (non_exhaustive_of other others) (is_ok result) self.new }
     {
         let fields = field_chain!(a: a_value,);
         self.non_exhaustive_of(name, &fields)
@@ -42,9 +50,13 @@ impl<W: uWrite> Formatter<W> {
         b: &'a str,
         b_value: &'a B,
     ) -> Result<(), W::Error>
-        ensures { LaysOut W.seen self.old (non_exhaustive_of name.now (fields_of
+        ensures lays_out { LaysOut W.seen self.old (non_exhaustive_of name.now (fields_of
             ((a.now, A.document a_value.now) ∷ (b.now, B.document b_value.now) ∷ [])))
             (is_ok result) self.new }
+        ensures alike { (other : List ℕ) (others : Fields) → bytes_eq other name.now ≡ true
+            → SameFields others (fields_of ((a.now, A.document a_value.now)
+            ∷ (b.now, B.document b_value.now) ∷ []))
+            → LaysOut W.seen self.old (non_exhaustive_of other others) (is_ok result) self.new }
     {
         let fields = field_chain!(a: a_value, b: b_value,);
         self.non_exhaustive_of(name, &fields)
@@ -62,9 +74,13 @@ impl<W: uWrite> Formatter<W> {
         c: &'a str,
         c_value: &'a C,
     ) -> Result<(), W::Error>
-        ensures { LaysOut W.seen self.old (non_exhaustive_of name.now (fields_of
+        ensures lays_out { LaysOut W.seen self.old (non_exhaustive_of name.now (fields_of
             ((a.now, A.document a_value.now) ∷ (b.now, B.document b_value.now)
             ∷ (c.now, C.document c_value.now) ∷ []))) (is_ok result) self.new }
+        ensures alike { (other : List ℕ) (others : Fields) → bytes_eq other name.now ≡ true
+            → SameFields others (fields_of ((a.now, A.document a_value.now)
+            ∷ (b.now, B.document b_value.now) ∷ (c.now, C.document c_value.now) ∷ []))
+            → LaysOut W.seen self.old (non_exhaustive_of other others) (is_ok result) self.new }
     {
         let fields = field_chain!(a: a_value, b: b_value, c: c_value,);
         self.non_exhaustive_of(name, &fields)
@@ -84,10 +100,15 @@ impl<W: uWrite> Formatter<W> {
         d: &'a str,
         d_value: &'a D,
     ) -> Result<(), W::Error>
-        ensures { LaysOut W.seen self.old (non_exhaustive_of name.now (fields_of
+        ensures lays_out { LaysOut W.seen self.old (non_exhaustive_of name.now (fields_of
             ((a.now, A.document a_value.now) ∷ (b.now, B.document b_value.now)
             ∷ (c.now, C.document c_value.now) ∷ (d.now, D.document d_value.now) ∷ [])))
             (is_ok result) self.new }
+        ensures alike { (other : List ℕ) (others : Fields) → bytes_eq other name.now ≡ true
+            → SameFields others (fields_of ((a.now, A.document a_value.now)
+            ∷ (b.now, B.document b_value.now) ∷ (c.now, C.document c_value.now)
+            ∷ (d.now, D.document d_value.now) ∷ []))
+            → LaysOut W.seen self.old (non_exhaustive_of other others) (is_ok result) self.new }
     {
         let fields = field_chain!(a: a_value, b: b_value, c: c_value, d: d_value,);
         self.non_exhaustive_of(name, &fields)
@@ -109,10 +130,15 @@ impl<W: uWrite> Formatter<W> {
         e: &'a str,
         e_value: &'a E,
     ) -> Result<(), W::Error>
-        ensures { LaysOut W.seen self.old (non_exhaustive_of name.now (fields_of
+        ensures lays_out { LaysOut W.seen self.old (non_exhaustive_of name.now (fields_of
             ((a.now, A.document a_value.now) ∷ (b.now, B.document b_value.now)
             ∷ (c.now, C.document c_value.now) ∷ (d.now, D.document d_value.now)
             ∷ (e.now, E.document e_value.now) ∷ []))) (is_ok result) self.new }
+        ensures alike { (other : List ℕ) (others : Fields) → bytes_eq other name.now ≡ true
+            → SameFields others (fields_of ((a.now, A.document a_value.now)
+            ∷ (b.now, B.document b_value.now) ∷ (c.now, C.document c_value.now)
+            ∷ (d.now, D.document d_value.now) ∷ (e.now, E.document e_value.now) ∷ []))
+            → LaysOut W.seen self.old (non_exhaustive_of other others) (is_ok result) self.new }
     {
         let fields = field_chain!(a: a_value, b: b_value, c: c_value, d: d_value, e: e_value,);
         self.non_exhaustive_of(name, &fields)
@@ -136,11 +162,17 @@ impl<W: uWrite> Formatter<W> {
         f: &'a str,
         f_value: &'a F,
     ) -> Result<(), W::Error>
-        ensures { LaysOut W.seen self.old (non_exhaustive_of name.now (fields_of
+        ensures lays_out { LaysOut W.seen self.old (non_exhaustive_of name.now (fields_of
             ((a.now, A.document a_value.now) ∷ (b.now, B.document b_value.now)
             ∷ (c.now, C.document c_value.now) ∷ (d.now, D.document d_value.now)
             ∷ (e.now, E.document e_value.now) ∷ (f.now, F.document f_value.now) ∷ [])))
             (is_ok result) self.new }
+        ensures alike { (other : List ℕ) (others : Fields) → bytes_eq other name.now ≡ true
+            → SameFields others (fields_of ((a.now, A.document a_value.now)
+            ∷ (b.now, B.document b_value.now) ∷ (c.now, C.document c_value.now)
+            ∷ (d.now, D.document d_value.now) ∷ (e.now, E.document e_value.now)
+            ∷ (f.now, F.document f_value.now) ∷ []))
+            → LaysOut W.seen self.old (non_exhaustive_of other others) (is_ok result) self.new }
     {
         let fields = field_chain!(
             a: a_value, b: b_value, c: c_value, d: d_value, e: e_value, f: f_value,
@@ -177,11 +209,17 @@ impl<W: uWrite> Formatter<W> {
         g: &'a str,
         g_value: &'a G,
     ) -> Result<(), W::Error>
-        ensures { LaysOut W.seen self.old (non_exhaustive_of name.now (fields_of
+        ensures lays_out { LaysOut W.seen self.old (non_exhaustive_of name.now (fields_of
             ((a.now, A.document a_value.now) ∷ (b.now, B.document b_value.now)
             ∷ (c.now, C.document c_value.now) ∷ (d.now, D.document d_value.now)
             ∷ (e.now, E.document e_value.now) ∷ (f.now, F.document f_value.now)
             ∷ (g.now, G.document g_value.now) ∷ []))) (is_ok result) self.new }
+        ensures alike { (other : List ℕ) (others : Fields) → bytes_eq other name.now ≡ true
+            → SameFields others (fields_of ((a.now, A.document a_value.now)
+            ∷ (b.now, B.document b_value.now) ∷ (c.now, C.document c_value.now)
+            ∷ (d.now, D.document d_value.now) ∷ (e.now, E.document e_value.now)
+            ∷ (f.now, F.document f_value.now) ∷ (g.now, G.document g_value.now) ∷ []))
+            → LaysOut W.seen self.old (non_exhaustive_of other others) (is_ok result) self.new }
     {
         let fields = field_chain!(
             a: a_value, b: b_value, c: c_value, d: d_value, e: e_value, f: f_value,
@@ -222,12 +260,19 @@ impl<W: uWrite> Formatter<W> {
         h: &'a str,
         h_value: &'a H,
     ) -> Result<(), W::Error>
-        ensures { LaysOut W.seen self.old (non_exhaustive_of name.now (fields_of
+        ensures lays_out { LaysOut W.seen self.old (non_exhaustive_of name.now (fields_of
             ((a.now, A.document a_value.now) ∷ (b.now, B.document b_value.now)
             ∷ (c.now, C.document c_value.now) ∷ (d.now, D.document d_value.now)
             ∷ (e.now, E.document e_value.now) ∷ (f.now, F.document f_value.now)
             ∷ (g.now, G.document g_value.now) ∷ (h.now, H.document h_value.now) ∷ [])))
             (is_ok result) self.new }
+        ensures alike { (other : List ℕ) (others : Fields) → bytes_eq other name.now ≡ true
+            → SameFields others (fields_of ((a.now, A.document a_value.now)
+            ∷ (b.now, B.document b_value.now) ∷ (c.now, C.document c_value.now)
+            ∷ (d.now, D.document d_value.now) ∷ (e.now, E.document e_value.now)
+            ∷ (f.now, F.document f_value.now) ∷ (g.now, G.document g_value.now)
+            ∷ (h.now, H.document h_value.now) ∷ []))
+            → LaysOut W.seen self.old (non_exhaustive_of other others) (is_ok result) self.new }
     {
         let fields = field_chain!(
             a: a_value, b: b_value, c: c_value, d: d_value, e: e_value, f: f_value,
@@ -271,12 +316,19 @@ impl<W: uWrite> Formatter<W> {
         i: &'a str,
         i_value: &'a I,
     ) -> Result<(), W::Error>
-        ensures { LaysOut W.seen self.old (non_exhaustive_of name.now (fields_of
+        ensures lays_out { LaysOut W.seen self.old (non_exhaustive_of name.now (fields_of
             ((a.now, A.document a_value.now) ∷ (b.now, B.document b_value.now)
             ∷ (c.now, C.document c_value.now) ∷ (d.now, D.document d_value.now)
             ∷ (e.now, E.document e_value.now) ∷ (f.now, F.document f_value.now)
             ∷ (g.now, G.document g_value.now) ∷ (h.now, H.document h_value.now)
             ∷ (i.now, I.document i_value.now) ∷ []))) (is_ok result) self.new }
+        ensures alike { (other : List ℕ) (others : Fields) → bytes_eq other name.now ≡ true
+            → SameFields others (fields_of ((a.now, A.document a_value.now)
+            ∷ (b.now, B.document b_value.now) ∷ (c.now, C.document c_value.now)
+            ∷ (d.now, D.document d_value.now) ∷ (e.now, E.document e_value.now)
+            ∷ (f.now, F.document f_value.now) ∷ (g.now, G.document g_value.now)
+            ∷ (h.now, H.document h_value.now) ∷ (i.now, I.document i_value.now) ∷ []))
+            → LaysOut W.seen self.old (non_exhaustive_of other others) (is_ok result) self.new }
     {
         let fields = field_chain!(
             a: a_value, b: b_value, c: c_value, d: d_value, e: e_value, f: f_value,
@@ -323,13 +375,21 @@ impl<W: uWrite> Formatter<W> {
         j: &'a str,
         j_value: &'a J,
     ) -> Result<(), W::Error>
-        ensures { LaysOut W.seen self.old (non_exhaustive_of name.now (fields_of
+        ensures lays_out { LaysOut W.seen self.old (non_exhaustive_of name.now (fields_of
             ((a.now, A.document a_value.now) ∷ (b.now, B.document b_value.now)
             ∷ (c.now, C.document c_value.now) ∷ (d.now, D.document d_value.now)
             ∷ (e.now, E.document e_value.now) ∷ (f.now, F.document f_value.now)
             ∷ (g.now, G.document g_value.now) ∷ (h.now, H.document h_value.now)
             ∷ (i.now, I.document i_value.now) ∷ (j.now, J.document j_value.now) ∷ [])))
             (is_ok result) self.new }
+        ensures alike { (other : List ℕ) (others : Fields) → bytes_eq other name.now ≡ true
+            → SameFields others (fields_of ((a.now, A.document a_value.now)
+            ∷ (b.now, B.document b_value.now) ∷ (c.now, C.document c_value.now)
+            ∷ (d.now, D.document d_value.now) ∷ (e.now, E.document e_value.now)
+            ∷ (f.now, F.document f_value.now) ∷ (g.now, G.document g_value.now)
+            ∷ (h.now, H.document h_value.now) ∷ (i.now, I.document i_value.now)
+            ∷ (j.now, J.document j_value.now) ∷ []))
+            → LaysOut W.seen self.old (non_exhaustive_of other others) (is_ok result) self.new }
     {
         let fields = field_chain!(
             a: a_value, b: b_value, c: c_value, d: d_value, e: e_value, f: f_value,
@@ -379,13 +439,21 @@ impl<W: uWrite> Formatter<W> {
         k: &'a str,
         k_value: &'a K,
     ) -> Result<(), W::Error>
-        ensures { LaysOut W.seen self.old (non_exhaustive_of name.now (fields_of
+        ensures lays_out { LaysOut W.seen self.old (non_exhaustive_of name.now (fields_of
             ((a.now, A.document a_value.now) ∷ (b.now, B.document b_value.now)
             ∷ (c.now, C.document c_value.now) ∷ (d.now, D.document d_value.now)
             ∷ (e.now, E.document e_value.now) ∷ (f.now, F.document f_value.now)
             ∷ (g.now, G.document g_value.now) ∷ (h.now, H.document h_value.now)
             ∷ (i.now, I.document i_value.now) ∷ (j.now, J.document j_value.now)
             ∷ (k.now, K.document k_value.now) ∷ []))) (is_ok result) self.new }
+        ensures alike { (other : List ℕ) (others : Fields) → bytes_eq other name.now ≡ true
+            → SameFields others (fields_of ((a.now, A.document a_value.now)
+            ∷ (b.now, B.document b_value.now) ∷ (c.now, C.document c_value.now)
+            ∷ (d.now, D.document d_value.now) ∷ (e.now, E.document e_value.now)
+            ∷ (f.now, F.document f_value.now) ∷ (g.now, G.document g_value.now)
+            ∷ (h.now, H.document h_value.now) ∷ (i.now, I.document i_value.now)
+            ∷ (j.now, J.document j_value.now) ∷ (k.now, K.document k_value.now) ∷ []))
+            → LaysOut W.seen self.old (non_exhaustive_of other others) (is_ok result) self.new }
     {
         let fields = field_chain!(
             a: a_value, b: b_value, c: c_value, d: d_value, e: e_value, f: f_value,
@@ -438,7 +506,7 @@ impl<W: uWrite> Formatter<W> {
         l: &'a str,
         l_value: &'a L,
     ) -> Result<(), W::Error>
-        ensures { LaysOut W.seen self.old (non_exhaustive_of name.now (fields_of
+        ensures lays_out { LaysOut W.seen self.old (non_exhaustive_of name.now (fields_of
             ((a.now, A.document a_value.now) ∷ (b.now, B.document b_value.now)
             ∷ (c.now, C.document c_value.now) ∷ (d.now, D.document d_value.now)
             ∷ (e.now, E.document e_value.now) ∷ (f.now, F.document f_value.now)
@@ -446,6 +514,15 @@ impl<W: uWrite> Formatter<W> {
             ∷ (i.now, I.document i_value.now) ∷ (j.now, J.document j_value.now)
             ∷ (k.now, K.document k_value.now) ∷ (l.now, L.document l_value.now) ∷ [])))
             (is_ok result) self.new }
+        ensures alike { (other : List ℕ) (others : Fields) → bytes_eq other name.now ≡ true
+            → SameFields others (fields_of ((a.now, A.document a_value.now)
+            ∷ (b.now, B.document b_value.now) ∷ (c.now, C.document c_value.now)
+            ∷ (d.now, D.document d_value.now) ∷ (e.now, E.document e_value.now)
+            ∷ (f.now, F.document f_value.now) ∷ (g.now, G.document g_value.now)
+            ∷ (h.now, H.document h_value.now) ∷ (i.now, I.document i_value.now)
+            ∷ (j.now, J.document j_value.now) ∷ (k.now, K.document k_value.now)
+            ∷ (l.now, L.document l_value.now) ∷ []))
+            → LaysOut W.seen self.old (non_exhaustive_of other others) (is_ok result) self.new }
     {
         let fields = field_chain!(
             a: a_value, b: b_value, c: c_value, d: d_value, e: e_value, f: f_value,

@@ -1,6 +1,8 @@
 //! A whole struct in one call. `fields!` is made of these calls, and a user may call them too.
-ghost use Rattle.std.specs.Prelude.{is_ok};
-ghost use Rattle.ufmt_core.specs.Document.{Fields, first_field, no_fields, non_exhaustive_of, struct_of};
+ghost use Rattle.std.specs.Prelude.{◌≡◌, ℕ, List, is_ok, true};
+ghost use Rattle.std.specs.Str.{bytes_eq};
+ghost use Rattle.ufmt_core.specs.Alike.{SameFields};
+ghost use Rattle.ufmt_core.specs.Document.{Fields, first_field, leaf, no_fields, non_exhaustive_of, struct_of};
 ghost use Rattle.ufmt_core.specs.Formatter.{LaysOut};
 ghost use Rattle.ufmt_core.specs.BuilderView.{IsOpen, WritesAll, WritesEnding, remaining_fields, tail_of};
 ghost use Rattle.ufmt_core.specs.Builder.{struct_view};
@@ -63,6 +65,16 @@ impl<'a, D: uDebug, R: NamedFields<'a>> NamedFields<'a> for (&'a str, &'a D, R) 
 }
 
 impl<W: uWrite> Formatter<W> {
+    /// Writes a name alone, as of a variant without fields.
+    #[inline(always)]
+    pub fn name_alone(&mut self, name: &str) -> Result<(), W::Error>
+        ensures lays_out { LaysOut W.seen self.old (leaf name.now) (is_ok result) self.new }
+        ensures alike { (other : List ℕ) → bytes_eq other name.now ≡ true
+            → LaysOut W.seen self.old (leaf other) (is_ok result) self.new }
+    {
+        self.write_str(name)
+    }
+
     /// Writes a whole struct, whose fields are a chain `(name, value, (name, value, .. ()))` of
     /// references. On `Err` a prefix of it was written. Mode and depth are as before.
     #[inline(always)]
@@ -71,8 +83,11 @@ impl<W: uWrite> Formatter<W> {
         name: &str,
         fields: &F,
     ) -> Result<(), W::Error>
-        ensures { LaysOut W.seen self.old (struct_of name.now (F.fields fields.now)) (is_ok result)
+        ensures lays_out { LaysOut W.seen self.old (struct_of name.now (F.fields fields.now)) (is_ok result)
             self.new }
+        ensures alike { (other : List ℕ) (others : Fields) → bytes_eq other name.now ≡ true
+            → SameFields others (F.fields fields.now)
+            → LaysOut W.seen self.old (struct_of other others) (is_ok result) self.new }
     {
         let mut builder = self.debug_struct(name)?;
         fields.finish(&mut builder)
@@ -85,8 +100,11 @@ impl<W: uWrite> Formatter<W> {
         name: &str,
         fields: &F,
     ) -> Result<(), W::Error>
-        ensures { LaysOut W.seen self.old (non_exhaustive_of name.now (F.fields fields.now))
+        ensures lays_out { LaysOut W.seen self.old (non_exhaustive_of name.now (F.fields fields.now))
             (is_ok result) self.new }
+        ensures alike { (other : List ℕ) (others : Fields) → bytes_eq other name.now ≡ true
+            → SameFields others (F.fields fields.now)
+            → LaysOut W.seen self.old (non_exhaustive_of other others) (is_ok result) self.new }
     {
         let mut builder = self.debug_struct(name)?;
         fields.write(&mut builder)?;

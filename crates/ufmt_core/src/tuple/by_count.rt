@@ -1,6 +1,8 @@
 //! Whole tuples by their number of fields. tools/write-by-count writes this file: change it there.
-ghost use Rattle.std.specs.Prelude.{is_ok, [], ◌∷◌};
-ghost use Rattle.ufmt_core.specs.Document.{documents, tuple_of};
+ghost use Rattle.std.specs.Prelude.{◌≡◌, ℕ, List, is_ok, true, [], ◌∷◌};
+ghost use Rattle.std.specs.Str.{bytes_eq};
+ghost use Rattle.ufmt_core.specs.Alike.{SameDocuments};
+ghost use Rattle.ufmt_core.specs.Document.{Documents, documents, tuple_of};
 ghost use Rattle.ufmt_core.specs.Formatter.{LaysOut};
 
 use crate::formatter::Formatter;
@@ -10,16 +12,22 @@ use crate::write::uWrite;
 impl<W: uWrite> Formatter<W> {
     /// `tuple_of` without fields.
     pub fn tuple_0(&mut self, name: &str) -> Result<(), W::Error>
-        ensures { LaysOut W.seen self.old (tuple_of name.now (documents ([]))) (is_ok result)
-            self.new }
+        ensures lays_out { LaysOut W.seen self.old (tuple_of name.now (documents ([])))
+            (is_ok result) self.new }
+        ensures alike { (other : List ℕ) (others : Documents) → bytes_eq other name.now ≡ true
+            → SameDocuments others (documents ([]))
+            → LaysOut W.seen self.old (tuple_of other others) (is_ok result) self.new }
     {
         self.tuple_of(name, &())
     }
 
     /// `tuple_of` with one field.
     pub fn tuple_1<'a, A: uDebug>(&mut self, name: &str, a: &'a A) -> Result<(), W::Error>
-        ensures { LaysOut W.seen self.old (tuple_of name.now (documents (A.document a.now ∷ [])))
-            (is_ok result) self.new }
+        ensures lays_out { LaysOut W.seen self.old (tuple_of name.now (documents (A.document a.now
+            ∷ []))) (is_ok result) self.new }
+        ensures alike { (other : List ℕ) (others : Documents) → bytes_eq other name.now ≡ true
+            → SameDocuments others (documents (A.document a.now ∷ []))
+            → LaysOut W.seen self.old (tuple_of other others) (is_ok result) self.new }
     {
         self.tuple_of(name, &(a, ()))
     }
@@ -31,8 +39,11 @@ impl<W: uWrite> Formatter<W> {
         a: &'a A,
         b: &'a B,
     ) -> Result<(), W::Error>
-        ensures { LaysOut W.seen self.old (tuple_of name.now (documents (A.document a.now
+        ensures lays_out { LaysOut W.seen self.old (tuple_of name.now (documents (A.document a.now
             ∷ B.document b.now ∷ []))) (is_ok result) self.new }
+        ensures alike { (other : List ℕ) (others : Documents) → bytes_eq other name.now ≡ true
+            → SameDocuments others (documents (A.document a.now ∷ B.document b.now ∷ []))
+            → LaysOut W.seen self.old (tuple_of other others) (is_ok result) self.new }
     {
         self.tuple_of(name, &(a, (b, ())))
     }
@@ -45,8 +56,12 @@ impl<W: uWrite> Formatter<W> {
         b: &'a B,
         c: &'a C,
     ) -> Result<(), W::Error>
-        ensures { LaysOut W.seen self.old (tuple_of name.now (documents (A.document a.now
+        ensures lays_out { LaysOut W.seen self.old (tuple_of name.now (documents (A.document a.now
             ∷ B.document b.now ∷ C.document c.now ∷ []))) (is_ok result) self.new }
+        ensures alike { (other : List ℕ) (others : Documents) → bytes_eq other name.now ≡ true
+            → SameDocuments others (documents (A.document a.now ∷ B.document b.now
+            ∷ C.document c.now ∷ [])) → LaysOut W.seen self.old (tuple_of other others)
+            (is_ok result) self.new }
     {
         self.tuple_of(name, &(a, (b, (c, ()))))
     }
@@ -60,9 +75,13 @@ impl<W: uWrite> Formatter<W> {
         c: &'a C,
         d: &'a D,
     ) -> Result<(), W::Error>
-        ensures { LaysOut W.seen self.old (tuple_of name.now (documents (A.document a.now
+        ensures lays_out { LaysOut W.seen self.old (tuple_of name.now (documents (A.document a.now
             ∷ B.document b.now ∷ C.document c.now ∷ D.document d.now ∷ []))) (is_ok result)
             self.new }
+        ensures alike { (other : List ℕ) (others : Documents) → bytes_eq other name.now ≡ true
+            → SameDocuments others (documents (A.document a.now ∷ B.document b.now
+            ∷ C.document c.now ∷ D.document d.now ∷ []))
+            → LaysOut W.seen self.old (tuple_of other others) (is_ok result) self.new }
     {
         self.tuple_of(name, &(a, (b, (c, (d, ())))))
     }
@@ -77,9 +96,13 @@ impl<W: uWrite> Formatter<W> {
         d: &'a D,
         e: &'a E,
     ) -> Result<(), W::Error>
-        ensures { LaysOut W.seen self.old (tuple_of name.now (documents (A.document a.now
+        ensures lays_out { LaysOut W.seen self.old (tuple_of name.now (documents (A.document a.now
             ∷ B.document b.now ∷ C.document c.now ∷ D.document d.now ∷ E.document e.now ∷ [])))
             (is_ok result) self.new }
+        ensures alike { (other : List ℕ) (others : Documents) → bytes_eq other name.now ≡ true
+            → SameDocuments others (documents (A.document a.now ∷ B.document b.now
+            ∷ C.document c.now ∷ D.document d.now ∷ E.document e.now ∷ []))
+            → LaysOut W.seen self.old (tuple_of other others) (is_ok result) self.new }
     {
         self.tuple_of(name, &(a, (b, (c, (d, (e, ()))))))
     }
@@ -95,9 +118,13 @@ impl<W: uWrite> Formatter<W> {
         e: &'a E,
         f: &'a F,
     ) -> Result<(), W::Error>
-        ensures { LaysOut W.seen self.old (tuple_of name.now (documents (A.document a.now
+        ensures lays_out { LaysOut W.seen self.old (tuple_of name.now (documents (A.document a.now
             ∷ B.document b.now ∷ C.document c.now ∷ D.document d.now ∷ E.document e.now
             ∷ F.document f.now ∷ []))) (is_ok result) self.new }
+        ensures alike { (other : List ℕ) (others : Documents) → bytes_eq other name.now ≡ true
+            → SameDocuments others (documents (A.document a.now ∷ B.document b.now
+            ∷ C.document c.now ∷ D.document d.now ∷ E.document e.now ∷ F.document f.now ∷ []))
+            → LaysOut W.seen self.old (tuple_of other others) (is_ok result) self.new }
     {
         self.tuple_of(name, &(a, (b, (c, (d, (e, (f, ())))))))
     }
@@ -114,9 +141,14 @@ impl<W: uWrite> Formatter<W> {
         f: &'a F,
         g: &'a G,
     ) -> Result<(), W::Error>
-        ensures { LaysOut W.seen self.old (tuple_of name.now (documents (A.document a.now
+        ensures lays_out { LaysOut W.seen self.old (tuple_of name.now (documents (A.document a.now
             ∷ B.document b.now ∷ C.document c.now ∷ D.document d.now ∷ E.document e.now
             ∷ F.document f.now ∷ G.document g.now ∷ []))) (is_ok result) self.new }
+        ensures alike { (other : List ℕ) (others : Documents) → bytes_eq other name.now ≡ true
+            → SameDocuments others (documents (A.document a.now ∷ B.document b.now
+            ∷ C.document c.now ∷ D.document d.now ∷ E.document e.now ∷ F.document f.now
+            ∷ G.document g.now ∷ [])) → LaysOut W.seen self.old (tuple_of other others)
+            (is_ok result) self.new }
     {
         self.tuple_of(name, &(a, (b, (c, (d, (e, (f, (g, ()))))))))
     }
@@ -144,10 +176,15 @@ impl<W: uWrite> Formatter<W> {
         g: &'a G,
         h: &'a H,
     ) -> Result<(), W::Error>
-        ensures { LaysOut W.seen self.old (tuple_of name.now (documents (A.document a.now
+        ensures lays_out { LaysOut W.seen self.old (tuple_of name.now (documents (A.document a.now
             ∷ B.document b.now ∷ C.document c.now ∷ D.document d.now ∷ E.document e.now
             ∷ F.document f.now ∷ G.document g.now ∷ H.document h.now ∷ []))) (is_ok result)
             self.new }
+        ensures alike { (other : List ℕ) (others : Documents) → bytes_eq other name.now ≡ true
+            → SameDocuments others (documents (A.document a.now ∷ B.document b.now
+            ∷ C.document c.now ∷ D.document d.now ∷ E.document e.now ∷ F.document f.now
+            ∷ G.document g.now ∷ H.document h.now ∷ []))
+            → LaysOut W.seen self.old (tuple_of other others) (is_ok result) self.new }
     {
         self.tuple_of(name, &(a, (b, (c, (d, (e, (f, (g, (h, ())))))))))
     }
@@ -177,10 +214,15 @@ impl<W: uWrite> Formatter<W> {
         h: &'a H,
         i: &'a I,
     ) -> Result<(), W::Error>
-        ensures { LaysOut W.seen self.old (tuple_of name.now (documents (A.document a.now
+        ensures lays_out { LaysOut W.seen self.old (tuple_of name.now (documents (A.document a.now
             ∷ B.document b.now ∷ C.document c.now ∷ D.document d.now ∷ E.document e.now
             ∷ F.document f.now ∷ G.document g.now ∷ H.document h.now ∷ I.document i.now ∷ [])))
             (is_ok result) self.new }
+        ensures alike { (other : List ℕ) (others : Documents) → bytes_eq other name.now ≡ true
+            → SameDocuments others (documents (A.document a.now ∷ B.document b.now
+            ∷ C.document c.now ∷ D.document d.now ∷ E.document e.now ∷ F.document f.now
+            ∷ G.document g.now ∷ H.document h.now ∷ I.document i.now ∷ []))
+            → LaysOut W.seen self.old (tuple_of other others) (is_ok result) self.new }
     {
         self.tuple_of(name, &(a, (b, (c, (d, (e, (f, (g, (h, (i, ()))))))))))
     }
@@ -212,10 +254,15 @@ impl<W: uWrite> Formatter<W> {
         i: &'a I,
         j: &'a J,
     ) -> Result<(), W::Error>
-        ensures { LaysOut W.seen self.old (tuple_of name.now (documents (A.document a.now
+        ensures lays_out { LaysOut W.seen self.old (tuple_of name.now (documents (A.document a.now
             ∷ B.document b.now ∷ C.document c.now ∷ D.document d.now ∷ E.document e.now
             ∷ F.document f.now ∷ G.document g.now ∷ H.document h.now ∷ I.document i.now
             ∷ J.document j.now ∷ []))) (is_ok result) self.new }
+        ensures alike { (other : List ℕ) (others : Documents) → bytes_eq other name.now ≡ true
+            → SameDocuments others (documents (A.document a.now ∷ B.document b.now
+            ∷ C.document c.now ∷ D.document d.now ∷ E.document e.now ∷ F.document f.now
+            ∷ G.document g.now ∷ H.document h.now ∷ I.document i.now ∷ J.document j.now ∷ []))
+            → LaysOut W.seen self.old (tuple_of other others) (is_ok result) self.new }
     {
         self.tuple_of(name, &(a, (b, (c, (d, (e, (f, (g, (h, (i, (j, ())))))))))))
     }
@@ -249,10 +296,16 @@ impl<W: uWrite> Formatter<W> {
         j: &'a J,
         k: &'a K,
     ) -> Result<(), W::Error>
-        ensures { LaysOut W.seen self.old (tuple_of name.now (documents (A.document a.now
+        ensures lays_out { LaysOut W.seen self.old (tuple_of name.now (documents (A.document a.now
             ∷ B.document b.now ∷ C.document c.now ∷ D.document d.now ∷ E.document e.now
             ∷ F.document f.now ∷ G.document g.now ∷ H.document h.now ∷ I.document i.now
             ∷ J.document j.now ∷ K.document k.now ∷ []))) (is_ok result) self.new }
+        ensures alike { (other : List ℕ) (others : Documents) → bytes_eq other name.now ≡ true
+            → SameDocuments others (documents (A.document a.now ∷ B.document b.now
+            ∷ C.document c.now ∷ D.document d.now ∷ E.document e.now ∷ F.document f.now
+            ∷ G.document g.now ∷ H.document h.now ∷ I.document i.now ∷ J.document j.now
+            ∷ K.document k.now ∷ [])) → LaysOut W.seen self.old (tuple_of other others)
+            (is_ok result) self.new }
     {
         self.tuple_of(
             name,
@@ -291,11 +344,17 @@ impl<W: uWrite> Formatter<W> {
         k: &'a K,
         l: &'a L,
     ) -> Result<(), W::Error>
-        ensures { LaysOut W.seen self.old (tuple_of name.now (documents (A.document a.now
+        ensures lays_out { LaysOut W.seen self.old (tuple_of name.now (documents (A.document a.now
             ∷ B.document b.now ∷ C.document c.now ∷ D.document d.now ∷ E.document e.now
             ∷ F.document f.now ∷ G.document g.now ∷ H.document h.now ∷ I.document i.now
             ∷ J.document j.now ∷ K.document k.now ∷ L.document l.now ∷ []))) (is_ok result)
             self.new }
+        ensures alike { (other : List ℕ) (others : Documents) → bytes_eq other name.now ≡ true
+            → SameDocuments others (documents (A.document a.now ∷ B.document b.now
+            ∷ C.document c.now ∷ D.document d.now ∷ E.document e.now ∷ F.document f.now
+            ∷ G.document g.now ∷ H.document h.now ∷ I.document i.now ∷ J.document j.now
+            ∷ K.document k.now ∷ L.document l.now ∷ []))
+            → LaysOut W.seen self.old (tuple_of other others) (is_ok result) self.new }
     {
         self.tuple_of(
             name,

@@ -1,5 +1,7 @@
 //! A whole tuple in one call. `fields!` is made of these calls, and a user may call them too.
-ghost use Rattle.std.specs.Prelude.{is_ok};
+ghost use Rattle.std.specs.Prelude.{◌≡◌, ℕ, List, is_ok, true};
+ghost use Rattle.std.specs.Str.{bytes_eq};
+ghost use Rattle.ufmt_core.specs.Alike.{SameDocuments};
 ghost use Rattle.ufmt_core.specs.Document.{Documents, first_document, no_documents, tuple_of};
 ghost use Rattle.ufmt_core.specs.Formatter.{LaysOut};
 ghost use Rattle.ufmt_core.specs.BuilderView.{WritesEnding, IsOpen, remaining_entries, tail_of};
@@ -50,8 +52,11 @@ impl<W: uWrite> Formatter<W> {
         name: &str,
         fields: &F,
     ) -> Result<(), W::Error>
-        ensures { LaysOut W.seen self.old (tuple_of name.now (F.documents fields.now))
+        ensures lays_out { LaysOut W.seen self.old (tuple_of name.now (F.documents fields.now))
             (is_ok result) self.new }
+        ensures alike { (other : List ℕ) (others : Documents) → bytes_eq other name.now ≡ true
+            → SameDocuments others (F.documents fields.now)
+            → LaysOut W.seen self.old (tuple_of other others) (is_ok result) self.new }
     {
         let mut builder = self.debug_tuple(name)?;
         fields.finish(&mut builder)

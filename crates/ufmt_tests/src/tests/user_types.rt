@@ -8,8 +8,8 @@ use std::collections::{BTreeMap, VecDeque};
 use std::rc::Rc;
 use ufmt::{debug_into, pretty_into};
 use ufmt_user::{
-    I32, Json, Letter, Link, Measurement, Message, Nested, Node, Pair, Port, Ports, Scores,
-    Session, Temperature, Tree, Tuple, Users, Window, X, Y, log, print,
+    I32, Json, Letter, Link, LinkEvent, Measurement, Message, Nested, Node, Pair, Port, Ports,
+    Scores, Session, Temperature, Tree, Tuple, Users, Window, X, Y, log, print,
 };
 
 // A derive of Rust's `Debug` prints the same, and of ports and scores `debug_map` and `debug_list` of core::fmt.
@@ -54,6 +54,20 @@ C {
     x: 0,
     y: 1,
 };
+[DisconnectedByOtherSide, ReceivedAcknowledgement(7, Some(2)), ReconfiguredAfterPowerLoss { temperature_in_celsius: -4, time_without_connection: 60 }]~
+[
+    DisconnectedByOtherSide,
+    ReceivedAcknowledgement(
+        7,
+        Some(
+            2,
+        ),
+    ),
+    ReconfiguredAfterPowerLoss {
+        temperature_in_celsius: -4,
+        time_without_connection: 60,
+    },
+];
 Z(0)~
 Z(
     0,
@@ -351,6 +365,14 @@ fn types_of_users_print_as_by_core_fmt(rt: HostRuntime) {
     table.texts(&Letter::A::<u64>);
     table.texts(&Letter::B(0i32, 1));
     table.texts(&Letter::C { x: 0u64, y: 1 });
+    table.texts(&[
+        LinkEvent::DisconnectedByOtherSide,
+        LinkEvent::ReceivedAcknowledgement(7, Some(2)),
+        LinkEvent::ReconfiguredAfterPowerLoss {
+            temperature_in_celsius: -4,
+            time_without_connection: 60,
+        },
+    ]);
     table.texts(&Y::Z(0i32));
     table.texts(&Y::W::<u64>);
     table.texts(&forwarded::Y);

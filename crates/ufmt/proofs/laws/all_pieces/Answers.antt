@@ -7,27 +7,27 @@ use Rattle.ufmt.proofs.laws.all_pieces.Goals as goal
 pub returns-in-Ok-fmt_pretty : goal.returns-in-Ok-fmt_pretty
 returns-in-Ok-fmt_pretty g c =
     let s = setting_of c.args.f.now in
-    let displayed = c.in-Ok-fmt.ensures.prints.same_setting ∙ c.in-Ok.ensures.same_setting in
-    let debugged = c.in-Ok-fmt-2.ensures.prints.same_setting ∙ displayed in
-    Prints-then c.in-Ok.ensures (Prints-then (Prints-shown s c.in-Ok.ensures.same_setting c.in-Ok-fmt.ensures)
+    let displayed = c.in-Ok-fmt.ensures.same_setting ∙ c.in-Ok.ensures.prints.same_setting in
+    let debugged = c.in-Ok-fmt-2.ensures.same_setting ∙ displayed in
+    Prints-then c.in-Ok.ensures.prints (Prints-then (Prints-shown s c.in-Ok.ensures.prints.same_setting c.in-Ok-fmt.ensures)
     (Prints-then (Prints-shown s displayed c.in-Ok-fmt-2.ensures)
     (Prints-then (Prints-shown s debugged c.in-Ok-fmt_pretty.ensures) (Prints-last c.fmt_hex.ensures))))
 
 pub returns-in-Err-fmt_pretty : goal.returns-in-Err-fmt_pretty
 returns-in-Err-fmt_pretty g c =
     let s = setting_of c.args.f.now in
-    let displayed = c.in-Ok-fmt.ensures.prints.same_setting ∙ c.in-Ok.ensures.same_setting in
-    let debugged = c.in-Ok-fmt-2.ensures.prints.same_setting ∙ displayed in
-    Prints-then c.in-Ok.ensures (Prints-then (Prints-shown s c.in-Ok.ensures.same_setting c.in-Ok-fmt.ensures)
+    let displayed = c.in-Ok-fmt.ensures.same_setting ∙ c.in-Ok.ensures.prints.same_setting in
+    let debugged = c.in-Ok-fmt-2.ensures.same_setting ∙ displayed in
+    Prints-then c.in-Ok.ensures.prints (Prints-then (Prints-shown s c.in-Ok.ensures.prints.same_setting c.in-Ok-fmt.ensures)
     (Prints-then (Prints-shown s displayed c.in-Ok-fmt-2.ensures) (Prints-fails _ (Prints-shown s debugged c.in-Err-fmt_pretty.ensures))))
 
 pub returns-in-Err-fmt-2 : goal.returns-in-Err-fmt-2
 returns-in-Err-fmt-2 g c =
     let s = setting_of c.args.f.now in
-    let displayed = c.in-Ok-fmt.ensures.prints.same_setting ∙ c.in-Ok.ensures.same_setting in
-    Prints-then c.in-Ok.ensures (Prints-then (Prints-shown s c.in-Ok.ensures.same_setting c.in-Ok-fmt.ensures)
+    let displayed = c.in-Ok-fmt.ensures.same_setting ∙ c.in-Ok.ensures.prints.same_setting in
+    Prints-then c.in-Ok.ensures.prints (Prints-then (Prints-shown s c.in-Ok.ensures.prints.same_setting c.in-Ok-fmt.ensures)
     (Prints-fails _ (Prints-shown s displayed c.in-Err-fmt-2.ensures)))
 
 pub returns-in-Err-fmt : goal.returns-in-Err-fmt
 returns-in-Err-fmt g c =
-    Prints-then c.in-Ok.ensures (Prints-fails _ (Prints-shown (setting_of c.args.f.now) c.in-Ok.ensures.same_setting c.in-Err-fmt.ensures))
+    Prints-then c.in-Ok.ensures.prints (Prints-fails _ (Prints-shown (setting_of c.args.f.now) c.in-Ok.ensures.prints.same_setting c.in-Err-fmt.ensures))

@@ -21,10 +21,10 @@ returns-in_err-write_str g c =
     let written = PrintedBefore-then c.split_stretch.result.0.now (escaped_bytes 34 c.split_stretch.result.1.now) c.stretches.invariant.1
     c.split_stretch.ensures.stretch c.in_ok-write_stretch.ensures in
     Prints-err _ c.from_residual-in_err-write_str.ensures.0
-    (PrintedBefore-fails c.in-Some.escape.now (escaped_bytes 34 c.in-Some.after.now) written c.in-Some.ensures.0 c.in_err-write_str.ensures)
+    (PrintedBefore-fails c.in-Some.escape.now (escaped_bytes 34 c.in-Some.after.now) written c.in-Some.ensures.0 c.in_err-write_str.ensures.prints)
 
 pub stretches-preserved : goal.stretches-preserved
 stretches-preserved g c =
     let written = PrintedBefore-then c.split_stretch.result.0.now (escaped_bytes 34 c.split_stretch.result.1.now) c.stretches.invariant.1
     c.split_stretch.ensures.stretch c.in_ok-write_stretch.ensures in
-    (search rules, PrintedBefore-then c.in-Some.escape.now (escaped_bytes 34 c.in-Some.after.now) written c.in-Some.ensures.0 c.in_ok-write_str.ensures)
+    (search rules, PrintedBefore-then c.in-Some.escape.now (escaped_bytes 34 c.in-Some.after.now) written c.in-Some.ensures.0 c.in_ok-write_str.ensures.prints)

@@ -17,11 +17,11 @@ returns-in_err-write_str g c =
     let d = c.args.self.now in
     Prints-same (fixed-parts c.args.width d.places d.value {part = c.split-whole.result.1} (omega arith) c.from-places.ensures c.split-whole.ensures.whole
     c.split-whole.ensures.part c.saturating_sub-whole_width.ensures (ap minus_if c.is_negative-is_negative.ensures ∙ sign_tested d.value))
-    (Prints-err _ c.from_residual-in_err-write_str.ensures.0 (Prints-then c.in_ok-write_zeros.ensures (Prints-fails _ c.in_err-write_str.ensures)))
+    (Prints-err _ c.from_residual-in_err-write_str.ensures.0 (Prints-then c.in_ok-write_zeros.ensures (Prints-fails _ c.in_err-write_str.ensures.prints)))
 
 pub returns : goal.returns
 returns g c =
     let d = c.args.self.now in
     Prints-same (fixed-parts c.args.width d.places d.value (omega arith) c.from-places.ensures c.split-whole.ensures.whole
     c.split-whole.ensures.part c.saturating_sub-whole_width.ensures (ap minus_if c.is_negative-is_negative.ensures ∙ sign_tested d.value))
-    (Prints-then c.in_ok-write_zeros.ensures (Prints-then c.in_ok-write_str.ensures c.write_zeros-3.ensures))
+    (Prints-then c.in_ok-write_zeros.ensures (Prints-then c.in_ok-write_str.ensures.prints c.write_zeros-3.ensures))

@@ -16,7 +16,7 @@ returns-in_err-write_prefix g c =
 pub returns-then-pads_first : goal.returns-then-pads_first
 returns-then-pads_first g c =
     rw (padded-first c.args.prefix.now c.args.self.now c.args.payload.now c.missing-missing.result c.missing-missing.ensures (sym c.pads_first.ensures ∙ c.if-pads_first.true))
-    (Prints-then c.in_ok-write_padding.ensures (Prints-then c.in_ok-write_prefix.ensures c.write_str.ensures))
+    (Prints-then c.in_ok-write_padding.ensures (Prints-then c.in_ok-write_prefix.ensures c.write_str.ensures.prints))
 
 pub returns-in_err-write_prefix-2 : goal.returns-in_err-write_prefix-2
 returns-in_err-write_prefix-2 g c =
@@ -32,4 +32,4 @@ returns-in_err-write_padding-2 g c =
 pub returns : goal.returns
 returns g c =
     rw (padded-last c.args.prefix.now c.args.self.now c.args.payload.now c.missing-missing.result c.missing-missing.ensures (sym c.pads_first.ensures ∙ c.if-pads_first.false))
-    (Prints-then c.in_ok-write_prefix-2.ensures (Prints-then c.in_ok-write_padding-2.ensures c.write_str-2.ensures))
+    (Prints-then c.in_ok-write_prefix-2.ensures (Prints-then c.in_ok-write_padding-2.ensures c.write_str-2.ensures.prints))

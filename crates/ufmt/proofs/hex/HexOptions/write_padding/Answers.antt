@@ -10,9 +10,9 @@ returns-in_err-write_char g c =
     let pad = c.args.self.now.pad_char in
     let one = ap encode_utf8 c.from-pad.ensures ∙ encode_ascii pad c.requires in
     rw (replicate-front c.loop-pad._pad c.args.count pad (omega arith))
-    (Prints-err _ c.from_residual.ensures.0 (Prints-fails _ (Prints-then c.loop-pad.invariant (rw one at c.in_err-write_char.ensures))))
+    (Prints-err _ c.from_residual.ensures.0 (Prints-fails _ (Prints-then c.loop-pad.invariant (rw one at c.in_err-write_char.ensures.prints))))
 
 pub loop-pad-preserved : goal.loop-pad-preserved
 loop-pad-preserved g c =
     let one = ap encode_utf8 c.from-pad.ensures ∙ encode_ascii c.args.self.now.pad_char c.requires in
-    rw (← replicate_more) (Prints-then c.loop-pad.invariant (rw one at c.in_ok-write_char.ensures))
+    rw (← replicate_more) (Prints-then c.loop-pad.invariant (rw one at c.in_ok-write_char.ensures.prints))

@@ -8,4 +8,4 @@ pub returns-in_ok-write_indentation-in-Pretty : goal.returns-in_ok-write_indenta
 returns-in_ok-write_indentation-in-Pretty g c =
     Prints-same (ap (λ s. indentation s.depth ++ codes "..\n") c.inside.ensures
     ∙ ap (λ mode. dots_line mode (inside (setting_of c.args.self.now)).depth) (sym c.in-Pretty.is))
-    (Prints-then c.in_ok-write_indentation-in-Pretty.ensures c.write_str-in-Pretty.ensures)
+    (Prints-then c.in_ok-write_indentation-in-Pretty.ensures c.write_str-in-Pretty.ensures.prints)

@@ -10,7 +10,7 @@ returns-in_err-write_str g c =
     let left = c.args.indents - (indents + 1) in
     let whole : indentation c.args.indents ≡ (indentation indents ++ codes "    ") ++ indentation left =
     ap indentation (omega arith) ∙ indentation-add (indents + 1) left ∙ ap (λ t. t ++ indentation left) (indentation-add indents 1) in
-    rw whole (Prints-err _ c.from_residual.ensures.0 (Prints-fails _ (Prints-then {ok = false} c.loop-indent.invariant c.in_err-write_str.ensures)))
+    rw whole (Prints-err _ c.from_residual.ensures.0 (Prints-fails _ (Prints-then {ok = false} c.loop-indent.invariant c.in_err-write_str.ensures.prints)))
 
 pub loop-indent-preserved : goal.loop-indent-preserved
-loop-indent-preserved g c = rw indentation-add (Prints-then c.loop-indent.invariant c.in_ok-write_str.ensures)
+loop-indent-preserved g c = rw indentation-add (Prints-then c.loop-indent.invariant c.in_ok-write_str.ensures.prints)

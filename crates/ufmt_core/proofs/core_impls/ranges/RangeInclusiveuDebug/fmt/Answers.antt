@@ -1,5 +1,5 @@
 use Rattle.std.proofs.Common.{sym}
-use Rattle.ufmt_core.proofs.Joined.{LaysOut-leaf, LaysOut-nothing, LaysOut-stops, LaysOut-then}
+use Rattle.ufmt_core.proofs.Joined.{LaysOut-nothing, LaysOut-stops, LaysOut-then}
 use Rattle.ufmt_core.proofs.Writing.{LaysOut-err}
 use Rattle.ufmt_core.proofs.core_impls.ranges.RangeInclusiveuDebug.fmt.Goals as goal
 
@@ -10,7 +10,7 @@ returns-in_err-fmt_between g c =
 pub returns-then-is_spent : goal.returns-then-is_spent
 returns-then-is_spent g c =
     rw (sym c.is_spent.ensures, c.if-is_spent.true, sym c.start.ensures, sym c.end.ensures)
-    (LaysOut-then c.in_ok-fmt_between.ensures (LaysOut-leaf c.write_str.ensures))
+    (LaysOut-then c.in_ok-fmt_between.ensures c.write_str.ensures.lays_out)
 
 pub returns-else-is_spent : goal.returns-else-is_spent
 returns-else-is_spent g c =

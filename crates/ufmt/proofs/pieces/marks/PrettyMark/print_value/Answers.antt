@@ -1,0 +1,6 @@
+use Rattle.ufmt_core.specs.Formatter.{prints_layout}
+use Rattle.ufmt.proofs.PiecesInARow.{Prints-last}
+use Rattle.ufmt.proofs.pieces.marks.PrettyMark.print_value.Goals as goal
+
+pub returns : goal.returns
+returns g c = Prints-last (prints_layout c.fmt_pretty.ensures)
