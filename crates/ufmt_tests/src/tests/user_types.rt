@@ -390,6 +390,13 @@ fn types_of_users_print_as_by_core_fmt(rt: HostRuntime) {
     has_rows(&rt, &table, TYPES);
 }
 
+#[test]
+fn a_variant_without_fields_is_one_piece(rt: HostRuntime) {
+    let mut table = Table::new(rt.alloc());
+    table.pieces(&LinkEvent::DisconnectedByOtherSide);
+    has_rows(&rt, &table, "DisconnectedByOtherSide|;\n");
+}
+
 fn window(alloc: Global) -> Result<Window<'static>, AllocError> {
     let mut recent = VecDeque::new(alloc);
     recent.push_back(7)?;
