@@ -37,6 +37,7 @@ pub mod QuotedUtf8
 pub mod ReadingSound
 pub mod ReadingTurns
 pub mod ReadingWhole
+pub mod SamePieces
 pub mod Shifting
 pub mod TextsBegin
 pub mod Truncations

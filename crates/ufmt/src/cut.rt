@@ -1,8 +1,8 @@
 //! Values and lines printed to a caller's buffer, as much of each as fits.
-ghost use Rattle.std.specs.Prelude.{◌≡◌, length, not};
+ghost use Rattle.std.specs.Prelude.{◌≡◌, List, length, not};
 ghost use Rattle.ufmt_core.specs.Layout.{plain_text, pretty_text};
 ghost use Rattle.ufmt.specs.Cut.{FrontsCut};
-ghost use Rattle.ufmt.specs.Pieces.{line_text};
+ghost use Rattle.ufmt.specs.Pieces.{Piece, SamePieces, line_text};
 ghost use Rattle.ufmt.specs.Truncating.{has_cut, written_bytes};
 
 use crate::display::uDisplay;
@@ -51,7 +51,9 @@ pub fn display_cut_into<T: uDisplay>(buffer: &mut [u8], value: &T) -> Cut
 /// Prints to the front of the buffer as much of the line as fits, in plain mode. The text is cut between
 /// two characters. The other bytes stay as they were.
 pub fn line_cut_into<L: Line>(buffer: &mut [u8], line: &L) -> Cut
-    ensures { FrontsCut buffer.old (line_text (L.pieces line.now)) result buffer.new }
+    ensures line { FrontsCut buffer.old (line_text (L.pieces line.now)) result buffer.new }
+    ensures alike { (ps : List Piece) → SamePieces ps (L.pieces line.now)
+        → FrontsCut buffer.old (line_text ps) result buffer.new }
 {
     let mut writer = Truncating::new(buffer);
     let _ = write_line(&mut writer, line);

@@ -12,7 +12,7 @@ ghost use Rattle.std.specs.Rc.{rc_str_bytes};
 ghost use Rattle.std.specs.RefCell.{ref_mut_value, ref_value};
 ghost use Rattle.ufmt_core.specs.Formatter.{Prints, setting_of};
 ghost use Rattle.ufmt.specs.Column.{ColumnsAreFilled};
-ghost use Rattle.ufmt.specs.Pieces.{column, hex, pieces_text, pretty, separated, shown, text};
+ghost use Rattle.ufmt.specs.Pieces.{column, each, hex, pieces_text, pretty, shown, text};
 ghost use Rattle.ufmt.specs.declared.hex.HexOptions.{HexOptions};
 ghost use Rattle.ufmt.specs.Hex.{PrintsHexadecimal, PrintsBits};
 ghost use Rattle.ufmt.specs.Dump.{DigitsHaveTheirWidth, DumpHasEachByte, TextsBeginInOneColumn};
@@ -261,8 +261,8 @@ pub fn line_of_all_pieces<W: uWrite, A: uDisplay, B: uDebug, C: uDebug, N: uDisp
         (pieces_text (setting_of f.old)
         (text t.now ∷ shown (A.display a.now) ∷ shown (B.document b.now) ∷ pretty (C.document c.now)
         ∷ hex (N.hex_text n.now options)
-        ∷ (separated t.now (map (λ x. shown (B.document x) ∷ []) bs.now)
-        ++ separated t.now (map (λ x. hex (N.hex_text x options) ∷ []) ns.now))))
+        ∷ each t.now (map (λ x. shown (B.document x) ∷ []) bs.now)
+        ∷ each t.now (map (λ x. hex (N.hex_text x options) ∷ []) ns.now) ∷ []))
         (is_ok result) f.new }
 {
     pieces!(
@@ -317,8 +317,8 @@ pub fn line_of_all_columns<W: uWrite, A: uDisplay, B: uDebug, C: uDebug, N: uDis
         (column within (shown (A.display a.now) ∷ []) ∷ column within (shown (B.document b.now) ∷ [])
         ∷ column within (pretty (C.document c.now) ∷ [])
         ∷ column within (hex (N.hex_text n.now options) ∷ [])
-        ∷ (separated t.now (map (λ x. column within (shown (B.document x) ∷ []) ∷ []) bs.now)
-        ++ separated t.now (map (λ x. column within (hex (N.hex_text x options) ∷ []) ∷ []) ns.now))))
+        ∷ each t.now (map (λ x. column within (shown (B.document x) ∷ []) ∷ []) bs.now)
+        ∷ each t.now (map (λ x. column within (hex (N.hex_text x options) ∷ []) ∷ []) ns.now) ∷ []))
         (is_ok result) f.new }
 {
     pieces!(

@@ -1,7 +1,7 @@
 //! `pieces!`: a line of pieces as one value, which prints in one call.
 ghost use Rattle.std.specs.Prelude.{[], ◌∷◌, ◌++◌, List, map, is_ok};
 ghost use Rattle.ufmt_core.specs.Formatter.{Prints, setting_of};
-ghost use Rattle.ufmt.specs.Pieces.{Piece, pieces_text, preceded, separated, text};
+ghost use Rattle.ufmt.specs.Pieces.{Piece, each, pieces_text, preceded, text};
 
 mod column;
 mod marks;
@@ -65,7 +65,7 @@ pub struct Each<'a, T, M> {
 }
 
 impl<T, M: Mark<T>> Line for Each<'_, T, M> {
-    ghost pieces = { λ e. separated e.between.now (map (M.pieces e.mark) e.items.now) };
+    ghost pieces = { λ e. each e.between.now (map (M.pieces e.mark) e.items.now) ∷ [] };
 
     fn print<W: uWrite>(&self, f: &mut Formatter<W>) -> Result<(), W::Error> {
         match self.items.split_first() {

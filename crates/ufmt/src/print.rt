@@ -1,11 +1,11 @@
 //! Values and lines printed to a writer, to a caller's buffer, and to a text of their own.
-ghost use Rattle.std.specs.Prelude.{◌≡◌, ◌≤◌, is_ok, string_bytes, IfOk};
+ghost use Rattle.std.specs.Prelude.{◌≡◌, ◌≤◌, List, is_ok, string_bytes, IfOk};
 ghost use Rattle.ufmt_core.specs.Document.{nest, pretty_part};
 ghost use Rattle.ufmt_core.specs.Formatter.{LaysOut};
 ghost use Rattle.ufmt_core.specs.Layout.{plain_text, pretty_text};
 ghost use Rattle.ufmt_core.specs.Writes.{Writes};
 ghost use Rattle.ufmt.specs.Buffer.{Fronts};
-ghost use Rattle.ufmt.specs.Pieces.{line_text};
+ghost use Rattle.ufmt.specs.Pieces.{Piece, SamePieces, line_text};
 ghost use Rattle.ufmt.specs.Shift.{HasNoLineFeed, shifted};
 
 use crate::cursor::{Cursor, Full};
@@ -55,7 +55,9 @@ pub fn write_pretty<T: uDebug, W: uWrite>(writer: &mut W, value: &T) -> Result<(
 
 /// Prints the line to the writer, in plain mode. On `Err` a prefix of it was written.
 pub fn write_line<L: Line, W: uWrite>(writer: &mut W, line: &L) -> Result<(), W::Error>
-    ensures { Writes W.seen writer.old (line_text (L.pieces line.now)) (is_ok result) writer.new }
+    ensures line { Writes W.seen writer.old (line_text (L.pieces line.now)) (is_ok result) writer.new }
+    ensures alike { (ps : List Piece) → SamePieces ps (L.pieces line.now)
+        → Writes W.seen writer.old (line_text ps) (is_ok result) writer.new }
 {
     let mut f = Formatter::new(writer);
     line.print(&mut f)
@@ -92,7 +94,9 @@ pub fn display_into<T: uDisplay>(buffer: &mut [u8], value: &T) -> Result<usize, 
 /// Prints the line to the front of the buffer, in plain mode, and returns its length. On `Full` a
 /// prefix of its text was printed there. The other bytes stay as they were.
 pub fn line_into<L: Line>(buffer: &mut [u8], line: &L) -> Result<usize, Full>
-    ensures { Fronts buffer.old (line_text (L.pieces line.now)) result buffer.new }
+    ensures line { Fronts buffer.old (line_text (L.pieces line.now)) result buffer.new }
+    ensures alike { (ps : List Piece) → SamePieces ps (L.pieces line.now)
+        → Fronts buffer.old (line_text ps) result buffer.new }
 {
     let mut cursor = Cursor::new(buffer);
     write_line(&mut cursor, line)?;

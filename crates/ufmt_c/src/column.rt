@@ -13,6 +13,7 @@ use ufmt::pieces;
 
 /// Writes the text, with fills up to the width of the column. Returns `BAD_OPTION` if the style is none, or
 /// else `NOT_UTF8` if the input isn't UTF-8; `detail` becomes the number of bytes at its front that are.
+#[tactic(auto, unfolding(ufmt::specs::Pieces::line_text))]
 #[unsafe(no_mangle)]
 pub extern "C" fn ufmt_in_column(
     buffer: &mut [u8],

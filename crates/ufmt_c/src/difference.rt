@@ -34,6 +34,7 @@ pub extern "C" fn ufmt_first_difference(given: &[u8], stored: &[u8], detail: &mu
 
 /// Writes the first line in which the texts differ, and both lines in quotes, or the empty text if they are
 /// equal. Fails as `ufmt_first_difference` does.
+#[tactic(auto, unfolding(ufmt::specs::Pieces::line_text))]
 #[unsafe(no_mangle)]
 pub extern "C" fn ufmt_difference(
     buffer: &mut [u8],

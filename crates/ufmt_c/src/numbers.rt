@@ -30,6 +30,7 @@ pub extern "C" fn ufmt_signed(buffer: &mut [u8], number: i64, detail: &mut usize
 
 /// Writes the number in hexadecimal digits, with a prefix and padding. Returns `BAD_OPTION` if the byte to
 /// pad with isn't ASCII.
+#[tactic(auto, unfolding(ufmt::specs::Pieces::line_text))]
 #[unsafe(no_mangle)]
 pub extern "C" fn ufmt_hexadecimal(
     buffer: &mut [u8],
@@ -52,6 +53,7 @@ pub extern "C" fn ufmt_hexadecimal(
 }
 
 /// Writes the number in binary digits, with a prefix and padding. Fails as `ufmt_hexadecimal` does.
+#[tactic(auto, unfolding(ufmt::specs::Pieces::line_text))]
 #[unsafe(no_mangle)]
 pub extern "C" fn ufmt_binary(
     buffer: &mut [u8],

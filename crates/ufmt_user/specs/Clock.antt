@@ -1,11 +1,12 @@
 -- The texts of a time of day, and of a temperature and flags.
-use Rattle.std.specs.Prelude.{ℕ, ℤ, pos, List, [], ◌∷◌, ◌++◌, codes, true, false}
+use Rattle.std.specs.Prelude.{ℕ, ℤ, pos, List, [], ◌∷◌, codes, true, false}
 use Rattle.ufmt_user.specs.declared.clock.Time.{Time}
 use Rattle.ufmt.specs.declared.hex.HexOptions.{HexOptions}
 use Rattle.ufmt.specs.declared.radix.Radix.TheVariants.{Binary}
 use Rattle.ufmt.specs.Bytes.{zero_digit}
 use Rattle.ufmt.specs.FixedPoint.{fixed}
-use Rattle.ufmt.specs.Pieces.{line_text, text}
+use Rattle.ufmt.specs.Document.{leaf}
+use Rattle.ufmt.specs.Pieces.{line_text, shown, text}
 use Rattle.ufmt.specs.Radix.{padded_in}
 use Rattle.ufmt.specs.Zeros.{zero_padded}
 
@@ -21,4 +22,5 @@ flag_digits = record { upper_case = false; pad_char = zero_digit; pad_length = 1
 
 -- a temperature with one place, and the flags
 abbrev pub status_text : ℤ → ℕ → List ℕ
-status_text tenths flags = fixed 1 tenths ++ (codes " " ++ padded_in Binary flag_digits flags)
+status_text tenths flags = line_text
+    (shown (leaf (fixed 1 tenths)) ∷ text (codes " ") ∷ text (padded_in Binary flag_digits flags) ∷ [])

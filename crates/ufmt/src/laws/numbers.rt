@@ -10,7 +10,7 @@ ghost use Rattle.ufmt.specs.declared.hex.HexOptions.{HexOptions};
 ghost use Rattle.ufmt.specs.FixedPoint.{EachFixedIsDenoted, OneFixedIsDenoted, fixed};
 ghost use Rattle.ufmt.specs.declared.radix.Radix.TheVariants.{Binary, Octal};
 ghost use Rattle.ufmt.specs.Leaves.{Debug, IsLeaf};
-ghost use Rattle.ufmt.specs.Pieces.{column, pieces_text, separated, text};
+ghost use Rattle.ufmt.specs.Pieces.{column, each, pieces_text, text};
 ghost use Rattle.ufmt.specs.Radix.{EachNumberIsDenoted, IsPadded, OneNumberIsDenoted, OneTextDenotes, PrintsBitsInRadix, PrintsInRadix, padded_after};
 ghost use Rattle.ufmt.specs.Zeros.{IsZeroPadded, PrintsSignAndZeros, PrintsZeros, zero_padded};
 
@@ -185,7 +185,7 @@ pub fn line_of_numbers<W: uWrite, N: uDisplayRadix, Z: uDisplayZeros>(
         (text (N.radix_text n.now Binary options)
         ∷ column within (text (N.radix_text n.now Octal options) ∷ [])
         ∷ text (Z.zeros_text z.now width)
-        ∷ separated t.now (map (λ x. column within (text (Z.zeros_text x width) ∷ []) ∷ []) zs.now)))
+        ∷ each t.now (map (λ x. column within (text (Z.zeros_text x width) ∷ []) ∷ []) zs.now) ∷ []))
         (is_ok result) f.new }
 {
     pieces!(
