@@ -131,15 +131,16 @@ fn copy_longer(bytes: &[u8], target: &mut [u8])
     requires longer { 32 < length bytes.now }
     ensures { target.new ≡ bytes.now }
 {
-    let last = bytes.len() - 32;
-    copy_chunk(bytes, target, 0);
-    let mut start = 32;
-    while start < last {
+    // From the end: the last chunk may overlap the one before it.
+    let mut start = bytes.len() - 32;
+    copy_chunk(bytes, target, start);
+    while start > 32 {
+        // To a multiple of 32, and not by 32: LLVM would see how often the loop runs, and unroll it into
+        // three times as many bytes of code.
+        start = (start - 1) / 32 * 32;
         copy_chunk(bytes, target, start);
-        start += 32;
     }
-    // The last chunk may overlap the one before it.
-    copy_chunk(bytes, target, last);
+    copy_chunk(bytes, target, 0);
 }
 
 // Copies the 32 bytes from `start` on.
@@ -148,8 +149,8 @@ fn copy_chunk(bytes: &[u8], target: &mut [u8], start: usize)
     requires same_length { length bytes.now ≡ length target.old }
     requires within { start + 32 ≤ length bytes.now }
     ensures same_length { length target.new ≡ length bytes.now }
-    ensures copied { (n : ℕ) → start ≤ n → n ≤ start + 32 → take n target.old ≡ take n bytes.now
-        → take (start + 32) target.new ≡ take (start + 32) bytes.now }
+    ensures copied { (n : ℕ) → n ≤ start + 32 → drop n target.old ≡ drop n bytes.now
+        → drop start target.new ≡ drop start bytes.now }
 {
     copy_whole::<32>(&bytes[start..start + 32], &mut target[start..start + 32]);
 }

@@ -1,18 +1,18 @@
-use Rattle.std.proofs.Common.{◌≡◌, ◌+◌, ◌-◌, take, drop, length, refl, ap, sym, ◌∙◌, arith, length-take, length-drop}
-use Rattle.std.proofs.Math.Seq.{take-add}
-use Rattle.std.proofs.lemmas.List.{take-take}
-use Rattle.std.proofs.lemmas.Slice.{take-put_mid}
+use Rattle.std.proofs.Common.{◌≡◌, ◌+◌, ◌-◌, take, drop, refl, ap, sym, ◌∙◌, arith}
+use Rattle.std.proofs.lemmas.List.{drop-drop, drop_at, length-take-le, take-append-drop}
 use Rattle.ufmt.proofs.cursor.copy_chunk.Goals as goal
 
 pub returns-clause-copied : goal.returns-clause-copied
-returns-clause-copied c = λ n low high agree.
+returns-clause-copied c = λ n within agree.
     let start = c.args.start in
     let bytes = c.args.bytes.now in
     let target = c.args.target.now in
-    let front : take start target ≡ take start bytes =
-    sym (take-take start n target low) ∙ ap (λ t. take start t) agree ∙ take-take start n bytes low in
     let chunk : start + 32 - start ≡ 32 = omega arith in
     let copied = rw chunk at c.copy_whole.ensures in
-    let count : length (take 32 (drop start bytes)) ≡ 32 = omega (arith, length-take 32 (drop start bytes), length-drop start bytes) in
-    take-put_mid start _ target c.copy_whole.new.target (start + 32) (omega (arith, ap length copied, count)) (omega arith)
-    ∙ rw (front, copied, take-add start 32 bytes) refl
+    let more = start + 32 - n in
+    let there : start + 32 ≡ n + more = omega (arith, within) in
+    let back : drop 32 (drop start target) ≡ drop 32 (drop start bytes) =
+    drop-drop 32 start target ∙ ap (λ m. drop m target) there ∙ sym (drop-drop more n target) ∙ ap (drop more) agree
+    ∙ drop-drop more n bytes ∙ ap (λ m. drop m bytes) (sym there) ∙ sym (drop-drop 32 start bytes) in
+    drop_at (take start target) _ start (omega (arith, length-take-le start target (omega arith)))
+    ∙ rw (copied, chunk, back, take-append-drop 32 (drop start bytes)) refl
