@@ -1,6 +1,8 @@
 //! Structs by their number of fields. tools/write-by-count writes this file: change it there.
 ghost use Rattle.std.specs.Prelude.{◌≤◌, length, [], ◌∷◌, ◌≡◌, List, ℕ, true, IfOk, IfErr};
-ghost use Rattle.ufmt.specs.Document.{fields_of, struct_of};
+ghost use Rattle.std.specs.Str.{bytes_eq};
+ghost use Rattle.ufmt.specs.Alike.{SameFields};
+ghost use Rattle.ufmt.specs.Document.{Fields, fields_of, struct_of};
 ghost use Rattle.ufmt_parse.specs.Naming.{same_names};
 ghost use Rattle.ufmt_parse.specs.Next.{IsNotNext, NextLeaves};
 ghost use Rattle.ufmt_parse.specs.Taking.{AreWords, IsTaken, open_blocks, rest};
@@ -29,6 +31,10 @@ pub fn parse_struct_1<Alloc: Copy, A: uParse<Alloc>, M: ParseMode>(
         (a_value : A) → same_names (block_name ∷ a_name ∷ []) (name.now ∷ a.now ∷ []) ≡ true
         → A.is_value a_value → IsNotNext M.mode parser.old (struct_of block_name (fields_of
         ((a_name, A.document a_value) ∷ [])))) }
+    ensures alike { IfErr result (λ fault. fault ≡ Fault.NotText → (other : List ℕ)
+        (others : Fields) (a_value : A) → bytes_eq other name.now ≡ true → SameFields others
+        (fields_of ((a.now, A.document a_value) ∷ [])) → A.is_value a_value
+        → IsNotNext M.mode parser.old (struct_of other others)) }
     ensures memory { A.holds_no_memory → IfErr result (λ fault. fault ≡ Fault.NotText) }
     ensures blocks { IfOk result (λ _. open_blocks parser.new ≡ open_blocks parser.old) }
     ensures shrinks { length (rest parser.new) ≤ length (rest parser.old) }
@@ -62,6 +68,11 @@ pub fn parse_struct_2<Alloc: Copy, A: uParse<Alloc>, B: uParse<Alloc>, M: ParseM
         → A.is_value a_value → B.is_value b_value → IsNotNext M.mode parser.old
         (struct_of block_name (fields_of ((a_name, A.document a_value)
         ∷ (b_name, B.document b_value) ∷ [])))) }
+    ensures alike { IfErr result (λ fault. fault ≡ Fault.NotText → (other : List ℕ)
+        (others : Fields) (a_value : A) (b_value : B) → bytes_eq other name.now ≡ true
+        → SameFields others (fields_of ((a.now, A.document a_value) ∷ (b.now, B.document b_value)
+        ∷ [])) → A.is_value a_value → B.is_value b_value → IsNotNext M.mode parser.old
+        (struct_of other others)) }
     ensures memory { A.holds_no_memory × B.holds_no_memory → IfErr result (λ fault.
         fault ≡ Fault.NotText) }
     ensures blocks { IfOk result (λ _. open_blocks parser.new ≡ open_blocks parser.old) }
@@ -103,6 +114,11 @@ pub fn parse_struct_3<
         → C.is_value c_value → IsNotNext M.mode parser.old (struct_of block_name (fields_of
         ((a_name, A.document a_value) ∷ (b_name, B.document b_value) ∷ (c_name, C.document c_value)
         ∷ [])))) }
+    ensures alike { IfErr result (λ fault. fault ≡ Fault.NotText → (other : List ℕ)
+        (others : Fields) (a_value : A) (b_value : B) (c_value : C) → bytes_eq other name.now ≡ true
+        → SameFields others (fields_of ((a.now, A.document a_value) ∷ (b.now, B.document b_value)
+        ∷ (c.now, C.document c_value) ∷ [])) → A.is_value a_value → B.is_value b_value
+        → C.is_value c_value → IsNotNext M.mode parser.old (struct_of other others)) }
     ensures memory { A.holds_no_memory × B.holds_no_memory × C.holds_no_memory
         → IfErr result (λ fault. fault ≡ Fault.NotText) }
     ensures blocks { IfOk result (λ _. open_blocks parser.new ≡ open_blocks parser.old) }
@@ -149,6 +165,12 @@ pub fn parse_struct_4<
         (struct_of block_name (fields_of ((a_name, A.document a_value)
         ∷ (b_name, B.document b_value) ∷ (c_name, C.document c_value) ∷ (d_name, D.document d_value)
         ∷ [])))) }
+    ensures alike { IfErr result (λ fault. fault ≡ Fault.NotText → (other : List ℕ)
+        (others : Fields) (a_value : A) (b_value : B) (c_value : C) (d_value : D)
+        → bytes_eq other name.now ≡ true → SameFields others (fields_of ((a.now, A.document a_value)
+        ∷ (b.now, B.document b_value) ∷ (c.now, C.document c_value) ∷ (d.now, D.document d_value)
+        ∷ [])) → A.is_value a_value → B.is_value b_value → C.is_value c_value → D.is_value d_value
+        → IsNotNext M.mode parser.old (struct_of other others)) }
     ensures memory { A.holds_no_memory × B.holds_no_memory × C.holds_no_memory × D.holds_no_memory
         → IfErr result (λ fault. fault ≡ Fault.NotText) }
     ensures blocks { IfOk result (λ _. open_blocks parser.new ≡ open_blocks parser.old) }
@@ -198,6 +220,13 @@ pub fn parse_struct_5<
         → IsNotNext M.mode parser.old (struct_of block_name (fields_of ((a_name, A.document a_value)
         ∷ (b_name, B.document b_value) ∷ (c_name, C.document c_value) ∷ (d_name, D.document d_value)
         ∷ (e_name, E.document e_value) ∷ [])))) }
+    ensures alike { IfErr result (λ fault. fault ≡ Fault.NotText → (other : List ℕ)
+        (others : Fields) (a_value : A) (b_value : B) (c_value : C) (d_value : D) (e_value : E)
+        → bytes_eq other name.now ≡ true → SameFields others (fields_of ((a.now, A.document a_value)
+        ∷ (b.now, B.document b_value) ∷ (c.now, C.document c_value) ∷ (d.now, D.document d_value)
+        ∷ (e.now, E.document e_value) ∷ [])) → A.is_value a_value → B.is_value b_value
+        → C.is_value c_value → D.is_value d_value → E.is_value e_value → IsNotNext M.mode parser.old
+        (struct_of other others)) }
     ensures memory { A.holds_no_memory × B.holds_no_memory × C.holds_no_memory × D.holds_no_memory
         × E.holds_no_memory → IfErr result (λ fault. fault ≡ Fault.NotText) }
     ensures blocks { IfOk result (λ _. open_blocks parser.new ≡ open_blocks parser.old) }
@@ -252,6 +281,14 @@ pub fn parse_struct_6<
         ((a_name, A.document a_value) ∷ (b_name, B.document b_value) ∷ (c_name, C.document c_value)
         ∷ (d_name, D.document d_value) ∷ (e_name, E.document e_value) ∷ (f_name, F.document f_value)
         ∷ [])))) }
+    ensures alike { IfErr result (λ fault. fault ≡ Fault.NotText → (other : List ℕ)
+        (others : Fields) (a_value : A) (b_value : B) (c_value : C) (d_value : D) (e_value : E)
+        (f_value : F) → bytes_eq other name.now ≡ true → SameFields others (fields_of
+        ((a.now, A.document a_value) ∷ (b.now, B.document b_value) ∷ (c.now, C.document c_value)
+        ∷ (d.now, D.document d_value) ∷ (e.now, E.document e_value) ∷ (f.now, F.document f_value)
+        ∷ [])) → A.is_value a_value → B.is_value b_value → C.is_value c_value → D.is_value d_value
+        → E.is_value e_value → F.is_value f_value → IsNotNext M.mode parser.old
+        (struct_of other others)) }
     ensures memory { A.holds_no_memory × B.holds_no_memory × C.holds_no_memory × D.holds_no_memory
         × E.holds_no_memory × F.holds_no_memory → IfErr result (λ fault. fault ≡ Fault.NotText) }
     ensures blocks { IfOk result (λ _. open_blocks parser.new ≡ open_blocks parser.old) }
@@ -311,6 +348,14 @@ pub fn parse_struct_7<
         ∷ (b_name, B.document b_value) ∷ (c_name, C.document c_value) ∷ (d_name, D.document d_value)
         ∷ (e_name, E.document e_value) ∷ (f_name, F.document f_value) ∷ (g_name, G.document g_value)
         ∷ [])))) }
+    ensures alike { IfErr result (λ fault. fault ≡ Fault.NotText → (other : List ℕ)
+        (others : Fields) (a_value : A) (b_value : B) (c_value : C) (d_value : D) (e_value : E)
+        (f_value : F) (g_value : G) → bytes_eq other name.now ≡ true → SameFields others (fields_of
+        ((a.now, A.document a_value) ∷ (b.now, B.document b_value) ∷ (c.now, C.document c_value)
+        ∷ (d.now, D.document d_value) ∷ (e.now, E.document e_value) ∷ (f.now, F.document f_value)
+        ∷ (g.now, G.document g_value) ∷ [])) → A.is_value a_value → B.is_value b_value
+        → C.is_value c_value → D.is_value d_value → E.is_value e_value → F.is_value f_value
+        → G.is_value g_value → IsNotNext M.mode parser.old (struct_of other others)) }
     ensures memory { A.holds_no_memory × B.holds_no_memory × C.holds_no_memory × D.holds_no_memory
         × E.holds_no_memory × F.holds_no_memory × G.holds_no_memory → IfErr result (λ fault.
         fault ≡ Fault.NotText) }
@@ -375,6 +420,15 @@ pub fn parse_struct_8<
         ∷ (b_name, B.document b_value) ∷ (c_name, C.document c_value) ∷ (d_name, D.document d_value)
         ∷ (e_name, E.document e_value) ∷ (f_name, F.document f_value) ∷ (g_name, G.document g_value)
         ∷ (h_name, H.document h_value) ∷ [])))) }
+    ensures alike { IfErr result (λ fault. fault ≡ Fault.NotText → (other : List ℕ)
+        (others : Fields) (a_value : A) (b_value : B) (c_value : C) (d_value : D) (e_value : E)
+        (f_value : F) (g_value : G) (h_value : H) → bytes_eq other name.now ≡ true
+        → SameFields others (fields_of ((a.now, A.document a_value) ∷ (b.now, B.document b_value)
+        ∷ (c.now, C.document c_value) ∷ (d.now, D.document d_value) ∷ (e.now, E.document e_value)
+        ∷ (f.now, F.document f_value) ∷ (g.now, G.document g_value) ∷ (h.now, H.document h_value)
+        ∷ [])) → A.is_value a_value → B.is_value b_value → C.is_value c_value → D.is_value d_value
+        → E.is_value e_value → F.is_value f_value → G.is_value g_value → H.is_value h_value
+        → IsNotNext M.mode parser.old (struct_of other others)) }
     ensures memory { A.holds_no_memory × B.holds_no_memory × C.holds_no_memory × D.holds_no_memory
         × E.holds_no_memory × F.holds_no_memory × G.holds_no_memory × H.holds_no_memory
         → IfErr result (λ fault. fault ≡ Fault.NotText) }
@@ -444,6 +498,16 @@ pub fn parse_struct_9<
         ∷ (d_name, D.document d_value) ∷ (e_name, E.document e_value) ∷ (f_name, F.document f_value)
         ∷ (g_name, G.document g_value) ∷ (h_name, H.document h_value) ∷ (i_name, I.document i_value)
         ∷ [])))) }
+    ensures alike { IfErr result (λ fault. fault ≡ Fault.NotText → (other : List ℕ)
+        (others : Fields) (a_value : A) (b_value : B) (c_value : C) (d_value : D) (e_value : E)
+        (f_value : F) (g_value : G) (h_value : H) (i_value : I) → bytes_eq other name.now ≡ true
+        → SameFields others (fields_of ((a.now, A.document a_value) ∷ (b.now, B.document b_value)
+        ∷ (c.now, C.document c_value) ∷ (d.now, D.document d_value) ∷ (e.now, E.document e_value)
+        ∷ (f.now, F.document f_value) ∷ (g.now, G.document g_value) ∷ (h.now, H.document h_value)
+        ∷ (i.now, I.document i_value) ∷ [])) → A.is_value a_value → B.is_value b_value
+        → C.is_value c_value → D.is_value d_value → E.is_value e_value → F.is_value f_value
+        → G.is_value g_value → H.is_value h_value → I.is_value i_value → IsNotNext M.mode parser.old
+        (struct_of other others)) }
     ensures memory { A.holds_no_memory × B.holds_no_memory × C.holds_no_memory × D.holds_no_memory
         × E.holds_no_memory × F.holds_no_memory × G.holds_no_memory × H.holds_no_memory
         × I.holds_no_memory → IfErr result (λ fault. fault ≡ Fault.NotText) }
@@ -517,6 +581,17 @@ pub fn parse_struct_10<
         ∷ (e_name, E.document e_value) ∷ (f_name, F.document f_value) ∷ (g_name, G.document g_value)
         ∷ (h_name, H.document h_value) ∷ (i_name, I.document i_value) ∷ (j_name, J.document j_value)
         ∷ [])))) }
+    ensures alike { IfErr result (λ fault. fault ≡ Fault.NotText → (other : List ℕ)
+        (others : Fields) (a_value : A) (b_value : B) (c_value : C) (d_value : D) (e_value : E)
+        (f_value : F) (g_value : G) (h_value : H) (i_value : I) (j_value : J)
+        → bytes_eq other name.now ≡ true → SameFields others (fields_of ((a.now, A.document a_value)
+        ∷ (b.now, B.document b_value) ∷ (c.now, C.document c_value) ∷ (d.now, D.document d_value)
+        ∷ (e.now, E.document e_value) ∷ (f.now, F.document f_value) ∷ (g.now, G.document g_value)
+        ∷ (h.now, H.document h_value) ∷ (i.now, I.document i_value) ∷ (j.now, J.document j_value)
+        ∷ [])) → A.is_value a_value → B.is_value b_value → C.is_value c_value → D.is_value d_value
+        → E.is_value e_value → F.is_value f_value → G.is_value g_value → H.is_value h_value
+        → I.is_value i_value → J.is_value j_value → IsNotNext M.mode parser.old
+        (struct_of other others)) }
     ensures memory { A.holds_no_memory × B.holds_no_memory × C.holds_no_memory × D.holds_no_memory
         × E.holds_no_memory × F.holds_no_memory × G.holds_no_memory × H.holds_no_memory
         × I.holds_no_memory × J.holds_no_memory → IfErr result (λ fault. fault ≡ Fault.NotText) }
@@ -592,6 +667,17 @@ pub fn parse_struct_11<
         ∷ (e_name, E.document e_value) ∷ (f_name, F.document f_value) ∷ (g_name, G.document g_value)
         ∷ (h_name, H.document h_value) ∷ (i_name, I.document i_value) ∷ (j_name, J.document j_value)
         ∷ (k_name, K.document k_value) ∷ [])))) }
+    ensures alike { IfErr result (λ fault. fault ≡ Fault.NotText → (other : List ℕ)
+        (others : Fields) (a_value : A) (b_value : B) (c_value : C) (d_value : D) (e_value : E)
+        (f_value : F) (g_value : G) (h_value : H) (i_value : I) (j_value : J) (k_value : K)
+        → bytes_eq other name.now ≡ true → SameFields others (fields_of ((a.now, A.document a_value)
+        ∷ (b.now, B.document b_value) ∷ (c.now, C.document c_value) ∷ (d.now, D.document d_value)
+        ∷ (e.now, E.document e_value) ∷ (f.now, F.document f_value) ∷ (g.now, G.document g_value)
+        ∷ (h.now, H.document h_value) ∷ (i.now, I.document i_value) ∷ (j.now, J.document j_value)
+        ∷ (k.now, K.document k_value) ∷ [])) → A.is_value a_value → B.is_value b_value
+        → C.is_value c_value → D.is_value d_value → E.is_value e_value → F.is_value f_value
+        → G.is_value g_value → H.is_value h_value → I.is_value i_value → J.is_value j_value
+        → K.is_value k_value → IsNotNext M.mode parser.old (struct_of other others)) }
     ensures memory { A.holds_no_memory × B.holds_no_memory × C.holds_no_memory × D.holds_no_memory
         × E.holds_no_memory × F.holds_no_memory × G.holds_no_memory × H.holds_no_memory
         × I.holds_no_memory × J.holds_no_memory × K.holds_no_memory → IfErr result (λ fault.
@@ -678,6 +764,18 @@ pub fn parse_struct_12<
         ∷ (e_name, E.document e_value) ∷ (f_name, F.document f_value) ∷ (g_name, G.document g_value)
         ∷ (h_name, H.document h_value) ∷ (i_name, I.document i_value) ∷ (j_name, J.document j_value)
         ∷ (k_name, K.document k_value) ∷ (l_name, L.document l_value) ∷ [])))) }
+    ensures alike { IfErr result (λ fault. fault ≡ Fault.NotText → (other : List ℕ)
+        (others : Fields) (a_value : A) (b_value : B) (c_value : C) (d_value : D) (e_value : E)
+        (f_value : F) (g_value : G) (h_value : H) (i_value : I) (j_value : J) (k_value : K)
+        (l_value : L) → bytes_eq other name.now ≡ true → SameFields others (fields_of
+        ((a.now, A.document a_value) ∷ (b.now, B.document b_value) ∷ (c.now, C.document c_value)
+        ∷ (d.now, D.document d_value) ∷ (e.now, E.document e_value) ∷ (f.now, F.document f_value)
+        ∷ (g.now, G.document g_value) ∷ (h.now, H.document h_value) ∷ (i.now, I.document i_value)
+        ∷ (j.now, J.document j_value) ∷ (k.now, K.document k_value) ∷ (l.now, L.document l_value)
+        ∷ [])) → A.is_value a_value → B.is_value b_value → C.is_value c_value → D.is_value d_value
+        → E.is_value e_value → F.is_value f_value → G.is_value g_value → H.is_value h_value
+        → I.is_value i_value → J.is_value j_value → K.is_value k_value → L.is_value l_value
+        → IsNotNext M.mode parser.old (struct_of other others)) }
     ensures memory { A.holds_no_memory × B.holds_no_memory × C.holds_no_memory × D.holds_no_memory
         × E.holds_no_memory × F.holds_no_memory × G.holds_no_memory × H.holds_no_memory
         × I.holds_no_memory × J.holds_no_memory × K.holds_no_memory × L.holds_no_memory

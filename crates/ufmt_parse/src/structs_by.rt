@@ -1,6 +1,8 @@
 //! Structs whose fields are each parsed by a parser. tools/write-by-count writes this file: change it there.
 ghost use Rattle.std.specs.Prelude.{◌≤◌, ◌<◌, length, [], ◌∷◌, ◌≡◌, List, ℕ, suc, true, IfOk, IfErr};
-ghost use Rattle.ufmt.specs.Document.{fields_of, struct_of};
+ghost use Rattle.std.specs.Str.{bytes_eq};
+ghost use Rattle.ufmt.specs.Alike.{SameFields};
+ghost use Rattle.ufmt.specs.Document.{Fields, fields_of, struct_of};
 ghost use Rattle.ufmt_parse.specs.Naming.{same_names};
 ghost use Rattle.ufmt_parse.specs.Next.{IsNotNext, NextLeaves};
 ghost use Rattle.ufmt_parse.specs.Taking.{AreWords, IsTaken, open_blocks, rest};
@@ -32,6 +34,10 @@ pub fn parse_struct_1_by<Alloc: Copy, M: ParseMode, A: uDebug + Drop, P: ParsesB
         (a_value : A) → same_names (block_name ∷ a_name ∷ []) (name.now ∷ a.now ∷ []) ≡ true
         → P.is_value a_value → IsNotNext M.mode parser.old (struct_of block_name (fields_of
         ((a_name, A.document a_value) ∷ [])))) }
+    ensures alike { IfErr result (λ fault. fault ≡ Fault.NotText → (other : List ℕ)
+        (others : Fields) (a_value : A) → bytes_eq other name.now ≡ true → SameFields others
+        (fields_of ((a.now, A.document a_value) ∷ [])) → P.is_value a_value
+        → IsNotNext M.mode parser.old (struct_of other others)) }
     ensures memory { P.holds_no_memory → IfErr result (λ fault. fault ≡ Fault.NotText) }
     ensures blocks { IfOk result (λ _. open_blocks parser.new ≡ open_blocks parser.old) }
     ensures shrinks { length (rest parser.new) ≤ length (rest parser.old) }
@@ -76,6 +82,11 @@ pub fn parse_struct_2_by<
         → P.is_value a_value → Q.is_value b_value → IsNotNext M.mode parser.old
         (struct_of block_name (fields_of ((a_name, A.document a_value)
         ∷ (b_name, B.document b_value) ∷ [])))) }
+    ensures alike { IfErr result (λ fault. fault ≡ Fault.NotText → (other : List ℕ)
+        (others : Fields) (a_value : A) (b_value : B) → bytes_eq other name.now ≡ true
+        → SameFields others (fields_of ((a.now, A.document a_value) ∷ (b.now, B.document b_value)
+        ∷ [])) → P.is_value a_value → Q.is_value b_value → IsNotNext M.mode parser.old
+        (struct_of other others)) }
     ensures memory { P.holds_no_memory × Q.holds_no_memory → IfErr result (λ fault.
         fault ≡ Fault.NotText) }
     ensures blocks { IfOk result (λ _. open_blocks parser.new ≡ open_blocks parser.old) }
@@ -126,6 +137,11 @@ pub fn parse_struct_3_by<
         → R.is_value c_value → IsNotNext M.mode parser.old (struct_of block_name (fields_of
         ((a_name, A.document a_value) ∷ (b_name, B.document b_value) ∷ (c_name, C.document c_value)
         ∷ [])))) }
+    ensures alike { IfErr result (λ fault. fault ≡ Fault.NotText → (other : List ℕ)
+        (others : Fields) (a_value : A) (b_value : B) (c_value : C) → bytes_eq other name.now ≡ true
+        → SameFields others (fields_of ((a.now, A.document a_value) ∷ (b.now, B.document b_value)
+        ∷ (c.now, C.document c_value) ∷ [])) → P.is_value a_value → Q.is_value b_value
+        → R.is_value c_value → IsNotNext M.mode parser.old (struct_of other others)) }
     ensures memory { P.holds_no_memory × Q.holds_no_memory × R.holds_no_memory
         → IfErr result (λ fault. fault ≡ Fault.NotText) }
     ensures blocks { IfOk result (λ _. open_blocks parser.new ≡ open_blocks parser.old) }
@@ -184,6 +200,12 @@ pub fn parse_struct_4_by<
         (struct_of block_name (fields_of ((a_name, A.document a_value)
         ∷ (b_name, B.document b_value) ∷ (c_name, C.document c_value) ∷ (d_name, D.document d_value)
         ∷ [])))) }
+    ensures alike { IfErr result (λ fault. fault ≡ Fault.NotText → (other : List ℕ)
+        (others : Fields) (a_value : A) (b_value : B) (c_value : C) (d_value : D)
+        → bytes_eq other name.now ≡ true → SameFields others (fields_of ((a.now, A.document a_value)
+        ∷ (b.now, B.document b_value) ∷ (c.now, C.document c_value) ∷ (d.now, D.document d_value)
+        ∷ [])) → P.is_value a_value → Q.is_value b_value → R.is_value c_value → S.is_value d_value
+        → IsNotNext M.mode parser.old (struct_of other others)) }
     ensures memory { P.holds_no_memory × Q.holds_no_memory × R.holds_no_memory × S.holds_no_memory
         → IfErr result (λ fault. fault ≡ Fault.NotText) }
     ensures blocks { IfOk result (λ _. open_blocks parser.new ≡ open_blocks parser.old) }
@@ -254,6 +276,13 @@ pub fn parse_struct_5_by<
         → IsNotNext M.mode parser.old (struct_of block_name (fields_of ((a_name, A.document a_value)
         ∷ (b_name, B.document b_value) ∷ (c_name, C.document c_value) ∷ (d_name, D.document d_value)
         ∷ (e_name, E.document e_value) ∷ [])))) }
+    ensures alike { IfErr result (λ fault. fault ≡ Fault.NotText → (other : List ℕ)
+        (others : Fields) (a_value : A) (b_value : B) (c_value : C) (d_value : D) (e_value : E)
+        → bytes_eq other name.now ≡ true → SameFields others (fields_of ((a.now, A.document a_value)
+        ∷ (b.now, B.document b_value) ∷ (c.now, C.document c_value) ∷ (d.now, D.document d_value)
+        ∷ (e.now, E.document e_value) ∷ [])) → P.is_value a_value → Q.is_value b_value
+        → R.is_value c_value → S.is_value d_value → T.is_value e_value → IsNotNext M.mode parser.old
+        (struct_of other others)) }
     ensures memory { P.holds_no_memory × Q.holds_no_memory × R.holds_no_memory × S.holds_no_memory
         × T.holds_no_memory → IfErr result (λ fault. fault ≡ Fault.NotText) }
     ensures blocks { IfOk result (λ _. open_blocks parser.new ≡ open_blocks parser.old) }
@@ -332,6 +361,14 @@ pub fn parse_struct_6_by<
         ((a_name, A.document a_value) ∷ (b_name, B.document b_value) ∷ (c_name, C.document c_value)
         ∷ (d_name, D.document d_value) ∷ (e_name, E.document e_value) ∷ (f_name, F.document f_value)
         ∷ [])))) }
+    ensures alike { IfErr result (λ fault. fault ≡ Fault.NotText → (other : List ℕ)
+        (others : Fields) (a_value : A) (b_value : B) (c_value : C) (d_value : D) (e_value : E)
+        (f_value : F) → bytes_eq other name.now ≡ true → SameFields others (fields_of
+        ((a.now, A.document a_value) ∷ (b.now, B.document b_value) ∷ (c.now, C.document c_value)
+        ∷ (d.now, D.document d_value) ∷ (e.now, E.document e_value) ∷ (f.now, F.document f_value)
+        ∷ [])) → P.is_value a_value → Q.is_value b_value → R.is_value c_value → S.is_value d_value
+        → T.is_value e_value → U.is_value f_value → IsNotNext M.mode parser.old
+        (struct_of other others)) }
     ensures memory { P.holds_no_memory × Q.holds_no_memory × R.holds_no_memory × S.holds_no_memory
         × T.holds_no_memory × U.holds_no_memory → IfErr result (λ fault. fault ≡ Fault.NotText) }
     ensures blocks { IfOk result (λ _. open_blocks parser.new ≡ open_blocks parser.old) }

@@ -1,7 +1,8 @@
 //! Tuples by their number of fields. tools/write-by-count writes this file: change it there.
 ghost use Rattle.std.specs.Prelude.{◌≤◌, length, [], ◌∷◌, ◌≡◌, List, ℕ, true, IfOk, IfErr};
 ghost use Rattle.std.specs.Str.{bytes_eq};
-ghost use Rattle.ufmt.specs.Document.{documents, tuple_of};
+ghost use Rattle.ufmt.specs.Alike.{SameDocuments};
+ghost use Rattle.ufmt.specs.Document.{Documents, documents, tuple_of};
 ghost use Rattle.ufmt.specs.Leaves.{IsWordOrEmpty};
 ghost use Rattle.ufmt_parse.specs.Next.{IsNotNext, NextLeaves};
 ghost use Rattle.ufmt_parse.specs.Taking.{IsTaken, open_blocks, rest};
@@ -27,6 +28,10 @@ pub fn parse_tuple_1<Alloc: Copy, A: uParse<Alloc>, M: ParseMode>(
     ensures none { IfErr result (λ fault. fault ≡ Fault.NotText → (block_name : List ℕ)
         (a_value : A) → bytes_eq block_name name.now ≡ true → A.is_value a_value
         → IsNotNext M.mode parser.old (tuple_of block_name (documents (A.document a_value ∷ [])))) }
+    ensures alike { IfErr result (λ fault. fault ≡ Fault.NotText → (other : List ℕ)
+        (others : Documents) (a_value : A) → bytes_eq other name.now ≡ true → SameDocuments others
+        (documents (A.document a_value ∷ [])) → A.is_value a_value → IsNotNext M.mode parser.old
+        (tuple_of other others)) }
     ensures memory { A.holds_no_memory → IfErr result (λ fault. fault ≡ Fault.NotText) }
     ensures blocks { IfOk result (λ _. open_blocks parser.new ≡ open_blocks parser.old) }
     ensures shrinks { length (rest parser.new) ≤ length (rest parser.old) }
@@ -55,6 +60,11 @@ pub fn parse_tuple_2<Alloc: Copy, A: uParse<Alloc>, B: uParse<Alloc>, M: ParseMo
         (a_value : A) (b_value : B) → bytes_eq block_name name.now ≡ true → A.is_value a_value
         → B.is_value b_value → IsNotNext M.mode parser.old (tuple_of block_name (documents
         (A.document a_value ∷ B.document b_value ∷ [])))) }
+    ensures alike { IfErr result (λ fault. fault ≡ Fault.NotText → (other : List ℕ)
+        (others : Documents) (a_value : A) (b_value : B) → bytes_eq other name.now ≡ true
+        → SameDocuments others (documents (A.document a_value ∷ B.document b_value ∷ []))
+        → A.is_value a_value → B.is_value b_value → IsNotNext M.mode parser.old
+        (tuple_of other others)) }
     ensures memory { A.holds_no_memory × B.holds_no_memory → IfErr result (λ fault.
         fault ≡ Fault.NotText) }
     ensures blocks { IfOk result (λ _. open_blocks parser.new ≡ open_blocks parser.old) }
@@ -84,6 +94,11 @@ pub fn parse_tuple_3<
         → A.is_value a_value → B.is_value b_value → C.is_value c_value → IsNotNext M.mode parser.old
         (tuple_of block_name (documents (A.document a_value ∷ B.document b_value
         ∷ C.document c_value ∷ [])))) }
+    ensures alike { IfErr result (λ fault. fault ≡ Fault.NotText → (other : List ℕ)
+        (others : Documents) (a_value : A) (b_value : B) (c_value : C)
+        → bytes_eq other name.now ≡ true → SameDocuments others (documents (A.document a_value
+        ∷ B.document b_value ∷ C.document c_value ∷ [])) → A.is_value a_value → B.is_value b_value
+        → C.is_value c_value → IsNotNext M.mode parser.old (tuple_of other others)) }
     ensures memory { A.holds_no_memory × B.holds_no_memory × C.holds_no_memory
         → IfErr result (λ fault. fault ≡ Fault.NotText) }
     ensures blocks { IfOk result (λ _. open_blocks parser.new ≡ open_blocks parser.old) }
@@ -116,6 +131,12 @@ pub fn parse_tuple_4<
         → C.is_value c_value → D.is_value d_value → IsNotNext M.mode parser.old
         (tuple_of block_name (documents (A.document a_value ∷ B.document b_value
         ∷ C.document c_value ∷ D.document d_value ∷ [])))) }
+    ensures alike { IfErr result (λ fault. fault ≡ Fault.NotText → (other : List ℕ)
+        (others : Documents) (a_value : A) (b_value : B) (c_value : C) (d_value : D)
+        → bytes_eq other name.now ≡ true → SameDocuments others (documents (A.document a_value
+        ∷ B.document b_value ∷ C.document c_value ∷ D.document d_value ∷ [])) → A.is_value a_value
+        → B.is_value b_value → C.is_value c_value → D.is_value d_value → IsNotNext M.mode parser.old
+        (tuple_of other others)) }
     ensures memory { A.holds_no_memory × B.holds_no_memory × C.holds_no_memory × D.holds_no_memory
         → IfErr result (λ fault. fault ≡ Fault.NotText) }
     ensures blocks { IfOk result (λ _. open_blocks parser.new ≡ open_blocks parser.old) }
@@ -151,6 +172,12 @@ pub fn parse_tuple_5<
         → C.is_value c_value → D.is_value d_value → E.is_value e_value → IsNotNext M.mode parser.old
         (tuple_of block_name (documents (A.document a_value ∷ B.document b_value
         ∷ C.document c_value ∷ D.document d_value ∷ E.document e_value ∷ [])))) }
+    ensures alike { IfErr result (λ fault. fault ≡ Fault.NotText → (other : List ℕ)
+        (others : Documents) (a_value : A) (b_value : B) (c_value : C) (d_value : D) (e_value : E)
+        → bytes_eq other name.now ≡ true → SameDocuments others (documents (A.document a_value
+        ∷ B.document b_value ∷ C.document c_value ∷ D.document d_value ∷ E.document e_value ∷ []))
+        → A.is_value a_value → B.is_value b_value → C.is_value c_value → D.is_value d_value
+        → E.is_value e_value → IsNotNext M.mode parser.old (tuple_of other others)) }
     ensures memory { A.holds_no_memory × B.holds_no_memory × C.holds_no_memory × D.holds_no_memory
         × E.holds_no_memory → IfErr result (λ fault. fault ≡ Fault.NotText) }
     ensures blocks { IfOk result (λ _. open_blocks parser.new ≡ open_blocks parser.old) }
@@ -189,6 +216,13 @@ pub fn parse_tuple_6<
         → IsNotNext M.mode parser.old (tuple_of block_name (documents (A.document a_value
         ∷ B.document b_value ∷ C.document c_value ∷ D.document d_value ∷ E.document e_value
         ∷ F.document f_value ∷ [])))) }
+    ensures alike { IfErr result (λ fault. fault ≡ Fault.NotText → (other : List ℕ)
+        (others : Documents) (a_value : A) (b_value : B) (c_value : C) (d_value : D) (e_value : E)
+        (f_value : F) → bytes_eq other name.now ≡ true → SameDocuments others (documents
+        (A.document a_value ∷ B.document b_value ∷ C.document c_value ∷ D.document d_value
+        ∷ E.document e_value ∷ F.document f_value ∷ [])) → A.is_value a_value → B.is_value b_value
+        → C.is_value c_value → D.is_value d_value → E.is_value e_value → F.is_value f_value
+        → IsNotNext M.mode parser.old (tuple_of other others)) }
     ensures memory { A.holds_no_memory × B.holds_no_memory × C.holds_no_memory × D.holds_no_memory
         × E.holds_no_memory × F.holds_no_memory → IfErr result (λ fault. fault ≡ Fault.NotText) }
     ensures blocks { IfOk result (λ _. open_blocks parser.new ≡ open_blocks parser.old) }
@@ -229,6 +263,14 @@ pub fn parse_tuple_7<
         (tuple_of block_name (documents (A.document a_value ∷ B.document b_value
         ∷ C.document c_value ∷ D.document d_value ∷ E.document e_value ∷ F.document f_value
         ∷ G.document g_value ∷ [])))) }
+    ensures alike { IfErr result (λ fault. fault ≡ Fault.NotText → (other : List ℕ)
+        (others : Documents) (a_value : A) (b_value : B) (c_value : C) (d_value : D) (e_value : E)
+        (f_value : F) (g_value : G) → bytes_eq other name.now ≡ true → SameDocuments others
+        (documents (A.document a_value ∷ B.document b_value ∷ C.document c_value
+        ∷ D.document d_value ∷ E.document e_value ∷ F.document f_value ∷ G.document g_value ∷ []))
+        → A.is_value a_value → B.is_value b_value → C.is_value c_value → D.is_value d_value
+        → E.is_value e_value → F.is_value f_value → G.is_value g_value → IsNotNext M.mode parser.old
+        (tuple_of other others)) }
     ensures memory { A.holds_no_memory × B.holds_no_memory × C.holds_no_memory × D.holds_no_memory
         × E.holds_no_memory × F.holds_no_memory × G.holds_no_memory → IfErr result (λ fault.
         fault ≡ Fault.NotText) }
@@ -272,6 +314,15 @@ pub fn parse_tuple_8<
         (tuple_of block_name (documents (A.document a_value ∷ B.document b_value
         ∷ C.document c_value ∷ D.document d_value ∷ E.document e_value ∷ F.document f_value
         ∷ G.document g_value ∷ H.document h_value ∷ [])))) }
+    ensures alike { IfErr result (λ fault. fault ≡ Fault.NotText → (other : List ℕ)
+        (others : Documents) (a_value : A) (b_value : B) (c_value : C) (d_value : D) (e_value : E)
+        (f_value : F) (g_value : G) (h_value : H) → bytes_eq other name.now ≡ true
+        → SameDocuments others (documents (A.document a_value ∷ B.document b_value
+        ∷ C.document c_value ∷ D.document d_value ∷ E.document e_value ∷ F.document f_value
+        ∷ G.document g_value ∷ H.document h_value ∷ [])) → A.is_value a_value → B.is_value b_value
+        → C.is_value c_value → D.is_value d_value → E.is_value e_value → F.is_value f_value
+        → G.is_value g_value → H.is_value h_value → IsNotNext M.mode parser.old
+        (tuple_of other others)) }
     ensures memory { A.holds_no_memory × B.holds_no_memory × C.holds_no_memory × D.holds_no_memory
         × E.holds_no_memory × F.holds_no_memory × G.holds_no_memory × H.holds_no_memory
         → IfErr result (λ fault. fault ≡ Fault.NotText) }
@@ -322,6 +373,15 @@ pub fn parse_tuple_9<
         (A.document a_value ∷ B.document b_value ∷ C.document c_value ∷ D.document d_value
         ∷ E.document e_value ∷ F.document f_value ∷ G.document g_value ∷ H.document h_value
         ∷ I.document i_value ∷ [])))) }
+    ensures alike { IfErr result (λ fault. fault ≡ Fault.NotText → (other : List ℕ)
+        (others : Documents) (a_value : A) (b_value : B) (c_value : C) (d_value : D) (e_value : E)
+        (f_value : F) (g_value : G) (h_value : H) (i_value : I) → bytes_eq other name.now ≡ true
+        → SameDocuments others (documents (A.document a_value ∷ B.document b_value
+        ∷ C.document c_value ∷ D.document d_value ∷ E.document e_value ∷ F.document f_value
+        ∷ G.document g_value ∷ H.document h_value ∷ I.document i_value ∷ [])) → A.is_value a_value
+        → B.is_value b_value → C.is_value c_value → D.is_value d_value → E.is_value e_value
+        → F.is_value f_value → G.is_value g_value → H.is_value h_value → I.is_value i_value
+        → IsNotNext M.mode parser.old (tuple_of other others)) }
     ensures memory { A.holds_no_memory × B.holds_no_memory × C.holds_no_memory × D.holds_no_memory
         × E.holds_no_memory × F.holds_no_memory × G.holds_no_memory × H.holds_no_memory
         × I.holds_no_memory → IfErr result (λ fault. fault ≡ Fault.NotText) }
@@ -375,6 +435,16 @@ pub fn parse_tuple_10<
         ∷ B.document b_value ∷ C.document c_value ∷ D.document d_value ∷ E.document e_value
         ∷ F.document f_value ∷ G.document g_value ∷ H.document h_value ∷ I.document i_value
         ∷ J.document j_value ∷ [])))) }
+    ensures alike { IfErr result (λ fault. fault ≡ Fault.NotText → (other : List ℕ)
+        (others : Documents) (a_value : A) (b_value : B) (c_value : C) (d_value : D) (e_value : E)
+        (f_value : F) (g_value : G) (h_value : H) (i_value : I) (j_value : J)
+        → bytes_eq other name.now ≡ true → SameDocuments others (documents (A.document a_value
+        ∷ B.document b_value ∷ C.document c_value ∷ D.document d_value ∷ E.document e_value
+        ∷ F.document f_value ∷ G.document g_value ∷ H.document h_value ∷ I.document i_value
+        ∷ J.document j_value ∷ [])) → A.is_value a_value → B.is_value b_value → C.is_value c_value
+        → D.is_value d_value → E.is_value e_value → F.is_value f_value → G.is_value g_value
+        → H.is_value h_value → I.is_value i_value → J.is_value j_value → IsNotNext M.mode parser.old
+        (tuple_of other others)) }
     ensures memory { A.holds_no_memory × B.holds_no_memory × C.holds_no_memory × D.holds_no_memory
         × E.holds_no_memory × F.holds_no_memory × G.holds_no_memory × H.holds_no_memory
         × I.holds_no_memory × J.holds_no_memory → IfErr result (λ fault. fault ≡ Fault.NotText) }
@@ -430,6 +500,16 @@ pub fn parse_tuple_11<
         (A.document a_value ∷ B.document b_value ∷ C.document c_value ∷ D.document d_value
         ∷ E.document e_value ∷ F.document f_value ∷ G.document g_value ∷ H.document h_value
         ∷ I.document i_value ∷ J.document j_value ∷ K.document k_value ∷ [])))) }
+    ensures alike { IfErr result (λ fault. fault ≡ Fault.NotText → (other : List ℕ)
+        (others : Documents) (a_value : A) (b_value : B) (c_value : C) (d_value : D) (e_value : E)
+        (f_value : F) (g_value : G) (h_value : H) (i_value : I) (j_value : J) (k_value : K)
+        → bytes_eq other name.now ≡ true → SameDocuments others (documents (A.document a_value
+        ∷ B.document b_value ∷ C.document c_value ∷ D.document d_value ∷ E.document e_value
+        ∷ F.document f_value ∷ G.document g_value ∷ H.document h_value ∷ I.document i_value
+        ∷ J.document j_value ∷ K.document k_value ∷ [])) → A.is_value a_value → B.is_value b_value
+        → C.is_value c_value → D.is_value d_value → E.is_value e_value → F.is_value f_value
+        → G.is_value g_value → H.is_value h_value → I.is_value i_value → J.is_value j_value
+        → K.is_value k_value → IsNotNext M.mode parser.old (tuple_of other others)) }
     ensures memory { A.holds_no_memory × B.holds_no_memory × C.holds_no_memory × D.holds_no_memory
         × E.holds_no_memory × F.holds_no_memory × G.holds_no_memory × H.holds_no_memory
         × I.holds_no_memory × J.holds_no_memory × K.holds_no_memory → IfErr result (λ fault.
@@ -488,6 +568,17 @@ pub fn parse_tuple_12<
         ∷ C.document c_value ∷ D.document d_value ∷ E.document e_value ∷ F.document f_value
         ∷ G.document g_value ∷ H.document h_value ∷ I.document i_value ∷ J.document j_value
         ∷ K.document k_value ∷ L.document l_value ∷ [])))) }
+    ensures alike { IfErr result (λ fault. fault ≡ Fault.NotText → (other : List ℕ)
+        (others : Documents) (a_value : A) (b_value : B) (c_value : C) (d_value : D) (e_value : E)
+        (f_value : F) (g_value : G) (h_value : H) (i_value : I) (j_value : J) (k_value : K)
+        (l_value : L) → bytes_eq other name.now ≡ true → SameDocuments others (documents
+        (A.document a_value ∷ B.document b_value ∷ C.document c_value ∷ D.document d_value
+        ∷ E.document e_value ∷ F.document f_value ∷ G.document g_value ∷ H.document h_value
+        ∷ I.document i_value ∷ J.document j_value ∷ K.document k_value ∷ L.document l_value ∷ []))
+        → A.is_value a_value → B.is_value b_value → C.is_value c_value → D.is_value d_value
+        → E.is_value e_value → F.is_value f_value → G.is_value g_value → H.is_value h_value
+        → I.is_value i_value → J.is_value j_value → K.is_value k_value → L.is_value l_value
+        → IsNotNext M.mode parser.old (tuple_of other others)) }
     ensures memory { A.holds_no_memory × B.holds_no_memory × C.holds_no_memory × D.holds_no_memory
         × E.holds_no_memory × F.holds_no_memory × G.holds_no_memory × H.holds_no_memory
         × I.holds_no_memory × J.holds_no_memory × K.holds_no_memory × L.holds_no_memory

@@ -1,7 +1,8 @@
 //! Tuples whose fields are each parsed by a parser. tools/write-by-count writes this file: change it there.
 ghost use Rattle.std.specs.Prelude.{◌≤◌, ◌<◌, length, [], ◌∷◌, ◌≡◌, List, ℕ, suc, true, IfOk, IfErr};
 ghost use Rattle.std.specs.Str.{bytes_eq};
-ghost use Rattle.ufmt.specs.Document.{documents, tuple_of};
+ghost use Rattle.ufmt.specs.Alike.{SameDocuments};
+ghost use Rattle.ufmt.specs.Document.{Documents, documents, tuple_of};
 ghost use Rattle.ufmt.specs.Leaves.{IsWordOrEmpty};
 ghost use Rattle.ufmt_parse.specs.Next.{IsNotNext, NextLeaves};
 ghost use Rattle.ufmt_parse.specs.Taking.{IsTaken, open_blocks, rest};
@@ -30,6 +31,10 @@ pub fn parse_tuple_1_by<Alloc: Copy, M: ParseMode, A: uDebug + Drop, P: ParsesBy
     ensures none { IfErr result (λ fault. fault ≡ Fault.NotText → (block_name : List ℕ)
         (a_value : A) → bytes_eq block_name name.now ≡ true → P.is_value a_value
         → IsNotNext M.mode parser.old (tuple_of block_name (documents (A.document a_value ∷ [])))) }
+    ensures alike { IfErr result (λ fault. fault ≡ Fault.NotText → (other : List ℕ)
+        (others : Documents) (a_value : A) → bytes_eq other name.now ≡ true → SameDocuments others
+        (documents (A.document a_value ∷ [])) → P.is_value a_value → IsNotNext M.mode parser.old
+        (tuple_of other others)) }
     ensures memory { P.holds_no_memory → IfErr result (λ fault. fault ≡ Fault.NotText) }
     ensures blocks { IfOk result (λ _. open_blocks parser.new ≡ open_blocks parser.old) }
     ensures shrinks { length (rest parser.new) ≤ length (rest parser.old) }
@@ -63,6 +68,11 @@ pub fn parse_tuple_2_by<
         (a_value : A) (b_value : B) → bytes_eq block_name name.now ≡ true → P.is_value a_value
         → Q.is_value b_value → IsNotNext M.mode parser.old (tuple_of block_name (documents
         (A.document a_value ∷ B.document b_value ∷ [])))) }
+    ensures alike { IfErr result (λ fault. fault ≡ Fault.NotText → (other : List ℕ)
+        (others : Documents) (a_value : A) (b_value : B) → bytes_eq other name.now ≡ true
+        → SameDocuments others (documents (A.document a_value ∷ B.document b_value ∷ []))
+        → P.is_value a_value → Q.is_value b_value → IsNotNext M.mode parser.old
+        (tuple_of other others)) }
     ensures memory { P.holds_no_memory × Q.holds_no_memory → IfErr result (λ fault.
         fault ≡ Fault.NotText) }
     ensures blocks { IfOk result (λ _. open_blocks parser.new ≡ open_blocks parser.old) }
@@ -105,6 +115,11 @@ pub fn parse_tuple_3_by<
         → P.is_value a_value → Q.is_value b_value → R.is_value c_value → IsNotNext M.mode parser.old
         (tuple_of block_name (documents (A.document a_value ∷ B.document b_value
         ∷ C.document c_value ∷ [])))) }
+    ensures alike { IfErr result (λ fault. fault ≡ Fault.NotText → (other : List ℕ)
+        (others : Documents) (a_value : A) (b_value : B) (c_value : C)
+        → bytes_eq other name.now ≡ true → SameDocuments others (documents (A.document a_value
+        ∷ B.document b_value ∷ C.document c_value ∷ [])) → P.is_value a_value → Q.is_value b_value
+        → R.is_value c_value → IsNotNext M.mode parser.old (tuple_of other others)) }
     ensures memory { P.holds_no_memory × Q.holds_no_memory × R.holds_no_memory
         → IfErr result (λ fault. fault ≡ Fault.NotText) }
     ensures blocks { IfOk result (λ _. open_blocks parser.new ≡ open_blocks parser.old) }
@@ -153,6 +168,12 @@ pub fn parse_tuple_4_by<
         → R.is_value c_value → S.is_value d_value → IsNotNext M.mode parser.old
         (tuple_of block_name (documents (A.document a_value ∷ B.document b_value
         ∷ C.document c_value ∷ D.document d_value ∷ [])))) }
+    ensures alike { IfErr result (λ fault. fault ≡ Fault.NotText → (other : List ℕ)
+        (others : Documents) (a_value : A) (b_value : B) (c_value : C) (d_value : D)
+        → bytes_eq other name.now ≡ true → SameDocuments others (documents (A.document a_value
+        ∷ B.document b_value ∷ C.document c_value ∷ D.document d_value ∷ [])) → P.is_value a_value
+        → Q.is_value b_value → R.is_value c_value → S.is_value d_value → IsNotNext M.mode parser.old
+        (tuple_of other others)) }
     ensures memory { P.holds_no_memory × Q.holds_no_memory × R.holds_no_memory × S.holds_no_memory
         → IfErr result (λ fault. fault ≡ Fault.NotText) }
     ensures blocks { IfOk result (λ _. open_blocks parser.new ≡ open_blocks parser.old) }
@@ -207,6 +228,12 @@ pub fn parse_tuple_5_by<
         → R.is_value c_value → S.is_value d_value → T.is_value e_value → IsNotNext M.mode parser.old
         (tuple_of block_name (documents (A.document a_value ∷ B.document b_value
         ∷ C.document c_value ∷ D.document d_value ∷ E.document e_value ∷ [])))) }
+    ensures alike { IfErr result (λ fault. fault ≡ Fault.NotText → (other : List ℕ)
+        (others : Documents) (a_value : A) (b_value : B) (c_value : C) (d_value : D) (e_value : E)
+        → bytes_eq other name.now ≡ true → SameDocuments others (documents (A.document a_value
+        ∷ B.document b_value ∷ C.document c_value ∷ D.document d_value ∷ E.document e_value ∷ []))
+        → P.is_value a_value → Q.is_value b_value → R.is_value c_value → S.is_value d_value
+        → T.is_value e_value → IsNotNext M.mode parser.old (tuple_of other others)) }
     ensures memory { P.holds_no_memory × Q.holds_no_memory × R.holds_no_memory × S.holds_no_memory
         × T.holds_no_memory → IfErr result (λ fault. fault ≡ Fault.NotText) }
     ensures blocks { IfOk result (λ _. open_blocks parser.new ≡ open_blocks parser.old) }
@@ -267,6 +294,13 @@ pub fn parse_tuple_6_by<
         → IsNotNext M.mode parser.old (tuple_of block_name (documents (A.document a_value
         ∷ B.document b_value ∷ C.document c_value ∷ D.document d_value ∷ E.document e_value
         ∷ F.document f_value ∷ [])))) }
+    ensures alike { IfErr result (λ fault. fault ≡ Fault.NotText → (other : List ℕ)
+        (others : Documents) (a_value : A) (b_value : B) (c_value : C) (d_value : D) (e_value : E)
+        (f_value : F) → bytes_eq other name.now ≡ true → SameDocuments others (documents
+        (A.document a_value ∷ B.document b_value ∷ C.document c_value ∷ D.document d_value
+        ∷ E.document e_value ∷ F.document f_value ∷ [])) → P.is_value a_value → Q.is_value b_value
+        → R.is_value c_value → S.is_value d_value → T.is_value e_value → U.is_value f_value
+        → IsNotNext M.mode parser.old (tuple_of other others)) }
     ensures memory { P.holds_no_memory × Q.holds_no_memory × R.holds_no_memory × S.holds_no_memory
         × T.holds_no_memory × U.holds_no_memory → IfErr result (λ fault. fault ≡ Fault.NotText) }
     ensures blocks { IfOk result (λ _. open_blocks parser.new ≡ open_blocks parser.old) }

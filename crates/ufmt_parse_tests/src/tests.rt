@@ -17,6 +17,7 @@ mod places;
 mod round_trips;
 mod std_types;
 mod stops;
+mod structs_in_variants;
 mod user_types;
 mod values;
 mod variants;

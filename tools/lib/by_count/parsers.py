@@ -98,6 +98,18 @@ class Block:
             return [f"same_names ({in_a_row(self.other_names(count))})", f"({in_a_row(passed)}) ≡ true"]
         return ["bytes_eq block_name name.now ≡ true"]
 
+    def alike(self, count, holders):
+        """`none`, of each document that is compared with that of values: a search takes one from a goal as it stands there."""
+        fields = letters(count)
+        list_type, same = ("Fields", "SameFields") if self.name == "struct" else ("Documents", "SameDocuments")
+        values = [self.field(f"{letter}.now", letter.upper(), f"{letter}_value") for letter in fields]
+        binders = ["(other : List ℕ)", f"(others : {list_type})"] + [f"({letter}_value : {letter.upper()})" for letter in fields]
+        row = [f"({self.row}", "(" + values[0]] + [f"∷ {value}" for value in values[1:]] + ["∷ []))"]
+        premises = ["→ bytes_eq other name.now ≡ true", f"→ {same} others"] + row
+        premises += [f"→ {holder}.is_value {letter}_value" for holder, letter in zip(holders, fields)]
+        return wrapped(["ensures alike { IfErr result (λ fault. fault ≡ Fault.NotText →"] + binders + premises
+                       + ["→ IsNotNext M.mode parser.old", f"({self.document} other others)) }}"], 4)
+
     def clauses(self, count, holders):
         """What the call ensures, where these say what holds of each value."""
         fields = letters(count)
@@ -113,6 +125,7 @@ class Block:
                     + self.row_of("block_name", others, ")))") + ["parser.new) }"], 4),
             wrapped(["ensures none { IfErr result (λ fault. fault ≡ Fault.NotText →"] + binders + premises + ["→ IsNotNext M.mode parser.old"]
                     + self.row_of("block_name", others, "))))") + ["}"], 4),
+            self.alike(count, holders),
             wrapped(["ensures memory {"] + no_memory(holders[:count]) + ["→ IfErr result (λ fault.", "fault ≡ Fault.NotText) }"], 4),
             "    ensures blocks { IfOk result (λ _. open_blocks parser.new ≡ open_blocks parser.old) }",
             "    ensures shrinks { length (rest parser.new) ≤ length (rest parser.old) }",
@@ -151,9 +164,11 @@ pub fn parse_{self.name}_{count}<Alloc: Copy, {types}, M: ParseMode>({", ".join(
     def ghost_uses(self):
         """The words of the contracts, but for those of std's prelude."""
         struct = self.name == "struct"
-        bytes_eq = "" if struct else "ghost use Rattle.std.specs.Str.{bytes_eq};\n"
+        list_type, same = ("Fields", "SameFields") if struct else ("Documents", "SameDocuments")
         leaves = "" if struct else "ghost use Rattle.ufmt.specs.Leaves.{IsWordOrEmpty};\n"
-        return f"""{bytes_eq}ghost use Rattle.ufmt.specs.Document.{{{self.row}, {self.document}}};
+        return f"""ghost use Rattle.std.specs.Str.{{bytes_eq}};
+ghost use Rattle.ufmt.specs.Alike.{{{same}}};
+ghost use Rattle.ufmt.specs.Document.{{{list_type}, {self.row}, {self.document}}};
 {leaves}{"ghost use Rattle.ufmt_parse.specs.Naming.{same_names};" + chr(10) if struct else ""}ghost use Rattle.ufmt_parse.specs.Next.{{IsNotNext, NextLeaves}};
 ghost use Rattle.ufmt_parse.specs.Taking.{{{"AreWords, " if struct else ""}IsTaken, open_blocks, rest}};"""
 
@@ -175,10 +190,11 @@ use crate::rows::parse_{self.name}_row;
         fields = letters(count)
         values = [f"{letter}_value" for letter in fields]
         binders = " ".join(self.other_names(count) + values + ["same"] + [f"is_{letter}" for letter in fields])
+        alike = " ".join(["other others"] + values + ["named same"] + [f"is_{letter}" for letter in fields])
         row = "(" + ", ".join(values) + ")" if count > 1 else "(record { 0 = a_value })"
         are = chain_of([f"is_{letter}" for letter in fields])
         where = f"Rattle.ufmt_parse.proofs.{self.name}s{suffix}.parse_{self.name}_{count}{suffix}.Goals"
-        return f"-- {WRITTEN}\n" + (self.of_one if count == 1 else self.of_many)(count, where, binders, row, are, suffix)
+        return f"-- {WRITTEN}\n" + (self.of_one if count == 1 else self.of_many)(count, where, binders, alike, row, are, suffix)
 
     def renamed(self, count):
         """What takes a clause on the names that were passed to one on names that are the same."""
@@ -188,21 +204,25 @@ use crate::rows::parse_{self.name}_row;
         documents = " ∷ ".join([f"g.{letter}.uDebug.document {letter.lower()}_value" for letter in TYPES[:count]] + ["[]"])
         return f"_ _ _ _ ({in_a_row(self.other_names(count)[1:])}) ({passed}) ({documents}) same"
 
-    def of_one(self, count, where, binders, row, are, suffix):
+    def of_one(self, count, where, binders, alike, row, are, suffix):
         """The answers of the call for one field, which takes the value out of the row."""
         name, renamed = self.name, self.renamed(count)
         uses = "use Rattle.std.proofs.Common.{[], ◌∷◌}\n" if self.name == "struct" else ""
-        return f"""{uses}use Rattle.ufmt_parse.proofs.Naming.{{no_{name}, {name}_leaves}}
+        return f"""{uses}use Rattle.ufmt_parse.proofs.Alike.{{no_{name}_alike}}
+use Rattle.ufmt_parse.proofs.Naming.{{no_{name}, {name}_leaves}}
 use {where} as goal
 
 pub returns-in-Err-clause-none : goal.returns-in-Err-clause-none
 returns-in-Err-clause-none g c = λ is_not {binders}. no_{name} {renamed} (c.in-Err.ensures.none is_not {row} {are})
 
+pub returns-in-Err-clause-alike : goal.returns-in-Err-clause-alike
+returns-in-Err-clause-alike g c = λ is_not {alike}. no_{name}_alike _ _ _ _ (c.in-Err.ensures.none is_not {row} {are}) other others named same
+
 pub returns-in-Ok-clause-only : goal.returns-in-Ok-clause-only
 returns-in-Ok-clause-only g c = λ {binders}. {name}_leaves {renamed} _ (c.in-Ok.ensures.only {row} {are})
 """
 
-    def of_many(self, count, where, binders, row, are, suffix):
+    def of_many(self, count, where, binders, alike, row, are, suffix):
         """The answers of the call for several fields, whose result is the row's."""
         ensures = f"c.parse_{self.name}_row.ensures"
         result = f"c.parse_{self.name}_row.result"
@@ -222,6 +242,7 @@ returns-clause-values g c = IfOk-weaker {result} _ _ (λ v are. ({", ".join(part
 """ if suffix else ""
         name, renamed = self.name, self.renamed(count)
         return f"""{uses}use Rattle.std.proofs.lemmas.Result.{{IfErr-weaker, IfOk-weaker}}
+use Rattle.ufmt_parse.proofs.Alike.{{no_{name}_alike}}
 use Rattle.ufmt_parse.proofs.Naming.{{no_{name}, {name}_leaves}}
 use {where} as goal
 {asked}{values}
@@ -233,6 +254,9 @@ returns-clause-only g c = IfOk-weaker {result} _ _ (λ _ only {binders}. {name}_
 
 pub returns-clause-none : goal.returns-clause-none
 returns-clause-none g c = IfErr-weaker {result} _ _ (λ _ none is_not {binders}. no_{name} {renamed} (none is_not {row} {are})) {ensures}.none
+
+pub returns-clause-alike : goal.returns-clause-alike
+returns-clause-alike g c = IfErr-weaker {result} _ _ (λ _ none is_not {alike}. no_{name}_alike _ _ _ _ (none is_not {row} {are}) other others named same) {ensures}.none
 
 pub returns-clause-memory : goal.returns-clause-memory
 returns-clause-memory g c = λ none. {ensures}.memory {none}

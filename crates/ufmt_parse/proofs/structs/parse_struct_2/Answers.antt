@@ -1,6 +1,7 @@
 -- tools/write-by-count writes this file: change it there.
 use Rattle.std.proofs.Common.{[], ◌∷◌, refl}
 use Rattle.std.proofs.lemmas.Result.{IfErr-weaker, IfOk-weaker}
+use Rattle.ufmt_parse.proofs.Alike.{no_struct_alike}
 use Rattle.ufmt_parse.proofs.Naming.{no_struct, struct_leaves}
 use Rattle.ufmt_parse.proofs.structs.parse_struct_2.Goals as goal
 
@@ -18,6 +19,9 @@ returns-clause-only g c = IfOk-weaker c.parse_struct_row.result _ _ (λ _ only b
 
 pub returns-clause-none : goal.returns-clause-none
 returns-clause-none g c = IfErr-weaker c.parse_struct_row.result _ _ (λ _ none is_not block_name a_name b_name a_value b_value same is_a is_b. no_struct _ _ _ _ (a_name ∷ b_name ∷ []) (c.args.a.now ∷ c.args.b.now ∷ []) (g.A.uDebug.document a_value ∷ g.B.uDebug.document b_value ∷ []) same (none is_not (a_value, b_value) (is_a, (is_b, tt)))) c.parse_struct_row.ensures.none
+
+pub returns-clause-alike : goal.returns-clause-alike
+returns-clause-alike g c = IfErr-weaker c.parse_struct_row.result _ _ (λ _ none is_not other others a_value b_value named same is_a is_b. no_struct_alike _ _ _ _ (none is_not (a_value, b_value) (is_a, (is_b, tt))) other others named same) c.parse_struct_row.ensures.none
 
 pub returns-clause-memory : goal.returns-clause-memory
 returns-clause-memory g c = λ none. c.parse_struct_row.ensures.memory (none.0, (none.1, tt))

@@ -1,6 +1,7 @@
 -- tools/write-by-count writes this file: change it there.
 use Rattle.std.proofs.Common.{[], ◌∷◌, refl}
 use Rattle.std.proofs.lemmas.Result.{IfErr-weaker, IfOk-weaker}
+use Rattle.ufmt_parse.proofs.Alike.{no_struct_alike}
 use Rattle.ufmt_parse.proofs.Naming.{no_struct, struct_leaves}
 use Rattle.ufmt_parse.proofs.structs.parse_struct_8.Goals as goal
 
@@ -18,6 +19,9 @@ returns-clause-only g c = IfOk-weaker c.parse_struct_row.result _ _ (λ _ only b
 
 pub returns-clause-none : goal.returns-clause-none
 returns-clause-none g c = IfErr-weaker c.parse_struct_row.result _ _ (λ _ none is_not block_name a_name b_name c_name d_name e_name f_name g_name h_name a_value b_value c_value d_value e_value f_value g_value h_value same is_a is_b is_c is_d is_e is_f is_g is_h. no_struct _ _ _ _ (a_name ∷ b_name ∷ c_name ∷ d_name ∷ e_name ∷ f_name ∷ g_name ∷ h_name ∷ []) (c.args.a.now ∷ c.args.b.now ∷ c.args.c.now ∷ c.args.d.now ∷ c.args.e.now ∷ c.args.f.now ∷ c.args.g.now ∷ c.args.h.now ∷ []) (g.A.uDebug.document a_value ∷ g.B.uDebug.document b_value ∷ g.C.uDebug.document c_value ∷ g.D.uDebug.document d_value ∷ g.E.uDebug.document e_value ∷ g.F.uDebug.document f_value ∷ g.G.uDebug.document g_value ∷ g.H.uDebug.document h_value ∷ []) same (none is_not (a_value, b_value, c_value, d_value, e_value, f_value, g_value, h_value) (is_a, (is_b, (is_c, (is_d, (is_e, (is_f, (is_g, (is_h, tt)))))))))) c.parse_struct_row.ensures.none
+
+pub returns-clause-alike : goal.returns-clause-alike
+returns-clause-alike g c = IfErr-weaker c.parse_struct_row.result _ _ (λ _ none is_not other others a_value b_value c_value d_value e_value f_value g_value h_value named same is_a is_b is_c is_d is_e is_f is_g is_h. no_struct_alike _ _ _ _ (none is_not (a_value, b_value, c_value, d_value, e_value, f_value, g_value, h_value) (is_a, (is_b, (is_c, (is_d, (is_e, (is_f, (is_g, (is_h, tt))))))))) other others named same) c.parse_struct_row.ensures.none
 
 pub returns-clause-memory : goal.returns-clause-memory
 returns-clause-memory g c = λ none. c.parse_struct_row.ensures.memory (none.0, (none.1, (none.2, (none.3, (none.4, (none.5, (none.6, (none.7, tt))))))))

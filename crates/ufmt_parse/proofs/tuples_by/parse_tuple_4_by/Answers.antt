@@ -1,5 +1,6 @@
 -- tools/write-by-count writes this file: change it there.
 use Rattle.std.proofs.lemmas.Result.{IfErr-weaker, IfOk-weaker}
+use Rattle.ufmt_parse.proofs.Alike.{no_tuple_alike}
 use Rattle.ufmt_parse.proofs.Naming.{no_tuple, tuple_leaves}
 use Rattle.ufmt_parse.proofs.tuples_by.parse_tuple_4_by.Goals as goal
 
@@ -14,6 +15,9 @@ returns-clause-only g c = IfOk-weaker c.parse_tuple_row.result _ _ (λ _ only bl
 
 pub returns-clause-none : goal.returns-clause-none
 returns-clause-none g c = IfErr-weaker c.parse_tuple_row.result _ _ (λ _ none is_not block_name a_value b_value c_value d_value same is_a is_b is_c is_d. no_tuple _ _ _ _ _ same (none is_not (a_value, b_value, c_value, d_value) (is_a, (is_b, (is_c, (is_d, tt)))))) c.parse_tuple_row.ensures.none
+
+pub returns-clause-alike : goal.returns-clause-alike
+returns-clause-alike g c = IfErr-weaker c.parse_tuple_row.result _ _ (λ _ none is_not other others a_value b_value c_value d_value named same is_a is_b is_c is_d. no_tuple_alike _ _ _ _ (none is_not (a_value, b_value, c_value, d_value) (is_a, (is_b, (is_c, (is_d, tt))))) other others named same) c.parse_tuple_row.ensures.none
 
 pub returns-clause-memory : goal.returns-clause-memory
 returns-clause-memory g c = λ none. c.parse_tuple_row.ensures.memory (none.0, (none.1, (none.2, (none.3, tt))))
