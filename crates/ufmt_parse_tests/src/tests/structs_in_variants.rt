@@ -162,7 +162,7 @@ fn structs_in_variants_are_parsed(rt: HostRuntime) {
     same(
         &rt,
         parse_pretty::<Order, ()>((), fading.as_bytes()),
-        Err(NotText { at: 18 }),
+        Err(NotText { at: 16 }),
         fading,
     );
 }
