@@ -1,4 +1,4 @@
--- What is laid out, told of a document that is compared with it.
+-- How a document is laid out, for each document that is compared with it.
 use Rattle.std.proofs.Common.{◌≡◌, refl, sym, ap, ◌∙◌, subst, ℕ, List, Bool, true}
 use Rattle.std.specs.Str.{bytes_eq}
 use Rattle.std.proofs.lemmas.Slice.Eq.{bytes_eq-Decides}
@@ -7,10 +7,11 @@ use Rattle.ufmt_core.specs.Document.{leaf, struct_of, non_exhaustive_of, tuple_o
 use Rattle.ufmt_core.specs.Writes.{Seen}
 use Rattle.ufmt_core.specs.Formatter.{Formatter, LaysOut}
 
-name_is : (other name : List ℕ) → bytes_eq other name ≡ true → other ≡ name
+-- What passes the test on names, and the equations of entries, is the same.
+pub name_is : (other name : List ℕ) → bytes_eq other name ≡ true → other ≡ name
 name_is other name same = (bytes_eq-Decides other name).0 same
 
-fields_are : (others fs : Fields) → SameFields others fs → others ≡ fs
+pub fields_are : (others fs : Fields) → SameFields others fs → others ≡ fs
 fields_are no_fields no_fields same = refl
 fields_are no_fields (first_field name d fs) same = absurd same
 fields_are (first_field other e es) no_fields same = absurd same
@@ -18,7 +19,7 @@ fields_are (first_field other e es) (first_field name d fs) same =
     ap (λ n. first_field n e es) (name_is other name same.0) ∙ ap (λ value. first_field name value es) same.1.0
     ∙ ap (λ rest. first_field name d rest) (fields_are es fs same.1.1)
 
-documents_are : (others ds : Documents) → SameDocuments others ds → others ≡ ds
+pub documents_are : (others ds : Documents) → SameDocuments others ds → others ≡ ds
 documents_are no_documents no_documents same = refl
 documents_are no_documents (first_document d ds) same = absurd same
 documents_are (first_document e es) no_documents same = absurd same

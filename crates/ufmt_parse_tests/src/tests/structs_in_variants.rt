@@ -10,7 +10,7 @@ use ufmt_examples::Set;
 use ufmt_parse::ParseError::NotText;
 use ufmt_parse::{Fault, ParseMode, Parser, parse, parse_pretty, parse_variants, uParse};
 
-/// What a device is told.
+/// An order to a device.
 #[derive(Clone, Copy, PartialEq, Eq, Debug, Drop)]
 pub enum Order {
     Halt,
