@@ -18,7 +18,6 @@ pub mod ReadingLaws
 pub mod ReadingQuoted
 pub mod Shift
 pub mod ShiftLaws
-pub mod Small
 pub mod Token
 pub mod Truncating
 pub mod UnquotedLaws

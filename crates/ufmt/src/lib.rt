@@ -16,7 +16,6 @@ pub mod laws;
 pub mod pieces;
 mod print;
 mod radix;
-mod small;
 mod truncating;
 mod uwrite;
 mod zeros;
@@ -34,7 +33,6 @@ pub use print::{
     write_debug, write_display, write_line, write_pretty,
 };
 pub use radix::{Radix, uDisplayRadix};
-pub use small::Small;
 pub use truncating::Truncating;
 pub use ufmt_core::{
     DebugList, DebugMap, DebugSet, DebugStruct, DebugTuple, Formatter, NamedFields, UnnamedFields,

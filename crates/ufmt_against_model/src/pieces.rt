@@ -6,7 +6,7 @@ use crate::digest::Digest;
 use crate::fault::{Fault, agree};
 use std::alloc::{AllocError, Global};
 use std::convert::Infallible;
-use ufmt::{Small, uWrite};
+use ufmt::uWrite;
 use ufmt_doc::doc::Doc;
 
 // Ends each piece. No text has this byte.
@@ -63,10 +63,8 @@ impl TextPieces {
         let mut pieces = Pieces::new();
         let outcome = calls.convert_to(&mut pieces);
         agree(outcome.is_ok(), "conversion to a writer of pieces")?;
-        let printed = printed(calls, doc);
-        agree(printed == printed_small(calls, doc), "pieces by small code")?;
         Ok(TextPieces {
-            printed,
+            printed: printed(calls, doc),
             converted: pieces.digest,
         })
     }
@@ -83,11 +81,4 @@ pub fn printed(calls: Calls<'_>, doc: &Doc) -> Digest {
     let mut pieces = Pieces::new();
     calls.print_to(&mut pieces, doc);
     pieces.digest
-}
-
-// The same by code that is small rather than fast.
-fn printed_small(calls: Calls<'_>, doc: &Doc) -> Digest {
-    let mut small = Small::new(Pieces::new());
-    calls.print_to(&mut small, doc);
-    small.into_inner().digest
 }

@@ -4,7 +4,7 @@ use Rattle.std.specs.Iterator.{DrainsIf}
 pub use Rattle.ufmt_core.specs.declared.formatter.builder.Status.{Status}
 pub use Rattle.ufmt_core.specs.declared.formatter.builder.Status.TheVariants.{Open, Lent, LentValue, Closed}
 use Rattle.ufmt_core.specs.Document.{Document, Documents, Fields, Pairs}
-use Rattle.ufmt_core.specs.Layout.{Setting, Kind, Count, Zero, Frame, frame, inside, layout, lead, trail, ending, dots_ending, next, framed, framed_all, count_after, block_tail, texts, pair_texts, field_texts}
+use Rattle.ufmt_core.specs.Layout.{Setting, Kind, Struct, Count, Zero, Frame, frame, inside, layout, lead, trail, ending, dots_ending, next, framed, framed_all, count_after, block_tail, texts, pair_texts, field_texts}
 use Rattle.ufmt_core.specs.Writes.{Seen, Writes}
 use Rattle.ufmt_core.specs.Formatter.{Formatter, at_setting, writer_of, setting_of}
 
@@ -48,6 +48,12 @@ abbrev pub block_in_parts : Kind → List ℕ → Setting → List (List ℕ) �
 block_in_parts kind name s texts =
     let f = frame s.mode kind in
     name ++ (f.opening ++ (framed_all f (inside s) Zero texts ++ ending f s (count_after Zero texts)))
+
+-- a struct that ends in dots, with this name and fields with these texts: its name, its fields in a row, and its ending
+abbrev pub dotted_in_parts : List ℕ → Setting → List (List ℕ) → List ℕ
+dotted_in_parts name s texts =
+    let f = frame s.mode Struct in
+    name ++ (f.opening ++ (framed_all f (inside s) Zero texts ++ dots_ending s (count_after Zero texts)))
 
 module _ {W : Type 0} where
   -- the mode and depth of the entries

@@ -53,12 +53,6 @@ impl<W: uWrite> Formatter<W> {
         self.writer
     }
 
-    // Whether the writer's code is to be small rather than fast.
-    #[inline(always)]
-    pub(crate) fn prefers_small(&self) -> bool {
-        self.writer.prefers_small()
-    }
-
     /// Writes the text as one piece. On `Err` a prefix of it was written.
     #[inline(always)]
     pub fn write_str(&mut self, s: &str) -> Result<(), W::Error>

@@ -14,8 +14,8 @@ ghost use Rattle.std.specs.declared.cmp.Ordering.TheVariants.{Less, Equal, Great
 ghost use Rattle.std.specs.declared.ops.ControlFlow.TheVariants.{Continue, Break};
 ghost use Rattle.std.specs.declared.ops.Bound.TheVariants.{Included, Excluded, Unbounded};
 ghost use Rattle.ufmt_core.specs.declared.core_impls.cells.RefCellValue.TheVariants.{Borrowed, Held};
-ghost use Rattle.ufmt_core.specs.BuilderView.{block_in_parts};
-ghost use Rattle.ufmt_core.specs.Document.{Documents, Fields, Pairs, documents, leaf, list_of, map_of, pairs_of, set_of, struct_of, tuple_of};
+ghost use Rattle.ufmt_core.specs.BuilderView.{block_in_parts, dotted_in_parts};
+ghost use Rattle.ufmt_core.specs.Document.{Documents, Fields, Pairs, documents, leaf, list_of, map_of, non_exhaustive_of, pairs_of, set_of, struct_of, tuple_of};
 ghost use Rattle.ufmt_core.specs.Layout.{Braces, Brackets, Setting, Struct, field_texts, inside, layout, pair_texts, texts, tuple_kind};
 ghost use Rattle.ufmt_core.specs.Quoted.{quoted_char, quoted_text};
 ghost use Rattle.ufmt_core.specs.Ranges.{after, before, between, range_inclusive_document};
@@ -157,8 +157,9 @@ pub fn documents_of_shared_values<T: uDebug, A: Allocator>()
 /// The document of a queue, a linked list or a heap is the list of its items. That of a hashed set or
 /// map is the set or the map of its items. They are in the order of iteration.
 pub fn documents_of_unsorted_collections<
-    K: uDebug + Eq + Hash + Ord,
+    K: uDebug + Eq + Hash,
     V: uDebug,
+    T: uDebug + Ord,
     S: BuildHasher,
     A: Allocator,
 >()
@@ -166,8 +167,8 @@ pub fn documents_of_unsorted_collections<
         (λ xs. list_of (documents (map V.document xs.items))) }
     ensures of_linked_list { ⟦<LinkedList<V, A> as uDebug>⟧.document ≡
         (λ xs. list_of (documents (map V.document xs))) }
-    ensures of_heap { ⟦<BinaryHeap<K, A> as uDebug>⟧.document ≡
-        (λ xs. list_of (documents (map K.document (heap_items xs)))) }
+    ensures of_heap { ⟦<BinaryHeap<T, A> as uDebug>⟧.document ≡
+        (λ xs. list_of (documents (map T.document (heap_items xs)))) }
     ensures of_set { ⟦<HashSet<K, S, A> as uDebug>⟧.document ≡
         (λ xs. set_of (documents (map K.document xs.keys))) }
     ensures of_map { ⟦<HashMap<K, V, S, A> as uDebug>⟧.document ≡
@@ -222,7 +223,7 @@ pub fn documents_of_cell_values<T: uDebug>()
 {}
 
 /// The layout of a block is its name and opening, its entries in a row, and its ending, in each mode and
-/// at each depth. The calls of its builder write these texts.
+/// at each depth. The ending of a struct may be dots. The calls of its builder write these texts.
 pub fn blocks_are_their_parts()
     ensures of_list { (s : Setting) (ds : Documents) → layout s (list_of ds) ≡
         block_in_parts Brackets ([]) s (texts (inside s) ds) }
@@ -232,6 +233,8 @@ pub fn blocks_are_their_parts()
         block_in_parts Braces ([]) s (pair_texts (inside s) ps) }
     ensures of_struct { (s : Setting) (name : List ℕ) (fs : Fields) → layout s (struct_of name fs) ≡
         block_in_parts Struct name s (field_texts (inside s) fs) }
+    ensures of_non_exhaustive { (s : Setting) (name : List ℕ) (fs : Fields) →
+        layout s (non_exhaustive_of name fs) ≡ dotted_in_parts name s (field_texts (inside s) fs) }
     ensures of_tuple { (s : Setting) (name : List ℕ) (ds : Documents) → layout s (tuple_of name ds) ≡
         block_in_parts (tuple_kind name) name s (texts (inside s) ds) }
 {}

@@ -24,6 +24,20 @@ pub(crate) trait Signed: Copy {
         ensures { Self.Unsigned.value result ≡ nat_abs (value self) };
 }
 
+impl Signed for i32 {
+    type Unsigned = u32;
+
+    ghost value = { λ z. z };
+
+    fn is_negative(self) -> bool {
+        self < 0
+    }
+
+    fn magnitude(self) -> u32 {
+        self.unsigned_abs()
+    }
+}
+
 impl Signed for i64 {
     type Unsigned = u64;
 
@@ -52,29 +66,25 @@ impl Signed for i128 {
     }
 }
 
-/// Returns the decimal text of `z`, made at the end of `buffer`, by small code if `small`.
+/// Returns the decimal text of `z`, made at the end of `buffer`.
 #[inline(always)]
-pub(crate) fn decimal_text<S: Signed, const N: usize>(
-    z: S,
-    small: bool,
-    buffer: &mut [u8; N],
-) -> &str
+pub(crate) fn decimal_text<S: Signed, const N: usize>(z: S, buffer: &mut [u8; N]) -> &str
     requires sign_and_digit { 1 < N }
     requires room { nat_abs (S.value z) < 10 ^ (N - 1) }
     ensures { result.now ≡ decimal (S.value z) }
 {
-    let start = write_decimal(z, small, buffer);
+    let start = write_decimal(z, buffer);
     text_from(buffer, start)
 }
 
 // Writes the decimal text of `z` at the end of `buffer`, and returns the index of its first byte.
 #[inline(always)]
-fn write_decimal<S: Signed>(z: S, small: bool, buffer: &mut [u8]) -> usize
+fn write_decimal<S: Signed>(z: S, buffer: &mut [u8]) -> usize
     requires { length (decimal (S.value z)) ≤ length buffer.old }
     ensures start { result + length (decimal (S.value z)) ≡ length buffer.old }
     ensures written { drop result buffer.new ≡ decimal (S.value z) }
 {
-    let start = z.magnitude().write_digits(small, buffer);
+    let start = z.magnitude().write_digits(buffer);
     if !z.is_negative() {
         return start;
     }
@@ -88,8 +98,7 @@ impl uDebug for i8 {
 
     #[inline(always)]
     fn fmt<W: uWrite>(&self, f: &mut Formatter<W>) -> Result<(), W::Error> {
-        let small = f.prefers_small();
-        f.write_str(decimal_text(i64::from(*self), small, &mut [0; 4]))
+        f.write_str(decimal_text(i32::from(*self), &mut [0; 4]))
     }
 }
 
@@ -98,8 +107,7 @@ impl uDebug for i16 {
 
     #[inline(always)]
     fn fmt<W: uWrite>(&self, f: &mut Formatter<W>) -> Result<(), W::Error> {
-        let small = f.prefers_small();
-        f.write_str(decimal_text(i64::from(*self), small, &mut [0; 6]))
+        f.write_str(decimal_text(i32::from(*self), &mut [0; 6]))
     }
 }
 
@@ -108,8 +116,7 @@ impl uDebug for i32 {
 
     #[inline(always)]
     fn fmt<W: uWrite>(&self, f: &mut Formatter<W>) -> Result<(), W::Error> {
-        let small = f.prefers_small();
-        f.write_str(decimal_text(i64::from(*self), small, &mut [0; 11]))
+        f.write_str(decimal_text(*self, &mut [0; 11]))
     }
 }
 
@@ -118,8 +125,7 @@ impl uDebug for i64 {
 
     #[inline(always)]
     fn fmt<W: uWrite>(&self, f: &mut Formatter<W>) -> Result<(), W::Error> {
-        let small = f.prefers_small();
-        f.write_str(decimal_text(*self, small, &mut [0; 20]))
+        f.write_str(decimal_text(*self, &mut [0; 20]))
     }
 }
 
@@ -127,8 +133,7 @@ impl uDebug for i128 {
     ghost document = { λ z. leaf (decimal z) };
 
     fn fmt<W: uWrite>(&self, f: &mut Formatter<W>) -> Result<(), W::Error> {
-        let small = f.prefers_small();
-        f.write_str(decimal_text(*self, small, &mut [0; 40]))
+        f.write_str(decimal_text(*self, &mut [0; 40]))
     }
 }
 
@@ -137,7 +142,6 @@ impl uDebug for isize {
 
     #[inline(always)]
     fn fmt<W: uWrite>(&self, f: &mut Formatter<W>) -> Result<(), W::Error> {
-        let small = f.prefers_small();
-        f.write_str(decimal_text(*self as i64, small, &mut [0; 20]))
+        f.write_str(decimal_text(*self as i64, &mut [0; 20]))
     }
 }

@@ -15,13 +15,6 @@ pub trait uWrite {
     /// surely takes, what holds after a failure, its identity, and the bytes that it writes over.
     ghost seen: { Seen Self };
 
-    /// Whether the code that writes to it is to be small where it can't be small and fast. By default it is
-    /// to be fast.
-    #[inline(always)]
-    fn prefers_small(&self) -> bool {
-        false
-    }
-
     /// Writes `s` as one piece.
     fn write_str(&mut self, s: &str) -> Result<(), Self::Error>
         ensures { Writes seen self.old s.now (is_ok result) self.new };
@@ -102,11 +95,6 @@ impl<W: uWrite> uWrite for &mut W {
       identity = λ r. r.ghost_name ∷ W.seen.identity r.now;
       whole_buffer = λ r. W.seen.whole_buffer r.now;
     } };
-
-    #[inline(always)]
-    fn prefers_small(&self) -> bool {
-        (**self).prefers_small()
-    }
 
     #[inline(always)]
     fn write_str(&mut self, s: &str) -> Result<(), W::Error> {

@@ -58,11 +58,11 @@ def line(told, cells):
 
 
 def sizes(room, ours, helpers, ufmt):
-    """A line for each call: ours by fast and by small code, then the peers, for speed and for size."""
+    """A line for each call: ours, then the peers, for speed and for size."""
     made, found = peers.built(room, "sizes", "library", ufmt, ("alone", "small"))
-    line("bytes", ("ours", "Small", "ufmt", "core::fmt", "ufmt z", "core z"))
+    line("bytes", ("ours", "ufmt", "core::fmt", "ufmt z", "core z"))
     for case in SIZES:
-        cells = [bytes_of(room, ours, helpers, "case_%s_size_%s" % (way, case)) for way in ("fast", "small")]
+        cells = [bytes_of(room, ours, helpers, "case_size_" + case)]
         for profile in ("alone", "small"):
             for peer in ("ufmt", "core"):
                 library = made / profile / "libsizes.a" if peer in found and case in PEER_SIZES else None
@@ -71,12 +71,12 @@ def sizes(room, ours, helpers, ufmt):
 
 
 def counts(room, program, ufmt):
-    """A line for each call: ours by fast and by small code, then the peers, as `cargo build --release` makes them and linked as a
+    """A line for each call: ours, then the peers, as `cargo build --release` makes them and linked as a
     whole."""
     made, found = peers.built(room, "calls", "program", ufmt, ("release", "linked"))
-    line("instructions", ("ours", "Small", "ufmt", "core::fmt", "ufmt lto", "core lto"))
+    line("instructions", ("ours", "ufmt", "core::fmt", "ufmt lto", "core lto"))
     for told, name, number in CALLS:
-        cells = [instructions([program], way + "_" + name, number) for way in ("fast", "small")]
+        cells = [instructions([program], name, number)]
         for profile in ("release", "linked"):
             for peer in ("ufmt", "core"):
                 cells.append(instructions([made / profile / "calls", peer], name, number) if peer in found else None)

@@ -11,7 +11,7 @@ WITHOUT_MEMORY = (
     ("print an i32", "number"), ("print an i128", "long_number"), ("print a text", "text"),
     ("print a struct, plain", "struct"), ("print a struct, pretty", "struct_pretty", "struct_two", "struct_three", "struct_four"),
     ("print a struct of eight fields", "kinds_pretty"), ("print a struct, cut", "struct_cut"),
-    ("print a struct by Small", "struct_small"), ("print a line", "line"), ("print a column", "column"), ("dump bytes", "dump"),
+    ("print a line", "line"), ("print a column", "column"), ("dump bytes", "dump"),
     ("parse a number", "parse_number"), ("parse a struct, plain", "parse_struct"),
     ("parse a struct, pretty", "parse_struct_pretty", "parse_two", "parse_three"), ("scan a text: is_text", "is_text"),
     ("to_pretty_into", "to_pretty_into"), ("to_plain_into", "to_plain_into"),

@@ -8,7 +8,7 @@ or a call that is inlined into one that recurses, is past it.
 # By its name in tools/lib/bench/stack.py: at most, and a level more.
 CALLS = {
     "number": (64, 0), "long_number": (208, 0), "text": (144, 0), "struct": (176, 0), "struct_pretty": (176, 80),
-    "kinds_pretty": (288, 0), "struct_cut": (240, 0), "struct_small": (208, 0), "line": (240, 0), "column": (192, 0),
+    "kinds_pretty": (288, 0), "struct_cut": (240, 0), "line": (240, 0), "column": (192, 0),
     "dump": (432, 0), "parse_number": (48, 0), "parse_struct": (80, 0), "parse_struct_pretty": (128, 80),
     "is_text": (640, 0), "to_pretty_into": (720, 0), "to_plain_into": (704, 0),
     "first_difference": (480, 0), "compare_pretty": (864, 0), "struct_to_string": (272, 0), "map_to_string": (352, 0),

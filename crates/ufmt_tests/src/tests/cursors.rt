@@ -1,6 +1,6 @@
 //! Tests of `Cursor`, of `write_to_buffer`, and of a formatter that continues after a failed entry.
 use super::rows::{Table, has_rows, same};
-use ufmt::{Cursor, Formatter, Full, Small, laws, uWrite, write_debug};
+use ufmt::{Cursor, Formatter, Full, laws, uWrite, write_debug};
 
 impl Table {
     // Adds a row of what a call on the cursor returned, and of what then remains and is written.
@@ -67,16 +67,14 @@ Ok(0) (12, -345);
 Ok(1) (12, -345);
 ";
 
-// It prints the same pieces as the writer in it: where one is refused, those before it are written.
 #[test]
-fn a_small_writer_writes_the_pieces_that_fit(rt: HostRuntime) {
+fn a_value_is_written_up_to_the_first_piece_that_does_not_fit(rt: HostRuntime) {
     let mut table = Table::new(rt.alloc());
     for room in 0..12usize {
         let mut buffer = [0u8; 12];
-        let mut small = Small::new(Cursor::new(&mut buffer[..room]));
-        let outcome = write_debug(&mut small, &(12u8, -345i64));
-        let cursor = small.into_inner();
-        table.put_outcome(outcome.map(|()| cursor.remaining()), cursor.written());
+        let mut cursor = Cursor::new(&mut buffer[..room]);
+        let outcome = write_debug(&mut cursor, &(12u8, -345i64));
+        table.put_cursor(outcome, &cursor);
     }
     has_rows(&rt, &table, IN_EACH_ROOM);
 }

@@ -7,7 +7,7 @@ use std::num::{
     NonZeroI8, NonZeroI16, NonZeroI32, NonZeroI64, NonZeroI128, NonZeroIsize, NonZeroU8,
     NonZeroU16, NonZeroU32, NonZeroU64, NonZeroU128, NonZeroUsize,
 };
-use ufmt::{Formatter, Small, uDebug, uDisplay};
+use ufmt::{Formatter, uDebug, uDisplay};
 
 const NUMBERS: &str = "\
 0|;
@@ -80,19 +80,12 @@ fn nonzero_numbers_print_as_one_piece(rt: HostRuntime) {
     has_rows(&rt, &table, wanted);
 }
 
-// Whether the number prints as by `to_string`, also by small code. Without memory this is false.
+// Whether the number prints as by `to_string`. Without memory this is false.
 fn is_decimal<N: uDebug + Display + Drop>(alloc: Global, n: N) -> bool {
     let mut text = String::new(alloc);
     let printed = uDebug::fmt(&n, &mut Formatter::new(&mut text));
-    let mut small = Small::new(String::new(alloc));
-    let printed_small = uDebug::fmt(&n, &mut Formatter::new(&mut small));
     match n.to_string(alloc) {
-        Ok(expected) => {
-            printed.is_ok()
-                && text.as_str() == expected.as_str()
-                && printed_small.is_ok()
-                && small.into_inner().as_str() == expected.as_str()
-        }
+        Ok(expected) => printed.is_ok() && text.as_str() == expected.as_str(),
         Err(_) => false,
     }
 }

@@ -1,9 +1,0 @@
-use Rattle.std.proofs.Common.{arith}
-use Rattle.ufmt_core.proofs.LastDigits.{IsCutFrom-none, IsCutFrom-more}
-use Rattle.ufmt_core.proofs.unsigned.write_by_eight.Goals as goal
-
-pub loop-left-init : goal.loop-left-init
-loop-left-init c = IsCutFrom-none 8 c.args.n c.args.buffer.now c.requires
-
-pub loop-left-preserved : goal.loop-left-preserved
-loop-left-preserved c = IsCutFrom-more c.write_eight.new.buffer c.loop-left.invariant (omega (arith, c.loop-left-test.true)) (omega arith) c.write_eight.ensures
