@@ -169,4 +169,4 @@ unfolding last_digits
 IsEndOf-all {count} {n} {start} {left} {end} {old} {buffer} kept all =
     let same : end ≡ start = omega (arith, kept.after_start) in
     let none : start - start ≡ 0 = omega arith in
-    rw (none) (rw (same) at kept.joined)
+    rw none at (rw same at kept.joined)
