@@ -85,6 +85,24 @@ length-cut count n high =
       length-last_digits count (n % 10 ^ count),
     )
 
+-- a turn writes the last two digits of `left`, and leaves the others, those of `rest`, to be written before them
+pub last_digits-turn : (count left rest start end : ℕ) (old new : List ℕ) → rest ≡ left / 10 ^ 2 → end ≡ start + 2
+    → drop start new ≡ last_digits 2 (left % 10 ^ 2) ++ drop (start + 2) old →
+    last_digits count rest ++ drop start new ≡ last_digits (count + 2) left ++ drop end old
+last_digits-turn count left rest start end old new others next placed =
+    rw (placed, next, others, last_digits-split count 2 left)
+    (sym (append_assoc (last_digits count (left / 10 ^ 2)) (last_digits 2 (left % 10 ^ 2)) (drop (start + 2) old)))
+
+-- the last digits are written in two halves, the second first
+pub last_digits-halves : (half n start : ℕ) (buffer mid new : List ℕ)
+    → drop (start + half) mid ≡ last_digits half (n % 10 ^ half) ++ drop (start + half + half) buffer →
+    drop start new ≡ last_digits half (n / 10 ^ half) ++ drop (start + half) mid
+    → drop start new ≡ last_digits (half + half) n ++ drop (start + (half + half)) buffer
+last_digits-halves half n start buffer mid new second first =
+    let end : start + half + half ≡ start + (half + half) = omega arith in
+    rw (first, second, end, last_digits-split half half n)
+    (sym (append_assoc (last_digits half (n / 10 ^ half)) (last_digits half (n % 10 ^ half)) (drop (start + (half + half)) buffer)))
+
 -- the invariant of a loop that writes `count` last digits a turn: while more digits are left, there is room for them
 pub record IsCutFrom (count n left start : ℕ) (buffer : List ℕ) : Type 0 where
   pub fits : length (decimal (pos n)) ≤ length buffer
@@ -127,46 +145,3 @@ IsCutFrom-more {count} {n} {left} {start} {buffer} new kept high same_length pla
         ← decimal-cut count left high,
       ) kept.written.joined;
     }
-
--- the invariant of a loop that writes the last `count` digits of `n` from the right, two a turn: `left` has those before `end`
-pub record IsEndOf (count n start : ℕ) (old : List ℕ) (left end : ℕ) (buffer : List ℕ) : Type 0 where
-  pub after_start : start ≤ end
-  pub in_pairs : (end - start) % 2 ≡ 0
-  pub within : end ≤ length buffer
-  pub joined : last_digits (end - start) left ++ drop end buffer ≡ last_digits count n ++ drop (start + count) old
-
--- it holds before the first turn
-pub IsEndOf-none : (count n start : ℕ) (buffer : List ℕ) → count % 2 ≡ 0 → start + count ≤ length buffer
-    → IsEndOf count n start buffer n (start + count) buffer
-IsEndOf-none count n start buffer in_pairs room =
-    let whole : start + count - start ≡ count = omega arith in
-    record { after_start = omega arith; in_pairs = rw whole in_pairs; within = room; joined = rw whole refl }
-
--- a turn keeps it
-pub IsEndOf-more : {count n start left end : ℕ} {old buffer : List ℕ} (new : List ℕ) → IsEndOf count n start old left end buffer
-    → start < end → length new ≡ length buffer → drop (end - 2) new ≡ last_digits 2 (left % 10 ^ 2) ++ drop (end - 2 + 2) buffer
-    → IsEndOf count n start old (left / 10 ^ 2) (end - 2) new
-IsEndOf-more {count} {n} {start} {left} {end} {old} {buffer} new kept more same_length placed =
-    let next : end - 2 + 2 ≡ end = omega (arith, kept.in_pairs) in
-    let digits : end - start ≡ end - 2 - start + 2 = omega (arith, kept.in_pairs) in
-    record {
-      after_start = omega (arith, kept.in_pairs);
-      in_pairs = omega (arith, kept.in_pairs);
-      within = omega (arith, kept.within);
-      joined = rw (
-        placed,
-        next,
-        ← append_assoc (last_digits (end - 2 - start) (left / 10 ^ 2)) (last_digits 2 (left % 10 ^ 2)) (drop end buffer),
-        ← last_digits-split (end - 2 - start) 2 left,
-        ← digits,
-      ) kept.joined;
-    }
-
--- after the last turn all digits are written
-pub IsEndOf-all : {count n start left end : ℕ} {old buffer : List ℕ} → IsEndOf count n start old left end buffer → end ≤ start
-    → drop start buffer ≡ last_digits count n ++ drop (start + count) old
-unfolding last_digits
-IsEndOf-all {count} {n} {start} {left} {end} {old} {buffer} kept all =
-    let same : end ≡ start = omega (arith, kept.after_start) in
-    let none : start - start ≡ 0 = omega arith in
-    rw none at (rw same at kept.joined)

@@ -38,8 +38,8 @@ pub fn digit_pair(i: u8) -> (u8, u8)
 //
 //     18446744073709551615 = 18 44 67 44 07 37 09 55 16 15
 //
-// What is left below 100 is the first digit or two. A number of 128 bits is cut into parts of sixteen digits,
-// since a division of 128 bits is slow. None is made once the number fits 64.
+// What is left below 100 is the first digit or two. A longer number is first cut into parts, each of which has
+// turns of its own: of eight digits, since a division of 32 bits is faster, and above 64 bits of sixteen.
 
 /// An unsigned number of some width.
 pub(crate) trait Magnitude: Copy {
@@ -61,8 +61,7 @@ impl Magnitude for u32 {
         let mut left = self;
         while left >= 100 {
             start -= 2;
-            write_pair(left % 100, buffer, start);
-            left /= 100;
+            left = write_turn(left, buffer, start);
         }
         write_first(left, buffer, start)
     }
@@ -75,12 +74,12 @@ impl Magnitude for u64 {
     fn write_digits(self, buffer: &mut [u8]) -> usize {
         let mut start = buffer.len();
         let mut left = self;
-        while left >= 100 {
-            start -= 2;
-            write_pair((left % 100) as u32, buffer, start);
-            left /= 100;
+        while left >= EIGHT_DIGITS {
+            start -= 8;
+            write_eight((left % EIGHT_DIGITS) as u32, buffer, start);
+            left /= EIGHT_DIGITS;
         }
-        write_first(left as u32, buffer, start)
+        (left as u32).write_digits(&mut buffer[..start])
     }
 }
 
@@ -99,22 +98,44 @@ impl Magnitude for u128 {
     }
 }
 
-// The least number with more than sixteen digits.
+// The least number with more than eight digits.
+const EIGHT_DIGITS: u64 = 100_000_000;
+
 const SIXTEEN_DIGITS: u128 = 10_000_000_000_000_000;
 
-// Writes the last sixteen digits of `n`, with zeros before a shorter number.
+// Writes sixteen digits, with zeros before a shorter number.
 #[inline]
 fn write_sixteen(n: u64, buffer: &mut [u8], start: usize)
+    requires sixteen_digits { n < 10 ^ 16 }
     requires room { start + 16 ≤ length buffer.old }
     ensures { drop start buffer.new ≡ last_digits 16 n ++ drop (start + 16) buffer.old }
 {
-    let mut end = start + 16;
-    let mut left = n;
-    while end > start {
-        end -= 2;
-        write_pair((left % 100) as u32, buffer, end);
-        left /= 100;
-    }
+    write_eight((n % EIGHT_DIGITS) as u32, buffer, start + 8);
+    write_eight((n / EIGHT_DIGITS) as u32, buffer, start);
+}
+
+// Writes eight digits, with zeros before a shorter number.
+#[inline]
+fn write_eight(n: u32, buffer: &mut [u8], start: usize)
+    requires eight_digits { n < 10 ^ 8 }
+    requires room { start + 8 ≤ length buffer.old }
+    ensures { drop start buffer.new ≡ last_digits 8 n ++ drop (start + 8) buffer.old }
+{
+    let left = write_turn(n, buffer, start + 6);
+    let left = write_turn(left, buffer, start + 4);
+    let left = write_turn(left, buffer, start + 2);
+    write_pair(left, buffer, start);
+}
+
+// Writes the last two digits of `n`, and returns the number that the digits before them denote.
+#[inline(always)]
+fn write_turn(n: u32, buffer: &mut [u8], start: usize) -> u32
+    requires room { start + 2 ≤ length buffer.old }
+    ensures left { result ≡ n / 100 }
+    ensures written { drop start buffer.new ≡ last_digits 2 (n % 100) ++ drop (start + 2) buffer.old }
+{
+    write_pair(n % 100, buffer, start);
+    n / 100
 }
 
 #[inline(always)]

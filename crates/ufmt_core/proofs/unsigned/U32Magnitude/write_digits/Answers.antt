@@ -6,4 +6,6 @@ pub loop-left-init : goal.loop-left-init
 loop-left-init c = IsCutFrom-none 2 c.args.self c.args.buffer.now c.requires
 
 pub loop-left-preserved : goal.loop-left-preserved
-loop-left-preserved c = IsCutFrom-more c.write_pair.new.buffer c.loop-left.invariant (omega (arith, c.loop-left-test.true)) (omega arith) c.write_pair.ensures
+loop-left-preserved c =
+    let turn = c.write_turn-left in
+    rw turn.ensures.left (IsCutFrom-more turn.new.buffer c.loop-left.invariant (omega (arith, c.loop-left-test.true)) (omega arith) turn.ensures.written)

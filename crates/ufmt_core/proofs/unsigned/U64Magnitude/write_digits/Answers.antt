@@ -3,8 +3,8 @@ use Rattle.ufmt_core.proofs.LastDigits.{IsCutFrom-none, IsCutFrom-more}
 use Rattle.ufmt_core.proofs.unsigned.U64Magnitude.write_digits.Goals as goal
 
 pub loop-left-init : goal.loop-left-init
-loop-left-init c = IsCutFrom-none 2 c.args.self c.args.buffer.now c.requires
+loop-left-init c = IsCutFrom-none 8 c.args.self c.args.buffer.now c.requires
 
 pub loop-left-preserved : goal.loop-left-preserved
-loop-left-preserved c = IsCutFrom-more c.write_pair.new.buffer c.loop-left.invariant (omega (arith, c.loop-left-test.true))
-    (omega arith) c.write_pair.ensures
+loop-left-preserved c = IsCutFrom-more c.write_eight.new.buffer c.loop-left.invariant (omega (arith, c.loop-left-test.true))
+    (omega arith) c.write_eight.ensures
