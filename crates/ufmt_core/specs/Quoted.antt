@@ -45,7 +45,7 @@ quoted_char c = quoted apostrophe (c ∷ [])
 abbrev pub IsQuoted : List ℕ → Type 0
 IsQuoted text = ((cs : List ℕ) × (all_scalars cs ≡ true) × (text ≡ quoted_text cs)) ⊎ ((c : ℕ) × IsScalar c × (text ≡ quoted_char c))
 
--- for the proofs only: `escaped` byte by byte, where each byte past ASCII prints as itself
+-- the text of a byte between two of these quotes, as `escaped` byte by byte: a byte past ASCII prints as itself
 abbrev pub escaped_byte : ℕ → ℕ → List ℕ
 escaped_byte quote b = unwrap_or (escape quote b) (b ∷ [])
 

@@ -13,11 +13,11 @@ pub trait ParseMode {
         ensures { result ≡ mode };
 }
 
-/// Texts that `{:?}` prints.
+/// Plain texts.
 #[derive(Clone, Copy)]
 pub struct PlainText;
 
-/// Texts that `{:#?}` prints.
+/// Pretty texts.
 #[derive(Clone, Copy)]
 pub struct PrettyText;
 

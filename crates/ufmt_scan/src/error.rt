@@ -8,8 +8,7 @@ use std::alloc::{AllocError, AllocFailed};
 /// Why a text was not read or converted.
 #[derive(Clone, Copy, PartialEq, Eq, Debug)]
 pub enum ReadError {
-    /// No token document has this text; or, where a value is parsed, no value of the type whose
-    /// document is a token document prints so.
+    /// No document of the class that the call takes has this text.
     NotText,
     OutOfMemory,
 }

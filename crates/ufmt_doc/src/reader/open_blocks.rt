@@ -4,7 +4,7 @@ ghost use Rattle.ufmt_doc.specs.Private.Growing.{block_at, marked};
 
 use std::marker::Model;
 
-// At most 255 blocks of a token document have entries and lie one in another. A scan opens one more
+// In a document of either class at most 255 blocks with entries lie one in another. A scan opens one more
 // before it fails.
 const MOST_OPEN: usize = 256;
 

@@ -48,7 +48,7 @@ pub trait Sink {
 /// Why a scan failed.
 #[derive(Drop, PartialEq, Eq, Debug)]
 pub enum ScanError<E> {
-    /// No token document has this text.
+    /// No document of the class has this text.
     NotText,
     /// The sink's error.
     Sink(E),
