@@ -51,7 +51,7 @@ bool ufmt_is_text(const uint8_t *input, size_t length, bool pretty);
 /* The same of a debug text. */
 bool ufmt_is_debug_text(const uint8_t *input, size_t length, bool pretty);
 
-/* Writes the pretty text of the value with this plain text, or the plain text of the one with this pretty
+/* Writes the pretty text of the document with this plain text, or the plain text of the one with this pretty
  * text. Returns UFMT_NO_TEXT if and only if the input is no such token text. Then `*detail` becomes the
  * number of bytes at its front that were read before the piece that doesn't fit: a leaf, or brackets, commas,
  * colons and spaces up to the next leaf. An input that is only cut may have been read to its end. */

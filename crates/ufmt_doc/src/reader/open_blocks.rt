@@ -4,8 +4,8 @@ ghost use Rattle.ufmt_doc.specs.Private.Growing.{block_at, marked};
 
 use std::marker::Model;
 
-// In a document of either class at most 255 blocks with entries lie one in another. A scan opens one more
-// before it fails.
+// In a document of either class, blocks with entries are at most 255 deep. A scan opens one more before it
+// fails.
 const MOST_OPEN: usize = 256;
 
 /// An open block: where its entries start on the stack, and whether a colon came in it.
