@@ -8,10 +8,10 @@ use Rattle.std.proofs.lemmas.Str.{IsUtf8-from_ascii, is_utf8-from_IsUtf8}
 use Rattle.std.proofs.lemmas.Str.Ascii.{IsAscii-cons, IsAscii-nil}
 use Rattle.ufmt_core.specs.Decimal.{decimal_byte, sign_of}
 use Rattle.ufmt.specs.FixedPoint.{fixed, point_and}
-use Rattle.ufmt.specs.Leaves.{EndsLeaf, IsDebugLeaf, IsDebugText, outside}
-use Rattle.ufmt.proofs.ClassTokens.{IsPlainByte, word_byte_is_plain}
+use Rattle.ufmt_grammar.specs.Leaves.{EndsLeaf, IsDebugLeaf, IsDebugText, outside}
+use Rattle.ufmt_grammar.proofs.ClassTokens.{IsPlainByte, word_byte_is_plain}
 use Rattle.ufmt.proofs.FixedPoint.{fixed-denotes}
-use Rattle.ufmt.proofs.NumbersAreWords.{decimal_byte_is_word}
+use Rattle.ufmt_grammar.proofs.NumbersAreWords.{decimal_byte_is_word}
 
 abbrev ArePlain : List ℕ → Type 0
 ArePlain [] = ⊤

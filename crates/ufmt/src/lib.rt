@@ -2,7 +2,6 @@
 
 //! Formatting without `core::fmt`. A user names this crate only: it has all of `ufmt_core` too.
 
-pub mod class;
 mod column;
 mod cursor;
 mod cut;
@@ -38,4 +37,5 @@ pub use ufmt_core::{
     DebugList, DebugMap, DebugSet, DebugStruct, DebugTuple, Formatter, NamedFields, UnnamedFields,
     ascii, cells, layout, quoted, uDebug, uWrite, unsigned,
 };
+pub use ufmt_grammar::class;
 pub use zeros::uDisplayZeros;

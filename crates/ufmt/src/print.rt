@@ -6,7 +6,7 @@ ghost use Rattle.ufmt_core.specs.Layout.{plain_text, pretty_text};
 ghost use Rattle.ufmt_core.specs.Writes.{Writes};
 ghost use Rattle.ufmt.specs.Buffer.{Fronts};
 ghost use Rattle.ufmt.specs.Pieces.{Piece, SamePieces, line_text};
-ghost use Rattle.ufmt.specs.Shift.{HasNoLineFeed, shifted};
+ghost use Rattle.ufmt_core.specs.Shift.{HasNoLineFeed, shifted};
 
 use crate::cursor::{Cursor, Full};
 use crate::display::uDisplay;

@@ -5,9 +5,9 @@ use Rattle.std.specs.Str.{IsUtf8, chars}
 use Rattle.std.proofs.lemmas.Str.{encodes-chars}
 use Rattle.ufmt.specs.Quoted.{escaped_byte, escaped_bytes, quoted_text}
 use Rattle.ufmt.specs.Reading.{strip}
-use Rattle.ufmt.proofs.Parsing.{strip_joined}
-use Rattle.ufmt.proofs.QuotedComplete.{quoted-bytes}
-use Rattle.ufmt.proofs.QuotedUtf8.{quoted-utf8}
+use Rattle.ufmt_grammar.proofs.Parsing.{strip_joined}
+use Rattle.ufmt_grammar.proofs.QuotedComplete.{quoted-bytes}
+use Rattle.ufmt_grammar.proofs.QuotedUtf8.{quoted-utf8}
 use Rattle.ufmt_scan.proofs.Spelled.{escaped_bytes-append, quote_ends, same_bytes}
 
 -- one byte more is decoded

@@ -1,7 +1,7 @@
 -- What conversions return to C, and what they leave.
 use Rattle.std.specs.Prelude.{◌≡◌, ℕ, ℤ, List, length}
 use Rattle.ufmt.specs.Document.{Document}
-use Rattle.ufmt.specs.declared.class.Class.{Class}
+use Rattle.ufmt_grammar.specs.declared.class.Class.{Class}
 use Rattle.ufmt_c.specs.Calls.{PutsText, no_text}
 use Rattle.ufmt_scan.specs.Places.{ReadsUpTo}
 use Rattle.ufmt_scan.specs.Texts.{IsConvertedAs, NoDocumentPrintsAs}

@@ -2,8 +2,8 @@
 ghost use Rattle.std.specs.Prelude.{ℕ, List};
 ghost use Rattle.ufmt.specs.Document.{Document};
 ghost use Rattle.ufmt.specs.Layout.{plain_text, pretty_text};
-ghost use Rattle.ufmt.specs.declared.class.Class.{Class};
-ghost use Rattle.ufmt.specs.declared.class.Class.TheVariants.{Debug, Token};
+ghost use Rattle.ufmt_grammar.specs.declared.class.Class.{Class};
+ghost use Rattle.ufmt_grammar.specs.declared.class.Class.TheVariants.{Debug, Token};
 ghost use Rattle.ufmt_c.specs.Conversions.{ConvertsText};
 ghost use Rattle.ufmt_scan.specs.Places.{ReadsUpTo};
 ghost use Rattle.ufmt_scan.specs.Texts.{ConvertsToAs};

@@ -2,7 +2,7 @@
 ghost use Rattle.std.specs.Prelude.{◌≡◌, IsFalse, IsTrue};
 ghost use Rattle.ufmt.specs.Document.{Document};
 ghost use Rattle.ufmt.specs.Layout.{layout, setting};
-ghost use Rattle.ufmt.specs.declared.class.Class.TheVariants.{Debug, Token};
+ghost use Rattle.ufmt_grammar.specs.declared.class.Class.TheVariants.{Debug, Token};
 ghost use Rattle.ufmt_c.specs.Options.{mode_of};
 ghost use Rattle.ufmt_scan.specs.Texts.{IsNormalFormAs, NoDocumentPrintsAs};
 

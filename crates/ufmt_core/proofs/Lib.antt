@@ -6,12 +6,15 @@ pub mod Indentation
 pub mod Items
 pub mod Joined
 pub mod LastDigits
+pub mod ListedDocuments
 pub mod NumeralTexts
 pub mod Numerals
 pub mod Printing
 pub mod QuotedBytes
 pub mod QuotedCharacters
+pub mod Shifting
 pub mod WorkedLayouts
 pub mod WorkedQuotes
+pub mod WorkedShifts
 pub mod Writing
 pub mod WrittenDigits

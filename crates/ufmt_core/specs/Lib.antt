@@ -1,12 +1,14 @@
 pub mod Alike
-pub mod BuilderView
 pub mod Builder
+pub mod BuilderView
 pub mod Bytes
 pub mod Decimal
 pub mod Document
+pub mod EachText
 pub mod Formatter
 pub mod Layout
 pub mod Quoted
 pub mod Ranges
+pub mod Shift
 pub mod ValueDocuments
 pub mod Writes

@@ -10,8 +10,8 @@ use Rattle.ufmt.specs.Decimal.{decimal}
 use Rattle.ufmt.specs.Document.{leaf}
 use Rattle.ufmt.specs.Quoted.{quoted_char, quoted_text}
 use Rattle.ufmt.specs.Token.{IsWord}
-use Rattle.ufmt.proofs.NumbersAreWords.{decimal_is_word}
-use Rattle.ufmt.proofs.QuotedOneWay.{characters_determined}
+use Rattle.ufmt_grammar.proofs.NumbersAreWords.{decimal_is_word}
+use Rattle.ufmt_grammar.proofs.QuotedOneWay.{characters_determined}
 use Rattle.ufmt_doc.specs.FieldTexts.{ShowsText}
 use Rattle.ufmt_doc.specs.Unquoted.{IsInQuotes}
 

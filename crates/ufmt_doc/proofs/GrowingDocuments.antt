@@ -4,13 +4,13 @@ use Rattle.std.specs.Prelude.{⊤}
 use Rattle.std.specs.Result.{OnOk, is_ok}
 use Rattle.ufmt.specs.Document.{Document, leaf, joined, list_of, set_of, map_of, struct_of, non_exhaustive_of, tuple_of, pretty_part, Documents, no_documents, first_document, documents, Pairs, no_pairs, first_pair, pairs_of, Fields, no_fields, first_field, fields_of}
 use Rattle.ufmt.specs.Layout.{next, tuple_kind}
-use Rattle.ufmt.specs.declared.class.Class.{Class}
+use Rattle.ufmt_grammar.specs.declared.class.Class.{Class}
 use Rattle.ufmt.specs.Token.{IsDocument, IsBuilt, AreBuilt, PairsAreBuilt, FieldsAreBuilt, normal, normal_all, normal_pairs, normal_fields}
 use Rattle.ufmt_core.specs.declared.layout.Count.{Count}
 use Rattle.ufmt_core.specs.declared.layout.Count.TheVariants.{One}
 use Rattle.ufmt_core.specs.declared.layout.Kind.{Kind}
 use Rattle.ufmt_core.specs.declared.layout.Kind.TheVariants.{Brackets, Braces, Struct}
-use Rattle.ufmt.proofs.ClassLeaves.{name_some}
+use Rattle.ufmt_grammar.proofs.ClassLeaves.{name_some}
 use Rattle.ufmt_doc.specs.declared.reader.document_sink.DocumentSink.{DocumentSink}
 use Rattle.ufmt_doc.specs.declared.reader.open_blocks.PartialBlock.{PartialBlock}
 use Rattle.ufmt_doc.specs.Private.Growing.{Growing, block_at, block_of, dotted_block, field_from, grow, growing, grown, in_pairs, name_leaf}

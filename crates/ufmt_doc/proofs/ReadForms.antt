@@ -5,10 +5,10 @@ use Rattle.ufmt.specs.Layout.{layout, setting}
 use Rattle.ufmt_core.specs.declared.layout.Mode.{Mode}
 use Rattle.ufmt_core.specs.declared.layout.Mode.TheVariants.{Plain, Pretty}
 use Rattle.ufmt_core.specs.declared.layout.Setting.{Setting}
-use Rattle.ufmt.specs.declared.class.Class.{Class}
+use Rattle.ufmt_grammar.specs.declared.class.Class.{Class}
 use Rattle.ufmt.specs.Token.{IsDocument, normal}
-use Rattle.ufmt.proofs.NormalForms.{IsDocument-normal, layout-normal, normal-normal}
-use Rattle.ufmt.proofs.OneWay.{plain_text_determines, pretty_text_determines}
+use Rattle.ufmt_grammar.proofs.NormalForms.{IsDocument-normal, layout-normal, normal-normal}
+use Rattle.ufmt_grammar.proofs.OneWay.{plain_text_determines, pretty_text_determines}
 use Rattle.ufmt_doc.specs.Doc.{doc_document, Doc}
 use Rattle.ufmt_scan.specs.declared.error.ReadError.{ReadError}
 use Rattle.ufmt_scan.specs.Texts.{IsConvertedAs, IsNormalFormAs}

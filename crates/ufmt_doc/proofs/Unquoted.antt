@@ -5,7 +5,7 @@ use Rattle.std.proofs.lemmas.Str.{chars-encodes}
 use Rattle.ufmt.specs.Document.{leaf}
 use Rattle.ufmt.specs.Quoted.{IsQuote, IsQuoted, escaped_byte, escaped_bytes, quoted, quoted_text}
 use Rattle.ufmt.specs.Token.{IsSymbol}
-use Rattle.ufmt.proofs.QuotedComplete.{quoted-bytes}
+use Rattle.ufmt_grammar.proofs.QuotedComplete.{quoted-bytes}
 use Rattle.ufmt_doc.specs.Private.{AreSpelled}
 use Rattle.ufmt_scan.proofs.Spelled.{quote_ends, spelled_once}
 use Rattle.ufmt_doc.specs.Unquoted.{IsInQuotes}

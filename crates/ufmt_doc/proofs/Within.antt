@@ -6,9 +6,9 @@ use Rattle.std.specs.List.{AllByRecursion, AllWithin, HoldsAt}
 use Rattle.std.proofs.lemmas.Iterator.Search.{true_from_All}
 use Rattle.std.proofs.lemmas.List.Elements.{All-from_all_within, All-from_recursion, recursion_from_All}
 use Rattle.ufmt.specs.Document.{list_of, map_of, struct_of, non_exhaustive_of, tuple_of, documents, pairs_of, fields_of, Fields, no_fields, first_field}
-use Rattle.ufmt.specs.declared.class.Class.{Class}
+use Rattle.ufmt_grammar.specs.declared.class.Class.{Class}
 use Rattle.ufmt.specs.Token.{IsName, MayEndInDots}
-use Rattle.ufmt.proofs.ClassLeaves.{name_some}
+use Rattle.ufmt_grammar.proofs.ClassLeaves.{name_some}
 use Rattle.ufmt_doc.specs.declared.doc.Doc.TheVariants.{TupleOf}
 use Rattle.ufmt_doc.specs.Doc.{doc_document, Doc}
 use Rattle.ufmt_doc.specs.DocViews.{pair_view, field_view}

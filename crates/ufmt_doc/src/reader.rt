@@ -2,7 +2,7 @@
 ghost use Rattle.std.specs.Prelude.{IfOk, IsErrOf};
 ghost use Rattle.ufmt.specs.Layout.{layout, plain_text, pretty_text, setting};
 ghost use Rattle.ufmt_doc.specs.Doc.{doc_document};
-ghost use Rattle.ufmt.specs.declared.class.Class.TheVariants.{Debug};
+ghost use Rattle.ufmt_grammar.specs.declared.class.Class.TheVariants.{Debug};
 ghost use Rattle.ufmt_scan.specs.Texts.{IsNormalForm, IsNormalFormAs, NoDocumentPrints, NoDocumentPrintsAs};
 
 mod document_sink;

@@ -5,10 +5,10 @@ use Rattle.std.specs.Str.{chars}
 use Rattle.std.proofs.lemmas.Str.{IsUtf8-string_bytes, scalars-chars}
 use Rattle.ufmt.specs.Token.{IsBuilt, IsDebugDocument, IsTokenDocument}
 use Rattle.ufmt.specs.ValueDocuments.{string}
-use Rattle.ufmt.proofs.NumbersAreWords.{IsBuilt-integer}
-use Rattle.ufmt.proofs.ClassLeaves.{IsName-from}
-use Rattle.ufmt.proofs.ClassTokens.{tokens_are_debug}
-use Rattle.ufmt.specs.declared.class.Class.TheVariants.{Token}
+use Rattle.ufmt_grammar.proofs.NumbersAreWords.{IsBuilt-integer}
+use Rattle.ufmt_grammar.proofs.ClassLeaves.{IsName-from}
+use Rattle.ufmt_grammar.proofs.ClassTokens.{tokens_are_debug}
+use Rattle.ufmt_grammar.specs.declared.class.Class.TheVariants.{Token}
 use Rattle.ufmt_examples.specs.Alarm.{alarm_document}
 use Rattle.ufmt_examples.specs.declared.alarm.Alarm.{Alarm}
 

@@ -5,12 +5,12 @@ use Rattle.ufmt.specs.Decimal.{decimal}
 use Rattle.ufmt.specs.Document.{Document}
 use Rattle.ufmt.specs.Layout.{plain_text}
 use Rattle.ufmt.specs.Token.{IsTokenDocument, normal}
-use Rattle.ufmt.proofs.NumbersAreWords.{IsBuilt-integer}
+use Rattle.ufmt_grammar.proofs.NumbersAreWords.{IsBuilt-integer}
 use Rattle.ufmt_doc.specs.FieldTexts.{ShowsField}
 use Rattle.ufmt_doc.proofs.FieldTexts.{number_shown}
 use Rattle.ufmt_scan.specs.declared.error.ReadError.{ReadError}
-use Rattle.ufmt.proofs.ClassLeaves.{IsName-from}
-use Rattle.ufmt.specs.declared.class.Class.TheVariants.{Token}
+use Rattle.ufmt_grammar.proofs.ClassLeaves.{IsName-from}
+use Rattle.ufmt_grammar.specs.declared.class.Class.TheVariants.{Token}
 use Rattle.ufmt_user.specs.Logger.{measurement_document}
 use Rattle.ufmt_user.specs.declared.logger.Measurement.{Measurement}
 

@@ -2,12 +2,12 @@
 use Rattle.std.proofs.Common.{◌≡◌, ◌∙◌, ◌⊎◌, inl, inr, refl, ap, sym, subst, ℕ, zero, suc, ◌+◌, ◌≤◌, ◌==◌, ◌||◌, ◌&&◌, Bool, true, false, cond, List, [], ◌∷◌, ◌++◌, codes, append_assoc, append-nil, Some, None, eqb-true, nat_le, zero-add, arith}
 use Rattle.std.proofs.lemmas.Bool.Decides.{nat_tests}
 use Rattle.std.specs.Prelude.{⊤}
-use Rattle.ufmt.proofs.DottedStructs.{rest_text, rest_text-false, dotted_layout}
+use Rattle.ufmt_grammar.proofs.DottedStructs.{rest_text, rest_text-false, dotted_layout}
 use Rattle.ufmt.specs.Document.{Document, leaf, joined, list_of, set_of, map_of, struct_of, non_exhaustive_of, tuple_of, pretty_part, Documents, no_documents, first_document, Pairs, no_pairs, first_pair, Fields, no_fields, first_field}
 use Rattle.ufmt.specs.Layout.{Frame, frame, brace_space, indentation, inside, line_start, lead, later_lead, lone_comma, new_line, next, ending, trail, layout, block_tail, texts, pair_texts, field_texts}
 use Rattle.ufmt.specs.Leaves.{Place, outside, between, after_backslash, EndsLeaf, IsDebugText, IsDebugWord, has_quote, is_control, is_debug_byte, is_opening, is_quote, leads_on}
 use Rattle.ufmt.specs.Reading.{dots_text, last_dots}
-use Rattle.ufmt.specs.declared.class.Class.TheVariants.{Debug}
+use Rattle.ufmt_grammar.specs.declared.class.Class.TheVariants.{Debug}
 use Rattle.ufmt.specs.Token.{IsBuilt, AreBuilt, PairsAreBuilt, FieldsAreBuilt}
 use Rattle.ufmt_core.specs.declared.layout.Count.{Count}
 use Rattle.ufmt_core.specs.declared.layout.Count.TheVariants.{Zero, One, Several}

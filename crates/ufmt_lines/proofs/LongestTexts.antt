@@ -1,12 +1,12 @@
 -- The laws of outputs.
 use Rattle.std.proofs.Common.{◌≡◌, ◌∙◌, refl, ap, sym, inl, inr, ◌⊎◌, ℕ, ◌<◌, List, [], ◌∷◌, ◌++◌, append-nil, Bool, true, false, Some, None, option_map, length, arith, IsTrue}
-use Rattle.ufmt.proofs.NormalForms.{layout-normal}
-use Rattle.ufmt.proofs.ReadingWhole.{reads_each_text}
+use Rattle.ufmt_grammar.proofs.NormalForms.{layout-normal}
+use Rattle.ufmt_grammar.proofs.ReadingWhole.{reads_each_text}
 use Rattle.ufmt.specs.Document.{Document}
 use Rattle.ufmt.specs.Layout.{layout, setting}
 use Rattle.ufmt.specs.Reading.{read, read_rest}
 use Rattle.ufmt.specs.ReadingQuoted.{read_quoted}
-use Rattle.ufmt.specs.declared.class.Class.TheVariants.{Debug}
+use Rattle.ufmt_grammar.specs.declared.class.Class.TheVariants.{Debug}
 use Rattle.ufmt.specs.Token.{IsDebugDocument}
 use Rattle.ufmt_core.specs.declared.layout.Mode.{Mode}
 use Rattle.ufmt_core.specs.declared.layout.Mode.TheVariants.{Plain, Pretty}

@@ -3,11 +3,11 @@ use Rattle.std.proofs.Common.{◌≡◌, ◌∙◌, refl, ap, sym, ℕ, List, []
 use Rattle.std.proofs.lemmas.Bool.{false≢true, true≢false}
 use Rattle.std.proofs.lemmas.List.{drop_all, take_all, take_more}
 use Rattle.std.specs.Prelude.{⊤}
-use Rattle.ufmt.proofs.NormalForms.{layout-normal}
-use Rattle.ufmt.proofs.ReadingWhole.{reads_each_text, reads_only_texts}
+use Rattle.ufmt_grammar.proofs.NormalForms.{layout-normal}
+use Rattle.ufmt_grammar.proofs.ReadingWhole.{reads_each_text, reads_only_texts}
 use Rattle.ufmt.specs.Document.{Document}
 use Rattle.ufmt.specs.Layout.{layout, setting}
-use Rattle.ufmt.specs.declared.class.Class.TheVariants.{Debug}
+use Rattle.ufmt_grammar.specs.declared.class.Class.TheVariants.{Debug}
 use Rattle.ufmt.specs.Reading.{read_text}
 use Rattle.ufmt.specs.Token.{IsDebugDocument, normal}
 use Rattle.ufmt_core.specs.declared.layout.Mode.{Mode}

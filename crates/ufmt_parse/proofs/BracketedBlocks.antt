@@ -9,12 +9,12 @@ use Rattle.ufmt_core.specs.declared.layout.Kind.{Kind}
 use Rattle.ufmt_core.specs.declared.layout.Kind.TheVariants.{Brackets, Braces, Struct, Tuple, Unnamed}
 use Rattle.ufmt_core.specs.declared.layout.Mode.{Mode}
 use Rattle.ufmt_core.specs.declared.layout.Setting.{Setting}
-use Rattle.ufmt.specs.declared.class.Class.TheVariants.{Debug}
+use Rattle.ufmt_grammar.specs.declared.class.Class.TheVariants.{Debug}
 use Rattle.ufmt.specs.Leaves.{MayFollow}
 use Rattle.ufmt.specs.Reading.{strip}
-use Rattle.ufmt.proofs.BlocksComplete.{Closes, tail_follows}
-use Rattle.ufmt.proofs.FramesClose.{closes}
-use Rattle.ufmt.proofs.Parsing.{strip_joined}
+use Rattle.ufmt_grammar.proofs.BlocksComplete.{Closes, tail_follows}
+use Rattle.ufmt_grammar.proofs.FramesClose.{closes}
+use Rattle.ufmt_grammar.proofs.Parsing.{strip_joined}
 use Rattle.ufmt_parse.specs.declared.parser.Fault.{Fault}
 use Rattle.ufmt_parse.specs.declared.parser.Fault.TheVariants.{NotText}
 use Rattle.ufmt_parse.specs.Blocks.{AreSome, IsBracketed}

@@ -1,13 +1,13 @@
 -- What is left of a block is taken in parts: an entry's lead, the entry, its trail, and what is left then.
 use Rattle.std.proofs.Common.{◌≡◌, inl, inr, refl, sym, List, [], ◌∷◌, ℕ, codes, ◌++◌, ◌-◌, ◌<◌, ◌≤◌, Result, Ok, Err}
-use Rattle.ufmt.specs.declared.class.Class.TheVariants.{Debug}
+use Rattle.ufmt_grammar.specs.declared.class.Class.TheVariants.{Debug}
 use Rattle.ufmt.specs.Leaves.{MayFollow}
 use Rattle.ufmt.specs.Layout.{block_tail, frame, inside, lead, next, trail}
 use Rattle.ufmt_core.specs.declared.layout.Mode.{Mode}
 use Rattle.ufmt_core.specs.declared.layout.Kind.{Kind}
 use Rattle.ufmt_core.specs.declared.layout.Count.{Count}
-use Rattle.ufmt.proofs.BlocksComplete.{tail_follows}
-use Rattle.ufmt.proofs.FramesClose.{closes}
+use Rattle.ufmt_grammar.proofs.BlocksComplete.{tail_follows}
+use Rattle.ufmt_grammar.proofs.FramesClose.{closes}
 use Rattle.ufmt_parse.specs.declared.parser.Fault.{Fault}
 use Rattle.ufmt_parse.specs.declared.parser.Fault.TheVariants.{NotText}
 use Rattle.ufmt_parse.specs.Taking.{setting_in, DoesNotBegin, Takes}

@@ -5,7 +5,7 @@ use Rattle.ufmt.specs.Document.{Document, documents, fields_of, nest_all, nest_f
 use Rattle.ufmt.specs.Layout.{block_tail, field_texts, frame, inside, layout, texts, tuple_kind}
 use Rattle.ufmt.specs.Leaves.{IsWordOrEmpty}
 use Rattle.ufmt.specs.Token.{AreBuilt, FieldsAreBuilt}
-use Rattle.ufmt.specs.declared.class.Class.TheVariants.{Debug}
+use Rattle.ufmt_grammar.specs.declared.class.Class.TheVariants.{Debug}
 use Rattle.ufmt_core.specs.declared.layout.Count.TheVariants.{Zero}
 use Rattle.ufmt_core.specs.declared.layout.Kind.{Kind}
 use Rattle.ufmt_core.specs.declared.layout.Kind.TheVariants.{Struct}

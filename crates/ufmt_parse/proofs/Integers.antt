@@ -6,9 +6,9 @@ use Rattle.ufmt_core.specs.Document.{leaf}
 use Rattle.ufmt_core.specs.ValueDocuments.{integer}
 use Rattle.ufmt_core.proofs.DecimalTexts.{decimal-negative}
 use Rattle.ufmt.specs.Leaves.{IsDebugFollower}
-use Rattle.ufmt.proofs.ClassTokens.{tokens_are_debug}
-use Rattle.ufmt.proofs.NumbersAreWords.{IsBuilt-integer}
-use Rattle.ufmt.proofs.ReadingWords.{each_ender}
+use Rattle.ufmt_grammar.proofs.ClassTokens.{tokens_are_debug}
+use Rattle.ufmt_grammar.proofs.NumbersAreWords.{IsBuilt-integer}
+use Rattle.ufmt_grammar.proofs.ReadingWords.{each_ender}
 use Rattle.ufmt_parse.specs.Private.Digits.{after_digits, after_minus, begins_digit, begins_minus, begins_number, sign, value_after, FrontMagnitude, IsFront, IsSigned, SplitsSign}
 use Rattle.ufmt_parse.specs.Taking.{Fits, Takes}
 use Rattle.ufmt_parse.specs.declared.parser.Fault.TheVariants.{NotText}

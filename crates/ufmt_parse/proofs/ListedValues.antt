@@ -9,9 +9,9 @@ use Rattle.ufmt_core.specs.declared.layout.Kind.{Kind}
 use Rattle.ufmt_core.specs.declared.layout.Kind.TheVariants.{Braces, Brackets}
 use Rattle.ufmt_core.specs.declared.layout.Mode.{Mode}
 use Rattle.ufmt_core.specs.declared.layout.Setting.{Setting}
-use Rattle.ufmt.specs.declared.class.Class.TheVariants.{Debug}
+use Rattle.ufmt_grammar.specs.declared.class.Class.TheVariants.{Debug}
 use Rattle.ufmt.specs.Token.{AreBuilt, IsBuilt}
-use Rattle.ufmt.proofs.TextsBegin.{document_begins}
+use Rattle.ufmt_grammar.proofs.TextsBegin.{document_begins}
 use Rattle.ufmt_parse.specs.declared.parser.Fault.{Fault}
 use Rattle.ufmt_parse.specs.Blocks.{BeginsEntry, EntriesFit}
 use Rattle.ufmt_parse.specs.Taking.{Fits, Takes, setting_in}

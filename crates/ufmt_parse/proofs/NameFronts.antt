@@ -6,13 +6,13 @@ use Rattle.std.proofs.lemmas.List.{append_cancel_left}
 use Rattle.ufmt.specs.Document.{Document, leaf, joined, list_of, set_of, map_of, struct_of, non_exhaustive_of, tuple_of, pretty_part, no_documents, first_document, no_fields, first_field}
 use Rattle.ufmt.specs.Layout.{layout}
 use Rattle.ufmt_core.specs.declared.layout.Setting.{Setting}
-use Rattle.ufmt.specs.declared.class.Class.TheVariants.{Debug}
+use Rattle.ufmt_grammar.specs.declared.class.Class.TheVariants.{Debug}
 use Rattle.ufmt.specs.Leaves.{EndsLeaf, IsDebugFollower, IsWord, MayFollow, is_ender, is_word_byte, outside, place_after}
 use Rattle.ufmt.specs.Reading.{leaf_from}
 use Rattle.ufmt.specs.Token.{IsBuilt}
-use Rattle.ufmt.proofs.ClassLeaves.{name_some}
-use Rattle.ufmt.proofs.DebugLeaves.{StopsLeaf, leaf_from-append}
-use Rattle.ufmt.proofs.ReadingWords.{each_ender}
+use Rattle.ufmt_grammar.proofs.ClassLeaves.{name_some}
+use Rattle.ufmt_grammar.proofs.DebugLeaves.{StopsLeaf, leaf_from-append}
+use Rattle.ufmt_grammar.proofs.ReadingWords.{each_ender}
 use Rattle.ufmt_parse.specs.Naming.{begins_space, document_name, ends_name, is_past_name}
 use Rattle.ufmt_parse.specs.Taking.{DoesNotBegin}
 use Rattle.ufmt_parse.proofs.Words.{word_is_name}

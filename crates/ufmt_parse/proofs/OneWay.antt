@@ -5,10 +5,10 @@ use Rattle.ufmt_core.specs.Document.{Document, documents, list_of}
 use Rattle.ufmt_core.specs.Layout.{layout}
 use Rattle.ufmt_core.specs.declared.layout.Mode.{Mode}
 use Rattle.ufmt_core.specs.declared.layout.Mode.TheVariants.{Plain, Pretty}
-use Rattle.ufmt.specs.declared.class.Class.TheVariants.{Debug}
+use Rattle.ufmt_grammar.specs.declared.class.Class.TheVariants.{Debug}
 use Rattle.ufmt.specs.Leaves.{MayFollow}
 use Rattle.ufmt.specs.Token.{normal, normal_all}
-use Rattle.ufmt.proofs.OneWay.{plain_reads_one_way, pretty_reads_one_way}
+use Rattle.ufmt_grammar.proofs.OneWay.{plain_reads_one_way, pretty_reads_one_way}
 use Rattle.ufmt_parse.specs.declared.parser.Fault.{Fault}
 use Rattle.ufmt_parse.specs.declared.parser.Fault.TheVariants.{NotText, OutOfMemory}
 use Rattle.ufmt_parse.specs.Taking.{Fits, Takes, setting_in}

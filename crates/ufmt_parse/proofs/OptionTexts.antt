@@ -6,7 +6,7 @@ use Rattle.ufmt.specs.Document.{Document, documents, tuple_of}
 use Rattle.ufmt.specs.Layout.{layout}
 use Rattle.ufmt.specs.ValueDocuments.{option_document}
 use Rattle.ufmt.specs.Leaves.{MayFollow}
-use Rattle.ufmt.specs.declared.class.Class.TheVariants.{Debug}
+use Rattle.ufmt_grammar.specs.declared.class.Class.TheVariants.{Debug}
 use Rattle.ufmt_core.specs.declared.layout.Mode.{Mode}
 use Rattle.ufmt_core.specs.declared.layout.Setting.{Setting}
 use Rattle.ufmt_parse.specs.declared.parser.Fault.{Fault}

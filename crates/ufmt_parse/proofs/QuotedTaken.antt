@@ -8,9 +8,9 @@ use Rattle.ufmt_core.specs.Document.{leaf}
 use Rattle.ufmt.specs.Quoted.{IsQuoted, escaped_bytes, quoted_char, quoted_text}
 use Rattle.ufmt.specs.Reading.{strip}
 use Rattle.ufmt_core.proofs.QuotedCharacters.{quoted_text-parts}
-use Rattle.ufmt.proofs.Parsing.{strip_found}
-use Rattle.ufmt.proofs.ClassTokens.{tokens_are_debug}
-use Rattle.ufmt.proofs.QuotedOneWay.{quoted_char_determines}
+use Rattle.ufmt_grammar.proofs.Parsing.{strip_found}
+use Rattle.ufmt_grammar.proofs.ClassTokens.{tokens_are_debug}
+use Rattle.ufmt_grammar.proofs.QuotedOneWay.{quoted_char_determines}
 use Rattle.ufmt_parse.specs.Blocks.{outcome_map}
 use Rattle.ufmt_parse.specs.Spelling.{NeverCloses}
 use Rattle.ufmt_parse.specs.Taking.{Fits, Takes}

@@ -3,7 +3,7 @@ use Rattle.std.proofs.Common.{◌≡◌, refl, ap, subst, ℕ, suc, ◌+◌, ◌
 use Rattle.ufmt.specs.Layout.{entry_depth, inside, setting}
 use Rattle.ufmt_core.specs.declared.layout.Mode.{Mode}
 use Rattle.ufmt_core.specs.declared.layout.Mode.TheVariants.{Plain, Pretty}
-use Rattle.ufmt.proofs.FramesClose.{Fits}
+use Rattle.ufmt_grammar.proofs.FramesClose.{Fits}
 use Rattle.ufmt_parse.specs.Taking.{depth_in, setting_in}
 
 entry_depth-in : (mode : Mode) (blocks : ℕ) → 0 < blocks → blocks ≤ 255 → entry_depth mode (depth_in mode (blocks - 1)) ≡ depth_in mode blocks

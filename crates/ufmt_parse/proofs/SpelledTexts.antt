@@ -3,7 +3,7 @@ use Rattle.std.proofs.Common.{◌≡◌, inl, refl, sym, ap, ◌∙◌, ℕ, Lis
 use Rattle.std.proofs.lemmas.List.{take-append-drop}
 use Rattle.ufmt.specs.Quoted.{escaped_byte, escaped_bytes, unescaped_len}
 use Rattle.ufmt.specs.Reading.{strip}
-use Rattle.ufmt.proofs.Parsing.{strip_found}
+use Rattle.ufmt_grammar.proofs.Parsing.{strip_found}
 use Rattle.ufmt_parse.specs.Spelling.{all_plain}
 use Rattle.ufmt_parse.proofs.PlainBytes.{plain_itself}
 use Rattle.ufmt_scan.proofs.Spelled.{escaped_bytes-append, quote_ends, same_bytes, stretch_itself}

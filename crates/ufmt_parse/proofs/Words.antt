@@ -1,10 +1,10 @@
 -- Words as leaves and names of debug documents.
 use Rattle.std.proofs.Common.{List, [], ◌∷◌, ℕ, inl, arith}
 use Rattle.ufmt.specs.Document.{leaf, tuple_of, no_documents}
-use Rattle.ufmt.specs.declared.class.Class.TheVariants.{Debug}
+use Rattle.ufmt_grammar.specs.declared.class.Class.TheVariants.{Debug}
 use Rattle.ufmt.specs.Leaves.{IsName, IsWord, IsWordOrEmpty, OrEmpty}
 use Rattle.ufmt.specs.Token.{IsBuilt}
-use Rattle.ufmt.proofs.ClassTokens.{tokens_are_debug}
+use Rattle.ufmt_grammar.proofs.ClassTokens.{tokens_are_debug}
 
 pub word_is_leaf : (word : List ℕ) → IsWord word → IsBuilt Debug (leaf word)
 word_is_leaf word is = (tokens_are_debug (leaf word) (record { shape = inl is }, omega arith)).0

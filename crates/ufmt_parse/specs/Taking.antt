@@ -3,7 +3,7 @@ use Rattle.std.specs.Prelude.{◌≡◌, ◌≢◌, ℕ, ◌+◌, ◌≤◌, Boo
 use Rattle.ufmt.specs.Document.{Document, nest}
 use Rattle.ufmt.specs.Layout.{layout}
 use Rattle.ufmt_core.specs.declared.layout.Mode.{Mode}
-use Rattle.ufmt.specs.declared.class.Class.TheVariants.{Debug}
+use Rattle.ufmt_grammar.specs.declared.class.Class.TheVariants.{Debug}
 use Rattle.ufmt.specs.Leaves.{IsWord, MayFollow}
 use Rattle.ufmt.specs.Token.{IsBuilt}
 pub use Rattle.ufmt_scan.specs.Depth.{depth_in, setting_in}

@@ -4,7 +4,7 @@ ghost use Rattle.ufmt.specs.Document.{Document};
 ghost use Rattle.ufmt.specs.Layout.{layout, plain_text, pretty_text, setting};
 ghost use Rattle.ufmt.specs.Leaves.{MayFollow};
 ghost use Rattle.ufmt.specs.Token.{IsDebugDocument, normal};
-ghost use Rattle.ufmt.specs.declared.class.Class.TheVariants.{Debug};
+ghost use Rattle.ufmt_grammar.specs.declared.class.Class.TheVariants.{Debug};
 
 use crate::error::ParseError;
 use crate::from_front::uParse;

@@ -6,7 +6,7 @@ use Rattle.std.specs.declared.alloc.AllocError.{AllocError}
 use Rattle.ufmt.proofs.Fronts.{fronts_refused, fronts_whole, keeps_length}
 use Rattle.ufmt.specs.Cursor.{cursor_seen, unwritten_bytes, written_bytes}
 use Rattle.ufmt.specs.Document.{Document}
-use Rattle.ufmt.specs.declared.class.Class.{Class}
+use Rattle.ufmt_grammar.specs.declared.class.Class.{Class}
 use Rattle.ufmt.specs.declared.cursor.Cursor.{Cursor}
 use Rattle.ufmt.specs.declared.cursor.Full.{Full}
 use Rattle.ufmt_scan.specs.Private.Growing.{growing_seen, growing_text}

@@ -12,11 +12,11 @@ use Rattle.ufmt.specs.Reading.{choose, leaf_from, after_leaf, last_place, is_out
 use Rattle.ufmt.specs.Document.{leaf}
 use Rattle.ufmt.specs.Quoted.{IsQuote, IsQuoted, quoted}
 use Rattle.ufmt.specs.ReadingQuoted.{read_quoted}
-use Rattle.ufmt.proofs.ClassTokens.{tokens_are_debug}
-use Rattle.ufmt.proofs.DebugLeaves.{StopsLeaf, after_leaf-append, kept_alone, last_is_outside, leaf_from-append, stopped}
-use Rattle.ufmt.proofs.QuotedComplete.{quoted-bytes}
-use Rattle.ufmt.proofs.QuotedSound.{read_quoted-sound}
-use Rattle.ufmt.specs.declared.class.Class.TheVariants.{Debug}
+use Rattle.ufmt_grammar.proofs.ClassTokens.{tokens_are_debug}
+use Rattle.ufmt_grammar.proofs.DebugLeaves.{StopsLeaf, after_leaf-append, kept_alone, last_is_outside, leaf_from-append, stopped}
+use Rattle.ufmt_grammar.proofs.QuotedComplete.{quoted-bytes}
+use Rattle.ufmt_grammar.proofs.QuotedSound.{read_quoted-sound}
+use Rattle.ufmt_grammar.specs.declared.class.Class.TheVariants.{Debug}
 use Rattle.ufmt.specs.Reading.{is_whole}
 use Rattle.ufmt_scan.specs.declared.front.Front.{Front}
 use Rattle.ufmt_scan.specs.Private.Fronts.{EndsLeaf, IsSplit, Passes, StaysBetween, StopsWord, colon_belongs, is_ending}

@@ -5,10 +5,10 @@ use Rattle.ufmt_core.specs.declared.layout.Count.{Count}
 use Rattle.ufmt_core.specs.declared.layout.Count.TheVariants.{Zero}
 use Rattle.ufmt_core.specs.declared.layout.Kind.{Kind}
 use Rattle.ufmt_core.specs.declared.layout.Setting.{Setting}
-use Rattle.ufmt.specs.declared.class.Class.{Class}
+use Rattle.ufmt_grammar.specs.declared.class.Class.{Class}
 use Rattle.ufmt.specs.Reading.{strip, read_name, read_pair}
-use Rattle.ufmt.proofs.Parsing.{strip-append, strip_found}
-use Rattle.ufmt.proofs.ReadingTurns.{Takes, strip_within, read_takes, read_pair_takes, read_name_takes}
+use Rattle.ufmt_grammar.proofs.Parsing.{strip-append, strip_found}
+use Rattle.ufmt_grammar.proofs.ReadingTurns.{Takes, strip_within, read_takes, read_pair_takes, read_name_takes}
 use Rattle.ufmt_scan.proofs.Strips.{if_any-next}
 use Rattle.ufmt_scan.specs.Private.Level.{budget_of, entry_at, entry_of, setting_at, Level}
 

@@ -10,11 +10,11 @@ use Rattle.ufmt_core.specs.declared.layout.Kind.TheVariants.{Brackets, Braces, S
 use Rattle.ufmt_core.specs.declared.layout.Mode.{Mode}
 use Rattle.ufmt_core.specs.declared.layout.Mode.TheVariants.{Plain, Pretty}
 use Rattle.ufmt_core.specs.declared.layout.Setting.{Setting}
-use Rattle.ufmt.specs.declared.class.Class.{Class}
+use Rattle.ufmt_grammar.specs.declared.class.Class.{Class}
 use Rattle.ufmt.specs.Token.{IsBuilt, AreBuilt, PairsAreBuilt, FieldsAreBuilt}
 use Rattle.ufmt_scan.specs.Scan.{TextEvent, events_of, tail_events, block_events, events_of_entries, events_of_pairs, events_of_fields, Leaf, Empty, OnlyDots}
-use Rattle.ufmt.proofs.ClassLeaves.{name_some}
-use Rattle.ufmt.proofs.DottedStructs.{dotted_layout, rest_text, rest_text-false}
+use Rattle.ufmt_grammar.proofs.ClassLeaves.{name_some}
+use Rattle.ufmt_grammar.proofs.DottedStructs.{dotted_layout, rest_text, rest_text-false}
 use Rattle.ufmt.specs.Reading.{last_dots}
 use Rattle.ufmt_scan.specs.ScanTexts.{block_depth, written, setting_after, texts_written, last_setting}
 

@@ -1,7 +1,7 @@
 -- Steps of a scan in its open blocks.
 use Rattle.std.proofs.Common.{◌≡◌, ◌⊎◌, inl, inr, ap, get_or, refl, sym, ℕ, ◌+◌, ◌<◌, List, ◌∷◌, length, Option, Some, None, Result, Ok, Err, arith}
 use Rattle.std.specs.Borrow.{Bor}
-use Rattle.ufmt.specs.declared.class.Class.{Class}
+use Rattle.ufmt_grammar.specs.declared.class.Class.{Class}
 use Rattle.ufmt.specs.Reading.{Parse, parse_map, read}
 use Rattle.ufmt_core.specs.declared.layout.Kind.TheVariants.{Struct}
 use Rattle.ufmt_core.specs.declared.layout.Mode.{Mode}

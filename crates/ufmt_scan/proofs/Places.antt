@@ -4,14 +4,14 @@ use Rattle.std.proofs.Math.Nat.{zero-add}
 use Rattle.std.proofs.lemmas.List.{length-append}
 use Rattle.ufmt.specs.Document.{Document}
 use Rattle.ufmt.specs.Layout.{layout, setting}
-use Rattle.ufmt.specs.declared.class.Class.{Class}
+use Rattle.ufmt_grammar.specs.declared.class.Class.{Class}
 use Rattle.ufmt.specs.Reading.{parse_map, read}
 use Rattle.ufmt.specs.Token.{IsDocument, MayFollow, normal}
-use Rattle.ufmt.proofs.ClassLeaves.{nothing_follows}
-use Rattle.ufmt.proofs.FramesClose.{Fits}
-use Rattle.ufmt.proofs.NormalForms.{IsDocument-normal, layout-normal}
-use Rattle.ufmt.proofs.Parsing.{same_parts}
-use Rattle.ufmt.proofs.ReadingComplete.{read_complete}
+use Rattle.ufmt_grammar.proofs.ClassLeaves.{nothing_follows}
+use Rattle.ufmt_grammar.proofs.FramesClose.{Fits}
+use Rattle.ufmt_grammar.proofs.NormalForms.{IsDocument-normal, layout-normal}
+use Rattle.ufmt_grammar.proofs.Parsing.{same_parts}
+use Rattle.ufmt_grammar.proofs.ReadingComplete.{read_complete}
 use Rattle.ufmt_core.specs.declared.layout.Mode.TheVariants.{Plain, Pretty}
 use Rattle.ufmt_core.specs.declared.layout.Mode.{Mode}
 use Rattle.ufmt_scan.proofs.EventTexts.{events_written, last_setting-append, texts_written-append}

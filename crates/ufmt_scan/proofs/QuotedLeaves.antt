@@ -10,14 +10,14 @@ use Rattle.ufmt_core.proofs.QuotedCharacters.{escaped_all-bytes}
 use Rattle.std.proofs.lemmas.List.{take-append-drop}
 use Rattle.std.proofs.lemmas.Str.Ascii.{IsAscii-cons, IsAscii-nil}
 use Rattle.ufmt.specs.Reading.{strip}
-use Rattle.ufmt.proofs.Parsing.{strip_found}
+use Rattle.ufmt_grammar.proofs.Parsing.{strip_found}
 use Rattle.ufmt_scan.specs.Private.MarkedBytes.{is_marked, marked_len}
 use Rattle.ufmt_scan.specs.declared.quoted.TheConstants.{PLAIN_ASCII}
 use Rattle.ufmt.specs.Quoted.{IsQuote, IsQuoted, escape, escaped, escaped_all, escaped_byte, escaped_bytes, quoted}
 use Rattle.ufmt.specs.ReadingQuoted.{read_quoted}
-use Rattle.ufmt.proofs.QuotedComplete.{length-escaped_bytes, quoted-bytes, read_quoted-complete}
-use Rattle.ufmt.proofs.QuotedSound.{read_quoted-sound}
-use Rattle.ufmt.proofs.QuotedUtf8.{quoted-utf8}
+use Rattle.ufmt_grammar.proofs.QuotedComplete.{length-escaped_bytes, quoted-bytes, read_quoted-complete}
+use Rattle.ufmt_grammar.proofs.QuotedSound.{read_quoted-sound}
+use Rattle.ufmt_grammar.proofs.QuotedUtf8.{quoted-utf8}
 use Rattle.ufmt_scan.specs.Private.Spelled.{Closes, IsOneCharacter, NeverCloses}
 use Rattle.ufmt_scan.proofs.Characters.{Written, ascii, past_ascii, length-led, is_written}
 use Rattle.ufmt_scan.proofs.Spelled.{quote_ends, same_bytes, spelled_once}

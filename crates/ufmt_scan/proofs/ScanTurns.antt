@@ -6,7 +6,7 @@ use Rattle.ufmt_core.specs.declared.layout.Count.{Count}
 use Rattle.ufmt_core.specs.declared.layout.Count.TheVariants.{One, Several}
 use Rattle.ufmt_core.specs.declared.layout.Kind.{Kind}
 use Rattle.ufmt.specs.Reading.{Parse, Rest, choose, parse_map, strip, with_entry, read_after_entry, read_after_first, read_end, read_further, read_others, read_turn}
-use Rattle.ufmt.proofs.ReadingTurns.{Takes, read_others-read_turn}
+use Rattle.ufmt_grammar.proofs.ReadingTurns.{Takes, read_others-read_turn}
 use Rattle.ufmt.proofs.Shifting.{lead-next}
 use Rattle.ufmt_core.proofs.Counts.{next-next}
 use Rattle.ufmt_scan.specs.Scan.{TextEvent, events_of, tail_events, Close, Dots, Next}

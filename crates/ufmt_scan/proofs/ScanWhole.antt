@@ -3,10 +3,10 @@ use Rattle.std.proofs.Common.{◌≡◌, refl, ap, subst, sym, ◌∙◌, ℕ, �
 use Rattle.std.specs.Prelude.{⊤}
 use Rattle.ufmt.specs.Document.{Document}
 use Rattle.ufmt.specs.Layout.{layout, setting}
-use Rattle.ufmt.specs.declared.class.Class.{Class}
+use Rattle.ufmt_grammar.specs.declared.class.Class.{Class}
 use Rattle.ufmt.specs.Reading.{if_all, parse_map, read, read_text}
-use Rattle.ufmt.proofs.Parsing.{mapped_from, same_parts}
-use Rattle.ufmt.proofs.ReadingWhole.{reads_each_text, reads_only_texts, refuses_only_unprinted}
+use Rattle.ufmt_grammar.proofs.Parsing.{mapped_from, same_parts}
+use Rattle.ufmt_grammar.proofs.ReadingWhole.{reads_each_text, reads_only_texts, refuses_only_unprinted}
 use Rattle.ufmt_core.specs.declared.layout.Mode.{Mode}
 use Rattle.ufmt_scan.specs.declared.scan.event.ScanError.TheVariants.{NotText, Sink}
 use Rattle.ufmt_scan.specs.Private.Scanning.{ScansOn, Stops, Emits, Scanned, prefixed}

@@ -2,7 +2,7 @@
 use Rattle.std.proofs.Common.{◌≡◌, refl, ap, subst, ◌∙◌, ℕ, zero, suc, ◌<◌, ◌+◌, ◌-◌, min, List, [], ◌∷◌, ◌++◌, append_assoc, append-nil, length, sym, Option, Some, None, Result, Ok, Err, IsErrAnd, codes, option_and_then, arith}
 use Rattle.std.specs.Borrow.{Bor}
 use Rattle.ufmt.specs.Layout.{inside, setting}
-use Rattle.ufmt.specs.declared.class.Class.{Class}
+use Rattle.ufmt_grammar.specs.declared.class.Class.{Class}
 use Rattle.ufmt.specs.Reading.{Parse, parse_map, read, read_name, read_value, strip}
 use Rattle.ufmt_core.specs.declared.layout.Mode.{Mode}
 use Rattle.ufmt_core.specs.declared.layout.Mode.TheVariants.{Plain, Pretty}

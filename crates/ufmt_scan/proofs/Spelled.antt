@@ -7,9 +7,9 @@ use Rattle.ufmt.specs.Quoted.{IsQuote, escape, escaped_byte, escaped_bytes, unes
 use Rattle.ufmt.specs.Reading.{strip}
 use Rattle.ufmt.specs.ReadingQuoted.{read_escaped, decoded}
 use Rattle.ufmt_core.proofs.QuotedBytes as core
-use Rattle.ufmt.proofs.Parsing.{same_parts, strip_found, strip_of_front, strip_joined}
-use Rattle.ufmt.proofs.QuotedComplete.{escaped-no_quote, length-escaped, quote_ascii, read_escaped-complete}
-use Rattle.ufmt.proofs.QuotedDecoded.{decoded-escaped}
+use Rattle.ufmt_grammar.proofs.Parsing.{same_parts, strip_found, strip_of_front, strip_joined}
+use Rattle.ufmt_grammar.proofs.QuotedComplete.{escaped-no_quote, length-escaped, quote_ascii, read_escaped-complete}
+use Rattle.ufmt_grammar.proofs.QuotedDecoded.{decoded-escaped}
 use Rattle.ufmt_scan.specs.Private.Spelled.{Closes, IsSpelled, NeverCloses}
 
 pub escaped_byte_is : (q b : ℕ) (e : List ℕ) → Some e ≡ escape q b → escaped_byte q b ≡ e

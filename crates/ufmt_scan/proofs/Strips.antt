@@ -4,8 +4,8 @@ use Rattle.ufmt.specs.Layout.{if_any, indentation, next}
 use Rattle.ufmt_core.specs.declared.layout.Count.{Count}
 use Rattle.ufmt_core.specs.declared.layout.Count.TheVariants.{Zero, One, Several}
 use Rattle.ufmt.specs.Reading.{strip}
-use Rattle.ufmt.proofs.Parsing.{strip_of_front, strip_of_none}
-pub use Rattle.ufmt.proofs.Parsing.{strip-append}
+use Rattle.ufmt_grammar.proofs.Parsing.{strip_of_front, strip_of_none}
+pub use Rattle.ufmt_grammar.proofs.Parsing.{strip-append}
 use Rattle.ufmt_scan.specs.Rest.{now_of}
 
 -- a function strips a text if it returns what follows the text, or else `None`

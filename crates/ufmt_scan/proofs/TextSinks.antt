@@ -6,11 +6,11 @@ use Rattle.ufmt.specs.Document.{Document}
 use Rattle.ufmt.specs.Layout.{layout, setting}
 use Rattle.ufmt_core.specs.declared.layout.Mode.{Mode}
 use Rattle.ufmt_core.specs.declared.layout.Mode.TheVariants.{Plain, Pretty}
-use Rattle.ufmt.specs.declared.class.Class.{Class}
+use Rattle.ufmt_grammar.specs.declared.class.Class.{Class}
 use Rattle.ufmt.specs.Token.{IsDocument, normal}
 use Rattle.ufmt.specs.Writes.{Seen, Writes}
-use Rattle.ufmt.proofs.NormalForms.{IsDocument-normal, layout-normal, normal-normal}
-use Rattle.ufmt.proofs.OneWay.{texts_agree}
+use Rattle.ufmt_grammar.proofs.NormalForms.{IsDocument-normal, layout-normal, normal-normal}
+use Rattle.ufmt_grammar.proofs.OneWay.{texts_agree}
 use Rattle.ufmt_core.proofs.Writing.{Writes-fails, Writes-then}
 use Rattle.ufmt_scan.specs.declared.convert.text_sink.TextSink.{TextSink}
 use Rattle.ufmt_scan.specs.declared.scan.event.ScanError.TheVariants.{NotText, Sink}

@@ -1,7 +1,7 @@
 //! Conversions of plain texts to pretty ones and back. Those with `debug` in their name convert the texts
 //! of debug documents, the others those of token documents.
 ghost use Rattle.ufmt.specs.Layout.{layout, plain_text, pretty_text, setting};
-ghost use Rattle.ufmt.specs.declared.class.Class.TheVariants.{Debug};
+ghost use Rattle.ufmt_grammar.specs.declared.class.Class.TheVariants.{Debug};
 ghost use Rattle.ufmt_scan.specs.Texts.{Converts, ConvertsAs, ConvertsInto, ConvertsIntoAs, ConvertsTo, ConvertsToAs};
 
 mod growing;

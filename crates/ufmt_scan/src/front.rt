@@ -1,6 +1,6 @@
 //! The name or the leaf at the front of a text.
 ghost use Rattle.std.specs.Prelude.{◌≡◌, ◌≢◌, [], List, ℕ, IfSome, false, option_map};
-ghost use Rattle.ufmt.specs.declared.class.Class.TheVariants.{Token};
+ghost use Rattle.ufmt_grammar.specs.declared.class.Class.TheVariants.{Token};
 ghost use Rattle.ufmt.specs.Reading.{read_name};
 ghost use Rattle.ufmt_scan.specs.Private.Fronts.{IsSplit, SplitsFront};
 

@@ -1,7 +1,7 @@
 //! A law of conversions, as the contract of a function.
 ghost use Rattle.std.specs.Prelude.{◌≡◌, List, ℕ};
 ghost use Rattle.ufmt.specs.Document.{Document};
-ghost use Rattle.ufmt.specs.declared.class.Class.{Class};
+ghost use Rattle.ufmt_grammar.specs.declared.class.Class.{Class};
 ghost use Rattle.ufmt_scan.specs.Texts.{IsConvertedAs, NoDocumentPrintsAs};
 
 /// A text that was converted is converted back to the text that it was, and is never refused.

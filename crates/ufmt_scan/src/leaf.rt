@@ -1,6 +1,6 @@
 //! Leaves: words, `()`, and texts in quotes.
 ghost use Rattle.std.specs.Prelude.{◌≡◌, ◌≤◌, ◌+◌, ◌↔◌, IsTrue, drop, length, option_map};
-ghost use Rattle.ufmt.specs.declared.class.Class.TheVariants.{Token};
+ghost use Rattle.ufmt_grammar.specs.declared.class.Class.TheVariants.{Token};
 ghost use Rattle.ufmt.specs.Leaves.{IsDebugLeaf};
 ghost use Rattle.ufmt.specs.Token.{IsLeaf, IsName, IsSymbol, IsTokenLeaf, IsWord};
 ghost use Rattle.ufmt.specs.Reading.{after_word, read_quotes, read_symbol, word_of};

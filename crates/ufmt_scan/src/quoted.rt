@@ -112,7 +112,7 @@ pub fn character_len(lead: u8) -> usize
 /// Decodes the first byte of what is written between these quotes. Returns it with what follows, or
 /// `None` if the input begins with no byte's spelling. `quote` is a quotation mark or apostrophe.
 #[inline(always)]
-#[tactic(auto, using(crate::proofs::Spelled::no_other, ufmt::proofs::Parsing::strip_found))]
+#[tactic(auto, using(crate::proofs::Spelled::no_other, ufmt_grammar::proofs::Parsing::strip_found))]
 pub fn split_escaped(quote: u8, input: &[u8]) -> Option<(u8, &[u8])>
     requires { IsQuote quote }
     ensures some { IfSome result (λ x. input.now ≡ escaped_byte quote x.0 ++ x.1.now) }

@@ -9,7 +9,7 @@ ghost use Rattle.ufmt.specs.declared.decimal.Decimal.{Decimal};
 ghost use Rattle.ufmt.specs.declared.hex.HexOptions.{HexOptions};
 ghost use Rattle.ufmt.specs.FixedPoint.{EachFixedIsDenoted, OneFixedIsDenoted, fixed};
 ghost use Rattle.ufmt.specs.declared.radix.Radix.TheVariants.{Binary, Octal};
-ghost use Rattle.ufmt.specs.Leaves.{Debug, IsLeaf};
+ghost use Rattle.ufmt_grammar.specs.Leaves.{Debug, IsLeaf};
 ghost use Rattle.ufmt.specs.Pieces.{column, each, pieces_text, text};
 ghost use Rattle.ufmt.specs.Radix.{EachNumberIsDenoted, IsPadded, OneNumberIsDenoted, OneTextDenotes, PrintsBitsInRadix, PrintsInRadix, padded_after};
 ghost use Rattle.ufmt.specs.Zeros.{IsZeroPadded, PrintsSignAndZeros, PrintsZeros, zero_padded};

@@ -2,7 +2,7 @@
 ghost use Rattle.std.specs.List.{AllByRecursion, AllZip};
 ghost use Rattle.std.specs.Prelude.{◌≡◌, ◌↔◌, ◌<◌, ◌-◌, ℕ, IsTrue, string_bytes};
 ghost use Rattle.ufmt.specs.Layout.{plain_text, pretty_text};
-ghost use Rattle.ufmt.specs.declared.class.Class.{Class};
+ghost use Rattle.ufmt_grammar.specs.declared.class.Class.{Class};
 ghost use Rattle.ufmt.specs.Token.{IsDocument, IsName, MayEndInDots, normal};
 ghost use Rattle.ufmt_doc.specs.Doc.{doc_document};
 ghost use Rattle.ufmt_doc.specs.Parts.{leaf_part};

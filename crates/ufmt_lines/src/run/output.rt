@@ -3,7 +3,7 @@
 ghost use Rattle.std.specs.Prelude.{◌≡◌, ◌⊎◌, ◌<◌, ◌≤◌, ◌+◌, ◌-◌, ◌++◌, [], ◌∷◌, List, ℕ, true, IfSome, IsNone, OnOk, Some, drop, is_some, length, slice_index, take, zero};
 ghost use Rattle.ufmt.specs.Layout.{layout, setting};
 ghost use Rattle.ufmt.specs.Leaves.{is_opening, outside};
-ghost use Rattle.ufmt.specs.declared.class.Class.TheVariants.{Debug};
+ghost use Rattle.ufmt_grammar.specs.declared.class.Class.TheVariants.{Debug};
 ghost use Rattle.ufmt_scan.specs.Texts.{ConvertsToAs};
 ghost use Rattle.ufmt_lines.specs.Private.Blocks.{AreLeft, IsFirstFrom};
 ghost use Rattle.ufmt_lines.specs.Private.Brackets.{ArePlain, HasNoGap, NoneBefore, SameFrom, closing, ends_closed, gaps_between, may_begin_at, pending};

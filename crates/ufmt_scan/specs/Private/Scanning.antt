@@ -8,7 +8,7 @@ use Rattle.ufmt_core.specs.declared.layout.Count.TheVariants.{Zero, One, Several
 use Rattle.ufmt_core.specs.declared.layout.Kind.{Kind}
 use Rattle.ufmt_core.specs.declared.layout.Kind.TheVariants as kinds
 use Rattle.ufmt_core.specs.declared.layout.Mode.{Mode}
-use Rattle.ufmt.specs.declared.class.Class.{Class}
+use Rattle.ufmt_grammar.specs.declared.class.Class.{Class}
 use Rattle.ufmt.specs.Reading.{Parse, Dots, Rest, choose, no_dots, parse_map, strip, strip_dots, read, read_named, read_without_name, read_name, read_pair, read_others}
 use Rattle.ufmt_scan.specs.declared.scan.event.Event.TheVariants as events
 use Rattle.ufmt_scan.specs.declared.scan.event.ScanError.TheVariants.{NotText, Sink}

@@ -1,5 +1,5 @@
 use Rattle.std.proofs.Common.{rules}
-use Rattle.ufmt.proofs.Shifting.{shifted-pretty_text}
+use Rattle.ufmt_core.proofs.Shifting.{shifted-pretty_text}
 use Rattle.ufmt.proofs.print.pretty_text.Goals as goal
 
 pub returns-clause-shifted : goal.returns-clause-shifted

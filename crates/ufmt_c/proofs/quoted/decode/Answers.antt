@@ -1,6 +1,6 @@
 use Rattle.std.proofs.Common.{rules, ap, length, length-append, [], ◌∷◌, ◌++◌, ◌+◌, ◌∙◌, sym}
 use Rattle.ufmt.specs.Quoted.{escaped_bytes}
-use Rattle.ufmt.proofs.QuotedComplete.{length-escaped_bytes}
+use Rattle.ufmt_grammar.proofs.QuotedComplete.{length-escaped_bytes}
 use Rattle.ufmt_c.proofs.Puts.{as_reported}
 use Rattle.ufmt_c.proofs.Unquoting.{decoded_more}
 use Rattle.ufmt_c.proofs.quoted.decode.Goals as goal

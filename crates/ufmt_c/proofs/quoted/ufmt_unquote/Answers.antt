@@ -2,7 +2,7 @@ use Rattle.std.proofs.Common.{◌≡◌, rules, refl, ap, sym, ◌∙◌, [], �
 use Rattle.std.specs.Prelude.{◌==◌}
 use Rattle.std.proofs.lemmas.List.{nil_from_length}
 use Rattle.ufmt.specs.Quoted.{escaped_bytes}
-use Rattle.ufmt.proofs.Parsing.{strip_found}
+use Rattle.ufmt_grammar.proofs.Parsing.{strip_found}
 use Rattle.ufmt_c.specs.Quotes.{StopsAt, UnquotesText}
 use Rattle.ufmt_c.proofs.Puts.{as_reported, put_cut, put_whole}
 use Rattle.ufmt_c.proofs.Unquoting.{decoded_utf8, no_front, not_quoted, quoted_is, quoted_utf8}

@@ -1,5 +1,5 @@
 use Rattle.std.proofs.Common.{subst}
-use Rattle.ufmt.specs.declared.class.Class.TheVariants.{Token}
+use Rattle.ufmt_grammar.specs.declared.class.Class.TheVariants.{Token}
 use Rattle.ufmt_core.specs.declared.layout.Mode.TheVariants.{Plain}
 use Rattle.ufmt_doc.specs.Doc.{doc_document}
 use Rattle.ufmt_doc.specs.FieldTexts.{ShowsField}

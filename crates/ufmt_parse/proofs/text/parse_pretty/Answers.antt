@@ -1,7 +1,7 @@
 use Rattle.ufmt.specs.Layout.{setting}
-use Rattle.ufmt.specs.declared.class.Class.TheVariants.{Debug}
+use Rattle.ufmt_grammar.specs.declared.class.Class.TheVariants.{Debug}
 use Rattle.ufmt_core.specs.declared.layout.Mode.TheVariants.{Pretty}
-use Rattle.ufmt.proofs.OneWay.{pretty_text_determines}
+use Rattle.ufmt_grammar.proofs.OneWay.{pretty_text_determines}
 use Rattle.ufmt_parse.proofs.Forms.{form_of}
 use Rattle.ufmt_parse.proofs.text.parse_pretty.Goals as goal
 

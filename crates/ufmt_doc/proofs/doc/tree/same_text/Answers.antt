@@ -1,4 +1,4 @@
-use Rattle.ufmt.proofs.OneWay.{plain_text_determines, pretty_text_determines}
+use Rattle.ufmt_grammar.proofs.OneWay.{plain_text_determines, pretty_text_determines}
 use Rattle.ufmt_doc.proofs.Within.{as_well}
 use Rattle.ufmt_doc.proofs.doc.tree.same_text.Goals as goal
 

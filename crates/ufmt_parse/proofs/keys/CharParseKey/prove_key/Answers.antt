@@ -2,7 +2,7 @@ use Rattle.std.proofs.Common.{◌≡◌, ◌∙◌, ap, sym, List, ℕ, [], ◌+
 use Rattle.std.proofs.lemmas.Cmp.{nat_cmp_total, tied_itself}
 use Rattle.std.specs.Ordering.{nat_cmp}
 use Rattle.ufmt.specs.Quoted.{quoted_char}
-use Rattle.ufmt.proofs.QuotedOneWay.{quoted_char_determines}
+use Rattle.ufmt_grammar.proofs.QuotedOneWay.{quoted_char_determines}
 use Rattle.ufmt_parse.proofs.keys.CharParseKey.prove_key.Goals as goal
 
 pub returns : goal.returns

@@ -5,7 +5,7 @@ use Rattle.std.specs.Cmp.Lexicographic.{slice_cmp}
 use Rattle.std.specs.Ordering.{nat_cmp}
 use Rattle.std.specs.Str.{chars, encode_utf8_all}
 use Rattle.ufmt.specs.Quoted.{quoted_text}
-use Rattle.ufmt.proofs.QuotedOneWay.{quoted_text_determines}
+use Rattle.ufmt_grammar.proofs.QuotedOneWay.{quoted_text_determines}
 use Rattle.ufmt_parse.proofs.keys.StringParseKey.prove_key.Goals as goal
 
 pub returns : goal.returns

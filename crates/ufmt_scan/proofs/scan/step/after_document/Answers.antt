@@ -1,6 +1,6 @@
 use Rattle.std.proofs.Common.{◌≡◌, ◌⊎◌, inl, inr, refl, sym, ℕ, List, [], ◌∷◌, Some, codes, arith}
 use Rattle.ufmt.specs.Reading.{strip}
-use Rattle.ufmt.proofs.ReadingTurns.{strip_within}
+use Rattle.ufmt_grammar.proofs.ReadingTurns.{strip_within}
 use Rattle.ufmt_scan.specs.Private.Level.{Level}
 use Rattle.ufmt_scan.specs.Scan.{Colon}
 use Rattle.ufmt_scan.specs.Private.Scanning.{after, prefixed, scan_stage, value_of, Stage, BracesFirst, KeyLater}

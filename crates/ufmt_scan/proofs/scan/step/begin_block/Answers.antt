@@ -1,6 +1,6 @@
 use Rattle.std.proofs.Common.{refl, sym, None, Some, arith}
 use Rattle.ufmt.specs.Layout.{frame}
-use Rattle.ufmt.proofs.ReadingTurns.{strip_within}
+use Rattle.ufmt_grammar.proofs.ReadingTurns.{strip_within}
 use Rattle.ufmt_core.specs.declared.layout.Count.TheVariants.{Zero}
 use Rattle.ufmt_scan.specs.Private.Scanning.{after, first_stage}
 use Rattle.ufmt_scan.proofs.EntrySteps.{after_lead}

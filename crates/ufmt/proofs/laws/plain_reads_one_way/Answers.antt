@@ -1,5 +1,0 @@
-use Rattle.ufmt.proofs.OneWay.{plain_reads_one_way}
-use Rattle.ufmt.proofs.laws.plain_reads_one_way.Goals as goal
-
-pub returns : goal.returns
-returns c = plain_reads_one_way

@@ -1,9 +1,0 @@
-use Rattle.ufmt.proofs.QuotedComplete.{read_quoted-complete}
-use Rattle.ufmt.proofs.QuotedSound.{read_quoted-sound}
-use Rattle.ufmt.proofs.laws.quoted_leaves_are_read_exactly.Goals as goal
-
-pub returns : goal.returns
-returns c = record {
-  only = read_quoted-sound;
-  each = read_quoted-complete;
-}

@@ -1,0 +1,346 @@
+-- Names and leaves of each class: how they begin, that each is read, and that only they are read as names and leaves.
+use Rattle.std.proofs.Common.{◌≡◌, ◌≢◌, ◌⊎◌, inl, inr, refl, ap, sym, ◌∙◌, subst, ℕ, ◌&&◌, not, Bool, true, false, cond, List, [], ◌∷◌, ◌++◌, Option, Some, None, codes, append_assoc}
+use Rattle.std.specs.Str.{is_utf8}
+use Rattle.std.proofs.lemmas.Str.{IsUtf8-from_ascii, is_utf8-from_IsUtf8}
+use Rattle.std.proofs.lemmas.Str.Ascii.{IsAscii-nil}
+use Rattle.ufmt_core.specs.Document.{Document, leaf}
+use Rattle.ufmt_core.specs.Layout.{inside, brace_space, new_line}
+use Rattle.ufmt_core.specs.Quoted.{IsQuoted, escaped_all}
+use Rattle.ufmt_core.specs.declared.layout.Setting.{Setting}
+use Rattle.ufmt_grammar.specs.Leaves.{Class, Token, Debug, is_word_byte, IsWordOrEmpty, IsWord, IsSymbol, IsFollower, IsDebugFollower, IsDebugText, outside, has_quote, IsTokenLeaf, IsName, IsLeaf, MayFollow, is_ender}
+use Rattle.ufmt_grammar.specs.Reading.{Parse, choose, strip, strip_only_dots, front_of, after_front, leaf_from, last_place, is_outside, is_whole, is_name, if_name, read_name, read_symbol, read_without_name, read_named, read_unnamed, read_with, word_of}
+use Rattle.ufmt_grammar.specs.ReadingQuoted.{read_quoted}
+use Rattle.ufmt_grammar.proofs.Parsing.{chosen_from, same_parts, strip_found}
+use Rattle.ufmt_grammar.proofs.QuotedComplete.{read_quoted-complete}
+use Rattle.ufmt_grammar.proofs.QuotedSound.{read_quoted-sound}
+use Rattle.ufmt_grammar.proofs.ReadingWords.{StopsWord, each_closer, each_ender, no_ender, ender_closes, follower_stops, words_whole, word_of_bytes, word_of-append, after_word-append, word_bytes}
+use Rattle.ufmt_grammar.proofs.DebugLeaves.{StopsLeaf, follower_stops_leaf, leaf_from-append, after_leaf-append, leaves_whole, last_is_outside, front_ends_leaf, leaf_no_ender}
+
+-- the text has a first byte, which is no comma and no closing bracket
+pub record Begins (text : List ℕ) : Type 0 where
+  pub first : ℕ
+  pub tail : List ℕ
+  pub is : text ≡ first ∷ tail
+  pub no_ender : is_ender first ≡ false
+
+pub Begins-append : {a : List ℕ} → Begins a → (b : List ℕ) → Begins (a ++ b)
+Begins-append h b = record { first = h.first; tail = h.tail ++ b; is = ap (λ t. t ++ b) h.is; no_ender = h.no_ender }
+
+word_begins : (w : List ℕ) → IsWord w → Begins w
+word_begins [] h = absurd h
+word_begins (c ∷ w) h = record { first = c; tail = w; is = refl; no_ender = no_ender is_word_byte refl refl refl refl c h.0 }
+
+token_begins : (text : List ℕ) → IsTokenLeaf text → Begins text
+token_begins text h = go h.shape
+  where
+    go : IsWord text ⊎ IsSymbol text → Begins text
+    go (inl w) = word_begins text w
+    go (inr (inl e)) = record { first = 40; tail = codes ")"; is = e; no_ender = refl }
+    go (inr (inr (inl of_text))) = record { first = 34; tail = escaped_all 34 of_text.0 ++ (34 ∷ []); is = of_text.2; no_ender = refl }
+    go (inr (inr (inr of_char))) = record { first = 39; tail = escaped_all 39 (of_char.0 ∷ []) ++ (39 ∷ []); is = of_char.2; no_ender = refl }
+
+debug_begins : (text : List ℕ) → IsDebugText text → Begins text
+debug_begins [] h = absurd (h.some refl)
+debug_begins (c ∷ text) h = record { first = c; tail = text; is = refl; no_ender = leaf_no_ender c text h.pieces.0 h.pieces.1 }
+
+pub name_begins : (class : Class) (w : List ℕ) → IsName class w → Begins w
+name_begins Token w h = word_begins w h
+name_begins Debug w h = debug_begins w h.whole
+
+pub leaf_begins : (class : Class) (text : List ℕ) → IsLeaf class text → Begins text
+leaf_begins Token text h = token_begins text h
+leaf_begins Debug text (inl h) = debug_begins text h
+leaf_begins Debug text (inr e) = record { first = 40; tail = codes ")"; is = e; no_ender = refl }
+
+pub name_some : (class : Class) → IsName class [] → ⊥
+name_some Token h = h
+name_some Debug h = h.whole.some refl
+
+pub name_leaf : (class : Class) (w : List ℕ) → IsName class w → IsLeaf class w
+name_leaf Token w h = record { shape = inl h }
+name_leaf Debug w h = inl h.whole
+
+pub unit_leaf : (class : Class) → IsLeaf class (codes "()")
+unit_leaf Token = record { shape = inr (inl refl) }
+unit_leaf Debug = inr refl
+
+-- ---- what may follow
+
+pub ender_follows : (class : Class) (c : ℕ) (u : List ℕ) → is_ender c ≡ true → MayFollow class (c ∷ u)
+ender_follows Token c [] h = ender_closes c h
+ender_follows Token c (b ∷ u) h = inl (ender_closes c h)
+ender_follows Debug c [] h = h
+ender_follows Debug c (b ∷ u) h = inl h
+
+pub colon_follows : (class : Class) (u : List ℕ) → MayFollow class (58 ∷ 32 ∷ u)
+colon_follows Token u = inl refl
+colon_follows Debug u = inr (inl (refl, refl))
+
+pub brace_follows : (class : Class) (u : List ℕ) → MayFollow class (32 ∷ 125 ∷ u)
+brace_follows Token u = inr (refl, refl)
+brace_follows Debug u = inr (inr (refl, refl))
+
+pub nothing_follows : (class : Class) → MayFollow class []
+nothing_follows Token = tt
+nothing_follows Debug = tt
+
+-- what may follow does not begin with the parenthesis of a tuple
+pub follower_no_tuple : (class : Class) (u w : List ℕ) → MayFollow class u → strip (40 ∷ w) u ≡ None
+follower_no_tuple Token [] w h = refl
+follower_no_tuple Token (c ∷ []) w h = each_closer (λ c. strip (40 ∷ w) (c ∷ []) ≡ None) refl refl refl refl refl c h
+follower_no_tuple Token (c ∷ b ∷ u) w (inl h) = each_closer (λ c. strip (40 ∷ w) (c ∷ b ∷ u) ≡ None) refl refl refl refl refl c h
+follower_no_tuple Token (c ∷ b ∷ u) w (inr h) = rw h.0 refl
+follower_no_tuple Debug [] w h = refl
+follower_no_tuple Debug (c ∷ []) w h = each_ender (λ c. strip (40 ∷ w) (c ∷ []) ≡ None) refl refl refl refl c h
+follower_no_tuple Debug (c ∷ b ∷ u) w (inl h) = each_ender (λ c. strip (40 ∷ w) (c ∷ b ∷ u) ≡ None) refl refl refl refl c h
+follower_no_tuple Debug (c ∷ b ∷ u) w (inr (inl h)) = rw h.0 refl
+follower_no_tuple Debug (c ∷ b ∷ u) w (inr (inr h)) = rw h.0 refl
+
+-- what may follow does not begin with the space and the brace of a struct
+pub follower_no_struct : (class : Class) (u w : List ℕ) → MayFollow class u → strip (32 ∷ 123 ∷ w) u ≡ None
+follower_no_struct Token [] w h = refl
+follower_no_struct Token (c ∷ []) w h = each_closer (λ c. strip (32 ∷ 123 ∷ w) (c ∷ []) ≡ None) refl refl refl refl refl c h
+follower_no_struct Token (c ∷ b ∷ u) w (inl h) = each_closer (λ c. strip (32 ∷ 123 ∷ w) (c ∷ b ∷ u) ≡ None) refl refl refl refl refl c h
+follower_no_struct Token (c ∷ b ∷ u) w (inr h) = rw (h.0, h.1) refl
+follower_no_struct Debug [] w h = refl
+follower_no_struct Debug (c ∷ []) w h = each_ender (λ c. strip (32 ∷ 123 ∷ w) (c ∷ []) ≡ None) refl refl refl refl c h
+follower_no_struct Debug (c ∷ b ∷ u) w (inl h) = each_ender (λ c. strip (32 ∷ 123 ∷ w) (c ∷ b ∷ u) ≡ None) refl refl refl refl c h
+follower_no_struct Debug (c ∷ b ∷ u) w (inr (inl h)) = rw h.0 refl
+follower_no_struct Debug (c ∷ b ∷ u) w (inr (inr h)) = rw (h.0, h.1) refl
+
+-- nor does it with the dots of a struct that has only dots
+pub follower_no_only_dots : (class : Class) (u : List ℕ) → MayFollow class u → strip_only_dots class u ≡ None
+follower_no_only_dots Token u h = refl
+follower_no_only_dots Debug u h = follower_no_struct Debug u (codes " .. }") h
+
+-- ---- the longest name or leaf at the front of a text
+
+-- the text does not begin with a byte that a name or a leaf before it would have
+abbrev pub Stops : Class → List ℕ → Type 0
+Stops Token u = StopsWord u
+Stops Debug u = StopsLeaf u
+
+pub follower_ends_front : (class : Class) (u : List ℕ) → MayFollow class u → Stops class u
+follower_ends_front Token u h = follower_stops u h
+follower_ends_front Debug u h = follower_stops_leaf u h
+
+-- an opening parenthesis and a space stop a name
+pub stops_at_parenthesis : (class : Class) (u : List ℕ) → Stops class (40 ∷ u)
+stops_at_parenthesis Token u = refl
+stops_at_parenthesis Debug u = refl
+
+pub stops_at_space : (class : Class) (u : List ℕ) → Stops class (32 ∷ u)
+stops_at_space Token u = refl
+stops_at_space Debug u = refl
+
+pub fronts_whole : (class : Class) (t : List ℕ) → t ≡ front_of class t ++ after_front class t
+fronts_whole Token t = words_whole t
+fronts_whole Debug t = leaves_whole outside t
+
+-- bytes that are the longest front, whatever follows that stops them
+pub record IsFront (class : Class) (w : List ℕ) : Type 0 where
+  pub front : (u : List ℕ) → Stops class u → front_of class (w ++ u) ≡ w
+  pub after : (u : List ℕ) → Stops class u → after_front class (w ++ u) ≡ u
+  pub whole : is_whole class w ≡ true
+
+word_fronts : (w : List ℕ) → IsWord w → IsFront Token w
+word_fronts w h = record {
+  front = λ u stops. word_of-append w u (word_bytes w h) stops;
+  after = λ u stops. after_word-append w u (word_bytes w h) stops;
+  whole = refl;
+}
+
+text_fronts : (w : List ℕ) → IsDebugText w → IsFront Debug w
+text_fronts w h = record {
+  front = λ u stops. leaf_from-append outside w u h.pieces stops;
+  after = λ u stops. after_leaf-append outside w u h.pieces stops;
+  whole = rw (last_is_outside outside w h.pieces, h.utf8) refl;
+}
+
+pub name_fronts : (class : Class) (w : List ℕ) → IsName class w → IsFront class w
+name_fronts Token w h = word_fronts w h
+name_fronts Debug w h = text_fronts w h.whole
+
+name_is_name : (class : Class) (w : List ℕ) → IsName class w → is_name class w ≡ true
+name_is_name Token w h = refl
+name_is_name Debug w h = ap not h.no_quotes
+
+-- the front of a text, if it is whole, is a leaf, and a name if it is one
+pub record IsFrontOf (class : Class) (w : List ℕ) : Type 0 where
+  pub leaf : w ≢ [] → is_whole class w ≡ true → IsLeaf class w
+  pub name : w ≢ [] → is_whole class w ≡ true → is_name class w ≡ true → IsName class w
+
+bytes_are_word : (w : List ℕ) → IsWordOrEmpty w → w ≢ [] → IsWord w
+bytes_are_word [] h some = absurd (some refl)
+bytes_are_word (c ∷ w) h some = h
+
+both : (a b : Bool) → a && b ≡ true → (a ≡ true) × (b ≡ true)
+both true b h = (refl, h)
+both false b h = absurd (cc)
+
+pub front_is : (class : Class) (t : List ℕ) → IsFrontOf class (front_of class t)
+front_is Token t = record {
+  leaf = λ some whole. record { shape = inl (bytes_are_word (word_of t) (word_of_bytes t) some) };
+  name = λ some whole name. bytes_are_word (word_of t) (word_of_bytes t) some;
+}
+front_is Debug t = record { leaf = λ some whole. inl (text some whole); name = λ some whole name. record { whole = text some whole; no_quotes = no_quotes (has_quote front) refl name } }
+  where
+    front : List ℕ
+    front = leaf_from outside t
+
+    text : front ≢ [] → is_whole Debug front ≡ true → IsDebugText front
+    text some whole =
+        let parts = both (is_outside (last_place outside front)) (is_utf8 front) whole in
+        record { some = some; pieces = front_ends_leaf outside t parts.0; utf8 = parts.1 }
+
+    no_quotes : (b : Bool) → has_quote front ≡ b → not (has_quote front) ≡ true → has_quote front ≡ false
+    no_quotes false e h = e
+    no_quotes true e h = absurd (cc)
+
+pub nothing_is_whole : (class : Class) → is_whole class [] ≡ true
+nothing_is_whole Token = refl
+nothing_is_whole Debug = is_utf8-from_IsUtf8 [] (IsUtf8-from_ascii [] IsAscii-nil)
+
+-- ---- reading
+
+if_name_complete : (class : Class) (w u : List ℕ) → IsName class w → if_name class w u ≡ Some (w, u)
+if_name_complete class [] u h = absurd (name_some class h)
+if_name_complete class (c ∷ w) u h = rw ((name_fronts class (c ∷ w) h).whole, name_is_name class (c ∷ w) h) refl
+
+pub read_name_complete : (class : Class) (w u : List ℕ) → IsName class w → Stops class u → read_name class (w ++ u) ≡ Some (w, u)
+read_name_complete class w u h stops =
+    let fronts = name_fronts class w h in
+    rw (fronts.front u stops, fronts.after u stops) (if_name_complete class w u h)
+
+if_name_sound : (class : Class) (a b w u : List ℕ) → IsFrontOf class a → if_name class a b ≡ Some (w, u) → IsName class w × (a ++ b ≡ w ++ u)
+if_name_sound class [] b w u front h = absurd (cc)
+if_name_sound class (c ∷ a) b w u front h = go (is_whole class (c ∷ a)) (is_name class (c ∷ a)) refl refl h
+  where
+    go : (whole name : Bool) → is_whole class (c ∷ a) ≡ whole → is_name class (c ∷ a) ≡ name
+        → cond {A = Option (List ℕ × List ℕ)} (whole && name) (Some (c ∷ a, b)) None ≡ Some (w, u) → IsName class w × (c ∷ (a ++ b) ≡ w ++ u)
+    go true true e f h =
+        let parts = same_parts {A = List ℕ} {B = List ℕ} (c ∷ a, b) (w, u) h in
+        (subst (IsName class) parts.0 (front.name (λ none. absurd (cc)) e f), cc)
+    go true false e f h = absurd (cc)
+    go false name e f h = absurd (cc)
+
+pub read_name_sound : (class : Class) (t w u : List ℕ) → read_name class t ≡ Some (w, u) → IsName class w × (t ≡ w ++ u)
+read_name_sound class t w u h =
+    let found = if_name_sound class (front_of class t) (after_front class t) w u (front_is class t) h in
+    (found.0, fronts_whole class t ∙ found.1)
+
+-- a concrete name is shown to be one by computation
+pub IsName-from : (class : Class) (w : List ℕ) → read_name class w ≡ Some (w, []) → IsName class w
+IsName-from class w h = (read_name_sound class w w [] h).0
+
+-- a text that begins with a name is read by `read_named`
+at_name : (class : Class) (s : Setting) (p : Parse Document) (w u : List ℕ) → IsName class w → Stops class u
+    → read_with class s p (w ++ u) ≡ read_named class s p w u
+at_name class s p [] u h stops = absurd (name_some class h)
+at_name class s p (c ∷ w) u h stops =
+    let fronts = name_fronts class (c ∷ w) h in
+    rw (fronts.front u stops, fronts.after u stops) (rw (fronts.whole, name_is_name class (c ∷ w) h) refl)
+
+-- the same holds of a text in two parts
+pub name_leads : (class : Class) (s : Setting) (p : Parse Document) (w t u : List ℕ) → IsName class w → Stops class (t ++ u)
+    → read_with class s p ((w ++ t) ++ u) ≡ read_named class s p w (t ++ u)
+name_leads class s p w t u h stops = ap (read_with class s p) (append_assoc w t u) ∙ at_name class s p w (t ++ u) h stops
+
+-- a text that begins with an opening bracket begins with no name
+pub at_bracket : (class : Class) (s : Setting) (p : Parse Document) (u : List ℕ) → read_with class s p (91 ∷ u) ≡ read_without_name class s p (91 ∷ u)
+at_bracket Token s p u = refl
+at_bracket Debug s p u = refl
+
+pub at_brace : (class : Class) (s : Setting) (p : Parse Document) (u : List ℕ) → read_with class s p (123 ∷ u) ≡ read_without_name class s p (123 ∷ u)
+at_brace Token s p u = refl
+at_brace Debug s p u = refl
+
+pub at_parenthesis : (class : Class) (s : Setting) (p : Parse Document) (u : List ℕ) → read_with class s p (40 ∷ u) ≡ read_without_name class s p (40 ∷ u)
+at_parenthesis Token s p u = refl
+at_parenthesis Debug s p u = refl
+
+-- a name before what may follow is read as a leaf
+only_name : (class : Class) (s : Setting) (p : Parse Document) (w u : List ℕ) → w ≢ [] → MayFollow class u → read_named class s p w u ≡ Some (leaf w, u)
+only_name class s p [] u some follows = absurd (some refl)
+only_name class s p (c ∷ w) u some follows = rw (
+  follower_no_tuple class u (new_line (inside s).mode (inside s).depth) follows,
+  follower_no_only_dots class u follows,
+  follower_no_struct class u (brace_space s.mode ++ new_line (inside s).mode (inside s).depth) follows,
+) refl
+
+-- a symbol of a token document is read, whatever follows it
+pub read_symbol_complete : (text u : List ℕ) → IsSymbol text → read_symbol Token (text ++ u) ≡ Some (text, u)
+read_symbol_complete text u (inl unit) = rw unit refl
+read_symbol_complete text u (inr quoted) = go quoted (read_quoted-complete text u quoted)
+  where
+    go : IsQuoted text → read_quoted (text ++ u) ≡ Some (text, u) → read_symbol Token (text ++ u) ≡ Some (text, u)
+    go (inl of_text) reads = rw of_text.2 (ap (λ t. read_quoted (t ++ u)) (sym of_text.2) ∙ reads ∙ ap (λ t. Some (t, u)) of_text.2)
+    go (inr of_char) reads = rw of_char.2 (ap (λ t. read_quoted (t ++ u)) (sym of_char.2) ∙ reads ∙ ap (λ t. Some (t, u)) of_char.2)
+
+-- reading a text that begins with a symbol tries `read_symbol` first
+symbol_first : (s : Setting) (p : Parse Document) (text u : List ℕ) → IsSymbol text
+    → read_with Token s p (text ++ u) ≡ choose (read_symbol Token (text ++ u)) (λ x. Some (leaf x.0, x.1)) (read_unnamed s p (text ++ u))
+symbol_first s p text u (inl unit) = rw unit refl
+symbol_first s p text u (inr (inl of_text)) = rw of_text.2 refl
+symbol_first s p text u (inr (inr of_char)) = rw of_char.2 refl
+
+token_complete : (s : Setting) (p : Parse Document) (text u : List ℕ) → IsTokenLeaf text → IsFollower u → read_with Token s p (text ++ u) ≡ Some (leaf text, u)
+token_complete s p text u h follows = go h.shape
+  where
+    go : IsWord text ⊎ IsSymbol text → read_with Token s p (text ++ u) ≡ Some (leaf text, u)
+    go (inl w) = at_name Token s p text u w (follower_stops u follows) ∙ only_name Token s p text u (λ none. absurd (subst IsWord none w)) follows
+    go (inr symbol) = symbol_first s p text u symbol
+        ∙ ap (λ o. choose o (λ x. Some (leaf x.0, x.1)) (read_unnamed s p (text ++ u))) (read_symbol_complete text u symbol)
+
+debug_complete : (s : Setting) (p : Parse Document) (text u : List ℕ) → IsDebugText text → IsDebugFollower u
+    → read_with Debug s p (text ++ u) ≡ Some (leaf text, u)
+debug_complete s p [] u h follows = absurd (h.some refl)
+debug_complete s p (c ∷ text) u h follows =
+    let fronts = text_fronts (c ∷ text) h in
+    let stops = follower_stops_leaf u follows in
+    rw (fronts.front u stops, fronts.after u stops) (rw fronts.whole (go (is_name Debug (c ∷ text))))
+  where
+    go : (b : Bool) → cond b (read_named Debug s p (c ∷ text) u) (Some (leaf (c ∷ text), u)) ≡ Some (leaf (c ∷ text), u)
+    go true = only_name Debug s p (c ∷ text) u h.some follows
+    go false = refl
+
+pub leaf_complete : (class : Class) (s : Setting) (p : Parse Document) (text u : List ℕ) → IsLeaf class text → MayFollow class u
+    → read_with class s p (text ++ u) ≡ Some (leaf text, u)
+leaf_complete Token s p text u h follows = token_complete s p text u h follows
+leaf_complete Debug s p text u (inl h) follows = debug_complete s p text u h follows
+leaf_complete Debug s p text u (inr unit) follows = rw unit refl
+
+-- an opening parenthesis before an entry is not read as a symbol
+pub no_symbol : (class : Class) (t : List ℕ) → strip (codes ")") t ≡ None → read_symbol class (40 ∷ t) ≡ None
+unfolding read_quoted
+no_symbol Token t h = rw h refl
+no_symbol Debug t h = rw h refl
+
+pub read_symbol_sound : (t text u : List ℕ) → read_symbol Token t ≡ Some (text, u) → IsSymbol text × (t ≡ text ++ u)
+read_symbol_sound t text u h = elim (chosen_from {B = Option (List ℕ × List ℕ)} (strip (codes "()") t) (λ v. Some (codes "()", v))
+    (read_quoted t) (Some (text, u)) h) [
+      | inl unit ↦ at_unit unit.0 unit.1 unit.2
+      | inr quoted ↦ at_quote (read_quoted-sound t text u quoted.1)
+    ]
+  where
+    at_unit : (v : List ℕ) → strip (codes "()") t ≡ Some v → ◌≡◌ {A = Option (List ℕ × List ℕ)} (Some (codes "()", v)) (Some (text, u))
+        → IsSymbol text × (t ≡ text ++ u)
+    at_unit v stripped is =
+        let parts = same_parts {A = List ℕ} {B = List ℕ} (codes "()", v) (text, u) is in
+        (inl (sym parts.0), strip_found (codes "()") t v stripped ∙ ap (λ w. codes "()" ++ w) parts.1 ∙ ap (λ w. w ++ u) parts.0)
+
+    at_quote : IsQuoted text × (t ≡ text ++ u) → IsSymbol text × (t ≡ text ++ u)
+    at_quote quoted = (inr quoted.0, quoted.1)
+
+-- what is read as a symbol is a leaf
+pub symbol_is_leaf : (class : Class) (t text u : List ℕ) → read_symbol class t ≡ Some (text, u) → IsLeaf class text × (t ≡ text ++ u)
+symbol_is_leaf Token t text u h =
+    let found = read_symbol_sound t text u h in
+    (record { shape = inr found.0 }, found.1)
+symbol_is_leaf Debug t text u h = go (strip (codes "()") t) refl h
+  where
+    go : (o : Option (List ℕ)) → strip (codes "()") t ≡ o → choose {B = Option (List ℕ × List ℕ)} o (λ v. Some (codes "()", v)) None ≡ Some (text, u) → IsLeaf Debug text × (t ≡ text ++ u)
+    go None e h = absurd (cc)
+    go (Some v) e h =
+        let parts = same_parts {A = List ℕ} {B = List ℕ} (codes "()", v) (text, u) h in
+        (inr (sym parts.0), strip_found (codes "()") t v e ∙ ap (λ w. codes "()" ++ w) parts.1 ∙ ap (λ w. w ++ u) parts.0)

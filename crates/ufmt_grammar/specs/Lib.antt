@@ -1,0 +1,10 @@
+pub mod Leaves
+pub mod NormalFormLaws
+pub mod Parse
+pub mod QuotedLaws
+pub mod Reading
+pub mod ReadingLaws
+pub mod ReadingQuoted
+pub mod ShiftLaws
+pub mod Token
+pub mod UnquotedLaws
