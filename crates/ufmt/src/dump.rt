@@ -2,12 +2,12 @@
 ghost use Rattle.std.specs.Prelude.{◌≡◌, ◌+◌, ◌-◌, ◌*◌, ◌/◌, ◌^◌, ◌<◌, ◌≤◌, ◌==◌, ◌++◌, ◌∷◌, if◌then◌else◌, length, map, replicate, is_ok};
 ghost use Rattle.ufmt_core.specs.Bytes.{space};
 ghost use Rattle.ufmt_core.specs.Writes.{Writes};
-ghost use Rattle.ufmt.specs.Buffer.{Fronts};
+ghost use Rattle.ufmt_core.specs.Buffer.{Fronts};
 ghost use Rattle.ufmt.specs.Dump.{byte_digits, bytes_per_group, bytes_per_row, digits_column, digits_width, dump_text, offset_column, offset_text, row_text, shown_byte, text_column};
 
-use crate::cursor::{Cursor, Full};
 use crate::radix::digits::{digit_byte, digits_text};
 use ufmt_core::ascii::text_from;
+use ufmt_core::cursor::{Cursor, Full};
 use ufmt_core::uWrite;
 
 /// What a dump of bytes looks like: rows, each with its offset, its bytes' digits and its bytes as text.

@@ -20,7 +20,6 @@ ghost use Rattle.ufmt.specs.Dump.{DigitsHaveTheirWidth, DumpHasEachByte, TextsBe
 mod numbers;
 
 use crate::column::Column;
-use crate::cursor::{Cursor, Full};
 use crate::display::uDisplay;
 use crate::hex::{HexOptions, uDisplayHex};
 use crate::pieces::Line;
@@ -41,6 +40,7 @@ use std::num::{
 };
 use std::rc::{Rc, RcStr};
 use std::sync::{Arc, ArcStr};
+use ufmt_core::cursor::{Cursor, Full};
 pub use ufmt_core::laws::{
     blocks_are_their_parts, documents_of_cell_values, documents_of_collections,
     documents_of_leaves, documents_of_ranges, documents_of_shared_values,
@@ -49,7 +49,9 @@ pub use ufmt_core::laws::{
 };
 use ufmt_core::{Formatter, uDebug, uWrite};
 pub use ufmt_grammar::laws::{
-    normal_forms, numbers_are_words, plain_reads_one_way, pretty_reads_one_way, quoted_leaves_are_read_exactly, quoted_one_way, shifted_at_depth, texts_are_read_exactly, texts_determine_normal_forms, tokens_are_debug, unquoted_as_before,
+    normal_forms, numbers_are_words, plain_reads_one_way, pretty_reads_one_way,
+    quoted_leaves_are_read_exactly, quoted_one_way, shifted_at_depth, texts_are_read_exactly,
+    texts_determine_normal_forms, tokens_are_debug, unquoted_as_before,
 };
 
 /// After the loan of a cursor, its buffer begins with the bytes that were written. The others are as
@@ -324,4 +326,3 @@ pub fn line_of_all_columns<W: uWrite, A: uDisplay, B: uDebug, C: uDebug, N: uDis
 pub fn columns_are_filled()
     ensures { ColumnsAreFilled }
 {}
-

@@ -3,7 +3,6 @@
 //! Formatting without `core::fmt`. A user names this crate only: it has all of `ufmt_core` too.
 
 mod column;
-mod cursor;
 mod cut;
 mod decimal;
 mod display;
@@ -20,7 +19,6 @@ mod uwrite;
 mod zeros;
 
 pub use column::{Align, Column};
-pub use cursor::{Cursor, Full};
 pub use cut::{Cut, debug_cut_into, display_cut_into, line_cut_into, pretty_cut_into};
 pub use decimal::Decimal;
 pub use display::uDisplay;
@@ -34,8 +32,8 @@ pub use print::{
 pub use radix::{Radix, uDisplayRadix};
 pub use truncating::Truncating;
 pub use ufmt_core::{
-    DebugList, DebugMap, DebugSet, DebugStruct, DebugTuple, Formatter, NamedFields, UnnamedFields,
-    ascii, cells, layout, quoted, uDebug, uWrite, unsigned,
+    Cursor, DebugList, DebugMap, DebugSet, DebugStruct, DebugTuple, Formatter, Full, NamedFields,
+    UnnamedFields, ascii, cells, cursor, layout, quoted, uDebug, uWrite, unsigned,
 };
 pub use ufmt_grammar::class;
 pub use zeros::uDisplayZeros;

@@ -4,14 +4,14 @@ ghost use Rattle.ufmt_core.specs.Document.{nest, pretty_part};
 ghost use Rattle.ufmt_core.specs.Formatter.{LaysOut};
 ghost use Rattle.ufmt_core.specs.Layout.{plain_text, pretty_text};
 ghost use Rattle.ufmt_core.specs.Writes.{Writes};
-ghost use Rattle.ufmt.specs.Buffer.{Fronts};
+ghost use Rattle.ufmt_core.specs.Buffer.{Fronts};
 ghost use Rattle.ufmt.specs.Pieces.{Piece, SamePieces, line_text};
 ghost use Rattle.ufmt_core.specs.Shift.{HasNoLineFeed, shifted};
 
-use crate::cursor::{Cursor, Full};
 use crate::display::uDisplay;
 use crate::pieces::Line;
 use std::alloc::{AllocError, Global};
+use ufmt_core::cursor::{Cursor, Full};
 use ufmt_core::{Formatter, uDebug, uWrite};
 
 /// Prints the value in pretty mode, at the formatter's depth, as a piece `pretty e` does. On `Err` a

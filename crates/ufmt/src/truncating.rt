@@ -4,8 +4,8 @@ ghost use Rattle.ufmt_core.specs.Writes.{Writes};
 ghost use Rattle.std.specs.Str.{is_utf8};
 ghost use Rattle.ufmt.specs.Cut.{fitting_part};
 
-use crate::cursor::{Full, put};
 use crate::ghost_text::GhostText;
+use ufmt_core::cursor::{Full, put};
 use ufmt_core::uWrite;
 
 /// A writer that fills a buffer from its start, and cuts its text where the buffer ends, between two

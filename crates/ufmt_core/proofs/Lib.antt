@@ -1,7 +1,9 @@
 pub mod Alike
 pub mod Blocks
 pub mod Counts
+pub mod Cursors
 pub mod DecimalTexts
+pub mod Fronts
 pub mod Indentation
 pub mod Items
 pub mod Joined

@@ -1,7 +1,9 @@
 pub mod Alike
+pub mod Buffer
 pub mod Builder
 pub mod BuilderView
 pub mod Bytes
+pub mod Cursor
 pub mod Decimal
 pub mod Document
 pub mod EachText

@@ -7,6 +7,7 @@ ghost use Rattle.ufmt_core.specs.Formatter.{LaysOut};
 
 pub mod ascii;
 mod core_impls;
+pub mod cursor;
 mod formatter;
 pub mod laws;
 pub mod layout;
@@ -24,6 +25,7 @@ pub mod unsigned;
 mod write;
 
 pub use core_impls::cells;
+pub use cursor::{Cursor, Full};
 pub use formatter::Formatter;
 pub use list::DebugList;
 pub use map::DebugMap;

@@ -7,7 +7,7 @@ use Rattle.std.proofs.lemmas.Bool.{cases_lt}
 use Rattle.std.proofs.lemmas.Bool.Decides.{nat_tests}
 use Rattle.std.proofs.lemmas.Str.{encode_ascii, inside_one}
 use Rattle.ufmt_core.proofs.QuotedBytes.{escape-past_ascii}
-use Rattle.ufmt.specs.Quoted.{escape, escaped, escaped_byte}
+use Rattle.ufmt_core.specs.Quoted.{escape, escaped, escaped_byte}
 
 -- the first byte of a character determines how many bytes it has
 pub length-led : (c : ℕ) → length (encode_utf8 c) ≡ 1 + continuation_len (slice_index (encode_utf8 c) 0)

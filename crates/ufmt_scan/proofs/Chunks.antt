@@ -3,7 +3,7 @@ use Rattle.std.proofs.Common.{◌≡◌, ◌≢◌, sym, ap, ◌∙◌, ℕ, ◌
 use Rattle.std.proofs.lemmas.Bool.{eq-eqb, eqb-true, true≢false}
 use Rattle.std.specs.Int.{Width, from_le_bytes, to_le_bytes}
 use Rattle.std.proofs.Math.Seq.{take-append_seam}
-use Rattle.ufmt.specs.Reading.{strip}
+use Rattle.ufmt_grammar.specs.Reading.{strip}
 use Rattle.ufmt_grammar.proofs.Parsing.{strip_of_none}
 
 module _ (n : ℕ) (word t : List ℕ) (size : length word ≡ n) where

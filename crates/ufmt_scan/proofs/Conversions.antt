@@ -3,12 +3,12 @@ use Rattle.std.proofs.Common.{◌≡◌, ◌∙◌, ap, sym, subst, refl, List, 
 use Rattle.std.specs.Prelude.{⊤}
 use Rattle.std.specs.Result.{IsErrAnd}
 use Rattle.std.specs.declared.alloc.AllocError.{AllocError}
-use Rattle.ufmt.proofs.Fronts.{fronts_refused, fronts_whole, keeps_length}
-use Rattle.ufmt.specs.Cursor.{cursor_seen, unwritten_bytes, written_bytes}
-use Rattle.ufmt.specs.Document.{Document}
+use Rattle.ufmt_core.proofs.Fronts.{fronts_refused, fronts_whole, keeps_length}
+use Rattle.ufmt_core.specs.Cursor.{cursor_seen, unwritten_bytes, written_bytes}
+use Rattle.ufmt_core.specs.Document.{Document}
 use Rattle.ufmt_grammar.specs.declared.class.Class.{Class}
-use Rattle.ufmt.specs.declared.cursor.Cursor.{Cursor}
-use Rattle.ufmt.specs.declared.cursor.Full.{Full}
+use Rattle.ufmt_core.specs.declared.cursor.Cursor.{Cursor}
+use Rattle.ufmt_core.specs.declared.cursor.Full.{Full}
 use Rattle.ufmt_scan.specs.Private.Growing.{growing_seen, growing_text}
 use Rattle.ufmt_scan.specs.Texts.{ConvertsAs, ConvertsIntoAs, ConvertsToAs, IsConvertedAs, NoDocumentPrintsAs}
 use Rattle.ufmt_scan.specs.declared.convert.growing.Growing.{Growing}

@@ -7,17 +7,17 @@ use Rattle.std.proofs.lemmas.Str.{IsUtf8-from_ascii, IsUtf8-from_is_utf8, is_utf
 use Rattle.std.proofs.lemmas.Str.Ascii.{IsAscii-cons, IsAscii-nil}
 use Rattle.std.proofs.Math.Seq.{take-append_seam}
 use borrow.Author.Tests.{ltb-true}
-use Rattle.ufmt.specs.Leaves.{Place, outside, between, after_backslash, place_after, is_control, is_quote, is_opening, is_ender, is_debug_byte, leads_on, has_quote, IsDebugText}
-use Rattle.ufmt.specs.Reading.{choose, leaf_from, after_leaf, last_place, is_outside}
-use Rattle.ufmt.specs.Document.{leaf}
-use Rattle.ufmt.specs.Quoted.{IsQuote, IsQuoted, quoted}
-use Rattle.ufmt.specs.ReadingQuoted.{read_quoted}
+use Rattle.ufmt_grammar.specs.Leaves.{Place, outside, between, after_backslash, place_after, is_control, is_quote, is_opening, is_ender, is_debug_byte, leads_on, has_quote, IsDebugText}
+use Rattle.ufmt_grammar.specs.Reading.{choose, leaf_from, after_leaf, last_place, is_outside}
+use Rattle.ufmt_core.specs.Document.{leaf}
+use Rattle.ufmt_core.specs.Quoted.{IsQuote, IsQuoted, quoted}
+use Rattle.ufmt_grammar.specs.ReadingQuoted.{read_quoted}
 use Rattle.ufmt_grammar.proofs.ClassTokens.{tokens_are_debug}
 use Rattle.ufmt_grammar.proofs.DebugLeaves.{StopsLeaf, after_leaf-append, kept_alone, last_is_outside, leaf_from-append, stopped}
 use Rattle.ufmt_grammar.proofs.QuotedComplete.{quoted-bytes}
 use Rattle.ufmt_grammar.proofs.QuotedSound.{read_quoted-sound}
 use Rattle.ufmt_grammar.specs.declared.class.Class.TheVariants.{Debug}
-use Rattle.ufmt.specs.Reading.{is_whole}
+use Rattle.ufmt_grammar.specs.Reading.{is_whole}
 use Rattle.ufmt_scan.specs.declared.front.Front.{Front}
 use Rattle.ufmt_scan.specs.Private.Fronts.{EndsLeaf, IsSplit, Passes, StaysBetween, StopsWord, colon_belongs, is_ending}
 use Rattle.ufmt_scan.specs.Private.MarkedBytes.{is_marked, marked_len}

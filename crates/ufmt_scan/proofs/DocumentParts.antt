@@ -1,18 +1,18 @@
 -- The events of documents, pairs and fields, by how they begin.
 use Rattle.std.proofs.Common.{◌≡◌, ◌≢◌, refl, ap, ◌∙◌, sym, ℕ, zero, suc, ◌<◌, ◌≤◌, ◌==◌, cond, Bool, true, false, List, [], ◌∷◌, ◌++◌, length, length-append, eqb-true, map, Option, Some, None, option_and_then, codes, subst, Bor, Result, Ok, Err, arith}
 use Rattle.std.proofs.lemmas.Bool.Decides.{nat_tests}
-use Rattle.ufmt.specs.Document.{Document, leaf, list_of, set_of, map_of, tuple_of, no_documents, no_pairs, Documents, first_document, documents, pairs_of, fields_of}
+use Rattle.ufmt_core.specs.Document.{Document, leaf, list_of, set_of, map_of, tuple_of, no_documents, no_pairs, Documents, first_document, documents, pairs_of, fields_of}
 use Rattle.ufmt_core.specs.declared.layout.Setting.{Setting}
 use Rattle.ufmt_core.specs.declared.layout.Kind.{Kind}
 use Rattle.ufmt_core.specs.declared.layout.Kind.TheVariants.{Brackets, Braces, Struct, Tuple, Unnamed}
 use Rattle.ufmt_core.specs.declared.layout.Count.TheVariants.{Zero, One, Several}
-use Rattle.ufmt.specs.Layout.{frame, inside, lead}
+use Rattle.ufmt_core.specs.Layout.{frame, inside, lead}
 use Rattle.ufmt_grammar.specs.declared.class.Class.{Class}
-use Rattle.ufmt.specs.Token.{IsWordOrEmpty}
+use Rattle.ufmt_grammar.specs.Token.{IsWordOrEmpty}
 use Rattle.ufmt_grammar.proofs.ReadingWords.{word_of_bytes}
 use Rattle.ufmt_grammar.specs.declared.class.Class.TheVariants.{Token, Debug}
-use Rattle.ufmt.specs.ReadingQuoted.{read_quoted}
-use Rattle.ufmt.specs.Reading.{Parse, choose, no_dots, last_dots, strip_dots, strip_only_dots, map_with, struct_with, parse_map, strip, word_of, front_of, after_front, is_whole, is_name, read_after_first, read_quotes, read_symbol, read_name, read_value, read_list, read_braces, read_map_or_set, read_named, read_without_name, read_by_front, read}
+use Rattle.ufmt_grammar.specs.ReadingQuoted.{read_quoted}
+use Rattle.ufmt_grammar.specs.Reading.{Parse, choose, no_dots, last_dots, strip_dots, strip_only_dots, map_with, struct_with, parse_map, strip, word_of, front_of, after_front, is_whole, is_name, read_after_first, read_quotes, read_symbol, read_name, read_value, read_list, read_braces, read_map_or_set, read_named, read_without_name, read_by_front, read}
 use Rattle.ufmt_grammar.proofs.Parsing.{strip_found}
 use Rattle.ufmt_grammar.proofs.ReadingTurns.{Takes, read_name_takes, strip_within}
 use Rattle.ufmt_grammar.proofs.ClassLeaves.{fronts_whole, leaf_begins, nothing_is_whole, symbol_is_leaf}

@@ -1,12 +1,12 @@
 -- An open block after one of its entries: the next entry, or its end.
 use Rattle.std.proofs.Common.{◌≡◌, ◌∙◌, ap, ℕ, zero, suc, ◌<◌, ◌≤◌, List, ◌∷◌, ◌++◌, length, length-append, Some, option_and_then, arith}
-use Rattle.ufmt.specs.Layout.{ending, frame, inside, lead, line_start, next}
+use Rattle.ufmt_core.specs.Layout.{ending, frame, inside, lead, line_start, next}
 use Rattle.ufmt_core.specs.declared.layout.Count.{Count}
 use Rattle.ufmt_core.specs.declared.layout.Count.TheVariants.{Zero}
 use Rattle.ufmt_core.specs.declared.layout.Kind.{Kind}
 use Rattle.ufmt_core.specs.declared.layout.Setting.{Setting}
 use Rattle.ufmt_grammar.specs.declared.class.Class.{Class}
-use Rattle.ufmt.specs.Reading.{strip, read_name, read_pair}
+use Rattle.ufmt_grammar.specs.Reading.{strip, read_name, read_pair}
 use Rattle.ufmt_grammar.proofs.Parsing.{strip-append, strip_found}
 use Rattle.ufmt_grammar.proofs.ReadingTurns.{Takes, strip_within, read_takes, read_pair_takes, read_name_takes}
 use Rattle.ufmt_scan.proofs.Strips.{if_any-next}

@@ -1,8 +1,8 @@
 -- The texts of a document's events make up its layout.
 use Rattle.std.proofs.Common.{◌≡◌, ◌∙◌, refl, ap, subst, sym, ℕ, suc, ◌+◌, ◌≤◌, Bool, true, false, List, [], ◌∷◌, ◌++◌, append_assoc, append-nil, arith}
 use Rattle.std.specs.Prelude.{⊤}
-use Rattle.ufmt.specs.Document.{Document, leaf, joined, list_of, set_of, map_of, struct_of, non_exhaustive_of, tuple_of, pretty_part, Documents, no_documents, first_document, Pairs, no_pairs, first_pair, Fields, no_fields, first_field, nest, nest_all, nest_pairs, nest_fields}
-use Rattle.ufmt.specs.Layout.{frame, setting, inside, entry_depth, later_lead, trail, lead, line_start, ending, next, block_text, tuple_kind, layout, texts, pair_texts, field_texts}
+use Rattle.ufmt_core.specs.Document.{Document, leaf, joined, list_of, set_of, map_of, struct_of, non_exhaustive_of, tuple_of, pretty_part, Documents, no_documents, first_document, Pairs, no_pairs, first_pair, Fields, no_fields, first_field, nest, nest_all, nest_pairs, nest_fields}
+use Rattle.ufmt_core.specs.Layout.{frame, setting, inside, entry_depth, later_lead, trail, lead, line_start, ending, next, block_text, tuple_kind, layout, texts, pair_texts, field_texts}
 use Rattle.ufmt_core.specs.declared.layout.Count.{Count}
 use Rattle.ufmt_core.specs.declared.layout.Count.TheVariants.{Zero, One, Several}
 use Rattle.ufmt_core.specs.declared.layout.Kind.{Kind}
@@ -11,11 +11,11 @@ use Rattle.ufmt_core.specs.declared.layout.Mode.{Mode}
 use Rattle.ufmt_core.specs.declared.layout.Mode.TheVariants.{Plain, Pretty}
 use Rattle.ufmt_core.specs.declared.layout.Setting.{Setting}
 use Rattle.ufmt_grammar.specs.declared.class.Class.{Class}
-use Rattle.ufmt.specs.Token.{IsBuilt, AreBuilt, PairsAreBuilt, FieldsAreBuilt}
+use Rattle.ufmt_grammar.specs.Token.{IsBuilt, AreBuilt, PairsAreBuilt, FieldsAreBuilt}
 use Rattle.ufmt_scan.specs.Scan.{TextEvent, events_of, tail_events, block_events, events_of_entries, events_of_pairs, events_of_fields, Leaf, Empty, OnlyDots}
 use Rattle.ufmt_grammar.proofs.ClassLeaves.{name_some}
 use Rattle.ufmt_grammar.proofs.DottedStructs.{dotted_layout, rest_text, rest_text-false}
-use Rattle.ufmt.specs.Reading.{last_dots}
+use Rattle.ufmt_grammar.specs.Reading.{last_dots}
 use Rattle.ufmt_scan.specs.ScanTexts.{block_depth, written, setting_after, texts_written, last_setting}
 
 -- the text of two lists of events is that of one, and then that of the other

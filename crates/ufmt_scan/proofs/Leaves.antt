@@ -2,11 +2,11 @@
 use Rattle.std.proofs.Common.{List, None, Some, [], ap, append-nil, arith, false, true, refl, subst, sym, ℕ, ◌==◌, ◌∙◌, ◌∷◌, ◌≡◌, ◌++◌, inl, inr, Bool, length}
 use Rattle.std.proofs.lemmas.Bool.Decides.{nat_tests}
 use Rattle.std.specs.Prelude.{◌↔◌, IsTrue, bytes_eq, codes}
-use Rattle.ufmt.specs.Leaves.{IsDebugLeaf, IsDebugText, outside}
-use Rattle.ufmt.specs.Reading.{Parse, after_front, front_of, is_whole, read_name, read_symbol}
+use Rattle.ufmt_grammar.specs.Leaves.{IsDebugLeaf, IsDebugText, outside}
+use Rattle.ufmt_grammar.specs.Reading.{Parse, after_front, front_of, is_whole, read_name, read_symbol}
 use Rattle.ufmt_grammar.specs.declared.class.Class.{Class}
 use Rattle.ufmt_grammar.specs.declared.class.Class.TheVariants.{Token, Debug}
-use Rattle.ufmt.specs.Token.{IsName, IsSymbol}
+use Rattle.ufmt_grammar.specs.Token.{IsName, IsSymbol}
 use Rattle.ufmt_grammar.proofs.Parsing.{same_parts}
 use Rattle.ufmt_grammar.proofs.ClassLeaves.{follower_ends_front, front_is, fronts_whole, nothing_follows, read_name_complete, read_name_sound, read_symbol_complete, read_symbol_sound}
 use Rattle.ufmt_grammar.proofs.DebugLeaves.{after_leaf-append, last_is_outside, leaf_from-append}

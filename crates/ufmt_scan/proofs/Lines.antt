@@ -3,7 +3,7 @@ use Rattle.std.proofs.Common.{◌≡◌, ◌∙◌, refl, ap, ℕ, zero, suc, �
 use Rattle.std.specs.Str.{IsAscii}
 use Rattle.std.proofs.Math.Seq.{take-append-add}
 use Rattle.std.proofs.lemmas.Str.Ascii.{IsAscii-cons, IsAscii-nil}
-use Rattle.ufmt.specs.Layout.{indentation}
+use Rattle.ufmt_core.specs.Layout.{indentation}
 
 take_indentation : (m n : ℕ) → m ≤ n → take (4 * m) (indentation n) ≡ indentation m
 take_indentation zero n few = refl

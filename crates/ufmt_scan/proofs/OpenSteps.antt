@@ -2,7 +2,7 @@
 use Rattle.std.proofs.Common.{◌≡◌, ◌⊎◌, inl, inr, ap, get_or, refl, sym, ℕ, ◌+◌, ◌<◌, List, ◌∷◌, length, Option, Some, None, Result, Ok, Err, arith}
 use Rattle.std.specs.Borrow.{Bor}
 use Rattle.ufmt_grammar.specs.declared.class.Class.{Class}
-use Rattle.ufmt.specs.Reading.{Parse, parse_map, read}
+use Rattle.ufmt_grammar.specs.Reading.{Parse, parse_map, read}
 use Rattle.ufmt_core.specs.declared.layout.Kind.TheVariants.{Struct}
 use Rattle.ufmt_core.specs.declared.layout.Mode.{Mode}
 use Rattle.ufmt_scan.specs.Private.Level.{budget_of, setting_at, Level}

@@ -2,11 +2,11 @@
 use Rattle.std.proofs.Common.{◌≡◌, ◌∙◌, refl, ap, sym, ℕ, ◌+◌, ◌<◌, ◌^◌, ◌-◌, min, List, [], ◌∷◌, ◌++◌, length, Some, Result, Ok, Err, Bor, arith, append-nil}
 use Rattle.std.proofs.Math.Nat.{zero-add}
 use Rattle.std.proofs.lemmas.List.{length-append}
-use Rattle.ufmt.specs.Document.{Document}
-use Rattle.ufmt.specs.Layout.{layout, setting}
+use Rattle.ufmt_core.specs.Document.{Document}
+use Rattle.ufmt_core.specs.Layout.{layout, setting}
 use Rattle.ufmt_grammar.specs.declared.class.Class.{Class}
-use Rattle.ufmt.specs.Reading.{parse_map, read}
-use Rattle.ufmt.specs.Token.{IsDocument, MayFollow, normal}
+use Rattle.ufmt_grammar.specs.Reading.{parse_map, read}
+use Rattle.ufmt_grammar.specs.Token.{IsDocument, MayFollow, normal}
 use Rattle.ufmt_grammar.proofs.ClassLeaves.{nothing_follows}
 use Rattle.ufmt_grammar.proofs.FramesClose.{Fits}
 use Rattle.ufmt_grammar.proofs.NormalForms.{IsDocument-normal, layout-normal}

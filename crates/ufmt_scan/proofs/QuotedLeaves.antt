@@ -9,12 +9,12 @@ use Rattle.ufmt_core.proofs.QuotedBytes.{escape-past_ascii}
 use Rattle.ufmt_core.proofs.QuotedCharacters.{escaped_all-bytes}
 use Rattle.std.proofs.lemmas.List.{take-append-drop}
 use Rattle.std.proofs.lemmas.Str.Ascii.{IsAscii-cons, IsAscii-nil}
-use Rattle.ufmt.specs.Reading.{strip}
+use Rattle.ufmt_grammar.specs.Reading.{strip}
 use Rattle.ufmt_grammar.proofs.Parsing.{strip_found}
 use Rattle.ufmt_scan.specs.Private.MarkedBytes.{is_marked, marked_len}
 use Rattle.ufmt_scan.specs.declared.quoted.TheConstants.{PLAIN_ASCII}
-use Rattle.ufmt.specs.Quoted.{IsQuote, IsQuoted, escape, escaped, escaped_all, escaped_byte, escaped_bytes, quoted}
-use Rattle.ufmt.specs.ReadingQuoted.{read_quoted}
+use Rattle.ufmt_core.specs.Quoted.{IsQuote, IsQuoted, escape, escaped, escaped_all, escaped_byte, escaped_bytes, quoted}
+use Rattle.ufmt_grammar.specs.ReadingQuoted.{read_quoted}
 use Rattle.ufmt_grammar.proofs.QuotedComplete.{length-escaped_bytes, quoted-bytes, read_quoted-complete}
 use Rattle.ufmt_grammar.proofs.QuotedSound.{read_quoted-sound}
 use Rattle.ufmt_grammar.proofs.QuotedUtf8.{quoted-utf8}

@@ -1,13 +1,13 @@
 -- The events of a block are made up of those of its entries.
 use Rattle.std.proofs.Common.{◌≡◌, refl, ap, ◌∙◌, sym, ℕ, ◌&&◌, Bool, true, false, List, [], ◌∷◌, ◌++◌, append_assoc, Option, Some, None, option_map, option_and_then}
-use Rattle.ufmt.specs.Document.{Document}
-use Rattle.ufmt.specs.Layout.{ending, frame, inside, next, later_lead, trail}
+use Rattle.ufmt_core.specs.Document.{Document}
+use Rattle.ufmt_core.specs.Layout.{ending, frame, inside, next, later_lead, trail}
 use Rattle.ufmt_core.specs.declared.layout.Count.{Count}
 use Rattle.ufmt_core.specs.declared.layout.Count.TheVariants.{One, Several}
 use Rattle.ufmt_core.specs.declared.layout.Kind.{Kind}
-use Rattle.ufmt.specs.Reading.{Parse, Rest, choose, parse_map, strip, with_entry, read_after_entry, read_after_first, read_end, read_further, read_others, read_turn}
+use Rattle.ufmt_grammar.specs.Reading.{Parse, Rest, choose, parse_map, strip, with_entry, read_after_entry, read_after_first, read_end, read_further, read_others, read_turn}
 use Rattle.ufmt_grammar.proofs.ReadingTurns.{Takes, read_others-read_turn}
-use Rattle.ufmt.proofs.Shifting.{lead-next}
+use Rattle.ufmt_core.proofs.Shifting.{lead-next}
 use Rattle.ufmt_core.proofs.Counts.{next-next}
 use Rattle.ufmt_scan.specs.Scan.{TextEvent, events_of, tail_events, Close, Dots, Next}
 use Rattle.ufmt_scan.specs.Private.Scanning.{Scanned, Turn, left_events, prefixed, scan_rest, then_scan, scan_turn}

@@ -1,10 +1,10 @@
 -- What the scan of a document at the front of a text says of the whole text.
 use Rattle.std.proofs.Common.{◌≡◌, refl, ap, subst, sym, ◌∙◌, ℕ, ◌==◌, true, false, List, [], ◌∷◌, ◌++◌, append-nil, eqb-true, length, Option, Some, None, option_and_then, Result, Ok, Err, IsErrAnd, Bor, arith}
 use Rattle.std.specs.Prelude.{⊤}
-use Rattle.ufmt.specs.Document.{Document}
-use Rattle.ufmt.specs.Layout.{layout, setting}
+use Rattle.ufmt_core.specs.Document.{Document}
+use Rattle.ufmt_core.specs.Layout.{layout, setting}
 use Rattle.ufmt_grammar.specs.declared.class.Class.{Class}
-use Rattle.ufmt.specs.Reading.{if_all, parse_map, read, read_text}
+use Rattle.ufmt_grammar.specs.Reading.{if_all, parse_map, read, read_text}
 use Rattle.ufmt_grammar.proofs.Parsing.{mapped_from, same_parts}
 use Rattle.ufmt_grammar.proofs.ReadingWhole.{reads_each_text, reads_only_texts, refuses_only_unprinted}
 use Rattle.ufmt_core.specs.declared.layout.Mode.{Mode}

@@ -1,9 +1,9 @@
 -- Steps of a scan, one after another: what the sink took, and what is left.
 use Rattle.std.proofs.Common.{◌≡◌, refl, ap, subst, ◌∙◌, ℕ, zero, suc, ◌<◌, ◌+◌, ◌-◌, min, List, [], ◌∷◌, ◌++◌, append_assoc, append-nil, length, sym, Option, Some, None, Result, Ok, Err, IsErrAnd, codes, option_and_then, arith}
 use Rattle.std.specs.Borrow.{Bor}
-use Rattle.ufmt.specs.Layout.{inside, setting}
+use Rattle.ufmt_core.specs.Layout.{inside, setting}
 use Rattle.ufmt_grammar.specs.declared.class.Class.{Class}
-use Rattle.ufmt.specs.Reading.{Parse, parse_map, read, read_name, read_value, strip}
+use Rattle.ufmt_grammar.specs.Reading.{Parse, parse_map, read, read_name, read_value, strip}
 use Rattle.ufmt_core.specs.declared.layout.Mode.{Mode}
 use Rattle.ufmt_core.specs.declared.layout.Mode.TheVariants.{Plain, Pretty}
 use Rattle.ufmt_scan.specs.declared.scan.event.ScanError.TheVariants.{NotText}

@@ -3,9 +3,9 @@ use Rattle.std.proofs.Common.{◌≡◌, ◌⊎◌, inl, inr, ◌≤◌, refl, s
 use Rattle.std.specs.Prelude.{◌≢◌, unwrap_or}
 use Rattle.std.proofs.lemmas.Bool.{cases_lt}
 use Rattle.std.proofs.lemmas.List.{append_cancel_right, take-append-drop}
-use Rattle.ufmt.specs.Quoted.{IsQuote, escape, escaped_byte, escaped_bytes, unescaped_len}
-use Rattle.ufmt.specs.Reading.{strip}
-use Rattle.ufmt.specs.ReadingQuoted.{read_escaped, decoded}
+use Rattle.ufmt_core.specs.Quoted.{IsQuote, escape, escaped_byte, escaped_bytes, unescaped_len}
+use Rattle.ufmt_grammar.specs.Reading.{strip}
+use Rattle.ufmt_grammar.specs.ReadingQuoted.{read_escaped, decoded}
 use Rattle.ufmt_core.proofs.QuotedBytes as core
 use Rattle.ufmt_grammar.proofs.Parsing.{same_parts, strip_found, strip_of_front, strip_joined}
 use Rattle.ufmt_grammar.proofs.QuotedComplete.{escaped-no_quote, length-escaped, quote_ascii, read_escaped-complete}

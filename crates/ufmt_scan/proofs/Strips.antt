@@ -1,9 +1,9 @@
 -- Texts stripped from slices.
 use Rattle.std.proofs.Common.{◌≡◌, ◌≢◌, refl, sym, ap, ℕ, suc, ◌-◌, ◌≤◌, List, ◌++◌, Option, Some, None, codes, Bor, MatchOption, arith}
-use Rattle.ufmt.specs.Layout.{if_any, indentation, next}
+use Rattle.ufmt_core.specs.Layout.{if_any, indentation, next}
 use Rattle.ufmt_core.specs.declared.layout.Count.{Count}
 use Rattle.ufmt_core.specs.declared.layout.Count.TheVariants.{Zero, One, Several}
-use Rattle.ufmt.specs.Reading.{strip}
+use Rattle.ufmt_grammar.specs.Reading.{strip}
 use Rattle.ufmt_grammar.proofs.Parsing.{strip_of_front, strip_of_none}
 pub use Rattle.ufmt_grammar.proofs.Parsing.{strip-append}
 use Rattle.ufmt_scan.specs.Rest.{now_of}

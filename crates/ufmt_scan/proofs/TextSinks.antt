@@ -2,13 +2,13 @@
 use Rattle.std.proofs.Common.{◌≡◌, ◌∙◌, sym, subst, ℕ, Bool, true, false, List, [], ◌∷◌, ◌++◌, append-nil, Result, Ok, Err, arith}
 use Rattle.std.specs.Borrow.{MutBor}
 use Rattle.std.specs.Prelude.{⊤}
-use Rattle.ufmt.specs.Document.{Document}
-use Rattle.ufmt.specs.Layout.{layout, setting}
+use Rattle.ufmt_core.specs.Document.{Document}
+use Rattle.ufmt_core.specs.Layout.{layout, setting}
 use Rattle.ufmt_core.specs.declared.layout.Mode.{Mode}
 use Rattle.ufmt_core.specs.declared.layout.Mode.TheVariants.{Plain, Pretty}
 use Rattle.ufmt_grammar.specs.declared.class.Class.{Class}
-use Rattle.ufmt.specs.Token.{IsDocument, normal}
-use Rattle.ufmt.specs.Writes.{Seen, Writes}
+use Rattle.ufmt_grammar.specs.Token.{IsDocument, normal}
+use Rattle.ufmt_core.specs.Writes.{Seen, Writes}
 use Rattle.ufmt_grammar.proofs.NormalForms.{IsDocument-normal, layout-normal, normal-normal}
 use Rattle.ufmt_grammar.proofs.OneWay.{texts_agree}
 use Rattle.ufmt_core.proofs.Writing.{Writes-fails, Writes-then}

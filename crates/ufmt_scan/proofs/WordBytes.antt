@@ -6,8 +6,8 @@ use Rattle.std.proofs.lemmas.Bool.Decides.{nat_tests}
 use Rattle.std.proofs.lemmas.Bool.{agree_below, agree_below_at, cases_lt}
 use Rattle.std.proofs.lemmas.List.{get_or_past}
 use Rattle.std.proofs.lemmas.Str.Ascii.{IsAscii-cons, IsAscii-nil}
-use Rattle.ufmt.specs.Reading.{after_word, word_of}
-use Rattle.ufmt.specs.Token.{is_word_byte, IsWordOrEmpty}
+use Rattle.ufmt_grammar.specs.Reading.{after_word, word_of}
+use Rattle.ufmt_grammar.specs.Token.{is_word_byte, IsWordOrEmpty}
 use Rattle.ufmt_scan.specs.Private.MarkedBytes.{is_marked, marked_len}
 use Rattle.ufmt_scan.specs.declared.leaf.TheConstants.{WORD_BYTES}
 

@@ -1,7 +1,7 @@
 -- The events of a small document, and their texts, computed.
 use Rattle.std.proofs.Common.{◌≡◌, refl, [], ◌∷◌, codes}
-use Rattle.ufmt.specs.Document.{Document, leaf, list_of, set_of, map_of, struct_of, non_exhaustive_of, tuple_of, no_documents, first_document, no_pairs, first_pair, no_fields, first_field}
-use Rattle.ufmt.specs.Layout.{setting}
+use Rattle.ufmt_core.specs.Document.{Document, leaf, list_of, set_of, map_of, struct_of, non_exhaustive_of, tuple_of, no_documents, first_document, no_pairs, first_pair, no_fields, first_field}
+use Rattle.ufmt_core.specs.Layout.{setting}
 use Rattle.ufmt_core.specs.declared.layout.Count.TheVariants.{One, Several}
 use Rattle.ufmt_core.specs.declared.layout.Kind.TheVariants.{Brackets, Braces, Struct, Unnamed}
 use Rattle.ufmt_core.specs.declared.layout.Mode.TheVariants.{Plain, Pretty}

@@ -1,6 +1,6 @@
 -- The mode and depth of a document's layout, by how many blocks are open around it.
 use Rattle.std.specs.Prelude.{ℕ}
-use Rattle.ufmt.specs.Layout.{setting}
+use Rattle.ufmt_core.specs.Layout.{setting}
 use Rattle.ufmt_core.specs.declared.layout.Mode.{Mode}
 use Rattle.ufmt_core.specs.declared.layout.Mode.TheVariants.{Plain, Pretty}
 use Rattle.ufmt_core.specs.declared.layout.Setting.{Setting}

@@ -1,8 +1,8 @@
 -- Where a text stops being one of a document.
 use Rattle.std.specs.Prelude.{◌≡◌, ◌≤◌, ◌++◌, ℕ, List, length}
-use Rattle.ufmt.specs.Document.{Document}
+use Rattle.ufmt_core.specs.Document.{Document}
 use Rattle.ufmt_grammar.specs.declared.class.Class.{Class}
-use Rattle.ufmt.specs.Token.{IsDocument, MayFollow}
+use Rattle.ufmt_grammar.specs.Token.{IsDocument, MayFollow}
 
 -- a place up to which an input was read as a text of a document of the class
 pub record ReadsUpTo (class : Class) (text_of : Document → List ℕ) (input : List ℕ) (place : ℕ) : Type 0 where

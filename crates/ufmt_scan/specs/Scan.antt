@@ -1,8 +1,8 @@
 -- The events of a document, and what sinks and scans promise.
 use Rattle.std.specs.Prelude.{◌≡◌, ℕ, Bool, true, false, cond, List, [], ◌∷◌, ◌++◌, Result, MatchResult, ⊤}
 use Rattle.std.specs.Borrow.{Bor}
-use Rattle.ufmt.specs.Document.{Document, leaf, joined, list_of, set_of, map_of, struct_of, non_exhaustive_of, tuple_of, pretty_part, Documents, no_documents, first_document, Pairs, no_pairs, first_pair, Fields, no_fields, first_field}
-use Rattle.ufmt.specs.Layout.{next, tuple_kind}
+use Rattle.ufmt_core.specs.Document.{Document, leaf, joined, list_of, set_of, map_of, struct_of, non_exhaustive_of, tuple_of, pretty_part, Documents, no_documents, first_document, Pairs, no_pairs, first_pair, Fields, no_fields, first_field}
+use Rattle.ufmt_core.specs.Layout.{next, tuple_kind}
 use Rattle.ufmt_core.specs.declared.layout.Count.{Count}
 use Rattle.ufmt_core.specs.declared.layout.Count.TheVariants.{One}
 use Rattle.ufmt_core.specs.declared.layout.Kind.{Kind}

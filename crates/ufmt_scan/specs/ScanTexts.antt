@@ -1,8 +1,8 @@
 -- The text of each event, as a sink that lays a text out writes it.
 use Rattle.std.specs.Prelude.{ℕ, ◌-◌, List, [], ◌∷◌, ◌++◌, codes}
-use Rattle.ufmt.specs.Layout.{frame, setting, inside, later_lead, trail, lead, line_start}
+use Rattle.ufmt_core.specs.Layout.{frame, setting, inside, later_lead, trail, lead, line_start}
 use Rattle.ufmt_core.specs.declared.layout.Count.TheVariants.{Zero}
-use Rattle.ufmt.specs.Reading.{last_dots}
+use Rattle.ufmt_grammar.specs.Reading.{last_dots}
 use Rattle.ufmt_core.specs.declared.layout.Mode.{Mode}
 use Rattle.ufmt_core.specs.declared.layout.Mode.TheVariants.{Plain, Pretty}
 use Rattle.ufmt_core.specs.declared.layout.Setting.{Setting}

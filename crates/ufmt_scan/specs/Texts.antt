@@ -1,11 +1,11 @@
 -- What readers and conversions promise.
 use Rattle.std.specs.Prelude.{◌≡◌, ◌≢◌, List, ℕ, Bool, Result, String, IfOk, IsOk, IsErrOf, is_ok, length, string_bytes, ⊤}
-use Rattle.ufmt.specs.Buffer.{Fronts}
-use Rattle.ufmt.specs.Document.{Document}
+use Rattle.ufmt_core.specs.Buffer.{Fronts}
+use Rattle.ufmt_core.specs.Document.{Document}
 use Rattle.ufmt_grammar.specs.declared.class.Class.{Class}
 use Rattle.ufmt_grammar.specs.declared.class.Class.TheVariants.{Token}
-use Rattle.ufmt.specs.Token.{IsDocument, normal}
-use Rattle.ufmt.specs.Writes.{Seen, Writes}
+use Rattle.ufmt_grammar.specs.Token.{IsDocument, normal}
+use Rattle.ufmt_core.specs.Writes.{Seen, Writes}
 use Rattle.ufmt_scan.specs.declared.error.ReadError.{ReadError}
 use Rattle.ufmt_scan.specs.declared.error.ReadError.TheVariants.{NotText}
 use Rattle.ufmt_scan.specs.declared.scan.event.ScanError.{ScanError}

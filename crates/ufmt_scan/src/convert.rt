@@ -1,6 +1,6 @@
 //! Conversions of plain texts to pretty ones and back. Those with `debug` in their name convert the texts
 //! of debug documents, the others those of token documents.
-ghost use Rattle.ufmt.specs.Layout.{layout, plain_text, pretty_text, setting};
+ghost use Rattle.ufmt_core.specs.Layout.{layout, plain_text, pretty_text, setting};
 ghost use Rattle.ufmt_grammar.specs.declared.class.Class.TheVariants.{Debug};
 ghost use Rattle.ufmt_scan.specs.Texts.{Converts, ConvertsAs, ConvertsInto, ConvertsIntoAs, ConvertsTo, ConvertsToAs};
 
@@ -12,9 +12,9 @@ use crate::scan::{ScanError, scan};
 use growing::Growing;
 use std::alloc::Global;
 use text_sink::TextSink;
-use ufmt::class::Class;
-use ufmt::layout::{Mode, Setting};
-use ufmt::{Cursor, Full, uWrite};
+use ufmt_core::layout::{Mode, Setting};
+use ufmt_core::{Cursor, Full, uWrite};
+use ufmt_grammar::class::Class;
 
 /// Writes the pretty text of the token documents with this plain text to the writer, and takes no
 /// memory of its own. Fails with `NotText` only if no token document has this text; any other error

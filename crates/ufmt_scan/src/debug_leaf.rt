@@ -1,13 +1,13 @@
 //! Leaves of debug documents: words and texts in quotes in a row.
 ghost use Rattle.std.specs.Prelude.{◌≡◌, ◌<◌, ◌≤◌, ◌==◌, ◌||◌, ◌≢◌, ◌∷◌, [], ℕ, IfSome, IsTrue, MatchOption, false, length, nat_le, not, true};
 ghost use Rattle.ufmt_grammar.specs.declared.class.Class.TheVariants.{Debug};
-ghost use Rattle.ufmt.specs.Leaves.{between, is_control, is_debug_byte, is_quote, outside};
+ghost use Rattle.ufmt_grammar.specs.Leaves.{between, is_control, is_debug_byte, is_quote, outside};
 ghost use Rattle.ufmt_scan.specs.Private.Fronts.{EndsLeaf, IsSplit, NeverCloses, Passes, SplitsFront, StaysBetween, StopsWord, colon_belongs, is_ending};
 
 use crate::front::Front;
 use crate::leaf::marked_len;
 use crate::quoted::split_plain;
-use ufmt::ascii::text_from;
+use ufmt_core::ascii::text_from;
 
 // `w` marks each ASCII byte that a word of a debug document may have, but for colons, and `e` each byte
 // that no leaf has outside of quotes.

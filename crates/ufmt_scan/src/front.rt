@@ -1,13 +1,13 @@
 //! The name or the leaf at the front of a text.
 ghost use Rattle.std.specs.Prelude.{◌≡◌, ◌≢◌, [], List, ℕ, IfSome, false, option_map};
 ghost use Rattle.ufmt_grammar.specs.declared.class.Class.TheVariants.{Token};
-ghost use Rattle.ufmt.specs.Reading.{read_name};
+ghost use Rattle.ufmt_grammar.specs.Reading.{read_name};
 ghost use Rattle.ufmt_scan.specs.Private.Fronts.{IsSplit, SplitsFront};
 
 use crate::debug_leaf::{split_debug_quotes, split_debug_word, split_leaf};
 use crate::leaf::split_word;
-use ufmt::ascii::text_from;
-use ufmt::class::Class;
+use ufmt_core::ascii::text_from;
+use ufmt_grammar::class::Class;
 
 /// A leaf at the front of a text, which may be empty, and what follows it.
 #[derive(Clone, Copy)]

@@ -1,6 +1,6 @@
 //! A law of conversions, as the contract of a function.
 ghost use Rattle.std.specs.Prelude.{◌≡◌, List, ℕ};
-ghost use Rattle.ufmt.specs.Document.{Document};
+ghost use Rattle.ufmt_core.specs.Document.{Document};
 ghost use Rattle.ufmt_grammar.specs.declared.class.Class.{Class};
 ghost use Rattle.ufmt_scan.specs.Texts.{IsConvertedAs, NoDocumentPrintsAs};
 

@@ -1,15 +1,15 @@
 //! Leaves: words, `()`, and texts in quotes.
 ghost use Rattle.std.specs.Prelude.{◌≡◌, ◌≤◌, ◌+◌, ◌↔◌, IsTrue, drop, length, option_map};
 ghost use Rattle.ufmt_grammar.specs.declared.class.Class.TheVariants.{Token};
-ghost use Rattle.ufmt.specs.Leaves.{IsDebugLeaf};
-ghost use Rattle.ufmt.specs.Token.{IsLeaf, IsName, IsSymbol, IsTokenLeaf, IsWord};
-ghost use Rattle.ufmt.specs.Reading.{after_word, read_quotes, read_symbol, word_of};
+ghost use Rattle.ufmt_grammar.specs.Leaves.{IsDebugLeaf};
+ghost use Rattle.ufmt_grammar.specs.Token.{IsLeaf, IsName, IsSymbol, IsTokenLeaf, IsWord};
+ghost use Rattle.ufmt_grammar.specs.Reading.{after_word, read_quotes, read_symbol, word_of};
 ghost use Rattle.ufmt_scan.specs.Private.MarkedBytes.{is_marked, marked_len};
 
 use crate::front::{split_front, split_name};
 use crate::quoted::{split_any, split_plain};
 use crate::strip::strip_piece;
-use ufmt::class::Class;
+use ufmt_grammar::class::Class;
 
 // Marks each byte that a word may have: ASCII digits, ASCII letters, `_` and `-`.
 static WORD_BYTES: [u8; 256] = *b"\

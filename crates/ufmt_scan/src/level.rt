@@ -1,16 +1,16 @@
 //! The level of a document in a text, and what is around the entries of a block there.
 ghost use Rattle.std.specs.Prelude.{◌≡◌};
-ghost use Rattle.ufmt.specs.Layout.{frame, inside, lead};
+ghost use Rattle.ufmt_core.specs.Layout.{frame, inside, lead};
 ghost use Rattle.ufmt_core.specs.declared.layout.Count.TheVariants.{Zero};
-ghost use Rattle.ufmt.specs.Reading.{last_dots, strip, strip_only_dots};
+ghost use Rattle.ufmt_grammar.specs.Reading.{last_dots, strip, strip_only_dots};
 ghost use Rattle.ufmt_scan.specs.Private.Level.{setting_at};
 ghost use Rattle.ufmt_scan.specs.Rest.{now_of};
 
 use crate::strip::{
     setting_in, strip_byte, strip_closing, strip_first_lead, strip_piece, strip_to_line,
 };
-use ufmt::class::Class;
-use ufmt::layout::{Count, Kind, Mode, Setting};
+use ufmt_core::layout::{Count, Kind, Mode, Setting};
+use ufmt_grammar::class::Class;
 
 /// The class of a document, the mode of its layout, and how many blocks are open around it.
 #[derive(Clone, Copy)]

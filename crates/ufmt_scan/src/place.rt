@@ -1,5 +1,5 @@
 //! How much of a text fits the documents of a class.
-ghost use Rattle.ufmt.specs.Layout.{layout, setting};
+ghost use Rattle.ufmt_core.specs.Layout.{layout, setting};
 ghost use Rattle.ufmt_scan.specs.Places.{ReadsUpTo};
 ghost use Rattle.ufmt_scan.specs.Private.Place.{Counted};
 ghost use Rattle.std.proofs.Common.{refl, sym};
@@ -8,8 +8,8 @@ ghost use Rattle.std.proofs.Math.Nat.{add-zero};
 use crate::convert::text_sink::{pieces, setting_after};
 use crate::scan::{Event, Sink, scan_once};
 use std::convert::Infallible;
-use ufmt::class::Class;
-use ufmt::layout::{Mode, Setting};
+use ufmt_core::layout::{Mode, Setting};
+use ufmt_grammar::class::Class;
 
 /// Returns how many bytes at the front were read before the piece that doesn't fit, or all of them if some
 /// document of this class has this text in this mode. A piece is a leaf, or what one event of `scan` has

@@ -2,16 +2,16 @@
 ghost use Rattle.std.specs.Prelude.{◌≡◌, ◌≢◌, ◌≤◌, ◌+◌, ◌++◌, ◌∷◌, ℕ, List, IfSome, IsNone, MatchOption, Some, length, option_map, slice_index};
 ghost use Rattle.std.specs.Char.{digit_value};
 ghost use Rattle.std.specs.Str.{continuation_len};
-ghost use Rattle.ufmt.specs.Quoted.{IsQuote, escaped_byte};
-ghost use Rattle.ufmt.specs.Reading.{strip};
-ghost use Rattle.ufmt.specs.ReadingQuoted.{read_quoted, decoded};
+ghost use Rattle.ufmt_core.specs.Quoted.{IsQuote, escaped_byte};
+ghost use Rattle.ufmt_grammar.specs.Reading.{strip};
+ghost use Rattle.ufmt_grammar.specs.ReadingQuoted.{read_quoted, decoded};
 ghost use Rattle.ufmt_scan.specs.Rest.{now_of};
 ghost use Rattle.ufmt_scan.specs.Private.Spelled.{Closes, IsOneCharacter, IsSpelled, NeverCloses};
 
 use crate::leaf::marked_len;
 use crate::strip::{strip_byte, strip_piece};
-use ufmt::ascii::text_from;
-use ufmt::quoted::{escape, unescaped_len};
+use ufmt_core::ascii::text_from;
+use ufmt_core::quoted::{escape, unescaped_len};
 
 // Marks each ASCII byte that has no escape in a quoted text.
 static PLAIN_ASCII: [u8; 256] = *b"\

@@ -1,7 +1,7 @@
 //! Scans a text in either mode, and emits its events to a sink.
 ghost use Rattle.std.specs.Prelude.{◌≡◌, ◌<◌, ◌≤◌, [], IfOk, List, Some, length};
-ghost use Rattle.ufmt.specs.Layout.{layout, setting};
-ghost use Rattle.ufmt.specs.Reading.{parse_map, read};
+ghost use Rattle.ufmt_core.specs.Layout.{layout, setting};
+ghost use Rattle.ufmt_grammar.specs.Reading.{parse_map, read};
 ghost use Rattle.ufmt_scan.specs.Private.Scanning.{ScansOn, kind_of, scan_next, scan_ends, scan_begun, scan_left, open_stages, Stage};
 ghost use Rattle.ufmt_scan.specs.Scan.{Scans, events_of};
 
@@ -11,8 +11,8 @@ mod step;
 use crate::level::Level;
 pub use event::{Event, ScanError, Sink};
 use step::{Stage, after_document, begin, field_name};
-use ufmt::class::Class;
-use ufmt::layout::{Kind, Mode};
+use ufmt_core::layout::{Kind, Mode};
+use ufmt_grammar::class::Class;
 
 /// Emits the events of the document of this class that has this text, in the text's order. Fails
 /// with `NotText` only if no document of the class has this text; any other error is the sink's. The

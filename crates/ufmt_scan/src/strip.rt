@@ -1,12 +1,12 @@
 //! What is around the entries of a block, stripped from the front of a text.
 ghost use Rattle.std.specs.Prelude.{◌≡◌, ◌≢◌, ◌∷◌, ◌++◌, [], MatchBool};
-ghost use Rattle.ufmt.specs.Layout.{frame, lead, line_start};
+ghost use Rattle.ufmt_core.specs.Layout.{frame, lead, line_start};
 ghost use Rattle.ufmt_core.specs.declared.layout.Count.TheVariants.{Zero};
-ghost use Rattle.ufmt.specs.Reading.{strip};
+ghost use Rattle.ufmt_grammar.specs.Reading.{strip};
 ghost use Rattle.ufmt_scan.specs.Depth.{setting_in};
 ghost use Rattle.ufmt_scan.specs.Rest.{now_of};
 
-use ufmt::layout::{Count, Kind, Mode, Setting};
+use ufmt_core::layout::{Count, Kind, Mode, Setting};
 
 const ONE_INDENT: [u8; 4] = *b"    ";
 

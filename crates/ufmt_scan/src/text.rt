@@ -1,14 +1,14 @@
 //! Whether a text is one of a document of a class.
 ghost use Rattle.std.specs.Prelude.{IsFalse, IsTrue, ⊤};
-ghost use Rattle.ufmt.specs.Document.{Document};
-ghost use Rattle.ufmt.specs.Layout.{layout, setting};
+ghost use Rattle.ufmt_core.specs.Document.{Document};
+ghost use Rattle.ufmt_core.specs.Layout.{layout, setting};
 ghost use Rattle.ufmt_grammar.specs.declared.class.Class.TheVariants.{Debug};
 ghost use Rattle.ufmt_scan.specs.Texts.{IsNormalForm, IsNormalFormAs, NoDocumentPrints, NoDocumentPrintsAs};
 
 use crate::scan::{Event, Sink, scan};
 use std::convert::Infallible;
-use ufmt::class::Class;
-use ufmt::layout::Mode;
+use ufmt_core::layout::Mode;
+use ufmt_grammar::class::Class;
 
 /// Returns whether some token document has this text in this mode. Takes no memory.
 pub fn is_text(mode: Mode, text: &[u8]) -> bool

@@ -2,8 +2,8 @@
 use Rattle.std.specs.Prelude.{◌≡◌, ℕ, ◌==◌, ◌&&◌, ◌||◌, nat_le, Bool, true, false, not, List, [], ◌∷◌, ◌++◌, Option, MatchOption, ⊤}
 use Rattle.ufmt_core.specs.Bytes.{colon}
 use Rattle.ufmt_grammar.specs.declared.class.Class.{Class}
-use Rattle.ufmt.specs.Leaves.{Place, outside, between, has_quote, is_debug_byte, is_quote, leads_on}
-use Rattle.ufmt.specs.Reading.{front_of, after_front, is_whole, is_name, leaf_from, after_leaf, last_place, is_outside}
+use Rattle.ufmt_grammar.specs.Leaves.{Place, outside, between, has_quote, is_debug_byte, is_quote, leads_on}
+use Rattle.ufmt_grammar.specs.Reading.{front_of, after_front, is_whole, is_name, leaf_from, after_leaf, last_place, is_outside}
 use Rattle.ufmt_scan.specs.declared.front.Front.{Front}
 
 -- the longest name or leaf at the front, and what follows it

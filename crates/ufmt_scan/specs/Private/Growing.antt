@@ -1,6 +1,6 @@
 -- What contracts see of a text that grows.
 use Rattle.std.specs.Prelude.{List, [], ℕ, take, ⊤}
-use Rattle.ufmt.specs.Writes.{Seen}
+use Rattle.ufmt_core.specs.Writes.{Seen}
 use Rattle.ufmt_scan.specs.declared.convert.growing.Growing.{Growing}
 
 -- the bytes so far

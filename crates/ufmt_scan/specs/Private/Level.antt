@@ -1,10 +1,10 @@
 -- The mode and depth of layout at each level of a scan.
 use Rattle.std.specs.Prelude.{ℕ, zero, suc, ◌-◌, None}
-use Rattle.ufmt.specs.Document.{Document}
-use Rattle.ufmt.specs.Layout.{inside}
+use Rattle.ufmt_core.specs.Document.{Document}
+use Rattle.ufmt_core.specs.Layout.{inside}
 use Rattle.ufmt_core.specs.declared.layout.Setting.{Setting}
 use Rattle.ufmt_grammar.specs.declared.class.Class.{Class}
-use Rattle.ufmt.specs.Reading.{Parse, read}
+use Rattle.ufmt_grammar.specs.Reading.{Parse, read}
 use Rattle.ufmt_scan.specs.Depth.{setting_in}
 pub use Rattle.ufmt_scan.specs.declared.level.Level.{Level}
 

@@ -1,15 +1,15 @@
 -- The events of what is left of a text, at each step of a scan.
 use Rattle.std.specs.Prelude.{◌≡◌, ℕ, zero, suc, ◌<◌, length, reverse, take, Bool, true, false, ◌&&◌, cond, List, [], ◌∷◌, ◌++◌, map, codes, Option, Some, None, option_and_then, MatchOption, Result, MatchResult, IfOk}
 use Rattle.std.specs.Borrow.{Bor}
-use Rattle.ufmt.specs.Document.{Document, leaf}
-use Rattle.ufmt.specs.Layout.{frame, inside, lead, next, setting, trail}
+use Rattle.ufmt_core.specs.Document.{Document, leaf}
+use Rattle.ufmt_core.specs.Layout.{frame, inside, lead, next, setting, trail}
 use Rattle.ufmt_core.specs.declared.layout.Count.{Count}
 use Rattle.ufmt_core.specs.declared.layout.Count.TheVariants.{Zero, One, Several}
 use Rattle.ufmt_core.specs.declared.layout.Kind.{Kind}
 use Rattle.ufmt_core.specs.declared.layout.Kind.TheVariants as kinds
 use Rattle.ufmt_core.specs.declared.layout.Mode.{Mode}
 use Rattle.ufmt_grammar.specs.declared.class.Class.{Class}
-use Rattle.ufmt.specs.Reading.{Parse, Dots, Rest, choose, no_dots, parse_map, strip, strip_dots, read, read_named, read_without_name, read_name, read_pair, read_others}
+use Rattle.ufmt_grammar.specs.Reading.{Parse, Dots, Rest, choose, no_dots, parse_map, strip, strip_dots, read, read_named, read_without_name, read_name, read_pair, read_others}
 use Rattle.ufmt_scan.specs.declared.scan.event.Event.TheVariants as events
 use Rattle.ufmt_scan.specs.declared.scan.event.ScanError.TheVariants.{NotText, Sink}
 use Rattle.ufmt_scan.specs.declared.scan.OpenBlocks.{OpenBlocks}

@@ -1,8 +1,8 @@
 -- Bytes as they are written between quotes, up to the closing quote.
 use Rattle.std.specs.Prelude.{◌≡◌, ◌≢◌, ℕ, ◌==◌, Bool, true, List, ◌∷◌, ◌++◌, length}
 use Rattle.std.specs.Str.{all_scalars}
-use Rattle.ufmt.specs.Bytes.{apostrophe}
-use Rattle.ufmt.specs.Quoted.{IsQuote, escaped_bytes, quoted}
+use Rattle.ufmt_core.specs.Bytes.{apostrophe}
+use Rattle.ufmt_core.specs.Quoted.{IsQuote, escaped_bytes, quoted}
 
 -- the text is some bytes, as they are written between two of these quotes, and then the rest
 pub record IsSpelled (quote : ℕ) (t rest : List ℕ) : Type 0 where

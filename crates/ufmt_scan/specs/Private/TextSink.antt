@@ -1,6 +1,6 @@
 -- What a sink that lays texts out has written.
 use Rattle.std.specs.Prelude.{◌≡◌, ℕ, Bool, List}
-use Rattle.ufmt.specs.Writes.{Seen, Writes}
+use Rattle.ufmt_core.specs.Writes.{Seen, Writes}
 use Rattle.ufmt_scan.specs.declared.convert.text_sink.TextSink.{TextSink}
 use Rattle.ufmt_scan.specs.Scan.{TextEvent}
 use Rattle.ufmt_scan.specs.ScanTexts.{texts_written, last_setting}

@@ -1,10 +1,10 @@
 //! A text that grows in memory.
 ghost use Rattle.std.specs.Prelude.{◌≡◌, ◌<◌, ◌≤◌, ◌+◌, ◌++◌, [], is_ok, length, string_bytes, take, true};
 ghost use Rattle.std.specs.Str.{is_utf8};
-ghost use Rattle.ufmt.specs.Writes.{Writes};
+ghost use Rattle.ufmt_core.specs.Writes.{Writes};
 
 use std::alloc::{AllocError, Global};
-use ufmt::{Cursor, uWrite};
+use ufmt_core::{Cursor, uWrite};
 
 // The vector is filled with these after the text.
 static ZEROS: [u8; 1024] = [0; 1024];

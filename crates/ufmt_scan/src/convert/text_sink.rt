@@ -1,8 +1,8 @@
 //! A sink that lays out the events that it takes.
 ghost use Rattle.std.specs.Prelude.{◌≡◌, ◌<◌, ◌++◌, All, is_ok, true, false};
-ghost use Rattle.ufmt.specs.Layout.{frame, indentation, lead};
+ghost use Rattle.ufmt_core.specs.Layout.{frame, indentation, lead};
 ghost use Rattle.ufmt_core.specs.declared.layout.Count.TheVariants.{Zero};
-ghost use Rattle.ufmt.specs.Writes.{Writes};
+ghost use Rattle.ufmt_core.specs.Writes.{Writes};
 ghost use Rattle.ufmt_scan.specs.Private.TextSink.{Wrote};
 ghost use Rattle.ufmt_scan.specs.Scan.{event_now};
 ghost use Rattle.ufmt_scan.specs.ScanTexts.{setting_after, written};
@@ -10,9 +10,9 @@ ghost use Rattle.std.proofs.Common.{refl};
 ghost use Rattle.ufmt_core.proofs.Writing.{Writes-nothing};
 
 use crate::scan::{Event, Sink};
-use ufmt::ascii::text_from;
-use ufmt::layout::{COLON, Count, Kind, Mode, Setting};
-use ufmt::uWrite;
+use ufmt_core::ascii::text_from;
+use ufmt_core::layout::{COLON, Count, Kind, Mode, Setting};
+use ufmt_core::uWrite;
 
 // The front of a line and its indentation at this depth. They are cut from a line at the greatest
 // depth, whose indentation is 17 times 60 spaces.

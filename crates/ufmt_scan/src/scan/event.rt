@@ -2,7 +2,7 @@
 ghost use Rattle.std.specs.Prelude.{[], List, is_ok};
 ghost use Rattle.ufmt_scan.specs.Scan.{TakesEvent, TextEvent, event_now};
 
-use ufmt::layout::{Count, Kind};
+use ufmt_core::layout::{Count, Kind};
 
 /// What comes next in a text. `T` is the text of a leaf or a name.
 #[derive(Clone, Copy)]

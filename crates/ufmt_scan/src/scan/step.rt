@@ -1,7 +1,7 @@
 //! Which event comes next in a text.
 ghost use Rattle.std.specs.Prelude.{◌≡◌, ◌≢◌, ◌<◌, ◌≤◌, ◌++◌, ◌∷◌, [], IfOk, length, suc, ℕ};
-ghost use Rattle.ufmt.specs.Layout.{entry_depth, line_start, next, later_lead};
-ghost use Rattle.ufmt.specs.Reading.{parse_map, read, read_without_name};
+ghost use Rattle.ufmt_core.specs.Layout.{entry_depth, line_start, next, later_lead};
+ghost use Rattle.ufmt_grammar.specs.Reading.{parse_map, read, read_without_name};
 ghost use Rattle.ufmt_scan.specs.Private.Fronts.{IsSplit};
 ghost use Rattle.ufmt_scan.specs.Private.Level.{budget_of, entry_of, setting_at, Level};
 ghost use Rattle.ufmt_scan.specs.Private.Scanning.{Scanned, ScansOn, Steps, StripsBracket, after, prefixed, scan_block, scan_front, scan_further, earlier, entries, fields, first_stage, kind_of, later, scan_rest, scan_stage, turn_of, scan_turn, value_of, Stage};
@@ -13,8 +13,8 @@ use crate::front::{Front, split_front, split_name, split_quoted_front, split_wor
 use crate::leaf::split_quotes;
 use crate::level::{Level, strip_only_dots};
 use crate::strip::{strip_closing, strip_piece, strip_to_line};
-use ufmt::class::Class;
-use ufmt::layout::{COLON, Count, INDENT, Kind, Mode, OPENING_BRACE, OPENING_BRACKET};
+use ufmt_core::layout::{COLON, Count, INDENT, Kind, Mode, OPENING_BRACE, OPENING_BRACKET};
+use ufmt_grammar::class::Class;
 
 /// What comes next in an open block, by what was read of it, and what may follow then:
 ///

@@ -1,5 +1,5 @@
 use Rattle.std.proofs.Common.{◌∙◌, sym, subst, true}
-use Rattle.ufmt.specs.Leaves.{outside}
+use Rattle.ufmt_grammar.specs.Leaves.{outside}
 use Rattle.ufmt_scan.specs.Private.Fronts.{Passes}
 use Rattle.ufmt_scan.proofs.DebugFronts.{colons_next, ends_leaf, nothing_stops, quotes_next, stops_leaf}
 use Rattle.ufmt_scan.proofs.debug_leaf.after_leaf.Goals as goal

@@ -1,6 +1,6 @@
 -- What was passed belongs to the leaf, and whether a quote was among it is known.
 use Rattle.std.proofs.Common.{length, not}
-use Rattle.ufmt.specs.Leaves.{outside}
+use Rattle.ufmt_grammar.specs.Leaves.{outside}
 use Rattle.ufmt_scan.specs.Private.Fronts.{Passes}
 use Rattle.ufmt_scan.proofs.debug_leaf.after_leaf.Given as goal
 

@@ -1,5 +1,5 @@
 use Rattle.std.proofs.Common.{◌∷◌, ap, sym, subst, true, arith, length}
-use Rattle.ufmt.specs.Leaves.{between, outside}
+use Rattle.ufmt_grammar.specs.Leaves.{between, outside}
 use Rattle.ufmt_scan.specs.Private.Fronts.{Passes}
 use Rattle.ufmt_scan.proofs.DebugFronts.{closed, differ, opened, passes_then}
 use Rattle.ufmt_scan.proofs.debug_leaf.after_quotes.Goals as goal

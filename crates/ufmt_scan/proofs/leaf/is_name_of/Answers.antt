@@ -1,5 +1,5 @@
 use Rattle.std.proofs.Common.{ap, ◌∙◌}
-use Rattle.ufmt.specs.Reading.{read_name}
+use Rattle.ufmt_grammar.specs.Reading.{read_name}
 use Rattle.ufmt_scan.proofs.Leaves.{name_tested}
 use Rattle.ufmt_scan.proofs.leaf.is_name_of.Goals as goal
 

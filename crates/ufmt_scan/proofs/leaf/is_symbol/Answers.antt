@@ -1,6 +1,6 @@
 use Rattle.std.proofs.Common.{ap, ◌∙◌}
 use Rattle.ufmt_grammar.specs.declared.class.Class.TheVariants.{Token}
-use Rattle.ufmt.specs.Reading.{read_symbol}
+use Rattle.ufmt_grammar.specs.Reading.{read_symbol}
 use Rattle.ufmt_scan.proofs.Leaves.{symbol_tested}
 use Rattle.ufmt_scan.proofs.leaf.is_symbol.Goals as goal
 

@@ -1,7 +1,7 @@
 use Rattle.std.proofs.Common.{◌∙◌, ap}
 use Rattle.std.proofs.lemmas.Bool.Decides.{Decides-eqb}
 use Rattle.std.proofs.lemmas.Slice.Eq.{strip_prefix_is}
-use Rattle.ufmt.specs.Reading.{strip}
+use Rattle.ufmt_grammar.specs.Reading.{strip}
 use Rattle.ufmt_scan.proofs.Strips.{stripped}
 use Rattle.ufmt_scan.proofs.strip.strip_piece.Goals as goal
 

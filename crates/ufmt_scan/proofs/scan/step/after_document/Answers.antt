@@ -1,5 +1,5 @@
 use Rattle.std.proofs.Common.{◌≡◌, ◌⊎◌, inl, inr, refl, sym, ℕ, List, [], ◌∷◌, Some, codes, arith}
-use Rattle.ufmt.specs.Reading.{strip}
+use Rattle.ufmt_grammar.specs.Reading.{strip}
 use Rattle.ufmt_grammar.proofs.ReadingTurns.{strip_within}
 use Rattle.ufmt_scan.specs.Private.Level.{Level}
 use Rattle.ufmt_scan.specs.Scan.{Colon}

@@ -1,6 +1,6 @@
 use Rattle.std.proofs.Common.{◌≡◌, ◌∙◌, refl, ap, sym, ℕ, ◌<◌, List, [], ◌∷◌, ◌++◌, Option, Some, None, option_and_then, arith}
-use Rattle.ufmt.specs.Layout.{ending, frame, inside, line_start, next, later_lead, trail}
-use Rattle.ufmt.specs.Reading.{choose, strip}
+use Rattle.ufmt_core.specs.Layout.{ending, frame, inside, line_start, next, later_lead, trail}
+use Rattle.ufmt_grammar.specs.Reading.{choose, strip}
 use Rattle.ufmt_grammar.proofs.Parsing.{strip-append}
 use Rattle.ufmt_grammar.proofs.ReadingTurns.{strip_within}
 use Rattle.ufmt_core.specs.declared.layout.Mode.{Mode}

@@ -1,5 +1,5 @@
 use Rattle.std.proofs.Common.{◌≡◌, ◌≢◌, ◌∙◌, ap, ◌≤◌, suc, length, ℕ, List, [], ◌∷◌, false, Some, None, arith}
-use Rattle.ufmt.specs.Reading.{parse_map, read}
+use Rattle.ufmt_grammar.specs.Reading.{parse_map, read}
 use Rattle.ufmt_scan.specs.declared.front.Front.{Front}
 use Rattle.ufmt_scan.specs.Private.Fronts.{IsSplit}
 use Rattle.ufmt_scan.specs.Private.Level.{Level, budget_of, setting_at}

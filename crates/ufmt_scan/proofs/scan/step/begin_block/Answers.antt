@@ -1,5 +1,5 @@
 use Rattle.std.proofs.Common.{refl, sym, None, Some, arith}
-use Rattle.ufmt.specs.Layout.{frame}
+use Rattle.ufmt_core.specs.Layout.{frame}
 use Rattle.ufmt_grammar.proofs.ReadingTurns.{strip_within}
 use Rattle.ufmt_core.specs.declared.layout.Count.TheVariants.{Zero}
 use Rattle.ufmt_scan.specs.Private.Scanning.{after, first_stage}

@@ -1,6 +1,6 @@
 use Rattle.std.proofs.Common.{◌≡◌, ◌≢◌, refl, sym, ℕ, Bool, true, false, List, [], ◌∷◌, None, Some, arith}
-use Rattle.ufmt.specs.Layout.{frame, inside, lead}
-use Rattle.ufmt.specs.Reading.{strip, strip_only_dots}
+use Rattle.ufmt_core.specs.Layout.{frame, inside, lead}
+use Rattle.ufmt_grammar.specs.Reading.{strip, strip_only_dots}
 use Rattle.ufmt_core.specs.declared.layout.Count.TheVariants.{Zero}
 use Rattle.ufmt_core.specs.declared.layout.Kind.TheVariants.{Struct, Tuple}
 use Rattle.ufmt_scan.specs.Private.Level.{setting_at, Level}

@@ -1,5 +1,5 @@
 use Rattle.std.proofs.Common.{ap}
-use Rattle.ufmt.specs.Reading.{parse_map}
+use Rattle.ufmt_grammar.specs.Reading.{parse_map}
 use Rattle.ufmt_scan.specs.Scan.{events_of}
 use Rattle.ufmt_scan.proofs.DocumentParts.{no_front}
 use Rattle.ufmt_scan.proofs.Scans.{nothing_there}

@@ -1,6 +1,6 @@
 use Rattle.std.proofs.Common.{◌≡◌, refl, sym, ℕ, ◌<◌, List, [], length, None, Some, codes, arith}
-use Rattle.ufmt.specs.Layout.{frame, inside, lead, new_line}
-use Rattle.ufmt.specs.Reading.{parse_map, read_without_name, strip}
+use Rattle.ufmt_core.specs.Layout.{frame, inside, lead, new_line}
+use Rattle.ufmt_grammar.specs.Reading.{parse_map, read_without_name, strip}
 use Rattle.ufmt_core.specs.declared.layout.Count.TheVariants.{Zero}
 use Rattle.ufmt_core.specs.declared.layout.Kind.TheVariants.{Unnamed}
 use Rattle.ufmt_scan.specs.Private.Level.{entry_of, setting_at, Level}

@@ -1,5 +1,5 @@
 use Rattle.std.proofs.Common.{◌≡◌, ◌∙◌, refl, ap, sym, append-nil, ℕ, zero, suc, ◌+◌, ◌++◌, codes, min, arith}
-use Rattle.ufmt.specs.Layout.{indentation}
+use Rattle.ufmt_core.specs.Layout.{indentation}
 use Rattle.ufmt_scan.proofs.scan.step.between.Goals as goal
 
 -- an indent may as well be added at the end

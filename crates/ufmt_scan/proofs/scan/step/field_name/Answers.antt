@@ -1,5 +1,5 @@
 use Rattle.std.proofs.Common.{◌∙◌, ap, sym, arith}
-use Rattle.ufmt.specs.Reading.{read_name}
+use Rattle.ufmt_grammar.specs.Reading.{read_name}
 use Rattle.ufmt_scan.specs.Private.Scanning.{entries, level_at, scan_turn}
 use Rattle.ufmt_core.specs.declared.layout.Mode.TheVariants.{Plain}
 use Rattle.ufmt_scan.proofs.DocumentParts.{field_name_scans}

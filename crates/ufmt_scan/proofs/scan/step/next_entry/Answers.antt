@@ -1,5 +1,5 @@
 use Rattle.std.proofs.Common.{◌≡◌, refl, sym, ℕ, List, [], ◌∷◌, Some, None, arith}
-use Rattle.ufmt.specs.Reading.{choose}
+use Rattle.ufmt_grammar.specs.Reading.{choose}
 use Rattle.ufmt_scan.specs.Scan.{Dots}
 use Rattle.ufmt_scan.specs.Private.Level.{Level}
 use Rattle.ufmt_scan.specs.Private.Scanning.{Scanned, after, later, prefixed, turn_of, Stage}

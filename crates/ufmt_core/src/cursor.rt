@@ -2,7 +2,7 @@
 ghost use Rattle.std.specs.Prelude.{◌≡◌, ◌+◌, ◌++◌, ◌*◌, ◌<◌, ◌≤◌, [], ℕ, length, take, drop, is_ok, encode_utf8};
 ghost use Rattle.ufmt_core.specs.Writes.{Writes};
 
-use ufmt_core::uWrite;
+use crate::uWrite;
 
 /// The error of a `Cursor`: a piece has more bytes than remain.
 #[derive(Clone, Copy, PartialEq, Eq, Debug)]
@@ -17,7 +17,7 @@ pub struct Cursor<'a> {
 }
 
 impl<'a> Cursor<'a> {
-    ghost use Rattle.ufmt.specs.Cursor.{written_bytes, unwritten_bytes, remaining_count, buffer_length, buffer_name};
+    ghost use Rattle.ufmt_core.specs.Cursor.{written_bytes, unwritten_bytes, remaining_count, buffer_length, buffer_name};
 
     /// Makes a cursor that has written nothing yet.
     pub fn new(buffer: &'a mut [u8]) -> Self
@@ -47,7 +47,7 @@ impl<'a> Cursor<'a> {
 
 /// Fails with `Full` exactly if a piece has more bytes than remain, and then changes nothing.
 impl uWrite for Cursor<'_> {
-    ghost use Rattle.ufmt.specs.Cursor.{cursor_seen, Fills};
+    ghost use Rattle.ufmt_core.specs.Cursor.{cursor_seen, Fills};
 
     type Error = Full;
 
@@ -78,9 +78,9 @@ impl uWrite for Cursor<'_> {
     }
 }
 
-// Writes the bytes to the buffer, from `start` on.
+/// Writes the bytes to the buffer, from `start` on. They must fit.
 #[inline(always)]
-pub(crate) fn put(bytes: &[u8], buffer: &mut [u8], start: usize)
+pub fn put(bytes: &[u8], buffer: &mut [u8], start: usize)
     requires { start + length bytes.now ≤ length buffer.old }
     ensures written { take (start + length bytes.now) buffer.new
         ≡ take start buffer.old ++ bytes.now }

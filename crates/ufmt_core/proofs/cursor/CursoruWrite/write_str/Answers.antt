@@ -1,6 +1,6 @@
 use Rattle.std.proofs.Common.{rules, length, refl, sym, ◌∙◌, arith, drop-drop, length-drop}
-use Rattle.ufmt.proofs.Cursors.{Writes-filled}
-use Rattle.ufmt.proofs.cursor.CursoruWrite.write_str.Goals as goal
+use Rattle.ufmt_core.proofs.Cursors.{Writes-filled}
+use Rattle.ufmt_core.proofs.cursor.CursoruWrite.write_str.Goals as goal
 
 pub returns-clause-fills : goal.returns-clause-fills
 returns-clause-fills c =

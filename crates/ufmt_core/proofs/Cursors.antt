@@ -2,8 +2,8 @@
 use Rattle.std.proofs.Common.{◌≡◌, ℕ, ◌+◌, List, [], ◌∷◌, length, drop, true, refl, sym, ap, ap₂, ◌∙◌, length-append, length-drop, drop-drop, true≢false, arith}
 use Rattle.std.proofs.lemmas.List.{length-take-le}
 use Rattle.ufmt_core.specs.Writes.{Writes}
-use Rattle.ufmt.specs.declared.cursor.Cursor.{Cursor}
-use Rattle.ufmt.specs.Cursor.{Fills, buffer_name, cursor_seen, unwritten_bytes, written_bytes}
+use Rattle.ufmt_core.specs.declared.cursor.Cursor.{Cursor}
+use Rattle.ufmt_core.specs.Cursor.{Fills, buffer_name, cursor_seen, unwritten_bytes, written_bytes}
 
 length-written_bytes : (c : Cursor) → length (written_bytes c) ≡ c.count
 length-written_bytes c = length-take-le c.count c.buffer.now c.within

@@ -1,7 +1,7 @@
 -- What contracts see of a cursor: the written and the unwritten bytes of its buffer.
 use Rattle.std.specs.Prelude.{◌≡◌, ◌↔◌, ℕ, ◌≤◌, List, [], ◌∷◌, ◌++◌, length, take, drop, Bool, false, IsTrue, ⊤}
 use Rattle.ufmt_core.specs.Writes.{Seen}
-use Rattle.ufmt.specs.declared.cursor.Cursor.{Cursor}
+use Rattle.ufmt_core.specs.declared.cursor.Cursor.{Cursor}
 
 -- the bytes that were written: the first `count` of the buffer
 abbrev pub written_bytes : Cursor → List ℕ

@@ -3,9 +3,9 @@ use Rattle.std.proofs.Common.{◌≡◌, ◌∙◌, refl, ap, sym, subst, ℕ, �
 use Rattle.std.proofs.lemmas.List.{length-take-le, take-append-drop}
 use Rattle.std.specs.List.{slice_index_or}
 use Rattle.std.specs.Result.{IsErrAnd}
-use Rattle.ufmt.specs.Buffer.{Fronts}
-use Rattle.ufmt.specs.Cursor.{cursor_seen, unwritten_bytes, written_bytes}
-use Rattle.ufmt.specs.declared.cursor.Cursor.{Cursor}
+use Rattle.ufmt_core.specs.Buffer.{Fronts}
+use Rattle.ufmt_core.specs.Cursor.{cursor_seen, unwritten_bytes, written_bytes}
+use Rattle.ufmt_core.specs.declared.cursor.Cursor.{Cursor}
 use Rattle.ufmt_core.specs.Writes.{Writes}
 
 module _ (old : List ℕ) (begun ended : Cursor) (written : written_bytes begun ≡ []) (unwritten : unwritten_bytes begun ≡ old) (text : List ℕ) where
