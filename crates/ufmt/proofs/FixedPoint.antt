@@ -1,11 +1,11 @@
 -- Fixed-point texts: their digits denote the number, and are written as two numbers with zeros.
-use Rattle.std.proofs.Common.{◌≡◌, inl, inr, ℕ, zero, suc, ◌+◌, ◌-◌, ◌*◌, ◌/◌, ◌%◌, ◌^◌, ◌<◌, ◌≤◌, ℤ, pos, negsuc, nat_abs, List, [], ◌∷◌, ◌++◌, codes, map, length, replicate, refl, sym, ap, ap₂, ◌∙◌, arith, pow-suc, append_assoc, append-nil, length-append, false, ◌==◌, if◌then◌else◌, drop, get_or}
+use Rattle.std.proofs.Common.{◌≡◌, inl, inr, ℕ, zero, suc, ◌+◌, ◌-◌, ◌*◌, ◌/◌, ◌%◌, ◌^◌, ◌<◌, ◌≤◌, ℤ, pos, negsuc, nat_abs, List, [], ◌∷◌, ◌++◌, codes, map, length, replicate, refl, sym, ap, ap₂, ◌∙◌, arith, pow-suc, append_assoc, append-nil, length-append, false, ◌==◌, if◌then◌else◌, drop, get_or, subst}
 use Rattle.std.specs.List.{All}
 use Rattle.std.proofs.Math.Nat.{pow-zero, mod-eq_of_lt, mod-lt, div-add-mod, one-le-pow}
 use Rattle.std.proofs.lemmas.Nat.{pow-add}
 use Rattle.std.proofs.lemmas.Bool.{cases_lt}
 use Rattle.std.proofs.lemmas.Bool.Decides.{nat_tests}
-use Rattle.std.proofs.lemmas.List.{map-append, replicate_more}
+use Rattle.std.proofs.lemmas.List.{length-map, map-append, replicate_more}
 use Rattle.std.proofs.lemmas.List.Elements.{All-append, All-nil, All-cons}
 use Rattle.ufmt_core.specs.Bytes.{zero_digit}
 use Rattle.ufmt_core.specs.Decimal.{decimal, decimal_byte, last_digits, numeral, sign_of, value_in_base}
@@ -183,18 +183,52 @@ no_sign : (before after rest : List ℕ) → 0 < length before → map decimal_b
 no_sign before after rest some minus =
     omega (arith, first_byte before (point_and after) some, ap (λ (bytes : List ℕ). get_or bytes 0 0) minus)
 
--- a text denotes one number
-pub fixed-number : (places : ℕ) (text : List ℕ) (y z : ℤ) → DenotesFixed places text y → DenotesFixed places text z → y ≡ z
-fixed-number places text (pos m) (pos n) denotes_y denotes_z =
+-- a text with so many places denotes one number
+number-at : (places : ℕ) (text : List ℕ) (y z : ℤ) → DenotesFixed places text y → DenotesFixed places text z → y ≡ z
+number-at places text (pos m) (pos n) denotes_y denotes_z =
     ap pos (sym (value_of-digits denotes_y) ∙ ap value_of (sym denotes_y.bytes ∙ denotes_z.bytes) ∙ value_of-digits denotes_z)
-fixed-number places text (pos m) (negsuc n) denotes_y denotes_z =
+number-at places text (pos m) (negsuc n) denotes_y denotes_z =
     absurd (no_sign denotes_y.before denotes_y.after (map decimal_byte denotes_z.before ++ point_and denotes_z.after) denotes_y.some_digit (sym denotes_y.bytes ∙ denotes_z.bytes))
-fixed-number places text (negsuc m) (pos n) denotes_y denotes_z =
+number-at places text (negsuc m) (pos n) denotes_y denotes_z =
     absurd (no_sign denotes_z.before denotes_z.after (map decimal_byte denotes_y.before ++ point_and denotes_y.after) denotes_z.some_digit (sym denotes_z.bytes ∙ denotes_y.bytes))
-fixed-number places text (negsuc m) (negsuc n) denotes_y denotes_z =
+number-at places text (negsuc m) (negsuc n) denotes_y denotes_z =
     let digits_y = map decimal_byte denotes_y.before ++ point_and denotes_y.after in
     let digits_z = map decimal_byte denotes_z.before ++ point_and denotes_z.after in
     let signed : 45 ∷ digits_y ≡ 45 ∷ digits_z = sym denotes_y.bytes ∙ denotes_z.bytes in
     let same : digits_y ≡ digits_z = ap (drop 1) signed in
     let magnitudes : suc m ≡ suc n = sym (value_of-digits denotes_y) ∙ ap value_of same ∙ value_of-digits denotes_z in
     ap negsuc (omega arith)
+
+-- what follows the first point
+abbrev past_point : List ℕ → List ℕ
+past_point [] = []
+past_point (byte ∷ bytes) = if byte == 46 then bytes else past_point bytes
+
+past_digits : (digits rest : List ℕ) → past_point (map decimal_byte digits ++ rest) ≡ past_point rest
+past_digits [] rest = refl
+past_digits (digit ∷ digits) rest = rw (no_point digit, past_digits digits rest) refl
+
+past_sign : (z : ℤ) (rest : List ℕ) → past_point (sign_of z ++ rest) ≡ past_point rest
+past_sign (pos n) rest = refl
+past_sign (negsuc n) rest = refl
+
+past_and : (digits : List ℕ) → past_point (point_and digits) ≡ map decimal_byte digits
+past_and [] = refl
+past_and (digit ∷ digits) = refl
+
+-- a text has as many places as digits follow its point
+places_of : {places : ℕ} {text : List ℕ} {z : ℤ} (d : DenotesFixed places text z) → length (past_point text) ≡ places
+places_of {z = z} d =
+    ap (λ (bytes : List ℕ). length (past_point bytes)) d.bytes ∙ ap length (past_sign z (map decimal_byte d.before ++ point_and d.after))
+    ∙ ap length (past_digits d.before (point_and d.after)) ∙ ap length (past_and d.after) ∙ length-map d.after decimal_byte ∙ d.all_places
+
+-- a text denotes one number, with one number of places
+pub fixed-number : (p q : ℕ) (text : List ℕ) (y z : ℤ) → DenotesFixed p text y → DenotesFixed q text z → (p ≡ q) × (y ≡ z)
+fixed-number p q text y z denotes_y denotes_z =
+    let same : p ≡ q = sym (places_of denotes_y) ∙ places_of denotes_z in
+    (same, number-at q text y z (subst (λ (places : ℕ). DenotesFixed places text y) same denotes_y) denotes_z)
+
+-- numbers with one text are one number
+pub fixed-determines : (p q : ℕ) (y z : ℤ) → fixed p y ≡ fixed q z → (p ≡ q) × (y ≡ z)
+fixed-determines p q y z same =
+    fixed-number p q (fixed q z) y z (subst (λ (text : List ℕ). DenotesFixed p text y) same (fixed-denotes p y)) (fixed-denotes q z)

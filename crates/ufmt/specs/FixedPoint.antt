@@ -36,6 +36,10 @@ pub record DenotesFixed (places : ℕ) (text : List ℕ) (z : ℤ) : Type 0 wher
 abbrev pub EachFixedIsDenoted : Type 0
 EachFixedIsDenoted = (places : ℕ) (z : ℤ) → DenotesFixed places (fixed places z) z
 
--- no text with so many places denotes two numbers
+-- no text denotes two numbers, or one number with two numbers of places
 abbrev pub OneFixedIsDenoted : Type 0
-OneFixedIsDenoted = (places : ℕ) (text : List ℕ) (y z : ℤ) → DenotesFixed places text y → DenotesFixed places text z → y ≡ z
+OneFixedIsDenoted = (p q : ℕ) (text : List ℕ) (y z : ℤ) → DenotesFixed p text y → DenotesFixed q text z → (p ≡ q) × (y ≡ z)
+
+-- fixed-point numbers with one text have as many places, and are equal
+abbrev pub FixedTextDetermines : Type 0
+FixedTextDetermines = (p q : ℕ) (y z : ℤ) → fixed p y ≡ fixed q z → (p ≡ q) × (y ≡ z)

@@ -1,19 +1,20 @@
 //! Laws of numbers in the digits of a base.
-ghost use Rattle.std.specs.Prelude.{◌≡◌, ◌<◌, ◌≤◌, [], ◌∷◌, ℕ, ℤ, List, is_ok, map};
+ghost use Rattle.std.specs.Prelude.{◌≡◌, ◌<◌, ◌≤◌, [], ◌∷◌, ℕ, ℤ, List, is_ok, map, nat_abs};
 ghost use Rattle.std.specs.Borrow.{Bor, MutBor};
 ghost use Rattle.std.specs.Int.{w8, w16, w32, w64, w128};
 ghost use Rattle.std.specs.Int.NonZero.{non_zero_u8_get, non_zero_u16_get, non_zero_u32_get, non_zero_u64_get, non_zero_u128_get, non_zero_usize_get, non_zero_i8_get, non_zero_i16_get, non_zero_i32_get, non_zero_i64_get, non_zero_i128_get, non_zero_isize_get};
 ghost use Rattle.ufmt_core.specs.Formatter.{Prints, setting_of};
+ghost use Rattle.ufmt_core.specs.Decimal.{sign_of};
 ghost use Rattle.ufmt_core.specs.Document.{leaf};
 ghost use Rattle.ufmt.specs.declared.decimal.Decimal.{Decimal};
 ghost use Rattle.ufmt.specs.declared.hex.HexOptions.{HexOptions};
-ghost use Rattle.ufmt.specs.FixedPoint.{EachFixedIsDenoted, OneFixedIsDenoted, fixed};
+ghost use Rattle.ufmt.specs.FixedPoint.{EachFixedIsDenoted, FixedTextDetermines, OneFixedIsDenoted, fixed, fixed_digits};
 ghost use Rattle.ufmt.specs.declared.radix.Radix.TheVariants.{Binary, Octal};
 ghost use Rattle.ufmt_grammar.specs.Leaves.{IsLeaf};
 ghost use Rattle.ufmt_grammar.specs.declared.class.Class.TheVariants.{Debug};
 ghost use Rattle.ufmt.specs.Pieces.{column, each, pieces_text, text};
 ghost use Rattle.ufmt.specs.Radix.{EachNumberIsDenoted, IsPadded, OneNumberIsDenoted, OneTextDenotes, PrintsBitsInRadix, PrintsInRadix, padded_after};
-ghost use Rattle.ufmt.specs.Zeros.{IsZeroPadded, PrintsSignAndZeros, PrintsZeros, zero_padded};
+ghost use Rattle.ufmt.specs.Zeros.{IsZeroPadded, PrintsSignAndZeros, PrintsZeros, zero_filled, zero_padded};
 
 use crate::column::Column;
 use crate::decimal::Decimal;
@@ -139,15 +140,19 @@ pub fn references_print_zeros<T: uDisplayZeros>()
 {}
 
 /// A fixed-point number's text is its sign, digits, and a point with as many digits as it has places. All
-/// digits joined denote the value's magnitude. No text denotes two values. The text is a debug leaf, so
-/// it can be read again.
+/// digits joined denote the value's magnitude. No text denotes two values, or one value with two numbers
+/// of places. The text is a debug leaf, so it can be read again. Zeros up to a width are between the sign
+/// and the digits.
 pub fn decimals_denote_their_values()
     ensures denoted { EachFixedIsDenoted }
     ensures one_number { OneFixedIsDenoted }
+    ensures one_decimal { FixedTextDetermines }
     ensures debug_leaf { (places : ℕ) (z : ℤ) → IsLeaf Debug (fixed places z) }
     ensures displayed { ⟦<Decimal as uDisplay>⟧.display ≡ (λ d. leaf (fixed d.places d.value)) }
     ensures debugged { ⟦<Decimal as uDebug>⟧.document ≡ ⟦<Decimal as uDisplay>⟧.display }
     ensures unfilled { (d : Decimal) → ⟦<Decimal as uDisplayZeros>⟧.zeros_text d 0 ≡ fixed d.places d.value }
+    ensures filled { (d : Decimal) (width : ℕ) → ⟦<Decimal as uDisplayZeros>⟧.zeros_text d width
+        ≡ zero_filled width (sign_of d.value) (fixed_digits d.places (nat_abs d.value)) }
 {}
 
 /// Writes `uwrite!(f, bin n with options, oct n with options, zeros z to width)`.
