@@ -1,5 +1,6 @@
 //! Laws, each as the contract of a function.
 ghost use Rattle.std.specs.Prelude.{[], ◌∷◌, is_ok, ◌≡◌, ◌<◌, ◌≤◌, ◌↔◌, ◌++◌, ℕ, ℤ, List, String, Box, length, drop, map, encode_utf8, string_bytes, IsOk, OnOk, OnErr};
+ghost use Rattle.ufmt_core.specs.Bytes.{line_feed};
 ghost use Rattle.ufmt_core.specs.Decimal.{decimal};
 ghost use Rattle.ufmt_core.specs.Document.{leaf};
 ghost use Rattle.std.specs.Arc.{arc_str_bytes, arc_value};
@@ -23,7 +24,7 @@ use crate::column::Column;
 use crate::display::uDisplay;
 use crate::hex::{HexOptions, uDisplayHex};
 use crate::pieces::Line;
-use crate::{pieces, uwrite};
+use crate::{pieces, uwrite, uwriteln};
 pub use numbers::{
     decimals_denote_their_values, digits_are_one_text, integers_print_zeros, line_of_numbers,
     nonzero_prints_one_radix_text, nonzero_prints_zeros, padding_reaches_length,
@@ -234,6 +235,21 @@ pub fn all_pieces<W: uWrite, A: uDisplay, B: uDebug, C: uDebug, N: uDisplayHex>(
         (is_ok result) f.new }
 {
     uwrite!(f, text t, display a, debug b, pretty c, hex n with options)
+}
+
+/// Writes `uwriteln!(f, text t, display a, debug b)`: the pieces, and after them a line feed.
+pub fn line_feed_comes_last<W: uWrite, A: uDisplay, B: uDebug>(
+    f: &mut Formatter<W>,
+    t: &str,
+    a: &A,
+    b: &B,
+) -> Result<(), W::Error>
+    ensures { Prints W.seen f.old
+        (pieces_text (setting_of f.old)
+        (text t.now ∷ shown (A.display a.now) ∷ shown (B.document b.now) ∷ text (line_feed ∷ []) ∷ []))
+        (is_ok result) f.new }
+{
+    uwriteln!(f, text t, display a, debug b)
 }
 
 /// Writes `pieces!(text t, display a, debug b, pretty c, hex n with options, each debug bs between t,

@@ -8,6 +8,7 @@ use ufmt::{Cursor, Formatter, Full, laws, uWrite, uwrite, uwriteln};
 enum Written {
     AllPieces,
     LineOfAllPieces,
+    LineFeedLast,
     /// Each kind of piece after a hexadecimal one.
     HexadecimalFirst,
     /// A hexadecimal piece in the middle of a line.
@@ -35,6 +36,7 @@ impl Printed for Written {
                 &numbers,
                 PREFIXED,
             ),
+            Written::LineFeedLast => laws::line_feed_comes_last(f, "n=", &7i32, &(1i32,)),
             Written::HexadecimalFirst =>
                 uwrite!(f, hex 1u8 with PREFIXED, text "ab", hex (2u8) with PREFIXED, display 3u8, hex 4u8 with PREFIXED, debug 5u8, hex 6u8 with PREFIXED, pretty 7u8, hex 8u8 with PREFIXED, hex 9u8 with PREFIXED),
             Written::HexadecimalInALine => uwriteln!(f, text "a", hex 1u8 with PREFIXED, text "b"),
@@ -54,6 +56,8 @@ n=|7||(|1|,|)|Some|(|\n|    |2|,\n|)|0x|0|0|ff|~
 n=|7||(|\n|    |1|,\n|)|Some|(|\n|    |2|,\n|)|0x|0|0|ff|;
 n=|7||(|1|,|)|Some|(|\n|    |2|,\n|)|0x|0|0|ff||(|3|,|)|0x|0|0|10|n=|0x|0|0|11|~
 n=|7||(|\n|    |1|,\n|)|Some|(|\n|    |2|,\n|)|0x|0|0|ff||(|\n|    |3|,\n|)|0x|0|0|10|n=|0x|0|0|11|;
+n=|7||(|1|,|)|\n|~
+n=|7||(|\n|    |1|,\n|)|\n|;
 0x|0|0|0|1|ab|0x|0|0|0|2|3|0x|0|0|0|4|5|0x|0|0|0|6|7|0x|0|0|0|8|0x|0|0|0|9|;
 a|0x|0|0|0|1|b|\n|;
 a b|7|[|1|]|[|\n|    |2|,\n|]|\n|~
@@ -67,6 +71,7 @@ fn pieces_are_passed_to_the_writer(rt: HostRuntime) {
     for written in [
         Written::AllPieces,
         Written::LineOfAllPieces,
+        Written::LineFeedLast,
         Written::HexadecimalFirst,
         Written::HexadecimalInALine,
         Written::AllForms,
