@@ -10,14 +10,18 @@ use Rattle.std.specs.List.{repeat}
 use Rattle.std.specs.Str.{IsCharBoundary}
 use Rattle.ufmt_core.proofs.Writing.{Prints-fails, Prints-same, Prints-then, Prints-then_at}
 use Rattle.ufmt_core.specs.Bytes.{space}
-use Rattle.ufmt_core.specs.Formatter.{Prints, setting_of}
+use Rattle.ufmt_core.specs.Formatter.{Prints, setting_of, writer_of}
+use Rattle.ufmt_core.specs.declared.layout.Setting.{Setting}
 use Rattle.ufmt_core.specs.Writes.{Seen}
 use Rattle.ufmt_core.specs.declared.formatter.Formatter.{Formatter}
 use Rattle.ufmt.specs.Column.{ColumnsAreFilled, fills, fills_before, missing}
+use Rattle.ufmt.proofs.PiecesInARow.{Prints-nothing}
 use Rattle.ufmt.specs.Pieces.{Piece, column, pieces_text}
+use Rattle.ufmt.specs.Private.Counting.{counter_seen}
 use Rattle.ufmt.specs.declared.column.Align.{Align}
 use Rattle.ufmt.specs.declared.column.Align.TheVariants.{Left, Center, Right}
 use Rattle.ufmt.specs.declared.column.Column.{Column}
+use Rattle.ufmt.specs.declared.column.counter.CharacterCounter.{CharacterCounter}
 
 pub char_count-nil : char_count [] ≡ 0
 unfolding char_count
@@ -156,3 +160,49 @@ module _ {W : Type 0} {seen : Seen W} {f : Formatter W} (c : Column) (ps : List 
       → Prints seen mid (pieces_text (setting_of mid) ps) true next → Prints seen next (last_fills c count) ok new
       → Prints seen f (pieces_text (setting_of f) (column c ps ∷ [])) ok new
   Prints-column a b d = parts (Prints-then_at (λ s. pieces_text s ps ++ last_fills c count) a (Prints-then b d))
+
+-- at the left no fills come before the text
+none_first : (c : Column) (count : ℕ) → c.align ≡ Left → [] ≡ first_fills c count
+none_first c count left = sym (ap (λ (align : Align). fills c (fills_before align count)) left)
+
+-- and all come after it
+all_last : (c : Column) (count : ℕ) → c.align ≡ Left → fills c count ≡ last_fills c count
+all_last c count left =
+    let whole : count ≡ count - 0 = omega arith in
+    ap (fills c) whole ∙ sym (ap (λ (align : Align). fills c (count - fills_before align count)) left)
+
+module _ {W : Type 0} {seen : Seen W} {f : Formatter W} (c : Column) (ps : List Piece) (left : c.align ≡ Left) where
+  pub left_fails : {new : Formatter W} → Prints seen f (pieces_text (setting_of f) ps) false new
+      → Prints seen f (pieces_text (setting_of f) (column c ps ∷ [])) false new
+  left_fails b =
+      let count = missing c (pieces_text (setting_of f) ps) in
+      pieces_fail c ps count refl (Prints-same (none_first c count left) (Prints-nothing f)) b
+
+  -- the fills are counted where the pieces are written
+  pub Prints-left : {mid new : Formatter W} {ok : Bool} (count : ℕ) → count ≡ missing c (pieces_text (setting_of mid) ps)
+      → Prints seen f (pieces_text (setting_of f) ps) true mid → Prints seen mid (fills c count) ok new
+      → Prints seen f (pieces_text (setting_of f) (column c ps ∷ [])) ok new
+  Prints-left count is b d =
+      let before : count ≡ missing c (pieces_text (setting_of f) ps) = is ∙ ap (λ (s : Setting). missing c (pieces_text s ps)) b.same_setting in
+      Prints-column c ps count before (Prints-same (none_first c count left) (Prints-nothing f)) b (Prints-same (all_last c count left) d)
+
+-- a counter of the column's width failed, so the text has the width
+pub none_missing : (c : Column) (ps : List Piece) (s : Setting) {old new : Formatter CharacterCounter} {begun : CharacterCounter}
+    → writer_of old ≡ begun → begun.width ≡ c.width → begun.written.bytes ≡ [] → setting_of old ≡ s
+    → Prints counter_seen old (pieces_text (setting_of old) ps) false new → 0 ≡ missing c (pieces_text s ps)
+none_missing c ps s {old} {new} {begun} over width nothing same p =
+    let part = p.wrote.appended tt in
+    let kept : (writer_of new).width ≡ (writer_of old).width = cc (p.wrote.same_identity) in
+    let begins : (writer_of old).width ≡ c.width = ap (λ (w : CharacterCounter). w.width) over ∙ width in
+    let empty : (writer_of old).written.bytes ≡ [] = ap (λ (w : CharacterCounter). w.written.bytes) over ∙ nothing in
+    let text : pieces_text s ps ≡ part.0 ++ part.1.remainder = ap (λ (at : Setting). pieces_text at ps) (sym same) ∙ part.1.joined in
+    omega (
+      arith,
+      p.wrote.has_failed refl,
+      ap char_count part.2,
+      ap char_count empty,
+      char_count-nil,
+      char_count-append (writer_of old).written.bytes part.0,
+      ap char_count text,
+      char_count-append part.0 part.1.remainder,
+    )

@@ -5,6 +5,7 @@ pub mod FixedPoint
 pub mod Hex
 pub mod Lines
 pub mod Pieces
+pub mod Private
 pub mod Radix
 pub mod Truncating
 pub mod Zeros

@@ -6,7 +6,7 @@ ghost use Rattle.ufmt.specs.Column.{fills, fills_before};
 
 mod counter;
 
-pub(crate) use counter::CharacterCounter;
+pub(crate) use counter::{CharacterCounter, WidthReached};
 use ufmt_core::{Formatter, uWrite};
 
 /// Where a text is within its column.

@@ -44,5 +44,6 @@ mod text_rows;
 mod tuples;
 mod user_types;
 mod uwrite;
+mod widths;
 mod writers;
 mod zeros;

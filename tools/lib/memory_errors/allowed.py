@@ -80,7 +80,6 @@ IN_BODIES = [
     (PASSED, "ufmt_lines/src/main.rt", "main", "match outcome: Err(fault)=>report_fault(&rt, fault)"),
     (PASSED, "ufmt_lines/src/run/output.rt", "GroupOutput::push_converted", "match write_to(mode, self, text): Err(ScanError::Sink(error))=>Err(error)"),
     (PASSED, "ufmt/src/uwrite.rt", "write_pieces", "match $crate::write_piece!($f, $($piece)+): Err(error)=>std::result::Result::Err(error)"),
-    (PROVED, "ufmt/src/pieces/column.rt", "InColumn<M>::missing", "match self.mark.print_value(value, &mut counting): Err(never)=>match never{}"),
     (PROVED, "ufmt_scan/src/convert/growing.rt", "Growing::into_string", "match String::from_utf8(bytes): Err(_)=>unreachable!()"),
     (PROVED, "ufmt_lines/src/run/output.rt", "GroupOutput::push_converted", "match write_to(mode, self, text): Err(ScanError::NotText)=>unreachable!()"),
     (AHEAD, "ufmt_scan/src/convert/growing.rt", "Growing::append", "let _filled=self.bytes.extend_from_slice(&ZEROS)"),
@@ -89,6 +88,7 @@ IN_BODIES = [
     (NO_MEMORY, "ufmt_core/src/core_impls/cells.rt", "RefCellValue<'a, T>::of", "match cell.try_borrow(): Err(_)=>RefCellValue::Borrowed"),
     (NO_MEMORY, "ufmt_core/src/formatter/builder.rt", "Builder<'_, W, K>::advance_or_close", "outcome.is_ok()"),
     (NO_MEMORY, "ufmt_core/src/quoted.rt", "escape_char", "match u8::try_from(character): Err(_)=>None"),
+<<<<<<< HEAD
     (NO_MEMORY, "ufmt/src/column/counter.rt", "uWrite for CharacterCounter::write_str", "self.written.and(s.as_bytes())"),
     (NO_MEMORY, "ufmt_core/src/cursor.rt", "copy_ends", "*target.first_chunk_mut::<N>().unwrap()"),
     (NO_MEMORY, "ufmt_core/src/cursor.rt", "copy_ends", "*bytes.first_chunk::<N>().unwrap()"),
@@ -96,6 +96,17 @@ IN_BODIES = [
     (NO_MEMORY, "ufmt_core/src/cursor.rt", "copy_whole", "*bytes.first_chunk::<N>().unwrap()"),
     (NO_MEMORY, "ufmt_core/src/cursor.rt", "copy_ends", "*target.last_chunk_mut::<N>().unwrap()"),
     (NO_MEMORY, "ufmt_core/src/cursor.rt", "copy_ends", "*bytes.last_chunk::<N>().unwrap()"),
+=======
+    (NO_MEMORY, "ufmt/src/column/counter.rt", "CharacterCounter::count_piece", "self.written.and(s.as_bytes())"),
+    (NO_MEMORY, "ufmt/src/column/counter.rt", "CharacterCounter::count_piece", "Err(WidthReached)"),
+    (NO_MEMORY, "ufmt/src/pieces/column.rt", "InColumn<M>::missing", "match self.mark.print_value(value, &mut counting): Err(WidthReached)=>0"),
+    (NO_MEMORY, "ufmt/src/cursor.rt", "copy_ends", "*target.first_chunk_mut::<N>().unwrap()"),
+    (NO_MEMORY, "ufmt/src/cursor.rt", "copy_ends", "*bytes.first_chunk::<N>().unwrap()"),
+    (NO_MEMORY, "ufmt/src/cursor.rt", "copy_whole", "*target.first_chunk_mut::<N>().unwrap()"),
+    (NO_MEMORY, "ufmt/src/cursor.rt", "copy_whole", "*bytes.first_chunk::<N>().unwrap()"),
+    (NO_MEMORY, "ufmt/src/cursor.rt", "copy_ends", "*target.last_chunk_mut::<N>().unwrap()"),
+    (NO_MEMORY, "ufmt/src/cursor.rt", "copy_ends", "*bytes.last_chunk::<N>().unwrap()"),
+>>>>>>> 2a8e6ed0 (A column stops counting at its width, and at the left it counts a value after it is written)
     (NO_MEMORY, "ufmt/src/dump.rt", "HexDump::write_row", "match self.row_into(&mut buffer, before, row): Err(Full)=>self.write_columns(writer, before, row)"),
     (NO_MEMORY, "ufmt_scan/src/quoted.rt", "split_any", "match str::from_utf8(leaf): Err(_)=>None"),
     (NO_MEMORY, "ufmt_scan/src/quoted.rt", "split_escaped", "u8::try_from(decoded(input)).unwrap_or(0)"),

@@ -1,10 +1,13 @@
-//! A writer that counts characters. It keeps no text, takes no memory and never fails.
-ghost use Rattle.std.specs.Prelude.{◌≡◌, ◌-◌, ◌++◌, [], ◌∷◌, List, ℕ, min, is_ok, ⊤};
+//! A writer that counts characters up to a width. It keeps no text and takes no memory.
+ghost use Rattle.std.specs.Prelude.{◌≡◌, ◌-◌, [], min, is_ok};
 ghost use Rattle.std.specs.Fmt.{char_count, is_char_start};
 
 use crate::ghost_text::GhostText;
-use std::convert::Infallible;
 use ufmt_core::uWrite;
+
+/// The error of a `CharacterCounter`: its text has as many characters as the width, or more.
+#[derive(Clone, Copy)]
+pub(crate) struct WidthReached;
 
 /// Counts the characters of its text, up to a width.
 #[derive(Drop)]
@@ -16,6 +19,8 @@ pub(crate) struct CharacterCounter {
 }
 
 impl CharacterCounter {
+    ghost use Rattle.ufmt.specs.Private.Counting.{Counts};
+
     pub(crate) fn new(width: usize) -> Self
         ensures width { result.width ≡ width }
         ensures nothing { result.written.bytes ≡ [] }
@@ -33,25 +38,32 @@ impl CharacterCounter {
     {
         self.width - self.count
     }
-}
 
-impl uWrite for CharacterCounter {
-    type Error = Infallible;
-
-    ghost seen = { record {
-      known = λ c. ⊤;
-      text = λ c. c.written.bytes;
-      room = λ c. 0;
-      failed = λ c. ⊤;
-      identity = λ c. c.width ∷ [];
-      whole_buffer = λ c. [];
-    } };
-
-    fn write_str(&mut self, s: &str) -> Result<(), Infallible> {
+    // Counts the characters of a piece. Those after the width aren't needed, and may be many: a number can
+    // be padded to any length.
+    fn count_piece(&mut self, s: &str) -> Result<(), WidthReached>
+        ensures { Counts self.old s.now (is_ok result) self.new }
+    {
         let count = self.count.saturating_add(character_count(s.as_bytes()));
         self.written = self.written.and(s.as_bytes());
         self.count = count.min(self.width);
+        // A lawful writer takes each empty piece.
+        if self.count == self.width && !s.is_empty() {
+            return Err(WidthReached);
+        }
         Ok(())
+    }
+}
+
+impl uWrite for CharacterCounter {
+    ghost use Rattle.ufmt.specs.Private.Counting.{counter_seen};
+
+    type Error = WidthReached;
+
+    ghost seen = { counter_seen };
+
+    fn write_str(&mut self, s: &str) -> Result<(), WidthReached> {
+        self.count_piece(s)
     }
 }
 

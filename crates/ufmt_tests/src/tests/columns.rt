@@ -1,5 +1,4 @@
 //! Tests of columns. Spaces come in pieces of up to 64, other fills one in a piece.
-ghost use Rattle.std.specs.Prelude.{[]};
 ghost use Rattle.ufmt.specs.Document.{leaf};
 
 use super::printed::{PREFIXED, Printed};
@@ -234,35 +233,68 @@ fn values_are_padded_as_their_texts_and_as_the_laws_say(rt: HostRuntime) {
     has_rows(&rt, &table, VALUES);
 }
 
-// Prints the empty text, and counts the calls of its `fmt`.
+// A text that counts the calls of its `fmt`.
 #[derive(Drop)]
-struct Counting<'a>(&'a Cell<u8>);
+struct Counting<'a> {
+    text: &'static str,
+    calls: &'a Cell<u8>,
+}
 
 impl uDebug for Counting<'_> {
-    ghost document = { λ _. leaf [] };
+    ghost document = { λ v. leaf v.text.now };
 
     fn fmt<W: uWrite>(&self, f: &mut Formatter<W>) -> Result<(), W::Error> {
-        self.0.set(self.0.get().saturating_add(1));
-        f.write_str("")
+        self.calls.set(self.calls.get().saturating_add(1));
+        f.write_str(self.text)
     }
 }
 
-// How often `fmt` is called for a column of this width.
-fn calls_at(width: usize) -> u8 {
+// How often `fmt` of this text is called for a column in a buffer of 16 bytes, and whether the column fits.
+fn calls_in(within: Column, text: &'static str) -> (u8, bool) {
     let calls = Cell::new(0);
-    let outcome = line_into(
-        &mut [0; 16],
-        &pieces!(debug (Counting(&calls)) in left(width)),
-    );
-    if outcome.is_ok() { calls.get() } else { 255 }
+    let counting = Counting {
+        text,
+        calls: &calls,
+    };
+    let outcome = line_into(&mut [0; 16], &pieces!(debug counting in within));
+    (calls.get(), outcome.is_ok())
 }
 
 #[test]
 fn a_value_is_printed_twice_and_once_where_no_width_is_asked_for(rt: HostRuntime) {
     same(
         &rt,
-        [calls_at(0), calls_at(1), calls_at(9)],
-        [1, 2, 2],
+        [
+            calls_in(left(0), ""),
+            calls_in(left(1), ""),
+            calls_in(center(9), "a"),
+            calls_in(right(9), "a"),
+            calls_in(left(2), "abc"),
+            calls_in(right(2), "abc"),
+        ],
+        [
+            (1, true),
+            (2, true),
+            (2, true),
+            (2, true),
+            (2, true),
+            (2, true),
+        ],
+        "calls of `fmt`",
+    );
+}
+
+#[test]
+fn a_value_at_the_left_that_is_refused_is_printed_once(rt: HostRuntime) {
+    let longer = "seventeen letters";
+    same(
+        &rt,
+        [
+            calls_in(left(20), longer),
+            calls_in(center(17), longer),
+            calls_in(right(5), longer),
+        ],
+        [(1, false), (2, false), (2, false)],
         "calls of `fmt`",
     );
 }

@@ -1,7 +1,7 @@
 use Rattle.std.proofs.Common.{◌++◌, ◌∙◌, ap, arith}
 use Rattle.std.specs.Fmt.{char_count}
 use Rattle.ufmt.proofs.Columns.{char_count-append}
-use Rattle.ufmt.proofs.column.counter.CharacterCounteruWrite.write_str.Goals as goal
+use Rattle.ufmt.proofs.column.counter.CharacterCounter.count_piece.Goals as goal
 
 pub invariant_of-self : goal.invariant_of-self
 invariant_of-self c =
